@@ -1,0 +1,2 @@
+pub mod RegionLaws
+pub mod RootLaws
