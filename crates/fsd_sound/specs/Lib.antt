@@ -1,0 +1,2 @@
+pub mod AtHome
+pub mod Format
