@@ -1,0 +1,2 @@
+mod RenewLaws
+mod CalmReads
