@@ -1,0 +1,7 @@
+//! Pages of the name table as sectors: how they are spelled and read.
+#![tactic(auto)]
+
+mod writing;
+
+pub use fsd_formats::{Entry, Page, PageKind, Separator};
+pub use writing::{entry_len, stamp_page, write_free, write_leaf};
