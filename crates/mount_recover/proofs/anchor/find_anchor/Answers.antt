@@ -1,4 +1,3 @@
-use Rattle.std.proofs.Common.{◌≡◌}
 use Rattle.sector_disk.proofs.Calm.{calm_wears}
 use Rattle.mount_recover.proofs.CalmReads.{still_calm, anchor_found}
 use Rattle.mount_recover.proofs.anchor.find_anchor.Goals as goal

@@ -1,4 +1,4 @@
-use Rattle.std.proofs.Common.{◌≡◌, subst}
+use Rattle.std.proofs.Common.{subst}
 use Rattle.sector_disk.specs.Machine.{Moment}
 use Rattle.sector_disk.proofs.Calm.{calm_wears}
 use Rattle.mount_recover.specs.Recover.{Renews}
