@@ -1,2 +1,3 @@
-mod RenewLaws
 mod CalmReads
+pub mod HomeLaws
+mod RenewLaws
