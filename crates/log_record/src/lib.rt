@@ -11,7 +11,8 @@ pub use anchor::{anchor_bytes, read_anchor};
 pub use fsd_formats::Anchor;
 pub use judging::{Found, Judged, judge};
 pub use laws::{
-    laid_records_are_good, records_read_plainly, records_stay, torn_records_are_whole_or_absent,
+    laid_records_are_good, records_are_good_where_copies_serve, records_read_plainly, records_stay,
+    torn_records_are_whole_or_absent,
 };
 pub use laying::lay;
 
