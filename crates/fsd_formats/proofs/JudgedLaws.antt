@@ -139,7 +139,7 @@ mapped_some None rest f z e = absurd (cc)
 mapped_some (Some x) None f z e = absurd (cc)
 mapped_some (Some x) (Some y) f z e = (x, y, refl, cc)
 
-if_some : {A : Type 0} (b : Bool) (x : Option A) (z : A) → cond b x None ≡ Some z → (b ≡ true) × (x ≡ Some z)
+pub if_some : {A : Type 0} (b : Bool) (x : Option A) (z : A) → cond b x None ≡ Some z → (b ≡ true) × (x ≡ Some z)
 if_some true x z e = (refl, e)
 if_some false x z e = absurd (cc)
 
@@ -344,7 +344,7 @@ foreign_absent p stamp fits room at none = record_less p stamp fits room (λ k. 
 
 -- ---- one image
 
-flag_of : (o : Option Bool) (rest : Option (List Bool)) (x : Bool) (more cs : List Bool) → x ∷ more ≡ cs → option_and_then (λ x. option_map (λ more. x ∷ more) rest) o ≡ Some cs → o ≡ Some x
+pub flag_of : (o : Option Bool) (rest : Option (List Bool)) (x : Bool) (more cs : List Bool) → x ∷ more ≡ cs → option_and_then (λ x. option_map (λ more. x ∷ more) rest) o ≡ Some cs → o ≡ Some x
 flag_of None rest x more cs made e = absurd (cc)
 flag_of (Some y) None x more cs made e = absurd (cc)
 flag_of (Some y) (Some z) x more cs made e = ap (λ (b : Bool). Some b) (cc)

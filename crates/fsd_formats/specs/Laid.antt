@@ -1,5 +1,5 @@
 -- A record as it is laid, as bytes.
-use Rattle.std.specs.Prelude.{◌≡◌, ℕ, zero, suc, ◌+◌, ◌*◌, ◌^◌, ◌<◌, ◌≤◌, List, [], ◌∷◌, ◌++◌, length, Some, IsTrue}
+use Rattle.std.specs.Prelude.{◌≡◌, ℕ, zero, suc, ◌*◌, ◌^◌, ◌<◌, ◌≤◌, List, [], ◌∷◌, ◌++◌, length, Some, IsTrue}
 use Rattle.std.specs.List.{AllByRecursion}
 use Rattle.fsd_bytes.specs.Bytes.{sector, sector_len}
 use Rattle.fsd_formats.specs.Record.{Stamp, header_bytes, end_bytes, are_pages, AreStamped}

@@ -1,10 +1,17 @@
 //! Laws of records: the functions do nothing, the contract of each is a law.
 ghost use Rattle.std.specs.Prelude.{◌≡◌, ◌⊎◌, ◌+◌, ◌*◌, ◌<◌, ◌≤◌, ◌^◌, ℕ, List, Some, None, false, length, replicate};
 ghost use Rattle.fsd_formats.specs.Record.{Stamp, record_len};
-ghost use Rattle.fsd_formats.specs.Judged.{Reader, Logged, judged, record_in, slice_of};
+ghost use Rattle.fsd_formats.specs.Judged.{Reader, Logged, Serving, judged, record_in, slice_of};
+ghost use Rattle.fsd_formats.specs.Good.{IsGood};
 ghost use Rattle.fsd_formats.specs.Borne.{Foreign, FitsStamp, ReadsLess};
 ghost use Rattle.fsd_formats.specs.Laid.{AreLaid, IsTorn, laid_bytes, new_record};
 ghost use Rattle.fsd_formats.specs.Plain.{plain_record};
+
+/// A record is judged good exactly where, by its header or the header's copy, of each other sector and its copy one serves.
+pub fn records_are_good_where_copies_serve()
+    ensures good { (p : ℕ) (stamp : Stamp) (room : ℕ) (at : Reader) (found : Serving) → judged p stamp room at ≡ Some found → IsGood p stamp room at found.pages }
+    ensures not_there { (p : ℕ) (stamp : Stamp) (room : ℕ) (at : Reader) (pages : List ℕ) → judged p stamp room at ≡ None → IsGood p stamp room at pages → ⊥ }
+{}
 
 /// A record that is laid is good by its first sectors, and still there where two adjacent sectors of it were lost.
 pub fn laid_records_are_good()
