@@ -19,48 +19,48 @@ pub use laying::lay;
 #[cfg(test)]
 mod tests {
     use super::*;
+    use fsd_bytes::u32_at;
 
-    // The first four bytes of a sector.
-    fn magic(bytes: &[u8; 3584], sector: usize) -> [u8; 4]
-        requires { sector < 7 }
-    {
-        let place = 512 * sector;
-        [
-            bytes[place],
-            bytes[place + 1],
-            bytes[place + 2],
-            bytes[place + 3],
-        ]
-    }
-
-    // An image of page 0, as one record of number 1 has it.
-    fn image(epoch: u32) -> [u8; 512] {
+    // Page 0 as the record (2, 1) has it.
+    fn image() -> [u8; 512] {
         let mut b = [0; 512];
         fsd_bytes::put_bytes(&mut b, 0, b"CNPG");
-        fsd_bytes::put_u32(&mut b, 16, epoch);
+        fsd_bytes::put_u32(&mut b, 16, 2);
         fsd_bytes::put_u32(&mut b, 20, 1);
         b
     }
 
+    // Room for seven sectors.
+    fn room() -> [u8; 3584] {
+        [255; 3584]
+    }
+
+    // The record (2, 1) of page 0.
+    fn laid() -> [u8; 3584] {
+        let image = image();
+        let mut out = room();
+        lay(2, 1, &[0], &image, &mut out);
+        out
+    }
+
+    // Which record it is with its page and its end damaged.
+    fn judged(bytes: &[u8; 3584]) -> Judged {
+        let whole = [true, true, true, false, false, true, true];
+        judge(&whole, bytes, 16, 2, 1)
+    }
+
     #[test]
     fn records_and_anchors_lie_as_the_format_says(rt: HostRuntime) {
-        let mut old = [255; 3584];
-        lay(2, 1, &[0], &image(2), &mut old);
-        assert_eq!(rt; old[..14], b"CLHD\0\0\0\x02\0\0\0\x01\0\x01".as_slice()[..]);
-        assert_eq!(rt; old[32..36], [0; 4].as_slice()[..]);
-        assert_eq!(rt; (magic(&old, 0), magic(&old, 1)), (*b"CLHD", [0; 4]));
-        assert_eq!(rt; (magic(&old, 2), magic(&old, 3)), (*b"CLHD", *b"CNPG"));
-        assert_eq!(rt; (magic(&old, 4), magic(&old, 5)), (*b"CLEN", *b"CNPG"));
-        assert_eq!(rt; magic(&old, 6), *b"CLEN");
-
-        // The page and the end are damaged.
-        match judge(
-            &[true, true, true, false, false, true, true],
-            &old,
-            16,
-            2,
-            1,
-        ) {
+        let out = laid();
+        assert_eq!(rt; out[..14], b"CLHD\0\0\0\x02\0\0\0\x01\0\x01".as_slice()[..]);
+        assert_eq!(rt; out[32..36], [0; 4].as_slice()[..]);
+        assert_eq!(rt; out[512..516], [0; 4].as_slice()[..]);
+        assert_eq!(rt; out[1024..1028], b"CLHD".as_slice()[..]);
+        assert_eq!(rt; out[1536..1540], b"CNPG".as_slice()[..]);
+        assert_eq!(rt; out[2048..2052], b"CLEN".as_slice()[..]);
+        assert_eq!(rt; out[2560..2564], b"CNPG".as_slice()[..]);
+        assert_eq!(rt; out[3072..3076], b"CLEN".as_slice()[..]);
+        match judged(&out) {
             Judged::Good(f) => {
                 assert_eq!(rt; (f.n, f.header_copy, f.end_copy), (1, false, true));
                 assert_eq!(rt; f.pages.as_slice()[..], [0].as_slice()[..]);
@@ -69,22 +69,14 @@ mod tests {
             Judged::NotThere => assert!(rt; false),
         }
 
-        // Five sectors of the next epoch's record stand, and its page is damaged.
-        let mut new = [0; 3584];
-        lay(3, 1, &[0], &image(3), &mut new);
-        old[..2560].copy_from_slice(&new[..2560]);
-        match judge(&[true, true, true, false, true, true, true], &old, 16, 3, 1) {
-            Judged::Good(_) => assert!(rt; false),
-            Judged::NotThere => {}
-        }
-
         let anchor = Anchor {
             epoch: 1,
             third: 0,
             first: 1,
         };
         let b = anchor_bytes(&anchor);
-        assert_eq!(rt; b[..16], b"CFSA\0\0\0\x01\0\0\0\0\0\0\0\x01".as_slice()[..]);
+        assert_eq!(rt; (u32_at(&b, 0), u32_at(&b, 4)), (0x4346_5341, 1));
+        assert_eq!(rt; (u32_at(&b, 8), u32_at(&b, 12)), (0, 1));
         assert_eq!(rt; read_anchor(&b), Some(anchor));
     }
 }
