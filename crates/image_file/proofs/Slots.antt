@@ -1,17 +1,16 @@
 -- A slot is laid from its front, and begins with the sector's bytes.
-use Rattle.std.proofs.Common.{◌≡◌, ℕ, List, [], ◌++◌, length, take, drop, refl, ap, subst, ◌∙◌, arith, length-append, append_assoc}
+use Rattle.std.proofs.Common.{◌≡◌, ℕ, List, [], ◌++◌, length, take, drop, refl, sym, ap, subst, ◌∙◌, arith, length-append, append_assoc}
 use Rattle.std.proofs.Math.Seq.{take-append_seam, drop-append-add}
 use Rattle.std.proofs.lemmas.List.{append-nil, take-append-le, take_all}
 use Rattle.std.specs.Prelude.{replicate}
-use Rattle.fsd_bytes.specs.Bytes.{sector_len, u32}
+use Rattle.fsd_bytes.specs.Bytes.{sector_len, u32, with_bytes}
 use Rattle.fsd_formats.specs.Slot.{check_of, slot_of}
-use Rattle.image_file.specs.Field.{with_bytes}
 
 -- bytes that are put right behind a front
 behind : (place : ℕ) (front rest bytes : List ℕ) → length front ≡ place → with_bytes place bytes (front ++ rest) ≡ (front ++ bytes) ++ drop (length bytes) rest
 behind place front rest bytes e =
     let family = λ (n : ℕ). with_bytes n bytes (front ++ rest) ≡ (front ++ bytes) ++ drop (length bytes) rest in
-    subst family e (rw (take-append_seam, drop-append-add) refl)
+    subst family e (rw (take-append_seam, drop-append-add) (sym (append_assoc front bytes (drop (length bytes) rest))))
 
 zeros : List ℕ
 zeros = replicate 520 0

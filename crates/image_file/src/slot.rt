@@ -2,7 +2,7 @@
 ghost use Rattle.std.specs.Prelude.{◌≡◌, ◌+◌, ◌≤◌, IfSome, ℕ, List, length, Some};
 ghost use Rattle.fsd_bytes.specs.Bytes.{sector_len};
 ghost use Rattle.fsd_formats.specs.Slot.{check_of, slot_of};
-ghost use Rattle.image_file.specs.Field.{with_bytes};
+ghost use Rattle.fsd_bytes.specs.Bytes.{with_bytes};
 
 /// Bytes in a slot.
 pub const SLOT_BYTES: usize = 520;

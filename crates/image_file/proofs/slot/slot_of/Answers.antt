@@ -1,6 +1,5 @@
 use Rattle.std.proofs.Common.{◌++◌, ◌∙◌, ap, length, arith}
-use Rattle.fsd_bytes.specs.Bytes.{u32}
-use Rattle.image_file.specs.Field.{with_bytes}
+use Rattle.fsd_bytes.specs.Bytes.{u32, with_bytes}
 use Rattle.image_file.proofs.Slots.{laid}
 use Rattle.image_file.proofs.slot.slot_of.Goals as goal
 
