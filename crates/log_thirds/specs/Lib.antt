@@ -1,0 +1,5 @@
+pub mod Append
+pub mod Disk
+pub mod LogValue
+pub mod Moves
+pub mod Reading

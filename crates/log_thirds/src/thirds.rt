@@ -1,0 +1,206 @@
+// The log.
+use crate::find::{Spot, next, place_of};
+use crate::reading::LogFault;
+use crate::write::write_record;
+use fsd_formats::Anchor;
+use sector_disk::{Failed, Machine};
+use std::alloc::Global;
+use std::marker::Model;
+use volume_layout::Layout;
+
+/// Where the next record goes.
+#[derive(Clone, Copy, Debug, PartialEq, Eq)]
+pub enum Place {
+    Here,
+    NextThird,
+    /// The anchor's first third would be entered, which is this one.
+    FirstThird(u32),
+}
+
+/// The log of a volume: where its next record goes.
+#[derive(Drop)]
+pub struct Log {
+    layout: Layout,
+    anchor: Anchor,
+    number: u32,
+    at: u32,
+    end: u32,
+    buffer: Vec<u8>,
+}
+
+impl Model for Log {
+    ghost use Rattle.log_thirds.specs.LogValue.{LogValue, IsShaped};
+
+    ghost Value = { LogValue };
+
+    ghost view = { λ s. record { layout = s.layout; anchor = s.anchor; head = record { number = s.number; at = s.at; end = s.end } } };
+
+    ghost invariant = { λ s. IsShaped s.layout s.anchor (record { number = s.number; at = s.at; end = s.end }) s.buffer.items };
+}
+
+impl Log {
+    ghost use Rattle.std.specs.Prelude.{◌≡◌, ◌≤◌, ◌<◌, ◌+◌, ◌-◌, ◌*◌, ◌^◌, ◌++◌, ◌∷◌, [], List, ℕ, length, IsTrue, IfErr, IfOk, OnOk, OnErr};
+    ghost use Rattle.sector_disk.specs.Image.{stand};
+    ghost use Rattle.sector_disk.specs.Machine.{DeviceFault, UsesDisk, Trusts, LeavesOnly, Holds, Wears};
+    ghost use Rattle.fsd_formats.specs.Record.{are_pages, AreStamped};
+    ghost use Rattle.fsd_formats.specs.Laid.{laid_bytes, slices};
+    ghost use Rattle.fsd_formats.specs.Scan.{Placed, HasRoom, spot_for, place_of};
+    ghost use Rattle.log_thirds.specs.Append.{IsCalm, IsLogIn, Appends, IsNarrow, IsLogWorn, AppendsWorn, stamp_now, next_record, log_past, scan_of, GoesAt};
+    ghost use Rattle.log_thirds.specs.Reading.{LogCause};
+
+    /// Finds the end of the log that begins with this anchor's first record.
+    pub fn scan<M: Machine>(
+        alloc: Global,
+        m: &mut M,
+        layout: &Layout,
+        anchor: &Anchor,
+    ) -> Result<Log, LogFault>
+        requires third { anchor.now.third ≤ 2 }
+        requires numbered { anchor.now.first + 3 * layout.now.third < 2 ^ 32 }
+        requires sectors { layout.now.sectors ≤ (M.report m.old).sectors }
+        ensures fault { IfErr result (LogCause (M.report m.old) (M.report m.new)) }
+        ensures uses { UsesDisk (M.report m.old) (M.report m.new) }
+        ensures trust { Trusts (M.tells m.old) (M.tells m.new) (M.honest m.old) (M.honest m.new) }
+        ensures worn { M.honest m.new → Wears (M.now m.old) (M.now m.new) }
+        ensures any_moment { M.honest m.new → LeavesOnly M.moment M.left_since m.old m.new (Wears (M.now m.old)) }
+        ensures layout { IfOk result (λ log. log.layout ≡ layout.now) }
+        ensures anchor { IfOk result (λ log. log.anchor ≡ anchor.now) }
+        ensures found { IfOk result (λ log. M.honest m.new → IsCalm (M.now m.old) → (scan_of log (M.now m.old)).head ≡ log.head) }
+    {
+        let third = layout.third();
+        let _sectors = layout.sectors();
+        let buffer = match vec![in alloc; 0u8; 100_864] {
+            Ok(buffer) => buffer,
+            Err(_) => return Err(LogFault::Memory),
+        };
+        let mut number = anchor.first;
+        let mut at = 0;
+        let mut end = third;
+        loop {
+            match next(alloc, m, layout, anchor, number, at, end) {
+                Ok(
+                    Some(
+                        Spot {
+                            at: past,
+                            end: last,
+                        },
+                    ),
+                ) => {
+                    number += 1;
+                    at = past;
+                    end = last;
+                }
+                Ok(None) => {
+                    return Ok(Log {
+                        layout: *layout,
+                        anchor: *anchor,
+                        number,
+                        at,
+                        end,
+                        buffer,
+                    });
+                }
+                Err(fault) => return Err(fault),
+            }
+        }
+    }
+
+    /// The epoch of the next record.
+    pub fn epoch(&self) -> u32
+        ensures { result ≡ self.now.anchor.epoch }
+    {
+        self.anchor.epoch
+    }
+
+    /// The number of the next record.
+    pub fn next_number(&self) -> u32
+        ensures { result ≡ self.now.head.number }
+    {
+        self.number
+    }
+
+    /// Where a record of n pages goes.
+    pub fn room(&self, n: u32) -> Place
+        requires { n ≤ 96 }
+        ensures { GoesAt self.now n result }
+    {
+        let third = self.layout.third();
+        if self.at + (2 * n + 5) <= self.end {
+            Place::Here
+        } else if self.end < 3 * third {
+            Place::NextThird
+        } else {
+            Place::FirstThird(self.anchor.third)
+        }
+    }
+
+    // Where a record of n pages goes on the tape.
+    fn spot(&self, n: u32) -> (u32, u32)
+        requires few { n ≤ 96 }
+        requires room { HasRoom self.now.layout n self.now.head }
+        ensures at { result.0 ≡ (spot_for self.now.layout n self.now.head).at }
+        ensures end { result.1 ≡ (spot_for self.now.layout n self.now.head).end }
+    {
+        let third = self.layout.third();
+        if self.at + (2 * n + 5) <= self.end {
+            (self.at, self.end)
+        } else {
+            (self.end, self.end + third)
+        }
+    }
+
+    // Where a place on the tape lies on the disk.
+    fn place(&self, at: u32) -> u32
+        requires { at ≤ 3 * self.now.layout.third }
+        ensures { result ≡ place_of self.now.layout self.now.anchor.third at }
+    {
+        place_of(&self.layout, self.anchor.third, at)
+    }
+
+    /// Writes a record behind the last one.
+    pub fn append<M: Machine>(
+        &mut self,
+        m: &mut M,
+        pages: &[u32],
+        images: &[u8],
+    ) -> Result<(), Failed>
+        requires pages { IsTrue (are_pages self.old.layout.pages pages.now) }
+        requires images { length images.now ≡ 512 * length pages.now }
+        requires stamped { AreStamped (stamp_now self.old) pages.now (slices (length pages.now) images.now) }
+        requires room { HasRoom self.old.layout (length pages.now) self.old.head }
+        requires numbered { self.old.head.number < 2 ^ 32 - 1 }
+        requires sectors { self.old.layout.sectors ≤ (M.report m.old).sectors }
+        ensures fault { IfErr result (λ failed. DeviceFault (M.report m.old) (M.report m.new) failed.place) }
+        ensures uses { UsesDisk (M.report m.old) (M.report m.new) }
+        ensures trust { Trusts (M.tells m.old) (M.tells m.new) (M.honest m.old) (M.honest m.new) }
+        ensures any_moment { (records : List Placed) → M.honest m.new → IsCalm (M.now m.old) → IsLogIn self.old records (M.now m.old)
+            → LeavesOnly M.moment M.left_since m.old m.new (Appends self.old records pages.now images.now (M.now m.old)) }
+        ensures done { OnOk result ((records : List Placed) → M.honest m.new → IsCalm (M.now m.old) → IsLogIn self.old records (M.now m.old)
+            → IsLogIn self.new (records ++ next_record self.old pages.now images.now ∷ []) (M.now m.new)) }
+        ensures worn_moment { (records : List Placed) → M.honest m.new → IsLogWorn self.old records (M.now m.old)
+            → LeavesOnly M.moment M.left_since m.old m.new (AppendsWorn self.old records pages.now images.now (M.now m.old)) }
+        ensures worn_done { OnOk result ((records : List Placed) → M.honest m.new → IsNarrow (M.now m.old) → IsLogWorn self.old records (M.now m.old)
+            → IsLogWorn self.new (records ++ next_record self.old pages.now images.now ∷ []) (M.now m.new)) }
+        ensures stands { OnOk result (M.honest m.new → Holds (M.now m.old)
+            (stand (M.now m.old).image (place_of self.old.layout self.old.anchor.third (spot_for self.old.layout (length pages.now) self.old.head).at)
+            (laid_bytes (stamp_now self.old) pages.now images.now) (2 * length pages.now + 5)) (M.now m.new)) }
+        ensures past { OnOk result (self.new ≡ log_past self.old (length pages.now)) }
+        ensures kept { OnErr result (self.new ≡ self.old) }
+    {
+        let (at, end) = self.spot(pages.len() as u32);
+        let place = self.place(at);
+        write_record(
+            m,
+            place,
+            self.anchor.epoch,
+            self.number,
+            pages,
+            images,
+            self.buffer.as_mut_slice(),
+        )?;
+        self.number += 1;
+        self.at = at + (2 * pages.len() as u32 + 5);
+        self.end = end;
+        Ok(())
+    }
+}
