@@ -2,8 +2,10 @@
 --
 -- The log is read as a tape: the anchor's first third, then the two others in order. A place on the tape is counted from the
 -- start of the first third.
-use Rattle.std.specs.Prelude.{◌≡◌, ◌⊎◌, ◌<◌, ◌≤◌, nat_le, ℕ, zero, suc, ◌+◌, ◌-◌, ◌*◌, min, ◌&&◌, List, [], ◌∷◌, length, Option, Some, None, nat_lt, if◌then◌else◌, option_map, unwrap_or}
+use Rattle.std.specs.Prelude.{◌≡◌, ◌⊎◌, ◌<◌, ◌≤◌, nat_le, ℕ, zero, suc, ◌+◌, ◌-◌, ◌*◌, ◌^◌, min, ◌&&◌, List, [], ◌∷◌, length, Option, Some, None, nat_lt, if◌then◌else◌, option_map, unwrap_or, Bool, ◌||◌, ◌==◌, option_and_then}
 use Rattle.std.specs.Option.{option_or}
+use Rattle.fsd_formats.specs.declared.anchor.Anchor.{Anchor}
+use Rattle.fsd_formats.specs.Anchors.{read_anchor}
 use Rattle.volume_layout.specs.Shape.{Shape}
 use Rattle.fsd_formats.specs.Record.{record_len}
 use Rattle.fsd_formats.specs.Judged.{Reader, Logged, record_in}
@@ -17,6 +19,25 @@ place_of l first at = if nat_lt (first * l.third + at) (3 * l.third) then 16 + (
 
 abbrev pub tape : Shape → ℕ → Reader → Reader
 tape l first disk at = if nat_lt at (3 * l.third) then disk (place_of l first at) else None
+
+-- ---- the anchor
+
+abbrev pub anchor_in : Option (List ℕ) → Option Anchor
+anchor_in bytes = option_and_then read_anchor bytes
+
+-- by epoch, and then by the first number
+abbrev pub is_newer : Anchor → Anchor → Bool
+is_newer a b = nat_lt b.epoch a.epoch || a.epoch == b.epoch && nat_lt b.first a.first
+
+-- the newer of two, on a tie the first
+abbrev pub newer_of : Option Anchor → Option Anchor → Option Anchor
+newer_of None second = second
+newer_of (Some a) None = Some a
+newer_of (Some a) (Some b) = Some (if is_newer b a then b else a)
+
+-- the anchor that the disk gives, of its two copies
+abbrev pub anchor_on : Reader → Option Anchor
+anchor_on disk = newer_of (anchor_in (disk 8)) (anchor_in (disk 12))
 
 -- ---- the scan
 
@@ -38,8 +59,15 @@ room_at at end = min 197 (end - at)
 abbrev pub window : Reader → (at room : ℕ) → Reader
 window disk at room k = if nat_lt k room then disk (at + k) else None
 
+-- No record is ever given this number, and none is looked for.
+abbrev pub last_number : ℕ
+last_number = 2 ^ 32 - 1
+
 abbrev pub record_here : Shape → ℕ → Reader → (number at end : ℕ) → Option Logged
-record_here l epoch disk number at end = record_in l.pages (record { epoch = epoch; number = number }) (room_at at end) (window disk at (room_at at end))
+record_here l epoch disk number at end =
+    if nat_lt number last_number
+    then record_in l.pages (record { epoch = epoch; number = number }) (room_at at end) (window disk at (room_at at end))
+    else None
 
 -- the record, and the head behind it
 abbrev pub behind : (number at end : ℕ) → Logged → Placed × Head

@@ -10,6 +10,7 @@ use Rattle.fsd_formats.proofs.JudgedLaws.{foreign_absent}
 use Rattle.fsd_formats.proofs.LaidLaws.{IsLaidAs}
 use Rattle.fsd_formats.proofs.TornLaws.{ArePages, there, absent}
 use Rattle.fsd_formats.specs.Laid.{IsTorn, new_record}
+use Rattle.log_thirds.proofs.HereLaws.{here_looks, here_none}
 use Rattle.fsd_formats.specs.Scan.{IsIn, Head, Placed, Walked, room_at, window, record_here, next, scan, start, IsLog}
 use Rattle.log_thirds.proofs.WalkLaws.{stamp_of, head_behind, MayEnter, IsFound, Goes, GoesFar, goes_far, goes_of_walk, goes_more, walk_of_goes, none_next, TapeLess, goes_keeps}
 
@@ -110,8 +111,9 @@ module _ (l : Shape) (epoch first : ℕ) (fits : epoch < 2 ^ 32) (third : 0 < l.
   -- a place where only old sectors are looked at has no such record
   none_at : (m at end : ℕ) → h.number ≤ m → m < 2 ^ 32 → ((k : ℕ) → k < room_at at end → (at + k < spot.at) ⊎ (spot.at + stood ≤ at + k)) → record_here l epoch new m at end ≡ None
   none_at m at end from lt where_ =
-      foreign_absent l.pages (stamp_of epoch m) (stamp_fits m lt) (room_at at end) (window new at (room_at at end))
-      (window_foreign (stamp_of epoch m) new at (room_at at end) (λ k inside. old_foreign (at + k) m from (where_ k inside)))
+      here_none l epoch new m at end
+      (foreign_absent l.pages (stamp_of epoch m) (stamp_fits m lt) (room_at at end) (window new at (room_at at end))
+      (window_foreign (stamp_of epoch m) new at (room_at at end) (λ k inside. old_foreign (at + k) m from (where_ k inside))))
 
   roomy : record_len (length pages) ≤ room_at spot.at spot.end
   roomy = omega (arith, is_spot.fits, are.few)
@@ -122,13 +124,15 @@ module _ (l : Shape) (epoch first : ℕ) (fits : epoch < 2 ^ 32) (third : 0 < l.
   -- at the spot itself
   spot_none : stood ≤ 3 + length pages → record_here l epoch new h.number spot.at spot.end ≡ None
   spot_none before =
-      absent l.pages (stamp_of epoch h.number) (stamp_fits h.number (omega (arith, small))) pages images bytes are laid (room_at spot.at spot.end) roomy stood
+      here_none l epoch new h.number spot.at spot.end
+      (absent l.pages (stamp_of epoch h.number) (stamp_fits h.number (omega (arith, small))) pages images bytes are laid (room_at spot.at spot.end) roomy stood
       (window old spot.at (room_at spot.at spot.end)) (window new spot.at (room_at spot.at spot.end)) in_window
-      (window_foreign (stamp_of epoch h.number) old spot.at (room_at spot.at spot.end) (λ k inside. log.fresh (spot.at + k) h.number (omega arith))) before
+      (window_foreign (stamp_of epoch h.number) old spot.at (room_at spot.at spot.end) (λ k inside. log.fresh (spot.at + k) h.number (omega arith))) before)
 
   spot_found : 3 + length pages < stood → record_here l epoch new h.number spot.at spot.end ≡ Some (new_record (stamp_of epoch h.number) pages images)
   spot_found past =
-      there l.pages (stamp_of epoch h.number) (stamp_fits h.number (omega (arith, small))) pages images bytes are laid (room_at spot.at spot.end) roomy stood
+      here_looks l epoch new h.number spot.at spot.end small
+      ∙ there l.pages (stamp_of epoch h.number) (stamp_fits h.number (omega (arith, small))) pages images bytes are laid (room_at spot.at spot.end) roomy stood
       (window old spot.at (room_at spot.at spot.end)) (window new spot.at (room_at spot.at spot.end)) in_window past
 
   -- BEFORE ITS END STANDS THE RECORD ISN'T THERE

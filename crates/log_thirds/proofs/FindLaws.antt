@@ -17,7 +17,8 @@ use Rattle.log_thirds.specs.declared.find.Spot.{Spot}
 use Rattle.std.specs.Option.{option_or}
 use Rattle.log_thirds.specs.Append.{IsCalm}
 use Rattle.log_thirds.specs.Reading.{ReadRun, GoesTo}
-use Rattle.log_thirds.proofs.TapeLaws.{InThird, not_below, place_add, place_cases, place_inside, end_most, first_most}
+use Rattle.log_thirds.proofs.TapeLaws.{InThird, place_add, place_cases, place_inside, end_most, first_most}
+use Rattle.log_thirds.proofs.HereLaws.{not_below}
 
 -- nothing wears where no sector may
 pub reads_same : (old mid : Moment) → IsCalm old → Wears old mid → reads mid.image ≡ reads old.image

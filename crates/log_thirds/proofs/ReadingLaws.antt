@@ -12,9 +12,9 @@ use Rattle.fsd_formats.specs.Judged.{slice_of}
 use Rattle.log_record.specs.Found.{read_of}
 use Rattle.fsd_formats.proofs.LaidLaws.{slice_within, slice_behind, slice_all}
 use Rattle.log_thirds.specs.Disk.{bytes_in}
-use Rattle.log_thirds.specs.Reading.{LogCause, ReadInto, ReadWorn, ReadRun}
-use Rattle.log_thirds.specs.declared.reading.LogFault.{LogFault}
-use Rattle.log_thirds.specs.declared.reading.LogFault.TheVariants.{Device, Memory}
+use Rattle.log_thirds.specs.Reading.{ReadCause, ReadInto, ReadWorn, ReadRun}
+use Rattle.log_thirds.specs.declared.reading.ReadFault.{ReadFault}
+use Rattle.log_thirds.specs.declared.reading.ReadFault.TheVariants.{Device, Memory}
 
 pub wears_here : (at : Moment) → Wears at at
 wears_here at = record { image = worn_refl (open_damage at.windows) at.image; windows = refl; said = refl }
@@ -78,6 +78,6 @@ reads_on moment left_since old mid new a b wears first second =
     then_on moment left_since old mid new (Wears a) first (leaves_more moment left_since mid new (Wears b) (Wears a) (λ c worn. wears_on a b c wears worn) second)
 
 -- a fault that comes later
-pub fault_on : (a b c : Report) (fault : LogFault) → UsesDisk a b → LogCause b c fault → LogCause a c fault
+pub fault_on : (a b c : Report) (fault : ReadFault) → UsesDisk a b → ReadCause b c fault → ReadCause a c fault
 fault_on a b c (Device place) uses cause = record { rose = omega (arith, uses.disk, cause.rose); told = cause.told }
 fault_on a b c Memory uses cause = tt

@@ -7,11 +7,12 @@ use Rattle.fsd_formats.specs.Record.{record_len}
 use Rattle.fsd_formats.specs.Judged.{Reader, record_in}
 use Rattle.fsd_formats.specs.Borne.{Foreign}
 use Rattle.fsd_formats.proofs.JudgedLaws.{foreign_absent}
-use Rattle.fsd_formats.specs.Scan.{IsIn, Head, Placed, Walked, room_at, window, record_here, next, scan, start, place_of, tape, IsLog}
+use Rattle.log_thirds.proofs.HereLaws.{here_none}
+use Rattle.fsd_formats.specs.Scan.{last_number, IsIn, Head, Placed, Walked, room_at, window, record_here, next, scan, start, place_of, tape, IsLog}
 use Rattle.log_thirds.specs.Moves.{back, head_back, IsNextThird, MovesOn}
 use Rattle.log_thirds.proofs.WalkLaws.{stamp_of, IsHere, IsThere, IsFound, GoesOn, found_goes_on, Goes, goes_of_walk, walk_of_goes, none_next, ends_inside}
 use Rattle.log_thirds.proofs.AppendLaws.{none_foreign, window_foreign}
-use Rattle.log_thirds.proofs.TapeLaws.{not_below}
+use Rattle.log_thirds.proofs.HereLaws.{not_below}
 
 -- the tape of the next third: the old one from its second third on, and then its first third
 pub record IsShifted (l : Shape) (old new : Reader) : Type 0 where
@@ -22,7 +23,8 @@ module _ (l : Shape) (epoch : ℕ) (old new : Reader) (shifted : IsShifted l old
   same_here number at end from before inside =
       let room : room_at (at - l.third) (end - l.third) ≡ room_at at end = omega arith in
       let windows : window new (at - l.third) (room_at at end) ≡ window old at (room_at at end) = λ i k. pointwise k i in
-      (λ i. record_in l.pages (stamp_of epoch number) (room i) (window new (at - l.third) (room i))) ∙ ap (λ (r : Reader). record_in l.pages (stamp_of epoch number) (room_at at end) r) windows
+      (λ i. if nat_lt number last_number then record_in l.pages (stamp_of epoch number) (room i) (window new (at - l.third) (room i)) else None)
+      ∙ ap (λ (r : Reader). if nat_lt number last_number then record_in l.pages (stamp_of epoch number) (room_at at end) r else None) windows
     where
       pointwise : (k : ℕ) → window new (at - l.third) (room_at at end) k ≡ window old at (room_at at end) k
       pointwise k = elim (cases_lt k (room_at at end)) [
@@ -132,8 +134,8 @@ module _ (l : Shape) (epoch first : ℕ) (fits : epoch < 2 ^ 32) (third : 0 < l.
   ]
 
   none_at : (at end : ℕ) → record_here l epoch new h.number at end ≡ None
-  none_at at end = foreign_absent l.pages (stamp_of epoch h.number) (record { epoch = fits; number = small }) (room_at at end) (window new at (room_at at end))
-      (window_foreign (stamp_of epoch h.number) new at (room_at at end) (λ k inside. fresh (at + k) h.number (omega arith)))
+  none_at at end = here_none l epoch new h.number at end (foreign_absent l.pages (stamp_of epoch h.number) (record { epoch = fits; number = small }) (room_at at end) (window new at (room_at at end))
+      (window_foreign (stamp_of epoch h.number) new at (room_at at end) (λ k inside. fresh (at + k) h.number (omega arith))))
 
   pub moves_on : MovesOn l epoch first new rs h
   unfolding scan
@@ -208,8 +210,8 @@ tape_around l first next disk is = record {
 pub empty_log : (l : Shape) (epoch first : ℕ) (fits : epoch < 2 ^ 32) (small : first < 2 ^ 32) (disk : Reader) → ((w m : ℕ) → Foreign (stamp_of epoch m) (disk w)) → IsLog l epoch first disk [] (start l first)
 unfolding scan
 empty_log l epoch first fits small disk foreign =
-    let none : (at end : ℕ) → record_here l epoch disk first at end ≡ None = λ at end. foreign_absent l.pages (stamp_of epoch first) (record { epoch = fits; number = small }) (room_at at end) (window disk at (room_at at end))
-    (window_foreign (stamp_of epoch first) disk at (room_at at end) (λ k inside. foreign (at + k) first)) in
+    let none : (at end : ℕ) → record_here l epoch disk first at end ≡ None = λ at end. here_none l epoch disk first at end (foreign_absent l.pages (stamp_of epoch first) (record { epoch = fits; number = small }) (room_at at end) (window disk at (room_at at end))
+    (window_foreign (stamp_of epoch first) disk at (room_at at end) (λ k inside. foreign (at + k) first))) in
     record {
       scanned = walk_of_goes (3 * l.third) l epoch disk (start l first) [] (start l first) (record { before = omega arith; from = omega arith; ends = inl refl }) (omega arith) refl (none_next l epoch disk (start l first) (none 0 l.third) (none l.third (l.third + l.third)));
       fresh = λ w m from. foreign w m;

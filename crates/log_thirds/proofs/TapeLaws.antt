@@ -8,14 +8,8 @@ use Rattle.volume_layout.specs.Shape.{Shape}
 use Rattle.fsd_formats.specs.Judged.{Reader}
 use Rattle.fsd_formats.specs.Scan.{IsEnd, place_of, tape}
 use Rattle.log_thirds.specs.Disk.{bytes_in, reads}
+use Rattle.log_thirds.proofs.HereLaws.{not_below}
 use Rattle.log_thirds.proofs.AppendLaws.{TapeTorn}
-
-pub not_below : (k n : ℕ) → n ≤ k → nat_lt k n ≡ false
-not_below k n past = by_test (nat_lt k n) refl
-  where
-    by_test : (b : Bool) → nat_lt k n ≡ b → b ≡ false
-    by_test true is = absurd (let lt : k < n = ltb-true k n is in omega arith)
-    by_test false is = refl
 
 -- some sectors of the tape that lie in one third
 pub record InThird (l : Shape) (first at n end : ℕ) : Type 0 where

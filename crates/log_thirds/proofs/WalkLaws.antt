@@ -8,6 +8,7 @@ use Rattle.fsd_formats.specs.Record.{Stamp, record_len}
 use Rattle.fsd_formats.specs.Judged.{Reader, Logged}
 use Rattle.fsd_formats.specs.Borne.{Foreign, FitsStamp, ReadsLess}
 use Rattle.fsd_formats.proofs.JudgedLaws.{record_less, record_keeps, record_room}
+use Rattle.log_thirds.proofs.HereLaws.{here_looks, here_none, here_some}
 use Rattle.fsd_formats.specs.Scan.{IsEnd, IsIn, Head, Placed, Walked, on, room_at, window, record_here, behind, next, walk}
 
 abbrev pub stamp_of : ℕ → ℕ → Stamp
@@ -122,7 +123,7 @@ pub record GoesOn (l : Shape) (h : Head) (r : Placed) (h1 : Head) : Type 0 where
 module _ (l : Shape) (epoch : ℕ) (disk : Reader) (h : Head) (r : Placed) (h1 : Head) (is_in : IsIn l h) where
   goes_to : (end : ℕ) → IsEnd l end → h.at ≤ r.at → r.at ≤ end → end ≤ r.at + l.third → record_here l epoch disk h.number r.at end ≡ Some r.entry → h1 ≡ head_behind h.number end r → GoesOn l h r h1
   goes_to end ends from before after found goes_on =
-      let room : record_len (length r.entry.pages) ≤ room_at r.at end = record_room l.pages (stamp_of epoch h.number) (room_at r.at end) (window disk r.at (room_at r.at end)) r.entry found in
+      let room : record_len (length r.entry.pages) ≤ room_at r.at end = record_room l.pages (stamp_of epoch h.number) (room_at r.at end) (window disk r.at (room_at r.at end)) r.entry (here_some l epoch disk h.number r.at end r.entry found).1 in
       let within : r.at + record_len (length r.entry.pages) ≤ end = omega (arith, room) in
       subst (GoesOn l h r) (sym goes_on) (record { from = from; to = refl; is_in = record { before = within; from = omega arith; ends = ends }; number = refl })
 
@@ -225,16 +226,17 @@ module _ (l : Shape) (epoch : ℕ) (fits : epoch < 2 ^ 32) (old new : Reader) wh
   found_keeps number h r h1 less before small same is =
       let stamp : Stamp = stamp_of epoch h.number in
       let ok : FitsStamp (stamp_of epoch h.number) = record { epoch = fits; number = small } in
+      let looks = here_some l epoch old h.number r.at is.end r.entry is.found in
       let at_window : (at room : ℕ) → ReadsLess (stamp_of epoch h.number) (window old at room) (window new at room) = λ at room. window_less (stamp_of epoch h.number) old new at room (λ w. less.each w h.number before) in
       record {
         end = is.end;
         place = ⊎_elim (λ here. inl here) (λ there. inr (record {
-          none = record_less l.pages (stamp_of epoch h.number) ok (room_at h.at h.end) (window old h.at (room_at h.at h.end)) (window new h.at (room_at h.at h.end)) (at_window h.at (room_at h.at h.end)) there.none;
+          none = here_none l epoch new h.number h.at h.end (record_less l.pages (stamp_of epoch h.number) ok (room_at h.at h.end) (window old h.at (room_at h.at h.end)) (window new h.at (room_at h.at h.end)) (at_window h.at (room_at h.at h.end)) (sym (here_looks l epoch old h.number h.at h.end looks.0) ∙ there.none));
           enters = there.enters;
           at_start = there.at_start;
           in_third = there.in_third;
         })) is.place;
-        found = record_keeps l.pages (stamp_of epoch h.number) ok (room_at r.at is.end) (window old r.at (room_at r.at is.end)) (window new r.at (room_at r.at is.end)) (at_window r.at (room_at r.at is.end)) r.entry is.found
+        found = here_looks l epoch new h.number r.at is.end looks.0 ∙ record_keeps l.pages (stamp_of epoch h.number) ok (room_at r.at is.end) (window old r.at (room_at r.at is.end)) (window new r.at (room_at r.at is.end)) (at_window r.at (room_at r.at is.end)) r.entry looks.1
             (window_same old new r.at (room_at r.at is.end) (record_len (length r.entry.pages)) same);
         goes_on = is.goes_on;
       }

@@ -11,6 +11,7 @@ use Rattle.fsd_formats.proofs.LaidLaws.{IsLaidAs}
 use Rattle.fsd_formats.proofs.TornLaws.{ArePages}
 use Rattle.fsd_formats.specs.Laid.{new_record}
 use Rattle.fsd_formats.proofs.WornLaws.{AsLaid, ReadsLaid, OneStands, laid_or_none, worn_there}
+use Rattle.log_thirds.proofs.HereLaws.{here_looks, here_none}
 use Rattle.fsd_formats.specs.Scan.{IsIn, Head, Placed, Walked, room_at, window, record_here, next, scan, start, IsLog}
 use Rattle.log_thirds.proofs.WalkLaws.{stamp_of, head_behind, IsFound, Goes, GoesFar, goes_far, goes_of_walk, goes_more, walk_of_goes, none_next, TapeLess, goes_keeps}
 use Rattle.log_thirds.proofs.AppendLaws.{IsSpot, none_foreign, window_foreign, two_stamps}
@@ -79,8 +80,9 @@ module _ (l : Shape) (epoch first : ℕ) (fits : epoch < 2 ^ 32) (third : 0 < l.
   -- a place where only old sectors are looked at has no such record
   none_at : (m at end : ℕ) → h.number ≤ m → m < 2 ^ 32 → ((k : ℕ) → k < room_at at end → (at + k < spot.at) ⊎ (spot.at + stood ≤ at + k)) → record_here l epoch new m at end ≡ None
   none_at m at end from lt where_ =
-      foreign_absent l.pages (stamp_of epoch m) (stamp_fits m lt) (room_at at end) (window new at (room_at at end))
-      (window_foreign (stamp_of epoch m) new at (room_at at end) (λ k inside. old_foreign (at + k) m from (where_ k inside)))
+      here_none l epoch new m at end
+      (foreign_absent l.pages (stamp_of epoch m) (stamp_fits m lt) (room_at at end) (window new at (room_at at end))
+      (window_foreign (stamp_of epoch m) new at (room_at at end) (λ k inside. old_foreign (at + k) m from (where_ k inside))))
 
   roomy : record_len (length pages) ≤ room_at spot.at spot.end
   roomy = omega (arith, is_spot.fits, are.few)
@@ -114,11 +116,14 @@ module _ (l : Shape) (epoch first : ℕ) (fits : epoch < 2 ^ 32) (third : 0 < l.
   -- at the spot itself
   spot_none : stood ≤ 3 + length pages → record_here l epoch new h.number spot.at spot.end ≡ None
   spot_none before =
-      endless_absent l.pages (stamp_of epoch h.number) pages are.accepted are.small (omega (arith, are.few)) (window new spot.at (room_at spot.at spot.end)) (room_at spot.at spot.end) (stamp_fits h.number (omega (arith, small)))
-      reads_laid.header reads_laid.header_copy (past_foreign (3 + length pages) before (omega arith)) (past_foreign (4 + 2 * length pages) (omega arith) (omega arith))
+      here_none l epoch new h.number spot.at spot.end
+      (endless_absent l.pages (stamp_of epoch h.number) pages are.accepted are.small (omega (arith, are.few)) (window new spot.at (room_at spot.at spot.end)) (room_at spot.at spot.end) (stamp_fits h.number (omega (arith, small)))
+      reads_laid.header reads_laid.header_copy (past_foreign (3 + length pages) before (omega arith)) (past_foreign (4 + 2 * length pages) (omega arith) (omega arith)))
 
   spot_either : (record_here l epoch new h.number spot.at spot.end ≡ None) ⊎ (record_here l epoch new h.number spot.at spot.end ≡ Some (new_record (stamp_of epoch h.number) pages images))
-  spot_either = laid_or_none l.pages (stamp_of epoch h.number) (stamp_fits h.number (omega (arith, small))) pages images are (room_at spot.at spot.end) (window new spot.at (room_at spot.at spot.end)) reads_laid
+  spot_either =
+      ⊎_elim (λ none. inl (here_none l epoch new h.number spot.at spot.end none)) (λ some. inr (here_looks l epoch new h.number spot.at spot.end small ∙ some))
+      (laid_or_none l.pages (stamp_of epoch h.number) (stamp_fits h.number (omega (arith, small))) pages images are (room_at spot.at spot.end) (window new spot.at (room_at spot.at spot.end)) reads_laid)
 
   -- of two sectors that are not neighbours one stands
   one_of : stood ≡ record_len (length pages) → ((k d : ℕ) → k + d < record_len (length pages) → 2 ≤ d → IsTrue (weak (spot.at + k)) → IsTrue (weak (spot.at + (k + d))) → ⊥)
@@ -150,7 +155,8 @@ module _ (l : Shape) (epoch first : ℕ) (fits : epoch < 2 ^ 32) (third : 0 < l.
             subst (λ (k : ℕ). (window new spot.at (room_at spot.at spot.end) (3 + j) ≡ Some (slice_of images j)) ⊎ (window new spot.at (room_at spot.at spot.end) k ≡ Some (slice_of images j))) copy_at
             (one_of whole narrow (3 + j) (1 + length pages) (slice_of images j) (omega arith) (omega arith) (laid.image j lt) (ap (slice_of bytes) copy_at ∙ laid.copy j lt));
       } in
-      worn_there l.pages (stamp_of epoch h.number) (stamp_fits h.number (omega (arith, small))) pages images are laid.stamped (room_at spot.at spot.end) roomy (window new spot.at (room_at spot.at spot.end)) reads_laid one
+      here_looks l epoch new h.number spot.at spot.end small
+      ∙ worn_there l.pages (stamp_of epoch h.number) (stamp_fits h.number (omega (arith, small))) pages images are laid.stamped (room_at spot.at spot.end) roomy (window new spot.at (room_at spot.at spot.end)) reads_laid one
 
   -- where it isn't at the spot, the scan is the old one
   scan_none : record_here l epoch new h.number spot.at spot.end ≡ None → scan l epoch new first ≡ record { records = rs; head = h }

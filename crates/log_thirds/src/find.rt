@@ -1,17 +1,20 @@
 // Looking for the next record.
 ghost use Rattle.std.specs.Prelude.{◌≡◌, ◌≤◌, ◌<◌, ◌+◌, ◌-◌, ◌*◌, min, ℕ, length, IfErr, IfOk, IfSome, OnOk, option_map};
 ghost use Rattle.sector_disk.specs.Machine.{Moment, UsesDisk, Trusts, Wears, LeavesOnly};
-ghost use Rattle.fsd_formats.specs.Scan.{Head, IsIn, IsEnd, place_of, tape, room_at, record_here, entered, next};
+ghost use Rattle.fsd_formats.specs.Scan.{Head, IsIn, IsEnd, place_of, tape, room_at, last_number, record_here, entered, next};
 ghost use Rattle.log_thirds.specs.Disk.{reads};
 ghost use Rattle.log_thirds.specs.Append.{IsCalm};
-ghost use Rattle.log_thirds.specs.Reading.{LogCause, GoesTo};
+ghost use Rattle.log_thirds.specs.Reading.{ReadCause, GoesTo};
 
-use crate::reading::{LogFault, read_run};
+use crate::reading::{ReadFault, read_run};
 use fsd_formats::Anchor;
 use log_record::{Judged, judge};
 use sector_disk::Machine;
 use std::alloc::Global;
 use volume_layout::Layout;
+
+/// No record is ever given this number, and none is looked for.
+const LAST_NUMBER: u32 = u32::MAX;
 
 /// A place on the tape, and where its third ends.
 #[derive(Clone, Copy, Debug, PartialEq, Eq)]
@@ -54,21 +57,25 @@ fn find<M: Machine>(
     number: u32,
     at: u32,
     end: u32,
-) -> Result<Option<u32>, LogFault>
+) -> Result<Option<u32>, ReadFault>
     requires first { anchor.now.third ≤ 2 }
     requires before { at ≤ end }
     requires from { end ≤ at + layout.now.third }
     requires ends { IsEnd layout.now end }
     requires sectors { layout.now.sectors ≤ (M.report m.old).sectors }
-    ensures fault { IfErr result (LogCause (M.report m.old) (M.report m.new)) }
+    ensures fault { IfErr result (ReadCause (M.report m.old) (M.report m.new)) }
     ensures uses { UsesDisk (M.report m.old) (M.report m.new) }
     ensures trust { Trusts (M.tells m.old) (M.tells m.new) (M.honest m.old) (M.honest m.new) }
     ensures worn { M.honest m.new → Wears (M.now m.old) (M.now m.new) }
     ensures any_moment { M.honest m.new → LeavesOnly M.moment M.left_since m.old m.new (Wears (M.now m.old)) }
     ensures fits { IfOk result (λ o. IfSome o (λ n. at + (2 * n + 5) ≤ end)) }
+    ensures numbered { IfOk result (λ o. IfSome o (λ _. number < last_number)) }
     ensures found { IfOk result (λ o. M.honest m.new → IsCalm (M.now m.old)
         → o ≡ option_map (λ r. length r.pages) (record_here layout.now anchor.now.epoch (tape layout.now anchor.now.third (reads (M.now m.old).image)) number at end)) }
 {
+    if number == LAST_NUMBER {
+        return Ok(None);
+    }
     let count = room_at(at, end);
     let _sectors = layout.sectors();
     let place = place_of(layout, anchor.third, at);
@@ -96,18 +103,19 @@ fn enter<M: Machine>(
     number: u32,
     at: u32,
     end: u32,
-) -> Result<Option<Spot>, LogFault>
+) -> Result<Option<Spot>, ReadFault>
     requires first { anchor.now.third ≤ 2 }
     requires before { at ≤ end }
     requires from { end ≤ at + layout.now.third }
     requires ends { IsEnd layout.now end }
     requires sectors { layout.now.sectors ≤ (M.report m.old).sectors }
-    ensures fault { IfErr result (LogCause (M.report m.old) (M.report m.new)) }
+    ensures fault { IfErr result (ReadCause (M.report m.old) (M.report m.new)) }
     ensures uses { UsesDisk (M.report m.old) (M.report m.new) }
     ensures trust { Trusts (M.tells m.old) (M.tells m.new) (M.honest m.old) (M.honest m.new) }
     ensures worn { M.honest m.new → Wears (M.now m.old) (M.now m.new) }
     ensures any_moment { M.honest m.new → LeavesOnly M.moment M.left_since m.old m.new (Wears (M.now m.old)) }
     ensures goes { IfOk result (λ o. IfSome o (GoesTo layout.now at)) }
+    ensures numbered { IfOk result (λ o. IfSome o (λ _. number < last_number)) }
     ensures found { IfOk result (λ o. M.honest m.new → IsCalm (M.now m.old)
         → o ≡ option_map (λ x. record { at = x.1.at; end = x.1.end })
         (entered layout.now anchor.now.epoch (tape layout.now anchor.now.third (reads (M.now m.old).image)) (record { number = number; at = at; end = end }))) }
@@ -135,18 +143,19 @@ pub(crate) fn next<M: Machine>(
     number: u32,
     at: u32,
     end: u32,
-) -> Result<Option<Spot>, LogFault>
+) -> Result<Option<Spot>, ReadFault>
     requires first { anchor.now.third ≤ 2 }
     requires before { at ≤ end }
     requires from { end ≤ at + layout.now.third }
     requires ends { IsEnd layout.now end }
     requires sectors { layout.now.sectors ≤ (M.report m.old).sectors }
-    ensures fault { IfErr result (LogCause (M.report m.old) (M.report m.new)) }
+    ensures fault { IfErr result (ReadCause (M.report m.old) (M.report m.new)) }
     ensures uses { UsesDisk (M.report m.old) (M.report m.new) }
     ensures trust { Trusts (M.tells m.old) (M.tells m.new) (M.honest m.old) (M.honest m.new) }
     ensures worn { M.honest m.new → Wears (M.now m.old) (M.now m.new) }
     ensures any_moment { M.honest m.new → LeavesOnly M.moment M.left_since m.old m.new (Wears (M.now m.old)) }
     ensures goes { IfOk result (λ o. IfSome o (GoesTo layout.now at)) }
+    ensures numbered { IfOk result (λ o. IfSome o (λ _. number < last_number)) }
     ensures found { IfOk result (λ o. M.honest m.new → IsCalm (M.now m.old)
         → o ≡ option_map (λ x. record { at = x.1.at; end = x.1.end })
         (next layout.now anchor.now.epoch (tape layout.now anchor.now.third (reads (M.now m.old).image)) (record { number = number; at = at; end = end }))) }

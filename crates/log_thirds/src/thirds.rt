@@ -1,6 +1,8 @@
 // The log.
+use crate::anchors::find_anchor;
+use crate::fault::{LogFault, log_fault};
 use crate::find::{Spot, next, place_of};
-use crate::reading::LogFault;
+use crate::reading::ReadFault;
 use crate::write::write_record;
 use fsd_formats::Anchor;
 use sector_disk::{Failed, Machine};
@@ -39,26 +41,25 @@ impl Model for Log {
 }
 
 impl Log {
-    ghost use Rattle.std.specs.Prelude.{◌≡◌, ◌≤◌, ◌<◌, ◌+◌, ◌-◌, ◌*◌, ◌^◌, ◌++◌, ◌∷◌, [], List, ℕ, length, IsTrue, IfErr, IfOk, OnOk, OnErr};
+    ghost use Rattle.std.specs.Prelude.{◌≡◌, ◌≤◌, ◌<◌, ◌+◌, ◌-◌, ◌*◌, ◌^◌, ◌++◌, ◌∷◌, [], List, ℕ, length, Some, None, Err, IsTrue, IfErr, IfOk, OnOk, OnErr};
     ghost use Rattle.sector_disk.specs.Image.{stand};
     ghost use Rattle.sector_disk.specs.Machine.{DeviceFault, UsesDisk, Trusts, LeavesOnly, Holds, Wears};
     ghost use Rattle.fsd_formats.specs.Record.{are_pages, AreStamped};
     ghost use Rattle.fsd_formats.specs.Laid.{laid_bytes, slices};
     ghost use Rattle.fsd_formats.specs.Scan.{Placed, HasRoom, spot_for, place_of};
     ghost use Rattle.log_thirds.specs.Append.{IsCalm, IsLogIn, Appends, IsNarrow, IsLogWorn, AppendsWorn, stamp_now, next_record, log_past, scan_of, GoesAt};
-    ghost use Rattle.log_thirds.specs.Reading.{LogCause};
+    ghost use Rattle.log_thirds.specs.Reading.{ReadCause, LogCause, SeesAnchor, SeesLastEpoch};
 
-    /// Finds the end of the log that begins with this anchor's first record.
-    pub fn scan<M: Machine>(
+    // Finds the end of the log that begins with this anchor's first record.
+    fn scan_by<M: Machine>(
         alloc: Global,
         m: &mut M,
         layout: &Layout,
         anchor: &Anchor,
-    ) -> Result<Log, LogFault>
+    ) -> Result<Log, ReadFault>
         requires third { anchor.now.third ≤ 2 }
-        requires numbered { anchor.now.first + 3 * layout.now.third < 2 ^ 32 }
         requires sectors { layout.now.sectors ≤ (M.report m.old).sectors }
-        ensures fault { IfErr result (LogCause (M.report m.old) (M.report m.new)) }
+        ensures fault { IfErr result (ReadCause (M.report m.old) (M.report m.new)) }
         ensures uses { UsesDisk (M.report m.old) (M.report m.new) }
         ensures trust { Trusts (M.tells m.old) (M.tells m.new) (M.honest m.old) (M.honest m.new) }
         ensures worn { M.honest m.new → Wears (M.now m.old) (M.now m.new) }
@@ -71,7 +72,7 @@ impl Log {
         let _sectors = layout.sectors();
         let buffer = match vec![in alloc; 0u8; 100_864] {
             Ok(buffer) => buffer,
-            Err(_) => return Err(LogFault::Memory),
+            Err(_) => return Err(ReadFault::Memory),
         };
         let mut number = anchor.first;
         let mut at = 0;
@@ -102,6 +103,37 @@ impl Log {
                 }
                 Err(fault) => return Err(fault),
             }
+        }
+    }
+
+    /// Finds the end of the log that the newer copy of the anchor begins. A number of 2^32 - 1 is never looked for, since
+    /// no record bears it. Needs room for one record.
+    pub fn scan<M: Machine>(alloc: Global, m: &mut M, layout: &Layout) -> Result<Log, LogFault>
+        requires sectors { layout.now.sectors ≤ (M.report m.old).sectors }
+        ensures fault { IfErr result (LogCause (M.report m.old) (M.report m.new)) }
+        ensures no_anchor { result ≡ Err LogFault.NoAnchor → M.honest m.new → SeesAnchor (M.now m.old) None }
+        ensures worn_out { result ≡ Err LogFault.WornOut → M.honest m.new → SeesLastEpoch (M.now m.old) }
+        ensures uses { UsesDisk (M.report m.old) (M.report m.new) }
+        ensures trust { Trusts (M.tells m.old) (M.tells m.new) (M.honest m.old) (M.honest m.new) }
+        ensures worn { M.honest m.new → Wears (M.now m.old) (M.now m.new) }
+        ensures any_moment { M.honest m.new → LeavesOnly M.moment M.left_since m.old m.new (Wears (M.now m.old)) }
+        ensures layout { IfOk result (λ log. log.layout ≡ layout.now) }
+        ensures anchor { IfOk result (λ log. M.honest m.new → SeesAnchor (M.now m.old) (Some log.anchor)) }
+        ensures epoch { IfOk result (λ log. log.anchor.epoch < 2 ^ 32 - 1) }
+        ensures found { IfOk result (λ log. M.honest m.new → IsCalm (M.now m.old) → (scan_of log (M.now m.old)).head ≡ log.head) }
+    {
+        let _sectors = layout.sectors();
+        let anchor = match find_anchor(m) {
+            Ok(Some(anchor)) => anchor,
+            Ok(None) => return Err(LogFault::NoAnchor),
+            Err(fault) => return Err(log_fault(fault)),
+        };
+        if anchor.epoch == u32::MAX {
+            return Err(LogFault::WornOut);
+        }
+        match Log::scan_by(alloc, m, layout, &anchor) {
+            Ok(log) => Ok(log),
+            Err(fault) => Err(log_fault(fault)),
         }
     }
 

@@ -6,6 +6,7 @@ use Rattle.fsd_formats.specs.Judged.{record_in}
 use Rattle.fsd_formats.specs.Scan.{room_at, window, tape}
 use Rattle.log_thirds.specs.Disk.{reads}
 use Rattle.log_thirds.specs.Reading.{ReadRun}
+use Rattle.log_thirds.proofs.HereLaws.{here_looks, here_last}
 use Rattle.log_thirds.proofs.FindLaws.{run_inside, judged_there, judged_room}
 use Rattle.log_thirds.proofs.find.find.Goals as goal
 
@@ -32,6 +33,7 @@ returns-in-Good-clause-found g c h calm =
     c.place_of-place.result c.room_at-count.result c.place_of-place.ensures c.room_at-count.ensures c.as_slice.result.now c.as_slice-in-Ok.result.now run
     c.pages.result stamp (Some (serving_in c.in-Good.found)) c.in-Good.ensures.judged
     ∙ ap (λ (p : ℕ). option_map (λ r. length r.pages) (record_in p stamp (room_at c.args.at c.args.end) (window (tape c.args.layout.now c.args.anchor.now.third (reads (M.now c.args.m.now).image)) c.args.at (room_at c.args.at c.args.end)))) c.pages.ensures
+    ∙ ap (option_map (λ r. length r.pages)) (sym (here_looks c.args.layout.now c.args.anchor.now.epoch (tape c.args.layout.now c.args.anchor.now.third (reads (M.now c.args.m.now).image)) c.args.number c.args.at c.args.end (omega (arith, c.if-number-eq-LAST_NUMBER.false))))
 
 pub returns-in-Ok-clause-found : goal.returns-in-Ok-clause-found
 returns-in-Ok-clause-found g c h calm =
@@ -43,3 +45,9 @@ returns-in-Ok-clause-found g c h calm =
     c.place_of-place.result c.room_at-count.result c.place_of-place.ensures c.room_at-count.ensures c.as_slice.result.now c.as_slice-in-Ok.result.now run
     c.pages.result stamp None c.in-NotThere.ensures.judged
     ∙ ap (λ (p : ℕ). option_map (λ r. length r.pages) (record_in p stamp (room_at c.args.at c.args.end) (window (tape c.args.layout.now c.args.anchor.now.third (reads (M.now c.args.m.now).image)) c.args.at (room_at c.args.at c.args.end)))) c.pages.ensures
+    ∙ ap (option_map (λ r. length r.pages)) (sym (here_looks c.args.layout.now c.args.anchor.now.epoch (tape c.args.layout.now c.args.anchor.now.third (reads (M.now c.args.m.now).image)) c.args.number c.args.at c.args.end (omega (arith, c.if-number-eq-LAST_NUMBER.false))))
+
+pub returns-then-number-eq-LAST_NUMBER-clause-found : goal.returns-then-number-eq-LAST_NUMBER-clause-found
+returns-then-number-eq-LAST_NUMBER-clause-found g c h calm =
+    let M = g.M.Machine in
+    ap (option_map (λ r. length r.pages)) (sym (here_last c.args.layout.now c.args.anchor.now.epoch (tape c.args.layout.now c.args.anchor.now.third (reads (M.now c.args.m.now).image)) c.args.number c.args.at c.args.end (omega (arith, c.if-number-eq-LAST_NUMBER.true))))

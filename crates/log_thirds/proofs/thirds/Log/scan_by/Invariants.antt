@@ -4,12 +4,11 @@ use Rattle.fsd_formats.specs.Scan.{IsIn, tape}
 use Rattle.log_thirds.specs.Disk.{reads}
 use Rattle.log_thirds.specs.Append.{IsCalm}
 use Rattle.log_thirds.proofs.ScanLaws.{Reaches}
-use Rattle.log_thirds.proofs.thirds.Log.scan.Given as goal
+use Rattle.log_thirds.proofs.thirds.Log.scan_by.Given as goal
 
 abbrev pub invariant-loop-past : goal.invariant-loop-past
 invariant-loop-past g l = let M = g.M.Machine in let old = l.fn.m in record {
   is_in : IsIn l.layout (record { number = l.number; at = l.at; end = l.end });
-  numbers : l.number ≤ l.anchor.first + l.at;
   uses : UsesDisk (M.report old) (M.report l.m);
   trust : Trusts (M.tells old) (M.tells l.m) (M.honest old) (M.honest l.m);
   worn : M.honest l.m → Wears (M.now old) (M.now l.m);
