@@ -1,3 +1,4 @@
+pub mod Anchoring
 pub mod Append
 pub mod Disk
 pub mod LogValue

@@ -1,13 +1,17 @@
 //! Which anchor the disk gives.
-ghost use Rattle.std.specs.Prelude.{◌≡◌, ◌<◌, ◌≤◌, Some, None, IfSome, IfErr, IfOk};
-ghost use Rattle.sector_disk.specs.Machine.{Moment, UsesDisk, Trusts, Wears, LeavesOnly};
+ghost use Rattle.std.specs.Prelude.{◌≡◌, ◌<◌, ◌≤◌, Some, None, IfSome, IfErr, IfOk, OnOk};
+ghost use Rattle.sector_disk.specs.Image.{stand};
+ghost use Rattle.sector_disk.specs.Machine.{Moment, DeviceFault, UsesDisk, Trusts, Wears, LeavesOnly, Holds};
+ghost use Rattle.fsd_formats.specs.Anchors.{anchor_bytes};
 ghost use Rattle.fsd_formats.specs.Scan.{is_newer, newer_of};
+ghost use Rattle.log_thirds.specs.Append.{StandsInPart};
+ghost use Rattle.log_thirds.specs.Anchoring.{AnchorsIn, with_anchors};
 ghost use Rattle.log_thirds.specs.Reading.{ReadCause, SeesCopy, SeesAnchor};
 
 use crate::reading::{ReadFault, read_sector};
 use fsd_formats::Anchor;
-use log_record::read_anchor;
-use sector_disk::Machine;
+use log_record::{anchor_bytes, read_anchor};
+use sector_disk::{Failed, Machine};
 
 // Whether an anchor is newer than another: by epoch, and then by the first number.
 fn is_newer(a: &Anchor, b: &Anchor) -> bool
@@ -64,4 +68,38 @@ pub(crate) fn find_anchor<M: Machine>(m: &mut M) -> Result<Option<Anchor>, ReadF
         Ok(copy) => Ok(newer_of(first, copy)),
         Err(fault) => Err(fault),
     }
+}
+
+// Writes an anchor to one of its places.
+fn write_copy<M: Machine>(m: &mut M, place: u32, anchor: &Anchor) -> Result<(), Failed>
+    requires epoch { 1 ≤ anchor.now.epoch }
+    requires third { anchor.now.third ≤ 2 }
+    requires first { 1 ≤ anchor.now.first }
+    requires in_range { place < (M.report m.old).sectors }
+    ensures fault { IfErr result (λ failed. DeviceFault (M.report m.old) (M.report m.new) failed.place) }
+    ensures uses { UsesDisk (M.report m.old) (M.report m.new) }
+    ensures trust { Trusts (M.tells m.old) (M.tells m.new) (M.honest m.old) (M.honest m.new) }
+    ensures torn { M.honest m.new → LeavesOnly M.moment M.left_since m.old m.new (StandsInPart place (anchor_bytes anchor.now) 1 (M.now m.old)) }
+    ensures done { OnOk result (M.honest m.new → Holds (M.now m.old) (stand (M.now m.old).image place (anchor_bytes anchor.now) 1) (M.now m.new)) }
+{
+    let bytes = anchor_bytes(anchor);
+    m.write(place, &bytes)?;
+    Ok(())
+}
+
+/// Writes an anchor to its first place, and then to its second.
+pub(crate) fn write_anchor<M: Machine>(m: &mut M, anchor: &Anchor) -> Result<(), Failed>
+    requires epoch { 1 ≤ anchor.now.epoch }
+    requires third { anchor.now.third ≤ 2 }
+    requires first { 1 ≤ anchor.now.first }
+    requires in_range { 12 < (M.report m.old).sectors }
+    ensures fault { IfErr result (λ failed. DeviceFault (M.report m.old) (M.report m.new) failed.place) }
+    ensures uses { UsesDisk (M.report m.old) (M.report m.new) }
+    ensures trust { Trusts (M.tells m.old) (M.tells m.new) (M.honest m.old) (M.honest m.new) }
+    ensures any_moment { M.honest m.new → LeavesOnly M.moment M.left_since m.old m.new (AnchorsIn anchor.now (M.now m.old)) }
+    ensures done { OnOk result (M.honest m.new → Holds (M.now m.old) (with_anchors anchor.now (M.now m.old).image 1 1) (M.now m.new)) }
+{
+    write_copy(m, 8, anchor)?;
+    write_copy(m, 12, anchor)?;
+    Ok(())
 }

@@ -1,5 +1,5 @@
 // The log.
-use crate::anchors::find_anchor;
+use crate::anchors::{find_anchor, write_anchor};
 use crate::fault::{LogFault, log_fault};
 use crate::find::{Spot, next, place_of};
 use crate::reading::ReadFault;
@@ -48,6 +48,7 @@ impl Log {
     ghost use Rattle.fsd_formats.specs.Laid.{laid_bytes, slices};
     ghost use Rattle.fsd_formats.specs.Scan.{Placed, HasRoom, spot_for, place_of};
     ghost use Rattle.log_thirds.specs.Append.{IsCalm, IsLogIn, Appends, IsNarrow, IsLogWorn, AppendsWorn, stamp_now, next_record, log_past, scan_of, GoesAt};
+    ghost use Rattle.log_thirds.specs.Anchoring.{AnchorsIn, with_anchors, next_epoch, in_next_epoch};
     ghost use Rattle.log_thirds.specs.Reading.{ReadCause, LogCause, SeesAnchor, SeesLastEpoch};
 
     // Finds the end of the log that begins with this anchor's first record.
@@ -233,6 +234,34 @@ impl Log {
         self.number += 1;
         self.at = at + (2 * pages.len() as u32 + 5);
         self.end = end;
+        Ok(())
+    }
+
+    /// Writes the anchor of the next epoch, whose log is empty, to its first place and then to its second. Where it fails
+    /// the log is as it was, and either anchor may stand.
+    pub fn new_epoch<M: Machine>(&mut self, m: &mut M) -> Result<(), Failed>
+        requires epoch { self.old.anchor.epoch < 2 ^ 32 - 1 }
+        requires sectors { self.old.layout.sectors ≤ (M.report m.old).sectors }
+        ensures fault { IfErr result (λ failed. DeviceFault (M.report m.old) (M.report m.new) failed.place) }
+        ensures uses { UsesDisk (M.report m.old) (M.report m.new) }
+        ensures trust { Trusts (M.tells m.old) (M.tells m.new) (M.honest m.old) (M.honest m.new) }
+        ensures any_moment { M.honest m.new → LeavesOnly M.moment M.left_since m.old m.new (AnchorsIn (next_epoch self.old) (M.now m.old)) }
+        ensures done { OnOk result (M.honest m.new → Holds (M.now m.old) (with_anchors (next_epoch self.old) (M.now m.old).image 1 1) (M.now m.new)) }
+        ensures past { OnOk result (self.new ≡ in_next_epoch self.old) }
+        ensures kept { OnErr result (self.new ≡ self.old) }
+    {
+        let _sectors = self.layout.sectors();
+        let third = self.layout.third();
+        let anchor = Anchor {
+            epoch: self.anchor.epoch + 1,
+            third: 0,
+            first: 1,
+        };
+        write_anchor(m, &anchor)?;
+        self.anchor = anchor;
+        self.number = 1;
+        self.at = 0;
+        self.end = third;
         Ok(())
     }
 }
