@@ -1,13 +1,13 @@
 -- An anchor that is written twice.
-use Rattle.std.proofs.Common.{◌≡◌, ℕ, ◌*◌, ◌/◌, List, length, refl, sym, subst, ◌∙◌, arith}
+use Rattle.std.proofs.Common.{ℕ, List, subst, ◌∙◌, arith}
 use Rattle.sector_disk.specs.declared.sector.Sector.{Sector}
 use Rattle.sector_disk.specs.Image.{stand, IsWorn, Windows, open_damage}
-use Rattle.sector_disk.specs.Machine.{Moment, Holds, Tears, Writes}
+use Rattle.sector_disk.specs.Machine.{Moment, Holds}
 use Rattle.sector_disk.proofs.Wear.{worn_trans, stand_worn}
 use Rattle.fsd_formats.specs.declared.anchor.Anchor.{Anchor}
 use Rattle.fsd_formats.specs.Anchors.{anchor_bytes}
 use Rattle.log_thirds.specs.Append.{StandsInPart}
-use Rattle.log_thirds.specs.Anchoring.{AnchorsIn, with_anchors}
+use Rattle.log_thirds.specs.Anchoring.{AnchorsIn}
 
 -- a write over what holds
 pub holds_on : (old mid left : Moment) (image : List Sector) (place : ℕ) (bytes : List ℕ) (k : ℕ) → Holds old image mid → Holds mid (stand mid.image place bytes k) left → Holds old (stand image place bytes k) left

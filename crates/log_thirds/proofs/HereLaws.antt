@@ -1,5 +1,5 @@
 -- Where a record is looked for.
-use Rattle.std.proofs.Common.{◌≡◌, ℕ, ◌-◌, ◌^◌, ◌<◌, ◌≤◌, Bool, true, false, cond, Option, Some, None, nat_lt, refl, ◌∙◌, arith}
+use Rattle.std.proofs.Common.{◌≡◌, ℕ, ◌<◌, ◌≤◌, Bool, true, false, cond, Option, Some, None, nat_lt, refl, arith}
 use Rattle.std.proofs.lemmas.Bool.{cond-true, cond-false, ltb-true, lt-ltb}
 use Rattle.volume_layout.specs.Shape.{Shape}
 use Rattle.fsd_formats.specs.Judged.{Reader, Logged, record_in}

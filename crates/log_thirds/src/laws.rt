@@ -1,4 +1,4 @@
-// Laws of the log: the functions do nothing, the contract of each is a law.
+//! Laws of the log: the functions do nothing, the contract of each is a law.
 ghost use Rattle.std.specs.Prelude.{◌≡◌, ◌+◌, ◌<◌, ◌≤◌, ◌^◌, ℕ, List, [], IfSome};
 ghost use Rattle.sector_disk.specs.Machine.{Moment};
 ghost use Rattle.log_thirds.specs.Append.{IsCalm, IsNarrow};

@@ -1,4 +1,4 @@
-// The log.
+//! The log, and where its next record goes.
 use crate::anchors::{find_anchor, write_anchor};
 use crate::fault::{LogFault, log_fault};
 use crate::find::{Spot, next, place_of};

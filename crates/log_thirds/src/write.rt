@@ -1,4 +1,4 @@
-// Writing a record at a place.
+//! Writing a record at a place.
 ghost use Rattle.std.specs.Prelude.{◌≡◌, ◌≤◌, ◌+◌, ◌*◌, length, IfErr, OnOk};
 ghost use Rattle.sector_disk.specs.Image.{stand};
 ghost use Rattle.sector_disk.specs.Machine.{Moment, DeviceFault, UsesDisk, Trusts, LeavesOnly, Holds};

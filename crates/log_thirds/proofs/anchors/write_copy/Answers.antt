@@ -1,4 +1,4 @@
-use Rattle.std.proofs.Common.{rules, ◌≡◌, ◌*◌, List, ℕ, length, arith}
+use Rattle.std.proofs.Common.{rules, ◌≡◌, List, ℕ, length}
 use Rattle.sector_disk.proofs.Moments.{started, goes_on}
 use Rattle.fsd_formats.specs.Anchors.{anchor_bytes}
 use Rattle.log_thirds.proofs.WriteLaws.{torn_part, written_whole, nothing_part}

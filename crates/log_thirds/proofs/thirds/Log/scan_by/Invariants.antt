@@ -1,4 +1,4 @@
-use Rattle.std.proofs.Common.{◌+◌, ◌-◌, ◌*◌, ◌≤◌}
+use Rattle.std.proofs.Common.{◌-◌, ◌*◌}
 use Rattle.sector_disk.specs.Machine.{UsesDisk, Trusts, Wears, LeavesOnly}
 use Rattle.fsd_formats.specs.Scan.{IsIn, tape}
 use Rattle.log_thirds.specs.Disk.{reads}
