@@ -135,7 +135,7 @@ module _ (l : Shape) (epoch first : ℕ) (fits : epoch < 2 ^ 32) (third : 0 < l.
       ∙ there l.pages (stamp_of epoch h.number) (stamp_fits h.number (omega (arith, small))) pages images bytes are laid (room_at spot.at spot.end) roomy stood
       (window old spot.at (room_at spot.at spot.end)) (window new spot.at (room_at spot.at spot.end)) in_window past
 
-  -- BEFORE ITS END STANDS THE RECORD ISN'T THERE
+  -- before its end stands the record isn't there
   pub scan_before : stood ≤ 3 + length pages → scan l epoch new first ≡ record { records = rs; head = h }
   unfolding scan
   scan_before before = walk_of_goes (3 * l.third) l epoch new (start l first) rs h start_in (omega arith) goes_new none
@@ -153,7 +153,7 @@ module _ (l : Shape) (epoch first : ℕ) (fits : epoch < 2 ^ 32) (third : 0 < l.
   new_placed : Placed
   new_placed = record { at = spot.at; entry = new_record (stamp_of epoch h.number) pages images }
 
-  -- FROM THEN ON IT IS
+  -- from then on it is
   pub scan_behind : 3 + length pages < stood → scan l epoch new first ≡ record { records = rs ++ record { at = spot.at; entry = new_record (stamp_of epoch h.number) pages images } ∷ []; head = record { number = h.number + 1; at = spot.at + record_len (length pages); end = spot.end } }
   unfolding new_placed scan
   scan_behind past =

@@ -114,7 +114,7 @@ module _ (l : Shape) (epoch : ℕ) (old new : Reader) (shifted : IsShifted l old
 pub record IsAround (l : Shape) (old new : Reader) : Type 0 where
   pub first : (w : ℕ) → 2 * l.third ≤ w → (new w ≡ None) ⊎ (new w ≡ old (w - 2 * l.third))
 
--- THE REST OF THE LOG, BY THE ANCHOR THAT HAS MOVED ON
+-- the rest of the log, by the anchor that has moved on
 
 module _ (l : Shape) (epoch first : ℕ) (fits : epoch < 2 ^ 32) (third : 0 < l.third) (old new : Reader) (shifted : IsShifted l old new) (around : IsAround l old new) (rs : List Placed) (h : Head)
     (log : IsLog l epoch first old rs h) (small : h.number < 2 ^ 32) (entered : l.third < h.at) where

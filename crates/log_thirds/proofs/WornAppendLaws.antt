@@ -201,16 +201,16 @@ module _ (l : Shape) (epoch first : ℕ) (fits : epoch < 2 ^ 32) (third : 0 < l.
       walk_of_goes (3 * l.third) l epoch new (start l first) (rs ++ new_placed ∷ []) (head_behind h.number spot.end new_placed) start_in (omega arith)
       (goes_more l epoch new (start l first) rs h new_placed (head_behind h.number spot.end new_placed) goes_new found) none
 
-  -- BEFORE ITS END STANDS THE RECORD ISN'T THERE, HOWEVER THE DISK WEARS
+  -- before its end stands the record isn't there, however the disk wears
   pub worn_before : stood ≤ 3 + length pages → scan l epoch new first ≡ record { records = rs; head = h }
   worn_before before = scan_none (spot_none before)
 
-  -- IT IS THERE OR NOT
+  -- it is there or not
   pub worn_either : (scan l epoch new first ≡ record { records = rs; head = h })
       ⊎ (scan l epoch new first ≡ record { records = rs ++ record { at = spot.at; entry = new_record (stamp_of epoch h.number) pages images } ∷ []; head = record { number = h.number + 1; at = spot.at + record_len (length pages); end = spot.end } })
   worn_either = ⊎_elim (λ none. inl (scan_none none)) (λ found. inr (scan_some found)) spot_either
 
-  -- WHOLE, IT IS THERE, HOWEVER A NARROW RUN WEARS
+  -- whole, it is there, however a narrow run wears
   pub worn_whole_there : stood ≡ record_len (length pages) → ((k d : ℕ) → k + d < record_len (length pages) → 2 ≤ d → IsTrue (weak (spot.at + k)) → IsTrue (weak (spot.at + (k + d))) → ⊥) → 1 ≤ length pages
       → scan l epoch new first ≡ record { records = rs ++ record { at = spot.at; entry = new_record (stamp_of epoch h.number) pages images } ∷ []; head = record { number = h.number + 1; at = spot.at + record_len (length pages); end = spot.end } }
   worn_whole_there whole narrow some = scan_some (spot_there whole narrow some)

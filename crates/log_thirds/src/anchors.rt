@@ -60,14 +60,9 @@ pub(crate) fn find_anchor<M: Machine>(m: &mut M) -> Result<Option<Anchor>, ReadF
     ensures third { IfOk result (λ o. IfSome o (λ a. a.third ≤ 2)) }
     ensures sees { IfOk result (λ o. M.honest m.new → SeesAnchor (M.now m.old) o) }
 {
-    let first = match read_copy(m, 8) {
-        Ok(first) => first,
-        Err(fault) => return Err(fault),
-    };
-    match read_copy(m, 12) {
-        Ok(copy) => Ok(newer_of(first, copy)),
-        Err(fault) => Err(fault),
-    }
+    let first = read_copy(m, 8)?;
+    let copy = read_copy(m, 12)?;
+    Ok(newer_of(first, copy))
 }
 
 // Writes an anchor to one of its places.

@@ -10,16 +10,19 @@ use std::alloc::Global;
 use std::marker::Model;
 use volume_layout::Layout;
 
-/// Where the next record goes.
+/// Where a record of some pages goes.
 #[derive(Clone, Copy, Debug, PartialEq, Eq)]
 pub enum Place {
+    /// Behind the last record, in the same third.
     Here,
+    /// At the start of the next third.
     NextThird,
     /// The anchor's first third would be entered, which is this one.
     FirstThird(u32),
 }
 
-/// The log of a volume: where its next record goes.
+/// The log of a volume, as far as its end is known: where the next record goes, and which number it bears. It holds room
+/// for one record, so that only `scan` takes memory.
 #[derive(Drop)]
 pub struct Log {
     layout: Layout,
@@ -152,7 +155,7 @@ impl Log {
         self.number
     }
 
-    /// Where a record of n pages goes.
+    /// Where a record of `n` pages goes.
     pub fn room(&self, n: u32) -> Place
         requires { n ≤ 96 }
         ensures { GoesAt self.now n result }
@@ -190,7 +193,9 @@ impl Log {
         place_of(&self.layout, self.anchor.third, at)
     }
 
-    /// Writes a record behind the last one.
+    /// Writes a record behind the last one, by one write: in the same third where it fits, else at the start of the next.
+    /// The images bear the log's epoch and next number. Where it fails, some first sectors of the record may stand, and
+    /// only a new scan says whether the record does.
     pub fn append<M: Machine>(
         &mut self,
         m: &mut M,
