@@ -1,5 +1,5 @@
 -- A pool is read, and made, by what each place holds.
-use Rattle.std.proofs.Common.{◌≡◌, ℕ, ◌<◌, List, map, length, set, get_or, slice_get, Some, None, refl, sym, ap, ◌∙◌, subst, arith, length-set}
+use Rattle.std.proofs.Common.{◌≡◌, ℕ, ◌<◌, List, map, length, set, get_or, slice_get, Some, None, sym, ap, ◌∙◌, subst, length-set}
 use Rattle.frame_pool.specs.Places.{somes, IsFilled}
 use Rattle.frame_pool.specs.Lends.{with_slots}
 use Rattle.frame_pool.specs.FramePool.{frames_of, IsPool}

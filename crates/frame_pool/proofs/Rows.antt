@@ -12,7 +12,7 @@ use seplogic.Ra.Ura.{Ura}
 use base.Logic.{ent, sep}
 use base.Fml.{Fml, ftrue, fsep}
 use types.Logic.{Logic, sem}
-use types.Kit.{‵, ◌⊛◌, ◌$◌, ◌∵◌, !, qed, by, move, drop as skip, use1, use2, use3, split, split3, fsplit, fjoin, rewrite, done}
+use types.Kit.{‵, ◌⊛◌, ◌$◌, ◌∵◌, !, qed, move, drop as skip, use1, use2, use3, split, split3, fsplit, fjoin, rewrite, done}
 use denote.RattleType.{RattleType}
 use denote.Steps.{nothing}
 use Rattle.std.specs.Prelude.{Option, None}

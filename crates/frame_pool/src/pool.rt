@@ -120,6 +120,7 @@ mod tests {
         let (last, middle) = pool.two_mut(2, 1);
         last[0] = middle[511];
         middle[511] = 9;
+        assert_eq!(rt; pool.len(), 3);
         assert_eq!(rt; pool.get(0)[511], 0);
         assert_eq!(rt; pool.get(1)[511], 9);
         assert_eq!(rt; pool.get(2)[0], 7);

@@ -1,4 +1,4 @@
-use Rattle.std.proofs.Common.{◌≡◌, ◌≢◌, ℕ, ◌<◌, length, replicate, get_or, set, Option, Some, None, List, sym, ap, ◌∙◌, subst, arith, ext_get_or, length-set, get_or-set_same, get_or-set_other, below_more}
+use Rattle.std.proofs.Common.{◌≡◌, ◌≢◌, ℕ, length, replicate, get_or, set, Option, Some, None, List, sym, ap, ◌∙◌, subst, arith, ext_get_or, length-set, get_or-set_same, get_or-set_other, below_more}
 use Rattle.std.proofs.lemmas.List.{length-map, length-replicate}
 use Rattle.frame_pool.specs.Places.{IsFilled}
 use Rattle.frame_pool.proofs.Slots.{get_or-replicate_none, filled_below}

@@ -1,4 +1,4 @@
-use Rattle.std.proofs.Common.{◌<◌, length, sym, ap, ◌∙◌, subst}
+use Rattle.std.proofs.Common.{◌<◌, length, sym, ◌∙◌, subst}
 use Rattle.frame_pool.proofs.Pools.{frame_at, frame_below}
 use Rattle.frame_pool.proofs.pool.FramePool.get.Goals as goal
 

@@ -1,4 +1,4 @@
-use Rattle.std.proofs.Common.{◌≡◌, ℕ, List, length, replicate, sym, ◌∙◌}
+use Rattle.std.proofs.Common.{ℕ, List, replicate, sym, ◌∙◌}
 use Rattle.std.proofs.lemmas.List.{length-replicate}
 use Rattle.frame_pool.specs.declared.pool.FramePool.TheInside.{Inside}
 use Rattle.frame_pool.proofs.Pools.{pool_of}

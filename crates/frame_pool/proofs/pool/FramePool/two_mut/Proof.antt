@@ -7,7 +7,7 @@ use lib.ListN.{length, get_or, set, length-set}
 use seplogic.Ra.Ura.{Ura}
 use base.Fraction.{full_share}
 use base.Logic.{SProp, ent, sep, ex, never, id⊢}
-use base.Fml.{Fml, Lft, GName, Share, ftrue, fsep, fat, flft, fobs, fauth, fbor, fobor}
+use base.Fml.{Fml, Lft, GName, Share, ftrue, fsep, flft, fobs, fauth, fbor, fobor}
 use mir.Syntax.{w64, named}
 use mir.Val.{Val, vptr, vint, vstruct, vcons, vnil, of_list}
 use prog.Memory.{Memory}
@@ -16,7 +16,7 @@ use prog.Wp.{Env, Calls, Loops, WpFn}
 use types.Logic.{Logic, sem}
 use contract.Running.{tables}
 use contract.Monad.{Fun, fact}
-use types.Kit.{Item, ⋆, ‵, raw, ◌⊛◌, some, later, await, pick, at_ret, ◌$◌, ◌∵◌, !, qed, by, move, keep, drop, use1, use3, split, split3, join, group, rewrite, fsplit, fsplit3, fjoin, fjoin3, fpick, fpack, feq_i, feq_l, flt_l, flt_i, suffices, frame, done}
+use types.Kit.{Item, ⋆, ‵, raw, ◌⊛◌, some, later, await, pick, at_ret, ◌$◌, ◌∵◌, !, qed, by, move, keep, drop, use1, use3, split, split3, join, group, rewrite, fsplit, fsplit3, fjoin, fpick, fpack, feq_i, feq_l, flt_l, flt_i, suffices, frame, done}
 use types.Part.{whole, sub, agg, look_in}
 use types.Run.{stop, fld, load, lit, of_opd, bin, addr, and_then, no_more, first, blocks, exec, returns, enter}
 use types.ByLocal.{alloc_all, pass_all, free_all, look_at, get, through, sets, sets_last, env}
@@ -34,14 +34,11 @@ use denote.Struct.Struct.{within}
 use denote.Struct.Tuple.{Tuple, tuple_type}
 use denote.Struct.Declared.{shape}
 use denote.Follow.{follows_both}
-use denote.Triple.Entry.{on_entry}
-use denote.Triple.Clauses.{Clauses}
 use denote.Triple.Walked.{Stays, stay_dropped, walk_of, ends_at, Goes-dropped, Goes-spent_ref}
 use Rattle.std.specs.Prelude.{Option, Some, None, slice_get}
 use Rattle.std.proofs.raw_atomic.Walks.{proved}
 use Rattle.std_alloc.proofs.RcSteps.{word}
 use Rattle.std_alloc.proofs.VecSteps.Shapes.{after}
-use Rattle.core.proofs.ptr.Rows.{times_below}
 use Rattle.frame_pool.specs.Ownership.{slot, slots, cells_own}
 use Rattle.frame_pool.specs.FramePool.{frames_of, IsPool}
 use Rattle.frame_pool.specs.declared.pool.FramePool.TheInside.{Inside}
@@ -58,7 +55,7 @@ use Rattle.std.specs.contracts.alloc.Global as allocator
 use Rattle.std.specs.contracts.impls.GlobalAllocator.TheImpl as heap
 use denote.Struct.Struct.{Struct}
 use denote.Struct.Owning.{shape as owning_shape}
-use Rattle.std.proofs.Common.{◌⊎◌, inl, inr}
+use Rattle.std.proofs.Common.{◌⊎◌}
 use Rattle.std.proofs.lemmas.List.{length-map}
 use Rattle.frame_pool.proofs.Rows.{Gap, two_out, two_in}
 use Rattle.frame_pool.proofs.pool.FramePool.two_mut.Statement.{statement}

@@ -1,0 +1,130 @@
+-- Looking for a record: what is read is the tape's window.
+use Rattle.std.proofs.Common.{◌≡◌, inl, inr, ℕ, ◌+◌, ◌-◌, ◌*◌, ◌<◌, ◌≤◌, Bool, true, false, List, length, Option, Some, None, nat_lt, refl, sym, ap, subst, ◌∙◌, arith}
+use Rattle.std.specs.Prelude.{Result, Ok, Err, IfOk, ◌&&◌, if◌then◌else◌, option_map}
+use Rattle.std.proofs.lemmas.Bool.{cases_lt, cond-true, cond-false, lt-ltb, leb-true, and_from}
+use Rattle.std.proofs.lemmas.List.{get_or_past}
+use Rattle.sector_disk.specs.Image.{open_damage, Windows}
+use Rattle.sector_disk.specs.Machine.{Moment, Wears}
+use Rattle.sector_disk.proofs.Wear.{worn_outside}
+use Rattle.volume_layout.specs.Shape.{Shape}
+use Rattle.fsd_formats.specs.Record.{Stamp, record_len}
+use Rattle.fsd_formats.specs.Judged.{Reader, Logged, slice_of, Serving, judged, logged_of, record_in}
+use Rattle.log_record.specs.Found.{read_of}
+use Rattle.fsd_formats.proofs.JudgedLaws.{is_judged}
+use Rattle.fsd_formats.specs.Scan.{IsEnd, Head, Placed, place_of, tape, room_at, window, record_here, behind, entered, next}
+use Rattle.log_thirds.specs.Disk.{bytes_in, reads}
+use Rattle.log_thirds.specs.declared.find.Spot.{Spot}
+use Rattle.std.specs.Option.{option_or}
+use Rattle.log_thirds.specs.Append.{IsCalm}
+use Rattle.log_thirds.specs.Reading.{ReadRun, GoesTo}
+use Rattle.log_thirds.proofs.TapeLaws.{InThird, place_add, place_cases, place_inside, end_most, first_most}
+use Rattle.log_thirds.proofs.HereLaws.{not_below}
+
+-- nothing wears where no sector may
+pub reads_same : (old mid : Moment) → IsCalm old → Wears old mid → reads mid.image ≡ reads old.image
+reads_same old mid calm wears = λ i s. bytes_in (worn_outside (open_damage old.windows) old.image mid.image s wears.image (calm s) i)
+
+pub calm_on : (old mid : Moment) → IsCalm old → Wears old mid → IsCalm mid
+calm_on old mid calm wears = λ place. ap (λ (w : Windows). open_damage w place) wears.windows ∙ calm place
+
+pub place_most : (l : Shape) (first w : ℕ) → first ≤ 2 → w ≤ 3 * l.third → place_of l first w ≤ 16 + 3 * l.third
+place_most l first w one le = elim (place_cases l first w) [ inl p ↦ omega (arith, p.0, p.1) | inr p ↦ omega (arith, p.0, p.1, first_most l first one) ]
+
+-- the sectors that are looked at lie in the log
+pub run_inside : (l : Shape) (first at end count : ℕ) → first ≤ 2 → at ≤ end → end ≤ at + l.third → IsEnd l end → count ≤ end - at → place_of l first at + count ≤ 16 + 3 * l.third
+run_inside l first at end count one before from ends le = elim (cases_lt 0 count) [
+  | inl some ↦ place_inside l first at count end (record { one_of = one; ends = ends; from = from; to = omega arith }) some
+  | inr none ↦ omega (arith, place_most l first at one (omega (arith, before, end_most l end ends)))
+]
+
+module _ (l : Shape) (first at end : ℕ) (one : first ≤ 2) (before : at ≤ end) (from : end ≤ at + l.third) (ends : IsEnd l end) (old : Moment) (calm : IsCalm old) (honest : Type 0) (h : honest)
+    (place count : ℕ) (is_place : place ≡ place_of l first at) (is_count : count ≡ room_at at end) (whole : List Bool) (bytes : List ℕ) (run : ReadRun honest old place count whole bytes) where
+  at_sector : (k : ℕ) → k < count → read_of whole bytes k ≡ tape l first (reads old.image) (at + k)
+  at_sector k lt =
+      let is : InThird l first at (end - at) end = record { one_of = one; ends = ends; from = from; to = omega arith } in
+      let here : read_of whole bytes k ≡ reads old.image (place + k) = elim (run.shown h k lt) [ inl same ↦ same | inr hurt ↦ absurd (let none = calm (place + k) in cc (none, hurt.0)) ] in
+      here
+      ∙ ap (λ (s : ℕ). reads old.image (s + k)) is_place
+      ∙ ap (reads old.image) (sym (place_add l first at (end - at) end k is (omega (arith, is_count))))
+      ∙ sym (cond-true (nat_lt (at + k) (3 * l.third)) (reads old.image (place_of l first (at + k))) None (lt-ltb _ _ (omega (arith, is_count, end_most l end ends))))
+
+  pub reads_window : read_of whole bytes ≡ window (tape l first (reads old.image)) at (room_at at end)
+  reads_window = λ i k. pointwise k i
+    where
+      pointwise : (k : ℕ) → read_of whole bytes k ≡ window (tape l first (reads old.image)) at (room_at at end) k
+      pointwise k = elim (cases_lt k count) [
+        | inl lt ↦ at_sector k lt ∙ sym (cond-true (nat_lt k (room_at at end)) (tape l first (reads old.image) (at + k)) None (lt-ltb _ _ (omega (arith, is_count))))
+        | inr past ↦
+            ap (λ (b : Bool). if b then Some (slice_of bytes k) else None) (get_or_past whole k false (omega (arith, run.many)))
+            ∙ sym (cond-false (nat_lt k (room_at at end)) (tape l first (reads old.image) (at + k)) None (not_below _ _ (omega (arith, is_count))))
+      ]
+
+  pub judged_there : (p : ℕ) (stamp : Stamp) (o : Option Serving) → o ≡ judged p stamp (length whole) (read_of whole bytes)
+      → option_map (λ (s : Serving). length s.pages) o ≡ option_map (λ r. length r.pages) (record_in p stamp (room_at at end) (window (tape l first (reads old.image)) at (room_at at end)))
+  unfolding record_in
+  judged_there p stamp o is =
+      ap (option_map (λ (s : Serving). length s.pages)) (is ∙ λ i. judged p stamp ((run.many ∙ is_count) i) (reads_window i))
+      ∙ by_judged (judged p stamp (room_at at end) (window (tape l first (reads old.image)) at (room_at at end)))
+    where
+      by_judged : (j : Option Serving) → option_map (λ (s : Serving). length s.pages) j ≡ option_map (λ r. length r.pages) (option_map (logged_of stamp.number (window (tape l first (reads old.image)) at (room_at at end))) j)
+      by_judged None = refl
+      by_judged (Some s) = refl
+
+pub judged_room : (p : ℕ) (stamp : Stamp) (room : ℕ) (at : Reader) (s : Serving) → Some s ≡ judged p stamp room at → record_len (length s.pages) ≤ room
+judged_room p stamp room at s is = leb-true _ _ (is_judged p stamp room at s (sym is)).roomy
+
+-- ---- where the head goes
+
+pub goes_to : (l : Shape) (from at n end : ℕ) (spot : Spot) → spot ≡ record { at = at + (2 * n + 5); end = end } → from ≤ at → at + (2 * n + 5) ≤ end → end ≤ at + l.third → IsEnd l end → GoesTo l from spot
+goes_to l from at n end spot is le fits after ends = subst (GoesTo l from) (sym is) (record { on = omega arith; before = fits; after = omega arith; ends = ends })
+
+abbrev spot_of : Placed × Head → Spot
+spot_of x = record { at = x.1.at; end = x.1.end }
+
+abbrev pages_of : Logged → ℕ
+pages_of r = length r.pages
+
+some_spot : (number at end n : ℕ) (o : Option Logged) → Some n ≡ option_map (λ r. length r.pages) o → ◌≡◌ {A = Option Spot} (Some (record { at = at + (2 * n + 5); end = end })) (option_map (λ x. record { at = x.1.at; end = x.1.end }) (option_map (behind number at end) o))
+some_spot number at end n None is = absurd (cc)
+some_spot number at end n (Some r) is =
+    let many : n ≡ length r.pages = cc in
+    λ i. Some (record { at = at + (2 * many i + 5); end = end })
+
+none_spot : (o : Option Logged) → None ≡ option_map (λ r. length r.pages) o → o ≡ None
+none_spot None is = refl
+none_spot (Some r) is = absurd (cc)
+
+module _ (l : Shape) (epoch : ℕ) (disk : Reader) (h : Head) where
+  abbrev told : Option (Placed × Head) → Option Spot
+  told o = option_map (λ x. record { at = x.1.at; end = x.1.end }) o
+
+  pub here_found : (n : ℕ) → Some n ≡ option_map (λ r. length r.pages) (record_here l epoch disk h.number h.at h.end) → ◌≡◌ {A = Option Spot} (Some (record { at = h.at + (2 * n + 5); end = h.end })) (option_map (λ x. record { at = x.1.at; end = x.1.end }) (next l epoch disk h))
+  here_found n is = by_record (record_here l epoch disk h.number h.at h.end) is
+    where
+      by_record : (o : Option Logged) → Some n ≡ option_map (λ r. length r.pages) o → ◌≡◌ {A = Option Spot} (Some (record { at = h.at + (2 * n + 5); end = h.end })) (option_map (λ x. record { at = x.1.at; end = x.1.end }) (option_or (option_map (behind h.number h.at h.end) o) (entered l epoch disk h)))
+      by_record None e = absurd (cc)
+      by_record (Some r) e = some_spot h.number h.at h.end n (Some r) e
+
+  pub not_here : (o : Option Spot) → None ≡ option_map (λ r. length r.pages) (record_here l epoch disk h.number h.at h.end) → o ≡ option_map (λ x. record { at = x.1.at; end = x.1.end }) (entered l epoch disk h)
+      → o ≡ option_map (λ x. record { at = x.1.at; end = x.1.end }) (next l epoch disk h)
+  not_here o none is =
+      is ∙ ap (λ (r : Option Logged). option_map (λ x. record { at = x.1.at; end = x.1.end }) (option_or (option_map (behind h.number h.at h.end) r) (entered l epoch disk h))) (sym (none_spot (record_here l epoch disk h.number h.at h.end) none))
+
+  may : 0 < h.at → h.end < 3 * l.third → (nat_lt 0 h.at && nat_lt h.end (3 * l.third)) ≡ true
+  may some further = and_from _ _ (lt-ltb _ _ some) (lt-ltb _ _ further)
+
+  pub there_found : (n : ℕ) → 0 < h.at → h.end < 3 * l.third → Some n ≡ option_map (λ r. length r.pages) (record_here l epoch disk h.number h.end (h.end + l.third))
+      → ◌≡◌ {A = Option Spot} (Some (record { at = h.end + (2 * n + 5); end = h.end + l.third })) (option_map (λ x. record { at = x.1.at; end = x.1.end }) (entered l epoch disk h))
+  there_found n some further is =
+      some_spot h.number h.end (h.end + l.third) n (record_here l epoch disk h.number h.end (h.end + l.third)) is
+      ∙ ap (λ (o : Option (Placed × Head)). option_map (λ x. record { at = x.1.at; end = x.1.end }) o) (sym (cond-true _ (option_map (behind h.number h.end (h.end + l.third)) (record_here l epoch disk h.number h.end (h.end + l.third))) None (may some further)))
+
+  pub not_there : 0 < h.at → h.end < 3 * l.third → None ≡ option_map (λ r. length r.pages) (record_here l epoch disk h.number h.end (h.end + l.third))
+      → ◌≡◌ {A = Option Spot} None (option_map (λ x. record { at = x.1.at; end = x.1.end }) (entered l epoch disk h))
+  not_there some further none =
+      ap (λ (o : Option (Placed × Head)). option_map (λ x. record { at = x.1.at; end = x.1.end }) o)
+      (ap (λ (r : Option Logged). option_map (behind h.number h.end (h.end + l.third)) r) (sym (none_spot _ none)) ∙ sym (cond-true _ (option_map (behind h.number h.end (h.end + l.third)) (record_here l epoch disk h.number h.end (h.end + l.third))) None (may some further)))
+
+pub if_ok : {T E : Type 0} (r : Result T E) (P Q : T → Type 0) → ((x : T) → P x → Q x) → IfOk r P → IfOk r Q
+if_ok (Ok x) P Q more p = more x p
+if_ok (Err e) P Q more p = tt

@@ -1,0 +1,118 @@
+-- A record that is written behind the last one, on a machine whose sectors don't wear.
+use Rattle.std.proofs.Common.{◌≡◌, ℕ, suc, ◌+◌, ◌-◌, ◌*◌, ◌^◌, ◌<◌, ◌≤◌, Bool, true, false, List, [], ◌∷◌, ◌++◌, length, get_or, nat_le, refl, sym, subst, arith, inl, inr}
+use Rattle.std.specs.Prelude.{◌&&◌, nat_lt}
+use Rattle.std.specs.List.{AllByRecursion, list_all}
+use Rattle.std.proofs.lemmas.Bool.{cond-true, cond-false, le-leb, leb-true, cases_lt, and_parts}
+use Rattle.sector_disk.specs.Image.{stand, open_damage}
+use Rattle.sector_disk.specs.Machine.{Moment, Holds}
+use Rattle.sector_disk.proofs.Wear.{worn_outside}
+use Rattle.volume_layout.specs.Shape.{Shape}
+use Rattle.fsd_bytes.specs.Names.{is_between}
+use Rattle.fsd_formats.specs.Record.{are_pages, ascending, AreStamped, record_len}
+use Rattle.fsd_formats.specs.Laid.{laid_bytes, slices}
+use Rattle.fsd_formats.proofs.LaidLaws.{IsLaidAs, laid_as}
+use Rattle.fsd_formats.proofs.TornLaws.{ArePages}
+use Rattle.fsd_formats.specs.Scan.{Head, Placed, IsIn, HasRoom, spot_for, place_of, tape}
+use Rattle.log_thirds.specs.Disk.{reads}
+use Rattle.log_thirds.specs.LogValue.{LogValue}
+use Rattle.log_thirds.specs.Append.{StandsInPart, IsCalm, stamp_now, next_record, log_past, IsLogIn, Appends}
+use Rattle.log_thirds.proofs.WalkLaws.{next_end}
+use Rattle.log_thirds.proofs.AppendLaws.{IsSpot, TapeTorn, scan_before, scan_behind, fresh_after}
+use Rattle.log_thirds.proofs.TapeLaws.{InThird, place_inside, torn_tape}
+
+pub all_small : (xs : List ℕ) → ((i : ℕ) → get_or xs i 0 < 2 ^ 32) → AllByRecursion (λ n. n < 2 ^ 32) xs
+all_small [] each = tt
+all_small (x ∷ xs) each = (each 0, all_small xs (λ i. each (suc i)))
+
+pub are_few : (p : ℕ) (pages : List ℕ) → are_pages p pages ≡ true → length pages ≤ 96
+are_few p pages are =
+    let outer = and_parts (is_between 1 96 (length pages) && ascending pages) (list_all (λ page. nat_lt page p) pages) are in
+    let inner = and_parts (is_between 1 96 (length pages)) (ascending pages) outer.0 in
+    leb-true (length pages) 96 (and_parts (nat_le 1 (length pages)) (nat_le (length pages) 96) inner.0).1
+
+not_at_most : (a b : ℕ) → b < a → nat_le a b ≡ false
+not_at_most a b lt = by_test (nat_le a b) refl
+  where
+    by_test : (x : Bool) → nat_le a b ≡ x → x ≡ false
+    by_test true is = absurd (let le : a ≤ b = leb-true a b is in omega arith)
+    by_test false is = refl
+
+pub spot_is : (l : Shape) (n : ℕ) (h : Head) → 200 ≤ l.third → n ≤ 96 → IsIn l h → HasRoom l n h → IsSpot l n h (spot_for l n h) × InThird l 0 (spot_for l n h).at (record_len n) (spot_for l n h).end
+spot_is l n h third few is_in room = elim (cases_lt h.end (h.at + record_len n)) [
+  | inr fits ↦
+      subst (λ (s : Head). IsSpot l n h s × InThird l 0 s.at (record_len n) s.end) (sym (cond-true (nat_le (h.at + record_len n) h.end) h (record { number = h.number; at = h.end; end = h.end + l.third }) (le-leb _ _ fits)))
+      (record { number = refl; place = inl (refl, refl); fits = fits }, record { one_of = omega arith; ends = is_in.ends; from = is_in.from; to = fits })
+  | inl over ↦
+      let further : h.end < 3 * l.third = elim room [ inl fits ↦ absurd (omega arith) | inr lt ↦ lt ] in
+      let some : 0 < h.at = elim is_in.ends [ inl e ↦ omega (arith, is_in.from) | inr (inl e) ↦ omega (arith, is_in.from) | inr (inr e) ↦ omega (arith, is_in.from) ] in
+      subst (λ (s : Head). IsSpot l n h s × InThird l 0 s.at (record_len n) s.end) (sym (cond-false (nat_le (h.at + record_len n) h.end) h (record { number = h.number; at = h.end; end = h.end + l.third }) (not_at_most _ _ over))) (
+        record { number = refl; place = inr (record { some = some; further = further }, refl, refl); fits = omega arith },
+        record { one_of = omega arith; ends = next_end l h.end is_in.ends further; from = omega arith; to = omega arith },
+      )
+]
+
+-- what the log's own invariant and the call's premises say
+pub record MayAppend (log : LogValue) (pages images : List ℕ) (long : ℕ) : Type 0 where
+  pub least : 200 ≤ log.layout.third
+  pub one_of : log.anchor.third ≤ 2
+  pub is_in : IsIn log.layout log.head
+  pub epoch : log.anchor.epoch < 2 ^ 32
+  pub number : log.head.number < 2 ^ 32 - 1
+  pub accepted : are_pages log.layout.pages pages ≡ true
+  pub small : AllByRecursion (λ n. n < 2 ^ 32) pages
+  pub bytes : length images ≡ 512 * length pages
+  pub stamped : AreStamped (stamp_now log) pages (slices (length pages) images)
+  pub room : HasRoom log.layout (length pages) log.head
+  pub sized : 16 + 3 * log.layout.third ≤ long
+
+module _ (log : LogValue) (pages images : List ℕ) (long : ℕ) (may : MayAppend log pages images long) where
+  n : ℕ
+  n = length pages
+
+  pub few : length pages ≤ 96
+  few = are_few log.layout.pages pages may.accepted
+
+  pub spots : IsSpot log.layout (length pages) log.head (spot_for log.layout (length pages) log.head) × InThird log.layout 0 (spot_for log.layout (length pages) log.head).at (record_len (length pages)) (spot_for log.layout (length pages) log.head).end
+  spots = spot_is log.layout (length pages) log.head may.least few may.is_in may.room
+
+  pub in_third : InThird log.layout log.anchor.third (spot_for log.layout (length pages) log.head).at (record_len (length pages)) (spot_for log.layout (length pages) log.head).end
+  in_third = record { one_of = may.one_of; ends = spots.1.ends; from = spots.1.from; to = spots.1.to }
+
+  pub write_inside : place_of log.layout log.anchor.third (spot_for log.layout (length pages) log.head).at + record_len (length pages) ≤ 16 + 3 * log.layout.third
+  write_inside = place_inside log.layout log.anchor.third (spot_for log.layout (length pages) log.head).at (record_len (length pages)) (spot_for log.layout (length pages) log.head).end in_third (omega arith)
+
+  pub laid : IsLaidAs (stamp_now log) pages images (laid_bytes (stamp_now log) pages images)
+  laid = laid_as (stamp_now log) (record { epoch = may.epoch; number = omega (arith, may.number) }) pages images few may.bytes may.stamped
+
+  pub are : ArePages log.layout.pages pages
+  are = record { accepted = may.accepted; small = may.small; few = few }
+
+  module _ (old left : Moment) (same_long : length old.image ≡ long) (calm : IsCalm old) (records : List Placed) (is_log : IsLogIn log records old) where
+    torn_at : (stood : ℕ) → stood ≤ record_len (length pages) → Holds old (stand old.image (place_of log.layout log.anchor.third (spot_for log.layout (length pages) log.head).at) (laid_bytes (stamp_now log) pages images) stood) left
+        → TapeTorn (laid_bytes (stamp_now log) pages images) (spot_for log.layout (length pages) log.head).at stood (tape log.layout log.anchor.third (reads old.image)) (tape log.layout log.anchor.third (reads left.image))
+    torn_at stood within holds =
+        torn_tape log.layout log.anchor.third (spot_for log.layout (length pages) log.head).at (record_len (length pages)) (spot_for log.layout (length pages) log.head).end in_third old.image left.image (laid_bytes (stamp_now log) pages images) stood within
+        (omega (arith, write_inside, may.sized))
+        (λ s. worn_outside (open_damage old.windows) _ left.image s holds.worn (calm s))
+
+    pub appends_at : StandsInPart (place_of log.layout log.anchor.third (spot_for log.layout (length pages) log.head).at) (laid_bytes (stamp_now log) pages images) (record_len (length pages)) old left → Appends log records pages images old left
+    appends_at part =
+        let torn = torn_at part.stood part.within part.holds in
+        record {
+          part = part;
+          absent = λ before. scan_before log.layout log.anchor.epoch log.anchor.first may.epoch (omega (arith, may.least)) (tape log.layout log.anchor.third (reads old.image)) (tape log.layout log.anchor.third (reads left.image)) records log.head is_log may.number
+              pages images (laid_bytes (stamp_now log) pages images) are laid (spot_for log.layout (length pages) log.head) spots.0 part.stood part.within torn before;
+          there = λ past. scan_behind log.layout log.anchor.epoch log.anchor.first may.epoch (omega (arith, may.least)) (tape log.layout log.anchor.third (reads old.image)) (tape log.layout log.anchor.third (reads left.image)) records log.head is_log may.number
+              pages images (laid_bytes (stamp_now log) pages images) are laid (spot_for log.layout (length pages) log.head) spots.0 part.stood part.within torn past;
+        }
+
+    pub appended_at : Holds old (stand old.image (place_of log.layout log.anchor.third (spot_for log.layout (length pages) log.head).at) (laid_bytes (stamp_now log) pages images) (record_len (length pages))) left
+        → IsLogIn (log_past log (length pages)) (records ++ next_record log pages images ∷ []) left
+    appended_at holds =
+        let torn = torn_at (record_len (length pages)) (omega arith) holds in
+        record {
+          scanned = scan_behind log.layout log.anchor.epoch log.anchor.first may.epoch (omega (arith, may.least)) (tape log.layout log.anchor.third (reads old.image)) (tape log.layout log.anchor.third (reads left.image)) records log.head is_log may.number
+              pages images (laid_bytes (stamp_now log) pages images) are laid (spot_for log.layout (length pages) log.head) spots.0 (record_len (length pages)) (omega arith) torn (omega arith);
+          fresh = λ w m from. fresh_after log.layout log.anchor.epoch log.anchor.first may.epoch (omega (arith, may.least)) (tape log.layout log.anchor.third (reads old.image)) (tape log.layout log.anchor.third (reads left.image)) records log.head is_log may.number
+              pages images (laid_bytes (stamp_now log) pages images) are laid (spot_for log.layout (length pages) log.head) spots.0 (record_len (length pages)) (omega arith) torn w m from;
+        }

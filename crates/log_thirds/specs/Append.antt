@@ -1,0 +1,70 @@
+-- What a write of a record leaves.
+use Rattle.std.specs.Prelude.{◌≡◌, ◌⊎◌, IsTrue, ◌<◌, ◌≤◌, ℕ, ◌+◌, ◌*◌, false, List, [], ◌∷◌, ◌++◌, length}
+use Rattle.fsd_formats.specs.Record.{Stamp, record_len}
+use Rattle.sector_disk.specs.Image.{stand, open_damage, AllWorn}
+use Rattle.sector_disk.specs.Machine.{Moment, Holds}
+use Rattle.fsd_formats.specs.Laid.{laid_bytes, slices}
+use Rattle.fsd_formats.specs.Scan.{Head, Placed, Walked, IsLog, place_of, tape, scan, spot_for}
+use Rattle.log_thirds.specs.Disk.{reads}
+use Rattle.log_thirds.specs.LogValue.{LogValue}
+use Rattle.log_thirds.specs.declared.thirds.Place.{Place}
+use Rattle.log_thirds.specs.declared.thirds.Place.TheVariants.{Here, NextThird, FirstThird}
+
+-- some first sectors of a write stand over the old image
+pub record StandsInPart (place : ℕ) (bytes : List ℕ) (most : ℕ) (old left : Moment) : Type 0 where
+  pub stood : ℕ
+  pub within : stood ≤ most
+  pub holds : Holds old (stand old.image place bytes stood) left
+
+-- no sector may be damaged now
+abbrev pub IsCalm : Moment → Type 0
+IsCalm at = (place : ℕ) → open_damage at.windows place ≡ false
+
+abbrev pub stamp_now : LogValue → Stamp
+stamp_now log = record { epoch = log.anchor.epoch; number = log.head.number }
+
+-- the record that is written next, at its spot
+abbrev pub next_record : LogValue → (pages images : List ℕ) → Placed
+next_record log pages images = record { at = (spot_for log.layout (length pages) log.head).at; entry = record { number = log.head.number; pages = pages; images = slices (length pages) images } }
+
+abbrev pub head_past : LogValue → (n : ℕ) → Head
+head_past log n = let spot = spot_for log.layout n log.head in record { number = log.head.number + 1; at = spot.at + record_len n; end = spot.end }
+
+abbrev pub log_past : LogValue → (n : ℕ) → LogValue
+log_past log n = record { layout = log.layout; anchor = log.anchor; head = head_past log n }
+
+-- the scan by the log's anchor
+abbrev pub scan_of : LogValue → Moment → Walked
+scan_of log at = scan log.layout log.anchor.epoch (tape log.layout log.anchor.third (reads at.image)) log.anchor.first
+
+-- Some first sectors of the record stand. Up to its end the scan is the old one, and from its end on the one with the record.
+pub record Appends (log : LogValue) (records : List Placed) (pages images : List ℕ) (old left : Moment) : Type 0 where
+  pub part : StandsInPart (place_of log.layout log.anchor.third (spot_for log.layout (length pages) log.head).at) (laid_bytes (stamp_now log) pages images) (record_len (length pages)) old left
+  pub absent : part.stood ≤ 3 + length pages → scan_of log left ≡ record { records = records; head = log.head }
+  pub there : 3 + length pages < part.stood → scan_of log left ≡ record { records = records ++ next_record log pages images ∷ []; head = head_past log (length pages) }
+
+-- the log stands so at a moment
+abbrev pub IsLogIn : LogValue → List Placed → Moment → Type 0
+IsLogIn log records at = IsLog log.layout log.anchor.epoch log.anchor.first (tape log.layout log.anchor.third (reads at.image)) records log.head
+
+-- ---- where sectors wear
+
+-- the log stands so at a moment, however its weak run wears
+abbrev pub IsLogWorn : LogValue → List Placed → Moment → Type 0
+IsLogWorn log records at = AllWorn (open_damage at.windows) (λ image. IsLog log.layout log.anchor.epoch log.anchor.first (tape log.layout log.anchor.third (reads image)) records log.head) at.image
+
+-- a run that has no two sectors but neighbours
+abbrev pub IsNarrow : Moment → Type 0
+IsNarrow at = (s d : ℕ) → IsTrue (open_damage at.windows s) → IsTrue (open_damage at.windows (s + d)) → 2 ≤ d → ⊥
+
+-- Some first sectors of the record stand, worn. Up to its end the scan is the old one, and from then on the old one or the one with the record.
+pub record AppendsWorn (log : LogValue) (records : List Placed) (pages images : List ℕ) (old left : Moment) : Type 0 where
+  pub part : StandsInPart (place_of log.layout log.anchor.third (spot_for log.layout (length pages) log.head).at) (laid_bytes (stamp_now log) pages images) (record_len (length pages)) old left
+  pub absent : part.stood ≤ 3 + length pages → scan_of log left ≡ record { records = records; head = log.head }
+  pub either : (scan_of log left ≡ record { records = records; head = log.head }) ⊎ (scan_of log left ≡ record { records = records ++ next_record log pages images ∷ []; head = head_past log (length pages) })
+
+-- what is told of a record's place
+abbrev pub GoesAt : LogValue → ℕ → Place → Type 0
+GoesAt log n Here = log.head.at + record_len n ≤ log.head.end
+GoesAt log n NextThird = (log.head.end < log.head.at + record_len n) × (log.head.end < 3 * log.layout.third)
+GoesAt log n (FirstThird t) = ((log.head.end < log.head.at + record_len n) × (3 * log.layout.third ≤ log.head.end)) × (t ≡ log.anchor.third)

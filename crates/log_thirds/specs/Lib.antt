@@ -1,0 +1,6 @@
+pub mod Anchoring
+pub mod Append
+pub mod Disk
+pub mod LogValue
+pub mod Moves
+pub mod Reading

@@ -1,0 +1,76 @@
+-- Reading sectors one after another, while the disk wears.
+use Rattle.std.specs.Prelude.{◌≡◌, ◌⊎◌, ◌<◌, ◌≤◌, ℕ, ◌+◌, ◌-◌, ◌*◌, ◌^◌, Bool, List, [], ◌∷◌, ◌++◌, length, Option, Some, None, IsTrue, if◌then◌else◌}
+use Rattle.sector_disk.specs.Image.{open_damage}
+use Rattle.sector_disk.specs.Machine.{Report, Moment, DeviceFault}
+use Rattle.volume_layout.specs.Shape.{Shape}
+use Rattle.log_record.specs.Found.{read_of}
+use Rattle.fsd_formats.specs.declared.anchor.Anchor.{Anchor}
+use Rattle.fsd_formats.specs.Scan.{IsEnd, anchor_in, newer_of}
+use Rattle.log_thirds.specs.Disk.{reads}
+use Rattle.log_thirds.specs.declared.find.Spot.{Spot}
+use Rattle.log_thirds.specs.declared.reading.ReadFault.{ReadFault}
+use Rattle.log_thirds.specs.declared.reading.ReadFault.TheVariants.{Device, Memory}
+use Rattle.log_thirds.specs.declared.fault.LogFault.{LogFault}
+use Rattle.log_thirds.specs.declared.fault.LogFault.TheVariants as log
+
+-- the cause of a fault
+abbrev pub ReadCause : Report → Report → ReadFault → Type 0
+ReadCause old new (Device place) = DeviceFault old new place
+ReadCause old new Memory = Unit {0}
+
+abbrev pub log_fault_of : ReadFault → LogFault
+log_fault_of (Device place) = log.Device place
+log_fault_of Memory = log.Memory
+
+-- A failed call of the disk is told. The other causes lie on the disk.
+abbrev pub LogCause : Report → Report → LogFault → Type 0
+LogCause old new (log.Device place) = DeviceFault old new place
+LogCause old new log.Memory = Unit {0}
+LogCause old new log.NoAnchor = Unit {0}
+LogCause old new log.WornOut = Unit {0}
+
+-- one sector more: its flag, and its bytes
+pub record ReadInto (whole whole1 : List Bool) (bytes bytes1 : List ℕ) (shows : Option (List ℕ) → Type 0) : Type 0 where
+  pub flag : Bool
+  pub sector : List ℕ
+  pub long : length sector ≡ 512
+  pub noted : whole1 ≡ whole ++ flag ∷ []
+  pub taken : bytes1 ≡ bytes ++ sector
+  pub shown : shows (if flag then Some sector else None)
+
+-- what is read of a sector: what stood there, or nothing where it may have worn
+abbrev pub ReadWorn : Moment → ℕ → Option (List ℕ) → Type 0
+ReadWorn old place o = (o ≡ reads old.image place) ⊎ (IsTrue (open_damage old.windows place) × (o ≡ None))
+
+-- so many sectors are read from a place on
+pub record ReadRun (honest : Type 0) (old : Moment) (place count : ℕ) (whole : List Bool) (bytes : List ℕ) : Type 0 where
+  pub many : length whole ≡ count
+  pub long : length bytes ≡ 512 * count
+  pub shown : honest → (k : ℕ) → k < count → ReadWorn old (place + k) (read_of whole bytes k)
+
+-- the head goes on in its third
+pub record GoesTo (l : Shape) (from : ℕ) (spot : Spot) : Type 0 where
+  pub on : from + 5 ≤ spot.at
+  pub before : spot.at ≤ spot.end
+  pub after : spot.end ≤ spot.at + l.third
+  pub ends : IsEnd l spot.end
+
+-- an anchor that stood at a place, or none, or none where it may have worn
+pub record SeesCopy (old : Moment) (place : ℕ) (anchor : Option Anchor) : Type 0 where
+  pub bytes : Option (List ℕ)
+  pub read : ReadWorn old place bytes
+  pub copy : anchor ≡ anchor_in bytes
+
+-- the newer one of the two copies of the anchor, as they could be read
+pub record SeesAnchor (old : Moment) (anchor : Option Anchor) : Type 0 where
+  pub first : Option Anchor
+  pub copy : Option Anchor
+  pub sees_first : SeesCopy old 8 first
+  pub sees_copy : SeesCopy old 12 copy
+  pub newer : anchor ≡ newer_of first copy
+
+-- that one bears the last epoch
+pub record SeesLastEpoch (old : Moment) : Type 0 where
+  pub anchor : Anchor
+  pub sees : SeesAnchor old (Some anchor)
+  pub last : anchor.epoch ≡ 2 ^ 32 - 1

@@ -1,0 +1,100 @@
+//! Which anchor the disk gives.
+ghost use Rattle.std.specs.Prelude.{◌≡◌, ◌<◌, ◌≤◌, Some, None, IfSome, IfErr, IfOk, OnOk};
+ghost use Rattle.sector_disk.specs.Image.{stand};
+ghost use Rattle.sector_disk.specs.Machine.{Moment, DeviceFault, UsesDisk, Trusts, Wears, LeavesOnly, Holds};
+ghost use Rattle.fsd_formats.specs.Anchors.{anchor_bytes};
+ghost use Rattle.fsd_formats.specs.Scan.{is_newer, newer_of};
+ghost use Rattle.log_thirds.specs.Append.{StandsInPart};
+ghost use Rattle.log_thirds.specs.Anchoring.{AnchorsIn, with_anchors};
+ghost use Rattle.log_thirds.specs.Reading.{ReadCause, SeesCopy, SeesAnchor};
+
+use crate::reading::{ReadFault, read_sector};
+use fsd_formats::Anchor;
+use log_record::{anchor_bytes, read_anchor};
+use sector_disk::{Failed, Machine};
+
+// Whether an anchor is newer than another: by epoch, and then by the first number.
+fn is_newer(a: &Anchor, b: &Anchor) -> bool
+    ensures { result ≡ is_newer a.now b.now }
+{
+    b.epoch < a.epoch || a.epoch == b.epoch && b.first < a.first
+}
+
+// The newer of two, on a tie the first.
+fn newer_of(first: Option<Anchor>, copy: Option<Anchor>) -> Option<Anchor>
+    ensures { result ≡ newer_of first copy }
+{
+    match (first, copy) {
+        (Some(a), Some(b)) => Some(if is_newer(&b, &a) { b } else { a }),
+        (Some(a), None) => Some(a),
+        (None, copy) => copy,
+    }
+}
+
+// The anchor at a place, if one stands there.
+fn read_copy<M: Machine>(m: &mut M, place: u32) -> Result<Option<Anchor>, ReadFault>
+    requires { place < (M.report m.old).sectors }
+    ensures fault { IfErr result (ReadCause (M.report m.old) (M.report m.new)) }
+    ensures uses { UsesDisk (M.report m.old) (M.report m.new) }
+    ensures trust { Trusts (M.tells m.old) (M.tells m.new) (M.honest m.old) (M.honest m.new) }
+    ensures worn { M.honest m.new → Wears (M.now m.old) (M.now m.new) }
+    ensures any_moment { M.honest m.new → LeavesOnly M.moment M.left_since m.old m.new (Wears (M.now m.old)) }
+    ensures third { IfOk result (λ o. IfSome o (λ a. a.third ≤ 2)) }
+    ensures sees { IfOk result (λ o. M.honest m.new → SeesCopy (M.now m.old) place o) }
+{
+    match read_sector(m, place) {
+        Ok(Some(sector)) => Ok(read_anchor(&sector)),
+        Ok(None) => Ok(None),
+        Err(fault) => Err(fault),
+    }
+}
+
+/// The newer of the two copies of the anchor.
+pub(crate) fn find_anchor<M: Machine>(m: &mut M) -> Result<Option<Anchor>, ReadFault>
+    requires { 12 < (M.report m.old).sectors }
+    ensures fault { IfErr result (ReadCause (M.report m.old) (M.report m.new)) }
+    ensures uses { UsesDisk (M.report m.old) (M.report m.new) }
+    ensures trust { Trusts (M.tells m.old) (M.tells m.new) (M.honest m.old) (M.honest m.new) }
+    ensures worn { M.honest m.new → Wears (M.now m.old) (M.now m.new) }
+    ensures any_moment { M.honest m.new → LeavesOnly M.moment M.left_since m.old m.new (Wears (M.now m.old)) }
+    ensures third { IfOk result (λ o. IfSome o (λ a. a.third ≤ 2)) }
+    ensures sees { IfOk result (λ o. M.honest m.new → SeesAnchor (M.now m.old) o) }
+{
+    let first = read_copy(m, 8)?;
+    let copy = read_copy(m, 12)?;
+    Ok(newer_of(first, copy))
+}
+
+// Writes an anchor to one of its places.
+fn write_copy<M: Machine>(m: &mut M, place: u32, anchor: &Anchor) -> Result<(), Failed>
+    requires epoch { 1 ≤ anchor.now.epoch }
+    requires third { anchor.now.third ≤ 2 }
+    requires first { 1 ≤ anchor.now.first }
+    requires in_range { place < (M.report m.old).sectors }
+    ensures fault { IfErr result (λ failed. DeviceFault (M.report m.old) (M.report m.new) failed.place) }
+    ensures uses { UsesDisk (M.report m.old) (M.report m.new) }
+    ensures trust { Trusts (M.tells m.old) (M.tells m.new) (M.honest m.old) (M.honest m.new) }
+    ensures torn { M.honest m.new → LeavesOnly M.moment M.left_since m.old m.new (StandsInPart place (anchor_bytes anchor.now) 1 (M.now m.old)) }
+    ensures done { OnOk result (M.honest m.new → Holds (M.now m.old) (stand (M.now m.old).image place (anchor_bytes anchor.now) 1) (M.now m.new)) }
+{
+    let bytes = anchor_bytes(anchor);
+    m.write(place, &bytes)?;
+    Ok(())
+}
+
+/// Writes an anchor to its first place, and then to its second.
+pub(crate) fn write_anchor<M: Machine>(m: &mut M, anchor: &Anchor) -> Result<(), Failed>
+    requires epoch { 1 ≤ anchor.now.epoch }
+    requires third { anchor.now.third ≤ 2 }
+    requires first { 1 ≤ anchor.now.first }
+    requires in_range { 12 < (M.report m.old).sectors }
+    ensures fault { IfErr result (λ failed. DeviceFault (M.report m.old) (M.report m.new) failed.place) }
+    ensures uses { UsesDisk (M.report m.old) (M.report m.new) }
+    ensures trust { Trusts (M.tells m.old) (M.tells m.new) (M.honest m.old) (M.honest m.new) }
+    ensures any_moment { M.honest m.new → LeavesOnly M.moment M.left_since m.old m.new (AnchorsIn anchor.now (M.now m.old)) }
+    ensures done { OnOk result (M.honest m.new → Holds (M.now m.old) (with_anchors anchor.now (M.now m.old).image 1 1) (M.now m.new)) }
+{
+    write_copy(m, 8, anchor)?;
+    write_copy(m, 12, anchor)?;
+    Ok(())
+}

@@ -1,0 +1,27 @@
+//! Laws of the log: the functions do nothing, the contract of each is a law.
+ghost use Rattle.std.specs.Prelude.{◌≡◌, ◌+◌, ◌<◌, ◌≤◌, ◌^◌, ℕ, List, [], IfSome};
+ghost use Rattle.sector_disk.specs.Machine.{Moment};
+ghost use Rattle.log_thirds.specs.Append.{IsCalm, IsNarrow};
+ghost use Rattle.volume_layout.specs.Shape.{Shape};
+ghost use Rattle.fsd_formats.specs.Judged.{Reader};
+ghost use Rattle.fsd_formats.specs.Borne.{Foreign};
+ghost use Rattle.fsd_formats.specs.Scan.{Head, Placed, IsLog, start, tape};
+ghost use Rattle.log_thirds.specs.Moves.{IsNextThird, MovesOn};
+
+/// By an anchor that names the third behind the first one, the log is what lay behind the first third, and goes on where it did.
+pub fn logs_move_on()
+    ensures { (l : Shape) (epoch first third next : ℕ) (disk : Reader) (records : List Placed) (h : Head) → epoch < 2 ^ 32 → 0 < l.third → IsNextThird third next →
+        IsLog l epoch first (tape l third disk) records h → h.number < 2 ^ 32 → l.third < h.at → MovesOn l epoch first (tape l next disk) records h }
+{}
+
+/// An epoch of which nothing bears anything has an empty log.
+pub fn new_epochs_are_empty()
+    ensures { (l : Shape) (epoch third : ℕ) (disk : Reader) → epoch < 2 ^ 32 →
+        ((at number : ℕ) → Foreign (record { epoch = epoch; number = number }) (tape l third disk at)) → IsLog l epoch 1 (tape l third disk) [] (start l 1) }
+{}
+
+/// Runs of no sector damage nothing, and runs of at most two sectors have no two but neighbours.
+pub fn short_runs()
+    ensures calm { (at : Moment) → IfSome at.windows.present (λ run. run.count ≡ 0) → IfSome at.windows.next (λ run. run.count ≡ 0) → IsCalm at }
+    ensures narrow { (at : Moment) → IfSome at.windows.present (λ run. run.count ≤ 2) → IfSome at.windows.next (λ run. run.count ≤ 2) → IsNarrow at }
+{}

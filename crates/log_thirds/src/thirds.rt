@@ -1,0 +1,272 @@
+//! The log, and where its next record goes.
+use crate::anchors::{find_anchor, write_anchor};
+use crate::fault::{LogFault, log_fault};
+use crate::find::{Spot, next, place_of};
+use crate::reading::ReadFault;
+use crate::write::write_record;
+use fsd_formats::Anchor;
+use sector_disk::{Failed, Machine};
+use std::alloc::Global;
+use std::marker::Model;
+use volume_layout::Layout;
+
+/// Where a record of some pages goes.
+#[derive(Clone, Copy, Debug, PartialEq, Eq)]
+pub enum Place {
+    /// Behind the last record, in the same third.
+    Here,
+    /// At the start of the next third.
+    NextThird,
+    /// The anchor's first third would be entered, which is this one.
+    FirstThird(u32),
+}
+
+/// The log of a volume, as far as its end is known: where the next record goes, and which number it bears. It holds room
+/// for one record, so that only `scan` takes memory.
+#[derive(Drop)]
+pub struct Log {
+    layout: Layout,
+    anchor: Anchor,
+    number: u32,
+    at: u32,
+    end: u32,
+    buffer: Vec<u8>,
+}
+
+impl Model for Log {
+    ghost use Rattle.log_thirds.specs.LogValue.{LogValue, IsShaped};
+
+    ghost Value = { LogValue };
+
+    ghost view = { λ s. record { layout = s.layout; anchor = s.anchor; head = record { number = s.number; at = s.at; end = s.end } } };
+
+    ghost invariant = { λ s. IsShaped s.layout s.anchor (record { number = s.number; at = s.at; end = s.end }) s.buffer.items };
+}
+
+impl Log {
+    ghost use Rattle.std.specs.Prelude.{◌≡◌, ◌≤◌, ◌<◌, ◌+◌, ◌-◌, ◌*◌, ◌^◌, ◌++◌, ◌∷◌, [], List, ℕ, length, Some, None, Err, IsTrue, IfErr, IfOk, OnOk, OnErr};
+    ghost use Rattle.sector_disk.specs.Image.{stand};
+    ghost use Rattle.sector_disk.specs.Machine.{DeviceFault, UsesDisk, Trusts, LeavesOnly, Holds, Wears};
+    ghost use Rattle.fsd_formats.specs.Record.{are_pages, AreStamped};
+    ghost use Rattle.fsd_formats.specs.Laid.{laid_bytes, slices};
+    ghost use Rattle.fsd_formats.specs.Scan.{Placed, HasRoom, spot_for, place_of};
+    ghost use Rattle.log_thirds.specs.Append.{IsCalm, IsLogIn, Appends, IsNarrow, IsLogWorn, AppendsWorn, stamp_now, next_record, log_past, scan_of, GoesAt};
+    ghost use Rattle.log_thirds.specs.Anchoring.{AnchorsIn, with_anchors, next_epoch, in_next_epoch};
+    ghost use Rattle.log_thirds.specs.Reading.{ReadCause, LogCause, SeesAnchor, SeesLastEpoch};
+
+    // Finds the end of the log that begins with this anchor's first record.
+    fn scan_by<M: Machine>(
+        alloc: Global,
+        m: &mut M,
+        layout: &Layout,
+        anchor: &Anchor,
+    ) -> Result<Log, ReadFault>
+        requires third { anchor.now.third ≤ 2 }
+        requires sectors { layout.now.sectors ≤ (M.report m.old).sectors }
+        ensures fault { IfErr result (ReadCause (M.report m.old) (M.report m.new)) }
+        ensures uses { UsesDisk (M.report m.old) (M.report m.new) }
+        ensures trust { Trusts (M.tells m.old) (M.tells m.new) (M.honest m.old) (M.honest m.new) }
+        ensures worn { M.honest m.new → Wears (M.now m.old) (M.now m.new) }
+        ensures any_moment { M.honest m.new → LeavesOnly M.moment M.left_since m.old m.new (Wears (M.now m.old)) }
+        ensures layout { IfOk result (λ log. log.layout ≡ layout.now) }
+        ensures anchor { IfOk result (λ log. log.anchor ≡ anchor.now) }
+        ensures found { IfOk result (λ log. M.honest m.new → IsCalm (M.now m.old) → (scan_of log (M.now m.old)).head ≡ log.head) }
+    {
+        let third = layout.third();
+        let _sectors = layout.sectors();
+        let buffer = match vec![in alloc; 0u8; 100_864] {
+            Ok(buffer) => buffer,
+            Err(_) => return Err(ReadFault::Memory),
+        };
+        let mut number = anchor.first;
+        let mut at = 0;
+        let mut end = third;
+        loop {
+            match next(alloc, m, layout, anchor, number, at, end) {
+                Ok(
+                    Some(
+                        Spot {
+                            at: past,
+                            end: last,
+                        },
+                    ),
+                ) => {
+                    number += 1;
+                    at = past;
+                    end = last;
+                }
+                Ok(None) => {
+                    return Ok(Log {
+                        layout: *layout,
+                        anchor: *anchor,
+                        number,
+                        at,
+                        end,
+                        buffer,
+                    });
+                }
+                Err(fault) => return Err(fault),
+            }
+        }
+    }
+
+    /// Finds the end of the log that the newer copy of the anchor begins. A number of 2^32 - 1 is never looked for, since
+    /// no record bears it. Needs room for one record.
+    pub fn scan<M: Machine>(alloc: Global, m: &mut M, layout: &Layout) -> Result<Log, LogFault>
+        requires sectors { layout.now.sectors ≤ (M.report m.old).sectors }
+        ensures fault { IfErr result (LogCause (M.report m.old) (M.report m.new)) }
+        ensures no_anchor { result ≡ Err LogFault.NoAnchor → M.honest m.new → SeesAnchor (M.now m.old) None }
+        ensures worn_out { result ≡ Err LogFault.WornOut → M.honest m.new → SeesLastEpoch (M.now m.old) }
+        ensures uses { UsesDisk (M.report m.old) (M.report m.new) }
+        ensures trust { Trusts (M.tells m.old) (M.tells m.new) (M.honest m.old) (M.honest m.new) }
+        ensures worn { M.honest m.new → Wears (M.now m.old) (M.now m.new) }
+        ensures any_moment { M.honest m.new → LeavesOnly M.moment M.left_since m.old m.new (Wears (M.now m.old)) }
+        ensures layout { IfOk result (λ log. log.layout ≡ layout.now) }
+        ensures anchor { IfOk result (λ log. M.honest m.new → SeesAnchor (M.now m.old) (Some log.anchor)) }
+        ensures epoch { IfOk result (λ log. log.anchor.epoch < 2 ^ 32 - 1) }
+        ensures found { IfOk result (λ log. M.honest m.new → IsCalm (M.now m.old) → (scan_of log (M.now m.old)).head ≡ log.head) }
+    {
+        let _sectors = layout.sectors();
+        let anchor = match find_anchor(m) {
+            Ok(Some(anchor)) => anchor,
+            Ok(None) => return Err(LogFault::NoAnchor),
+            Err(fault) => return Err(log_fault(fault)),
+        };
+        if anchor.epoch == u32::MAX {
+            return Err(LogFault::WornOut);
+        }
+        match Log::scan_by(alloc, m, layout, &anchor) {
+            Ok(log) => Ok(log),
+            Err(fault) => Err(log_fault(fault)),
+        }
+    }
+
+    /// The epoch of the next record.
+    pub fn epoch(&self) -> u32
+        ensures { result ≡ self.now.anchor.epoch }
+    {
+        self.anchor.epoch
+    }
+
+    /// The number of the next record.
+    pub fn next_number(&self) -> u32
+        ensures { result ≡ self.now.head.number }
+    {
+        self.number
+    }
+
+    /// Where a record of `n` pages goes.
+    pub fn room(&self, n: u32) -> Place
+        requires { n ≤ 96 }
+        ensures { GoesAt self.now n result }
+    {
+        let third = self.layout.third();
+        if self.at + (2 * n + 5) <= self.end {
+            Place::Here
+        } else if self.end < 3 * third {
+            Place::NextThird
+        } else {
+            Place::FirstThird(self.anchor.third)
+        }
+    }
+
+    // Where a record of n pages goes on the tape.
+    fn spot(&self, n: u32) -> (u32, u32)
+        requires few { n ≤ 96 }
+        requires room { HasRoom self.now.layout n self.now.head }
+        ensures at { result.0 ≡ (spot_for self.now.layout n self.now.head).at }
+        ensures end { result.1 ≡ (spot_for self.now.layout n self.now.head).end }
+    {
+        let third = self.layout.third();
+        if self.at + (2 * n + 5) <= self.end {
+            (self.at, self.end)
+        } else {
+            (self.end, self.end + third)
+        }
+    }
+
+    // Where a place on the tape lies on the disk.
+    fn place(&self, at: u32) -> u32
+        requires { at ≤ 3 * self.now.layout.third }
+        ensures { result ≡ place_of self.now.layout self.now.anchor.third at }
+    {
+        place_of(&self.layout, self.anchor.third, at)
+    }
+
+    /// Writes a record behind the last one, by one write: in the same third where it fits, else at the start of the next.
+    /// The images bear the log's epoch and next number. Where it fails, some first sectors of the record may stand, and
+    /// only a new scan says whether the record does.
+    pub fn append<M: Machine>(
+        &mut self,
+        m: &mut M,
+        pages: &[u32],
+        images: &[u8],
+    ) -> Result<(), Failed>
+        requires pages { IsTrue (are_pages self.old.layout.pages pages.now) }
+        requires images { length images.now ≡ 512 * length pages.now }
+        requires stamped { AreStamped (stamp_now self.old) pages.now (slices (length pages.now) images.now) }
+        requires room { HasRoom self.old.layout (length pages.now) self.old.head }
+        requires numbered { self.old.head.number < 2 ^ 32 - 1 }
+        requires sectors { self.old.layout.sectors ≤ (M.report m.old).sectors }
+        ensures fault { IfErr result (λ failed. DeviceFault (M.report m.old) (M.report m.new) failed.place) }
+        ensures uses { UsesDisk (M.report m.old) (M.report m.new) }
+        ensures trust { Trusts (M.tells m.old) (M.tells m.new) (M.honest m.old) (M.honest m.new) }
+        ensures any_moment { (records : List Placed) → M.honest m.new → IsCalm (M.now m.old) → IsLogIn self.old records (M.now m.old)
+            → LeavesOnly M.moment M.left_since m.old m.new (Appends self.old records pages.now images.now (M.now m.old)) }
+        ensures done { OnOk result ((records : List Placed) → M.honest m.new → IsCalm (M.now m.old) → IsLogIn self.old records (M.now m.old)
+            → IsLogIn self.new (records ++ next_record self.old pages.now images.now ∷ []) (M.now m.new)) }
+        ensures worn_moment { (records : List Placed) → M.honest m.new → IsLogWorn self.old records (M.now m.old)
+            → LeavesOnly M.moment M.left_since m.old m.new (AppendsWorn self.old records pages.now images.now (M.now m.old)) }
+        ensures worn_done { OnOk result ((records : List Placed) → M.honest m.new → IsNarrow (M.now m.old) → IsLogWorn self.old records (M.now m.old)
+            → IsLogWorn self.new (records ++ next_record self.old pages.now images.now ∷ []) (M.now m.new)) }
+        ensures stands { OnOk result (M.honest m.new → Holds (M.now m.old)
+            (stand (M.now m.old).image (place_of self.old.layout self.old.anchor.third (spot_for self.old.layout (length pages.now) self.old.head).at)
+            (laid_bytes (stamp_now self.old) pages.now images.now) (2 * length pages.now + 5)) (M.now m.new)) }
+        ensures past { OnOk result (self.new ≡ log_past self.old (length pages.now)) }
+        ensures kept { OnErr result (self.new ≡ self.old) }
+    {
+        let (at, end) = self.spot(pages.len() as u32);
+        let place = self.place(at);
+        write_record(
+            m,
+            place,
+            self.anchor.epoch,
+            self.number,
+            pages,
+            images,
+            self.buffer.as_mut_slice(),
+        )?;
+        self.number += 1;
+        self.at = at + (2 * pages.len() as u32 + 5);
+        self.end = end;
+        Ok(())
+    }
+
+    /// Writes the anchor of the next epoch, whose log is empty, to its first place and then to its second. Where it fails
+    /// the log is as it was, and either anchor may stand.
+    pub fn new_epoch<M: Machine>(&mut self, m: &mut M) -> Result<(), Failed>
+        requires epoch { self.old.anchor.epoch < 2 ^ 32 - 1 }
+        requires sectors { self.old.layout.sectors ≤ (M.report m.old).sectors }
+        ensures fault { IfErr result (λ failed. DeviceFault (M.report m.old) (M.report m.new) failed.place) }
+        ensures uses { UsesDisk (M.report m.old) (M.report m.new) }
+        ensures trust { Trusts (M.tells m.old) (M.tells m.new) (M.honest m.old) (M.honest m.new) }
+        ensures any_moment { M.honest m.new → LeavesOnly M.moment M.left_since m.old m.new (AnchorsIn (next_epoch self.old) (M.now m.old)) }
+        ensures done { OnOk result (M.honest m.new → Holds (M.now m.old) (with_anchors (next_epoch self.old) (M.now m.old).image 1 1) (M.now m.new)) }
+        ensures past { OnOk result (self.new ≡ in_next_epoch self.old) }
+        ensures kept { OnErr result (self.new ≡ self.old) }
+    {
+        let _sectors = self.layout.sectors();
+        let third = self.layout.third();
+        let anchor = Anchor {
+            epoch: self.anchor.epoch + 1,
+            third: 0,
+            first: 1,
+        };
+        write_anchor(m, &anchor)?;
+        self.anchor = anchor;
+        self.number = 1;
+        self.at = 0;
+        self.end = third;
+        Ok(())
+    }
+}
