@@ -10,7 +10,7 @@ use Rattle.std.proofs.lemmas.Slice.{drop-append-drop}
 use Rattle.fsd_bytes.specs.Bytes.{u16, u32, zeros, sector, u16_at, u32_at, same_bytes}
 use Rattle.fsd_bytes.specs.Names.{is_between}
 use Rattle.fsd_formats.specs.Record.{Stamp, stamp_bytes, header_bytes, read_header, are_pages, ascending, numbers_from, bears}
-use Rattle.fsd_formats.specs.Judged.{Reader, passes, serving, page_copies}
+use Rattle.fsd_log.specs.Judged.{Reader, passes, serving, page_copies}
 
 -- ---- ascending
 

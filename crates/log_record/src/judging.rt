@@ -1,7 +1,7 @@
 //! Which record stands in some sectors.
 ghost use Rattle.std.specs.Prelude.{◌≡◌, ◌≤◌, ◌+◌, ◌*◌, true, false, IfSome, if◌then◌else◌, option_map, length};
 ghost use Rattle.fsd_formats.specs.Record.{is_end, bears};
-ghost use Rattle.fsd_formats.specs.Judged.{judged, judged_by, judged_with, page_copies, passes};
+ghost use Rattle.fsd_log.specs.Judged.{judged, judged_by, judged_with, page_copies, passes};
 ghost use Rattle.log_record.specs.Found.{read_of, serving_in, found_in, IsCounted};
 
 use crate::header::{end_bytes, read_header};

@@ -1,11 +1,11 @@
 //! Laws of records: the functions do nothing, the contract of each is a law.
 ghost use Rattle.std.specs.Prelude.{◌≡◌, ◌⊎◌, ◌+◌, ◌*◌, ◌<◌, ◌≤◌, ◌^◌, ℕ, List, Some, None, false, length, replicate};
 ghost use Rattle.fsd_formats.specs.Record.{Stamp, record_len};
-ghost use Rattle.fsd_formats.specs.Judged.{Reader, Logged, Serving, judged, record_in, slice_of};
-ghost use Rattle.fsd_formats.specs.Good.{IsGood};
-ghost use Rattle.fsd_formats.specs.Borne.{Foreign, FitsStamp, ReadsLess};
-ghost use Rattle.fsd_formats.specs.Laid.{AreLaid, IsTorn, laid_bytes, new_record};
-ghost use Rattle.fsd_formats.specs.Plain.{plain_record};
+ghost use Rattle.fsd_log.specs.Judged.{Reader, Logged, Serving, judged, record_in, slice_of};
+ghost use Rattle.fsd_log.specs.Good.{IsGood};
+ghost use Rattle.fsd_log.specs.Borne.{Foreign, FitsStamp, ReadsLess};
+ghost use Rattle.fsd_log.specs.Laid.{AreLaid, IsTorn, laid_bytes, new_record};
+ghost use Rattle.fsd_log.specs.Plain.{plain_record};
 
 /// A record is judged good exactly where, by its header or the header's copy, of each other sector and its copy one serves.
 pub fn records_are_good_where_copies_serve()

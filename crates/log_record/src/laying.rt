@@ -1,6 +1,6 @@
 //! Laying a record (docs/FORMAT.md).
 ghost use Rattle.std.specs.Prelude.{◌≡◌, ◌+◌, ◌*◌, ◌≤◌, ◌++◌, length, take, drop};
-ghost use Rattle.fsd_formats.specs.Laid.{laid_bytes};
+ghost use Rattle.fsd_log.specs.Laid.{laid_bytes};
 
 use crate::header::{end_bytes, header_bytes};
 

@@ -7,7 +7,7 @@ use Rattle.fsd_bytes.proofs.SameLaws.{given_if}
 use Rattle.fsd_formats.specs.declared.anchor.Anchor.{Anchor}
 use Rattle.fsd_formats.specs.Anchors.{is_anchor, anchor_bytes, read_anchor}
 use Rattle.sector_disk.specs.Machine.{Moment}
-use Rattle.fsd_formats.specs.Scan.{anchor_in, is_newer, newer_of}
+use Rattle.fsd_log.specs.Scan.{anchor_in, is_newer, newer_of}
 use Rattle.log_thirds.specs.Reading.{ReadWorn, SeesCopy}
 
 read_third : (bytes : List ℕ) (a : Anchor) → read_anchor bytes ≡ Some a → a.third ≤ 2

@@ -4,14 +4,14 @@ use Rattle.std.specs.Prelude.{if◌then◌else◌}
 use Rattle.std.proofs.lemmas.Bool.{cond-true, cond-false, lt-ltb, ltb-true, cases_lt}
 use Rattle.volume_layout.specs.Shape.{Shape}
 use Rattle.fsd_formats.specs.Record.{Stamp, record_len}
-use Rattle.fsd_formats.specs.Judged.{Reader, slice_of}
-use Rattle.fsd_formats.specs.Borne.{borne_by, Foreign, FitsStamp}
-use Rattle.fsd_formats.proofs.JudgedLaws.{foreign_absent}
-use Rattle.fsd_formats.proofs.LaidLaws.{IsLaidAs}
-use Rattle.fsd_formats.proofs.TornLaws.{ArePages, there, absent}
-use Rattle.fsd_formats.specs.Laid.{IsTorn, new_record}
+use Rattle.fsd_log.specs.Judged.{Reader, slice_of}
+use Rattle.fsd_log.specs.Borne.{borne_by, Foreign, FitsStamp}
+use Rattle.fsd_log.proofs.JudgedLaws.{foreign_absent}
+use Rattle.fsd_log.proofs.LaidLaws.{IsLaidAs}
+use Rattle.fsd_log.proofs.TornLaws.{ArePages, there, absent}
+use Rattle.fsd_log.specs.Laid.{IsTorn, new_record}
 use Rattle.log_thirds.proofs.HereLaws.{here_looks, here_none}
-use Rattle.fsd_formats.specs.Scan.{IsIn, Head, Placed, Walked, room_at, window, record_here, next, scan, start, IsLog}
+use Rattle.fsd_log.specs.Scan.{IsIn, Head, Placed, Walked, room_at, window, record_here, next, scan, start, IsLog}
 use Rattle.log_thirds.proofs.WalkLaws.{stamp_of, head_behind, MayEnter, IsFound, Goes, GoesFar, goes_far, goes_of_walk, goes_more, walk_of_goes, none_next, TapeLess, goes_keeps}
 
 -- the first sectors of a write stand on the tape

@@ -8,10 +8,10 @@ use Rattle.sector_disk.specs.Machine.{Moment, Wears}
 use Rattle.sector_disk.proofs.Wear.{worn_outside}
 use Rattle.volume_layout.specs.Shape.{Shape}
 use Rattle.fsd_formats.specs.Record.{Stamp, record_len}
-use Rattle.fsd_formats.specs.Judged.{Reader, Logged, slice_of, Serving, judged, logged_of, record_in}
+use Rattle.fsd_log.specs.Judged.{Reader, Logged, slice_of, Serving, judged, logged_of, record_in}
 use Rattle.log_record.specs.Found.{read_of}
-use Rattle.fsd_formats.proofs.JudgedLaws.{is_judged}
-use Rattle.fsd_formats.specs.Scan.{IsEnd, Head, Placed, place_of, tape, room_at, window, record_here, behind, entered, next}
+use Rattle.fsd_log.proofs.JudgedLaws.{is_judged}
+use Rattle.fsd_log.specs.Scan.{IsEnd, Head, Placed, place_of, tape, room_at, window, record_here, behind, entered, next}
 use Rattle.log_thirds.specs.Disk.{bytes_in, reads}
 use Rattle.log_thirds.specs.declared.find.Spot.{Spot}
 use Rattle.std.specs.Option.{option_or}

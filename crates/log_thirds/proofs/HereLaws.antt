@@ -2,8 +2,8 @@
 use Rattle.std.proofs.Common.{◌≡◌, ℕ, ◌<◌, ◌≤◌, Bool, true, false, cond, Option, Some, None, nat_lt, refl, arith}
 use Rattle.std.proofs.lemmas.Bool.{cond-true, cond-false, ltb-true, lt-ltb}
 use Rattle.volume_layout.specs.Shape.{Shape}
-use Rattle.fsd_formats.specs.Judged.{Reader, Logged, record_in}
-use Rattle.fsd_formats.specs.Scan.{last_number, room_at, window, record_here}
+use Rattle.fsd_log.specs.Judged.{Reader, Logged, record_in}
+use Rattle.fsd_log.specs.Scan.{last_number, room_at, window, record_here}
 
 pub not_below : (k n : ℕ) → n ≤ k → nat_lt k n ≡ false
 not_below k n past = by_test (nat_lt k n) refl

@@ -9,10 +9,10 @@ use Rattle.sector_disk.proofs.Wear.{worn_outside}
 use Rattle.volume_layout.specs.Shape.{Shape}
 use Rattle.fsd_bytes.specs.Names.{is_between}
 use Rattle.fsd_formats.specs.Record.{are_pages, ascending, AreStamped, record_len}
-use Rattle.fsd_formats.specs.Laid.{laid_bytes, slices}
-use Rattle.fsd_formats.proofs.LaidLaws.{IsLaidAs, laid_as}
-use Rattle.fsd_formats.proofs.TornLaws.{ArePages}
-use Rattle.fsd_formats.specs.Scan.{Head, Placed, IsIn, HasRoom, spot_for, place_of, tape}
+use Rattle.fsd_log.specs.Laid.{laid_bytes, slices}
+use Rattle.fsd_log.proofs.LaidLaws.{IsLaidAs, laid_as}
+use Rattle.fsd_log.proofs.TornLaws.{ArePages}
+use Rattle.fsd_log.specs.Scan.{Head, Placed, IsIn, HasRoom, spot_for, place_of, tape}
 use Rattle.log_thirds.specs.Disk.{reads}
 use Rattle.log_thirds.specs.LogValue.{LogValue}
 use Rattle.log_thirds.specs.Append.{StandsInPart, IsCalm, stamp_now, next_record, log_past, IsLogIn, Appends}

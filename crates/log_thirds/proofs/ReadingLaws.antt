@@ -8,9 +8,9 @@ use Rattle.sector_disk.specs.Image.{IsWorn, Windows, open_damage}
 use Rattle.sector_disk.specs.Machine.{Report, Moment, Wears, UsesDisk, LeavesOnly}
 use Rattle.sector_disk.proofs.Moments.{then_on, leaves_more}
 use Rattle.sector_disk.proofs.Wear.{worn_refl, worn_trans}
-use Rattle.fsd_formats.specs.Judged.{slice_of}
+use Rattle.fsd_log.specs.Judged.{slice_of}
 use Rattle.log_record.specs.Found.{read_of}
-use Rattle.fsd_formats.proofs.LaidLaws.{slice_within, slice_behind, slice_all}
+use Rattle.fsd_log.proofs.LaidLaws.{slice_within, slice_behind, slice_all}
 use Rattle.log_thirds.specs.Disk.{bytes_in}
 use Rattle.log_thirds.specs.Reading.{ReadCause, ReadInto, ReadWorn, ReadRun}
 use Rattle.log_thirds.specs.declared.reading.ReadFault.{ReadFault}

@@ -2,9 +2,9 @@
 use Rattle.std.proofs.Common.{◌≡◌, ℕ, ◌+◌, ◌*◌, List, [], ◌∷◌, ◌++◌, Option, Some, None, refl, sym, ap, subst, arith, inl}
 use Rattle.std.specs.Prelude.{option_map}
 use Rattle.volume_layout.specs.Shape.{Shape}
-use Rattle.fsd_formats.specs.Judged.{Reader}
+use Rattle.fsd_log.specs.Judged.{Reader}
 use Rattle.log_thirds.specs.declared.find.Spot.{Spot}
-use Rattle.fsd_formats.specs.Scan.{Head, Placed, Walked, next, scan, start}
+use Rattle.fsd_log.specs.Scan.{Head, Placed, Walked, next, scan, start}
 use Rattle.log_thirds.proofs.WalkLaws.{next_found, Goes, goes_more, walk_of_goes}
 
 abbrev pub spot_of : Placed × Head → Spot

@@ -5,8 +5,8 @@ use Rattle.sector_disk.specs.declared.sector.Sector.{Sector}
 use Rattle.sector_disk.specs.Image.{sector_at, stand}
 use Rattle.sector_disk.proofs.Wear.{stand_in, stand_other}
 use Rattle.volume_layout.specs.Shape.{Shape}
-use Rattle.fsd_formats.specs.Judged.{Reader}
-use Rattle.fsd_formats.specs.Scan.{IsEnd, place_of, tape}
+use Rattle.fsd_log.specs.Judged.{Reader}
+use Rattle.fsd_log.specs.Scan.{IsEnd, place_of, tape}
 use Rattle.log_thirds.specs.Disk.{bytes_in, reads}
 use Rattle.log_thirds.proofs.HereLaws.{not_below}
 use Rattle.log_thirds.proofs.AppendLaws.{TapeTorn}

@@ -5,11 +5,11 @@ use Rattle.std.specs.Option.{option_or}
 use Rattle.std.proofs.lemmas.Bool.{cond-true, ltb-true, lt-ltb, and_parts, and_from}
 use Rattle.volume_layout.specs.Shape.{Shape}
 use Rattle.fsd_formats.specs.Record.{Stamp, record_len}
-use Rattle.fsd_formats.specs.Judged.{Reader, Logged}
-use Rattle.fsd_formats.specs.Borne.{Foreign, FitsStamp, ReadsLess}
-use Rattle.fsd_formats.proofs.JudgedLaws.{record_less, record_keeps, record_room}
+use Rattle.fsd_log.specs.Judged.{Reader, Logged}
+use Rattle.fsd_log.specs.Borne.{Foreign, FitsStamp, ReadsLess}
+use Rattle.fsd_log.proofs.JudgedLaws.{record_less, record_keeps, record_room}
 use Rattle.log_thirds.proofs.HereLaws.{here_looks, here_none, here_some}
-use Rattle.fsd_formats.specs.Scan.{IsEnd, IsIn, Head, Placed, Walked, on, room_at, window, record_here, behind, next, walk}
+use Rattle.fsd_log.specs.Scan.{IsEnd, IsIn, Head, Placed, Walked, on, room_at, window, record_here, behind, next, walk}
 
 abbrev pub stamp_of : ℕ → ℕ → Stamp
 stamp_of epoch number = record { epoch = epoch; number = number }

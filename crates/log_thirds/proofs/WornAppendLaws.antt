@@ -4,15 +4,15 @@ use Rattle.std.specs.Prelude.{IsTrue}
 use Rattle.std.proofs.lemmas.Bool.{cond-true, lt-ltb, cases_lt}
 use Rattle.volume_layout.specs.Shape.{Shape}
 use Rattle.fsd_formats.specs.Record.{header_bytes, end_bytes, record_len}
-use Rattle.fsd_formats.specs.Judged.{Reader, slice_of}
-use Rattle.fsd_formats.specs.Borne.{borne_by, Foreign, FitsStamp}
-use Rattle.fsd_formats.proofs.JudgedLaws.{foreign_absent, endless_absent}
-use Rattle.fsd_formats.proofs.LaidLaws.{IsLaidAs}
-use Rattle.fsd_formats.proofs.TornLaws.{ArePages}
-use Rattle.fsd_formats.specs.Laid.{new_record}
-use Rattle.fsd_formats.proofs.WornLaws.{AsLaid, ReadsLaid, OneStands, laid_or_none, worn_there}
+use Rattle.fsd_log.specs.Judged.{Reader, slice_of}
+use Rattle.fsd_log.specs.Borne.{borne_by, Foreign, FitsStamp}
+use Rattle.fsd_log.proofs.JudgedLaws.{foreign_absent, endless_absent}
+use Rattle.fsd_log.proofs.LaidLaws.{IsLaidAs}
+use Rattle.fsd_log.proofs.TornLaws.{ArePages}
+use Rattle.fsd_log.specs.Laid.{new_record}
+use Rattle.fsd_log.proofs.WornLaws.{AsLaid, ReadsLaid, OneStands, laid_or_none, worn_there}
 use Rattle.log_thirds.proofs.HereLaws.{here_looks, here_none}
-use Rattle.fsd_formats.specs.Scan.{IsIn, Head, Placed, Walked, room_at, window, record_here, next, scan, start, IsLog}
+use Rattle.fsd_log.specs.Scan.{IsIn, Head, Placed, Walked, room_at, window, record_here, next, scan, start, IsLog}
 use Rattle.log_thirds.proofs.WalkLaws.{stamp_of, head_behind, IsFound, Goes, GoesFar, goes_far, goes_of_walk, goes_more, walk_of_goes, none_next, TapeLess, goes_keeps}
 use Rattle.log_thirds.proofs.AppendLaws.{IsSpot, none_foreign, window_foreign, two_stamps}
 

@@ -11,9 +11,9 @@ use Rattle.sector_disk.proofs.Wear.{length-lay, lay_in, lay_other, length-stand,
 use Rattle.volume_layout.specs.Shape.{Shape}
 use Rattle.fsd_bytes.specs.Names.{is_between}
 use Rattle.fsd_formats.specs.Record.{are_pages, ascending, record_len}
-use Rattle.fsd_formats.specs.Judged.{Reader}
-use Rattle.fsd_formats.specs.Laid.{laid_bytes}
-use Rattle.fsd_formats.specs.Scan.{Head, Placed, IsLog, spot_for, place_of, tape}
+use Rattle.fsd_log.specs.Judged.{Reader}
+use Rattle.fsd_log.specs.Laid.{laid_bytes}
+use Rattle.fsd_log.specs.Scan.{Head, Placed, IsLog, spot_for, place_of, tape}
 use Rattle.log_thirds.specs.Disk.{bytes_in, reads}
 use Rattle.log_thirds.specs.LogValue.{LogValue}
 use Rattle.log_thirds.specs.Append.{StandsInPart, stamp_now, next_record, head_past, log_past, scan_of, IsLogWorn, IsNarrow, AppendsWorn}

@@ -6,7 +6,7 @@ use Rattle.sector_disk.specs.Machine.{Moment, Holds}
 use Rattle.fsd_formats.specs.declared.anchor.Anchor.{Anchor}
 use Rattle.fsd_formats.specs.Anchors.{anchor_bytes}
 use Rattle.log_thirds.specs.LogValue.{LogValue}
-use Rattle.fsd_formats.specs.Scan.{start}
+use Rattle.fsd_log.specs.Scan.{start}
 
 -- the image with the anchor at its first place, if so many (0 or 1) stand there, and at its second
 abbrev pub with_anchors : Anchor → List Sector → (first copy : ℕ) → List Sector

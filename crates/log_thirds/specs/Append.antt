@@ -3,8 +3,8 @@ use Rattle.std.specs.Prelude.{◌≡◌, ◌⊎◌, IsTrue, ◌<◌, ◌≤◌, 
 use Rattle.fsd_formats.specs.Record.{Stamp, record_len}
 use Rattle.sector_disk.specs.Image.{stand, open_damage, AllWorn}
 use Rattle.sector_disk.specs.Machine.{Moment, Holds}
-use Rattle.fsd_formats.specs.Laid.{laid_bytes, slices}
-use Rattle.fsd_formats.specs.Scan.{Head, Placed, Walked, IsLog, place_of, tape, scan, spot_for}
+use Rattle.fsd_log.specs.Laid.{laid_bytes, slices}
+use Rattle.fsd_log.specs.Scan.{Head, Placed, Walked, IsLog, place_of, tape, scan, spot_for}
 use Rattle.log_thirds.specs.Disk.{reads}
 use Rattle.log_thirds.specs.LogValue.{LogValue}
 use Rattle.log_thirds.specs.declared.thirds.Place.{Place}

@@ -3,7 +3,7 @@ use Rattle.std.specs.Prelude.{ℕ, List, Option, Some, None}
 use Rattle.sector_disk.specs.declared.sector.Sector.{Sector}
 use Rattle.sector_disk.specs.declared.sector.Sector.TheVariants.{Whole, Damaged}
 use Rattle.sector_disk.specs.Image.{sector_at}
-use Rattle.fsd_formats.specs.Judged.{Reader}
+use Rattle.fsd_log.specs.Judged.{Reader}
 
 -- what a sector gives
 abbrev pub bytes_in : Sector → Option (List ℕ)

@@ -2,7 +2,7 @@
 use Rattle.std.specs.Prelude.{◌≡◌, ◌≤◌, ◌+◌, ◌*◌, ℕ, List, length}
 use Rattle.fsd_formats.specs.declared.anchor.Anchor.{Anchor}
 use Rattle.volume_layout.specs.Shape.{Shape}
-use Rattle.fsd_formats.specs.Scan.{Head, IsIn}
+use Rattle.fsd_log.specs.Scan.{Head, IsIn}
 
 pub record LogValue : Type 0 where
   pub layout : Shape

@@ -1,8 +1,8 @@
 -- The log by an anchor that has moved on by a third.
 use Rattle.std.specs.Prelude.{◌≡◌, ◌⊎◌, ℕ, ◌+◌, ◌-◌, List, ◌++◌, length, map}
 use Rattle.volume_layout.specs.Shape.{Shape}
-use Rattle.fsd_formats.specs.Judged.{Reader}
-use Rattle.fsd_formats.specs.Scan.{Head, Placed, IsLog}
+use Rattle.fsd_log.specs.Judged.{Reader}
+use Rattle.fsd_log.specs.Scan.{Head, Placed, IsLog}
 
 -- so much nearer to the start of the tape
 abbrev pub back : ℕ → Placed → Placed

@@ -5,7 +5,7 @@ use Rattle.sector_disk.specs.Machine.{Report, Moment, DeviceFault}
 use Rattle.volume_layout.specs.Shape.{Shape}
 use Rattle.log_record.specs.Found.{read_of}
 use Rattle.fsd_formats.specs.declared.anchor.Anchor.{Anchor}
-use Rattle.fsd_formats.specs.Scan.{IsEnd, anchor_in, newer_of}
+use Rattle.fsd_log.specs.Scan.{IsEnd, anchor_in, newer_of}
 use Rattle.log_thirds.specs.Disk.{reads}
 use Rattle.log_thirds.specs.declared.find.Spot.{Spot}
 use Rattle.log_thirds.specs.declared.reading.ReadFault.{ReadFault}

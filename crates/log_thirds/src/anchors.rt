@@ -3,7 +3,7 @@ ghost use Rattle.std.specs.Prelude.{◌≡◌, ◌<◌, ◌≤◌, Some, None, I
 ghost use Rattle.sector_disk.specs.Image.{stand};
 ghost use Rattle.sector_disk.specs.Machine.{Moment, DeviceFault, UsesDisk, Trusts, Wears, LeavesOnly, Holds};
 ghost use Rattle.fsd_formats.specs.Anchors.{anchor_bytes};
-ghost use Rattle.fsd_formats.specs.Scan.{is_newer, newer_of};
+ghost use Rattle.fsd_log.specs.Scan.{is_newer, newer_of};
 ghost use Rattle.log_thirds.specs.Append.{StandsInPart};
 ghost use Rattle.log_thirds.specs.Anchoring.{AnchorsIn, with_anchors};
 ghost use Rattle.log_thirds.specs.Reading.{ReadCause, SeesCopy, SeesAnchor};

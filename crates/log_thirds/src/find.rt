@@ -1,7 +1,7 @@
 //! Looking for the next record.
 ghost use Rattle.std.specs.Prelude.{◌≡◌, ◌≤◌, ◌<◌, ◌+◌, ◌-◌, ◌*◌, min, ℕ, length, IfErr, IfOk, IfSome, OnOk, option_map};
 ghost use Rattle.sector_disk.specs.Machine.{Moment, UsesDisk, Trusts, Wears, LeavesOnly};
-ghost use Rattle.fsd_formats.specs.Scan.{Head, IsIn, IsEnd, place_of, tape, room_at, last_number, record_here, entered, next};
+ghost use Rattle.fsd_log.specs.Scan.{Head, IsIn, IsEnd, place_of, tape, room_at, last_number, record_here, entered, next};
 ghost use Rattle.log_thirds.specs.Disk.{reads};
 ghost use Rattle.log_thirds.specs.Append.{IsCalm};
 ghost use Rattle.log_thirds.specs.Reading.{ReadCause, GoesTo};

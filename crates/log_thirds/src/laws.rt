@@ -3,9 +3,9 @@ ghost use Rattle.std.specs.Prelude.{◌≡◌, ◌+◌, ◌<◌, ◌≤◌, ◌^
 ghost use Rattle.sector_disk.specs.Machine.{Moment};
 ghost use Rattle.log_thirds.specs.Append.{IsCalm, IsNarrow};
 ghost use Rattle.volume_layout.specs.Shape.{Shape};
-ghost use Rattle.fsd_formats.specs.Judged.{Reader};
-ghost use Rattle.fsd_formats.specs.Borne.{Foreign};
-ghost use Rattle.fsd_formats.specs.Scan.{Head, Placed, IsLog, start, tape};
+ghost use Rattle.fsd_log.specs.Judged.{Reader};
+ghost use Rattle.fsd_log.specs.Borne.{Foreign};
+ghost use Rattle.fsd_log.specs.Scan.{Head, Placed, IsLog, start, tape};
 ghost use Rattle.log_thirds.specs.Moves.{IsNextThird, MovesOn};
 
 /// By an anchor that names the third behind the first one, the log is what lay behind the first third, and goes on where it did.

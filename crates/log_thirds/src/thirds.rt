@@ -48,8 +48,8 @@ impl Log {
     ghost use Rattle.sector_disk.specs.Image.{stand};
     ghost use Rattle.sector_disk.specs.Machine.{DeviceFault, UsesDisk, Trusts, LeavesOnly, Holds, Wears};
     ghost use Rattle.fsd_formats.specs.Record.{are_pages, AreStamped};
-    ghost use Rattle.fsd_formats.specs.Laid.{laid_bytes, slices};
-    ghost use Rattle.fsd_formats.specs.Scan.{Placed, HasRoom, spot_for, place_of};
+    ghost use Rattle.fsd_log.specs.Laid.{laid_bytes, slices};
+    ghost use Rattle.fsd_log.specs.Scan.{Placed, HasRoom, spot_for, place_of};
     ghost use Rattle.log_thirds.specs.Append.{IsCalm, IsLogIn, Appends, IsNarrow, IsLogWorn, AppendsWorn, stamp_now, next_record, log_past, scan_of, GoesAt};
     ghost use Rattle.log_thirds.specs.Anchoring.{AnchorsIn, with_anchors, next_epoch, in_next_epoch};
     ghost use Rattle.log_thirds.specs.Reading.{ReadCause, LogCause, SeesAnchor, SeesLastEpoch};

@@ -2,7 +2,7 @@
 ghost use Rattle.std.specs.Prelude.{◌≡◌, ◌≤◌, ◌+◌, ◌*◌, length, IfErr, OnOk};
 ghost use Rattle.sector_disk.specs.Image.{stand};
 ghost use Rattle.sector_disk.specs.Machine.{Moment, DeviceFault, UsesDisk, Trusts, LeavesOnly, Holds};
-ghost use Rattle.fsd_formats.specs.Laid.{laid_bytes};
+ghost use Rattle.fsd_log.specs.Laid.{laid_bytes};
 ghost use Rattle.log_thirds.specs.Append.{StandsInPart};
 
 use log_record::lay;

@@ -1,6 +1,6 @@
 use Rattle.std.proofs.Common.{◌≡◌, ◌+◌, ◌++◌, length, drop}
 use Rattle.std.specs.Prelude.{option_map}
-use Rattle.fsd_formats.specs.Judged.{page_copies}
+use Rattle.fsd_log.specs.Judged.{page_copies}
 use Rattle.log_record.specs.Found.{read_of}
 use Rattle.log_record.proofs.judging.page_copies.Given as goal
 

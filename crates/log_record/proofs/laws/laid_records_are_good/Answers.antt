@@ -1,4 +1,4 @@
-use Rattle.fsd_formats.proofs.OutlastLaws.{laid_is_judged, laid_outlasts}
+use Rattle.fsd_log.proofs.OutlastLaws.{laid_is_judged, laid_outlasts}
 use Rattle.log_record.proofs.laws.laid_records_are_good.Goals as goal
 
 pub returns-clause-good : goal.returns-clause-good

@@ -1,4 +1,4 @@
-use Rattle.fsd_formats.proofs.GoodLaws.{judged_is_good, none_is_good}
+use Rattle.fsd_log.proofs.GoodLaws.{judged_is_good, none_is_good}
 use Rattle.log_record.proofs.laws.records_are_good_where_copies_serve.Goals as goal
 
 pub returns-clause-good : goal.returns-clause-good

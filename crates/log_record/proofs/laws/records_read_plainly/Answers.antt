@@ -1,4 +1,4 @@
-use Rattle.fsd_formats.proofs.PlainLaws.{record_same}
+use Rattle.fsd_log.proofs.PlainLaws.{record_same}
 use Rattle.log_record.proofs.laws.records_read_plainly.Goals as goal
 
 pub returns : goal.returns

@@ -1,4 +1,4 @@
-use Rattle.fsd_formats.proofs.JudgedLaws.{record_less, record_keeps}
+use Rattle.fsd_log.proofs.JudgedLaws.{record_less, record_keeps}
 use Rattle.log_record.proofs.laws.records_stay.Goals as goal
 
 pub returns-clause-there : goal.returns-clause-there

@@ -1,6 +1,6 @@
-use Rattle.fsd_formats.specs.Laid.{laid_bytes}
-use Rattle.fsd_formats.proofs.LaidLaws.{laid_as}
-use Rattle.fsd_formats.proofs.TornLaws.{are_few, there, absent}
+use Rattle.fsd_log.specs.Laid.{laid_bytes}
+use Rattle.fsd_log.proofs.LaidLaws.{laid_as}
+use Rattle.fsd_log.proofs.TornLaws.{are_few, there, absent}
 use Rattle.log_record.proofs.laws.torn_records_are_whole_or_absent.Goals as goal
 
 pub returns-clause-there : goal.returns-clause-there

@@ -1,7 +1,7 @@
 use Rattle.std.proofs.Common.{rules, ◌≡◌, length, ◌∙◌, refl, [], ◌++◌}
 use Rattle.log_record.proofs.laying.lay.Goals as goal
 use Rattle.fsd_bytes.specs.Bytes.{sector}
-use Rattle.fsd_formats.specs.Laid.{laid_bytes}
+use Rattle.fsd_log.specs.Laid.{laid_bytes}
 use Rattle.log_record.proofs.Loops.{lay_front, lay_rest}
 
 pub returns-clause-laid : goal.returns-clause-laid

@@ -1,6 +1,6 @@
 use Rattle.std.proofs.Common.{◌+◌, ◌*◌, ◌<◌, ◌≤◌, ℕ, length, arith, subst, ap, ◌∙◌, sym, refl, Some, Option}
 use Rattle.std.specs.Prelude.{option_map, IfSome}
-use Rattle.fsd_formats.specs.Scan.{Head, IsEnd, tape, record_here}
+use Rattle.fsd_log.specs.Scan.{Head, IsEnd, tape, record_here}
 use Rattle.log_thirds.specs.Disk.{reads}
 use Rattle.log_thirds.proofs.WalkLaws.{next_end}
 use Rattle.log_thirds.proofs.FindLaws.{goes_to, there_found, not_there}

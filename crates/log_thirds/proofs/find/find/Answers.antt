@@ -2,8 +2,8 @@ use Rattle.std.proofs.Common.{◌≡◌, ◌≤◌, ℕ, List, Bool, length, ari
 use Rattle.std.specs.Prelude.{option_map}
 use Rattle.fsd_formats.specs.Record.{Stamp, record_len}
 use Rattle.log_record.specs.Found.{read_of, serving_in}
-use Rattle.fsd_formats.specs.Judged.{record_in}
-use Rattle.fsd_formats.specs.Scan.{room_at, window, tape}
+use Rattle.fsd_log.specs.Judged.{record_in}
+use Rattle.fsd_log.specs.Scan.{room_at, window, tape}
 use Rattle.log_thirds.specs.Disk.{reads}
 use Rattle.log_thirds.specs.Reading.{ReadRun}
 use Rattle.log_thirds.proofs.HereLaws.{here_looks, here_last}

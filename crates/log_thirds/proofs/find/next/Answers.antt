@@ -1,7 +1,7 @@
 use Rattle.std.proofs.Common.{◌≡◌, ◌+◌, ◌*◌, ◌≤◌, ℕ, arith, subst, ap, ◌∙◌, sym, refl, Option}
 use Rattle.std.specs.Prelude.{option_map, IfSome}
-use Rattle.fsd_formats.specs.Judged.{Reader}
-use Rattle.fsd_formats.specs.Scan.{Head, tape, entered, next}
+use Rattle.fsd_log.specs.Judged.{Reader}
+use Rattle.fsd_log.specs.Scan.{Head, tape, entered, next}
 use Rattle.log_thirds.specs.Disk.{reads}
 use Rattle.log_thirds.specs.Append.{IsCalm}
 use Rattle.log_thirds.proofs.ReadingLaws.{reads_on}

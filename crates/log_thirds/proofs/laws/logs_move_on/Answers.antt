@@ -1,4 +1,4 @@
-use Rattle.fsd_formats.specs.Scan.{tape}
+use Rattle.fsd_log.specs.Scan.{tape}
 use Rattle.log_thirds.proofs.ShiftLaws.{moves_on, tape_shifts, tape_around}
 use Rattle.log_thirds.proofs.laws.logs_move_on.Goals as goal
 

@@ -1,5 +1,5 @@
 use Rattle.std.proofs.Common.{arith}
-use Rattle.fsd_formats.specs.Scan.{tape}
+use Rattle.fsd_log.specs.Scan.{tape}
 use Rattle.log_thirds.proofs.ShiftLaws.{empty_log}
 use Rattle.log_thirds.proofs.laws.new_epochs_are_empty.Goals as goal
 

@@ -1,7 +1,7 @@
 use Rattle.std.proofs.Common.{◌≡◌, ◌+◌, ◌*◌, List, ℕ, length, take, arith}
 use Rattle.std.proofs.lemmas.List.{length-take-le}
 use Rattle.sector_disk.proofs.Moments.{started, goes_on}
-use Rattle.fsd_formats.specs.Laid.{laid_bytes}
+use Rattle.fsd_log.specs.Laid.{laid_bytes}
 use Rattle.log_thirds.proofs.WriteLaws.{torn_part, written_whole, nothing_part}
 use Rattle.log_thirds.proofs.write.write_record.Goals as goal
 

@@ -3,8 +3,8 @@ use Rattle.sector_disk.specs.Image.{stand}
 use Rattle.sector_disk.specs.Machine.{Holds}
 use Rattle.sector_disk.proofs.Moments.{leaves_more}
 use Rattle.fsd_formats.specs.Record.{Stamp, record_len}
-use Rattle.fsd_formats.specs.Laid.{laid_bytes}
-use Rattle.fsd_formats.specs.Scan.{IsIn, spot_for, place_of}
+use Rattle.fsd_log.specs.Laid.{laid_bytes}
+use Rattle.fsd_log.specs.Scan.{IsIn, spot_for, place_of}
 use Rattle.log_thirds.specs.LogValue.{LogValue}
 use Rattle.log_thirds.specs.Append.{StandsInPart, IsLogIn, IsLogWorn, stamp_now, next_record, log_past}
 use Rattle.log_thirds.proofs.MomentLaws.{MayAppend, all_small, write_inside, appends_at, appended_at}

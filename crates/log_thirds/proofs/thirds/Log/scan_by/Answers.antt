@@ -2,9 +2,9 @@ use Rattle.std.proofs.Common.{◌≡◌, ◌<◌, arith, subst, ap, ◌∙◌, s
 use Rattle.std.specs.Prelude.{option_map, IfSome}
 use Rattle.sector_disk.proofs.Moments.{started}
 use Rattle.sector_disk.proofs.Holding.{trusts_on}
-use Rattle.fsd_formats.specs.Judged.{Reader}
+use Rattle.fsd_log.specs.Judged.{Reader}
 use Rattle.log_thirds.specs.declared.find.Spot.{Spot}
-use Rattle.fsd_formats.specs.Scan.{Head, tape, next, last_number}
+use Rattle.fsd_log.specs.Scan.{Head, tape, next, last_number}
 use Rattle.log_thirds.specs.Disk.{reads}
 use Rattle.log_thirds.specs.Reading.{GoesTo}
 use Rattle.log_thirds.proofs.WalkLaws.{ends_inside}

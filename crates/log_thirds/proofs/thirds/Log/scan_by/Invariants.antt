@@ -1,6 +1,6 @@
 use Rattle.std.proofs.Common.{◌-◌, ◌*◌}
 use Rattle.sector_disk.specs.Machine.{UsesDisk, Trusts, Wears, LeavesOnly}
-use Rattle.fsd_formats.specs.Scan.{IsIn, tape}
+use Rattle.fsd_log.specs.Scan.{IsIn, tape}
 use Rattle.log_thirds.specs.Disk.{reads}
 use Rattle.log_thirds.specs.Append.{IsCalm}
 use Rattle.log_thirds.proofs.ScanLaws.{Reaches}

@@ -3,7 +3,7 @@ use Rattle.std.specs.Prelude.{◌≡◌, ◌⊎◌, ℕ, ◌^◌, ◌<◌, ◌||
 use Rattle.fsd_bytes.specs.Bytes.{same_bytes}
 use Rattle.fsd_formats.specs.Record.{Stamp}
 use Rattle.fsd_formats.specs.NamePage.{stamp_at}
-use Rattle.fsd_formats.specs.Judged.{Reader}
+use Rattle.fsd_log.specs.Judged.{Reader}
 
 abbrev pub borne_by : List ℕ → Option Stamp
 borne_by bytes =

@@ -3,8 +3,8 @@ use Rattle.std.proofs.Common.{◌≡◌, ℕ, ◌+◌, ◌*◌, Bool, true, fals
 use Rattle.std.specs.Prelude.{option_map, option_and_then, is_some, if◌then◌else◌, unwrap_or}
 use Rattle.std.specs.Option.{option_or}
 use Rattle.fsd_formats.specs.Record.{Stamp, read_header, is_end, bears, record_len}
-use Rattle.fsd_formats.specs.Plain.{served, either_copy, images_at, record_with, record_by, plain_record}
-use Rattle.fsd_formats.specs.Judged.{Reader, passes, serving, page_copies, judged_with, judged_by, judged, images_of, logged_of, record_in}
+use Rattle.fsd_log.specs.Plain.{served, either_copy, images_at, record_with, record_by, plain_record}
+use Rattle.fsd_log.specs.Judged.{Reader, passes, serving, page_copies, judged_with, judged_by, judged, images_of, logged_of, record_in}
 
 copy_same : (test : List ℕ → Bool) (c : Option (List ℕ)) → served test c ≡ option_map (λ (d : Bool). unwrap_or c []) (if passes test c then Some true else None)
 copy_same test None = refl

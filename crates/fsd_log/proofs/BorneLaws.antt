@@ -8,8 +8,8 @@ use Rattle.fsd_bytes.specs.Bytes.{u32_at, same_bytes}
 use Rattle.fsd_formats.specs.Record.{Stamp, same_stamp, header_bytes, end_bytes, read_header, is_end, bears}
 use Rattle.fsd_bytes.proofs.SameLaws.{same_is}
 use Rattle.fsd_formats.proofs.SpellingLaws.{header_is_spelled}
-use Rattle.fsd_formats.specs.Judged.{passes}
-use Rattle.fsd_formats.specs.Borne.{borne_by, Foreign, FitsStamp}
+use Rattle.fsd_log.specs.Judged.{passes}
+use Rattle.fsd_log.specs.Borne.{borne_by, Foreign, FitsStamp}
 use Rattle.fsd_formats.specs.NamePage.{stamp_at}
 
 pub none_of : {A : Type 0} (o : Option A) → ((x : A) → o ≡ Some x → ⊥) → o ≡ None

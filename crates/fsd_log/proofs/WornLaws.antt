@@ -5,12 +5,12 @@ use Rattle.std.proofs.lemmas.Bool.{cond-true, le-leb}
 use Rattle.fsd_formats.specs.Record.{Stamp, header_bytes, end_bytes, read_header, is_end, bears, AreStamped, record_len}
 use Rattle.fsd_bytes.proofs.SameLaws.{is_same}
 use Rattle.fsd_formats.proofs.PageLaws.{header_is_read}
-use Rattle.fsd_formats.specs.Judged.{Reader, slice_of, passes, serving, page_copies, Serving, judged_with, judged_by, judged, images_of, Logged, logged_of, record_in}
-use Rattle.fsd_formats.specs.Borne.{Foreign, FitsStamp}
-use Rattle.fsd_formats.specs.Laid.{slices_from, new_record}
-use Rattle.fsd_formats.proofs.BorneLaws.{foreign_header, foreign_page}
-use Rattle.fsd_formats.proofs.JudgedLaws.{none_serves, then_none, or_none, map_none, serving_with, mapped_some, IsJudged, is_judged}
-use Rattle.fsd_formats.proofs.TornLaws.{ArePages}
+use Rattle.fsd_log.specs.Judged.{Reader, slice_of, passes, serving, page_copies, Serving, judged_with, judged_by, judged, images_of, Logged, logged_of, record_in}
+use Rattle.fsd_log.specs.Borne.{Foreign, FitsStamp}
+use Rattle.fsd_log.specs.Laid.{slices_from, new_record}
+use Rattle.fsd_log.proofs.BorneLaws.{foreign_header, foreign_page}
+use Rattle.fsd_log.proofs.JudgedLaws.{none_serves, then_none, or_none, map_none, serving_with, mapped_some, IsJudged, is_judged}
+use Rattle.fsd_log.proofs.TornLaws.{ArePages}
 
 -- it reads as this, or bears nothing of the record
 abbrev pub AsLaid : Stamp → List ℕ → Option (List ℕ) → Type 0

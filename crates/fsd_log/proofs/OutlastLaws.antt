@@ -1,13 +1,13 @@
 -- A record that is laid outlasts the loss of two adjacent sectors, since no sector touches its copy.
 use Rattle.std.proofs.Common.{◌≡◌, ◌⊎◌, inl, inr, ℕ, ◌+◌, ◌*◌, ◌<◌, ◌≤◌, false, List, length, Some, ap, ◌∙◌, arith}
 use Rattle.fsd_formats.specs.Record.{Stamp, record_len}
-use Rattle.fsd_formats.specs.Judged.{Reader, slice_of, judged, record_in}
-use Rattle.fsd_formats.specs.Borne.{Foreign}
-use Rattle.fsd_formats.specs.Laid.{laid_bytes, slices_from, new_record, AreLaid}
-use Rattle.fsd_formats.proofs.JudgedLaws.{FrontStands, front_served, serving_with, firsts}
-use Rattle.fsd_formats.proofs.LaidLaws.{IsLaidAs, laid_as, images_at}
-use Rattle.fsd_formats.proofs.TornLaws.{ArePages, are_few, are_some}
-use Rattle.fsd_formats.proofs.WornLaws.{AsLaid, worn_there}
+use Rattle.fsd_log.specs.Judged.{Reader, slice_of, judged, record_in}
+use Rattle.fsd_log.specs.Borne.{Foreign}
+use Rattle.fsd_log.specs.Laid.{laid_bytes, slices_from, new_record, AreLaid}
+use Rattle.fsd_log.proofs.JudgedLaws.{FrontStands, front_served, serving_with, firsts}
+use Rattle.fsd_log.proofs.LaidLaws.{IsLaidAs, laid_as, images_at}
+use Rattle.fsd_log.proofs.TornLaws.{ArePages, are_few, are_some}
+use Rattle.fsd_log.proofs.WornLaws.{AsLaid, worn_there}
 
 -- as it was laid, or lost with one of two adjacent sectors
 abbrev pub IsLeft : Stamp → List ℕ → (w : ℕ) → Reader → ℕ → Type 0

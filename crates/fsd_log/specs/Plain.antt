@@ -2,7 +2,7 @@
 use Rattle.std.specs.Prelude.{ℕ, ◌+◌, ◌*◌, Bool, ◌&&◌, List, [], ◌∷◌, length, Option, Some, None, nat_le, option_map, option_and_then, is_some, if◌then◌else◌}
 use Rattle.std.specs.Option.{option_or}
 use Rattle.fsd_formats.specs.Record.{Stamp, read_header, is_end, bears, record_len}
-use Rattle.fsd_formats.specs.Judged.{Reader, Logged}
+use Rattle.fsd_log.specs.Judged.{Reader, Logged}
 
 abbrev pub served : (List ℕ → Bool) → Option (List ℕ) → Option (List ℕ)
 served test None = None

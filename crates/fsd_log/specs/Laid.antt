@@ -3,8 +3,8 @@ use Rattle.std.specs.Prelude.{◌≡◌, ℕ, zero, suc, ◌*◌, ◌^◌, ◌<�
 use Rattle.std.specs.List.{AllByRecursion}
 use Rattle.fsd_bytes.specs.Bytes.{sector, sector_len}
 use Rattle.fsd_formats.specs.Record.{Stamp, header_bytes, end_bytes, are_pages, AreStamped}
-use Rattle.fsd_formats.specs.Judged.{Reader, slice_of, Logged}
-use Rattle.fsd_formats.specs.Borne.{FitsStamp}
+use Rattle.fsd_log.specs.Judged.{Reader, slice_of, Logged}
+use Rattle.fsd_log.specs.Borne.{FitsStamp}
 
 -- header, blank, header, pages, end, pages, end
 unfoldable pub laid_bytes : Stamp → (pages images : List ℕ) → List ℕ

@@ -6,11 +6,11 @@ use Rattle.std.proofs.lemmas.Bool.{cases_lt, cases_eq}
 use Rattle.std.proofs.lemmas.List.{take_at, drop_at, drop-drop, take-append-le, drop-append-le, length-append, length-drop, length-replicate}
 use Rattle.fsd_bytes.specs.Bytes.{u16, u32, zeros, sector}
 use Rattle.fsd_formats.specs.Record.{Stamp, stamp_bytes, header_bytes, end_bytes, bears, AreStamped, record_len}
-use Rattle.fsd_formats.specs.Judged.{Reader, slice_of}
-use Rattle.fsd_formats.specs.Borne.{borne_by, FitsStamp}
-use Rattle.fsd_formats.specs.Laid.{laid_bytes, slices_from}
-use Rattle.fsd_formats.proofs.BorneLaws.{header_bears, end_bears, page_bears}
-use Rattle.fsd_formats.proofs.JudgedLaws.{ImagesStand}
+use Rattle.fsd_log.specs.Judged.{Reader, slice_of}
+use Rattle.fsd_log.specs.Borne.{borne_by, FitsStamp}
+use Rattle.fsd_log.specs.Laid.{laid_bytes, slices_from}
+use Rattle.fsd_log.proofs.BorneLaws.{header_bears, end_bears, page_bears}
+use Rattle.fsd_log.proofs.JudgedLaws.{ImagesStand}
 
 -- ---- slices
 

@@ -3,9 +3,9 @@ use Rattle.std.proofs.Common.{◌≡◌, inl, inr, ⊎_elim, ℕ, zero, suc, ◌
 use Rattle.std.specs.Prelude.{option_map, option_and_then, if◌then◌else◌}
 use Rattle.std.proofs.lemmas.Bool.{cond-true, le-leb, leb-true}
 use Rattle.fsd_formats.specs.Record.{Stamp, is_end, bears, record_len}
-use Rattle.fsd_formats.specs.Judged.{Reader, passes, serving, page_copies, Serving, judged_with, judged_by, judged}
-use Rattle.fsd_formats.specs.Good.{Serves, IsGoodBy, IsGood}
-use Rattle.fsd_formats.proofs.JudgedLaws.{none_serves, then_none, or_none, serving_with, mapped_some, flag_of, if_some, ByHeader, is_judged}
+use Rattle.fsd_log.specs.Judged.{Reader, passes, serving, page_copies, Serving, judged_with, judged_by, judged}
+use Rattle.fsd_log.specs.Good.{Serves, IsGoodBy, IsGood}
+use Rattle.fsd_log.proofs.JudgedLaws.{none_serves, then_none, or_none, serving_with, mapped_some, flag_of, if_some, ByHeader, is_judged}
 
 served_one : (test : List ℕ → Bool) (a c : Option (List ℕ)) (d : Bool) → serving test a c ≡ Some d → Serves test a c
 served_one test a c d e = by_tests (passes test a) (passes test c) refl refl e

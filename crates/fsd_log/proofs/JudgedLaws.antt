@@ -7,9 +7,9 @@ use Rattle.std.proofs.lemmas.Bool.{cond-true, le-leb, leb-true}
 use Rattle.fsd_formats.specs.Record.{Stamp, header_bytes, end_bytes, read_header, are_pages, is_end, bears, record_len}
 use Rattle.fsd_bytes.proofs.SameLaws.{is_same}
 use Rattle.fsd_formats.proofs.PageLaws.{header_is_read}
-use Rattle.fsd_formats.specs.Judged.{Reader, passes, serving, page_copies, Serving, judged_with, judged_by, judged, images_of, Logged, logged_of, record_in}
-use Rattle.fsd_formats.specs.Borne.{Foreign, FitsStamp, ReadsLess}
-use Rattle.fsd_formats.proofs.BorneLaws.{foreign_header, foreign_end, foreign_page}
+use Rattle.fsd_log.specs.Judged.{Reader, passes, serving, page_copies, Serving, judged_with, judged_by, judged, images_of, Logged, logged_of, record_in}
+use Rattle.fsd_log.specs.Borne.{Foreign, FitsStamp, ReadsLess}
+use Rattle.fsd_log.proofs.BorneLaws.{foreign_header, foreign_end, foreign_page}
 
 -- ---- none stays none
 

@@ -1,7 +1,7 @@
 -- Where a record is good: of each sector and its copy one serves.
 use Rattle.std.specs.Prelude.{◌≡◌, ◌⊎◌, ℕ, ◌+◌, ◌*◌, ◌<◌, ◌≤◌, Bool, List, length, get_or, Option, Some, option_and_then, IsTrue}
 use Rattle.fsd_formats.specs.Record.{Stamp, read_header, is_end, bears, record_len}
-use Rattle.fsd_formats.specs.Judged.{Reader, passes}
+use Rattle.fsd_log.specs.Judged.{Reader, passes}
 
 -- one of two sectors is whole and passes the test
 abbrev pub Serves : (List ℕ → Bool) → (first copy : Option (List ℕ)) → Type 0

@@ -5,11 +5,11 @@ use Rattle.std.specs.Prelude.{◌&&◌, nat_lt, nat_le}
 use Rattle.std.proofs.lemmas.Bool.{cases_lt, and_parts, leb-true}
 use Rattle.fsd_formats.specs.Record.{Stamp, header_bytes, are_pages, ascending, record_len}
 use Rattle.fsd_bytes.specs.Names.{is_between}
-use Rattle.fsd_formats.specs.Judged.{Reader, slice_of, record_in}
-use Rattle.fsd_formats.specs.Borne.{Foreign, FitsStamp}
-use Rattle.fsd_formats.specs.Laid.{slices_from, new_record, IsTorn}
-use Rattle.fsd_formats.proofs.JudgedLaws.{FrontStands, front_judged, endless_absent}
-use Rattle.fsd_formats.proofs.LaidLaws.{IsLaidAs, images_at}
+use Rattle.fsd_log.specs.Judged.{Reader, slice_of, record_in}
+use Rattle.fsd_log.specs.Borne.{Foreign, FitsStamp}
+use Rattle.fsd_log.specs.Laid.{slices_from, new_record, IsTorn}
+use Rattle.fsd_log.proofs.JudgedLaws.{FrontStands, front_judged, endless_absent}
+use Rattle.fsd_log.proofs.LaidLaws.{IsLaidAs, images_at}
 
 -- pages that a record of a table of p may have
 pub record ArePages (p : ℕ) (pages : List ℕ) : Type 0 where

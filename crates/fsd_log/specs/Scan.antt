@@ -8,8 +8,8 @@ use Rattle.fsd_formats.specs.declared.anchor.Anchor.{Anchor}
 use Rattle.fsd_formats.specs.Anchors.{read_anchor}
 use Rattle.volume_layout.specs.Shape.{Shape}
 use Rattle.fsd_formats.specs.Record.{record_len}
-use Rattle.fsd_formats.specs.Judged.{Reader, Logged, record_in}
-use Rattle.fsd_formats.specs.Borne.{Foreign}
+use Rattle.fsd_log.specs.Judged.{Reader, Logged, record_in}
+use Rattle.fsd_log.specs.Borne.{Foreign}
 
 -- ---- the tape
 

@@ -1,0 +1,6 @@
+pub mod Borne
+pub mod Good
+pub mod Judged
+pub mod Laid
+pub mod Plain
+pub mod Scan
