@@ -162,7 +162,7 @@ fn judge_by(
 /// The record of this epoch and number that begins these sectors, by its header or else by the header's copy. `whole`
 /// tells of each sector whether it could be read, `bytes` has 512 bytes for each, and `p` is the number of name pages.
 /// A header serves only if its record fits in these sectors.
-#[tactic(auto, unfolding(fsd_formats::specs::Judged::judged))]
+#[tactic(auto, unfolding(fsd_log::specs::Judged::judged))]
 pub fn judge(whole: &[bool], bytes: &[u8], p: u32, epoch: u32, number: u32) -> Judged
     requires { length bytes.now ≡ 512 * length whole.now }
     ensures judged { found_in result ≡ judged p (record { epoch = epoch; number = number }) (length whole.now) (read_of whole.now bytes.now) }
