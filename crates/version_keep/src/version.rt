@@ -1,0 +1,78 @@
+//! The versions of a name.
+ghost use Rattle.std.specs.Prelude.{◌≡◌, ◌-◌, ◌^◌, ◌↔◌, IsNone, IfSome, Some};
+ghost use Rattle.version_keep.specs.Versions.{next_version, keep_of, gone};
+
+use arrayvec::ArrayVec;
+
+// What a name keeps where nothing else is said.
+const DEFAULT_KEEP: u32 = 2;
+
+// How many versions go at most when one comes.
+const MOST_GONE: usize = 2;
+
+/// The number of a new version, from the highest of its name. None where all numbers are used up.
+pub fn next_version(highest: Option<u32>) -> Option<u32>
+    ensures used_up { IsNone result ↔ (highest ≡ Some (2 ^ 32 - 1)) }
+    ensures value { IfSome result (λ version. version ≡ next_version highest) }
+{
+    highest.unwrap_or(0).checked_add(1)
+}
+
+/// The keep of a new version, from the given one and that of the highest version of its name.
+pub fn keep_of(given: Option<u32>, highest: Option<u32>) -> u32
+    ensures { result ≡ keep_of given highest }
+{
+    given.or(highest).unwrap_or(DEFAULT_KEEP)
+}
+
+/// Which versions of a name go, the oldest first. They are given ascending, with the new one among them.
+pub fn gone(versions: &[u32], keep: u32) -> ArrayVec<u32, 2>
+    ensures { result.items ≡ gone keep versions.now }
+{
+    let mut out = ArrayVec::new();
+    if keep == 0 {
+        return out;
+    }
+    let beyond = versions.len().saturating_sub(keep as usize).min(MOST_GONE);
+    for version in &versions[..beyond] {
+        out.push(*version);
+    }
+    out
+}
+
+#[cfg(test)]
+mod tests {
+    use super::*;
+
+    #[test]
+    fn counts_and_keeps_as_the_worked_examples(rt: HostRuntime) {
+        for (highest, next) in [
+            (None, Some(1)),
+            (Some(4294967294), Some(4294967295)),
+            (Some(4294967295), None),
+        ] {
+            assert_eq!(rt; next_version(highest), next);
+        }
+        assert_eq!(rt; keep_of(Some(0), Some(5)), 0);
+        assert_eq!(rt; keep_of(None, Some(5)), 5);
+        assert_eq!(rt; keep_of(None, None), 2);
+        let versions = [3, 4, 7, 9];
+        for (count, keep, want) in [
+            (4, 0, 0),
+            (4, 1, 2),
+            (4, 2, 2),
+            (4, 999, 0),
+            (3, 1, 2),
+            (3, 2, 1),
+            (2, 1, 1),
+            (2, 2, 0),
+            (1, 1, 0),
+        ] {
+            let out = gone(&versions[..count], keep);
+            assert!(rt;
+                out.as_slice() == &versions[..want],
+                "{count} versions at keep {keep}"
+            );
+        }
+    }
+}
