@@ -19,7 +19,7 @@ pub use laying::lay;
 #[cfg(test)]
 mod tests {
     use super::*;
-    use fsd_bytes::u32_at;
+    use fsd_bytes::{u16_at, u32_at};
 
     // Page 0 as the record (2, 1) has it.
     fn image() -> [u8; 512] {
@@ -43,6 +43,15 @@ mod tests {
         out
     }
 
+    // One of its sectors.
+    fn sector(out: &[u8; 3584], k: usize) -> [u8; 512] {
+        let mut b = [0; 512];
+        if k < 7 {
+            b.copy_from_slice(&out[512 * k..512 * k + 512]);
+        }
+        b
+    }
+
     // Which record it is with its page and its end damaged.
     fn judged(bytes: &[u8; 3584]) -> Judged {
         let whole = [true, true, true, false, false, true, true];
@@ -52,14 +61,20 @@ mod tests {
     #[test]
     fn records_and_anchors_lie_as_the_format_says(rt: HostRuntime) {
         let out = laid();
-        assert_eq!(rt; out[..14], b"CLHD\0\0\0\x02\0\0\0\x01\0\x01".as_slice()[..]);
-        assert_eq!(rt; out[32..36], [0; 4].as_slice()[..]);
-        assert_eq!(rt; out[512..516], [0; 4].as_slice()[..]);
-        assert_eq!(rt; out[1024..1028], b"CLHD".as_slice()[..]);
-        assert_eq!(rt; out[1536..1540], b"CNPG".as_slice()[..]);
-        assert_eq!(rt; out[2048..2052], b"CLEN".as_slice()[..]);
-        assert_eq!(rt; out[2560..2564], b"CNPG".as_slice()[..]);
-        assert_eq!(rt; out[3072..3076], b"CLEN".as_slice()[..]);
+        for (k, magic) in [
+            (0, 0x434c_4844),
+            (1, 0),
+            (2, 0x434c_4844),
+            (3, 0x434e_5047),
+            (4, 0x434c_454e),
+            (5, 0x434e_5047),
+            (6, 0x434c_454e),
+        ] {
+            assert_eq!(rt; u32_at(&sector(&out, k), 0), magic);
+        }
+        let header = sector(&out, 0);
+        assert_eq!(rt; (u32_at(&header, 4), u32_at(&header, 8)), (2, 1));
+        assert_eq!(rt; (u16_at(&header, 12), u32_at(&header, 32)), (1, 0));
         match judged(&out) {
             Judged::Good(f) => {
                 assert_eq!(rt; (f.n, f.header_copy, f.end_copy), (1, false, true));
