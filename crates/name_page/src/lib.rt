@@ -3,13 +3,17 @@
 
 mod fault;
 mod laws;
+mod pages;
 mod reading;
+mod vec_pages;
 mod writing;
 
 pub use fault::{PageFault, read_page};
 pub use fsd_formats::{Entry, Page, PageKind, Separator};
 pub use laws::pages_are_read;
+pub use pages::Pages;
 pub use reading::{first_child, leaf_entry, separator};
+pub use vec_pages::VecPages;
 pub use writing::{entry_len, stamp_page, write_free, write_interior, write_leaf};
 
 #[cfg(test)]
@@ -43,7 +47,7 @@ mod tests {
         write_leaf(0, &[first.copied()], &mut page);
         let spelled = b"CNPG\x01\0\0\x01\0\x1b\0\0\0\0\0\0\0\0\0\x01\0\0\0\0\
             \x01a\0\0\0\x01\0\x02\0\0\0\x02\0\0\0\x01\0\0\0\0\x01\0\0\x03\x99\0\x01\0";
-        assert_eq!(rt; page[..52], spelled.as_slice());
+        assert_eq!(rt; &page[..52], spelled.as_slice());
         let head = Page {
             kind: PageKind::Leaf,
             count: 1,
@@ -51,9 +55,9 @@ mod tests {
         };
         assert_eq!(rt; read_page(&page, 0, 64), Ok(head));
         assert_eq!(rt; read_page(&page, 1, 64), Err(PageFault { place: 8 }));
-        page[49] = 0;
+        page[50] = 0;
         assert_eq!(rt; read_page(&page, 0, 64), Err(PageFault { place: 49 }));
-        page[49] = 1;
+        page[50] = 1;
         page[511] = 9;
         assert_eq!(rt; read_page(&page, 0, 64), Err(PageFault { place: 511 }));
     }
@@ -78,7 +82,7 @@ mod tests {
         };
         assert_eq!(rt; read_page(&page, 0, 6), Ok(head));
         assert_eq!(rt; read_page(&page, 0, 5), Err(PageFault { place: 73 }));
-        assert_eq!(rt; page[24..28], [0, 0, 0, 3].as_slice());
+        assert_eq!(rt; &page[24..28], [0, 0, 0, 3].as_slice());
         write_free(0, &mut page);
         assert_eq!(rt;
             read_page(&page, 0, 6),
