@@ -11,7 +11,7 @@ use Rattle.fsd_bytes.proofs.SameLaws.{same_is, given_if}
 use Rattle.fsd_formats.specs.declared.entry.Entry.{Entry}
 use Rattle.fsd_formats.specs.declared.page.Separator.{Separator}
 use Rattle.fsd_formats.specs.NamePage.{Content, Free, Leaf, Interior, is_page, page_bytes, read_page, stamp_at, are_ascending, least_separators}
-use Rattle.name_page.specs.Reading.{content_in, entries_of, entries_in}
+use Rattle.name_page.specs.Reading.{content_in, entries_of, entries_in, first_of, first_in, separators_of, separators_in}
 use Rattle.name_page.proofs.RefusalLaws.{content_at}
 use Rattle.name_page.proofs.SeparatorLaws.{is_separator}
 
@@ -54,3 +54,11 @@ content_is page p bytes x small few e =
 pub entries_are : (bytes : List ℕ) (entries : List Entry) → content_in bytes ≡ Some (Leaf entries) → entries_in bytes ≡ entries
 unfolding entries_in
 entries_are bytes entries e = ap entries_of e
+
+pub first_is : (bytes : List ℕ) (first : ℕ) (xs : List Separator) → content_in bytes ≡ Some (Interior first xs) → first_in bytes ≡ Some first
+unfolding first_in
+first_is bytes first xs e = ap first_of e
+
+pub separators_are : (bytes : List ℕ) (first : ℕ) (xs : List Separator) → content_in bytes ≡ Some (Interior first xs) → separators_in bytes ≡ xs
+unfolding separators_in
+separators_are bytes first xs e = ap separators_of e

@@ -5,11 +5,12 @@ use Rattle.std.proofs.Math.Seq.{take-append_seam, drop-append-add}
 use Rattle.std.specs.List.{flat_map, concat}
 use Rattle.std.proofs.lemmas.List.{length-append, append-nil, take_more, drop-replicate}
 use Rattle.std.proofs.lemmas.Grind.{flat_map-append}
-use Rattle.fsd_bytes.specs.Bytes.{u8, u16, u32, sector, with_bytes}
+use Rattle.fsd_bytes.specs.Bytes.{u8, u16, u32, zeros, sector, with_bytes}
 use Rattle.run_table.specs.declared.run.Run.{Run}
 use Rattle.run_table.specs.RunTable.{run_bytes}
 use Rattle.fsd_formats.specs.declared.entry.Entry.{Entry}
-use Rattle.fsd_formats.specs.NamePage.{entry_bytes}
+use Rattle.fsd_formats.specs.declared.page.Separator.{Separator}
+use Rattle.fsd_formats.specs.NamePage.{entry_bytes, separator_bytes}
 use Rattle.name_page.specs.Spelling.{numbers}
 
 pub length_runs : (runs : List Run) → length (flat_map run_bytes runs) ≡ 6 * length runs
@@ -67,3 +68,25 @@ page_laid front bytes contents b h len few eh eb e =
     ∙ ap (λ (r : List ℕ). front ++ (contents ++ r)) (drop-replicate (length contents) 488 0)
     ∙ ap (λ (n : ℕ). front ++ (contents ++ replicate n 0)) (let same : 488 - length contents ≡ 512 - length (front ++ contents) = omega (arith, length-append front contents) in same)
     ∙ sym (append_assoc front contents _)
+
+-- the parts of a separator, put one behind another
+pub separator_joined : (s : Separator) (one named filled numbered all name z v c : List ℕ) (k : ℕ)
+    → one ≡ k ∷ [] → k ≡ length name → name ≡ s.key.name → named ≡ one ++ name → filled ≡ named ++ z → z ≡ zeros (40 - length name)
+    → numbered ≡ filled ++ v → v ≡ u32 s.key.version → all ≡ numbered ++ c → c ≡ u32 s.child → all ≡ separator_bytes s
+separator_joined s one named filled numbered all name z v c k e1 ek ename e2 e3 ez e4 ev e5 ec =
+    let laid : all ≡ ((((length s.key.name ∷ []) ++ s.key.name) ++ zeros (40 - length s.key.name)) ++ u32 s.key.version) ++ u32 s.child =
+    e5 ∙ ap (λ (x : List ℕ). x ++ c) (e4 ∙ ap (λ (x : List ℕ). x ++ v) (e3 ∙ ap (λ (x : List ℕ). x ++ z) (e2 ∙ ap (λ (x : List ℕ). x ++ name) (e1 ∙ ap (λ (x : ℕ). x ∷ []) ek))))
+    ∙ ap (λ (x : List ℕ). ((((length name ∷ []) ++ name) ++ x) ++ v) ++ c) ez
+    ∙ ap (λ (x : List ℕ). ((((length x ∷ []) ++ x) ++ zeros (40 - length x)) ++ v) ++ c) ename
+    ∙ ap (λ (x : List ℕ). ((((length s.key.name ∷ []) ++ s.key.name) ++ zeros (40 - length s.key.name)) ++ x) ++ c) ev
+    ∙ ap (λ (x : List ℕ). ((((length s.key.name ∷ []) ++ s.key.name) ++ zeros (40 - length s.key.name)) ++ u32 s.key.version) ++ x) ec in
+    laid ∙ append_assoc (((length s.key.name ∷ []) ++ s.key.name) ++ zeros (40 - length s.key.name)) (u32 s.key.version) (u32 s.child)
+
+-- the bytes of one separator more
+pub separators_more : (xs : List Separator) (k : ℕ) (d : Separator) → k < length xs
+    → flat_map separator_bytes (take (k + 1) xs) ≡ flat_map separator_bytes (take k xs) ++ separator_bytes (get_or xs k d)
+separators_more xs k d inside =
+    let s : Separator = get_or xs k d in
+    ap (flat_map separator_bytes) (take_more xs k d inside)
+    ∙ flat_map-append separator_bytes (take k xs) (s ∷ [])
+    ∙ ap (λ (x : List ℕ). flat_map separator_bytes (take k xs) ++ x) (append-nil (separator_bytes s))

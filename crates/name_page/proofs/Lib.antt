@@ -2,6 +2,7 @@ pub mod ContentLaws
 pub mod EntryLaws
 pub mod FaultLaws
 pub mod FirstLaws
+pub mod InteriorLaws
 pub mod LeafLaws
 pub mod LengthLaws
 pub mod PageLaws

@@ -1,6 +1,6 @@
 -- Separators without a fault are those of an interior page, and the other way round.
-use Rattle.std.proofs.Common.{◌≡◌, ℕ, zero, suc, ◌+◌, ◌-◌, ◌*◌, ◌≤◌, Bool, true, ◌&&◌, List, [], ◌∷◌, ◌++◌, length, take, drop, map, Option, Some, None, refl, sym, ap, subst, ◌∙◌, arith, append_assoc}
-use Rattle.std.specs.Prelude.{slice_range, nat_le, nat_lt}
+use Rattle.std.proofs.Common.{◌≡◌, ◌<◌, ℕ, zero, suc, ◌+◌, ◌-◌, ◌*◌, ◌≤◌, Bool, true, ◌&&◌, List, [], ◌∷◌, ◌++◌, length, take, drop, map, Option, Some, None, refl, sym, ap, subst, ◌∙◌, arith, append_assoc}
+use Rattle.std.specs.Prelude.{slice_range, slice_get, nat_le, nat_lt}
 use Rattle.std.specs.List.{flat_map, list_all}
 use Rattle.std.proofs.lemmas.Bool.{and_parts, and_from}
 use Rattle.std.proofs.lemmas.List.{drop-drop, length-append, length-replicate, drop_at}
@@ -67,11 +67,11 @@ name_of_separator p s e =
     let b = between 1 max_name_len (length s.key.name) some.0 in
     (named.0, b.0, b.1)
 
-record Accepted (place p : ℕ) (before : Option Key) (bytes : List ℕ) : Type 0 where
-  is : is_separator p (separator_at place bytes) ≡ true
-  follows_it : follows before (separator_key_at place bytes) ≡ true
-  few : u8_at place bytes ≤ 40
-  none : zeros_fault (40 - u8_at place bytes) (place + 1 + u8_at place bytes) bytes ≡ None
+pub record Accepted (place p : ℕ) (before : Option Key) (bytes : List ℕ) : Type 0 where
+  pub is : is_separator p (separator_at place bytes) ≡ true
+  pub follows_it : follows before (separator_key_at place bytes) ≡ true
+  pub few : u8_at place bytes ≤ 40
+  pub none : zeros_fault (40 - u8_at place bytes) (place + 1 + u8_at place bytes) bytes ≡ None
 
 separator_accepted : (place p : ℕ) (before : Option Key) (bytes : List ℕ) → separator_fault place p before bytes ≡ None → Accepted place p before bytes
 separator_accepted place p before bytes e =
@@ -195,3 +195,35 @@ separators_unfaulted (suc n) place next p before bytes long inside are =
     none_from (separator_fault place p before bytes) (separators_fault n (place + 49) p (Some s.key) bytes ∷ [])
     (separator_unfaulted place p before bytes (flat_map separator_bytes xs ++ drop next bytes) long (omega arith) each.0 order.0 spelled)
     (none_from _ [] (separators_unfaulted n (place + 49) next p (Some s.key) bytes long (omega arith) more) refl)
+
+-- separator i
+pub separator_nth : (n i place : ℕ) (bytes : List ℕ) → i < n → slice_get (separators_from n (drop place bytes)) i ≡ Some (separator_at (place + 49 * i) bytes)
+separator_nth zero i place bytes h = absurd (omega arith)
+separator_nth (suc n) zero place bytes h = ap Some (separator_there place bytes ∙ ap (λ (k : ℕ). separator_at k bytes) (let e : place ≡ place + 49 * 0 = omega arith in e))
+separator_nth (suc n) (suc i) place bytes h =
+    ap (λ (x : List ℕ). slice_get (separators_from n x) i) (drop-drop 49 place bytes)
+    ∙ separator_nth n i (place + 49) bytes (omega arith)
+    ∙ ap (λ (k : ℕ). Some (separator_at k bytes)) (let e : place + 49 + 49 * i ≡ place + 49 * suc i = omega arith in e)
+
+pub separator_good : (n i place p : ℕ) (before : Option Key) (bytes : List ℕ) → i < n → separators_fault n place p before bytes ≡ None
+    → (is_separator p (separator_at (place + 49 * i) bytes) ≡ true) × (u8_at (place + 49 * i) bytes ≤ 40)
+separator_good zero i place p before bytes h none = absurd (omega arith)
+separator_good (suc n) zero place p before bytes h none =
+    let parts = none_both (separator_fault place p before bytes) (separators_fault n (place + 49) p (Some (separator_key_at place bytes)) bytes ∷ []) none in
+    let one = separator_accepted place p before bytes parts.0 in
+    let P : ℕ → Type 0 = λ (k : ℕ). (is_separator p (separator_at k bytes) ≡ true) × (u8_at k bytes ≤ 40) in
+    let e : place ≡ place + 49 * 0 = omega arith in
+    subst P e (one.is, one.few)
+separator_good (suc n) (suc i) place p before bytes h none =
+    let parts = none_both (separator_fault place p before bytes) (separators_fault n (place + 49) p (Some (separator_key_at place bytes)) bytes ∷ []) none in
+    let P : ℕ → Type 0 = λ (k : ℕ). (is_separator p (separator_at k bytes) ≡ true) × (u8_at k bytes ≤ 40) in
+    let e : place + 49 + 49 * i ≡ place + 49 * suc i = omega arith in
+    subst P e (separator_good n i (place + 49) p (Some (separator_key_at place bytes)) bytes (omega arith) (none_both _ [] parts.1).0)
+
+pub length_keyed : (xs : List Separator) → list_all (λ s. is_key s.key) xs ≡ true → length (flat_map separator_bytes xs) ≡ 49 * length xs
+length_keyed [] each = refl
+length_keyed (s ∷ xs) each =
+    let e = and_parts (is_key s.key) (list_all (λ s. is_key s.key) xs) each in
+    let named = and_parts (is_name s.key.name) (nat_le 1 s.key.version) e.0 in
+    let few = (between 1 max_name_len (length s.key.name) (and_parts (is_between 1 max_name_len (length s.key.name)) _ named.0).0).1 in
+    omega (arith, length-append (separator_bytes s) (flat_map separator_bytes xs), length_separator s few, length_keyed xs e.1)

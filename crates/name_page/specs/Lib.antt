@@ -1,3 +1,4 @@
 pub mod Fault
+pub mod Pages
 pub mod Reading
 pub mod Spelling

@@ -1,5 +1,5 @@
 -- What stands in a page, by its places.
-use Rattle.std.specs.Prelude.{ℕ, ◌+◌, ◌^◌, List, [], drop, length, Option, Some}
+use Rattle.std.specs.Prelude.{ℕ, ◌+◌, ◌^◌, List, [], drop, length, Option, Some, None}
 use Rattle.fsd_bytes.specs.Bytes.{u8_at, u16_at, u32_at}
 use Rattle.run_table.specs.RunTable.{runs_from}
 use Rattle.fsd_formats.specs.declared.entry.Entry.{Entry}
@@ -46,3 +46,18 @@ entries_of other = []
 -- the entries of a leaf
 unfoldable pub entries_in : List ℕ → List Entry
 entries_in bytes = entries_of (content_in bytes)
+
+abbrev pub first_of : Option Content → Option ℕ
+first_of (Some (Interior first separators)) = Some first
+first_of other = None
+
+abbrev pub separators_of : Option Content → List Separator
+separators_of (Some (Interior first separators)) = separators
+separators_of other = []
+
+-- the first child and the separators of an interior page
+unfoldable pub first_in : List ℕ → Option ℕ
+first_in bytes = first_of (content_in bytes)
+
+unfoldable pub separators_in : List ℕ → List Separator
+separators_in bytes = separators_of (content_in bytes)

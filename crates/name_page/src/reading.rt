@@ -1,13 +1,14 @@
 //! Reading what a page has.
-ghost use Rattle.std.specs.Prelude.{◌≡◌, ◌≤◌, ◌<◌, ◌+◌, ◌*◌, IsTrue, Some, length, drop, slice_get, true};
+ghost use Rattle.std.specs.Prelude.{◌≡◌, ◌≤◌, ◌<◌, ◌+◌, ◌*◌, IsTrue, Some, IsSome, length, drop, slice_get, true};
 ghost use Rattle.fsd_bytes.specs.Bytes.{u8_at};
+ghost use Rattle.fsd_bytes.specs.Names.{is_name};
 ghost use Rattle.run_table.specs.RunTable.{runs_from};
 ghost use Rattle.fsd_formats.specs.NamePage.{is_entry};
-ghost use Rattle.name_page.specs.Fault.{entry_end};
-ghost use Rattle.name_page.specs.Reading.{entry_at, entries_in};
+ghost use Rattle.name_page.specs.Fault.{entry_end, separator_key_at};
+ghost use Rattle.name_page.specs.Reading.{entry_at, entries_in, separator_at, first_in, separators_in};
 
 use fsd_bytes::{FileName, Key, Serial, u8_at, u16_at, u32_at};
-use fsd_formats::Entry;
+use fsd_formats::{Entry, Separator};
 use run_table::{Run, Runs};
 
 /// Entry `i` of a leaf, counted from 0.
@@ -71,4 +72,38 @@ fn runs_at(b: &[u8; 512], place: usize) -> Runs
         });
     }
     runs
+}
+
+/// The child of an interior page whose keys are below the first separator.
+pub fn first_child(b: &[u8; 512]) -> u32
+    requires { IsSome (first_in b.now) }
+    ensures { first_in b.now ≡ Some result }
+{
+    u32_at(b, 24)
+}
+
+/// Separator `i` of an interior page, counted from 0.
+pub fn separator(b: &[u8; 512], i: u32) -> Separator
+    requires { i < length (separators_in b.now) }
+    ensures { slice_get (separators_in b.now) i ≡ Some result }
+{
+    separator_at(b, 28 + 49 * i as usize)
+}
+
+// The separator at a place.
+fn separator_at(b: &[u8; 512], place: usize) -> Separator
+    requires name { is_name (separator_key_at place b.now).name ≡ true }
+    requires within { place + 49 ≤ 512 }
+    requires room { u8_at place b.now ≤ 40 }
+    ensures { result ≡ separator_at place b.now }
+{
+    let n = usize::from(u8_at(b, place));
+    let key = Key {
+        name: FileName::parse(&b[place + 1..place + 1 + n]).unwrap(),
+        version: u32_at(b, place + 41),
+    };
+    Separator {
+        key,
+        child: u32_at(b, place + 45),
+    }
 }

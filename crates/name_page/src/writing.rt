@@ -2,14 +2,15 @@
 ghost use Rattle.std.specs.Prelude.{◌≡◌, ◌≤◌, ◌<◌, ◌+◌, ◌*◌, ◌^◌, ◌++◌, IsTrue, length, replicate, All, slice_index};
 ghost use Rattle.std.specs.List.{flat_map, list_all};
 ghost use Rattle.fsd_bytes.specs.Bytes.{u32, with_bytes};
+ghost use Rattle.fsd_bytes.specs.Keys.{is_key};
 ghost use Rattle.run_table.specs.RunTable.{run_bytes, are_runs};
-ghost use Rattle.fsd_formats.specs.NamePage.{Free, Leaf, entry_bytes, is_entry, page_bytes, stamp_at, room};
+ghost use Rattle.fsd_formats.specs.NamePage.{Free, Leaf, Interior, separator_bytes, entry_bytes, is_entry, page_bytes, stamp_at, room};
 ghost use Rattle.fsd_formats.specs.Record.{stamp_bytes};
 ghost use Rattle.name_page.specs.Spelling.{head, numbers};
 
 use arrayvec::ArrayVec;
 use fsd_bytes::{put_bytes, put_u8, put_u16, put_u32, u32_at};
-use fsd_formats::Entry;
+use fsd_formats::{Entry, Separator};
 use run_table::Runs;
 
 /// How many bytes the entry takes in a leaf: 27 to 108.
@@ -28,6 +29,17 @@ pub fn write_leaf(page: u32, entries: &[Entry], out: &mut [u8; 512])
 {
     let contents = contents_of(entries);
     put_head(out, 1, entries.len() as u16, contents.len() as u16, page);
+    put_bytes(out, 24, contents.as_slice());
+}
+
+/// Writes an interior page: its first child, and at most nine separators.
+pub fn write_interior(page: u32, first: u32, separators: &[Separator], out: &mut [u8; 512])
+    requires keys { IsTrue (list_all (λ s. is_key s.key) separators.now) }
+    requires room { length separators.now ≤ 9 }
+    ensures { out.new ≡ page_bytes page (stamp_at 16 out.old) (Interior first separators.now) }
+{
+    let contents = ways_of(first, separators);
+    put_head(out, 2, separators.len() as u16, contents.len() as u16, page);
     put_bytes(out, 24, contents.as_slice());
 }
 
@@ -75,6 +87,42 @@ fn contents_of(entries: &[Entry]) -> ArrayVec<u8, 488>
             .unwrap();
     }
     contents
+}
+
+// The bytes of a first child and of separators.
+fn ways_of(first: u32, separators: &[Separator]) -> ArrayVec<u8, 488>
+    requires keys { IsTrue (list_all (λ s. is_key s.key) separators.now) }
+    requires room { length separators.now ≤ 9 }
+    ensures { result.items ≡ u32 first ++ flat_map separator_bytes separators.now }
+{
+    let mut contents = ArrayVec::new();
+    contents
+        .try_extend_from_slice(&first.to_be_bytes())
+        .unwrap();
+    for s in separators {
+        contents
+            .try_extend_from_slice(separator_text(s).as_slice())
+            .unwrap();
+    }
+    contents
+}
+
+// The bytes of a separator.
+fn separator_text(s: &Separator) -> ArrayVec<u8, 49>
+    ensures text { result.items ≡ separator_bytes s.now }
+    ensures length { length result.items ≡ 49 }
+{
+    let name = s.key.name.as_bytes();
+    let zeros = [0; 40];
+    let mut text = ArrayVec::new();
+    text.push(name.len() as u8);
+    text.try_extend_from_slice(name).unwrap();
+    text.try_extend_from_slice(&zeros[..40 - name.len()])
+        .unwrap();
+    text.try_extend_from_slice(&s.key.version.to_be_bytes())
+        .unwrap();
+    text.try_extend_from_slice(&s.child.to_be_bytes()).unwrap();
+    text
 }
 
 // The bytes of an entry.
