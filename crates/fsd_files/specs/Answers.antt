@@ -1,6 +1,6 @@
 -- What a volume answers, and what the volume is then. i is the image at the call's entry and j at its exit. Failures of the
 -- device and want of memory stand outside.
-use Rattle.std.specs.Prelude.{◌≡◌, ℕ, suc, List, [], ◌∷◌, ◌++◌, length, Option, Some, None, is_some, IfSome, nat_lt, if◌then◌else◌, slice_get}
+use Rattle.std.specs.Prelude.{◌≡◌, ℕ, suc, List, [], ◌∷◌, ◌++◌, length, Option, Some, None, IfSome, nat_lt, if◌then◌else◌, slice_get}
 use Rattle.std.specs.List.{flat_map}
 use Rattle.std.specs.FinMap.Entries.{by_order}
 use Rattle.fsd_bytes.specs.declared.key.Key.{Key}

@@ -1,5 +1,5 @@
 -- What a mounted volume has: its files, where they lie, and which sectors wait.
-use Rattle.std.specs.Prelude.{◌≡◌, ◌⊎◌, ℕ, suc, ◌+◌, ◌-◌, ◌≤◌, Bool, not, ◌&&◌, ◌||◌, List, [], ◌∷◌, ◌++◌, count_by, length, map, filter, Option, is_none, ◌==◌, if◌then◌else◌}
+use Rattle.std.specs.Prelude.{ℕ, suc, ◌-◌, Bool, not, ◌&&◌, ◌||◌, List, [], length, map, filter, Option}
 use Rattle.std.specs.List.{list_any, flat_map}
 use Rattle.fsd_bytes.specs.declared.key.Key.{Key}
 use Rattle.fsd_bytes.specs.Keys.{same_key}
@@ -9,7 +9,7 @@ use Rattle.volume_layout.specs.Layout.{data_start, is_data}
 use Rattle.run_table.specs.declared.run.Run.{Run}
 use Rattle.fsd_formats.specs.declared.entry.Entry.{Entry}
 use Rattle.fsd_files.specs.Files.{Files}
-use Rattle.run_table.specs.RunTable.{same_runs, sectors_of, total}
+use Rattle.run_table.specs.RunTable.{sectors_of, total}
 use Rattle.run_table.specs.Space.{contains, where_free, runs_of, pick}
 
 pub record Volume : Type 0 where

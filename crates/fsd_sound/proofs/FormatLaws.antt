@@ -1,6 +1,5 @@
 -- A formatted disk holds no file.
-use Rattle.std.proofs.Common.{◌≡◌, ℕ, ◌<◌, ◌≤◌, ◌^◌, zero, suc, [], refl, arith}
-use Rattle.std.specs.Prelude.{IsTrue}
+use Rattle.std.proofs.Common.{◌<◌, [], refl, arith}
 use Rattle.volume_layout.specs.declared.layout.Layout.{Layout}
 use Rattle.volume_layout.proofs.RootLaws.{planned_bounds}
 use Rattle.fsd_files.specs.Disk.{Image, nowhere}
@@ -29,6 +28,7 @@ formatted_at_home l i f =
       last_epoch = omega arith;
       leaf = empty_leaf l;
       stamp = format_stamp;
+      stamp_fits = (omega arith, omega arith);
       home = f.homes 0 some;
       copy = f.copies 0 some;
       homes = λ page positive below. f.homes page below;

@@ -1,20 +1,18 @@
 -- The disk of a volume whose name table is one leaf and whose log holds nothing: each page is what stands at home, twice.
-use Rattle.std.specs.Prelude.{◌≡◌, ℕ, ◌<◌, ◌≤◌, ◌^◌, List, length, Ok, IsTrue, None, Some, option_map, Option}
-use Rattle.fsd_bytes.specs.declared.key.Key.{Key}
+use Rattle.std.specs.Prelude.{◌≡◌, ℕ, ◌<◌, ◌≤◌, ◌^◌, List, length, Ok, IsTrue}
 use Rattle.volume_layout.specs.declared.layout.Layout.{Layout}
 use Rattle.volume_layout.specs.Layout.{plan, home_a, home_b, InLog}
 use Rattle.volume_layout.specs.Root.{root_bytes}
 use Rattle.fsd_formats.specs.declared.entry.Entry.{Entry}
 use Rattle.fsd_formats.specs.declared.anchor.Anchor.{Anchor}
 use Rattle.fsd_formats.specs.Anchors.{anchor_bytes}
-use Rattle.fsd_formats.specs.NamePage.{Content, Leaf, page_bytes, is_page, FitsPage}
+use Rattle.fsd_formats.specs.NamePage.{Leaf, page_bytes, is_page, FitsPage}
 use Rattle.fsd_formats.specs.Record.{Stamp}
 use Rattle.sector_disk.specs.declared.sector.Sector.TheVariants.{Whole, Damaged}
 use Rattle.sector_disk.specs.Image.{sector_at}
 use Rattle.fsd_files.specs.Disk.{Image, nowhere}
 use Rattle.fsd_files.specs.Files.{Files}
 use Rattle.fsd_files.specs.Kept.{Describes}
-use Rattle.fsd_files.specs.Volume.{Volume}
 use Rattle.fsd_sound.specs.Format.{format_page}
 
 -- the anchor of an epoch in which nothing was logged
@@ -38,6 +36,7 @@ pub record IsAtHome (l : Layout) (epoch : ℕ) (entries : List Entry) (i : Image
   pub last_epoch : epoch < 2 ^ 32
   pub leaf : IsRootLeaf l entries
   pub stamp : Stamp
+  pub stamp_fits : (stamp.epoch < 2 ^ 32) × (stamp.number < 2 ^ 32)
   pub home : sector_at i (home_a l 0) ≡ Whole (page_bytes 0 stamp (Leaf entries))
   pub copy : sector_at i (home_b l 0) ≡ Whole (page_bytes 0 stamp (Leaf entries))
   pub homes : (page : ℕ) → 0 < page → page < l.pages → sector_at i (home_a l page) ≡ Whole (format_page page)

@@ -1,5 +1,5 @@
 -- The regions of a layout stand behind each other.
-use Rattle.std.proofs.Common.{◌≡◌, ◌≤◌, ◌+◌, Ok, arith}
+use Rattle.std.proofs.Common.{◌≡◌, Ok, arith}
 use Rattle.volume_layout.specs.declared.layout.Layout.{Layout}
 use Rattle.volume_layout.specs.Layout.{plan, HasRegionsApart}
 use Rattle.volume_layout.proofs.RootLaws.{planned_bounds}
