@@ -1,6 +1,6 @@
 -- What a format leaves.
 use Rattle.std.proofs.Common.{◌≡◌, ◌⊎◌, inl, inr, ℕ, zero, suc, ◌+◌, ◌*◌, ◌^◌, ◌<◌, ◌≤◌, Bool, List, length, Option, Some, None, Ok, refl, sym, ◌∙◌, ap, subst, arith}
-use Rattle.std.specs.Prelude.{IsSome}
+use Rattle.std.specs.Prelude.{IsSome, Result, Err, OnOk}
 use Rattle.volume_layout.specs.declared.layout.Layout.{Layout}
 use Rattle.volume_layout.specs.Layout.{plan, home_a, home_b, InLog, least_size}
 use Rattle.volume_layout.proofs.RootLaws.{planned_bounds}
@@ -12,7 +12,15 @@ use Rattle.sector_disk.specs.Machine.{Moment, Names, Settles, Holds}
 use Rattle.sector_disk.proofs.Wear.{length-lay, lay_in, lay_other, worn_trans, worn_damaged}
 use Rattle.fsd_sound.specs.Format.{IsFormatted, IsFormattedIn, format_page}
 use Rattle.fsd_volume.specs.Formatting.{IsNew, Formats, with_pages, with_head, with_volume}
-use Rattle.fsd_volume.proofs.HeadLaws.{length-head, head_behind, head_at, head_blank}
+use Rattle.fsd_volume.proofs.Laying.{holds_then, monotone_lay}
+use Rattle.fsd_volume.proofs.HeadLaws.{monotone_head, length-head, head_behind, head_at, head_blank}
+
+module _ (l : Layout) (planned : plan l.sectors l.third l.pages ≡ Ok l) where
+  pub fits : 16 + 3 * l.third + 2 * l.pages + 72 ≤ l.sectors
+  fits = let bounds = planned_bounds l planned in let least = bounds.sectors_least in omega (arith, least)
+
+  pub some_page : 0 < l.pages
+  some_page = let bounds = planned_bounds l planned in let least = bounds.pages_least in omega (arith, least)
 
 module _ (l : Layout) (planned : plan l.sectors l.third l.pages ≡ Ok l) (i : List Sector) (long : l.sectors ≤ length i) where
   abbrev first_homes : List Sector
@@ -23,9 +31,6 @@ module _ (l : Layout) (planned : plan l.sectors l.third l.pages ≡ Ok l) (i : L
 
   abbrev page_at : ℕ → Sector
   page_at page = Whole (format_page page)
-
-  fits : 16 + 3 * l.third + 2 * l.pages + 72 ≤ l.sectors
-  fits = let bounds = planned_bounds l planned in let least = bounds.sectors_least in omega (arith, least)
 
   length-first : length first_homes ≡ length i
   length-first = length-lay i (home_a l 0) page_at l.pages
@@ -40,14 +45,14 @@ module _ (l : Layout) (planned : plan l.sectors l.third l.pages ≡ Ok l) (i : L
       head_behind l homes (home_a l page) (omega arith)
       ∙ lay_other first_homes (home_b l 0) page_at l.pages (home_a l page) (inl other)
       ∙ ap (sector_at first_homes) (sym here)
-      ∙ lay_in i (home_a l 0) page_at l.pages page lt (omega (arith, fits))
+      ∙ lay_in i (home_a l 0) page_at l.pages page lt (omega (arith, fits l planned))
 
   copy_stands : (page : ℕ) → page < l.pages → sector_at (with_volume l i) (home_b l page) ≡ page_at page
   copy_stands page lt =
       let here : home_b l 0 + page ≡ home_b l page = omega arith in
       head_behind l homes (home_b l page) (omega arith)
       ∙ ap (sector_at homes) (sym here)
-      ∙ lay_in first_homes (home_b l 0) page_at l.pages page lt (omega (arith, fits, length-first))
+      ∙ lay_in first_homes (home_b l 0) page_at l.pages page lt (omega (arith, fits l planned, length-first))
 
   log_stays : (s : ℕ) → InLog l s → sector_at (with_volume l i) s ≡ sector_at i s
   log_stays s within =
@@ -60,7 +65,7 @@ module _ (l : Layout) (planned : plan l.sectors l.third l.pages ≡ Ok l) (i : L
 
   pub formatted : ((s : ℕ) → sector_at i s ≡ Damaged) → IsFormatted l (with_volume l i)
   formatted new =
-      let room : 16 ≤ length homes = omega (arith, fits, length-homes) in record {
+      let room : 16 ≤ length homes = omega (arith, fits l planned, length-homes) in record {
         planned = planned;
         long = omega (arith, length-head l homes, length-homes);
         root = head_at l homes 0 (omega arith) room;
@@ -70,8 +75,13 @@ module _ (l : Layout) (planned : plan l.sectors l.third l.pages ≡ Ok l) (i : L
         homes = home_stands;
         copies = copy_stands;
         log = λ s within. log_stays s within ∙ new s;
-        blanks = λ s lt no. head_blank l homes s lt room no;
+        blanks = λ s lt none. head_blank l homes s lt room none;
       }
+
+windows_are : (w : Windows) (present next : Option WeakRun) → w.present ≡ present → w.next ≡ next → w ≡ record { present = present; next = next }
+windows_are w present next p n =
+    let made : Option WeakRun → Option WeakRun → Windows = λ x y. record { present = x; next = y } in
+    ap (λ (x : Option WeakRun). made x w.next) p ∙ ap (λ (y : Option WeakRun). made present y) n
 
 some_is : {A : Type 0} (o : Option A) → IsSome o → (x : A) × (o ≡ Some x)
 some_is None is = absurd (cc is)
@@ -82,7 +92,7 @@ module _ (l : Layout) (planned : plan l.sectors l.third l.pages ≡ Ok l) (old o
   in_window : (run : WeakRun) → opened.windows.next ≡ Some run → Formats l old new
   in_window run next =
       let windows : opened.windows ≡ record { present = None; next = Some run } =
-          let present : opened.windows.present ≡ None = named.present ∙ ap (λ (w : Windows). w.present) fresh.windows in cc in
+          windows_are opened.windows None (Some run) (named.present ∙ ap (λ (w : Windows). w.present) fresh.windows) next in
       let same : mid.windows ≡ record { present = None; next = Some run } = holds.windows ∙ windows in
       let laid : IsWorn (in_run run) (with_volume l opened.image) mid.image = subst (λ (w : Windows). IsWorn (open_damage w) (with_volume l opened.image) mid.image) windows holds.worn in
       let last : IsWorn (in_run run) mid.image new.image = subst (λ (w : Windows). IsWorn (open_damage w) mid.image new.image) same settles.image in
@@ -100,3 +110,17 @@ module _ (l : Layout) (planned : plan l.sectors l.third l.pages ≡ Ok l) (old o
 
   pub formats : Formats l old new
   formats = let run = some_is opened.windows.next named.next in in_window run.0 run.1
+
+-- a call whose last step settles
+pub formats_if : {T E H : Type 0} {l : Layout} (old mid new : Moment) (r : Result T E) → OnOk r (H → Settles mid new) → (H → Settles mid new → IsNew old → Formats l old new) → OnOk r (H → IsNew old → Formats l old new)
+formats_if old mid new (Ok x) settles make = λ h fresh. make h (settles h) fresh
+formats_if old mid new (Err e) settles make = tt
+
+-- both rows of name pages, then the head
+pub volume_laid : (l : Layout) (m0 m1 m2 m3 : Moment) (a b n : ℕ) → a ≡ home_a l 0 → b ≡ home_b l 0 → n ≡ l.pages
+    → Holds m0 (with_pages m0.image a n) m1 → Holds m1 (with_pages m1.image b n) m2 → Holds m2 (with_head l m2.image) m3 → Holds m0 (with_volume l m0.image) m3
+volume_laid l m0 m1 m2 m3 a b n at_a at_b count first second head =
+    let both = holds_then (λ i. with_pages i b n) m0 m1 m2 (with_pages m0.image a n) (monotone_lay b (λ page. Whole (format_page page)) n) first second in
+    let all = holds_then (with_head l) m0 m2 m3 (with_pages (with_pages m0.image a n) b n) (monotone_head l) both head in
+    let P : ℕ → ℕ → ℕ → Type 0 = λ x y z. Holds m0 (with_head l (with_pages (with_pages m0.image x z) y z)) m3 in
+    subst (λ (z : ℕ). P (home_a l 0) (home_b l 0) z) count (subst (λ (y : ℕ). P (home_a l 0) y n) at_b (subst (λ (x : ℕ). P x b n) at_a all))

@@ -10,8 +10,11 @@ use Rattle.sector_disk.specs.declared.sector.Sector.{Sector}
 use Rattle.sector_disk.specs.declared.sector.Sector.TheVariants.{Whole}
 use Rattle.sector_disk.specs.Image.{sector_at, lay}
 use Rattle.fsd_sound.specs.Format.{format_anchor}
-use Rattle.fsd_volume.specs.Formatting.{with_head}
+use Rattle.fsd_volume.specs.Calls.{with_sector}
+use Rattle.sector_disk.specs.Machine.{Moment, Holds}
+use Rattle.fsd_volume.specs.Formatting.{with_head, with_blanks}
 use Rattle.std.specs.Prelude.{slice_set}
+use Rattle.fsd_volume.proofs.Laying.{holds_then, Monotone, monotone_lay, monotone_sector}
 
 abbrev blanks_at : Sector → List Sector → ℕ → List Sector
 blanks_at b i first = lay i first (λ k. b) 3
@@ -65,23 +68,53 @@ over_behind (x ∷ xs) (s ∷ i) zero le = absurd (omega arith)
 over_behind (x ∷ xs) (s ∷ i) (suc k) le = over_behind xs i k (omega arith)
 
 blank_at : (r a b : Sector) (s : ℕ) → s < 16 → IsFalse (list_any (λ t. t == s) (0 ∷ 4 ∷ 8 ∷ 12 ∷ [])) → sector_at (by_place r a b) s ≡ b
-blank_at r a b zero lt no = absurd (cc no)
-blank_at r a b (suc zero) lt no = refl
-blank_at r a b (suc (suc zero)) lt no = refl
-blank_at r a b (suc (suc (suc zero))) lt no = refl
-blank_at r a b (suc (suc (suc (suc zero)))) lt no = absurd (cc no)
-blank_at r a b (suc (suc (suc (suc (suc zero))))) lt no = refl
-blank_at r a b (suc (suc (suc (suc (suc (suc zero)))))) lt no = refl
-blank_at r a b (suc (suc (suc (suc (suc (suc (suc zero))))))) lt no = refl
-blank_at r a b (suc (suc (suc (suc (suc (suc (suc (suc zero)))))))) lt no = absurd (cc no)
-blank_at r a b (suc (suc (suc (suc (suc (suc (suc (suc (suc zero))))))))) lt no = refl
-blank_at r a b (suc (suc (suc (suc (suc (suc (suc (suc (suc (suc zero)))))))))) lt no = refl
-blank_at r a b (suc (suc (suc (suc (suc (suc (suc (suc (suc (suc (suc zero))))))))))) lt no = refl
-blank_at r a b (suc (suc (suc (suc (suc (suc (suc (suc (suc (suc (suc (suc zero)))))))))))) lt no = absurd (cc no)
-blank_at r a b (suc (suc (suc (suc (suc (suc (suc (suc (suc (suc (suc (suc (suc zero))))))))))))) lt no = refl
-blank_at r a b (suc (suc (suc (suc (suc (suc (suc (suc (suc (suc (suc (suc (suc (suc zero)))))))))))))) lt no = refl
-blank_at r a b (suc (suc (suc (suc (suc (suc (suc (suc (suc (suc (suc (suc (suc (suc (suc zero))))))))))))))) lt no = refl
-blank_at r a b (suc (suc (suc (suc (suc (suc (suc (suc (suc (suc (suc (suc (suc (suc (suc (suc s)))))))))))))))) lt no = absurd (omega arith)
+blank_at r a b zero lt none = absurd (cc none)
+blank_at r a b (suc zero) lt none = refl
+blank_at r a b (suc (suc zero)) lt none = refl
+blank_at r a b (suc (suc (suc zero))) lt none = refl
+blank_at r a b (suc (suc (suc (suc zero)))) lt none = absurd (cc none)
+blank_at r a b (suc (suc (suc (suc (suc zero))))) lt none = refl
+blank_at r a b (suc (suc (suc (suc (suc (suc zero)))))) lt none = refl
+blank_at r a b (suc (suc (suc (suc (suc (suc (suc zero))))))) lt none = refl
+blank_at r a b (suc (suc (suc (suc (suc (suc (suc (suc zero)))))))) lt none = absurd (cc none)
+blank_at r a b (suc (suc (suc (suc (suc (suc (suc (suc (suc zero))))))))) lt none = refl
+blank_at r a b (suc (suc (suc (suc (suc (suc (suc (suc (suc (suc zero)))))))))) lt none = refl
+blank_at r a b (suc (suc (suc (suc (suc (suc (suc (suc (suc (suc (suc zero))))))))))) lt none = refl
+blank_at r a b (suc (suc (suc (suc (suc (suc (suc (suc (suc (suc (suc (suc zero)))))))))))) lt none = absurd (cc none)
+blank_at r a b (suc (suc (suc (suc (suc (suc (suc (suc (suc (suc (suc (suc (suc zero))))))))))))) lt none = refl
+blank_at r a b (suc (suc (suc (suc (suc (suc (suc (suc (suc (suc (suc (suc (suc (suc zero)))))))))))))) lt none = refl
+blank_at r a b (suc (suc (suc (suc (suc (suc (suc (suc (suc (suc (suc (suc (suc (suc (suc zero))))))))))))))) lt none = refl
+blank_at r a b (suc (suc (suc (suc (suc (suc (suc (suc (suc (suc (suc (suc (suc (suc (suc (suc s)))))))))))))))) lt none = absurd (omega arith)
+
+pub monotone_head : (l : Layout) → Monotone (with_head l)
+monotone_head l = record { worn = λ may a b worn.
+    let one = (monotone_lay 1 (λ k. Whole (sector [])) 3).worn may a b worn in
+    let two = (monotone_lay 5 (λ k. Whole (sector [])) 3).worn may _ _ one in
+    let three = (monotone_lay 9 (λ k. Whole (sector [])) 3).worn may _ _ two in
+    let four = (monotone_lay 13 (λ k. Whole (sector [])) 3).worn may _ _ three in
+    let five = (monotone_sector 8 (anchor_bytes format_anchor)).worn may _ _ four in
+    let six = (monotone_sector 12 (anchor_bytes format_anchor)).worn may _ _ five in
+    let seven = (monotone_sector 4 (root_bytes l)).worn may _ _ six in
+    (monotone_sector 0 (root_bytes l)).worn may _ _ seven
+}
+
+-- the head in its eight steps
+pub head_laid : (l : Layout) (m0 m1 m2 m3 m4 m5 m6 m7 m8 : Moment) (anchor root : List ℕ) → anchor ≡ anchor_bytes format_anchor → root ≡ root_bytes l
+    → Holds m0 (with_blanks m0.image 1) m1 → Holds m1 (with_blanks m1.image 5) m2 → Holds m2 (with_blanks m2.image 9) m3 → Holds m3 (with_blanks m3.image 13) m4
+    → Holds m4 (with_sector m4.image 8 anchor) m5 → Holds m5 (with_sector m5.image 12 anchor) m6
+    → Holds m6 (with_sector m6.image 4 root) m7 → Holds m7 (with_sector m7.image 0 root) m8 → Holds m0 (with_head l m0.image) m8
+head_laid l m0 m1 m2 m3 m4 m5 m6 m7 m8 anchor root is_anchor is_root a b c d e f g h =
+    let zeros = λ (first : ℕ). monotone_lay first (λ k. Whole (sector [])) 3 in
+    let two = holds_then (λ i. with_blanks i 5) m0 m1 m2 (with_blanks m0.image 1) (zeros 5) a b in
+    let three = holds_then (λ i. with_blanks i 9) m0 m2 m3 (with_blanks (with_blanks m0.image 1) 5) (zeros 9) two c in
+    let four = holds_then (λ i. with_blanks i 13) m0 m3 m4 (with_blanks (with_blanks (with_blanks m0.image 1) 5) 9) (zeros 13) three d in
+    let blanks : List Sector = with_blanks (with_blanks (with_blanks (with_blanks m0.image 1) 5) 9) 13 in
+    let five = holds_then (λ i. with_sector i 8 anchor) m0 m4 m5 blanks (monotone_sector 8 anchor) four e in
+    let six = holds_then (λ i. with_sector i 12 anchor) m0 m5 m6 (with_sector blanks 8 anchor) (monotone_sector 12 anchor) five f in
+    let seven = holds_then (λ i. with_sector i 4 root) m0 m6 m7 (with_sector (with_sector blanks 8 anchor) 12 anchor) (monotone_sector 4 root) six g in
+    let all = holds_then (λ i. with_sector i 0 root) m0 m7 m8 (with_sector (with_sector (with_sector blanks 8 anchor) 12 anchor) 4 root) (monotone_sector 0 root) seven h in
+    let P : List ℕ → List ℕ → Type 0 = λ x y. Holds m0 (with_sector (with_sector (with_sector (with_sector blanks 8 x) 12 x) 4 y) 0 y) m8 in
+    subst (λ (y : List ℕ). P (anchor_bytes format_anchor) y) is_root (subst (λ (x : List ℕ). P x root) is_anchor all)
 
 module _ (l : Layout) (i : List Sector) where
   abbrev root : Sector
@@ -106,4 +139,4 @@ module _ (l : Layout) (i : List Sector) where
   head_at s lt room = ap (λ (x : List Sector). sector_at x s) head_is ∙ over_front (by_place root anchor zeros) i s lt (omega arith)
 
   pub head_blank : (s : ℕ) → s < 16 → 16 ≤ length i → IsFalse (list_any (λ t. t == s) (0 ∷ 4 ∷ 8 ∷ 12 ∷ [])) → sector_at (with_head l i) s ≡ zeros
-  head_blank s lt room no = head_at s lt room ∙ blank_at root anchor zeros s lt no
+  head_blank s lt room none = head_at s lt room ∙ blank_at root anchor zeros s lt none

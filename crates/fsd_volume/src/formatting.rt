@@ -1,16 +1,15 @@
 //! How a volume is made.
-ghost use Rattle.std.specs.Prelude.{ℕ, List, length, ◌≡◌, ◌+◌, ◌≤◌, ◌<◌, [], OnOk, IfErr};
-ghost use Rattle.fsd_bytes.specs.Bytes.{sector};
-ghost use Rattle.sector_disk.specs.declared.sector.Sector.TheVariants.{Whole};
-ghost use Rattle.sector_disk.specs.Image.{lay};
+ghost use Rattle.std.specs.Prelude.{◌≡◌, ◌+◌, ◌≤◌, OnOk, IfErr};
 ghost use Rattle.sector_disk.specs.Machine.{DeviceFault, UsesDisk, Trusts, Holds};
-ghost use Rattle.fsd_sound.specs.Format.{format_page};
+ghost use Rattle.volume_layout.specs.Layout.{plan};
 ghost use Rattle.fsd_volume.specs.Calls.{OnlyWrites, OnlyDevice};
 ghost use Rattle.fsd_volume.specs.Formatting.{IsNew, Formats, with_blanks, with_head, with_pages, with_volume};
 
-use crate::pages::{format_anchor, format_page};
+use crate::pages::format_page;
 use crate::sectors::write_sector;
 use fsd_bytes::Refusal;
+use fsd_formats::Anchor;
+use log_record::anchor_bytes;
 use sector_disk::{Failed, Machine};
 use volume_layout::{Layout, root_bytes};
 
@@ -54,9 +53,11 @@ fn write_sectors<M: Machine>(m: &mut M, l: &Layout) -> Result<(), Failed>
     ensures trust { Trusts (M.tells m.old) (M.tells m.new) (M.honest m.old) (M.honest m.new) }
     ensures ledger { M.tells m.new → OnlyWrites (M.ledger m.old) (M.ledger m.new) }
     ensures done { OnOk result (M.honest m.new → Holds (M.now m.old) (with_volume l.now (M.now m.old).image) (M.now m.new)) }
+    ensures planned { plan l.now.sectors l.now.third l.now.pages ≡ Ok l.now }
 {
-    write_pages(m, l.home_a(0), l.pages())?;
-    write_pages(m, l.home_b(0), l.pages())?;
+    let pages = l.pages();
+    write_pages(m, l.home_a(0), pages)?;
+    write_pages(m, l.home_b(0), pages)?;
     write_head(m, l)?;
     Ok(())
 }
@@ -85,7 +86,11 @@ fn write_head<M: Machine>(m: &mut M, l: &Layout) -> Result<(), Failed>
     ensures ledger { M.tells m.new → OnlyWrites (M.ledger m.old) (M.ledger m.new) }
     ensures done { OnOk result (M.honest m.new → Holds (M.now m.old) (with_head l.now (M.now m.old).image) (M.now m.new)) }
 {
-    let anchor = format_anchor();
+    let anchor = anchor_bytes(&Anchor {
+        epoch: 1,
+        third: 0,
+        first: 1,
+    });
     let root = root_bytes(l);
     blank(m, 1)?;
     blank(m, 5)?;

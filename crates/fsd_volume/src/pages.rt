@@ -1,7 +1,6 @@
 //! The sectors of a volume that is new.
 ghost use Rattle.std.specs.Prelude.{◌≡◌};
-ghost use Rattle.fsd_formats.specs.Anchors.{anchor_bytes};
-ghost use Rattle.fsd_sound.specs.Format.{format_page, format_anchor};
+ghost use Rattle.fsd_sound.specs.Format.{format_page};
 
 use fsd_bytes::{put_bytes, put_u8, put_u32};
 
@@ -16,16 +15,5 @@ pub(crate) fn format_page(page: u32) -> [u8; 512]
     }
     put_u32(&mut b, 12, page);
     put_u32(&mut b, 16, 1);
-    b
-}
-
-// The anchor of the first epoch, in which nothing was logged.
-pub(crate) fn format_anchor() -> [u8; 512]
-    ensures { result ≡ anchor_bytes format_anchor }
-{
-    let mut b = [0; 512];
-    put_bytes(&mut b, 0, b"CFSA");
-    put_u32(&mut b, 4, 1);
-    put_u32(&mut b, 12, 1);
     b
 }
