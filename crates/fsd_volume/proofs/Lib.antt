@@ -1,3 +1,5 @@
 pub mod HeadLaws
+pub mod CallLaws
 pub mod FormatLaws
 pub mod Laying
+pub mod SliceLaws

@@ -4,5 +4,6 @@
 mod formatting;
 mod pages;
 mod sectors;
+mod slices;
 
 pub use formatting::format;
