@@ -3,6 +3,7 @@
 
 mod formatting;
 mod pages;
+mod pieces;
 mod sectors;
 mod slices;
 
