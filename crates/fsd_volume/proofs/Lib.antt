@@ -1,6 +1,9 @@
 pub mod HeadLaws
 pub mod CallLaws
 pub mod FormatLaws
+pub mod ForceLaws
+pub mod HomeLaws
+pub mod KeptLaws
 pub mod Laying
 pub mod PieceLaws
 pub mod SliceLaws

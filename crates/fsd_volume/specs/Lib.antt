@@ -2,3 +2,4 @@ pub mod Calls
 pub mod Formatting
 pub mod Pieces
 pub mod Slices
+pub mod State
