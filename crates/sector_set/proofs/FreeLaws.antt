@@ -102,6 +102,13 @@ contains_where_outside f from to s out =
     no true = refl
     no false = refl
 
+pub contains_range : (a n s : ℕ) → contains (range_with_len a n) s ≡ (nat_le a s && nat_lt s (a + n))
+contains_range a n s = ap (λ (xs : List ℕ). contains xs s) (sym (all_of a n)) ∙ contains_filter (λ s. true) a n s
+  where
+    all_of : (a n : ℕ) → filter (λ s. true) (range_with_len a n) ≡ range_with_len a n
+    all_of a zero = refl
+    all_of a (suc n) = ap (λ (xs : List ℕ). a ∷ xs) (all_of (a + 1) n)
+
 -- ---- as many as the runs have
 
 total-cons : (r : Run) (runs : List Run) → total (r ∷ runs) ≡ r.length + total runs

@@ -1,5 +1,6 @@
 -- Sets of sectors below an end.
 use Rattle.std.specs.Prelude.{ℕ, ◌+◌, ◌≡◌, ◌≤◌, ◌<◌, Bool, not, List, [], ◌∷◌, Option, Some, None}
+use Rattle.std.specs.List.{range_with_len}
 use Rattle.run_table.specs.declared.run.Run.{Run}
 use Rattle.run_table.specs.Space.{contains, where_free, runs_of}
 
@@ -7,6 +8,9 @@ use Rattle.run_table.specs.Space.{contains, where_free, runs_of}
 pub record SectorsBelow : Type 0 where
   pub end : ℕ
   pub sectors : List ℕ
+
+abbrev pub in_run : Run → ℕ → Bool
+in_run r s = contains (range_with_len r.start r.length) s
 
 -- the sectors below the end that pass the test
 abbrev pub below : ℕ → (ℕ → Bool) → SectorsBelow

@@ -1,6 +1,5 @@
 //! Sets of sectors below an end.
-ghost use Rattle.std.specs.Prelude.{◌≡◌, ◌≤◌, ◌<◌, ◌||◌, ◌&&◌, not, false, IfOk};
-ghost use Rattle.sector_set.specs.Bits.{in_range};
+ghost use Rattle.std.specs.Prelude.{◌≡◌, ◌+◌, ◌≤◌, ◌<◌, ◌||◌, ◌&&◌, not, min, false, IfOk, IfSome};
 
 use crate::bits;
 use run_table::Run;
@@ -28,7 +27,7 @@ impl Model for SectorSet {
 
 impl SectorSet {
     ghost use Rattle.run_table.specs.Space.{contains};
-    ghost use Rattle.sector_set.specs.SectorSet.{below, IsFirstRun, IsFirst};
+    ghost use Rattle.sector_set.specs.SectorSet.{below, in_run, IsFirstRun, IsFirst};
 
     /// No sector of those below `end`. It takes a bit for each of them.
     pub fn new(alloc: Global, end: u32) -> Result<SectorSet, AllocError>
@@ -46,26 +45,27 @@ impl SectorSet {
         (self.words[s as usize / 64] >> (s % 64)) & 1 == 1
     }
 
-    /// Adds the sectors from `start` up to `stop`.
-    pub fn insert(&mut self, start: u32, stop: u32)
-        requires { stop ≤ self.old.end }
-        ensures { self.new ≡ below self.old.end (λ s. contains self.old.sectors s || in_range start stop s) }
+    /// Adds the sectors of a run, but for those from the end on.
+    pub fn insert(&mut self, run: Run)
+        ensures { self.new ≡ below self.old.end (λ s. contains self.old.sectors s || in_run run s) }
     {
-        bits::insert(&mut self.words, start as usize, stop as usize);
+        let stop = self.stop_of(run);
+        bits::insert(&mut self.words, run.start as usize, stop as usize);
     }
 
-    /// Removes the sectors from `start` up to `stop`.
-    pub fn remove(&mut self, start: u32, stop: u32)
-        requires { stop ≤ self.old.end }
-        ensures { self.new ≡ below self.old.end (λ s. contains self.old.sectors s && not (in_range start stop s)) }
+    /// Removes the sectors of a run, as far as they are in it.
+    pub fn remove(&mut self, run: Run)
+        ensures { self.new ≡ below self.old.end (λ s. contains self.old.sectors s && not (in_run run s)) }
     {
-        bits::remove(&mut self.words, start as usize, stop as usize);
+        let stop = self.stop_of(run);
+        bits::remove(&mut self.words, run.start as usize, stop as usize);
     }
 
     /// The first run of its sectors from `at` on: adjacent sectors, as many as there are.
     pub fn next_run(&self, at: u32) -> Option<Run>
         requires { at ≤ self.now.end }
-        ensures { IsFirstRun self.now at result }
+        ensures first { IsFirstRun self.now at result }
+        ensures within { IfSome result (λ r. (at ≤ r.start) × (1 ≤ r.length) × (r.start + r.length ≤ self.now.end)) }
     {
         let start = self.first(at, true);
         if start == self.end {
@@ -76,6 +76,13 @@ impl SectorSet {
             start,
             length: stop - start,
         })
+    }
+
+    // The end of a run, or that of all sectors where the run goes on.
+    fn stop_of(&self, run: Run) -> u32
+        ensures { result ≡ min (run.start + run.length) self.now.end }
+    {
+        run.start.saturating_add(run.length).min(self.end)
     }
 
     // The first sector from `at` on that is in it, or that is not, else the end.
