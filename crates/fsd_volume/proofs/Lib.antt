@@ -7,3 +7,4 @@ pub mod KeptLaws
 pub mod Laying
 pub mod PieceLaws
 pub mod SliceLaws
+pub mod StoredLaws

@@ -29,6 +29,12 @@ GivesRange i j bytes runs from n (Err (DamagedSector s)) given = Gives i j bytes
 GivesRange i j bytes runs from n (Err (Device s)) given = ⊤
 GivesRange i j bytes runs from n (Err refusal) given = ⊥
 
+-- the refusal is one that the data's sectors give
+abbrev pub OfData : Refusal → Type 0
+OfData (DamagedSector s) = ⊤
+OfData (Device s) = ⊤
+OfData refusal = ⊥
+
 -- how many bytes of a version there are from a place on, in a buffer of this length
 abbrev pub part_len : Entry → (from room : ℕ) → ℕ
 part_len e from room = min (e.length - from) room

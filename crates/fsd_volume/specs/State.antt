@@ -1,5 +1,5 @@
 -- A mounted volume as its calls show it, and what it stands for.
-use Rattle.std.specs.Prelude.{◌≡◌, ℕ, Bool, false, List, [], IsTrue, if◌then◌else◌}
+use Rattle.std.specs.Prelude.{◌≡◌, ℕ, Bool, false, List, [], Ok, IsTrue}
 use Rattle.fsd_bytes.specs.declared.key.Serial.{Serial}
 use Rattle.volume_layout.specs.declared.layout.Layout.{Layout}
 use Rattle.volume_layout.specs.Layout.{plan}
@@ -19,8 +19,9 @@ pub record State : Type 0 where
   pub serial : Serial
   pub waits : Bool
 
--- The entries are a leaf that page 0 may be, and their sectors are apart.
+-- The layout is a plan, the entries are a leaf that page 0 may be, and their sectors are apart.
 pub record IsTable (l : Layout) (entries : List Entry) : Type 0 where
+  pub planned : plan l.sectors l.third l.pages ≡ Ok l
   pub leaf : IsRootLeaf l entries
   pub apart : Apart l (plans_of entries)
 

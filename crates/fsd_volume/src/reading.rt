@@ -50,10 +50,15 @@ impl Volume {
         let Some(e) = find(self.entries.as_slice(), key) else {
             return Err(Refusal::NoSuch);
         };
+        if from >= e.length {
+            return Ok(0);
+        }
         let room = buf.len().min(e.length as usize) as u32;
-        let n = e.length.saturating_sub(from).min(room);
-        read_range(m, &e.runs, from, n, buf)?;
-        Ok(n)
+        let n = (e.length - from).min(room);
+        match read_range(m, &e.runs, from, n, buf) {
+            Ok(()) => Ok(n),
+            Err(refusal) => Err(refusal),
+        }
     }
 }
 
