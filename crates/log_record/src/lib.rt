@@ -2,6 +2,15 @@
 #![tactic(auto)]
 
 mod anchor;
+mod header;
+mod judging;
+mod laws;
+mod laying;
 
 pub use anchor::{anchor_bytes, read_anchor};
 pub use fsd_formats::Anchor;
+pub use judging::{Found, Judged, judge};
+pub use laws::{
+    laid_records_are_good, records_read_plainly, records_stay, torn_records_are_whole_or_absent,
+};
+pub use laying::lay;
