@@ -1,4 +1,5 @@
 pub mod HeadLaws
+pub mod ApartLaws
 pub mod CallLaws
 pub mod FormatLaws
 pub mod ForceLaws
@@ -6,5 +7,7 @@ pub mod HomeLaws
 pub mod KeptLaws
 pub mod Laying
 pub mod PieceLaws
+pub mod ListLaws
+pub mod PlanLaws
 pub mod SliceLaws
 pub mod StoredLaws

@@ -2,12 +2,7 @@
 use Rattle.std.specs.Prelude.{◌≡◌, ⊤}
 use Rattle.fsd_bytes.specs.declared.refusal.Refusal.{Refusal}
 use Rattle.fsd_bytes.specs.declared.refusal.Refusal.TheVariants.{Device}
-use Rattle.sector_disk.specs.Machine.{Report, Ledger, DeviceFault}
-
--- Nothing was attached and no input was taken; sectors may have been written.
-pub record OnlyWrites (old new : Ledger) : Type 0 where
-  pub input : new.input ≡ old.input
-  pub attaches : new.attaches ≡ old.attaches
+use Rattle.sector_disk.specs.Machine.{Report, DeviceFault}
 
 -- The refusal tells a fault of the disk.
 pub record OnlyDevice (old new : Report) (refusal : Refusal) : Type 0 where

@@ -1,13 +1,13 @@
 //! The force of a volume.
 ghost use Rattle.std.specs.Prelude.{◌≡◌, ◌≤◌, ◌<◌, ◌^◌, true, false, OnOk, OnErr, IfOk, IfErr, IsTrue, List, if◌then◌else◌};
 ghost use Rattle.sector_disk.specs.Image.{IsCalm, with_sector};
-ghost use Rattle.sector_disk.specs.Machine.{DeviceFault, UsesDisk, Trusts, Holds};
+ghost use Rattle.sector_disk.specs.Machine.{DeviceFault, UsesDisk, Trusts, OnlyWrites, Holds};
 ghost use Rattle.volume_layout.specs.Layout.{home_a, home_b};
 ghost use Rattle.fsd_formats.specs.NamePage.{Leaf, page_bytes, is_page};
 ghost use Rattle.fsd_files.specs.Files.{Files};
 ghost use Rattle.fsd_files.specs.Volume.{Volume as Mounted, forced};
 ghost use Rattle.fsd_sound.specs.AtHome.{IsRootLeaf};
-ghost use Rattle.fsd_volume.specs.Calls.{OnlyWrites, OnlyDevice};
+ghost use Rattle.fsd_volume.specs.Calls.{OnlyDevice};
 ghost use Rattle.fsd_volume.specs.State.{IsMounted};
 
 use crate::Volume;

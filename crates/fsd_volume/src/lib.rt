@@ -5,11 +5,14 @@ mod forcing;
 mod formatting;
 mod pages;
 mod pieces;
+mod putting;
 mod reading;
+mod scratch;
 mod sectors;
 mod slices;
 mod volume;
 
 pub use forcing::Forced;
 pub use formatting::format;
+pub use scratch::scratch_law;
 pub use volume::Volume;
