@@ -9,5 +9,7 @@ pub mod Laying
 pub mod PieceLaws
 pub mod ListLaws
 pub mod PlanLaws
+pub mod RunApartLaws
 pub mod SliceLaws
 pub mod StoredLaws
+pub mod TableLaws
