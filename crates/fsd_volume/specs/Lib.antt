@@ -1,5 +1,6 @@
 pub mod Calls
 pub mod Formatting
+pub mod Mount
 pub mod Pieces
 pub mod Put
 pub mod Slices

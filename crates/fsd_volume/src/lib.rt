@@ -3,6 +3,7 @@
 
 mod forcing;
 mod formatting;
+mod mounting;
 mod pages;
 mod pieces;
 mod putting;
