@@ -6,6 +6,7 @@ pub mod ForceLaws
 pub mod HomeLaws
 pub mod KeptLaws
 pub mod Laying
+pub mod MountLaws
 pub mod PieceLaws
 pub mod ListLaws
 pub mod PlanLaws
