@@ -9,8 +9,10 @@ pub mod Laying
 pub mod MountLaws
 pub mod PieceLaws
 pub mod ListLaws
+pub mod PlaceLaws
 pub mod PlanLaws
 pub mod RunApartLaws
 pub mod SliceLaws
 pub mod StoredLaws
 pub mod TableLaws
+pub mod VersionLaws

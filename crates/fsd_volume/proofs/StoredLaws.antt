@@ -78,7 +78,7 @@ runs_end l runs most data_area k d lt short some =
     let below = ltb-true (r.start + 0) l.sectors (and_parts (nat_le (data_start l) (r.start + 0)) (nat_lt (r.start + 0) l.sectors) (data_area (r.start + 0) (run_there runs k 0 d lt some))).1 in
     omega (arith, below)
 
-index_there : (xs : List ℕ) (k d : ℕ) → k < length xs → IsTrue (contains xs (slice_index_or xs k d))
+pub index_there : (xs : List ℕ) (k d : ℕ) → k < length xs → IsTrue (contains xs (slice_index_or xs k d))
 index_there [] k d lt = absurd (omega arith)
 index_there (x ∷ xs) zero d lt = first_there x xs
 index_there (x ∷ xs) (suc k) d lt = rest_there x (slice_index_or xs k d) xs (index_there xs k d (omega arith))
