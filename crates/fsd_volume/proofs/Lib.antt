@@ -1,6 +1,7 @@
 pub mod HeadLaws
 pub mod ApartLaws
 pub mod CallLaws
+pub mod EnterLaws
 pub mod FormatLaws
 pub mod ForceLaws
 pub mod HomeLaws

@@ -1,5 +1,4 @@
-use Rattle.fsd_volume.proofs.RunApartLaws as apart
-use Rattle.fsd_volume.proofs.ListLaws as lists
+use Rattle.fsd_volume.proofs.EnterLaws as enters
 use Rattle.fsd_volume.proofs.scratch.scratch_law.Goals as goal
 
 pub returns : goal.returns
