@@ -237,3 +237,8 @@ kept_put l e items new before after runs kept good fits free absent small is sam
 pub free_as_kept : (l : Layout) (items : List Entry) (before : FreeSpace) (e : Entry) (runs : List Run) → IsKept l items before → AreNew l (plans_of items) e.runs → runs ≡ e.runs → AreFree before runs
 free_as_kept l items before e runs kept free same =
     subst (λ (rs : List Run). AreFree before rs) (sym same) (subst (λ (m : FreeSpace). AreFree m e.runs) (sym kept.map) (place_free l items e.runs free))
+
+-- what stood in the entries stands there still
+pub still_there : (s : ℕ) (e : Entry) (entries : List Entry) → names e.key.name entries ≡ false → IsTrue (contains (flat_map sectors_of (plans_of entries)) s) → IsTrue (contains (flat_map sectors_of (plans_of (entry_put e entries))) s)
+still_there s e entries absent there =
+    occurs_contains s (flat_map sectors_of (plans_of (entry_put e entries))) (omega (arith, contains_occurs s (flat_map sectors_of (plans_of entries)) there, used_is s e entries absent))

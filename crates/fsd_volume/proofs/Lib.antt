@@ -12,6 +12,8 @@ pub mod PieceLaws
 pub mod ListLaws
 pub mod PlaceLaws
 pub mod PlanLaws
+pub mod PutDoneLaws
+pub mod PutLaws
 pub mod RunApartLaws
 pub mod SliceLaws
 pub mod StoredLaws

@@ -2,6 +2,7 @@
 ghost use Rattle.std.specs.Prelude.{◌≡◌, ◌≤◌, ◌<◌, ◌+◌, ◌-◌, ◌^◌, false, true, ℕ, List, None, Some, Err, All, OnOk, IfErr, IsTrue, length};
 ghost use Rattle.std.specs.List.{insert};
 ghost use Rattle.fsd_bytes.specs.declared.refusal.Refusal.TheVariants.{WornOut};
+ghost use Rattle.fsd_bytes.specs.Keys.{key_of, is_key};
 ghost use Rattle.run_table.specs.RunTable.{sectors_of};
 ghost use Rattle.fsd_formats.specs.declared.entry.Entry.{Entry as Listed};
 ghost use Rattle.fsd_formats.specs.NamePage.{room, is_entry, sectors_for, max_length, FitsEntry};
@@ -12,7 +13,7 @@ ghost use Rattle.fsd_files.specs.Files.{Files};
 ghost use Rattle.fsd_files.specs.OneLeaf.{leaf_used, put_outcome};
 ghost use Rattle.fsd_files.specs.Volume.{Volume as Mounted, plans_of};
 ghost use Rattle.fsd_volume.specs.Calls.{TellsDevice};
-ghost use Rattle.fsd_volume.specs.Put.{names, placed, last_count, AreNew, Enters, Puts, PutsOn};
+ghost use Rattle.fsd_volume.specs.Put.{names, placed, last_count, AreNew, Enters, Puts, StandsOn};
 ghost use Rattle.fsd_volume.specs.Slices.{with_version};
 ghost use Rattle.fsd_volume.specs.State.{StandsFor, IsMounted};
 
@@ -47,7 +48,7 @@ impl Volume {
 
         // So does the disk: the versions stand on it, and what was forced before.
         ensures stands { M.honest m.new → IsCalm (M.now m.old).windows → (v : Mounted) (files : Files) → IsMounted self.old v files (M.now m.old).image →
-            PutsOn v (put_outcome v name.now bytes.now keep) files self.new (M.now m.new).image result }
+            StandsOn v (put_outcome v name.now bytes.now keep) files self.new (M.now m.new).image result }
     {
         if let Some(refusal) = size_fault(keep, bytes.len()) {
             return Err(refusal);
@@ -61,10 +62,7 @@ impl Volume {
             Err(refusal) => return Err(refusal),
         };
         let entry = Entry {
-            key: Key {
-                name: name.copied(),
-                version: 1,
-            },
+            key: first_key(name),
             keep: keep.unwrap_or(2),
             serial: self.serial,
             length,
@@ -99,6 +97,18 @@ impl Volume {
         self.map.take(&runs);
         self.waits = true;
         Ok(key)
+    }
+}
+
+// The key of a name's first version.
+fn first_key(name: &FileName) -> Key
+    ensures value { result ≡ key_of name.now 1 }
+    ensures key { IsTrue (is_key result) }
+{
+    let _ = name.as_bytes();
+    Key {
+        name: name.copied(),
+        version: 1,
     }
 }
 
