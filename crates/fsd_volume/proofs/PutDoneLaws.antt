@@ -152,30 +152,33 @@ module _ (s : State) (v : Volume) (name bytes : List ℕ) (given : Option ℕ) (
   says_by a b after r p q says =
       subst (λ (o : Outcome). PutSays v o after r) (sym (outcome_is ∙ ap (λ (x : Bool). branches x (nat_lt room used_then)) p ∙ ap (branches a) q)) says
 
+  abbrev pub after_of : Result Key Refusal → Volume
+  after_of (Ok key) = made
+  after_of (Err refusal) = drawn v
+
+  le_false : has_name name v.files ≡ false → leaf_used (entry_put e s.entries) ≤ room → nat_lt room used_then ≡ false
+  le_false absent fits = le-ltb room used_then (omega (arith, used_same absent, fits))
+
+  pub says_entered : (new : State) (r : Result Key Refusal) → Enters (drawn_state s) e new r → PutSays v (put_outcome v name bytes given) (after_of r) r
+  says_entered new (Ok key) ok =
+      let absent = has_is ∙ ok.absent in
+      says_by false false made (Ok key) absent (le_false absent ok.fits) ((total e.runs, ap (λ (k : Key). Made k (total e.runs)) (first_key name v.files absent ∙ sym h.key ∙ sym ok.is)), refl)
+  says_entered new (Err Why.VersionsUsedUp) entering = says_by true (nat_lt room used_then) (drawn v) (Err Why.VersionsUsedUp) (has_is ∙ entering.0) refl (refl, refl)
+  says_entered new (Err (Why.NameTableFull free)) entering =
+      let absent = has_is ∙ entering.1.absent in
+      says_by false true (drawn v) (Err (Why.NameTableFull free)) absent (lt-ltb room used_then (omega (arith, used_same absent, entering.1.full))) (ap (λ (n : ℕ). Refused (Why.NameTableFull n)) (sym entering.0), refl)
+  says_entered new (Err Why.Memory) entering = refl
+  says_entered new (Err refusal) entering = absurd entering
+
   pub puts_entered : (new : State) (r : Result Key Refusal) → Enters (drawn_state s) e new r → Puts v (put_outcome v name bytes given) new r
-  puts_entered new (Ok key) ok =
-      let absent = has_is ∙ ok.absent in record {
-        after = made;
-        stands = subst (λ (x : State). StandsFor x made) (sym ok.now) (entered_stands absent);
-        says = says_by false false made (Ok key) absent (le_false absent ok.fits)
-            ((total e.runs, ap (λ (k : Key). Made k (total e.runs)) (first_key name v.files absent ∙ sym h.key ∙ sym ok.is)), refl);
-      }
+  puts_entered new r entering = record { after = after_of r; stands = by r entering; says = says_entered new r entering }
     where
-      le_false : has_name name v.files ≡ false → leaf_used (entry_put e s.entries) ≤ room → nat_lt room used_then ≡ false
-      le_false absent fits = le-ltb room used_then (omega (arith, used_same absent, fits))
-  puts_entered new (Err Why.VersionsUsedUp) entering = record {
-    after = drawn v;
-    stands = subst (λ (x : State). StandsFor x (drawn v)) (sym entering.1) (stands_drawn s v h.stands);
-    says = says_by true (nat_lt room used_then) (drawn v) (Err Why.VersionsUsedUp) (has_is ∙ entering.0) refl (refl, refl);
-  }
-  puts_entered new (Err (Why.NameTableFull free)) entering =
-      let absent = has_is ∙ entering.1.absent in record {
-        after = drawn v;
-        stands = subst (λ (x : State). StandsFor x (drawn v)) (sym entering.1.now) (stands_drawn s v h.stands);
-        says = says_by false true (drawn v) (Err (Why.NameTableFull free)) absent (lt-ltb room used_then (omega (arith, used_same absent, entering.1.full))) (ap (λ (n : ℕ). Refused (Why.NameTableFull n)) (sym entering.0), refl);
-      }
-  puts_entered new (Err Why.Memory) entering = record { after = drawn v; stands = subst (λ (x : State). StandsFor x (drawn v)) (sym entering) (stands_drawn s v h.stands); says = refl }
-  puts_entered new (Err refusal) entering = absurd entering
+      by : (q : Result Key Refusal) → Enters (drawn_state s) e new q → StandsFor new (after_of q)
+      by (Ok key) ok = subst (λ (x : State). StandsFor x made) (sym ok.now) (entered_stands (has_is ∙ ok.absent))
+      by (Err Why.VersionsUsedUp) x = subst (λ (y : State). StandsFor y (drawn v)) (sym x.1) (stands_drawn s v h.stands)
+      by (Err (Why.NameTableFull free)) x = subst (λ (y : State). StandsFor y (drawn v)) (sym x.1.now) (stands_drawn s v h.stands)
+      by (Err Why.Memory) x = subst (λ (y : State). StandsFor y (drawn v)) (sym x) (stands_drawn s v h.stands)
+      by (Err refusal) x = absurd x
 
 -- ---- the disk
 
@@ -254,3 +257,27 @@ entered_on s v name bytes given e h files i count new room none mounted =
   where
     has_none : (es : List Entry) → es ≡ s.entries → names (new_entry (drawn v) name bytes given e.runs v.serial).key.name es ≡ false
     has_none es same = ap (names name) same ∙ ap (λ (k : Key). names k.name s.entries) (sym h.key) ∙ none
+
+pub stands_on : (v : Volume) (out : Outcome) (files : Files) (new : State) (j : Image) (r : Result Key Refusal) → PutsOn v out files new j r → StandsOn v out files new j r
+stands_on v out files new j (Ok key) p = p
+stands_on v out files new j (Err (Why.Device place)) p = tt
+stands_on v out files new j (Err refusal) p = p
+
+pub puts_on : (s : State) (v : Volume) (name bytes : List ℕ) (given : Option ℕ) (e : Entry) (h : Entering s v name bytes given e) (files : Files) (i j : Image) (new : State) (r : Result Key Refusal) → length (sectors_of e.runs) ≡ sectors_for (length bytes)
+    → AreNew s.layout (plans_of s.entries) e.runs → ((k : ℕ) → k < length (sectors_of e.runs) → slice_index_or (sectors_of e.runs) k 0 < length i) → IsMounted s v files i → j ≡ with_version i e bytes → Enters (drawn_state s) e new r
+    → PutsOn v (put_outcome v name bytes given) files new j r
+puts_on s v name bytes given e h files i j new r count free room mounted is entering = record {
+  after = after_of s v name bytes given e h r;
+  says = says_entered s v name bytes given e h new r entering;
+  mounted = subst (λ (x : Image). IsMounted new (after_of s v name bytes given e h r) files x) (sym is) (by r entering);
+}
+  where
+    with_drawn : IsMounted (drawn_state s) (drawn v) files (with_version i e bytes)
+    with_drawn = version_on s v files i e bytes count free mounted
+
+    by : (q : Result Key Refusal) → Enters (drawn_state s) e new q → IsMounted new (after_of s v name bytes given e h q) files (with_version i e bytes)
+    by (Ok key) ok = subst (λ (x : State). IsMounted x (volume_with (drawn v) name bytes given e.runs v.serial 1) files (with_version i e bytes)) (sym ok.now) (entered_on s v name bytes given e h files i count free room ok.absent mounted)
+    by (Err Why.VersionsUsedUp) x = subst (λ (y : State). IsMounted y (drawn v) files (with_version i e bytes)) (sym x.1) with_drawn
+    by (Err (Why.NameTableFull full)) x = subst (λ (y : State). IsMounted y (drawn v) files (with_version i e bytes)) (sym x.1.now) with_drawn
+    by (Err Why.Memory) x = subst (λ (y : State). IsMounted y (drawn v) files (with_version i e bytes)) (sym x) with_drawn
+    by (Err refusal) x = absurd x
