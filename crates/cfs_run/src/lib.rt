@@ -1,0 +1,12 @@
+//! All that the program does, over a machine that is handed in.
+#![tactic(auto)]
+
+mod fault;
+//mod input;
+mod line;
+mod request;
+
+pub use fault::Fault;
+//pub use input::{InputFault, MOST_INPUT, read_input};
+pub use line::{Line, text_of};
+pub use request::{Cause, Request, image_of, read_words};
