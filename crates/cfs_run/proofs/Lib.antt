@@ -1,1 +1,2 @@
+mod InputSoFar
 mod WordLists

@@ -2,11 +2,11 @@
 #![tactic(auto)]
 
 mod fault;
-//mod input;
+mod input;
 mod line;
 mod request;
 
 pub use fault::Fault;
-//pub use input::{InputFault, MOST_INPUT, read_input};
+pub use input::{InputFault, MOST_INPUT, read_input};
 pub use line::{Line, text_of};
 pub use request::{Cause, Request, image_of, read_words};
