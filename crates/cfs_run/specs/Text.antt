@@ -64,6 +64,9 @@ fault_text Ends.InputTooLong = codes "fault input too long" ++ newline
 fault_text Ends.Memory = codes "fault memory" ++ newline
 fault_text Ends.WornOut = codes "fault worn out" ++ newline
 
+abbrev pub memory_text : List ℕ
+memory_text = fault_text Ends.Memory
+
 abbrev pub cause_text : Cause → List ℕ
 cause_text BadNumber = codes "bad number"
 cause_text BadName = codes "bad name"

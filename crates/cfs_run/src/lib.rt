@@ -1,6 +1,7 @@
 //! All that the program does, over a machine that is handed in.
 #![tactic(auto)]
 
+mod answer;
 mod fault;
 mod input;
 mod line;
