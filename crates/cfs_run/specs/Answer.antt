@@ -1,6 +1,6 @@
 -- What is said at the end of a run, and the status that it ends with.
 use Rattle.std.specs.Prelude.{◌≡◌, ◌⊎◌, ℕ, ◌≤◌, List}
-use Rattle.sector_disk.specs.Machine.{Report, Moment, Rose, Says, Utters}
+use Rattle.sector_disk.specs.Machine.{Report, Moment, DeviceFault, Rose, Says, Utters}
 use Rattle.cfs_run.specs.declared.fault.Fault.{Fault}
 use Rattle.cfs_run.specs.declared.fault.Fault.TheVariants as Ends
 use Rattle.cfs_run.specs.declared.line.Line.{Line}
@@ -39,6 +39,18 @@ answer_text (Said.Bytes bytes) = bytes.items
 abbrev pub answer_status : Answer → ℕ
 answer_status (Said.Line line) = status_of line
 answer_status (Said.Bytes bytes) = 0
+
+-- ---- causes
+
+-- a fault of the disk or of the input is counted, and the disk's place told
+abbrev pub CausesFault : Fault → Report → Report → Type 0
+CausesFault (Ends.Device s) old new = DeviceFault old new s
+CausesFault Ends.Input old new = Rose old.input_faults new.input_faults
+CausesFault fault old new = Unit {0}
+
+abbrev pub CausesLine : Line → Report → Report → Type 0
+CausesLine (Ended fault) old new = CausesFault fault old new
+CausesLine line old new = Unit {0}
 
 -- ---- saying it
 

@@ -2,6 +2,7 @@
 use Rattle.std.specs.Prelude.{ℕ, List, [], ◌∷◌, ◌++◌, codes, decimal}
 use Rattle.fsd_bytes.specs.declared.refusal.Refusal.{Refusal}
 use Rattle.fsd_bytes.specs.declared.refusal.Refusal.TheVariants.{NoSuch, TooLong, NoSpace, TooFragmented, NameTableFull, VersionsUsedUp, KeepTooLarge, BadClient, Busy, Idle, Short, Long}
+use Rattle.fsd_bytes.specs.declared.refusal.Refusal.TheVariants as Why
 use Rattle.fsd_bytes.specs.Keys.{key_text}
 use Rattle.volume_layout.specs.declared.fault.LayoutFault.{LayoutFault}
 use Rattle.volume_layout.specs.declared.fault.LayoutFault.TheVariants.{BadThird, BadPages, TooLarge, TooSmall}
@@ -86,3 +87,13 @@ text (Made key sectors) = line (codes "made" ∷ key_text key ∷ number sectors
 text (Damaged key s) = line (codes "damaged" ∷ key_text key ∷ number s ∷ [])
 text (Refused why) = refused_line (refusal_words why)
 text (Ended fault) = fault_text fault
+
+-- the line of a refusal: one that ends the run is a fault
+abbrev pub line_of : Refusal → Line
+line_of (Why.Device s) = Ended (Ends.Device s)
+line_of (Why.Down s) = Ended (Ends.Device s)
+line_of (Why.Lost a b) = Ended (Ends.Lost a b)
+line_of (Why.Unsound s) = Ended (Ends.Unsound s)
+line_of Why.WornOut = Ended Ends.WornOut
+line_of Why.Memory = Ended Ends.Memory
+line_of why = Refused why
