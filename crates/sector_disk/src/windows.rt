@@ -1,0 +1,54 @@
+// The weak runs of a machine in memory: which sectors they allow to be hurt, and which of them comes next.
+ghost use Rattle.std.specs.Prelude.{◌≡◌};
+ghost use Rattle.sector_disk.specs.Image.{in_run, weak};
+ghost use Rattle.sector_disk.specs.Windows.{all_weak, is_short, run_at};
+
+use crate::past::Hurt;
+use crate::{LONGEST_RUN, WeakRun};
+
+fn is_in_run(run: WeakRun, place: u32) -> bool
+    ensures { result ≡ in_run run place }
+{
+    run.first <= place && place - run.first < run.count
+}
+
+fn is_weak(present: Option<WeakRun>, next: Option<WeakRun>, place: u32) -> bool
+    ensures { result ≡ weak present next place }
+{
+    match (present, next) {
+        (None, None) => false,
+        (Some(run), None) => is_in_run(run, place),
+        (None, Some(run)) => is_in_run(run, place),
+        (Some(run), Some(next)) => is_in_run(run, place) && is_in_run(next, place),
+    }
+}
+
+// Whether the windows allow each of these hurts.
+pub fn are_weak(present: Option<WeakRun>, next: Option<WeakRun>, hurts: &[Hurt]) -> bool
+    ensures { result ≡ all_weak present next hurts.now }
+{
+    hurts.iter().all(|hurt| is_weak(present, next, hurt.sector))
+}
+
+// Whether there is no run, or a short one.
+pub fn is_short(run: Option<WeakRun>) -> bool
+    ensures { result ≡ is_short run }
+{
+    match run {
+        None => true,
+        Some(run) => run.count <= LONGEST_RUN,
+    }
+}
+
+// The run that the healing after so many names; the last one again when all are used up.
+pub fn run_at(runs: &[WeakRun], named: usize) -> WeakRun
+    ensures { result ≡ run_at runs.now named }
+{
+    if named < runs.len() {
+        return runs[named];
+    }
+    match runs.last() {
+        Some(run) => *run,
+        None => WeakRun { first: 0, count: 0 },
+    }
+}
