@@ -1,2 +1,3 @@
+mod FormatEnds
 mod InputSoFar
 mod WordLists

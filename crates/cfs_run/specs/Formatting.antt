@@ -51,8 +51,13 @@ pub record HoldsVolume (l : Layout) (moment : Moment) : Type 0 where
   pub formatted : IsFormattedIn l run moment.image
   pub windows : moment.windows ≡ record { present = Some run; next = None }
 
+-- It is made, and nothing is said of it.
+pub record MakesVolume (l : Layout) (old new : Moment) : Type 0 where
+  pub holds : HoldsVolume l new
+  pub said : new.said ≡ old.said
+
 -- the image after this line: an empty volume, or as it was where the plan is refused
 abbrev pub VolumeMade : Result Layout LayoutFault → Line → Moment → Moment → Type 0
-VolumeMade (Ok l) (Formatted n free) old new = HoldsVolume l new
+VolumeMade (Ok l) (Formatted n free) old new = MakesVolume l old new
 VolumeMade (Ok l) line old new = Unit {0}
 VolumeMade (Err why) line old new = new ≡ old

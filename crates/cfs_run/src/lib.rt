@@ -3,11 +3,15 @@
 
 mod answer;
 mod fault;
+mod formatting;
 mod input;
 mod line;
+mod refusal;
 mod request;
+mod run;
 
 pub use fault::Fault;
 pub use input::{InputFault, MOST_INPUT, read_input};
 pub use line::{Line, text_of};
 pub use request::{Cause, Request, image_of, read_words};
+pub use run::run_cfs;
