@@ -1,3 +1,4 @@
 mod FormatEnds
 mod InputSoFar
+mod RunLaws
 mod WordLists
