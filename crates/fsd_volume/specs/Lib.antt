@@ -1,2 +1,4 @@
 pub mod Calls
 pub mod Formatting
+pub mod Pieces
+pub mod Slices

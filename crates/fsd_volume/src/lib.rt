@@ -3,6 +3,8 @@
 
 mod formatting;
 mod pages;
+mod pieces;
 mod sectors;
+mod slices;
 
 pub use formatting::format;

@@ -1,0 +1,12 @@
+use Rattle.sector_disk.specs.Machine.{UsesDisk, Trusts, Holds}
+use Rattle.fsd_volume.specs.Calls.{OnlyWrites}
+use Rattle.fsd_volume.specs.Slices.{with_slices}
+use Rattle.fsd_volume.proofs.slices.write_slices.Given as goal
+
+abbrev pub invariant-loop-k : goal.invariant-loop-k
+invariant-loop-k g l = let M = g.M.Machine in let old = l.fn.m in record {
+  uses : UsesDisk (M.report old) (M.report l.m);
+  trust : Trusts (M.tells old) (M.tells l.m) (M.honest old) (M.honest l.m);
+  ledger : M.tells l.m → OnlyWrites (M.ledger old) (M.ledger l.m);
+  holds : M.honest l.m → Holds (M.now old) (with_slices (M.now old).image l.runs l.bytes l.k) (M.now l.m);
+}

@@ -1,0 +1,22 @@
+-- The sectors of a version as they are written.
+use Rattle.std.specs.Prelude.{ℕ, zero, suc, ◌+◌, List, slice_index_or}
+use Rattle.std.specs.Int.{div_ceil}
+use Rattle.fsd_bytes.specs.Bytes.{sector_len}
+use Rattle.run_table.specs.declared.run.Run.{Run}
+use Rattle.run_table.specs.RunTable.{sectors_of}
+use Rattle.fsd_files.specs.Kept.{slice_of}
+use Rattle.sector_disk.specs.declared.sector.Sector.{Sector}
+use Rattle.fsd_volume.specs.Calls.{with_sector}
+
+-- the image with these bytes in these places, so many of them
+abbrev pub lay_at : List Sector → (place : ℕ → ℕ) → (bytes : ℕ → List ℕ) → ℕ → List Sector
+lay_at image place bytes zero = image
+lay_at image place bytes (suc k) = with_sector (lay_at image place bytes k) (place k) (bytes k)
+
+-- where slice k lies
+abbrev pub slice_place : List Run → ℕ → ℕ
+slice_place runs k = slice_index_or (sectors_of runs) (k + 1) 0
+
+-- the image with so many slices of the bytes in the runs
+abbrev pub with_slices : List Sector → List Run → List ℕ → ℕ → List Sector
+with_slices image runs bytes count = lay_at image (slice_place runs) (slice_of bytes) count

@@ -1,0 +1,45 @@
+//! The bytes of a version in its sectors.
+ghost use Rattle.std.specs.Prelude.{◌≡◌, ◌+◌, ◌-◌, ◌*◌, ◌^◌, ◌≤◌, ◌<◌, All, length, OnOk, IfErr};
+ghost use Rattle.sector_disk.specs.Machine.{DeviceFault, UsesDisk, Trusts, Holds};
+ghost use Rattle.run_table.specs.RunTable.{sectors_of, total};
+ghost use Rattle.fsd_formats.specs.NamePage.{sectors_for, max_length};
+ghost use Rattle.fsd_files.specs.Kept.{slice_of};
+ghost use Rattle.fsd_volume.specs.Calls.{OnlyWrites};
+ghost use Rattle.fsd_volume.specs.Slices.{with_slices};
+
+use crate::sectors::write_sector;
+use run_table::Runs;
+use sector_disk::{Failed, Machine};
+
+// Writes all slices, each in its sector behind the leader's.
+pub(crate) fn write_slices<M: Machine>(m: &mut M, runs: &Runs, bytes: &[u8]) -> Result<(), Failed>
+    requires runs { All (λ r. r.start + r.length ≤ 2 ^ 32) runs.now }
+    requires in_range { All (λ s. s < (M.report m.old).sectors) (sectors_of runs.now) }
+    requires count { length (sectors_of runs.now) ≡ sectors_for (length bytes.now) }
+    requires most { length bytes.now ≤ max_length }
+    ensures fault { IfErr result (λ failed. DeviceFault (M.report m.old) (M.report m.new) failed.place) }
+    ensures uses { UsesDisk (M.report m.old) (M.report m.new) }
+    ensures trust { Trusts (M.tells m.old) (M.tells m.new) (M.honest m.old) (M.honest m.new) }
+    ensures ledger { M.tells m.new → OnlyWrites (M.ledger m.old) (M.ledger m.new) }
+    ensures done { OnOk result (M.honest m.new → Holds (M.now m.old) (with_slices (M.now m.old).image runs.now bytes.now (sectors_for (length bytes.now) - 1)) (M.now m.new)) }
+{
+    let count = (bytes.len() as u32).div_ceil(512);
+    for k in 0..count {
+        let place = runs.sector(k + 1).unwrap();
+        write_sector(m, place, &slice_at(bytes, k))?;
+    }
+    Ok(())
+}
+
+// Slice k of the bytes, filled up with zeros.
+fn slice_at(bytes: &[u8], k: u32) -> [u8; 512]
+    requires { k * 512 < length bytes.now }
+    ensures { result ≡ slice_of bytes.now k }
+{
+    let mut b = [0; 512];
+    let (_, rest) = bytes.split_at(k as usize * 512);
+    let n = rest.len().min(512);
+    let (slice, _) = rest.split_at(n);
+    b[..n].copy_from_slice(slice);
+    b
+}
