@@ -1,7 +1,7 @@
 -- What a run ends with, by its answer and how it is said.
-use Rattle.std.proofs.Common.{◌≡◌, ◌⊎◌, inl, inr, ℕ, ◌≤◌, List, [], ◌∷◌, ◌++◌, Result, Ok, Err, refl, sym, ap, subst, ◌∙◌, arith}
+use Rattle.std.proofs.Common.{◌≡◌, ◌⊎◌, inl, inr, ℕ, ◌≤◌, List, [], ◌∷◌, ◌++◌, length, take, take_all, Result, Ok, Err, refl, sym, ap, subst, ◌∙◌, arith}
 use Rattle.std.specs.Prelude.{IsTrue}
-use Rattle.sector_disk.specs.Machine.{Ledger, Moment, Report, Rose, Says, Utters}
+use Rattle.sector_disk.specs.Machine.{DeviceFault, Moment, Report, Rose}
 use Rattle.sector_disk.specs.Image.{IsWorn, Windows, open_damage}
 use Rattle.sector_disk.proofs.Wear.{worn_trans}
 use Rattle.volume_layout.specs.declared.layout.Layout.{Layout}
@@ -14,10 +14,10 @@ use Rattle.cfs_run.specs.declared.answer.Answer.{Answer}
 use Rattle.cfs_run.specs.declared.answer.Answer.TheVariants as Said
 use Rattle.cfs_run.specs.declared.request.Request.{Request}
 use Rattle.cfs_run.specs.declared.request.Request.TheVariants.{Outside, BadField, Format, Put, Get}
-use Rattle.cfs_run.specs.Text.{memory_text, text}
+use Rattle.cfs_run.specs.Text.{fault_text, memory_text, text}
 use Rattle.cfs_run.specs.Answer.{CausesLine, Finishes, SaysAll, SaysSome, Spoken, UsesOutput, answer_status, answer_text, status_of}
 use Rattle.cfs_run.specs.Formatting.{Asks, HoldsVolume, IsDeviceLine, IsFormatLine, MakesVolume, UsesAttach, VolumeMade, format_line, plan_asks}
-use Rattle.cfs_run.specs.Ends.{Answers, AsksAtMost, AsksFor, CausesAnswer, EndsAs, Holds, IsAnswerTo, IsUntouched, Leaves, NoneRose, PlanLeaves, asks_of, complete_statuses, fault_statuses, is_one_of, plan_statuses}
+use Rattle.cfs_run.specs.Ends.{Answers, AsksAtMost, AsksFor, CausesAnswer, EndsAs, Holds, IsAnswerTo, IsUntouched, Leaves, NoneRose, PlanLeaves, SaysPartOf, asks_of, complete_statuses, fault_statuses, is_one_of, plan_statuses, reply_texts}
 
 -- a run: what was answered, and how that was said
 pub record Ran (H : Type 0) (request : Request) (answer : Answer) (old mid new : Report) (at between after : Moment) (result : ℕ) : Type 0 where
@@ -26,6 +26,7 @@ pub record Ran (H : Type 0) (request : Request) (answer : Answer) (old mid new :
   pub uses : UsesAttach old mid
   pub says : UsesOutput mid new
   pub said : Finishes H (answer_text answer) (answer_status answer) mid new between after result
+  pub quiet : H → between.said ≡ at.said
   pub leaves : H → Leaves request answer at between
 
 -- ---- statuses of an answer
@@ -48,25 +49,35 @@ device_status (Lines.Made key sectors) h = absurd h
 device_status (Lines.Damaged key s) h = absurd h
 device_status (Lines.Refused why) h = absurd h
 
--- what is answered with 4 is a counted fault of the disk
-device_cause : (answer : Answer) (old new : Report) → answer_status answer ≡ 4 → CausesAnswer answer old new → Rose old.disk_faults new.disk_faults
-device_cause (Said.Line (Lines.Ended (Ends.Device s))) old new four cause = cause.rose
-device_cause (Said.Line (Lines.Ended Ends.NotVolume)) old new four cause = cc
-device_cause (Said.Line (Lines.Ended (Ends.Lost a b))) old new four cause = cc
-device_cause (Said.Line (Lines.Ended Ends.NoAnchor)) old new four cause = cc
-device_cause (Said.Line (Lines.Ended (Ends.Unsound s))) old new four cause = cc
-device_cause (Said.Line (Lines.Ended Ends.Input)) old new four cause = cc
-device_cause (Said.Line (Lines.Ended Ends.InputTooLong)) old new four cause = cc
-device_cause (Said.Line (Lines.Ended Ends.Memory)) old new four cause = cc
-device_cause (Said.Line (Lines.Ended Ends.WornOut)) old new four cause = cc
-device_cause (Said.Line Lines.Usage) old new four cause = cc
-device_cause (Said.Line (Lines.BadField why)) old new four cause = cc
-device_cause (Said.Line (Lines.Formatted n free)) old new four cause = cc
-device_cause (Said.Line (Lines.Unplanned why)) old new four cause = cc
-device_cause (Said.Line (Lines.Made key sectors)) old new four cause = cc
-device_cause (Said.Line (Lines.Damaged key s)) old new four cause = cc
-device_cause (Said.Line (Lines.Refused why)) old new four cause = cc
-device_cause (Said.Bytes bytes) old new four cause = cc
+-- what is answered with 4 is a fault of the disk
+device_answer : (answer : Answer) → answer_status answer ≡ 4 → (s : ℕ) × (answer ≡ Said.Line (Lines.Ended (Ends.Device s)))
+device_answer (Said.Line (Lines.Ended (Ends.Device s))) four = (s, refl)
+device_answer (Said.Line (Lines.Ended Ends.NotVolume)) four = cc
+device_answer (Said.Line (Lines.Ended (Ends.Lost a b))) four = cc
+device_answer (Said.Line (Lines.Ended Ends.NoAnchor)) four = cc
+device_answer (Said.Line (Lines.Ended (Ends.Unsound s))) four = cc
+device_answer (Said.Line (Lines.Ended Ends.Input)) four = cc
+device_answer (Said.Line (Lines.Ended Ends.InputTooLong)) four = cc
+device_answer (Said.Line (Lines.Ended Ends.Memory)) four = cc
+device_answer (Said.Line (Lines.Ended Ends.WornOut)) four = cc
+device_answer (Said.Line Lines.Usage) four = cc
+device_answer (Said.Line (Lines.BadField why)) four = cc
+device_answer (Said.Line (Lines.Formatted n free)) four = cc
+device_answer (Said.Line (Lines.Unplanned why)) four = cc
+device_answer (Said.Line (Lines.Made key sectors)) four = cc
+device_answer (Said.Line (Lines.Damaged key s)) four = cc
+device_answer (Said.Line (Lines.Refused why)) four = cc
+device_answer (Said.Bytes bytes) four = cc
+
+device_line : (line : Line) → IsDeviceLine line → (s : ℕ) × (Said.Line line ≡ Said.Line (Lines.Ended (Ends.Device s)))
+device_line line device = device_answer (Said.Line line) (device_status line device)
+
+device_cause : (answer : Answer) (s : ℕ) (old new : Report) → answer ≡ Said.Line (Lines.Ended (Ends.Device s)) → CausesAnswer answer old new → DeviceFault old new s
+device_cause answer s old new e cause = subst (λ (a : Answer). CausesAnswer a old new) e cause
+
+device_text : (answer : Answer) (s : ℕ) (old new : Report) → answer ≡ Said.Line (Lines.Ended (Ends.Device s)) → CausesAnswer answer old new
+    → answer_text answer ≡ fault_text (Ends.Device new.fault_place)
+device_text answer s old new e cause = ap answer_text e ∙ ap (λ (place : ℕ). fault_text (Ends.Device place)) (device_cause answer s old new e cause).told
 
 -- ---- the status
 
@@ -184,6 +195,48 @@ request_heard H (Put name) (Said.Bytes bytes) mid new at between after result is
 request_heard H (Get key) (Said.Line line) mid new at between after result is no_fault made never h said = heard_as H line Lines.Usage mid new at between after result is (ap (λ (m : Moment). m.said) made) never h said
 request_heard H (Get key) (Said.Bytes bytes) mid new at between after result is no_fault made never h said = absurd is
 
+-- ---- what may be said at all
+
+part_of : (bytes : List ℕ) (texts : List (List ℕ)) (before after : List ℕ) (heard : ℕ) → after ≡ before ++ take heard bytes → SaysPartOf (bytes ∷ texts) before after
+part_of bytes texts before after heard said = inl (heard, said)
+
+-- the text of a whole is a part
+whole_part : (bytes before after : List ℕ) → after ≡ before ++ bytes → after ≡ before ++ take (length bytes) bytes
+whole_part bytes before after said = said ∙ ap (λ (b : List ℕ). before ++ b) (sym (take_all (length bytes) bytes (omega arith)))
+
+-- some first bytes of the answer's text, or of that of refused memory
+part_said : (H : Type 0) (bytes : List ℕ) (status : ℕ) (mid new : Report) (at between after : Moment) (result : ℕ) → between.said ≡ at.said → H
+    → Finishes H bytes status mid new between after result → ((heard : ℕ) × (after.said ≡ at.said ++ take heard memory_text)) ⊎ ((heard : ℕ) × (after.said ≡ at.said ++ take heard bytes))
+part_said H bytes status mid new at between after result same h (inl (inl all)) = inr (length bytes, whole_part bytes at.said after.said ((all.said h).said ∙ ap (λ (s : List ℕ). s ++ bytes) same))
+part_said H bytes status mid new at between after result same h (inl (inr some)) = let cut = some.said h in inr (cut.heard, cut.said ∙ ap (λ (s : List ℕ). s ++ take cut.heard bytes) same)
+part_said H bytes status mid new at between after result same h (inr (inl all)) = inl (length memory_text, whole_part memory_text at.said after.said ((all.said h).said ∙ ap (λ (s : List ℕ). s ++ memory_text) same))
+part_said H bytes status mid new at between after result same h (inr (inr some)) = let cut = some.said h in inl (cut.heard, cut.said ∙ ap (λ (s : List ℕ). s ++ take cut.heard memory_text) same)
+
+-- the answer's text is one of the request's
+plan_part : (planned : Result Layout LayoutFault) (line : Line) (old mid : Report) (before after : List ℕ) → IsFormatLine planned line → CausesLine line old mid
+    → ((heard : ℕ) × (after ≡ before ++ take heard (text line))) → SaysPartOf (text (format_line planned) ∷ fault_text (Ends.Device mid.fault_place) ∷ []) before after
+plan_part (Ok l) line old mid before after (inl same) cause part = inl (part.0, part.1 ∙ ap (λ (x : Line). before ++ take part.0 (text x)) same)
+plan_part (Ok l) line old mid before after (inr device) cause part =
+    let told = device_line line device in
+    inr (inl (part.0, part.1 ∙ ap (λ (b : List ℕ). before ++ take part.0 b) (device_text (Said.Line line) told.0 old mid told.1 cause)))
+plan_part (Err why) line old mid before after same cause part = inl (part.0, part.1 ∙ ap (λ (x : Line). before ++ take part.0 (text x)) same)
+
+line_part : (line this : Line) (before after : List ℕ) → line ≡ this → ((heard : ℕ) × (after ≡ before ++ take heard (text line))) → SaysPartOf (text this ∷ []) before after
+line_part line this before after same part = inl (part.0, part.1 ∙ ap (λ (x : Line). before ++ take part.0 (text x)) same)
+
+request_part : (request : Request) (answer : Answer) (old mid : Report) (before after : List ℕ) → IsAnswerTo request answer → CausesAnswer answer old mid
+    → ((heard : ℕ) × (after ≡ before ++ take heard (answer_text answer))) → SaysPartOf (reply_texts request mid.fault_place) before after
+request_part (Format n t p) (Said.Line line) old mid before after is cause part = plan_part (plan n t p) line old mid before after is cause part
+request_part (Format n t p) (Said.Bytes bytes) old mid before after is cause part = absurd is
+request_part Outside (Said.Line line) old mid before after is cause part = line_part line Lines.Usage before after is part
+request_part Outside (Said.Bytes bytes) old mid before after is cause part = absurd is
+request_part (BadField why) (Said.Line line) old mid before after is cause part = line_part line (Lines.BadField why) before after is part
+request_part (BadField why) (Said.Bytes bytes) old mid before after is cause part = absurd is
+request_part (Put name) (Said.Line line) old mid before after is cause part = line_part line Lines.Usage before after is part
+request_part (Put name) (Said.Bytes bytes) old mid before after is cause part = absurd is
+request_part (Get key) (Said.Line line) old mid before after is cause part = line_part line Lines.Usage before after is part
+request_part (Get key) (Said.Bytes bytes) old mid before after is cause part = absurd is
+
 -- ---- the image
 
 said_untouched : (H : Type 0) (bytes : List ℕ) (status : ℕ) (mid new : Report) (between after : Moment) (result : ℕ) → H → Finishes H bytes status mid new between after result → IsUntouched between after
@@ -254,7 +307,7 @@ module _ (H : Type 0) (request : Request) (answer : Answer) (old mid new : Repor
   run_status = status_fits request answer result (Rose mid.output_faults new.output_faults) ran.answers ended
 
   no_device : NoneRose old new → answer_status answer ≡ 4 → ⊥
-  no_device none four = none.disk (subst (λ (k : ℕ). Rose old.disk_faults k) (sym ran.says.disk) (device_cause answer old mid four ran.cause))
+  no_device none four = none.disk (subst (λ (k : ℕ). Rose old.disk_faults k) (sym ran.says.disk) (let device = device_answer answer four in (device_cause answer device.0 old mid device.1 ran.cause).rose))
 
   no_output : NoneRose old new → Rose mid.output_faults new.output_faults → ⊥
   no_output none rose = none.output (subst (λ (k : ℕ). Rose k new.output_faults) ran.uses.output rose)
@@ -267,6 +320,24 @@ module _ (H : Type 0) (request : Request) (answer : Answer) (old mid new : Repor
 
   still : H → IsUntouched between after
   still h = said_untouched H (answer_text answer) (answer_status answer) mid new between after result h ran.said
+
+  pub run_said : H → SaysPartOf (memory_text ∷ reply_texts request new.fault_place) at.said after.said
+  run_said h = elim (part_said H (answer_text answer) (answer_status answer) mid new at between after result (ran.quiet h) h ran.said) [
+    | inl part ↦ inl part
+    | inr part ↦ inr (subst (λ (place : ℕ). SaysPartOf (reply_texts request place) at.said after.said) (sym ran.says.place) (request_part request answer old mid at.said after.said ran.answers ran.cause part))
+  ]
+
+  pub run_fault_said : result ≡ 4 → H → after.said ≡ at.said ++ fault_text (Ends.Device new.fault_place)
+  run_fault_said four h = elim ran.said [
+    | inl whole ↦ elim whole [
+      | inl all ↦
+          let device = device_answer answer (sym all.ends ∙ four) in
+          (all.said h).said ∙ ap (λ (s : List ℕ). s ++ answer_text answer) (ran.quiet h) ∙ ap (λ (b : List ℕ). at.said ++ b) (device_text answer device.0 old mid device.1 ran.cause)
+          ∙ ap (λ (place : ℕ). at.said ++ fault_text (Ends.Device place)) (sym ran.says.place)
+      | inr some ↦ absurd (omega (arith, some.ends))
+    ]
+    | inr memory ↦ elim memory [ inl all ↦ absurd (omega (arith, all.ends)) | inr some ↦ absurd (omega (arith, some.ends)) ]
+  ]
 
   pub run_holds : result ≡ 0 → H → Holds request after
   run_holds done h = request_holds request answer at between after ran.answers (done_by_answer result (answer_status answer) (Rose mid.output_faults new.output_faults) done ended) (ran.leaves h) (still h)

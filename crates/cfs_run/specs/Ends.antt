@@ -12,7 +12,8 @@ use Rattle.cfs_run.specs.declared.answer.Answer.{Answer}
 use Rattle.cfs_run.specs.declared.answer.Answer.TheVariants as Said
 use Rattle.cfs_run.specs.declared.request.Request.{Request}
 use Rattle.cfs_run.specs.declared.request.Request.TheVariants.{Outside, BadField, Format, Put, Get}
-use Rattle.cfs_run.specs.Text.{memory_text, text}
+use Rattle.cfs_run.specs.declared.fault.Fault.TheVariants as Ends
+use Rattle.cfs_run.specs.Text.{fault_text, memory_text, text}
 use Rattle.cfs_run.specs.Answer.{CausesLine, answer_status, answer_text, status_of}
 use Rattle.cfs_run.specs.Formatting.{Asks, HoldsVolume, IsDeviceLine, IsFormatLine, VolumeMade, format_line, plan_asks}
 
@@ -80,6 +81,17 @@ abbrev pub Answers : Request → List ℕ → List ℕ → ℕ → Type 0
 Answers (Format n t p) before after result = EndsAs (format_line (plan n t p)) before after result
 Answers (BadField cause) before after result = EndsAs (Says.BadField cause) before after result
 Answers request before after result = EndsAs Says.Usage before after result
+
+-- the texts that may be said but for that of refused memory; the place is that of the disk's last fault
+abbrev pub reply_texts : Request → (place : ℕ) → List (List ℕ)
+reply_texts (Format n t p) place = text (format_line (plan n t p)) ∷ fault_text (Ends.Device place) ∷ []
+reply_texts (BadField cause) place = text (Says.BadField cause) ∷ []
+reply_texts request place = text Says.Usage ∷ []
+
+-- some first bytes of one of these texts are said
+abbrev pub SaysPartOf : List (List ℕ) → (before after : List ℕ) → Type 0
+SaysPartOf [] before after = ⊥
+SaysPartOf (bytes ∷ texts) before after = ((heard : ℕ) × (after ≡ before ++ take heard bytes)) ⊎ SaysPartOf texts before after
 
 -- ---- what is left
 

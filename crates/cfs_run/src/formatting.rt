@@ -19,6 +19,7 @@ pub(crate) fn make<M: Machine>(path: &str, sectors: u32, third: u32, pages: u32,
     ensures uses { UsesAttach (M.report m.old) (M.report m.new) }
     ensures trust { Trusts (M.tells m.old) (M.tells m.new) (M.honest m.old) (M.honest m.new) }
     ensures asks { M.tells m.new → AsksPlan (plan sectors third pages) path.now result (M.ledger m.old) (M.ledger m.new) }
+    ensures quiet { M.honest m.new → (M.now m.new).said ≡ (M.now m.old).said }
     ensures done { M.honest m.new → VolumeMade (plan sectors third pages) result (M.now m.old) (M.now m.new) }
 {
     match Layout::plan(sectors, third, pages) {
@@ -33,6 +34,7 @@ fn make_planned<M: Machine>(path: &str, l: &Layout, m: &mut M) -> Line
     ensures uses { UsesAttach (M.report m.old) (M.report m.new) }
     ensures trust { Trusts (M.tells m.old) (M.tells m.new) (M.honest m.old) (M.honest m.new) }
     ensures asks { M.tells m.new → AsksPlan (Ok l.now) path.now result (M.ledger m.old) (M.ledger m.new) }
+    ensures quiet { M.honest m.new → (M.now m.new).said ≡ (M.now m.old).said }
     ensures done { M.honest m.new → VolumeMade (Ok l.now) result (M.now m.old) (M.now m.new) }
 {
     match m.attach(path, Attach::New(l.sectors())) {

@@ -16,21 +16,12 @@ pub enum Line {
     Usage,
     /// A field of the words is refused.
     BadField(Cause),
-    Formatted {
-        sectors: u32,
-        free: u32,
-    },
+    Formatted { sectors: u32, free: u32 },
     /// A volume of these numbers can't be.
     Unplanned(LayoutFault),
-    Made {
-        key: Key,
-        sectors: u32,
-    },
+    Made { key: Key, sectors: u32 },
     /// The first damaged sector of a version.
-    Damaged {
-        key: Key,
-        sector: u32,
-    },
+    Damaged { key: Key, sector: u32 },
     Refused(Refusal),
     Ended(Fault),
 }

@@ -1,10 +1,12 @@
 //! The top call.
-ghost use Rattle.std.specs.Prelude.{◌≡◌, ◌++◌, [], map, IsTrue};
+ghost use Rattle.std.specs.Prelude.{◌≡◌, ◌++◌, [], ◌∷◌, map, IsTrue};
 ghost use Rattle.std.specs.String.{string_bytes};
 ghost use Rattle.sector_disk.specs.Machine.{Rose, Trusts};
+ghost use Rattle.cfs_run.specs.declared.fault.Fault.TheVariants as Ends;
+ghost use Rattle.cfs_run.specs.Text.{fault_text, memory_text};
 ghost use Rattle.cfs_run.specs.Words.{path_of, request_of};
 ghost use Rattle.cfs_run.specs.Formatting.{UsesAttach};
-ghost use Rattle.cfs_run.specs.Ends.{Answers, AsksAtMost, AsksFor, CausesAnswer, Holds, IsAnswerTo, IsUntouched, Leaves, NoneRose, asks_of, complete_statuses, fault_statuses, is_one_of};
+ghost use Rattle.cfs_run.specs.Ends.{Answers, AsksAtMost, AsksFor, CausesAnswer, Holds, IsAnswerTo, IsUntouched, Leaves, NoneRose, SaysPartOf, asks_of, complete_statuses, fault_statuses, is_one_of, reply_texts};
 
 use crate::answer::{Answer, finish};
 use crate::formatting::make;
@@ -29,9 +31,14 @@ pub fn run_cfs<M: Machine>(alloc: Global, words: &[String], m: &mut M) -> u8
     ensures attached { let asked = map string_bytes words.now in
         result ≡ 0 → M.tells m.new → (M.ledger m.new).attaches ≡ (M.ledger m.old).attaches ++ asks_of (request_of asked) (path_of asked) }
 
-    // What is said, and what the image holds.
+    // What is said: some first bytes of one of the texts that the words allow, all of them but at status 6.
+    ensures said { M.honest m.new → SaysPartOf (memory_text ∷ reply_texts (request_of (map string_bytes words.now)) (M.report m.new).fault_place)
+        (M.now m.old).said (M.now m.new).said }
+    ensures fault_said { result ≡ 4 → M.honest m.new → (M.now m.new).said ≡ (M.now m.old).said ++ fault_text (Ends.Device (M.report m.new).fault_place) }
     ensures answers { M.honest m.new → NoneRose (M.report m.old) (M.report m.new)
         → Answers (request_of (map string_bytes words.now)) (M.now m.old).said (M.now m.new).said result }
+
+    // What the image holds.
     ensures image { result ≡ 0 → M.honest m.new → Holds (request_of (map string_bytes words.now)) (M.now m.new) }
     ensures untouched { let asked = map string_bytes words.now in
         asks_of (request_of asked) (path_of asked) ≡ [] → M.honest m.new → IsUntouched (M.now m.old) (M.now m.new) }
@@ -49,6 +56,7 @@ fn carry_out<M: Machine>(words: &[String], m: &mut M) -> Answer
     ensures trust { Trusts (M.tells m.old) (M.tells m.new) (M.honest m.old) (M.honest m.new) }
     ensures asks { let asked = map string_bytes words.now in
         M.tells m.new → AsksFor (asks_of (request_of asked) (path_of asked)) result (M.ledger m.old) (M.ledger m.new) }
+    ensures quiet { M.honest m.new → (M.now m.new).said ≡ (M.now m.old).said }
     ensures leaves { M.honest m.new → Leaves (request_of (map string_bytes words.now)) result (M.now m.old) (M.now m.new) }
 {
     match read_words(words) {

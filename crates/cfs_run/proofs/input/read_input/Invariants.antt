@@ -12,5 +12,5 @@ invariant-loop g l = record {
   taken : g.M.Machine.tells l.m → SoFar (g.M.Machine.ledger l.fn.m) (g.M.Machine.ledger l.m) l.bytes.items;
   worn : g.M.Machine.honest l.m → Wears (g.M.Machine.now l.fn.m) (g.M.Machine.now l.m);
   turns : l.counter ≤ length l.bytes.items;
-  most : length l.bytes.items ≤ MOST_INPUT
+  most : length l.bytes.items ≤ MOST_INPUT;
 }

@@ -9,7 +9,7 @@ use Rattle.cfs_run.proofs.request.read_command.Goals as goal
 
 pub returns-in_default : goal.returns-in_default
 returns-in_default c = elim c.in_default.branch [
-  in_default-via-then-words-lt3 w ↦ other_words (string_bytes {Z = Global}) c.args.words.now (λ h. omega (arith, ltb-true, ltb-false)) (λ h. omega (arith, ltb-true, ltb-false))
+  | in_default-via-then-words-lt3 w ↦ other_words (string_bytes {Z = Global}) c.args.words.now (λ h. omega (arith, ltb-true, ltb-false)) (λ h. omega (arith, ltb-true, ltb-false))
   | in_default-via-else-words-lt3+else-words-lt4+then-words-lt5 w ↦ other_words (string_bytes {Z = Global}) c.args.words.now (λ h. omega (arith, ltb-true, ltb-false)) (λ h. omega (arith, ltb-true, ltb-false))
   | in_default-via-else-words-lt3+else-words-lt4+else-words-lt5+else-words-lt6 w ↦ other_words (string_bytes {Z = Global}) c.args.words.now (λ h. omega (arith, ltb-true, ltb-false)) (λ h. omega (arith, ltb-true, ltb-false))
 ]
