@@ -1,2 +1,5 @@
+pub mod Anchors
 pub mod AtHome
 pub mod Format
+pub mod Homes
+pub mod Roots

@@ -1,13 +1,13 @@
 -- A machine whose windows are calm: what its calls say of images are equations.
-use Rattle.std.proofs.Common.{◌≡◌, inl, inr, ℕ, ◌/◌, Bool, List, ◌++◌, length, Option, Some, None, sym, ◌∙◌, ap, subst, arith}
+use Rattle.std.proofs.Common.{◌≡◌, inl, inr, ℕ, ◌+◌, ◌/◌, Bool, List, ◌++◌, length, take, take_all, set, Option, Some, None, sym, ◌∙◌, ap, subst, arith}
 use Rattle.std.specs.Prelude.{IsTrue, IfSome}
 use Rattle.std.proofs.lemmas.Bool.{and_parts}
 use Rattle.std.proofs.lemmas.Bool.Decides.{nat_tests}
 use Rattle.std.proofs.lemmas.List.{ext_get_or}
 use Rattle.sector_disk.specs.declared.sector.Sector.{Sector}
-use Rattle.sector_disk.specs.declared.sector.Sector.TheVariants.{Damaged}
+use Rattle.sector_disk.specs.declared.sector.Sector.TheVariants.{Whole, Damaged}
 use Rattle.sector_disk.specs.declared.sector.WeakRun.{WeakRun}
-use Rattle.sector_disk.specs.Image.{stand, IsWorn, in_run, outside, Windows, IsEmpty, IsCalm, weak, open_damage, settled}
+use Rattle.sector_disk.specs.Image.{stand, with_sector, IsWorn, in_run, outside, Windows, IsEmpty, IsCalm, weak, open_damage, settled}
 use Rattle.sector_disk.specs.Machine.{Moment, Wears, Writes, Tears, Says, Names, Settles, Finds}
 use Rattle.sector_disk.proofs.Wear.{outside_may}
 
@@ -32,6 +32,13 @@ calm_worn windows i j calm worn = worn_not (open_damage windows) i j (λ place h
 pub calm_outside : (windows : Windows) (first count : ℕ) (i j : List Sector) → IsCalm windows → IsWorn (outside first count (open_damage windows)) i j → j ≡ i
 calm_outside windows first count i j calm worn = worn_not (outside first count (open_damage windows)) i j (λ place h. calm_nowhere windows.present windows.next place calm.present calm.next (outside_may first count (open_damage windows) place h)) worn
 
+-- a write of one sector
+pub stand_one : (image : List Sector) (place : ℕ) (bytes : List ℕ) → length bytes ≡ 512 → stand image place bytes 1 ≡ with_sector image place bytes
+stand_one image place bytes size =
+    let here : place + 0 ≡ place = omega arith in
+    let all : take 512 bytes ≡ bytes = take_all 512 bytes (omega (arith, size)) in
+    ap (λ (at : ℕ). set image at (Whole (take 512 bytes))) here ∙ ap (λ (b : List ℕ). set image place (Whole b)) all
+
 same_moment : (a b : Moment) → a.image ≡ b.image → a.windows ≡ b.windows → a.said ≡ b.said → a ≡ b
 same_moment a b image windows said =
     ap (λ (x : List Sector). record { image = x; windows = a.windows; said = a.said }) image
@@ -45,6 +52,13 @@ module _ (old new : Moment) (calm : IsCalm old.windows) where
 
   pub calm_writes : (first : ℕ) (bytes : List ℕ) → Writes first bytes old new → new ≡ record { image = stand old.image first bytes (length bytes / 512); windows = old.windows; said = old.said }
   calm_writes first bytes written = same_moment new _ (calm_outside old.windows first (length bytes / 512) (stand old.image first bytes (length bytes / 512)) new.image calm written.image) written.windows written.said
+
+  -- one sector is written
+  pub calm_sector : (place : ℕ) (bytes : List ℕ) → length bytes ≡ 512 → Writes place bytes old new → new ≡ record { image = with_sector old.image place bytes; windows = old.windows; said = old.said }
+  calm_sector place bytes size written =
+      calm_writes place bytes written
+      ∙ ap (λ (count : ℕ). record { image = stand old.image place bytes count; windows = old.windows; said = old.said }) (ap (λ (n : ℕ). n / 512) size)
+      ∙ ap (λ (image : List Sector). record { image = image; windows = old.windows; said = old.said }) (stand_one old.image place bytes size)
 
   -- some first sectors of the write stand
   pub calm_tears : (first : ℕ) (bytes : List ℕ) (torn : Tears first bytes old new) → new ≡ record { image = stand old.image first bytes torn.image.stood; windows = old.windows; said = old.said }

@@ -86,7 +86,8 @@ impl Machine for MemoryMachine {
         ensures asked_err { OnErr result (Unit {0} → (memory_ledger self.new ≡ memory_ledger self.old) ⊎ (memory_ledger self.new ≡ asked_for (memory_ledger self.old) path.now how)) }
         ensures exact { FailsExactly self.old self.new result }
         ensures hurts { HurtsExactly false self.old self.new }
-        ensures image { FoundExactly how self.old self.new }
+        ensures image { OnOk result (FoundExactly how self.old self.new) }
+        ensures image_err { OnErr result (HurtExactly false self.old self.new) }
         ensures stays { StaysStopped self.old self.new result }
         ensures noted { NotesOrNothing self.old self.new }
         ensures line { memory_line self.new ≡ memory_line self.old }

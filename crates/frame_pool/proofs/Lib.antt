@@ -1,0 +1,6 @@
+pub mod Memory
+pub mod Pools
+pub mod Rows
+pub mod Sharing
+pub mod Slots
+pub mod Two

@@ -1,0 +1,5 @@
+pub mod FramePool
+pub mod FramePoolLends
+pub mod Lends
+pub mod Ownership
+pub mod Places

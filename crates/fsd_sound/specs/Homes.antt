@@ -1,0 +1,9 @@
+-- What stands at home of a page.
+use Rattle.std.specs.Prelude.{ℕ, List, Option}
+use Rattle.volume_layout.specs.declared.layout.Layout.{Layout}
+use Rattle.volume_layout.specs.Layout.{home_a, home_b}
+use Rattle.fsd_files.specs.Disk.{Image, bytes_at, either_copy}
+
+-- the first of a page's two homes that is Whole
+abbrev pub home_of : Layout → Image → ℕ → Option (List ℕ)
+home_of l i page = either_copy (bytes_at i (home_a l page)) (bytes_at i (home_b l page))

@@ -1,0 +1,26 @@
+//! An image in a real file, and the machine over it, standard input and standard output.
+//!
+//! **The file.** A file of slots of 520 bytes: the slot of sector s begins at byte 520 * s and holds the sector's 512
+//! bytes, then s, then a check of the bytes, both as big-endian u32. Anything else in its place reads as a damaged
+//! sector: a slot of zeros, as a new file has them, one whose bytes or check have changed, and one that belongs to
+//! another sector. An image has as many sectors as its file has whole slots, and what follows the last one is not looked
+//! at.
+//!
+//! **What is trusted.** `FileMachine` meets the contract of `Machine` and tells nothing of content: no contract can say
+//! what a file, a disk or a terminal gives or takes. That slots are spelled and read as they should be is proved; these
+//! are taken on trust, and tried on a real file by a test:
+//! - each slot is sought, read and written in its own place;
+//! - what the system has synced is on the disk, and a new file is found again under its name;
+//! - a write that fails or is stopped has put some first slots of it, and no more of them are damaged, a torn one among
+//!   them, than the open windows allow;
+//! - the input's bytes come and the console's go in order.
+#![tactic(auto)]
+
+mod file_machine;
+mod slot;
+
+pub use file_machine::FileMachine;
+pub use slot::{SLOT_BYTES, read_slot, slot_of};
+
+#[cfg(test)]
+mod tests;

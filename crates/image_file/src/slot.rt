@@ -1,0 +1,50 @@
+// The slot of a sector: its bytes, its number and a check.
+ghost use Rattle.std.specs.Prelude.{◌≡◌, ◌+◌, ◌≤◌, IfSome, ℕ, List, length, Some};
+ghost use Rattle.fsd_bytes.specs.Bytes.{sector_len};
+ghost use Rattle.fsd_formats.specs.Slot.{check_of, slot_of};
+ghost use Rattle.image_file.specs.Field.{with_bytes};
+
+/// Bytes in a slot.
+pub const SLOT_BYTES: usize = 520;
+
+// The check of a sector's bytes: one more than the sum of each byte times its place, counted from 1. It is at most
+// 33488641, and that of zeros is 1, so a slot of zeros is none.
+fn check_of(b: &[u8; 512]) -> u32
+    ensures { result ≡ check_of b.now }
+{
+    let mut sum = 1u32;
+    for (i, x) in b.iter().enumerate() {
+        sum += (i as u32 + 1) * u32::from(*x);
+    }
+    sum
+}
+
+// Puts bytes in their place.
+fn put(slot: &mut [u8; 520], place: usize, bytes: &[u8])
+    requires { place + length bytes.now ≤ 520 }
+    ensures { slot.new ≡ with_bytes place bytes.now slot.old }
+{
+    slot[place..place + bytes.len()].copy_from_slice(bytes);
+}
+
+/// The slot of sector `s` with the bytes `b`: the bytes at 0, the sector's number at 512 and the check at 516.
+pub fn slot_of(s: u32, b: &[u8; 512]) -> [u8; 520]
+    ensures { result ≡ slot_of s b.now }
+{
+    let mut slot = [0; 520];
+    put(&mut slot, 0, b);
+    put(&mut slot, 512, &s.to_be_bytes());
+    put(&mut slot, 516, &check_of(b).to_be_bytes());
+    slot
+}
+
+/// The bytes of sector `s`, where `x` is its slot. Of any other 520 bytes, those of another sector's slot too, there are
+/// none: the sector is damaged.
+pub fn read_slot(s: u32, x: &[u8; 520]) -> Option<[u8; 512]>
+    ensures found { IfSome result (λ b. x.now ≡ slot_of s b) }
+    ensures only { (b : List ℕ) → length b ≡ sector_len → x.now ≡ slot_of s b → result ≡ Some b }
+{
+    let mut b = [0; 512];
+    b.copy_from_slice(&x[..512]);
+    if slot_of(s, &b) == *x { Some(b) } else { None }
+}

@@ -1,0 +1,74 @@
+-- What a mount finds on the disk of a volume at home, and where the renewed anchors stand.
+use Rattle.std.proofs.Common.{◌≡◌, ◌≢◌, ℕ, ◌^◌, ◌<◌, ◌≤◌, Bool, true, false, ◌&&◌, cond, List, length, Option, Some, None, Ok, refl, ap, ◌∙◌, arith}
+use Rattle.std.specs.Prelude.{option_and_then, nat_le}
+use Rattle.std.proofs.lemmas.Bool.{cond-true, le-leb}
+use Rattle.std.proofs.lemmas.List.{length-set, get_or-set_same, get_or-set_other}
+use Rattle.volume_layout.specs.declared.layout.Layout.{Layout}
+use Rattle.volume_layout.specs.Layout.{plan}
+use Rattle.volume_layout.specs.Root.{root_bytes, read_root}
+use Rattle.volume_layout.proofs.RootLaws.{planned_root_is_read}
+use Rattle.fsd_formats.specs.declared.anchor.Anchor.{Anchor}
+use Rattle.fsd_formats.specs.declared.entry.Entry.{Entry}
+use Rattle.fsd_formats.specs.Anchors.{anchor_bytes, read_anchor, is_anchor}
+use Rattle.fsd_formats.proofs.SpellingLaws.{anchor_is_read}
+use Rattle.sector_disk.specs.declared.sector.Sector.{Sector}
+use Rattle.sector_disk.specs.declared.sector.Sector.TheVariants.{Whole, Damaged}
+use Rattle.sector_disk.specs.Image.{sector_at, with_sector}
+use Rattle.fsd_files.specs.Disk.{Image, bytes_of, either_copy}
+use Rattle.fsd_sound.specs.AtHome.{IsAtHome, anchor_of as fresh_anchor}
+use Rattle.fsd_sound.specs.Roots.{counted_root, root_at}
+use Rattle.fsd_sound.specs.Anchors.{anchor_at, greater_anchor, later_anchor}
+use Rattle.mount_recover.specs.Recover.{IsVolume, with_anchors}
+
+-- ---- what is found
+
+root_stands : (l : Layout) (sectors : ℕ) (i : Image) (s : ℕ) → plan l.sectors l.third l.pages ≡ Ok l → l.sectors ≤ sectors → sector_at i s ≡ Whole (root_bytes l) → root_at sectors i s ≡ Some l
+root_stands l sectors i s planned room stands =
+    ap (λ (x : Sector). option_and_then (counted_root sectors) (option_and_then read_root (bytes_of x))) stands
+    ∙ ap (option_and_then (counted_root sectors)) (planned_root_is_read l planned)
+    ∙ cond-true (nat_le l.sectors sectors) (Some l) None (le-leb l.sectors sectors room)
+
+anchor_stands : (epoch : ℕ) (i : Image) (s : ℕ) → 1 ≤ epoch → epoch < 2 ^ 32 → sector_at i s ≡ Whole (anchor_bytes (fresh_anchor epoch)) → anchor_at i s ≡ Some (fresh_anchor epoch)
+anchor_stands epoch i s first last stands =
+    let fits : is_anchor (fresh_anchor epoch) ≡ true = ap (λ (b : Bool). b && nat_le 0 2 && nat_le 1 1) (le-leb 1 epoch first) in
+    ap (λ (x : Sector). option_and_then read_anchor (bytes_of x)) stands
+    ∙ anchor_is_read (fresh_anchor epoch) fits last (omega arith)
+
+greater_same : (a : Anchor) → greater_anchor (Some a) (Some a) ≡ Some a
+greater_same a = either (later_anchor a a)
+  where
+    either : (b : Bool) → cond b (Some a) (Some a) ≡ Some a
+    either true = refl
+    either false = refl
+
+-- the root and the anchor of a volume at home are found where its sectors are told
+pub at_home_found : (l : Layout) (epoch sectors : ℕ) (entries : List Entry) (i : Image) → IsAtHome l epoch entries i → l.sectors ≤ sectors → IsVolume sectors i l (fresh_anchor epoch)
+at_home_found l epoch sectors entries i h room = record {
+  root = ap (λ (r : Option Layout). either_copy r (root_at sectors i 4)) (root_stands l sectors i 0 h.planned room h.root);
+  anchor =
+      let front = anchor_stands epoch i 8 h.first_epoch h.last_epoch h.anchor in
+      let back = anchor_stands epoch i 12 h.first_epoch h.last_epoch h.anchor_copy in
+      (λ j. greater_anchor (front j) (back j)) ∙ greater_same (fresh_anchor epoch);
+}
+
+-- ---- the renewed anchors
+
+module _ (epoch : ℕ) (i : Image) where
+  abbrev bytes : List ℕ
+  bytes = anchor_bytes (fresh_anchor epoch)
+
+  pub length-with_anchors : length (with_anchors epoch i) ≡ length i
+  length-with_anchors = length-set (with_sector i 8 bytes) 12 (Whole bytes) ∙ length-set i 8 (Whole bytes)
+
+  pub with_anchors_other : (s : ℕ) → s ≢ 8 → s ≢ 12 → sector_at (with_anchors epoch i) s ≡ sector_at i s
+  with_anchors_other s a b =
+      get_or-set_other (with_sector i 8 bytes) 12 s (Whole bytes) Damaged b
+      ∙ get_or-set_other i 8 s (Whole bytes) Damaged a
+
+  pub with_anchors_copy : 12 < length i → sector_at (with_anchors epoch i) 12 ≡ Whole bytes
+  with_anchors_copy room = get_or-set_same (with_sector i 8 bytes) 12 (Whole bytes) Damaged (omega (arith, length-set i 8 (Whole bytes)))
+
+  pub with_anchors_first : 12 < length i → sector_at (with_anchors epoch i) 8 ≡ Whole bytes
+  with_anchors_first room =
+      get_or-set_other (with_sector i 8 bytes) 12 8 (Whole bytes) Damaged (λ e. omega arith)
+      ∙ get_or-set_same i 8 (Whole bytes) Damaged (omega arith)

@@ -1,0 +1,3 @@
+mod CalmReads
+pub mod HomeLaws
+mod RenewLaws

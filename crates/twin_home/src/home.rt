@@ -1,0 +1,70 @@
+// Name pages at home.
+ghost use Rattle.std.specs.Prelude.{◌≡◌, ◌<◌, ◌≤◌, IfOk, IfErr, OnOk, OnErr};
+ghost use Rattle.volume_layout.specs.Layout.{home_a, home_b};
+ghost use Rattle.sector_disk.specs.Machine.{DeviceFault, UsesDisk, Trusts, Wears, Writes, Tears, wrote};
+ghost use Rattle.fsd_sound.specs.Homes.{home_of};
+ghost use Rattle.twin_home.specs.Home.{ShowsHome};
+
+use sector_disk::{Failed, Machine, Seen};
+use volume_layout::Layout;
+
+/// Reads a page from its first home, and where that is damaged from the second. `Damaged` says that both are; `buf` then
+/// stays as it was.
+pub fn read_home<M: Machine>(
+    m: &mut M,
+    l: &Layout,
+    page: u32,
+    buf: &mut [u8; 512],
+) -> Result<Seen, Failed>
+    requires page { page < l.now.pages }
+    requires room { l.now.sectors ≤ (M.report m.old).sectors }
+
+    ensures fault { IfErr result (λ failed. DeviceFault (M.report m.old) (M.report m.new) failed.place) }
+    ensures uses { UsesDisk (M.report m.old) (M.report m.new) }
+    ensures trust { Trusts (M.tells m.old) (M.tells m.new) (M.honest m.old) (M.honest m.new) }
+    ensures ledger { M.tells m.new → M.ledger m.new ≡ M.ledger m.old }
+    ensures worn { M.honest m.new → Wears (M.now m.old) (M.now m.new) }
+
+    // The answer is what the image shows as the call ends.
+    ensures shown { IfOk result (λ seen. M.honest m.new → ShowsHome seen (home_of l.now (M.now m.new).image page) buf.new) }
+    ensures kept { result ≡ Ok Seen.Damaged → buf.new ≡ buf.old }
+{
+    match m.read(l.home_a(page), buf)? {
+        Seen::Whole => Ok(Seen::Whole),
+        Seen::Damaged => m.read(l.home_b(page), buf),
+    }
+}
+
+/// Writes the first home of a page, and nothing else. A call that fails may have written it.
+pub fn write_a<M: Machine>(m: &mut M, l: &Layout, page: u32, b: &[u8; 512]) -> Result<(), Failed>
+    requires page { page < l.now.pages }
+    requires room { l.now.sectors ≤ (M.report m.old).sectors }
+
+    ensures fault { IfErr result (λ failed. DeviceFault (M.report m.old) (M.report m.new) failed.place) }
+    ensures uses { UsesDisk (M.report m.old) (M.report m.new) }
+    ensures trust { Trusts (M.tells m.old) (M.tells m.new) (M.honest m.old) (M.honest m.new) }
+    ensures ledger { OnOk result (M.tells m.new → M.ledger m.new ≡ wrote (M.ledger m.old) 1) }
+    ensures ledger_err { OnErr result (M.tells m.new → M.ledger m.new ≡ M.ledger m.old) }
+
+    ensures written { OnOk result (M.honest m.new → Writes (home_a l.now page) b.now (M.now m.old) (M.now m.new)) }
+    ensures cut { M.honest m.new → Tears (home_a l.now page) b.now (M.now m.old) (M.now m.new) }
+{
+    m.write(l.home_a(page), b)
+}
+
+/// Writes the second home of a page, and nothing else. A call that fails may have written it.
+pub fn write_b<M: Machine>(m: &mut M, l: &Layout, page: u32, b: &[u8; 512]) -> Result<(), Failed>
+    requires page { page < l.now.pages }
+    requires room { l.now.sectors ≤ (M.report m.old).sectors }
+
+    ensures fault { IfErr result (λ failed. DeviceFault (M.report m.old) (M.report m.new) failed.place) }
+    ensures uses { UsesDisk (M.report m.old) (M.report m.new) }
+    ensures trust { Trusts (M.tells m.old) (M.tells m.new) (M.honest m.old) (M.honest m.new) }
+    ensures ledger { OnOk result (M.tells m.new → M.ledger m.new ≡ wrote (M.ledger m.old) 1) }
+    ensures ledger_err { OnErr result (M.tells m.new → M.ledger m.new ≡ M.ledger m.old) }
+
+    ensures written { OnOk result (M.honest m.new → Writes (home_b l.now page) b.now (M.now m.old) (M.now m.new)) }
+    ensures cut { M.honest m.new → Tears (home_b l.now page) b.now (M.now m.old) (M.now m.new) }
+{
+    m.write(l.home_b(page), b)
+}
