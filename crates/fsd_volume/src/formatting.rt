@@ -21,6 +21,7 @@ pub fn format<M: Machine>(m: &mut M, l: &Layout) -> Result<(), Refusal>
     ensures uses { UsesDisk (M.report m.old) (M.report m.new) }
     ensures trust { Trusts (M.tells m.old) (M.tells m.new) (M.honest m.old) (M.honest m.new) }
     ensures ledger { M.tells m.new → OnlyWrites (M.ledger m.old) (M.ledger m.new) }
+    ensures quiet { M.honest m.new → (M.now m.new).said ≡ (M.now m.old).said }
 
     // On a new image an empty volume stands then, in the window that the call opened.
     ensures done { OnOk result (M.honest m.new → IsNew (M.now m.old) → Formats l.now (M.now m.old) (M.now m.new)) }
@@ -38,6 +39,7 @@ fn write_volume<M: Machine>(m: &mut M, l: &Layout) -> Result<(), Failed>
     ensures uses { UsesDisk (M.report m.old) (M.report m.new) }
     ensures trust { Trusts (M.tells m.old) (M.tells m.new) (M.honest m.old) (M.honest m.new) }
     ensures ledger { M.tells m.new → OnlyWrites (M.ledger m.old) (M.ledger m.new) }
+    ensures quiet { M.honest m.new → (M.now m.new).said ≡ (M.now m.old).said }
     ensures done { OnOk result (M.honest m.new → IsNew (M.now m.old) → Formats l.now (M.now m.old) (M.now m.new)) }
 {
     m.healing()?;
@@ -52,6 +54,7 @@ fn write_sectors<M: Machine>(m: &mut M, l: &Layout) -> Result<(), Failed>
     ensures uses { UsesDisk (M.report m.old) (M.report m.new) }
     ensures trust { Trusts (M.tells m.old) (M.tells m.new) (M.honest m.old) (M.honest m.new) }
     ensures ledger { M.tells m.new → OnlyWrites (M.ledger m.old) (M.ledger m.new) }
+    ensures quiet { M.honest m.new → (M.now m.new).said ≡ (M.now m.old).said }
     ensures done { OnOk result (M.honest m.new → Holds (M.now m.old) (with_volume l.now (M.now m.old).image) (M.now m.new)) }
     ensures planned { plan l.now.sectors l.now.third l.now.pages ≡ Ok l.now }
 {
@@ -69,6 +72,7 @@ fn write_pages<M: Machine>(m: &mut M, first: u32, pages: u32) -> Result<(), Fail
     ensures uses { UsesDisk (M.report m.old) (M.report m.new) }
     ensures trust { Trusts (M.tells m.old) (M.tells m.new) (M.honest m.old) (M.honest m.new) }
     ensures ledger { M.tells m.new → OnlyWrites (M.ledger m.old) (M.ledger m.new) }
+    ensures quiet { M.honest m.new → (M.now m.new).said ≡ (M.now m.old).said }
     ensures done { OnOk result (M.honest m.new → Holds (M.now m.old) (with_pages (M.now m.old).image first pages) (M.now m.new)) }
 {
     for page in 0..pages {
@@ -84,6 +88,7 @@ fn write_head<M: Machine>(m: &mut M, l: &Layout) -> Result<(), Failed>
     ensures uses { UsesDisk (M.report m.old) (M.report m.new) }
     ensures trust { Trusts (M.tells m.old) (M.tells m.new) (M.honest m.old) (M.honest m.new) }
     ensures ledger { M.tells m.new → OnlyWrites (M.ledger m.old) (M.ledger m.new) }
+    ensures quiet { M.honest m.new → (M.now m.new).said ≡ (M.now m.old).said }
     ensures done { OnOk result (M.honest m.new → Holds (M.now m.old) (with_head l.now (M.now m.old).image) (M.now m.new)) }
 {
     let anchor = anchor_bytes(&Anchor {
@@ -110,6 +115,7 @@ fn blank<M: Machine>(m: &mut M, first: u32) -> Result<(), Failed>
     ensures uses { UsesDisk (M.report m.old) (M.report m.new) }
     ensures trust { Trusts (M.tells m.old) (M.tells m.new) (M.honest m.old) (M.honest m.new) }
     ensures ledger { M.tells m.new → OnlyWrites (M.ledger m.old) (M.ledger m.new) }
+    ensures quiet { M.honest m.new → (M.now m.new).said ≡ (M.now m.old).said }
     ensures done { OnOk result (M.honest m.new → Holds (M.now m.old) (with_blanks (M.now m.old).image first) (M.now m.new)) }
 {
     let zeros = [0; 512];

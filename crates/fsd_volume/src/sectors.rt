@@ -1,7 +1,13 @@
 //! Single sectors.
+<<<<<<< HEAD
 ghost use Rattle.std.specs.Prelude.{◌<◌, OnOk, IfErr};
 ghost use Rattle.sector_disk.specs.Machine.{DeviceFault, UsesDisk, Trusts, OnlyWrites, Holds};
 ghost use Rattle.sector_disk.specs.Image.{with_sector};
+=======
+ghost use Rattle.std.specs.Prelude.{◌≡◌, ◌<◌, OnOk, IfErr};
+ghost use Rattle.sector_disk.specs.Machine.{DeviceFault, UsesDisk, Trusts, Holds};
+ghost use Rattle.fsd_volume.specs.Calls.{OnlyWrites, with_sector};
+>>>>>>> f46278dc44919393a099b22d1f00bbb7bb66535f
 
 use sector_disk::{Failed, Machine};
 
@@ -12,6 +18,7 @@ pub(crate) fn write_sector<M: Machine>(m: &mut M, place: u32, bytes: &[u8; 512])
     ensures uses { UsesDisk (M.report m.old) (M.report m.new) }
     ensures trust { Trusts (M.tells m.old) (M.tells m.new) (M.honest m.old) (M.honest m.new) }
     ensures ledger { M.tells m.new → OnlyWrites (M.ledger m.old) (M.ledger m.new) }
+    ensures quiet { M.honest m.new → (M.now m.new).said ≡ (M.now m.old).said }
     ensures done { OnOk result (M.honest m.new → Holds (M.now m.old) (with_sector (M.now m.old).image place bytes.now) (M.now m.new)) }
 {
     m.write(place, bytes)?;

@@ -1,0 +1,4 @@
+mod FormatEnds
+mod InputSoFar
+mod RunLaws
+mod WordLists

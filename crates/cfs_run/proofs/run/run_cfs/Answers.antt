@@ -1,0 +1,86 @@
+use Rattle.cfs_run.proofs.RunLaws.{Ran, run_answers, run_completes, run_fault_said, run_holds, run_said, run_status, run_untouched}
+use Rattle.cfs_run.proofs.run.run_cfs.Goals as goal
+
+pub returns-clause-status : goal.returns-clause-status
+returns-clause-status g c =
+    run_status (g.M.Machine.honest c.finish.new.m) _ c.carry_out-answer.result _ _ _ (g.M.Machine.now c.args.m.now) _ _ _ (record {
+      answers = c.carry_out-answer.ensures.answer;
+      cause = c.carry_out-answer.ensures.cause;
+      uses = c.carry_out-answer.ensures.uses;
+      says = c.finish.ensures.uses;
+      said = c.finish.ensures.said;
+      quiet = λ h. c.carry_out-answer.ensures.quiet (c.finish.ensures.trust.honest h);
+      leaves = λ h. c.carry_out-answer.ensures.leaves (c.finish.ensures.trust.honest h);
+    })
+
+pub returns-clause-complete : goal.returns-clause-complete
+returns-clause-complete g c =
+    run_completes (g.M.Machine.honest c.finish.new.m) _ c.carry_out-answer.result _ _ _ (g.M.Machine.now c.args.m.now) _ _ _ (record {
+      answers = c.carry_out-answer.ensures.answer;
+      cause = c.carry_out-answer.ensures.cause;
+      uses = c.carry_out-answer.ensures.uses;
+      says = c.finish.ensures.uses;
+      said = c.finish.ensures.said;
+      quiet = λ h. c.carry_out-answer.ensures.quiet (c.finish.ensures.trust.honest h);
+      leaves = λ h. c.carry_out-answer.ensures.leaves (c.finish.ensures.trust.honest h);
+    })
+
+pub returns-clause-answers : goal.returns-clause-answers
+returns-clause-answers g c =
+    run_answers (g.M.Machine.honest c.finish.new.m) _ c.carry_out-answer.result _ _ _ (g.M.Machine.now c.args.m.now) _ _ _ (record {
+      answers = c.carry_out-answer.ensures.answer;
+      cause = c.carry_out-answer.ensures.cause;
+      uses = c.carry_out-answer.ensures.uses;
+      says = c.finish.ensures.uses;
+      said = c.finish.ensures.said;
+      quiet = λ h. c.carry_out-answer.ensures.quiet (c.finish.ensures.trust.honest h);
+      leaves = λ h. c.carry_out-answer.ensures.leaves (c.finish.ensures.trust.honest h);
+    })
+
+pub returns-clause-image : goal.returns-clause-image
+returns-clause-image g c =
+    run_holds (g.M.Machine.honest c.finish.new.m) _ c.carry_out-answer.result _ _ _ (g.M.Machine.now c.args.m.now) _ _ _ (record {
+      answers = c.carry_out-answer.ensures.answer;
+      cause = c.carry_out-answer.ensures.cause;
+      uses = c.carry_out-answer.ensures.uses;
+      says = c.finish.ensures.uses;
+      said = c.finish.ensures.said;
+      quiet = λ h. c.carry_out-answer.ensures.quiet (c.finish.ensures.trust.honest h);
+      leaves = λ h. c.carry_out-answer.ensures.leaves (c.finish.ensures.trust.honest h);
+    })
+
+pub returns-clause-untouched : goal.returns-clause-untouched
+returns-clause-untouched g c =
+    run_untouched (g.M.Machine.honest c.finish.new.m) _ c.carry_out-answer.result _ _ _ (g.M.Machine.now c.args.m.now) _ _ _ (record {
+      answers = c.carry_out-answer.ensures.answer;
+      cause = c.carry_out-answer.ensures.cause;
+      uses = c.carry_out-answer.ensures.uses;
+      says = c.finish.ensures.uses;
+      said = c.finish.ensures.said;
+      quiet = λ h. c.carry_out-answer.ensures.quiet (c.finish.ensures.trust.honest h);
+      leaves = λ h. c.carry_out-answer.ensures.leaves (c.finish.ensures.trust.honest h);
+    }) _
+
+pub returns-clause-said : goal.returns-clause-said
+returns-clause-said g c =
+    run_said (g.M.Machine.honest c.finish.new.m) _ c.carry_out-answer.result _ _ _ (g.M.Machine.now c.args.m.now) _ _ _ (record {
+      answers = c.carry_out-answer.ensures.answer;
+      cause = c.carry_out-answer.ensures.cause;
+      uses = c.carry_out-answer.ensures.uses;
+      says = c.finish.ensures.uses;
+      said = c.finish.ensures.said;
+      quiet = λ h. c.carry_out-answer.ensures.quiet (c.finish.ensures.trust.honest h);
+      leaves = λ h. c.carry_out-answer.ensures.leaves (c.finish.ensures.trust.honest h);
+    })
+
+pub returns-clause-fault_said : goal.returns-clause-fault_said
+returns-clause-fault_said g c =
+    run_fault_said (g.M.Machine.honest c.finish.new.m) _ c.carry_out-answer.result _ _ _ (g.M.Machine.now c.args.m.now) _ _ _ (record {
+      answers = c.carry_out-answer.ensures.answer;
+      cause = c.carry_out-answer.ensures.cause;
+      uses = c.carry_out-answer.ensures.uses;
+      says = c.finish.ensures.uses;
+      said = c.finish.ensures.said;
+      quiet = λ h. c.carry_out-answer.ensures.quiet (c.finish.ensures.trust.honest h);
+      leaves = λ h. c.carry_out-answer.ensures.leaves (c.finish.ensures.trust.honest h);
+    })

@@ -1,0 +1,6 @@
+pub mod Answer
+pub mod Ends
+pub mod Formatting
+pub mod Input
+pub mod Text
+pub mod Words

@@ -1,0 +1,20 @@
+//! All that the program does, over a machine that is handed in.
+#![tactic(auto)]
+
+mod answer;
+mod fault;
+mod formatting;
+mod input;
+mod line;
+mod refusal;
+mod request;
+mod run;
+
+pub use fault::Fault;
+pub use input::{InputFault, MOST_INPUT, read_input};
+pub use line::{Line, text_of};
+pub use request::{Cause, Request, image_of, read_words};
+pub use run::run_cfs;
+
+#[cfg(test)]
+mod tests;
