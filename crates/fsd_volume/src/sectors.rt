@@ -1,13 +1,7 @@
 //! Single sectors.
-<<<<<<< HEAD
-ghost use Rattle.std.specs.Prelude.{◌<◌, OnOk, IfErr};
+ghost use Rattle.std.specs.Prelude.{◌≡◌, ◌<◌, OnOk, IfErr};
 ghost use Rattle.sector_disk.specs.Machine.{DeviceFault, UsesDisk, Trusts, OnlyWrites, Holds};
 ghost use Rattle.sector_disk.specs.Image.{with_sector};
-=======
-ghost use Rattle.std.specs.Prelude.{◌≡◌, ◌<◌, OnOk, IfErr};
-ghost use Rattle.sector_disk.specs.Machine.{DeviceFault, UsesDisk, Trusts, Holds};
-ghost use Rattle.fsd_volume.specs.Calls.{OnlyWrites, with_sector};
->>>>>>> f46278dc44919393a099b22d1f00bbb7bb66535f
 
 use sector_disk::{Failed, Machine};
 
