@@ -1,7 +1,7 @@
 use Rattle.std.proofs.Common.{◌<◌, ◌∙◌, ap, subst, sym, ℕ}
 use Rattle.sector_set.specs.SectorSet.{SectorsBelow}
-use Rattle.alloc_map.proofs.MapLaws.{insert_step}
-use Rattle.alloc_map.proofs.map.insert_all.Goals as goal
+use Rattle.sector_set.proofs.AreaLaws.{insert_step}
+use Rattle.sector_set.proofs.area.insert_all.Goals as goal
 
 pub loop-run-preserved : goal.loop-run-preserved
 loop-run-preserved c = record {

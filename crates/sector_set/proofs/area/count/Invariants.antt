@@ -1,6 +1,6 @@
 use Rattle.std.proofs.Common.{◌≡◌, ◌+◌, ◌-◌, ◌≤◌, length}
 use Rattle.run_table.specs.Space.{contains, where_free}
-use Rattle.alloc_map.proofs.map.count.Given as goal
+use Rattle.sector_set.proofs.area.count.Given as goal
 
 abbrev pub invariant-loop-run : goal.invariant-loop-run
 invariant-loop-run l = record {

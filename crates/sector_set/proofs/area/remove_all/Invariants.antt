@@ -1,7 +1,7 @@
 use Rattle.std.proofs.Common.{◌≡◌, ℕ, ◌<◌, ◌&&◌, not, drop}
 use Rattle.run_table.specs.RunTable.{sectors_of}
 use Rattle.run_table.specs.Space.{contains}
-use Rattle.alloc_map.proofs.map.remove_all.Given as goal
+use Rattle.sector_set.proofs.area.remove_all.Given as goal
 
 abbrev pub invariant-loop-run : goal.invariant-loop-run
 invariant-loop-run l = record {

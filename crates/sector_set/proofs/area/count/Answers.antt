@@ -1,6 +1,6 @@
 use Rattle.std.proofs.Common.{arith}
-use Rattle.alloc_map.proofs.MapLaws.{counted, none_counted}
-use Rattle.alloc_map.proofs.map.count.Goals as goal
+use Rattle.sector_set.proofs.AreaLaws.{counted, none_counted}
+use Rattle.sector_set.proofs.area.count.Goals as goal
 
 pub loop-run-preserved : goal.loop-run-preserved
 loop-run-preserved c =

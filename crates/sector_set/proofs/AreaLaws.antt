@@ -1,5 +1,5 @@
--- The map: its free sectors and their number.
-use Rattle.std.proofs.Common.{◌≡◌, ℕ, ◌+◌, ◌-◌, ◌^◌, ◌<◌, ◌≤◌, Bool, true, false, not, ◌&&◌, ◌||◌, List, ◌∷◌, length, get_or, drop, Some, None, refl, sym, subst, ap, ◌∙◌, inl, inr, arith}
+-- Sets of an interval and their numbers.
+use Rattle.std.proofs.Common.{[], IfSome, Bool, List, None, Option, Some, ap, arith, drop, false, get_or, inl, inr, length, not, refl, subst, sym, true, ℕ, ◌&&◌, ◌+◌, ◌-◌, ◌<◌, ◌^◌, ◌||◌, ◌∙◌, ◌∷◌, ◌≡◌, ◌≤◌}
 use Rattle.std.specs.Prelude.{nat_lt}
 use Rattle.std.specs.List.{range_with_len}
 use Rattle.std.proofs.lemmas.Bool.{cases_lt, both_ways, le-leb, lt-ltb}
@@ -8,12 +8,12 @@ use Rattle.std.proofs.lemmas.List.Folds.{list_any-append}
 use Rattle.std.proofs.lemmas.List.Sums.{sum_by-cons}
 use Rattle.run_table.specs.declared.run.Run.{Run}
 use Rattle.run_table.specs.RunTable.{run_of, total, sectors_of}
-use Rattle.run_table.specs.Space.{contains, where_free}
+use Rattle.run_table.specs.Space.{contains, where_free, runs_of}
 use Rattle.sector_set.specs.SectorSet.{SectorsBelow, below, in_run, runs_from, IsFirstRun}
 use Rattle.sector_set.proofs.FreeLaws.{where_same, contains_where, contains_where_outside, contains_range, total_of_runs}
 use Rattle.sector_set.proofs.SetLaws.{contains_below}
-use Rattle.alloc_map.specs.FreeSpace.{FreeSpace, space, without, together, AreFree, AreTaken, Counts}
-use Rattle.alloc_map.proofs.CountLaws.{count_without, count_together, no_more_than}
+use Rattle.sector_set.specs.Area.{Area, area, without, together, AreIn, AreOut, Counts, left_of, IsFirstOf}
+use Rattle.sector_set.proofs.CountLaws.{none_where, count_without, count_together, no_more_than}
 
 -- ---- one run more
 
@@ -49,7 +49,7 @@ insert_step runs i d set new s all inside is less so_far =
     regroup true b c = refl
     regroup false b c = refl
 
--- ---- taking and giving back
+-- ---- sectors out of it, and into it
 
 pub free_within : (from to : ℕ) (f : ℕ → Bool) (s : ℕ) → contains (where_free f from to) s ≡ true → (from ≤ s) × (s < to)
 free_within from to f s c =
@@ -64,32 +64,32 @@ free_within from to f s c =
 pub free_passes : (from to : ℕ) (f : ℕ → Bool) (s : ℕ) → contains (where_free f from to) s ≡ true → f s ≡ true
 free_passes from to f s c = let within = free_within from to f s c in sym (contains_where f from to s within.0 within.1) ∙ c
 
-pub space_without : (from end : ℕ) (old new : List ℕ) (runs : List Run) → ((s : ℕ) → s < end → contains new s ≡ (contains old s && not (contains (sectors_of runs) s)))
-    → space from end (contains new) ≡ without (space from end (contains old)) runs
-space_without from end old new runs h =
-    ap (λ (xs : List ℕ). record { from = from; to = end; free = xs }) (where_same (contains new) (λ s. contains (where_free (contains old) from end) s && not (contains (sectors_of runs) s)) from end
+pub area_without : (from end : ℕ) (old new : List ℕ) (runs : List Run) → ((s : ℕ) → s < end → contains new s ≡ (contains old s && not (contains (sectors_of runs) s)))
+    → area from end (contains new) ≡ without (area from end (contains old)) runs
+area_without from end old new runs h =
+    ap (λ (xs : List ℕ). record { from = from; to = end; sectors = xs }) (where_same (contains new) (λ s. contains (where_free (contains old) from end) s && not (contains (sectors_of runs) s)) from end
     (λ s low high. h s high ∙ ap (λ (b : Bool). b && not (contains (sectors_of runs) s)) (sym (contains_where (contains old) from end s low high))))
 
-pub space_together : (from end : ℕ) (old new : List ℕ) (runs : List Run) → ((s : ℕ) → s < end → contains new s ≡ (contains old s || contains (sectors_of runs) s))
-    → space from end (contains new) ≡ together (space from end (contains old)) runs
-space_together from end old new runs h =
-    ap (λ (xs : List ℕ). record { from = from; to = end; free = xs }) (where_same (contains new) (λ s. contains (where_free (contains old) from end) s || contains (sectors_of runs) s) from end
+pub area_together : (from end : ℕ) (old new : List ℕ) (runs : List Run) → ((s : ℕ) → s < end → contains new s ≡ (contains old s || contains (sectors_of runs) s))
+    → area from end (contains new) ≡ together (area from end (contains old)) runs
+area_together from end old new runs h =
+    ap (λ (xs : List ℕ). record { from = from; to = end; sectors = xs }) (where_same (contains new) (λ s. contains (where_free (contains old) from end) s || contains (sectors_of runs) s) from end
     (λ s low high. h s high ∙ ap (λ (b : Bool). b || contains (sectors_of runs) s) (sym (contains_where (contains old) from end s low high))))
 
-pub counts_without : (from end : ℕ) (old new : List ℕ) (runs : List Run) → AreFree (space from end (contains old)) runs
+pub counts_without : (from end : ℕ) (old new : List ℕ) (runs : List Run) → AreIn (area from end (contains old)) runs
     → ((s : ℕ) → s < end → contains new s ≡ (contains old s && not (contains (sectors_of runs) s)))
     → length (where_free (contains old) from end) ≡ total runs + length (where_free (contains new) from end)
 counts_without from end old new runs are h =
-    count_without (contains old) runs from end are.differ (λ s c. free_within from end (contains old) s (are.free s c)) (λ s c. free_passes from end (contains old) s (are.free s c))
+    count_without (contains old) runs from end are.differ (λ s c. free_within from end (contains old) s (are.inside s c)) (λ s c. free_passes from end (contains old) s (are.inside s c))
     ∙ ap (λ (xs : List ℕ). total runs + length xs) (sym (where_same (contains new) (λ s. contains old s && not (contains (sectors_of runs) s)) from end (λ s low high. h s high)))
 
-pub counts_together : (from end : ℕ) (old new : List ℕ) (runs : List Run) → AreTaken (space from end (contains old)) runs
+pub counts_together : (from end : ℕ) (old new : List ℕ) (runs : List Run) → AreOut (area from end (contains old)) runs
     → ((s : ℕ) → s < end → contains new s ≡ (contains old s || contains (sectors_of runs) s))
     → length (where_free (contains new) from end) ≡ total runs + length (where_free (contains old) from end)
 counts_together from end old new runs are h =
     ap length (where_same (contains new) (λ s. contains old s || contains (sectors_of runs) s) from end (λ s low high. h s high))
     ∙ count_together (contains old) runs from end are.differ are.within
-    (λ s c. let within = are.within s c in sym (contains_where (contains old) from end s within.0 within.1) ∙ are.taken s c)
+    (λ s c. let within = are.within s c in sym (contains_where (contains old) from end s within.0 within.1) ∙ are.outside s c)
 
 -- nothing is left
 pub as_it_is_remove : (set : SectorsBelow) (runs : List Run) (i s : ℕ) (all : Bool) → length runs ≤ i → (contains set.sectors s && not (contains (sectors_of (drop i runs)) s)) ≡ all → contains set.sectors s ≡ all
@@ -126,13 +126,13 @@ none_counted set at none = sym (total_of_runs (where_free (contains set.sectors)
 
 pub whole_but : (from end : ℕ) (all set new : SectorsBelow) (runs : List Run) → all ≡ below end (λ s. false) → set ≡ below all.end (λ s. contains all.sectors s || in_run (run_of from (end - from)) s)
     → new.end ≡ set.end → ((s : ℕ) → s < set.end → contains new.sectors s ≡ (contains set.sectors s && not (contains (sectors_of runs) s)))
-    → space from new.end (contains new.sectors) ≡ space from end (λ s. not (contains (sectors_of runs) s))
+    → area from new.end (contains new.sectors) ≡ area from end (λ s. not (contains (sectors_of runs) s))
 whole_but from end all set new runs none is same h =
     let full : set ≡ below end (λ s. contains (where_free (λ s. false) 0 end) s || in_run (run_of from (end - from)) s) =
     is ∙ ap (λ (v : SectorsBelow). below v.end (λ s. contains v.sectors s || in_run (run_of from (end - from)) s)) none in
     let to_end : set.end ≡ end = ap (λ (v : SectorsBelow). v.end) full in
-    ap (λ (n : ℕ). space from n (contains new.sectors)) (same ∙ to_end)
-    ∙ ap (λ (xs : List ℕ). record { from = from; to = end; free = xs }) (where_same (contains new.sectors) (λ s. not (contains (sectors_of runs) s)) from end
+    ap (λ (n : ℕ). area from n (contains new.sectors)) (same ∙ to_end)
+    ∙ ap (λ (xs : List ℕ). record { from = from; to = end; sectors = xs }) (where_same (contains new.sectors) (λ s. not (contains (sectors_of runs) s)) from end
     (λ s low high.
     h s (omega (arith, to_end))
     ∙ ap (λ (v : SectorsBelow). contains v.sectors s && not (contains (sectors_of runs) s)) full
@@ -148,7 +148,7 @@ whole_but from end all set new runs none is same h =
         ∙ ap (λ (b : Bool). contains (where_free (λ s. false) 0 end) s || b) (contains_range from (end - from) s ∙ ap (λ (b : Bool). b && nat_lt s (from + (end - from))) (le-leb from s low) ∙ lt-ltb s (from + (end - from)) (omega arith))
         ∙ or_true (contains (where_free (λ s. false) 0 end) s)
 
--- ---- the map after a call
+-- ---- the set after a call
 
 abbrev pub Without : List Run → SectorsBelow → SectorsBelow → Type 0
 Without runs set new = (s : ℕ) → s < set.end → contains new.sectors s ≡ (contains set.sectors s && not (contains (sectors_of runs) s))
@@ -156,10 +156,10 @@ Without runs set new = (s : ℕ) → s < set.end → contains new.sectors s ≡ 
 abbrev pub Together : List Run → SectorsBelow → SectorsBelow → Type 0
 Together runs set new = (s : ℕ) → s < set.end → contains new.sectors s ≡ (contains set.sectors s || contains (sectors_of runs) s)
 
-pub taken_counts : (from count : ℕ) (set new : SectorsBelow) (runs : List Run) (m : FreeSpace) → space from set.end (contains set.sectors) ≡ m → Counts from set count → AreFree m runs → new.end ≡ set.end → Without runs set new
+pub removed_counts : (from count : ℕ) (set new : SectorsBelow) (runs : List Run) (m : Area) → area from set.end (contains set.sectors) ≡ m → Counts from set count → AreIn m runs → new.end ≡ set.end → Without runs set new
     → (total runs ≤ count) × Counts from new (count - total runs)
-taken_counts from count set new runs m is counts are same h =
-    let parts = counts_without from set.end set.sectors new.sectors runs (subst (λ (v : FreeSpace). AreFree v runs) (sym is) are) h in
+removed_counts from count set new runs m is counts are same h =
+    let parts = counts_without from set.end set.sectors new.sectors runs (subst (λ (v : Area). AreIn v runs) (sym is) are) h in
     let moved : length (where_free (contains new.sectors) from set.end) ≡ length (where_free (contains new.sectors) from new.end) = ap (λ (n : ℕ). length (where_free (contains new.sectors) from n)) (sym same) in (
       omega (arith, parts, counts.exact),
       record {
@@ -169,10 +169,10 @@ taken_counts from count set new runs m is counts are same h =
       },
     )
 
-pub given_counts : (from count : ℕ) (set new : SectorsBelow) (runs : List Run) (m : FreeSpace) → space from set.end (contains set.sectors) ≡ m → Counts from set count → AreTaken m runs → new.end ≡ set.end → Together runs set new
+pub inserted_counts : (from count : ℕ) (set new : SectorsBelow) (runs : List Run) (m : Area) → area from set.end (contains set.sectors) ≡ m → Counts from set count → AreOut m runs → new.end ≡ set.end → Together runs set new
     → (count + total runs < 2 ^ 32) × Counts from new (count + total runs)
-given_counts from count set new runs m is counts are same h =
-    let parts = counts_together from set.end set.sectors new.sectors runs (subst (λ (v : FreeSpace). AreTaken v runs) (sym is) are) h in
+inserted_counts from count set new runs m is counts are same h =
+    let parts = counts_together from set.end set.sectors new.sectors runs (subst (λ (v : Area). AreOut v runs) (sym is) are) h in
     let moved : length (where_free (contains new.sectors) from set.end) ≡ length (where_free (contains new.sectors) from new.end) = ap (λ (n : ℕ). length (where_free (contains new.sectors) from n)) (sym same) in (
       omega (arith, parts, counts.exact, counts.small, no_more_than (contains new.sectors) from set.end),
       record {
@@ -182,15 +182,51 @@ given_counts from count set new runs m is counts are same h =
       },
     )
 
-pub taken_space : (from : ℕ) (set new : SectorsBelow) (runs : List Run) (m : FreeSpace) → space from set.end (contains set.sectors) ≡ m → new.end ≡ set.end → Without runs set new → space from new.end (contains new.sectors) ≡ without m runs
-taken_space from set new runs m is same h =
-    ap (λ (n : ℕ). space from n (contains new.sectors)) same ∙ space_without from set.end set.sectors new.sectors runs h ∙ ap (λ (v : FreeSpace). without v runs) is
+pub removed_area : (from : ℕ) (set new : SectorsBelow) (runs : List Run) (m : Area) → area from set.end (contains set.sectors) ≡ m → new.end ≡ set.end → Without runs set new → area from new.end (contains new.sectors) ≡ without m runs
+removed_area from set new runs m is same h =
+    ap (λ (n : ℕ). area from n (contains new.sectors)) same ∙ area_without from set.end set.sectors new.sectors runs h ∙ ap (λ (v : Area). without v runs) is
 
-pub given_space : (from : ℕ) (set new : SectorsBelow) (runs : List Run) (m : FreeSpace) → space from set.end (contains set.sectors) ≡ m → new.end ≡ set.end → Together runs set new → space from new.end (contains new.sectors) ≡ together m runs
-given_space from set new runs m is same h =
-    ap (λ (n : ℕ). space from n (contains new.sectors)) same ∙ space_together from set.end set.sectors new.sectors runs h ∙ ap (λ (v : FreeSpace). together v runs) is
+pub inserted_area : (from : ℕ) (set new : SectorsBelow) (runs : List Run) (m : Area) → area from set.end (contains set.sectors) ≡ m → new.end ≡ set.end → Together runs set new → area from new.end (contains new.sectors) ≡ together m runs
+inserted_area from set new runs m is same h =
+    ap (λ (n : ℕ). area from n (contains new.sectors)) same ∙ area_together from set.end set.sectors new.sectors runs h ∙ ap (λ (v : Area). together v runs) is
 
-pub free_in_space : (from s : ℕ) (set : SectorsBelow) (m : FreeSpace) → space from set.end (contains set.sectors) ≡ m → m.from ≤ s → s < m.to → contains set.sectors s ≡ contains m.free s
-free_in_space from s set m is low high =
-    let family : FreeSpace → Type 0 = λ v. v.from ≤ s → s < v.to → contains set.sectors s ≡ contains v.free s in
+pub is_in_area : (from s : ℕ) (set : SectorsBelow) (m : Area) → area from set.end (contains set.sectors) ≡ m → m.from ≤ s → s < m.to → contains set.sectors s ≡ contains m.sectors s
+is_in_area from s set m is low high =
+    let family : Area → Type 0 = λ v. v.from ≤ s → s < v.to → contains set.sectors s ≡ contains v.sectors s in
     subst family is (λ h k. sym (contains_where (contains set.sectors) from set.end s h k)) low high
+
+-- ---- its runs from a place on
+
+same_left : (from : ℕ) (set : SectorsBelow) (at : ℕ) → from ≤ at → runs_from set at ≡ left_of (area from set.end (contains set.sectors)) at
+same_left from set at h =
+    ap runs_of (where_same (contains set.sectors) (contains (where_free (contains set.sectors) from set.end)) at set.end
+    (λ s low high. sym (contains_where (contains set.sectors) from set.end s (omega arith) high)))
+
+pub first_left : (from : ℕ) (set : SectorsBelow) (m : Area) (at : ℕ) (o : Option Run) → area from set.end (contains set.sectors) ≡ m → m.from ≤ at → IfSome o (λ r. (at ≤ r.start) × (1 ≤ r.length) × (r.start + r.length ≤ set.end)) → IsFirstRun set at o → IsFirstOf m at o
+first_left from set m at None is low within none =
+    let family : Area → Type 0 = λ v. v.from ≤ at → left_of v at ≡ [] in
+    subst family is (λ h. sym (same_left from set at h) ∙ none) low
+first_left from set m at (Some r) is low within first =
+    let family : Area → Type 0 = λ v. v.from ≤ at → left_of v at ≡ r ∷ left_of v (r.start + r.length) in
+    subst family is (λ h. sym (same_left from set at h) ∙ first ∙ ap (λ (x : List Run). r ∷ x) (same_left from set (r.start + r.length) (omega (arith, within.0)))) low
+
+-- ---- an empty set
+
+pub empty_area : (from end : ℕ) (set : SectorsBelow) → set ≡ below end (λ s. false) → area from set.end (contains set.sectors) ≡ area from end (λ s. false)
+empty_area from end set is =
+    let family : SectorsBelow → Type 0 = λ v. area from v.end (contains v.sectors) ≡ area from end (λ s. false) in
+    subst family (sym is) (ap (λ (xs : List ℕ). record { from = from; to = end; sectors = xs }) (where_same (contains (where_free (λ s. false) 0 end)) (λ s. false) from end (λ s low high. contains_below end (λ s. false) s high)))
+
+pub empty_counts : (from end : ℕ) (set : SectorsBelow) → set ≡ below end (λ s. false) → from ≤ end → end < 2 ^ 32 → Counts from set 0
+empty_counts from end set is order small =
+    let same : set.end ≡ end = ap (λ (v : SectorsBelow). v.end) is in
+    record {
+      order = omega (arith, same);
+      small = omega (arith, same);
+      exact = sym (none_where from end) ∙ ap (λ (m : Area). length m.sectors) (sym (empty_area from end set is));
+    }
+
+pub all_left : (from : ℕ) (set : SectorsBelow) (m : Area) → area from set.end (contains set.sectors) ≡ m → left_of m m.from ≡ runs_of m.sectors
+all_left from set m is =
+    let family : Area → Type 0 = λ v. left_of v v.from ≡ runs_of v.sectors in
+    subst family is (sym (same_left from set from (omega arith)))

@@ -21,7 +21,7 @@ split f p (x ∷ xs) = by (f x) (p x) (split f p xs)
     by true false rest = omega arith
     by false b rest = rest
 
-pub split_where : (f p : ℕ → Bool) (from to : ℕ) → length (where_free f from to) ≡ length (where_free (λ s. f s && p s) from to) + length (where_free (λ s. f s && not (p s)) from to)
+split_where : (f p : ℕ → Bool) (from to : ℕ) → length (where_free f from to) ≡ length (where_free (λ s. f s && p s) from to) + length (where_free (λ s. f s && not (p s)) from to)
 split_where f p from to = split f p (range_with_len from (to - from))
 
 pub no_more_than : (f : ℕ → Bool) (from to : ℕ) → length (where_free f from to) ≤ to - from
@@ -45,7 +45,7 @@ one_where t from to low high =
     let long : total (run_of t (t + 1 - t) ∷ []) ≡ 1 = omega arith in
     sym (total_of_runs (where_free (λ s. t == s) from to)) ∙ ap total (first ∙ ap (λ (x : List Run). run_of t (t + 1 - t) ∷ x) rest) ∙ long
 
-none_where : (from to : ℕ) → length (where_free (λ s. false) from to) ≡ 0
+pub none_where : (from to : ℕ) → length (where_free (λ s. false) from to) ≡ 0
 none_where from to = sym (total_of_runs (where_free (λ s. false) from to)) ∙ ap total (no_run (λ s. false) from to (λ s h k. refl))
 
 pub count_of_list : (xs : List ℕ) (from to : ℕ) → all_differ xs ≡ true → ((s : ℕ) → contains xs s ≡ true → (from ≤ s) × (s < to)) → length (where_free (contains xs) from to) ≡ length xs
