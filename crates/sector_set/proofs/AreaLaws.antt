@@ -12,7 +12,7 @@ use Rattle.run_table.specs.Space.{contains, where_free, runs_of}
 use Rattle.sector_set.specs.SectorSet.{SectorsBelow, below, in_run, runs_from, IsFirstRun}
 use Rattle.sector_set.proofs.FreeLaws.{where_same, contains_where, contains_where_outside, contains_range, total_of_runs}
 use Rattle.sector_set.proofs.SetLaws.{contains_below}
-use Rattle.sector_set.specs.Area.{Area, area, without, together, AreIn, AreOut, Counts, left_of, IsFirstOf}
+use Rattle.sector_set.specs.Area.{Area, area, without, together, AreIn, AreOut, Counts, IsOwn, left_of, IsFirstOf}
 use Rattle.sector_set.proofs.CountLaws.{none_where, count_without, count_together, no_more_than}
 
 -- ---- one run more
@@ -230,3 +230,8 @@ pub all_left : (from : ℕ) (set : SectorsBelow) (m : Area) → area from set.en
 all_left from set m is =
     let family : Area → Type 0 = λ v. left_of v v.from ≡ runs_of v.sectors in
     subst family is (sym (same_left from set from (omega arith)))
+
+pub own_area : (from : ℕ) (set : SectorsBelow) (m : Area) → area from set.end (contains set.sectors) ≡ m → IsOwn m
+own_area from set m is =
+    subst IsOwn is (ap (λ (xs : List ℕ). record { from = from; to = set.end; sectors = xs })
+    (where_same (contains set.sectors) (contains (where_free (contains set.sectors) from set.end)) from set.end (λ s low high. sym (contains_where (contains set.sectors) from set.end s low high))))

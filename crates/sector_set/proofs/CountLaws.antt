@@ -21,7 +21,7 @@ split f p (x ∷ xs) = by (f x) (p x) (split f p xs)
     by true false rest = omega arith
     by false b rest = rest
 
-split_where : (f p : ℕ → Bool) (from to : ℕ) → length (where_free f from to) ≡ length (where_free (λ s. f s && p s) from to) + length (where_free (λ s. f s && not (p s)) from to)
+pub split_where : (f p : ℕ → Bool) (from to : ℕ) → length (where_free f from to) ≡ length (where_free (λ s. f s && p s) from to) + length (where_free (λ s. f s && not (p s)) from to)
 split_where f p from to = split f p (range_with_len from (to - from))
 
 pub no_more_than : (f : ℕ → Bool) (from to : ℕ) → length (where_free f from to) ≤ to - from

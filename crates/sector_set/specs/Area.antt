@@ -15,6 +15,10 @@ pub record Area : Type 0 where
 abbrev pub area : ℕ → ℕ → (ℕ → Bool) → Area
 area from to test = record { from = from; to = to; sectors = where_free test from to }
 
+-- its sectors ascend, and all lie in the interval
+abbrev pub IsOwn : Area → Type 0
+IsOwn m = m ≡ area m.from m.to (contains m.sectors)
+
 -- without the sectors of runs, or with them
 abbrev pub without : Area → List Run → Area
 without m runs = area m.from m.to (λ s. contains m.sectors s && not (contains (sectors_of runs) s))

@@ -28,7 +28,7 @@ impl Model for SectorArea {
 }
 
 impl SectorArea {
-    ghost use Rattle.sector_set.specs.Area.{area, without, together, AreIn, AreOut, left_of, IsFirstOf};
+    ghost use Rattle.sector_set.specs.Area.{area, without, together, AreIn, AreOut, IsOwn, left_of, IsFirstOf};
 
     /// The sectors of `from..to` that are in none of the runs. It takes a bit for each sector below `to`.
     pub fn without_runs(
@@ -68,13 +68,16 @@ impl SectorArea {
         ensures value { result ≡ self.now.from }
         ensures order { self.now.from ≤ self.now.to }
         ensures all { left_of self.now self.now.from ≡ runs_of self.now.sectors }
+        ensures own { IsOwn self.now }
     {
         self.from
     }
 
     /// How many sectors are in it.
     pub fn count(&self) -> u32
-        ensures { result ≡ length self.now.sectors }
+        ensures value { result ≡ length self.now.sectors }
+        ensures own { IsOwn self.now }
+        ensures fits { self.now.to < 2 ^ 32 }
     {
         self.count
     }

@@ -31,7 +31,7 @@ loop-run-preserved c =
 
 pub returns-then-need-run : goal.returns-then-need-run
 returns-then-need-run c =
-    let enough : c.args.need ≤ length c.self.inside.free.sectors = omega (arith, c.count-free.ensures, c.if-free-need.false) in
+    let enough : c.args.need ≤ length c.self.inside.free.sectors = omega (arith, c.count-free.ensures.value, c.if-free-need.false) in
     ap Ok c.one_run.ensures
     ∙ sym (chosen_first c.self.inside.free.sectors c.args.need c.in-Some.run' enough (sym c.loop-run.invariant.seen ∙ lowest_here c.args.need _ _ c.in-Some.run' c.in-Some.ensures.first c.if-need-run.true))
     ∙ ap (λ (m : Area). choice m.sectors c.args.need) c.self.view_is
@@ -39,12 +39,12 @@ returns-then-need-run c =
 pub total-best-requires : goal.total-best-requires
 total-best-requires c =
     let kept = ap (longest_with c.loop-run.longest) (sym c.in_default.ensures.first) ∙ c.loop-run.invariant.kept in
-    omega (arith, best_within c.self.inside.free.sectors c.loop-run.longest kept, c.count-free.ensures)
+    omega (arith, best_within c.self.inside.free.sectors c.loop-run.longest kept, c.count-free.ensures.value)
 
 pub returns-then-best-need : goal.returns-then-best-need
 returns-then-best-need c =
     let kept = ap (longest_with c.loop-run.longest) (sym c.in_default.ensures.first) ∙ c.loop-run.invariant.kept in
-    let enough : c.args.need ≤ length c.self.inside.free.sectors = omega (arith, c.count-free.ensures, c.if-free-need.false) in
+    let enough : c.args.need ≤ length c.self.inside.free.sectors = omega (arith, c.count-free.ensures.value, c.if-free-need.false) in
     let few : total c.loop-run.longest < c.args.need = omega (arith, c.total-best.ensures, c.if-best-need.true) in
     ap (λ (n : ℕ). Err (TooFragmented c.args.need n)) c.total-best.ensures
     ∙ sym (chosen_none c.self.inside.free.sectors c.args.need c.loop-run.longest enough (sym c.loop-run.invariant.seen ∙ ap (lowest c.args.need) c.in_default.ensures.first) kept few)
@@ -53,7 +53,7 @@ returns-then-best-need c =
 pub returns : goal.returns
 returns c =
     let kept = ap (longest_with c.loop-run.longest) (sym c.in_default.ensures.first) ∙ c.loop-run.invariant.kept in
-    let enough : c.args.need ≤ length c.self.inside.free.sectors = omega (arith, c.count-free.ensures, c.if-free-need.false) in
+    let enough : c.args.need ≤ length c.self.inside.free.sectors = omega (arith, c.count-free.ensures.value, c.if-free-need.false) in
     let many : c.args.need ≤ total c.loop-run.longest = omega (arith, c.total-best.ensures, c.if-best-need.false) in
     ap Ok c.cut_to.ensures
     ∙ sym (chosen_cut c.self.inside.free.sectors c.args.need c.loop-run.longest enough (sym c.loop-run.invariant.seen ∙ ap (lowest c.args.need) c.in_default.ensures.first) kept many)
