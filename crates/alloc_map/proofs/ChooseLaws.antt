@@ -1,41 +1,14 @@
 -- The choice: what is left of the free runs decides.
-use Rattle.std.proofs.Common.{◌≡◌, ℕ, zero, suc, ◌+◌, ◌<◌, ◌≤◌, Bool, true, false, cond, List, [], ◌∷◌, length, take, Option, Some, None, Ok, Err, refl, sym, subst, ap, ◌∙◌, arith}
+use Rattle.std.proofs.Common.{◌≡◌, ℕ, zero, suc, ◌+◌, ◌<◌, ◌≤◌, Bool, true, false, cond, List, [], ◌∷◌, length, take, Option, Some, None, Ok, Err, refl, sym, ap, ◌∙◌, arith}
 use Rattle.std.specs.Prelude.{nat_le, nat_lt, find}
 use Rattle.std.proofs.lemmas.Bool.{le-leb, lt-leb, le-ltb}
 use Rattle.std.proofs.lemmas.List.Sums.{sum_by-cons}
 use Rattle.run_table.specs.declared.run.Run.{Run}
 use Rattle.run_table.specs.RunTable.{run_of, total}
-use Rattle.run_table.specs.Space.{contains, where_free, runs_of, by_length, longest_first, longest, best, pick, picked, cut_to}
-use Rattle.sector_set.specs.SectorSet.{SectorsBelow, runs_from, IsFirstRun}
-use Rattle.sector_set.proofs.FreeLaws.{where_same, contains_where, total_of_runs}
+use Rattle.run_table.specs.Space.{runs_of, by_length, longest_first, longest, best, pick, picked, cut_to}
+use Rattle.sector_set.proofs.FreeLaws.{total_of_runs}
 use Rattle.alloc_map.specs.declared.no_place.NoPlace.TheVariants.{NoSpace, TooFragmented}
-use Rattle.alloc_map.specs.FreeSpace.{FreeSpace, space}
 use Rattle.alloc_map.specs.NoPlace.{choice, picked_or}
-
--- the free runs from a place on
-abbrev pub left_of : FreeSpace → ℕ → List Run
-left_of m at = runs_of (where_free (contains m.free) at m.to)
-
-same_left : (from : ℕ) (set : SectorsBelow) (at : ℕ) → from ≤ at → runs_from set at ≡ left_of (space from set.end (contains set.sectors)) at
-same_left from set at h =
-    ap runs_of (where_same (contains set.sectors) (contains (where_free (contains set.sectors) from set.end)) at set.end
-    (λ s low high. sym (contains_where (contains set.sectors) from set.end s (omega arith) high)))
-
-pub all_left : (from : ℕ) (set : SectorsBelow) (m : FreeSpace) → space from set.end (contains set.sectors) ≡ m → left_of m m.from ≡ runs_of m.free
-all_left from set m is =
-    let family : FreeSpace → Type 0 = λ v. left_of v v.from ≡ runs_of v.free in
-    subst family is (sym (same_left from set from (omega arith)))
-
-pub next_left : (from : ℕ) (set : SectorsBelow) (m : FreeSpace) (at : ℕ) (r : Run) → space from set.end (contains set.sectors) ≡ m → m.from ≤ at → at ≤ r.start → IsFirstRun set at (Some r)
-    → left_of m at ≡ r ∷ left_of m (r.start + r.length)
-next_left from set m at r is low behind first =
-    let family : FreeSpace → Type 0 = λ v. v.from ≤ at → left_of v at ≡ r ∷ left_of v (r.start + r.length) in
-    subst family is (λ h. sym (same_left from set at h) ∙ first ∙ ap (λ (x : List Run). r ∷ x) (same_left from set (r.start + r.length) (omega arith))) low
-
-pub none_left : (from : ℕ) (set : SectorsBelow) (m : FreeSpace) (at : ℕ) → space from set.end (contains set.sectors) ≡ m → m.from ≤ at → IsFirstRun set at None → left_of m at ≡ []
-none_left from set m at is low none =
-    let family : FreeSpace → Type 0 = λ v. v.from ≤ at → left_of v at ≡ [] in
-    subst family is (λ h. sym (same_left from set at h) ∙ none) low
 
 -- ---- the lowest that holds all
 

@@ -1,4 +1,2 @@
 pub mod ChooseLaws
-pub mod CountLaws
 pub mod LongestLaws
-pub mod MapLaws

@@ -1,3 +1,2 @@
-pub mod FreeSpace
 pub mod Longest
 pub mod NoPlace

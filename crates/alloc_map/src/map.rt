@@ -1,81 +1,70 @@
 //! The map of the data area.
-ghost use Rattle.std.specs.Prelude.{◌≡◌, ◌≤◌, ◌<◌, ◌^◌, ◌&&◌, ◌||◌, ℕ, not, [], ◌∷◌, length, IfOk};
+ghost use Rattle.std.specs.Prelude.{◌≡◌, ◌≤◌, ◌<◌, not, [], ◌∷◌, length, IfOk};
 ghost use Rattle.run_table.specs.RunTable.{sectors_of};
-ghost use Rattle.run_table.specs.Space.{contains, where_free};
+ghost use Rattle.run_table.specs.Space.{contains};
 
 use crate::longest::Longest;
 use crate::no_place::NoPlace;
 use run_table::{Run, Runs};
-use sector_set::SectorSet;
+use sector_set::SectorArea;
 use std::alloc::{AllocError, Global};
 use std::marker::Model;
 
 /// The free sectors of the data area `from..to`.
 #[derive(Debug, Drop)]
 pub struct Map {
-    from: u32,
-    count: u32,
-    set: SectorSet,
+    free: SectorArea,
 }
 
 impl Model for Map {
-    ghost use Rattle.run_table.specs.Space.{contains};
-    ghost use Rattle.alloc_map.specs.FreeSpace.{FreeSpace, space, Counts};
+    ghost use Rattle.sector_set.specs.Area.{Area};
 
-    ghost Value = { FreeSpace };
+    ghost Value = { Area };
 
-    ghost view = { λ a. space a.from a.set.end (contains a.set.sectors) };
-
-    ghost invariant = { λ a. Counts a.from a.set a.count };
+    ghost view = { λ a. a.free };
 }
 
 impl Map {
-    ghost use Rattle.alloc_map.specs.FreeSpace.{space, without, together, AreFree, AreTaken};
+    ghost use Rattle.sector_set.specs.Area.{area, without, together, AreIn, AreOut};
     ghost use Rattle.alloc_map.specs.NoPlace.{choice};
 
     /// The sectors of `from..to` that are in none of the runs. It takes a bit for each sector below `to`.
     pub fn from_runs(alloc: Global, from: u32, to: u32, taken: &[Run]) -> Result<Map, AllocError>
         requires { from ≤ to }
-        ensures { IfOk result (λ map. map ≡ space from to (λ s. not (contains (sectors_of taken.now) s))) }
+        ensures { IfOk result (λ map. map ≡ area from to (λ s. not (contains (sectors_of taken.now) s))) }
     {
-        let mut set = SectorSet::new(alloc, to)?;
-        set.insert(Run {
-            start: from,
-            length: to - from,
-        });
-        remove_all(&mut set, taken);
-        let count = count(&set, from);
-        Ok(Map { from, count, set })
+        let free = SectorArea::without_runs(alloc, from, to, taken)?;
+        Ok(Map { free })
     }
 
     /// How many sectors are free.
     pub fn free_count(&self) -> u32
-        ensures { result ≡ length self.now.free }
+        ensures { result ≡ length self.now.sectors }
     {
-        self.count
+        self.free.count()
     }
 
     /// Whether a sector is free.
     pub fn is_free(&self, s: u32) -> bool
         requires from { self.now.from ≤ s }
         requires to { s < self.now.to }
-        ensures { result ≡ contains self.now.free s }
+        ensures { result ≡ contains self.now.sectors s }
     {
-        self.set.contains(s)
+        self.free.contains(s)
     }
 
     /// Where so many sectors go: from the start of the lowest free run that holds them, else in the longest free runs,
     /// the lower of two as long first, eight at most and the last in part. They stay free. It takes no memory.
     pub fn choose(&self, need: u32) -> Result<Runs, NoPlace>
-        ensures { result ≡ choice self.now.free need }
+        ensures { result ≡ choice self.now.sectors need }
     {
-        let free = self.count;
+        let free = self.free.count();
         if free < need {
             return Err(NoPlace::NoSpace { need, free });
         }
         let mut longest = Longest::new();
-        let mut at = self.from;
-        while let Some(run) = self.set.next_run(at) {
+        let mut at = self.free.from();
+        while let Some(run) = self.free.next_run(at) {
             if need <= run.length {
                 return Ok(one_run(run.start, need));
             }
@@ -91,20 +80,18 @@ impl Map {
 
     /// Takes free sectors. It takes no memory.
     pub fn take(&mut self, runs: &Runs)
-        requires { AreFree self.old runs.now }
+        requires { AreIn self.old runs.now }
         ensures { self.new ≡ without self.old runs.now }
     {
-        remove_all(&mut self.set, runs.as_slice());
-        self.count -= runs.total();
+        self.free.remove(runs);
     }
 
     /// Gives taken sectors back. It takes no memory.
     pub fn release(&mut self, runs: &Runs)
-        requires { AreTaken self.old runs.now }
+        requires { AreOut self.old runs.now }
         ensures { self.new ≡ together self.old runs.now }
     {
-        insert_all(&mut self.set, runs.as_slice());
-        self.count += runs.total();
+        self.free.insert(runs);
     }
 }
 
@@ -115,41 +102,6 @@ fn one_run(start: u32, length: u32) -> Runs
     let mut runs = Runs::new();
     runs.push(Run { start, length });
     runs
-}
-
-// Takes the sectors of runs out of a set.
-fn remove_all(set: &mut SectorSet, runs: &[Run])
-    ensures end { set.new.end ≡ set.old.end }
-    ensures sectors { (s : ℕ) → s < set.old.end → contains set.new.sectors s ≡ (contains set.old.sectors s && not (contains (sectors_of runs.now) s)) }
-{
-    for run in runs {
-        set.remove(*run);
-    }
-}
-
-// Puts the sectors of runs into a set.
-fn insert_all(set: &mut SectorSet, runs: &[Run])
-    ensures end { set.new.end ≡ set.old.end }
-    ensures sectors { (s : ℕ) → s < set.old.end → contains set.new.sectors s ≡ (contains set.old.sectors s || contains (sectors_of runs.now) s) }
-{
-    for run in runs {
-        set.insert(*run);
-    }
-}
-
-// How many sectors from a place on are in a set.
-fn count(set: &SectorSet, from: u32) -> u32
-    requires from { from ≤ set.now.end }
-    requires end { set.now.end < 2 ^ 32 }
-    ensures { result ≡ length (where_free (contains set.now.sectors) from set.now.end) }
-{
-    let mut count = 0;
-    let mut at = from;
-    while let Some(run) = set.next_run(at) {
-        count += run.length;
-        at = run.start + run.length;
-    }
-    count
 }
 
 #[cfg(test)]

@@ -1,3 +1,5 @@
+pub mod AreaLaws
 pub mod BitLaws
+pub mod CountLaws
 pub mod FreeLaws
 pub mod SetLaws

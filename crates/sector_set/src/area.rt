@@ -1,0 +1,157 @@
+//! Sets of sectors of an interval that know their number.
+ghost use Rattle.std.specs.Prelude.{◌≡◌, ◌+◌, ◌≤◌, ◌<◌, ◌^◌, ◌||◌, ◌&&◌, ℕ, not, false, length, IfOk, IfSome};
+ghost use Rattle.run_table.specs.RunTable.{sectors_of};
+ghost use Rattle.run_table.specs.Space.{contains, where_free, runs_of};
+
+use crate::set::SectorSet;
+use run_table::{Run, Runs};
+use std::alloc::{AllocError, Global};
+use std::marker::Model;
+
+/// A set of sectors of an interval `from..to`, with their number.
+#[derive(Debug, Drop)]
+pub struct SectorArea {
+    from: u32,
+    count: u32,
+    set: SectorSet,
+}
+
+impl Model for SectorArea {
+    ghost use Rattle.run_table.specs.Space.{contains};
+    ghost use Rattle.sector_set.specs.Area.{Area, area, Counts};
+
+    ghost Value = { Area };
+
+    ghost view = { λ a. area a.from a.set.end (contains a.set.sectors) };
+
+    ghost invariant = { λ a. Counts a.from a.set a.count };
+}
+
+impl SectorArea {
+    ghost use Rattle.sector_set.specs.Area.{area, without, together, AreIn, AreOut, IsOwn, left_of, IsFirstOf};
+
+    /// The sectors of `from..to` that are in none of the runs. It takes a bit for each sector below `to`.
+    pub fn without_runs(
+        alloc: Global,
+        from: u32,
+        to: u32,
+        runs: &[Run],
+    ) -> Result<SectorArea, AllocError>
+        requires { from ≤ to }
+        ensures { IfOk result (λ m. m ≡ area from to (λ s. not (contains (sectors_of runs.now) s))) }
+    {
+        let mut set = SectorSet::new(alloc, to)?;
+        set.insert(Run {
+            start: from,
+            length: to - from,
+        });
+        remove_all(&mut set, runs);
+        let count = count(&set, from);
+        Ok(SectorArea { from, count, set })
+    }
+
+    /// No sector of `from..to`. It takes a bit for each sector below `to`.
+    pub fn new(alloc: Global, from: u32, to: u32) -> Result<SectorArea, AllocError>
+        requires { from ≤ to }
+        ensures { IfOk result (λ m. m ≡ area from to (λ _. false)) }
+    {
+        let set = SectorSet::new(alloc, to)?;
+        Ok(SectorArea {
+            from,
+            count: 0,
+            set,
+        })
+    }
+
+    /// The start of the interval: all its runs lie from there on.
+    pub fn from(&self) -> u32
+        ensures value { result ≡ self.now.from }
+        ensures order { self.now.from ≤ self.now.to }
+        ensures all { left_of self.now self.now.from ≡ runs_of self.now.sectors }
+        ensures own { IsOwn self.now }
+    {
+        self.from
+    }
+
+    /// How many sectors are in it.
+    pub fn count(&self) -> u32
+        ensures value { result ≡ length self.now.sectors }
+        ensures own { IsOwn self.now }
+        ensures fits { self.now.to < 2 ^ 32 }
+    {
+        self.count
+    }
+
+    /// Whether a sector is in it.
+    pub fn contains(&self, s: u32) -> bool
+        requires from { self.now.from ≤ s }
+        requires to { s < self.now.to }
+        ensures { result ≡ contains self.now.sectors s }
+    {
+        self.set.contains(s)
+    }
+
+    /// The first run of its sectors from `at` on: adjacent sectors, as many as there are.
+    pub fn next_run(&self, at: u32) -> Option<Run>
+        requires from { self.now.from ≤ at }
+        requires to { at ≤ self.now.to }
+        ensures first { IsFirstOf self.now at result }
+        ensures within { IfSome result (λ r. (at ≤ r.start) × (1 ≤ r.length) × (r.start + r.length ≤ self.now.to)) }
+        ensures fits { self.now.to < 2 ^ 32 }
+    {
+        self.set.next_run(at)
+    }
+
+    /// Takes sectors out.
+    pub fn remove(&mut self, runs: &Runs)
+        requires { AreIn self.old runs.now }
+        ensures { self.new ≡ without self.old runs.now }
+    {
+        remove_all(&mut self.set, runs.as_slice());
+        self.count -= runs.total();
+    }
+
+    /// Puts sectors in.
+    pub fn insert(&mut self, runs: &Runs)
+        requires { AreOut self.old runs.now }
+        ensures { self.new ≡ together self.old runs.now }
+    {
+        insert_all(&mut self.set, runs.as_slice());
+        self.count += runs.total();
+    }
+}
+
+// Takes the sectors of runs out of a set.
+fn remove_all(set: &mut SectorSet, runs: &[Run])
+    ensures end { set.new.end ≡ set.old.end }
+    ensures sectors { (s : ℕ) → s < set.old.end → contains set.new.sectors s ≡ (contains set.old.sectors s && not (contains (sectors_of runs.now) s)) }
+{
+    for run in runs {
+        set.remove(*run);
+    }
+}
+
+// Puts the sectors of runs into a set.
+fn insert_all(set: &mut SectorSet, runs: &[Run])
+    ensures end { set.new.end ≡ set.old.end }
+    ensures sectors { (s : ℕ) → s < set.old.end → contains set.new.sectors s ≡ (contains set.old.sectors s || contains (sectors_of runs.now) s) }
+{
+    for run in runs {
+        set.insert(*run);
+    }
+}
+
+// How many sectors from a place on are in a set.
+fn count(set: &SectorSet, from: u32) -> u32
+    requires from { from ≤ set.now.end }
+    requires end { set.now.end < 2 ^ 32 }
+    ensures { result ≡ length (where_free (contains set.now.sectors) from set.now.end) }
+{
+    let mut count = 0;
+    let mut at = from;
+    while let Some(run) = set.next_run(at) {
+        count += run.length;
+        at = run.start + run.length;
+    }
+    count
+}
