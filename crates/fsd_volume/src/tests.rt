@@ -25,7 +25,10 @@ fn a_version_is_made_and_read(rt: HostRuntime) -> Result<(), Fail> {
     assert!(rt; v.layout.sectors() <= sectors);
     let key = v.put(&mut m, &name, None, b"hi")?;
     assert_eq!(rt; key.version, 1);
-    assert_eq!(rt; v.put(&mut m, &name, None, b"ho"), Err(Refusal::VersionsUsedUp));
+    assert_eq!(rt;
+        v.put(&mut m, &name, None, b"ho"),
+        Err(Refusal::VersionsUsedUp)
+    );
     assert_eq!(rt; v.force(&mut m)?.pages, 1);
     assert_eq!(rt; v.force(&mut m)?.pages, 0);
     assert_eq!(rt; v.entry(&key)?.length, 2);
