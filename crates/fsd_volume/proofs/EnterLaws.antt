@@ -185,10 +185,10 @@ space_put l e entries absent =
     let free : ℕ → Bool = λ s. not (contains (flat_map sectors_of (plans_of entries)) s) in
     ap (λ (xs : List ℕ). record { from = data_start l; to = l.sectors; free = xs })
     (where_same (λ s. contains (where_free free (data_start l) l.sectors) s && not (contains (sectors_of e.runs) s)) (λ s. not (contains (flat_map sectors_of (plans_of (entry_put e entries))) s)) (data_start l) l.sectors
-      (λ s low high.
-        ap (λ (b : Bool). b && not (contains (sectors_of e.runs) s)) (contains_where free (data_start l) l.sectors s low high)
-        ∙ neither (contains (flat_map sectors_of (plans_of entries)) s) (contains (sectors_of e.runs) s)
-        ∙ ap not (sym (taken_test s e entries absent))))
+    (λ s low high.
+    ap (λ (b : Bool). b && not (contains (sectors_of e.runs) s)) (contains_where free (data_start l) l.sectors s low high)
+    ∙ neither (contains (flat_map sectors_of (plans_of entries)) s) (contains (sectors_of e.runs) s)
+    ∙ ap not (sym (taken_test s e entries absent))))
   where
     neither : (a b : Bool) → (not a && not b) ≡ not (a || b)
     neither true b = refl

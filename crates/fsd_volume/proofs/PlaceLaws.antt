@@ -174,7 +174,7 @@ pub picked_place : (l : Layout) (entries : List Entry) (need : ℕ) (runs : List
 picked_place l entries need runs one is =
     let free : ℕ → Bool = λ s. not (contains (flat_map sectors_of (plans_of entries)) s) in
     let each : (s : ℕ) → (occurs s (sectors_of runs) ≤ 1) × (0 < occurs s (sectors_of runs) → IsTrue (free s)) =
-        λ s. subst (λ (o : Option (List Run)). IfSome o (λ out. (occurs s (sectors_of out) ≤ 1) × (0 < occurs s (sectors_of out) → IsTrue (free s)))) is (picked_once free (data_start l) l.sectors need s) in
+    λ s. subst (λ (o : Option (List Run)). IfSome o (λ out. (occurs s (sectors_of out) ≤ 1) × (0 < occurs s (sectors_of out) → IsTrue (free s)))) is (picked_once free (data_start l) l.sectors need s) in
     let within = subst (λ (o : Option (List Run)). IfSome o (λ out. (s : ℕ) → IsTrue (contains (sectors_of out) s) → IsTrue (contains (sectors_of (runs_of (free_space l entries).free)) s))) is (pick_among (runs_of (free_space l entries).free) need) in
     record {
       new = record {

@@ -188,8 +188,15 @@ pub version_on : (s : State) (v : Volume) (files : Files) (i : Image) (e : Entry
 version_on s v files i e bytes count new mounted = record {
   stands = stands_drawn s v mounted.stands;
   describes = record { lists = mounted.describes.lists; apart = mounted.describes.apart; kept = kept_on nowhere i j v.files v.entries (λ t there. same t (not_new t there)) mounted.describes.kept };
-  disk = record { entries = mounted.disk.entries; at_home = at_home; describes = record { lists = mounted.disk.describes.lists; apart = mounted.disk.describes.apart;
-      kept = kept_on nowhere i j files mounted.disk.entries (λ t there. same t (not_new t (mounted.inside t there))) mounted.disk.describes.kept } };
+  disk = record {
+    entries = mounted.disk.entries;
+    at_home = at_home;
+    describes = record {
+      lists = mounted.disk.describes.lists;
+      apart = mounted.disk.describes.apart;
+      kept = kept_on nowhere i j files mounted.disk.entries (λ t there. same t (not_new t (mounted.inside t there))) mounted.disk.describes.kept;
+    };
+  };
   inside = mounted.inside;
   written = mounted.written;
 }

@@ -67,11 +67,11 @@ pub entry_good : (l : Layout) (entries : List Entry) (e : Entry) → IsPlace l e
 entry_good l entries e place key keep most =
     let few : sectors_for e.length ≤ 65535 = omega arith in
     let runs : are_runs e.runs ≡ true = and_from (is_between 1 8 (length e.runs)) (list_all (λ r. is_between 1 65535 r.length) e.runs)
-        (and_from (nat_le 1 (length e.runs)) (nat_le (length e.runs) 8) (le-leb 1 (length e.runs) (some_run e.runs (omega (arith, place.count)))) (le-leb (length e.runs) 8 place.few.few))
-        (each_short (sectors_for e.length) e.runs place.few.some (omega (arith, place.count)) few) in
+    (and_from (nat_le 1 (length e.runs)) (nat_le (length e.runs) 8) (le-leb 1 (length e.runs) (some_run e.runs (omega (arith, place.count)))) (le-leb (length e.runs) 8 place.few.few))
+    (each_short (sectors_for e.length) e.runs place.few.some (omega (arith, place.count)) few) in
     and_from (is_key e.key && nat_le e.keep max_keep && nat_le e.length max_length && are_runs e.runs) (total e.runs == sectors_for e.length)
     (and_from (is_key e.key && nat_le e.keep max_keep && nat_le e.length max_length) (are_runs e.runs)
-      (and_from (is_key e.key && nat_le e.keep max_keep) (nat_le e.length max_length) (and_from (is_key e.key) (nat_le e.keep max_keep) key (le-leb e.keep max_keep keep)) (le-leb e.length max_length most)) runs)
+    (and_from (is_key e.key && nat_le e.keep max_keep) (nat_le e.length max_length) (and_from (is_key e.key) (nat_le e.keep max_keep) key (le-leb e.keep max_keep keep)) (le-leb e.length max_length most)) runs)
     (eq-eqb (total e.runs) (sectors_for e.length) place.count)
 
 pub entry_stored : (l : Layout) (entries : List Entry) (e : Entry) → IsPlace l entries (sectors_for e.length) e.runs → IsTrue (is_entry e) → IsStored l e

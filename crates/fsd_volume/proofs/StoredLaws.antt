@@ -91,7 +91,7 @@ pub length-sectors_of : (runs : List Run) → length (sectors_of runs) ≡ total
 length-sectors_of [] = refl
 length-sectors_of (r ∷ runs) =
     let first : length (range_with_len r.start r.length ++ sectors_of runs) ≡ r.length + total runs =
-        length-append (range_with_len r.start r.length) (sectors_of runs) ∙ ap (λ (n : ℕ). n + length (sectors_of runs)) (length-range r.start r.length) ∙ ap (λ (n : ℕ). r.length + n) (length-sectors_of runs) in
+    length-append (range_with_len r.start r.length) (sectors_of runs) ∙ ap (λ (n : ℕ). n + length (sectors_of runs)) (length-range r.start r.length) ∙ ap (λ (n : ℕ). r.length + n) (length-sectors_of runs) in
     first ∙ sym (sum_by-cons (λ (q : Run). q.length) r runs)
 
 all_at : (p : Run → Bool) (runs : List Run) (k : ℕ) (d : Run) → IsTrue (list_all p runs) → k < length runs → IsTrue (p (slice_index_or runs k d))

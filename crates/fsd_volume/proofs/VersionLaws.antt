@@ -48,9 +48,10 @@ zip_from j bytes k zero [] size each = tt
 zip_from j bytes k zero (y ∷ ys) size each = absurd (omega arith)
 zip_from j bytes k (suc n) [] size each = absurd (omega arith)
 zip_from j bytes k (suc n) (y ∷ ys) size each =
-    let here : k + 0 ≡ k = omega arith in
-    (inl (subst (λ (m : ℕ). sector_at j y ≡ Whole (slice_of bytes m)) here (each 0 (omega arith))),
-     zip_from j bytes (k + 1) n ys (omega arith) (λ h lt. let next : k + suc h ≡ k + 1 + h = omega arith in subst (λ (m : ℕ). sector_at j (slice_index_or ys h 0) ≡ Whole (slice_of bytes m)) next (each (suc h) (omega arith))))
+    let here : k + 0 ≡ k = omega arith in (
+      inl (subst (λ (m : ℕ). sector_at j y ≡ Whole (slice_of bytes m)) here (each 0 (omega arith))),
+      zip_from j bytes (k + 1) n ys (omega arith) (λ h lt. let next : k + suc h ≡ k + 1 + h = omega arith in subst (λ (m : ℕ). sector_at j (slice_index_or ys h 0) ≡ Whole (slice_of bytes m)) next (each (suc h) (omega arith))),
+    )
 
 -- ---- the version stands
 
@@ -82,5 +83,5 @@ module _ (image : Image) (e : Entry) (bytes : List ℕ) (count : length (sectors
   version_kept room =
       zip_from (with_version image e bytes) bytes 0 n (data_sectors e.runs) (omega (arith, count, length-drop 1 (sectors_of e.runs)))
       (λ j lt. let here : 0 + j ≡ j = omega arith in
-        subst (λ (s : ℕ). sector_at (with_version image e bytes) s ≡ Whole (slice_of bytes (0 + j))) (sym (data_place e.runs j))
-        (subst (λ (m : ℕ). sector_at (with_version image e bytes) (slice_place e.runs j) ≡ Whole (slice_of bytes m)) (sym here) (slice_stands room j lt)))
+      subst (λ (s : ℕ). sector_at (with_version image e bytes) s ≡ Whole (slice_of bytes (0 + j))) (sym (data_place e.runs j))
+      (subst (λ (m : ℕ). sector_at (with_version image e bytes) (slice_place e.runs j) ≡ Whole (slice_of bytes m)) (sym here) (slice_stands room j lt)))

@@ -16,3 +16,6 @@ mod volume;
 pub use forcing::Forced;
 pub use formatting::format;
 pub use volume::Volume;
+
+#[cfg(test)]
+mod tests;

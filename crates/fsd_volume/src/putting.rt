@@ -32,7 +32,13 @@ use std::cmp::Ordering;
 impl Volume {
     /// Makes the first version of a name, with these bytes: its data and its leader are written, and its entry waits for a
     /// force. Without a keep it keeps two versions.
-    pub fn put<M: Machine>(&mut self, m: &mut M, name: &FileName, keep: Option<u32>, bytes: &[u8]) -> Result<Key, Refusal>
+    pub fn put<M: Machine>(
+        &mut self,
+        m: &mut M,
+        name: &FileName,
+        keep: Option<u32>,
+        bytes: &[u8],
+    ) -> Result<Key, Refusal>
         requires { self.old.layout.sectors ≤ (M.report m.old).sectors }
 
         ensures fault { IfErr result (TellsDevice (M.report m.old) (M.report m.new)) }

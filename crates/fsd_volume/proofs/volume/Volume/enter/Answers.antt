@@ -10,9 +10,11 @@ use Rattle.fsd_volume.proofs.volume.Volume.enter.Goals as goal
 pub returns-then-used-entry_len-gt488 : goal.returns-then-used-entry_len-gt488
 returns-then-used-entry_len-gt488 c =
     let state : State = record { layout = c.self.inside.layout; entries = c.self.inside.entries.items; serial = c.self.inside.serial; waits = c.self.inside.waits } in
-    let absent = absent_by c.args.entry.key.name c.as_slice.result.now c.self.inside.entries.items c.has_name.result c.has_name.ensures c.as_slice.ensures.value c.if-has_name.false in
-    (refl, subst (λ (s : State). IsFull s c.args.entry s) c.self.view_is
-      (full_is state c.args.entry c.as_slice-2.result.now c.used.result c.entry_len.result absent c.as_slice-2.ensures.value c.used.ensures c.entry_len.ensures.value c.if-used-entry_len-gt488.true))
+    let absent = absent_by c.args.entry.key.name c.as_slice.result.now c.self.inside.entries.items c.has_name.result c.has_name.ensures c.as_slice.ensures.value c.if-has_name.false in (
+      refl,
+      subst (λ (s : State). IsFull s c.args.entry s) c.self.view_is
+          (full_is state c.args.entry c.as_slice-2.result.now c.used.result c.entry_len.result absent c.as_slice-2.ensures.value c.used.ensures c.entry_len.ensures.value c.if-used-entry_len-gt488.true),
+    )
 
 pub take-requires : goal.take-requires
 take-requires c =
