@@ -19,7 +19,7 @@ use Rattle.fsd_bytes.specs.Names.{is_between}
 use Rattle.run_table.specs.declared.run.Run.{Run}
 use Rattle.run_table.specs.RunTable.{sectors_of}
 use Rattle.run_table.specs.Space.{contains, where_free}
-use Rattle.alloc_map.specs.FreeSpace.{FreeSpace, space, without, AreFree}
+use Rattle.sector_set.specs.Area.{Area, area, without, AreIn}
 use Rattle.sector_set.proofs.FreeLaws.{where_same, contains_where}
 use Rattle.fsd_formats.specs.declared.entry.Entry.{Entry}
 use Rattle.fsd_formats.specs.NamePage.{Leaf, contents_of, entry_bytes, is_entry, is_page, are_ascending, room, least_used, FitsEntry, FitsPage}
@@ -183,7 +183,7 @@ taken_test s e entries absent =
 pub space_put : (l : Layout) (e : Entry) (entries : List Entry) → names e.key.name entries ≡ false → without (free_space l entries) e.runs ≡ free_space l (entry_put e entries)
 space_put l e entries absent =
     let free : ℕ → Bool = λ s. not (contains (flat_map sectors_of (plans_of entries)) s) in
-    ap (λ (xs : List ℕ). record { from = data_start l; to = l.sectors; free = xs })
+    ap (λ (xs : List ℕ). record { from = data_start l; to = l.sectors; sectors = xs })
     (where_same (λ s. contains (where_free free (data_start l) l.sectors) s && not (contains (sectors_of e.runs) s)) (λ s. not (contains (flat_map sectors_of (plans_of (entry_put e entries))) s)) (data_start l) l.sectors
     (λ s low high.
     ap (λ (b : Bool). b && not (contains (sectors_of e.runs) s)) (contains_where free (data_start l) l.sectors s low high)
@@ -194,9 +194,9 @@ space_put l e entries absent =
     neither true b = refl
     neither false b = refl
 
-pub place_free : (l : Layout) (entries : List Entry) (runs : List Run) → AreNew l (plans_of entries) runs → AreFree (free_space l entries) runs
+pub place_free : (l : Layout) (entries : List Entry) (runs : List Run) → AreNew l (plans_of entries) runs → AreIn (free_space l entries) runs
 place_free l entries runs new = record {
-  free = λ s there.
+  inside = λ s there.
       let data_area = new.are_data s there in
       let low = data_from l s data_area in
       let high = ltb-true s l.sectors (and_parts (nat_le (data_start l) s) (nat_lt s l.sectors) data_area).1 in
@@ -227,16 +227,16 @@ inserted e items new seen i ok after is same place =
     after ∙ ap (λ (b : Bool). cond b (take i items ++ e ∷ drop i items) items) is
     ∙ ap (λ (es : List Entry). take i es ++ e ∷ drop i es) (sym same) ∙ sym place ∙ ap (entry_put e) same
 
-pub kept_put : (l : Layout) (e : Entry) (items new : List Entry) (before after : FreeSpace) (runs : List Run) → IsKept l items before → IsTrue (is_entry e) → FitsEntry e → AreNew l (plans_of items) e.runs → names e.key.name items ≡ false
+pub kept_put : (l : Layout) (e : Entry) (items new : List Entry) (before after : Area) (runs : List Run) → IsKept l items before → IsTrue (is_entry e) → FitsEntry e → AreNew l (plans_of items) e.runs → names e.key.name items ≡ false
     → leaf_used (entry_put e items) ≤ room → new ≡ entry_put e items → runs ≡ e.runs → after ≡ without before runs → IsKept l new after
 kept_put l e items new before after runs kept good fits free absent small is same taken = record {
   table = subst (IsTable l) (sym is) (table_put l e items kept.table good fits free absent small);
-  map = taken ∙ ap (without before) same ∙ ap (λ (m : FreeSpace). without m e.runs) kept.map ∙ space_put l e items absent ∙ ap (free_space l) (sym is);
+  map = taken ∙ ap (without before) same ∙ ap (λ (m : Area). without m e.runs) kept.map ∙ space_put l e items absent ∙ ap (free_space l) (sym is);
 }
 
-pub free_as_kept : (l : Layout) (items : List Entry) (before : FreeSpace) (e : Entry) (runs : List Run) → IsKept l items before → AreNew l (plans_of items) e.runs → runs ≡ e.runs → AreFree before runs
+pub free_as_kept : (l : Layout) (items : List Entry) (before : Area) (e : Entry) (runs : List Run) → IsKept l items before → AreNew l (plans_of items) e.runs → runs ≡ e.runs → AreIn before runs
 free_as_kept l items before e runs kept free same =
-    subst (λ (rs : List Run). AreFree before rs) (sym same) (subst (λ (m : FreeSpace). AreFree m e.runs) (sym kept.map) (place_free l items e.runs free))
+    subst (λ (rs : List Run). AreIn before rs) (sym same) (subst (λ (m : Area). AreIn m e.runs) (sym kept.map) (place_free l items e.runs free))
 
 -- what stood in the entries stands there still
 pub still_there : (s : ℕ) (e : Entry) (entries : List Entry) → names e.key.name entries ≡ false → IsTrue (contains (flat_map sectors_of (plans_of entries)) s) → IsTrue (contains (flat_map sectors_of (plans_of (entry_put e entries))) s)

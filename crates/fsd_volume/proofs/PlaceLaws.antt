@@ -14,8 +14,8 @@ use Rattle.run_table.specs.RunTable.{sectors_of, total, are_runs, max_runs, run_
 use Rattle.run_table.specs.Space.{contains, all_differ, where_free, joined, runs_of, by_length, longest_first, cut_to, longest, best, picked, pick}
 use Rattle.run_table.proofs.ChoiceLaws.{total_of_pick, pick_none, pick_among}
 use Rattle.alloc_map.proofs.ChooseLaws.{best_within}
-use Rattle.alloc_map.proofs.MapLaws.{free_within}
-use Rattle.alloc_map.specs.FreeSpace.{FreeSpace, space, without, AreFree}
+use Rattle.sector_set.proofs.AreaLaws.{free_within}
+use Rattle.sector_set.specs.Area.{Area, area, without, AreIn}
 use Rattle.alloc_map.specs.NoPlace.{choice, picked_or}
 use Rattle.alloc_map.specs.declared.no_place.NoPlace.{NoPlace}
 use Rattle.alloc_map.specs.declared.no_place.NoPlace.TheVariants.{NoSpace as Few, TooFragmented as Broken}
@@ -31,14 +31,14 @@ use Rattle.fsd_volume.proofs.RunApartLaws.{sectors_of_all}
 -- ---- the map of the entries
 
 pub space_is : (l : Layout) (entries : List Entry) (from to : ℕ) (runs : List Run) → from ≡ data_start l → to ≡ l.sectors → runs ≡ flat_map (λ e. e.runs) entries
-    → space from to (λ s. not (contains (sectors_of runs) s)) ≡ free_space l entries
+    → area from to (λ s. not (contains (sectors_of runs) s)) ≡ free_space l entries
 space_is l entries from to runs a b is =
-    let P : ℕ → ℕ → List ℕ → FreeSpace = λ x y xs. space x y (λ s. not (contains xs s)) in
+    let P : ℕ → ℕ → List ℕ → Area = λ x y xs. area x y (λ s. not (contains xs s)) in
     ap (λ (x : ℕ). P x to (sectors_of runs)) a ∙ ap (λ (y : ℕ). P (data_start l) y (sectors_of runs)) b
     ∙ ap (P (data_start l) l.sectors) (ap sectors_of is ∙ sectors_of_all entries)
 
-pub map_is : {E : Type 0} (r : Result FreeSpace E) (x y : FreeSpace) → x ≡ y → IfOk r (λ m. m ≡ x) → IfOk r (λ m. m ≡ y)
-map_is r x y e h = subst (λ (z : FreeSpace). IfOk r (λ m. m ≡ z)) e h
+pub map_is : {E : Type 0} (r : Result Area E) (x y : Area) → x ≡ y → IfOk r (λ m. m ≡ x) → IfOk r (λ m. m ≡ y)
+map_is r x y e h = subst (λ (z : Area). IfOk r (λ m. m ≡ z)) e h
 
 -- ---- what the code chooses is what the definitions do
 
@@ -90,7 +90,7 @@ free_alike state v stands s low high =
     by used true false true c i p q r = absurd (cc q)
     by used true false false true i p q r = absurd (cc r)
 
-pub same_runs_free : (state : State) (v : Volume) → StandsFor state v → free_runs v ≡ runs_of (free_space state.layout state.entries).free
+pub same_runs_free : (state : State) (v : Volume) → StandsFor state v → free_runs v ≡ runs_of (free_space state.layout state.entries).sectors
 same_runs_free state v stands =
     let l : Layout = state.layout in
     ap (λ (k : Layout). runs_of (where_free (is_free v) (data_start k) k.sectors)) stands.layout
@@ -170,20 +170,20 @@ pub record IsPlace (l : Layout) (entries : List Entry) (need : ℕ) (runs : List
   pub count : total runs ≡ need
   pub few : Few8 8 runs
 
-pub picked_place : (l : Layout) (entries : List Entry) (need : ℕ) (runs : List Run) → 1 ≤ need → pick (runs_of (free_space l entries).free) need ≡ Some runs → IsPlace l entries need runs
+pub picked_place : (l : Layout) (entries : List Entry) (need : ℕ) (runs : List Run) → 1 ≤ need → pick (runs_of (free_space l entries).sectors) need ≡ Some runs → IsPlace l entries need runs
 picked_place l entries need runs one is =
     let free : ℕ → Bool = λ s. not (contains (flat_map sectors_of (plans_of entries)) s) in
     let each : (s : ℕ) → (occurs s (sectors_of runs) ≤ 1) × (0 < occurs s (sectors_of runs) → IsTrue (free s)) =
     λ s. subst (λ (o : Option (List Run)). IfSome o (λ out. (occurs s (sectors_of out) ≤ 1) × (0 < occurs s (sectors_of out) → IsTrue (free s)))) is (picked_once free (data_start l) l.sectors need s) in
-    let within = subst (λ (o : Option (List Run)). IfSome o (λ out. (s : ℕ) → IsTrue (contains (sectors_of out) s) → IsTrue (contains (sectors_of (runs_of (free_space l entries).free)) s))) is (pick_among (runs_of (free_space l entries).free) need) in
+    let within = subst (λ (o : Option (List Run)). IfSome o (λ out. (s : ℕ) → IsTrue (contains (sectors_of out) s) → IsTrue (contains (sectors_of (runs_of (free_space l entries).sectors)) s))) is (pick_among (runs_of (free_space l entries).sectors) need) in
     record {
       new = record {
         differ = occurs_differ (sectors_of runs) (λ s. (each s).0);
         unused = λ s there used. both_ways (contains (flat_map sectors_of (plans_of entries)) s) (not-true (contains (flat_map sectors_of (plans_of entries)) s) ((each s).1 (contains_occurs s (sectors_of runs) there))) used;
         are_data = λ s there. in_area l free s (within s there);
       };
-      count = subst (λ (o : Option (List Run)). IfSome o (λ out. total out ≡ need)) is (total_of_pick (runs_of (free_space l entries).free) need);
-      few = subst (λ (o : Option (List Run)). IfSome o (Few8 8)) is (pick_few (runs_of (free_space l entries).free) need one (runs_some (free_space l entries).free));
+      count = subst (λ (o : Option (List Run)). IfSome o (λ out. total out ≡ need)) is (total_of_pick (runs_of (free_space l entries).sectors) need);
+      few = subst (λ (o : Option (List Run)). IfSome o (Few8 8)) is (pick_few (runs_of (free_space l entries).sectors) need one (runs_some (free_space l entries).sectors));
     }
   where
     in_area : (l : Layout) (free : ℕ → Bool) (s : ℕ) → IsTrue (contains (sectors_of (runs_of (where_free free (data_start l) l.sectors))) s) → IsTrue (is_data l s)

@@ -60,7 +60,7 @@ stands_drawn s v h = record {
 -- ---- no place
 
 pub place_refused : (s : State) (v : Volume) (name bytes : List ℕ) (given : Option ℕ) (refusal : Refusal) → StandsFor s v → size_fault (keep_given given) (length bytes) ≡ None
-    → placed (free_space s.layout s.entries).free (sectors_for (length bytes)) ≡ Err refusal → PutSays v (put_outcome v name bytes given) v (Err refusal)
+    → placed (free_space s.layout s.entries).sectors (sectors_for (length bytes)) ≡ Err refusal → PutSays v (put_outcome v name bytes given) v (Err refusal)
 place_refused s v name bytes given refusal stands fits none =
     subst (λ (o : Option Refusal). PutSays v (put_unless o v name bytes given) v (Err refusal)) (sym fits)
     (by (pick (free_runs v) need) (ap (λ (rs : List Run). placed_in rs (pick rs need)) (same_runs_free s v stands) ∙ none))
@@ -88,7 +88,7 @@ place_refused s v name bytes given refusal stands fits none =
 pub record Entering (s : State) (v : Volume) (name bytes : List ℕ) (given : Option ℕ) (e : Entry) : Type 0 where
   pub stands : StandsFor s v
   pub fits : size_fault (keep_given given) (length bytes) ≡ None
-  pub place : pick (runs_of (free_space s.layout s.entries).free) (sectors_for (length bytes)) ≡ Some e.runs
+  pub place : pick (runs_of (free_space s.layout s.entries).sectors) (sectors_for (length bytes)) ≡ Some e.runs
   pub key : e.key ≡ key_of name 1
   pub keep : e.keep ≡ keep_of given None
   pub serial : e.serial ≡ s.serial

@@ -6,7 +6,7 @@ use Rattle.volume_layout.specs.declared.layout.Layout.{Layout}
 use Rattle.volume_layout.specs.Layout.{plan, data_start}
 use Rattle.run_table.specs.RunTable.{sectors_of}
 use Rattle.run_table.specs.Space.{contains}
-use Rattle.alloc_map.specs.FreeSpace.{FreeSpace, space}
+use Rattle.sector_set.specs.Area.{Area, area}
 use Rattle.fsd_formats.specs.declared.entry.Entry.{Entry}
 use Rattle.fsd_files.specs.Disk.{Image, nowhere}
 use Rattle.fsd_files.specs.Files.{Files}
@@ -30,11 +30,11 @@ pub record IsTable (l : Layout) (entries : List Entry) : Type 0 where
   pub apart : Apart l (plans_of entries)
 
 -- the data sectors that no entry has
-abbrev pub free_space : Layout → List Entry → FreeSpace
-free_space l entries = space (data_start l) l.sectors (λ s. not (contains (flat_map sectors_of (plans_of entries)) s))
+abbrev pub free_space : Layout → List Entry → Area
+free_space l entries = area (data_start l) l.sectors (λ s. not (contains (flat_map sectors_of (plans_of entries)) s))
 
 -- The entries are a table, and the map has the sectors that they leave.
-pub record IsKept (l : Layout) (entries : List Entry) (free : FreeSpace) : Type 0 where
+pub record IsKept (l : Layout) (entries : List Entry) (free : Area) : Type 0 where
   pub table : IsTable l entries
   pub map : free ≡ free_space l entries
 

@@ -135,7 +135,7 @@ fn size_fault(keep: Option<u32>, length: usize) -> Option<Refusal>
 
 // Where so many sectors go.
 fn place(map: &Map, need: u32) -> Result<Runs, Refusal>
-    ensures { result ≡ placed map.now.free need }
+    ensures { result ≡ placed map.now.sectors need }
 {
     match map.choose(need) {
         Ok(runs) => Ok(runs),

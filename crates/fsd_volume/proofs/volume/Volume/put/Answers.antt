@@ -1,5 +1,5 @@
 use Rattle.std.proofs.Common.{◌≡◌, Err, ◌+◌, ◌<◌, ◌≤◌, ◌^◌, ℕ, length, refl, sym, ap, subst, ◌∙◌, arith, rules}
-use Rattle.alloc_map.specs.FreeSpace.{FreeSpace}
+use Rattle.sector_set.specs.Area.{Area}
 use Rattle.fsd_formats.specs.declared.entry.Entry.{Entry}
 use Rattle.fsd_formats.specs.NamePage.{sectors_for, max_keep}
 use Rattle.fsd_files.specs.Answers.{keep_given}
@@ -22,7 +22,7 @@ returns-in-Err-clause-answers g c v stands =
     let state : State = record { layout = c.self.inside.layout; entries = c.self.inside.entries.items; serial = c.self.inside.serial; waits = c.self.inside.waits } in
     let fits = sym c.size_fault.ensures ∙ c.in_default.is in
     let need = ap (λ (n : ℕ). 1 + n) c.div_ceil.ensures in
-    let place = ap (λ (m : FreeSpace). placed m.free (sectors_for (length c.args.bytes.now))) (sym c.self.invariant.map) ∙ ap (placed c.self.inside.map.free) (sym need) ∙ sym c.place.ensures ∙ c.in-Err.is in
+    let place = ap (λ (m : Area). placed m.sectors (sectors_for (length c.args.bytes.now))) (sym c.self.invariant.map) ∙ ap (placed c.self.inside.map.sectors) (sym need) ∙ sym c.place.ensures ∙ c.in-Err.is in
     record { after = v; stands = stands; says = place_refused state v c.args.name.now c.args.bytes.now c.args.keep c.in-Err.refusal (subst (λ (s : State). StandsFor s v) (sym c.self.view_is) stands) fits place }
 
 pub returns-in-Err-clause-stands : goal.returns-in-Err-clause-stands
@@ -30,7 +30,7 @@ returns-in-Err-clause-stands g c h calm v files mounted =
     let state : State = record { layout = c.self.inside.layout; entries = c.self.inside.entries.items; serial = c.self.inside.serial; waits = c.self.inside.waits } in
     let fits = sym c.size_fault.ensures ∙ c.in_default.is in
     let need = ap (λ (n : ℕ). 1 + n) c.div_ceil.ensures in
-    let place = ap (λ (m : FreeSpace). placed m.free (sectors_for (length c.args.bytes.now))) (sym c.self.invariant.map) ∙ ap (placed c.self.inside.map.free) (sym need) ∙ sym c.place.ensures ∙ c.in-Err.is in
+    let place = ap (λ (m : Area). placed m.sectors (sectors_for (length c.args.bytes.now))) (sym c.self.invariant.map) ∙ ap (placed c.self.inside.map.sectors) (sym need) ∙ sym c.place.ensures ∙ c.in-Err.is in
     stands_on v (put_outcome v c.args.name.now c.args.bytes.now c.args.keep) files c.args.self.now (g.M.Machine.now c.args.m.now).image (Err c.in-Err.refusal) record { after = v; says = place_refused state v c.args.name.now c.args.bytes.now c.args.keep c.in-Err.refusal (subst (λ (s : State). StandsFor s v) (sym c.self.view_is) mounted.stands) fits place; mounted = mounted }
 
 pub write_version-requires-clause-runs : goal.write_version-requires-clause-runs
@@ -38,8 +38,8 @@ write_version-requires-clause-runs g c =
     let state : State = record { layout = c.self.inside.layout; entries = c.self.inside.entries.items; serial = c.self.inside.serial; waits = c.self.inside.waits } in
     let fits = sym c.size_fault.ensures ∙ c.in_default.is in
     let need = ap (λ (n : ℕ). 1 + n) c.div_ceil.ensures in
-    let place = ap (λ (m : FreeSpace). placed m.free (sectors_for (length c.args.bytes.now))) (sym c.self.invariant.map) ∙ ap (placed c.self.inside.map.free) (sym need) ∙ sym c.place.ensures ∙ c.in-Ok.is in
-    let picked = placed_ok (free_space state.layout state.entries).free (sectors_for (length c.args.bytes.now)) c.in-Ok.runs place in
+    let place = ap (λ (m : Area). placed m.sectors (sectors_for (length c.args.bytes.now))) (sym c.self.invariant.map) ∙ ap (placed c.self.inside.map.sectors) (sym need) ∙ sym c.place.ensures ∙ c.in-Ok.is in
+    let picked = placed_ok (free_space state.layout state.entries).sectors (sectors_for (length c.args.bytes.now)) c.in-Ok.runs place in
     let is = picked_place state.layout state.entries (sectors_for (length c.args.bytes.now)) c.in-Ok.runs (omega arith) picked in
     let most = most_sectors state.layout state.entries c.self.invariant.table in
     let sizes = sizes_fit (keep_given c.args.keep) (length c.args.bytes.now) fits in
@@ -53,8 +53,8 @@ write_version-requires-clause-lengths g c =
     let state : State = record { layout = c.self.inside.layout; entries = c.self.inside.entries.items; serial = c.self.inside.serial; waits = c.self.inside.waits } in
     let fits = sym c.size_fault.ensures ∙ c.in_default.is in
     let need = ap (λ (n : ℕ). 1 + n) c.div_ceil.ensures in
-    let place = ap (λ (m : FreeSpace). placed m.free (sectors_for (length c.args.bytes.now))) (sym c.self.invariant.map) ∙ ap (placed c.self.inside.map.free) (sym need) ∙ sym c.place.ensures ∙ c.in-Ok.is in
-    let picked = placed_ok (free_space state.layout state.entries).free (sectors_for (length c.args.bytes.now)) c.in-Ok.runs place in
+    let place = ap (λ (m : Area). placed m.sectors (sectors_for (length c.args.bytes.now))) (sym c.self.invariant.map) ∙ ap (placed c.self.inside.map.sectors) (sym need) ∙ sym c.place.ensures ∙ c.in-Ok.is in
+    let picked = placed_ok (free_space state.layout state.entries).sectors (sectors_for (length c.args.bytes.now)) c.in-Ok.runs place in
     let is = picked_place state.layout state.entries (sectors_for (length c.args.bytes.now)) c.in-Ok.runs (omega arith) picked in
     let most = most_sectors state.layout state.entries c.self.invariant.table in
     let sizes = sizes_fit (keep_given c.args.keep) (length c.args.bytes.now) fits in
@@ -68,8 +68,8 @@ write_version-requires-clause-in_range g c k d lt =
     let state : State = record { layout = c.self.inside.layout; entries = c.self.inside.entries.items; serial = c.self.inside.serial; waits = c.self.inside.waits } in
     let fits = sym c.size_fault.ensures ∙ c.in_default.is in
     let need = ap (λ (n : ℕ). 1 + n) c.div_ceil.ensures in
-    let place = ap (λ (m : FreeSpace). placed m.free (sectors_for (length c.args.bytes.now))) (sym c.self.invariant.map) ∙ ap (placed c.self.inside.map.free) (sym need) ∙ sym c.place.ensures ∙ c.in-Ok.is in
-    let picked = placed_ok (free_space state.layout state.entries).free (sectors_for (length c.args.bytes.now)) c.in-Ok.runs place in
+    let place = ap (λ (m : Area). placed m.sectors (sectors_for (length c.args.bytes.now))) (sym c.self.invariant.map) ∙ ap (placed c.self.inside.map.sectors) (sym need) ∙ sym c.place.ensures ∙ c.in-Ok.is in
+    let picked = placed_ok (free_space state.layout state.entries).sectors (sectors_for (length c.args.bytes.now)) c.in-Ok.runs place in
     let is = picked_place state.layout state.entries (sectors_for (length c.args.bytes.now)) c.in-Ok.runs (omega arith) picked in
     let most = most_sectors state.layout state.entries c.self.invariant.table in
     let sizes = sizes_fit (keep_given c.args.keep) (length c.args.bytes.now) fits in
@@ -85,8 +85,8 @@ write_version-requires-clause-count g c =
     let state : State = record { layout = c.self.inside.layout; entries = c.self.inside.entries.items; serial = c.self.inside.serial; waits = c.self.inside.waits } in
     let fits = sym c.size_fault.ensures ∙ c.in_default.is in
     let need = ap (λ (n : ℕ). 1 + n) c.div_ceil.ensures in
-    let place = ap (λ (m : FreeSpace). placed m.free (sectors_for (length c.args.bytes.now))) (sym c.self.invariant.map) ∙ ap (placed c.self.inside.map.free) (sym need) ∙ sym c.place.ensures ∙ c.in-Ok.is in
-    let picked = placed_ok (free_space state.layout state.entries).free (sectors_for (length c.args.bytes.now)) c.in-Ok.runs place in
+    let place = ap (λ (m : Area). placed m.sectors (sectors_for (length c.args.bytes.now))) (sym c.self.invariant.map) ∙ ap (placed c.self.inside.map.sectors) (sym need) ∙ sym c.place.ensures ∙ c.in-Ok.is in
+    let picked = placed_ok (free_space state.layout state.entries).sectors (sectors_for (length c.args.bytes.now)) c.in-Ok.runs place in
     let is = picked_place state.layout state.entries (sectors_for (length c.args.bytes.now)) c.in-Ok.runs (omega arith) picked in
     let most = most_sectors state.layout state.entries c.self.invariant.table in
     let sizes = sizes_fit (keep_given c.args.keep) (length c.args.bytes.now) fits in
@@ -100,8 +100,8 @@ enter-requires-clause-entry g c =
     let state : State = record { layout = c.self.inside.layout; entries = c.self.inside.entries.items; serial = c.self.inside.serial; waits = c.self.inside.waits } in
     let fits = sym c.size_fault.ensures ∙ c.in_default.is in
     let need = ap (λ (n : ℕ). 1 + n) c.div_ceil.ensures in
-    let place = ap (λ (m : FreeSpace). placed m.free (sectors_for (length c.args.bytes.now))) (sym c.self.invariant.map) ∙ ap (placed c.self.inside.map.free) (sym need) ∙ sym c.place.ensures ∙ c.in-Ok.is in
-    let picked = placed_ok (free_space state.layout state.entries).free (sectors_for (length c.args.bytes.now)) c.in-Ok.runs place in
+    let place = ap (λ (m : Area). placed m.sectors (sectors_for (length c.args.bytes.now))) (sym c.self.invariant.map) ∙ ap (placed c.self.inside.map.sectors) (sym need) ∙ sym c.place.ensures ∙ c.in-Ok.is in
+    let picked = placed_ok (free_space state.layout state.entries).sectors (sectors_for (length c.args.bytes.now)) c.in-Ok.runs place in
     let is = picked_place state.layout state.entries (sectors_for (length c.args.bytes.now)) c.in-Ok.runs (omega arith) picked in
     let most = most_sectors state.layout state.entries c.self.invariant.table in
     let sizes = sizes_fit (keep_given c.args.keep) (length c.args.bytes.now) fits in
@@ -115,8 +115,8 @@ enter-requires-clause-fits g c =
     let state : State = record { layout = c.self.inside.layout; entries = c.self.inside.entries.items; serial = c.self.inside.serial; waits = c.self.inside.waits } in
     let fits = sym c.size_fault.ensures ∙ c.in_default.is in
     let need = ap (λ (n : ℕ). 1 + n) c.div_ceil.ensures in
-    let place = ap (λ (m : FreeSpace). placed m.free (sectors_for (length c.args.bytes.now))) (sym c.self.invariant.map) ∙ ap (placed c.self.inside.map.free) (sym need) ∙ sym c.place.ensures ∙ c.in-Ok.is in
-    let picked = placed_ok (free_space state.layout state.entries).free (sectors_for (length c.args.bytes.now)) c.in-Ok.runs place in
+    let place = ap (λ (m : Area). placed m.sectors (sectors_for (length c.args.bytes.now))) (sym c.self.invariant.map) ∙ ap (placed c.self.inside.map.sectors) (sym need) ∙ sym c.place.ensures ∙ c.in-Ok.is in
+    let picked = placed_ok (free_space state.layout state.entries).sectors (sectors_for (length c.args.bytes.now)) c.in-Ok.runs place in
     let is = picked_place state.layout state.entries (sectors_for (length c.args.bytes.now)) c.in-Ok.runs (omega arith) picked in
     let most = most_sectors state.layout state.entries c.self.invariant.table in
     let sizes = sizes_fit (keep_given c.args.keep) (length c.args.bytes.now) fits in
@@ -133,8 +133,8 @@ enter-requires-clause-free g c =
     let state : State = record { layout = c.self.inside.layout; entries = c.self.inside.entries.items; serial = c.self.inside.serial; waits = c.self.inside.waits } in
     let fits = sym c.size_fault.ensures ∙ c.in_default.is in
     let need = ap (λ (n : ℕ). 1 + n) c.div_ceil.ensures in
-    let place = ap (λ (m : FreeSpace). placed m.free (sectors_for (length c.args.bytes.now))) (sym c.self.invariant.map) ∙ ap (placed c.self.inside.map.free) (sym need) ∙ sym c.place.ensures ∙ c.in-Ok.is in
-    let picked = placed_ok (free_space state.layout state.entries).free (sectors_for (length c.args.bytes.now)) c.in-Ok.runs place in
+    let place = ap (λ (m : Area). placed m.sectors (sectors_for (length c.args.bytes.now))) (sym c.self.invariant.map) ∙ ap (placed c.self.inside.map.sectors) (sym need) ∙ sym c.place.ensures ∙ c.in-Ok.is in
+    let picked = placed_ok (free_space state.layout state.entries).sectors (sectors_for (length c.args.bytes.now)) c.in-Ok.runs place in
     let is = picked_place state.layout state.entries (sectors_for (length c.args.bytes.now)) c.in-Ok.runs (omega arith) picked in
     let most = most_sectors state.layout state.entries c.self.invariant.table in
     let sizes = sizes_fit (keep_given c.args.keep) (length c.args.bytes.now) fits in
@@ -148,8 +148,8 @@ returns-in-Ok-write_version-clause-answers g c v stands =
     let state : State = record { layout = c.self.inside.layout; entries = c.self.inside.entries.items; serial = c.self.inside.serial; waits = c.self.inside.waits } in
     let fits = sym c.size_fault.ensures ∙ c.in_default.is in
     let need = ap (λ (n : ℕ). 1 + n) c.div_ceil.ensures in
-    let place = ap (λ (m : FreeSpace). placed m.free (sectors_for (length c.args.bytes.now))) (sym c.self.invariant.map) ∙ ap (placed c.self.inside.map.free) (sym need) ∙ sym c.place.ensures ∙ c.in-Ok.is in
-    let picked = placed_ok (free_space state.layout state.entries).free (sectors_for (length c.args.bytes.now)) c.in-Ok.runs place in
+    let place = ap (λ (m : Area). placed m.sectors (sectors_for (length c.args.bytes.now))) (sym c.self.invariant.map) ∙ ap (placed c.self.inside.map.sectors) (sym need) ∙ sym c.place.ensures ∙ c.in-Ok.is in
+    let picked = placed_ok (free_space state.layout state.entries).sectors (sectors_for (length c.args.bytes.now)) c.in-Ok.runs place in
     let is = picked_place state.layout state.entries (sectors_for (length c.args.bytes.now)) c.in-Ok.runs (omega arith) picked in
     let most = most_sectors state.layout state.entries c.self.invariant.table in
     let sizes = sizes_fit (keep_given c.args.keep) (length c.args.bytes.now) fits in
@@ -164,8 +164,8 @@ returns-in-Ok-write_version-clause-stands g c honest calm v files mounted =
     let state : State = record { layout = c.self.inside.layout; entries = c.self.inside.entries.items; serial = c.self.inside.serial; waits = c.self.inside.waits } in
     let fits = sym c.size_fault.ensures ∙ c.in_default.is in
     let need = ap (λ (n : ℕ). 1 + n) c.div_ceil.ensures in
-    let place = ap (λ (m : FreeSpace). placed m.free (sectors_for (length c.args.bytes.now))) (sym c.self.invariant.map) ∙ ap (placed c.self.inside.map.free) (sym need) ∙ sym c.place.ensures ∙ c.in-Ok.is in
-    let picked = placed_ok (free_space state.layout state.entries).free (sectors_for (length c.args.bytes.now)) c.in-Ok.runs place in
+    let place = ap (λ (m : Area). placed m.sectors (sectors_for (length c.args.bytes.now))) (sym c.self.invariant.map) ∙ ap (placed c.self.inside.map.sectors) (sym need) ∙ sym c.place.ensures ∙ c.in-Ok.is in
+    let picked = placed_ok (free_space state.layout state.entries).sectors (sectors_for (length c.args.bytes.now)) c.in-Ok.runs place in
     let is = picked_place state.layout state.entries (sectors_for (length c.args.bytes.now)) c.in-Ok.runs (omega arith) picked in
     let most = most_sectors state.layout state.entries c.self.invariant.table in
     let sizes = sizes_fit (keep_given c.args.keep) (length c.args.bytes.now) fits in
