@@ -10,7 +10,7 @@ use Rattle.sector_disk.specs.declared.sector.Sector.{Sector}
 use Rattle.sector_disk.specs.declared.sector.Sector.TheVariants.{Whole}
 use Rattle.sector_disk.specs.Image.{sector_at, lay}
 use Rattle.fsd_sound.specs.Format.{format_anchor}
-use Rattle.fsd_volume.specs.Calls.{with_sector}
+use Rattle.sector_disk.specs.Image.{with_sector}
 use Rattle.sector_disk.specs.Machine.{Moment, Holds}
 use Rattle.fsd_volume.specs.Formatting.{with_head, with_blanks}
 use Rattle.std.specs.Prelude.{slice_set}

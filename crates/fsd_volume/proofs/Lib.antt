@@ -1,6 +1,13 @@
 pub mod HeadLaws
+pub mod ApartLaws
 pub mod CallLaws
 pub mod FormatLaws
+pub mod ForceLaws
+pub mod HomeLaws
+pub mod KeptLaws
 pub mod Laying
 pub mod PieceLaws
+pub mod ListLaws
+pub mod PlanLaws
 pub mod SliceLaws
+pub mod StoredLaws

@@ -1,4 +1,6 @@
 pub mod Calls
 pub mod Formatting
 pub mod Pieces
+pub mod Put
 pub mod Slices
+pub mod State

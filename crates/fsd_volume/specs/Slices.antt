@@ -6,7 +6,7 @@ use Rattle.run_table.specs.declared.run.Run.{Run}
 use Rattle.run_table.specs.RunTable.{sectors_of}
 use Rattle.fsd_files.specs.Kept.{slice_of}
 use Rattle.sector_disk.specs.declared.sector.Sector.{Sector}
-use Rattle.fsd_volume.specs.Calls.{with_sector}
+use Rattle.sector_disk.specs.Image.{with_sector}
 
 -- the image with these bytes in these places, so many of them
 abbrev pub lay_at : List Sector → (place : ℕ → ℕ) → (bytes : ℕ → List ℕ) → ℕ → List Sector

@@ -1,10 +1,18 @@
 //! A volume: its format, its mount, and the reading and writing of versions.
 #![tactic(auto)]
 
+mod forcing;
 mod formatting;
 mod pages;
 mod pieces;
+mod putting;
+mod reading;
+mod scratch;
 mod sectors;
 mod slices;
+mod volume;
 
+pub use forcing::Forced;
 pub use formatting::format;
+pub use scratch::scratch_law;
+pub use volume::Volume;

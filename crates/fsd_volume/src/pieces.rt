@@ -5,7 +5,7 @@ ghost use Rattle.run_table.specs.RunTable.{sectors_of};
 ghost use Rattle.fsd_files.specs.Disk.{Sectors};
 ghost use Rattle.fsd_files.specs.Kept.{KeptIn};
 ghost use Rattle.fsd_volume.specs.Calls.{TellsDevice};
-ghost use Rattle.fsd_volume.specs.Pieces.{ShowsPart, GivesRange};
+ghost use Rattle.fsd_volume.specs.Pieces.{ShowsPart, GivesRange, OfData};
 
 use fsd_bytes::Refusal;
 use run_table::Runs;
@@ -19,6 +19,7 @@ pub(crate) fn read_range<M: Machine>(m: &mut M, runs: &Runs, from: u32, n: u32, 
     requires end { from + n ≤ 512 * (length (sectors_of runs.now) - 1) }
     requires small { from + n < 2 ^ 31 }
     ensures fault { IfErr result (TellsDevice (M.report m.old) (M.report m.new)) }
+    ensures ends { IfErr result OfData }
     ensures uses { UsesDisk (M.report m.old) (M.report m.new) }
     ensures trust { Trusts (M.tells m.old) (M.tells m.new) (M.honest m.old) (M.honest m.new) }
     ensures ledger { M.tells m.new → M.ledger m.new ≡ M.ledger m.old }

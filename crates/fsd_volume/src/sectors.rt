@@ -1,7 +1,7 @@
 //! Single sectors.
 ghost use Rattle.std.specs.Prelude.{◌≡◌, ◌<◌, OnOk, IfErr};
-ghost use Rattle.sector_disk.specs.Machine.{DeviceFault, UsesDisk, Trusts, Holds};
-ghost use Rattle.fsd_volume.specs.Calls.{OnlyWrites, with_sector};
+ghost use Rattle.sector_disk.specs.Machine.{DeviceFault, UsesDisk, Trusts, OnlyWrites, Holds};
+ghost use Rattle.sector_disk.specs.Image.{with_sector};
 
 use sector_disk::{Failed, Machine};
 

@@ -1,10 +1,9 @@
 //! The bytes of a version in its sectors.
 ghost use Rattle.std.specs.Prelude.{◌≡◌, ◌+◌, ◌-◌, ◌*◌, ◌^◌, ◌≤◌, ◌<◌, All, length, OnOk, IfErr};
-ghost use Rattle.sector_disk.specs.Machine.{DeviceFault, UsesDisk, Trusts, Holds};
+ghost use Rattle.sector_disk.specs.Machine.{DeviceFault, UsesDisk, Trusts, OnlyWrites, Holds};
 ghost use Rattle.run_table.specs.RunTable.{sectors_of, total};
 ghost use Rattle.fsd_formats.specs.NamePage.{sectors_for, max_length};
 ghost use Rattle.fsd_files.specs.Kept.{slice_of};
-ghost use Rattle.fsd_volume.specs.Calls.{OnlyWrites};
 ghost use Rattle.fsd_volume.specs.Slices.{with_slices};
 
 use crate::sectors::write_sector;

@@ -1,0 +1,6 @@
+use Rattle.fsd_volume.proofs.PlanLaws as plans
+use Rattle.fsd_volume.proofs.ListLaws as lists
+use Rattle.fsd_volume.proofs.scratch.scratch_law.Goals as goal
+
+pub returns : goal.returns
+returns c = tt
