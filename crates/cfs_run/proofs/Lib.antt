@@ -1,4 +1,5 @@
 mod FormatEnds
 mod InputSoFar
+mod PutEnds
 mod RunLaws
 mod WordLists

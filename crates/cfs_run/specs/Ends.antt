@@ -1,8 +1,8 @@
 -- How a run ends, by what its words ask for.
-use Rattle.std.specs.Prelude.{◌≡◌, ◌⊎◌, ℕ, Bool, ◌==◌, List, [], ◌∷◌, ◌++◌, take, Result, Ok, Err}
+use Rattle.std.specs.Prelude.{◌≡◌, ◌⊎◌, ◌<◌, ◌≤◌, ⊤, ℕ, Bool, ◌==◌, List, [], ◌∷◌, ◌++◌, length, take, Result, Ok, Err}
 use Rattle.std.specs.List.{list_any}
 use Rattle.sector_disk.specs.Image.{IsWorn, open_damage}
-use Rattle.sector_disk.specs.Machine.{Asked, Ledger, Moment, Report, Rose}
+use Rattle.sector_disk.specs.Machine.{Asked, Moment, Report, Rose}
 use Rattle.volume_layout.specs.declared.layout.Layout.{Layout}
 use Rattle.volume_layout.specs.declared.fault.LayoutFault.{LayoutFault}
 use Rattle.volume_layout.specs.Layout.{plan}
@@ -13,43 +13,109 @@ use Rattle.cfs_run.specs.declared.answer.Answer.TheVariants as Said
 use Rattle.cfs_run.specs.declared.request.Request.{Request}
 use Rattle.cfs_run.specs.declared.request.Request.TheVariants.{Outside, BadField, Format, Put, Get}
 use Rattle.cfs_run.specs.declared.fault.Fault.TheVariants as Ends
+use Rattle.fsd_bytes.specs.declared.key.Key.{Key}
+use Rattle.cfs_run.specs.declared.input.TheConstants.{MOST_INPUT}
+use Rattle.cfs_run.specs.Mounting.{IsMountFault, mount_asks}
 use Rattle.cfs_run.specs.Text.{fault_text, memory_text, text}
 use Rattle.cfs_run.specs.Answer.{CausesLine, answer_status, answer_text, status_of}
-use Rattle.cfs_run.specs.Formatting.{Asks, HoldsVolume, IsDeviceLine, IsFormatLine, VolumeMade, format_line, plan_asks}
+use Rattle.cfs_run.specs.Formatting.{AsksLine, HoldsVolume, IsDeviceLine, IsFormatLine, VolumeMade, format_line, plan_asks}
 
 -- ---- the answers to a request
 
+-- a put says what it made, or why not
+abbrev pub IsPutLine : Line → Type 0
+IsPutLine (Says.Made key sectors) = ⊤
+IsPutLine (Says.Refused why) = ⊤
+IsPutLine (Says.Ended fault) = ⊤
+IsPutLine line = ⊥
+
+-- so it does once the input is taken
+abbrev pub IsMadeLine : Line → Type 0
+IsMadeLine (Says.Made key sectors) = ⊤
+IsMadeLine (Says.Refused why) = ⊤
+IsMadeLine (Says.Ended fault) = IsMountFault fault
+IsMadeLine line = ⊥
+
+-- a get says bytes, or the first damaged sector of the version, or that there is none
+abbrev pub IsGetLine : Key → Line → Type 0
+IsGetLine key (Says.Damaged k s) = k ≡ key
+IsGetLine key (Says.Refused why) = ⊤
+IsGetLine key (Says.Ended fault) = IsMountFault fault
+IsGetLine key line = ⊥
+
+abbrev pub IsGetAnswer : Key → Answer → Type 0
+IsGetAnswer key (Said.Line line) = IsGetLine key line
+IsGetAnswer key (Said.Bytes bytes) = ⊤
+
+abbrev pub IsLine : Line → Answer → Type 0
+IsLine this (Said.Line line) = line ≡ this
+IsLine this (Said.Bytes bytes) = ⊥
+
+abbrev pub IsPutAnswer : Answer → Type 0
+IsPutAnswer (Said.Line line) = IsPutLine line
+IsPutAnswer (Said.Bytes bytes) = ⊥
+
+abbrev pub IsFormatAnswer : Result Layout LayoutFault → Answer → Type 0
+IsFormatAnswer planned (Said.Line line) = IsFormatLine planned line
+IsFormatAnswer planned (Said.Bytes bytes) = ⊥
+
 -- what may be answered at all
 abbrev pub IsAnswerTo : Request → Answer → Type 0
-IsAnswerTo (Format n t p) (Said.Line line) = IsFormatLine (plan n t p) line
-IsAnswerTo (BadField cause) (Said.Line line) = line ≡ Says.BadField cause
-IsAnswerTo request (Said.Line line) = line ≡ Says.Usage
-IsAnswerTo request (Said.Bytes bytes) = ⊥
+IsAnswerTo Outside answer = IsLine Says.Usage answer
+IsAnswerTo (BadField cause) answer = IsLine (Says.BadField cause) answer
+IsAnswerTo (Format n t p) answer = IsFormatAnswer (plan n t p) answer
+IsAnswerTo (Put name) answer = IsPutAnswer answer
+IsAnswerTo (Get key) answer = IsGetAnswer key answer
 
 abbrev pub CausesAnswer : Answer → Report → Report → Type 0
 CausesAnswer (Said.Line line) old new = CausesLine line old new
-CausesAnswer (Said.Bytes bytes) old new = Unit {0}
+CausesAnswer (Said.Bytes bytes) old new = ⊤
 
 -- the attach that a request asks for
 abbrev pub asks_of : Request → List ℕ → List Asked
+asks_of Outside path = []
+asks_of (BadField cause) path = []
 asks_of (Format n t p) path = plan_asks (plan n t p) path
-asks_of request path = []
+asks_of (Put name) path = mount_asks path
+asks_of (Get key) path = mount_asks path
 
-abbrev pub AsksFor : List Asked → Answer → Ledger → Ledger → Type 0
-AsksFor asks (Said.Line line) old new = Asks asks line old new
-AsksFor asks (Said.Bytes bytes) old new = Asks asks Says.Usage old new
+abbrev pub AsksFor : List Asked → Answer → (old new : List Asked) → Type 0
+AsksFor asks (Said.Line line) old new = AsksLine asks line old new
+AsksFor asks (Said.Bytes bytes) old new = new ≡ old ++ asks
+
+-- a put takes the whole input, but where the run ends; the end says so where there is more than the most
+abbrev pub TakesFor : Line → (old new : List ℕ) → Type 0
+TakesFor (Says.Ended Ends.InputTooLong) old new = MOST_INPUT < length old
+TakesFor (Says.Ended fault) old new = ⊤
+TakesFor line old new = (new ≡ []) × (length old ≤ MOST_INPUT)
+
+abbrev pub TakesAnswer : Answer → (old new : List ℕ) → Type 0
+TakesAnswer (Said.Line line) old new = TakesFor line old new
+TakesAnswer (Said.Bytes bytes) old new = ⊤
+
+-- only a put takes input
+abbrev pub Takes : Request → Answer → (old new : List ℕ) → Type 0
+Takes (Put name) answer old new = TakesAnswer answer old new
+Takes request answer old new = new ≡ old
 
 -- the image after an answer
 abbrev pub Leaves : Request → Answer → Moment → Moment → Type 0
+Leaves Outside answer old new = new ≡ old
+Leaves (BadField cause) answer old new = new ≡ old
 Leaves (Format n t p) (Said.Line line) old new = VolumeMade (plan n t p) line old new
-Leaves request answer old new = new ≡ old
+Leaves (Format n t p) (Said.Bytes bytes) old new = ⊤
+Leaves (Put name) answer old new = ⊤
+Leaves (Get key) answer old new = ⊤
 
 -- ---- statuses
 
 -- where nothing fails
 abbrev pub complete_statuses : Request → List ℕ
+complete_statuses Outside = 2 ∷ 7 ∷ []
+complete_statuses (BadField cause) = 2 ∷ 7 ∷ []
 complete_statuses (Format n t p) = status_of (format_line (plan n t p)) ∷ 7 ∷ []
-complete_statuses request = 2 ∷ 7 ∷ []
+complete_statuses (Put name) = 0 ∷ 1 ∷ 3 ∷ 5 ∷ 7 ∷ 9 ∷ []
+complete_statuses (Get key) = 0 ∷ 1 ∷ 3 ∷ 7 ∷ 8 ∷ 9 ∷ []
 
 abbrev pub plan_statuses : Result Layout LayoutFault → List ℕ
 plan_statuses (Ok l) = 4 ∷ 6 ∷ []
@@ -57,8 +123,11 @@ plan_statuses (Err why) = 6 ∷ []
 
 -- where a call of the outside fails
 abbrev pub fault_statuses : Request → List ℕ
+fault_statuses Outside = 6 ∷ []
+fault_statuses (BadField cause) = 6 ∷ []
 fault_statuses (Format n t p) = plan_statuses (plan n t p)
-fault_statuses request = 6 ∷ []
+fault_statuses (Put name) = 4 ∷ 6 ∷ []
+fault_statuses (Get key) = 4 ∷ 6 ∷ []
 
 abbrev pub is_one_of : List ℕ → ℕ → Bool
 is_one_of statuses status = list_any (λ s. s == status) statuses
@@ -78,27 +147,37 @@ EndsAs line before after result =
 
 -- where nothing fails
 abbrev pub Answers : Request → List ℕ → List ℕ → ℕ → Type 0
-Answers (Format n t p) before after result = EndsAs (format_line (plan n t p)) before after result
+Answers Outside before after result = EndsAs Says.Usage before after result
 Answers (BadField cause) before after result = EndsAs (Says.BadField cause) before after result
-Answers request before after result = EndsAs Says.Usage before after result
+Answers (Format n t p) before after result = EndsAs (format_line (plan n t p)) before after result
+Answers (Put name) before after result = ⊤
+Answers (Get key) before after result = ⊤
 
 -- the texts that may be said but for that of refused memory; the place is that of the disk's last fault
-abbrev pub reply_texts : Request → (place : ℕ) → List (List ℕ)
-reply_texts (Format n t p) place = text (format_line (plan n t p)) ∷ fault_text (Ends.Device place) ∷ []
-reply_texts (BadField cause) place = text (Says.BadField cause) ∷ []
-reply_texts request place = text Says.Usage ∷ []
+abbrev pub MaySay : Request → (place : ℕ) → List ℕ → Type 0
+MaySay Outside place bytes = bytes ≡ text Says.Usage
+MaySay (BadField cause) place bytes = bytes ≡ text (Says.BadField cause)
+MaySay (Format n t p) place bytes = (bytes ≡ text (format_line (plan n t p))) ⊎ (bytes ≡ fault_text (Ends.Device place))
+MaySay (Put name) place bytes = (line : Line) × IsPutLine line × (bytes ≡ text line)
+MaySay (Get key) place bytes = ⊤
 
--- some first bytes of one of these texts are said
-abbrev pub SaysPartOf : List (List ℕ) → (before after : List ℕ) → Type 0
-SaysPartOf [] before after = ⊥
-SaysPartOf (bytes ∷ texts) before after = ((heard : ℕ) × (after ≡ before ++ take heard bytes)) ⊎ SaysPartOf texts before after
+-- Some first bytes of such a text, or of that of refused memory, are said.
+pub record SaysPart (request : Request) (place : ℕ) (before after : List ℕ) : Type 0 where
+  pub bytes : List ℕ
+  pub may : MaySay request place bytes ⊎ (bytes ≡ memory_text)
+  pub heard : ℕ
+  pub said : after ≡ before ++ take heard bytes
 
 -- ---- what is left
 
--- Attaches were asked for, or none were, and the input was left.
-pub record AsksAtMost (asks : List Asked) (old new : Ledger) : Type 0 where
-  pub attaches : (new.attaches ≡ old.attaches ++ asks) ⊎ (new.attaches ≡ old.attaches)
-  pub input : new.input ≡ old.input
+-- attaches were asked for, or none were
+abbrev pub AsksAtMost : List Asked → (old new : List Asked) → Type 0
+AsksAtMost asks old new = (new ≡ old ++ asks) ⊎ (new ≡ old)
+
+-- the input after a run: only a put takes of it, and all where it answers
+abbrev pub LeavesInput : Request → (result : ℕ) → (old new : List ℕ) → Type 0
+LeavesInput (Put name) result old new = (result ≡ 0) ⊎ (result ≡ 1) → (new ≡ []) × (length old ≤ MOST_INPUT)
+LeavesInput request result old new = new ≡ old
 
 abbrev pub PlanLeaves : Result Layout LayoutFault → Moment → Type 0
 PlanLeaves (Ok l) new = HoldsVolume l new
@@ -106,8 +185,11 @@ PlanLeaves (Err why) new = ⊥
 
 -- the image after status 0
 abbrev pub Holds : Request → Moment → Type 0
+Holds Outside new = ⊥
+Holds (BadField cause) new = ⊥
 Holds (Format n t p) new = PlanLeaves (plan n t p) new
-Holds request new = ⊥
+Holds (Put name) new = ⊤
+Holds (Get key) new = ⊤
 
 -- Sectors were worn, and nothing else of the disk changed.
 pub record IsUntouched (old new : Moment) : Type 0 where

@@ -10,6 +10,7 @@ mod reading;
 mod scratch;
 mod sectors;
 mod slices;
+mod stub;
 mod volume;
 
 pub use forcing::Forced;

@@ -1,4 +1,9 @@
-use Rattle.cfs_run.proofs.RunLaws.{Ran, run_answers, run_completes, run_fault_said, run_holds, run_said, run_status, run_untouched}
+use Rattle.std.proofs.Common.{Global, map, subst, sym}
+use Rattle.std.specs.String.{string_bytes}
+use Rattle.sector_disk.specs.Machine.{Ledger}
+use Rattle.cfs_run.specs.Words.{request_of}
+use Rattle.cfs_run.specs.Ends.{LeavesInput}
+use Rattle.cfs_run.proofs.RunLaws.{Ran, run_input, run_takes, run_answers, run_completes, run_fault_said, run_holds, run_said, run_status, run_untouched}
 use Rattle.cfs_run.proofs.run.run_cfs.Goals as goal
 
 pub returns-clause-status : goal.returns-clause-status
@@ -84,3 +89,28 @@ returns-clause-fault_said g c =
       quiet = λ h. c.carry_out-answer.ensures.quiet (c.finish.ensures.trust.honest h);
       leaves = λ h. c.carry_out-answer.ensures.leaves (c.finish.ensures.trust.honest h);
     })
+
+pub returns-clause-input : goal.returns-clause-input
+returns-clause-input g c =
+    run_input (g.M.Machine.honest c.finish.new.m) _ c.carry_out-answer.result _ _ _ (g.M.Machine.now c.args.m.now) _ _ _ (record {
+      answers = c.carry_out-answer.ensures.answer;
+      cause = c.carry_out-answer.ensures.cause;
+      uses = c.carry_out-answer.ensures.uses;
+      says = c.finish.ensures.uses;
+      said = c.finish.ensures.said;
+      quiet = λ h. c.carry_out-answer.ensures.quiet (c.finish.ensures.trust.honest h);
+      leaves = λ h. c.carry_out-answer.ensures.leaves (c.finish.ensures.trust.honest h);
+    }) (g.M.Machine.tells c.finish.new.m) (g.M.Machine.ledger c.args.m.now).input (g.M.Machine.ledger c.carry_out-answer.new.m).input (λ h. c.carry_out-answer.ensures.takes (c.finish.ensures.trust.tells h))
+
+pub returns-clause-taken : goal.returns-clause-taken
+returns-clause-taken g c h =
+    let family = λ (ledger : Ledger). LeavesInput (request_of (map (string_bytes {Z = Global}) c.args.words.now)) c.finish.result (g.M.Machine.ledger c.args.m.now).input ledger.input in
+    subst family (sym (c.finish.ensures.ledger h)) (run_takes (g.M.Machine.honest c.finish.new.m) _ c.carry_out-answer.result _ _ _ (g.M.Machine.now c.args.m.now) _ _ _ (record {
+      answers = c.carry_out-answer.ensures.answer;
+      cause = c.carry_out-answer.ensures.cause;
+      uses = c.carry_out-answer.ensures.uses;
+      says = c.finish.ensures.uses;
+      said = c.finish.ensures.said;
+      quiet = λ h. c.carry_out-answer.ensures.quiet (c.finish.ensures.trust.honest h);
+      leaves = λ h. c.carry_out-answer.ensures.leaves (c.finish.ensures.trust.honest h);
+    }) _ _ (c.carry_out-answer.ensures.takes (c.finish.ensures.trust.tells h)))

@@ -1,0 +1,51 @@
+-- stand-ins
+use Rattle.std.specs.Prelude.{◌≡◌, ⊤, ℕ, ◌+◌, ◌^◌, ◌-◌, List, Option, Result, Ok, Err}
+use Rattle.fsd_bytes.specs.declared.key.Key.{Key}
+use Rattle.fsd_bytes.specs.declared.refusal.Refusal.{Refusal}
+use Rattle.fsd_bytes.specs.declared.refusal.Refusal.TheVariants as Why
+use Rattle.volume_layout.specs.declared.layout.Layout.{Layout}
+use Rattle.sector_disk.specs.Machine.{Report, Moment, DeviceFault}
+use Rattle.fsd_files.specs.Files.{Files}
+use Rattle.fsd_files.specs.Replies.{Reply, Refused, Made}
+use Rattle.fsd_files.specs.Answers.{Outcome}
+use Rattle.fsd_files.specs.OneLeaf.{put_outcome}
+use Rattle.fsd_files.specs.Volume.{Volume}
+use Rattle.fsd_volume.specs.State.{IsMounted, State}
+use Rattle.mount_recover.specs.declared.fault.MountFault.{MountFault}
+use Rattle.mount_recover.specs.declared.fault.MountFault.TheVariants.{NotVolume, Device, Memory, Lost, NoAnchor, Unsound, WornOut}
+
+abbrev pub MountCause : Report → Report → MountFault → Type 0
+MountCause old new (Device s) = DeviceFault old new s
+MountCause old new fault = ⊤
+
+abbrev pub PutCause : Report → Report → Refusal → Type 0
+PutCause old new (Why.Device s) = DeviceFault old new s
+PutCause old new (Why.Down s) = ⊥
+PutCause old new why = ⊤
+
+-- what a mount gives of a disk that holds these files: a volume of the next epoch that stands for them
+pub record Mounts (l : Layout) (epoch : ℕ) (files : Files) (state : State) (new : Moment) : Type 0 where
+  pub volume : Volume
+  pub mounted : IsMounted state volume files new.image
+  pub files_are : volume.files ≡ files
+  pub layout : volume.layout ≡ l
+  pub epoch_is : state.serial.epoch ≡ epoch + 1
+
+-- the epoch is the last, or the disk failed, or memory was refused
+abbrev pub MountEnds : Layout → ℕ → Files → Result State MountFault → Moment → Type 0
+MountEnds l epoch files (Ok state) new = Mounts l epoch files state new
+MountEnds l epoch files (Err WornOut) new = epoch ≡ 2 ^ 32 - 1
+MountEnds l epoch files (Err (Device s)) new = ⊤
+MountEnds l epoch files (Err Memory) new = ⊤
+MountEnds l epoch files (Err fault) new = ⊥
+
+pub record Makes (key : Key) (outcome : Outcome) (forced : Files) (state : State) (new : Moment) : Type 0 where
+  pub sectors : ℕ
+  pub made : outcome.0 ≡ Made key sectors
+  pub mounted : IsMounted state outcome.1 forced new.image
+
+abbrev pub PutEnds : Volume → List ℕ → List ℕ → Option ℕ → Files → Result Key Refusal → State → Moment → Type 0
+PutEnds v name bytes keep forced (Ok key) state new = Makes key (put_outcome v name bytes keep) forced state new
+PutEnds v name bytes keep forced (Err (Why.Device s)) state new = ⊤
+PutEnds v name bytes keep forced (Err Why.Memory) state new = ⊤
+PutEnds v name bytes keep forced (Err why) state new = (put_outcome v name bytes keep).0 ≡ Refused why
