@@ -156,7 +156,7 @@ runs_same s (t ∷ xs) = omega (arith, joined_same s t (runs_of xs), runs_same s
 
 -- ---- free sectors
 
-range_once : (s a n : ℕ) → (occurs s (range_with_len a n) ≤ 1) × (s < a → occurs s (range_with_len a n) ≡ 0)
+pub range_once : (s a n : ℕ) → (occurs s (range_with_len a n) ≤ 1) × (s < a → occurs s (range_with_len a n) ≡ 0)
 range_once s a zero = (omega arith, λ lt. refl)
 range_once s a (suc n) =
     let rest = range_once s (a + 1) n in

@@ -62,7 +62,7 @@ one_of : (p : ℕ → Bool) (x s : ℕ) (rest b : Bool) → (x == s) ≡ b → I
 one_of p x s rest true e first others h = subst (λ (n : ℕ). IsTrue (p n)) (eqb-true x s e) first
 one_of p x s rest false e first others h = others h
 
-all_of : (p : ℕ → Bool) (xs : List ℕ) (s : ℕ) → IsTrue (list_all p xs) → IsTrue (contains xs s) → IsTrue (p s)
+pub all_of : (p : ℕ → Bool) (xs : List ℕ) (s : ℕ) → IsTrue (list_all p xs) → IsTrue (contains xs s) → IsTrue (p s)
 all_of p [] s all there = absurd (cc there)
 all_of p (x ∷ xs) s all there =
     let parts = and_parts (p x) (list_all p xs) all in

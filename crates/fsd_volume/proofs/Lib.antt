@@ -6,8 +6,11 @@ pub mod ForceLaws
 pub mod HomeLaws
 pub mod KeptLaws
 pub mod Laying
+pub mod MountLaws
 pub mod PieceLaws
 pub mod ListLaws
 pub mod PlanLaws
+pub mod RunApartLaws
 pub mod SliceLaws
 pub mod StoredLaws
+pub mod TableLaws

@@ -27,7 +27,7 @@ pub used-cons : (s : ℕ) (runs : List Run) (plans : List (List Run)) → used s
 used-cons s runs plans = occurs-append s (sectors_of runs) (flat_map sectors_of plans)
 
 -- each of them passes the test, as each that stands in the list does
-pass_all : (p : ℕ → Bool) (xs : List ℕ) → ((s : ℕ) → IsTrue (contains xs s) → IsTrue (p s)) → IsTrue (list_all p xs)
+pub pass_all : (p : ℕ → Bool) (xs : List ℕ) → ((s : ℕ) → IsTrue (contains xs s) → IsTrue (p s)) → IsTrue (list_all p xs)
 pass_all p [] h = refl
 pass_all p (t ∷ xs) h =
     and_from (p t) (list_all p xs) (h t (or_left (t == t) (contains xs t) (eq-eqb t t refl)))

@@ -3,6 +3,7 @@
 
 mod forcing;
 mod formatting;
+mod mounting;
 mod pages;
 mod pieces;
 mod putting;
@@ -11,6 +12,7 @@ mod scratch;
 mod sectors;
 mod slices;
 mod stub;
+mod table;
 mod volume;
 
 pub use forcing::Forced;

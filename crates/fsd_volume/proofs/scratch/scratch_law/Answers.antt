@@ -1,4 +1,4 @@
-use Rattle.fsd_volume.proofs.PlanLaws as plans
+use Rattle.fsd_volume.proofs.RunApartLaws as apart
 use Rattle.fsd_volume.proofs.ListLaws as lists
 use Rattle.fsd_volume.proofs.scratch.scratch_law.Goals as goal
 
