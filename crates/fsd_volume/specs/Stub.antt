@@ -11,33 +11,11 @@ use Rattle.fsd_files.specs.Answers.{Outcome}
 use Rattle.fsd_files.specs.OneLeaf.{put_outcome}
 use Rattle.fsd_files.specs.Volume.{Volume}
 use Rattle.fsd_volume.specs.State.{IsMounted, State}
-use Rattle.mount_recover.specs.declared.fault.MountFault.{MountFault}
-use Rattle.mount_recover.specs.declared.fault.MountFault.TheVariants.{NotVolume, Device, Memory, Lost, NoAnchor, Unsound, WornOut}
-
-abbrev pub MountCause : Report → Report → MountFault → Type 0
-MountCause old new (Device s) = DeviceFault old new s
-MountCause old new fault = ⊤
 
 abbrev pub PutCause : Report → Report → Refusal → Type 0
 PutCause old new (Why.Device s) = DeviceFault old new s
 PutCause old new (Why.Down s) = ⊥
 PutCause old new why = ⊤
-
--- what a mount gives of a disk that holds these files: a volume of the next epoch that stands for them
-pub record Mounts (l : Layout) (epoch : ℕ) (files : Files) (state : State) (new : Moment) : Type 0 where
-  pub volume : Volume
-  pub mounted : IsMounted state volume files new.image
-  pub files_are : volume.files ≡ files
-  pub layout : volume.layout ≡ l
-  pub epoch_is : state.serial.epoch ≡ epoch + 1
-
--- the epoch is the last, or the disk failed, or memory was refused
-abbrev pub MountEnds : Layout → ℕ → Files → Result State MountFault → Moment → Type 0
-MountEnds l epoch files (Ok state) new = Mounts l epoch files state new
-MountEnds l epoch files (Err WornOut) new = epoch ≡ 2 ^ 32 - 1
-MountEnds l epoch files (Err (Device s)) new = ⊤
-MountEnds l epoch files (Err Memory) new = ⊤
-MountEnds l epoch files (Err fault) new = ⊥
 
 pub record Makes (key : Key) (outcome : Outcome) (forced : Files) (state : State) (new : Moment) : Type 0 where
   pub sectors : ℕ
