@@ -1,5 +1,7 @@
 mod FormatEnds
+mod GetLaws
 mod InputSoFar
+mod OpenLaws
 mod PutEnds
 mod RunLaws
 mod WordLists

@@ -1,11 +1,18 @@
 -- How a run ends, by what its words ask for.
-use Rattle.std.specs.Prelude.{◌≡◌, ◌⊎◌, ◌<◌, ◌≤◌, ⊤, ℕ, Bool, ◌==◌, List, [], ◌∷◌, ◌++◌, length, take, Result, Ok, Err}
+use Rattle.std.specs.Prelude.{◌≡◌, ◌⊎◌, ◌<◌, ◌≤◌, ◌+◌, ◌^◌, ⊤, ℕ, Bool, ◌==◌, List, [], ◌∷◌, ◌++◌, length, take, Option, Some, None, Result, Ok, Err}
 use Rattle.std.specs.List.{list_any}
-use Rattle.sector_disk.specs.Image.{IsWorn, open_damage}
+use Rattle.std.specs.FinMap.{find}
+use Rattle.sector_disk.specs.Image.{IsCalm, IsWorn, open_damage}
 use Rattle.sector_disk.specs.Machine.{Asked, Moment, Report, Rose}
 use Rattle.volume_layout.specs.declared.layout.Layout.{Layout}
 use Rattle.volume_layout.specs.declared.fault.LayoutFault.{LayoutFault}
 use Rattle.volume_layout.specs.Layout.{plan}
+use Rattle.fsd_bytes.specs.Keys.{key_cmp}
+use Rattle.fsd_bytes.specs.declared.refusal.Refusal.TheVariants.{NoSuch}
+use Rattle.fsd_files.specs.Disk.{Image}
+use Rattle.fsd_files.specs.Files.{File, Files}
+use Rattle.fsd_sound.specs.AtHome.{HoldsFiles}
+use Rattle.cfs_run.specs.declared.fault.Fault.{Fault}
 use Rattle.cfs_run.specs.declared.line.Line.{Line}
 use Rattle.cfs_run.specs.declared.line.Line.TheVariants as Says
 use Rattle.cfs_run.specs.declared.answer.Answer.{Answer}
@@ -15,7 +22,7 @@ use Rattle.cfs_run.specs.declared.request.Request.TheVariants.{Outside, BadField
 use Rattle.cfs_run.specs.declared.fault.Fault.TheVariants as Ends
 use Rattle.fsd_bytes.specs.declared.key.Key.{Key}
 use Rattle.cfs_run.specs.declared.input.TheConstants.{MOST_INPUT}
-use Rattle.cfs_run.specs.Mounting.{IsMountFault, mount_asks}
+use Rattle.cfs_run.specs.Mounting.{IsExcuse, IsMountFault, mount_asks}
 use Rattle.cfs_run.specs.Text.{fault_text, memory_text, text}
 use Rattle.cfs_run.specs.Answer.{CausesLine, answer_status, answer_text, status_of}
 use Rattle.cfs_run.specs.Formatting.{AsksLine, HoldsVolume, IsDeviceLine, IsFormatLine, VolumeMade, format_line, plan_asks}
@@ -98,6 +105,30 @@ abbrev pub Takes : Request → Answer → (old new : List ℕ) → Type 0
 Takes (Put name) answer old new = TakesAnswer answer old new
 Takes request answer old new = new ≡ old
 
+-- ---- what a get gives, by the version that the key has
+
+-- the version's bytes, or that there is none
+abbrev pub GivesFile : Option File → Answer → Type 0
+GivesFile (Some file) (Said.Bytes bytes) = bytes.items ≡ file.bytes
+GivesFile None (Said.Line (Says.Refused why)) = why ≡ NoSuch
+GivesFile file (Said.Line (Says.Ended fault)) = IsExcuse fault
+GivesFile file answer = ⊥
+
+-- what holds of the image, unless a fault ended the run
+abbrev pub UnlessEnded : Answer → Type 0 → Type 0
+UnlessEnded (Said.Line (Says.Ended fault)) P = ⊤
+UnlessEnded answer P = P
+
+-- The version that the disk holds is given, and the disk holds the same files in the next epoch.
+pub record Gets (key : Key) (l : Layout) (epoch : ℕ) (files : Files) (answer : Answer) (i : Image) : Type 0 where
+  pub gives : GivesFile (find key_cmp key files) answer
+  pub holds : UnlessEnded answer (HoldsFiles l (epoch + 1) files i)
+
+-- so it is of every disk that holds files and has an epoch left, where nothing wears
+abbrev pub GetLeaves : Key → Answer → Moment → Moment → Type 0
+GetLeaves key answer old new = IsCalm old.windows → IsCalm new.windows → (l : Layout) (epoch : ℕ) (files : Files) → HoldsFiles l epoch files old.image → epoch + 1 < 2 ^ 32
+    → Gets key l epoch files answer new.image
+
 -- the image after an answer
 abbrev pub Leaves : Request → Answer → Moment → Moment → Type 0
 Leaves Outside answer old new = new ≡ old
@@ -105,7 +136,7 @@ Leaves (BadField cause) answer old new = new ≡ old
 Leaves (Format n t p) (Said.Line line) old new = VolumeMade (plan n t p) line old new
 Leaves (Format n t p) (Said.Bytes bytes) old new = ⊤
 Leaves (Put name) answer old new = ⊤
-Leaves (Get key) answer old new = ⊤
+Leaves (Get key) answer old new = GetLeaves key answer old new
 
 -- ---- statuses
 
@@ -145,13 +176,32 @@ abbrev pub EndsAs : Line → List ℕ → List ℕ → ℕ → Type 0
 EndsAs line before after result =
     ((result ≡ status_of line) × (after ≡ before ++ text line)) ⊎ ((result ≡ 7) × (after ≡ before ++ memory_text))
 
+-- A reply is said with its status, and the disk holds these files.
+pub record Replies (bytes : List ℕ) (status : ℕ) (l : Layout) (epoch : ℕ) (files : Files) (old new : Moment) (result : ℕ) : Type 0 where
+  pub ends : result ≡ status
+  pub said : new.said ≡ old.said ++ bytes
+  pub holds : HoldsFiles l epoch files new.image
+
+-- or memory was refused, and that is said
+abbrev pub RepliesAs : List ℕ → ℕ → Layout → ℕ → Files → Moment → Moment → ℕ → Type 0
+RepliesAs bytes status l epoch files old new result = Replies bytes status l epoch files old new result ⊎ ((result ≡ 7) × (new.said ≡ old.said ++ memory_text))
+
+-- a version's bytes are said alone
+abbrev pub GetEnds : Option File → Layout → ℕ → Files → Moment → Moment → ℕ → Type 0
+GetEnds None l epoch files old new result = RepliesAs (text (Says.Refused NoSuch)) 1 l epoch files old new result
+GetEnds (Some file) l epoch files old new result = RepliesAs file.bytes 0 l epoch files old new result
+
+abbrev pub GetAnswers : Key → Moment → Moment → ℕ → Type 0
+GetAnswers key old new result = IsCalm old.windows → IsCalm new.windows → (l : Layout) (epoch : ℕ) (files : Files) → HoldsFiles l epoch files old.image → epoch + 1 < 2 ^ 32
+    → GetEnds (find key_cmp key files) l (epoch + 1) files old new result
+
 -- where nothing fails
-abbrev pub Answers : Request → List ℕ → List ℕ → ℕ → Type 0
-Answers Outside before after result = EndsAs Says.Usage before after result
-Answers (BadField cause) before after result = EndsAs (Says.BadField cause) before after result
-Answers (Format n t p) before after result = EndsAs (format_line (plan n t p)) before after result
-Answers (Put name) before after result = ⊤
-Answers (Get key) before after result = ⊤
+abbrev pub Answers : Request → Moment → Moment → ℕ → Type 0
+Answers Outside old new result = EndsAs Says.Usage old.said new.said result
+Answers (BadField cause) old new result = EndsAs (Says.BadField cause) old.said new.said result
+Answers (Format n t p) old new result = EndsAs (format_line (plan n t p)) old.said new.said result
+Answers (Put name) old new result = ⊤
+Answers (Get key) old new result = GetAnswers key old new result
 
 -- the texts that may be said but for that of refused memory; the place is that of the disk's last fault
 abbrev pub MaySay : Request → (place : ℕ) → List ℕ → Type 0

@@ -1,7 +1,11 @@
 -- What a command finds when it mounts its image.
 use Rattle.std.specs.Prelude.{◌≡◌, ◌⊎◌, ⊤, ℕ, List, [], ◌∷◌, ◌++◌, Result, Ok, Err}
 use Rattle.sector_disk.specs.declared.machine.Attach.TheVariants.{Old}
-use Rattle.sector_disk.specs.Machine.{Asked, Ledger}
+use Rattle.sector_disk.specs.Image.{IsCalm}
+use Rattle.sector_disk.specs.Machine.{Asked, Ledger, Moment}
+use Rattle.volume_layout.specs.declared.layout.Layout.{Layout}
+use Rattle.fsd_files.specs.Files.{Files}
+use Rattle.fsd_sound.specs.AtHome.{HoldsFiles}
 use Rattle.mount_recover.specs.declared.fault.MountFault.{MountFault}
 use Rattle.mount_recover.specs.declared.fault.MountFault.TheVariants.{NotVolume, Device, Memory, Lost, NoAnchor, Unsound, WornOut}
 use Rattle.cfs_run.specs.declared.fault.Fault.{Fault}
@@ -21,6 +25,16 @@ abbrev pub IsMountFault : Fault → Type 0
 IsMountFault Ends.Input = ⊥
 IsMountFault Ends.InputTooLong = ⊥
 IsMountFault fault = ⊤
+
+-- a fault that the disk's content doesn't answer for
+abbrev pub IsExcuse : Fault → Type 0
+IsExcuse (Ends.Device s) = ⊤
+IsExcuse Ends.Memory = ⊤
+IsExcuse fault = ⊥
+
+-- it is so of every disk that holds files, where nothing wears
+abbrev pub OpensDisk : Moment → Moment → (Layout → ℕ → Files → Type 0) → Type 0
+OpensDisk old new P = IsCalm old.windows → IsCalm new.windows → (l : Layout) (epoch : ℕ) (files : Files) → HoldsFiles l epoch files old.image → P l epoch files
 
 -- the attach that a command asks for, of an image that is there
 abbrev pub mount_asks : List ℕ → List Asked

@@ -1,9 +1,10 @@
 //! How a command finds its volume.
-ghost use Rattle.std.specs.Prelude.{◌≡◌, ◌≤◌, IfOk, IfErr};
+ghost use Rattle.std.specs.Prelude.{◌≡◌, ◌≤◌, ◌<◌, ◌+◌, ◌^◌, false, IfOk, IfErr};
 ghost use Rattle.sector_disk.specs.Machine.{Trusts};
 ghost use Rattle.cfs_run.specs.Answer.{CausesFault};
 ghost use Rattle.cfs_run.specs.Formatting.{UsesAttach};
-ghost use Rattle.cfs_run.specs.Mounting.{AsksMount, IsMountFault, fault_of};
+ghost use Rattle.cfs_run.specs.Mounting.{AsksMount, IsExcuse, IsMountFault, OpensDisk, fault_of};
+ghost use Rattle.fsd_volume.specs.Mount.{Mounts};
 
 use crate::fault::Fault;
 use fsd_volume::Volume;
@@ -35,6 +36,10 @@ pub(crate) fn open<M: Machine>(alloc: Global, path: &str, m: &mut M) -> Result<V
     ensures asks { M.tells m.new → AsksMount path.now result (M.ledger m.old) (M.ledger m.new) }
     ensures quiet { M.honest m.new → (M.now m.new).said ≡ (M.now m.old).said }
     ensures room { IfOk result (λ volume. volume.layout.sectors ≤ (M.report m.new).sectors) }
+    ensures idle { IfOk result (λ volume. volume.waits ≡ false) }
+    ensures first { IfOk result (λ volume. volume.serial.count ≡ 1) }
+    ensures mounted { IfOk result (λ volume. M.honest m.new → OpensDisk (M.now m.old) (M.now m.new) (λ l epoch files. Mounts l epoch files volume (M.now m.new).image)) }
+    ensures excuses { IfErr result (λ fault. M.honest m.new → OpensDisk (M.now m.old) (M.now m.new) (λ l epoch files. epoch + 1 < 2 ^ 32 → IsExcuse fault)) }
 {
     match m.attach(path, Attach::Old) {
         Ok(sectors) => match Volume::mount(alloc, m, sectors) {

@@ -40,7 +40,7 @@ pub fn run_cfs<M: Machine>(alloc: Global, words: &[String], m: &mut M) -> u8
     ensures said { M.honest m.new → SaysPart (request_of (map string_bytes words.now)) (M.report m.new).fault_place (M.now m.old).said (M.now m.new).said }
     ensures fault_said { result ≡ 4 → M.honest m.new → (M.now m.new).said ≡ (M.now m.old).said ++ fault_text (Ends.Device (M.report m.new).fault_place) }
     ensures answers { M.honest m.new → NoneRose (M.report m.old) (M.report m.new)
-        → Answers (request_of (map string_bytes words.now)) (M.now m.old).said (M.now m.new).said result }
+        → Answers (request_of (map string_bytes words.now)) (M.now m.old) (M.now m.new) result }
 
     // What the image holds.
     ensures image { result ≡ 0 → M.honest m.new → Holds (request_of (map string_bytes words.now)) (M.now m.new) }
