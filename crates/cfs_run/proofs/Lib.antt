@@ -3,5 +3,7 @@ mod GetLaws
 mod InputSoFar
 mod OpenLaws
 mod PutEnds
+mod PutLaws
+mod PutSaid
 mod RunLaws
 mod WordLists

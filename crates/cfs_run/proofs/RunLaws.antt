@@ -254,7 +254,7 @@ without_output never (inr (inr c)) = inr c
 -- ---- what is said
 
 -- a line that is answered, over the bytes said before
-heard : (H : Type 0) (line : Line) (mid new : Report) (at between after : Moment) (result : ℕ) → between.said ≡ at.said
+pub heard : (H : Type 0) (line : Line) (mid new : Report) (at between after : Moment) (result : ℕ) → between.said ≡ at.said
     → (Rose mid.output_faults new.output_faults → ⊥) → H → Finishes H (text line) (status_of line) mid new between after result → EndsAs line at.said after.said result
 heard H line mid new at between after result same never h (inl (inl all)) = inl (all.ends, (all.said h).said ∙ ap (λ (s : List ℕ). s ++ text line) same)
 heard H line mid new at between after result same never h (inl (inr some)) = absurd (never some.rose)
@@ -281,7 +281,7 @@ plan_heard H (Err why) line mid new at between after result same no_fault made n
 -- ---- a get, of a disk that holds files
 
 -- a text is said with its status, and the disk stays as it is
-replied : (H : Type 0) (bytes : List ℕ) (status : ℕ) (mid new : Report) (at between after : Moment) (result : ℕ) (l : Layout) (epoch : ℕ) (files : Files) → between.said ≡ at.said
+pub replied : (H : Type 0) (bytes : List ℕ) (status : ℕ) (mid new : Report) (at between after : Moment) (result : ℕ) (l : Layout) (epoch : ℕ) (files : Files) → between.said ≡ at.said
     → (Rose mid.output_faults new.output_faults → ⊥) → H → IsCalm after.windows → HoldsFiles l epoch files between.image → Finishes H bytes status mid new between after result
     → RepliesAs bytes status l epoch files at after result
 replied H bytes status mid new at between after result l epoch files same never h calm holds (inl (inl all)) =
@@ -297,7 +297,7 @@ replied H bytes status mid new at between after result l epoch files same never 
 replied H bytes status mid new at between after result l epoch files same never h calm holds (inr (inr some)) = absurd (never some.rose)
 
 -- that memory was refused is said
-forgotten : (H : Type 0) (mid new : Report) (at between after : Moment) (result : ℕ) → between.said ≡ at.said → (Rose mid.output_faults new.output_faults → ⊥) → H
+pub forgotten : (H : Type 0) (mid new : Report) (at between after : Moment) (result : ℕ) → between.said ≡ at.said → (Rose mid.output_faults new.output_faults → ⊥) → H
     → Finishes H memory_text 7 mid new between after result → (result ≡ 7) × (after.said ≡ at.said ++ memory_text)
 forgotten H mid new at between after result same never h (inl (inl all)) = (all.ends, (all.said h).said ∙ ap (λ (s : List ℕ). s ++ memory_text) same)
 forgotten H mid new at between after result same never h (inl (inr some)) = absurd (never some.rose)
@@ -407,7 +407,7 @@ request_may (Get key) answer old mid is cause = tt
 
 -- ---- the image
 
-said_untouched : (H : Type 0) (bytes : List ℕ) (status : ℕ) (mid new : Report) (between after : Moment) (result : ℕ) → H → Finishes H bytes status mid new between after result → IsUntouched between after
+pub said_untouched : (H : Type 0) (bytes : List ℕ) (status : ℕ) (mid new : Report) (between after : Moment) (result : ℕ) → H → Finishes H bytes status mid new between after result → IsUntouched between after
 said_untouched H bytes status mid new between after result h (inl (inl all)) = record { image = (all.said h).image; windows = (all.said h).windows }
 said_untouched H bytes status mid new between after result h (inl (inr some)) = record { image = (some.said h).image; windows = (some.said h).windows }
 said_untouched H bytes status mid new between after result h (inr (inl all)) = record { image = (all.said h).image; windows = (all.said h).windows }

@@ -11,6 +11,11 @@ use Rattle.fsd_bytes.specs.Keys.{key_cmp}
 use Rattle.fsd_bytes.specs.declared.refusal.Refusal.TheVariants.{NoSuch}
 use Rattle.fsd_files.specs.Disk.{Image}
 use Rattle.fsd_files.specs.Files.{File, Files}
+use Rattle.fsd_files.specs.Answers.{Outcome}
+use Rattle.fsd_files.specs.Replies.{Made, Refused, Reply}
+use Rattle.fsd_files.specs.OneLeaf.{put_outcome}
+use Rattle.fsd_volume.specs.Mount.{Mounts, volume_of}
+use Rattle.fsd_volume.specs.State.{State}
 use Rattle.fsd_sound.specs.AtHome.{HoldsFiles}
 use Rattle.cfs_run.specs.declared.fault.Fault.{Fault}
 use Rattle.cfs_run.specs.declared.line.Line.{Line}
@@ -22,7 +27,7 @@ use Rattle.cfs_run.specs.declared.request.Request.TheVariants.{Outside, BadField
 use Rattle.cfs_run.specs.declared.fault.Fault.TheVariants as Ends
 use Rattle.fsd_bytes.specs.declared.key.Key.{Key}
 use Rattle.cfs_run.specs.declared.input.TheConstants.{MOST_INPUT}
-use Rattle.cfs_run.specs.Mounting.{IsExcuse, IsMountFault, mount_asks}
+use Rattle.cfs_run.specs.Mounting.{IsExcuse, IsMountFault, OpensDisk, mount_asks}
 use Rattle.cfs_run.specs.Text.{fault_text, memory_text, text}
 use Rattle.cfs_run.specs.Answer.{CausesLine, answer_status, answer_text, status_of}
 use Rattle.cfs_run.specs.Formatting.{AsksLine, HoldsVolume, IsDeviceLine, IsFormatLine, VolumeMade, format_line, plan_asks}
@@ -129,6 +134,41 @@ abbrev pub GetLeaves : Key → Answer → Moment → Moment → Type 0
 GetLeaves key answer old new = IsCalm old.windows → IsCalm new.windows → (l : Layout) (epoch : ℕ) (files : Files) → HoldsFiles l epoch files old.image → epoch + 1 < 2 ^ 32
     → Gets key l epoch files answer new.image
 
+-- ---- what a put makes, by the outcome of the volume
+
+-- The line is that of the reply, and the disk holds the files that the outcome has.
+pub record StoresAs (reply : Reply) (l : Layout) (epoch : ℕ) (out : Outcome) (i : Image) : Type 0 where
+  pub reply_is : out.0 ≡ reply
+  pub holds : HoldsFiles l epoch out.1.files i
+
+abbrev pub Stores : Layout → ℕ → Outcome → Line → Image → Type 0
+Stores l epoch out (Says.Made key sectors) i = StoresAs (Made key sectors) l epoch out i
+Stores l epoch out (Says.Refused why) i = StoresAs (Refused why) l epoch out i
+Stores l epoch out (Says.Ended fault) i = IsExcuse fault
+Stores l epoch out line i = ⊥
+
+-- A mount gave this volume of the files, and the line is that of what it answers to the put.
+pub record PutStores (name input : List ℕ) (l : Layout) (epoch : ℕ) (files : Files) (line : Line) (i : Image) : Type 0 where
+  pub state : State
+  pub image : Image
+  pub mounts : Mounts l epoch files state image
+  pub first : state.serial.count ≡ 1
+  pub stores : Stores l (epoch + 1) (put_outcome (volume_of state files) name input None) line i
+
+abbrev pub Puts : (name input : List ℕ) → Layout → ℕ → Files → Line → Image → Type 0
+Puts name input l epoch files (Says.Ended Ends.Input) i = ⊤
+Puts name input l epoch files (Says.Ended Ends.InputTooLong) i = ⊤
+Puts name input l epoch files (Says.Ended fault) i = IsExcuse fault
+Puts name input l epoch files line i = PutStores name input l epoch files line i
+
+-- so it is of every disk that holds files and has an epoch left, where nothing wears
+abbrev pub PutLeaves : (name input : List ℕ) → Line → Moment → Moment → Type 0
+PutLeaves name input line old new = OpensDisk old new (λ l epoch files. epoch + 1 < 2 ^ 32 → Puts name input l epoch files line new.image)
+
+abbrev pub PutsFor : Request → Answer → List ℕ → Moment → Moment → Type 0
+PutsFor (Put name) (Said.Line line) input old new = PutLeaves name input line old new
+PutsFor request answer input old new = ⊤
+
 -- the image after an answer
 abbrev pub Leaves : Request → Answer → Moment → Moment → Type 0
 Leaves Outside answer old new = new ≡ old
@@ -194,6 +234,30 @@ GetEnds (Some file) l epoch files old new result = RepliesAs file.bytes 0 l epoc
 abbrev pub GetAnswers : Key → Moment → Moment → ℕ → Type 0
 GetAnswers key old new result = IsCalm old.windows → IsCalm new.windows → (l : Layout) (epoch : ℕ) (files : Files) → HoldsFiles l epoch files old.image → epoch + 1 < 2 ^ 32
     → GetEnds (find key_cmp key files) l (epoch + 1) files old new result
+
+abbrev pub reply_line : Reply → Line
+reply_line (Made key sectors) = Says.Made key sectors
+reply_line (Refused why) = Says.Refused why
+reply_line reply = Says.Usage
+
+-- A mount gave this volume of the files, what it answers to the put is said, and the disk holds the files then.
+pub record PutReplies (name input : List ℕ) (l : Layout) (epoch : ℕ) (files : Files) (old new : Moment) (result : ℕ) : Type 0 where
+  pub state : State
+  pub image : Image
+  pub mounts : Mounts l epoch files state image
+  pub first : state.serial.count ≡ 1
+  pub replies : let out = put_outcome (volume_of state files) name input None in
+      Replies (text (reply_line out.0)) (status_of (reply_line out.0)) l (epoch + 1) out.1.files old new result
+
+-- an input that is too long is told; else the put is answered
+abbrev pub PutEnds : (name input : List ℕ) → Layout → ℕ → Files → Moment → Moment → ℕ → Type 0
+PutEnds name input l epoch files old new result =
+    (MOST_INPUT < length input × EndsAs (Says.Ended Ends.InputTooLong) old.said new.said result)
+    ⊎ (PutReplies name input l epoch files old new result ⊎ ((result ≡ 7) × (new.said ≡ old.said ++ memory_text)))
+
+abbrev pub PutAnswersFor : Request → List ℕ → Moment → Moment → ℕ → Type 0
+PutAnswersFor (Put name) input old new result = OpensDisk old new (λ l epoch files. epoch + 1 < 2 ^ 32 → PutEnds name input l epoch files old new result)
+PutAnswersFor request input old new result = ⊤
 
 -- where nothing fails
 abbrev pub Answers : Request → Moment → Moment → ℕ → Type 0

@@ -7,7 +7,7 @@ ghost use Rattle.cfs_run.specs.Text.{fault_text};
 ghost use Rattle.cfs_run.specs.declared.input.TheConstants.{MOST_INPUT};
 ghost use Rattle.cfs_run.specs.Words.{path_of, request_of};
 ghost use Rattle.cfs_run.specs.Input.{UsesCounts};
-ghost use Rattle.cfs_run.specs.Ends.{Answers, AsksAtMost, AsksFor, CausesAnswer, Holds, IsAnswerTo, IsUntouched, Leaves, NoneRose, SaysPart, Takes, LeavesInput, asks_of, complete_statuses, fault_statuses, is_one_of};
+ghost use Rattle.cfs_run.specs.Ends.{Answers, AsksAtMost, AsksFor, CausesAnswer, Holds, IsAnswerTo, IsUntouched, Leaves, NoneRose, PutAnswersFor, PutsFor, SaysPart, Takes, LeavesInput, asks_of, complete_statuses, fault_statuses, is_one_of};
 
 use crate::answer::{Answer, finish};
 use crate::formatting::make;
@@ -41,6 +41,8 @@ pub fn run_cfs<M: Machine>(alloc: Global, words: &[String], m: &mut M) -> u8
     ensures fault_said { result ≡ 4 → M.honest m.new → (M.now m.new).said ≡ (M.now m.old).said ++ fault_text (Ends.Device (M.report m.new).fault_place) }
     ensures answers { M.honest m.new → NoneRose (M.report m.old) (M.report m.new)
         → Answers (request_of (map string_bytes words.now)) (M.now m.old) (M.now m.new) result }
+    ensures stored { M.honest m.new → NoneRose (M.report m.old) (M.report m.new)
+        → PutAnswersFor (request_of (map string_bytes words.now)) (M.ledger m.old).input (M.now m.old) (M.now m.new) result }
 
     // What the image holds.
     ensures image { result ≡ 0 → M.honest m.new → Holds (request_of (map string_bytes words.now)) (M.now m.new) }
@@ -62,6 +64,7 @@ fn carry_out<M: Machine>(alloc: Global, words: &[String], m: &mut M) -> Answer
         M.tells m.new → AsksFor (asks_of (request_of asked) (path_of asked)) result (M.ledger m.old).attaches (M.ledger m.new).attaches }
     ensures takes { M.tells m.new → Takes (request_of (map string_bytes words.now)) result (M.ledger m.old).input (M.ledger m.new).input }
     ensures quiet { M.honest m.new → (M.now m.new).said ≡ (M.now m.old).said }
+    ensures puts { M.honest m.new → PutsFor (request_of (map string_bytes words.now)) result (M.ledger m.old).input (M.now m.old) (M.now m.new) }
     ensures leaves { M.honest m.new → Leaves (request_of (map string_bytes words.now)) result (M.now m.old) (M.now m.new) }
 {
     match read_words(words) {
