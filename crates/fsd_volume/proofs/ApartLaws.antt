@@ -150,7 +150,7 @@ joined_same s t (r ∷ runs) = by (t + 1 == r.start) refl
         omega (arith, sectors-cons s (run_of t (r.length + 1)) runs, sectors-cons s r runs)
     by false e = omega (arith, sectors-cons s (run_of t 1) (r ∷ runs))
 
-runs_same : (s : ℕ) (xs : List ℕ) → occurs s (sectors_of (runs_of xs)) ≡ occurs s xs
+pub runs_same : (s : ℕ) (xs : List ℕ) → occurs s (sectors_of (runs_of xs)) ≡ occurs s xs
 runs_same s [] = refl
 runs_same s (t ∷ xs) = omega (arith, joined_same s t (runs_of xs), runs_same s xs)
 

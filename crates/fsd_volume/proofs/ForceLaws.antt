@@ -36,8 +36,11 @@ idle_mounted state v files i idle mounted =
     let stands = stands_forced state v mounted.stands in record {
       stands = record { layout = stands.layout; entries = stands.entries; lists = stands.lists; serial = stands.serial; removed = refl; held = stands.held; drafts = stands.drafts; reached = stands.reached };
       describes = mounted.describes;
-      disk = record { entries = mounted.disk.entries; at_home = mounted.disk.at_home;
-          describes = subst (λ (f : Files). Describes state.layout nowhere i f mounted.disk.entries) (mounted.written idle) mounted.disk.describes };
+      disk = record {
+        entries = mounted.disk.entries;
+        at_home = mounted.disk.at_home;
+        describes = subst (λ (f : Files). Describes state.layout nowhere i f mounted.disk.entries) (mounted.written idle) mounted.disk.describes;
+      };
       inside = mounted.inside;
       written = λ e. refl;
     }

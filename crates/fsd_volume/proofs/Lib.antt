@@ -1,6 +1,7 @@
 pub mod HeadLaws
 pub mod ApartLaws
 pub mod CallLaws
+pub mod EnterLaws
 pub mod FormatLaws
 pub mod ForceLaws
 pub mod HomeLaws
@@ -9,8 +10,12 @@ pub mod Laying
 pub mod MountLaws
 pub mod PieceLaws
 pub mod ListLaws
+pub mod PlaceLaws
 pub mod PlanLaws
+pub mod PutDoneLaws
+pub mod PutLaws
 pub mod RunApartLaws
 pub mod SliceLaws
 pub mod StoredLaws
 pub mod TableLaws
+pub mod VersionLaws

@@ -95,9 +95,15 @@ table_at_home l epoch files i disk =
 pub table_refused : {T : Type 0} (sectors epoch : ℕ) (l : Layout) (i j : Image) (entries : T → List Entry) (fault : MountFault) → root_of sectors i ≡ Some l → j ≡ with_anchors epoch i → TableShown l j entries (Err fault) → MountRefused sectors i fault
 table_refused sectors epoch l i j entries (Lost a b) root is shown =
     (l, root, record { first = shown.first; second = shown.second; none = sym (home_same l epoch i) ∙ ap (λ (x : Image). home_of l x 0) (sym is) ∙ shown.none })
-table_refused sectors epoch l i j entries (Unsound s) root is shown =
-    (l, root, record { place = shown.place; read = subst (λ (o : Option (List ℕ)). IsSome o) (ap (λ (x : Image). home_of l x 0) is ∙ home_same l epoch i) shown.read;
-      none = sym (table_same l epoch i) ∙ ap (table_on l) (sym is) ∙ shown.none })
+table_refused sectors epoch l i j entries (Unsound s) root is shown = (
+  l,
+  root,
+  record {
+    place = shown.place;
+    read = subst (λ (o : Option (List ℕ)). IsSome o) (ap (λ (x : Image). home_of l x 0) is ∙ home_same l epoch i) shown.read;
+    none = sym (table_same l epoch i) ∙ ap (table_on l) (sym is) ∙ shown.none;
+  },
+)
 table_refused sectors epoch l i j entries (Device s) root is shown = tt
 table_refused sectors epoch l i j entries Memory root is shown = tt
 table_refused sectors epoch l i j entries NotVolume root is shown = absurd shown

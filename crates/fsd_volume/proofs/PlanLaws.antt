@@ -16,6 +16,7 @@ use Rattle.fsd_formats.specs.declared.entry.Entry.{Entry}
 use Rattle.fsd_files.specs.Answers.{entry_put}
 use Rattle.fsd_files.specs.Space.{Apart}
 use Rattle.fsd_files.specs.Volume.{plans_of}
+use Rattle.fsd_volume.specs.Put.{AreNew}
 use Rattle.fsd_volume.proofs.HomeLaws.{plans_in_data}
 use Rattle.fsd_volume.proofs.ApartLaws.{occurs, occurs-append, contains_occurs, occurs_contains, differ_occurs, occurs_differ}
 
@@ -42,12 +43,6 @@ put_uses s e (z ∷ entries) = by (key_cmp e.key z.key) (put_uses s e entries)
     by Less rest = omega (arith, used-cons s e.runs (plans_of (z ∷ entries)))
     by Equal rest = omega (arith, used-cons s e.runs (plans_of entries), used-cons s z.runs (plans_of entries))
     by Greater rest = omega (arith, used-cons s z.runs (plans_of (entry_put e entries)), used-cons s z.runs (plans_of entries))
-
--- runs of free sectors: none stands in the plans, each is a data sector, and they differ
-pub record AreNew (l : Layout) (plans : List (List Run)) (runs : List Run) : Type 0 where
-  pub differ : IsTrue (all_differ (sectors_of runs))
-  pub unused : (s : ℕ) → IsTrue (contains (sectors_of runs) s) → IsTrue (contains (flat_map sectors_of plans) s) → ⊥
-  pub are_data : (s : ℕ) → IsTrue (contains (sectors_of runs) s) → IsTrue (is_data l s)
 
 -- a sector of the entries with the new one is of the new one or of the others
 pub put_there : (s : ℕ) (e : Entry) (entries : List Entry) → IsTrue (contains (flat_map sectors_of (plans_of (entry_put e entries))) s)

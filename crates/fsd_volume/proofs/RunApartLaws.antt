@@ -131,8 +131,8 @@ if_good l (r ∷ runs) all g =
     let high = data_bounds l last (g.are_data last (omega (arith, last_in, sectors-cons last r runs))) in
     let inside : is_inside l r ≡ true = and_from (nat_le (data_start l) r.start) (nat_le (r.start + r.length) l.sectors) (le-leb (data_start l) r.start low.0) (le-leb (r.start + r.length) l.sectors (omega (arith, high.1, parts.0))) in
     let apart : meets r runs ≡ false = false_from_ne_true (meets r runs) (λ m.
-      let both = shared r runs parts.0 parts.1 m in
-      absurd (omega (arith, both.first, both.others, sectors-cons both.sector r runs, g.once both.sector))) in
+    let both = shared r runs parts.0 parts.1 m in
+    absurd (omega (arith, both.first, both.others, sectors-cons both.sector r runs, g.once both.sector))) in
     and_from (is_inside l r && not (meets r runs)) (are_apart l runs)
     (and_from (is_inside l r) (not (meets r runs)) inside (not_from_false (meets r runs) apart))
     (if_good l runs parts.1 (good_rest l r runs g))
@@ -147,9 +147,9 @@ runs_apart l runs all =
     let xs : List ℕ = sectors_of runs in
     same_tests (are_apart l runs) (all_differ xs && list_all (is_data l) xs)
     (λ e. let g = good_if l runs e in
-      and_from (all_differ xs) (list_all (is_data l) xs) (occurs_differ xs g.once) (pass_all (is_data l) xs (λ s there. g.are_data s (contains_occurs s xs there))))
+    and_from (all_differ xs) (list_all (is_data l) xs) (occurs_differ xs g.once) (pass_all (is_data l) xs (λ s there. g.are_data s (contains_occurs s xs there))))
     (λ e. let parts = and_parts (all_differ xs) (list_all (is_data l) xs) e in
-      if_good l runs all (record { once = differ_occurs xs parts.0; are_data = λ s lt. all_of (is_data l) xs s parts.1 (occurs_contains s xs lt) }))
+    if_good l runs all (record { once = differ_occurs xs parts.0; are_data = λ s lt. all_of (is_data l) xs s parts.1 (occurs_contains s xs lt) }))
 
 -- ---- the runs of entries
 

@@ -78,7 +78,7 @@ runs_end l runs most data_area k d lt short some =
     let below = ltb-true (r.start + 0) l.sectors (and_parts (nat_le (data_start l) (r.start + 0)) (nat_lt (r.start + 0) l.sectors) (data_area (r.start + 0) (run_there runs k 0 d lt some))).1 in
     omega (arith, below)
 
-index_there : (xs : List ℕ) (k d : ℕ) → k < length xs → IsTrue (contains xs (slice_index_or xs k d))
+pub index_there : (xs : List ℕ) (k d : ℕ) → k < length xs → IsTrue (contains xs (slice_index_or xs k d))
 index_there [] k d lt = absurd (omega arith)
 index_there (x ∷ xs) zero d lt = first_there x xs
 index_there (x ∷ xs) (suc k) d lt = rest_there x (slice_index_or xs k d) xs (index_there xs k d (omega arith))
@@ -91,7 +91,7 @@ pub length-sectors_of : (runs : List Run) → length (sectors_of runs) ≡ total
 length-sectors_of [] = refl
 length-sectors_of (r ∷ runs) =
     let first : length (range_with_len r.start r.length ++ sectors_of runs) ≡ r.length + total runs =
-        length-append (range_with_len r.start r.length) (sectors_of runs) ∙ ap (λ (n : ℕ). n + length (sectors_of runs)) (length-range r.start r.length) ∙ ap (λ (n : ℕ). r.length + n) (length-sectors_of runs) in
+    length-append (range_with_len r.start r.length) (sectors_of runs) ∙ ap (λ (n : ℕ). n + length (sectors_of runs)) (length-range r.start r.length) ∙ ap (λ (n : ℕ). r.length + n) (length-sectors_of runs) in
     first ∙ sym (sum_by-cons (λ (q : Run). q.length) r runs)
 
 all_at : (p : Run → Bool) (runs : List Run) (k : ℕ) (d : Run) → IsTrue (list_all p runs) → k < length runs → IsTrue (p (slice_index_or runs k d))

@@ -1,8 +1,12 @@
 -- A mounted volume as its calls show it, and what it stands for.
-use Rattle.std.specs.Prelude.{◌≡◌, ℕ, Bool, false, List, [], Ok, IsTrue}
+use Rattle.std.specs.Prelude.{◌≡◌, ℕ, Bool, false, not, List, [], Ok, IsTrue}
+use Rattle.std.specs.List.{flat_map}
 use Rattle.fsd_bytes.specs.declared.key.Serial.{Serial}
 use Rattle.volume_layout.specs.declared.layout.Layout.{Layout}
-use Rattle.volume_layout.specs.Layout.{plan}
+use Rattle.volume_layout.specs.Layout.{plan, data_start}
+use Rattle.run_table.specs.RunTable.{sectors_of}
+use Rattle.run_table.specs.Space.{contains}
+use Rattle.alloc_map.specs.FreeSpace.{FreeSpace, space}
 use Rattle.fsd_formats.specs.declared.entry.Entry.{Entry}
 use Rattle.fsd_files.specs.Disk.{Image, nowhere}
 use Rattle.fsd_files.specs.Files.{Files}
@@ -24,6 +28,15 @@ pub record IsTable (l : Layout) (entries : List Entry) : Type 0 where
   pub planned : plan l.sectors l.third l.pages ≡ Ok l
   pub leaf : IsRootLeaf l entries
   pub apart : Apart l (plans_of entries)
+
+-- the data sectors that no entry has
+abbrev pub free_space : Layout → List Entry → FreeSpace
+free_space l entries = space (data_start l) l.sectors (λ s. not (contains (flat_map sectors_of (plans_of entries)) s))
+
+-- The entries are a table, and the map has the sectors that they leave.
+pub record IsKept (l : Layout) (entries : List Entry) (free : FreeSpace) : Type 0 where
+  pub table : IsTable l entries
+  pub map : free ≡ free_space l entries
 
 -- The volume has these entries and lists its files by them; nothing waits for a force, no reader holds and no creation is open.
 pub record StandsFor (state : State) (v : Volume) : Type 0 where

@@ -60,7 +60,12 @@ impl Volume {
 }
 
 // Writes both homes of the leaf.
-fn write_table<M: Machine>(m: &mut M, l: &Layout, entries: &[Entry], serial: Serial) -> Result<(), Failed>
+fn write_table<M: Machine>(
+    m: &mut M,
+    l: &Layout,
+    entries: &[Entry],
+    serial: Serial,
+) -> Result<(), Failed>
     requires room { l.now.sectors ≤ (M.report m.old).sectors }
     requires leaf { IsTrue (is_page 0 l.now.pages (Leaf entries.now)) }
     ensures fault { IfErr result (λ failed. DeviceFault (M.report m.old) (M.report m.new) failed.place) }

@@ -8,7 +8,6 @@ mod pages;
 mod pieces;
 mod putting;
 mod reading;
-mod scratch;
 mod sectors;
 mod slices;
 mod stub;
@@ -17,5 +16,7 @@ mod volume;
 
 pub use forcing::Forced;
 pub use formatting::format;
-pub use scratch::scratch_law;
 pub use volume::Volume;
+
+#[cfg(test)]
+mod tests;

@@ -6,16 +6,17 @@ ghost use Rattle.sector_disk.specs.Image.{IsCalm};
 ghost use Rattle.sector_disk.specs.Machine.{UsesDisk, Trusts, OnlyWrites, Wears};
 ghost use Rattle.fsd_files.specs.Files.{Files};
 ghost use Rattle.fsd_sound.specs.AtHome.{HoldsFiles};
-ghost use Rattle.fsd_volume.specs.State.{IsTable};
+ghost use Rattle.fsd_volume.specs.State.{IsTable, free_space};
 ghost use Rattle.fsd_volume.specs.Mount.{TellsFault, TableShown, MountRefused, Mounts, Excuses};
 
 use crate::Volume;
-use crate::table::table_of;
+use crate::table::{all_runs, table_of};
+use alloc_map::Map;
 use fsd_bytes::Serial;
 use fsd_formats::Entry;
 use mount_recover::{MountFault, recover};
 use sector_disk::{Machine, Seen};
-use std::alloc::Global;
+use std::alloc::{AllocError, Global};
 use twin_home::read_home;
 use volume_layout::Layout;
 
@@ -47,15 +48,19 @@ impl Volume {
     {
         match recover(m, sectors) {
             Ok(settled) => match load_table(alloc, m, &settled.layout) {
-                Ok(entries) => Ok(Volume {
-                    layout: settled.layout,
-                    entries,
-                    serial: Serial {
-                        epoch: settled.epoch,
-                        count: 1,
-                    },
-                    waits: false,
-                }),
+                Ok(entries) => match map_of(alloc, &settled.layout, entries.as_slice()) {
+                    Ok(map) => Ok(Volume {
+                        layout: settled.layout,
+                        entries,
+                        map,
+                        serial: Serial {
+                            epoch: settled.epoch,
+                            count: 1,
+                        },
+                        waits: false,
+                    }),
+                    Err(_) => Err(MountFault::Memory),
+                },
                 Err(fault) => Err(fault),
             },
             Err(fault) => Err(fault),
@@ -86,6 +91,14 @@ fn load_table<M: Machine>(alloc: Global, m: &mut M, l: &Layout) -> Result<Vec<En
         Ok(None) => Err(MountFault::Unsound(a)),
         Err(_) => Err(MountFault::Memory),
     }
+}
+
+// The sectors that no entry has.
+fn map_of(alloc: Global, l: &Layout, entries: &[Entry]) -> Result<Map, AllocError>
+    ensures { IfOk result (λ map. map ≡ free_space l.now entries.now) }
+{
+    let runs = all_runs(alloc, entries)?;
+    Map::from_runs(alloc, l.data_start(), l.sectors(), runs.as_slice())
 }
 
 // Both homes of page 0.

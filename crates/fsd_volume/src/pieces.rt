@@ -12,7 +12,13 @@ use run_table::Runs;
 use sector_disk::{Failed, Machine, Seen};
 
 // Reads the data sectors of a range of `n` bytes from a place on, as far as they are whole.
-pub(crate) fn read_range<M: Machine>(m: &mut M, runs: &Runs, from: u32, n: u32, buf: &mut [u8]) -> Result<(), Refusal>
+pub(crate) fn read_range<M: Machine>(
+    m: &mut M,
+    runs: &Runs,
+    from: u32,
+    n: u32,
+    buf: &mut [u8],
+) -> Result<(), Refusal>
     requires runs { All (λ r. r.start + r.length ≤ 2 ^ 32) runs.now }
     requires in_range { All (λ s. s < (M.report m.old).sectors) (sectors_of runs.now) }
     requires room { n ≤ length buf.old }
@@ -43,7 +49,14 @@ pub(crate) fn read_range<M: Machine>(m: &mut M, runs: &Runs, from: u32, n: u32, 
 }
 
 // Reads `len` bytes of a sector, from byte `at` of it on, into the buffer from `to` on.
-fn read_part<M: Machine>(m: &mut M, place: u32, at: usize, to: usize, len: usize, buf: &mut [u8]) -> Result<Seen, Failed>
+fn read_part<M: Machine>(
+    m: &mut M,
+    place: u32,
+    at: usize,
+    to: usize,
+    len: usize,
+    buf: &mut [u8],
+) -> Result<Seen, Failed>
     requires place { place < (M.report m.old).sectors }
     requires part { at + len ≤ 512 }
     requires room { to + len ≤ length buf.old }

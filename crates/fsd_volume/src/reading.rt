@@ -29,7 +29,13 @@ impl Volume {
 
     /// Reads bytes of a version from a place on, as many as there are and the buffer has room for, and answers how many. Past
     /// the version's end there are none. Where a sector of the range is damaged `buf` may have changed.
-    pub fn read<M: Machine>(&mut self, m: &mut M, key: &Key, from: u32, buf: &mut [u8]) -> Result<u32, Refusal>
+    pub fn read<M: Machine>(
+        &mut self,
+        m: &mut M,
+        key: &Key,
+        from: u32,
+        buf: &mut [u8],
+    ) -> Result<u32, Refusal>
         requires { self.old.layout.sectors ≤ (M.report m.old).sectors }
 
         ensures fault { IfErr result (TellsDevice (M.report m.old) (M.report m.new)) }

@@ -6,7 +6,11 @@ ghost use Rattle.sector_disk.specs.Image.{with_sector};
 use sector_disk::{Failed, Machine};
 
 // Writes one sector.
-pub(crate) fn write_sector<M: Machine>(m: &mut M, place: u32, bytes: &[u8; 512]) -> Result<(), Failed>
+pub(crate) fn write_sector<M: Machine>(
+    m: &mut M,
+    place: u32,
+    bytes: &[u8; 512],
+) -> Result<(), Failed>
     requires { place < (M.report m.old).sectors }
     ensures fault { IfErr result (λ failed. DeviceFault (M.report m.old) (M.report m.new) failed.place) }
     ensures uses { UsesDisk (M.report m.old) (M.report m.new) }

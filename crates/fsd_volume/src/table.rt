@@ -13,7 +13,11 @@ use std::alloc::{AllocError, Global};
 use volume_layout::Layout;
 
 // The entries of a page that is an accepted leaf, whose sectors are apart in the data area.
-pub(crate) fn table_of(alloc: Global, page: &[u8; 512], l: &Layout) -> Result<Option<Vec<Entry>>, AllocError>
+pub(crate) fn table_of(
+    alloc: Global,
+    page: &[u8; 512],
+    l: &Layout,
+) -> Result<Option<Vec<Entry>>, AllocError>
     ensures found { IfOk result (λ table. MatchOption table (table_in l.now page.now ≡ None) (λ entries. table_in l.now page.now ≡ Some entries.items)) }
     ensures sound { IfOk result (λ table. IfSome table (λ entries. IsTable l.now entries.items)) }
 {
@@ -80,7 +84,8 @@ fn are_apart(l: &Layout, runs: &[Run]) -> bool
 fn is_inside(l: &Layout, run: &Run) -> bool
     ensures { result ≡ is_inside l.now run.now }
 {
-    l.data_start() <= run.start && u64::from(run.start) + u64::from(run.length) <= u64::from(l.sectors())
+    l.data_start() <= run.start
+        && u64::from(run.start) + u64::from(run.length) <= u64::from(l.sectors())
 }
 
 // Whether the run has a sector of one of the others.

@@ -1,6 +1,7 @@
 //! A mounted volume.
 ghost use Rattle.std.specs.Prelude.{◌≡◌};
 
+use alloc_map::Map;
 use fsd_bytes::Serial;
 use fsd_formats::Entry;
 use std::marker::Model;
@@ -11,16 +12,17 @@ use volume_layout::Layout;
 pub struct Volume {
     pub(crate) layout: Layout,
     pub(crate) entries: Vec<Entry>,
+    pub(crate) map: Map,
     pub(crate) serial: Serial,
     pub(crate) waits: bool,
 }
 
 impl Model for Volume {
-    ghost use Rattle.fsd_volume.specs.State.{State, IsTable};
+    ghost use Rattle.fsd_volume.specs.State.{State, IsKept};
 
     ghost Value = { State };
 
     ghost view = { λ v. record { layout = v.layout; entries = v.entries.items; serial = v.serial; waits = v.waits } };
 
-    ghost invariant = { λ v. IsTable v.layout v.entries.items };
+    ghost invariant = { λ v. IsKept v.layout v.entries.items v.map };
 }

@@ -13,5 +13,5 @@ returns-in-Ok-clause-done g c h calm v files mounted =
     let M = g.M.Machine in
     let here = subst (λ (s : State). IsMounted s v files (M.now c.args.m.now).image) (sym c.self.view_is) mounted in
     let state : State = record { layout = c.self.inside.layout; entries = c.self.inside.entries.items; serial = c.self.inside.serial; waits = c.self.inside.waits } in
-    force_mounted state v files (M.now c.args.m.now).image (M.now c.write_table.new.m).image c.self.invariant c.in-Ok.ensures.fits here
+    force_mounted state v files (M.now c.args.m.now).image (M.now c.write_table.new.m).image c.self.invariant.table c.in-Ok.ensures.fits here
     c.as_slice.result.now c.as_slice.ensures.value (calm_holds (M.now c.args.m.now) (M.now c.write_table.new.m) _ calm (c.in-Ok.ensures.done h))

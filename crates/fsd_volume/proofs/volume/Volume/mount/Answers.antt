@@ -29,8 +29,8 @@ returns-in-Err-load_table-clause-excuses g c h calm after l epoch files disk roo
     let image = calm_worn (M.now c.recover.new.m).windows (M.now c.recover.new.m).image (M.now c.load_table.new.m).image mid worn.image ∙ (c.in-Ok.ensures.renewed h1 calm mid).image in
     table_excuses {T = ℕ} c.args.sectors epoch c.in-Ok.settled.epoch l c.in-Ok.settled.layout files (M.now c.args.m.now).image (M.now c.load_table.new.m).image (λ n. []) c.in-Err-load_table.fault disk room (c.in-Ok.ensures.found h1 calm).found.root image (c.in-Err-load_table.ensures.shown h)
 
-pub returns-in-Ok-load_table-clause-mounted : goal.returns-in-Ok-load_table-clause-mounted
-returns-in-Ok-load_table-clause-mounted g c h calm after l epoch files disk room =
+pub returns-in-Ok-map_of-clause-mounted : goal.returns-in-Ok-map_of-clause-mounted
+returns-in-Ok-map_of-clause-mounted g c h calm after l epoch files disk room =
     let M = g.M.Machine in
     let h1 = c.load_table.ensures.trust.honest h in
     let worn = c.load_table.ensures.worn h in

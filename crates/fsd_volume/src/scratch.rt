@@ -1,6 +1,0 @@
-//! Scratch.
-ghost use Rattle.std.specs.Prelude.{⊤};
-
-pub fn scratch_law()
-    ensures { ⊤ }
-{}
