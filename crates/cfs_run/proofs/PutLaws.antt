@@ -18,7 +18,7 @@ use Rattle.fsd_files.specs.Replies.{Made, Refused, Reply}
 use Rattle.fsd_files.specs.Volume.{Volume, drawn, forced, free_runs, place_for}
 use Rattle.fsd_sound.specs.AtHome.{HoldsFiles}
 use Rattle.fsd_volume.specs.State.{IsMounted, State}
-use Rattle.fsd_volume.specs.Stub.{PutsOn, StandsOn}
+use Rattle.fsd_volume.specs.Put.{PutsOn, StandsOn}
 use Rattle.cfs_run.specs.declared.line.Line.{Line}
 use Rattle.cfs_run.specs.declared.line.Line.TheVariants as Lines
 use Rattle.cfs_run.specs.declared.fault.Fault.TheVariants as Ends

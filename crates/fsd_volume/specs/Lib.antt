@@ -5,5 +5,4 @@ pub mod Pieces
 pub mod Put
 pub mod Slices
 pub mod State
-pub mod Stub
 pub mod Table

@@ -10,7 +10,6 @@ mod putting;
 mod reading;
 mod sectors;
 mod slices;
-mod stub;
 mod table;
 mod volume;
 
