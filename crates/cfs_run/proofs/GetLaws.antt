@@ -21,7 +21,7 @@ use Rattle.fsd_files.proofs.HistoryLaws.{keys_total}
 use Rattle.fsd_bytes.specs.declared.refusal.Refusal.{Refusal}
 use Rattle.fsd_bytes.specs.declared.refusal.Refusal.TheVariants as Why
 use Rattle.fsd_bytes.specs.declared.refusal.Refusal.TheVariants.{NoSuch}
-use Rattle.fsd_volume.specs.Pieces.{GivesPart, part_len}
+use Rattle.fsd_volume.specs.Pieces.{GivesPart, ReadEnds, part_len}
 use Rattle.cfs_run.specs.declared.answer.Answer.TheVariants as Said
 use Rattle.cfs_run.specs.declared.line.Line.{Line}
 use Rattle.cfs_run.specs.Text.{line_of}
@@ -29,6 +29,7 @@ use Rattle.cfs_run.specs.Ends.{Gets, GivesFile, UnlessEnded}
 use Rattle.cfs_run.specs.Mounting.{IsExcuse}
 use Rattle.cfs_run.specs.declared.answer.Answer.{Answer}
 use Rattle.cfs_run.specs.declared.fault.Fault.{Fault}
+use Rattle.cfs_run.specs.declared.fault.Fault.TheVariants as Ends
 use Rattle.cfs_run.specs.declared.line.Line.TheVariants as Lines
 use Rattle.sector_disk.specs.Image.{IsCalm}
 use Rattle.sector_disk.specs.Machine.{Moment, Wears}
@@ -164,3 +165,41 @@ ended_gives (Some file) fault excuse = excuse
 
 pub not_got : (key : Key) (l : Layout) (epoch : ℕ) (files : Files) (fault : Fault) (i : Image) → IsExcuse fault → Gets key l epoch files (Said.Line (Lines.Ended fault)) i
 not_got key l epoch files fault i excuse = record { gives = ended_gives (find key_cmp key files) fault excuse; holds = tt }
+
+-- ---- a read that fails
+
+failed_kind : (q : Entry) (room : ℕ) (why : Refusal) → ReadEnds (Some q) 0 room (Err why) → ((s : ℕ) × (why ≡ Why.Device s)) ⊎ ((s : ℕ) × (why ≡ Why.Damaged s))
+failed_kind q room (Why.Device s) ends = inl (s, refl)
+failed_kind q room (Why.Damaged s) ends = inr (s, refl)
+failed_kind q room Why.NoSuch ends = absurd ends
+failed_kind q room (Why.TooLong n) ends = absurd ends
+failed_kind q room (Why.NoSpace need free) ends = absurd ends
+failed_kind q room (Why.TooFragmented need best) ends = absurd ends
+failed_kind q room (Why.NameTableFull free) ends = absurd ends
+failed_kind q room Why.VersionsUsedUp ends = absurd ends
+failed_kind q room (Why.KeepTooLarge keep) ends = absurd ends
+failed_kind q room (Why.Down s) ends = absurd ends
+failed_kind q room (Why.Lost a b) ends = absurd ends
+failed_kind q room (Why.Unsound s) ends = absurd ends
+failed_kind q room Why.WornOut ends = absurd ends
+failed_kind q room Why.Memory ends = absurd ends
+failed_kind q room (Why.BadClient c) ends = absurd ends
+failed_kind q room (Why.Busy c) ends = absurd ends
+failed_kind q room (Why.Idle c) ends = absurd ends
+failed_kind q room (Why.Short declared got) ends = absurd ends
+failed_kind q room (Why.Long declared got) ends = absurd ends
+
+device_gives : (o : Option File) (s : ℕ) → GivesFile o (Said.Line (Lines.Ended (Ends.Device s)))
+device_gives None s = tt
+device_gives (Some file) s = tt
+
+-- it tells a fault of the disk: no sector of the version is damaged
+pub failed_gives : (i j : Image) (o : Option File) (p : Option Entry) (e : Entry) (room : ℕ) (why : Refusal) (buf : List ℕ) (line : Line) → FileAt i o p → p ≡ Some e → j ≡ i → ReadEnds p 0 room (Err why)
+    → ((bytes : List ℕ) (hurt : Sectors) → GivesPart i j hurt bytes p 0 (Err why) buf) → line ≡ line_of why → GivesFile o (Said.Line line)
+failed_gives i j o None e room why buf line at is same ends gives told = absurd cc
+failed_gives i j o (Some q) e room why buf line at is same ends gives told = elim (failed_kind q room why ends) [
+  inl device ↦ subst (λ (x : Line). GivesFile o (Said.Line x)) (sym (told ∙ ap line_of device.1)) (device_gives o device.0)
+  | inr damaged ↦
+      let given = subst (λ (w : Refusal). (bytes : List ℕ) (hurt : Sectors) → GivesPart i j hurt bytes (Some q) 0 (Err w) buf) damaged.1 gives in
+      absurd (never_read_damaged i j o (Some q) e damaged.0 buf at is same given)
+]

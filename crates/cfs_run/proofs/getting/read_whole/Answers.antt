@@ -8,7 +8,7 @@ use Rattle.fsd_files.specs.Answers.{entry_of}
 use Rattle.fsd_files.specs.Files.{File}
 use Rattle.cfs_run.specs.declared.answer.Answer.TheVariants as Said
 use Rattle.cfs_run.specs.Ends.{GivesFile}
-use Rattle.cfs_run.proofs.GetLaws.{file_at, never_read_damaged, none_given, read_file}
+use Rattle.cfs_run.proofs.GetLaws.{failed_gives, file_at, never_read_damaged, none_given, read_file}
 use Rattle.cfs_run.proofs.getting.read_whole.Goals as goal
 
 pub returns-in-Err-clause-gives : goal.returns-in-Err-clause-gives
@@ -35,3 +35,11 @@ returns-in-Err-Damaged-clause-gives g c h calm files lists kept =
     let gives = rw c.in-Err-Damaged.field-0-is at (c.in-Err-Damaged.ensures.gives h) in
     absurd (never_read_damaged old.image new.image (find key_cmp c.args.key.now files) (entry_of c.args.key.now c.args.volume.entries) c.in-Ok.entry c.in-Err-Damaged.sector c.read.new.buf
     (file_at c.args.key.now old.image files c.args.volume.entries lists kept) c.in-Ok.ensures same gives)
+
+pub returns-clause-gives : goal.returns-clause-gives
+returns-clause-gives g c h calm files lists kept =
+    let old = g.M.Machine.now c.args.m.now in
+    let new = g.M.Machine.now c.read.new.m in
+    let same = calm_worn old.windows old.image new.image calm (c.read.ensures.worn h).image in
+    failed_gives old.image new.image (find key_cmp c.args.key.now files) (entry_of c.args.key.now c.args.volume.entries) c.in-Ok.entry _ c.in-Err-read.why c.read.new.buf c.line_of-in-Err-read.result
+    (file_at c.args.key.now old.image files c.args.volume.entries lists kept) c.in-Ok.ensures same c.in-Err-read.ensures.ends (c.in-Err-read.ensures.gives h) c.line_of-in-Err-read.ensures
