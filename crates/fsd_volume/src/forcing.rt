@@ -34,6 +34,8 @@ impl Volume {
         ensures uses { UsesDisk (M.report m.old) (M.report m.new) }
         ensures trust { Trusts (M.tells m.old) (M.tells m.new) (M.honest m.old) (M.honest m.new) }
         ensures ledger { M.tells m.new → OnlyWrites (M.ledger m.old) (M.ledger m.new) }
+        ensures quiet { M.honest m.new → (M.now m.new).said ≡ (M.now m.old).said }
+        ensures windows { M.honest m.new → (M.now m.new).windows ≡ (M.now m.old).windows }
 
         ensures pages { IfOk result (λ forced. forced.pages ≡ (if self.old.waits then 1 else 0)) }
         ensures state { OnOk result (self.new ≡ record self.old { waits = false }) }
@@ -70,6 +72,8 @@ fn write_table<M: Machine>(
     ensures uses { UsesDisk (M.report m.old) (M.report m.new) }
     ensures trust { Trusts (M.tells m.old) (M.tells m.new) (M.honest m.old) (M.honest m.new) }
     ensures ledger { M.tells m.new → OnlyWrites (M.ledger m.old) (M.ledger m.new) }
+    ensures quiet { M.honest m.new → (M.now m.new).said ≡ (M.now m.old).said }
+    ensures windows { M.honest m.new → (M.now m.new).windows ≡ (M.now m.old).windows }
     ensures done { OnOk result (M.honest m.new → let bytes = page_bytes 0 (record { epoch = serial.epoch; number = serial.count }) (Leaf entries.now) in
         Holds (M.now m.old) (with_sector (with_sector (M.now m.old).image (home_a l.now 0) bytes) (home_b l.now 0) bytes) (M.now m.new)) }
     ensures fits { (serial.epoch < 2 ^ 32) × (serial.count < 2 ^ 32) }

@@ -29,6 +29,7 @@ impl Volume {
         ensures uses { UsesDisk (M.report m.old) (M.report m.new) }
         ensures trust { Trusts (M.tells m.old) (M.tells m.new) (M.honest m.old) (M.honest m.new) }
         ensures ledger { M.tells m.new → OnlyWrites (M.ledger m.old) (M.ledger m.new) }
+        ensures quiet { M.honest m.new → (M.now m.new).said ≡ (M.now m.old).said }
         ensures room { IfOk result (λ volume. volume.layout.sectors ≤ sectors) }
         ensures idle { IfOk result (λ volume. volume.waits ≡ false) }
         ensures first { IfOk result (λ volume. volume.serial.count ≡ 1) }

@@ -45,6 +45,9 @@ impl Volume {
         ensures uses { UsesDisk (M.report m.old) (M.report m.new) }
         ensures trust { Trusts (M.tells m.old) (M.tells m.new) (M.honest m.old) (M.honest m.new) }
         ensures ledger { M.tells m.new → OnlyWrites (M.ledger m.old) (M.ledger m.new) }
+        ensures quiet { M.honest m.new → (M.now m.new).said ≡ (M.now m.old).said }
+        ensures windows { M.honest m.new → (M.now m.new).windows ≡ (M.now m.old).windows }
+        ensures layout { self.new.layout ≡ self.old.layout }
 
         // This many serials are enough for one mount.
         ensures spent { size_fault (keep_given keep) (length bytes.now) ≡ None → last_count ≤ self.old.serial.count → result ≡ Err WornOut }
@@ -155,6 +158,8 @@ fn write_version<M: Machine>(m: &mut M, e: &Entry, bytes: &[u8]) -> Result<(), F
     ensures uses { UsesDisk (M.report m.old) (M.report m.new) }
     ensures trust { Trusts (M.tells m.old) (M.tells m.new) (M.honest m.old) (M.honest m.new) }
     ensures ledger { M.tells m.new → OnlyWrites (M.ledger m.old) (M.ledger m.new) }
+    ensures quiet { M.honest m.new → (M.now m.new).said ≡ (M.now m.old).said }
+    ensures windows { M.honest m.new → (M.now m.new).windows ≡ (M.now m.old).windows }
     ensures done { OnOk result (M.honest m.new → Holds (M.now m.old) (with_version (M.now m.old).image e.now bytes.now) (M.now m.new)) }
 {
     write_slices(m, &e.runs, bytes)?;

@@ -17,6 +17,7 @@ pub(crate) fn write_sector<M: Machine>(
     ensures trust { Trusts (M.tells m.old) (M.tells m.new) (M.honest m.old) (M.honest m.new) }
     ensures ledger { M.tells m.new → OnlyWrites (M.ledger m.old) (M.ledger m.new) }
     ensures quiet { M.honest m.new → (M.now m.new).said ≡ (M.now m.old).said }
+    ensures windows { M.honest m.new → (M.now m.new).windows ≡ (M.now m.old).windows }
     ensures done { OnOk result (M.honest m.new → Holds (M.now m.old) (with_sector (M.now m.old).image place bytes.now) (M.now m.new)) }
 {
     m.write(place, bytes)?;

@@ -20,6 +20,8 @@ pub(crate) fn write_slices<M: Machine>(m: &mut M, runs: &Runs, bytes: &[u8]) -> 
     ensures uses { UsesDisk (M.report m.old) (M.report m.new) }
     ensures trust { Trusts (M.tells m.old) (M.tells m.new) (M.honest m.old) (M.honest m.new) }
     ensures ledger { M.tells m.new → OnlyWrites (M.ledger m.old) (M.ledger m.new) }
+    ensures quiet { M.honest m.new → (M.now m.new).said ≡ (M.now m.old).said }
+    ensures windows { M.honest m.new → (M.now m.new).windows ≡ (M.now m.old).windows }
     ensures done { OnOk result (M.honest m.new → Holds (M.now m.old) (with_slices (M.now m.old).image runs.now bytes.now (sectors_for (length bytes.now) - 1)) (M.now m.new)) }
 {
     let count = (bytes.len() as u32).div_ceil(512);
