@@ -81,9 +81,9 @@ never_damaged : (i : Image) (bs : List (List ℕ)) (ys : List ℕ) (s : ℕ) →
 never_damaged i bs [] s kept first = absurd first
 never_damaged i [] (y ∷ ys) s kept first = absurd kept
 never_damaged i (b ∷ bs) (y ∷ ys) s kept (inl here) = elim kept.0 [
-    inl whole ↦ whole_is_not (sector_at i y) b whole (ap (sector_at i) here.0 ∙ here.1)
-    | inr hurt ↦ absurd cc
-  ]
+  | inl whole ↦ whole_is_not (sector_at i y) b whole (ap (sector_at i) here.0 ∙ here.1)
+  | inr hurt ↦ absurd cc
+]
 never_damaged i (b ∷ bs) (y ∷ ys) s kept (inr later) = never_damaged i bs ys s kept.1 later.1
 
 pub range_whole : (i : Image) (bytes : List ℕ) (runs : List Run) (n s : ℕ) → KeptIn i nowhere bytes runs → FirstDamaged i i (range_sectors runs 0 n) s → ⊥
@@ -198,7 +198,7 @@ pub failed_gives : (i j : Image) (o : Option File) (p : Option Entry) (e : Entry
     → ((bytes : List ℕ) (hurt : Sectors) → GivesPart i j hurt bytes p 0 (Err why) buf) → line ≡ line_of why → GivesFile o (Said.Line line)
 failed_gives i j o None e room why buf line at is same ends gives told = absurd cc
 failed_gives i j o (Some q) e room why buf line at is same ends gives told = elim (failed_kind q room why ends) [
-  inl device ↦ subst (λ (x : Line). GivesFile o (Said.Line x)) (sym (told ∙ ap line_of device.1)) (device_gives o device.0)
+  | inl device ↦ subst (λ (x : Line). GivesFile o (Said.Line x)) (sym (told ∙ ap line_of device.1)) (device_gives o device.0)
   | inr damaged ↦
       let given = subst (λ (w : Refusal). (bytes : List ℕ) (hurt : Sectors) → GivesPart i j hurt bytes (Some q) 0 (Err w) buf) damaged.1 gives in
       absurd (never_read_damaged i j o (Some q) e damaged.0 buf at is same given)

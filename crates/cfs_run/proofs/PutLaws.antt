@@ -56,6 +56,7 @@ keeps_refused v w need why layout epoch files reply = record {
   where
     same : (a b : Refusal) → Refused a ≡ Refused b → a ≡ b
     same a b e = cc
+
     never : (key : Key) (n : ℕ) → Refused why ≡ Made key n → ⊥
     never key n e = cc
 
@@ -73,6 +74,7 @@ keeps_in v name bytes given runs serial need false false sum = record {
   where
     never : (why : Refusal) → Made (new_key name v.files) (total runs) ≡ Refused why → ⊥
     never why e = cc
+
     same : (key : Key) (n : ℕ) → Made (new_key name v.files) (total runs) ≡ Made key n → total runs ≡ n
     same key n e = cc
 

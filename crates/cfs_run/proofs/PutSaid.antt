@@ -30,8 +30,8 @@ said_reply H name input l epoch files line reply mid new at between after result
     let out = put_outcome (volume_of s.state files) name input None in
     let as_line : line ≡ reply_line out.0 = is ∙ ap reply_line (sym stored.0) in
     elim (replied H (text (reply_line out.0)) (status_of (reply_line out.0)) mid new at between after result l (epoch + 1) out.1.files same never h calm stored.1
-        (subst (λ (x : Line). Finishes H (text x) (status_of x) mid new between after result) as_line said)) [
-      inl replies ↦ inl (record { state = s.state; image = s.image; mounts = s.mounts; first = s.first; replies = replies })
+    (subst (λ (x : Line). Finishes H (text x) (status_of x) mid new between after result) as_line said)) [
+      | inl replies ↦ inl (record { state = s.state; image = s.image; mounts = s.mounts; first = s.first; replies = replies })
       | inr memory ↦ inr memory
     ]
 

@@ -571,7 +571,7 @@ module _ (H : Type 0) (request : Request) (answer : Answer) (old mid new : Repor
 
   pub run_said : H → SaysPart request new.fault_place at.said after.said
   run_said h = elim (part_said H (answer_text answer) (answer_status answer) mid new at between after result (ran.quiet h) h ran.said) [
-    inl part ↦ record { bytes = memory_text; may = inr refl; heard = part.0; said = part.1 }
+    | inl part ↦ record { bytes = memory_text; may = inr refl; heard = part.0; said = part.1 }
     | inr part ↦ record {
       bytes = answer_text answer;
       may = inl (subst (λ (place : ℕ). MaySay request place (answer_text answer)) (sym ran.says.place) (request_may request answer old mid ran.answers ran.cause));
@@ -594,7 +594,7 @@ module _ (H : Type 0) (request : Request) (answer : Answer) (old mid new : Repor
 
   pub run_input : (T : Type 0) (input left : List ℕ) → (T → Takes request answer input left) → result ≡ 5 → Rose old.input_faults new.input_faults ⊎ (T → MOST_INPUT < length input)
   run_input T input left taken five = elim ended [
-    inl e ↦ subst (λ (k : ℕ). Rose old.input_faults k ⊎ (T → MOST_INPUT < length input)) (sym ran.says.input) (input_answer request answer T old mid input left (sym e ∙ five) ran.answers ran.cause taken)
+    | inl e ↦ subst (λ (k : ℕ). Rose old.input_faults k ⊎ (T → MOST_INPUT < length input)) (sym ran.says.input) (input_answer request answer T old mid input left (sym e ∙ five) ran.answers ran.cause taken)
     | inr other ↦ elim other [ inl e ↦ absurd (omega (arith, e.0)) | inr e ↦ absurd (omega (arith, e)) ]
   ]
 

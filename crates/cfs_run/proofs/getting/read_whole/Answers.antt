@@ -23,7 +23,7 @@ returns-in-Ok-read-clause-gives g c h calm files lists kept =
     let j = (g.M.Machine.now c.read.new.m).image in
     let size : length c.read.new.buf ≡ c.in-Ok.entry.length = omega (arith, c.in-Ok-vec.ensures.len, c.as_mut_slice.ensures.len, c.read.ensures.size) in
     let read = read_file i j (find key_cmp c.args.key.now files) (entry_of c.args.key.now c.args.volume.entries) c.in-Ok.entry c.in-Ok-read.field-0 c.read.new.buf
-        (file_at c.args.key.now i files c.args.volume.entries lists kept) c.in-Ok.ensures size (c.in-Ok-read.ensures.gives h) in
+    (file_at c.args.key.now i files c.args.volume.entries lists kept) c.in-Ok.ensures size (c.in-Ok-read.ensures.gives h) in
     subst (λ (o : Option File). GivesFile o (Said.Bytes (with_items c.in-Ok-vec.bytes c.read.new.buf))) (sym read.here)
     (take_at c.read.new.buf (drop (length c.read.new.buf) c.in-Ok-vec.bytes.items) c.in-Ok-vec.bytes.len (omega (arith, c.in-Ok-vec.ensures.len, c.as_mut_slice.ensures.len, c.read.ensures.size)) ∙ read.bytes_are)
 

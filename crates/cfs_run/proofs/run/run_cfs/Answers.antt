@@ -123,9 +123,9 @@ returns-clause-stored g c h none =
     let disk = c.finish.ensures.uses.disk in
     let no_disk = λ (rose : Rose (M.report c.args.m.now).disk_faults (M.report c.carry_out-answer.new.m).disk_faults). none.disk (subst (λ (k : ℕ). Rose (M.report c.args.m.now).disk_faults k) (sym disk) rose) in
     let no_input = λ (rose : Rose (M.report c.args.m.now).input_faults (M.report c.carry_out-answer.new.m).input_faults).
-        none.input (subst (λ (k : ℕ). Rose (M.report c.args.m.now).input_faults k) (sym c.finish.ensures.uses.input) rose) in
+    none.input (subst (λ (k : ℕ). Rose (M.report c.args.m.now).input_faults k) (sym c.finish.ensures.uses.input) rose) in
     let no_output = λ (rose : Rose (M.report c.carry_out-answer.new.m).output_faults (M.report c.finish.new.m).output_faults).
-        none.output (subst (λ (k : ℕ). Rose k (M.report c.finish.new.m).output_faults) c.carry_out-answer.ensures.uses.output rose) in
+    none.output (subst (λ (k : ℕ). Rose k (M.report c.finish.new.m).output_faults) c.carry_out-answer.ensures.uses.output rose) in
     put_heard (M.honest c.finish.new.m) (request_of (map (string_bytes {Z = Global}) c.args.words.now)) c.carry_out-answer.result (M.ledger c.args.m.now).input (M.ledger c.carry_out-answer.new.m).input
     (M.report c.args.m.now) (M.report c.carry_out-answer.new.m) (M.report c.finish.new.m) (M.now c.args.m.now) (M.now c.carry_out-answer.new.m) (M.now c.finish.new.m) c.finish.result
     c.carry_out-answer.ensures.answer (c.carry_out-answer.ensures.puts h1) (c.carry_out-answer.ensures.takes (g.met.M.Machine.honest_tells c.carry_out-answer.new.m h1)) c.carry_out-answer.ensures.cause
