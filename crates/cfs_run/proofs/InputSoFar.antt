@@ -1,6 +1,6 @@
 -- An input of which some front is read.
 use Rattle.std.proofs.Common.{◌≡◌, Bool, true, false, cond, ℕ, ◌+◌, ◌-◌, ◌^◌, ◌<◌, ◌≤◌, List, [], ◌∷◌, ◌++◌, length, take, drop, refl, sym, ap, subst, ◌∙◌, arith, length-append, length-take-le, length-drop, drop-drop}
-use Rattle.std.proofs.lemmas.List.{take_all}
+use Rattle.std.proofs.lemmas.List.{drop_all, take_all}
 use Rattle.std.proofs.Math.Seq.{take-add}
 use Rattle.sector_disk.specs.Machine.{Ledger, Takes, took}
 use Rattle.cfs_run.specs.Input.{TakesAll, TakesSome}
@@ -54,6 +54,7 @@ all_taken old now next bytes after n s e t none most =
       bytes_are = s.front ∙ take_all (length bytes) old.input (omega (arith, end, length-drop (length bytes) old.input));
       most = most;
       left = taken_on old now next (length bytes) n s.taken e ∙ ap (took old) (omega (arith, none));
+      none = ap (λ (l : Ledger). l.input) e ∙ ap (drop n) (t.end none) ∙ drop_all n [] (omega arith);
     }
 
 pub some_taken : (fault : InputFault) (old now next : Ledger) (bytes after : List ℕ) (n : ℕ) → SoFar old now bytes → next ≡ took now n → Takes now.input n after

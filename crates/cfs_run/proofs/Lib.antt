@@ -1,4 +1,9 @@
 mod FormatEnds
+mod GetLaws
 mod InputSoFar
+mod OpenLaws
+mod PutEnds
+mod PutLaws
+mod PutSaid
 mod RunLaws
 mod WordLists

@@ -1,9 +1,17 @@
 -- What a run ends with, by its answer and how it is said.
-use Rattle.std.proofs.Common.{◌≡◌, ◌⊎◌, inl, inr, ℕ, ◌≤◌, List, [], ◌∷◌, ◌++◌, length, take, take_all, Result, Ok, Err, refl, sym, ap, subst, ◌∙◌, arith}
+use Rattle.std.proofs.Common.{◌≡◌, ◌⊎◌, inl, inr, ℕ, ◌<◌, ◌≤◌, List, [], ◌∷◌, ◌++◌, length, take, take_all, ◌+◌, Option, Some, None, Result, Ok, Err, refl, sym, ap, subst, ◌∙◌, arith}
 use Rattle.std.specs.Prelude.{IsTrue}
 use Rattle.sector_disk.specs.Machine.{DeviceFault, Moment, Report, Rose}
-use Rattle.sector_disk.specs.Image.{IsWorn, Windows, open_damage}
+use Rattle.sector_disk.specs.Image.{IsCalm, IsWorn, Windows, open_damage}
 use Rattle.sector_disk.proofs.Wear.{worn_trans}
+use Rattle.sector_disk.proofs.Calm.{calm_worn, same_calm}
+use Rattle.sector_disk.specs.declared.sector.Sector.{Sector}
+use Rattle.std.specs.FinMap.{find}
+use Rattle.fsd_bytes.specs.Keys.{key_cmp}
+use Rattle.fsd_bytes.specs.declared.refusal.Refusal.{Refusal}
+use Rattle.fsd_bytes.specs.declared.refusal.Refusal.TheVariants.{NoSuch}
+use Rattle.fsd_files.specs.Files.{File, Files}
+use Rattle.fsd_sound.specs.AtHome.{HoldsFiles}
 use Rattle.volume_layout.specs.declared.layout.Layout.{Layout}
 use Rattle.volume_layout.specs.declared.fault.LayoutFault.{LayoutFault}
 use Rattle.volume_layout.specs.Layout.{plan}
@@ -14,16 +22,19 @@ use Rattle.cfs_run.specs.declared.answer.Answer.{Answer}
 use Rattle.cfs_run.specs.declared.answer.Answer.TheVariants as Said
 use Rattle.cfs_run.specs.declared.request.Request.{Request}
 use Rattle.cfs_run.specs.declared.request.Request.TheVariants.{Outside, BadField, Format, Put, Get}
+use Rattle.fsd_bytes.specs.declared.key.Key.{Key}
+use Rattle.cfs_run.specs.declared.input.TheConstants.{MOST_INPUT}
 use Rattle.cfs_run.specs.Text.{fault_text, memory_text, text}
 use Rattle.cfs_run.specs.Answer.{CausesLine, Finishes, SaysAll, SaysSome, Spoken, UsesOutput, answer_status, answer_text, status_of}
-use Rattle.cfs_run.specs.Formatting.{Asks, HoldsVolume, IsDeviceLine, IsFormatLine, MakesVolume, UsesAttach, VolumeMade, format_line, plan_asks}
-use Rattle.cfs_run.specs.Ends.{Answers, AsksAtMost, AsksFor, CausesAnswer, EndsAs, Holds, IsAnswerTo, IsUntouched, Leaves, NoneRose, PlanLeaves, SaysPartOf, asks_of, complete_statuses, fault_statuses, is_one_of, plan_statuses, reply_texts}
+use Rattle.cfs_run.specs.Input.{UsesCounts}
+use Rattle.cfs_run.specs.Formatting.{HoldsVolume, IsDeviceLine, IsFormatLine, MakesVolume, VolumeMade, format_line, plan_asks}
+use Rattle.cfs_run.specs.Ends.{Answers, GetAnswers, GetEnds, GetLeaves, GivesFile, RepliesAs, UnlessEnded, AsksAtMost, AsksFor, CausesAnswer, EndsAs, Holds, IsAnswerTo, IsUntouched, Leaves, NoneRose, LeavesInput, MaySay, PlanLeaves, SaysPart, Takes, TakesFor, IsGetLine, IsPutLine, asks_of, complete_statuses, fault_statuses, is_one_of, plan_statuses}
 
 -- a run: what was answered, and how that was said
 pub record Ran (H : Type 0) (request : Request) (answer : Answer) (old mid new : Report) (at between after : Moment) (result : ℕ) : Type 0 where
   pub answers : IsAnswerTo request answer
   pub cause : CausesAnswer answer old mid
-  pub uses : UsesAttach old mid
+  pub uses : UsesCounts old mid
   pub says : UsesOutput mid new
   pub said : Finishes H (answer_text answer) (answer_status answer) mid new between after result
   pub quiet : H → between.said ≡ at.said
@@ -108,6 +119,51 @@ refused_fits line result R two (inl e) = one_of (6 ∷ 2 ∷ 7 ∷ []) 2 result 
 refused_fits line result R two (inr (inl e)) = one_of (6 ∷ 2 ∷ 7 ∷ []) 6 result e.0 refl
 refused_fits line result R two (inr (inr e)) = one_of (6 ∷ 2 ∷ 7 ∷ []) 7 result e refl
 
+-- what may be answered to a put
+put_status : (line : Line) → IsPutLine line → IsTrue (is_one_of (4 ∷ 6 ∷ 0 ∷ 1 ∷ 3 ∷ 5 ∷ 7 ∷ 9 ∷ []) (status_of line))
+put_status Lines.Usage is = absurd is
+put_status (Lines.BadField why) is = absurd is
+put_status (Lines.Formatted n free) is = absurd is
+put_status (Lines.Unplanned why) is = absurd is
+put_status (Lines.Made key sectors) is = refl
+put_status (Lines.Refused why) is = refl
+put_status (Lines.Damaged at s) is = absurd is
+put_status (Lines.Ended Ends.NotVolume) is = refl
+put_status (Lines.Ended (Ends.Lost a b)) is = refl
+put_status (Lines.Ended Ends.NoAnchor) is = refl
+put_status (Lines.Ended (Ends.Unsound s)) is = refl
+put_status (Lines.Ended (Ends.Device s)) is = refl
+put_status (Lines.Ended Ends.Input) is = refl
+put_status (Lines.Ended Ends.InputTooLong) is = refl
+put_status (Lines.Ended Ends.Memory) is = refl
+put_status (Lines.Ended Ends.WornOut) is = refl
+
+-- what may be answered to a get
+get_status : (key : Key) (line : Line) → IsGetLine key line → IsTrue (is_one_of (4 ∷ 6 ∷ 0 ∷ 1 ∷ 3 ∷ 7 ∷ 8 ∷ 9 ∷ []) (status_of line))
+get_status key Lines.Usage is = absurd is
+get_status key (Lines.BadField why) is = absurd is
+get_status key (Lines.Formatted n free) is = absurd is
+get_status key (Lines.Unplanned why) is = absurd is
+get_status key (Lines.Made made sectors) is = absurd is
+get_status key (Lines.Refused why) is = refl
+get_status key (Lines.Damaged at s) is = refl
+get_status key (Lines.Ended Ends.NotVolume) is = refl
+get_status key (Lines.Ended (Ends.Lost a b)) is = refl
+get_status key (Lines.Ended Ends.NoAnchor) is = refl
+get_status key (Lines.Ended (Ends.Unsound s)) is = refl
+get_status key (Lines.Ended (Ends.Device s)) is = refl
+get_status key (Lines.Ended Ends.Input) is = absurd is
+get_status key (Lines.Ended Ends.InputTooLong) is = absurd is
+get_status key (Lines.Ended Ends.Memory) is = refl
+get_status key (Lines.Ended Ends.WornOut) is = refl
+
+-- one of these statuses, or that of the output or of memory
+fits : (xs : List ℕ) (status result : ℕ) (R : Type 0) → IsTrue (is_one_of xs status) → IsTrue (is_one_of xs 6) → IsTrue (is_one_of xs 7)
+    → (result ≡ status) ⊎ (((result ≡ 6) × R) ⊎ (result ≡ 7)) → IsTrue (is_one_of xs result)
+fits xs status result R here six seven (inl e) = one_of xs status result e here
+fits xs status result R here six seven (inr (inl e)) = one_of xs 6 result e.0 six
+fits xs status result R here six seven (inr (inr e)) = one_of xs 7 result e seven
+
 status_fits : (request : Request) (answer : Answer) (result : ℕ) (R : Type 0) → IsAnswerTo request answer
     → (result ≡ answer_status answer) ⊎ (((result ≡ 6) × R) ⊎ (result ≡ 7)) → IsTrue (is_one_of (fault_statuses request ++ complete_statuses request) result)
 status_fits (Format n t p) (Said.Line line) result R is ends = plan_fits (plan n t p) line result R is ends
@@ -116,10 +172,10 @@ status_fits Outside (Said.Line line) result R is ends = refused_fits line result
 status_fits Outside (Said.Bytes bytes) result R is ends = absurd is
 status_fits (BadField cause) (Said.Line line) result R is ends = refused_fits line result R (ap status_of is) ends
 status_fits (BadField cause) (Said.Bytes bytes) result R is ends = absurd is
-status_fits (Put name) (Said.Line line) result R is ends = refused_fits line result R (ap status_of is) ends
+status_fits (Put name) (Said.Line line) result R is ends = fits (4 ∷ 6 ∷ 0 ∷ 1 ∷ 3 ∷ 5 ∷ 7 ∷ 9 ∷ []) (status_of line) result R (put_status line is) refl refl ends
 status_fits (Put name) (Said.Bytes bytes) result R is ends = absurd is
-status_fits (Get key) (Said.Line line) result R is ends = refused_fits line result R (ap status_of is) ends
-status_fits (Get key) (Said.Bytes bytes) result R is ends = absurd is
+status_fits (Get key) (Said.Line line) result R is ends = fits (4 ∷ 6 ∷ 0 ∷ 1 ∷ 3 ∷ 7 ∷ 8 ∷ 9 ∷ []) (status_of line) result R (get_status key line is) refl refl ends
+status_fits (Get key) (Said.Bytes bytes) result R is ends = fits (4 ∷ 6 ∷ 0 ∷ 1 ∷ 3 ∷ 7 ∷ 8 ∷ 9 ∷ []) 0 result R refl refl refl ends
 
 -- ---- where nothing fails
 
@@ -135,6 +191,46 @@ refused_completes : (line : Line) (result : ℕ) → status_of line ≡ 2 → (r
 refused_completes line result two (inl e) = one_of (2 ∷ 7 ∷ []) 2 result (e ∙ two) refl
 refused_completes line result two (inr e) = one_of (2 ∷ 7 ∷ []) 7 result e refl
 
+put_completes : (line : Line) → IsPutLine line → (status_of line ≡ 4 → ⊥) → IsTrue (is_one_of (0 ∷ 1 ∷ 3 ∷ 5 ∷ 7 ∷ 9 ∷ []) (status_of line))
+put_completes Lines.Usage is no_fault = absurd is
+put_completes (Lines.BadField why) is no_fault = absurd is
+put_completes (Lines.Formatted n free) is no_fault = absurd is
+put_completes (Lines.Unplanned why) is no_fault = absurd is
+put_completes (Lines.Made key sectors) is no_fault = refl
+put_completes (Lines.Refused why) is no_fault = refl
+put_completes (Lines.Damaged at s) is no_fault = absurd is
+put_completes (Lines.Ended Ends.NotVolume) is no_fault = refl
+put_completes (Lines.Ended (Ends.Lost a b)) is no_fault = refl
+put_completes (Lines.Ended Ends.NoAnchor) is no_fault = refl
+put_completes (Lines.Ended (Ends.Unsound s)) is no_fault = refl
+put_completes (Lines.Ended (Ends.Device s)) is no_fault = absurd (no_fault refl)
+put_completes (Lines.Ended Ends.Input) is no_fault = refl
+put_completes (Lines.Ended Ends.InputTooLong) is no_fault = refl
+put_completes (Lines.Ended Ends.Memory) is no_fault = refl
+put_completes (Lines.Ended Ends.WornOut) is no_fault = refl
+
+get_completes : (key : Key) (line : Line) → IsGetLine key line → (status_of line ≡ 4 → ⊥) → IsTrue (is_one_of (0 ∷ 1 ∷ 3 ∷ 7 ∷ 8 ∷ 9 ∷ []) (status_of line))
+get_completes key Lines.Usage is no_fault = absurd is
+get_completes key (Lines.BadField why) is no_fault = absurd is
+get_completes key (Lines.Formatted n free) is no_fault = absurd is
+get_completes key (Lines.Unplanned why) is no_fault = absurd is
+get_completes key (Lines.Made made sectors) is no_fault = absurd is
+get_completes key (Lines.Refused why) is no_fault = refl
+get_completes key (Lines.Damaged at s) is no_fault = refl
+get_completes key (Lines.Ended Ends.NotVolume) is no_fault = refl
+get_completes key (Lines.Ended (Ends.Lost a b)) is no_fault = refl
+get_completes key (Lines.Ended Ends.NoAnchor) is no_fault = refl
+get_completes key (Lines.Ended (Ends.Unsound s)) is no_fault = refl
+get_completes key (Lines.Ended (Ends.Device s)) is no_fault = absurd (no_fault refl)
+get_completes key (Lines.Ended Ends.Input) is no_fault = absurd is
+get_completes key (Lines.Ended Ends.InputTooLong) is no_fault = absurd is
+get_completes key (Lines.Ended Ends.Memory) is no_fault = refl
+get_completes key (Lines.Ended Ends.WornOut) is no_fault = refl
+
+completes_as : (xs : List ℕ) (status result : ℕ) → IsTrue (is_one_of xs status) → IsTrue (is_one_of xs 7) → (result ≡ status) ⊎ (result ≡ 7) → IsTrue (is_one_of xs result)
+completes_as xs status result here seven (inl e) = one_of xs status result e here
+completes_as xs status result here seven (inr e) = one_of xs 7 result e seven
+
 completes : (request : Request) (answer : Answer) (result : ℕ) → IsAnswerTo request answer → (answer_status answer ≡ 4 → ⊥)
     → (result ≡ answer_status answer) ⊎ (result ≡ 7) → IsTrue (is_one_of (complete_statuses request) result)
 completes (Format n t p) (Said.Line line) result is no_fault ends = plan_completes (plan n t p) line result is (λ device. no_fault (device_status line device)) ends
@@ -143,10 +239,12 @@ completes Outside (Said.Line line) result is no_fault ends = refused_completes l
 completes Outside (Said.Bytes bytes) result is no_fault ends = absurd is
 completes (BadField cause) (Said.Line line) result is no_fault ends = refused_completes line result (ap status_of is) ends
 completes (BadField cause) (Said.Bytes bytes) result is no_fault ends = absurd is
-completes (Put name) (Said.Line line) result is no_fault ends = refused_completes line result (ap status_of is) ends
+completes (Put name) (Said.Line line) result is no_fault ends =
+    completes_as (0 ∷ 1 ∷ 3 ∷ 5 ∷ 7 ∷ 9 ∷ []) (status_of line) result (put_completes line is no_fault) refl ends
 completes (Put name) (Said.Bytes bytes) result is no_fault ends = absurd is
-completes (Get key) (Said.Line line) result is no_fault ends = refused_completes line result (ap status_of is) ends
-completes (Get key) (Said.Bytes bytes) result is no_fault ends = absurd is
+completes (Get key) (Said.Line line) result is no_fault ends =
+    completes_as (0 ∷ 1 ∷ 3 ∷ 7 ∷ 8 ∷ 9 ∷ []) (status_of line) result (get_completes key line is no_fault) refl ends
+completes (Get key) (Said.Bytes bytes) result is no_fault ends = completes_as (0 ∷ 1 ∷ 3 ∷ 7 ∷ 8 ∷ 9 ∷ []) 0 result refl refl ends
 
 without_output : {A B C R : Type 0} → (R → ⊥) → A ⊎ ((B × R) ⊎ C) → A ⊎ C
 without_output never (inl a) = inl a
@@ -156,7 +254,7 @@ without_output never (inr (inr c)) = inr c
 -- ---- what is said
 
 -- a line that is answered, over the bytes said before
-heard : (H : Type 0) (line : Line) (mid new : Report) (at between after : Moment) (result : ℕ) → between.said ≡ at.said
+pub heard : (H : Type 0) (line : Line) (mid new : Report) (at between after : Moment) (result : ℕ) → between.said ≡ at.said
     → (Rose mid.output_faults new.output_faults → ⊥) → H → Finishes H (text line) (status_of line) mid new between after result → EndsAs line at.said after.said result
 heard H line mid new at between after result same never h (inl (inl all)) = inl (all.ends, (all.said h).said ∙ ap (λ (s : List ℕ). s ++ text line) same)
 heard H line mid new at between after result same never h (inl (inr some)) = absurd (never some.rose)
@@ -180,25 +278,103 @@ plan_heard H (Ok l) line mid new at between after result (inr device) no_fault m
 plan_heard H (Err why) line mid new at between after result same no_fault made never h =
     heard_as H line (format_line (Err why)) mid new at between after result same (ap (λ (m : Moment). m.said) made) never h
 
+-- ---- a get, of a disk that holds files
+
+-- a text is said with its status, and the disk stays as it is
+pub replied : (H : Type 0) (bytes : List ℕ) (status : ℕ) (mid new : Report) (at between after : Moment) (result : ℕ) (l : Layout) (epoch : ℕ) (files : Files) → between.said ≡ at.said
+    → (Rose mid.output_faults new.output_faults → ⊥) → H → IsCalm after.windows → HoldsFiles l epoch files between.image → Finishes H bytes status mid new between after result
+    → RepliesAs bytes status l epoch files at after result
+replied H bytes status mid new at between after result l epoch files same never h calm holds (inl (inl all)) =
+    let says = all.said h in
+    let image = calm_worn between.windows between.image after.image (same_calm between.windows after.windows says.windows calm) says.image in
+    inl (record {
+      ends = all.ends;
+      said = says.said ∙ ap (λ (s : List ℕ). s ++ bytes) same;
+      holds = subst (λ (i : List Sector). HoldsFiles l epoch files i) (sym image) holds;
+    })
+replied H bytes status mid new at between after result l epoch files same never h calm holds (inl (inr some)) = absurd (never some.rose)
+replied H bytes status mid new at between after result l epoch files same never h calm holds (inr (inl all)) = inr (all.ends, (all.said h).said ∙ ap (λ (s : List ℕ). s ++ memory_text) same)
+replied H bytes status mid new at between after result l epoch files same never h calm holds (inr (inr some)) = absurd (never some.rose)
+
+-- that memory was refused is said
+pub forgotten : (H : Type 0) (mid new : Report) (at between after : Moment) (result : ℕ) → between.said ≡ at.said → (Rose mid.output_faults new.output_faults → ⊥) → H
+    → Finishes H memory_text 7 mid new between after result → (result ≡ 7) × (after.said ≡ at.said ++ memory_text)
+forgotten H mid new at between after result same never h (inl (inl all)) = (all.ends, (all.said h).said ∙ ap (λ (s : List ℕ). s ++ memory_text) same)
+forgotten H mid new at between after result same never h (inl (inr some)) = absurd (never some.rose)
+forgotten H mid new at between after result same never h (inr (inl all)) = (all.ends, (all.said h).said ∙ ap (λ (s : List ℕ). s ++ memory_text) same)
+forgotten H mid new at between after result same never h (inr (inr some)) = absurd (never some.rose)
+
+got_nothing : (H : Type 0) (line : Line) (mid new : Report) (at between after : Moment) (result : ℕ) (l : Layout) (epoch : ℕ) (files : Files) → (status_of line ≡ 4 → ⊥) → GivesFile None (Said.Line line)
+    → UnlessEnded (Said.Line line) (HoldsFiles l epoch files between.image) → between.said ≡ at.said → (Rose mid.output_faults new.output_faults → ⊥) → H → IsCalm after.windows
+    → Finishes H (text line) (status_of line) mid new between after result → RepliesAs (text (Lines.Refused NoSuch)) 1 l epoch files at after result
+got_nothing H (Lines.Refused why) mid new at between after result l epoch files no_fault gives holds same never h calm said =
+    replied H (text (Lines.Refused NoSuch)) 1 mid new at between after result l epoch files same never h calm holds
+    (subst (λ (w : Refusal). Finishes H (text (Lines.Refused w)) 1 mid new between after result) gives said)
+got_nothing H (Lines.Ended Ends.Memory) mid new at between after result l epoch files no_fault gives holds same never h calm said = inr (forgotten H mid new at between after result same never h said)
+got_nothing H (Lines.Ended Ends.NotVolume) mid new at between after result l epoch files no_fault gives holds same never h calm said = absurd gives
+got_nothing H (Lines.Ended (Ends.Lost a b)) mid new at between after result l epoch files no_fault gives holds same never h calm said = absurd gives
+got_nothing H (Lines.Ended Ends.NoAnchor) mid new at between after result l epoch files no_fault gives holds same never h calm said = absurd gives
+got_nothing H (Lines.Ended (Ends.Unsound s)) mid new at between after result l epoch files no_fault gives holds same never h calm said = absurd gives
+got_nothing H (Lines.Ended (Ends.Device s)) mid new at between after result l epoch files no_fault gives holds same never h calm said = absurd (no_fault refl)
+got_nothing H (Lines.Ended Ends.Input) mid new at between after result l epoch files no_fault gives holds same never h calm said = absurd gives
+got_nothing H (Lines.Ended Ends.InputTooLong) mid new at between after result l epoch files no_fault gives holds same never h calm said = absurd gives
+got_nothing H (Lines.Ended Ends.WornOut) mid new at between after result l epoch files no_fault gives holds same never h calm said = absurd gives
+got_nothing H Lines.Usage mid new at between after result l epoch files no_fault gives holds same never h calm said = absurd gives
+got_nothing H (Lines.BadField why) mid new at between after result l epoch files no_fault gives holds same never h calm said = absurd gives
+got_nothing H (Lines.Formatted n free) mid new at between after result l epoch files no_fault gives holds same never h calm said = absurd gives
+got_nothing H (Lines.Unplanned why) mid new at between after result l epoch files no_fault gives holds same never h calm said = absurd gives
+got_nothing H (Lines.Made key sectors) mid new at between after result l epoch files no_fault gives holds same never h calm said = absurd gives
+got_nothing H (Lines.Damaged key s) mid new at between after result l epoch files no_fault gives holds same never h calm said = absurd gives
+
+got_file : (H : Type 0) (file : File) (line : Line) (mid new : Report) (at between after : Moment) (result : ℕ) (l : Layout) (epoch : ℕ) (files : Files) → (status_of line ≡ 4 → ⊥) → GivesFile (Some file) (Said.Line line)
+    → between.said ≡ at.said → (Rose mid.output_faults new.output_faults → ⊥) → H → Finishes H (text line) (status_of line) mid new between after result → RepliesAs file.bytes 0 l epoch files at after result
+got_file H file (Lines.Ended Ends.Memory) mid new at between after result l epoch files no_fault gives same never h said = inr (forgotten H mid new at between after result same never h said)
+got_file H file (Lines.Ended Ends.NotVolume) mid new at between after result l epoch files no_fault gives same never h said = absurd gives
+got_file H file (Lines.Ended (Ends.Lost a b)) mid new at between after result l epoch files no_fault gives same never h said = absurd gives
+got_file H file (Lines.Ended Ends.NoAnchor) mid new at between after result l epoch files no_fault gives same never h said = absurd gives
+got_file H file (Lines.Ended (Ends.Unsound s)) mid new at between after result l epoch files no_fault gives same never h said = absurd gives
+got_file H file (Lines.Ended (Ends.Device s)) mid new at between after result l epoch files no_fault gives same never h said = absurd (no_fault refl)
+got_file H file (Lines.Ended Ends.Input) mid new at between after result l epoch files no_fault gives same never h said = absurd gives
+got_file H file (Lines.Ended Ends.InputTooLong) mid new at between after result l epoch files no_fault gives same never h said = absurd gives
+got_file H file (Lines.Ended Ends.WornOut) mid new at between after result l epoch files no_fault gives same never h said = absurd gives
+got_file H file Lines.Usage mid new at between after result l epoch files no_fault gives same never h said = absurd gives
+got_file H file (Lines.BadField why) mid new at between after result l epoch files no_fault gives same never h said = absurd gives
+got_file H file (Lines.Formatted n free) mid new at between after result l epoch files no_fault gives same never h said = absurd gives
+got_file H file (Lines.Unplanned why) mid new at between after result l epoch files no_fault gives same never h said = absurd gives
+got_file H file (Lines.Made key sectors) mid new at between after result l epoch files no_fault gives same never h said = absurd gives
+got_file H file (Lines.Damaged key s) mid new at between after result l epoch files no_fault gives same never h said = absurd gives
+got_file H file (Lines.Refused why) mid new at between after result l epoch files no_fault gives same never h said = absurd gives
+
+get_ends : (H : Type 0) (o : Option File) (answer : Answer) (mid new : Report) (at between after : Moment) (result : ℕ) (l : Layout) (epoch : ℕ) (files : Files) → (answer_status answer ≡ 4 → ⊥) → GivesFile o answer
+    → UnlessEnded answer (HoldsFiles l epoch files between.image) → between.said ≡ at.said → (Rose mid.output_faults new.output_faults → ⊥) → H → IsCalm after.windows
+    → Finishes H (answer_text answer) (answer_status answer) mid new between after result → GetEnds o l epoch files at after result
+get_ends H None (Said.Line line) mid new at between after result l epoch files no_fault gives holds same never h calm said = got_nothing H line mid new at between after result l epoch files no_fault gives holds same never h calm said
+get_ends H None (Said.Bytes bytes) mid new at between after result l epoch files no_fault gives holds same never h calm said = absurd gives
+get_ends H (Some file) (Said.Line line) mid new at between after result l epoch files no_fault gives holds same never h calm said = got_file H file line mid new at between after result l epoch files no_fault gives same never h said
+get_ends H (Some file) (Said.Bytes bytes) mid new at between after result l epoch files no_fault gives holds same never h calm said =
+    replied H file.bytes 0 mid new at between after result l epoch files same never h calm holds (subst (λ (b : List ℕ). Finishes H b 0 mid new between after result) gives said)
+
+get_heard : (H : Type 0) (key : Key) (answer : Answer) (mid new : Report) (at between after : Moment) (result : ℕ) → (answer_status answer ≡ 4 → ⊥) → GetLeaves key answer at between
+    → between.said ≡ at.said → (Rose mid.output_faults new.output_faults → ⊥) → H → between.windows ≡ after.windows → Finishes H (answer_text answer) (answer_status answer) mid new between after result → GetAnswers key at after result
+get_heard H key answer mid new at between after result no_fault leaves same never h windows said calm last l epoch files disk fits =
+    let still = same_calm between.windows after.windows (sym windows) last in
+    let gets = leaves calm still l epoch files disk fits in
+    get_ends H (find key_cmp key files) answer mid new at between after result l (epoch + 1) files no_fault gets.gives gets.holds same never h last said
+
 request_heard : (H : Type 0) (request : Request) (answer : Answer) (mid new : Report) (at between after : Moment) (result : ℕ) → IsAnswerTo request answer → (answer_status answer ≡ 4 → ⊥)
     → Leaves request answer at between → (Rose mid.output_faults new.output_faults → ⊥) → H → Finishes H (answer_text answer) (answer_status answer) mid new between after result
-    → Answers request at.said after.said result
-request_heard H (Format n t p) (Said.Line line) mid new at between after result is no_fault made never h said =
+    → between.said ≡ at.said → between.windows ≡ after.windows → Answers request at after result
+request_heard H (Format n t p) (Said.Line line) mid new at between after result is no_fault made never h said quiet windows =
     plan_heard H (plan n t p) line mid new at between after result is (λ device. no_fault (device_status line device)) made never h said
-request_heard H (Format n t p) (Said.Bytes bytes) mid new at between after result is no_fault made never h said = absurd is
-request_heard H Outside (Said.Line line) mid new at between after result is no_fault made never h said = heard_as H line Lines.Usage mid new at between after result is (ap (λ (m : Moment). m.said) made) never h said
-request_heard H Outside (Said.Bytes bytes) mid new at between after result is no_fault made never h said = absurd is
-request_heard H (BadField cause) (Said.Line line) mid new at between after result is no_fault made never h said = heard_as H line (Lines.BadField cause) mid new at between after result is (ap (λ (m : Moment). m.said) made) never h said
-request_heard H (BadField cause) (Said.Bytes bytes) mid new at between after result is no_fault made never h said = absurd is
-request_heard H (Put name) (Said.Line line) mid new at between after result is no_fault made never h said = heard_as H line Lines.Usage mid new at between after result is (ap (λ (m : Moment). m.said) made) never h said
-request_heard H (Put name) (Said.Bytes bytes) mid new at between after result is no_fault made never h said = absurd is
-request_heard H (Get key) (Said.Line line) mid new at between after result is no_fault made never h said = heard_as H line Lines.Usage mid new at between after result is (ap (λ (m : Moment). m.said) made) never h said
-request_heard H (Get key) (Said.Bytes bytes) mid new at between after result is no_fault made never h said = absurd is
+request_heard H (Format n t p) (Said.Bytes bytes) mid new at between after result is no_fault made never h said quiet windows = absurd is
+request_heard H Outside (Said.Line line) mid new at between after result is no_fault made never h said quiet windows = heard_as H line Lines.Usage mid new at between after result is (ap (λ (m : Moment). m.said) made) never h said
+request_heard H Outside (Said.Bytes bytes) mid new at between after result is no_fault made never h said quiet windows = absurd is
+request_heard H (BadField cause) (Said.Line line) mid new at between after result is no_fault made never h said quiet windows = heard_as H line (Lines.BadField cause) mid new at between after result is (ap (λ (m : Moment). m.said) made) never h said
+request_heard H (BadField cause) (Said.Bytes bytes) mid new at between after result is no_fault made never h said quiet windows = absurd is
+request_heard H (Put name) answer mid new at between after result is no_fault made never h said quiet windows = tt
+request_heard H (Get key) answer mid new at between after result is no_fault made never h said quiet windows = get_heard H key answer mid new at between after result no_fault made quiet never h windows said
 
 -- ---- what may be said at all
-
-part_of : (bytes : List ℕ) (texts : List (List ℕ)) (before after : List ℕ) (heard : ℕ) → after ≡ before ++ take heard bytes → SaysPartOf (bytes ∷ texts) before after
-part_of bytes texts before after heard said = inl (heard, said)
 
 -- the text of a whole is a part
 whole_part : (bytes before after : List ℕ) → after ≡ before ++ bytes → after ≡ before ++ take (length bytes) bytes
@@ -213,33 +389,25 @@ part_said H bytes status mid new at between after result same h (inr (inl all)) 
 part_said H bytes status mid new at between after result same h (inr (inr some)) = let cut = some.said h in inl (cut.heard, cut.said ∙ ap (λ (s : List ℕ). s ++ take cut.heard memory_text) same)
 
 -- the answer's text is one of the request's
-plan_part : (planned : Result Layout LayoutFault) (line : Line) (old mid : Report) (before after : List ℕ) → IsFormatLine planned line → CausesLine line old mid
-    → ((heard : ℕ) × (after ≡ before ++ take heard (text line))) → SaysPartOf (text (format_line planned) ∷ fault_text (Ends.Device mid.fault_place) ∷ []) before after
-plan_part (Ok l) line old mid before after (inl same) cause part = inl (part.0, part.1 ∙ ap (λ (x : Line). before ++ take part.0 (text x)) same)
-plan_part (Ok l) line old mid before after (inr device) cause part =
-    let told = device_line line device in
-    inr (inl (part.0, part.1 ∙ ap (λ (b : List ℕ). before ++ take part.0 b) (device_text (Said.Line line) told.0 old mid told.1 cause)))
-plan_part (Err why) line old mid before after same cause part = inl (part.0, part.1 ∙ ap (λ (x : Line). before ++ take part.0 (text x)) same)
+plan_may : (n t p : ℕ) (planned : Result Layout LayoutFault) (line : Line) (old mid : Report) → plan n t p ≡ planned → IsFormatLine planned line → CausesLine line old mid → MaySay (Format n t p) mid.fault_place (text line)
+plan_may n t p (Ok l) line old mid e (inl same) cause = inl (ap text (same ∙ ap format_line (sym e)))
+plan_may n t p (Ok l) line old mid e (inr device) cause = let told = device_line line device in inr (device_text (Said.Line line) told.0 old mid told.1 cause)
+plan_may n t p (Err why) line old mid e same cause = inl (ap text (same ∙ ap format_line (sym e)))
 
-line_part : (line this : Line) (before after : List ℕ) → line ≡ this → ((heard : ℕ) × (after ≡ before ++ take heard (text line))) → SaysPartOf (text this ∷ []) before after
-line_part line this before after same part = inl (part.0, part.1 ∙ ap (λ (x : Line). before ++ take part.0 (text x)) same)
-
-request_part : (request : Request) (answer : Answer) (old mid : Report) (before after : List ℕ) → IsAnswerTo request answer → CausesAnswer answer old mid
-    → ((heard : ℕ) × (after ≡ before ++ take heard (answer_text answer))) → SaysPartOf (reply_texts request mid.fault_place) before after
-request_part (Format n t p) (Said.Line line) old mid before after is cause part = plan_part (plan n t p) line old mid before after is cause part
-request_part (Format n t p) (Said.Bytes bytes) old mid before after is cause part = absurd is
-request_part Outside (Said.Line line) old mid before after is cause part = line_part line Lines.Usage before after is part
-request_part Outside (Said.Bytes bytes) old mid before after is cause part = absurd is
-request_part (BadField why) (Said.Line line) old mid before after is cause part = line_part line (Lines.BadField why) before after is part
-request_part (BadField why) (Said.Bytes bytes) old mid before after is cause part = absurd is
-request_part (Put name) (Said.Line line) old mid before after is cause part = line_part line Lines.Usage before after is part
-request_part (Put name) (Said.Bytes bytes) old mid before after is cause part = absurd is
-request_part (Get key) (Said.Line line) old mid before after is cause part = line_part line Lines.Usage before after is part
-request_part (Get key) (Said.Bytes bytes) old mid before after is cause part = absurd is
+request_may : (request : Request) (answer : Answer) (old mid : Report) → IsAnswerTo request answer → CausesAnswer answer old mid → MaySay request mid.fault_place (answer_text answer)
+request_may Outside (Said.Line line) old mid is cause = ap text is
+request_may Outside (Said.Bytes bytes) old mid is cause = absurd is
+request_may (BadField why) (Said.Line line) old mid is cause = ap text is
+request_may (BadField why) (Said.Bytes bytes) old mid is cause = absurd is
+request_may (Format n t p) (Said.Line line) old mid is cause = plan_may n t p (plan n t p) line old mid refl is cause
+request_may (Format n t p) (Said.Bytes bytes) old mid is cause = absurd is
+request_may (Put name) (Said.Line line) old mid is cause = (line, is, refl)
+request_may (Put name) (Said.Bytes bytes) old mid is cause = absurd is
+request_may (Get key) answer old mid is cause = tt
 
 -- ---- the image
 
-said_untouched : (H : Type 0) (bytes : List ℕ) (status : ℕ) (mid new : Report) (between after : Moment) (result : ℕ) → H → Finishes H bytes status mid new between after result → IsUntouched between after
+pub said_untouched : (H : Type 0) (bytes : List ℕ) (status : ℕ) (mid new : Report) (between after : Moment) (result : ℕ) → H → Finishes H bytes status mid new between after result → IsUntouched between after
 said_untouched H bytes status mid new between after result h (inl (inl all)) = record { image = (all.said h).image; windows = (all.said h).windows }
 said_untouched H bytes status mid new between after result h (inl (inr some)) = record { image = (some.said h).image; windows = (some.said h).windows }
 said_untouched H bytes status mid new between after result h (inr (inl all)) = record { image = (all.said h).image; windows = (all.said h).windows }
@@ -275,10 +443,8 @@ request_holds Outside (Said.Line line) at between after is done made still = abs
 request_holds Outside (Said.Bytes bytes) at between after is done made still = absurd is
 request_holds (BadField cause) (Said.Line line) at between after is done made still = absurd (omega (arith, ap status_of is))
 request_holds (BadField cause) (Said.Bytes bytes) at between after is done made still = absurd is
-request_holds (Put name) (Said.Line line) at between after is done made still = absurd (omega (arith, ap status_of is))
-request_holds (Put name) (Said.Bytes bytes) at between after is done made still = absurd is
-request_holds (Get key) (Said.Line line) at between after is done made still = absurd (omega (arith, ap status_of is))
-request_holds (Get key) (Said.Bytes bytes) at between after is done made still = absurd is
+request_holds (Put name) answer at between after is done made still = tt
+request_holds (Get key) answer at between after is done made still = tt
 
 done_by_answer : (result status : ℕ) (R : Type 0) → result ≡ 0 → (result ≡ status) ⊎ (((result ≡ 6) × R) ⊎ (result ≡ 7)) → status ≡ 0
 done_by_answer result status R done (inl e) = sym e ∙ done
@@ -294,8 +460,89 @@ request_still (Format n t p) (Said.Line line) path at between is none made = pla
 request_still (Format n t p) (Said.Bytes bytes) path at between is none made = absurd is
 request_still Outside answer path at between is none made = made
 request_still (BadField cause) answer path at between is none made = made
-request_still (Put name) answer path at between is none made = made
-request_still (Get key) answer path at between is none made = made
+request_still (Put name) answer path at between is none made = cc
+request_still (Get key) answer path at between is none made = cc
+
+-- ---- the input
+
+plan_not_five : (planned : Result Layout LayoutFault) (line : Line) → IsFormatLine planned line → status_of line ≡ 5 → ⊥
+plan_not_five (Ok l) line (inl same) five = absurd (omega (arith, ap status_of same))
+plan_not_five (Ok l) line (inr device) five = absurd (omega (arith, device_status line device))
+plan_not_five (Err why) line same five = absurd (omega (arith, ap status_of same))
+
+get_not_five : (key : Key) (line : Line) → IsGetLine key line → status_of line ≡ 5 → ⊥
+get_not_five key line is five = absurd (five_is_none (one_of (4 ∷ 6 ∷ 0 ∷ 1 ∷ 3 ∷ 7 ∷ 8 ∷ 9 ∷ []) (status_of line) 5 (sym five) (get_status key line is)))
+  where
+    five_is_none : IsTrue (is_one_of (4 ∷ 6 ∷ 0 ∷ 1 ∷ 3 ∷ 7 ∷ 8 ∷ 9 ∷ []) 5) → ⊥
+    five_is_none h = cc
+
+-- what is answered with 5 is a counted fault of the input, or there is more of it than the most
+input_answer : (request : Request) (answer : Answer) (T : Type 0) (old new : Report) (before after : List ℕ) → answer_status answer ≡ 5 → IsAnswerTo request answer → CausesAnswer answer old new
+    → (T → Takes request answer before after) → Rose old.input_faults new.input_faults ⊎ (T → MOST_INPUT < length before)
+input_answer (Put name) (Said.Line (Lines.Ended Ends.Input)) T old new before after five is cause taken = inl cause
+input_answer (Put name) (Said.Line (Lines.Ended Ends.InputTooLong)) T old new before after five is cause taken = inr taken
+input_answer (Put name) (Said.Line (Lines.Ended Ends.NotVolume)) T old new before after five is cause taken = cc
+input_answer (Put name) (Said.Line (Lines.Ended (Ends.Lost a b))) T old new before after five is cause taken = cc
+input_answer (Put name) (Said.Line (Lines.Ended Ends.NoAnchor)) T old new before after five is cause taken = cc
+input_answer (Put name) (Said.Line (Lines.Ended (Ends.Unsound s))) T old new before after five is cause taken = cc
+input_answer (Put name) (Said.Line (Lines.Ended (Ends.Device s))) T old new before after five is cause taken = cc
+input_answer (Put name) (Said.Line (Lines.Ended Ends.Memory)) T old new before after five is cause taken = cc
+input_answer (Put name) (Said.Line (Lines.Ended Ends.WornOut)) T old new before after five is cause taken = cc
+input_answer (Put name) (Said.Line Lines.Usage) T old new before after five is cause taken = cc
+input_answer (Put name) (Said.Line (Lines.BadField why)) T old new before after five is cause taken = cc
+input_answer (Put name) (Said.Line (Lines.Formatted n free)) T old new before after five is cause taken = cc
+input_answer (Put name) (Said.Line (Lines.Unplanned why)) T old new before after five is cause taken = cc
+input_answer (Put name) (Said.Line (Lines.Made key sectors)) T old new before after five is cause taken = cc
+input_answer (Put name) (Said.Line (Lines.Refused why)) T old new before after five is cause taken = cc
+input_answer (Put name) (Said.Line (Lines.Damaged key s)) T old new before after five is cause taken = cc
+input_answer (Put name) (Said.Bytes bytes) T old new before after five is cause taken = cc
+input_answer Outside (Said.Line line) T old new before after five is cause taken = absurd (omega (arith, ap status_of is))
+input_answer Outside (Said.Bytes bytes) T old new before after five is cause taken = absurd is
+input_answer (BadField why) (Said.Line line) T old new before after five is cause taken = absurd (omega (arith, ap status_of is))
+input_answer (BadField why) (Said.Bytes bytes) T old new before after five is cause taken = absurd is
+input_answer (Format n t p) (Said.Line line) T old new before after five is cause taken = absurd (plan_not_five (plan n t p) line is five)
+input_answer (Format n t p) (Said.Bytes bytes) T old new before after five is cause taken = absurd is
+input_answer (Get key) (Said.Line line) T old new before after five is cause taken = absurd (get_not_five key line is five)
+input_answer (Get key) (Said.Bytes bytes) T old new before after five is cause taken = cc
+
+done_takes : (name : List ℕ) (line : Line) (before after : List ℕ) → IsPutLine line → (status_of line ≡ 0) ⊎ (status_of line ≡ 1) → TakesFor line before after → (after ≡ []) × (length before ≤ MOST_INPUT)
+done_takes name (Lines.Made key sectors) before after is done taken = taken
+done_takes name (Lines.Refused why) before after is done taken = taken
+done_takes name (Lines.Ended Ends.NotVolume) before after is (inl done) taken = cc
+done_takes name (Lines.Ended Ends.NotVolume) before after is (inr done) taken = cc
+done_takes name (Lines.Ended (Ends.Lost a b)) before after is (inl done) taken = cc
+done_takes name (Lines.Ended (Ends.Lost a b)) before after is (inr done) taken = cc
+done_takes name (Lines.Ended Ends.NoAnchor) before after is (inl done) taken = cc
+done_takes name (Lines.Ended Ends.NoAnchor) before after is (inr done) taken = cc
+done_takes name (Lines.Ended (Ends.Unsound s)) before after is (inl done) taken = cc
+done_takes name (Lines.Ended (Ends.Unsound s)) before after is (inr done) taken = cc
+done_takes name (Lines.Ended (Ends.Device s)) before after is (inl done) taken = cc
+done_takes name (Lines.Ended (Ends.Device s)) before after is (inr done) taken = cc
+done_takes name (Lines.Ended Ends.Input) before after is (inl done) taken = cc
+done_takes name (Lines.Ended Ends.Input) before after is (inr done) taken = cc
+done_takes name (Lines.Ended Ends.InputTooLong) before after is (inl done) taken = cc
+done_takes name (Lines.Ended Ends.InputTooLong) before after is (inr done) taken = cc
+done_takes name (Lines.Ended Ends.Memory) before after is (inl done) taken = cc
+done_takes name (Lines.Ended Ends.Memory) before after is (inr done) taken = cc
+done_takes name (Lines.Ended Ends.WornOut) before after is (inl done) taken = cc
+done_takes name (Lines.Ended Ends.WornOut) before after is (inr done) taken = cc
+done_takes name Lines.Usage before after is done taken = absurd is
+done_takes name (Lines.BadField why) before after is done taken = absurd is
+done_takes name (Lines.Formatted n free) before after is done taken = absurd is
+done_takes name (Lines.Unplanned why) before after is done taken = absurd is
+done_takes name (Lines.Damaged key s) before after is done taken = absurd is
+
+request_takes : (request : Request) (answer : Answer) (result : ℕ) (R : Type 0) (before after : List ℕ) → IsAnswerTo request answer
+    → (result ≡ answer_status answer) ⊎ (((result ≡ 6) × R) ⊎ (result ≡ 7)) → Takes request answer before after → LeavesInput request result before after
+request_takes Outside answer result R before after is ends taken = taken
+request_takes (BadField why) answer result R before after is ends taken = taken
+request_takes (Format n t p) answer result R before after is ends taken = taken
+request_takes (Get key) answer result R before after is ends taken = taken
+request_takes (Put name) (Said.Bytes bytes) result R before after is ends taken = absurd is
+request_takes (Put name) (Said.Line line) result R before after is (inl e) taken =
+    λ done. done_takes name line before after is (elim done [ inl zeroed ↦ inl (sym e ∙ zeroed) | inr one ↦ inr (sym e ∙ one) ]) taken
+request_takes (Put name) (Said.Line line) result R before after is (inr (inl e)) taken = λ done. absurd (elim done [ inl zeroed ↦ omega (arith, e.0) | inr one ↦ omega (arith, e.0) ])
+request_takes (Put name) (Said.Line line) result R before after is (inr (inr e)) taken = λ done. absurd (elim done [ inl zeroed ↦ omega (arith, e) | inr one ↦ omega (arith, e) ])
 
 -- ---- the clauses of a run
 
@@ -315,16 +562,22 @@ module _ (H : Type 0) (request : Request) (answer : Answer) (old mid new : Repor
   pub run_completes : NoneRose old new → IsTrue (is_one_of (complete_statuses request) result)
   run_completes none = completes request answer result ran.answers (no_device none) (without_output (no_output none) ended)
 
-  pub run_answers : H → NoneRose old new → Answers request at.said after.said result
-  run_answers h none = request_heard H request answer mid new at between after result ran.answers (no_device none) (ran.leaves h) (no_output none) h ran.said
-
   still : H → IsUntouched between after
   still h = said_untouched H (answer_text answer) (answer_status answer) mid new between after result h ran.said
 
-  pub run_said : H → SaysPartOf (memory_text ∷ reply_texts request new.fault_place) at.said after.said
+  pub run_answers : H → NoneRose old new → Answers request at after result
+  run_answers h none =
+      request_heard H request answer mid new at between after result ran.answers (no_device none) (ran.leaves h) (no_output none) h ran.said (ran.quiet h) (sym (still h).windows)
+
+  pub run_said : H → SaysPart request new.fault_place at.said after.said
   run_said h = elim (part_said H (answer_text answer) (answer_status answer) mid new at between after result (ran.quiet h) h ran.said) [
-    | inl part ↦ inl part
-    | inr part ↦ inr (subst (λ (place : ℕ). SaysPartOf (reply_texts request place) at.said after.said) (sym ran.says.place) (request_part request answer old mid at.said after.said ran.answers ran.cause part))
+    | inl part ↦ record { bytes = memory_text; may = inr refl; heard = part.0; said = part.1 }
+    | inr part ↦ record {
+      bytes = answer_text answer;
+      may = inl (subst (λ (place : ℕ). MaySay request place (answer_text answer)) (sym ran.says.place) (request_may request answer old mid ran.answers ran.cause));
+      heard = part.0;
+      said = part.1;
+    }
   ]
 
   pub run_fault_said : result ≡ 4 → H → after.said ≡ at.said ++ fault_text (Ends.Device new.fault_place)
@@ -338,6 +591,15 @@ module _ (H : Type 0) (request : Request) (answer : Answer) (old mid new : Repor
     ]
     | inr memory ↦ elim memory [ inl all ↦ absurd (omega (arith, all.ends)) | inr some ↦ absurd (omega (arith, some.ends)) ]
   ]
+
+  pub run_input : (T : Type 0) (input left : List ℕ) → (T → Takes request answer input left) → result ≡ 5 → Rose old.input_faults new.input_faults ⊎ (T → MOST_INPUT < length input)
+  run_input T input left taken five = elim ended [
+    | inl e ↦ subst (λ (k : ℕ). Rose old.input_faults k ⊎ (T → MOST_INPUT < length input)) (sym ran.says.input) (input_answer request answer T old mid input left (sym e ∙ five) ran.answers ran.cause taken)
+    | inr other ↦ elim other [ inl e ↦ absurd (omega (arith, e.0)) | inr e ↦ absurd (omega (arith, e)) ]
+  ]
+
+  pub run_takes : (input left : List ℕ) → Takes request answer input left → LeavesInput request result input left
+  run_takes input left taken = request_takes request answer result (Rose mid.output_faults new.output_faults) input left ran.answers ended taken
 
   pub run_holds : result ≡ 0 → H → Holds request after
   run_holds done h = request_holds request answer at between after ran.answers (done_by_answer result (answer_status answer) (Rose mid.output_faults new.output_faults) done ended) (ran.leaves h) (still h)

@@ -1,11 +1,23 @@
 -- How a run ends, by what its words ask for.
-use Rattle.std.specs.Prelude.{◌≡◌, ◌⊎◌, ℕ, Bool, ◌==◌, List, [], ◌∷◌, ◌++◌, take, Result, Ok, Err}
+use Rattle.std.specs.Prelude.{◌≡◌, ◌⊎◌, ◌<◌, ◌≤◌, ◌+◌, ◌^◌, ⊤, ℕ, Bool, ◌==◌, List, [], ◌∷◌, ◌++◌, length, take, Option, Some, None, Result, Ok, Err}
 use Rattle.std.specs.List.{list_any}
-use Rattle.sector_disk.specs.Image.{IsWorn, open_damage}
-use Rattle.sector_disk.specs.Machine.{Asked, Ledger, Moment, Report, Rose}
+use Rattle.std.specs.FinMap.{find}
+use Rattle.sector_disk.specs.Image.{IsCalm, IsWorn, open_damage}
+use Rattle.sector_disk.specs.Machine.{Asked, Moment, Report, Rose}
 use Rattle.volume_layout.specs.declared.layout.Layout.{Layout}
 use Rattle.volume_layout.specs.declared.fault.LayoutFault.{LayoutFault}
 use Rattle.volume_layout.specs.Layout.{plan}
+use Rattle.fsd_bytes.specs.Keys.{key_cmp}
+use Rattle.fsd_bytes.specs.declared.refusal.Refusal.TheVariants.{NoSuch}
+use Rattle.fsd_files.specs.Disk.{Image}
+use Rattle.fsd_files.specs.Files.{File, Files}
+use Rattle.fsd_files.specs.Answers.{Outcome}
+use Rattle.fsd_files.specs.Replies.{Made, Refused, Reply}
+use Rattle.fsd_files.specs.OneLeaf.{put_outcome}
+use Rattle.fsd_volume.specs.Mount.{Mounts, volume_of}
+use Rattle.fsd_volume.specs.State.{State}
+use Rattle.fsd_sound.specs.AtHome.{HoldsFiles}
+use Rattle.cfs_run.specs.declared.fault.Fault.{Fault}
 use Rattle.cfs_run.specs.declared.line.Line.{Line}
 use Rattle.cfs_run.specs.declared.line.Line.TheVariants as Says
 use Rattle.cfs_run.specs.declared.answer.Answer.{Answer}
@@ -13,43 +25,168 @@ use Rattle.cfs_run.specs.declared.answer.Answer.TheVariants as Said
 use Rattle.cfs_run.specs.declared.request.Request.{Request}
 use Rattle.cfs_run.specs.declared.request.Request.TheVariants.{Outside, BadField, Format, Put, Get}
 use Rattle.cfs_run.specs.declared.fault.Fault.TheVariants as Ends
+use Rattle.fsd_bytes.specs.declared.key.Key.{Key}
+use Rattle.cfs_run.specs.declared.input.TheConstants.{MOST_INPUT}
+use Rattle.cfs_run.specs.Mounting.{IsExcuse, IsMountFault, OpensDisk, mount_asks}
 use Rattle.cfs_run.specs.Text.{fault_text, memory_text, text}
 use Rattle.cfs_run.specs.Answer.{CausesLine, answer_status, answer_text, status_of}
-use Rattle.cfs_run.specs.Formatting.{Asks, HoldsVolume, IsDeviceLine, IsFormatLine, VolumeMade, format_line, plan_asks}
+use Rattle.cfs_run.specs.Formatting.{AsksLine, HoldsVolume, IsDeviceLine, IsFormatLine, VolumeMade, format_line, plan_asks}
 
 -- ---- the answers to a request
 
+-- a put says what it made, or why not
+abbrev pub IsPutLine : Line → Type 0
+IsPutLine (Says.Made key sectors) = ⊤
+IsPutLine (Says.Refused why) = ⊤
+IsPutLine (Says.Ended fault) = ⊤
+IsPutLine line = ⊥
+
+-- so it does once the input is taken
+abbrev pub IsMadeLine : Line → Type 0
+IsMadeLine (Says.Made key sectors) = ⊤
+IsMadeLine (Says.Refused why) = ⊤
+IsMadeLine (Says.Ended fault) = IsMountFault fault
+IsMadeLine line = ⊥
+
+-- a get says bytes, or the first damaged sector of the version, or that there is none
+abbrev pub IsGetLine : Key → Line → Type 0
+IsGetLine key (Says.Damaged k s) = k ≡ key
+IsGetLine key (Says.Refused why) = ⊤
+IsGetLine key (Says.Ended fault) = IsMountFault fault
+IsGetLine key line = ⊥
+
+abbrev pub IsGetAnswer : Key → Answer → Type 0
+IsGetAnswer key (Said.Line line) = IsGetLine key line
+IsGetAnswer key (Said.Bytes bytes) = ⊤
+
+abbrev pub IsLine : Line → Answer → Type 0
+IsLine this (Said.Line line) = line ≡ this
+IsLine this (Said.Bytes bytes) = ⊥
+
+abbrev pub IsPutAnswer : Answer → Type 0
+IsPutAnswer (Said.Line line) = IsPutLine line
+IsPutAnswer (Said.Bytes bytes) = ⊥
+
+abbrev pub IsFormatAnswer : Result Layout LayoutFault → Answer → Type 0
+IsFormatAnswer planned (Said.Line line) = IsFormatLine planned line
+IsFormatAnswer planned (Said.Bytes bytes) = ⊥
+
 -- what may be answered at all
 abbrev pub IsAnswerTo : Request → Answer → Type 0
-IsAnswerTo (Format n t p) (Said.Line line) = IsFormatLine (plan n t p) line
-IsAnswerTo (BadField cause) (Said.Line line) = line ≡ Says.BadField cause
-IsAnswerTo request (Said.Line line) = line ≡ Says.Usage
-IsAnswerTo request (Said.Bytes bytes) = ⊥
+IsAnswerTo Outside answer = IsLine Says.Usage answer
+IsAnswerTo (BadField cause) answer = IsLine (Says.BadField cause) answer
+IsAnswerTo (Format n t p) answer = IsFormatAnswer (plan n t p) answer
+IsAnswerTo (Put name) answer = IsPutAnswer answer
+IsAnswerTo (Get key) answer = IsGetAnswer key answer
 
 abbrev pub CausesAnswer : Answer → Report → Report → Type 0
 CausesAnswer (Said.Line line) old new = CausesLine line old new
-CausesAnswer (Said.Bytes bytes) old new = Unit {0}
+CausesAnswer (Said.Bytes bytes) old new = ⊤
 
 -- the attach that a request asks for
 abbrev pub asks_of : Request → List ℕ → List Asked
+asks_of Outside path = []
+asks_of (BadField cause) path = []
 asks_of (Format n t p) path = plan_asks (plan n t p) path
-asks_of request path = []
+asks_of (Put name) path = mount_asks path
+asks_of (Get key) path = mount_asks path
 
-abbrev pub AsksFor : List Asked → Answer → Ledger → Ledger → Type 0
-AsksFor asks (Said.Line line) old new = Asks asks line old new
-AsksFor asks (Said.Bytes bytes) old new = Asks asks Says.Usage old new
+abbrev pub AsksFor : List Asked → Answer → (old new : List Asked) → Type 0
+AsksFor asks (Said.Line line) old new = AsksLine asks line old new
+AsksFor asks (Said.Bytes bytes) old new = new ≡ old ++ asks
+
+-- a put takes the whole input, but where the run ends; the end says so where there is more than the most
+abbrev pub TakesFor : Line → (old new : List ℕ) → Type 0
+TakesFor (Says.Ended Ends.InputTooLong) old new = MOST_INPUT < length old
+TakesFor (Says.Ended fault) old new = ⊤
+TakesFor line old new = (new ≡ []) × (length old ≤ MOST_INPUT)
+
+abbrev pub TakesAnswer : Answer → (old new : List ℕ) → Type 0
+TakesAnswer (Said.Line line) old new = TakesFor line old new
+TakesAnswer (Said.Bytes bytes) old new = ⊤
+
+-- only a put takes input
+abbrev pub Takes : Request → Answer → (old new : List ℕ) → Type 0
+Takes (Put name) answer old new = TakesAnswer answer old new
+Takes request answer old new = new ≡ old
+
+-- ---- what a get gives, by the version that the key has
+
+-- the version's bytes, or that there is none
+abbrev pub GivesFile : Option File → Answer → Type 0
+GivesFile (Some file) (Said.Bytes bytes) = bytes.items ≡ file.bytes
+GivesFile None (Said.Line (Says.Refused why)) = why ≡ NoSuch
+GivesFile file (Said.Line (Says.Ended fault)) = IsExcuse fault
+GivesFile file answer = ⊥
+
+-- what holds of the image, unless a fault ended the run
+abbrev pub UnlessEnded : Answer → Type 0 → Type 0
+UnlessEnded (Said.Line (Says.Ended fault)) P = ⊤
+UnlessEnded answer P = P
+
+-- The version that the disk holds is given, and the disk holds the same files in the next epoch.
+pub record Gets (key : Key) (l : Layout) (epoch : ℕ) (files : Files) (answer : Answer) (i : Image) : Type 0 where
+  pub gives : GivesFile (find key_cmp key files) answer
+  pub holds : UnlessEnded answer (HoldsFiles l (epoch + 1) files i)
+
+-- so it is of every disk that holds files and has an epoch left, where nothing wears
+abbrev pub GetLeaves : Key → Answer → Moment → Moment → Type 0
+GetLeaves key answer old new = IsCalm old.windows → IsCalm new.windows → (l : Layout) (epoch : ℕ) (files : Files) → HoldsFiles l epoch files old.image → epoch + 1 < 2 ^ 32
+    → Gets key l epoch files answer new.image
+
+-- ---- what a put makes, by the outcome of the volume
+
+-- The line is that of the reply, and the disk holds the files that the outcome has.
+pub record StoresAs (reply : Reply) (l : Layout) (epoch : ℕ) (out : Outcome) (i : Image) : Type 0 where
+  pub reply_is : out.0 ≡ reply
+  pub holds : HoldsFiles l epoch out.1.files i
+
+abbrev pub Stores : Layout → ℕ → Outcome → Line → Image → Type 0
+Stores l epoch out (Says.Made key sectors) i = StoresAs (Made key sectors) l epoch out i
+Stores l epoch out (Says.Refused why) i = StoresAs (Refused why) l epoch out i
+Stores l epoch out (Says.Ended fault) i = IsExcuse fault
+Stores l epoch out line i = ⊥
+
+-- A mount gave this volume of the files, and the line is that of what it answers to the put.
+pub record PutStores (name input : List ℕ) (l : Layout) (epoch : ℕ) (files : Files) (line : Line) (i : Image) : Type 0 where
+  pub state : State
+  pub image : Image
+  pub mounts : Mounts l epoch files state image
+  pub first : state.serial.count ≡ 1
+  pub stores : Stores l (epoch + 1) (put_outcome (volume_of state files) name input None) line i
+
+abbrev pub Puts : (name input : List ℕ) → Layout → ℕ → Files → Line → Image → Type 0
+Puts name input l epoch files (Says.Ended Ends.Input) i = ⊤
+Puts name input l epoch files (Says.Ended Ends.InputTooLong) i = ⊤
+Puts name input l epoch files (Says.Ended fault) i = IsExcuse fault
+Puts name input l epoch files line i = PutStores name input l epoch files line i
+
+-- so it is of every disk that holds files and has an epoch left, where nothing wears
+abbrev pub PutLeaves : (name input : List ℕ) → Line → Moment → Moment → Type 0
+PutLeaves name input line old new = OpensDisk old new (λ l epoch files. epoch + 1 < 2 ^ 32 → Puts name input l epoch files line new.image)
+
+abbrev pub PutsFor : Request → Answer → List ℕ → Moment → Moment → Type 0
+PutsFor (Put name) (Said.Line line) input old new = PutLeaves name input line old new
+PutsFor request answer input old new = ⊤
 
 -- the image after an answer
 abbrev pub Leaves : Request → Answer → Moment → Moment → Type 0
+Leaves Outside answer old new = new ≡ old
+Leaves (BadField cause) answer old new = new ≡ old
 Leaves (Format n t p) (Said.Line line) old new = VolumeMade (plan n t p) line old new
-Leaves request answer old new = new ≡ old
+Leaves (Format n t p) (Said.Bytes bytes) old new = ⊤
+Leaves (Put name) answer old new = ⊤
+Leaves (Get key) answer old new = GetLeaves key answer old new
 
 -- ---- statuses
 
 -- where nothing fails
 abbrev pub complete_statuses : Request → List ℕ
+complete_statuses Outside = 2 ∷ 7 ∷ []
+complete_statuses (BadField cause) = 2 ∷ 7 ∷ []
 complete_statuses (Format n t p) = status_of (format_line (plan n t p)) ∷ 7 ∷ []
-complete_statuses request = 2 ∷ 7 ∷ []
+complete_statuses (Put name) = 0 ∷ 1 ∷ 3 ∷ 5 ∷ 7 ∷ 9 ∷ []
+complete_statuses (Get key) = 0 ∷ 1 ∷ 3 ∷ 7 ∷ 8 ∷ 9 ∷ []
 
 abbrev pub plan_statuses : Result Layout LayoutFault → List ℕ
 plan_statuses (Ok l) = 4 ∷ 6 ∷ []
@@ -57,8 +194,11 @@ plan_statuses (Err why) = 6 ∷ []
 
 -- where a call of the outside fails
 abbrev pub fault_statuses : Request → List ℕ
+fault_statuses Outside = 6 ∷ []
+fault_statuses (BadField cause) = 6 ∷ []
 fault_statuses (Format n t p) = plan_statuses (plan n t p)
-fault_statuses request = 6 ∷ []
+fault_statuses (Put name) = 4 ∷ 6 ∷ []
+fault_statuses (Get key) = 4 ∷ 6 ∷ []
 
 abbrev pub is_one_of : List ℕ → ℕ → Bool
 is_one_of statuses status = list_any (λ s. s == status) statuses
@@ -76,29 +216,82 @@ abbrev pub EndsAs : Line → List ℕ → List ℕ → ℕ → Type 0
 EndsAs line before after result =
     ((result ≡ status_of line) × (after ≡ before ++ text line)) ⊎ ((result ≡ 7) × (after ≡ before ++ memory_text))
 
+-- A reply is said with its status, and the disk holds these files.
+pub record Replies (bytes : List ℕ) (status : ℕ) (l : Layout) (epoch : ℕ) (files : Files) (old new : Moment) (result : ℕ) : Type 0 where
+  pub ends : result ≡ status
+  pub said : new.said ≡ old.said ++ bytes
+  pub holds : HoldsFiles l epoch files new.image
+
+-- or memory was refused, and that is said
+abbrev pub RepliesAs : List ℕ → ℕ → Layout → ℕ → Files → Moment → Moment → ℕ → Type 0
+RepliesAs bytes status l epoch files old new result = Replies bytes status l epoch files old new result ⊎ ((result ≡ 7) × (new.said ≡ old.said ++ memory_text))
+
+-- a version's bytes are said alone
+abbrev pub GetEnds : Option File → Layout → ℕ → Files → Moment → Moment → ℕ → Type 0
+GetEnds None l epoch files old new result = RepliesAs (text (Says.Refused NoSuch)) 1 l epoch files old new result
+GetEnds (Some file) l epoch files old new result = RepliesAs file.bytes 0 l epoch files old new result
+
+abbrev pub GetAnswers : Key → Moment → Moment → ℕ → Type 0
+GetAnswers key old new result = IsCalm old.windows → IsCalm new.windows → (l : Layout) (epoch : ℕ) (files : Files) → HoldsFiles l epoch files old.image → epoch + 1 < 2 ^ 32
+    → GetEnds (find key_cmp key files) l (epoch + 1) files old new result
+
+abbrev pub reply_line : Reply → Line
+reply_line (Made key sectors) = Says.Made key sectors
+reply_line (Refused why) = Says.Refused why
+reply_line reply = Says.Usage
+
+-- A mount gave this volume of the files, what it answers to the put is said, and the disk holds the files then.
+pub record PutReplies (name input : List ℕ) (l : Layout) (epoch : ℕ) (files : Files) (old new : Moment) (result : ℕ) : Type 0 where
+  pub state : State
+  pub image : Image
+  pub mounts : Mounts l epoch files state image
+  pub first : state.serial.count ≡ 1
+  pub replies : let out = put_outcome (volume_of state files) name input None in
+      Replies (text (reply_line out.0)) (status_of (reply_line out.0)) l (epoch + 1) out.1.files old new result
+
+-- an input that is too long is told; else the put is answered
+abbrev pub PutEnds : (name input : List ℕ) → Layout → ℕ → Files → Moment → Moment → ℕ → Type 0
+PutEnds name input l epoch files old new result =
+    (MOST_INPUT < length input × EndsAs (Says.Ended Ends.InputTooLong) old.said new.said result)
+    ⊎ (PutReplies name input l epoch files old new result ⊎ ((result ≡ 7) × (new.said ≡ old.said ++ memory_text)))
+
+abbrev pub PutAnswersFor : Request → List ℕ → Moment → Moment → ℕ → Type 0
+PutAnswersFor (Put name) input old new result = OpensDisk old new (λ l epoch files. epoch + 1 < 2 ^ 32 → PutEnds name input l epoch files old new result)
+PutAnswersFor request input old new result = ⊤
+
 -- where nothing fails
-abbrev pub Answers : Request → List ℕ → List ℕ → ℕ → Type 0
-Answers (Format n t p) before after result = EndsAs (format_line (plan n t p)) before after result
-Answers (BadField cause) before after result = EndsAs (Says.BadField cause) before after result
-Answers request before after result = EndsAs Says.Usage before after result
+abbrev pub Answers : Request → Moment → Moment → ℕ → Type 0
+Answers Outside old new result = EndsAs Says.Usage old.said new.said result
+Answers (BadField cause) old new result = EndsAs (Says.BadField cause) old.said new.said result
+Answers (Format n t p) old new result = EndsAs (format_line (plan n t p)) old.said new.said result
+Answers (Put name) old new result = ⊤
+Answers (Get key) old new result = GetAnswers key old new result
 
 -- the texts that may be said but for that of refused memory; the place is that of the disk's last fault
-abbrev pub reply_texts : Request → (place : ℕ) → List (List ℕ)
-reply_texts (Format n t p) place = text (format_line (plan n t p)) ∷ fault_text (Ends.Device place) ∷ []
-reply_texts (BadField cause) place = text (Says.BadField cause) ∷ []
-reply_texts request place = text Says.Usage ∷ []
+abbrev pub MaySay : Request → (place : ℕ) → List ℕ → Type 0
+MaySay Outside place bytes = bytes ≡ text Says.Usage
+MaySay (BadField cause) place bytes = bytes ≡ text (Says.BadField cause)
+MaySay (Format n t p) place bytes = (bytes ≡ text (format_line (plan n t p))) ⊎ (bytes ≡ fault_text (Ends.Device place))
+MaySay (Put name) place bytes = (line : Line) × IsPutLine line × (bytes ≡ text line)
+MaySay (Get key) place bytes = ⊤
 
--- some first bytes of one of these texts are said
-abbrev pub SaysPartOf : List (List ℕ) → (before after : List ℕ) → Type 0
-SaysPartOf [] before after = ⊥
-SaysPartOf (bytes ∷ texts) before after = ((heard : ℕ) × (after ≡ before ++ take heard bytes)) ⊎ SaysPartOf texts before after
+-- Some first bytes of such a text, or of that of refused memory, are said.
+pub record SaysPart (request : Request) (place : ℕ) (before after : List ℕ) : Type 0 where
+  pub bytes : List ℕ
+  pub may : MaySay request place bytes ⊎ (bytes ≡ memory_text)
+  pub heard : ℕ
+  pub said : after ≡ before ++ take heard bytes
 
 -- ---- what is left
 
--- Attaches were asked for, or none were, and the input was left.
-pub record AsksAtMost (asks : List Asked) (old new : Ledger) : Type 0 where
-  pub attaches : (new.attaches ≡ old.attaches ++ asks) ⊎ (new.attaches ≡ old.attaches)
-  pub input : new.input ≡ old.input
+-- attaches were asked for, or none were
+abbrev pub AsksAtMost : List Asked → (old new : List Asked) → Type 0
+AsksAtMost asks old new = (new ≡ old ++ asks) ⊎ (new ≡ old)
+
+-- the input after a run: only a put takes of it, and all where it answers
+abbrev pub LeavesInput : Request → (result : ℕ) → (old new : List ℕ) → Type 0
+LeavesInput (Put name) result old new = (result ≡ 0) ⊎ (result ≡ 1) → (new ≡ []) × (length old ≤ MOST_INPUT)
+LeavesInput request result old new = new ≡ old
 
 abbrev pub PlanLeaves : Result Layout LayoutFault → Moment → Type 0
 PlanLeaves (Ok l) new = HoldsVolume l new
@@ -106,8 +299,11 @@ PlanLeaves (Err why) new = ⊥
 
 -- the image after status 0
 abbrev pub Holds : Request → Moment → Type 0
+Holds Outside new = ⊥
+Holds (BadField cause) new = ⊥
 Holds (Format n t p) new = PlanLeaves (plan n t p) new
-Holds request new = ⊥
+Holds (Put name) new = ⊤
+Holds (Get key) new = ⊤
 
 -- Sectors were worn, and nothing else of the disk changed.
 pub record IsUntouched (old new : Moment) : Type 0 where

@@ -37,13 +37,14 @@ abbrev pub plan_asks : Result Layout LayoutFault → List ℕ → List Asked
 plan_asks (Ok l) path = record { path = path; how = New l.sectors } ∷ []
 plan_asks (Err why) path = []
 
--- The input is left, and these attaches were asked for; or none, where the line tells a fault of the disk.
-pub record Asks (asks : List Asked) (line : Line) (old new : Ledger) : Type 0 where
-  pub input : new.input ≡ old.input
-  pub attaches : (new.attaches ≡ old.attaches ++ asks) ⊎ (IsDeviceLine line × (new.attaches ≡ old.attaches))
+-- these attaches were asked for; or none, where the line tells a fault of the disk
+abbrev pub AsksLine : List Asked → Line → (old new : List Asked) → Type 0
+AsksLine asks line old new = (new ≡ old ++ asks) ⊎ (IsDeviceLine line × (new ≡ old))
 
-abbrev pub AsksPlan : Result Layout LayoutFault → List ℕ → Line → Ledger → Ledger → Type 0
-AsksPlan planned path line old new = Asks (plan_asks planned path) line old new
+-- The input is left, and the plan's attach was asked for.
+pub record AsksPlan (planned : Result Layout LayoutFault) (path : List ℕ) (line : Line) (old new : Ledger) : Type 0 where
+  pub input : new.input ≡ old.input
+  pub attaches : AsksLine (plan_asks planned path) line old.attaches new.attaches
 
 -- An empty volume stands, in a window of its own.
 pub record HoldsVolume (l : Layout) (moment : Moment) : Type 0 where

@@ -13,6 +13,12 @@ pub record UsesInput (old new : Report) : Type 0 where
   pub input : old.input_faults ≤ new.input_faults
   pub output : new.output_faults ≡ old.output_faults
 
+-- calls of the disk, an attach among them, and of the input: no count falls
+pub record UsesCounts (old new : Report) : Type 0 where
+  pub disk : old.disk_faults ≤ new.disk_faults
+  pub input : old.input_faults ≤ new.input_faults
+  pub output : new.output_faults ≡ old.output_faults
+
 -- a failed input is counted
 abbrev pub CausesInput : InputFault → Report → Report → Type 0
 CausesInput Failed old new = Rose old.input_faults new.input_faults
@@ -24,6 +30,7 @@ pub record TakesAll (old : Ledger) (bytes : List ℕ) (new : Ledger) : Type 0 wh
   pub bytes_are : bytes ≡ old.input
   pub most : length bytes ≤ MOST_INPUT
   pub left : new ≡ took old (length bytes)
+  pub none : new.input ≡ []
 
 -- the input has more than the most
 abbrev pub IsTooLong : InputFault → List ℕ → Type 0

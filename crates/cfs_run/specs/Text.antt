@@ -91,7 +91,6 @@ text (Ended fault) = fault_text fault
 -- the line of a refusal: one that ends the run is a fault
 abbrev pub line_of : Refusal → Line
 line_of (Why.Device s) = Ended (Ends.Device s)
-line_of (Why.Down s) = Ended (Ends.Device s)
 line_of (Why.Lost a b) = Ended (Ends.Lost a b)
 line_of (Why.Unsound s) = Ended (Ends.Unsound s)
 line_of Why.WornOut = Ended Ends.WornOut

@@ -1,5 +1,5 @@
 //! The input, read to its end.
-ghost use Rattle.std.specs.Prelude.{IfOk, IfErr};
+ghost use Rattle.std.specs.Prelude.{◌≤◌, length, IfOk, IfErr};
 ghost use Rattle.sector_disk.specs.Machine.{Trusts, Wears};
 ghost use Rattle.cfs_run.specs.Input.{CausesInput, TakesAll, TakesSome, UsesInput};
 
@@ -26,6 +26,7 @@ pub const MOST_INPUT: usize = 1 << 24;
 
 /// All bytes of the input. A byte past the most is taken, if it is there.
 pub fn read_input<M: Machine>(alloc: Global, m: &mut M) -> Result<Vec<u8>, InputFault>
+    ensures most { IfOk result (λ bytes. length bytes.items ≤ MOST_INPUT) }
     ensures cause { IfErr result (λ fault. CausesInput fault (M.report m.old) (M.report m.new)) }
     ensures uses { UsesInput (M.report m.old) (M.report m.new) }
     ensures trust { Trusts (M.tells m.old) (M.tells m.new) (M.honest m.old) (M.honest m.new) }

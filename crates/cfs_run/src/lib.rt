@@ -4,8 +4,11 @@
 mod answer;
 mod fault;
 mod formatting;
+mod getting;
 mod input;
 mod line;
+mod mounting;
+mod putting;
 mod refusal;
 mod request;
 mod run;

@@ -11,7 +11,7 @@ pub(crate) fn line_of(why: Refusal) -> Line
     ensures { result ≡ line_of why }
 {
     match why {
-        Refusal::Device(sector) | Refusal::Down(sector) => Line::Ended(Fault::Device(sector)),
+        Refusal::Device(sector) => Line::Ended(Fault::Device(sector)),
         Refusal::Lost { a, b } => Line::Ended(Fault::Lost { a, b }),
         Refusal::Unsound(sector) => Line::Ended(Fault::Unsound(sector)),
         Refusal::WornOut => Line::Ended(Fault::WornOut),

@@ -1,16 +1,19 @@
 //! The top call.
-ghost use Rattle.std.specs.Prelude.{◌≡◌, ◌++◌, [], ◌∷◌, map, IsTrue};
+ghost use Rattle.std.specs.Prelude.{◌≡◌, ◌⊎◌, ◌<◌, ◌++◌, [], length, map, IsTrue};
 ghost use Rattle.std.specs.String.{string_bytes};
 ghost use Rattle.sector_disk.specs.Machine.{Rose, Trusts};
 ghost use Rattle.cfs_run.specs.declared.fault.Fault.TheVariants as Ends;
-ghost use Rattle.cfs_run.specs.Text.{fault_text, memory_text};
+ghost use Rattle.cfs_run.specs.Text.{fault_text};
+ghost use Rattle.cfs_run.specs.declared.input.TheConstants.{MOST_INPUT};
 ghost use Rattle.cfs_run.specs.Words.{path_of, request_of};
-ghost use Rattle.cfs_run.specs.Formatting.{UsesAttach};
-ghost use Rattle.cfs_run.specs.Ends.{Answers, AsksAtMost, AsksFor, CausesAnswer, Holds, IsAnswerTo, IsUntouched, Leaves, NoneRose, SaysPartOf, asks_of, complete_statuses, fault_statuses, is_one_of, reply_texts};
+ghost use Rattle.cfs_run.specs.Input.{UsesCounts};
+ghost use Rattle.cfs_run.specs.Ends.{Answers, AsksAtMost, AsksFor, CausesAnswer, Holds, IsAnswerTo, IsUntouched, Leaves, NoneRose, PutAnswersFor, PutsFor, SaysPart, Takes, LeavesInput, asks_of, complete_statuses, fault_statuses, is_one_of};
 
 use crate::answer::{Answer, finish};
 use crate::formatting::make;
+use crate::getting::get;
 use crate::line::Line;
+use crate::putting::put;
 use crate::request::{Request, image_of, read_words};
 use sector_disk::Machine;
 use std::alloc::Global;
@@ -20,23 +23,26 @@ pub fn run_cfs<M: Machine>(alloc: Global, words: &[String], m: &mut M) -> u8
     // The status is one that the words allow. One of a fault has its cause.
     ensures status { let request = request_of (map string_bytes words.now) in
         IsTrue (is_one_of (fault_statuses request ++ complete_statuses request) result) }
+    ensures input { result ≡ 5 → Rose (M.report m.old).input_faults (M.report m.new).input_faults ⊎ (M.tells m.new → MOST_INPUT < length (M.ledger m.old).input) }
     ensures device { result ≡ 4 → Rose (M.report m.old).disk_faults (M.report m.new).disk_faults }
     ensures output { result ≡ 6 → Rose (M.report m.old).output_faults (M.report m.new).output_faults }
     ensures complete { NoneRose (M.report m.old) (M.report m.new)
         → IsTrue (is_one_of (complete_statuses (request_of (map string_bytes words.now))) result) }
 
-    // Nothing but the words' image is asked for, and it is where the status is 0.
+    // Nothing but the words' image is asked for, and it is where the status is 0. Only a put takes input.
     ensures attaches { let asked = map string_bytes words.now in
-        M.tells m.new → AsksAtMost (asks_of (request_of asked) (path_of asked)) (M.ledger m.old) (M.ledger m.new) }
+        M.tells m.new → AsksAtMost (asks_of (request_of asked) (path_of asked)) (M.ledger m.old).attaches (M.ledger m.new).attaches }
     ensures attached { let asked = map string_bytes words.now in
         result ≡ 0 → M.tells m.new → (M.ledger m.new).attaches ≡ (M.ledger m.old).attaches ++ asks_of (request_of asked) (path_of asked) }
+    ensures taken { M.tells m.new → LeavesInput (request_of (map string_bytes words.now)) result (M.ledger m.old).input (M.ledger m.new).input }
 
     // What is said: some first bytes of one of the texts that the words allow, all of them but at status 6.
-    ensures said { M.honest m.new → SaysPartOf (memory_text ∷ reply_texts (request_of (map string_bytes words.now)) (M.report m.new).fault_place)
-        (M.now m.old).said (M.now m.new).said }
+    ensures said { M.honest m.new → SaysPart (request_of (map string_bytes words.now)) (M.report m.new).fault_place (M.now m.old).said (M.now m.new).said }
     ensures fault_said { result ≡ 4 → M.honest m.new → (M.now m.new).said ≡ (M.now m.old).said ++ fault_text (Ends.Device (M.report m.new).fault_place) }
     ensures answers { M.honest m.new → NoneRose (M.report m.old) (M.report m.new)
-        → Answers (request_of (map string_bytes words.now)) (M.now m.old).said (M.now m.new).said result }
+        → Answers (request_of (map string_bytes words.now)) (M.now m.old) (M.now m.new) result }
+    ensures stored { M.honest m.new → NoneRose (M.report m.old) (M.report m.new)
+        → PutAnswersFor (request_of (map string_bytes words.now)) (M.ledger m.old).input (M.now m.old) (M.now m.new) result }
 
     // What the image holds.
     ensures image { result ≡ 0 → M.honest m.new → Holds (request_of (map string_bytes words.now)) (M.now m.new) }
@@ -44,19 +50,21 @@ pub fn run_cfs<M: Machine>(alloc: Global, words: &[String], m: &mut M) -> u8
         asks_of (request_of asked) (path_of asked) ≡ [] → M.honest m.new → IsUntouched (M.now m.old) (M.now m.new) }
     ensures trust { Trusts (M.tells m.old) (M.tells m.new) (M.honest m.old) (M.honest m.new) }
 {
-    let answer = carry_out(words, m);
+    let answer = carry_out(alloc, words, m);
     finish(alloc, m, &answer)
 }
 
 // Does what the words ask for, and says nothing.
-fn carry_out<M: Machine>(words: &[String], m: &mut M) -> Answer
+fn carry_out<M: Machine>(alloc: Global, words: &[String], m: &mut M) -> Answer
     ensures answer { IsAnswerTo (request_of (map string_bytes words.now)) result }
     ensures cause { CausesAnswer result (M.report m.old) (M.report m.new) }
-    ensures uses { UsesAttach (M.report m.old) (M.report m.new) }
+    ensures uses { UsesCounts (M.report m.old) (M.report m.new) }
     ensures trust { Trusts (M.tells m.old) (M.tells m.new) (M.honest m.old) (M.honest m.new) }
     ensures asks { let asked = map string_bytes words.now in
-        M.tells m.new → AsksFor (asks_of (request_of asked) (path_of asked)) result (M.ledger m.old) (M.ledger m.new) }
+        M.tells m.new → AsksFor (asks_of (request_of asked) (path_of asked)) result (M.ledger m.old).attaches (M.ledger m.new).attaches }
+    ensures takes { M.tells m.new → Takes (request_of (map string_bytes words.now)) result (M.ledger m.old).input (M.ledger m.new).input }
     ensures quiet { M.honest m.new → (M.now m.new).said ≡ (M.now m.old).said }
+    ensures puts { M.honest m.new → PutsFor (request_of (map string_bytes words.now)) result (M.ledger m.old).input (M.now m.old) (M.now m.new) }
     ensures leaves { M.honest m.new → Leaves (request_of (map string_bytes words.now)) result (M.now m.old) (M.now m.new) }
 {
     match read_words(words) {
@@ -67,6 +75,7 @@ fn carry_out<M: Machine>(words: &[String], m: &mut M) -> Answer
             third,
             pages,
         } => Answer::Line(make(image_of(words), sectors, third, pages, m)),
-        Request::Put { .. } | Request::Get { .. } => Answer::Line(Line::Usage),
+        Request::Put { name } => Answer::Line(put(alloc, image_of(words), &name, m)),
+        Request::Get { key } => get(alloc, image_of(words), &key, m),
     }
 }

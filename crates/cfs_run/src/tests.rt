@@ -72,6 +72,22 @@ fn says_each_line(rt: HostRuntime) -> Result<(), Fail> {
             721,
             "usage: cfs COMMAND IMAGE WORDS\n",
         ),
+        ("cfs put w a b", 2, 721, "usage: cfs COMMAND IMAGE WORDS\n"),
+        ("cfs get w a!0", 2, 721, "bad line 0: bad key\n"),
+        ("cfs put w a*b", 2, 721, "bad line 0: bad name\n"),
+        (
+            "cfs put w 12345678901234567890123456789012345678901",
+            2,
+            721,
+            "bad line 0: bad name\n",
+        ),
+        ("cfs put w ", 2, 721, "bad line 0: bad name\n"),
+        (
+            "cfs put w 1234567890123456789012345678901234567890",
+            0,
+            721,
+            "made 1234567890123456789012345678901234567890!1 1\n",
+        ),
         ("cfs", 2, 721, "usage: cfs COMMAND IMAGE WORDS\n"),
     ];
     let alloc = rt.alloc();
@@ -82,6 +98,58 @@ fn says_each_line(rt: HostRuntime) -> Result<(), Fail> {
         assert_eq!(rt; m.said(), said.as_bytes(), "{line}");
         assert_eq!(rt; m.image().len(), sectors, "{line}");
         m = m.again(Vec::new(alloc), Vec::new(alloc));
+    }
+    Ok(())
+}
+
+#[test]
+fn puts_and_gets(rt: HostRuntime) -> Result<(), Fail> {
+    let alloc = rt.alloc();
+    let sector = [7; 512];
+    let cases = [
+        ("cfs get v a!1", b"".as_slice(), 3, "fault not-a-volume\n"),
+        (
+            "cfs format v 2048 256 64",
+            b"".as_slice(),
+            0,
+            "formatted 2048 free 1127\n",
+        ),
+        ("cfs put v a", b"hi".as_slice(), 0, "made a!1 2\n"),
+        ("cfs get v a!1", b"".as_slice(), 0, "hi"),
+        ("cfs get v a!2", b"".as_slice(), 1, "refused no-such\n"),
+        (
+            "cfs put v a",
+            b"hi".as_slice(),
+            1,
+            "refused versions-used\n",
+        ),
+        (
+            "cfs format v 2048 256 64",
+            b"".as_slice(),
+            0,
+            "formatted 2048 free 1127\n",
+        ),
+        ("cfs put v a", b"".as_slice(), 0, "made a!1 1\n"),
+        ("cfs put v b", sector.as_slice(), 0, "made b!1 2\n"),
+        ("cfs get v a!1", b"".as_slice(), 0, ""),
+    ];
+    let mut m = machine(alloc);
+    for (line, input, status, said) in cases {
+        m = m.again(Vec::new(alloc), input.to_vec(alloc)?);
+        let words = split(alloc, line)?;
+        assert_eq!(rt; run_cfs(alloc, words.as_slice(), &mut m), status, "{line}");
+        assert_eq!(rt; m.said(), said.as_bytes(), "{line}");
+    }
+    let fresh = split(alloc, "cfs format v 2048 256 64")?;
+    assert_eq!(rt; run_cfs(alloc, fresh.as_slice(), &mut m), 0);
+    for (length, said) in [
+        (4_193_793, "refused too-long 4193793\n"),
+        (4_193_792, "refused no-space 8192 1127\n"),
+    ] {
+        m = m.again(Vec::new(alloc), vec![in alloc; 5; length]?);
+        let words = split(alloc, "cfs put v c")?;
+        assert_eq!(rt; run_cfs(alloc, words.as_slice(), &mut m), 1, "{length}");
+        assert_eq!(rt; m.said(), said.as_bytes(), "{length}");
     }
     Ok(())
 }

@@ -29,6 +29,7 @@ formatted_at_home l i f =
       last_epoch = omega arith;
       leaf = empty_leaf l;
       stamp = format_stamp;
+      stamp_fits = (omega arith, omega arith);
       home = f.homes 0 some;
       copy = f.copies 0 some;
       homes = λ page positive below. f.homes page below;

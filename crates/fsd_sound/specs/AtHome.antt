@@ -38,6 +38,7 @@ pub record IsAtHome (l : Layout) (epoch : ℕ) (entries : List Entry) (i : Image
   pub last_epoch : epoch < 2 ^ 32
   pub leaf : IsRootLeaf l entries
   pub stamp : Stamp
+  pub stamp_fits : (stamp.epoch < 2 ^ 32) × (stamp.number < 2 ^ 32)
   pub home : sector_at i (home_a l 0) ≡ Whole (page_bytes 0 stamp (Leaf entries))
   pub copy : sector_at i (home_b l 0) ≡ Whole (page_bytes 0 stamp (Leaf entries))
   pub homes : (page : ℕ) → 0 < page → page < l.pages → sector_at i (home_a l page) ≡ Whole (format_page page)

@@ -1,9 +1,8 @@
 -- What calls of the disk owe, one behind another.
 use Rattle.std.proofs.Common.{◌∙◌, ◌≤◌, arith, refl, subst}
 use Rattle.sector_disk.specs.Image.{IsWorn, Windows, open_damage}
-use Rattle.sector_disk.specs.Machine.{Report, Ledger, UsesDisk, Moment, Wears}
+use Rattle.sector_disk.specs.Machine.{Report, Ledger, UsesDisk, OnlyWrites, Moment, Wears}
 use Rattle.sector_disk.proofs.Wear.{worn_refl, worn_trans}
-use Rattle.fsd_volume.specs.Calls.{OnlyWrites}
 
 pub uses_on : {a b c : Report} → UsesDisk a b → UsesDisk b c → UsesDisk a c
 uses_on {a} {b} {c} first second = record {

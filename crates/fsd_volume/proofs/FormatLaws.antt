@@ -92,7 +92,7 @@ module _ (l : Layout) (planned : plan l.sectors l.third l.pages ≡ Ok l) (old o
   in_window : (run : WeakRun) → opened.windows.next ≡ Some run → Formats l old new
   in_window run next =
       let windows : opened.windows ≡ record { present = None; next = Some run } =
-          windows_are opened.windows None (Some run) (named.present ∙ ap (λ (w : Windows). w.present) fresh.windows) next in
+      windows_are opened.windows None (Some run) (named.present ∙ ap (λ (w : Windows). w.present) fresh.windows) next in
       let same : mid.windows ≡ record { present = None; next = Some run } = holds.windows ∙ windows in
       let laid : IsWorn (in_run run) (with_volume l opened.image) mid.image = subst (λ (w : Windows). IsWorn (open_damage w) (with_volume l opened.image) mid.image) windows holds.worn in
       let last : IsWorn (in_run run) mid.image new.image = subst (λ (w : Windows). IsWorn (open_damage w) mid.image new.image) same settles.image in

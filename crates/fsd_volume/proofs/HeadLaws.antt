@@ -10,7 +10,7 @@ use Rattle.sector_disk.specs.declared.sector.Sector.{Sector}
 use Rattle.sector_disk.specs.declared.sector.Sector.TheVariants.{Whole}
 use Rattle.sector_disk.specs.Image.{sector_at, lay}
 use Rattle.fsd_sound.specs.Format.{format_anchor}
-use Rattle.fsd_volume.specs.Calls.{with_sector}
+use Rattle.sector_disk.specs.Image.{with_sector}
 use Rattle.sector_disk.specs.Machine.{Moment, Holds}
 use Rattle.fsd_volume.specs.Formatting.{with_head, with_blanks}
 use Rattle.std.specs.Prelude.{slice_set}
@@ -87,15 +87,16 @@ blank_at r a b (suc (suc (suc (suc (suc (suc (suc (suc (suc (suc (suc (suc (suc 
 blank_at r a b (suc (suc (suc (suc (suc (suc (suc (suc (suc (suc (suc (suc (suc (suc (suc (suc s)))))))))))))))) lt none = absurd (omega arith)
 
 pub monotone_head : (l : Layout) → Monotone (with_head l)
-monotone_head l = record { worn = λ may a b worn.
-    let one = (monotone_lay 1 (λ k. Whole (sector [])) 3).worn may a b worn in
-    let two = (monotone_lay 5 (λ k. Whole (sector [])) 3).worn may _ _ one in
-    let three = (monotone_lay 9 (λ k. Whole (sector [])) 3).worn may _ _ two in
-    let four = (monotone_lay 13 (λ k. Whole (sector [])) 3).worn may _ _ three in
-    let five = (monotone_sector 8 (anchor_bytes format_anchor)).worn may _ _ four in
-    let six = (monotone_sector 12 (anchor_bytes format_anchor)).worn may _ _ five in
-    let seven = (monotone_sector 4 (root_bytes l)).worn may _ _ six in
-    (monotone_sector 0 (root_bytes l)).worn may _ _ seven
+monotone_head l = record {
+  worn = λ may a b worn.
+      let one = (monotone_lay 1 (λ k. Whole (sector [])) 3).worn may a b worn in
+      let two = (monotone_lay 5 (λ k. Whole (sector [])) 3).worn may _ _ one in
+      let three = (monotone_lay 9 (λ k. Whole (sector [])) 3).worn may _ _ two in
+      let four = (monotone_lay 13 (λ k. Whole (sector [])) 3).worn may _ _ three in
+      let five = (monotone_sector 8 (anchor_bytes format_anchor)).worn may _ _ four in
+      let six = (monotone_sector 12 (anchor_bytes format_anchor)).worn may _ _ five in
+      let seven = (monotone_sector 4 (root_bytes l)).worn may _ _ six in
+      (monotone_sector 0 (root_bytes l)).worn may _ _ seven;
 }
 
 -- the head in its eight steps

@@ -6,8 +6,10 @@ use Rattle.sector_disk.specs.declared.sector.Sector.TheVariants.{Whole}
 use Rattle.sector_disk.specs.Image.{IsWorn, Windows, open_damage, lay, stand, slice_of}
 use Rattle.sector_disk.specs.Machine.{Moment, Holds, Writes}
 use Rattle.sector_disk.proofs.Wear.{worn_trans, set_worn, lay_worn}
+use Rattle.sector_disk.specs.Image.{IsCalm}
+use Rattle.sector_disk.proofs.Calm.{calm_worn}
 use Rattle.sector_disk.proofs.Holding.{holds_now, holds_writes}
-use Rattle.fsd_volume.specs.Calls.{with_sector}
+use Rattle.sector_disk.specs.Image.{with_sector}
 
 -- what a call makes of an image it makes of a worn one, worn
 pub record Monotone (f : List Sector → List Sector) : Type 0 where
@@ -46,3 +48,13 @@ holds_row old mid new first sector k bytes is so_far next =
     let more = holds_then (λ image. with_sector image (first + k) bytes) old mid new (lay old.image first sector k) (monotone_sector (first + k) bytes) so_far next in
     let here = subst (λ (x : Sector). Holds old (set (lay old.image first sector k) (first + k) x) new) is more in
     subst (λ (n : ℕ). Holds old (lay old.image first sector n) new) (sym (add-one k)) here
+
+-- two sectors with the same bytes
+pub holds_twins : (m0 m1 m2 : Moment) (a b : ℕ) (bytes same : List ℕ) → length bytes ≡ 512 → bytes ≡ same → Writes a bytes m0 m1 → Writes b bytes m1 m2 → Holds m0 (with_sector (with_sector m0.image a same) b same) m2
+holds_twins m0 m1 m2 a b bytes same size is first second =
+    subst (λ (x : List ℕ). Holds m0 (with_sector (with_sector m0.image a x) b x) m2) is
+    (holds_then (λ image. with_sector image b bytes) m0 m1 m2 (with_sector m0.image a bytes) (monotone_sector b bytes) (holds_sector m0 m1 a bytes size first) (holds_sector m1 m2 b bytes size second))
+
+-- where no sector may wear, the image is what was laid
+pub calm_holds : (old new : Moment) (image : List Sector) → IsCalm old.windows → Holds old image new → new.image ≡ image
+calm_holds old new image calm holds = calm_worn old.windows image new.image calm holds.worn

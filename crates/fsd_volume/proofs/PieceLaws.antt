@@ -110,17 +110,17 @@ front_more i hurt runs bytes old new from done len n place kept room within long
     let slice : part.bytes ≡ slice_of bytes k = whole_is (slice_of bytes k) part.bytes (sector_at i (slice_place runs k)) (hurt (slice_place runs k)) stands (ap (sector_at i) place_is ∙ part.whole) in
     let piece : List ℕ = take len (drop off part.bytes) in
     let piece_is : piece ≡ take len (drop done (drop from bytes)) =
-        ap (λ (b : List ℕ). take len (drop off b)) slice ∙ part_of_slice bytes k off len (omega arith) (omega (arith, here))
-        ∙ ap (λ (m : ℕ). take len (drop m bytes)) here ∙ ap (take len) (sym (drop-drop done from bytes)) in
+    ap (λ (b : List ℕ). take len (drop off b)) slice ∙ part_of_slice bytes k off len (omega arith) (omega (arith, here))
+    ∙ ap (λ (m : ℕ). take len (drop m bytes)) here ∙ ap (take len) (sym (drop-drop done from bytes)) in
     let size : length piece ≡ len = ap length piece_is ∙ length-take len (drop done (drop from bytes)) ∙ omega (arith, length-drop done (drop from bytes), length-drop from bytes) in
     let front_size : length (take done old) ≡ done = omega (arith, length-take done old) in
     let behind : List ℕ = drop (done + length piece) old in
     let all : take (done + len) new ≡ take done old ++ piece =
-        ap (take (done + len)) part.stands
-        ∙ ap (λ (m : ℕ). take (m + len) (take done old ++ (piece ++ behind))) (sym front_size)
-        ∙ take-append-add (take done old) (piece ++ behind) len
-        ∙ ap (λ (x : List ℕ). take done old ++ x)
-            (take-append-le len piece behind (omega (arith, size)) ∙ take_all len piece (omega (arith, size))) in
+    ap (take (done + len)) part.stands
+    ∙ ap (λ (m : ℕ). take (m + len) (take done old ++ (piece ++ behind))) (sym front_size)
+    ∙ take-append-add (take done old) (piece ++ behind) len
+    ∙ ap (λ (x : List ℕ). take done old ++ x)
+    (take-append-le len piece behind (omega (arith, size)) ∙ take_all len piece (omega (arith, size))) in
     record {
       front = all ∙ ap (λ (x : List ℕ). x ++ piece) so_far.front ∙ ap (λ (x : List ℕ). take done (drop from bytes) ++ x) piece_is
           ∙ sym (take_both done len (drop from bytes) (omega (arith, length-drop from bytes)));
@@ -159,7 +159,7 @@ range_damaged i j runs from (suc n) done place lt whole at damaged room =
     let k : ℕ = (from + done) / 512 in
     let there : first + (k - first) ≡ k = omega arith in
     let is : slice_index_or (drop first (data_sectors runs)) (k - first) 0 ≡ place =
-        place_in_range runs first (k - first) ∙ ap (slice_place runs) there ∙ index_is (sectors_of runs) (k + 1) place at in
+    place_in_range runs first (k - first) ∙ ap (slice_place runs) there ∙ index_is (sectors_of runs) (k + 1) place at in
     let long : k - first < length (drop first (data_sectors runs)) = omega (arith, length-drop first (data_sectors runs), length-drop 1 (sectors_of runs)) in
     first_taken i j ((from + n) / 512 + 1 - first) (drop first (data_sectors runs)) (k - first) place (omega arith) long is damaged
     (λ h low. subst (IsWhole i) (sym (place_in_range runs first h)) (whole.each (first + h) (omega arith) (omega arith) (omega arith)))

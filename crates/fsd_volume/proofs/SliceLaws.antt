@@ -10,7 +10,7 @@ use Rattle.sector_disk.specs.declared.sector.Sector.{Sector}
 use Rattle.sector_disk.specs.declared.sector.Sector.TheVariants.{Whole, Damaged}
 use Rattle.sector_disk.specs.Image.{sector_at}
 use Rattle.sector_disk.specs.Machine.{Moment, Holds}
-use Rattle.fsd_volume.specs.Calls.{with_sector}
+use Rattle.sector_disk.specs.Image.{with_sector}
 use Rattle.fsd_volume.specs.Slices.{lay_at, slice_place, with_slices}
 use Rattle.fsd_volume.proofs.Laying.{holds_then, monotone_sector}
 

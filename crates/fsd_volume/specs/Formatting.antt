@@ -10,7 +10,7 @@ use Rattle.sector_disk.specs.declared.sector.Sector.TheVariants.{Whole, Damaged}
 use Rattle.sector_disk.specs.declared.sector.WeakRun.{WeakRun}
 use Rattle.sector_disk.specs.Image.{sector_at, lay}
 use Rattle.sector_disk.specs.Machine.{Moment}
-use Rattle.fsd_volume.specs.Calls.{with_sector}
+use Rattle.sector_disk.specs.Image.{with_sector}
 use Rattle.fsd_sound.specs.Format.{IsFormattedIn, format_page, format_anchor}
 
 -- No sector is whole, and no window was opened.

@@ -1,15 +1,16 @@
 -- What a read of a part of a sector, and of a range, gives.
-use Rattle.std.specs.Prelude.{◌≡◌, ◌+◌, ℕ, List, take, drop, Result, Ok, Err, ⊤}
+use Rattle.std.specs.Prelude.{◌≡◌, ◌+◌, ◌-◌, ◌≤◌, ℕ, List, length, min, take, drop, Option, Some, None, Result, Ok, Err, ⊤}
 use Rattle.fsd_bytes.specs.Bytes.{with_bytes}
 use Rattle.fsd_bytes.specs.declared.refusal.Refusal.{Refusal}
-use Rattle.fsd_bytes.specs.declared.refusal.Refusal.TheVariants.{Damaged as DamagedSector, Device}
+use Rattle.fsd_bytes.specs.declared.refusal.Refusal.TheVariants.{Damaged as DamagedSector, Device, NoSuch}
 use Rattle.run_table.specs.declared.run.Run.{Run}
 use Rattle.sector_disk.specs.declared.sector.Sector.TheVariants.{Whole, Damaged}
 use Rattle.sector_disk.specs.declared.machine.Seen.{Seen}
 use Rattle.sector_disk.specs.declared.machine.Seen.TheVariants.{Whole as SeenWhole, Damaged as SeenDamaged}
 use Rattle.sector_disk.specs.Image.{sector_at}
-use Rattle.fsd_files.specs.Disk.{Image}
-use Rattle.fsd_files.specs.Kept.{Got, Gives}
+use Rattle.fsd_formats.specs.declared.entry.Entry.{Entry}
+use Rattle.fsd_files.specs.Disk.{Image, Sectors}
+use Rattle.fsd_files.specs.Kept.{Got, Gives, KeptIn}
 
 -- the bytes of a whole sector that stand in the buffer from a place on
 pub record PartStands (i : Image) (place at to len : ℕ) (old new : List ℕ) : Type 0 where
@@ -27,3 +28,26 @@ GivesRange i j bytes runs from n (Ok u) given = Gives i j bytes runs from n (Got
 GivesRange i j bytes runs from n (Err (DamagedSector s)) given = Gives i j bytes runs from n (Got.DamagedAt s)
 GivesRange i j bytes runs from n (Err (Device s)) given = ⊤
 GivesRange i j bytes runs from n (Err refusal) given = ⊥
+
+-- the refusal is one that the data's sectors give
+abbrev pub OfData : Refusal → Type 0
+OfData (DamagedSector s) = ⊤
+OfData (Device s) = ⊤
+OfData refusal = ⊥
+
+-- how many bytes of a version there are from a place on, in a buffer of this length
+abbrev pub part_len : Entry → (from room : ℕ) → ℕ
+part_len e from room = min (e.length - from) room
+
+-- The key is no version, or so many bytes were read, or one of the range's sectors was damaged; else the disk failed.
+abbrev pub ReadEnds : Option Entry → (from room : ℕ) → Result ℕ Refusal → Type 0
+ReadEnds None from room result = result ≡ Err NoSuch
+ReadEnds (Some e) from room (Ok n) = n ≡ part_len e from room
+ReadEnds (Some e) from room (Err (DamagedSector s)) = ⊤
+ReadEnds (Some e) from room (Err (Device s)) = ⊤
+ReadEnds (Some e) from room (Err refusal) = ⊥
+
+abbrev pub GivesPart : Image → Image → Sectors → List ℕ → Option Entry → (from : ℕ) → Result ℕ Refusal → List ℕ → Type 0
+GivesPart i j hurt bytes None from result buf = ⊤
+GivesPart i j hurt bytes (Some e) from result buf =
+    KeptIn i hurt bytes e.runs → e.length ≡ length bytes → from ≤ length bytes → GivesRange i j bytes e.runs from (part_len e from (length buf)) result (take (part_len e from (length buf)) buf)

@@ -1,12 +1,15 @@
 -- The sectors of a version as they are written.
-use Rattle.std.specs.Prelude.{ℕ, zero, suc, ◌+◌, List, slice_index_or}
+use Rattle.std.specs.Prelude.{ℕ, zero, suc, ◌+◌, ◌-◌, List, length, slice_index_or}
 use Rattle.std.specs.Int.{div_ceil}
 use Rattle.fsd_bytes.specs.Bytes.{sector_len}
 use Rattle.run_table.specs.declared.run.Run.{Run}
 use Rattle.run_table.specs.RunTable.{sectors_of}
+use Rattle.fsd_formats.specs.declared.entry.Entry.{Entry}
+use Rattle.fsd_formats.specs.Leader.{leader_of, leader_bytes}
+use Rattle.fsd_formats.specs.NamePage.{sectors_for}
 use Rattle.fsd_files.specs.Kept.{slice_of}
 use Rattle.sector_disk.specs.declared.sector.Sector.{Sector}
-use Rattle.fsd_volume.specs.Calls.{with_sector}
+use Rattle.sector_disk.specs.Image.{with_sector}
 
 -- the image with these bytes in these places, so many of them
 abbrev pub lay_at : List Sector → (place : ℕ → ℕ) → (bytes : ℕ → List ℕ) → ℕ → List Sector
@@ -20,3 +23,8 @@ slice_place runs k = slice_index_or (sectors_of runs) (k + 1) 0
 -- the image with so many slices of the bytes in the runs
 abbrev pub with_slices : List Sector → List Run → List ℕ → ℕ → List Sector
 with_slices image runs bytes count = lay_at image (slice_place runs) (slice_of bytes) count
+
+-- the image with a version's slices and its leader
+abbrev pub with_version : List Sector → Entry → List ℕ → List Sector
+with_version image e bytes =
+    with_sector (with_slices image e.runs bytes (sectors_for (length bytes) - 1)) (slice_index_or (sectors_of e.runs) 0 0) (leader_bytes (leader_of e))

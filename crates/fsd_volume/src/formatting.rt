@@ -1,8 +1,8 @@
 //! How a volume is made.
 ghost use Rattle.std.specs.Prelude.{◌≡◌, ◌+◌, ◌≤◌, OnOk, IfErr};
-ghost use Rattle.sector_disk.specs.Machine.{DeviceFault, UsesDisk, Trusts, Holds};
+ghost use Rattle.sector_disk.specs.Machine.{DeviceFault, UsesDisk, Trusts, OnlyWrites, Holds};
 ghost use Rattle.volume_layout.specs.Layout.{plan};
-ghost use Rattle.fsd_volume.specs.Calls.{OnlyWrites, OnlyDevice};
+ghost use Rattle.fsd_volume.specs.Calls.{OnlyDevice};
 ghost use Rattle.fsd_volume.specs.Formatting.{IsNew, Formats, with_blanks, with_head, with_pages, with_volume};
 
 use crate::pages::format_page;

@@ -1,10 +1,21 @@
 //! A volume: its format, its mount, and the reading and writing of versions.
 #![tactic(auto)]
 
+mod forcing;
 mod formatting;
+mod mounting;
 mod pages;
 mod pieces;
+mod putting;
+mod reading;
 mod sectors;
 mod slices;
+mod table;
+mod volume;
 
+pub use forcing::Forced;
 pub use formatting::format;
+pub use volume::Volume;
+
+#[cfg(test)]
+mod tests;

@@ -5,20 +5,27 @@ ghost use Rattle.run_table.specs.RunTable.{sectors_of};
 ghost use Rattle.fsd_files.specs.Disk.{Sectors};
 ghost use Rattle.fsd_files.specs.Kept.{KeptIn};
 ghost use Rattle.fsd_volume.specs.Calls.{TellsDevice};
-ghost use Rattle.fsd_volume.specs.Pieces.{ShowsPart, GivesRange};
+ghost use Rattle.fsd_volume.specs.Pieces.{ShowsPart, GivesRange, OfData};
 
 use fsd_bytes::Refusal;
 use run_table::Runs;
 use sector_disk::{Failed, Machine, Seen};
 
 // Reads the data sectors of a range of `n` bytes from a place on, as far as they are whole.
-pub(crate) fn read_range<M: Machine>(m: &mut M, runs: &Runs, from: u32, n: u32, buf: &mut [u8]) -> Result<(), Refusal>
+pub(crate) fn read_range<M: Machine>(
+    m: &mut M,
+    runs: &Runs,
+    from: u32,
+    n: u32,
+    buf: &mut [u8],
+) -> Result<(), Refusal>
     requires runs { All (λ r. r.start + r.length ≤ 2 ^ 32) runs.now }
     requires in_range { All (λ s. s < (M.report m.old).sectors) (sectors_of runs.now) }
     requires room { n ≤ length buf.old }
     requires end { from + n ≤ 512 * (length (sectors_of runs.now) - 1) }
     requires small { from + n < 2 ^ 31 }
     ensures fault { IfErr result (TellsDevice (M.report m.old) (M.report m.new)) }
+    ensures ends { IfErr result OfData }
     ensures uses { UsesDisk (M.report m.old) (M.report m.new) }
     ensures trust { Trusts (M.tells m.old) (M.tells m.new) (M.honest m.old) (M.honest m.new) }
     ensures ledger { M.tells m.new → M.ledger m.new ≡ M.ledger m.old }
@@ -42,7 +49,14 @@ pub(crate) fn read_range<M: Machine>(m: &mut M, runs: &Runs, from: u32, n: u32, 
 }
 
 // Reads `len` bytes of a sector, from byte `at` of it on, into the buffer from `to` on.
-fn read_part<M: Machine>(m: &mut M, place: u32, at: usize, to: usize, len: usize, buf: &mut [u8]) -> Result<Seen, Failed>
+fn read_part<M: Machine>(
+    m: &mut M,
+    place: u32,
+    at: usize,
+    to: usize,
+    len: usize,
+    buf: &mut [u8],
+) -> Result<Seen, Failed>
     requires place { place < (M.report m.old).sectors }
     requires part { at + len ≤ 512 }
     requires room { to + len ≤ length buf.old }

@@ -1,10 +1,9 @@
 //! The bytes of a version in its sectors.
 ghost use Rattle.std.specs.Prelude.{◌≡◌, ◌+◌, ◌-◌, ◌*◌, ◌^◌, ◌≤◌, ◌<◌, All, length, OnOk, IfErr};
-ghost use Rattle.sector_disk.specs.Machine.{DeviceFault, UsesDisk, Trusts, Holds};
+ghost use Rattle.sector_disk.specs.Machine.{DeviceFault, UsesDisk, Trusts, OnlyWrites, Holds};
 ghost use Rattle.run_table.specs.RunTable.{sectors_of, total};
 ghost use Rattle.fsd_formats.specs.NamePage.{sectors_for, max_length};
 ghost use Rattle.fsd_files.specs.Kept.{slice_of};
-ghost use Rattle.fsd_volume.specs.Calls.{OnlyWrites};
 ghost use Rattle.fsd_volume.specs.Slices.{with_slices};
 
 use crate::sectors::write_sector;
@@ -21,6 +20,8 @@ pub(crate) fn write_slices<M: Machine>(m: &mut M, runs: &Runs, bytes: &[u8]) -> 
     ensures uses { UsesDisk (M.report m.old) (M.report m.new) }
     ensures trust { Trusts (M.tells m.old) (M.tells m.new) (M.honest m.old) (M.honest m.new) }
     ensures ledger { M.tells m.new → OnlyWrites (M.ledger m.old) (M.ledger m.new) }
+    ensures quiet { M.honest m.new → (M.now m.new).said ≡ (M.now m.old).said }
+    ensures windows { M.honest m.new → (M.now m.new).windows ≡ (M.now m.old).windows }
     ensures done { OnOk result (M.honest m.new → Holds (M.now m.old) (with_slices (M.now m.old).image runs.now bytes.now (sectors_for (length bytes.now) - 1)) (M.now m.new)) }
 {
     let count = (bytes.len() as u32).div_ceil(512);

@@ -70,6 +70,7 @@ pub fn renew<M: Machine>(m: &mut M, epoch: u32) -> Result<(), Failed>
     ensures uses { UsesDisk (M.report m.old) (M.report m.new) }
     ensures trust { Trusts (M.tells m.old) (M.tells m.new) (M.honest m.old) (M.honest m.new) }
     ensures ledger { M.tells m.new → OnlyWrites (M.ledger m.old) (M.ledger m.new) }
+    ensures quiet { M.honest m.new → (M.now m.new).said ≡ (M.now m.old).said }
     ensures renewed { OnOk result (M.honest m.new → IsCalm (M.now m.old).windows → IsCalm (M.now m.new).windows → Renews epoch (M.now m.old) (M.now m.new)) }
 {
     let b = anchor_bytes(&Anchor {

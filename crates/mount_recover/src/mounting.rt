@@ -27,6 +27,7 @@ pub fn recover<M: Machine>(m: &mut M, sectors: u32) -> Result<Settled, MountFaul
     ensures uses { UsesDisk (M.report m.old) (M.report m.new) }
     ensures trust { Trusts (M.tells m.old) (M.tells m.new) (M.honest m.old) (M.honest m.new) }
     ensures ledger { M.tells m.new → OnlyWrites (M.ledger m.old) (M.ledger m.new) }
+    ensures quiet { M.honest m.new → (M.now m.new).said ≡ (M.now m.old).said }
     ensures room { IfOk result (λ settled. settled.layout.sectors ≤ sectors) }
 
     // Of an image that does not wear, each answer but a fault of the disk says what the image is.

@@ -1,2 +1,12 @@
+pub mod ContentLaws
+pub mod EntryLaws
 pub mod FaultLaws
+pub mod FirstLaws
+pub mod LeafLaws
 pub mod LengthLaws
+pub mod PageLaws
+pub mod PieceLaws
+pub mod ReadingLaws
+pub mod RefusalLaws
+pub mod SeparatorLaws
+pub mod ZeroLaws

@@ -85,12 +85,12 @@ separator_fault place p before bytes =
     let n = u8_at place bytes in
     let key = separator_key_at place bytes in
     first_of (
-      unless place (is_between 1 max_name_len n)
-      ∷ unless (place + 1) (is_name key.name)
-      ∷ zeros_fault (max_name_len - n) (place + 1 + n) bytes
-      ∷ unless (place + 41) (nat_le 1 key.version && follows before key)
-      ∷ unless (place + 45) (nat_lt (u32_at (place + 45) bytes) p)
-      ∷ []
+    unless place (is_between 1 max_name_len n)
+    ∷ unless (place + 1) (is_name key.name)
+    ∷ zeros_fault (max_name_len - n) (place + 1 + n) bytes
+    ∷ unless (place + 41) (nat_le 1 key.version && follows before key)
+    ∷ unless (place + 45) (nat_lt (u32_at (place + 45) bytes) p)
+    ∷ []
     )
 
 abbrev pub separators_fault : (count place p : ℕ) → Option Key → List ℕ → Option ℕ
@@ -119,14 +119,14 @@ head_fault page bytes =
     let kind = u8_at 4 bytes in
     let count = u16_at 6 bytes in
     first_of (
-      unless 0 (same_bytes (take 4 bytes) (codes "CNPG"))
-      ∷ unless 4 (nat_le kind 2)
-      ∷ unless 5 (u8_at 5 bytes == 0)
-      ∷ unless 6 (count_fits page kind count)
-      ∷ unless 8 (used_fits page kind count (u16_at 8 bytes))
-      ∷ zeros_fault 2 10 bytes
-      ∷ unless 12 (u32_at 12 bytes == page)
-      ∷ []
+    unless 0 (same_bytes (take 4 bytes) (codes "CNPG"))
+    ∷ unless 4 (nat_le kind 2)
+    ∷ unless 5 (u8_at 5 bytes == 0)
+    ∷ unless 6 (count_fits page kind count)
+    ∷ unless 8 (used_fits page kind count (u16_at 8 bytes))
+    ∷ zeros_fault 2 10 bytes
+    ∷ unless 12 (u32_at 12 bytes == page)
+    ∷ []
     )
 
 -- where the bytes are refused as this page of a table of p pages

@@ -1,11 +1,12 @@
 //! Where a page is refused.
-ghost use Rattle.std.specs.Prelude.{◌≡◌, ◌≤◌, ◌<◌, ◌+◌, ◌-◌, ◌*◌, ◌^◌, ◌↔◌, ◌&&◌, ◌||◌, ◌==◌, not, nat_le, if◌then◌else◌, IsTrue, IsOk, IfErr, OnOk, MatchResult, length, Some, None, option_map, slice_range};
+ghost use Rattle.std.specs.Prelude.{◌≡◌, ◌≤◌, ◌<◌, ◌+◌, ◌-◌, ◌*◌, ◌^◌, ◌↔◌, ◌&&◌, ◌||◌, ◌==◌, not, nat_le, if◌then◌else◌, IsTrue, IsOk, IfOk, IfErr, OnOk, MatchResult, length, Some, None, option_map, slice_range};
 ghost use Rattle.std.specs.Option.{option_copied};
 ghost use Rattle.fsd_bytes.specs.Bytes.{u8_at, u16_at, u32_at};
 ghost use Rattle.fsd_bytes.specs.Names.{is_between, is_name, max_name_len};
 ghost use Rattle.run_table.specs.RunTable.{max_runs};
 ghost use Rattle.name_page.specs.Fault.{unless, zeros_fault, follows, lengths_fault, runs_fault, key_at, name_fault_at, numbers_fault, entry_fault, entry_end, entries_fault, separator_key_at, separator_fault, separators_fault, count_fits, used_fits, contents_fault, head_fault, head_at, kind_at, fault_of};
-ghost use Rattle.fsd_formats.specs.NamePage.{room};
+ghost use Rattle.fsd_formats.specs.NamePage.{room, read_page};
+ghost use Rattle.name_page.specs.Reading.{head_of};
 
 use fsd_bytes::{FileName, Key, u8_at, u16_at, u32_at};
 use fsd_formats::{Page, PageKind};
@@ -44,7 +45,13 @@ fn check_zeros(b: &[u8; 512], n: usize, place: usize) -> Result<(), PageFault>
 }
 
 // The runs at a place, which end at the limit or before it. The answer is where they end.
-fn check_runs(b: &[u8; 512], place: usize, limit: usize, last: bool, need: u32) -> Result<usize, PageFault>
+fn check_runs(
+    b: &[u8; 512],
+    place: usize,
+    limit: usize,
+    last: bool,
+    need: u32,
+) -> Result<usize, PageFault>
     requires place { place < 512 }
     requires limit { limit ≤ 512 }
     requires need { need < 2 ^ 31 }
@@ -115,7 +122,7 @@ fn check_name(b: &[u8; 512], place: usize, limit: usize) -> Result<FileName, Pag
     requires limit { limit ≤ 512 }
     ensures { MatchResult result
         (λ name. (name_fault_at place limit b.now ≡ None) × (name ≡ slice_range b.now (place + 1) (place + 1 + u8_at place b.now))
-            × (length name ≡ u8_at place b.now) × (place + u8_at place b.now + 26 ≤ limit))
+        × (length name ≡ u8_at place b.now) × (place + u8_at place b.now + 26 ≤ limit))
         (λ fault. name_fault_at place limit b.now ≡ Some fault.place) }
 {
     if limit < place + 27 {
@@ -152,7 +159,13 @@ fn is_version(before: &Option<Key>, key: &Key) -> bool
 }
 
 // The entry at a place. The answer is its key, and where it ends.
-fn check_entry(b: &[u8; 512], place: usize, limit: usize, last: bool, before: &Option<Key>) -> Result<(Key, usize), PageFault>
+fn check_entry(
+    b: &[u8; 512],
+    place: usize,
+    limit: usize,
+    last: bool,
+    before: &Option<Key>,
+) -> Result<(Key, usize), PageFault>
     requires place { place ≤ 512 }
     requires limit { limit ≤ 512 }
     ensures { MatchResult result
@@ -201,7 +214,12 @@ pub(crate) fn check_entries(b: &[u8; 512], count: usize, limit: usize) -> Result
 }
 
 // The separator at a place. The answer is its key.
-fn check_separator(b: &[u8; 512], place: usize, p: u32, before: &Option<Key>) -> Result<Key, PageFault>
+fn check_separator(
+    b: &[u8; 512],
+    place: usize,
+    p: u32,
+    before: &Option<Key>,
+) -> Result<Key, PageFault>
     requires { place + 49 ≤ 512 }
     ensures { MatchResult result
         (λ key. (separator_fault place p before.now b.now ≡ None) × (key ≡ separator_key_at place b.now))
@@ -315,8 +333,17 @@ pub(crate) fn check_contents(b: &[u8; 512], head: Page, p: u32) -> Result<(), Pa
 }
 
 /// Reads a page of a table of `p` pages: what its head says, or the first place that is refused.
-#[tactic(auto, unfolding(crate::specs::Fault::fault_of))]
 pub fn read_page(b: &[u8; 512], page: u32, p: u32) -> Result<Page, PageFault>
+    ensures accepted { IfOk result (λ head. option_map head_of (read_page page p b.now) ≡ Some head) }
+    ensures refused { IfErr result (λ fault. read_page page p b.now ≡ None) }
+    ensures place { IfErr result (λ fault. fault_of page p b.now ≡ Some fault.place) }
+{
+    check_page(b, page, p)
+}
+
+// The first place of a page that is refused.
+#[tactic(auto, unfolding(crate::specs::Fault::fault_of))]
+fn check_page(b: &[u8; 512], page: u32, p: u32) -> Result<Page, PageFault>
     ensures { MatchResult result (λ head. (fault_of page p b.now ≡ None) × (head ≡ head_at b.now)) (λ fault. fault_of page p b.now ≡ Some fault.place) }
 {
     let head = check_head(b, page)?;

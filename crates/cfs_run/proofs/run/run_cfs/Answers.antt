@@ -1,4 +1,10 @@
-use Rattle.cfs_run.proofs.RunLaws.{Ran, run_answers, run_completes, run_fault_said, run_holds, run_said, run_status, run_untouched}
+use Rattle.std.proofs.Common.{Global, ℕ, map, subst, sym}
+use Rattle.std.specs.String.{string_bytes}
+use Rattle.sector_disk.specs.Machine.{Ledger, Rose}
+use Rattle.cfs_run.specs.Words.{request_of}
+use Rattle.cfs_run.specs.Ends.{LeavesInput}
+use Rattle.cfs_run.proofs.PutSaid.{put_heard}
+use Rattle.cfs_run.proofs.RunLaws.{said_untouched, Ran, run_input, run_takes, run_answers, run_completes, run_fault_said, run_holds, run_said, run_status, run_untouched}
 use Rattle.cfs_run.proofs.run.run_cfs.Goals as goal
 
 pub returns-clause-status : goal.returns-clause-status
@@ -84,3 +90,44 @@ returns-clause-fault_said g c =
       quiet = λ h. c.carry_out-answer.ensures.quiet (c.finish.ensures.trust.honest h);
       leaves = λ h. c.carry_out-answer.ensures.leaves (c.finish.ensures.trust.honest h);
     })
+
+pub returns-clause-input : goal.returns-clause-input
+returns-clause-input g c =
+    run_input (g.M.Machine.honest c.finish.new.m) _ c.carry_out-answer.result _ _ _ (g.M.Machine.now c.args.m.now) _ _ _ (record {
+      answers = c.carry_out-answer.ensures.answer;
+      cause = c.carry_out-answer.ensures.cause;
+      uses = c.carry_out-answer.ensures.uses;
+      says = c.finish.ensures.uses;
+      said = c.finish.ensures.said;
+      quiet = λ h. c.carry_out-answer.ensures.quiet (c.finish.ensures.trust.honest h);
+      leaves = λ h. c.carry_out-answer.ensures.leaves (c.finish.ensures.trust.honest h);
+    }) (g.M.Machine.tells c.finish.new.m) (g.M.Machine.ledger c.args.m.now).input (g.M.Machine.ledger c.carry_out-answer.new.m).input (λ h. c.carry_out-answer.ensures.takes (c.finish.ensures.trust.tells h))
+
+pub returns-clause-taken : goal.returns-clause-taken
+returns-clause-taken g c h =
+    let family = λ (ledger : Ledger). LeavesInput (request_of (map (string_bytes {Z = Global}) c.args.words.now)) c.finish.result (g.M.Machine.ledger c.args.m.now).input ledger.input in
+    subst family (sym (c.finish.ensures.ledger h)) (run_takes (g.M.Machine.honest c.finish.new.m) _ c.carry_out-answer.result _ _ _ (g.M.Machine.now c.args.m.now) _ _ _ (record {
+      answers = c.carry_out-answer.ensures.answer;
+      cause = c.carry_out-answer.ensures.cause;
+      uses = c.carry_out-answer.ensures.uses;
+      says = c.finish.ensures.uses;
+      said = c.finish.ensures.said;
+      quiet = λ h. c.carry_out-answer.ensures.quiet (c.finish.ensures.trust.honest h);
+      leaves = λ h. c.carry_out-answer.ensures.leaves (c.finish.ensures.trust.honest h);
+    }) _ _ (c.carry_out-answer.ensures.takes (c.finish.ensures.trust.tells h)))
+
+pub returns-clause-stored : goal.returns-clause-stored
+returns-clause-stored g c h none =
+    let M = g.M.Machine in
+    let h1 = c.finish.ensures.trust.honest h in
+    let disk = c.finish.ensures.uses.disk in
+    let no_disk = λ (rose : Rose (M.report c.args.m.now).disk_faults (M.report c.carry_out-answer.new.m).disk_faults). none.disk (subst (λ (k : ℕ). Rose (M.report c.args.m.now).disk_faults k) (sym disk) rose) in
+    let no_input = λ (rose : Rose (M.report c.args.m.now).input_faults (M.report c.carry_out-answer.new.m).input_faults).
+    none.input (subst (λ (k : ℕ). Rose (M.report c.args.m.now).input_faults k) (sym c.finish.ensures.uses.input) rose) in
+    let no_output = λ (rose : Rose (M.report c.carry_out-answer.new.m).output_faults (M.report c.finish.new.m).output_faults).
+    none.output (subst (λ (k : ℕ). Rose k (M.report c.finish.new.m).output_faults) c.carry_out-answer.ensures.uses.output rose) in
+    put_heard (M.honest c.finish.new.m) (request_of (map (string_bytes {Z = Global}) c.args.words.now)) c.carry_out-answer.result (M.ledger c.args.m.now).input (M.ledger c.carry_out-answer.new.m).input
+    (M.report c.args.m.now) (M.report c.carry_out-answer.new.m) (M.report c.finish.new.m) (M.now c.args.m.now) (M.now c.carry_out-answer.new.m) (M.now c.finish.new.m) c.finish.result
+    c.carry_out-answer.ensures.answer (c.carry_out-answer.ensures.puts h1) (c.carry_out-answer.ensures.takes (g.met.M.Machine.honest_tells c.carry_out-answer.new.m h1)) c.carry_out-answer.ensures.cause
+    no_disk no_input (c.carry_out-answer.ensures.quiet h1) no_output h
+    (sym (said_untouched (M.honest c.finish.new.m) _ _ _ _ _ _ _ h c.finish.ensures.said).windows) c.finish.ensures.said

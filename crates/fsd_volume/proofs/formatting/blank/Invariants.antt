@@ -2,8 +2,7 @@ use Rattle.std.proofs.Common.{[]}
 use Rattle.fsd_bytes.specs.Bytes.{sector}
 use Rattle.sector_disk.specs.declared.sector.Sector.TheVariants.{Whole}
 use Rattle.sector_disk.specs.Image.{lay}
-use Rattle.sector_disk.specs.Machine.{UsesDisk, Trusts, Holds}
-use Rattle.fsd_volume.specs.Calls.{OnlyWrites}
+use Rattle.sector_disk.specs.Machine.{UsesDisk, Trusts, OnlyWrites, Holds}
 use Rattle.fsd_volume.proofs.formatting.blank.Given as goal
 
 abbrev pub invariant-loop-k : goal.invariant-loop-k

@@ -1,5 +1,4 @@
-use Rattle.sector_disk.specs.Machine.{UsesDisk, Trusts, Holds}
-use Rattle.fsd_volume.specs.Calls.{OnlyWrites}
+use Rattle.sector_disk.specs.Machine.{UsesDisk, Trusts, OnlyWrites, Holds}
 use Rattle.fsd_volume.specs.Formatting.{with_pages}
 use Rattle.fsd_volume.proofs.formatting.write_pages.Given as goal
 

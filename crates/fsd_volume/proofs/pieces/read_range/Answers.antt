@@ -39,7 +39,7 @@ loop-done-preserved g c =
     let so_far = c.loop-done.invariant in
     let at = sym c.sector.ensures ∙ c.unwrap-place.ensures in
     let part = λ (h : M.honest c.read_part.new.m). part_before (M.now old) (M.now c.loop-done.m) (M.now c.read_part.new.m) c.unwrap-place.result ((c.args.from + c.loop-done.done) % 512) c.loop-done.done c.min-len.result c.loop-done.buf c.read_part.new.buf
-        c.in-Ok-Whole.field-0 c.in-Ok-Whole.field-0-is (so_far.worn (c.read_part.ensures.trust.honest h)) (c.in-Ok-Whole.ensures.shown h) in record {
+    c.in-Ok-Whole.field-0 c.in-Ok-Whole.field-0-is (so_far.worn (c.read_part.ensures.trust.honest h)) (c.in-Ok-Whole.ensures.shown h) in record {
       within = omega arith;
       size = c.read_part.ensures.size ∙ so_far.size;
       uses = uses_on so_far.uses c.read_part.ensures.uses;

@@ -1,7 +1,5 @@
-use Rattle.std.proofs.Common.{◌≡◌, ℕ, suc, ◌+◌, ◌-◌, ◌==◌, Bool, sym, ap, ◌∙◌, arith}
+use Rattle.std.proofs.Common.{◌≡◌, ℕ, suc, ◌+◌, ◌-◌, sym, ◌∙◌, arith}
 use Rattle.std.proofs.lemmas.Result.{err_from_is_err_and}
-use Rattle.std.proofs.lemmas.Bool.Decides.{nat_tests}
-use Rattle.name_page.specs.Fault.{entries_fault, entry_fault}
 use Rattle.name_page.proofs.FaultLaws.{entries_more, entries_bad, last_of}
 use Rattle.name_page.proofs.fault.check_entries.Goals as goal
 
@@ -13,7 +11,7 @@ loop-i-preserved c =
     let good = rw last at c.in_ok-key.ensures.0 in (
       c.in_ok-key.ensures.3,
       sym (entries_more _ left c.loop-i.place c.args.limit c.in_ok-key.end c.loop-i.before c.in_ok-key.key c.args.b.now e good c.in_ok-key.ensures.1 c.in_ok-key.ensures.2)
-      ∙ c.loop-i.invariant.1,
+          ∙ c.loop-i.invariant.1,
     )
 
 pub returns-in_err-key : goal.returns-in_err-key

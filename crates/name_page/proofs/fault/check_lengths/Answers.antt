@@ -1,6 +1,5 @@
-use Rattle.std.proofs.Common.{◌≡◌, ℕ, suc, ◌+◌, ◌-◌, ◌*◌, ◌≤◌, sym, ap, ◌∙◌, arith}
-use Rattle.std.specs.Prelude.{◌==◌}
-use Rattle.name_page.specs.Fault.{lengths_fault, unless}
+use Rattle.std.proofs.Common.{◌≡◌, ℕ, suc, ◌+◌, ◌-◌, ◌*◌, sym, ap, ◌∙◌, arith}
+use Rattle.name_page.specs.Fault.{lengths_fault}
 use Rattle.name_page.proofs.FaultLaws.{lengths_more}
 use Rattle.name_page.proofs.fault.check_lengths.Goals as goal
 
@@ -14,7 +13,7 @@ loop-i-preserved c =
     let good = rw c.is_length.ensures at c.in_ok-check.ensures in (
       omega (arith, c.loop-i.invariant.0),
       ap (λ (k : ℕ). lengths_fault k (c.args.place + 6 * (c.loop-i.i + 1)) (c.loop-i.sum + n) c.args.need c.args.b.now) same
-      ∙ ap (λ (k : ℕ). lengths_fault left k (c.loop-i.sum + n) c.args.need c.args.b.now) next
-      ∙ sym (lengths_more _ left _ c.loop-i.sum c.args.need n c.args.b.now e (c.from-length.ensures ∙ c.u16_at.ensures) good)
-      ∙ c.loop-i.invariant.1,
+          ∙ ap (λ (k : ℕ). lengths_fault left k (c.loop-i.sum + n) c.args.need c.args.b.now) next
+          ∙ sym (lengths_more _ left _ c.loop-i.sum c.args.need n c.args.b.now e (c.from-length.ensures ∙ c.u16_at.ensures) good)
+          ∙ c.loop-i.invariant.1,
     )

@@ -1,5 +1,4 @@
-use Rattle.std.proofs.Common.{◌≡◌, ℕ, suc, ◌+◌, ◌-◌, sym, ap, ◌∙◌, arith}
-use Rattle.name_page.specs.Fault.{zeros_fault}
+use Rattle.std.proofs.Common.{◌≡◌, ℕ, suc, ◌+◌, ◌-◌, sym, ◌∙◌, arith}
 use Rattle.name_page.proofs.FaultLaws.{zeros_more}
 use Rattle.name_page.proofs.fault.check_zeros.Goals as goal
 

@@ -1,4 +1,4 @@
-use Rattle.std.proofs.Common.{◌≡◌, length, ap, arith}
+use Rattle.std.proofs.Common.{length, ap, arith}
 use Rattle.name_page.proofs.LengthLaws.{length_entry}
 use Rattle.name_page.proofs.writing.entry_len.Goals as goal
 

@@ -1,0 +1,4 @@
+pub mod ChooseLaws
+pub mod CountLaws
+pub mod LongestLaws
+pub mod MapLaws

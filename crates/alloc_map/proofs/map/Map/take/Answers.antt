@@ -1,0 +1,22 @@
+use Rattle.std.proofs.Common.{◌-◌, subst, sym, ℕ, arith}
+use Rattle.alloc_map.specs.FreeSpace.{Counts}
+use Rattle.alloc_map.proofs.MapLaws.{taken_counts, taken_space}
+use Rattle.alloc_map.proofs.map.Map.take.Goals as goal
+
+pub total-requires : goal.total-requires
+total-requires c =
+    let counts = taken_counts c.self.inside.from c.self.inside.count c.self.inside.set c.remove_all.new.set c.args.runs.now c.args.self.now c.self.view_is c.self.invariant c.requires c.remove_all.ensures.end (rw c.as_slice.ensures.value at c.remove_all.ensures.sectors) in
+    omega (arith, counts.0)
+
+pub overflow_sub-self : goal.overflow_sub-self
+overflow_sub-self c =
+    let counts = taken_counts c.self.inside.from c.self.inside.count c.self.inside.set c.remove_all.new.set c.args.runs.now c.args.self.now c.self.view_is c.self.invariant c.requires c.remove_all.ensures.end (rw c.as_slice.ensures.value at c.remove_all.ensures.sectors) in
+    omega (arith, counts.0, c.total.ensures)
+
+pub invariant_of-self : goal.invariant_of-self
+invariant_of-self c =
+    let counts = taken_counts c.self.inside.from c.self.inside.count c.self.inside.set c.remove_all.new.set c.args.runs.now c.args.self.now c.self.view_is c.self.invariant c.requires c.remove_all.ensures.end (rw c.as_slice.ensures.value at c.remove_all.ensures.sectors) in
+    subst (λ (n : ℕ). Counts c.self.inside.from c.remove_all.new.set (c.self.inside.count - n)) (sym c.total.ensures) counts.1
+
+pub returns : goal.returns
+returns c = taken_space c.self.inside.from c.self.inside.set c.remove_all.new.set c.args.runs.now c.args.self.now c.self.view_is c.remove_all.ensures.end (rw c.as_slice.ensures.value at c.remove_all.ensures.sectors)

@@ -1,0 +1,3 @@
+pub mod FreeSpace
+pub mod Longest
+pub mod NoPlace

@@ -1,0 +1,16 @@
+use Rattle.sector_disk.proofs.Calm.{same_calm}
+use Rattle.cfs_run.proofs.GetLaws.{got, not_got}
+use Rattle.cfs_run.proofs.getting.get.Goals as goal
+
+pub returns-in-Ok-clause-leaves : goal.returns-in-Ok-clause-leaves
+returns-in-Ok-clause-leaves g c h calm after l epoch files disk fits =
+    let h1 = c.read_whole.ensures.trust.honest h in
+    let mid = g.M.Machine.now c.open.new.m in
+    let new = g.M.Machine.now c.read_whole.new.m in
+    let worn = c.read_whole.ensures.worn h in
+    let still = same_calm mid.windows new.windows worn.windows after in
+    got c.args.key.now l epoch files c.in-Ok.volume c.read_whole.result mid new (c.in-Ok.ensures.mounted h1 calm still l epoch files disk) still worn (c.read_whole.ensures.gives h still files)
+
+pub returns-in-Err-clause-leaves : goal.returns-in-Err-clause-leaves
+returns-in-Err-clause-leaves g c h calm after l epoch files disk fits =
+    not_got c.args.key.now l epoch files c.in-Err.fault (g.M.Machine.now c.open.new.m).image (c.in-Err.ensures.excuses h calm after l epoch files disk fits)

@@ -1,0 +1,26 @@
+use Rattle.std.proofs.Common.{subst, sym}
+use Rattle.cfs_run.specs.declared.fault.Fault.{Fault}
+use Rattle.cfs_run.specs.Mounting.{IsExcuse}
+use Rattle.cfs_run.proofs.OpenLaws.{excused, found_calm, found_disk, found_room}
+use Rattle.cfs_run.proofs.mounting.open.Goals as goal
+
+pub returns-in-Ok-mount-clause-mounted : goal.returns-in-Ok-mount-clause-mounted
+returns-in-Ok-mount-clause-mounted g c h calm after l epoch files disk =
+    let M = g.M.Machine in
+    let h1 = c.mount.ensures.trust.honest h in
+    let old = M.now c.args.m.now in
+    let at = M.now c.attach.new.self in
+    let found = c.in-Ok.ensures.attached h1 in
+    let disk1 = found_disk old at l epoch files calm found disk in
+    c.in-Ok-mount.ensures.mounted h (found_calm old at calm found) after l epoch files disk1 (found_room l epoch c.in-Ok.sectors files at.image disk1 (c.in-Ok.ensures.size h1))
+
+pub returns-in-Err-mount-clause-excuses : goal.returns-in-Err-mount-clause-excuses
+returns-in-Err-mount-clause-excuses g c h calm after l epoch files disk fits =
+    let M = g.M.Machine in
+    let h1 = c.mount.ensures.trust.honest h in
+    let old = M.now c.args.m.now in
+    let at = M.now c.attach.new.self in
+    let found = c.in-Ok.ensures.attached h1 in
+    let disk1 = found_disk old at l epoch files calm found disk in
+    subst (λ (fault : Fault). IsExcuse fault) (sym c.fault_of.ensures)
+    (excused c.in-Err-mount.fault (c.in-Err-mount.ensures.excuses h (found_calm old at calm found) after l epoch files disk1 (found_room l epoch c.in-Ok.sectors files at.image disk1 (c.in-Ok.ensures.size h1)) fits))

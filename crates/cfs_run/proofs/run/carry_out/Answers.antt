@@ -1,0 +1,13 @@
+use Rattle.std.proofs.Common.{◌∙◌, subst, sym}
+use Rattle.cfs_run.specs.declared.request.Request.{Request}
+use Rattle.cfs_run.specs.declared.answer.Answer.TheVariants as Said
+use Rattle.cfs_run.specs.Ends.{Leaves, PutsFor}
+use Rattle.cfs_run.proofs.run.carry_out.Goals as goal
+
+pub returns-in-Get-clause-leaves : goal.returns-in-Get-clause-leaves
+returns-in-Get-clause-leaves g c h =
+    subst (λ (request : Request). Leaves request c.get.result (g.M.Machine.now c.args.m.now) (g.M.Machine.now c.get.new.m)) (sym c.in-Get.is ∙ c.read_words.ensures) (c.get.ensures.leaves h)
+
+pub returns-in-Put-clause-puts : goal.returns-in-Put-clause-puts
+returns-in-Put-clause-puts g c h =
+    subst (λ (request : Request). PutsFor request (Said.Line c.put.result) (g.M.Machine.ledger c.args.m.now).input (g.M.Machine.now c.args.m.now) (g.M.Machine.now c.put.new.m)) (sym c.in-Put.is ∙ c.read_words.ensures) (c.put.ensures.leaves h)

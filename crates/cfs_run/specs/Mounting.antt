@@ -1,0 +1,52 @@
+-- What a command finds when it mounts its image.
+use Rattle.std.specs.Prelude.{◌≡◌, ◌⊎◌, ⊤, ℕ, List, [], ◌∷◌, ◌++◌, Result, Ok, Err}
+use Rattle.sector_disk.specs.declared.machine.Attach.TheVariants.{Old}
+use Rattle.sector_disk.specs.Image.{IsCalm}
+use Rattle.sector_disk.specs.Machine.{Asked, Ledger, Moment}
+use Rattle.volume_layout.specs.declared.layout.Layout.{Layout}
+use Rattle.fsd_files.specs.Files.{Files}
+use Rattle.fsd_sound.specs.AtHome.{HoldsFiles}
+use Rattle.mount_recover.specs.declared.fault.MountFault.{MountFault}
+use Rattle.mount_recover.specs.declared.fault.MountFault.TheVariants.{NotVolume, Device, Memory, Lost, NoAnchor, Unsound, WornOut}
+use Rattle.cfs_run.specs.declared.fault.Fault.{Fault}
+use Rattle.cfs_run.specs.declared.fault.Fault.TheVariants as Ends
+
+abbrev pub fault_of : MountFault → Fault
+fault_of NotVolume = Ends.NotVolume
+fault_of (Device s) = Ends.Device s
+fault_of Memory = Ends.Memory
+fault_of (Lost a b) = Ends.Lost a b
+fault_of NoAnchor = Ends.NoAnchor
+fault_of (Unsound s) = Ends.Unsound s
+fault_of WornOut = Ends.WornOut
+
+-- the fault is not one of the input
+abbrev pub IsMountFault : Fault → Type 0
+IsMountFault Ends.Input = ⊥
+IsMountFault Ends.InputTooLong = ⊥
+IsMountFault fault = ⊤
+
+-- a fault that the disk's content doesn't answer for
+abbrev pub IsExcuse : Fault → Type 0
+IsExcuse (Ends.Device s) = ⊤
+IsExcuse Ends.Memory = ⊤
+IsExcuse fault = ⊥
+
+-- it is so of every disk that holds files, where nothing wears
+abbrev pub OpensDisk : Moment → Moment → (Layout → ℕ → Files → Type 0) → Type 0
+OpensDisk old new P = IsCalm old.windows → IsCalm new.windows → (l : Layout) (epoch : ℕ) (files : Files) → HoldsFiles l epoch files old.image → P l epoch files
+
+-- the attach that a command asks for, of an image that is there
+abbrev pub mount_asks : List ℕ → List Asked
+mount_asks path = record { path = path; how = Old } ∷ []
+
+-- a failed attach may not have been asked for
+abbrev pub MayAsk : {T : Type 0} → List Asked → Result T Fault → List Asked → List Asked → Type 0
+MayAsk asks (Ok x) old new = new ≡ old ++ asks
+MayAsk asks (Err (Ends.Device s)) old new = (new ≡ old ++ asks) ⊎ (new ≡ old)
+MayAsk asks (Err fault) old new = new ≡ old ++ asks
+
+-- The image was asked for, and the input left.
+pub record AsksMount {T : Type 0} (path : List ℕ) (result : Result T Fault) (old new : Ledger) : Type 0 where
+  pub attaches : MayAsk (mount_asks path) result old.attaches new.attaches
+  pub input : new.input ≡ old.input

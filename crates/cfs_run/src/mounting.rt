@@ -1,0 +1,51 @@
+//! How a command finds its volume.
+ghost use Rattle.std.specs.Prelude.{◌≡◌, ◌≤◌, ◌<◌, ◌+◌, ◌^◌, false, IfOk, IfErr};
+ghost use Rattle.sector_disk.specs.Machine.{Trusts};
+ghost use Rattle.cfs_run.specs.Answer.{CausesFault};
+ghost use Rattle.cfs_run.specs.Formatting.{UsesAttach};
+ghost use Rattle.cfs_run.specs.Mounting.{AsksMount, IsExcuse, IsMountFault, OpensDisk, fault_of};
+ghost use Rattle.fsd_volume.specs.Mount.{Mounts};
+
+use crate::fault::Fault;
+use fsd_volume::Volume;
+use mount_recover::MountFault;
+use sector_disk::{Attach, Machine};
+use std::alloc::Global;
+
+// What a refused mount says.
+fn fault_of(fault: MountFault) -> Fault
+    ensures { result ≡ fault_of fault }
+{
+    match fault {
+        MountFault::NotVolume => Fault::NotVolume,
+        MountFault::Device(sector) => Fault::Device(sector),
+        MountFault::Memory => Fault::Memory,
+        MountFault::Lost { a, b } => Fault::Lost { a, b },
+        MountFault::NoAnchor => Fault::NoAnchor,
+        MountFault::Unsound(sector) => Fault::Unsound(sector),
+        MountFault::WornOut => Fault::WornOut,
+    }
+}
+
+/// Attaches the image and mounts its volume.
+pub(crate) fn open<M: Machine>(alloc: Global, path: &str, m: &mut M) -> Result<Volume, Fault>
+    ensures fault { IfErr result IsMountFault }
+    ensures cause { IfErr result (λ fault. CausesFault fault (M.report m.old) (M.report m.new)) }
+    ensures uses { UsesAttach (M.report m.old) (M.report m.new) }
+    ensures trust { Trusts (M.tells m.old) (M.tells m.new) (M.honest m.old) (M.honest m.new) }
+    ensures asks { M.tells m.new → AsksMount path.now result (M.ledger m.old) (M.ledger m.new) }
+    ensures quiet { M.honest m.new → (M.now m.new).said ≡ (M.now m.old).said }
+    ensures room { IfOk result (λ volume. volume.layout.sectors ≤ (M.report m.new).sectors) }
+    ensures idle { IfOk result (λ volume. volume.waits ≡ false) }
+    ensures first { IfOk result (λ volume. volume.serial.count ≡ 1) }
+    ensures mounted { IfOk result (λ volume. M.honest m.new → OpensDisk (M.now m.old) (M.now m.new) (λ l epoch files. Mounts l epoch files volume (M.now m.new).image)) }
+    ensures excuses { IfErr result (λ fault. M.honest m.new → OpensDisk (M.now m.old) (M.now m.new) (λ l epoch files. epoch + 1 < 2 ^ 32 → IsExcuse fault)) }
+{
+    match m.attach(path, Attach::Old) {
+        Ok(sectors) => match Volume::mount(alloc, m, sectors) {
+            Ok(volume) => Ok(volume),
+            Err(fault) => Err(fault_of(fault)),
+        },
+        Err(_) => Err(Fault::Device(0)),
+    }
+}

@@ -1,0 +1,92 @@
+//! The command `put`.
+ghost use Rattle.std.specs.Prelude.{◌≡◌, ◌≤◌, ℕ, None, length};
+ghost use Rattle.sector_disk.specs.Machine.{OnlyWrites, Trusts};
+ghost use Rattle.cfs_run.specs.declared.input.TheConstants.{MOST_INPUT};
+ghost use Rattle.cfs_run.specs.Answer.{CausesLine};
+ghost use Rattle.cfs_run.specs.Ends.{IsMadeLine, IsPutLine, PutLeaves, Puts, Stores, TakesFor};
+ghost use Rattle.cfs_run.specs.Formatting.{AsksLine, UsesAttach};
+ghost use Rattle.cfs_run.specs.Input.{UsesCounts};
+ghost use Rattle.cfs_run.specs.Mounting.{mount_asks};
+ghost use Rattle.sector_disk.specs.Image.{IsCalm};
+ghost use Rattle.volume_layout.specs.declared.layout.Layout.{Layout as Planned};
+ghost use Rattle.fsd_files.specs.Files.{Files};
+ghost use Rattle.fsd_volume.specs.Mount.{Mounts};
+ghost use Rattle.fsd_files.specs.OneLeaf.{put_outcome};
+ghost use Rattle.fsd_files.specs.Volume.{Volume as Mounted};
+ghost use Rattle.fsd_volume.specs.State.{IsMounted};
+
+use crate::fault::Fault;
+use crate::input::{InputFault, MOST_INPUT, read_input};
+use crate::line::Line;
+use crate::mounting::open;
+use crate::refusal::line_of;
+use fsd_bytes::FileName;
+use fsd_volume::Volume;
+use sector_disk::Machine;
+use std::alloc::Global;
+
+/// Makes a version of the whole input, and forces it.
+pub(crate) fn put<M: Machine>(alloc: Global, path: &str, name: &FileName, m: &mut M) -> Line
+    ensures line { IsPutLine result }
+    ensures cause { CausesLine result (M.report m.old) (M.report m.new) }
+    ensures uses { UsesCounts (M.report m.old) (M.report m.new) }
+    ensures trust { Trusts (M.tells m.old) (M.tells m.new) (M.honest m.old) (M.honest m.new) }
+    ensures asks { M.tells m.new → AsksLine (mount_asks path.now) result (M.ledger m.old).attaches (M.ledger m.new).attaches }
+    ensures takes { M.tells m.new → TakesFor result (M.ledger m.old).input (M.ledger m.new).input }
+    ensures quiet { M.honest m.new → (M.now m.new).said ≡ (M.now m.old).said }
+    ensures leaves { M.honest m.new → PutLeaves name.now (M.ledger m.old).input result (M.now m.old) (M.now m.new) }
+{
+    match open(alloc, path, m) {
+        Ok(volume) => put_input(alloc, volume, name, m),
+        Err(fault) => Line::Ended(fault),
+    }
+}
+
+// Takes the input first.
+fn put_input<M: Machine>(alloc: Global, volume: Volume, name: &FileName, m: &mut M) -> Line
+    requires { volume.layout.sectors ≤ (M.report m.old).sectors }
+    ensures line { IsPutLine result }
+    ensures cause { CausesLine result (M.report m.old) (M.report m.new) }
+    ensures uses { UsesCounts (M.report m.old) (M.report m.new) }
+    ensures trust { Trusts (M.tells m.old) (M.tells m.new) (M.honest m.old) (M.honest m.new) }
+    ensures asks { M.tells m.new → (M.ledger m.new).attaches ≡ (M.ledger m.old).attaches }
+    ensures takes { M.tells m.new → TakesFor result (M.ledger m.old).input (M.ledger m.new).input }
+    ensures quiet { M.honest m.new → (M.now m.new).said ≡ (M.now m.old).said }
+    ensures windows { M.honest m.new → (M.now m.new).windows ≡ (M.now m.old).windows }
+    ensures puts { M.honest m.new → IsCalm (M.now m.old).windows → (l : Planned) (epoch : ℕ) (files : Files) → Mounts l epoch files volume (M.now m.old).image → volume.serial.count ≡ 1
+        → Puts name.now (M.ledger m.old).input l epoch files result (M.now m.new).image }
+{
+    match read_input(alloc, m) {
+        Ok(bytes) => put_bytes(volume, name, bytes.as_slice(), m),
+        Err(InputFault::Failed) => Line::Ended(Fault::Input),
+        Err(InputFault::TooLong) => Line::Ended(Fault::InputTooLong),
+        Err(InputFault::Memory) => Line::Ended(Fault::Memory),
+    }
+}
+
+fn put_bytes<M: Machine>(volume: Volume, name: &FileName, bytes: &[u8], m: &mut M) -> Line
+    requires room { volume.layout.sectors ≤ (M.report m.old).sectors }
+    requires most { length bytes.now ≤ MOST_INPUT }
+    ensures line { IsMadeLine result }
+    ensures cause { CausesLine result (M.report m.old) (M.report m.new) }
+    ensures uses { UsesAttach (M.report m.old) (M.report m.new) }
+    ensures trust { Trusts (M.tells m.old) (M.tells m.new) (M.honest m.old) (M.honest m.new) }
+    ensures ledger { M.tells m.new → OnlyWrites (M.ledger m.old) (M.ledger m.new) }
+    ensures quiet { M.honest m.new → (M.now m.new).said ≡ (M.now m.old).said }
+    ensures windows { M.honest m.new → (M.now m.new).windows ≡ (M.now m.old).windows }
+    ensures stores { M.honest m.new → IsCalm (M.now m.old).windows → (v : Mounted) → IsMounted volume v v.files (M.now m.old).image → v.serial.count ≡ 1
+        → Stores v.layout v.serial.epoch (put_outcome v name.now bytes.now None) result (M.now m.new).image }
+{
+    let mut volume = volume;
+    let key = match volume.put(m, name, None, bytes) {
+        Ok(key) => key,
+        Err(why) => return line_of(why),
+    };
+    match volume.force(m) {
+        Ok(_) => Line::Made {
+            key,
+            sectors: 1 + (bytes.len() as u32).div_ceil(512),
+        },
+        Err(why) => line_of(why),
+    }
+}

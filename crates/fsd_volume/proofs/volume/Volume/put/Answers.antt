@@ -1,0 +1,183 @@
+use Rattle.std.proofs.Common.{◌≡◌, Err, ◌+◌, ◌<◌, ◌≤◌, ◌^◌, ℕ, length, refl, sym, ap, subst, ◌∙◌, arith, rules}
+use Rattle.alloc_map.specs.FreeSpace.{FreeSpace}
+use Rattle.fsd_formats.specs.declared.entry.Entry.{Entry}
+use Rattle.fsd_formats.specs.NamePage.{sectors_for, max_keep}
+use Rattle.fsd_files.specs.Answers.{keep_given}
+use Rattle.fsd_files.specs.OneLeaf.{put_outcome}
+use Rattle.fsd_files.specs.Volume.{plans_of}
+use Rattle.fsd_volume.specs.Put.{placed, AreNew}
+use Rattle.fsd_volume.specs.State.{State, StandsFor, IsMounted, free_space}
+use Rattle.fsd_volume.proofs.PlaceLaws.{picked_place}
+use Rattle.fsd_volume.proofs.StoredLaws.{most_sectors, stored_runs, stored_below, stored_count}
+use Rattle.fsd_volume.proofs.PutLaws.{placed_ok, sizes_fit, keep_fits, entry_good, entry_fits, entry_stored, runs_written}
+use Rattle.fsd_volume.proofs.PutDoneLaws.{place_refused, Entering, puts_entered, puts_on, stands_on}
+use Rattle.run_table.specs.RunTable.{sectors_of}
+use Rattle.std.specs.Prelude.{slice_index_or}
+use Rattle.fsd_volume.specs.Slices.{with_version}
+use Rattle.fsd_volume.proofs.Laying.{calm_holds}
+use Rattle.fsd_volume.proofs.volume.Volume.put.Goals as goal
+
+pub returns-in-Err-clause-answers : goal.returns-in-Err-clause-answers
+returns-in-Err-clause-answers g c v stands =
+    let state : State = record { layout = c.self.inside.layout; entries = c.self.inside.entries.items; serial = c.self.inside.serial; waits = c.self.inside.waits } in
+    let fits = sym c.size_fault.ensures ∙ c.in_default.is in
+    let need = ap (λ (n : ℕ). 1 + n) c.div_ceil.ensures in
+    let place = ap (λ (m : FreeSpace). placed m.free (sectors_for (length c.args.bytes.now))) (sym c.self.invariant.map) ∙ ap (placed c.self.inside.map.free) (sym need) ∙ sym c.place.ensures ∙ c.in-Err.is in
+    record { after = v; stands = stands; says = place_refused state v c.args.name.now c.args.bytes.now c.args.keep c.in-Err.refusal (subst (λ (s : State). StandsFor s v) (sym c.self.view_is) stands) fits place }
+
+pub returns-in-Err-clause-stands : goal.returns-in-Err-clause-stands
+returns-in-Err-clause-stands g c h calm v files mounted =
+    let state : State = record { layout = c.self.inside.layout; entries = c.self.inside.entries.items; serial = c.self.inside.serial; waits = c.self.inside.waits } in
+    let fits = sym c.size_fault.ensures ∙ c.in_default.is in
+    let need = ap (λ (n : ℕ). 1 + n) c.div_ceil.ensures in
+    let place = ap (λ (m : FreeSpace). placed m.free (sectors_for (length c.args.bytes.now))) (sym c.self.invariant.map) ∙ ap (placed c.self.inside.map.free) (sym need) ∙ sym c.place.ensures ∙ c.in-Err.is in
+    stands_on v (put_outcome v c.args.name.now c.args.bytes.now c.args.keep) files c.args.self.now (g.M.Machine.now c.args.m.now).image (Err c.in-Err.refusal) record { after = v; says = place_refused state v c.args.name.now c.args.bytes.now c.args.keep c.in-Err.refusal (subst (λ (s : State). StandsFor s v) (sym c.self.view_is) mounted.stands) fits place; mounted = mounted }
+
+pub write_version-requires-clause-runs : goal.write_version-requires-clause-runs
+write_version-requires-clause-runs g c =
+    let state : State = record { layout = c.self.inside.layout; entries = c.self.inside.entries.items; serial = c.self.inside.serial; waits = c.self.inside.waits } in
+    let fits = sym c.size_fault.ensures ∙ c.in_default.is in
+    let need = ap (λ (n : ℕ). 1 + n) c.div_ceil.ensures in
+    let place = ap (λ (m : FreeSpace). placed m.free (sectors_for (length c.args.bytes.now))) (sym c.self.invariant.map) ∙ ap (placed c.self.inside.map.free) (sym need) ∙ sym c.place.ensures ∙ c.in-Ok.is in
+    let picked = placed_ok (free_space state.layout state.entries).free (sectors_for (length c.args.bytes.now)) c.in-Ok.runs place in
+    let is = picked_place state.layout state.entries (sectors_for (length c.args.bytes.now)) c.in-Ok.runs (omega arith) picked in
+    let most = most_sectors state.layout state.entries c.self.invariant.table in
+    let sizes = sizes_fit (keep_given c.args.keep) (length c.args.bytes.now) fits in
+    let e : Entry = record { key = c.first_key.result; keep = c.unwrap_or.result; serial = c.self.inside.serial; length = length c.args.bytes.now; runs = c.in-Ok.runs } in
+    let keep : c.unwrap_or.result ≤ max_keep = subst (λ (n : ℕ). n ≤ max_keep) (sym c.unwrap_or.ensures) (keep_fits c.args.keep sizes.0) in
+    let good = entry_good state.layout state.entries e is c.first_key.ensures.key keep sizes.1 in
+    stored_runs state.layout e most (entry_stored state.layout state.entries e is good)
+
+pub write_version-requires-clause-lengths : goal.write_version-requires-clause-lengths
+write_version-requires-clause-lengths g c =
+    let state : State = record { layout = c.self.inside.layout; entries = c.self.inside.entries.items; serial = c.self.inside.serial; waits = c.self.inside.waits } in
+    let fits = sym c.size_fault.ensures ∙ c.in_default.is in
+    let need = ap (λ (n : ℕ). 1 + n) c.div_ceil.ensures in
+    let place = ap (λ (m : FreeSpace). placed m.free (sectors_for (length c.args.bytes.now))) (sym c.self.invariant.map) ∙ ap (placed c.self.inside.map.free) (sym need) ∙ sym c.place.ensures ∙ c.in-Ok.is in
+    let picked = placed_ok (free_space state.layout state.entries).free (sectors_for (length c.args.bytes.now)) c.in-Ok.runs place in
+    let is = picked_place state.layout state.entries (sectors_for (length c.args.bytes.now)) c.in-Ok.runs (omega arith) picked in
+    let most = most_sectors state.layout state.entries c.self.invariant.table in
+    let sizes = sizes_fit (keep_given c.args.keep) (length c.args.bytes.now) fits in
+    let e : Entry = record { key = c.first_key.result; keep = c.unwrap_or.result; serial = c.self.inside.serial; length = length c.args.bytes.now; runs = c.in-Ok.runs } in
+    let keep : c.unwrap_or.result ≤ max_keep = subst (λ (n : ℕ). n ≤ max_keep) (sym c.unwrap_or.ensures) (keep_fits c.args.keep sizes.0) in
+    let good = entry_good state.layout state.entries e is c.first_key.ensures.key keep sizes.1 in
+    runs_written (sectors_for (length c.args.bytes.now)) c.in-Ok.runs is.few.some is.count (omega (arith, sizes.1))
+
+pub write_version-requires-clause-in_range : goal.write_version-requires-clause-in_range
+write_version-requires-clause-in_range g c k d lt =
+    let state : State = record { layout = c.self.inside.layout; entries = c.self.inside.entries.items; serial = c.self.inside.serial; waits = c.self.inside.waits } in
+    let fits = sym c.size_fault.ensures ∙ c.in_default.is in
+    let need = ap (λ (n : ℕ). 1 + n) c.div_ceil.ensures in
+    let place = ap (λ (m : FreeSpace). placed m.free (sectors_for (length c.args.bytes.now))) (sym c.self.invariant.map) ∙ ap (placed c.self.inside.map.free) (sym need) ∙ sym c.place.ensures ∙ c.in-Ok.is in
+    let picked = placed_ok (free_space state.layout state.entries).free (sectors_for (length c.args.bytes.now)) c.in-Ok.runs place in
+    let is = picked_place state.layout state.entries (sectors_for (length c.args.bytes.now)) c.in-Ok.runs (omega arith) picked in
+    let most = most_sectors state.layout state.entries c.self.invariant.table in
+    let sizes = sizes_fit (keep_given c.args.keep) (length c.args.bytes.now) fits in
+    let e : Entry = record { key = c.first_key.result; keep = c.unwrap_or.result; serial = c.self.inside.serial; length = length c.args.bytes.now; runs = c.in-Ok.runs } in
+    let keep : c.unwrap_or.result ≤ max_keep = subst (λ (n : ℕ). n ≤ max_keep) (sym c.unwrap_or.ensures) (keep_fits c.args.keep sizes.0) in
+    let good = entry_good state.layout state.entries e is c.first_key.ensures.key keep sizes.1 in
+    let below = stored_below state.layout e most (entry_stored state.layout state.entries e is good) k d lt in
+    let room = ap (λ (s : State). s.layout.sectors) c.self.view_is in
+    omega (arith, below, room, c.requires)
+
+pub write_version-requires-clause-count : goal.write_version-requires-clause-count
+write_version-requires-clause-count g c =
+    let state : State = record { layout = c.self.inside.layout; entries = c.self.inside.entries.items; serial = c.self.inside.serial; waits = c.self.inside.waits } in
+    let fits = sym c.size_fault.ensures ∙ c.in_default.is in
+    let need = ap (λ (n : ℕ). 1 + n) c.div_ceil.ensures in
+    let place = ap (λ (m : FreeSpace). placed m.free (sectors_for (length c.args.bytes.now))) (sym c.self.invariant.map) ∙ ap (placed c.self.inside.map.free) (sym need) ∙ sym c.place.ensures ∙ c.in-Ok.is in
+    let picked = placed_ok (free_space state.layout state.entries).free (sectors_for (length c.args.bytes.now)) c.in-Ok.runs place in
+    let is = picked_place state.layout state.entries (sectors_for (length c.args.bytes.now)) c.in-Ok.runs (omega arith) picked in
+    let most = most_sectors state.layout state.entries c.self.invariant.table in
+    let sizes = sizes_fit (keep_given c.args.keep) (length c.args.bytes.now) fits in
+    let e : Entry = record { key = c.first_key.result; keep = c.unwrap_or.result; serial = c.self.inside.serial; length = length c.args.bytes.now; runs = c.in-Ok.runs } in
+    let keep : c.unwrap_or.result ≤ max_keep = subst (λ (n : ℕ). n ≤ max_keep) (sym c.unwrap_or.ensures) (keep_fits c.args.keep sizes.0) in
+    let good = entry_good state.layout state.entries e is c.first_key.ensures.key keep sizes.1 in
+    stored_count state.layout e most (entry_stored state.layout state.entries e is good)
+
+pub enter-requires-clause-entry : goal.enter-requires-clause-entry
+enter-requires-clause-entry g c =
+    let state : State = record { layout = c.self.inside.layout; entries = c.self.inside.entries.items; serial = c.self.inside.serial; waits = c.self.inside.waits } in
+    let fits = sym c.size_fault.ensures ∙ c.in_default.is in
+    let need = ap (λ (n : ℕ). 1 + n) c.div_ceil.ensures in
+    let place = ap (λ (m : FreeSpace). placed m.free (sectors_for (length c.args.bytes.now))) (sym c.self.invariant.map) ∙ ap (placed c.self.inside.map.free) (sym need) ∙ sym c.place.ensures ∙ c.in-Ok.is in
+    let picked = placed_ok (free_space state.layout state.entries).free (sectors_for (length c.args.bytes.now)) c.in-Ok.runs place in
+    let is = picked_place state.layout state.entries (sectors_for (length c.args.bytes.now)) c.in-Ok.runs (omega arith) picked in
+    let most = most_sectors state.layout state.entries c.self.invariant.table in
+    let sizes = sizes_fit (keep_given c.args.keep) (length c.args.bytes.now) fits in
+    let e : Entry = record { key = c.first_key.result; keep = c.unwrap_or.result; serial = c.self.inside.serial; length = length c.args.bytes.now; runs = c.in-Ok.runs } in
+    let keep : c.unwrap_or.result ≤ max_keep = subst (λ (n : ℕ). n ≤ max_keep) (sym c.unwrap_or.ensures) (keep_fits c.args.keep sizes.0) in
+    let good = entry_good state.layout state.entries e is c.first_key.ensures.key keep sizes.1 in
+    good
+
+pub enter-requires-clause-fits : goal.enter-requires-clause-fits
+enter-requires-clause-fits g c =
+    let state : State = record { layout = c.self.inside.layout; entries = c.self.inside.entries.items; serial = c.self.inside.serial; waits = c.self.inside.waits } in
+    let fits = sym c.size_fault.ensures ∙ c.in_default.is in
+    let need = ap (λ (n : ℕ). 1 + n) c.div_ceil.ensures in
+    let place = ap (λ (m : FreeSpace). placed m.free (sectors_for (length c.args.bytes.now))) (sym c.self.invariant.map) ∙ ap (placed c.self.inside.map.free) (sym need) ∙ sym c.place.ensures ∙ c.in-Ok.is in
+    let picked = placed_ok (free_space state.layout state.entries).free (sectors_for (length c.args.bytes.now)) c.in-Ok.runs place in
+    let is = picked_place state.layout state.entries (sectors_for (length c.args.bytes.now)) c.in-Ok.runs (omega arith) picked in
+    let most = most_sectors state.layout state.entries c.self.invariant.table in
+    let sizes = sizes_fit (keep_given c.args.keep) (length c.args.bytes.now) fits in
+    let e : Entry = record { key = c.first_key.result; keep = c.unwrap_or.result; serial = c.self.inside.serial; length = length c.args.bytes.now; runs = c.in-Ok.runs } in
+    let keep : c.unwrap_or.result ≤ max_keep = subst (λ (n : ℕ). n ≤ max_keep) (sym c.unwrap_or.ensures) (keep_fits c.args.keep sizes.0) in
+    let good = entry_good state.layout state.entries e is c.first_key.ensures.key keep sizes.1 in
+    let first : c.first_key.result.version < 2 ^ 32 = search rules in
+    let epoch : c.self.inside.serial.epoch < 2 ^ 32 = search rules in
+    let count : c.self.inside.serial.count < 2 ^ 32 = search rules in
+    entry_fits state.layout state.entries e most is good first keep (epoch, count) sizes.1
+
+pub enter-requires-clause-free : goal.enter-requires-clause-free
+enter-requires-clause-free g c =
+    let state : State = record { layout = c.self.inside.layout; entries = c.self.inside.entries.items; serial = c.self.inside.serial; waits = c.self.inside.waits } in
+    let fits = sym c.size_fault.ensures ∙ c.in_default.is in
+    let need = ap (λ (n : ℕ). 1 + n) c.div_ceil.ensures in
+    let place = ap (λ (m : FreeSpace). placed m.free (sectors_for (length c.args.bytes.now))) (sym c.self.invariant.map) ∙ ap (placed c.self.inside.map.free) (sym need) ∙ sym c.place.ensures ∙ c.in-Ok.is in
+    let picked = placed_ok (free_space state.layout state.entries).free (sectors_for (length c.args.bytes.now)) c.in-Ok.runs place in
+    let is = picked_place state.layout state.entries (sectors_for (length c.args.bytes.now)) c.in-Ok.runs (omega arith) picked in
+    let most = most_sectors state.layout state.entries c.self.invariant.table in
+    let sizes = sizes_fit (keep_given c.args.keep) (length c.args.bytes.now) fits in
+    let e : Entry = record { key = c.first_key.result; keep = c.unwrap_or.result; serial = c.self.inside.serial; length = length c.args.bytes.now; runs = c.in-Ok.runs } in
+    let keep : c.unwrap_or.result ≤ max_keep = subst (λ (n : ℕ). n ≤ max_keep) (sym c.unwrap_or.ensures) (keep_fits c.args.keep sizes.0) in
+    let good = entry_good state.layout state.entries e is c.first_key.ensures.key keep sizes.1 in
+    is.new
+
+pub returns-in-Ok-write_version-clause-answers : goal.returns-in-Ok-write_version-clause-answers
+returns-in-Ok-write_version-clause-answers g c v stands =
+    let state : State = record { layout = c.self.inside.layout; entries = c.self.inside.entries.items; serial = c.self.inside.serial; waits = c.self.inside.waits } in
+    let fits = sym c.size_fault.ensures ∙ c.in_default.is in
+    let need = ap (λ (n : ℕ). 1 + n) c.div_ceil.ensures in
+    let place = ap (λ (m : FreeSpace). placed m.free (sectors_for (length c.args.bytes.now))) (sym c.self.invariant.map) ∙ ap (placed c.self.inside.map.free) (sym need) ∙ sym c.place.ensures ∙ c.in-Ok.is in
+    let picked = placed_ok (free_space state.layout state.entries).free (sectors_for (length c.args.bytes.now)) c.in-Ok.runs place in
+    let is = picked_place state.layout state.entries (sectors_for (length c.args.bytes.now)) c.in-Ok.runs (omega arith) picked in
+    let most = most_sectors state.layout state.entries c.self.invariant.table in
+    let sizes = sizes_fit (keep_given c.args.keep) (length c.args.bytes.now) fits in
+    let e : Entry = record { key = c.first_key.result; keep = c.unwrap_or.result; serial = c.self.inside.serial; length = length c.args.bytes.now; runs = c.in-Ok.runs } in
+    let keep : c.unwrap_or.result ≤ max_keep = subst (λ (n : ℕ). n ≤ max_keep) (sym c.unwrap_or.ensures) (keep_fits c.args.keep sizes.0) in
+    let good = entry_good state.layout state.entries e is c.first_key.ensures.key keep sizes.1 in
+    let h : Entering state v c.args.name.now c.args.bytes.now c.args.keep e = record { stands = subst (λ (s : State). StandsFor s v) (sym c.self.view_is) stands; fits = fits; place = picked; key = c.first_key.ensures.value; keep = c.unwrap_or.ensures; serial = refl; length = refl } in
+    puts_entered state v c.args.name.now c.args.bytes.now c.args.keep e h c.enter.new.self c.enter.result c.enter.ensures
+
+pub returns-in-Ok-write_version-clause-stands : goal.returns-in-Ok-write_version-clause-stands
+returns-in-Ok-write_version-clause-stands g c honest calm v files mounted =
+    let state : State = record { layout = c.self.inside.layout; entries = c.self.inside.entries.items; serial = c.self.inside.serial; waits = c.self.inside.waits } in
+    let fits = sym c.size_fault.ensures ∙ c.in_default.is in
+    let need = ap (λ (n : ℕ). 1 + n) c.div_ceil.ensures in
+    let place = ap (λ (m : FreeSpace). placed m.free (sectors_for (length c.args.bytes.now))) (sym c.self.invariant.map) ∙ ap (placed c.self.inside.map.free) (sym need) ∙ sym c.place.ensures ∙ c.in-Ok.is in
+    let picked = placed_ok (free_space state.layout state.entries).free (sectors_for (length c.args.bytes.now)) c.in-Ok.runs place in
+    let is = picked_place state.layout state.entries (sectors_for (length c.args.bytes.now)) c.in-Ok.runs (omega arith) picked in
+    let most = most_sectors state.layout state.entries c.self.invariant.table in
+    let sizes = sizes_fit (keep_given c.args.keep) (length c.args.bytes.now) fits in
+    let e : Entry = record { key = c.first_key.result; keep = c.unwrap_or.result; serial = c.self.inside.serial; length = length c.args.bytes.now; runs = c.in-Ok.runs } in
+    let keep : c.unwrap_or.result ≤ max_keep = subst (λ (n : ℕ). n ≤ max_keep) (sym c.unwrap_or.ensures) (keep_fits c.args.keep sizes.0) in
+    let good = entry_good state.layout state.entries e is c.first_key.ensures.key keep sizes.1 in
+    let h : Entering state v c.args.name.now c.args.bytes.now c.args.keep e = record { stands = subst (λ (s : State). StandsFor s v) (sym c.self.view_is) mounted.stands; fits = fits; place = picked; key = c.first_key.ensures.value; keep = c.unwrap_or.ensures; serial = refl; length = refl } in
+    let M = g.M.Machine in
+    let here = subst (λ (s : State). IsMounted s v files (M.now c.args.m.now).image) (sym c.self.view_is) mounted in
+    let count = stored_count state.layout e most (entry_stored state.layout state.entries e is good) in
+    let below = stored_below state.layout e most (entry_stored state.layout state.entries e is good) in
+    let room : (k : ℕ) → k < length (sectors_of c.in-Ok.runs) → slice_index_or (sectors_of c.in-Ok.runs) k 0 < length (M.now c.args.m.now).image = λ k lt. let b = below k 0 lt in omega (arith, b, here.disk.at_home.long) in
+    let image = calm_holds (M.now c.args.m.now) (M.now c.write_version.new.m) (with_version (M.now c.args.m.now).image e c.args.bytes.now) calm (c.in-Ok-write_version.ensures.done honest) in
+    stands_on v (put_outcome v c.args.name.now c.args.bytes.now c.args.keep) files c.enter.new.self (M.now c.write_version.new.m).image c.enter.result
+    (puts_on state v c.args.name.now c.args.bytes.now c.args.keep e h files (M.now c.args.m.now).image (M.now c.write_version.new.m).image c.enter.new.self c.enter.result count is.new room here image c.enter.ensures)

@@ -1,0 +1,214 @@
+//! The making of versions.
+ghost use Rattle.std.specs.Prelude.{◌≡◌, ◌≤◌, ◌<◌, ◌+◌, ◌-◌, ◌^◌, false, true, ℕ, List, None, Some, Err, All, OnOk, IfErr, IsTrue, length};
+ghost use Rattle.std.specs.List.{insert};
+ghost use Rattle.fsd_bytes.specs.declared.refusal.Refusal.TheVariants.{WornOut};
+ghost use Rattle.fsd_bytes.specs.Keys.{key_of, is_key};
+ghost use Rattle.run_table.specs.RunTable.{sectors_of};
+ghost use Rattle.fsd_formats.specs.declared.entry.Entry.{Entry as Listed};
+ghost use Rattle.fsd_formats.specs.NamePage.{room, is_entry, sectors_for, max_length, FitsEntry};
+ghost use Rattle.sector_disk.specs.Image.{IsCalm};
+ghost use Rattle.sector_disk.specs.Machine.{DeviceFault, UsesDisk, Trusts, OnlyWrites, Holds};
+ghost use Rattle.fsd_files.specs.Answers.{entry_put, size_fault, keep_given};
+ghost use Rattle.fsd_files.specs.Files.{Files};
+ghost use Rattle.fsd_files.specs.OneLeaf.{leaf_used, put_outcome};
+ghost use Rattle.fsd_files.specs.Volume.{Volume as Mounted, plans_of};
+ghost use Rattle.fsd_volume.specs.Calls.{TellsDevice};
+ghost use Rattle.fsd_volume.specs.Put.{names, placed, last_count, AreNew, Enters, Puts, StandsOn};
+ghost use Rattle.fsd_volume.specs.Slices.{with_version};
+ghost use Rattle.fsd_volume.specs.State.{StandsFor, IsMounted};
+
+use crate::Volume;
+use crate::sectors::write_sector;
+use crate::slices::write_slices;
+use alloc_map::{Map, NoPlace};
+use fsd_bytes::{FileName, Key, Refusal};
+use fsd_formats::{Entry, Leader};
+use leader_page::leader_bytes;
+use name_page::entry_len;
+use run_table::Runs;
+use sector_disk::{Failed, Machine};
+use std::cmp::Ordering;
+
+impl Volume {
+    /// Makes the first version of a name, with these bytes: its data and its leader are written, and its entry waits for a
+    /// force. Without a keep it keeps two versions.
+    pub fn put<M: Machine>(
+        &mut self,
+        m: &mut M,
+        name: &FileName,
+        keep: Option<u32>,
+        bytes: &[u8],
+    ) -> Result<Key, Refusal>
+        requires { self.old.layout.sectors ≤ (M.report m.old).sectors }
+
+        ensures fault { IfErr result (TellsDevice (M.report m.old) (M.report m.new)) }
+        ensures uses { UsesDisk (M.report m.old) (M.report m.new) }
+        ensures trust { Trusts (M.tells m.old) (M.tells m.new) (M.honest m.old) (M.honest m.new) }
+        ensures ledger { M.tells m.new → OnlyWrites (M.ledger m.old) (M.ledger m.new) }
+        ensures quiet { M.honest m.new → (M.now m.new).said ≡ (M.now m.old).said }
+        ensures windows { M.honest m.new → (M.now m.new).windows ≡ (M.now m.old).windows }
+        ensures layout { self.new.layout ≡ self.old.layout }
+
+        // This many serials are enough for one mount.
+        ensures spent { size_fault (keep_given keep) (length bytes.now) ≡ None → last_count ≤ self.old.serial.count → result ≡ Err WornOut }
+
+        // It answers what the volume answers, and is the volume then.
+        ensures answers { (v : Mounted) → StandsFor self.old v → Puts v (put_outcome v name.now bytes.now keep) self.new result }
+
+        // So does the disk: the versions stand on it, and what was forced before.
+        ensures stands { M.honest m.new → IsCalm (M.now m.old).windows → (v : Mounted) (files : Files) → IsMounted self.old v files (M.now m.old).image →
+            StandsOn v (put_outcome v name.now bytes.now keep) files self.new (M.now m.new).image result }
+    {
+        if let Some(refusal) = size_fault(keep, bytes.len()) {
+            return Err(refusal);
+        }
+        if self.serial.count >= 4_294_967_280 {
+            return Err(Refusal::WornOut);
+        }
+        let length = bytes.len() as u32;
+        let runs = match place(&self.map, 1 + length.div_ceil(512)) {
+            Ok(runs) => runs,
+            Err(refusal) => return Err(refusal),
+        };
+        let entry = Entry {
+            key: first_key(name),
+            keep: keep.unwrap_or(2),
+            serial: self.serial,
+            length,
+            runs,
+        };
+        self.serial.count += 1;
+        match write_version(m, &entry, bytes) {
+            Ok(()) => self.enter(entry),
+            Err(failed) => Err(Refusal::Device(failed.place)),
+        }
+    }
+
+    // Puts an entry in, whose sectors are free.
+    fn enter(&mut self, entry: Entry) -> Result<Key, Refusal>
+        requires entry { IsTrue (is_entry entry) }
+        requires fits { FitsEntry entry }
+        requires free { AreNew self.old.layout (plans_of self.old.entries) entry.runs }
+        ensures { Enters self.old entry self.new result }
+    {
+        if has_name(self.entries.as_slice(), &entry.key.name) {
+            return Err(Refusal::VersionsUsedUp);
+        }
+        if used(self.entries.as_slice()) + entry_len(&entry) > 488 {
+            return Err(Refusal::NameTableFull { free: 0 });
+        }
+        let key = entry.key.copied();
+        let runs = entry.runs.copied();
+        let i = place_of(self.entries.as_slice(), &key);
+        if self.entries.insert(i, entry).is_err() {
+            return Err(Refusal::Memory);
+        }
+        self.map.take(&runs);
+        self.waits = true;
+        Ok(key)
+    }
+}
+
+// The key of a name's first version.
+fn first_key(name: &FileName) -> Key
+    ensures value { result ≡ key_of name.now 1 }
+    ensures key { IsTrue (is_key result) }
+{
+    let _ = name.as_bytes();
+    Key {
+        name: name.copied(),
+        version: 1,
+    }
+}
+
+// Why a version of these sizes is refused before anything is looked up.
+fn size_fault(keep: Option<u32>, length: usize) -> Option<Refusal>
+    ensures { result ≡ size_fault (keep_given keep) length }
+{
+    if let Some(keep) = keep {
+        if keep > 999 {
+            return Some(Refusal::KeepTooLarge(keep));
+        }
+    }
+    if length > 4_193_792 {
+        return Some(Refusal::TooLong(length as u64));
+    }
+    None
+}
+
+// Where so many sectors go.
+fn place(map: &Map, need: u32) -> Result<Runs, Refusal>
+    ensures { result ≡ placed map.now.free need }
+{
+    match map.choose(need) {
+        Ok(runs) => Ok(runs),
+        Err(NoPlace::NoSpace { need, free }) => Err(Refusal::NoSpace { need, free }),
+        Err(NoPlace::TooFragmented { need, best }) => Err(Refusal::TooFragmented { need, best }),
+    }
+}
+
+// Writes the data of a version, then its leader.
+fn write_version<M: Machine>(m: &mut M, e: &Entry, bytes: &[u8]) -> Result<(), Failed>
+    requires runs { All (λ r. r.start + r.length ≤ 2 ^ 32) e.now.runs }
+    requires lengths { All (λ r. (1 ≤ r.length) × (r.length ≤ 65535)) e.now.runs }
+    requires in_range { All (λ s. s < (M.report m.old).sectors) (sectors_of e.now.runs) }
+    requires count { length (sectors_of e.now.runs) ≡ sectors_for (length bytes.now) }
+    requires most { length bytes.now ≤ max_length }
+    ensures fault { IfErr result (λ failed. DeviceFault (M.report m.old) (M.report m.new) failed.place) }
+    ensures uses { UsesDisk (M.report m.old) (M.report m.new) }
+    ensures trust { Trusts (M.tells m.old) (M.tells m.new) (M.honest m.old) (M.honest m.new) }
+    ensures ledger { M.tells m.new → OnlyWrites (M.ledger m.old) (M.ledger m.new) }
+    ensures quiet { M.honest m.new → (M.now m.new).said ≡ (M.now m.old).said }
+    ensures windows { M.honest m.new → (M.now m.new).windows ≡ (M.now m.old).windows }
+    ensures done { OnOk result (M.honest m.new → Holds (M.now m.old) (with_version (M.now m.old).image e.now bytes.now) (M.now m.new)) }
+{
+    write_slices(m, &e.runs, bytes)?;
+    let first = e.runs.sector(0).unwrap();
+    let leader = Leader {
+        serial: e.serial,
+        length: e.length,
+        runs: e.runs.copied(),
+    };
+    write_sector(m, first, &leader_bytes(&leader))?;
+    Ok(())
+}
+
+// Whether an entry has the name.
+fn has_name(entries: &[Entry], name: &FileName) -> bool
+    ensures { result ≡ names name.now entries.now }
+{
+    for e in entries {
+        if name.as_bytes() == e.key.name.as_bytes() {
+            return true;
+        }
+    }
+    false
+}
+
+// Where an entry with this key goes, in the order of the keys.
+fn place_of(entries: &[Entry], key: &Key) -> usize
+    requires { names key.now.name entries.now ≡ false }
+    ensures within { result ≤ length entries.now }
+    ensures place { (e : Listed) → e.key ≡ key.now → entry_put e entries.now ≡ insert entries.now result e }
+{
+    for (i, e) in entries.iter().enumerate() {
+        match key.cmp(&e.key) {
+            Ordering::Less => return i,
+            Ordering::Equal => {}
+            Ordering::Greater => {}
+        }
+    }
+    entries.len()
+}
+
+// The bytes that the entries take in a leaf.
+fn used(entries: &[Entry]) -> usize
+    requires { leaf_used entries.now ≤ room }
+    ensures { result ≡ leaf_used entries.now }
+{
+    let mut sum = 0;
+    for e in entries {
+        sum += entry_len(e);
+    }
+    sum
+}

@@ -1,0 +1,46 @@
+//! Each call once.
+use crate::{Volume, format};
+use fsd_bytes::{FileName, Refusal};
+use sector_disk::{Attach, Machine, MemoryMachine, Sector};
+use std::test::Fail;
+use volume_layout::Layout;
+
+#[test]
+fn a_version_is_made_and_read(rt: HostRuntime) -> Result<(), Fail> {
+    let alloc = rt.alloc();
+    let mut m = MemoryMachine::with_runs(
+        alloc,
+        Vec::new(alloc),
+        Vec::new(alloc),
+        Vec::new(alloc),
+        Vec::new(alloc),
+    );
+    let sectors = m.attach("v", Attach::New(2048))?;
+    let l = Layout::plan(2048, 256, 64)?;
+    assert!(rt; l.sectors() <= sectors);
+    assert_eq!(rt; format(&mut m, &l), Ok(()));
+
+    let mut v = Volume::mount(alloc, &mut m, sectors)?;
+    let name = FileName::parse(b"a")?;
+    assert!(rt; v.layout.sectors() <= sectors);
+    let key = v.put(&mut m, &name, None, b"hi")?;
+    assert_eq!(rt; key.version, 1);
+    assert_eq!(rt;
+        v.put(&mut m, &name, None, b"ho"),
+        Err(Refusal::VersionsUsedUp)
+    );
+    assert_eq!(rt; v.force(&mut m)?.pages, 1);
+    assert_eq!(rt; v.force(&mut m)?.pages, 0);
+    assert_eq!(rt; v.entry(&key)?.length, 2);
+    let mut buf = [0; 4];
+    assert_eq!(rt; v.read(&mut m, &key, 0, &mut buf), Ok(2));
+    assert_eq!(rt; buf, *b"hi\0\0");
+
+    // the data area begins behind 16 sectors, 3 thirds of 256, twice 64 pages and 4 between, and a map of one
+    let mut data = [0; 512];
+    data[0] = b'h';
+    data[1] = b'i';
+    assert!(rt; m.image()[922] == Sector::Whole(data));
+    assert!(rt; m.image()[921] != Sector::Damaged);
+    Ok(())
+}

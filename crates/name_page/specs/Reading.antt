@@ -1,0 +1,48 @@
+-- What stands in a page, by its places.
+use Rattle.std.specs.Prelude.{ℕ, ◌+◌, ◌^◌, List, [], drop, length, Option, Some}
+use Rattle.fsd_bytes.specs.Bytes.{u8_at, u16_at, u32_at}
+use Rattle.run_table.specs.RunTable.{runs_from}
+use Rattle.fsd_formats.specs.declared.entry.Entry.{Entry}
+use Rattle.fsd_formats.specs.declared.page.Separator.{Separator}
+use Rattle.fsd_formats.specs.declared.page.Page.{Page}
+use Rattle.fsd_formats.specs.declared.page.PageKind.{PageKind}
+use Rattle.fsd_formats.specs.declared.page.PageKind.TheVariants as kinds
+use Rattle.fsd_formats.specs.NamePage.{Content, Free, Leaf, Interior, count_of, contents_of, read_page}
+use Rattle.name_page.specs.Fault.{key_at, separator_key_at}
+
+-- the entry at a place
+abbrev pub entry_at : ℕ → List ℕ → Entry
+entry_at place bytes =
+    let version = place + 1 + u8_at place bytes in
+    record {
+      key = key_at place bytes;
+      keep = u16_at (version + 4) bytes;
+      serial = record { epoch = u32_at (version + 6) bytes; count = u32_at (version + 10) bytes };
+      length = u32_at (version + 14) bytes;
+      runs = runs_from (u8_at (version + 18) bytes) (drop (version + 19) bytes);
+    }
+
+-- the separator at a place
+abbrev pub separator_at : ℕ → List ℕ → Separator
+separator_at place bytes = record { key = separator_key_at place bytes; child = u32_at (place + 45) bytes }
+
+-- what the head of a page says
+abbrev pub kind_of : Content → PageKind
+kind_of Free = kinds.Free
+kind_of (Leaf entries) = kinds.Leaf
+kind_of (Interior first separators) = kinds.Interior
+
+abbrev pub head_of : Content → Page
+head_of x = record { kind = kind_of x; count = count_of x; used = length (contents_of x) }
+
+-- what the bytes have, as a page of some table
+unfoldable pub content_in : List ℕ → Option Content
+content_in bytes = read_page (u32_at 12 bytes) (2 ^ 32) bytes
+
+abbrev pub entries_of : Option Content → List Entry
+entries_of (Some (Leaf entries)) = entries
+entries_of other = []
+
+-- the entries of a leaf
+unfoldable pub entries_in : List ℕ → List Entry
+entries_in bytes = entries_of (content_in bytes)

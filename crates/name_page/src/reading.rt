@@ -1,0 +1,74 @@
+//! Reading what a page has.
+ghost use Rattle.std.specs.Prelude.{◌≡◌, ◌≤◌, ◌<◌, ◌+◌, ◌*◌, IsTrue, Some, length, drop, slice_get, true};
+ghost use Rattle.fsd_bytes.specs.Bytes.{u8_at};
+ghost use Rattle.run_table.specs.RunTable.{runs_from};
+ghost use Rattle.fsd_formats.specs.NamePage.{is_entry};
+ghost use Rattle.name_page.specs.Fault.{entry_end};
+ghost use Rattle.name_page.specs.Reading.{entry_at, entries_in};
+
+use fsd_bytes::{FileName, Key, Serial, u8_at, u16_at, u32_at};
+use fsd_formats::Entry;
+use run_table::{Run, Runs};
+
+/// Entry `i` of a leaf, counted from 0.
+pub fn leaf_entry(b: &[u8; 512], i: u32) -> Entry
+    requires { i < length (entries_in b.now) }
+    ensures { slice_get (entries_in b.now) i ≡ Some result }
+{
+    let mut place = 24;
+    for _ in 0..i {
+        place = entry_end(b, place);
+    }
+    entry_at(b, place)
+}
+
+// Where the entry at a place ends.
+fn entry_end(b: &[u8; 512], place: usize) -> usize
+    requires { place + 20 + u8_at place b.now ≤ 512 }
+    ensures { result ≡ entry_end place b.now }
+{
+    let runs = place + 19 + usize::from(u8_at(b, place));
+    runs + 1 + 6 * usize::from(u8_at(b, runs))
+}
+
+// The entry at a place.
+fn entry_at(b: &[u8; 512], place: usize) -> Entry
+    requires entry { is_entry (entry_at place b.now) ≡ true }
+    requires within { entry_end place b.now ≤ 512 }
+    ensures { result ≡ entry_at place b.now }
+{
+    let at = place + 1 + usize::from(u8_at(b, place));
+    let key = Key {
+        name: FileName::parse(&b[place + 1..at]).unwrap(),
+        version: u32_at(b, at),
+    };
+    let serial = Serial {
+        epoch: u32_at(b, at + 6),
+        count: u32_at(b, at + 10),
+    };
+    Entry {
+        key,
+        keep: u32::from(u16_at(b, at + 4)),
+        serial,
+        length: u32_at(b, at + 14),
+        runs: runs_at(b, at + 18),
+    }
+}
+
+// The runs at a place, behind their number.
+fn runs_at(b: &[u8; 512], place: usize) -> Runs
+    requires count { u8_at place b.now ≤ 8 }
+    requires within { place + 1 + 6 * u8_at place b.now ≤ 512 }
+    ensures { result ≡ runs_from (u8_at place b.now) (drop (place + 1) b.now) }
+{
+    let mut runs = Runs::new();
+    let count = usize::from(u8_at(b, place));
+    for i in 0..count {
+        let at = place + 1 + 6 * i;
+        runs.push(Run {
+            start: u32_at(b, at),
+            length: u32::from(u16_at(b, at + 4)),
+        });
+    }
+    runs
+}

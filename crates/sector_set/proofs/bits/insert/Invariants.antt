@@ -1,0 +1,7 @@
+use Rattle.std.proofs.Common.{◌≡◌, ℕ, ◌*◌, ◌||◌, ◌&&◌}
+use Rattle.std.specs.Prelude.{nat_lt}
+use Rattle.sector_set.specs.Bits.{is_set, in_range}
+use Rattle.sector_set.proofs.bits.insert.Given as goal
+
+abbrev pub invariant-loop-w : goal.invariant-loop-w
+invariant-loop-w l = (s : ℕ) → is_set l.words s ≡ (is_set l.fn.words s || (in_range l.start l.stop s && nat_lt s (64 * l.w)))
