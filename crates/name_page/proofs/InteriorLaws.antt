@@ -1,5 +1,5 @@
 -- The first child and the separators of an interior page.
-use Rattle.std.proofs.Common.{◌≡◌, ℕ, ◌+◌, ◌*◌, ◌^◌, ◌<◌, ◌≤◌, Bool, true, cond, ◌&&◌, List, [], ◌∷◌, ◌++◌, map, length, drop, ◌-◌, Option, Some, None, refl, sym, ap, subst, ◌∙◌, arith}
+use Rattle.std.proofs.Common.{◌≡◌, ℕ, ◌+◌, ◌*◌, ◌^◌, ◌<◌, ◌≤◌, true, ◌&&◌, List, [], ◌∷◌, map, length, drop, ◌-◌, Option, Some, None, refl, sym, ap, ◌∙◌, arith}
 use Rattle.std.specs.Prelude.{slice_get, nat_lt, IsSome}
 use Rattle.std.specs.List.{list_all}
 use Rattle.std.proofs.lemmas.Bool.{and_parts}
@@ -8,7 +8,7 @@ use Rattle.fsd_bytes.specs.Bytes.{u8_at, u16_at, u32_at, same_bytes}
 use Rattle.fsd_bytes.specs.Names.{is_between}
 use Rattle.fsd_bytes.proofs.SameLaws.{same_is, given_if}
 use Rattle.fsd_formats.specs.declared.page.Separator.{Separator}
-use Rattle.fsd_formats.specs.NamePage.{Content, Free, Leaf, Interior, content_from, separators_from, is_page, page_bytes, read_page, stamp_at, are_ascending, least_separators}
+use Rattle.fsd_formats.specs.NamePage.{Content, Free, Leaf, Interior, content_from, separators_from, is_page, page_bytes, stamp_at, are_ascending, least_separators}
 use Rattle.name_page.specs.Fault.{first_of, unless, zeros_fault, head_fault, contents_fault, separators_fault, fault_of}
 use Rattle.name_page.specs.Reading.{content_in, separators_of, separators_in, first_in, separator_at}
 use Rattle.name_page.specs.Reading as reading

@@ -1,5 +1,5 @@
 -- The pages of a name table, as the tree sees them.
-use Rattle.std.specs.Prelude.{ℕ, ◌≡◌, ◌<◌, Bool, true, false, not, ◌&&◌, List, Option, Some, None, length, slice_get, slice_index_or, is_some, option_and_then, ⊤}
+use Rattle.std.specs.Prelude.{ℕ, Bool, false, List, Option, length, slice_get, slice_index_or, option_and_then, ⊤}
 use Rattle.fsd_bytes.specs.declared.refusal.Refusal.{Refusal}
 use Rattle.fsd_bytes.specs.declared.refusal.Refusal.TheVariants.{Device, Lost, Unsound, Memory}
 use Rattle.fsd_formats.specs.NamePage.{Content, read_page}

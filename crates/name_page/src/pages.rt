@@ -20,6 +20,7 @@ pub trait Pages {
 
     /// How many pages a step may reach, and how many more this one may.
     ghost step_reaches: { Self → ℕ };
+
     ghost reaches: { Self → ℕ };
 
     /// The refusal that was given in this step.

@@ -1,4 +1,4 @@
-use Rattle.std.proofs.Common.{ℕ, List, [], ◌∷◌, ◌++◌, ◌-◌, ◌∙◌, ap, length, refl, sym, arith}
+use Rattle.std.proofs.Common.{ℕ, List, [], ◌∷◌, ◌++◌, ◌-◌, ◌∙◌, ap, length, refl, arith}
 use Rattle.std.proofs.lemmas.List.{take-replicate}
 use Rattle.name_page.proofs.LengthLaws.{separator_joined}
 use Rattle.name_page.proofs.writing.separator_text.Goals as goal
