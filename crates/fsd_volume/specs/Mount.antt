@@ -1,7 +1,8 @@
 -- What a mount finds.
-use Rattle.std.specs.Prelude.{◌≡◌, ◌+◌, ℕ, false, List, [], Option, Some, None, IsSome, option_and_then, Result, Ok, Err, ⊤}
+use Rattle.std.specs.Prelude.{◌≡◌, ◌<◌, ◌+◌, ◌^◌, ℕ, false, List, [], Option, Some, None, IsSome, option_and_then, Result, Ok, Err, ⊤}
 use Rattle.volume_layout.specs.declared.layout.Layout.{Layout}
 use Rattle.volume_layout.specs.Layout.{home_a, home_b}
+use Rattle.fsd_formats.specs.declared.anchor.Anchor.{Anchor}
 use Rattle.fsd_formats.specs.declared.entry.Entry.{Entry}
 use Rattle.sector_disk.specs.Machine.{Report, DeviceFault}
 use Rattle.fsd_files.specs.Disk.{Image}
@@ -11,7 +12,7 @@ use Rattle.fsd_sound.specs.Homes.{home_of}
 use Rattle.fsd_sound.specs.Roots.{root_of}
 use Rattle.mount_recover.specs.declared.fault.MountFault.{MountFault}
 use Rattle.mount_recover.specs.declared.fault.MountFault.TheVariants.{NotVolume, Device, Memory, Lost, NoAnchor, Unsound, WornOut}
-use Rattle.mount_recover.specs.Recover.{RefusedFor}
+use Rattle.mount_recover.specs.Recover.{IsVolume, RefusedFor}
 use Rattle.fsd_volume.specs.State.{State, IsMounted}
 use Rattle.fsd_volume.specs.Table.{table_in}
 
@@ -50,6 +51,14 @@ MountRefused sectors i (Lost a b) = (l : Layout) × (root_of sectors i ≡ Some 
 MountRefused sectors i (Unsound s) = (l : Layout) × (root_of sectors i ≡ Some l) × IsBroken l i s
 MountRefused sectors i Memory = ⊤
 MountRefused sectors i fault = RefusedFor sectors i fault
+
+-- The layout is the image's root, the epoch is the one behind its anchor's, and the entries are its name table.
+pub record IsFoundOn (sectors : ℕ) (i : Image) (state : State) : Type 0 where
+  pub anchor : Anchor
+  pub found : IsVolume sectors i state.layout anchor
+  pub next : state.serial.epoch ≡ anchor.epoch + 1
+  pub fits : state.serial.epoch < 2 ^ 32
+  pub table : table_on state.layout i ≡ Some state.entries
 
 -- a fault that the disk's content doesn't answer for
 abbrev pub Excuses : MountFault → Type 0
