@@ -9,7 +9,6 @@ use Rattle.fsd_files.specs.Disk.{Image}
 use Rattle.fsd_files.specs.Files.{Files}
 use Rattle.fsd_files.specs.Volume.{Volume}
 use Rattle.fsd_sound.specs.Homes.{home_of}
-use Rattle.fsd_sound.specs.Roots.{root_of}
 use Rattle.mount_recover.specs.declared.fault.MountFault.{MountFault}
 use Rattle.mount_recover.specs.declared.fault.MountFault.TheVariants.{NotVolume, Device, Memory, Lost, NoAnchor, Unsound, WornOut}
 use Rattle.mount_recover.specs.Recover.{IsVolume, RefusedFor}
@@ -24,6 +23,12 @@ TellsFault old new fault = ⊤
 -- the entries of the disk's name table, if page 0 is one
 abbrev pub table_on : Layout → Image → Option (List Entry)
 table_on l i = option_and_then (table_in l) (home_of l i 0)
+
+-- The image has this root, and an anchor of an epoch that isn't the last.
+pub record IsAccepted (sectors : ℕ) (i : Image) (l : Layout) : Type 0 where
+  pub anchor : Anchor
+  pub found : IsVolume sectors i l anchor
+  pub fits : anchor.epoch + 1 < 2 ^ 32
 
 -- Both homes of page 0 are damaged.
 pub record IsLost (l : Layout) (i : Image) (a b : ℕ) : Type 0 where
@@ -47,8 +52,8 @@ TableShown l i entries (Err fault) = ⊥
 
 -- what an image is that is refused so
 abbrev pub MountRefused : ℕ → Image → MountFault → Type 0
-MountRefused sectors i (Lost a b) = (l : Layout) × (root_of sectors i ≡ Some l) × IsLost l i a b
-MountRefused sectors i (Unsound s) = (l : Layout) × (root_of sectors i ≡ Some l) × IsBroken l i s
+MountRefused sectors i (Lost a b) = (l : Layout) × IsAccepted sectors i l × IsLost l i a b
+MountRefused sectors i (Unsound s) = (l : Layout) × IsAccepted sectors i l × IsBroken l i s
 MountRefused sectors i Memory = ⊤
 MountRefused sectors i fault = RefusedFor sectors i fault
 

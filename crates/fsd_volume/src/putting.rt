@@ -1,5 +1,5 @@
 //! The making of versions.
-ghost use Rattle.std.specs.Prelude.{◌≡◌, ◌≤◌, ◌<◌, ◌+◌, ◌-◌, ◌^◌, false, true, ℕ, List, None, Some, Err, All, OnOk, IfErr, IsTrue, length};
+ghost use Rattle.std.specs.Prelude.{◌≡◌, ◌≤◌, ◌<◌, ◌+◌, ◌-◌, ◌^◌, false, true, ℕ, List, None, Some, Err, All, OnOk, IfErr, IsTrue, length, IfOk, IfSome, IsSome};
 ghost use Rattle.std.specs.List.{insert};
 ghost use Rattle.fsd_bytes.specs.declared.refusal.Refusal.TheVariants.{WornOut};
 ghost use Rattle.fsd_bytes.specs.Keys.{key_of, is_key};
@@ -8,7 +8,8 @@ ghost use Rattle.fsd_formats.specs.declared.entry.Entry.{Entry as Listed};
 ghost use Rattle.fsd_formats.specs.NamePage.{room, is_entry, sectors_for, max_length, FitsEntry};
 ghost use Rattle.sector_disk.specs.Image.{IsCalm};
 ghost use Rattle.sector_disk.specs.Machine.{DeviceFault, UsesDisk, Trusts, OnlyWrites, Holds};
-ghost use Rattle.fsd_files.specs.Answers.{entry_put, size_fault, keep_given};
+ghost use Rattle.fsd_files.specs.Answers.{entry_put, entry_of, size_fault, keep_given, HasLeader};
+ghost use Rattle.fsd_files.specs.Disk.{nowhere};
 ghost use Rattle.fsd_files.specs.Files.{Files};
 ghost use Rattle.fsd_files.specs.OneLeaf.{leaf_used, put_outcome};
 ghost use Rattle.fsd_files.specs.Volume.{Volume as Mounted, plans_of};
@@ -55,7 +56,12 @@ impl Volume {
         // It answers what the volume answers, and is the volume then.
         ensures answers { (v : Mounted) → StandsFor self.old v → Puts v (put_outcome v name.now bytes.now keep) self.new result }
 
-        // So does the disk: the versions stand on it, and what was forced before.
+        // The new version is listed, and its leader stands in its first sector.
+        ensures listed { IfOk result (λ key. IsSome (entry_of key self.new.entries)) }
+        ensures leader { IfOk result (λ key. M.honest m.new → IsCalm (M.now m.old).windows →
+            IfSome (entry_of key self.new.entries) (HasLeader nowhere (M.now m.new).image)) }
+
+        // The versions stand on the disk, and what was forced before.
         ensures stands { M.honest m.new → IsCalm (M.now m.old).windows → (v : Mounted) (files : Files) → IsMounted self.old v files (M.now m.old).image →
             StandsOn v (put_outcome v name.now bytes.now keep) files self.new (M.now m.new).image result }
     {
