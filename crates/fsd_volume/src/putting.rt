@@ -30,6 +30,9 @@ use run_table::Runs;
 use sector_disk::{Failed, Machine};
 use std::cmp::Ordering;
 
+// The bytes of a leaf that entries take.
+const LEAF_ROOM: usize = 488;
+
 impl Volume {
     /// Makes the first version of a name, with these bytes: its data and its leader are written, and its entry waits for a
     /// force. Without a keep it keeps two versions.
@@ -100,7 +103,7 @@ impl Volume {
         if has_name(self.entries.as_slice(), &entry.key.name) {
             return Err(Refusal::VersionsUsedUp);
         }
-        if used(self.entries.as_slice()) + entry_len(&entry) > 488 {
+        if used(self.entries.as_slice()) + entry_len(&entry) > LEAF_ROOM {
             return Err(Refusal::NameTableFull { free: 0 });
         }
         let key = entry.key.copied();
