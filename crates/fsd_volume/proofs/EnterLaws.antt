@@ -1,8 +1,9 @@
 -- A table with one entry more.
-use Rattle.std.proofs.Common.{◌≡◌, ℕ, zero, suc, ◌+◌, ◌-◌, ◌^◌, ◌<◌, ◌≤◌, Bool, true, false, cond, not, ◌&&◌, ◌||◌, nat_le, nat_lt, List, [], ◌∷◌, ◌++◌, length, map, take, drop, refl, sym, ap, subst, ◌∙◌, inl, inr, arith}
+use Rattle.std.proofs.Common.{◌≡◌, ℕ, zero, suc, ◌+◌, ◌-◌, ◌^◌, ◌<◌, ◌≤◌, Bool, true, false, cond, not, ◌&&◌, ◌||◌, nat_le, nat_lt, List, [], ◌∷◌, ◌++◌, length, map, take, drop, Some, refl, sym, ap, subst, ◌∙◌, inl, inr, arith}
 use Rattle.std.specs.Prelude.{IsTrue, ⊤}
 use Rattle.std.specs.List.{AllByRecursion, flat_map, list_all, list_any}
-use Rattle.std.specs.Ordering.{is_lt, ordering_reverse}
+use Rattle.std.specs.Ordering.{is_lt, is_eq, ordering_reverse}
+use Rattle.std.proofs.lemmas.Cmp.{tied_itself}
 use Rattle.std.specs.Cmp.{IsTotalOrder}
 use Rattle.std.specs.declared.cmp.Ordering.{Ordering}
 use Rattle.std.specs.declared.cmp.Ordering.TheVariants.{Less, Equal, Greater}
@@ -23,7 +24,7 @@ use Rattle.sector_set.specs.Area.{Area, area, without, AreIn}
 use Rattle.sector_set.proofs.FreeLaws.{where_same, contains_where}
 use Rattle.fsd_formats.specs.declared.entry.Entry.{Entry}
 use Rattle.fsd_formats.specs.NamePage.{Leaf, contents_of, entry_bytes, is_entry, is_page, are_ascending, room, least_used, FitsEntry, FitsPage}
-use Rattle.fsd_files.specs.Answers.{entry_put}
+use Rattle.fsd_files.specs.Answers.{entry_put, entry_of}
 use Rattle.fsd_files.specs.OneLeaf.{leaf_used}
 use Rattle.fsd_files.specs.Volume.{plans_of}
 use Rattle.fsd_files.proofs.HistoryLaws.{keys_total}
@@ -43,6 +44,23 @@ not_alike e z entries absent same = none_alike e.key (z ∷ entries) 0 z absent 
 
 later_absent : (e z : Entry) (entries : List Entry) → names e.key.name (z ∷ entries) ≡ false → names e.key.name entries ≡ false
 later_absent e z entries absent = (or_parts (same_bytes e.key.name z.key.name) (names e.key.name entries) absent).1
+
+-- ---- the entry is found
+
+found_itself : (e : Entry) (entries : List Entry) → entry_of e.key (e ∷ entries) ≡ Some e
+found_itself e entries = ap (λ (o : Ordering). cond (is_eq o) (Some e) (entry_of e.key entries)) (tied_itself keys_total e.key)
+
+pub entry_of_put : (e : Entry) (entries : List Entry) → names e.key.name entries ≡ false → entry_of e.key (entry_put e entries) ≡ Some e
+entry_of_put e [] absent = found_itself e []
+entry_of_put e (z ∷ entries) absent = by (key_cmp e.key z.key) refl (entry_of_put e entries (later_absent e z entries absent))
+  where
+    by : (o : Ordering) → key_cmp e.key z.key ≡ o → entry_of e.key (entry_put e entries) ≡ Some e
+        → entry_of e.key (by_order o (e ∷ z ∷ entries) (e ∷ entries) (z ∷ entry_put e entries)) ≡ Some e
+    by Less is rest = found_itself e (z ∷ entries)
+    by Equal is rest = absurd (not_alike e z entries absent is)
+    by Greater is rest =
+        let flip : key_cmp z.key e.key ≡ Less = keys_total.antisymm z.key e.key ∙ ap ordering_reverse is in
+        ap (λ (o : Ordering). cond (is_eq o) (Some z) (entry_of e.key (entry_put e entries))) flip ∙ rest
 
 -- ---- bytes
 

@@ -26,7 +26,7 @@ use Rattle.mount_recover.specs.declared.mounting.Settled.{Settled}
 use Rattle.mount_recover.specs.Recover.{IsVolume, IsSettled, RefusedFor, with_anchors}
 use Rattle.mount_recover.proofs.HomeLaws.{at_home_found, length-with_anchors, with_anchors_other, with_anchors_copy, with_anchors_first}
 use Rattle.fsd_volume.specs.State.{State, IsMounted}
-use Rattle.fsd_volume.specs.Mount.{table_on, TableShown, MountRefused, Mounts, Excuses, volume_of, IsLost, IsBroken}
+use Rattle.fsd_volume.specs.Mount.{table_on, TableShown, MountRefused, Mounts, Excuses, IsAccepted, IsFoundOn, volume_of, IsLost, IsBroken}
 use Rattle.fsd_volume.specs.Table.{table_in, leaf_of}
 use Rattle.fsd_volume.proofs.HomeLaws.{plans_in_data, data_from}
 use Rattle.fsd_volume.proofs.KeptLaws.{kept_on}
@@ -92,7 +92,10 @@ table_at_home l epoch files i disk =
 
 -- ---- refusals
 
-pub table_refused : {T : Type 0} (sectors epoch : ℕ) (l : Layout) (i j : Image) (entries : T → List Entry) (fault : MountFault) → root_of sectors i ≡ Some l → j ≡ with_anchors epoch i → TableShown l j entries (Err fault) → MountRefused sectors i fault
+pub accepted : (sectors : ℕ) (i : Image) (settled : Settled) → IsSettled sectors i settled → settled.epoch < 2 ^ 32 → IsAccepted sectors i settled.layout
+accepted sectors i settled is fits = record { anchor = is.anchor; found = is.found; fits = omega (arith, is.epoch, fits) }
+
+pub table_refused : {T : Type 0} (sectors epoch : ℕ) (l : Layout) (i j : Image) (entries : T → List Entry) (fault : MountFault) → IsAccepted sectors i l → j ≡ with_anchors epoch i → TableShown l j entries (Err fault) → MountRefused sectors i fault
 table_refused sectors epoch l i j entries (Lost a b) root is shown =
     (l, root, record { first = shown.first; second = shown.second; none = sym (home_same l epoch i) ∙ ap (λ (x : Image). home_of l x 0) (sym is) ∙ shown.none })
 table_refused sectors epoch l i j entries (Unsound s) root is shown = (
@@ -150,6 +153,16 @@ table_excuses sectors epoch next l k files i j entries fault disk room root is s
     by WornOut shown = absurd shown
 
 -- ---- the mounted volume
+
+pub found_on : (sectors : ℕ) (i j : Image) (state : State) (settled : Settled) → IsSettled sectors i settled → state.layout ≡ settled.layout → state.serial.epoch ≡ settled.epoch → settled.epoch < 2 ^ 32
+    → j ≡ with_anchors settled.epoch i → table_on state.layout j ≡ Some state.entries → IsFoundOn sectors i state
+found_on sectors i j state settled is layout epoch fits renewed table = record {
+  anchor = is.anchor;
+  found = subst (λ (l : Layout). IsVolume sectors i l is.anchor) (sym layout) is.found;
+  next = epoch ∙ is.epoch;
+  fits = omega (arith, epoch, fits);
+  table = sym (table_same state.layout settled.epoch i) ∙ ap (table_on state.layout) (sym renewed) ∙ table;
+}
 
 held : (l : Layout) (e : ℕ) (files : Files) (j : Image) (state : State) (entries : List Entry) → state.layout ≡ l → IsAtHome l e entries j → Describes l nowhere j files entries → HoldsFiles state.layout e files j
 held l e files j state entries layout at_home described = record {

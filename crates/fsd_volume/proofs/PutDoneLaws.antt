@@ -1,6 +1,6 @@
 -- What a put answers, and what the volume and its disk are then.
 use Rattle.std.proofs.Common.{◌≡◌, ◌≢◌, ℕ, zero, suc, ◌+◌, ◌-◌, ◌^◌, ◌<◌, ◌≤◌, Bool, true, false, cond, not, ◌&&◌, ◌||◌, nat_le, nat_lt, List, [], ◌∷◌, ◌++◌, length, Option, Some, None, Result, Ok, Err, refl, sym, ap, subst, ◌∙◌, inl, inr, arith}
-use Rattle.std.specs.Prelude.{IsTrue, slice_index_or}
+use Rattle.std.specs.Prelude.{IsTrue, IsSome, IfSome, IfOk, slice_index_or}
 use Rattle.std.specs.List.{flat_map, list_all}
 use Rattle.std.specs.declared.cmp.Ordering.{Ordering}
 use Rattle.std.specs.declared.cmp.Ordering.TheVariants.{Less, Equal, Greater}
@@ -25,7 +25,7 @@ use Rattle.fsd_files.specs.Space.{Apart}
 use Rattle.fsd_files.specs.Disk.{Image, nowhere}
 use Rattle.fsd_files.specs.Files.{File, Files, new_key, new_keep, with_new, gone_keys, keep_of, without}
 use Rattle.fsd_files.specs.Kept.{IsEntryOf, Lists, Kept, KeptIn, Describes}
-use Rattle.fsd_files.specs.Answers.{Outcome, refused, entry_put, new_entry, no_place, size_fault, with_version as volume_with, keep_given}
+use Rattle.fsd_files.specs.Answers.{Outcome, refused, entry_put, entry_of, HasLeader, new_entry, no_place, size_fault, with_version as volume_with, keep_given}
 use Rattle.fsd_files.specs.OneLeaf.{has_name, leaf_used, put_in, put_at, put_unless, put_outcome}
 use Rattle.fsd_files.specs.Replies.{Refused, Made}
 use Rattle.fsd_files.specs.Volume.{Volume, drawn, place_for, plans_of, is_in, in_version, entries_at, entries_without, free_runs, free_count}
@@ -38,7 +38,7 @@ use Rattle.fsd_volume.proofs.KeptLaws.{kept_on, kept_in_on, back_there, front_th
 use Rattle.fsd_volume.proofs.ListLaws.{lists_put, has_name_is, first_key, first_keep, keys_gone, without_none, entries_without_none, entries_at_none}
 use Rattle.fsd_volume.proofs.PlaceLaws.{same_runs_free}
 use Rattle.fsd_volume.proofs.PlanLaws.{apart_put}
-use Rattle.fsd_volume.proofs.EnterLaws.{still_there}
+use Rattle.fsd_volume.proofs.EnterLaws.{still_there, entry_of_put}
 use Rattle.fsd_volume.proofs.VersionLaws.{length-with_version, version_elsewhere, version_kept}
 
 -- the state whose next serial is drawn
@@ -179,6 +179,20 @@ module _ (s : State) (v : Volume) (name bytes : List ℕ) (given : Option ℕ) (
       by (Err (Why.NameTableFull free)) x = subst (λ (y : State). StandsFor y (drawn v)) (sym x.1.now) (stands_drawn s v h.stands)
       by (Err Why.Memory) x = subst (λ (y : State). StandsFor y (drawn v)) (sym x) (stands_drawn s v h.stands)
       by (Err refusal) x = absurd x
+
+-- ---- the entry is listed
+
+entry_made : (s : State) (e : Entry) (new : State) (key : Key) → EntersOk s e new key → entry_of key new.entries ≡ Some e
+entry_made s e new key ok = ap (λ (k : Key). entry_of k new.entries) ok.is ∙ ap (λ (x : State). entry_of e.key x.entries) ok.now ∙ entry_of_put e s.entries ok.absent
+
+pub made_listed : (s : State) (e : Entry) (new : State) (r : Result Key Refusal) → Enters s e new r → IfOk r (λ key. IsSome (entry_of key new.entries))
+made_listed s e new (Ok key) ok = subst (λ (o : Option Entry). IsSome o) (sym (entry_made s e new key ok)) refl
+made_listed s e new (Err refusal) ok = tt
+
+pub made_leader : {H C : Type 0} (s : State) (e : Entry) (new : State) (j : Image) (r : Result Key Refusal) → Enters s e new r → (H → C → HasLeader nowhere j e)
+    → IfOk r (λ key. H → C → IfSome (entry_of key new.entries) (HasLeader nowhere j))
+made_leader s e new j (Ok key) ok leader = λ h calm. subst (λ (o : Option Entry). IfSome o (HasLeader nowhere j)) (sym (entry_made s e new key ok)) (leader h calm)
+made_leader s e new j (Err refusal) ok leader = tt
 
 -- ---- the disk
 

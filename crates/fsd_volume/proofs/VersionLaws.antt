@@ -1,6 +1,6 @@
 -- An image with a version's slices and its leader.
 use Rattle.std.proofs.Common.{◌≡◌, ◌≢◌, ℕ, zero, suc, ◌+◌, ◌-◌, ◌*◌, ◌<◌, ◌≤◌, Bool, true, false, not, ◌&&◌, List, [], ◌∷◌, length, drop, refl, sym, ap, subst, ◌∙◌, inl, arith}
-use Rattle.std.specs.Prelude.{IsTrue, slice_index_or, ◌==◌}
+use Rattle.std.specs.Prelude.{IsTrue, IfSome, slice_get, slice_index_or, ◌==◌}
 use Rattle.std.specs.List.{AllZip}
 use Rattle.std.proofs.lemmas.Bool.{and_parts, not-true, both_ways}
 use Rattle.std.proofs.lemmas.List.{length-set, get_or-set_same, get_or-set_other, length-drop}
@@ -14,6 +14,7 @@ use Rattle.sector_disk.specs.Machine.{Moment, Holds}
 use Rattle.fsd_formats.specs.declared.entry.Entry.{Entry}
 use Rattle.fsd_formats.specs.Leader.{leader_of, leader_bytes}
 use Rattle.fsd_formats.specs.NamePage.{sectors_for}
+use Rattle.fsd_files.specs.Answers.{HasLeader}
 use Rattle.fsd_files.specs.Disk.{Image, Sectors, nowhere, Has}
 use Rattle.fsd_files.specs.Kept.{slice_of, slices_from, slices, data_sectors, KeptIn}
 use Rattle.fsd_volume.specs.Slices.{lay_at, slice_place, with_slices, with_version}
@@ -53,6 +54,10 @@ zip_from j bytes k (suc n) (y ∷ ys) size each =
       zip_from j bytes (k + 1) n ys (omega arith) (λ h lt. let next : k + suc h ≡ k + 1 + h = omega arith in subst (λ (m : ℕ). sector_at j (slice_index_or ys h 0) ≡ Whole (slice_of bytes m)) next (each (suc h) (omega arith))),
     )
 
+at_first : (P : ℕ → Type 0) (xs : List ℕ) → P (slice_index_or xs 0 0) → IfSome (slice_get xs 0) P
+at_first P [] p = tt
+at_first P (x ∷ xs) p = p
+
 -- ---- the version stands
 
 module _ (image : Image) (e : Entry) (bytes : List ℕ) (count : length (sectors_of e.runs) ≡ sectors_for (length bytes)) (differ : IsTrue (all_differ (sectors_of e.runs))) where
@@ -85,3 +90,10 @@ module _ (image : Image) (e : Entry) (bytes : List ℕ) (count : length (sectors
       (λ j lt. let here : 0 + j ≡ j = omega arith in
       subst (λ (s : ℕ). sector_at (with_version image e bytes) s ≡ Whole (slice_of bytes (0 + j))) (sym (data_place e.runs j))
       (subst (λ (m : ℕ). sector_at (with_version image e bytes) (slice_place e.runs j) ≡ Whole (slice_of bytes m)) (sym here) (slice_stands room j lt)))
+
+  -- so does its leader
+  leader_whole : first < length image → sector_at (with_version image e bytes) first ≡ Whole (leader_bytes (leader_of e))
+  leader_whole room = get_or-set_same laid first (Whole (leader_bytes (leader_of e))) Damaged (omega (arith, room, length-lay_at image (slice_place e.runs) (slice_of bytes) n))
+
+  pub leader_stands : first < length image → HasLeader nowhere (with_version image e bytes) e
+  leader_stands room = at_first (Has nowhere (with_version image e bytes) (leader_bytes (leader_of e))) (sectors_of e.runs) (inl (leader_whole room))

@@ -1,17 +1,17 @@
 -- What a mount finds.
-use Rattle.std.specs.Prelude.{◌≡◌, ◌+◌, ℕ, false, List, [], Option, Some, None, IsSome, option_and_then, Result, Ok, Err, ⊤}
+use Rattle.std.specs.Prelude.{◌≡◌, ◌<◌, ◌+◌, ◌^◌, ℕ, false, List, [], Option, Some, None, IsSome, option_and_then, Result, Ok, Err, ⊤}
 use Rattle.volume_layout.specs.declared.layout.Layout.{Layout}
 use Rattle.volume_layout.specs.Layout.{home_a, home_b}
+use Rattle.fsd_formats.specs.declared.anchor.Anchor.{Anchor}
 use Rattle.fsd_formats.specs.declared.entry.Entry.{Entry}
 use Rattle.sector_disk.specs.Machine.{Report, DeviceFault}
 use Rattle.fsd_files.specs.Disk.{Image}
 use Rattle.fsd_files.specs.Files.{Files}
 use Rattle.fsd_files.specs.Volume.{Volume}
 use Rattle.fsd_sound.specs.Homes.{home_of}
-use Rattle.fsd_sound.specs.Roots.{root_of}
 use Rattle.mount_recover.specs.declared.fault.MountFault.{MountFault}
 use Rattle.mount_recover.specs.declared.fault.MountFault.TheVariants.{NotVolume, Device, Memory, Lost, NoAnchor, Unsound, WornOut}
-use Rattle.mount_recover.specs.Recover.{RefusedFor}
+use Rattle.mount_recover.specs.Recover.{IsVolume, RefusedFor}
 use Rattle.fsd_volume.specs.State.{State, IsMounted}
 use Rattle.fsd_volume.specs.Table.{table_in}
 
@@ -23,6 +23,12 @@ TellsFault old new fault = ⊤
 -- the entries of the disk's name table, if page 0 is one
 abbrev pub table_on : Layout → Image → Option (List Entry)
 table_on l i = option_and_then (table_in l) (home_of l i 0)
+
+-- The image has this root, and an anchor of an epoch that isn't the last.
+pub record IsAccepted (sectors : ℕ) (i : Image) (l : Layout) : Type 0 where
+  pub anchor : Anchor
+  pub found : IsVolume sectors i l anchor
+  pub fits : anchor.epoch + 1 < 2 ^ 32
 
 -- Both homes of page 0 are damaged.
 pub record IsLost (l : Layout) (i : Image) (a b : ℕ) : Type 0 where
@@ -46,10 +52,18 @@ TableShown l i entries (Err fault) = ⊥
 
 -- what an image is that is refused so
 abbrev pub MountRefused : ℕ → Image → MountFault → Type 0
-MountRefused sectors i (Lost a b) = (l : Layout) × (root_of sectors i ≡ Some l) × IsLost l i a b
-MountRefused sectors i (Unsound s) = (l : Layout) × (root_of sectors i ≡ Some l) × IsBroken l i s
+MountRefused sectors i (Lost a b) = (l : Layout) × IsAccepted sectors i l × IsLost l i a b
+MountRefused sectors i (Unsound s) = (l : Layout) × IsAccepted sectors i l × IsBroken l i s
 MountRefused sectors i Memory = ⊤
 MountRefused sectors i fault = RefusedFor sectors i fault
+
+-- The layout is the image's root, the epoch is the one behind its anchor's, and the entries are its name table.
+pub record IsFoundOn (sectors : ℕ) (i : Image) (state : State) : Type 0 where
+  pub anchor : Anchor
+  pub found : IsVolume sectors i state.layout anchor
+  pub next : state.serial.epoch ≡ anchor.epoch + 1
+  pub fits : state.serial.epoch < 2 ^ 32
+  pub table : table_on state.layout i ≡ Some state.entries
 
 -- a fault that the disk's content doesn't answer for
 abbrev pub Excuses : MountFault → Type 0

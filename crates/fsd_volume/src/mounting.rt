@@ -7,7 +7,7 @@ ghost use Rattle.sector_disk.specs.Machine.{UsesDisk, Trusts, OnlyWrites, Wears}
 ghost use Rattle.fsd_files.specs.Files.{Files};
 ghost use Rattle.fsd_sound.specs.AtHome.{HoldsFiles};
 ghost use Rattle.fsd_volume.specs.State.{IsTable, free_space};
-ghost use Rattle.fsd_volume.specs.Mount.{TellsFault, TableShown, MountRefused, Mounts, Excuses};
+ghost use Rattle.fsd_volume.specs.Mount.{TellsFault, TableShown, MountRefused, IsFoundOn, Mounts, Excuses};
 
 use crate::Volume;
 use crate::table::{all_runs, table_of};
@@ -33,6 +33,10 @@ impl Volume {
         ensures room { IfOk result (λ volume. volume.layout.sectors ≤ sectors) }
         ensures idle { IfOk result (λ volume. volume.waits ≡ false) }
         ensures first { IfOk result (λ volume. volume.serial.count ≡ 1) }
+
+        // The volume is the one that the image holds.
+        ensures found { IfOk result (λ volume. M.honest m.new → IsCalm (M.now m.old).windows → IsCalm (M.now m.new).windows →
+            IsFoundOn sectors (M.now m.old).image volume) }
 
         // Each refusal but a fault of the disk and want of memory says what the image is.
         ensures refused { IfErr result (λ fault. M.honest m.new → IsCalm (M.now m.old).windows → IsCalm (M.now m.new).windows →

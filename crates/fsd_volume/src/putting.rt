@@ -1,5 +1,5 @@
 //! The making of versions.
-ghost use Rattle.std.specs.Prelude.{◌≡◌, ◌≤◌, ◌<◌, ◌+◌, ◌-◌, ◌^◌, false, true, ℕ, List, None, Some, Err, All, OnOk, IfErr, IsTrue, length};
+ghost use Rattle.std.specs.Prelude.{◌≡◌, ◌≤◌, ◌<◌, ◌+◌, ◌-◌, ◌^◌, false, true, ℕ, List, None, Some, Err, All, OnOk, IfErr, IsTrue, length, IfOk, IfSome, IsSome};
 ghost use Rattle.std.specs.List.{insert};
 ghost use Rattle.fsd_bytes.specs.declared.refusal.Refusal.TheVariants.{WornOut};
 ghost use Rattle.fsd_bytes.specs.Keys.{key_of, is_key};
@@ -8,7 +8,8 @@ ghost use Rattle.fsd_formats.specs.declared.entry.Entry.{Entry as Listed};
 ghost use Rattle.fsd_formats.specs.NamePage.{room, is_entry, sectors_for, max_length, FitsEntry};
 ghost use Rattle.sector_disk.specs.Image.{IsCalm};
 ghost use Rattle.sector_disk.specs.Machine.{DeviceFault, UsesDisk, Trusts, OnlyWrites, Holds};
-ghost use Rattle.fsd_files.specs.Answers.{entry_put, size_fault, keep_given};
+ghost use Rattle.fsd_files.specs.Answers.{entry_put, entry_of, size_fault, keep_given, HasLeader};
+ghost use Rattle.fsd_files.specs.Disk.{nowhere};
 ghost use Rattle.fsd_files.specs.Files.{Files};
 ghost use Rattle.fsd_files.specs.OneLeaf.{leaf_used, put_outcome};
 ghost use Rattle.fsd_files.specs.Volume.{Volume as Mounted, plans_of};
@@ -28,6 +29,9 @@ use name_page::entry_len;
 use run_table::Runs;
 use sector_disk::{Failed, Machine};
 use std::cmp::Ordering;
+
+// The bytes of a leaf that entries take.
+const LEAF_ROOM: usize = 488;
 
 impl Volume {
     /// Makes the first version of a name, with these bytes: its data and its leader are written, and its entry waits for a
@@ -55,7 +59,12 @@ impl Volume {
         // It answers what the volume answers, and is the volume then.
         ensures answers { (v : Mounted) → StandsFor self.old v → Puts v (put_outcome v name.now bytes.now keep) self.new result }
 
-        // So does the disk: the versions stand on it, and what was forced before.
+        // The new version is listed, and its leader stands in its first sector.
+        ensures listed { IfOk result (λ key. IsSome (entry_of key self.new.entries)) }
+        ensures leader { IfOk result (λ key. M.honest m.new → IsCalm (M.now m.old).windows →
+            IfSome (entry_of key self.new.entries) (HasLeader nowhere (M.now m.new).image)) }
+
+        // The versions stand on the disk, and what was forced before.
         ensures stands { M.honest m.new → IsCalm (M.now m.old).windows → (v : Mounted) (files : Files) → IsMounted self.old v files (M.now m.old).image →
             StandsOn v (put_outcome v name.now bytes.now keep) files self.new (M.now m.new).image result }
     {
@@ -94,7 +103,7 @@ impl Volume {
         if has_name(self.entries.as_slice(), &entry.key.name) {
             return Err(Refusal::VersionsUsedUp);
         }
-        if used(self.entries.as_slice()) + entry_len(&entry) > 488 {
+        if used(self.entries.as_slice()) + entry_len(&entry) > LEAF_ROOM {
             return Err(Refusal::NameTableFull { free: 0 });
         }
         let key = entry.key.copied();

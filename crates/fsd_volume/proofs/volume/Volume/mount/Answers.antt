@@ -1,10 +1,10 @@
-use Rattle.std.proofs.Common.{◌≡◌, ◌<◌, ◌^◌, ℕ, [], false, sym, ap, subst, ◌∙◌, List, rules, arith}
+use Rattle.std.proofs.Common.{refl, ◌≡◌, ◌<◌, ◌^◌, ℕ, [], false, sym, ap, subst, ◌∙◌, List, rules, arith}
 use Rattle.fsd_formats.specs.declared.entry.Entry.{Entry}
 use Rattle.sector_disk.specs.Image.{IsCalm, Windows}
 use Rattle.sector_disk.specs.Machine.{Moment}
 use Rattle.sector_disk.proofs.Calm.{calm_worn, same_calm}
 use Rattle.fsd_volume.specs.State.{State}
-use Rattle.fsd_volume.proofs.MountLaws.{recover_excuses, table_excuses, table_refused, is_mounted}
+use Rattle.fsd_volume.proofs.MountLaws.{recover_excuses, table_excuses, accepted, table_refused, is_mounted, found_on}
 use Rattle.fsd_volume.proofs.volume.Volume.mount.Goals as goal
 
 pub returns-in-Err-clause-excuses : goal.returns-in-Err-clause-excuses
@@ -18,7 +18,8 @@ returns-in-Err-load_table-clause-refused g c h calm after =
     let worn = c.load_table.ensures.worn h in
     let mid = same_calm (M.now c.recover.new.m).windows (M.now c.load_table.new.m).windows worn.windows after in
     let image = calm_worn (M.now c.recover.new.m).windows (M.now c.recover.new.m).image (M.now c.load_table.new.m).image mid worn.image ∙ (c.in-Ok.ensures.renewed h1 calm mid).image in
-    table_refused {T = ℕ} c.args.sectors c.in-Ok.settled.epoch c.in-Ok.settled.layout (M.now c.args.m.now).image (M.now c.load_table.new.m).image (λ n. []) c.in-Err-load_table.fault (c.in-Ok.ensures.found h1 calm).found.root image (c.in-Err-load_table.ensures.shown h)
+    let fits : c.in-Ok.settled.epoch < 2 ^ 32 = search rules in
+    table_refused {T = ℕ} c.args.sectors c.in-Ok.settled.epoch c.in-Ok.settled.layout (M.now c.args.m.now).image (M.now c.load_table.new.m).image (λ n. []) c.in-Err-load_table.fault (accepted c.args.sectors (M.now c.args.m.now).image c.in-Ok.settled (c.in-Ok.ensures.found h1 calm) fits) image (c.in-Err-load_table.ensures.shown h)
 
 pub returns-in-Err-load_table-clause-excuses : goal.returns-in-Err-load_table-clause-excuses
 returns-in-Err-load_table-clause-excuses g c h calm after l epoch files disk room fits =
@@ -40,3 +41,14 @@ returns-in-Ok-map_of-clause-mounted g c h calm after l epoch files disk room =
     let fits : c.in-Ok.settled.epoch < 2 ^ 32 = search rules in
     let state : State = record { layout = c.in-Ok.settled.layout; entries = c.in-Ok-load_table.entries.items; serial = record { epoch = c.in-Ok.settled.epoch; count = 1 }; waits = false } in
     is_mounted c.args.sectors epoch l files (M.now c.args.m.now).image (M.now c.load_table.new.m).image state settled.anchor disk room settled.found settled.epoch fits image (c.in-Ok-load_table.ensures.shown h)
+
+pub returns-in-Ok-map_of-clause-found : goal.returns-in-Ok-map_of-clause-found
+returns-in-Ok-map_of-clause-found g c h calm after =
+    let M = g.M.Machine in
+    let h1 = c.load_table.ensures.trust.honest h in
+    let worn = c.load_table.ensures.worn h in
+    let mid = same_calm (M.now c.recover.new.m).windows (M.now c.load_table.new.m).windows worn.windows after in
+    let image = calm_worn (M.now c.recover.new.m).windows (M.now c.recover.new.m).image (M.now c.load_table.new.m).image mid worn.image ∙ (c.in-Ok.ensures.renewed h1 calm mid).image in
+    let fits : c.in-Ok.settled.epoch < 2 ^ 32 = search rules in
+    let state : State = record { layout = c.in-Ok.settled.layout; entries = c.in-Ok-load_table.entries.items; serial = record { epoch = c.in-Ok.settled.epoch; count = 1 }; waits = false } in
+    found_on c.args.sectors (M.now c.args.m.now).image (M.now c.load_table.new.m).image state c.in-Ok.settled (c.in-Ok.ensures.found h1 calm) refl refl fits image (c.in-Ok-load_table.ensures.shown h)

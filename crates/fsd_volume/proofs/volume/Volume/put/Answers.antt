@@ -2,7 +2,7 @@ use Rattle.std.proofs.Common.{◌≡◌, Err, ◌+◌, ◌<◌, ◌≤◌, ◌^�
 use Rattle.sector_set.specs.Area.{Area}
 use Rattle.fsd_formats.specs.declared.entry.Entry.{Entry}
 use Rattle.fsd_formats.specs.NamePage.{sectors_for, max_keep}
-use Rattle.fsd_files.specs.Answers.{keep_given}
+use Rattle.fsd_files.specs.Answers.{keep_given, HasLeader}
 use Rattle.fsd_files.specs.OneLeaf.{put_outcome}
 use Rattle.fsd_files.specs.Volume.{plans_of}
 use Rattle.fsd_volume.specs.Put.{placed, AreNew}
@@ -10,7 +10,9 @@ use Rattle.fsd_volume.specs.State.{State, StandsFor, IsMounted, free_space}
 use Rattle.fsd_volume.proofs.PlaceLaws.{picked_place}
 use Rattle.fsd_volume.proofs.StoredLaws.{most_sectors, stored_runs, stored_below, stored_count}
 use Rattle.fsd_volume.proofs.PutLaws.{placed_ok, sizes_fit, keep_fits, entry_good, entry_fits, entry_stored, runs_written}
-use Rattle.fsd_volume.proofs.PutDoneLaws.{place_refused, Entering, puts_entered, puts_on, stands_on}
+use Rattle.fsd_volume.proofs.PutDoneLaws.{place_refused, Entering, puts_entered, puts_on, stands_on, drawn_state, made_listed, made_leader}
+use Rattle.fsd_volume.proofs.VersionLaws.{leader_stands}
+use Rattle.fsd_files.specs.Disk.{Image, nowhere}
 use Rattle.run_table.specs.RunTable.{sectors_of}
 use Rattle.std.specs.Prelude.{slice_index_or}
 use Rattle.fsd_volume.specs.Slices.{with_version}
@@ -181,3 +183,33 @@ returns-in-Ok-write_version-clause-stands g c honest calm v files mounted =
     let image = calm_holds (M.now c.args.m.now) (M.now c.write_version.new.m) (with_version (M.now c.args.m.now).image e c.args.bytes.now) calm (c.in-Ok-write_version.ensures.done honest) in
     stands_on v (put_outcome v c.args.name.now c.args.bytes.now c.args.keep) files c.enter.new.self (M.now c.write_version.new.m).image c.enter.result
     (puts_on state v c.args.name.now c.args.bytes.now c.args.keep e h files (M.now c.args.m.now).image (M.now c.write_version.new.m).image c.enter.new.self c.enter.result count is.new room here image c.enter.ensures)
+
+pub returns-in-Ok-write_version-clause-listed : goal.returns-in-Ok-write_version-clause-listed
+returns-in-Ok-write_version-clause-listed g c =
+    let state : State = record { layout = c.self.inside.layout; entries = c.self.inside.entries.items; serial = c.self.inside.serial; waits = c.self.inside.waits } in
+    let e : Entry = record { key = c.first_key.result; keep = c.unwrap_or.result; serial = c.self.inside.serial; length = length c.args.bytes.now; runs = c.in-Ok.runs } in
+    made_listed (drawn_state state) e c.enter.new.self c.enter.result c.enter.ensures
+
+pub returns-in-Ok-write_version-clause-leader : goal.returns-in-Ok-write_version-clause-leader
+returns-in-Ok-write_version-clause-leader g c =
+    let state : State = record { layout = c.self.inside.layout; entries = c.self.inside.entries.items; serial = c.self.inside.serial; waits = c.self.inside.waits } in
+    let fits = sym c.size_fault.ensures ∙ c.in_default.is in
+    let need = ap (λ (n : ℕ). 1 + n) c.div_ceil.ensures in
+    let place = ap (λ (m : Area). placed m.sectors (sectors_for (length c.args.bytes.now))) (sym c.self.invariant.map) ∙ ap (placed c.self.inside.map.sectors) (sym need) ∙ sym c.place.ensures ∙ c.in-Ok.is in
+    let picked = placed_ok (free_space state.layout state.entries).sectors (sectors_for (length c.args.bytes.now)) c.in-Ok.runs place in
+    let is = picked_place state.layout state.entries (sectors_for (length c.args.bytes.now)) c.in-Ok.runs (omega arith) picked in
+    let most = most_sectors state.layout state.entries c.self.invariant.table in
+    let sizes = sizes_fit (keep_given c.args.keep) (length c.args.bytes.now) fits in
+    let e : Entry = record { key = c.first_key.result; keep = c.unwrap_or.result; serial = c.self.inside.serial; length = length c.args.bytes.now; runs = c.in-Ok.runs } in
+    let keep : c.unwrap_or.result ≤ max_keep = subst (λ (n : ℕ). n ≤ max_keep) (sym c.unwrap_or.ensures) (keep_fits c.args.keep sizes.0) in
+    let good = entry_good state.layout state.entries e is c.first_key.ensures.key keep sizes.1 in
+    let M = g.M.Machine in
+    let count = stored_count state.layout e most (entry_stored state.layout state.entries e is good) in
+    let below = stored_below state.layout e most (entry_stored state.layout state.entries e is good) in
+    made_leader (drawn_state state) e c.enter.new.self (M.now c.write_version.new.m).image c.enter.result c.enter.ensures
+    (λ honest calm.
+    let old = c.write_version.ensures.trust.honest honest in
+    let first = below 0 0 (omega (arith, count)) in
+    let room : slice_index_or (sectors_of c.in-Ok.runs) 0 0 < length (M.now c.args.m.now).image = omega (arith, first, ap (λ (s : State). s.layout.sectors) c.self.view_is, c.requires, g.met.M.Machine.sized c.args.m.now old) in
+    let image = calm_holds (M.now c.args.m.now) (M.now c.write_version.new.m) (with_version (M.now c.args.m.now).image e c.args.bytes.now) calm (c.in-Ok-write_version.ensures.done honest) in
+    subst (λ (x : Image). HasLeader nowhere x e) (sym image) (leader_stands (M.now c.args.m.now).image e c.args.bytes.now count is.new.differ room))
