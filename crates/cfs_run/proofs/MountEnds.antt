@@ -1,14 +1,12 @@
 -- A run that ends with the fault of its mount.
-use Rattle.std.proofs.Common.{◌≡◌, ◌⊎◌, inl, inr, ℕ, Bool, true, false, List, [], ◌∷◌, ◌++◌, length, replicate, None, refl, sym, ap, subst, ◌∙◌, arith}
-use Rattle.std.specs.Prelude.{Result, Ok, Err}
+use Rattle.std.proofs.Common.{◌≡◌, ◌⊎◌, inl, inr, ℕ, true, false, List, [], ◌∷◌, ◌++◌, length, replicate, None, refl, sym, ap, subst, ◌∙◌, arith}
+use Rattle.std.specs.Prelude.{Err}
 use Rattle.std.proofs.lemmas.List.{length-replicate}
-use Rattle.volume_layout.specs.declared.layout.Layout.{Layout}
-use Rattle.volume_layout.specs.declared.fault.LayoutFault.{LayoutFault}
 use Rattle.fsd_bytes.specs.declared.refusal.Refusal.{Refusal}
 use Rattle.fsd_bytes.specs.declared.refusal.Refusal.TheVariants as Why
 use Rattle.fsd_formats.specs.declared.entry.Entry.{Entry}
 use Rattle.fsd_files.specs.Files.{Files}
-use Rattle.fsd_files.specs.Kept.{IsEntryOf, Lists}
+use Rattle.fsd_files.specs.Kept.{Lists}
 use Rattle.fsd_files.specs.OneLeaf.{put_outcome}
 use Rattle.fsd_files.specs.Volume.{Volume}
 use Rattle.mount_recover.specs.declared.fault.MountFault.{MountFault}
@@ -18,7 +16,6 @@ use Rattle.sector_disk.specs.Image.{IsCalm}
 use Rattle.sector_disk.specs.Machine.{Finds, Moment}
 use Rattle.sector_disk.proofs.Calm.{calm_worn}
 use Rattle.fsd_volume.specs.Mount.{MountRefused, volume_of}
-use Rattle.fsd_volume.specs.Pieces.{ReadEnds}
 use Rattle.fsd_volume.specs.Put.{PutSays, Puts}
 use Rattle.fsd_volume.specs.State.{StandsFor, State}
 use Rattle.cfs_run.specs.declared.fault.Fault.{Fault}
@@ -28,11 +25,10 @@ use Rattle.cfs_run.specs.declared.line.Line.TheVariants as Lines
 use Rattle.cfs_run.specs.declared.answer.Answer.{Answer}
 use Rattle.cfs_run.specs.declared.answer.Answer.TheVariants as Said
 use Rattle.cfs_run.specs.Answer.{answer_status, answer_text}
-use Rattle.cfs_run.specs.Formatting.{IsDeviceLine, IsFormatLine, format_line}
 use Rattle.cfs_run.specs.Mounting.{IfMount, fault_of}
 use Rattle.cfs_run.specs.Ends.{IfMountAnswer, IfMountLine, Never, NotMounted, is_one_of}
 use Rattle.cfs_run.specs.Text.{line_of}
-use Rattle.cfs_run.proofs.PutLaws.{IsReply, keeps}
+use Rattle.cfs_run.proofs.PutLaws.{keeps}
 
 -- the mount's own fault
 of_mount : (P : MountFault → Type 0) (fault : MountFault) → P fault → IfMount P (fault_of fault)
@@ -51,58 +47,6 @@ opened_refused fault told count sectors old at calm found same refused told_is =
     let here = subst (λ (i : List Sector). MountRefused count i fault) (calm_worn old.windows old.image at.image calm found.image) refused in
     let counted = subst (λ (n : ℕ). MountRefused n old.image fault) (sym same) here in
     subst (λ (f : Fault). IfMount (MountRefused sectors old.image) f) (sym told_is) (of_mount (MountRefused sectors old.image) fault counted)
-
--- ---- a fault that is none of a mount
-
-not_of_mount : (P : MountFault → Type 0) (fault : Fault) → IfMount Never fault → IfMount P fault
-not_of_mount P Ends.NotVolume never = absurd never
-not_of_mount P (Ends.Lost a b) never = absurd never
-not_of_mount P Ends.NoAnchor never = absurd never
-not_of_mount P (Ends.Unsound s) never = absurd never
-not_of_mount P Ends.WornOut never = absurd never
-not_of_mount P (Ends.Device s) never = tt
-not_of_mount P Ends.Input never = tt
-not_of_mount P Ends.InputTooLong never = tt
-not_of_mount P Ends.Memory never = tt
-
-pub no_line : (P : MountFault → Type 0) (line : Line) → IfMountLine Never line → IfMountLine P line
-no_line P (Lines.Ended fault) never = not_of_mount P fault never
-no_line P Lines.Usage never = tt
-no_line P (Lines.BadField cause) never = tt
-no_line P (Lines.Formatted n free) never = tt
-no_line P (Lines.Unplanned why) never = tt
-no_line P (Lines.Made key sectors) never = tt
-no_line P (Lines.Damaged key s) never = tt
-no_line P (Lines.Refused why) never = tt
-
-pub no_answer : (P : MountFault → Type 0) (answer : Answer) → IfMountAnswer Never answer → IfMountAnswer P answer
-no_answer P (Said.Line line) never = no_line P line never
-no_answer P (Said.Bytes bytes) never = tt
-
--- ---- a format
-
-device_line : (P : MountFault → Type 0) (line : Line) → IsDeviceLine line → IfMountLine P line
-device_line P (Lines.Ended (Ends.Device s)) device = tt
-device_line P (Lines.Ended Ends.NotVolume) device = absurd device
-device_line P (Lines.Ended (Ends.Lost a b)) device = absurd device
-device_line P (Lines.Ended Ends.NoAnchor) device = absurd device
-device_line P (Lines.Ended (Ends.Unsound s)) device = absurd device
-device_line P (Lines.Ended Ends.Input) device = absurd device
-device_line P (Lines.Ended Ends.InputTooLong) device = absurd device
-device_line P (Lines.Ended Ends.Memory) device = absurd device
-device_line P (Lines.Ended Ends.WornOut) device = absurd device
-device_line P Lines.Usage device = absurd device
-device_line P (Lines.BadField cause) device = absurd device
-device_line P (Lines.Formatted n free) device = absurd device
-device_line P (Lines.Unplanned why) device = absurd device
-device_line P (Lines.Made key sectors) device = absurd device
-device_line P (Lines.Damaged key s) device = absurd device
-device_line P (Lines.Refused why) device = absurd device
-
-pub format_ends : (P : MountFault → Type 0) (planned : Result Layout LayoutFault) (line : Line) → IsFormatLine planned line → IfMountLine P line
-format_ends P (Ok l) line (inl same) = subst (λ (x : Line). IfMountLine P x) (sym same) tt
-format_ends P (Ok l) line (inr device) = device_line P line device
-format_ends P (Err why) line same = subst (λ (x : Line). IfMountLine P x) (sym same) tt
 
 -- ---- a put: the entries are those of some files, whatever the disk is
 
