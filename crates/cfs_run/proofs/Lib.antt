@@ -1,6 +1,7 @@
 mod FormatEnds
 mod GetLaws
 mod InputSoFar
+mod MountEnds
 mod OpenLaws
 mod PutEnds
 mod PutLaws

@@ -606,3 +606,10 @@ module _ (H : Type 0) (request : Request) (answer : Answer) (old mid new : Repor
 
   pub run_untouched : (path : List ℕ) → asks_of request path ≡ [] → H → IsUntouched at after
   run_untouched path none h = subst (λ (m : Moment). IsUntouched m after) (request_still request answer path at between ran.answers none (ran.leaves h)) (still h)
+
+  -- the text is said with its status, but for the statuses of the output and of memory
+  pub run_says : H → (result ≡ 6 → ⊥) → (result ≡ 7 → ⊥) → (result ≡ answer_status answer) × (after.said ≡ at.said ++ answer_text answer)
+  run_says h no_output no_memory = elim ran.said [
+    inl whole ↦ elim whole [ inl all ↦ (all.ends, (all.said h).said ∙ ap (λ (s : List ℕ). s ++ answer_text answer) (ran.quiet h)) | inr some ↦ absurd (no_output some.ends) ]
+    | inr memory ↦ elim memory [ inl all ↦ absurd (no_memory all.ends) | inr some ↦ absurd (no_output some.ends) ]
+  ]

@@ -14,7 +14,7 @@ use Rattle.fsd_files.specs.Files.{File, Files}
 use Rattle.fsd_files.specs.Answers.{Outcome}
 use Rattle.fsd_files.specs.Replies.{Made, Refused, Reply}
 use Rattle.fsd_files.specs.OneLeaf.{put_outcome}
-use Rattle.fsd_volume.specs.Mount.{Mounts, volume_of}
+use Rattle.fsd_volume.specs.Mount.{MountRefused, Mounts, volume_of}
 use Rattle.fsd_volume.specs.State.{State}
 use Rattle.fsd_sound.specs.AtHome.{HoldsFiles}
 use Rattle.cfs_run.specs.declared.fault.Fault.{Fault}
@@ -27,9 +27,10 @@ use Rattle.cfs_run.specs.declared.request.Request.TheVariants.{Outside, BadField
 use Rattle.cfs_run.specs.declared.fault.Fault.TheVariants as Ends
 use Rattle.fsd_bytes.specs.declared.key.Key.{Key}
 use Rattle.cfs_run.specs.declared.input.TheConstants.{MOST_INPUT}
-use Rattle.cfs_run.specs.Mounting.{IsExcuse, IsMountFault, OpensDisk, mount_asks}
+use Rattle.mount_recover.specs.declared.fault.MountFault.{MountFault}
+use Rattle.cfs_run.specs.Mounting.{IfMount, IsExcuse, IsMountFault, OpensDisk, fault_of, mount_asks}
 use Rattle.cfs_run.specs.Text.{fault_text, memory_text, text}
-use Rattle.cfs_run.specs.Answer.{CausesLine, answer_status, answer_text, status_of}
+use Rattle.cfs_run.specs.Answer.{CausesLine, answer_status, answer_text, fault_status, status_of}
 use Rattle.cfs_run.specs.Formatting.{AsksLine, HoldsVolume, IsDeviceLine, IsFormatLine, VolumeMade, format_line, plan_asks}
 
 -- ---- the answers to a request
@@ -82,6 +83,19 @@ IsAnswerTo (Get key) answer = IsGetAnswer key answer
 abbrev pub CausesAnswer : Answer → Report → Report → Type 0
 CausesAnswer (Said.Line line) old new = CausesLine line old new
 CausesAnswer (Said.Bytes bytes) old new = ⊤
+
+-- what a mount's fault says, where the line or the answer tells one
+abbrev pub IfMountLine : (MountFault → Type 0) → Line → Type 0
+IfMountLine P (Says.Ended fault) = IfMount P fault
+IfMountLine P line = ⊤
+
+abbrev pub IfMountAnswer : (MountFault → Type 0) → Answer → Type 0
+IfMountAnswer P (Said.Line line) = IfMountLine P line
+IfMountAnswer P (Said.Bytes bytes) = ⊤
+
+-- no mount's fault
+abbrev pub Never : MountFault → Type 0
+Never fault = ⊥
 
 -- the attach that a request asks for
 abbrev pub asks_of : Request → List ℕ → List Asked
@@ -281,6 +295,13 @@ pub record SaysPart (request : Request) (place : ℕ) (before after : List ℕ) 
   pub may : MaySay request place bytes ⊎ (bytes ≡ memory_text)
   pub heard : ℕ
   pub said : after ≡ before ++ take heard bytes
+
+-- The image is one whose mount is refused for this fault, the fault's line is said, and the status is the fault's.
+pub record NotMounted (sectors : ℕ) (old new : Moment) (result : ℕ) : Type 0 where
+  pub fault : MountFault
+  pub refused : MountRefused sectors old.image fault
+  pub said : new.said ≡ old.said ++ fault_text (fault_of fault)
+  pub ends : result ≡ fault_status (fault_of fault)
 
 -- ---- what is left
 

@@ -32,6 +32,15 @@ IsExcuse (Ends.Device s) = ⊤
 IsExcuse Ends.Memory = ⊤
 IsExcuse fault = ⊥
 
+-- what a mount's fault says, if this is one that the disk's content answers for
+abbrev pub IfMount : (MountFault → Type 0) → Fault → Type 0
+IfMount P Ends.NotVolume = P NotVolume
+IfMount P (Ends.Lost a b) = P (Lost a b)
+IfMount P Ends.NoAnchor = P NoAnchor
+IfMount P (Ends.Unsound s) = P (Unsound s)
+IfMount P Ends.WornOut = P WornOut
+IfMount P fault = ⊤
+
 -- it is so of every disk that holds files, where nothing wears
 abbrev pub OpensDisk : Moment → Moment → (Layout → ℕ → Files → Type 0) → Type 0
 OpensDisk old new P = IsCalm old.windows → IsCalm new.windows → (l : Layout) (epoch : ℕ) (files : Files) → HoldsFiles l epoch files old.image → P l epoch files

@@ -3,14 +3,14 @@ ghost use Rattle.std.specs.Prelude.{◌≡◌, ◌≤◌, ℕ, None, length};
 ghost use Rattle.sector_disk.specs.Machine.{OnlyWrites, Trusts};
 ghost use Rattle.cfs_run.specs.declared.input.TheConstants.{MOST_INPUT};
 ghost use Rattle.cfs_run.specs.Answer.{CausesLine};
-ghost use Rattle.cfs_run.specs.Ends.{IsMadeLine, IsPutLine, PutLeaves, Puts, Stores, TakesFor};
+ghost use Rattle.cfs_run.specs.Ends.{IfMountLine, IsMadeLine, IsPutLine, Never, PutLeaves, Puts, Stores, TakesFor};
 ghost use Rattle.cfs_run.specs.Formatting.{AsksLine, UsesAttach};
 ghost use Rattle.cfs_run.specs.Input.{UsesCounts};
 ghost use Rattle.cfs_run.specs.Mounting.{mount_asks};
 ghost use Rattle.sector_disk.specs.Image.{IsCalm};
 ghost use Rattle.volume_layout.specs.declared.layout.Layout.{Layout as Planned};
 ghost use Rattle.fsd_files.specs.Files.{Files};
-ghost use Rattle.fsd_volume.specs.Mount.{Mounts};
+ghost use Rattle.fsd_volume.specs.Mount.{MountRefused, Mounts};
 ghost use Rattle.fsd_files.specs.OneLeaf.{put_outcome};
 ghost use Rattle.fsd_files.specs.Volume.{Volume as Mounted};
 ghost use Rattle.fsd_volume.specs.State.{IsMounted};
@@ -34,6 +34,7 @@ pub(crate) fn put<M: Machine>(alloc: Global, path: &str, name: &FileName, m: &mu
     ensures asks { M.tells m.new → AsksLine (mount_asks path.now) result (M.ledger m.old).attaches (M.ledger m.new).attaches }
     ensures takes { M.tells m.new → TakesFor result (M.ledger m.old).input (M.ledger m.new).input }
     ensures quiet { M.honest m.new → (M.now m.new).said ≡ (M.now m.old).said }
+    ensures refused { M.honest m.new → IsCalm (M.now m.old).windows → IsCalm (M.now m.new).windows → IfMountLine (MountRefused (M.report m.new).sectors (M.now m.old).image) result }
     ensures leaves { M.honest m.new → PutLeaves name.now (M.ledger m.old).input result (M.now m.old) (M.now m.new) }
 {
     match open(alloc, path, m) {
@@ -53,6 +54,7 @@ fn put_input<M: Machine>(alloc: Global, volume: Volume, name: &FileName, m: &mut
     ensures takes { M.tells m.new → TakesFor result (M.ledger m.old).input (M.ledger m.new).input }
     ensures quiet { M.honest m.new → (M.now m.new).said ≡ (M.now m.old).said }
     ensures windows { M.honest m.new → (M.now m.new).windows ≡ (M.now m.old).windows }
+    ensures mounted { volume.serial.count ≡ 1 → IfMountLine Never result }
     ensures puts { M.honest m.new → IsCalm (M.now m.old).windows → (l : Planned) (epoch : ℕ) (files : Files) → Mounts l epoch files volume (M.now m.old).image → volume.serial.count ≡ 1
         → Puts name.now (M.ledger m.old).input l epoch files result (M.now m.new).image }
 {
@@ -74,6 +76,7 @@ fn put_bytes<M: Machine>(volume: Volume, name: &FileName, bytes: &[u8], m: &mut 
     ensures ledger { M.tells m.new → OnlyWrites (M.ledger m.old) (M.ledger m.new) }
     ensures quiet { M.honest m.new → (M.now m.new).said ≡ (M.now m.old).said }
     ensures windows { M.honest m.new → (M.now m.new).windows ≡ (M.now m.old).windows }
+    ensures mounted { volume.serial.count ≡ 1 → IfMountLine Never result }
     ensures stores { M.honest m.new → IsCalm (M.now m.old).windows → (v : Mounted) → IsMounted volume v v.files (M.now m.old).image → v.serial.count ≡ 1
         → Stores v.layout v.serial.epoch (put_outcome v name.now bytes.now None) result (M.now m.new).image }
 {

@@ -1,13 +1,15 @@
 //! The top call.
 ghost use Rattle.std.specs.Prelude.{◌≡◌, ◌⊎◌, ◌<◌, ◌++◌, [], length, map, IsTrue};
 ghost use Rattle.std.specs.String.{string_bytes};
+ghost use Rattle.sector_disk.specs.Image.{IsCalm};
 ghost use Rattle.sector_disk.specs.Machine.{Rose, Trusts};
+ghost use Rattle.fsd_volume.specs.Mount.{MountRefused};
 ghost use Rattle.cfs_run.specs.declared.fault.Fault.TheVariants as Ends;
 ghost use Rattle.cfs_run.specs.Text.{fault_text};
 ghost use Rattle.cfs_run.specs.declared.input.TheConstants.{MOST_INPUT};
 ghost use Rattle.cfs_run.specs.Words.{path_of, request_of};
 ghost use Rattle.cfs_run.specs.Input.{UsesCounts};
-ghost use Rattle.cfs_run.specs.Ends.{Answers, AsksAtMost, AsksFor, CausesAnswer, Holds, IsAnswerTo, IsUntouched, Leaves, NoneRose, PutAnswersFor, PutsFor, SaysPart, Takes, LeavesInput, asks_of, complete_statuses, fault_statuses, is_one_of};
+ghost use Rattle.cfs_run.specs.Ends.{Answers, AsksAtMost, AsksFor, CausesAnswer, Holds, IfMountAnswer, IsAnswerTo, IsUntouched, Leaves, NoneRose, NotMounted, PutAnswersFor, PutsFor, SaysPart, Takes, LeavesInput, asks_of, complete_statuses, fault_statuses, is_one_of};
 
 use crate::answer::{Answer, finish};
 use crate::formatting::make;
@@ -28,6 +30,9 @@ pub fn run_cfs<M: Machine>(alloc: Global, words: &[String], m: &mut M) -> u8
     ensures output { result ≡ 6 → Rose (M.report m.old).output_faults (M.report m.new).output_faults }
     ensures complete { NoneRose (M.report m.old) (M.report m.new)
         → IsTrue (is_one_of (complete_statuses (request_of (map string_bytes words.now))) result) }
+    // A volume that is not mounted: where nothing wears, the image is one whose mount is refused for the fault that is said.
+    ensures unmounted { (result ≡ 3) ⊎ (result ≡ 9) → M.honest m.new → IsCalm (M.now m.old).windows → IsCalm (M.now m.new).windows
+        → NotMounted (M.report m.new).sectors (M.now m.old) (M.now m.new) result }
 
     // Nothing but the words' image is asked for, and it is where the status is 0. Only a put takes input.
     ensures attaches { let asked = map string_bytes words.now in
@@ -65,6 +70,7 @@ fn carry_out<M: Machine>(alloc: Global, words: &[String], m: &mut M) -> Answer
     ensures takes { M.tells m.new → Takes (request_of (map string_bytes words.now)) result (M.ledger m.old).input (M.ledger m.new).input }
     ensures quiet { M.honest m.new → (M.now m.new).said ≡ (M.now m.old).said }
     ensures puts { M.honest m.new → PutsFor (request_of (map string_bytes words.now)) result (M.ledger m.old).input (M.now m.old) (M.now m.new) }
+    ensures refused { M.honest m.new → IsCalm (M.now m.old).windows → IsCalm (M.now m.new).windows → IfMountAnswer (MountRefused (M.report m.new).sectors (M.now m.old).image) result }
     ensures leaves { M.honest m.new → Leaves (request_of (map string_bytes words.now)) result (M.now m.old) (M.now m.new) }
 {
     match read_words(words) {

@@ -1,6 +1,7 @@
-use Rattle.std.proofs.Common.{subst, sym}
+use Rattle.std.proofs.Common.{◌∙◌, subst, sym}
 use Rattle.cfs_run.specs.declared.fault.Fault.{Fault}
 use Rattle.cfs_run.specs.Mounting.{IsExcuse}
+use Rattle.cfs_run.proofs.MountEnds.{opened_refused}
 use Rattle.cfs_run.proofs.OpenLaws.{excused, found_calm, found_disk, found_room}
 use Rattle.cfs_run.proofs.mounting.open.Goals as goal
 
@@ -24,3 +25,12 @@ returns-in-Err-mount-clause-excuses g c h calm after l epoch files disk fits =
     let disk1 = found_disk old at l epoch files calm found disk in
     subst (λ (fault : Fault). IsExcuse fault) (sym c.fault_of.ensures)
     (excused c.in-Err-mount.fault (c.in-Err-mount.ensures.excuses h (found_calm old at calm found) after l epoch files disk1 (found_room l epoch c.in-Ok.sectors files at.image disk1 (c.in-Ok.ensures.size h1)) fits))
+
+pub returns-in-Err-mount-clause-refused : goal.returns-in-Err-mount-clause-refused
+returns-in-Err-mount-clause-refused g c h calm after =
+    let M = g.M.Machine in
+    let old = M.now c.args.m.now in
+    let at = M.now c.attach.new.self in
+    let found = c.in-Ok.ensures.attached (c.mount.ensures.trust.honest h) in
+    opened_refused c.in-Err-mount.fault c.fault_of.result c.in-Ok.sectors (M.report c.mount.new.m).sectors old at calm found (c.mount.ensures.uses.sectors ∙ c.in-Ok.ensures.sectors)
+    (c.in-Err-mount.ensures.refused h (found_calm old at calm found) after) c.fault_of.ensures

@@ -1,0 +1,116 @@
+-- A run that ends with the fault of its mount.
+use Rattle.std.proofs.Common.{◌≡◌, ◌⊎◌, inl, inr, ℕ, true, false, List, [], ◌∷◌, ◌++◌, replicate, None, refl, sym, ap, subst, ◌∙◌, arith}
+use Rattle.std.specs.Prelude.{Err}
+use Rattle.std.proofs.lemmas.List.{length-replicate}
+use Rattle.fsd_bytes.specs.declared.refusal.Refusal.{Refusal}
+use Rattle.fsd_bytes.specs.declared.refusal.Refusal.TheVariants as Why
+use Rattle.fsd_formats.specs.declared.entry.Entry.{Entry}
+use Rattle.fsd_files.specs.Files.{Files}
+use Rattle.fsd_files.specs.Kept.{Lists}
+use Rattle.fsd_files.specs.OneLeaf.{put_outcome}
+use Rattle.fsd_files.specs.Volume.{Volume}
+use Rattle.mount_recover.specs.declared.fault.MountFault.{MountFault}
+use Rattle.mount_recover.specs.declared.fault.MountFault.TheVariants as Mount
+use Rattle.sector_disk.specs.declared.sector.Sector.{Sector}
+use Rattle.sector_disk.specs.Image.{IsCalm}
+use Rattle.sector_disk.specs.Machine.{Finds, Moment}
+use Rattle.sector_disk.proofs.Calm.{calm_worn}
+use Rattle.fsd_volume.specs.Mount.{MountRefused, volume_of}
+use Rattle.fsd_volume.specs.Put.{PutSays, Puts}
+use Rattle.fsd_volume.specs.State.{StandsFor, State}
+use Rattle.cfs_run.specs.declared.fault.Fault.{Fault}
+use Rattle.cfs_run.specs.declared.fault.Fault.TheVariants as Ends
+use Rattle.cfs_run.specs.declared.line.Line.{Line}
+use Rattle.cfs_run.specs.declared.line.Line.TheVariants as Lines
+use Rattle.cfs_run.specs.declared.answer.Answer.{Answer}
+use Rattle.cfs_run.specs.declared.answer.Answer.TheVariants as Said
+use Rattle.cfs_run.specs.Answer.{answer_status, answer_text}
+use Rattle.cfs_run.specs.Mounting.{IfMount, fault_of}
+use Rattle.cfs_run.specs.Ends.{IfMountAnswer, IfMountLine, Never, NotMounted, is_one_of}
+use Rattle.cfs_run.specs.Text.{line_of}
+use Rattle.cfs_run.proofs.PutLaws.{keeps}
+
+-- the mount's own fault
+of_mount : (P : MountFault → Type 0) (fault : MountFault) → P fault → IfMount P (fault_of fault)
+of_mount P Mount.NotVolume p = p
+of_mount P (Mount.Device s) p = tt
+of_mount P Mount.Memory p = tt
+of_mount P (Mount.Lost a b) p = p
+of_mount P Mount.NoAnchor p = p
+of_mount P (Mount.Unsound s) p = p
+of_mount P Mount.WornOut p = p
+
+-- the attach leaves the image as it is, where nothing wears
+pub opened_refused : (fault : MountFault) (told : Fault) (count sectors : ℕ) (old at : Moment) → IsCalm old.windows → Finds old at → sectors ≡ count → MountRefused count at.image fault → told ≡ fault_of fault
+    → IfMount (MountRefused sectors old.image) told
+opened_refused fault told count sectors old at calm found same refused told_is =
+    let here = subst (λ (i : List Sector). MountRefused count i fault) (calm_worn old.windows old.image at.image calm found.image) refused in
+    let counted = subst (λ (n : ℕ). MountRefused n old.image fault) (sym same) here in
+    subst (λ (f : Fault). IfMount (MountRefused sectors old.image) f) (sym told_is) (of_mount (MountRefused sectors old.image) fault counted)
+
+-- ---- a put: the entries are those of some files, whatever the disk is
+
+abbrev pub files_of : List Entry → Files
+files_of [] = []
+files_of (e ∷ entries) = (e.key, record { bytes = replicate e.length 0; keep = e.keep }) ∷ files_of entries
+
+lists : (entries : List Entry) → Lists (files_of entries) entries
+lists [] = tt
+lists (e ∷ entries) = (record { key = refl; keep = refl; length = sym (length-replicate {A = ℕ} e.length 0) }, lists entries)
+
+stands : (state : State) → StandsFor state (volume_of state (files_of state.entries))
+stands state = record { layout = refl; entries = refl; lists = lists state.entries; serial = refl; removed = refl; held = refl; drafts = refl; reached = refl }
+
+put_refusal : (why : Refusal) (v after : Volume) (name bytes : List ℕ) → v.serial.count ≡ 1 → PutSays v (put_outcome v name bytes None) after (Err why) → IfMountLine Never (line_of why)
+put_refusal (Why.Lost a b) v after name bytes first says = absurd ((keeps v name bytes None).told (Why.Lost a b) says.0)
+put_refusal (Why.Unsound s) v after name bytes first says = absurd ((keeps v name bytes None).told (Why.Unsound s) says.0)
+put_refusal Why.WornOut v after name bytes first says = absurd (omega (arith, says.0, first))
+put_refusal (Why.Device s) v after name bytes first says = tt
+put_refusal Why.Memory v after name bytes first says = tt
+put_refusal Why.NoSuch v after name bytes first says = tt
+put_refusal (Why.TooLong n) v after name bytes first says = tt
+put_refusal (Why.NoSpace need free) v after name bytes first says = tt
+put_refusal (Why.TooFragmented need best) v after name bytes first says = tt
+put_refusal (Why.NameTableFull free) v after name bytes first says = tt
+put_refusal Why.VersionsUsedUp v after name bytes first says = tt
+put_refusal (Why.KeepTooLarge keep) v after name bytes first says = tt
+put_refusal (Why.Damaged s) v after name bytes first says = tt
+put_refusal (Why.Down s) v after name bytes first says = tt
+put_refusal (Why.BadClient c) v after name bytes first says = tt
+put_refusal (Why.Busy c) v after name bytes first says = tt
+put_refusal (Why.Idle c) v after name bytes first says = tt
+put_refusal (Why.Short declared got) v after name bytes first says = tt
+put_refusal (Why.Long declared got) v after name bytes first says = tt
+
+pub put_refused : (why : Refusal) (line : Line) (state new : State) (name bytes : List ℕ) → state.serial.count ≡ 1
+    → ((v : Volume) → StandsFor state v → Puts v (put_outcome v name bytes None) new (Err why)) → line ≡ line_of why → IfMountLine Never line
+put_refused why line state new name bytes first answers told =
+    let v = volume_of state (files_of state.entries) in
+    let puts = answers v (stands state) in
+    subst (λ (x : Line). IfMountLine Never x) (sym told) (put_refusal why v puts.after name bytes first puts.says)
+
+-- ---- a run
+
+pub other : (status result : ℕ) → is_one_of (3 ∷ 9 ∷ []) status ≡ false → result ≡ status → (result ≡ 3) ⊎ (result ≡ 9) → ⊥
+other status result neither e (inl three) = let yes : is_one_of (3 ∷ 9 ∷ []) status ≡ true = ap (is_one_of (3 ∷ 9 ∷ [])) (sym e ∙ three) in cc
+other status result neither e (inr nine) = let yes : is_one_of (3 ∷ 9 ∷ []) status ≡ true = ap (is_one_of (3 ∷ 9 ∷ [])) (sym e ∙ nine) in cc
+
+pub not_mounted : (answer : Answer) (sectors : ℕ) (at after : Moment) (result : ℕ) → IfMountAnswer (MountRefused sectors at.image) answer → result ≡ answer_status answer
+    → after.said ≡ at.said ++ answer_text answer → (result ≡ 3) ⊎ (result ≡ 9) → NotMounted sectors at after result
+not_mounted (Said.Line (Lines.Ended Ends.NotVolume)) sectors at after result refused e said which = record { fault = Mount.NotVolume; refused = refused; said = said; ends = e }
+not_mounted (Said.Line (Lines.Ended (Ends.Lost a b))) sectors at after result refused e said which = record { fault = Mount.Lost a b; refused = refused; said = said; ends = e }
+not_mounted (Said.Line (Lines.Ended Ends.NoAnchor)) sectors at after result refused e said which = record { fault = Mount.NoAnchor; refused = refused; said = said; ends = e }
+not_mounted (Said.Line (Lines.Ended (Ends.Unsound s))) sectors at after result refused e said which = record { fault = Mount.Unsound s; refused = refused; said = said; ends = e }
+not_mounted (Said.Line (Lines.Ended Ends.WornOut)) sectors at after result refused e said which = record { fault = Mount.WornOut; refused = refused; said = said; ends = e }
+not_mounted (Said.Line (Lines.Ended (Ends.Device s))) sectors at after result refused e said which = absurd (other 4 result refl e which)
+not_mounted (Said.Line (Lines.Ended Ends.Input)) sectors at after result refused e said which = absurd (other 5 result refl e which)
+not_mounted (Said.Line (Lines.Ended Ends.InputTooLong)) sectors at after result refused e said which = absurd (other 5 result refl e which)
+not_mounted (Said.Line (Lines.Ended Ends.Memory)) sectors at after result refused e said which = absurd (other 7 result refl e which)
+not_mounted (Said.Line Lines.Usage) sectors at after result refused e said which = absurd (other 2 result refl e which)
+not_mounted (Said.Line (Lines.BadField cause)) sectors at after result refused e said which = absurd (other 2 result refl e which)
+not_mounted (Said.Line (Lines.Formatted n free)) sectors at after result refused e said which = absurd (other 0 result refl e which)
+not_mounted (Said.Line (Lines.Unplanned why)) sectors at after result refused e said which = absurd (other 1 result refl e which)
+not_mounted (Said.Line (Lines.Made key made)) sectors at after result refused e said which = absurd (other 0 result refl e which)
+not_mounted (Said.Line (Lines.Damaged key s)) sectors at after result refused e said which = absurd (other 8 result refl e which)
+not_mounted (Said.Line (Lines.Refused why)) sectors at after result refused e said which = absurd (other 1 result refl e which)
+not_mounted (Said.Bytes bytes) sectors at after result refused e said which = absurd (other 0 result refl e which)
