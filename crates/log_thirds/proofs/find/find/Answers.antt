@@ -32,7 +32,7 @@ returns-in-Good-clause-found g c h calm =
     ∙ judged_there c.args.layout.now c.args.anchor.now.third c.args.at c.args.end c.requires.first c.requires.before c.requires.from c.requires.ends (M.now c.args.m.now) calm (M.honest c.read_run.new.m) h
     c.place_of-place.result c.room_at-count.result c.place_of-place.ensures c.room_at-count.ensures c.as_slice.result.now c.as_slice-in-Ok.result.now run
     c.pages.result stamp (Some (serving_in c.in-Good.found)) c.in-Good.ensures.judged
-    ∙ ap (λ (p : ℕ). option_map (λ r. length r.pages) (record_in p stamp (room_at c.args.at c.args.end) (window (tape c.args.layout.now c.args.anchor.now.third (reads (M.now c.args.m.now).image)) c.args.at (room_at c.args.at c.args.end)))) c.pages.ensures
+    ∙ ap (λ (p : ℕ). option_map (λ r. length r.pages) (record_in p stamp (room_at c.args.at c.args.end) (window (tape c.args.layout.now c.args.anchor.now.third (reads (M.now c.args.m.now).image)) c.args.at (room_at c.args.at c.args.end)))) c.pages.ensures.value
     ∙ ap (option_map (λ r. length r.pages)) (sym (here_looks c.args.layout.now c.args.anchor.now.epoch (tape c.args.layout.now c.args.anchor.now.third (reads (M.now c.args.m.now).image)) c.args.number c.args.at c.args.end (omega (arith, c.if-number-eq-LAST_NUMBER.false))))
 
 pub returns-in-Ok-clause-found : goal.returns-in-Ok-clause-found
@@ -44,7 +44,7 @@ returns-in-Ok-clause-found g c h calm =
     judged_there c.args.layout.now c.args.anchor.now.third c.args.at c.args.end c.requires.first c.requires.before c.requires.from c.requires.ends (M.now c.args.m.now) calm (M.honest c.read_run.new.m) h
     c.place_of-place.result c.room_at-count.result c.place_of-place.ensures c.room_at-count.ensures c.as_slice.result.now c.as_slice-in-Ok.result.now run
     c.pages.result stamp None c.in-NotThere.ensures.judged
-    ∙ ap (λ (p : ℕ). option_map (λ r. length r.pages) (record_in p stamp (room_at c.args.at c.args.end) (window (tape c.args.layout.now c.args.anchor.now.third (reads (M.now c.args.m.now).image)) c.args.at (room_at c.args.at c.args.end)))) c.pages.ensures
+    ∙ ap (λ (p : ℕ). option_map (λ r. length r.pages) (record_in p stamp (room_at c.args.at c.args.end) (window (tape c.args.layout.now c.args.anchor.now.third (reads (M.now c.args.m.now).image)) c.args.at (room_at c.args.at c.args.end)))) c.pages.ensures.value
     ∙ ap (option_map (λ r. length r.pages)) (sym (here_looks c.args.layout.now c.args.anchor.now.epoch (tape c.args.layout.now c.args.anchor.now.third (reads (M.now c.args.m.now).image)) c.args.number c.args.at c.args.end (omega (arith, c.if-number-eq-LAST_NUMBER.false))))
 
 pub returns-then-number-eq-LAST_NUMBER-clause-found : goal.returns-then-number-eq-LAST_NUMBER-clause-found
