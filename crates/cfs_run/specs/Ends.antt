@@ -1,5 +1,5 @@
 -- How a run ends, by what its words ask for.
-use Rattle.std.specs.Prelude.{◌≡◌, ◌⊎◌, ◌<◌, ◌≤◌, ◌+◌, ◌^◌, ⊤, ℕ, Bool, ◌==◌, List, [], ◌∷◌, ◌++◌, length, take, Option, Some, None, Result, Ok, Err}
+use Rattle.std.specs.Prelude.{◌≡◌, ◌⊎◌, ◌<◌, ◌≤◌, ◌+◌, ◌^◌, ⊤, ℕ, Bool, ◌==◌, List, [], ◌∷◌, ◌++◌, length, take, Option, Some, None, IsSome, IsTrue, Result, Ok, Err}
 use Rattle.std.specs.List.{list_any}
 use Rattle.std.specs.FinMap.{find}
 use Rattle.sector_disk.specs.Image.{IsCalm, IsWorn, open_damage}
@@ -14,7 +14,7 @@ use Rattle.fsd_files.specs.Files.{File, Files}
 use Rattle.fsd_files.specs.Answers.{Outcome}
 use Rattle.fsd_files.specs.Replies.{Made, Refused, Reply}
 use Rattle.fsd_files.specs.OneLeaf.{put_outcome}
-use Rattle.fsd_volume.specs.Mount.{MountRefused, Mounts, volume_of}
+use Rattle.fsd_volume.specs.Mount.{IsAccepted, MountRefused, Mounts, table_on, volume_of}
 use Rattle.fsd_volume.specs.State.{State}
 use Rattle.fsd_sound.specs.AtHome.{HoldsFiles}
 use Rattle.cfs_run.specs.declared.fault.Fault.{Fault}
