@@ -1,6 +1,6 @@
 -- A run that ends with the fault of its mount.
-use Rattle.std.proofs.Common.{◌≡◌, ◌⊎◌, inl, inr, ℕ, true, false, List, [], ◌∷◌, ◌++◌, replicate, None, refl, sym, ap, subst, ◌∙◌, arith}
-use Rattle.std.specs.Prelude.{Err}
+use Rattle.std.proofs.Common.{◌≡◌, ◌⊎◌, inl, inr, ℕ, ◌+◌, is_some, true, false, List, [], ◌∷◌, ◌++◌, replicate, None, refl, sym, ap, subst, ◌∙◌, arith}
+use Rattle.std.specs.Prelude.{Err, IsTrue}
 use Rattle.std.proofs.lemmas.List.{length-replicate}
 use Rattle.fsd_bytes.specs.declared.refusal.Refusal.{Refusal}
 use Rattle.fsd_bytes.specs.declared.refusal.Refusal.TheVariants as Why
@@ -15,7 +15,7 @@ use Rattle.sector_disk.specs.declared.sector.Sector.{Sector}
 use Rattle.sector_disk.specs.Image.{IsCalm}
 use Rattle.sector_disk.specs.Machine.{Finds, Moment}
 use Rattle.sector_disk.proofs.Calm.{calm_worn}
-use Rattle.fsd_volume.specs.Mount.{MountRefused, volume_of}
+use Rattle.fsd_volume.specs.Mount.{IsFoundOn, MountRefused, volume_of}
 use Rattle.fsd_volume.specs.Put.{PutSays, Puts}
 use Rattle.fsd_volume.specs.State.{StandsFor, State}
 use Rattle.cfs_run.specs.declared.fault.Fault.{Fault}
@@ -23,10 +23,12 @@ use Rattle.cfs_run.specs.declared.fault.Fault.TheVariants as Ends
 use Rattle.cfs_run.specs.declared.line.Line.{Line}
 use Rattle.cfs_run.specs.declared.line.Line.TheVariants as Lines
 use Rattle.cfs_run.specs.declared.answer.Answer.{Answer}
+use Rattle.cfs_run.specs.declared.request.Request.{Request}
+use Rattle.cfs_run.specs.declared.request.Request.TheVariants.{Outside, BadField, Format, Put, Get}
 use Rattle.cfs_run.specs.declared.answer.Answer.TheVariants as Said
 use Rattle.cfs_run.specs.Answer.{answer_status, answer_text}
-use Rattle.cfs_run.specs.Mounting.{IfMount, fault_of}
-use Rattle.cfs_run.specs.Ends.{IfMountAnswer, IfMountLine, Never, NotMounted, is_one_of}
+use Rattle.cfs_run.specs.Mounting.{IfMount, IsMountFault, fault_of}
+use Rattle.cfs_run.specs.Ends.{IfMountAnswer, IfMountLine, IfMounts, IsMountable, Never, NotMounted, WhereMounted, is_one_of, mounted_statuses}
 use Rattle.cfs_run.specs.Text.{line_of}
 use Rattle.cfs_run.proofs.PutLaws.{keeps}
 
@@ -47,6 +49,33 @@ opened_refused fault told count sectors old at calm found same refused told_is =
     let here = subst (λ (i : List Sector). MountRefused count i fault) (calm_worn old.windows old.image at.image calm found.image) refused in
     let counted = subst (λ (n : ℕ). MountRefused n old.image fault) (sym same) here in
     subst (λ (f : Fault). IfMount (MountRefused sectors old.image) f) (sym told_is) (of_mount (MountRefused sectors old.image) fault counted)
+
+-- the volume that is opened is found on the image that the attach leaves as it is
+pub opened_on : (state : State) (count sectors : ℕ) (old at : Moment) → IsCalm old.windows → Finds old at → sectors ≡ count → IsFoundOn count at.image state → IsFoundOn sectors old.image state
+opened_on state count sectors old at calm found same on =
+    let here = subst (λ (i : List Sector). IsFoundOn count i state) (calm_worn old.windows old.image at.image calm found.image) on in
+    subst (λ (n : ℕ). IsFoundOn n old.image state) (sym same) here
+
+pub mountable : (state : State) (count sectors : ℕ) (i : List Sector) → sectors ≡ count → IsFoundOn count i state → IsMountable sectors i
+mountable state count sectors i same on =
+    let here = subst (λ (n : ℕ). IsFoundOn n i state) (sym same) on in
+    record {
+      layout = state.layout;
+      accepted = record { anchor = here.anchor; found = here.found; fits = omega (arith, here.next, here.fits) };
+      table = ap is_some here.table;
+    }
+
+-- no fault of a mount has the status of a run that mounted
+pub no_mount : (P : Type 0) (fault : Fault) → IsMountFault fault → WhereMounted P (Said.Line (Lines.Ended fault))
+no_mount P Ends.NotVolume is = λ status. absurd cc
+no_mount P (Ends.Lost a b) is = λ status. absurd cc
+no_mount P Ends.NoAnchor is = λ status. absurd cc
+no_mount P (Ends.Unsound s) is = λ status. absurd cc
+no_mount P (Ends.Device s) is = λ status. absurd cc
+no_mount P Ends.Input is = absurd is
+no_mount P Ends.InputTooLong is = absurd is
+no_mount P Ends.Memory is = λ status. absurd cc
+no_mount P Ends.WornOut is = λ status. absurd cc
 
 -- ---- a put: the entries are those of some files, whatever the disk is
 
@@ -114,3 +143,13 @@ not_mounted (Said.Line (Lines.Made key made)) sectors at after result refused e 
 not_mounted (Said.Line (Lines.Damaged key s)) sectors at after result refused e said which = absurd (other 8 result refl e which)
 not_mounted (Said.Line (Lines.Refused why)) sectors at after result refused e said which = absurd (other 1 result refl e which)
 not_mounted (Said.Bytes bytes) sectors at after result refused e said which = absurd (other 0 result refl e which)
+
+pub unlike : (status result : ℕ) → is_one_of mounted_statuses status ≡ false → IsTrue (is_one_of mounted_statuses result) → result ≡ status → ⊥
+unlike status result neither which e = let yes : is_one_of mounted_statuses status ≡ true = ap (is_one_of mounted_statuses) (sym e) ∙ which in cc
+
+pub run_mounted : (request : Request) (P : Type 0) (answer : Answer) (result : ℕ) → IfMounts request (WhereMounted P answer) → result ≡ answer_status answer → IsTrue (is_one_of mounted_statuses result) → IfMounts request P
+run_mounted Outside P answer result where_mounted e which = tt
+run_mounted (BadField cause) P answer result where_mounted e which = tt
+run_mounted (Format n t p) P answer result where_mounted e which = tt
+run_mounted (Put name) P answer result where_mounted e which = where_mounted (subst (λ (n : ℕ). IsTrue (is_one_of mounted_statuses n)) e which)
+run_mounted (Get key) P answer result where_mounted e which = where_mounted (subst (λ (n : ℕ). IsTrue (is_one_of mounted_statuses n)) e which)

@@ -1,5 +1,5 @@
 -- How a run ends, by what its words ask for.
-use Rattle.std.specs.Prelude.{◌≡◌, ◌⊎◌, ◌<◌, ◌≤◌, ◌+◌, ◌^◌, ⊤, ℕ, Bool, ◌==◌, List, [], ◌∷◌, ◌++◌, length, take, Option, Some, None, Result, Ok, Err}
+use Rattle.std.specs.Prelude.{◌≡◌, ◌⊎◌, ◌<◌, ◌≤◌, ◌+◌, ◌^◌, ⊤, ℕ, Bool, ◌==◌, List, [], ◌∷◌, ◌++◌, length, take, Option, Some, None, IsSome, IsTrue, Result, Ok, Err}
 use Rattle.std.specs.List.{list_any}
 use Rattle.std.specs.FinMap.{find}
 use Rattle.sector_disk.specs.Image.{IsCalm, IsWorn, open_damage}
@@ -14,7 +14,7 @@ use Rattle.fsd_files.specs.Files.{File, Files}
 use Rattle.fsd_files.specs.Answers.{Outcome}
 use Rattle.fsd_files.specs.Replies.{Made, Refused, Reply}
 use Rattle.fsd_files.specs.OneLeaf.{put_outcome}
-use Rattle.fsd_volume.specs.Mount.{MountRefused, Mounts, volume_of}
+use Rattle.fsd_volume.specs.Mount.{IsAccepted, MountRefused, Mounts, table_on, volume_of}
 use Rattle.fsd_volume.specs.State.{State}
 use Rattle.fsd_sound.specs.AtHome.{HoldsFiles}
 use Rattle.cfs_run.specs.declared.fault.Fault.{Fault}
@@ -295,6 +295,26 @@ pub record SaysPart (request : Request) (place : ℕ) (before after : List ℕ) 
   pub may : MaySay request place bytes ⊎ (bytes ≡ memory_text)
   pub heard : ℕ
   pub said : after ≡ before ++ take heard bytes
+
+-- The image has a root and an anchor that are accepted, and page 0 of its name table can be read and is sound.
+pub record IsMountable (sectors : ℕ) (i : Image) : Type 0 where
+  pub layout : Layout
+  pub accepted : IsAccepted sectors i layout
+  pub table : IsSome (table_on layout i)
+
+-- the statuses that come only once the volume is mounted
+abbrev pub mounted_statuses : List ℕ
+mounted_statuses = 0 ∷ 1 ∷ 5 ∷ 8 ∷ []
+
+-- it is so where the request is one that mounts
+abbrev pub IfMounts : Request → Type 0 → Type 0
+IfMounts (Put name) P = P
+IfMounts (Get key) P = P
+IfMounts request P = ⊤
+
+-- it is so where the answer's status is one of a mounted volume
+abbrev pub WhereMounted : Type 0 → Answer → Type 0
+WhereMounted P answer = IsTrue (is_one_of mounted_statuses (answer_status answer)) → P
 
 -- The image is one whose mount is refused for this fault, the fault's line is said, and the status is the fault's.
 pub record NotMounted (sectors : ℕ) (old new : Moment) (result : ℕ) : Type 0 where

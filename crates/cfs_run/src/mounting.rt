@@ -5,7 +5,8 @@ ghost use Rattle.sector_disk.specs.Machine.{Trusts};
 ghost use Rattle.cfs_run.specs.Answer.{CausesFault};
 ghost use Rattle.cfs_run.specs.Formatting.{UsesAttach};
 ghost use Rattle.cfs_run.specs.Mounting.{AsksMount, IfMount, IsExcuse, IsMountFault, OpensDisk, fault_of};
-ghost use Rattle.fsd_volume.specs.Mount.{MountRefused, Mounts};
+ghost use Rattle.fsd_volume.specs.Mount.{IsFoundOn, MountRefused, Mounts};
+ghost use Rattle.mount_recover.specs.Recover.{with_anchors};
 
 use crate::fault::Fault;
 use fsd_volume::Volume;
@@ -39,6 +40,8 @@ pub(crate) fn open<M: Machine>(alloc: Global, path: &str, m: &mut M) -> Result<V
     ensures room { IfOk result (λ volume. volume.layout.sectors ≤ (M.report m.new).sectors) }
     ensures idle { IfOk result (λ volume. volume.waits ≡ false) }
     ensures first { IfOk result (λ volume. volume.serial.count ≡ 1) }
+    ensures found { IfOk result (λ volume. M.honest m.new → IsCalm (M.now m.old).windows → IsCalm (M.now m.new).windows → IsFoundOn (M.report m.new).sectors (M.now m.old).image volume) }
+    ensures renewed { IfOk result (λ volume. M.honest m.new → IsCalm (M.now m.old).windows → IsCalm (M.now m.new).windows → (M.now m.new).image ≡ with_anchors volume.serial.epoch (M.now m.old).image) }
     ensures refused { IfErr result (λ fault. M.honest m.new → IsCalm (M.now m.old).windows → IsCalm (M.now m.new).windows → IfMount (MountRefused (M.report m.new).sectors (M.now m.old).image) fault) }
     ensures mounted { IfOk result (λ volume. M.honest m.new → OpensDisk (M.now m.old) (M.now m.new) (λ l epoch files. Mounts l epoch files volume (M.now m.new).image)) }
     ensures excuses { IfErr result (λ fault. M.honest m.new → OpensDisk (M.now m.old) (M.now m.new) (λ l epoch files. epoch + 1 < 2 ^ 32 → IsExcuse fault)) }

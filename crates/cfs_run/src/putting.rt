@@ -3,7 +3,8 @@ ghost use Rattle.std.specs.Prelude.{◌≡◌, ◌≤◌, ℕ, None, length};
 ghost use Rattle.sector_disk.specs.Machine.{OnlyWrites, Trusts};
 ghost use Rattle.cfs_run.specs.declared.input.TheConstants.{MOST_INPUT};
 ghost use Rattle.cfs_run.specs.Answer.{CausesLine};
-ghost use Rattle.cfs_run.specs.Ends.{IfMountLine, IsMadeLine, IsPutLine, Never, PutLeaves, Puts, Stores, TakesFor};
+ghost use Rattle.cfs_run.specs.Ends.{IfMountLine, IsMadeLine, IsMountable, IsPutLine, Never, PutLeaves, Puts, Stores, TakesFor, WhereMounted};
+ghost use Rattle.cfs_run.specs.declared.answer.Answer.TheVariants as Said;
 ghost use Rattle.cfs_run.specs.Formatting.{AsksLine, UsesAttach};
 ghost use Rattle.cfs_run.specs.Input.{UsesCounts};
 ghost use Rattle.cfs_run.specs.Mounting.{mount_asks};
@@ -35,6 +36,7 @@ pub(crate) fn put<M: Machine>(alloc: Global, path: &str, name: &FileName, m: &mu
     ensures takes { M.tells m.new → TakesFor result (M.ledger m.old).input (M.ledger m.new).input }
     ensures quiet { M.honest m.new → (M.now m.new).said ≡ (M.now m.old).said }
     ensures refused { M.honest m.new → IsCalm (M.now m.old).windows → IsCalm (M.now m.new).windows → IfMountLine (MountRefused (M.report m.new).sectors (M.now m.old).image) result }
+    ensures accepted { M.honest m.new → IsCalm (M.now m.old).windows → IsCalm (M.now m.new).windows → WhereMounted (IsMountable (M.report m.new).sectors (M.now m.old).image) (Said.Line result) }
     ensures leaves { M.honest m.new → PutLeaves name.now (M.ledger m.old).input result (M.now m.old) (M.now m.new) }
 {
     match open(alloc, path, m) {
@@ -50,6 +52,7 @@ fn put_input<M: Machine>(alloc: Global, volume: Volume, name: &FileName, m: &mut
     ensures cause { CausesLine result (M.report m.old) (M.report m.new) }
     ensures uses { UsesCounts (M.report m.old) (M.report m.new) }
     ensures trust { Trusts (M.tells m.old) (M.tells m.new) (M.honest m.old) (M.honest m.new) }
+    ensures sectors { (M.report m.new).sectors ≡ (M.report m.old).sectors }
     ensures asks { M.tells m.new → (M.ledger m.new).attaches ≡ (M.ledger m.old).attaches }
     ensures takes { M.tells m.new → TakesFor result (M.ledger m.old).input (M.ledger m.new).input }
     ensures quiet { M.honest m.new → (M.now m.new).said ≡ (M.now m.old).said }
@@ -73,6 +76,7 @@ fn put_bytes<M: Machine>(volume: Volume, name: &FileName, bytes: &[u8], m: &mut 
     ensures cause { CausesLine result (M.report m.old) (M.report m.new) }
     ensures uses { UsesAttach (M.report m.old) (M.report m.new) }
     ensures trust { Trusts (M.tells m.old) (M.tells m.new) (M.honest m.old) (M.honest m.new) }
+    ensures sectors { (M.report m.new).sectors ≡ (M.report m.old).sectors }
     ensures ledger { M.tells m.new → OnlyWrites (M.ledger m.old) (M.ledger m.new) }
     ensures quiet { M.honest m.new → (M.now m.new).said ≡ (M.now m.old).said }
     ensures windows { M.honest m.new → (M.now m.new).windows ≡ (M.now m.old).windows }

@@ -151,7 +151,7 @@ range_whole i runs from (suc n) whole =
 pub gives_all : (i j : Image) (bytes : List ℕ) (runs : List Run) (from n : ℕ) (buf : List ℕ) → WholeTo i runs from (from + n) → FrontStands bytes from n buf → Gives i j bytes runs from n (Got.Bytes (take n buf))
 gives_all i j bytes runs from n buf whole stands = (range_whole i runs from n whole, stands.front)
 
-range_damaged : (i j : Image) (runs : List Run) (from n done place : ℕ) → done < n → WholeTo i runs from (from + done) → slice_get (sectors_of runs) ((from + done) / 512 + 1) ≡ Some place
+pub range_damaged : (i j : Image) (runs : List Run) (from n done place : ℕ) → done < n → WholeTo i runs from (from + done) → slice_get (sectors_of runs) ((from + done) / 512 + 1) ≡ Some place
     → sector_at j place ≡ Damaged → from + n ≤ 512 * (length (sectors_of runs) - 1) → FirstDamaged i j (range_sectors runs from n) place
 range_damaged i j runs from zero done place lt whole at damaged room = absurd (omega arith)
 range_damaged i j runs from (suc n) done place lt whole at damaged room =

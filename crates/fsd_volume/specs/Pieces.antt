@@ -10,7 +10,7 @@ use Rattle.sector_disk.specs.declared.machine.Seen.TheVariants.{Whole as SeenWho
 use Rattle.sector_disk.specs.Image.{sector_at}
 use Rattle.fsd_formats.specs.declared.entry.Entry.{Entry}
 use Rattle.fsd_files.specs.Disk.{Image, Sectors}
-use Rattle.fsd_files.specs.Kept.{Got, Gives, KeptIn}
+use Rattle.fsd_files.specs.Kept.{FirstDamaged, Got, Gives, KeptIn, range_sectors}
 
 -- the bytes of a whole sector that stand in the buffer from a place on
 pub record PartStands (i : Image) (place at to len : ℕ) (old new : List ℕ) : Type 0 where
@@ -28,6 +28,11 @@ GivesRange i j bytes runs from n (Ok u) given = Gives i j bytes runs from n (Got
 GivesRange i j bytes runs from n (Err (DamagedSector s)) given = Gives i j bytes runs from n (Got.DamagedAt s)
 GivesRange i j bytes runs from n (Err (Device s)) given = ⊤
 GivesRange i j bytes runs from n (Err refusal) given = ⊥
+
+-- a sector that the refusal names as damaged is the first one of the range that is
+abbrev pub NamesDamaged : {T : Type 0} → Image → Image → List Run → (from n : ℕ) → Result T Refusal → Type 0
+NamesDamaged i j runs from n (Err (DamagedSector s)) = FirstDamaged i j (range_sectors runs from n) s
+NamesDamaged i j runs from n result = ⊤
 
 -- the refusal is one that the data's sectors give
 abbrev pub OfData : Refusal → Type 0
@@ -51,3 +56,8 @@ abbrev pub GivesPart : Image → Image → Sectors → List ℕ → Option Entry
 GivesPart i j hurt bytes None from result buf = ⊤
 GivesPart i j hurt bytes (Some e) from result buf =
     KeptIn i hurt bytes e.runs → e.length ≡ length bytes → from ≤ length bytes → GivesRange i j bytes e.runs from (part_len e from (length buf)) result (take (part_len e from (length buf)) buf)
+
+-- so it is of the range that is read of a version, in a buffer of this length
+abbrev pub DamagedIn : {T : Type 0} → Image → Image → Option Entry → (from room : ℕ) → Result T Refusal → Type 0
+DamagedIn i j None from room result = ⊤
+DamagedIn i j (Some e) from room result = NamesDamaged i j e.runs from (part_len e from room) result

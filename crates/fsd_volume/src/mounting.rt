@@ -5,6 +5,7 @@ ghost use Rattle.volume_layout.specs.Layout.{home_a, home_b};
 ghost use Rattle.sector_disk.specs.Image.{IsCalm};
 ghost use Rattle.sector_disk.specs.Machine.{UsesDisk, Trusts, OnlyWrites, Wears};
 ghost use Rattle.fsd_files.specs.Files.{Files};
+ghost use Rattle.mount_recover.specs.Recover.{with_anchors};
 ghost use Rattle.fsd_sound.specs.AtHome.{HoldsFiles};
 ghost use Rattle.fsd_volume.specs.State.{IsTable, free_space};
 ghost use Rattle.fsd_volume.specs.Mount.{TellsFault, TableShown, MountRefused, IsFoundOn, Mounts, Excuses};
@@ -37,6 +38,10 @@ impl Volume {
         // The volume is the one that the image holds.
         ensures found { IfOk result (λ volume. M.honest m.new → IsCalm (M.now m.old).windows → IsCalm (M.now m.new).windows →
             IsFoundOn sectors (M.now m.old).image volume) }
+
+        // Nothing of the image but its anchors is changed.
+        ensures renewed { IfOk result (λ volume. M.honest m.new → IsCalm (M.now m.old).windows → IsCalm (M.now m.new).windows →
+            (M.now m.new).image ≡ with_anchors volume.serial.epoch (M.now m.old).image) }
 
         // Each refusal but a fault of the disk and want of memory says what the image is.
         ensures refused { IfErr result (λ fault. M.honest m.new → IsCalm (M.now m.old).windows → IsCalm (M.now m.new).windows →

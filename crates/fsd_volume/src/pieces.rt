@@ -5,7 +5,7 @@ ghost use Rattle.run_table.specs.RunTable.{sectors_of};
 ghost use Rattle.fsd_files.specs.Disk.{Sectors};
 ghost use Rattle.fsd_files.specs.Kept.{KeptIn};
 ghost use Rattle.fsd_volume.specs.Calls.{TellsDevice};
-ghost use Rattle.fsd_volume.specs.Pieces.{ShowsPart, GivesRange, OfData};
+ghost use Rattle.fsd_volume.specs.Pieces.{ShowsPart, GivesRange, NamesDamaged, OfData};
 
 use fsd_bytes::Refusal;
 use run_table::Runs;
@@ -32,6 +32,7 @@ pub(crate) fn read_range<M: Machine>(
     ensures worn { M.honest m.new → Wears (M.now m.old) (M.now m.new) }
     ensures gives { M.honest m.new → (bytes : List ℕ) (hurt : Sectors) → KeptIn (M.now m.old).image hurt bytes runs.now → from + n ≤ length bytes →
         GivesRange (M.now m.old).image (M.now m.new).image bytes runs.now from n result (take n buf.new) }
+    ensures damaged { M.honest m.new → NamesDamaged (M.now m.old).image (M.now m.new).image runs.now from n result }
     ensures size { length buf.new ≡ length buf.old }
 {
     let mut done = 0;

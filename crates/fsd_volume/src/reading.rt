@@ -7,7 +7,7 @@ ghost use Rattle.fsd_files.specs.Answers.{entry_of};
 ghost use Rattle.fsd_files.specs.Disk.{Sectors};
 ghost use Rattle.fsd_files.specs.Kept.{KeptIn};
 ghost use Rattle.fsd_volume.specs.Calls.{TellsDevice};
-ghost use Rattle.fsd_volume.specs.Pieces.{GivesPart, ReadEnds};
+ghost use Rattle.fsd_volume.specs.Pieces.{DamagedIn, GivesPart, ReadEnds};
 
 use crate::Volume;
 use crate::pieces::read_range;
@@ -48,6 +48,9 @@ impl Volume {
 
         // The refusals other than those of the device, and how many bytes there are.
         ensures ends { ReadEnds (entry_of key.now self.old.entries) from (length buf.old) result }
+
+        // A sector that is named as damaged is the first one of the range that is.
+        ensures damaged { M.honest m.new → DamagedIn (M.now m.old).image (M.now m.new).image (entry_of key.now self.old.entries) from (length buf.old) result }
 
         // Where the version's bytes are kept in its sectors, they are given as far as the sectors are whole.
         ensures gives { M.honest m.new → (bytes : List ℕ) (hurt : Sectors) →

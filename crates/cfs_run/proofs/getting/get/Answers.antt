@@ -1,5 +1,7 @@
 use Rattle.sector_disk.proofs.Calm.{same_calm}
 use Rattle.cfs_run.proofs.GetLaws.{got, not_got}
+use Rattle.cfs_run.specs.Ends.{IsMountable}
+use Rattle.cfs_run.proofs.MountEnds.{mountable, no_mount}
 use Rattle.cfs_run.proofs.getting.get.Goals as goal
 
 pub returns-in-Ok-clause-leaves : goal.returns-in-Ok-clause-leaves
@@ -14,3 +16,15 @@ returns-in-Ok-clause-leaves g c h calm after l epoch files disk fits =
 pub returns-in-Err-clause-leaves : goal.returns-in-Err-clause-leaves
 returns-in-Err-clause-leaves g c h calm after l epoch files disk fits =
     not_got c.args.key.now l epoch files c.in-Err.fault (g.M.Machine.now c.open.new.m).image (c.in-Err.ensures.excuses h calm after l epoch files disk fits)
+
+pub returns-in-Ok-clause-accepted : goal.returns-in-Ok-clause-accepted
+returns-in-Ok-clause-accepted g c h calm after status =
+    let M = g.M.Machine in
+    let h1 = c.read_whole.ensures.trust.honest h in
+    let worn = c.read_whole.ensures.worn h in
+    let still = same_calm (M.now c.open.new.m).windows (M.now c.read_whole.new.m).windows worn.windows after in
+    mountable c.in-Ok.volume (M.report c.open.new.m).sectors (M.report c.read_whole.new.m).sectors (M.now c.args.m.now).image c.read_whole.ensures.sectors (c.in-Ok.ensures.found h1 calm still)
+
+pub returns-in-Err-clause-accepted : goal.returns-in-Err-clause-accepted
+returns-in-Err-clause-accepted g c h calm after =
+    no_mount (IsMountable (g.M.Machine.report c.open.new.m).sectors (g.M.Machine.now c.args.m.now).image) c.in-Err.fault c.in-Err.ensures.fault

@@ -1,7 +1,10 @@
-use Rattle.std.proofs.Common.{◌∙◌, subst, sym}
+use Rattle.std.proofs.Common.{◌∙◌, List, ap, subst, sym}
+use Rattle.sector_disk.specs.declared.sector.Sector.{Sector}
+use Rattle.sector_disk.proofs.Calm.{calm_worn}
+use Rattle.mount_recover.specs.Recover.{with_anchors}
 use Rattle.cfs_run.specs.declared.fault.Fault.{Fault}
 use Rattle.cfs_run.specs.Mounting.{IsExcuse}
-use Rattle.cfs_run.proofs.MountEnds.{opened_refused}
+use Rattle.cfs_run.proofs.MountEnds.{opened_on, opened_refused}
 use Rattle.cfs_run.proofs.OpenLaws.{excused, found_calm, found_disk, found_room}
 use Rattle.cfs_run.proofs.mounting.open.Goals as goal
 
@@ -34,3 +37,20 @@ returns-in-Err-mount-clause-refused g c h calm after =
     let found = c.in-Ok.ensures.attached (c.mount.ensures.trust.honest h) in
     opened_refused c.in-Err-mount.fault c.fault_of.result c.in-Ok.sectors (M.report c.mount.new.m).sectors old at calm found (c.mount.ensures.uses.sectors ∙ c.in-Ok.ensures.sectors)
     (c.in-Err-mount.ensures.refused h (found_calm old at calm found) after) c.fault_of.ensures
+
+pub returns-in-Ok-mount-clause-found : goal.returns-in-Ok-mount-clause-found
+returns-in-Ok-mount-clause-found g c h calm after =
+    let M = g.M.Machine in
+    let old = M.now c.args.m.now in
+    let at = M.now c.attach.new.self in
+    let found = c.in-Ok.ensures.attached (c.mount.ensures.trust.honest h) in
+    opened_on c.in-Ok-mount.volume c.in-Ok.sectors (M.report c.mount.new.m).sectors old at calm found (c.mount.ensures.uses.sectors ∙ c.in-Ok.ensures.sectors) (c.in-Ok-mount.ensures.found h (found_calm old at calm found) after)
+
+pub returns-in-Ok-mount-clause-renewed : goal.returns-in-Ok-mount-clause-renewed
+returns-in-Ok-mount-clause-renewed g c h calm after =
+    let M = g.M.Machine in
+    let old = M.now c.args.m.now in
+    let at = M.now c.attach.new.self in
+    let found = c.in-Ok.ensures.attached (c.mount.ensures.trust.honest h) in
+    c.in-Ok-mount.ensures.renewed h (found_calm old at calm found) after
+    ∙ ap (λ (i : List Sector). with_anchors c.in-Ok-mount.volume.serial.epoch i) (calm_worn old.windows old.image at.image calm found.image)

@@ -4,8 +4,8 @@ use Rattle.sector_disk.specs.Machine.{Ledger, Rose}
 use Rattle.sector_disk.proofs.Calm.{same_calm}
 use Rattle.fsd_volume.specs.Mount.{MountRefused}
 use Rattle.cfs_run.specs.Words.{request_of}
-use Rattle.cfs_run.specs.Ends.{IfMountAnswer, LeavesInput}
-use Rattle.cfs_run.proofs.MountEnds.{not_mounted, other}
+use Rattle.cfs_run.specs.Ends.{IfMountAnswer, IfMounts, IsMountable, LeavesInput, WhereMounted}
+use Rattle.cfs_run.proofs.MountEnds.{not_mounted, other, run_mounted, unlike}
 use Rattle.cfs_run.proofs.PutSaid.{put_heard}
 use Rattle.cfs_run.proofs.RunLaws.{said_untouched, Ran, run_input, run_takes, run_answers, run_completes, run_fault_said, run_holds, run_said, run_says, run_status, run_untouched}
 use Rattle.cfs_run.proofs.run.run_cfs.Goals as goal
@@ -155,3 +155,25 @@ returns-clause-unmounted g c which h calm last =
       leaves = λ h2. c.carry_out-answer.ensures.leaves (c.finish.ensures.trust.honest h2);
     }) h (λ six. other 6 c.finish.result refl six which) (λ seven. other 7 c.finish.result refl seven which) in
     not_mounted c.carry_out-answer.result (M.report c.finish.new.m).sectors at after c.finish.result counted says.0 says.1 which
+
+pub returns-clause-mounted : goal.returns-clause-mounted
+returns-clause-mounted g c which h calm last =
+    let M = g.M.Machine in
+    let h1 = c.finish.ensures.trust.honest h in
+    let at = M.now c.args.m.now in
+    let between = M.now c.carry_out-answer.new.m in
+    let after = M.now c.finish.new.m in
+    let windows = (said_untouched (M.honest c.finish.new.m) _ _ _ _ _ _ _ h c.finish.ensures.said).windows in
+    let accepted = c.carry_out-answer.ensures.accepted h1 calm (same_calm between.windows after.windows windows last) in
+    let request = request_of (map (string_bytes {Z = Global}) c.args.words.now) in
+    let counted = subst (λ (n : ℕ). IfMounts request (WhereMounted (IsMountable n at.image) c.carry_out-answer.result)) (sym c.finish.ensures.uses.sectors) accepted in
+    let says = run_says (M.honest c.finish.new.m) _ c.carry_out-answer.result _ _ _ at _ _ _ (record {
+      answers = c.carry_out-answer.ensures.answer;
+      cause = c.carry_out-answer.ensures.cause;
+      uses = c.carry_out-answer.ensures.uses;
+      says = c.finish.ensures.uses;
+      said = c.finish.ensures.said;
+      quiet = λ h2. c.carry_out-answer.ensures.quiet (c.finish.ensures.trust.honest h2);
+      leaves = λ h2. c.carry_out-answer.ensures.leaves (c.finish.ensures.trust.honest h2);
+    }) h (λ six. unlike 6 c.finish.result refl which six) (λ seven. unlike 7 c.finish.result refl which seven) in
+    run_mounted request (IsMountable (M.report c.finish.new.m).sectors at.image) c.carry_out-answer.result c.finish.result counted says.0 which

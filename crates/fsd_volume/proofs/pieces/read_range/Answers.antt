@@ -7,7 +7,7 @@ use Rattle.sector_disk.proofs.Holding.{trusts_on}
 use Rattle.sector_disk.proofs.Wear.{worn_refl}
 use Rattle.fsd_volume.specs.Pieces.{ShowsPart, PartStands}
 use Rattle.fsd_volume.proofs.CallLaws.{uses_on, wears_same, wears_on}
-use Rattle.fsd_volume.proofs.PieceLaws.{WholeTo, FrontStands, none_yet, nothing_yet, whole_more, front_more, gives_all, gives_damaged, part_before, is_there, in_all}
+use Rattle.fsd_volume.proofs.PieceLaws.{WholeTo, FrontStands, none_yet, nothing_yet, whole_more, front_more, gives_all, gives_damaged, part_before, range_damaged, is_there, in_all}
 use Rattle.fsd_volume.proofs.pieces.read_range.Goals as goal
 
 pub loop-done-init : goal.loop-done-init
@@ -65,3 +65,10 @@ returns-clause-gives g c h bytes hurt kept room =
     let whole = subst (λ (n : ℕ). WholeTo (M.now c.args.m.now).image c.args.runs.now c.args.from (c.args.from + n)) all (c.loop-done.invariant.whole h) in
     let front = subst (λ (n : ℕ). FrontStands bytes c.args.from n c.loop-done.buf) all (c.loop-done.invariant.front h bytes hurt kept room) in
     gives_all (M.now c.args.m.now).image (M.now c.loop-done.m).image bytes c.args.runs.now c.args.from c.args.n c.loop-done.buf whole front
+
+pub returns-in-Ok-Damaged-clause-damaged : goal.returns-in-Ok-Damaged-clause-damaged
+returns-in-Ok-Damaged-clause-damaged g c h =
+    let M = g.M.Machine in
+    let shown = subst (λ (s : Seen). ShowsPart (M.now c.loop-done.m).image (M.now c.read_part.new.m).image c.unwrap-place.result ((c.args.from + c.loop-done.done) % 512) c.loop-done.done c.min-len.result c.loop-done.buf c.read_part.new.buf s) c.in-Ok-Damaged.field-0-is (c.in-Ok-Damaged.ensures.shown h) in
+    range_damaged (M.now c.args.m.now).image (M.now c.read_part.new.m).image c.args.runs.now c.args.from c.args.n c.loop-done.done c.unwrap-place.result (omega arith)
+    (c.loop-done.invariant.whole (c.read_part.ensures.trust.honest h)) (sym c.sector.ensures ∙ c.unwrap-place.ensures) shown (omega arith)

@@ -52,3 +52,11 @@ returns-in-Ok-map_of-clause-found g c h calm after =
     let fits : c.in-Ok.settled.epoch < 2 ^ 32 = search rules in
     let state : State = record { layout = c.in-Ok.settled.layout; entries = c.in-Ok-load_table.entries.items; serial = record { epoch = c.in-Ok.settled.epoch; count = 1 }; waits = false } in
     found_on c.args.sectors (M.now c.args.m.now).image (M.now c.load_table.new.m).image state c.in-Ok.settled (c.in-Ok.ensures.found h1 calm) refl refl fits image (c.in-Ok-load_table.ensures.shown h)
+
+pub returns-in-Ok-map_of-clause-renewed : goal.returns-in-Ok-map_of-clause-renewed
+returns-in-Ok-map_of-clause-renewed g c h calm after =
+    let M = g.M.Machine in
+    let h1 = c.load_table.ensures.trust.honest h in
+    let worn = c.load_table.ensures.worn h in
+    let mid = same_calm (M.now c.recover.new.m).windows (M.now c.load_table.new.m).windows worn.windows after in
+    calm_worn (M.now c.recover.new.m).windows (M.now c.recover.new.m).image (M.now c.load_table.new.m).image mid worn.image ∙ (c.in-Ok.ensures.renewed h1 calm mid).image
