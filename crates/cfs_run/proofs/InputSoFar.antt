@@ -1,11 +1,11 @@
 -- An input of which some front is read.
-use Rattle.std.proofs.Common.{◌≡◌, Bool, true, false, cond, ℕ, ◌+◌, ◌-◌, ◌^◌, ◌<◌, ◌≤◌, List, [], ◌∷◌, ◌++◌, length, take, drop, refl, sym, ap, subst, ◌∙◌, arith, length-append, length-take-le, length-drop, drop-drop}
+use Rattle.std.proofs.Common.{◌≡◌, Bool, true, false, cond, ℕ, ◌+◌, ◌≤◌, List, [], ◌++◌, length, take, drop, refl, sym, ap, ◌∙◌, arith, length-append, length-take-le, length-drop, drop-drop}
 use Rattle.std.proofs.lemmas.List.{drop_all, take_all}
 use Rattle.std.proofs.Math.Seq.{take-add}
 use Rattle.sector_disk.specs.Machine.{Ledger, Takes, took}
 use Rattle.cfs_run.specs.Input.{TakesAll, TakesSome}
 use Rattle.cfs_run.specs.declared.input.InputFault.{InputFault}
-use Rattle.cfs_run.specs.declared.input.InputFault.TheVariants.{Failed, TooLong, Memory}
+use Rattle.cfs_run.specs.declared.input.InputFault.TheVariants.{Failed}
 use Rattle.cfs_run.specs.declared.input.TheConstants.{MOST_INPUT}
 
 -- these bytes are what was taken

@@ -1,5 +1,5 @@
 -- A put that has taken its input.
-use Rattle.std.proofs.Common.{◌≡◌, ◌≤◌, List, ℕ, length, ap, subst, sym, ◌∙◌}
+use Rattle.std.proofs.Common.{◌≡◌, ◌≤◌, List, ℕ, length, subst, ◌∙◌}
 use Rattle.sector_disk.specs.Machine.{Ledger}
 use Rattle.cfs_run.specs.declared.fault.Fault.TheVariants as Ends
 use Rattle.cfs_run.specs.declared.line.Line.{Line}

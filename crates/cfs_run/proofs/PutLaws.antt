@@ -1,6 +1,6 @@
 -- What a put answers, by the outcome of the volume, and what the disk holds then.
-use Rattle.std.proofs.Common.{◌≡◌, ℕ, ◌+◌, ◌-◌, ◌^◌, ◌≤◌, Bool, true, false, cond, List, length, Option, Some, None, refl, sym, ap, subst, ◌∙◌, arith}
-use Rattle.std.specs.Prelude.{⊤, IfSome, Result, Ok, Err}
+use Rattle.std.proofs.Common.{◌≡◌, ℕ, ◌+◌, Bool, true, false, cond, List, length, Option, Some, None, refl, sym, ap, subst, ◌∙◌, arith}
+use Rattle.std.specs.Prelude.{⊤, IfSome, Ok, Err}
 use Rattle.fsd_bytes.specs.declared.key.Key.{Key}
 use Rattle.fsd_bytes.specs.declared.key.Serial.{Serial}
 use Rattle.fsd_bytes.specs.declared.refusal.Refusal.{Refusal}
@@ -9,12 +9,12 @@ use Rattle.volume_layout.specs.declared.layout.Layout.{Layout}
 use Rattle.run_table.specs.declared.run.Run.{Run}
 use Rattle.run_table.specs.RunTable.{total}
 use Rattle.run_table.proofs.ChoiceLaws.{total_of_pick}
-use Rattle.fsd_formats.specs.NamePage.{room, sectors_for}
-use Rattle.fsd_files.specs.Answers.{Outcome, entry_put, keep_given, new_entry, no_place, refused, size_fault, with_version}
+use Rattle.fsd_formats.specs.NamePage.{sectors_for}
+use Rattle.fsd_files.specs.Answers.{Outcome, keep_given, no_place, refused, size_fault, with_version}
 use Rattle.fsd_files.specs.Disk.{Image}
 use Rattle.fsd_files.specs.Files.{Files, new_key}
-use Rattle.fsd_files.specs.OneLeaf.{has_name, leaf_used, put_at, put_in, put_outcome, put_unless}
-use Rattle.fsd_files.specs.Replies.{Made, Refused, Reply}
+use Rattle.fsd_files.specs.OneLeaf.{put_at, put_outcome, put_unless}
+use Rattle.fsd_files.specs.Replies.{Made, Refused}
 use Rattle.fsd_files.specs.Volume.{Volume, drawn, forced, free_runs, place_for}
 use Rattle.fsd_sound.specs.AtHome.{HoldsFiles}
 use Rattle.fsd_volume.specs.State.{IsMounted, State}

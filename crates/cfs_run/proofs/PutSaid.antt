@@ -1,5 +1,5 @@
 -- A put, of a disk that holds files: what is said of it.
-use Rattle.std.proofs.Common.{◌≡◌, ◌⊎◌, inl, inr, ℕ, ◌+◌, ◌<◌, ◌^◌, List, ◌++◌, length, None, Some, refl, sym, ap, subst, ◌∙◌}
+use Rattle.std.proofs.Common.{◌≡◌, ◌⊎◌, inl, inr, ℕ, ◌+◌, List, ◌++◌, None, refl, sym, ap, subst, ◌∙◌}
 use Rattle.sector_disk.specs.Image.{IsCalm}
 use Rattle.sector_disk.specs.Machine.{Moment, Report, Rose}
 use Rattle.sector_disk.proofs.Calm.{same_calm}
@@ -8,7 +8,6 @@ use Rattle.fsd_files.specs.Files.{Files}
 use Rattle.fsd_files.specs.OneLeaf.{put_outcome}
 use Rattle.fsd_files.specs.Replies.{Made, Refused, Reply}
 use Rattle.fsd_volume.specs.Mount.{volume_of}
-use Rattle.cfs_run.specs.declared.input.TheConstants.{MOST_INPUT}
 use Rattle.cfs_run.specs.declared.fault.Fault.TheVariants as Ends
 use Rattle.cfs_run.specs.declared.line.Line.{Line}
 use Rattle.cfs_run.specs.declared.line.Line.TheVariants as Lines
@@ -18,7 +17,7 @@ use Rattle.cfs_run.specs.declared.request.Request.{Request}
 use Rattle.cfs_run.specs.declared.request.Request.TheVariants.{Outside, BadField, Format, Put, Get}
 use Rattle.cfs_run.specs.Text.{memory_text, text}
 use Rattle.cfs_run.specs.Answer.{CausesLine, Finishes, answer_status, answer_text, status_of}
-use Rattle.cfs_run.specs.Ends.{CausesAnswer, EndsAs, IsAnswerTo, PutAnswersFor, PutEnds, PutLeaves, PutReplies, PutStores, Puts, PutsFor, Replies, Takes, TakesFor, reply_line}
+use Rattle.cfs_run.specs.Ends.{CausesAnswer, IsAnswerTo, PutAnswersFor, PutEnds, PutReplies, PutStores, Puts, PutsFor, Takes, TakesFor, reply_line}
 use Rattle.cfs_run.proofs.RunLaws.{forgotten, heard, replied}
 
 -- the reply's line is this one

@@ -25,10 +25,10 @@ use Rattle.cfs_run.specs.declared.request.Request.TheVariants.{Outside, BadField
 use Rattle.fsd_bytes.specs.declared.key.Key.{Key}
 use Rattle.cfs_run.specs.declared.input.TheConstants.{MOST_INPUT}
 use Rattle.cfs_run.specs.Text.{fault_text, memory_text, text}
-use Rattle.cfs_run.specs.Answer.{CausesLine, Finishes, SaysAll, SaysSome, Spoken, UsesOutput, answer_status, answer_text, status_of}
+use Rattle.cfs_run.specs.Answer.{CausesLine, Finishes, UsesOutput, answer_status, answer_text, status_of}
 use Rattle.cfs_run.specs.Input.{UsesCounts}
 use Rattle.cfs_run.specs.Formatting.{HoldsVolume, IsDeviceLine, IsFormatLine, MakesVolume, VolumeMade, format_line, plan_asks}
-use Rattle.cfs_run.specs.Ends.{Answers, GetAnswers, GetEnds, GetLeaves, GivesFile, RepliesAs, UnlessEnded, AsksAtMost, AsksFor, CausesAnswer, EndsAs, Holds, IsAnswerTo, IsUntouched, Leaves, NoneRose, LeavesInput, MaySay, PlanLeaves, SaysPart, Takes, TakesFor, IsGetLine, IsPutLine, asks_of, complete_statuses, fault_statuses, is_one_of, plan_statuses}
+use Rattle.cfs_run.specs.Ends.{Answers, GetAnswers, GetEnds, GetLeaves, GivesFile, RepliesAs, UnlessEnded, CausesAnswer, EndsAs, Holds, IsAnswerTo, IsUntouched, Leaves, NoneRose, LeavesInput, MaySay, PlanLeaves, SaysPart, Takes, TakesFor, IsGetLine, IsPutLine, asks_of, complete_statuses, fault_statuses, is_one_of, plan_statuses}
 
 -- a run: what was answered, and how that was said
 pub record Ran (H : Type 0) (request : Request) (answer : Answer) (old mid new : Report) (at between after : Moment) (result : ℕ) : Type 0 where
@@ -610,6 +610,6 @@ module _ (H : Type 0) (request : Request) (answer : Answer) (old mid new : Repor
   -- the text is said with its status, but for the statuses of the output and of memory
   pub run_says : H → (result ≡ 6 → ⊥) → (result ≡ 7 → ⊥) → (result ≡ answer_status answer) × (after.said ≡ at.said ++ answer_text answer)
   run_says h no_output no_memory = elim ran.said [
-    inl whole ↦ elim whole [ inl all ↦ (all.ends, (all.said h).said ∙ ap (λ (s : List ℕ). s ++ answer_text answer) (ran.quiet h)) | inr some ↦ absurd (no_output some.ends) ]
+    | inl whole ↦ elim whole [ inl all ↦ (all.ends, (all.said h).said ∙ ap (λ (s : List ℕ). s ++ answer_text answer) (ran.quiet h)) | inr some ↦ absurd (no_output some.ends) ]
     | inr memory ↦ elim memory [ inl all ↦ absurd (no_memory all.ends) | inr some ↦ absurd (no_output some.ends) ]
   ]

@@ -17,7 +17,6 @@ use Rattle.fsd_files.specs.OneLeaf.{put_outcome}
 use Rattle.fsd_volume.specs.Mount.{IsAccepted, MountRefused, Mounts, table_on, volume_of}
 use Rattle.fsd_volume.specs.State.{State}
 use Rattle.fsd_sound.specs.AtHome.{HoldsFiles}
-use Rattle.cfs_run.specs.declared.fault.Fault.{Fault}
 use Rattle.cfs_run.specs.declared.line.Line.{Line}
 use Rattle.cfs_run.specs.declared.line.Line.TheVariants as Says
 use Rattle.cfs_run.specs.declared.answer.Answer.{Answer}
@@ -30,8 +29,8 @@ use Rattle.cfs_run.specs.declared.input.TheConstants.{MOST_INPUT}
 use Rattle.mount_recover.specs.declared.fault.MountFault.{MountFault}
 use Rattle.cfs_run.specs.Mounting.{IfMount, IsExcuse, IsMountFault, OpensDisk, fault_of, mount_asks}
 use Rattle.cfs_run.specs.Text.{fault_text, memory_text, text}
-use Rattle.cfs_run.specs.Answer.{CausesLine, answer_status, answer_text, fault_status, status_of}
-use Rattle.cfs_run.specs.Formatting.{AsksLine, HoldsVolume, IsDeviceLine, IsFormatLine, VolumeMade, format_line, plan_asks}
+use Rattle.cfs_run.specs.Answer.{CausesLine, answer_status, fault_status, status_of}
+use Rattle.cfs_run.specs.Formatting.{AsksLine, HoldsVolume, IsFormatLine, VolumeMade, format_line, plan_asks}
 
 -- ---- the answers to a request
 

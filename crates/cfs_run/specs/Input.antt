@@ -1,5 +1,5 @@
 -- What reading the whole input leaves.
-use Rattle.std.specs.Prelude.{◌≡◌, ℕ, ◌^◌, ◌<◌, ◌≤◌, List, [], length, drop}
+use Rattle.std.specs.Prelude.{◌≡◌, ℕ, ◌<◌, ◌≤◌, List, [], length}
 use Rattle.sector_disk.specs.Machine.{Report, Ledger, Rose, took}
 use Rattle.cfs_run.specs.declared.input.InputFault.{InputFault}
 use Rattle.cfs_run.specs.declared.input.InputFault.TheVariants.{Failed, TooLong, Memory}

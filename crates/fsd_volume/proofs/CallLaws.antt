@@ -1,5 +1,5 @@
 -- What calls of the disk owe, one behind another.
-use Rattle.std.proofs.Common.{◌∙◌, ◌≤◌, arith, refl, subst}
+use Rattle.std.proofs.Common.{◌∙◌, arith, refl, subst}
 use Rattle.sector_disk.specs.Image.{IsWorn, Windows, open_damage}
 use Rattle.sector_disk.specs.Machine.{Report, Ledger, UsesDisk, OnlyWrites, Moment, Wears}
 use Rattle.sector_disk.proofs.Wear.{worn_refl, worn_trans}

@@ -1,18 +1,16 @@
 -- A table with one entry more.
-use Rattle.std.proofs.Common.{◌≡◌, ℕ, zero, suc, ◌+◌, ◌-◌, ◌^◌, ◌<◌, ◌≤◌, Bool, true, false, cond, not, ◌&&◌, ◌||◌, nat_le, nat_lt, List, [], ◌∷◌, ◌++◌, length, map, take, drop, Some, refl, sym, ap, subst, ◌∙◌, inl, inr, arith}
+use Rattle.std.proofs.Common.{◌≡◌, ℕ, ◌+◌, ◌<◌, ◌≤◌, Bool, true, false, cond, not, ◌&&◌, ◌||◌, nat_le, nat_lt, List, [], ◌∷◌, ◌++◌, length, map, take, drop, Some, refl, sym, ap, subst, ◌∙◌, inl, inr, arith}
 use Rattle.std.specs.Prelude.{IsTrue, ⊤}
-use Rattle.std.specs.List.{AllByRecursion, flat_map, list_all, list_any}
+use Rattle.std.specs.List.{AllByRecursion, flat_map, list_all}
 use Rattle.std.specs.Ordering.{is_lt, is_eq, ordering_reverse}
 use Rattle.std.proofs.lemmas.Cmp.{tied_itself}
-use Rattle.std.specs.Cmp.{IsTotalOrder}
 use Rattle.std.specs.declared.cmp.Ordering.{Ordering}
 use Rattle.std.specs.declared.cmp.Ordering.TheVariants.{Less, Equal, Greater}
 use Rattle.std.specs.FinMap.Entries.{by_order}
-use Rattle.std.proofs.lemmas.Bool.{and_parts, and_from, or_parts, leb-true, le-leb, not_from_false, cases_Bool, or_cases, or_left, or_right, false_from_ne_true, cases_lt, ltb-true}
+use Rattle.std.proofs.lemmas.Bool.{and_parts, and_from, or_parts, le-leb, not_from_false, or_cases, or_left, or_right, false_from_ne_true, cases_lt, ltb-true}
 use Rattle.std.proofs.lemmas.List.{length-append}
-use Rattle.std.proofs.lemmas.List.Folds.{list_any-append}
 use Rattle.volume_layout.specs.declared.layout.Layout.{Layout}
-use Rattle.volume_layout.specs.Layout.{data_start, is_data}
+use Rattle.volume_layout.specs.Layout.{data_start}
 use Rattle.fsd_bytes.specs.Bytes.{same_bytes}
 use Rattle.fsd_bytes.specs.declared.key.Key.{Key}
 use Rattle.fsd_bytes.specs.Keys.{key_cmp, key_lt}
@@ -20,20 +18,19 @@ use Rattle.fsd_bytes.specs.Names.{is_between}
 use Rattle.run_table.specs.declared.run.Run.{Run}
 use Rattle.run_table.specs.RunTable.{sectors_of}
 use Rattle.run_table.specs.Space.{contains, where_free}
-use Rattle.sector_set.specs.Area.{Area, area, without, AreIn}
+use Rattle.sector_set.specs.Area.{Area, without, AreIn}
 use Rattle.sector_set.proofs.FreeLaws.{where_same, contains_where}
 use Rattle.fsd_formats.specs.declared.entry.Entry.{Entry}
-use Rattle.fsd_formats.specs.NamePage.{Leaf, contents_of, entry_bytes, is_entry, is_page, are_ascending, room, least_used, FitsEntry, FitsPage}
+use Rattle.fsd_formats.specs.NamePage.{Leaf, contents_of, entry_bytes, is_entry, are_ascending, room, least_used, FitsEntry}
 use Rattle.fsd_files.specs.Answers.{entry_put, entry_of}
 use Rattle.fsd_files.specs.OneLeaf.{leaf_used}
 use Rattle.fsd_files.specs.Volume.{plans_of}
 use Rattle.fsd_files.proofs.HistoryLaws.{keys_total}
-use Rattle.fsd_sound.specs.AtHome.{IsRootLeaf}
 use Rattle.fsd_volume.specs.Put.{names, AreNew, IsFull}
 use Rattle.fsd_volume.specs.State.{State, IsTable, IsKept, free_space}
-use Rattle.fsd_volume.proofs.ApartLaws.{occurs, occurs-append, contains_occurs, occurs_contains}
-use Rattle.fsd_volume.proofs.HomeLaws.{plans_in_data, data_from}
-use Rattle.fsd_volume.proofs.ListLaws.{alike_is, none_alike}
+use Rattle.fsd_volume.proofs.ApartLaws.{occurs, contains_occurs, occurs_contains}
+use Rattle.fsd_volume.proofs.HomeLaws.{data_from}
+use Rattle.fsd_volume.proofs.ListLaws.{none_alike}
 use Rattle.fsd_volume.proofs.PlanLaws.{used, used-cons, apart_put}
 
 abbrev keys_of : List Entry → List Key

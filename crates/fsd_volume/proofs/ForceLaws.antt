@@ -2,7 +2,6 @@
 use Rattle.std.proofs.Common.{◌≡◌, ℕ, ◌^◌, ◌<◌, false, List, refl, sym, ap, subst, ◌∙◌}
 use Rattle.std.specs.Prelude.{IsTrue}
 use Rattle.volume_layout.specs.declared.layout.Layout.{Layout}
-use Rattle.fsd_bytes.specs.declared.key.Serial.{Serial}
 use Rattle.fsd_formats.specs.declared.entry.Entry.{Entry}
 use Rattle.fsd_formats.specs.Record.{Stamp}
 use Rattle.fsd_formats.specs.NamePage.{Leaf, page_bytes}
@@ -10,7 +9,6 @@ use Rattle.fsd_files.specs.Disk.{Image, nowhere}
 use Rattle.fsd_files.specs.Files.{Files}
 use Rattle.fsd_files.specs.Kept.{Describes}
 use Rattle.fsd_files.specs.Volume.{Volume, forced, plans_of, is_in}
-use Rattle.fsd_sound.specs.AtHome.{HoldsFiles}
 use Rattle.fsd_volume.specs.State.{State, IsTable, StandsFor, IsMounted}
 use Rattle.fsd_volume.proofs.HomeLaws.{with_leaf, leaf_written, leaf_entries, leaf_leaves_data}
 

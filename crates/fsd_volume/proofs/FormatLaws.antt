@@ -1,16 +1,16 @@
 -- What a format leaves.
-use Rattle.std.proofs.Common.{◌≡◌, ◌⊎◌, inl, inr, ℕ, zero, suc, ◌+◌, ◌*◌, ◌^◌, ◌<◌, ◌≤◌, Bool, List, length, Option, Some, None, Ok, refl, sym, ◌∙◌, ap, subst, arith}
+use Rattle.std.proofs.Common.{◌≡◌, inl, ℕ, ◌+◌, ◌*◌, ◌<◌, ◌≤◌, List, length, Option, Some, None, Ok, refl, sym, ◌∙◌, ap, subst, arith}
 use Rattle.std.specs.Prelude.{IsSome, Result, Err, OnOk}
 use Rattle.volume_layout.specs.declared.layout.Layout.{Layout}
-use Rattle.volume_layout.specs.Layout.{plan, home_a, home_b, InLog, least_size}
+use Rattle.volume_layout.specs.Layout.{plan, home_a, home_b, InLog}
 use Rattle.volume_layout.proofs.RootLaws.{planned_bounds}
 use Rattle.sector_disk.specs.declared.sector.Sector.{Sector}
 use Rattle.sector_disk.specs.declared.sector.Sector.TheVariants.{Whole, Damaged}
 use Rattle.sector_disk.specs.declared.sector.WeakRun.{WeakRun}
-use Rattle.sector_disk.specs.Image.{sector_at, lay, IsWorn, in_run, Windows, open_damage, settled}
+use Rattle.sector_disk.specs.Image.{sector_at, IsWorn, in_run, Windows, open_damage, settled}
 use Rattle.sector_disk.specs.Machine.{Moment, Names, Settles, Holds}
 use Rattle.sector_disk.proofs.Wear.{length-lay, lay_in, lay_other, worn_trans, worn_damaged}
-use Rattle.fsd_sound.specs.Format.{IsFormatted, IsFormattedIn, format_page}
+use Rattle.fsd_sound.specs.Format.{IsFormatted, format_page}
 use Rattle.fsd_volume.specs.Formatting.{IsNew, Formats, with_pages, with_head, with_volume}
 use Rattle.fsd_volume.proofs.Laying.{holds_then, monotone_lay}
 use Rattle.fsd_volume.proofs.HeadLaws.{monotone_head, length-head, head_behind, head_at, head_blank}

@@ -1,11 +1,11 @@
 -- What stands on a disk whose leaf is written, and on one whose data sectors are.
-use Rattle.std.proofs.Common.{◌≡◌, ◌≢◌, ℕ, ◌+◌, ◌*◌, ◌^◌, ◌<◌, ◌≤◌, Bool, true, false, ◌&&◌, ◌||◌, List, [], ◌∷◌, length, Ok, refl, sym, ap, subst, ◌∙◌, arith}
+use Rattle.std.proofs.Common.{◌≡◌, ◌≢◌, ℕ, ◌^◌, ◌<◌, ◌≤◌, Bool, true, false, ◌||◌, List, [], ◌∷◌, length, refl, subst, ◌∙◌, arith}
 use Rattle.std.specs.Prelude.{IsTrue, nat_le, nat_lt, ◌==◌}
 use Rattle.std.specs.List.{list_all, flat_map}
 use Rattle.std.proofs.lemmas.Bool.{and_parts, leb-true, eqb-true}
 use Rattle.std.proofs.lemmas.List.{length-set, get_or-set_same, get_or-set_other}
 use Rattle.volume_layout.specs.declared.layout.Layout.{Layout}
-use Rattle.volume_layout.specs.Layout.{plan, home_a, home_b, data_start, is_data, map_start, map_sectors, InLog}
+use Rattle.volume_layout.specs.Layout.{home_a, home_b, data_start, is_data}
 use Rattle.volume_layout.proofs.RootLaws.{planned_bounds}
 use Rattle.run_table.specs.declared.run.Run.{Run}
 use Rattle.run_table.specs.RunTable.{sectors_of}
@@ -21,7 +21,7 @@ use Rattle.fsd_files.specs.Kept.{Describes}
 use Rattle.fsd_files.specs.Space.{Apart}
 use Rattle.fsd_files.specs.Volume.{plans_of}
 use Rattle.fsd_sound.specs.AtHome.{IsAtHome, IsRootLeaf, HoldsFiles}
-use Rattle.fsd_volume.proofs.KeptLaws.{Agree, plan_sectors, kept_on}
+use Rattle.fsd_volume.proofs.KeptLaws.{kept_on}
 
 -- all in front of the data area is the same, but the leaf's two homes
 pub record SameHead (l : Layout) (i j : Image) : Type 0 where

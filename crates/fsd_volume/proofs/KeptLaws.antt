@@ -1,20 +1,17 @@
 -- Versions are kept where their sectors are.
-use Rattle.std.proofs.Common.{◌≡◌, ◌⊎◌, inl, inr, ℕ, zero, suc, Bool, true, false, ◌||◌, List, [], ◌∷◌, ◌++◌, refl, sym, ap, subst, ◌∙◌}
-use Rattle.std.specs.Prelude.{IsTrue, ◌==◌, drop, map}
-use Rattle.std.specs.List.{AllZip, flat_map, list_any}
+use Rattle.std.proofs.Common.{◌≡◌, inl, inr, ℕ, Bool, true, false, ◌||◌, List, [], ◌∷◌, ◌++◌, refl, ◌∙◌}
+use Rattle.std.specs.Prelude.{IsTrue, ◌==◌, drop}
+use Rattle.std.specs.List.{AllZip, flat_map}
 use Rattle.std.proofs.lemmas.Bool.{eq-eqb, or_left, or_right}
-use Rattle.fsd_bytes.specs.declared.key.Key.{Key}
 use Rattle.run_table.specs.declared.run.Run.{Run}
 use Rattle.run_table.specs.RunTable.{sectors_of}
 use Rattle.run_table.specs.Space.{contains}
 use Rattle.sector_disk.specs.Image.{sector_at}
-use Rattle.sector_disk.specs.declared.sector.Sector.{Sector}
-use Rattle.sector_disk.specs.declared.sector.Sector.TheVariants.{Whole, Damaged}
 use Rattle.fsd_formats.specs.declared.entry.Entry.{Entry}
 use Rattle.fsd_files.specs.Disk.{Image, Sectors, Has}
-use Rattle.fsd_files.specs.Files.{File, Files}
+use Rattle.fsd_files.specs.Files.{Files}
 use Rattle.fsd_files.specs.Kept.{slices, data_sectors, KeptIn, Kept}
-use Rattle.fsd_files.specs.Volume.{plans_of, is_in}
+use Rattle.fsd_files.specs.Volume.{plans_of}
 
 -- ---- members
 

@@ -1,29 +1,26 @@
 -- The entries and the files with one more, whose name had none.
-use Rattle.std.proofs.Common.{◌≡◌, ℕ, zero, suc, ◌+◌, ◌-◌, ◌<◌, ◌≤◌, Bool, true, false, cond, not, ◌&&◌, ◌||◌, List, [], ◌∷◌, ◌++◌, length, filter, map, Option, Some, None, refl, sym, ap, subst, ◌∙◌, arith, take, drop, min, append_assoc}
-use Rattle.std.specs.Prelude.{is_some, ◌==◌, option_map, slice_index_or}
-use Rattle.std.specs.List.{list_any, list_all, last_or, flat_map}
+use Rattle.std.proofs.Common.{◌≡◌, ℕ, zero, suc, ◌+◌, ◌-◌, ◌<◌, ◌≤◌, Bool, true, false, cond, ◌||◌, List, [], ◌∷◌, ◌++◌, length, map, Option, Some, None, refl, sym, ap, subst, ◌∙◌, arith, take, drop, min, append_assoc}
+use Rattle.std.specs.Prelude.{is_some, option_map, slice_index_or}
+use Rattle.std.specs.List.{last_or}
 use Rattle.std.proofs.lemmas.Bool.{ne_eqb, or_left, or_parts}
 use Rattle.std.proofs.lemmas.List.{take_more, drop_all}
 use Rattle.fsd_bytes.proofs.SameLaws.{is_same}
-use Rattle.std.specs.Ordering.{nat_cmp, ordering_then, is_lt}
+use Rattle.std.specs.Ordering.{nat_cmp, ordering_then}
 use Rattle.std.specs.declared.cmp.Ordering.{Ordering}
 use Rattle.std.specs.declared.cmp.Ordering.TheVariants.{Less, Equal, Greater}
-use Rattle.std.specs.Cmp.Lexicographic.{slice_cmp, pointwise}
+use Rattle.std.specs.Cmp.Lexicographic.{slice_cmp}
 use Rattle.std.specs.FinMap.{put, slice_cmp-IsAntisymmetric, nat_cmp-IsAntisymmetric}
 use Rattle.std.specs.FinMap.Entries.{by_order}
 use Rattle.fsd_bytes.specs.Bytes.{same_bytes}
 use Rattle.fsd_bytes.specs.declared.key.Key.{Key}
-use Rattle.fsd_bytes.specs.Keys.{key_cmp, same_key, key_of}
-use Rattle.fsd_bytes.specs.declared.key.Serial.{Serial}
-use Rattle.run_table.specs.declared.run.Run.{Run}
-use Rattle.run_table.specs.RunTable.{sectors_of}
+use Rattle.fsd_bytes.specs.Keys.{key_cmp, key_of}
 use Rattle.fsd_formats.specs.declared.entry.Entry.{Entry}
-use Rattle.fsd_files.specs.Answers.{entry_put, new_entry, with_version}
-use Rattle.fsd_files.specs.Files.{File, Files, of_name, highest, without, new_key, new_keep, with_new, gone, gone_keys, step, next_version, keep_of}
+use Rattle.fsd_files.specs.Answers.{entry_put}
+use Rattle.fsd_files.specs.Files.{File, Files, of_name, highest, without, new_key, new_keep, gone, gone_keys, next_version, keep_of}
 use Rattle.fsd_files.specs.Kept.{IsEntryOf, Lists}
 use Rattle.fsd_files.specs.OneLeaf.{has_name}
 use Rattle.fsd_volume.specs.Put.{names}
-use Rattle.fsd_files.specs.Volume.{Volume, entries_at, entries_without, plans_of}
+use Rattle.fsd_files.specs.Volume.{entries_at, entries_without}
 
 -- ---- keys that compare alike are one
 

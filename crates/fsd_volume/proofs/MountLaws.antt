@@ -1,16 +1,14 @@
 -- What a mount finds of an image, and what it leaves of a volume at home.
-use Rattle.std.proofs.Common.{◌≡◌, ◌≢◌, ℕ, ◌+◌, ◌-◌, ◌*◌, ◌^◌, ◌<◌, ◌≤◌, false, List, [], length, Option, Some, None, Result, Ok, Err, refl, sym, ap, subst, ◌∙◌, arith}
+use Rattle.std.proofs.Common.{◌≡◌, ℕ, ◌+◌, ◌-◌, ◌^◌, ◌<◌, ◌≤◌, List, length, Option, Some, None, Err, refl, sym, ap, subst, ◌∙◌, arith}
 use Rattle.std.specs.Prelude.{IsTrue, IsSome, option_and_then}
 use Rattle.volume_layout.specs.declared.layout.Layout.{Layout}
-use Rattle.volume_layout.specs.Layout.{plan, home_a, home_b, data_start}
+use Rattle.volume_layout.specs.Layout.{home_a, home_b}
 use Rattle.volume_layout.proofs.RootLaws.{planned_bounds}
 use Rattle.fsd_formats.specs.declared.entry.Entry.{Entry}
 use Rattle.fsd_formats.specs.declared.anchor.Anchor.{Anchor}
-use Rattle.fsd_formats.specs.Anchors.{anchor_bytes}
-use Rattle.fsd_formats.specs.NamePage.{Content, Leaf, page_bytes, read_page}
+use Rattle.fsd_formats.specs.NamePage.{Leaf, page_bytes}
 use Rattle.fsd_formats.proofs.PageLaws.{page_is_read}
 use Rattle.sector_disk.specs.declared.sector.Sector.{Sector}
-use Rattle.sector_disk.specs.declared.sector.Sector.TheVariants.{Whole, Damaged}
 use Rattle.sector_disk.specs.Image.{sector_at}
 use Rattle.fsd_files.specs.Disk.{Image, nowhere, bytes_of, bytes_at, either_copy}
 use Rattle.fsd_files.specs.Files.{Files}
@@ -26,7 +24,7 @@ use Rattle.mount_recover.specs.declared.mounting.Settled.{Settled}
 use Rattle.mount_recover.specs.Recover.{IsVolume, IsSettled, RefusedFor, with_anchors}
 use Rattle.mount_recover.proofs.HomeLaws.{at_home_found, length-with_anchors, with_anchors_other, with_anchors_copy, with_anchors_first}
 use Rattle.fsd_volume.specs.State.{State, IsMounted}
-use Rattle.fsd_volume.specs.Mount.{table_on, TableShown, MountRefused, Mounts, Excuses, IsAccepted, IsFoundOn, volume_of, IsLost, IsBroken}
+use Rattle.fsd_volume.specs.Mount.{table_on, TableShown, MountRefused, Mounts, Excuses, IsAccepted, IsFoundOn, volume_of}
 use Rattle.fsd_volume.specs.Table.{table_in, leaf_of}
 use Rattle.fsd_volume.proofs.HomeLaws.{plans_in_data, data_from}
 use Rattle.fsd_volume.proofs.KeptLaws.{kept_on}

@@ -1,11 +1,11 @@
 -- Parts of sectors, and the bytes that they are of.
-use Rattle.std.proofs.Common.{◌≡◌, ◌≢◌, ◌⊎◌, inl, inr, ℕ, zero, suc, ◌+◌, ◌-◌, ◌*◌, ◌/◌, ◌%◌, ◌<◌, ◌≤◌, Bool, min, List, [], ◌∷◌, ◌++◌, length, take, drop, Ok, refl, sym, ◌∙◌, ap, subst, arith, length-take}
-use Rattle.std.specs.Prelude.{slice_index_or, slice_range, slice_get, Option, Some, IsSome, IsTrue, All}
+use Rattle.std.proofs.Common.{◌≡◌, ◌⊎◌, inl, inr, ℕ, zero, suc, ◌+◌, ◌-◌, ◌*◌, ◌/◌, ◌%◌, ◌<◌, ◌≤◌, Bool, min, List, [], ◌∷◌, ◌++◌, length, take, drop, refl, sym, ◌∙◌, ap, subst, arith, length-take}
+use Rattle.std.specs.Prelude.{slice_index_or, slice_get, Option, Some, IsSome, IsTrue, All}
 use Rattle.std.specs.List.{AllZip, AllByRecursion}
-use Rattle.std.proofs.lemmas.List.{take_all, drop-append-le, take-append-le, drop-take, take-take, drop-drop, take-append-drop, get_or-drop, length-drop, length-append}
+use Rattle.std.proofs.lemmas.List.{take_all, drop-append-le, take-append-le, drop-take, take-take, drop-drop, take-append-drop, get_or-drop, length-drop}
 use Rattle.std.proofs.lemmas.Bool.{cases_eq}
 use Rattle.std.proofs.Math.Seq.{take-append-add}
-use Rattle.fsd_bytes.specs.Bytes.{sector_len, zeros, with_bytes}
+use Rattle.fsd_bytes.specs.Bytes.{zeros}
 use Rattle.fsd_formats.specs.NamePage.{sectors_for}
 use Rattle.run_table.specs.declared.run.Run.{Run}
 use Rattle.run_table.specs.RunTable.{sectors_of}
@@ -13,7 +13,7 @@ use Rattle.sector_disk.specs.declared.sector.Sector.{Sector}
 use Rattle.sector_disk.specs.declared.sector.Sector.TheVariants.{Whole, Damaged}
 use Rattle.sector_disk.specs.Image.{sector_at}
 use Rattle.fsd_files.specs.Disk.{Image, Sectors, Has}
-use Rattle.fsd_files.specs.Kept.{slice_of, slices_from, slices, data_sectors, KeptIn, range_sectors, IsWhole, FirstDamaged, Got, Gives}
+use Rattle.fsd_files.specs.Kept.{slice_of, slices_from, data_sectors, KeptIn, range_sectors, IsWhole, FirstDamaged, Got, Gives}
 use Rattle.fsd_volume.specs.Slices.{slice_place}
 use Rattle.sector_disk.specs.declared.machine.Seen.{Seen}
 use Rattle.sector_disk.specs.declared.machine.Seen.TheVariants.{Whole as SeenWhole}

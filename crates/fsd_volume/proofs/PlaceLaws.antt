@@ -1,28 +1,25 @@
 -- The place of a new version among the free sectors.
-use Rattle.std.proofs.Common.{◌≡◌, ◌⊎◌, inl, inr, ℕ, zero, suc, ◌+◌, ◌-◌, ◌*◌, ◌^◌, ◌<◌, ◌≤◌, Bool, true, false, cond, not, ◌&&◌, ◌||◌, nat_le, nat_lt, List, [], ◌∷◌, ◌++◌, length, take, filter, Option, Some, None, Result, Ok, Err, refl, sym, ap, subst, ◌∙◌, arith}
-use Rattle.std.specs.Prelude.{IsTrue, IfSome, IfOk, ◌==◌, find, slice_index_or}
-use Rattle.std.specs.List.{flat_map, list_all, range_with_len, AllByRecursion}
-use Rattle.std.proofs.lemmas.Bool.{and_parts, and_from, leb-true, ltb-true, le-leb, lt-ltb, not-true, not_from_false, cases_Bool, cases_lt, eq-eqb, eqb-false, both_ways}
-use Rattle.std.proofs.lemmas.List.Sums.{sum_by-cons}
+use Rattle.std.proofs.Common.{◌≡◌, ℕ, zero, suc, ◌+◌, ◌-◌, ◌<◌, ◌≤◌, Bool, true, false, cond, not, ◌&&◌, ◌||◌, nat_le, nat_lt, List, [], ◌∷◌, length, take, Option, Some, None, Result, Ok, Err, refl, sym, ap, subst, ◌∙◌, arith}
+use Rattle.std.specs.Prelude.{IsTrue, IfSome, IfOk, ◌==◌, find}
+use Rattle.std.specs.List.{flat_map, AllByRecursion}
+use Rattle.std.proofs.lemmas.Bool.{and_from, ltb-true, le-leb, lt-ltb, not-true, eqb-false, both_ways}
 use Rattle.volume_layout.specs.declared.layout.Layout.{Layout}
 use Rattle.volume_layout.specs.Layout.{data_start, is_data}
-use Rattle.fsd_bytes.specs.Names.{is_between}
 use Rattle.fsd_bytes.specs.declared.refusal.Refusal.{Refusal}
 use Rattle.fsd_bytes.specs.declared.refusal.Refusal.TheVariants.{NoSpace, TooFragmented}
 use Rattle.run_table.specs.declared.run.Run.{Run}
-use Rattle.run_table.specs.RunTable.{sectors_of, total, are_runs, max_runs, run_of, FitsRun}
-use Rattle.run_table.specs.Space.{contains, all_differ, where_free, joined, runs_of, by_length, longest_first, cut_to, longest, best, picked, pick}
+use Rattle.run_table.specs.RunTable.{sectors_of, total, run_of}
+use Rattle.run_table.specs.Space.{contains, where_free, joined, runs_of, by_length, longest_first, cut_to, longest, best, picked, pick}
 use Rattle.run_table.proofs.ChoiceLaws.{total_of_pick, pick_none, pick_among}
 use Rattle.alloc_map.proofs.ChooseLaws.{best_within}
 use Rattle.sector_set.proofs.AreaLaws.{free_within}
-use Rattle.sector_set.specs.Area.{Area, area, without, AreIn}
+use Rattle.sector_set.specs.Area.{Area, area}
 use Rattle.alloc_map.specs.NoPlace.{choice, picked_or}
 use Rattle.alloc_map.specs.declared.no_place.NoPlace.{NoPlace}
 use Rattle.alloc_map.specs.declared.no_place.NoPlace.TheVariants.{NoSpace as Few, TooFragmented as Broken}
 use Rattle.sector_set.proofs.FreeLaws.{where_same, total_of_runs}
 use Rattle.fsd_formats.specs.declared.entry.Entry.{Entry}
-use Rattle.fsd_files.specs.Volume.{Volume, plans_of, is_free, in_version, waits, free_runs, free_count, place_for}
-use Rattle.fsd_files.specs.Answers.{no_place}
+use Rattle.fsd_files.specs.Volume.{Volume, plans_of, is_free, in_version, free_runs}
 use Rattle.fsd_volume.specs.State.{State, StandsFor, free_space}
 use Rattle.fsd_volume.specs.Put.{placed, placed_or, AreNew}
 use Rattle.fsd_volume.proofs.ApartLaws.{occurs, contains_occurs, occurs_contains, occurs_differ, picked_once, runs_same}

@@ -1,14 +1,13 @@
 -- What a put answers, and what the volume and its disk are then.
-use Rattle.std.proofs.Common.{◌≡◌, ◌≢◌, ℕ, zero, suc, ◌+◌, ◌-◌, ◌^◌, ◌<◌, ◌≤◌, Bool, true, false, cond, not, ◌&&◌, ◌||◌, nat_le, nat_lt, List, [], ◌∷◌, ◌++◌, length, Option, Some, None, Result, Ok, Err, refl, sym, ap, subst, ◌∙◌, inl, inr, arith}
+use Rattle.std.proofs.Common.{◌≡◌, ℕ, suc, ◌+◌, ◌<◌, ◌≤◌, Bool, true, false, cond, nat_lt, List, [], ◌∷◌, ◌++◌, length, Option, Some, None, Result, Ok, Err, refl, sym, ap, subst, ◌∙◌, arith}
 use Rattle.std.specs.Prelude.{IsTrue, IsSome, IfSome, IfOk, slice_index_or}
-use Rattle.std.specs.List.{flat_map, list_all}
+use Rattle.std.specs.List.{flat_map}
 use Rattle.std.specs.declared.cmp.Ordering.{Ordering}
 use Rattle.std.specs.declared.cmp.Ordering.TheVariants.{Less, Equal, Greater}
 use Rattle.std.specs.FinMap.{put}
 use Rattle.std.specs.FinMap.Entries.{by_order}
-use Rattle.std.proofs.lemmas.Bool.{and_parts, ltb-true, lt-ltb, leb-true, ltb-false, le-ltb}
-use Rattle.volume_layout.specs.declared.layout.Layout.{Layout}
-use Rattle.volume_layout.specs.Layout.{data_start, home_a, home_b, is_data}
+use Rattle.std.proofs.lemmas.Bool.{lt-ltb, le-ltb}
+use Rattle.volume_layout.specs.Layout.{data_start, home_a, home_b}
 use Rattle.fsd_bytes.specs.declared.key.Key.{Key}
 use Rattle.fsd_bytes.specs.declared.key.Serial.{Serial}
 use Rattle.fsd_bytes.specs.Keys.{key_cmp, key_of}
@@ -24,17 +23,17 @@ use Rattle.fsd_formats.specs.NamePage.{room, sectors_for}
 use Rattle.fsd_files.specs.Space.{Apart}
 use Rattle.fsd_files.specs.Disk.{Image, nowhere}
 use Rattle.fsd_files.specs.Files.{File, Files, new_key, new_keep, with_new, gone_keys, keep_of, without}
-use Rattle.fsd_files.specs.Kept.{IsEntryOf, Lists, Kept, KeptIn, Describes}
+use Rattle.fsd_files.specs.Kept.{Lists, Kept, KeptIn}
 use Rattle.fsd_files.specs.Answers.{Outcome, refused, entry_put, entry_of, HasLeader, new_entry, no_place, size_fault, with_version as volume_with, keep_given}
 use Rattle.fsd_files.specs.OneLeaf.{has_name, leaf_used, put_in, put_at, put_unless, put_outcome}
 use Rattle.fsd_files.specs.Replies.{Refused, Made}
-use Rattle.fsd_files.specs.Volume.{Volume, drawn, place_for, plans_of, is_in, in_version, entries_at, entries_without, free_runs, free_count}
-use Rattle.fsd_sound.specs.AtHome.{HoldsFiles, IsAtHome}
-use Rattle.fsd_volume.specs.Put.{names, placed, placed_or, AreNew, Enters, EntersOk, IsFull, entered, PutSays, Puts, PutsOn, StandsOn}
+use Rattle.fsd_files.specs.Volume.{Volume, drawn, plans_of, entries_at, entries_without, free_runs}
+use Rattle.fsd_sound.specs.AtHome.{IsAtHome}
+use Rattle.fsd_volume.specs.Put.{names, placed, AreNew, Enters, EntersOk, entered, PutSays, Puts, PutsOn, StandsOn}
 use Rattle.fsd_volume.specs.Slices.{with_version}
 use Rattle.fsd_volume.specs.State.{State, StandsFor, IsMounted, free_space}
-use Rattle.fsd_volume.proofs.HomeLaws.{SameHead, at_home_with, plans_in_data, data_from}
-use Rattle.fsd_volume.proofs.KeptLaws.{kept_on, kept_in_on, back_there, front_there}
+use Rattle.fsd_volume.proofs.HomeLaws.{at_home_with, data_from}
+use Rattle.fsd_volume.proofs.KeptLaws.{kept_on}
 use Rattle.fsd_volume.proofs.ListLaws.{lists_put, has_name_is, first_key, first_keep, keys_gone, without_none, entries_without_none, entries_at_none}
 use Rattle.fsd_volume.proofs.PlaceLaws.{same_runs_free}
 use Rattle.fsd_volume.proofs.PlanLaws.{apart_put}

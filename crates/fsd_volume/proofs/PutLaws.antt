@@ -1,28 +1,20 @@
 -- A put: the entry that it makes, its answer, and the disk then.
-use Rattle.std.proofs.Common.{◌≡◌, ◌≢◌, ◌⊎◌, inl, inr, ℕ, zero, suc, ◌+◌, ◌-◌, ◌*◌, ◌^◌, ◌<◌, ◌≤◌, Bool, true, false, cond, not, ◌&&◌, ◌||◌, nat_le, nat_lt, List, [], ◌∷◌, ◌++◌, length, map, Option, Some, None, Result, Ok, Err, refl, sym, ap, subst, ◌∙◌, arith}
-use Rattle.std.specs.Prelude.{IsTrue, All, unwrap_or, slice_index_or, ◌==◌}
-use Rattle.std.specs.List.{AllByRecursion, AllZip, flat_map, list_all}
-use Rattle.std.specs.declared.cmp.Ordering.{Ordering}
-use Rattle.std.specs.declared.cmp.Ordering.TheVariants.{Less, Equal, Greater}
-use Rattle.std.specs.FinMap.{put}
-use Rattle.std.specs.FinMap.Entries.{by_order}
-use Rattle.std.proofs.lemmas.Bool.{and_parts, and_from, le-leb, lt-ltb, leb-true, ltb-true, ltb-false, eq-eqb}
+use Rattle.std.proofs.Common.{◌≡◌, ℕ, zero, suc, ◌+◌, ◌^◌, ◌<◌, ◌≤◌, Bool, true, false, cond, ◌&&◌, nat_le, nat_lt, List, [], ◌∷◌, length, Option, Some, None, Ok, refl, ap, arith}
+use Rattle.std.specs.Prelude.{IsTrue, All, unwrap_or, ◌==◌}
+use Rattle.std.specs.List.{AllByRecursion, list_all}
+use Rattle.std.proofs.lemmas.Bool.{and_parts, and_from, le-leb, leb-true, ltb-false, eq-eqb}
 use Rattle.std.proofs.lemmas.List.Sums.{sum_by-cons}
 use Rattle.volume_layout.specs.declared.layout.Layout.{Layout}
-use Rattle.volume_layout.specs.Layout.{data_start, is_data}
-use Rattle.fsd_bytes.specs.declared.key.Key.{Key}
-use Rattle.fsd_bytes.specs.Keys.{key_cmp, key_of, is_key}
+use Rattle.fsd_bytes.specs.Keys.{is_key}
 use Rattle.fsd_bytes.specs.Names.{is_between}
 use Rattle.run_table.specs.declared.run.Run.{Run}
-use Rattle.run_table.specs.RunTable.{sectors_of, total, are_runs, FitsRun}
-use Rattle.run_table.specs.Space.{contains, runs_of, pick}
+use Rattle.run_table.specs.RunTable.{total, are_runs, FitsRun}
+use Rattle.run_table.specs.Space.{runs_of, pick}
 use Rattle.fsd_formats.specs.declared.entry.Entry.{Entry}
 use Rattle.fsd_formats.specs.NamePage.{is_entry, sectors_for, max_length, max_keep, FitsEntry}
 use Rattle.fsd_volume.specs.Put.{placed, placed_or}
-use Rattle.fsd_volume.specs.State.{State, IsTable}
 use Rattle.fsd_volume.proofs.PlaceLaws.{IsPlace, AreSome}
-use Rattle.fsd_volume.proofs.StoredLaws.{IsStored, stored_runs, stored_below, stored_count}
-use Rattle.fsd_bytes.specs.declared.refusal.Refusal.{Refusal}
+use Rattle.fsd_volume.proofs.StoredLaws.{IsStored, stored_runs}
 use Rattle.fsd_bytes.specs.declared.refusal.Refusal.TheVariants.{KeepTooLarge, TooLong}
 use Rattle.fsd_files.specs.Answers.{size_fault, keep_given}
 

@@ -1,10 +1,10 @@
 -- Slices of bytes, and images with slices in their places.
-use Rattle.std.proofs.Common.{◌≡◌, ◌≢◌, ◌⊎◌, inl, inr, ℕ, zero, suc, ◌+◌, ◌-◌, ◌*◌, ◌/◌, ◌<◌, ◌≤◌, Bool, min, List, [], ◌∷◌, ◌++◌, length, take, drop, set, refl, sym, ◌∙◌, ap, subst, arith, add-one, length-take}
+use Rattle.std.proofs.Common.{◌≡◌, ◌≢◌, inl, inr, ℕ, zero, suc, ◌+◌, ◌-◌, ◌<◌, min, List, [], ◌∷◌, ◌++◌, length, take, drop, refl, sym, ◌∙◌, ap, subst, arith, add-one, length-take}
 use Rattle.std.specs.Prelude.{replicate, slice_index_or, slice_get, Some}
 use Rattle.std.proofs.lemmas.List.{take_min, drop-replicate, length-set, get_or-set_same, get_or-set_other}
 use Rattle.run_table.specs.declared.run.Run.{Run}
 use Rattle.run_table.specs.RunTable.{sectors_of}
-use Rattle.fsd_bytes.specs.Bytes.{sector, sector_len, zeros}
+use Rattle.fsd_bytes.specs.Bytes.{sector}
 use Rattle.fsd_files.specs.Kept.{slice_of}
 use Rattle.sector_disk.specs.declared.sector.Sector.{Sector}
 use Rattle.sector_disk.specs.declared.sector.Sector.TheVariants.{Whole, Damaged}

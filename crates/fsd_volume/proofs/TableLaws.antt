@@ -1,17 +1,17 @@
 -- The table that a page is: a leaf whose numbers fit, and whose sectors are apart.
-use Rattle.std.proofs.Common.{◌≡◌, ◌⊎◌, inl, inr, ℕ, zero, suc, ◌+◌, ◌-◌, ◌^◌, ◌<◌, ◌≤◌, Bool, true, false, cond, not, ◌&&◌, ◌||◌, nat_le, nat_lt, List, [], ◌∷◌, ◌++◌, length, take, drop, map, Option, Some, None, Ok, refl, sym, ap, subst, ◌∙◌, arith}
+use Rattle.std.proofs.Common.{◌≡◌, ℕ, zero, suc, ◌+◌, ◌<◌, ◌≤◌, Bool, true, false, cond, ◌&&◌, nat_le, List, [], ◌∷◌, ◌++◌, length, take, drop, map, Option, Some, None, Ok, refl, sym, ap, subst, ◌∙◌, arith}
 use Rattle.std.specs.Prelude.{IsTrue, slice_get, slice_index_or, option_map, option_and_then, ◌==◌}
-use Rattle.std.specs.List.{AllByRecursion, flat_map, list_all, list_any, range_with_len}
-use Rattle.std.proofs.lemmas.Bool.{and_parts, and_from, leb-true, ltb-true, le-leb, lt-ltb, not-true, not_from_false, cases_Bool, or_cases, or_left, or_right, false_from_ne_true, both_ways, cases_lt}
+use Rattle.std.specs.List.{AllByRecursion, flat_map, list_all}
+use Rattle.std.proofs.lemmas.Bool.{and_parts, and_from}
 use Rattle.std.proofs.lemmas.List.{take_more, get_or-drop}
 use Rattle.std.proofs.lemmas.List.Folds.{list_all-append}
 use Rattle.volume_layout.specs.declared.layout.Layout.{Layout}
-use Rattle.volume_layout.specs.Layout.{plan, data_start, is_data}
-use Rattle.fsd_bytes.specs.Bytes.{u8_at, u16_at, u32_at, same_bytes}
+use Rattle.volume_layout.specs.Layout.{plan, is_data}
+use Rattle.fsd_bytes.specs.Bytes.{u8_at, u16_at, same_bytes}
 use Rattle.fsd_bytes.proofs.SameLaws.{given_if}
 use Rattle.run_table.specs.declared.run.Run.{Run}
-use Rattle.run_table.specs.RunTable.{sectors_of, run_at, runs_from, FitsRun}
-use Rattle.run_table.specs.Space.{contains, all_differ}
+use Rattle.run_table.specs.RunTable.{runs_from, FitsRun}
+use Rattle.run_table.specs.Space.{all_differ}
 use Rattle.fsd_formats.specs.declared.entry.Entry.{Entry}
 use Rattle.fsd_formats.specs.NamePage.{Content, Free, Leaf, Interior, entry_bytes, entry_from, entries_from, content_from, read_page, is_page, page_bytes, stamp_at, FitsEntry, FitsPage}
 use Rattle.name_page.proofs.PieceLaws.{AreSmall, u16_small, u32_small}
@@ -22,7 +22,6 @@ use Rattle.fsd_bytes.specs.Keys.{is_key}
 use Rattle.fsd_bytes.specs.Names.{is_between}
 use Rattle.run_table.specs.RunTable.{total, are_runs, max_runs}
 use Rattle.fsd_formats.specs.NamePage.{is_entry, sectors_for, max_length, max_keep, contents_of, are_ascending, room, least_used}
-use Rattle.fsd_files.specs.Volume.{plans_of}
 use Rattle.fsd_volume.specs.State.{IsTable}
 use Rattle.fsd_volume.specs.Table.{leaf_of, if_apart, table_in, sectors_apart, are_apart}
 use Rattle.fsd_volume.proofs.RunApartLaws.{runs_apart, sectors_of_all}

@@ -1,10 +1,9 @@
 -- An image with a version's slices and its leader.
-use Rattle.std.proofs.Common.{◌≡◌, ◌≢◌, ℕ, zero, suc, ◌+◌, ◌-◌, ◌*◌, ◌<◌, ◌≤◌, Bool, true, false, not, ◌&&◌, List, [], ◌∷◌, length, drop, refl, sym, ap, subst, ◌∙◌, inl, arith}
-use Rattle.std.specs.Prelude.{IsTrue, IfSome, slice_get, slice_index_or, ◌==◌}
+use Rattle.std.proofs.Common.{◌≡◌, ◌≢◌, ℕ, zero, suc, ◌+◌, ◌-◌, ◌<◌, true, not, List, [], ◌∷◌, length, sym, subst, ◌∙◌, inl, arith}
+use Rattle.std.specs.Prelude.{IsTrue, IfSome, slice_get, slice_index_or}
 use Rattle.std.specs.List.{AllZip}
 use Rattle.std.proofs.lemmas.Bool.{and_parts, not-true, both_ways}
 use Rattle.std.proofs.lemmas.List.{length-set, get_or-set_same, get_or-set_other, length-drop}
-use Rattle.run_table.specs.declared.run.Run.{Run}
 use Rattle.run_table.specs.RunTable.{sectors_of}
 use Rattle.run_table.specs.Space.{contains, all_differ}
 use Rattle.sector_disk.specs.declared.sector.Sector.{Sector}
@@ -15,9 +14,9 @@ use Rattle.fsd_formats.specs.declared.entry.Entry.{Entry}
 use Rattle.fsd_formats.specs.Leader.{leader_of, leader_bytes}
 use Rattle.fsd_formats.specs.NamePage.{sectors_for}
 use Rattle.fsd_files.specs.Answers.{HasLeader}
-use Rattle.fsd_files.specs.Disk.{Image, Sectors, nowhere, Has}
-use Rattle.fsd_files.specs.Kept.{slice_of, slices_from, slices, data_sectors, KeptIn}
-use Rattle.fsd_volume.specs.Slices.{lay_at, slice_place, with_slices, with_version}
+use Rattle.fsd_files.specs.Disk.{Image, nowhere, Has}
+use Rattle.fsd_files.specs.Kept.{slice_of, slices_from, data_sectors, KeptIn}
+use Rattle.fsd_volume.specs.Slices.{slice_place, with_slices, with_version}
 use Rattle.fsd_volume.proofs.Laying.{holds_then, monotone_sector}
 use Rattle.fsd_volume.proofs.SliceLaws.{length-lay_at, lay_at_other, lay_at_in}
 use Rattle.fsd_volume.proofs.PieceLaws.{data_place}

@@ -1,5 +1,5 @@
 -- What a mount finds.
-use Rattle.std.specs.Prelude.{◌≡◌, ◌<◌, ◌+◌, ◌^◌, ℕ, false, List, [], Option, Some, None, IsSome, option_and_then, Result, Ok, Err, ⊤}
+use Rattle.std.specs.Prelude.{◌≡◌, ◌<◌, ◌+◌, ◌^◌, ℕ, List, [], Option, Some, None, IsSome, option_and_then, Result, Ok, Err, ⊤}
 use Rattle.volume_layout.specs.declared.layout.Layout.{Layout}
 use Rattle.volume_layout.specs.Layout.{home_a, home_b}
 use Rattle.fsd_formats.specs.declared.anchor.Anchor.{Anchor}
@@ -10,7 +10,7 @@ use Rattle.fsd_files.specs.Files.{Files}
 use Rattle.fsd_files.specs.Volume.{Volume}
 use Rattle.fsd_sound.specs.Homes.{home_of}
 use Rattle.mount_recover.specs.declared.fault.MountFault.{MountFault}
-use Rattle.mount_recover.specs.declared.fault.MountFault.TheVariants.{NotVolume, Device, Memory, Lost, NoAnchor, Unsound, WornOut}
+use Rattle.mount_recover.specs.declared.fault.MountFault.TheVariants.{Device, Memory, Lost, Unsound}
 use Rattle.mount_recover.specs.Recover.{IsVolume, RefusedFor}
 use Rattle.fsd_volume.specs.State.{State, IsMounted}
 use Rattle.fsd_volume.specs.Table.{table_in}

@@ -1,5 +1,5 @@
 -- What a read of a part of a sector, and of a range, gives.
-use Rattle.std.specs.Prelude.{◌≡◌, ◌+◌, ◌-◌, ◌≤◌, ℕ, List, length, min, take, drop, Option, Some, None, Result, Ok, Err, ⊤}
+use Rattle.std.specs.Prelude.{◌≡◌, ◌-◌, ◌≤◌, ℕ, List, length, min, take, drop, Option, Some, None, Result, Ok, Err, ⊤}
 use Rattle.fsd_bytes.specs.Bytes.{with_bytes}
 use Rattle.fsd_bytes.specs.declared.refusal.Refusal.{Refusal}
 use Rattle.fsd_bytes.specs.declared.refusal.Refusal.TheVariants.{Damaged as DamagedSector, Device, NoSuch}

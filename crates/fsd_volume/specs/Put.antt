@@ -1,5 +1,5 @@
 -- What a put answers.
-use Rattle.std.specs.Prelude.{◌≡◌, ◌⊎◌, ◌≤◌, ◌<◌, ◌-◌, ◌^◌, ℕ, Bool, true, false, List, length, Option, Some, None, Result, Ok, Err, IsTrue, ⊤, nat_lt, if◌then◌else◌}
+use Rattle.std.specs.Prelude.{◌≡◌, ◌≤◌, ◌<◌, ◌-◌, ◌^◌, ℕ, Bool, true, false, List, Option, Some, None, Result, Ok, Err, IsTrue, ⊤, nat_lt, if◌then◌else◌}
 use Rattle.std.specs.List.{list_any, flat_map}
 use Rattle.fsd_bytes.specs.Bytes.{same_bytes}
 use Rattle.fsd_bytes.specs.declared.key.Key.{Key}

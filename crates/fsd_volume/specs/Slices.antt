@@ -1,7 +1,5 @@
 -- The sectors of a version as they are written.
 use Rattle.std.specs.Prelude.{ℕ, zero, suc, ◌+◌, ◌-◌, List, length, slice_index_or}
-use Rattle.std.specs.Int.{div_ceil}
-use Rattle.fsd_bytes.specs.Bytes.{sector_len}
 use Rattle.run_table.specs.declared.run.Run.{Run}
 use Rattle.run_table.specs.RunTable.{sectors_of}
 use Rattle.fsd_formats.specs.declared.entry.Entry.{Entry}

@@ -1,6 +1,4 @@
-use Rattle.std.proofs.Common.{◌≡◌, ◌++◌, ◌+◌, ◌≤◌, ◌<◌, ◌∙◌, List, ℕ, take, length, ap, arith, rules, sym, subst, not}
-use Rattle.cfs_run.specs.Input.{TakesSome}
-use Rattle.cfs_run.specs.declared.input.TheConstants.{MOST_INPUT}
+use Rattle.std.proofs.Common.{◌≡◌, ◌++◌, ◌+◌, ◌≤◌, ◌∙◌, List, ℕ, take, length, ap, arith, rules, sym, subst, not}
 use Rattle.cfs_run.specs.declared.input.InputFault.TheVariants.{TooLong, Memory}
 use Rattle.cfs_run.proofs.InputSoFar.{SoFar, so_far_more, length-more, all_taken, some_taken, pushed}
 use Rattle.cfs_run.proofs.input.read_input.Goals as goal

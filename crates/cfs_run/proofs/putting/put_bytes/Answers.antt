@@ -1,4 +1,4 @@
-use Rattle.std.proofs.Common.{◌≡◌, ◌+◌, ℕ, ap, length, None, sym}
+use Rattle.std.proofs.Common.{◌+◌, ℕ, ap, length, None, sym}
 use Rattle.sector_disk.proofs.Calm.{same_calm}
 use Rattle.fsd_formats.specs.NamePage.{sectors_for}
 use Rattle.fsd_files.specs.OneLeaf.{put_outcome}

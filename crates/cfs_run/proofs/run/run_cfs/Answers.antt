@@ -7,7 +7,7 @@ use Rattle.cfs_run.specs.Words.{request_of}
 use Rattle.cfs_run.specs.Ends.{IfMountAnswer, IfMounts, IsMountable, LeavesInput, WhereMounted}
 use Rattle.cfs_run.proofs.MountEnds.{not_mounted, other, run_mounted, unlike}
 use Rattle.cfs_run.proofs.PutSaid.{put_heard}
-use Rattle.cfs_run.proofs.RunLaws.{said_untouched, Ran, run_input, run_takes, run_answers, run_completes, run_fault_said, run_holds, run_said, run_says, run_status, run_untouched}
+use Rattle.cfs_run.proofs.RunLaws.{said_untouched, run_input, run_takes, run_answers, run_completes, run_fault_said, run_holds, run_said, run_says, run_status, run_untouched}
 use Rattle.cfs_run.proofs.run.run_cfs.Goals as goal
 
 pub returns-clause-status : goal.returns-clause-status

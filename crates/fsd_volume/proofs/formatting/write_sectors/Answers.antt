@@ -1,6 +1,4 @@
-use Rattle.std.proofs.Common.{◌≡◌, ◌<◌, ◌≤◌, ◌+◌, ◌*◌, ◌∙◌, arith}
-use Rattle.volume_layout.specs.Layout.{plan, home_a, home_b}
-use Rattle.volume_layout.proofs.RootLaws.{planned_bounds}
+use Rattle.std.proofs.Common.{arith}
 use Rattle.fsd_volume.proofs.FormatLaws.{fits, some_page, volume_laid}
 use Rattle.fsd_volume.proofs.formatting.write_sectors.Goals as goal
 

@@ -1,7 +1,4 @@
-use Rattle.std.proofs.Common.{◌≤◌, ◌∙◌, length, arith, List}
-use Rattle.std.specs.Prelude.{Result, OnOk, Ok, Err}
-use Rattle.sector_disk.specs.Machine.{Settles}
-use Rattle.fsd_volume.specs.Formatting.{Formats}
+use Rattle.std.proofs.Common.{◌≤◌, length, arith}
 use Rattle.fsd_volume.proofs.FormatLaws.{formats, formats_if}
 use Rattle.fsd_volume.proofs.formatting.write_volume.Goals as goal
 

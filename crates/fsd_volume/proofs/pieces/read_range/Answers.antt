@@ -1,11 +1,8 @@
-use Rattle.std.proofs.Common.{◌≡◌, ◌∙◌, ◌+◌, ◌*◌, ◌/◌, ◌%◌, ◌≤◌, ◌<◌, ℕ, List, length, take, refl, sym, ap, subst, arith, rules}
-use Rattle.std.specs.Prelude.{Some, IsSome}
+use Rattle.std.proofs.Common.{◌≡◌, ◌∙◌, ◌+◌, ◌/◌, ◌%◌, ℕ, refl, sym, subst, arith}
 use Rattle.run_table.specs.RunTable.{sectors_of}
 use Rattle.sector_disk.specs.declared.machine.Seen.{Seen}
-use Rattle.sector_disk.specs.Image.{open_damage}
 use Rattle.sector_disk.proofs.Holding.{trusts_on}
-use Rattle.sector_disk.proofs.Wear.{worn_refl}
-use Rattle.fsd_volume.specs.Pieces.{ShowsPart, PartStands}
+use Rattle.fsd_volume.specs.Pieces.{ShowsPart}
 use Rattle.fsd_volume.proofs.CallLaws.{uses_on, wears_same, wears_on}
 use Rattle.fsd_volume.proofs.PieceLaws.{WholeTo, FrontStands, none_yet, nothing_yet, whole_more, front_more, gives_all, gives_damaged, part_before, range_damaged, is_there, in_all}
 use Rattle.fsd_volume.proofs.pieces.read_range.Goals as goal

@@ -1,4 +1,4 @@
-use Rattle.std.proofs.Common.{◌≡◌, ◌+◌, ◌-◌, ◌*◌, ◌/◌, ◌<◌, ◌≤◌, ℕ, List, length, take, drop}
+use Rattle.std.proofs.Common.{◌≡◌, ◌+◌, ◌-◌, ◌≤◌, ℕ, List, length}
 use Rattle.sector_disk.specs.Machine.{UsesDisk, Trusts, Wears}
 use Rattle.fsd_files.specs.Disk.{Sectors}
 use Rattle.fsd_files.specs.Kept.{KeptIn}

@@ -1,4 +1,4 @@
-use Rattle.std.proofs.Common.{◌≡◌, ◌∙◌, ap, refl, take}
+use Rattle.std.proofs.Common.{◌∙◌, ap, refl, take}
 use Rattle.fsd_bytes.specs.Bytes.{sector}
 use Rattle.fsd_volume.proofs.SliceLaws.{slice_is}
 use Rattle.fsd_volume.proofs.slices.slice_at.Goals as goal

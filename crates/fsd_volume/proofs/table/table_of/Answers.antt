@@ -1,4 +1,4 @@
-use Rattle.std.proofs.Common.{◌≡◌, sym, ap, subst, ◌∙◌, List, Some}
+use Rattle.std.proofs.Common.{sym, ap, subst, ◌∙◌, List, Some}
 use Rattle.name_page.specs.Reading.{entries_in}
 use Rattle.fsd_formats.specs.declared.entry.Entry.{Entry}
 use Rattle.fsd_volume.specs.State.{IsTable}

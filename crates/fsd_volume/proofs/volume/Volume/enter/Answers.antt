@@ -1,9 +1,8 @@
-use Rattle.std.proofs.Common.{◌≡◌, ◌≤◌, ◌+◌, true, not, refl, sym, ap, subst, ◌∙◌, arith, List}
+use Rattle.std.proofs.Common.{true, not, refl, sym, ap, subst, ◌∙◌, List}
 use Rattle.fsd_formats.specs.declared.entry.Entry.{Entry}
 use Rattle.fsd_files.specs.Volume.{plans_of}
-use Rattle.fsd_files.specs.Answers.{entry_put}
-use Rattle.fsd_volume.specs.Put.{IsFull, EntersOk, entered, AreNew}
-use Rattle.fsd_volume.specs.State.{State, IsKept}
+use Rattle.fsd_volume.specs.Put.{IsFull, EntersOk, AreNew}
+use Rattle.fsd_volume.specs.State.{State}
 use Rattle.fsd_volume.proofs.EnterLaws.{absent_by, full_is, fits_is, inserted, kept_put, free_as_kept}
 use Rattle.fsd_volume.proofs.volume.Volume.enter.Goals as goal
 

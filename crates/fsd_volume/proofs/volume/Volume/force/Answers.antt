@@ -1,4 +1,4 @@
-use Rattle.std.proofs.Common.{◌≡◌, sym, ap, subst, ◌∙◌}
+use Rattle.std.proofs.Common.{sym, ap, subst, ◌∙◌}
 use Rattle.fsd_volume.specs.State.{State, IsMounted}
 use Rattle.fsd_volume.proofs.Laying.{calm_holds}
 use Rattle.fsd_volume.proofs.ForceLaws.{idle_mounted, force_mounted}

@@ -1,7 +1,4 @@
-use Rattle.std.proofs.Common.{refl, ◌≡◌, ◌<◌, ◌^◌, ℕ, [], false, sym, ap, subst, ◌∙◌, List, rules, arith}
-use Rattle.fsd_formats.specs.declared.entry.Entry.{Entry}
-use Rattle.sector_disk.specs.Image.{IsCalm, Windows}
-use Rattle.sector_disk.specs.Machine.{Moment}
+use Rattle.std.proofs.Common.{refl, ◌<◌, ◌^◌, ℕ, [], false, ◌∙◌, rules}
 use Rattle.sector_disk.proofs.Calm.{calm_worn, same_calm}
 use Rattle.fsd_volume.specs.State.{State}
 use Rattle.fsd_volume.proofs.MountLaws.{recover_excuses, table_excuses, accepted, table_refused, is_mounted, found_on}

@@ -1,11 +1,10 @@
-use Rattle.std.proofs.Common.{◌≡◌, Err, ◌+◌, ◌<◌, ◌≤◌, ◌^◌, ℕ, length, refl, sym, ap, subst, ◌∙◌, arith, rules}
+use Rattle.std.proofs.Common.{Err, ◌+◌, ◌<◌, ◌≤◌, ◌^◌, ℕ, length, refl, sym, ap, subst, ◌∙◌, arith, rules}
 use Rattle.sector_set.specs.Area.{Area}
 use Rattle.fsd_formats.specs.declared.entry.Entry.{Entry}
 use Rattle.fsd_formats.specs.NamePage.{sectors_for, max_keep}
 use Rattle.fsd_files.specs.Answers.{keep_given, HasLeader}
 use Rattle.fsd_files.specs.OneLeaf.{put_outcome}
-use Rattle.fsd_files.specs.Volume.{plans_of}
-use Rattle.fsd_volume.specs.Put.{placed, AreNew}
+use Rattle.fsd_volume.specs.Put.{placed}
 use Rattle.fsd_volume.specs.State.{State, StandsFor, IsMounted, free_space}
 use Rattle.fsd_volume.proofs.PlaceLaws.{picked_place}
 use Rattle.fsd_volume.proofs.StoredLaws.{most_sectors, stored_runs, stored_below, stored_count}

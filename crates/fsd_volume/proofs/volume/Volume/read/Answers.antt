@@ -1,7 +1,7 @@
-use Rattle.std.proofs.Common.{◌≡◌, sym, ap, subst, ◌∙◌, ◌≤◌, ◌<◌, arith, Some}
+use Rattle.std.proofs.Common.{sym, ap, ◌∙◌, arith}
 use Rattle.fsd_files.specs.Answers.{entry_of}
 use Rattle.fsd_volume.specs.State.{State}
-use Rattle.fsd_volume.proofs.StoredLaws.{IsStored, stored, most_sectors, stored_runs, stored_below, stored_count, stored_length}
+use Rattle.fsd_volume.proofs.StoredLaws.{stored, most_sectors, stored_runs, stored_below, stored_count, stored_length}
 use Rattle.fsd_volume.proofs.volume.Volume.read.Goals as goal
 
 pub read_range-requires-clause-runs : goal.read_range-requires-clause-runs
