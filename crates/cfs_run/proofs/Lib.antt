@@ -1,3 +1,4 @@
+mod DamageEnds
 mod FormatEnds
 mod GetLaws
 mod InputSoFar

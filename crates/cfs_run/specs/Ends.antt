@@ -11,7 +11,9 @@ use Rattle.fsd_bytes.specs.Keys.{key_cmp}
 use Rattle.fsd_bytes.specs.declared.refusal.Refusal.TheVariants.{NoSuch}
 use Rattle.fsd_files.specs.Disk.{Image}
 use Rattle.fsd_files.specs.Files.{File, Files}
-use Rattle.fsd_files.specs.Answers.{Outcome}
+use Rattle.fsd_files.specs.Answers.{Outcome, entry_of}
+use Rattle.fsd_files.specs.Kept.{FirstDamaged, range_sectors}
+use Rattle.fsd_formats.specs.declared.entry.Entry.{Entry}
 use Rattle.fsd_files.specs.Replies.{Made, Refused, Reply}
 use Rattle.fsd_files.specs.OneLeaf.{put_outcome}
 use Rattle.fsd_volume.specs.Mount.{IsAccepted, MountRefused, Mounts, table_on, volume_of}
@@ -314,6 +316,40 @@ IfMounts request P = ⊤
 -- it is so where the answer's status is one of a mounted volume
 abbrev pub WhereMounted : Type 0 → Answer → Type 0
 WhereMounted P answer = IsTrue (is_one_of mounted_statuses (answer_status answer)) → P
+
+-- The table lists the version, and this is the first of its data sectors that is damaged.
+pub record HasDamage (key : Key) (entries : List Entry) (i : Image) (s : ℕ) : Type 0 where
+  pub entry : Entry
+  pub listed : entry_of key entries ≡ Some entry
+  pub first : FirstDamaged i i (range_sectors entry.runs 0 entry.length) s
+
+-- So it is of the image's own name table.
+pub record IsDamagedOn (sectors : ℕ) (i : Image) (key : Key) (s : ℕ) : Type 0 where
+  pub layout : Layout
+  pub accepted : IsAccepted sectors i layout
+  pub entries : List Entry
+  pub table : table_on layout i ≡ Some entries
+  pub damage : HasDamage key entries i s
+
+-- it is so of the sector that the answer tells as damaged
+abbrev pub IfDamaged : (ℕ → Type 0) → Answer → Type 0
+IfDamaged P (Said.Line (Says.Damaged key s)) = P s
+IfDamaged P answer = ⊤
+
+abbrev pub DamagedAnswer : Request → (sectors : ℕ) → Image → Answer → Type 0
+DamagedAnswer (Get key) sectors i answer = IfDamaged (IsDamagedOn sectors i key) answer
+DamagedAnswer request sectors i answer = ⊤
+
+-- The first damaged data sector of the version is said.
+pub record NamesDamage (key : Key) (sectors : ℕ) (old new : Moment) : Type 0 where
+  pub sector : ℕ
+  pub damaged : IsDamagedOn sectors old.image key sector
+  pub said : new.said ≡ old.said ++ text (Says.Damaged key sector)
+
+-- only of a get
+abbrev pub DamagedFor : Request → (sectors : ℕ) → (old new : Moment) → Type 0
+DamagedFor (Get key) sectors old new = NamesDamage key sectors old new
+DamagedFor request sectors old new = ⊥
 
 -- The image is one whose mount is refused for this fault, the fault's line is said, and the status is the fault's.
 pub record NotMounted (sectors : ℕ) (old new : Moment) (result : ℕ) : Type 0 where

@@ -2,7 +2,7 @@
 ghost use Rattle.std.specs.Prelude.{◌≡◌, ◌≤◌};
 ghost use Rattle.sector_disk.specs.Machine.{Trusts, Wears};
 ghost use Rattle.cfs_run.specs.Formatting.{UsesAttach};
-ghost use Rattle.cfs_run.specs.Ends.{AsksFor, CausesAnswer, GetLeaves, GivesFile, IfMountAnswer, IsGetAnswer, IsMountable, Never, WhereMounted};
+ghost use Rattle.cfs_run.specs.Ends.{AsksFor, CausesAnswer, GetLeaves, GivesFile, HasDamage, IfDamaged, IfMountAnswer, IsDamagedOn, IsGetAnswer, IsMountable, Never, WhereMounted};
 ghost use Rattle.cfs_run.specs.Mounting.{mount_asks};
 ghost use Rattle.std.specs.FinMap.{find};
 ghost use Rattle.sector_disk.specs.Image.{IsCalm};
@@ -33,6 +33,7 @@ pub(crate) fn get<M: Machine>(alloc: Global, path: &str, key: &Key, m: &mut M) -
     ensures quiet { M.honest m.new → (M.now m.new).said ≡ (M.now m.old).said }
     ensures refused { M.honest m.new → IsCalm (M.now m.old).windows → IsCalm (M.now m.new).windows → IfMountAnswer (MountRefused (M.report m.new).sectors (M.now m.old).image) result }
     ensures accepted { M.honest m.new → IsCalm (M.now m.old).windows → IsCalm (M.now m.new).windows → WhereMounted (IsMountable (M.report m.new).sectors (M.now m.old).image) result }
+    ensures damaged { M.honest m.new → IsCalm (M.now m.old).windows → IsCalm (M.now m.new).windows → IfDamaged (IsDamagedOn (M.report m.new).sectors (M.now m.old).image key.now) result }
     ensures leaves { M.honest m.new → GetLeaves key.now result (M.now m.old) (M.now m.new) }
 {
     match open(alloc, path, m) {
@@ -51,6 +52,7 @@ fn read_whole<M: Machine>(alloc: Global, volume: Volume, key: &Key, m: &mut M) -
     ensures ledger { M.tells m.new → M.ledger m.new ≡ M.ledger m.old }
     ensures worn { M.honest m.new → Wears (M.now m.old) (M.now m.new) }
     ensures mounted { IfMountAnswer Never result }
+    ensures damaged { M.honest m.new → IsCalm (M.now m.old).windows → IfDamaged (HasDamage key.now volume.entries (M.now m.old).image) result }
     ensures gives { M.honest m.new → IsCalm (M.now m.old).windows → (files : Files) → Lists files volume.entries → Kept (M.now m.old).image files volume.entries nowhere
         → GivesFile (find key_cmp key.now files) result }
 {

@@ -6,6 +6,7 @@ ghost use Rattle.cfs_run.specs.Answer.{CausesFault};
 ghost use Rattle.cfs_run.specs.Formatting.{UsesAttach};
 ghost use Rattle.cfs_run.specs.Mounting.{AsksMount, IfMount, IsExcuse, IsMountFault, OpensDisk, fault_of};
 ghost use Rattle.fsd_volume.specs.Mount.{IsFoundOn, MountRefused, Mounts};
+ghost use Rattle.fsd_volume.specs.State.{IsTable};
 ghost use Rattle.mount_recover.specs.Recover.{with_anchors};
 
 use crate::fault::Fault;
@@ -40,6 +41,7 @@ pub(crate) fn open<M: Machine>(alloc: Global, path: &str, m: &mut M) -> Result<V
     ensures room { IfOk result (λ volume. volume.layout.sectors ≤ (M.report m.new).sectors) }
     ensures idle { IfOk result (λ volume. volume.waits ≡ false) }
     ensures first { IfOk result (λ volume. volume.serial.count ≡ 1) }
+    ensures sound { IfOk result (λ volume. IsTable volume.layout volume.entries) }
     ensures found { IfOk result (λ volume. M.honest m.new → IsCalm (M.now m.old).windows → IsCalm (M.now m.new).windows → IsFoundOn (M.report m.new).sectors (M.now m.old).image volume) }
     ensures renewed { IfOk result (λ volume. M.honest m.new → IsCalm (M.now m.old).windows → IsCalm (M.now m.new).windows → (M.now m.new).image ≡ with_anchors volume.serial.epoch (M.now m.old).image) }
     ensures refused { IfErr result (λ fault. M.honest m.new → IsCalm (M.now m.old).windows → IsCalm (M.now m.new).windows → IfMount (MountRefused (M.report m.new).sectors (M.now m.old).image) fault) }

@@ -9,7 +9,7 @@ ghost use Rattle.cfs_run.specs.Text.{fault_text};
 ghost use Rattle.cfs_run.specs.declared.input.TheConstants.{MOST_INPUT};
 ghost use Rattle.cfs_run.specs.Words.{path_of, request_of};
 ghost use Rattle.cfs_run.specs.Input.{UsesCounts};
-ghost use Rattle.cfs_run.specs.Ends.{Answers, AsksAtMost, AsksFor, CausesAnswer, Holds, IfMountAnswer, IfMounts, IsAnswerTo, IsMountable, IsUntouched, Leaves, NoneRose, NotMounted, PutAnswersFor, PutsFor, SaysPart, Takes, LeavesInput, WhereMounted, asks_of, complete_statuses, fault_statuses, is_one_of, mounted_statuses};
+ghost use Rattle.cfs_run.specs.Ends.{Answers, AsksAtMost, AsksFor, CausesAnswer, DamagedAnswer, DamagedFor, Holds, IfMountAnswer, IfMounts, IsAnswerTo, IsMountable, IsUntouched, Leaves, NoneRose, NotMounted, PutAnswersFor, PutsFor, SaysPart, Takes, LeavesInput, WhereMounted, asks_of, complete_statuses, fault_statuses, is_one_of, mounted_statuses};
 
 use crate::answer::{Answer, finish};
 use crate::formatting::make;
@@ -36,6 +36,9 @@ pub fn run_cfs<M: Machine>(alloc: Global, words: &[String], m: &mut M) -> u8
     // One that is mounted: where nothing wears, the image is one whose mount is not refused.
     ensures mounted { IsTrue (is_one_of mounted_statuses result) → M.honest m.new → IsCalm (M.now m.old).windows → IsCalm (M.now m.new).windows
         → IfMounts (request_of (map string_bytes words.now)) (IsMountable (M.report m.new).sectors (M.now m.old).image) }
+    // A damaged version: where nothing wears, the first damaged data sector of the entry in the image's own name table is said.
+    ensures damaged { result ≡ 8 → M.honest m.new → IsCalm (M.now m.old).windows → IsCalm (M.now m.new).windows
+        → DamagedFor (request_of (map string_bytes words.now)) (M.report m.new).sectors (M.now m.old) (M.now m.new) }
 
     // Nothing but the words' image is asked for, and it is where the status is 0. Only a put takes input.
     ensures attaches { let asked = map string_bytes words.now in
@@ -76,6 +79,8 @@ fn carry_out<M: Machine>(alloc: Global, words: &[String], m: &mut M) -> Answer
     ensures refused { M.honest m.new → IsCalm (M.now m.old).windows → IsCalm (M.now m.new).windows → IfMountAnswer (MountRefused (M.report m.new).sectors (M.now m.old).image) result }
     ensures accepted { M.honest m.new → IsCalm (M.now m.old).windows → IsCalm (M.now m.new).windows
         → IfMounts (request_of (map string_bytes words.now)) (WhereMounted (IsMountable (M.report m.new).sectors (M.now m.old).image) result) }
+    ensures damaged { M.honest m.new → IsCalm (M.now m.old).windows → IsCalm (M.now m.new).windows
+        → DamagedAnswer (request_of (map string_bytes words.now)) (M.report m.new).sectors (M.now m.old).image result }
     ensures leaves { M.honest m.new → Leaves (request_of (map string_bytes words.now)) result (M.now m.old) (M.now m.new) }
 {
     match read_words(words) {

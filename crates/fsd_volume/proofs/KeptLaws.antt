@@ -33,7 +33,7 @@ pub back_there : (s : ℕ) (xs ys : List ℕ) → IsTrue (contains ys s) → IsT
 back_there s [] ys h = h
 back_there s (x ∷ xs) ys h = or_right (x == s) (contains (xs ++ ys) s) (back_there s xs ys h)
 
-behind_there : (s : ℕ) (xs : List ℕ) → IsTrue (contains (drop 1 xs) s) → IsTrue (contains xs s)
+pub behind_there : (s : ℕ) (xs : List ℕ) → IsTrue (contains (drop 1 xs) s) → IsTrue (contains xs s)
 behind_there s [] h = h
 behind_there s (x ∷ xs) h = rest_there x s xs h
 

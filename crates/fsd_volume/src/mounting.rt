@@ -39,6 +39,9 @@ impl Volume {
         ensures found { IfOk result (λ volume. M.honest m.new → IsCalm (M.now m.old).windows → IsCalm (M.now m.new).windows →
             IsFoundOn sectors (M.now m.old).image volume) }
 
+        // Its name table is sound.
+        ensures sound { IfOk result (λ volume. IsTable volume.layout volume.entries) }
+
         // Nothing of the image but its anchors is changed.
         ensures renewed { IfOk result (λ volume. M.honest m.new → IsCalm (M.now m.old).windows → IsCalm (M.now m.new).windows →
             (M.now m.new).image ≡ with_anchors volume.serial.epoch (M.now m.old).image) }

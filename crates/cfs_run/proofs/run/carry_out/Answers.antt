@@ -1,7 +1,7 @@
 use Rattle.std.proofs.Common.{◌∙◌, subst, sym}
 use Rattle.cfs_run.specs.declared.request.Request.{Request}
 use Rattle.cfs_run.specs.declared.answer.Answer.TheVariants as Said
-use Rattle.cfs_run.specs.Ends.{IfMounts, IsMountable, Leaves, PutsFor, WhereMounted}
+use Rattle.cfs_run.specs.Ends.{DamagedAnswer, IfMounts, IsMountable, Leaves, PutsFor, WhereMounted}
 use Rattle.cfs_run.proofs.run.carry_out.Goals as goal
 
 pub returns-in-Get-clause-leaves : goal.returns-in-Get-clause-leaves
@@ -23,3 +23,8 @@ returns-in-Put-clause-accepted g c h calm after =
     let M = g.M.Machine in
     let P = WhereMounted (IsMountable (M.report c.put.new.m).sectors (M.now c.args.m.now).image) (Said.Line c.put.result) in
     subst (λ (request : Request). IfMounts request P) (sym c.in-Put.is ∙ c.read_words.ensures) (c.put.ensures.accepted h calm after)
+
+pub returns-in-Get-clause-damaged : goal.returns-in-Get-clause-damaged
+returns-in-Get-clause-damaged g c h calm after =
+    let M = g.M.Machine in
+    subst (λ (request : Request). DamagedAnswer request (M.report c.get.new.m).sectors (M.now c.args.m.now).image c.get.result) (sym c.in-Get.is ∙ c.read_words.ensures) (c.get.ensures.damaged h calm after)

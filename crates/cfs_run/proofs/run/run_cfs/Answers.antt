@@ -1,10 +1,11 @@
-use Rattle.std.proofs.Common.{Global, ℕ, map, refl, subst, sym}
+use Rattle.std.proofs.Common.{Global, ℕ, arith, map, refl, subst, sym}
 use Rattle.std.specs.String.{string_bytes}
 use Rattle.sector_disk.specs.Machine.{Ledger, Rose}
 use Rattle.sector_disk.proofs.Calm.{same_calm}
 use Rattle.fsd_volume.specs.Mount.{MountRefused}
 use Rattle.cfs_run.specs.Words.{request_of}
-use Rattle.cfs_run.specs.Ends.{IfMountAnswer, IfMounts, IsMountable, LeavesInput, WhereMounted}
+use Rattle.cfs_run.specs.Ends.{DamagedAnswer, IfMountAnswer, IfMounts, IsMountable, LeavesInput, WhereMounted}
+use Rattle.cfs_run.proofs.DamageEnds.{run_damaged}
 use Rattle.cfs_run.proofs.MountEnds.{not_mounted, other, run_mounted, unlike}
 use Rattle.cfs_run.proofs.PutSaid.{put_heard}
 use Rattle.cfs_run.proofs.RunLaws.{said_untouched, run_input, run_takes, run_answers, run_completes, run_fault_said, run_holds, run_said, run_says, run_status, run_untouched}
@@ -177,3 +178,27 @@ returns-clause-mounted g c which h calm last =
       leaves = λ h2. c.carry_out-answer.ensures.leaves (c.finish.ensures.trust.honest h2);
     }) h (λ six. unlike 6 c.finish.result refl which six) (λ seven. unlike 7 c.finish.result refl which seven) in
     run_mounted request (IsMountable (M.report c.finish.new.m).sectors at.image) c.carry_out-answer.result c.finish.result counted says.0 which
+
+pub returns-clause-damaged : goal.returns-clause-damaged
+returns-clause-damaged g c eight h calm last =
+    let M = g.M.Machine in
+    let h1 = c.finish.ensures.trust.honest h in
+    let at = M.now c.args.m.now in
+    let between = M.now c.carry_out-answer.new.m in
+    let after = M.now c.finish.new.m in
+    let windows = (said_untouched (M.honest c.finish.new.m) _ _ _ _ _ _ _ h c.finish.ensures.said).windows in
+    let damaged = c.carry_out-answer.ensures.damaged h1 calm (same_calm between.windows after.windows windows last) in
+    let request = request_of (map (string_bytes {Z = Global}) c.args.words.now) in
+    let counted = subst (λ (n : ℕ). DamagedAnswer request n at.image c.carry_out-answer.result) (sym c.finish.ensures.uses.sectors) damaged in
+    let ran : Ran (M.honest c.finish.new.m) request c.carry_out-answer.result (M.report c.args.m.now) (M.report c.carry_out-answer.new.m) (M.report c.finish.new.m) at between after c.finish.result = record {
+      answers = c.carry_out-answer.ensures.answer;
+      cause = c.carry_out-answer.ensures.cause;
+      uses = c.carry_out-answer.ensures.uses;
+      says = c.finish.ensures.uses;
+      said = c.finish.ensures.said;
+      quiet = λ h2. c.carry_out-answer.ensures.quiet (c.finish.ensures.trust.honest h2);
+      leaves = λ h2. c.carry_out-answer.ensures.leaves (c.finish.ensures.trust.honest h2);
+    } in
+    let says = run_says (M.honest c.finish.new.m) request c.carry_out-answer.result _ _ _ at between after c.finish.result ran h (λ six. omega (arith, six, eight)) (λ seven. omega (arith, seven, eight)) in
+    let allowed = run_status (M.honest c.finish.new.m) request c.carry_out-answer.result _ _ _ at between after c.finish.result ran in
+    run_damaged request c.carry_out-answer.result (M.report c.finish.new.m).sectors at after c.finish.result c.carry_out-answer.ensures.answer allowed counted says.0 says.1 eight
