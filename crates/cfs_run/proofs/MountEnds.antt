@@ -15,7 +15,7 @@ use Rattle.sector_disk.specs.declared.sector.Sector.{Sector}
 use Rattle.sector_disk.specs.Image.{IsCalm}
 use Rattle.sector_disk.specs.Machine.{Finds, Moment}
 use Rattle.sector_disk.proofs.Calm.{calm_worn}
-use Rattle.fsd_volume.specs.Mount.{IsFoundOn, MountRefused, volume_of}
+use Rattle.fsd_volume.specs.Mount.{IsMountable, IsFoundOn, MountRefused, volume_of}
 use Rattle.fsd_volume.specs.Put.{PutSays, Puts}
 use Rattle.fsd_volume.specs.State.{StandsFor, State}
 use Rattle.cfs_run.specs.declared.fault.Fault.{Fault}
@@ -28,7 +28,7 @@ use Rattle.cfs_run.specs.declared.request.Request.TheVariants.{Outside, BadField
 use Rattle.cfs_run.specs.declared.answer.Answer.TheVariants as Said
 use Rattle.cfs_run.specs.Answer.{answer_status, answer_text}
 use Rattle.cfs_run.specs.Mounting.{IfMount, IsMountFault, fault_of}
-use Rattle.cfs_run.specs.Ends.{IfMountAnswer, IfMountLine, IfMounts, IsMountable, Never, NotMounted, WhereMounted, is_one_of, mounted_statuses}
+use Rattle.cfs_run.specs.Ends.{IfMountAnswer, IfMountLine, IfMounts, Never, NotMounted, WhereMounted, is_one_of, mounted_statuses}
 use Rattle.cfs_run.specs.Text.{line_of}
 use Rattle.cfs_run.proofs.PutLaws.{keeps}
 

@@ -1,5 +1,5 @@
 -- How a run ends, by what its words ask for.
-use Rattle.std.specs.Prelude.{◌≡◌, ◌⊎◌, ◌<◌, ◌≤◌, ◌+◌, ◌^◌, ⊤, ℕ, Bool, ◌==◌, List, [], ◌∷◌, ◌++◌, length, take, Option, Some, None, IsSome, IsTrue, Result, Ok, Err}
+use Rattle.std.specs.Prelude.{◌≡◌, ◌⊎◌, ◌<◌, ◌≤◌, ◌+◌, ◌^◌, ⊤, ℕ, Bool, ◌==◌, List, [], ◌∷◌, ◌++◌, length, take, Option, Some, None, IsTrue, Result, Ok, Err}
 use Rattle.std.specs.List.{list_any}
 use Rattle.std.specs.FinMap.{find}
 use Rattle.sector_disk.specs.Image.{IsCalm, IsWorn, open_damage}
@@ -296,12 +296,6 @@ pub record SaysPart (request : Request) (place : ℕ) (before after : List ℕ) 
   pub may : MaySay request place bytes ⊎ (bytes ≡ memory_text)
   pub heard : ℕ
   pub said : after ≡ before ++ take heard bytes
-
--- The image has a root and an anchor that are accepted, and page 0 of its name table can be read and is sound.
-pub record IsMountable (sectors : ℕ) (i : Image) : Type 0 where
-  pub layout : Layout
-  pub accepted : IsAccepted sectors i layout
-  pub table : IsSome (table_on layout i)
 
 -- the statuses that come only once the volume is mounted
 abbrev pub mounted_statuses : List ℕ

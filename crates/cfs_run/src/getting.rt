@@ -2,11 +2,11 @@
 ghost use Rattle.std.specs.Prelude.{◌≡◌, ◌≤◌};
 ghost use Rattle.sector_disk.specs.Machine.{Trusts, Wears};
 ghost use Rattle.cfs_run.specs.Formatting.{UsesAttach};
-ghost use Rattle.cfs_run.specs.Ends.{AsksFor, CausesAnswer, GetLeaves, GivesFile, HasDamage, IfDamaged, IfMountAnswer, IsDamagedOn, IsGetAnswer, IsMountable, Never, WhereMounted};
+ghost use Rattle.cfs_run.specs.Ends.{AsksFor, CausesAnswer, GetLeaves, GivesFile, HasDamage, IfDamaged, IfMountAnswer, IsDamagedOn, IsGetAnswer, Never, WhereMounted};
 ghost use Rattle.cfs_run.specs.Mounting.{mount_asks};
 ghost use Rattle.std.specs.FinMap.{find};
 ghost use Rattle.sector_disk.specs.Image.{IsCalm};
-ghost use Rattle.fsd_volume.specs.Mount.{MountRefused};
+ghost use Rattle.fsd_volume.specs.Mount.{IsMountable, MountRefused};
 ghost use Rattle.fsd_bytes.specs.Keys.{key_cmp};
 ghost use Rattle.fsd_files.specs.Disk.{nowhere};
 ghost use Rattle.fsd_files.specs.Files.{Files};

@@ -3,13 +3,13 @@ ghost use Rattle.std.specs.Prelude.{◌≡◌, ◌⊎◌, ◌<◌, ◌++◌, [],
 ghost use Rattle.std.specs.String.{string_bytes};
 ghost use Rattle.sector_disk.specs.Image.{IsCalm};
 ghost use Rattle.sector_disk.specs.Machine.{Rose, Trusts};
-ghost use Rattle.fsd_volume.specs.Mount.{MountRefused};
+ghost use Rattle.fsd_volume.specs.Mount.{IsMountable, MountRefused};
 ghost use Rattle.cfs_run.specs.declared.fault.Fault.TheVariants as Ends;
 ghost use Rattle.cfs_run.specs.Text.{fault_text};
 ghost use Rattle.cfs_run.specs.declared.input.TheConstants.{MOST_INPUT};
 ghost use Rattle.cfs_run.specs.Words.{path_of, request_of};
 ghost use Rattle.cfs_run.specs.Input.{UsesCounts};
-ghost use Rattle.cfs_run.specs.Ends.{Answers, AsksAtMost, AsksFor, CausesAnswer, DamagedAnswer, DamagedFor, Holds, IfMountAnswer, IfMounts, IsAnswerTo, IsMountable, IsUntouched, Leaves, NoneRose, NotMounted, PutAnswersFor, PutsFor, SaysPart, Takes, LeavesInput, WhereMounted, asks_of, complete_statuses, fault_statuses, is_one_of, mounted_statuses};
+ghost use Rattle.cfs_run.specs.Ends.{Answers, AsksAtMost, AsksFor, CausesAnswer, DamagedAnswer, DamagedFor, Holds, IfMountAnswer, IfMounts, IsAnswerTo, IsUntouched, Leaves, NoneRose, NotMounted, PutAnswersFor, PutsFor, SaysPart, Takes, LeavesInput, WhereMounted, asks_of, complete_statuses, fault_statuses, is_one_of, mounted_statuses};
 
 use crate::answer::{Answer, finish};
 use crate::formatting::make;

@@ -57,6 +57,12 @@ MountRefused sectors i (Unsound s) = (l : Layout) × IsAccepted sectors i l × I
 MountRefused sectors i Memory = ⊤
 MountRefused sectors i fault = RefusedFor sectors i fault
 
+-- The image has a root and an anchor that are accepted, and page 0 of its name table can be read and is sound.
+pub record IsMountable (sectors : ℕ) (i : Image) : Type 0 where
+  pub layout : Layout
+  pub accepted : IsAccepted sectors i layout
+  pub table : IsSome (table_on layout i)
+
 -- The layout is the image's root, the epoch is the one behind its anchor's, and the entries are its name table.
 pub record IsFoundOn (sectors : ℕ) (i : Image) (state : State) : Type 0 where
   pub anchor : Anchor

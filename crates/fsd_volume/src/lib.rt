@@ -3,6 +3,7 @@
 
 mod forcing;
 mod formatting;
+mod laws;
 mod mounting;
 mod pages;
 mod pieces;
@@ -15,6 +16,7 @@ mod volume;
 
 pub use forcing::Forced;
 pub use formatting::format;
+pub use laws::mounts_are_refused_or_not;
 pub use volume::Volume;
 
 #[cfg(test)]

@@ -1,6 +1,6 @@
 use Rattle.sector_disk.proofs.Calm.{same_calm}
 use Rattle.cfs_run.proofs.GetLaws.{got, not_got}
-use Rattle.cfs_run.specs.Ends.{IsMountable}
+use Rattle.fsd_volume.specs.Mount.{IsMountable}
 use Rattle.cfs_run.proofs.DamageEnds.{get_damaged}
 use Rattle.cfs_run.proofs.MountEnds.{mountable, no_mount}
 use Rattle.cfs_run.proofs.getting.get.Goals as goal

@@ -1,6 +1,7 @@
 use Rattle.std.proofs.Common.{List, ℕ, subst}
 use Rattle.sector_disk.proofs.Calm.{same_calm}
-use Rattle.cfs_run.specs.Ends.{IsMountable, Puts}
+use Rattle.cfs_run.specs.Ends.{Puts}
+use Rattle.fsd_volume.specs.Mount.{IsMountable}
 use Rattle.cfs_run.proofs.MountEnds.{mountable, no_mount}
 use Rattle.cfs_run.proofs.PutLaws.{excuse_puts}
 use Rattle.cfs_run.proofs.putting.put.Goals as goal

@@ -1,7 +1,8 @@
 use Rattle.std.proofs.Common.{◌∙◌, subst, sym}
 use Rattle.cfs_run.specs.declared.request.Request.{Request}
 use Rattle.cfs_run.specs.declared.answer.Answer.TheVariants as Said
-use Rattle.cfs_run.specs.Ends.{DamagedAnswer, IfMounts, IsMountable, Leaves, PutsFor, WhereMounted}
+use Rattle.cfs_run.specs.Ends.{DamagedAnswer, IfMounts, Leaves, PutsFor, WhereMounted}
+use Rattle.fsd_volume.specs.Mount.{IsMountable}
 use Rattle.cfs_run.proofs.run.carry_out.Goals as goal
 
 pub returns-in-Get-clause-leaves : goal.returns-in-Get-clause-leaves

@@ -2,13 +2,13 @@ use Rattle.std.proofs.Common.{Global, ℕ, arith, map, refl, subst, sym}
 use Rattle.std.specs.String.{string_bytes}
 use Rattle.sector_disk.specs.Machine.{Ledger, Rose}
 use Rattle.sector_disk.proofs.Calm.{same_calm}
-use Rattle.fsd_volume.specs.Mount.{MountRefused}
+use Rattle.fsd_volume.specs.Mount.{IsMountable, MountRefused}
 use Rattle.cfs_run.specs.Words.{request_of}
-use Rattle.cfs_run.specs.Ends.{DamagedAnswer, IfMountAnswer, IfMounts, IsMountable, LeavesInput, WhereMounted}
+use Rattle.cfs_run.specs.Ends.{DamagedAnswer, IfMountAnswer, IfMounts, LeavesInput, WhereMounted}
 use Rattle.cfs_run.proofs.DamageEnds.{run_damaged}
 use Rattle.cfs_run.proofs.MountEnds.{not_mounted, other, run_mounted, unlike}
 use Rattle.cfs_run.proofs.PutSaid.{put_heard}
-use Rattle.cfs_run.proofs.RunLaws.{said_untouched, run_input, run_takes, run_answers, run_completes, run_fault_said, run_holds, run_said, run_says, run_status, run_untouched}
+use Rattle.cfs_run.proofs.RunLaws.{Ran, said_untouched, run_input, run_takes, run_answers, run_completes, run_fault_said, run_holds, run_said, run_says, run_status, run_untouched}
 use Rattle.cfs_run.proofs.run.run_cfs.Goals as goal
 
 pub returns-clause-status : goal.returns-clause-status
