@@ -1,1 +1,4 @@
+pub mod HeldLaws
+pub mod MeetLaws
+pub mod SoundLaws
 pub mod WaitLaws

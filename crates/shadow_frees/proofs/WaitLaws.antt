@@ -45,7 +45,7 @@ begun_apart removed unfinished new runs is apart out = record {
       ]);
 }
 
-still_in : (m new : Area) (runs : List Run) (s : ℕ) → new ≡ without m runs → contains new.sectors s ≡ true → contains m.sectors s ≡ true
+pub still_in : (m new : Area) (runs : List Run) (s : ℕ) → new ≡ without m runs → contains new.sectors s ≡ true → contains m.sectors s ≡ true
 still_in m new runs s is c = (and_parts (contains m.sectors s) (not (contains (sectors_of runs) s)) (free_passes m.from m.to _ s (ap (λ (m : Area). contains m.sectors s) (sym is) ∙ c))).0
 
 pub ended_apart : (removed unfinished new : Area) (runs : List Run) → new ≡ without unfinished runs → AreApart removed unfinished → AreApart removed new
@@ -136,19 +136,17 @@ fewer m new r own are is some =
     (λ s c. free_within m.from m.to (contains m.sectors) s (ap (λ (v : Area). contains v.sectors s) (sym own) ∙ are.inside s c)) are.inside in
     omega (arith, all, sum_by-cons (λ (r : Run). r.length) r [], ap (λ (v : Area). length v.sectors) is)
 
-pub few : (removed unfinished : Area) → IsOwn removed → IsOwn unfinished → AreApart removed unfinished → length removed.sectors + length unfinished.sectors ≤ removed.to - removed.from
-few removed unfinished r u apart =
-    let f : ℕ → Bool = contains removed.sectors in
-    let g : ℕ → Bool = contains unfinished.sectors in
-    let first : where_free (λ s. (contains removed.sectors s || contains unfinished.sectors s) && contains removed.sectors s) removed.from removed.to ≡ where_free (contains removed.sectors) removed.from removed.to =
-    where_same _ _ removed.from removed.to (λ s h k. absorbed (contains removed.sectors s) (contains unfinished.sectors s)) in
-    let second : where_free (λ s. (contains removed.sectors s || contains unfinished.sectors s) && not (contains removed.sectors s)) removed.from removed.to ≡ where_free (contains unfinished.sectors) removed.from removed.to =
-    where_same _ _ removed.from removed.to (λ s h k. other (contains removed.sectors s) (contains unfinished.sectors s) (apart.apart s)) in
-    let moved : where_free (contains unfinished.sectors) removed.from removed.to ≡ where_free (contains unfinished.sectors) unfinished.from unfinished.to = λ i. where_free (contains unfinished.sectors) (apart.from i) (apart.to i) in
+-- two sets that are apart together have as many as both
+pub both : (one other : Area) → IsOwn one → IsOwn other → AreApart one other → length (where_free (λ s. contains one.sectors s || contains other.sectors s) one.from one.to) ≡ length one.sectors + length other.sectors
+both one other r u apart =
+    let first : where_free (λ s. (contains one.sectors s || contains other.sectors s) && contains one.sectors s) one.from one.to ≡ where_free (contains one.sectors) one.from one.to =
+    where_same _ _ one.from one.to (λ s h k. absorbed (contains one.sectors s) (contains other.sectors s)) in
+    let second : where_free (λ s. (contains one.sectors s || contains other.sectors s) && not (contains one.sectors s)) one.from one.to ≡ where_free (contains other.sectors) one.from one.to =
+    where_same _ _ one.from one.to (λ s h k. rest (contains one.sectors s) (contains other.sectors s) (apart.apart s)) in
+    let moved : where_free (contains other.sectors) one.from one.to ≡ where_free (contains other.sectors) other.from other.to = λ i. where_free (contains other.sectors) (apart.from i) (apart.to i) in
     omega (
       arith,
-      split_where (λ s. contains removed.sectors s || contains unfinished.sectors s) (contains removed.sectors) removed.from removed.to,
-      no_more_than (λ s. contains removed.sectors s || contains unfinished.sectors s) removed.from removed.to,
+      split_where (λ s. contains one.sectors s || contains other.sectors s) (contains one.sectors) one.from one.to,
       ap length first,
       ap length (second ∙ moved),
       ap (λ (v : Area). length v.sectors) r,
@@ -160,8 +158,11 @@ few removed unfinished r u apart =
     absorbed false true = refl
     absorbed false false = refl
 
-    other : (a b : Bool) → (a ≡ true → b ≡ false) → ((a || b) && not a) ≡ b
-    other true true h = absurd (let e = h refl in cc)
-    other true false h = refl
-    other false true h = refl
-    other false false h = refl
+    rest : (a b : Bool) → (a ≡ true → b ≡ false) → ((a || b) && not a) ≡ b
+    rest true true h = absurd (let e = h refl in cc)
+    rest true false h = refl
+    rest false true h = refl
+    rest false false h = refl
+
+pub few : (one other : Area) → IsOwn one → IsOwn other → AreApart one other → length one.sectors + length other.sectors ≤ one.to - one.from
+few one other r u apart = omega (arith, both one other r u apart, no_more_than (λ s. contains one.sectors s || contains other.sectors s) one.from one.to)

@@ -1,6 +1,9 @@
-//! Sectors that wait: removed ones until the next force, those of unfinished creations until these end.
+//! Sectors that wait: removed ones until the next force and until no reader holds them, those of unfinished creations
+//! until these end.
 #![tactic(auto)]
 
+mod overlap;
+mod readers;
 mod shadow;
 
 pub use shadow::{Shadow, Waiting};

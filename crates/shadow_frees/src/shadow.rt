@@ -1,10 +1,13 @@
 //! The sectors that wait.
-ghost use Rattle.std.specs.Prelude.{◌≡◌, ◌+◌, ◌<◌, ◌≤◌, ◌||◌, ◌↔◌, false, [], ◌∷◌, length, IsNone, IfOk, IfSome, OnSome};
+ghost use Rattle.std.specs.Prelude.{◌≡◌, ◌+◌, ◌<◌, ◌≤◌, ◌||◌, ◌↔◌, false, [], ◌∷◌, length, replicate, set, get_or, None, Some, All, IsTrue, IsNone, IsSome, IfOk, IfSome, OnSome};
+ghost use Rattle.std.specs.List.{list_any};
 ghost use Rattle.run_table.specs.Space.{contains};
 ghost use Rattle.sector_set.specs.Area.{area, without, together, AreIn, AreOut};
-ghost use Rattle.shadow_frees.specs.Waits.{AreIdle, run_between, left_after};
+ghost use Rattle.shadow_frees.specs.Readers.{is_empty, Agrees, AreUnheld, unheld, with_held, given_back};
+ghost use Rattle.shadow_frees.specs.Waits.{AreIdle, AreSound, run_between, left_after, left_kept};
 
-use run_table::{Run, Runs};
+use crate::readers;
+use run_table::Runs;
 use sector_set::SectorArea;
 use std::alloc::{AllocError, Global};
 use std::marker::Model;
@@ -16,52 +19,109 @@ pub struct Waiting {
     pub removed: u32,
 }
 
-/// The sectors of the data area that belong to no version and are not free yet.
+/// The sectors of the data area that belong to no version and are not free yet, and the versions that up to eight
+/// readers hold.
 #[derive(Debug, Drop)]
 pub struct Shadow {
     removed: SectorArea,
+    kept: SectorArea,
     unfinished: SectorArea,
+    held: [Option<Runs>; 8],
 }
 
 impl Model for Shadow {
-    ghost use Rattle.shadow_frees.specs.Waits.{Waits, AreApart};
+    ghost use Rattle.shadow_frees.specs.Waits.{Waits, AreSound};
 
     ghost Value = { Waits };
 
-    ghost view = { λ a. record { removed = a.removed; unfinished = a.unfinished } };
+    ghost view = { λ a. record { removed = a.removed; kept = a.kept; unfinished = a.unfinished; held = a.held } };
 
-    ghost invariant = { λ a. AreApart a.removed a.unfinished };
+    ghost invariant = { λ a. AreSound a.removed a.kept a.unfinished a.held };
 }
 
 impl Shadow {
-    /// No sector of `from..to` waits. It takes two bits for each sector below `to`.
+    /// No sector of `from..to` waits and no reader holds one. It takes three bits for each sector below `to`.
     pub fn new(alloc: Global, from: u32, to: u32) -> Result<Shadow, AllocError>
         requires { from ≤ to }
         ensures removed { IfOk result (λ w. w.removed ≡ area from to (λ _. false)) }
+        ensures kept { IfOk result (λ w. w.kept ≡ area from to (λ _. false)) }
         ensures unfinished { IfOk result (λ w. w.unfinished ≡ area from to (λ _. false)) }
+        ensures held { IfOk result (λ w. w.held ≡ replicate 8 None) }
     {
         let removed = SectorArea::new(alloc, from, to)?;
+        let kept = SectorArea::new(alloc, from, to)?;
         let unfinished = SectorArea::new(alloc, from, to)?;
         Ok(Shadow {
             removed,
+            kept,
             unfinished,
+            held: [None, None, None, None, None, None, None, None],
         })
     }
 
-    /// The sectors of a version that is removed wait for the next force.
+    /// The sectors of a version that is removed wait for the next force, and then for the last reader that holds it.
     pub fn freed(&mut self, runs: &Runs)
-        requires { AreIdle self.old runs.now }
+        requires idle { AreIdle self.old runs.now }
+        requires agree { All (Agrees runs.now) self.old.held }
         ensures removed { self.new.removed ≡ together self.old.removed runs.now }
+        ensures kept { self.new.kept ≡ self.old.kept }
         ensures unfinished { self.new.unfinished ≡ self.old.unfinished }
+        ensures held { self.new.held ≡ self.old.held }
     {
         self.removed.insert(runs);
+    }
+
+    /// A reader holds a version that stands: the slot, by which it is given up again.
+    pub fn hold(&mut self, runs: &Runs) -> u32
+        requires room { IsTrue (list_any is_empty self.old.held) }
+        requires idle { AreIdle self.old runs.now }
+        requires agree { All (Agrees runs.now) self.old.held }
+        ensures inside { result < 8 }
+        ensures empty { get_or self.old.held result None ≡ None }
+        ensures held { self.new.held ≡ set self.old.held result (Some runs.now) }
+        ensures removed { self.new.removed ≡ self.old.removed }
+        ensures kept { self.new.kept ≡ self.old.kept }
+        ensures unfinished { self.new.unfinished ≡ self.old.unfinished }
+    {
+        let slot = readers::empty_slot(&self.held);
+        self.held[slot] = Some(runs.copied());
+        slot as u32
+    }
+
+    /// A reader gives its slot up: the runs that become free, if any.
+    pub fn unhold(&mut self, slot: u32) -> Option<Runs>
+        requires inside { slot < 8 }
+        requires held { IsSome (get_or self.old.held slot None) }
+        ensures result { result ≡ given_back self.old.kept (set self.old.held slot None) (get_or self.old.held slot None) }
+        ensures given { IfSome result (λ runs. AreIn self.old.kept runs) }
+        ensures left { IfSome result (λ runs. AreUnheld self.new.held runs) }
+        ensures held { self.new.held ≡ set self.old.held slot None }
+        ensures removed { self.new.removed ≡ self.old.removed }
+        ensures kept { self.new.kept ≡ left_kept self.old.kept result }
+        ensures unfinished { self.new.unfinished ≡ self.old.unfinished }
+    {
+        let runs = self.held[slot as usize].take()?;
+        if !readers::are_in(&self.kept, runs.as_slice()) || readers::have(&self.held, &runs) {
+            return None;
+        }
+        self.kept.remove(&runs);
+        Some(runs)
+    }
+
+    /// Whether each reader holds the very same runs or none of their sectors.
+    pub fn agrees(&self, runs: &Runs) -> bool
+        ensures { IsTrue result ↔ All (Agrees runs.now) self.now.held }
+    {
+        readers::agree(&self.held, runs)
     }
 
     /// The sectors of a creation wait until it ends.
     pub fn unfinished(&mut self, runs: &Runs)
         requires { AreIdle self.old runs.now }
         ensures removed { self.new.removed ≡ self.old.removed }
+        ensures kept { self.new.kept ≡ self.old.kept }
         ensures unfinished { self.new.unfinished ≡ together self.old.unfinished runs.now }
+        ensures held { self.new.held ≡ self.old.held }
     {
         self.unfinished.insert(runs);
     }
@@ -70,21 +130,28 @@ impl Shadow {
     pub fn ended(&mut self, runs: &Runs)
         requires { AreIn self.old.unfinished runs.now }
         ensures removed { self.new.removed ≡ self.old.removed }
+        ensures kept { self.new.kept ≡ self.old.kept }
         ensures unfinished { self.new.unfinished ≡ without self.old.unfinished runs.now }
+        ensures held { self.new.held ≡ self.old.held }
     {
         self.unfinished.remove(runs);
     }
 
-    /// After a force: the start and the end of some removed sectors, which wait no more. Called until None.
+    /// After a force: the start and the end of some removed sectors, which wait no more. Called until None. Those that a
+    /// reader holds are kept for it.
     pub fn committed(&mut self) -> Option<(u32, u32)>
-        ensures none { IsNone result ↔ (self.old.removed.sectors ≡ []) }
+        ensures none { IsNone result ↔ ((unheld self.old.held self.old.removed).sectors ≡ []) }
         ensures some { IfSome result (λ p. p.0 < p.1) }
-        ensures given { IfSome result (λ p. AreIn self.old.removed (run_between p ∷ [])) }
-        ensures left { self.new.removed ≡ left_after self.old.removed result }
+        ensures given { IfSome result (λ p. AreIn (unheld self.old.held self.old.removed) (run_between p ∷ [])) }
+        ensures left { self.new.removed ≡ left_after (unheld self.old.held self.old.removed) result }
+        ensures kept { self.new.kept ≡ with_held self.old.held self.old.kept self.old.removed }
         ensures fewer { OnSome result (length self.new.removed.sectors < length self.old.removed.sectors) }
         ensures unfinished { self.new.unfinished ≡ self.old.unfinished }
+        ensures held { self.new.held ≡ self.old.held }
     {
-        let run = self.removed.next_run(self.removed.from())?;
+        let from = self.removed.from();
+        readers::keep_held(&self.held, &mut self.removed, &mut self.kept);
+        let run = self.removed.next_run(from)?;
         let mut runs = Runs::new();
         runs.push(run);
         self.removed.remove(&runs);
@@ -93,12 +160,14 @@ impl Shadow {
 
     /// How many sectors wait.
     pub fn waiting(&self) -> Waiting
-        ensures all { result.all ≡ length self.now.removed.sectors + length self.now.unfinished.sectors }
+        ensures all { result.all ≡ length self.now.removed.sectors + length self.now.kept.sectors + length self.now.unfinished.sectors }
         ensures removed { result.removed ≡ length self.now.removed.sectors }
+        ensures once { AreSound self.now.removed self.now.kept self.now.unfinished self.now.held }
     {
         let removed = self.removed.count();
+        let earlier = removed + self.kept.count();
         Waiting {
-            all: removed + self.unfinished.count(),
+            all: earlier + self.unfinished.count(),
             removed,
         }
     }
@@ -107,22 +176,45 @@ impl Shadow {
     pub fn waits(&self, s: u32) -> bool
         requires from { self.now.removed.from ≤ s }
         requires to { s < self.now.removed.to }
-        ensures { result ≡ (contains self.now.removed.sectors s || contains self.now.unfinished.sectors s) }
+        ensures { result ≡ (contains self.now.removed.sectors s || (contains self.now.kept.sectors s || contains self.now.unfinished.sectors s)) }
     {
-        self.removed.contains(s) || self.unfinished.contains(s)
+        self.removed.contains(s) || self.kept.contains(s) || self.unfinished.contains(s)
     }
 }
 
 #[cfg(test)]
 mod tests {
     use super::*;
+    use run_table::Run;
     use std::test::Fail;
 
     #[test]
-    fn nothing_waits_at_first(rt: HostRuntime) -> Result<(), Fail> {
+    fn a_version_waits_for_the_force_and_for_its_reader(rt: HostRuntime) -> Result<(), Fail> {
         let mut shadow = Shadow::new(rt.alloc(), 753, 817)?;
-        assert_eq!(rt; shadow.waiting(), Waiting { all: 0, removed: 0 });
-        assert!(rt; !shadow.waits(753) && !shadow.waits(816));
+        let (mut read, mut other) = (Runs::new(), Runs::new());
+        read.push(Run {
+            start: 760,
+            length: 2,
+        });
+        other.push(Run {
+            start: 761,
+            length: 3,
+        });
+        let slot = shadow.hold(&read);
+        assert_eq!(rt;
+            (shadow.agrees(&read), shadow.agrees(&other)),
+            (true, false)
+        );
+        shadow.freed(&read);
+        assert_eq!(rt; shadow.waiting(), Waiting { all: 2, removed: 2 });
+        assert_eq!(rt; shadow.committed(), None);
+        assert_eq!(rt; shadow.waiting(), Waiting { all: 2, removed: 0 });
+        assert_eq!(rt; shadow.unhold(slot), Some(read));
+        shadow.unfinished(&other);
+        assert_eq!(rt; (shadow.waits(761), shadow.waits(760)), (true, false));
+        shadow.ended(&other);
+        shadow.freed(&other);
+        assert_eq!(rt; shadow.committed(), Some((761, 764)));
         assert_eq!(rt; shadow.committed(), None);
         Ok(())
     }

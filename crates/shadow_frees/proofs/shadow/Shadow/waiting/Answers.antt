@@ -1,7 +1,19 @@
 use Rattle.std.proofs.Common.{arith}
 use Rattle.shadow_frees.proofs.WaitLaws.{few}
+use Rattle.shadow_frees.proofs.SoundLaws.{few_waiting}
 use Rattle.shadow_frees.proofs.shadow.Shadow.waiting.Goals as goal
+
+pub overflow_add-earlier : goal.overflow_add-earlier
+overflow_add-earlier c =
+    omega (arith, few c.self.inside.removed c.self.inside.kept c.count-removed.ensures.own c.count.ensures.own c.self.invariant.removed_kept, c.count-removed.ensures.value, c.count.ensures.value, c.count-removed.ensures.fits)
 
 pub overflow_add-result : goal.overflow_add-result
 overflow_add-result c =
-    omega (arith, few c.self.inside.removed c.self.inside.unfinished c.count-removed.ensures.own c.count.ensures.own c.self.invariant, c.count-removed.ensures.value, c.count.ensures.value, c.count-removed.ensures.fits)
+    omega (
+      arith,
+      few_waiting c.self.inside.removed c.self.inside.kept c.self.inside.unfinished c.self.inside.held c.count-removed.ensures.own c.count.ensures.own c.count-2.ensures.own c.self.invariant,
+      c.count-removed.ensures.value,
+      c.count.ensures.value,
+      c.count-2.ensures.value,
+      c.count-removed.ensures.fits,
+    )
