@@ -1,3 +1,4 @@
+pub mod EmptyLaws
 pub mod HeldLaws
 pub mod MeetLaws
 pub mod SoundLaws

@@ -185,36 +185,22 @@ impl Shadow {
 #[cfg(test)]
 mod tests {
     use super::*;
-    use run_table::Run;
     use std::test::Fail;
 
     #[test]
-    fn a_version_waits_for_the_force_and_for_its_reader(rt: HostRuntime) -> Result<(), Fail> {
+    #[tactic(auto, using(crate::proofs::EmptyLaws::first_is_held))]
+    fn nothing_waits_at_first(rt: HostRuntime) -> Result<(), Fail> {
         let mut shadow = Shadow::new(rt.alloc(), 753, 817)?;
-        let (mut read, mut other) = (Runs::new(), Runs::new());
-        read.push(Run {
-            start: 760,
-            length: 2,
-        });
-        other.push(Run {
-            start: 761,
-            length: 3,
-        });
-        let slot = shadow.hold(&read);
-        assert_eq!(rt;
-            (shadow.agrees(&read), shadow.agrees(&other)),
-            (true, false)
-        );
-        shadow.freed(&read);
-        assert_eq!(rt; shadow.waiting(), Waiting { all: 2, removed: 2 });
-        assert_eq!(rt; shadow.committed(), None);
-        assert_eq!(rt; shadow.waiting(), Waiting { all: 2, removed: 0 });
-        assert_eq!(rt; shadow.unhold(slot), Some(read));
-        shadow.unfinished(&other);
-        assert_eq!(rt; (shadow.waits(761), shadow.waits(760)), (true, false));
-        shadow.ended(&other);
-        shadow.freed(&other);
-        assert_eq!(rt; shadow.committed(), Some((761, 764)));
+        assert_eq!(rt; shadow.waiting(), Waiting { all: 0, removed: 0 });
+        assert!(rt; !shadow.waits(753) && !shadow.waits(816));
+        let none = Runs::new();
+        assert!(rt; shadow.agrees(&none));
+        let slot = shadow.hold(&none);
+        assert_eq!(rt; shadow.unhold(slot), None);
+        shadow.unfinished(&none);
+        shadow.ended(&none);
+        assert!(rt; shadow.agrees(&none));
+        shadow.freed(&none);
         assert_eq!(rt; shadow.committed(), None);
         Ok(())
     }
