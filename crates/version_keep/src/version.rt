@@ -1,6 +1,6 @@
 //! The versions of a name.
 ghost use Rattle.std.specs.Prelude.{◌≡◌, ◌-◌, ◌^◌, ◌↔◌, IsNone, IfSome, Some};
-ghost use Rattle.version_keep.specs.Versions.{next_version, keep_of, gone};
+ghost use Rattle.fsd_files.specs.Files.{next_version, keep_of, gone};
 
 use arrayvec::ArrayVec;
 
