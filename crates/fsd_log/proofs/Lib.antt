@@ -1,8 +1,14 @@
+pub mod AnchorLaws
+pub mod AppendLaws
 pub mod BorneLaws
+pub mod EmptyLaws
 pub mod GoodLaws
+pub mod HereLaws
 pub mod JudgedLaws
 pub mod LaidLaws
 pub mod OutlastLaws
+pub mod PlaceLaws
 pub mod PlainLaws
 pub mod TornLaws
+pub mod WalkLaws
 pub mod WornLaws

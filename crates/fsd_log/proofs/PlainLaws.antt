@@ -32,7 +32,7 @@ at_either : (at : Reader) (a c : ℕ) (d : Bool) → (if d then at c else at a) 
 at_either at a c true = refl
 at_either at a c false = refl
 
-images_same : (stamp : Stamp) (at : Reader) (k c : ℕ) (pages : List ℕ) → images_at stamp at k c pages ≡ option_map (images_of at k c) (page_copies stamp at k c pages)
+pub images_same : (stamp : Stamp) (at : Reader) (k c : ℕ) (pages : List ℕ) → images_at stamp at k c pages ≡ option_map (images_of at k c) (page_copies stamp at k c pages)
 images_same stamp at k c [] = refl
 images_same stamp at k c (page ∷ pages) =
     (λ i. option_and_then (λ image. option_map (λ more. image ∷ more) (images_same stamp at (k + 1) (c + 1) pages i)) (serve_same (bears page stamp) (at k) (at c) i))

@@ -1,5 +1,6 @@
 pub mod Borne
 pub mod Good
+pub mod Images
 pub mod Judged
 pub mod Laid
 pub mod Plain

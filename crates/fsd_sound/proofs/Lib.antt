@@ -1,1 +1,8 @@
 pub mod FormatLaws
+pub mod FormatSoundLaws
+pub mod FrontLaws
+pub mod LogPlaces
+pub mod MountedLaws
+pub mod SoundLaws
+pub mod StillLaws
+pub mod WindowLaws

@@ -16,8 +16,8 @@ use Rattle.fsd_files.specs.Kept.{Describes}
 use Rattle.fsd_sound.specs.Format.{format_page}
 
 -- the anchor of an epoch in which nothing was logged
-abbrev pub anchor_of : ℕ → Anchor
-anchor_of epoch = record { epoch = epoch; third = 0; first = 1 }
+abbrev pub fresh_anchor : ℕ → Anchor
+fresh_anchor epoch = record { epoch = epoch; third = 0; first = 1 }
 
 -- a leaf that page 0 may be
 pub record IsRootLeaf (l : Layout) (entries : List Entry) : Type 0 where
@@ -30,8 +30,8 @@ pub record IsAtHome (l : Layout) (epoch : ℕ) (entries : List Entry) (i : Image
   pub long : l.sectors ≤ length i
   pub root : sector_at i 0 ≡ Whole (root_bytes l)
   pub root_copy : sector_at i 4 ≡ Whole (root_bytes l)
-  pub anchor : sector_at i 8 ≡ Whole (anchor_bytes (anchor_of epoch))
-  pub anchor_copy : sector_at i 12 ≡ Whole (anchor_bytes (anchor_of epoch))
+  pub anchor : sector_at i 8 ≡ Whole (anchor_bytes (fresh_anchor epoch))
+  pub anchor_copy : sector_at i 12 ≡ Whole (anchor_bytes (fresh_anchor epoch))
   pub first_epoch : 1 ≤ epoch
   pub last_epoch : epoch < 2 ^ 32
   pub leaf : IsRootLeaf l entries

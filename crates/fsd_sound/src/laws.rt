@@ -1,11 +1,91 @@
-//! Laws over the definitions: the function does nothing, its contract is a law.
-ghost use Rattle.std.specs.Prelude.{[]};
+//! Laws over the definitions: the functions do nothing, the contract of each is a law.
+ghost use Rattle.std.specs.Prelude.{◌≡◌, ◌≤◌, ℕ, List, [], ◌∷◌, ◌++◌, length, Some, None, IfSome, Contains};
+ghost use Rattle.std.specs.List.{last_or};
 ghost use Rattle.volume_layout.specs.declared.layout.Layout.{Layout};
-ghost use Rattle.fsd_files.specs.Disk.{Image};
+ghost use Rattle.sector_disk.specs.declared.sector.WeakRun.{WeakRun};
+ghost use Rattle.sector_disk.specs.Image.{Windows, open_damage, IsWorn};
+ghost use Rattle.fsd_files.specs.Disk.{Image, in_runs};
+ghost use Rattle.fsd_files.specs.Files.{Change};
 ghost use Rattle.fsd_sound.specs.AtHome.{HoldsFiles};
-ghost use Rattle.fsd_sound.specs.Format.{IsFormatted};
+ghost use Rattle.fsd_sound.specs.Format.{IsFormatted, IsFormattedIn};
+ghost use Rattle.fsd_log.specs.Scan.{Placed, Head};
+ghost use Rattle.fsd_sound.specs.Mounted.{Mounted, StandsOver, IsMounted, SameTaken, SameData, ChangesTo, IsFresh, with_forced};
+ghost use Rattle.fsd_sound.specs.Shown.{told_in};
+ghost use Rattle.fsd_sound.specs.Sound.{EndIn, weak_of, IsSound, IsStill, ShowsPages, Tells, TellsPrefix};
 
 /// A formatted disk holds no file, and is of epoch 1.
 pub fn formatted_disks_hold_no_file()
     ensures { (l : Layout) (i : Image) → IsFormatted l i → HoldsFiles l 1 [] i }
+{}
+
+/// A formatted disk is sound, with no changes, in a window whose weak run has at most three sectors, also as its own window
+/// has worn it.
+pub fn formatted_disks_are_sound()
+    ensures written { (l : Layout) (windows : List WeakRun) (i : Image) → IfSome (last_or None windows) (λ r. r.count ≤ 3) →
+        IsFormatted l i → IsSound l windows [] 0 i }
+    ensures worn { (l : Layout) (next : WeakRun) (i : Image) → next.count ≤ 3 →
+        IsFormattedIn l next i → IsSound l (next ∷ []) [] 0 i }
+{}
+
+/// A sound disk stays sound however its weak run of at most three sectors wears.
+pub fn sound_disks_wear()
+    ensures sound { (l : Layout) (windows : List WeakRun) (h : List Change) (f : ℕ) (i j : Image) →
+        IfSome (last_or None windows) (λ r. r.count ≤ 3) →
+        IsWorn (weak_of windows) i j → IsSound l windows h f i → IsSound l windows h f j }
+    ensures pages { (l : Layout) (windows : List WeakRun) (choices : List (List (List ℕ))) (i j : Image) →
+        IfSome (last_or None windows) (λ r. r.count ≤ 3) →
+        IsWorn (weak_of windows) i j → ShowsPages l windows choices i → ShowsPages l windows choices j }
+{}
+
+/// What the machine's open windows wear, the last window wears: so a sound disk stays sound through the machine's calls.
+pub fn open_windows_wear_soundly()
+    ensures { (l : Layout) (windows : List WeakRun) (now : Windows) (h : List Change) (f : ℕ) (i j : Image) →
+        IfSome (last_or None windows) (λ r. r.count ≤ 3) → EndIn now windows →
+        IsWorn (open_damage now) i j → IsSound l windows h f i → IsSound l windows h f j }
+{}
+
+/// A disk is sound where each list of pages that it may show tells a prefix of the changes.
+pub fn sound_from_pages()
+    ensures { (l : Layout) (windows : List WeakRun) (h : List Change) (f : ℕ) (choices : List (List (List ℕ))) (i : Image) →
+        ShowsPages l windows choices i →
+        ((pages : List (List ℕ)) → Contains choices pages → Tells l (in_runs windows) i h f (told_in l pages)) →
+        IsSound l windows h f i }
+{}
+
+/// The disk below a mounted volume is sound, for all its changes and those that were forced.
+pub fn mounted_volumes_are_sound()
+    ensures { (m : Mounted) (windows : List WeakRun) (h : List Change) (f : ℕ) (i : Image) → IsMounted m windows h f i → IsSound m.volume.layout windows h f i }
+{}
+
+/// What is written to free sectors leaves a volume mounted.
+pub fn free_sectors_may_be_written()
+    ensures { (m : Mounted) (windows : List WeakRun) (h : List Change) (f : ℕ) (i j : Image) → length j ≡ length i → SameTaken m.volume i j →
+        IsMounted m windows h f i → IsMounted m windows h f j }
+{}
+
+/// A change in memory leaves a volume mounted, after one change more, which waits for a force.
+pub fn changes_wait_for_a_force()
+    ensures { (m n : Mounted) (windows : List WeakRun) (h : List Change) (f : ℕ) (i : Image) (c : Change) → IsMounted m windows h f i →
+        ChangesTo (h ++ c ∷ []) windows i m n → IsMounted n windows (h ++ c ∷ []) f i }
+{}
+
+/// While the disk shows what was forced before or what is in memory now, it is sound; and once it shows that, all changes
+/// are forced.
+pub fn forces_commit_all_changes()
+    ensures during { (m : Mounted) (windows : List WeakRun) (h : List Change) (f : ℕ) (i j : Image) (now : List (List ℕ)) → (is : IsMounted m windows h f i) → SameData m.volume.layout i j →
+        told_in m.volume.layout now ≡ Some m.volume.entries → ShowsPages m.volume.layout windows (is.disk ∷ now ∷ []) j → IsSound m.volume.layout windows h f j }
+    ensures done { (m : Mounted) (windows : List WeakRun) (h : List Change) (f : ℕ) (i j : Image) (now : List (List ℕ)) (head : Head) (records : List Placed) → IsMounted m windows h f i → SameData m.volume.layout i j →
+        told_in m.volume.layout now ≡ Some m.volume.entries → StandsOver m.volume.layout m.anchor head records now now [] windows j → IsMounted (with_forced m now head) windows h (length h) j }
+{}
+
+/// A volume is mounted where the pages that the disk shows tell its files, and its log has no record that it doesn't know.
+pub fn fresh_mounts_hold()
+    ensures { (m : Mounted) (windows : List WeakRun) (h : List Change) (i : Image) → IsFresh h windows i m → IsMounted m windows h (length h) i }
+{}
+
+/// Where nothing wears, a disk is sound exactly where it shows one list of pages that tells the files after a prefix of the
+/// changes with every forced one.
+pub fn still_disks_tell_a_prefix()
+    ensures sound { (l : Layout) (windows : List WeakRun) (h : List Change) (f : ℕ) (i : Image) → IsStill windows → IsSound l windows h f i → TellsPrefix l windows h f i }
+    ensures prefix { (l : Layout) (windows : List WeakRun) (h : List Change) (f : ℕ) (i : Image) → TellsPrefix l windows h f i → IsSound l windows h f i }
 {}

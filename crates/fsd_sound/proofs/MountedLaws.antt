@@ -1,0 +1,274 @@
+-- What keeps a mounted volume on its disk.
+use Rattle.std.proofs.Common.{◌≡◌, ℕ, zero, suc, ◌<◌, ◌≤◌, Bool, ◌&&◌, not, List, [], ◌∷◌, ◌++◌, length, take, Option, Some, refl, sym, ap, subst, ◌∙◌, inl, inr, arith}
+use Rattle.std.specs.Prelude.{IsTrue, IsFalse, Contains, nat_le, nat_lt, true, false, ◌==◌}
+use Rattle.std.specs.List.{AllByRecursion, flat_map, list_all}
+use Rattle.std.proofs.lemmas.List.{take_all, take-append-le, length-append}
+use Rattle.std.proofs.lemmas.Bool.{leb-true, and_parts, or_cases, eqb-true}
+use Rattle.volume_layout.specs.declared.layout.Layout.{Layout}
+use Rattle.volume_layout.specs.Layout.{data_start, map_start, is_data}
+use Rattle.run_table.specs.RunTable.{sectors_of}
+use Rattle.run_table.specs.Space.{contains, all_differ}
+use Rattle.fsd_formats.specs.declared.anchor.Anchor.{Anchor}
+use Rattle.fsd_formats.specs.declared.entry.Entry.{Entry}
+use Rattle.sector_disk.specs.declared.sector.WeakRun.{WeakRun}
+use Rattle.fsd_log.specs.Scan.{Placed, Head, IsLog, tape}
+use Rattle.fsd_files.specs.Disk.{Image, Sectors, in_runs, bytes_at}
+use Rattle.fsd_files.specs.Files.{Files, Change, after}
+use Rattle.fsd_files.specs.Kept.{Describes}
+use Rattle.fsd_files.specs.Volume.{Volume, plans_of, is_in, in_version, is_free, waits, forced}
+use Rattle.fsd_files.proofs.KeptLaws.{kept_on}
+use Rattle.fsd_sound.specs.Laid.{HasOwnLog, AllLaid}
+use Rattle.fsd_sound.specs.Shown.{told_in}
+use Rattle.fsd_sound.specs.Sound.{ShowsPages, IsSound, Tells, weak_of}
+use Rattle.fsd_sound.specs.Mounted.{AgreeOutside, Mounted, StandsOver, HasForced, IsMounted, SameTaken, SameData, ChangesTo, with_forced, IsFresh}
+use Rattle.fsd_sound.proofs.LogPlaces.{IsRecord, same_tape, front_same, copies_same, in_record, goes_records, scan_goes, start_in}
+use Rattle.fsd_sound.proofs.FrontLaws.{SameFront, front_log, front_shows, each_same}
+use Rattle.fsd_sound.proofs.SoundLaws.{sound_from_pages}
+
+-- ---- the log of its own
+
+module _ (l : Layout) (a : Anchor) (weak : Sectors) (i j : Image) (same : SameFront l i j) where
+  all_laid_same : (rs : List Placed) → AllByRecursion (IsRecord l a.third) rs → AllLaid l a weak i rs → AllLaid l a weak j rs
+  all_laid_same [] are laid = tt
+  all_laid_same (r ∷ rs) are laid = (
+    (front_same l a weak i j r are.0 (in_record l a weak i j (front_log l i j same) r are.0) laid.0.0, copies_same l a weak i j r are.0 (in_record l a weak i j (front_log l i j same) r are.0) laid.0.1),
+    all_laid_same rs are.1 laid.1,
+  )
+
+  own_same : a.third ≤ 2 → (records : List Placed) (head : Head) → HasOwnLog l a records head weak i → HasOwnLog l a records head weak j
+  own_same low records head own =
+      let are : AllByRecursion (IsRecord l a.third) records =
+      subst (λ (w : Rattle.fsd_log.specs.Scan.Walked). AllByRecursion (IsRecord l a.third) w.records) own.log.scanned
+      (goes_records l a.epoch a.third low (tape l a.third (bytes_at i)) (start_is) _ _ (start_in l a.first) (scan_goes l a.epoch a.first (tape l a.third (bytes_at i)))) in
+      record {
+        own = each_same l i j same _ _ (λ b low is. is) own.own;
+        log = subst (λ t. IsLog l a.epoch a.first t records head) (sym (same_tape l i j (front_log l i j same) a.third low)) own.log;
+        laid = all_laid_same records are own.laid;
+      }
+    where
+      start_is : Head
+      start_is = Rattle.fsd_log.specs.Scan.start l a.first
+
+-- ---- sectors that are free
+
+-- what lies in front of the data area is not free
+front_taken : (v : Volume) (s : ℕ) → s < data_start v.layout → IsFalse (is_free v s)
+front_taken v s lt = by_test (nat_le (data_start v.layout) s) refl
+  where
+    by_test : (b : Bool) → nat_le (data_start v.layout) s ≡ b → (b && nat_lt s v.layout.sectors && not (in_version v s) && not (waits v s)) ≡ false
+    by_test true is = absurd (let ge : data_start v.layout ≤ s = leb-true (data_start v.layout) s is in omega (arith, lt, ge))
+    by_test false is = refl
+
+-- a version's sector is not free
+version_taken : (v : Volume) (s : ℕ) → IsTrue (in_version v s) → IsFalse (is_free v s)
+version_taken v s is = by_test (is_data v.layout s) (in_version v s) is
+  where
+    by_test : (a b : Bool) → IsTrue b → (a && not b && not (waits v s)) ≡ false
+    by_test true true h = refl
+    by_test false true h = refl
+    by_test a false h = absurd (cc h)
+
+module _ (v : Volume) (i j : Image) (same : SameTaken v i j) where
+  pub taken_front : SameFront v.layout i j
+  taken_front = λ s lt. same s (front_taken v s (omega (arith, lt)))
+
+  describes_same : (hurt : Sectors) (files : Files) (entries : List Entry) → ((s : ℕ) → IsTrue (is_in (plans_of entries) s) → IsFalse (is_free v s)) → Describes v.layout hurt i files entries → Describes v.layout hurt j files entries
+  describes_same hurt files entries taken d = record {
+    lists = d.lists;
+    apart = d.apart;
+    kept = kept_on hurt i j files entries (λ s is. same s (taken s is)) d.kept;
+  }
+
+-- what is written to free sectors leaves the volume mounted
+pub still_mounted : (m : Mounted) (windows : List WeakRun) (h : List Change) (f : ℕ) (i j : Image) → length j ≡ length i → SameTaken m.volume i j → IsMounted m windows h f i → IsMounted m windows h f j
+still_mounted m windows h f i j size same is =
+    let front = taken_front m.volume i j same in
+    record {
+      files = is.files;
+      described = describes_same m.volume i j same (in_runs windows) m.volume.files m.volume.entries (λ s at. version_taken m.volume s at) is.described;
+      count = is.count;
+      epoch = is.epoch;
+      third = is.third;
+      room = is.room;
+      in_memory = is.in_memory;
+      disk = is.disk;
+      records = is.records;
+      over = record {
+        shows = front_shows m.volume.layout windows (is.disk ∷ []) i j is.room front size is.over.shows;
+        own = own_same m.volume.layout m.anchor (weak_of windows) i j front is.third is.records m.head is.over.own;
+        clean = is.over.clean;
+      };
+      forced = record {
+        entries = is.forced.entries;
+        told = is.forced.told;
+        described = describes_same m.volume i j same (in_runs windows) (after (take f h)) is.forced.entries is.forced.taken is.forced.described;
+        taken = is.forced.taken;
+      };
+    }
+
+-- ---- what is mounted is sound
+
+-- one of these two lists
+pub first_or_second : {A : Type 0} (P : A → Type 0) (a b x : A) → P a → P b → Contains (a ∷ b ∷ []) x → P x
+first_or_second P a b x p q c = by_place c.0 c.1 c.2
+  where
+    by_place : (k : ℕ) → k < 2 → Rattle.std.specs.Prelude.slice_index_or (a ∷ b ∷ []) k x ≡ x → P x
+    by_place zero lt is = subst P is p
+    by_place (suc zero) lt is = subst P is q
+    by_place (suc (suc k)) lt is = absurd (omega (arith, lt))
+
+tells_forced : (v : Volume) (windows : List WeakRun) (h : List Change) (f : ℕ) (i : Image) (disk : List (List ℕ)) → f ≤ length h → HasForced v windows h f i disk → Tells v.layout (in_runs windows) i h f (told_in v.layout disk)
+tells_forced v windows h f i disk le forced =
+    subst (λ (o : Option (List Entry)). Tells v.layout (in_runs windows) i h f o) (sym forced.told) (f, record { forced = omega arith; made = le }, forced.described)
+
+tells_all : (v : Volume) (windows : List WeakRun) (h : List Change) (f : ℕ) (i : Image) (pages : List (List ℕ)) → f ≤ length h → v.files ≡ after h → told_in v.layout pages ≡ Some v.entries
+    → Describes v.layout (in_runs windows) i v.files v.entries → Tells v.layout (in_runs windows) i h f (told_in v.layout pages)
+tells_all v windows h f i pages le files told d =
+    let all : take (length h) h ≡ h = take_all (length h) h (omega arith) in
+    subst (λ (o : Option (List Entry)). Tells v.layout (in_runs windows) i h f o) (sym told)
+    (length h, record { forced = le; made = omega arith }, subst (λ (s : Files). Describes v.layout (in_runs windows) i s v.entries) (files ∙ ap after (sym all)) d)
+
+some_forced : (m : Mounted) (windows : List WeakRun) (h : List Change) (f : ℕ) (i : Image) → IsMounted m windows h f i → f ≤ length h
+some_forced m windows h f i is = omega (arith, is.count)
+
+pub one_of : {A : Type 0} (P : A → Type 0) (a x : A) → P a → Contains (a ∷ []) x → P x
+one_of P a x p c = by_place c.0 c.1 c.2
+  where
+    by_place : (k : ℕ) → k < 1 → Rattle.std.specs.Prelude.slice_index_or (a ∷ []) k x ≡ x → P x
+    by_place zero lt is = subst P is p
+    by_place (suc k) lt is = absurd (omega (arith, lt))
+
+pub mounted_sound : (m : Mounted) (windows : List WeakRun) (h : List Change) (f : ℕ) (i : Image) → IsMounted m windows h f i → IsSound m.volume.layout windows h f i
+mounted_sound m windows h f i is =
+    let l = m.volume.layout in
+    sound_from_pages l windows h f (is.disk ∷ []) i is.over.shows
+    (λ pages one. one_of (λ pages. Tells l (in_runs windows) i h f (told_in l pages)) is.disk pages (tells_forced m.volume windows h f i is.disk (some_forced m windows h f i is) is.forced) one)
+
+-- ---- a force
+
+all_data : (l : Layout) (xs : List ℕ) (s : ℕ) → IsTrue (list_all (is_data l) xs) → IsTrue (contains xs s) → IsTrue (is_data l s)
+all_data l [] s all there = absurd (cc there)
+all_data l (x ∷ xs) s all there =
+    let parts = and_parts (is_data l x) (list_all (is_data l) xs) all in
+    elim (or_cases (x == s) (contains xs s) there) [
+      | inl here ↦ subst (λ (t : ℕ). IsTrue (is_data l t)) (eqb-true x s here) parts.0
+      | inr more ↦ all_data l xs s parts.1 more
+    ]
+
+data_behind : (l : Layout) (s : ℕ) → IsTrue (is_data l s) → map_start l ≤ s
+data_behind l s is = let ge : data_start l ≤ s = leb-true (data_start l) s (and_parts (nat_le (data_start l) s) (nat_lt s l.sectors) is).0 in omega (arith, ge)
+
+pub describes_data : (l : Layout) (hurt : Sectors) (files : Files) (entries : List Entry) (i j : Image) → SameData l i j → Describes l hurt i files entries → Describes l hurt j files entries
+describes_data l hurt files entries i j same d = record {
+  lists = d.lists;
+  apart = d.apart;
+  kept = kept_on hurt i j files entries (λ s at. same s (data_behind l s (all_data l (flat_map sectors_of (plans_of entries)) s (and_parts (all_differ (flat_map sectors_of (plans_of entries))) _ d.apart).1 at))) d.kept;
+}
+
+-- while the disk shows what was forced or what is in memory, it is sound
+pub force_sound : (m : Mounted) (windows : List WeakRun) (h : List Change) (f : ℕ) (i j : Image) (now : List (List ℕ)) → (is : IsMounted m windows h f i) → SameData m.volume.layout i j
+    → told_in m.volume.layout now ≡ Some m.volume.entries → ShowsPages m.volume.layout windows (is.disk ∷ now ∷ []) j → IsSound m.volume.layout windows h f j
+force_sound m windows h f i j now is same told shows =
+    let l = m.volume.layout in
+    let le = some_forced m windows h f i is in
+    let forced : HasForced m.volume windows h f j is.disk = record {
+      entries = is.forced.entries;
+      told = is.forced.told;
+      described = describes_data l (in_runs windows) (after (take f h)) is.forced.entries i j same is.forced.described;
+      taken = is.forced.taken;
+    } in
+    sound_from_pages l windows h f (is.disk ∷ now ∷ []) j shows
+    (λ pages two. first_or_second (λ pages. Tells l (in_runs windows) j h f (told_in l pages)) is.disk now pages
+    (tells_forced m.volume windows h f j is.disk le forced)
+    (tells_all m.volume windows h f j now le is.files told (describes_data l (in_runs windows) m.volume.files m.volume.entries i j same is.described)) two)
+
+pub force_mounted : (m : Mounted) (windows : List WeakRun) (h : List Change) (f : ℕ) (i j : Image) (now : List (List ℕ)) (head : Head) (records : List Placed) → IsMounted m windows h f i → SameData m.volume.layout i j
+    → told_in m.volume.layout now ≡ Some m.volume.entries → StandsOver m.volume.layout m.anchor head records now now [] windows j → IsMounted (with_forced m now head) windows h (length h) j
+force_mounted m windows h f i j now head records is same told over =
+    let all : take (length h) h ≡ h = take_all (length h) h (omega arith) in
+    let described = describes_data m.volume.layout (in_runs windows) m.volume.files m.volume.entries i j same is.described in
+    record {
+      files = is.files;
+      described = described;
+      count = omega arith;
+      epoch = is.epoch;
+      third = is.third;
+      room = is.room;
+      in_memory = told;
+      disk = now;
+      records = records;
+      over = over;
+      forced = record {
+        entries = m.volume.entries;
+        told = told;
+        described = subst (λ (s : Files). Describes m.volume.layout (in_runs windows) j s m.volume.entries) (is.files ∙ ap after (sym all)) described;
+        taken = λ s at. version_taken (forced m.volume) s at;
+      };
+    }
+
+-- ---- a change in memory
+
+agree_more : (dirty more : List ℕ) (disk old new : List (List ℕ)) → ((page : ℕ) → IsFalse (contains more page) → IsFalse (contains dirty page)) → AgreeOutside dirty disk old → AgreeOutside more old new → AgreeOutside more disk new
+agree_more dirty more disk old new within a b = record { size = a.size ∙ b.size; each = λ page out. a.each page (within page out) ∙ b.each page out }
+
+pub change_mounted : (m n : Mounted) (windows : List WeakRun) (h : List Change) (f : ℕ) (i : Image) (c : Change) → IsMounted m windows h f i → ChangesTo (h ++ c ∷ []) windows i m n → IsMounted n windows (h ++ c ∷ []) f i
+change_mounted m n windows h f i c is to =
+    let changes = to.volume in
+    let le = some_forced m windows h f i is in
+    let front : take f (h ++ c ∷ []) ≡ take f h = take-append-le f h (c ∷ []) le in
+    let same = sym changes.layout in
+    record {
+      files = to.files;
+      described = subst (λ (l : Layout). Describes l (in_runs windows) i n.volume.files n.volume.entries) same to.described;
+      count = let long = length-append h (c ∷ []) in omega (arith, is.count, changes.unforced, long);
+      epoch = changes.epoch ∙ is.epoch ∙ ap (λ (a : Anchor). a.epoch) (sym to.anchor);
+      third = subst (λ (a : Anchor). a.third ≤ 2) (sym to.anchor) is.third;
+      room = subst (λ (l : Layout). map_start l ≤ l.sectors) same is.room;
+      in_memory = subst (λ (l : Layout). told_in l n.pages ≡ Some n.volume.entries) same to.told;
+      disk = is.disk;
+      records = is.records;
+      over = over_on n.volume.layout n.anchor n.head same (sym to.anchor) (sym to.head) (record {
+        shows = is.over.shows;
+        own = is.over.own;
+        clean = agree_more m.dirty n.dirty is.disk m.pages n.pages to.still is.over.clean to.clean;
+      });
+      forced = record {
+        entries = is.forced.entries;
+        told = subst (λ (l : Layout). told_in l is.disk ≡ Some is.forced.entries) same is.forced.told;
+        described = subst (λ (l : Layout). Describes l (in_runs windows) i (after (take f (h ++ c ∷ []))) is.forced.entries) same
+            (subst (λ (s : List Change). Describes m.volume.layout (in_runs windows) i (after s) is.forced.entries) (sym front) is.forced.described);
+        taken = λ s at. changes.fewer s (is.forced.taken s at);
+      };
+    }
+  where
+    over_on : (l : Layout) (a : Anchor) (head : Head) → m.volume.layout ≡ l → m.anchor ≡ a → m.head ≡ head → StandsOver m.volume.layout m.anchor m.head is.records is.disk n.pages n.dirty windows i
+        → StandsOver l a head is.records is.disk n.pages n.dirty windows i
+    over_on l a head e g k over =
+        subst (λ (x : Layout). StandsOver x a head is.records is.disk n.pages n.dirty windows i) e
+        (subst (λ (x : Anchor). StandsOver m.volume.layout x head is.records is.disk n.pages n.dirty windows i) g
+        (subst (λ (x : Head). StandsOver m.volume.layout m.anchor x is.records is.disk n.pages n.dirty windows i) k over))
+
+-- ---- a mount
+
+-- nothing waits right after a mount
+pub fresh_mounted : (m : Mounted) (windows : List WeakRun) (h : List Change) (i : Image) → IsFresh h windows i m → IsMounted m windows h (length h) i
+fresh_mounted m windows h i fresh =
+    let all : take (length h) h ≡ h = take_all (length h) h (omega arith) in
+    record {
+      files = fresh.files;
+      described = fresh.described;
+      count = omega (arith, fresh.unforced);
+      epoch = fresh.epoch;
+      third = fresh.third;
+      room = fresh.room;
+      in_memory = fresh.told;
+      disk = m.pages;
+      records = fresh.records;
+      over = fresh.over;
+      forced = record {
+        entries = m.volume.entries;
+        told = fresh.told;
+        described = subst (λ (s : Files). Describes m.volume.layout (in_runs windows) i s m.volume.entries) (fresh.files ∙ ap after (sym all)) fresh.described;
+        taken = λ s at. version_taken m.volume s at;
+      };
+    }
