@@ -1,5 +1,5 @@
 -- Looking for a record: what is read is the tape's window.
-use Rattle.std.proofs.Common.{◌≡◌, inl, inr, ℕ, ◌+◌, ◌-◌, ◌*◌, ◌<◌, ◌≤◌, Bool, true, false, List, length, Option, Some, None, nat_lt, refl, sym, ap, subst, ◌∙◌, arith}
+use Rattle.std.proofs.Common.{◌≡◌, inl, inr, ℕ, ◌+◌, ◌-◌, ◌*◌, ◌<◌, ◌≤◌, Bool, true, false, List, length, Option, Some, None, nat_lt, sym, ap, subst, ◌∙◌, arith}
 use Rattle.std.specs.Prelude.{Result, Ok, Err, IfOk, ◌&&◌, if◌then◌else◌, option_map}
 use Rattle.std.proofs.lemmas.Bool.{cases_lt, cond-true, cond-false, lt-ltb, leb-true, and_from}
 use Rattle.std.proofs.lemmas.List.{get_or_past}
@@ -16,9 +16,9 @@ use Rattle.log_thirds.specs.Disk.{bytes_in, reads}
 use Rattle.log_thirds.specs.declared.find.Spot.{Spot}
 use Rattle.std.specs.Option.{option_or}
 use Rattle.log_thirds.specs.Append.{IsCalm}
-use Rattle.log_thirds.specs.Reading.{ReadRun, GoesTo}
-use Rattle.log_thirds.proofs.TapeLaws.{InThird, place_add, place_cases, place_inside, end_most, first_most}
-use Rattle.log_thirds.proofs.HereLaws.{not_below}
+use Rattle.log_thirds.specs.Reading.{ReadRun, GoesTo, Stepped, stepped_of}
+use Rattle.fsd_log.proofs.PlaceLaws.{InThird, place_add, place_cases, place_inside, end_most, first_most}
+use Rattle.fsd_log.proofs.HereLaws.{not_below}
 
 -- nothing wears where no sector may
 pub reads_same : (old mid : Moment) → IsCalm old → Wears old mid → reads mid.image ≡ reads old.image
@@ -60,15 +60,9 @@ module _ (l : Shape) (first at end : ℕ) (one : first ≤ 2) (before : at ≤ e
       ]
 
   pub judged_there : (p : ℕ) (stamp : Stamp) (o : Option Serving) → o ≡ judged p stamp (length whole) (read_of whole bytes)
-      → option_map (λ (s : Serving). length s.pages) o ≡ option_map (λ r. length r.pages) (record_in p stamp (room_at at end) (window (tape l first (reads old.image)) at (room_at at end)))
+      → option_map (logged_of stamp.number (read_of whole bytes)) o ≡ record_in p stamp (room_at at end) (window (tape l first (reads old.image)) at (room_at at end))
   unfolding record_in
-  judged_there p stamp o is =
-      ap (option_map (λ (s : Serving). length s.pages)) (is ∙ λ i. judged p stamp ((run.many ∙ is_count) i) (reads_window i))
-      ∙ by_judged (judged p stamp (room_at at end) (window (tape l first (reads old.image)) at (room_at at end)))
-    where
-      by_judged : (j : Option Serving) → option_map (λ (s : Serving). length s.pages) j ≡ option_map (λ r. length r.pages) (option_map (logged_of stamp.number (window (tape l first (reads old.image)) at (room_at at end))) j)
-      by_judged None = refl
-      by_judged (Some s) = refl
+  judged_there p stamp o is = λ i. option_map (logged_of stamp.number (reads_window i)) ((is ∙ λ j. judged p stamp ((run.many ∙ is_count) j) (reads_window j)) i)
 
 pub judged_room : (p : ℕ) (stamp : Stamp) (room : ℕ) (at : Reader) (s : Serving) → Some s ≡ judged p stamp room at → record_len (length s.pages) ≤ room
 judged_room p stamp room at s is = leb-true _ _ (is_judged p stamp room at s (sym is)).roomy
@@ -78,52 +72,33 @@ judged_room p stamp room at s is = leb-true _ _ (is_judged p stamp room at s (sy
 pub goes_to : (l : Shape) (from at n end : ℕ) (spot : Spot) → spot ≡ record { at = at + (2 * n + 5); end = end } → from ≤ at → at + (2 * n + 5) ≤ end → end ≤ at + l.third → IsEnd l end → GoesTo l from spot
 goes_to l from at n end spot is le fits after ends = subst (GoesTo l from) (sym is) (record { on = omega arith; before = fits; after = omega arith; ends = ends })
 
-abbrev spot_of : Placed × Head → Spot
-spot_of x = record { at = x.1.at; end = x.1.end }
-
-abbrev pages_of : Logged → ℕ
-pages_of r = length r.pages
-
-some_spot : (number at end n : ℕ) (o : Option Logged) → Some n ≡ option_map (λ r. length r.pages) o → ◌≡◌ {A = Option Spot} (Some (record { at = at + (2 * n + 5); end = end })) (option_map (λ x. record { at = x.1.at; end = x.1.end }) (option_map (behind number at end) o))
-some_spot number at end n None is = absurd (cc)
-some_spot number at end n (Some r) is =
-    let many : n ≡ length r.pages = cc in
-    λ i. Some (record { at = at + (2 * many i + 5); end = end })
-
-none_spot : (o : Option Logged) → None ≡ option_map (λ r. length r.pages) o → o ≡ None
-none_spot None is = refl
-none_spot (Some r) is = absurd (cc)
+some_step : (number at end : ℕ) (entry : Logged) (o : Option Logged) → Some entry ≡ o
+    → ◌≡◌ {A = Option Stepped} (Some (record { from = at; entry = entry; at = at + (2 * length entry.pages + 5); end = end })) (option_map stepped_of (option_map (behind number at end) o))
+some_step number at end entry o is = ap (λ (x : Option Logged). option_map stepped_of (option_map (behind number at end) x)) is
 
 module _ (l : Shape) (epoch : ℕ) (disk : Reader) (h : Head) where
-  abbrev told : Option (Placed × Head) → Option Spot
-  told o = option_map (λ x. record { at = x.1.at; end = x.1.end }) o
+  pub here_found : (entry : Logged) → Some entry ≡ record_here l epoch disk h.number h.at h.end → ◌≡◌ {A = Option Stepped} (Some (record { from = h.at; entry = entry; at = h.at + (2 * length entry.pages + 5); end = h.end })) (option_map stepped_of (next l epoch disk h))
+  here_found entry is = ap (λ (x : Option Logged). option_map stepped_of (option_or (option_map (behind h.number h.at h.end) x) (entered l epoch disk h))) is
 
-  pub here_found : (n : ℕ) → Some n ≡ option_map (λ r. length r.pages) (record_here l epoch disk h.number h.at h.end) → ◌≡◌ {A = Option Spot} (Some (record { at = h.at + (2 * n + 5); end = h.end })) (option_map (λ x. record { at = x.1.at; end = x.1.end }) (next l epoch disk h))
-  here_found n is = by_record (record_here l epoch disk h.number h.at h.end) is
-    where
-      by_record : (o : Option Logged) → Some n ≡ option_map (λ r. length r.pages) o → ◌≡◌ {A = Option Spot} (Some (record { at = h.at + (2 * n + 5); end = h.end })) (option_map (λ x. record { at = x.1.at; end = x.1.end }) (option_or (option_map (behind h.number h.at h.end) o) (entered l epoch disk h)))
-      by_record None e = absurd (cc)
-      by_record (Some r) e = some_spot h.number h.at h.end n (Some r) e
-
-  pub not_here : (o : Option Spot) → None ≡ option_map (λ r. length r.pages) (record_here l epoch disk h.number h.at h.end) → o ≡ option_map (λ x. record { at = x.1.at; end = x.1.end }) (entered l epoch disk h)
-      → o ≡ option_map (λ x. record { at = x.1.at; end = x.1.end }) (next l epoch disk h)
+  pub not_here : (o : Option Stepped) → None ≡ record_here l epoch disk h.number h.at h.end → o ≡ option_map stepped_of (entered l epoch disk h)
+      → o ≡ option_map stepped_of (next l epoch disk h)
   not_here o none is =
-      is ∙ ap (λ (r : Option Logged). option_map (λ x. record { at = x.1.at; end = x.1.end }) (option_or (option_map (behind h.number h.at h.end) r) (entered l epoch disk h))) (sym (none_spot (record_here l epoch disk h.number h.at h.end) none))
+      is ∙ ap (λ (r : Option Logged). option_map stepped_of (option_or (option_map (behind h.number h.at h.end) r) (entered l epoch disk h))) none
 
   may : 0 < h.at → h.end < 3 * l.third → (nat_lt 0 h.at && nat_lt h.end (3 * l.third)) ≡ true
   may some further = and_from _ _ (lt-ltb _ _ some) (lt-ltb _ _ further)
 
-  pub there_found : (n : ℕ) → 0 < h.at → h.end < 3 * l.third → Some n ≡ option_map (λ r. length r.pages) (record_here l epoch disk h.number h.end (h.end + l.third))
-      → ◌≡◌ {A = Option Spot} (Some (record { at = h.end + (2 * n + 5); end = h.end + l.third })) (option_map (λ x. record { at = x.1.at; end = x.1.end }) (entered l epoch disk h))
-  there_found n some further is =
-      some_spot h.number h.end (h.end + l.third) n (record_here l epoch disk h.number h.end (h.end + l.third)) is
-      ∙ ap (λ (o : Option (Placed × Head)). option_map (λ x. record { at = x.1.at; end = x.1.end }) o) (sym (cond-true _ (option_map (behind h.number h.end (h.end + l.third)) (record_here l epoch disk h.number h.end (h.end + l.third))) None (may some further)))
+  pub there_found : (entry : Logged) → 0 < h.at → h.end < 3 * l.third → Some entry ≡ record_here l epoch disk h.number h.end (h.end + l.third)
+      → ◌≡◌ {A = Option Stepped} (Some (record { from = h.end; entry = entry; at = h.end + (2 * length entry.pages + 5); end = h.end + l.third })) (option_map stepped_of (entered l epoch disk h))
+  there_found entry some further is =
+      some_step h.number h.end (h.end + l.third) entry (record_here l epoch disk h.number h.end (h.end + l.third)) is
+      ∙ ap (λ (o : Option (Placed × Head)). option_map stepped_of o) (sym (cond-true _ (option_map (behind h.number h.end (h.end + l.third)) (record_here l epoch disk h.number h.end (h.end + l.third))) None (may some further)))
 
-  pub not_there : 0 < h.at → h.end < 3 * l.third → None ≡ option_map (λ r. length r.pages) (record_here l epoch disk h.number h.end (h.end + l.third))
-      → ◌≡◌ {A = Option Spot} None (option_map (λ x. record { at = x.1.at; end = x.1.end }) (entered l epoch disk h))
+  pub not_there : 0 < h.at → h.end < 3 * l.third → None ≡ record_here l epoch disk h.number h.end (h.end + l.third)
+      → ◌≡◌ {A = Option Stepped} None (option_map stepped_of (entered l epoch disk h))
   not_there some further none =
-      ap (λ (o : Option (Placed × Head)). option_map (λ x. record { at = x.1.at; end = x.1.end }) o)
-      (ap (λ (r : Option Logged). option_map (behind h.number h.end (h.end + l.third)) r) (sym (none_spot _ none)) ∙ sym (cond-true _ (option_map (behind h.number h.end (h.end + l.third)) (record_here l epoch disk h.number h.end (h.end + l.third))) None (may some further)))
+      ap (λ (o : Option (Placed × Head)). option_map stepped_of o)
+      (ap (λ (r : Option Logged). option_map (behind h.number h.end (h.end + l.third)) r) none ∙ sym (cond-true _ (option_map (behind h.number h.end (h.end + l.third)) (record_here l epoch disk h.number h.end (h.end + l.third))) None (may some further)))
 
 pub if_ok : {T E : Type 0} (r : Result T E) (P Q : T → Type 0) → ((x : T) → P x → Q x) → IfOk r P → IfOk r Q
 if_ok (Ok x) P Q more p = more x p

@@ -16,9 +16,10 @@ use Rattle.fsd_log.specs.Scan.{Head, Placed, IsIn, HasRoom, spot_for, place_of, 
 use Rattle.log_thirds.specs.Disk.{reads}
 use Rattle.log_thirds.specs.LogValue.{LogValue}
 use Rattle.log_thirds.specs.Append.{StandsInPart, IsCalm, stamp_now, next_record, log_past, IsLogIn, Appends}
-use Rattle.log_thirds.proofs.WalkLaws.{next_end}
-use Rattle.log_thirds.proofs.AppendLaws.{IsSpot, TapeTorn, scan_before, scan_behind, fresh_after}
-use Rattle.log_thirds.proofs.TapeLaws.{InThird, place_inside, torn_tape}
+use Rattle.fsd_log.proofs.WalkLaws.{next_end}
+use Rattle.fsd_log.proofs.AppendLaws.{IsSpot, TapeTorn, scan_before, scan_behind, fresh_after}
+use Rattle.fsd_log.proofs.PlaceLaws.{InThird, place_inside}
+use Rattle.log_thirds.proofs.TapeLaws.{torn_tape}
 
 pub all_small : (xs : List ℕ) → ((i : ℕ) → get_or xs i 0 < 2 ^ 32) → AllByRecursion (λ n. n < 2 ^ 32) xs
 all_small [] each = tt

@@ -7,12 +7,12 @@ use Rattle.fsd_formats.specs.Record.{record_len}
 use Rattle.fsd_log.specs.Judged.{Reader, record_in}
 use Rattle.fsd_log.specs.Borne.{Foreign}
 use Rattle.fsd_log.proofs.JudgedLaws.{foreign_absent}
-use Rattle.log_thirds.proofs.HereLaws.{here_none}
+use Rattle.fsd_log.proofs.HereLaws.{here_none}
 use Rattle.fsd_log.specs.Scan.{last_number, IsIn, Head, Placed, Walked, room_at, window, record_here, next, scan, start, place_of, tape, IsLog}
 use Rattle.log_thirds.specs.Moves.{back, head_back, IsNextThird, MovesOn}
-use Rattle.log_thirds.proofs.WalkLaws.{stamp_of, IsHere, IsThere, IsFound, GoesOn, found_goes_on, Goes, goes_of_walk, walk_of_goes, none_next, ends_inside}
-use Rattle.log_thirds.proofs.AppendLaws.{none_foreign, window_foreign}
-use Rattle.log_thirds.proofs.HereLaws.{not_below}
+use Rattle.fsd_log.proofs.WalkLaws.{stamp_of, IsHere, IsThere, IsFound, GoesOn, found_goes_on, Goes, goes_of_walk, walk_of_goes, none_next, ends_inside}
+use Rattle.fsd_log.proofs.AppendLaws.{none_foreign, window_foreign}
+use Rattle.fsd_log.proofs.HereLaws.{not_below}
 
 -- the tape of the next third: the old one from its second third on, and then its first third
 pub record IsShifted (l : Shape) (old new : Reader) : Type 0 where

@@ -11,10 +11,10 @@ use Rattle.fsd_log.proofs.LaidLaws.{IsLaidAs}
 use Rattle.fsd_log.proofs.TornLaws.{ArePages}
 use Rattle.fsd_log.specs.Laid.{new_record}
 use Rattle.fsd_log.proofs.WornLaws.{AsLaid, ReadsLaid, OneStands, laid_or_none, worn_there}
-use Rattle.log_thirds.proofs.HereLaws.{here_looks, here_none}
+use Rattle.fsd_log.proofs.HereLaws.{here_looks, here_none}
 use Rattle.fsd_log.specs.Scan.{IsIn, Head, Placed, Walked, room_at, window, record_here, next, scan, start, IsLog}
-use Rattle.log_thirds.proofs.WalkLaws.{stamp_of, head_behind, IsFound, Goes, GoesFar, goes_far, goes_of_walk, goes_more, walk_of_goes, none_next, TapeLess, goes_keeps}
-use Rattle.log_thirds.proofs.AppendLaws.{IsSpot, none_foreign, window_foreign, two_stamps}
+use Rattle.fsd_log.proofs.WalkLaws.{stamp_of, head_behind, IsFound, Goes, GoesFar, goes_far, goes_of_walk, goes_more, walk_of_goes, none_next, TapeLess, goes_keeps}
+use Rattle.fsd_log.proofs.AppendLaws.{IsSpot, none_foreign, window_foreign, two_stamps}
 
 -- the first sectors of a write stand on the tape, but where they may have worn; the others are as they were
 pub record TapeWorn (weak : ℕ → Bool) (bytes : List ℕ) (at stood : ℕ) (old new : Reader) : Type 0 where

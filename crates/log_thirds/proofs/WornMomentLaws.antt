@@ -17,8 +17,8 @@ use Rattle.fsd_log.specs.Scan.{Head, Placed, IsLog, spot_for, place_of, tape}
 use Rattle.log_thirds.specs.Disk.{bytes_in, reads}
 use Rattle.log_thirds.specs.LogValue.{LogValue}
 use Rattle.log_thirds.specs.Append.{StandsInPart, stamp_now, next_record, head_past, log_past, scan_of, IsLogWorn, IsNarrow, AppendsWorn}
-use Rattle.log_thirds.proofs.TapeLaws.{InThird, place_add, place_cases, below_numbers, above_numbers, first_most, end_most}
-use Rattle.log_thirds.proofs.HereLaws.{not_below}
+use Rattle.fsd_log.proofs.PlaceLaws.{InThird, place_add, place_cases, below_numbers, above_numbers, first_most, end_most}
+use Rattle.fsd_log.proofs.HereLaws.{not_below}
 use Rattle.log_thirds.proofs.MomentLaws.{MayAppend, write_inside, laid, are, spots, in_third}
 use Rattle.log_thirds.proofs.WornAppendLaws.{TapeWorn, worn_before, worn_either, worn_whole_there, fresh_after}
 

@@ -1,5 +1,5 @@
 -- What writing an anchor leaves.
-use Rattle.std.specs.Prelude.{◌≤◌, ◌+◌, ℕ, List}
+use Rattle.std.specs.Prelude.{◌≤◌, ◌+◌, ℕ, List, [], None, length, replicate}
 use Rattle.sector_disk.specs.declared.sector.Sector.{Sector}
 use Rattle.sector_disk.specs.Image.{stand}
 use Rattle.sector_disk.specs.Machine.{Moment, Holds}
@@ -26,4 +26,4 @@ next_epoch log = record { epoch = log.anchor.epoch + 1; third = 0; first = 1 }
 
 -- the empty log of that epoch
 abbrev pub in_next_epoch : LogValue → LogValue
-in_next_epoch log = record { layout = log.layout; anchor = next_epoch log; head = start log.layout 1 }
+in_next_epoch log = record { layout = log.layout; anchor = next_epoch log; head = start log.layout 1; slots = replicate (length log.slots) None; copies = record { place = log.copies.place; bytes = [] } }

@@ -4,9 +4,12 @@ use Rattle.fsd_formats.specs.Record.{Stamp, record_len}
 use Rattle.sector_disk.specs.Image.{stand, open_damage, AllWorn}
 use Rattle.sector_disk.specs.Machine.{Moment, Holds}
 use Rattle.fsd_log.specs.Laid.{laid_bytes, slices}
-use Rattle.fsd_log.specs.Scan.{Head, Placed, Walked, IsLog, place_of, tape, scan, spot_for}
+use Rattle.fsd_log.specs.Scan.{Head, Placed, Walked, IsLog, place_of, tape, scan, spot_for, HasRoom}
 use Rattle.log_thirds.specs.Disk.{reads}
 use Rattle.log_thirds.specs.LogValue.{LogValue}
+use Rattle.log_thirds.specs.Copies.{AreLastCopies}
+use Rattle.log_thirds.specs.Slots.{slots_with, AreSlots, slot_of, lies_in}
+use Rattle.volume_layout.specs.Layout.{third_start}
 use Rattle.log_thirds.specs.declared.thirds.Place.{Place}
 use Rattle.log_thirds.specs.declared.thirds.Place.TheVariants.{Here, NextThird, FirstThird}
 
@@ -31,7 +34,29 @@ abbrev pub head_past : LogValue → (n : ℕ) → Head
 head_past log n = let spot = spot_for log.layout n log.head in record { number = log.head.number + 1; at = spot.at + record_len n; end = spot.end }
 
 abbrev pub log_past : LogValue → (n : ℕ) → LogValue
-log_past log n = record { layout = log.layout; anchor = log.anchor; head = head_past log n }
+log_past log n = record { layout = log.layout; anchor = log.anchor; head = head_past log n; slots = log.slots; copies = log.copies }
+
+-- the log with the record of these pages behind the others
+abbrev pub log_with : LogValue → (pages : List ℕ) → LogValue
+log_with log pages = record {
+  layout = log.layout;
+  anchor = log.anchor;
+  head = head_past log (length pages);
+  slots = slots_with log.layout log.anchor.third log.head.number (spot_for log.layout (length pages) log.head).at pages log.slots;
+  copies = log.copies;
+}
+
+-- the log knows of each page where its last image lies
+abbrev pub IsIndexed : LogValue → List Placed → Type 0
+IsIndexed log records = AreSlots log.layout log.anchor.third records log.slots
+
+-- the log has the copies of the last record, or there is none
+abbrev pub KnowsLast : LogValue → List Placed → Type 0
+KnowsLast log records = AreLastCopies log.layout log.anchor.epoch log.anchor.third records log.copies
+
+-- two records of 96 pages have room, one behind the other
+abbrev pub FitsTwo : LogValue → Type 0
+FitsTwo log = HasRoom log.layout 96 log.head × HasRoom log.layout 96 (head_past log 96)
 
 -- the scan by the log's anchor
 abbrev pub scan_of : LogValue → Moment → Walked
@@ -46,6 +71,21 @@ pub record Appends (log : LogValue) (records : List Placed) (pages images : List
 -- the log stands so at a moment
 abbrev pub IsLogIn : LogValue → List Placed → Moment → Type 0
 IsLogIn log records at = IsLog log.layout log.anchor.epoch log.anchor.first (tape log.layout log.anchor.third (reads at.image)) records log.head
+
+-- the page's last image lies in this third of the disk
+abbrev pub LastLiesIn : LogValue → List Placed → (t page : ℕ) → Type 0
+LastLiesIn log records t page = IsTrue (lies_in (third_start log.layout t) log.layout.third (slot_of log.layout log.anchor.third page records))
+
+-- the least such page from one on
+pub record IsLeastOfThird (log : LogValue) (records : List Placed) (t first page : ℕ) : Type 0 where
+  pub from : first ≤ page
+  pub there : page < log.layout.pages
+  pub lies : LastLiesIn log records t page
+  pub before : (q : ℕ) → first ≤ q → q < page → LastLiesIn log records t q → ⊥
+
+-- there is none from one on
+abbrev pub NoneOfThird : LogValue → List Placed → (t first : ℕ) → Type 0
+NoneOfThird log records t first = (q : ℕ) → first ≤ q → q < log.layout.pages → LastLiesIn log records t q → ⊥
 
 -- ---- where sectors wear
 

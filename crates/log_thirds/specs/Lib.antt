@@ -1,6 +1,9 @@
 pub mod Anchoring
 pub mod Append
+pub mod Copies
 pub mod Disk
+pub mod Images
 pub mod LogValue
 pub mod Moves
 pub mod Reading
+pub mod Slots

@@ -1,18 +1,34 @@
 -- A log, as clauses see it.
-use Rattle.std.specs.Prelude.{◌≡◌, ◌≤◌, ◌+◌, ◌*◌, ℕ, List, length}
+use Rattle.std.specs.Prelude.{◌≡◌, ◌<◌, ◌≤◌, ◌+◌, ◌*◌, ◌^◌, ℕ, List, length, Option}
 use Rattle.fsd_formats.specs.declared.anchor.Anchor.{Anchor}
 use Rattle.volume_layout.specs.Shape.{Shape}
 use Rattle.fsd_log.specs.Scan.{Head, IsIn}
+use Rattle.log_thirds.specs.declared.slots.Slot.{Slot}
+use Rattle.log_thirds.specs.Slots.{SlotsInside}
+use Rattle.log_thirds.specs.Copies.{Copies, FitsDisk}
 
 pub record LogValue : Type 0 where
   pub layout : Shape
   pub anchor : Anchor
   pub head : Head
+  pub slots : List (Option Slot)
+  pub copies : Copies
 
-pub record IsShaped (layout : Shape) (anchor : Anchor) (head : Head) (buffer : List ℕ) : Type 0 where
+pub record IsShaped (layout : Shape) (anchor : Anchor) (head : Head) (slots : List (Option Slot)) (copies : Copies) (buffer : List ℕ) : Type 0 where
   pub least : 200 ≤ layout.third
   pub most : layout.third ≤ 4096
   pub inside : 16 + 3 * layout.third ≤ layout.sectors
   pub third : anchor.third ≤ 2
   pub is_in : IsIn layout head
+  pub table : length slots ≡ layout.pages
+  pub on_disk : SlotsInside layout.sectors slots
+  pub copied : FitsDisk layout.sectors copies
   pub long : length buffer ≡ 100864
+
+-- A log lies in its layout, and its head in a third.
+pub record FitsLayout (log : LogValue) : Type 0 where
+  pub least : 200 ≤ log.layout.third
+  pub inside : 16 + 3 * log.layout.third ≤ log.layout.sectors
+  pub third : log.anchor.third ≤ 2
+  pub is_in : IsIn log.layout log.head
+  pub epoch : log.anchor.epoch < 2 ^ 32

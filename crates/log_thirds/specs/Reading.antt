@@ -5,9 +5,13 @@ use Rattle.sector_disk.specs.Machine.{Report, Moment, DeviceFault}
 use Rattle.volume_layout.specs.Shape.{Shape}
 use Rattle.log_record.specs.Found.{read_of}
 use Rattle.fsd_formats.specs.declared.anchor.Anchor.{Anchor}
-use Rattle.fsd_log.specs.Scan.{IsEnd, anchor_in, newer_of}
+use Rattle.fsd_log.specs.Scan.{Head, Placed, IsEnd, anchor_in, newer_of}
 use Rattle.log_thirds.specs.Disk.{reads}
 use Rattle.log_thirds.specs.declared.find.Spot.{Spot}
+use Rattle.log_thirds.specs.declared.find.Taken.{Taken}
+use Rattle.log_thirds.specs.declared.find.Step.{Step}
+use Rattle.fsd_log.specs.Judged.{Logged}
+use Rattle.log_thirds.specs.Copies.{entry_in}
 use Rattle.log_thirds.specs.declared.reading.ReadFault.{ReadFault}
 use Rattle.log_thirds.specs.declared.reading.ReadFault.TheVariants.{Device, Memory}
 use Rattle.log_thirds.specs.declared.fault.LogFault.{LogFault}
@@ -54,6 +58,28 @@ pub record GoesTo (l : Shape) (from : ℕ) (spot : Spot) : Type 0 where
   pub before : spot.at ≤ spot.end
   pub after : spot.end ≤ spot.at + l.third
   pub ends : IsEnd l spot.end
+
+-- a record on the tape, and where the head goes behind it
+pub record Stepped : Type 0 where
+  pub from : ℕ
+  pub entry : Logged
+  pub at : ℕ
+  pub end : ℕ
+
+abbrev pub taken_in : (number : ℕ) → Taken → Logged
+taken_in number t = entry_in number t.found t.copies.items
+
+abbrev pub stepped_in : (number : ℕ) → Step → Stepped
+stepped_in number step = record { from = step.from; entry = taken_in number step.taken; at = step.past.at; end = step.past.end }
+
+abbrev pub stepped_of : Placed × Head → Stepped
+stepped_of x = record { from = x.0.at; entry = x.0.entry; at = x.1.at; end = x.1.end }
+
+-- the record ends where the head goes on, in one third
+pub record StepsOn (l : Shape) (from : ℕ) (step : Step) : Type 0 where
+  pub goes : GoesTo l from step.past
+  pub lies : step.past.at ≡ step.from + (2 * length step.taken.found.pages.items + 5)
+  pub in_third : step.past.end ≤ step.from + l.third
 
 -- an anchor that stood at a place, or none, or none where it may have worn
 pub record SeesCopy (old : Moment) (place : ℕ) (anchor : Option Anchor) : Type 0 where

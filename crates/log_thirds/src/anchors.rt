@@ -1,7 +1,7 @@
 //! Which anchor the disk gives.
-ghost use Rattle.std.specs.Prelude.{◌≡◌, ◌<◌, ◌≤◌, Some, None, IfSome, IfErr, IfOk, OnOk};
+ghost use Rattle.std.specs.Prelude.{◌≡◌, ◌<◌, ◌≤◌, Some, None, IfSome, IfErr, IfOk, OnOk, OnErr};
 ghost use Rattle.sector_disk.specs.Image.{stand};
-ghost use Rattle.sector_disk.specs.Machine.{Moment, DeviceFault, UsesDisk, Trusts, Wears, LeavesOnly, Holds};
+ghost use Rattle.sector_disk.specs.Machine.{Moment, DeviceFault, UsesDisk, Trusts, Wears, LeavesOnly, Holds, OnlyWrites, wrote};
 ghost use Rattle.fsd_formats.specs.Anchors.{anchor_bytes};
 ghost use Rattle.fsd_log.specs.Scan.{is_newer, newer_of};
 ghost use Rattle.log_thirds.specs.Append.{StandsInPart};
@@ -37,6 +37,7 @@ fn read_copy<M: Machine>(m: &mut M, place: u32) -> Result<Option<Anchor>, ReadFa
     ensures fault { IfErr result (ReadCause (M.report m.old) (M.report m.new)) }
     ensures uses { UsesDisk (M.report m.old) (M.report m.new) }
     ensures trust { Trusts (M.tells m.old) (M.tells m.new) (M.honest m.old) (M.honest m.new) }
+    ensures ledger { M.tells m.new → M.ledger m.new ≡ M.ledger m.old }
     ensures worn { M.honest m.new → Wears (M.now m.old) (M.now m.new) }
     ensures any_moment { M.honest m.new → LeavesOnly M.moment M.left_since m.old m.new (Wears (M.now m.old)) }
     ensures third { IfOk result (λ o. IfSome o (λ a. a.third ≤ 2)) }
@@ -45,7 +46,7 @@ fn read_copy<M: Machine>(m: &mut M, place: u32) -> Result<Option<Anchor>, ReadFa
     match read_sector(m, place) {
         Ok(Some(sector)) => Ok(read_anchor(&sector)),
         Ok(None) => Ok(None),
-        Err(fault) => Err(fault),
+        Err(failed) => Err(ReadFault::Device(failed.place)),
     }
 }
 
@@ -55,6 +56,7 @@ pub(crate) fn find_anchor<M: Machine>(m: &mut M) -> Result<Option<Anchor>, ReadF
     ensures fault { IfErr result (ReadCause (M.report m.old) (M.report m.new)) }
     ensures uses { UsesDisk (M.report m.old) (M.report m.new) }
     ensures trust { Trusts (M.tells m.old) (M.tells m.new) (M.honest m.old) (M.honest m.new) }
+    ensures ledger { M.tells m.new → M.ledger m.new ≡ M.ledger m.old }
     ensures worn { M.honest m.new → Wears (M.now m.old) (M.now m.new) }
     ensures any_moment { M.honest m.new → LeavesOnly M.moment M.left_since m.old m.new (Wears (M.now m.old)) }
     ensures third { IfOk result (λ o. IfSome o (λ a. a.third ≤ 2)) }
@@ -74,6 +76,10 @@ fn write_copy<M: Machine>(m: &mut M, place: u32, anchor: &Anchor) -> Result<(), 
     ensures fault { IfErr result (λ failed. DeviceFault (M.report m.old) (M.report m.new) failed.place) }
     ensures uses { UsesDisk (M.report m.old) (M.report m.new) }
     ensures trust { Trusts (M.tells m.old) (M.tells m.new) (M.honest m.old) (M.honest m.new) }
+    ensures ledger { OnOk result (M.tells m.new → M.ledger m.new ≡ wrote (M.ledger m.old) 1) }
+    ensures ledger_err { OnErr result (M.tells m.new → M.ledger m.new ≡ M.ledger m.old) }
+    ensures quiet { M.honest m.new → (M.now m.new).said ≡ (M.now m.old).said }
+    ensures windows { M.honest m.new → (M.now m.new).windows ≡ (M.now m.old).windows }
     ensures torn { M.honest m.new → LeavesOnly M.moment M.left_since m.old m.new (StandsInPart place (anchor_bytes anchor.now) 1 (M.now m.old)) }
     ensures done { OnOk result (M.honest m.new → Holds (M.now m.old) (stand (M.now m.old).image place (anchor_bytes anchor.now) 1) (M.now m.new)) }
 {
@@ -91,6 +97,10 @@ pub(crate) fn write_anchor<M: Machine>(m: &mut M, anchor: &Anchor) -> Result<(),
     ensures fault { IfErr result (λ failed. DeviceFault (M.report m.old) (M.report m.new) failed.place) }
     ensures uses { UsesDisk (M.report m.old) (M.report m.new) }
     ensures trust { Trusts (M.tells m.old) (M.tells m.new) (M.honest m.old) (M.honest m.new) }
+    ensures ledger { M.tells m.new → OnlyWrites (M.ledger m.old) (M.ledger m.new) }
+    ensures counted { OnOk result (M.tells m.new → M.ledger m.new ≡ wrote (M.ledger m.old) 2) }
+    ensures quiet { M.honest m.new → (M.now m.new).said ≡ (M.now m.old).said }
+    ensures windows { M.honest m.new → (M.now m.new).windows ≡ (M.now m.old).windows }
     ensures any_moment { M.honest m.new → LeavesOnly M.moment M.left_since m.old m.new (AnchorsIn anchor.now (M.now m.old)) }
     ensures done { OnOk result (M.honest m.new → Holds (M.now m.old) (with_anchors anchor.now (M.now m.old).image 1 1) (M.now m.new)) }
 {

@@ -1,14 +1,16 @@
 //! Looking for the next record.
-ghost use Rattle.std.specs.Prelude.{◌≡◌, ◌≤◌, ◌<◌, ◌+◌, ◌-◌, ◌*◌, min, ℕ, length, IfErr, IfOk, IfSome, OnOk, option_map};
+ghost use Rattle.std.specs.Prelude.{◌≡◌, ◌≤◌, ◌<◌, ◌↔◌, ◌+◌, ◌-◌, ◌*◌, min, ℕ, length, IfErr, IfOk, IfSome, OnOk, IsTrue, option_map};
 ghost use Rattle.sector_disk.specs.Machine.{Moment, UsesDisk, Trusts, Wears, LeavesOnly};
-ghost use Rattle.fsd_log.specs.Scan.{Head, IsIn, IsEnd, place_of, tape, room_at, last_number, record_here, entered, next};
+ghost use Rattle.fsd_log.specs.Scan.{Head, HasRoom, IsIn, IsEnd, place_of, tape, room_at, last_number, record_here, entered, next};
+ghost use Rattle.log_thirds.specs.Copies.{AreCopies};
 ghost use Rattle.log_thirds.specs.Disk.{reads};
 ghost use Rattle.log_thirds.specs.Append.{IsCalm};
-ghost use Rattle.log_thirds.specs.Reading.{ReadCause, GoesTo};
+ghost use Rattle.log_thirds.specs.Reading.{ReadCause, StepsOn, taken_in, stepped_in, stepped_of};
 
+use crate::copies::copies_in;
 use crate::reading::{ReadFault, read_run};
 use fsd_formats::Anchor;
-use log_record::{Judged, judge};
+use log_record::{Found, Judged, judge};
 use sector_disk::Machine;
 use std::alloc::Global;
 use volume_layout::Layout;
@@ -21,6 +23,21 @@ const LAST_NUMBER: u32 = u32::MAX;
 pub(crate) struct Spot {
     pub at: u32,
     pub end: u32,
+}
+
+/// A record that was found, and the copies of its images and its end.
+#[derive(Drop)]
+pub(crate) struct Taken {
+    pub found: Found,
+    pub copies: Vec<u8>,
+}
+
+/// A record that was taken, where on the tape it begins, and where the head goes behind it.
+#[derive(Drop)]
+pub(crate) struct Step {
+    pub from: u32,
+    pub taken: Taken,
+    pub past: Spot,
 }
 
 /// Where a place on the tape lies on the disk.
@@ -39,6 +56,14 @@ pub(crate) fn place_of(layout: &Layout, first: u32, at: u32) -> u32
     }
 }
 
+/// Whether a record of 96 pages goes behind a place, here or in the next third.
+pub(crate) fn has_room(layout: &Layout, at: u32, end: u32) -> bool
+    requires { at ≤ end }
+    ensures { IsTrue result ↔ HasRoom layout.now 96 (record { number = 0; at = at; end = end }) }
+{
+    197 <= end - at || end < 3 * layout.third()
+}
+
 // As many sectors as a record may have, as far as the third goes.
 fn room_at(at: u32, end: u32) -> u32
     requires { at ≤ end }
@@ -48,7 +73,7 @@ fn room_at(at: u32, end: u32) -> u32
     if left < 197 { left } else { 197 }
 }
 
-// The number of pages of the record of this number that begins here.
+// The record of this number that begins here.
 fn find<M: Machine>(
     alloc: Global,
     m: &mut M,
@@ -57,7 +82,7 @@ fn find<M: Machine>(
     number: u32,
     at: u32,
     end: u32,
-) -> Result<Option<u32>, ReadFault>
+) -> Result<Option<Taken>, ReadFault>
     requires first { anchor.now.third ≤ 2 }
     requires before { at ≤ end }
     requires from { end ≤ at + layout.now.third }
@@ -66,12 +91,15 @@ fn find<M: Machine>(
     ensures fault { IfErr result (ReadCause (M.report m.old) (M.report m.new)) }
     ensures uses { UsesDisk (M.report m.old) (M.report m.new) }
     ensures trust { Trusts (M.tells m.old) (M.tells m.new) (M.honest m.old) (M.honest m.new) }
+    ensures ledger { M.tells m.new → M.ledger m.new ≡ M.ledger m.old }
     ensures worn { M.honest m.new → Wears (M.now m.old) (M.now m.new) }
     ensures any_moment { M.honest m.new → LeavesOnly M.moment M.left_since m.old m.new (Wears (M.now m.old)) }
-    ensures fits { IfOk result (λ o. IfSome o (λ n. at + (2 * n + 5) ≤ end)) }
+    ensures fits { IfOk result (λ o. IfSome o (λ t. at + (2 * t.found.n + 5) ≤ end)) }
+    ensures counted { IfOk result (λ o. IfSome o (λ t. t.found.n ≡ length t.found.pages.items)) }
     ensures numbered { IfOk result (λ o. IfSome o (λ _. number < last_number)) }
+    ensures copied { IfOk result (λ o. IfSome o (λ t. AreCopies (record { epoch = anchor.now.epoch; number = number }) (length t.found.pages.items) t.copies.items)) }
     ensures found { IfOk result (λ o. M.honest m.new → IsCalm (M.now m.old)
-        → o ≡ option_map (λ r. length r.pages) (record_here layout.now anchor.now.epoch (tape layout.now anchor.now.third (reads (M.now m.old).image)) number at end)) }
+        → option_map (taken_in number) o ≡ (record_here layout.now anchor.now.epoch (tape layout.now anchor.now.third (reads (M.now m.old).image)) number at end)) }
 {
     if number == LAST_NUMBER {
         return Ok(None);
@@ -87,14 +115,17 @@ fn find<M: Machine>(
             anchor.epoch,
             number,
         ) {
-            Judged::Good(found) => Ok(Some(found.n)),
+            Judged::Good(found) => match copies_in(alloc, &found, reading.bytes.as_slice()) {
+                Ok(copies) => Ok(Some(Taken { found, copies })),
+                Err(_) => Err(ReadFault::Memory),
+            },
             Judged::NotThere => Ok(None),
         },
         Err(fault) => Err(fault),
     }
 }
 
-// Where the head goes behind the next record, if that begins the next third.
+// The next record, if it begins the next third.
 fn enter<M: Machine>(
     alloc: Global,
     m: &mut M,
@@ -103,7 +134,7 @@ fn enter<M: Machine>(
     number: u32,
     at: u32,
     end: u32,
-) -> Result<Option<Spot>, ReadFault>
+) -> Result<Option<Step>, ReadFault>
     requires first { anchor.now.third ≤ 2 }
     requires before { at ≤ end }
     requires from { end ≤ at + layout.now.third }
@@ -112,12 +143,14 @@ fn enter<M: Machine>(
     ensures fault { IfErr result (ReadCause (M.report m.old) (M.report m.new)) }
     ensures uses { UsesDisk (M.report m.old) (M.report m.new) }
     ensures trust { Trusts (M.tells m.old) (M.tells m.new) (M.honest m.old) (M.honest m.new) }
+    ensures ledger { M.tells m.new → M.ledger m.new ≡ M.ledger m.old }
     ensures worn { M.honest m.new → Wears (M.now m.old) (M.now m.new) }
     ensures any_moment { M.honest m.new → LeavesOnly M.moment M.left_since m.old m.new (Wears (M.now m.old)) }
-    ensures goes { IfOk result (λ o. IfSome o (GoesTo layout.now at)) }
+    ensures goes { IfOk result (λ o. IfSome o (StepsOn layout.now at)) }
     ensures numbered { IfOk result (λ o. IfSome o (λ _. number < last_number)) }
+    ensures copied { IfOk result (λ o. IfSome o (λ s. AreCopies (record { epoch = anchor.now.epoch; number = number }) (length s.taken.found.pages.items) s.taken.copies.items)) }
     ensures found { IfOk result (λ o. M.honest m.new → IsCalm (M.now m.old)
-        → o ≡ option_map (λ x. record { at = x.1.at; end = x.1.end })
+        → option_map (stepped_in number) o ≡ option_map stepped_of
         (entered layout.now anchor.now.epoch (tape layout.now anchor.now.third (reads (M.now m.old).image)) (record { number = number; at = at; end = end }))) }
 {
     let third = layout.third();
@@ -125,16 +158,20 @@ fn enter<M: Machine>(
         return Ok(None);
     }
     match find(alloc, m, layout, anchor, number, end, end + third) {
-        Ok(Some(n)) => Ok(Some(Spot {
-            at: end + (2 * n + 5),
-            end: end + third,
+        Ok(Some(taken)) => Ok(Some(Step {
+            from: end,
+            past: Spot {
+                at: end + (2 * taken.found.n + 5),
+                end: end + third,
+            },
+            taken,
         })),
         Ok(None) => Ok(None),
         Err(fault) => Err(fault),
     }
 }
 
-/// Where the head goes behind the next record.
+/// The next record.
 pub(crate) fn next<M: Machine>(
     alloc: Global,
     m: &mut M,
@@ -143,7 +180,7 @@ pub(crate) fn next<M: Machine>(
     number: u32,
     at: u32,
     end: u32,
-) -> Result<Option<Spot>, ReadFault>
+) -> Result<Option<Step>, ReadFault>
     requires first { anchor.now.third ≤ 2 }
     requires before { at ≤ end }
     requires from { end ≤ at + layout.now.third }
@@ -152,18 +189,24 @@ pub(crate) fn next<M: Machine>(
     ensures fault { IfErr result (ReadCause (M.report m.old) (M.report m.new)) }
     ensures uses { UsesDisk (M.report m.old) (M.report m.new) }
     ensures trust { Trusts (M.tells m.old) (M.tells m.new) (M.honest m.old) (M.honest m.new) }
+    ensures ledger { M.tells m.new → M.ledger m.new ≡ M.ledger m.old }
     ensures worn { M.honest m.new → Wears (M.now m.old) (M.now m.new) }
     ensures any_moment { M.honest m.new → LeavesOnly M.moment M.left_since m.old m.new (Wears (M.now m.old)) }
-    ensures goes { IfOk result (λ o. IfSome o (GoesTo layout.now at)) }
+    ensures goes { IfOk result (λ o. IfSome o (StepsOn layout.now at)) }
     ensures numbered { IfOk result (λ o. IfSome o (λ _. number < last_number)) }
+    ensures copied { IfOk result (λ o. IfSome o (λ s. AreCopies (record { epoch = anchor.now.epoch; number = number }) (length s.taken.found.pages.items) s.taken.copies.items)) }
     ensures found { IfOk result (λ o. M.honest m.new → IsCalm (M.now m.old)
-        → o ≡ option_map (λ x. record { at = x.1.at; end = x.1.end })
+        → option_map (stepped_in number) o ≡ option_map stepped_of
         (next layout.now anchor.now.epoch (tape layout.now anchor.now.third (reads (M.now m.old).image)) (record { number = number; at = at; end = end }))) }
 {
     match find(alloc, m, layout, anchor, number, at, end) {
-        Ok(Some(n)) => Ok(Some(Spot {
-            at: at + (2 * n + 5),
-            end,
+        Ok(Some(taken)) => Ok(Some(Step {
+            from: at,
+            past: Spot {
+                at: at + (2 * taken.found.n + 5),
+                end,
+            },
+            taken,
         })),
         Ok(None) => enter(alloc, m, layout, anchor, number, at, end),
         Err(fault) => Err(fault),

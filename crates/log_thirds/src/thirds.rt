@@ -1,11 +1,13 @@
 //! The log, and where its next record goes.
 use crate::anchors::{find_anchor, write_anchor};
 use crate::fault::{LogFault, log_fault};
-use crate::find::{Spot, next, place_of};
+use crate::find::{Step, Taken, has_room, next, place_of};
+use crate::images::read_slot;
 use crate::reading::ReadFault;
+use crate::slots::{Slot, clear, least_in, no_slots, note};
 use crate::write::write_record;
 use fsd_formats::Anchor;
-use sector_disk::{Failed, Machine};
+use sector_disk::{Failed, LoadFault, Machine};
 use std::alloc::Global;
 use std::marker::Model;
 use volume_layout::Layout;
@@ -21,8 +23,16 @@ pub enum Place {
     FirstThird(u32),
 }
 
-/// The log of a volume, as far as its end is known: where the next record goes, and which number it bears. It holds room
-/// for one record, so that only `scan` takes memory.
+/// The last record that the scan found: where on the disk its pages' copies begin, and how many pages it has.
+#[derive(Clone, Copy, Debug, PartialEq, Eq)]
+pub struct LastRecord {
+    pub copies_at: u32,
+    pub pages: u32,
+}
+
+/// The log of a volume, as far as its end is known: where the next record goes, and which number it bears. It knows where
+/// each page's last image lies, keeps the last record's images and end as the scan read them, and holds room for one record,
+/// so that only `scan` takes memory.
 #[derive(Drop)]
 pub struct Log {
     layout: Layout,
@@ -30,6 +40,9 @@ pub struct Log {
     number: u32,
     at: u32,
     end: u32,
+    slots: Vec<Option<Slot>>,
+    copies_at: u32,
+    copies: Vec<u8>,
     buffer: Vec<u8>,
 }
 
@@ -38,19 +51,23 @@ impl Model for Log {
 
     ghost Value = { LogValue };
 
-    ghost view = { λ s. record { layout = s.layout; anchor = s.anchor; head = record { number = s.number; at = s.at; end = s.end } } };
+    ghost view = { λ s. record { layout = s.layout; anchor = s.anchor; head = record { number = s.number; at = s.at; end = s.end }; slots = s.slots.items; copies = record { place = s.copies_at; bytes = s.copies.items } } };
 
-    ghost invariant = { λ s. IsShaped s.layout s.anchor (record { number = s.number; at = s.at; end = s.end }) s.buffer.items };
+    ghost invariant = { λ s. IsShaped s.layout s.anchor (record { number = s.number; at = s.at; end = s.end }) s.slots.items (record { place = s.copies_at; bytes = s.copies.items }) s.buffer.items };
 }
 
 impl Log {
-    ghost use Rattle.std.specs.Prelude.{◌≡◌, ◌≤◌, ◌<◌, ◌+◌, ◌-◌, ◌*◌, ◌^◌, ◌++◌, ◌∷◌, [], List, ℕ, length, Some, None, Err, IsTrue, IfErr, IfOk, OnOk, OnErr};
+    ghost use Rattle.std.specs.Prelude.{◌≡◌, ◌≤◌, ◌<◌, ◌+◌, ◌-◌, ◌*◌, ◌^◌, ◌↔◌, ◌++◌, ◌∷◌, [], List, ℕ, length, Some, None, Ok, Err, true, false, if◌then◌else◌, slice_index_or, IsTrue, IfErr, IfOk, IfSome, IfNone, OnOk, OnErr};
     ghost use Rattle.sector_disk.specs.Image.{stand};
-    ghost use Rattle.sector_disk.specs.Machine.{DeviceFault, UsesDisk, Trusts, LeavesOnly, Holds, Wears};
+    ghost use Rattle.sector_disk.specs.Machine.{DeviceFault, UsesDisk, Trusts, LeavesOnly, Holds, Wears, OnlyWrites, wrote};
     ghost use Rattle.fsd_formats.specs.Record.{are_pages, AreStamped};
     ghost use Rattle.fsd_log.specs.Laid.{laid_bytes, slices};
     ghost use Rattle.fsd_log.specs.Scan.{Placed, HasRoom, spot_for, place_of};
-    ghost use Rattle.log_thirds.specs.Append.{IsCalm, IsLogIn, Appends, IsNarrow, IsLogWorn, AppendsWorn, stamp_now, next_record, log_past, scan_of, GoesAt};
+    ghost use Rattle.log_thirds.specs.LogValue.{FitsLayout};
+    ghost use Rattle.log_thirds.specs.Images.{ImageCause, LostCause, IsDevice};
+    ghost use Rattle.fsd_log.specs.Images.{last_image};
+    ghost use Rattle.log_thirds.specs.Copies.{copies_count, IsLast};
+    ghost use Rattle.log_thirds.specs.Append.{IsCalm, IsLogIn, Appends, IsNarrow, IsLogWorn, AppendsWorn, stamp_now, next_record, log_with, scan_of, GoesAt, FitsTwo, IsIndexed, KnowsLast, StandsInPart, IsLeastOfThird, NoneOfThird};
     ghost use Rattle.log_thirds.specs.Anchoring.{AnchorsIn, with_anchors, next_epoch, in_next_epoch};
     ghost use Rattle.log_thirds.specs.Reading.{ReadCause, LogCause, SeesAnchor, SeesLastEpoch};
 
@@ -66,11 +83,14 @@ impl Log {
         ensures fault { IfErr result (ReadCause (M.report m.old) (M.report m.new)) }
         ensures uses { UsesDisk (M.report m.old) (M.report m.new) }
         ensures trust { Trusts (M.tells m.old) (M.tells m.new) (M.honest m.old) (M.honest m.new) }
+        ensures ledger { M.tells m.new → M.ledger m.new ≡ M.ledger m.old }
         ensures worn { M.honest m.new → Wears (M.now m.old) (M.now m.new) }
         ensures any_moment { M.honest m.new → LeavesOnly M.moment M.left_since m.old m.new (Wears (M.now m.old)) }
         ensures layout { IfOk result (λ log. log.layout ≡ layout.now) }
         ensures anchor { IfOk result (λ log. log.anchor ≡ anchor.now) }
         ensures found { IfOk result (λ log. M.honest m.new → IsCalm (M.now m.old) → (scan_of log (M.now m.old)).head ≡ log.head) }
+        ensures indexed { IfOk result (λ log. M.honest m.new → IsCalm (M.now m.old) → IsIndexed log (scan_of log (M.now m.old)).records) }
+        ensures last { IfOk result (λ log. M.honest m.new → IsCalm (M.now m.old) → KnowsLast log (scan_of log (M.now m.old)).records) }
     {
         let third = layout.third();
         let _sectors = layout.sectors();
@@ -78,22 +98,34 @@ impl Log {
             Ok(buffer) => buffer,
             Err(_) => return Err(ReadFault::Memory),
         };
+        let mut slots = match no_slots(alloc, layout.pages()) {
+            Ok(slots) => slots,
+            Err(_) => return Err(ReadFault::Memory),
+        };
+        let mut copies = Vec::new(alloc);
+        let mut copies_at = 0;
         let mut number = anchor.first;
         let mut at = 0;
         let mut end = third;
         loop {
             match next(alloc, m, layout, anchor, number, at, end) {
-                Ok(
-                    Some(
-                        Spot {
-                            at: past,
-                            end: last,
-                        },
-                    ),
-                ) => {
+                Ok(Some(Step { from, taken, past })) => {
+                    let Taken {
+                        found,
+                        copies: more,
+                    } = taken;
+                    let place = place_of(layout, anchor.third, from);
+                    note(
+                        slots.as_mut_slice(),
+                        number,
+                        place + 3,
+                        found.pages.as_slice(),
+                    );
+                    copies_at = place + (4 + found.pages.len() as u32);
+                    copies = more;
                     number += 1;
-                    at = past;
-                    end = last;
+                    at = past.at;
+                    end = past.end;
                 }
                 Ok(None) => {
                     return Ok(Log {
@@ -102,6 +134,9 @@ impl Log {
                         number,
                         at,
                         end,
+                        slots,
+                        copies_at,
+                        copies,
                         buffer,
                     });
                 }
@@ -111,7 +146,7 @@ impl Log {
     }
 
     /// Finds the end of the log that the newer copy of the anchor begins. A number of 2^32 - 1 is never looked for, since
-    /// no record bears it. Needs room for one record.
+    /// no record bears it. Needs room for two records, and for a table of the pages.
     pub fn scan<M: Machine>(alloc: Global, m: &mut M, layout: &Layout) -> Result<Log, LogFault>
         requires sectors { layout.now.sectors ≤ (M.report m.old).sectors }
         ensures fault { IfErr result (LogCause (M.report m.old) (M.report m.new)) }
@@ -119,12 +154,15 @@ impl Log {
         ensures worn_out { result ≡ Err LogFault.WornOut → M.honest m.new → SeesLastEpoch (M.now m.old) }
         ensures uses { UsesDisk (M.report m.old) (M.report m.new) }
         ensures trust { Trusts (M.tells m.old) (M.tells m.new) (M.honest m.old) (M.honest m.new) }
+        ensures ledger { M.tells m.new → M.ledger m.new ≡ M.ledger m.old }
         ensures worn { M.honest m.new → Wears (M.now m.old) (M.now m.new) }
         ensures any_moment { M.honest m.new → LeavesOnly M.moment M.left_since m.old m.new (Wears (M.now m.old)) }
         ensures layout { IfOk result (λ log. log.layout ≡ layout.now) }
         ensures anchor { IfOk result (λ log. M.honest m.new → SeesAnchor (M.now m.old) (Some log.anchor)) }
         ensures epoch { IfOk result (λ log. log.anchor.epoch < 2 ^ 32 - 1) }
         ensures found { IfOk result (λ log. M.honest m.new → IsCalm (M.now m.old) → (scan_of log (M.now m.old)).head ≡ log.head) }
+        ensures indexed { IfOk result (λ log. M.honest m.new → IsCalm (M.now m.old) → IsIndexed log (scan_of log (M.now m.old)).records) }
+        ensures last { IfOk result (λ log. M.honest m.new → IsCalm (M.now m.old) → KnowsLast log (scan_of log (M.now m.old)).records) }
     {
         let _sectors = layout.sectors();
         let anchor = match find_anchor(m) {
@@ -185,6 +223,108 @@ impl Log {
         }
     }
 
+    /// Whether two records of 96 pages, one behind the other, both go before the anchor's first third comes again.
+    pub fn two_fit(&self) -> bool
+        ensures { IsTrue result ↔ FitsTwo self.now }
+    {
+        if !has_room(&self.layout, self.at, self.end) {
+            return false;
+        }
+        let (at, end) = self.spot(96);
+        has_room(&self.layout, at + 197, end)
+    }
+
+    /// The least page from `first` on whose last image lies in this third of the disk.
+    pub fn pages_of_third(&self, t: u32, first: u32) -> Option<u32>
+        requires { t < 3 }
+        ensures least { (records : List Placed) → IsIndexed self.now records → IfSome result (IsLeastOfThird self.now records t first) }
+        ensures none { (records : List Placed) → IsIndexed self.now records → IfNone result (NoneOfThird self.now records t first) }
+    {
+        let third = self.layout.third();
+        let _pages = self.layout.pages();
+        let start = self.layout.third_start(t);
+        least_in(self.slots.as_slice(), first, start, third)
+    }
+
+    /// Reads a page's last image, and answers false where the log has none. Where sectors have worn, or the disk no longer
+    /// is what the log was found on, it may be lost: neither of the two sectors, which the fault names, could be read with
+    /// the page and the stamp of its record, since each was damaged or bears something else. Where nothing wears and a scan
+    /// still gives the log's records, none is lost.
+    pub fn image_of<M: Machine>(
+        &self,
+        m: &mut M,
+        page: u32,
+        buf: &mut [u8; 512],
+    ) -> Result<bool, LoadFault>
+        requires page { page < self.now.layout.pages }
+        requires sectors { self.now.layout.sectors ≤ (M.report m.old).sectors }
+        ensures fault { IfErr result (ImageCause (slice_index_or self.now.slots page None) (M.report m.old) (M.report m.new)) }
+        ensures lost { IfErr result (λ fault. M.honest m.new → LostCause self.now page (M.now m.old) fault) }
+        ensures uses { UsesDisk (M.report m.old) (M.report m.new) }
+        ensures trust { Trusts (M.tells m.old) (M.tells m.new) (M.honest m.old) (M.honest m.new) }
+        ensures ledger { M.tells m.new → M.ledger m.new ≡ M.ledger m.old }
+        ensures worn { M.honest m.new → Wears (M.now m.old) (M.now m.new) }
+        ensures any_moment { M.honest m.new → LeavesOnly M.moment M.left_since m.old m.new (Wears (M.now m.old)) }
+        ensures image { IfOk result (λ there. (records : List Placed) → M.honest m.new → IsCalm (M.now m.old) → IsIndexed self.now records → (scan_of self.now (M.now m.old)).records ≡ records
+            → last_image page records ≡ (if there then Some buf.new else None)) }
+        ensures never_lost { IfErr result (λ fault. (records : List Placed) → M.honest m.new → IsCalm (M.now m.old) → IsIndexed self.now records → (scan_of self.now (M.now m.old)).records ≡ records → IsDevice fault) }
+        ensures nowhere { result ≡ Ok false → (records : List Placed) → IsIndexed self.now records → last_image page records ≡ None }
+        ensures kept { result ≡ Ok false → buf.new ≡ buf.old }
+    {
+        match self.slots[page as usize] {
+            Some(slot) => match read_slot(m, slot, page, self.anchor.epoch) {
+                Ok(Some(image)) => {
+                    *buf = image;
+                    Ok(true)
+                }
+                Ok(None) => Err(LoadFault::Lost {
+                    a: slot.place,
+                    b: slot.copy,
+                }),
+                Err(failed) => Err(LoadFault::Device(failed.place)),
+            },
+            None => Ok(false),
+        }
+    }
+
+    /// The last record that the scan found, if it found one.
+    pub fn last(&self) -> Option<LastRecord>
+        ensures none { IfNone result (self.now.copies.bytes ≡ []) }
+        ensures some { IfSome result (IsLast self.now.copies) }
+    {
+        let _sectors = self.layout.sectors();
+        let count = self.copies.len() / 512;
+        if count == 0 {
+            return None;
+        }
+        Some(LastRecord {
+            copies_at: self.copies_at,
+            pages: (count - 1) as u32,
+        })
+    }
+
+    /// Writes the last record that the scan found again, from its page copies to its end copy, by one write; nothing where
+    /// it found none. Where it fails, some first ones of these sectors may stand.
+    pub fn complete_last<M: Machine>(&self, m: &mut M) -> Result<(), Failed>
+        requires sectors { self.now.layout.sectors ≤ (M.report m.old).sectors }
+        ensures fault { IfErr result (λ failed. DeviceFault (M.report m.old) (M.report m.new) failed.place) }
+        ensures uses { UsesDisk (M.report m.old) (M.report m.new) }
+        ensures trust { Trusts (M.tells m.old) (M.tells m.new) (M.honest m.old) (M.honest m.new) }
+        ensures ledger { M.tells m.new → OnlyWrites (M.ledger m.old) (M.ledger m.new) }
+        ensures counted { OnOk result (M.tells m.new → M.ledger m.new ≡ wrote (M.ledger m.old) (copies_count self.now.copies)) }
+        ensures counted_err { OnErr result (M.tells m.new → M.ledger m.new ≡ M.ledger m.old) }
+        ensures quiet { M.honest m.new → (M.now m.new).said ≡ (M.now m.old).said }
+        ensures windows { M.honest m.new → (M.now m.new).windows ≡ (M.now m.old).windows }
+        ensures any_moment { M.honest m.new → LeavesOnly M.moment M.left_since m.old m.new (StandsInPart self.now.copies.place self.now.copies.bytes (copies_count self.now.copies) (M.now m.old)) }
+        ensures done { OnOk result (M.honest m.new → Holds (M.now m.old) (stand (M.now m.old).image self.now.copies.place self.now.copies.bytes (copies_count self.now.copies)) (M.now m.new)) }
+    {
+        if self.copies.is_empty() {
+            return Ok(());
+        }
+        m.write(self.copies_at, self.copies.as_slice())?;
+        Ok(())
+    }
+
     // Where a place on the tape lies on the disk.
     fn place(&self, at: u32) -> u32
         requires { at ≤ 3 * self.now.layout.third }
@@ -211,6 +351,11 @@ impl Log {
         ensures fault { IfErr result (λ failed. DeviceFault (M.report m.old) (M.report m.new) failed.place) }
         ensures uses { UsesDisk (M.report m.old) (M.report m.new) }
         ensures trust { Trusts (M.tells m.old) (M.tells m.new) (M.honest m.old) (M.honest m.new) }
+        ensures ledger { M.tells m.new → OnlyWrites (M.ledger m.old) (M.ledger m.new) }
+        ensures counted { OnOk result (M.tells m.new → M.ledger m.new ≡ wrote (M.ledger m.old) (2 * length pages.now + 5)) }
+        ensures counted_err { OnErr result (M.tells m.new → M.ledger m.new ≡ M.ledger m.old) }
+        ensures quiet { M.honest m.new → (M.now m.new).said ≡ (M.now m.old).said }
+        ensures windows { M.honest m.new → (M.now m.new).windows ≡ (M.now m.old).windows }
         ensures any_moment { (records : List Placed) → M.honest m.new → IsCalm (M.now m.old) → IsLogIn self.old records (M.now m.old)
             → LeavesOnly M.moment M.left_since m.old m.new (Appends self.old records pages.now images.now (M.now m.old)) }
         ensures done { OnOk result ((records : List Placed) → M.honest m.new → IsCalm (M.now m.old) → IsLogIn self.old records (M.now m.old)
@@ -222,7 +367,9 @@ impl Log {
         ensures stands { OnOk result (M.honest m.new → Holds (M.now m.old)
             (stand (M.now m.old).image (place_of self.old.layout self.old.anchor.third (spot_for self.old.layout (length pages.now) self.old.head).at)
             (laid_bytes (stamp_now self.old) pages.now images.now) (2 * length pages.now + 5)) (M.now m.new)) }
-        ensures past { OnOk result (self.new ≡ log_past self.old (length pages.now)) }
+        ensures shape { FitsLayout self.old }
+        ensures past { OnOk result (self.new ≡ log_with self.old pages.now) }
+        ensures indexed { OnOk result ((records : List Placed) → IsIndexed self.old records → IsIndexed self.new (records ++ next_record self.old pages.now images.now ∷ [])) }
         ensures kept { OnErr result (self.new ≡ self.old) }
     {
         let (at, end) = self.spot(pages.len() as u32);
@@ -236,6 +383,7 @@ impl Log {
             images,
             self.buffer.as_mut_slice(),
         )?;
+        note(self.slots.as_mut_slice(), self.number, place + 3, pages);
         self.number += 1;
         self.at = at + (2 * pages.len() as u32 + 5);
         self.end = end;
@@ -250,6 +398,10 @@ impl Log {
         ensures fault { IfErr result (λ failed. DeviceFault (M.report m.old) (M.report m.new) failed.place) }
         ensures uses { UsesDisk (M.report m.old) (M.report m.new) }
         ensures trust { Trusts (M.tells m.old) (M.tells m.new) (M.honest m.old) (M.honest m.new) }
+        ensures ledger { M.tells m.new → OnlyWrites (M.ledger m.old) (M.ledger m.new) }
+        ensures counted { OnOk result (M.tells m.new → M.ledger m.new ≡ wrote (M.ledger m.old) 2) }
+        ensures quiet { M.honest m.new → (M.now m.new).said ≡ (M.now m.old).said }
+        ensures windows { M.honest m.new → (M.now m.new).windows ≡ (M.now m.old).windows }
         ensures any_moment { M.honest m.new → LeavesOnly M.moment M.left_since m.old m.new (AnchorsIn (next_epoch self.old) (M.now m.old)) }
         ensures done { OnOk result (M.honest m.new → Holds (M.now m.old) (with_anchors (next_epoch self.old) (M.now m.old).image 1 1) (M.now m.new)) }
         ensures past { OnOk result (self.new ≡ in_next_epoch self.old) }
@@ -263,6 +415,8 @@ impl Log {
             first: 1,
         };
         write_anchor(m, &anchor)?;
+        clear(self.slots.as_mut_slice());
+        self.copies.clear();
         self.anchor = anchor;
         self.number = 1;
         self.at = 0;

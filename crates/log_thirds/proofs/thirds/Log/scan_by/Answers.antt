@@ -1,104 +1,229 @@
-use Rattle.std.proofs.Common.{◌≡◌, ◌<◌, arith, subst, ap, ◌∙◌, sym, refl, Option, inl}
-use Rattle.std.specs.Prelude.{option_map, IfSome}
+use Rattle.std.proofs.Common.{[], ℕ, ◌≡◌, ◌<◌, ◌≤◌, ◌+◌, ◌*◌, List, length, arith, subst, ap, ◌∙◌, sym, refl, Option, None, inl}
+use Rattle.std.specs.Prelude.{option_map, IfSome, replicate}
+use Rattle.std.proofs.lemmas.List.{length-replicate, with_items_is}
+use Rattle.std.specs.Vec.{with_items}
 use Rattle.sector_disk.proofs.Moments.{started}
 use Rattle.sector_disk.proofs.Holding.{trusts_on}
 use Rattle.fsd_log.specs.Judged.{Reader}
-use Rattle.log_thirds.specs.declared.find.Spot.{Spot}
+use Rattle.log_thirds.specs.declared.find.Step.{Step}
+use Rattle.log_thirds.specs.declared.slots.Slot.{Slot}
 use Rattle.fsd_log.specs.Scan.{Head, tape, next, last_number}
 use Rattle.log_thirds.specs.Disk.{reads}
-use Rattle.log_thirds.specs.Reading.{GoesTo}
-use Rattle.log_thirds.proofs.WalkLaws.{ends_inside}
+use Rattle.log_thirds.specs.Slots.{noted, slots_with, SlotsInside}
+use Rattle.log_thirds.specs.Reading.{StepsOn, stepped_in, stepped_of}
+use Rattle.fsd_log.proofs.WalkLaws.{ends_inside}
 use Rattle.log_thirds.proofs.ReadingLaws.{wears_here, wears_on, uses_on, reads_on, fault_on}
-use Rattle.log_thirds.proofs.FindLaws.{reads_same, calm_on}
-use Rattle.log_thirds.proofs.ScanLaws.{spot_of, Reaches, reaches_start, reaches_on, reaches_end}
+use Rattle.log_thirds.proofs.FindLaws.{reads_same, calm_on, place_most}
+use Rattle.log_thirds.proofs.SlotLaws.{length-noted, none_inside, record_inside}
+use Rattle.log_thirds.specs.Copies.{FitsDisk, AreCopies}
+use Rattle.fsd_log.proofs.PlaceLaws.{place_inside}
+use Rattle.log_thirds.proofs.ScanLaws.{Reaches, reaches_start, reaches_on, reaches_end}
 use Rattle.log_thirds.proofs.thirds.Log.scan_by.Goals as goal
 
-pub loop-past-init : goal.loop-past-init
-loop-past-init g c =
+pub loop-from-init : goal.loop-from-init
+loop-from-init g c =
     let M = g.M.Machine in
     let value = c.third-third.ensures.value in
     let same : ◌≡◌ {A = Head} (record { number = c.args.anchor.now.first; at = 0; end = c.args.layout.now.third }) (record { number = c.args.anchor.now.first; at = 0; end = c.third-third.result }) = λ i. record { number = c.args.anchor.now.first; at = 0; end = sym value i } in
+    let table : c.in-Ok-no_slots.slots.items ≡ replicate {A = Option Slot} c.pages.result None = c.in-Ok-no_slots.ensures in
     record {
       is_in = record { before = omega arith; from = omega (arith, value); ends = inl value };
       uses = record { sectors = refl; disk = omega arith; input = refl; output = refl };
       trust = record { tells = λ t. t; honest = λ h. h };
+      ledger = λ t. refl;
       worn = λ h. wears_here (M.now c.args.m.now);
       moments = λ h. started M.moment M.left_since c.args.m.now (M.now c.args.m.now) _ (λ l left. g.met.M.Machine.only_now c.args.m.now l h left) (wears_here (M.now c.args.m.now));
-      reaches = λ h calm. subst (Reaches c.args.layout.now c.args.anchor.now.epoch c.args.anchor.now.first (tape c.args.layout.now c.args.anchor.now.third (reads (M.now c.args.m.now).image))) same
-          (reaches_start c.args.layout.now c.args.anchor.now.epoch c.args.anchor.now.first (tape c.args.layout.now c.args.anchor.now.third (reads (M.now c.args.m.now).image)));
+      table = ap length table ∙ length-replicate c.pages.result _ ∙ c.pages.ensures.value;
+      on_disk = subst (SlotsInside c.args.layout.now.sectors) (sym table) (none_inside c.args.layout.now.sectors c.pages.result);
+      fits = subst (λ (b : List ℕ). FitsDisk c.args.layout.now.sectors (record { place = 0; bytes = b })) (sym c.new-copies.ensures.items) (record { whole = refl; inside = omega arith });
+      reaches = λ h calm. subst (λ (b : List ℕ). Reaches c.args.layout.now c.args.anchor.now.epoch c.args.anchor.now.first c.args.anchor.now.third (tape c.args.layout.now c.args.anchor.now.third (reads (M.now c.args.m.now).image)) (record { number = c.args.anchor.now.first; at = 0; end = c.third-third.result }) c.in-Ok-no_slots.slots.items (record { place = 0; bytes = b })) (sym c.new-copies.ensures.items) (subst (λ (s : List (Option Slot)). Reaches c.args.layout.now c.args.anchor.now.epoch c.args.anchor.now.first c.args.anchor.now.third (tape c.args.layout.now c.args.anchor.now.third (reads (M.now c.args.m.now).image)) (record { number = c.args.anchor.now.first; at = 0; end = c.third-third.result }) s (record { place = 0; bytes = [] })) (sym table)
+          (subst (λ (x : Head). Reaches c.args.layout.now c.args.anchor.now.epoch c.args.anchor.now.first c.args.anchor.now.third (tape c.args.layout.now c.args.anchor.now.third (reads (M.now c.args.m.now).image)) x (replicate c.pages.result None) (record { place = 0; bytes = [] })) same
+          (reaches_start c.args.layout.now c.args.anchor.now.epoch c.args.anchor.now.first c.args.anchor.now.third (tape c.args.layout.now c.args.anchor.now.third (reads (M.now c.args.m.now).image)) c.pages.result 0)));
     }
+
+pub place_of-place-requires-clause-at : goal.place_of-place-requires-clause-at
+place_of-place-requires-clause-at g c =
+    let gone = subst (λ (o : Option Step). IfSome o (StepsOn c.args.layout.now c.loop-from.at)) c.in-Ok-Some.field-0-is c.in-Ok-Some.ensures.goes in
+    omega (arith, gone.lies, gone.goes.before, ends_inside c.args.layout.now c.in-Ok-Some.field-0-0.past.end gone.goes.ends)
+
+pub overflow_add-place : goal.overflow_add-place
+overflow_add-place g c =
+    let gone = subst (λ (o : Option Step). IfSome o (StepsOn c.args.layout.now c.loop-from.at)) c.in-Ok-Some.field-0-is c.in-Ok-Some.ensures.goes in
+    let inside : c.in-Ok-Some.field-0-0.from ≤ 3 * c.args.layout.now.third = omega (arith, gone.lies, gone.goes.before, ends_inside c.args.layout.now c.in-Ok-Some.field-0-0.past.end gone.goes.ends) in
+    omega (arith, place_most c.args.layout.now c.args.anchor.now.third c.in-Ok-Some.field-0-0.from c.requires.third inside, c.place_of-place.ensures, c.third-third.ensures.most, c.third-third.ensures.value)
+
+pub note-requires : goal.note-requires
+note-requires g c =
+    let gone = subst (λ (o : Option Step). IfSome o (StepsOn c.args.layout.now c.loop-from.at)) c.in-Ok-Some.field-0-is c.in-Ok-Some.ensures.goes in
+    let inside : c.in-Ok-Some.field-0-0.from ≤ 3 * c.args.layout.now.third = omega (arith, gone.lies, gone.goes.before, ends_inside c.args.layout.now c.in-Ok-Some.field-0-0.past.end gone.goes.ends) in
+    omega (
+      arith,
+      place_most c.args.layout.now c.args.anchor.now.third c.in-Ok-Some.field-0-0.from c.requires.third inside,
+      c.place_of-place.ensures,
+      gone.lies,
+      gone.goes.before,
+      ends_inside c.args.layout.now c.in-Ok-Some.field-0-0.past.end gone.goes.ends,
+      ap length c.as_slice.ensures.value,
+      c.third-third.ensures.most,
+      c.third-third.ensures.value,
+    )
+
+pub overflow_add-copies_at : goal.overflow_add-copies_at
+overflow_add-copies_at g c =
+    let gone = subst (λ (o : Option Step). IfSome o (StepsOn c.args.layout.now c.loop-from.at)) c.in-Ok-Some.field-0-is c.in-Ok-Some.ensures.goes in
+    let inside : c.in-Ok-Some.field-0-0.from ≤ 3 * c.args.layout.now.third = omega (arith, gone.lies, gone.goes.before, ends_inside c.args.layout.now c.in-Ok-Some.field-0-0.past.end gone.goes.ends) in
+    omega (
+      arith,
+      place_most c.args.layout.now c.args.anchor.now.third c.in-Ok-Some.field-0-0.from c.requires.third inside,
+      c.place_of-place.ensures,
+      gone.lies,
+      gone.goes.before,
+      ends_inside c.args.layout.now c.in-Ok-Some.field-0-0.past.end gone.goes.ends,
+      c.len.ensures.value,
+      c.third-third.ensures.most,
+      c.third-third.ensures.value,
+    )
+
+pub overflow_add-copies_at-in-Ok-Some : goal.overflow_add-copies_at-in-Ok-Some
+overflow_add-copies_at-in-Ok-Some g c =
+    let gone = subst (λ (o : Option Step). IfSome o (StepsOn c.args.layout.now c.loop-from.at)) c.in-Ok-Some.field-0-is c.in-Ok-Some.ensures.goes in
+    let inside : c.in-Ok-Some.field-0-0.from ≤ 3 * c.args.layout.now.third = omega (arith, gone.lies, gone.goes.before, ends_inside c.args.layout.now c.in-Ok-Some.field-0-0.past.end gone.goes.ends) in
+    omega (
+      arith,
+      place_most c.args.layout.now c.args.anchor.now.third c.in-Ok-Some.field-0-0.from c.requires.third inside,
+      c.place_of-place.ensures,
+      gone.lies,
+      gone.goes.before,
+      ends_inside c.args.layout.now c.in-Ok-Some.field-0-0.past.end gone.goes.ends,
+      c.len.ensures.value,
+      c.third-third.ensures.most,
+      c.third-third.ensures.value,
+    )
 
 pub overflow_add-number : goal.overflow_add-number
 overflow_add-number g c =
-    let numbered = subst (λ (o : Option Spot). IfSome o (λ _. c.loop-past.number < last_number)) c.in-Ok-Some.field-0-is c.in-Ok-Some.ensures.numbered in
+    let numbered = subst (λ (o : Option Step). IfSome o (λ _. c.loop-from.number < last_number)) c.in-Ok-Some.field-0-is c.in-Ok-Some.ensures.numbered in
     omega (arith, numbered)
 
-pub loop-past-smaller : goal.loop-past-smaller
-loop-past-smaller g c =
-    let gone = subst (λ (o : Option Spot). IfSome o (GoesTo c.args.layout.now c.loop-past.at)) c.in-Ok-Some.field-0-is c.in-Ok-Some.ensures.goes in
-    omega (arith, gone.on, gone.before, ends_inside c.args.layout.now _ gone.ends)
+pub loop-from-smaller : goal.loop-from-smaller
+loop-from-smaller g c =
+    let gone = subst (λ (o : Option Step). IfSome o (StepsOn c.args.layout.now c.loop-from.at)) c.in-Ok-Some.field-0-is c.in-Ok-Some.ensures.goes in
+    omega (arith, gone.goes.on, gone.goes.before, ends_inside c.args.layout.now c.in-Ok-Some.field-0-0.past.end gone.goes.ends)
 
-pub loop-past-preserved : goal.loop-past-preserved
-loop-past-preserved g c =
+pub loop-from-preserved : goal.loop-from-preserved
+loop-from-preserved g c =
     let M = g.M.Machine in
-    let so_far = c.loop-past.invariant in
+    let so_far = c.loop-from.invariant in
     let back = c.next.ensures.trust.honest in
-    let gone = subst (λ (o : Option Spot). IfSome o (GoesTo c.args.layout.now c.loop-past.at)) c.in-Ok-Some.field-0-is c.in-Ok-Some.ensures.goes in
+    let gone = subst (λ (o : Option Step). IfSome o (StepsOn c.args.layout.now c.loop-from.at)) c.in-Ok-Some.field-0-is c.in-Ok-Some.ensures.goes in
+    let copied = subst (λ (o : Option Step). IfSome o (λ s. AreCopies (record { epoch = c.args.anchor.now.epoch; number = c.loop-from.number }) (length s.taken.found.pages.items) s.taken.copies.items)) c.in-Ok-Some.field-0-is c.in-Ok-Some.ensures.copied in
+    let long : length c.note.new.slots ≡ length c.as_mut_slice.result.now =
+    ap length c.note.ensures ∙ length-noted c.loop-from.number c.as_mut_slice.result.now (c.place_of-place.result + 3) (c.place_of-place.result + 3 + length c.as_slice.result.now + 1) c.as_slice.result.now in
+    let kept : (with_items c.loop-from.slots c.note.new.slots).items ≡ c.note.new.slots = with_items_is c.loop-from.slots c.note.new.slots (long ∙ c.as_mut_slice.ensures.len) in
+    let table : c.note.new.slots ≡ slots_with c.args.layout.now c.args.anchor.now.third c.loop-from.number c.in-Ok-Some.field-0-0.from c.in-Ok-Some.field-0-0.taken.found.pages.items c.loop-from.slots.items =
+    c.note.ensures ∙ λ i. noted c.loop-from.number (c.place_of-place.ensures i + 3) (c.place_of-place.ensures i + 3 + length (c.as_slice.ensures.value i) + 1) (c.as_slice.ensures.value i) (c.as_mut_slice.ensures.value i) in
     record {
-      is_in = record { before = gone.before; from = gone.after; ends = gone.ends };
-      uses = uses_on (M.report c.args.m.now) (M.report c.loop-past.m) (M.report c.next.new.m) so_far.uses c.next.ensures.uses;
+      is_in = record { before = gone.goes.before; from = gone.goes.after; ends = gone.goes.ends };
+      uses = uses_on (M.report c.args.m.now) (M.report c.loop-from.m) (M.report c.next.new.m) so_far.uses c.next.ensures.uses;
       trust = trusts_on so_far.trust c.next.ensures.trust;
-      worn = λ h. wears_on (M.now c.args.m.now) (M.now c.loop-past.m) (M.now c.next.new.m) (so_far.worn (back h)) (c.next.ensures.worn h);
-      moments = λ h. reads_on M.moment M.left_since c.args.m.now c.loop-past.m c.next.new.m (M.now c.args.m.now) (M.now c.loop-past.m) (so_far.worn (back h)) (so_far.moments (back h)) (c.next.ensures.any_moment h);
+      ledger = λ t. c.next.ensures.ledger t ∙ so_far.ledger (c.next.ensures.trust.tells t);
+      worn = λ h. wears_on (M.now c.args.m.now) (M.now c.loop-from.m) (M.now c.next.new.m) (so_far.worn (back h)) (c.next.ensures.worn h);
+      moments = λ h. reads_on M.moment M.left_since c.args.m.now c.loop-from.m c.next.new.m (M.now c.args.m.now) (M.now c.loop-from.m) (so_far.worn (back h)) (so_far.moments (back h)) (c.next.ensures.any_moment h);
+      table = ap length kept ∙ long ∙ ap length c.as_mut_slice.ensures.value ∙ so_far.table;
+      on_disk = subst (SlotsInside c.args.layout.now.sectors) (sym (kept ∙ c.note.ensures))
+          (record_inside c.args.layout.now c.args.anchor.now.third c.loop-from.number c.in-Ok-Some.field-0-0.from c.in-Ok-Some.field-0-0.past.end c.place_of-place.result c.as_slice.result.now c.as_mut_slice.result.now
+          (record { one_of = c.requires.third; ends = gone.goes.ends; from = gone.in_third; to = omega (arith, gone.lies, gone.goes.before, ap length c.as_slice.ensures.value) })
+          (omega (arith, c.sectors-sectors.ensures.log, c.sectors-sectors.ensures.value)) c.place_of-place.ensures (subst (SlotsInside c.args.layout.now.sectors) (sym c.as_mut_slice.ensures.value) so_far.on_disk));
+      fits = record {
+        whole = omega (arith, copied.long);
+        inside = omega (
+          arith,
+          copied.long,
+          place_inside c.args.layout.now c.args.anchor.now.third c.in-Ok-Some.field-0-0.from (2 * length c.in-Ok-Some.field-0-0.taken.found.pages.items + 5) c.in-Ok-Some.field-0-0.past.end
+              (record { one_of = c.requires.third; ends = gone.goes.ends; from = gone.in_third; to = omega (arith, gone.lies, gone.goes.before) }) (omega arith),
+          c.place_of-place.ensures,
+          c.len.ensures.value,
+          c.sectors-sectors.ensures.log,
+          c.sectors-sectors.ensures.value,
+        );
+      };
       reaches = λ h calm.
           let wears = so_far.worn (back h) in
-          let head : Head = record { number = c.loop-past.number; at = c.loop-past.at; end = c.loop-past.end } in
-          reaches_on c.args.layout.now c.args.anchor.now.epoch c.args.anchor.now.first (tape c.args.layout.now c.args.anchor.now.third (reads (M.now c.args.m.now).image)) (record { number = c.loop-past.number; at = c.loop-past.at; end = c.loop-past.end }) c.in-Ok-Some.field-0-0
-          (so_far.reaches (back h) calm)
-          (sym c.in-Ok-Some.field-0-is ∙ c.in-Ok-Some.ensures.found h (calm_on (M.now c.args.m.now) (M.now c.loop-past.m) calm wears)
-          ∙ ap (λ (d : Reader). option_map spot_of (next c.args.layout.now c.args.anchor.now.epoch (tape c.args.layout.now c.args.anchor.now.third d) (record { number = c.loop-past.number; at = c.loop-past.at; end = c.loop-past.end }))) (reads_same (M.now c.args.m.now) (M.now c.loop-past.m) calm wears));
+          subst (λ (s : List (Option Slot)). Reaches c.args.layout.now c.args.anchor.now.epoch c.args.anchor.now.first c.args.anchor.now.third (tape c.args.layout.now c.args.anchor.now.third (reads (M.now c.args.m.now).image)) (record { number = c.loop-from.number + 1; at = c.in-Ok-Some.field-0-0.past.at; end = c.in-Ok-Some.field-0-0.past.end }) s (record { place = c.place_of-place.result + (4 + c.len.result); bytes = c.in-Ok-Some.field-0-0.taken.copies.items })) (sym (kept ∙ table))
+          (reaches_on c.args.layout.now c.args.anchor.now.epoch c.args.anchor.now.first c.args.anchor.now.third (tape c.args.layout.now c.args.anchor.now.third (reads (M.now c.args.m.now).image)) (record { number = c.loop-from.number; at = c.loop-from.at; end = c.loop-from.end }) c.loop-from.slots.items (stepped_in c.loop-from.number c.in-Ok-Some.field-0-0) (record { place = c.loop-from.copies_at; bytes = c.loop-from.copies.items }) (record { place = c.place_of-place.result + (4 + c.len.result); bytes = c.in-Ok-Some.field-0-0.taken.copies.items })
+          (so_far.reaches (back h) calm) (record { place = λ i. c.place_of-place.ensures i + (4 + c.len.ensures.value i); copies = copied; images = refl })
+          (ap (option_map (stepped_in c.loop-from.number)) (sym c.in-Ok-Some.field-0-is) ∙ c.in-Ok-Some.ensures.found h (calm_on (M.now c.args.m.now) (M.now c.loop-from.m) calm wears)
+          ∙ ap (λ (d : Reader). option_map stepped_of (next c.args.layout.now c.args.anchor.now.epoch (tape c.args.layout.now c.args.anchor.now.third d) (record { number = c.loop-from.number; at = c.loop-from.at; end = c.loop-from.end }))) (reads_same (M.now c.args.m.now) (M.now c.loop-from.m) calm wears)));
     }
 
+pub returns-in-Ok-None-clause-found : goal.returns-in-Ok-None-clause-found
+returns-in-Ok-None-clause-found g c h calm =
+    let M = g.M.Machine in
+    let so_far = c.loop-from.invariant in
+    let h1 = c.next.ensures.trust.honest h in
+    let wears = so_far.worn h1 in
+    (reaches_end c.args.layout.now c.args.anchor.now.epoch c.args.anchor.now.first c.args.anchor.now.third (tape c.args.layout.now c.args.anchor.now.third (reads (M.now c.args.m.now).image)) (record { number = c.loop-from.number; at = c.loop-from.at; end = c.loop-from.end }) c.loop-from.slots.items (record { place = c.loop-from.copies_at; bytes = c.loop-from.copies.items })
+    (so_far.reaches h1 calm)
+    (ap (option_map (stepped_in c.loop-from.number)) (sym c.in-Ok-None.field-0-is) ∙ c.in-Ok-None.ensures.found h (calm_on (M.now c.args.m.now) (M.now c.loop-from.m) calm wears)
+    ∙ ap (λ (d : Reader). option_map stepped_of (next c.args.layout.now c.args.anchor.now.epoch (tape c.args.layout.now c.args.anchor.now.third d) (record { number = c.loop-from.number; at = c.loop-from.at; end = c.loop-from.end }))) (reads_same (M.now c.args.m.now) (M.now c.loop-from.m) calm wears))).head
+
+pub returns-in-Ok-None-clause-indexed : goal.returns-in-Ok-None-clause-indexed
+returns-in-Ok-None-clause-indexed g c h calm =
+    let M = g.M.Machine in
+    let so_far = c.loop-from.invariant in
+    let h1 = c.next.ensures.trust.honest h in
+    let wears = so_far.worn h1 in
+    (reaches_end c.args.layout.now c.args.anchor.now.epoch c.args.anchor.now.first c.args.anchor.now.third (tape c.args.layout.now c.args.anchor.now.third (reads (M.now c.args.m.now).image)) (record { number = c.loop-from.number; at = c.loop-from.at; end = c.loop-from.end }) c.loop-from.slots.items (record { place = c.loop-from.copies_at; bytes = c.loop-from.copies.items })
+    (so_far.reaches h1 calm)
+    (ap (option_map (stepped_in c.loop-from.number)) (sym c.in-Ok-None.field-0-is) ∙ c.in-Ok-None.ensures.found h (calm_on (M.now c.args.m.now) (M.now c.loop-from.m) calm wears)
+    ∙ ap (λ (d : Reader). option_map stepped_of (next c.args.layout.now c.args.anchor.now.epoch (tape c.args.layout.now c.args.anchor.now.third d) (record { number = c.loop-from.number; at = c.loop-from.at; end = c.loop-from.end }))) (reads_same (M.now c.args.m.now) (M.now c.loop-from.m) calm wears))).are
+
+pub returns-in-Ok-None-clause-last : goal.returns-in-Ok-None-clause-last
+returns-in-Ok-None-clause-last g c h calm =
+    let M = g.M.Machine in
+    let so_far = c.loop-from.invariant in
+    let h1 = c.next.ensures.trust.honest h in
+    let wears = so_far.worn h1 in
+    (reaches_end c.args.layout.now c.args.anchor.now.epoch c.args.anchor.now.first c.args.anchor.now.third (tape c.args.layout.now c.args.anchor.now.third (reads (M.now c.args.m.now).image)) (record { number = c.loop-from.number; at = c.loop-from.at; end = c.loop-from.end }) c.loop-from.slots.items (record { place = c.loop-from.copies_at; bytes = c.loop-from.copies.items })
+    (so_far.reaches h1 calm)
+    (ap (option_map (stepped_in c.loop-from.number)) (sym c.in-Ok-None.field-0-is) ∙ c.in-Ok-None.ensures.found h (calm_on (M.now c.args.m.now) (M.now c.loop-from.m) calm wears)
+    ∙ ap (λ (d : Reader). option_map stepped_of (next c.args.layout.now c.args.anchor.now.epoch (tape c.args.layout.now c.args.anchor.now.third d) (record { number = c.loop-from.number; at = c.loop-from.at; end = c.loop-from.end }))) (reads_same (M.now c.args.m.now) (M.now c.loop-from.m) calm wears))).last
+
 pub returns-in-Ok-None-clause-trust : goal.returns-in-Ok-None-clause-trust
-returns-in-Ok-None-clause-trust g c = trusts_on c.loop-past.invariant.trust c.next.ensures.trust
+returns-in-Ok-None-clause-trust g c = trusts_on c.loop-from.invariant.trust c.next.ensures.trust
 
 pub returns-in-Ok-None-clause-worn : goal.returns-in-Ok-None-clause-worn
 returns-in-Ok-None-clause-worn g c h =
     let M = g.M.Machine in
-    wears_on (M.now c.args.m.now) (M.now c.loop-past.m) (M.now c.next.new.m) (c.loop-past.invariant.worn (c.next.ensures.trust.honest h)) (c.next.ensures.worn h)
+    wears_on (M.now c.args.m.now) (M.now c.loop-from.m) (M.now c.next.new.m) (c.loop-from.invariant.worn (c.next.ensures.trust.honest h)) (c.next.ensures.worn h)
 
 pub returns-in-Ok-None-clause-any_moment : goal.returns-in-Ok-None-clause-any_moment
 returns-in-Ok-None-clause-any_moment g c h =
     let M = g.M.Machine in
     let h1 = c.next.ensures.trust.honest h in
-    reads_on M.moment M.left_since c.args.m.now c.loop-past.m c.next.new.m (M.now c.args.m.now) (M.now c.loop-past.m) (c.loop-past.invariant.worn h1) (c.loop-past.invariant.moments h1) (c.next.ensures.any_moment h)
-
-pub returns-in-Ok-None-clause-found : goal.returns-in-Ok-None-clause-found
-returns-in-Ok-None-clause-found g c h calm =
-    let M = g.M.Machine in
-    let so_far = c.loop-past.invariant in
-    let h1 = c.next.ensures.trust.honest h in
-    let wears = so_far.worn h1 in
-    reaches_end c.args.layout.now c.args.anchor.now.epoch c.args.anchor.now.first (tape c.args.layout.now c.args.anchor.now.third (reads (M.now c.args.m.now).image)) (record { number = c.loop-past.number; at = c.loop-past.at; end = c.loop-past.end })
-    (so_far.reaches h1 calm)
-    (sym c.in-Ok-None.field-0-is ∙ c.in-Ok-None.ensures.found h (calm_on (M.now c.args.m.now) (M.now c.loop-past.m) calm wears)
-    ∙ ap (λ (d : Reader). option_map spot_of (next c.args.layout.now c.args.anchor.now.epoch (tape c.args.layout.now c.args.anchor.now.third d) (record { number = c.loop-past.number; at = c.loop-past.at; end = c.loop-past.end }))) (reads_same (M.now c.args.m.now) (M.now c.loop-past.m) calm wears))
+    reads_on M.moment M.left_since c.args.m.now c.loop-from.m c.next.new.m (M.now c.args.m.now) (M.now c.loop-from.m) (c.loop-from.invariant.worn h1) (c.loop-from.invariant.moments h1) (c.next.ensures.any_moment h)
 
 pub returns-in-Err-next-clause-fault : goal.returns-in-Err-next-clause-fault
 returns-in-Err-next-clause-fault g c =
     let M = g.M.Machine in
-    fault_on (M.report c.args.m.now) (M.report c.loop-past.m) (M.report c.next.new.m) c.in-Err-next.fault c.loop-past.invariant.uses c.in-Err-next.ensures.fault
+    fault_on (M.report c.args.m.now) (M.report c.loop-from.m) (M.report c.next.new.m) c.in-Err-next.fault c.loop-from.invariant.uses c.in-Err-next.ensures.fault
 
 pub returns-in-Err-next-clause-trust : goal.returns-in-Err-next-clause-trust
-returns-in-Err-next-clause-trust g c = trusts_on c.loop-past.invariant.trust c.next.ensures.trust
+returns-in-Err-next-clause-trust g c = trusts_on c.loop-from.invariant.trust c.next.ensures.trust
 
 pub returns-in-Err-next-clause-worn : goal.returns-in-Err-next-clause-worn
 returns-in-Err-next-clause-worn g c h =
     let M = g.M.Machine in
-    wears_on (M.now c.args.m.now) (M.now c.loop-past.m) (M.now c.next.new.m) (c.loop-past.invariant.worn (c.next.ensures.trust.honest h)) (c.next.ensures.worn h)
+    wears_on (M.now c.args.m.now) (M.now c.loop-from.m) (M.now c.next.new.m) (c.loop-from.invariant.worn (c.next.ensures.trust.honest h)) (c.next.ensures.worn h)
 
 pub returns-in-Err-next-clause-any_moment : goal.returns-in-Err-next-clause-any_moment
 returns-in-Err-next-clause-any_moment g c h =
     let M = g.M.Machine in
     let h1 = c.next.ensures.trust.honest h in
-    reads_on M.moment M.left_since c.args.m.now c.loop-past.m c.next.new.m (M.now c.args.m.now) (M.now c.loop-past.m) (c.loop-past.invariant.worn h1) (c.loop-past.invariant.moments h1) (c.next.ensures.any_moment h)
+    reads_on M.moment M.left_since c.args.m.now c.loop-from.m c.next.new.m (M.now c.args.m.now) (M.now c.loop-from.m) (c.loop-from.invariant.worn h1) (c.loop-from.invariant.moments h1) (c.next.ensures.any_moment h)
+
+pub returns-in-Ok-None-clause-ledger : goal.returns-in-Ok-None-clause-ledger
+returns-in-Ok-None-clause-ledger g c t = c.next.ensures.ledger t ∙ c.loop-from.invariant.ledger (c.next.ensures.trust.tells t)
+
+pub returns-in-Err-next-clause-ledger : goal.returns-in-Err-next-clause-ledger
+returns-in-Err-next-clause-ledger g c t = c.next.ensures.ledger t ∙ c.loop-from.invariant.ledger (c.next.ensures.trust.tells t)

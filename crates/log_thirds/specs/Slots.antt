@@ -1,0 +1,52 @@
+-- Where each page's last image lies.
+use Rattle.std.specs.Prelude.{◌≡◌, ◌<◌, ◌≤◌, IsTrue, Bool, false, ◌&&◌, nat_le, nat_lt, ℕ, ◌+◌, List, [], ◌∷◌, length, slice_set, slice_index_or, Option, Some, None, IfSome, ◌==◌, if◌then◌else◌}
+use Rattle.std.specs.Option.{option_or}
+use Rattle.volume_layout.specs.Shape.{Shape}
+use Rattle.fsd_log.specs.Scan.{Placed, place_of}
+use Rattle.log_thirds.specs.declared.slots.Slot.{Slot}
+
+-- the page's slot among these pages, whose images begin at a place and their copies at another
+abbrev pub slot_in : (page number place copy : ℕ) → (pages : List ℕ) → Option Slot
+slot_in page number place copy [] = None
+slot_in page number place copy (p ∷ pages) = if p == page then Some (record { place = place; copy = copy; number = number }) else slot_in page number (place + 1) (copy + 1) pages
+
+abbrev pub slot_at : Shape → (third page : ℕ) → Placed → Option Slot
+slot_at l third page r = let place = place_of l third r.at + 3 in slot_in page r.entry.number place (place + length r.entry.pages + 1) r.entry.pages
+
+-- its slot in the last record that has it
+abbrev pub slot_of : Shape → (third page : ℕ) → List Placed → Option Slot
+slot_of l third page [] = None
+slot_of l third page (r ∷ records) = option_or (slot_of l third page records) (slot_at l third page r)
+
+-- the table with the slots of these pages
+abbrev pub noted : (number place copy : ℕ) → (pages : List ℕ) → List (Option Slot) → List (Option Slot)
+noted number place copy [] slots = slots
+noted number place copy (p ∷ pages) slots = slice_set (noted number (place + 1) (copy + 1) pages slots) p (Some (record { place = place; copy = copy; number = number }))
+
+-- with those of a record that begins there on the tape
+abbrev pub slots_with : Shape → (third number at : ℕ) → (pages : List ℕ) → List (Option Slot) → List (Option Slot)
+slots_with l third number at pages slots = let place = place_of l third at + 3 in noted number place (place + length pages + 1) pages slots
+
+-- the table has of each page the slot in the last record that has it
+abbrev pub AreSlots : Shape → (third : ℕ) → List Placed → List (Option Slot) → Type 0
+AreSlots l third records slots = (page : ℕ) → page < length slots → slice_index_or slots page None ≡ slot_of l third page records
+
+-- the slots lie on a disk of so many sectors
+abbrev pub SlotsInside : (sectors : ℕ) → List (Option Slot) → Type 0
+SlotsInside sectors slots = (page : ℕ) → IfSome (slice_index_or slots page None) (λ slot. (slot.place < sectors) × (slot.copy < sectors))
+
+-- a slot's image lies in so many sectors from a start on
+abbrev pub lies_in : (start count : ℕ) → Option Slot → Bool
+lies_in start count None = false
+lies_in start count (Some slot) = nat_le start slot.place && nat_lt slot.place (start + count)
+
+-- the least page from one on whose slot lies there
+pub record IsLeastIn (slots : List (Option Slot)) (first start count page : ℕ) : Type 0 where
+  pub from : first ≤ page
+  pub there : page < length slots
+  pub lies : IsTrue (lies_in start count (slice_index_or slots page None))
+  pub before : (q : ℕ) → first ≤ q → q < page → lies_in start count (slice_index_or slots q None) ≡ false
+
+-- no slot from one on lies there
+abbrev pub NoneLiesIn : List (Option Slot) → (first start count : ℕ) → Type 0
+NoneLiesIn slots first start count = (q : ℕ) → first ≤ q → q < length slots → lies_in start count (slice_index_or slots q None) ≡ false

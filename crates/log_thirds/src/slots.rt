@@ -1,0 +1,83 @@
+//! Where each page's last image lies.
+ghost use Rattle.std.specs.Prelude.{◌≡◌, ◌<◌, ◌+◌, ◌*◌, ◌^◌, Some, None, IfOk, IfSome, IfNone, length, slice_set, replicate};
+ghost use Rattle.log_thirds.specs.Slots.{noted, lies_in, IsLeastIn, NoneLiesIn};
+
+use std::alloc::{AllocError, Global};
+
+/// The sectors of a page's image in a record and of its copy there, and the record's number.
+#[derive(Clone, Copy, Debug, PartialEq, Eq)]
+pub(crate) struct Slot {
+    pub place: u32,
+    pub copy: u32,
+    pub number: u32,
+}
+
+/// A table with no slot.
+pub(crate) fn no_slots(alloc: Global, pages: u32) -> Result<Vec<Option<Slot>>, AllocError>
+    ensures { IfOk result (λ slots. slots.items ≡ replicate pages None) }
+{
+    vec![in alloc; None; pages as usize]
+}
+
+/// Drops every slot.
+pub(crate) fn clear(slots: &mut [Option<Slot>])
+    ensures { slots.new ≡ replicate (length slots.old) None }
+{
+    slots.fill(None);
+}
+
+// Puts a page's slot, if the table has the page.
+fn put(slots: &mut [Option<Slot>], page: u32, slot: Slot)
+    ensures { slots.new ≡ slice_set slots.old page (Some slot) }
+{
+    if (page as usize) < slots.len() {
+        slots[page as usize] = Some(slot);
+    }
+}
+
+/// Puts the slots of these pages, whose images begin at a place in a record of this number.
+pub(crate) fn note(slots: &mut [Option<Slot>], number: u32, place: u32, pages: &[u32])
+    requires { place + (2 * length pages.now + 1) < 2 ^ 32 }
+    ensures { slots.new ≡ noted number place (place + length pages.now + 1) pages.now slots.old }
+{
+    let n = pages.len();
+    for k in 0..n {
+        let j = n - 1 - k;
+        put(
+            slots,
+            pages[j],
+            Slot {
+                place: place + j as u32,
+                copy: place + n as u32 + 1 + j as u32,
+                number,
+            },
+        );
+    }
+}
+
+// Whether a slot's image lies in so many sectors from a start on.
+fn lies_in(slot: &Option<Slot>, start: u32, count: u32) -> bool
+    requires { start + count < 2 ^ 32 }
+    ensures { result ≡ lies_in start count slot.now }
+{
+    match slot {
+        Some(slot) => start <= slot.place && slot.place < start + count,
+        None => false,
+    }
+}
+
+/// The least page from `first` on whose image lies in so many sectors from a start on.
+pub(crate) fn least_in(slots: &[Option<Slot>], first: u32, start: u32, count: u32) -> Option<u32>
+    requires small { length slots.now < 2 ^ 32 }
+    requires ends { start + count < 2 ^ 32 }
+    ensures least { IfSome result (IsLeastIn slots.now first start count) }
+    ensures none { IfNone result (NoneLiesIn slots.now first start count) }
+{
+    let pages = slots.len() as u32;
+    for page in first..pages {
+        if lies_in(&slots[page as usize], start, count) {
+            return Some(page);
+        }
+    }
+    None
+}
