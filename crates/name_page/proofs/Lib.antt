@@ -5,9 +5,11 @@ pub mod FirstLaws
 pub mod InteriorLaws
 pub mod LeafLaws
 pub mod LengthLaws
+pub mod MarkLaws
 pub mod PageLaws
 pub mod PieceLaws
 pub mod ReadingLaws
 pub mod RefusalLaws
 pub mod SeparatorLaws
+pub mod StepLaws
 pub mod ZeroLaws

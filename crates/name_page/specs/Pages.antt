@@ -1,12 +1,8 @@
--- The pages of a name table, as the tree sees them.
-use Rattle.std.specs.Prelude.{ℕ, Bool, false, List, Option, length, slice_get, slice_index_or, option_and_then, ⊤}
+-- The pages of a name table, as the tree sees them, and what a step over them has done.
+use Rattle.std.specs.Prelude.{◌≡◌, ◌<◌, ℕ, ◌-◌, Bool, true, false, ◌==◌, ◌||◌, if◌then◌else◌, IsTrue, List, [], ◌∷◌, ◌++◌, Option, Some, None, length, count_by, slice_set, slice_index_or, ⊤}
+use Rattle.std.specs.List.{list_any}
 use Rattle.fsd_bytes.specs.declared.refusal.Refusal.{Refusal}
-use Rattle.fsd_bytes.specs.declared.refusal.Refusal.TheVariants.{Device, Lost, Unsound, Memory}
-use Rattle.fsd_formats.specs.NamePage.{Content, read_page}
-
--- what a page has: None where the grammar refuses it
-abbrev pub page_at : List (List ℕ) → ℕ → Option Content
-page_at images page = option_and_then (read_page page (length images)) (slice_get images page)
+use Rattle.fsd_bytes.specs.declared.refusal.Refusal.TheVariants.{Device, Lost, Unsound, Memory, NameTableFull}
 
 abbrev pub is_spare : List Bool → ℕ → Bool
 is_spare spare page = slice_index_or spare page false
@@ -18,3 +14,77 @@ IsReachRefusal (Lost a b) = ⊤
 IsReachRefusal (Unsound s) = ⊤
 IsReachRefusal Memory = ⊤
 IsReachRefusal other = ⊥
+
+-- the refusals of spare pages, with so many free
+abbrev pub IsSpareRefusal : ℕ → Refusal → Type 0
+IsSpareRefusal free (Device s) = ⊤
+IsSpareRefusal free (Lost a b) = ⊤
+IsSpareRefusal free (NameTableFull told) = told ≡ free
+IsSpareRefusal free Memory = ⊤
+IsSpareRefusal free other = ⊥
+
+-- ---- a step
+
+-- the bytes of each page, which pages are spare, and what this step has done with them
+pub record Step : Type 0 where
+  pub images : List (List ℕ)
+  pub spares : List Bool
+  pub reached : List ℕ
+  pub changed : List ℕ
+  pub promised : ℕ
+  pub refusal : Option Refusal
+  pub most_reached : ℕ
+  pub most_changed : ℕ
+
+-- a step that has done nothing
+abbrev pub first_step : (images : List (List ℕ)) (spares : List Bool) (most_reached most_changed : ℕ) → Step
+first_step images spares most_reached most_changed =
+    record { images = images; spares = spares; reached = []; changed = []; promised = 0; refusal = None; most_reached = most_reached; most_changed = most_changed }
+
+-- how many pages are spare
+abbrev pub free_count : Step → ℕ
+free_count s = count_by (λ spare. spare) s.spares
+
+-- how many more pages may be reached, and how many more changed
+abbrev pub reaches : Step → ℕ
+reaches s = s.most_reached - length s.reached
+
+abbrev pub changes : Step → ℕ
+changes s = s.most_changed - length s.changed
+
+abbrev pub is_one_of : List ℕ → ℕ → Bool
+is_one_of pages page = list_any (λ other. other == page) pages
+
+-- a page of the table that was reached or changed
+abbrev pub IsReached : Step → ℕ → Type 0
+IsReached s page = (page < length s.images) × IsTrue (is_one_of s.reached page || is_one_of s.changed page)
+
+-- a page that was changed already, or one more may be
+abbrev pub MayChange : Step → ℕ → Type 0
+MayChange s page = is_one_of s.changed page ≡ false → 0 < changes s
+
+-- ---- what the calls make of a step
+
+abbrev pub with_one : List ℕ → ℕ → List ℕ
+with_one pages page = if is_one_of pages page then pages else pages ++ page ∷ []
+
+abbrev pub with_refusal : Refusal → Step → Step
+with_refusal refusal s = record s { refusal = Some refusal }
+
+abbrev pub with_reached : ℕ → Step → Step
+with_reached page s = record s { reached = s.reached ++ page ∷ [] }
+
+abbrev pub with_promise : ℕ → Step → Step
+with_promise n s = record s { promised = n }
+
+abbrev pub with_page : ℕ → List ℕ → Step → Step
+with_page page bytes s = record s { images = slice_set s.images page bytes; changed = with_one s.changed page }
+
+abbrev pub with_taken : ℕ → Step → Step
+with_taken page s = record s { spares = slice_set s.spares page false; changed = with_one s.changed page; promised = s.promised - 1 }
+
+abbrev pub with_spare : ℕ → Step → Step
+with_spare page s = record s { spares = slice_set s.spares page true }
+
+abbrev pub rested : Step → Step
+rested s = first_step s.images s.spares s.most_reached s.most_changed

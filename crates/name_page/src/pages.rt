@@ -1,63 +1,79 @@
 //! The pages of a name table, which are reached and changed in steps.
-ghost use Rattle.std.specs.Prelude.{◌≡◌, ◌+◌, ◌<◌, ◌≤◌, ◌^◌, ℕ, Bool, List, Option, Some, true, false, IsTrue, OnOk, OnErr, IfErr, is_some, slice_set, slice_get, length};
+ghost use Rattle.std.specs.Prelude.{◌≡◌, ◌≢◌, ◌↔◌, ◌<◌, ◌^◌, ℕ, List, Some, Err, true, false, IsSome, OnOk, IfErr, slice_get, length};
 ghost use Rattle.std.specs.Borrow.{sem};
-ghost use Rattle.fsd_bytes.specs.declared.refusal.Refusal.{Refusal};
-ghost use Rattle.name_page.specs.Pages.{page_at, is_spare, IsReachRefusal};
+ghost use Rattle.fsd_table.specs.Pages.{page_at};
+ghost use Rattle.name_page.specs.Lends.{LendsPage};
+ghost use Rattle.name_page.specs.Pages.{is_spare, free_count, reaches, changes, Step, IsReached, IsReachRefusal, IsSpareRefusal, MayChange, with_refusal, with_reached, with_promise, with_page, with_taken, with_spare, rested};
 
 use fsd_bytes::Refusal;
 
 /// Pages of a name table. Work over them goes in steps: a step first reaches the pages that it needs, and the spare ones
 /// that it may take, which may be refused; after that the other calls cannot fail.
 pub trait Pages {
-    /// The image of each page of the table.
-    ghost images: { Self → List (List ℕ) };
+    /// The pages, and what this step has done with them.
+    ghost step: { Self → Step };
 
-    /// Which pages are spare.
-    ghost spares: { Self → List Bool };
-
-    /// Whether a page was reached in this step.
-    ghost is_reached: { Self → ℕ → Type 0 };
-
-    /// How many pages a step may reach, and how many more this one may.
-    ghost step_reaches: { Self → ℕ };
-
-    ghost reaches: { Self → ℕ };
-
-    /// The refusal that was given in this step.
-    ghost refusal: { Self → Option Refusal };
+    /// The pages with the bytes of one of them written.
+    ghost written: { Self → ℕ → List ℕ → Self };
 
     /// The number of pages of the table.
     fn count(&self) -> u32
-        ensures { result ≡ length (images self.now) };
+        ensures { result ≡ length (step self.now).images };
 
-    /// Makes a page of the table ready to be looked at.
+    /// Makes a page of the table ready to be looked at and changed.
     fn reach(&mut self, page: u32) -> Result<(), Refusal>
-        requires more { 0 < reaches self.old }
-        requires within { page < length (images self.old) }
-        ensures images { images self.new ≡ images self.old }
-        ensures spares { spares self.new ≡ spares self.old }
-        ensures kept { (other : ℕ) → is_reached self.old other → is_reached self.new other }
-        ensures step { step_reaches self.new ≡ step_reaches self.old }
-        ensures reaches { reaches self.old ≤ reaches self.new + 1 }
-        ensures reached { OnOk result (is_reached self.new page) }
-        ensures used { OnOk result (is_spare (spares self.old) page ≡ false) }
-        ensures refused { IfErr result (λ refusal_given. (refusal self.new ≡ Some refusal_given) × IsReachRefusal refusal_given) };
+        requires more { 0 < reaches (step self.old) }
+        requires within { page < length (step self.old).images }
+        ensures step { OnOk result (step self.new ≡ with_reached page (step self.old)) }
+        ensures reached { OnOk result (IsReached (step self.new) page) }
+        ensures accepted { OnOk result (IsSome (page_at (step self.old).images page)) }
+        ensures used { OnOk result (is_spare (step self.old).spares page ≡ false) }
+        ensures spare { is_spare (step self.old).spares page ≡ true → (sector : ℕ) × (result ≡ Err (Refusal.Unsound sector)) }
+        ensures refused { IfErr result (λ refusal. (step self.new ≡ with_refusal refusal (step self.old)) × IsReachRefusal refusal) };
+
+    /// Promises so many pages that may be taken, in place of what was promised before.
+    fn spare(&mut self, n: u32) -> Result<(), Refusal>
+        ensures step { OnOk result (step self.new ≡ with_promise n (step self.old)) }
+        ensures full { let free = free_count (step self.old) in (result ≡ Err (Refusal.NameTableFull free)) ↔ (free < n) }
+        ensures refused { IfErr result (λ refusal. (step self.new ≡ with_refusal refusal (step self.old)) × IsSpareRefusal (free_count (step self.old)) refusal) };
 
     /// The bytes of a page that was reached.
     fn look(&self, page: u32) -> &[u8; 512]
-        requires { is_reached self.now page }
-        ensures { slice_get (images self.now) page ≡ Some result.now };
+        requires { IsReached (step self.now) page }
+        ensures { slice_get (step self.now).images page ≡ Some result.now };
 
-    /// Ends the step. The next one may reach as many pages again.
+    /// The bytes of a page that was reached, to be changed.
+    fn change(&mut self, page: u32) -> &mut [u8; 512]
+        requires reached { IsReached (step self.old) page }
+        requires more { MayChange (step self.old) page }
+        ensures* writes_back { sem 𝓛 (LendsPage Self.row self.entry (written self.old page) result) }
+        ensures value { slice_get (step self.old).images page ≡ Some result.now };
+
+    /// A page that was promised, whose bytes are what they were.
+    fn take(&mut self) -> u32
+        requires promised { 0 < (step self.old).promised }
+        requires more { 0 < changes (step self.old) }
+        ensures spare { is_spare (step self.old).spares result ≡ true }
+        ensures step { step self.new ≡ with_taken result (step self.old) }
+        ensures reached { IsReached (step self.new) result };
+
+    /// Makes a page spare.
+    fn give_back(&mut self, page: u32)
+        requires reached { IsReached (step self.old) page }
+        requires used { is_spare (step self.old).spares page ≡ false }
+        requires root { page ≢ 0 }
+        ensures { step self.new ≡ with_spare page (step self.old) };
+
+    /// Ends the step. The next one may reach and change as many pages again.
     fn rest(&mut self)
-        ensures images { images self.new ≡ images self.old }
-        ensures spares { spares self.new ≡ spares self.old }
-        ensures step { step_reaches self.new ≡ step_reaches self.old }
-        ensures reaches { reaches self.new ≡ step_reaches self.old };
+        ensures { step self.new ≡ rested (step self.old) };
 
-    /// A page that was reached is one that the grammar accepts.
-    ghost accepted: { (s : Self) (page : ℕ) → is_reached s page → IsTrue (is_some (page_at (images s) page)) };
+    /// What the step knows once the bytes that were lent have come back.
+    ghost changed: { (s : Self) (page : ℕ) (bytes : List ℕ) → step (written s page bytes) ≡ with_page page bytes (step s) };
 
     /// The number of pages is a number of 32 bits.
-    ghost small: { (s : Self) → length (images s) < 2 ^ 32 };
+    ghost small: { (s : Self) → length (step s).images < 2 ^ 32 };
+
+    /// Each page is spare or not.
+    ghost flags: { (s : Self) → length (step s).spares ≡ length (step s).images };
 }

@@ -1,41 +1,49 @@
 //! Pages of a name table that all stand in memory.
-ghost use Rattle.std.specs.Prelude.{◌≡◌, ◌<◌, ◌^◌, length};
+ghost use Rattle.std.specs.Prelude.{◌≡◌, ◌<◌, ◌≤◌, ◌^◌, Some, false, length, count_by};
+ghost use Rattle.name_page.specs.Pages.{first_step};
 
 use crate::fault::read_page;
+use crate::marks::{count_true, first_true, put_one};
 use crate::pages::Pages;
+use arrayvec::ArrayVec;
 use fsd_bytes::Refusal;
 
-/// All pages of a name table. None of them is ever missing.
+/// All pages of a name table. None of them is ever missing. A step may reach 80 of them and change 40.
 #[derive(Debug, Drop)]
 pub struct VecPages {
     pages: Vec<[u8; 512]>,
     spare: Vec<bool>,
     home_a: u32,
+    reached: ArrayVec<u32, 80>,
+    changed: ArrayVec<u32, 40>,
+    promised: u32,
     refusal: Option<Refusal>,
     ghost small: { length pages.items < 2 ^ 32 },
+    ghost flags: { length spare.items ≡ length pages.items },
+    ghost kept: { promised ≤ count_by (λ spare. spare) spare.items },
 }
 
 impl VecPages {
     /// The pages in order, which of them are spare, and the first sector of their homes A.
     pub fn new(pages: Vec<[u8; 512]>, spare: Vec<bool>, home_a: u32) -> VecPages
-        requires { length pages.items < 2 ^ 32 }
-        ensures images { ⟦<VecPages as Pages>⟧.images result ≡ pages.items }
-        ensures spares { ⟦<VecPages as Pages>⟧.spares result ≡ spare.items }
-        ensures reaches { ⟦<VecPages as Pages>⟧.reaches result ≡ 80 }
+        requires small { length pages.items < 2 ^ 32 }
+        requires flags { length spare.items ≡ length pages.items }
+        ensures { ⟦<VecPages as Pages>⟧.step result ≡ first_step pages.items spare.items 80 40 }
     {
         VecPages {
             pages,
             spare,
             home_a,
+            reached: ArrayVec::new(),
+            changed: ArrayVec::new(),
+            promised: 0,
             refusal: None,
         }
     }
 
     fn refuse(&mut self, refusal: Refusal) -> Refusal
         ensures refusal { result ≡ refusal }
-        ensures kept { self.new.refusal ≡ Some refusal }
-        ensures pages { self.new.pages ≡ self.old.pages }
-        ensures spare { self.new.spare ≡ self.old.spare }
+        ensures kept { self.new ≡ record self.old { refusal = Some refusal } }
     {
         self.refusal = Some(refusal);
         refusal
@@ -43,42 +51,69 @@ impl VecPages {
 }
 
 impl Pages for VecPages {
-    ghost use Rattle.std.specs.Prelude.{IsTrue, is_some, Some};
-    ghost use Rattle.name_page.specs.Pages.{page_at};
+    ghost use Rattle.std.specs.Prelude.{refl};
+    ghost use Rattle.name_page.specs.VecPages.{written};
 
-    ghost images = { λ s. s.pages.items };
+    ghost step = { λ s. record { images = s.pages.items; spares = s.spare.items; reached = s.reached.items; changed = s.changed.items; promised = s.promised; refusal = s.refusal; most_reached = 80; most_changed = 40 } };
 
-    ghost spares = { λ s. s.spare.items };
+    ghost written = { written };
 
-    ghost is_reached = { λ s page. IsTrue (is_some (page_at s.pages.items page)) };
-
-    ghost step_reaches = { λ s. 80 };
-
-    ghost reaches = { λ s. 80 };
-
-    ghost refusal = { λ s. s.refusal };
-
-    ghost accepted = { λ s page h. h };
+    ghost changed = { λ s page bytes. refl };
 
     ghost small = { λ s. s.small };
+
+    ghost flags = { λ s. s.flags };
 
     fn count(&self) -> u32 {
         self.pages.len() as u32
     }
 
+    #[tactic(auto, unfolding(fsd_table::specs::Pages::page_at))]
     fn reach(&mut self, page: u32) -> Result<(), Refusal> {
         let i = page as usize;
-        let unused = i < self.spare.len() && self.spare[i];
-        if unused || read_page(&self.pages[i], page, self.count()).is_err() {
+        if self.spare[i] || read_page(&self.pages[i], page, self.count()).is_err() {
             let sector = self.home_a.wrapping_add(page);
             return Err(self.refuse(Refusal::Unsound(sector)));
         }
+        self.reached.push(page);
         Ok(())
     }
 
+    fn spare(&mut self, n: u32) -> Result<(), Refusal> {
+        let free = count_true(&self.spare) as u32;
+        if free < n {
+            return Err(self.refuse(Refusal::NameTableFull { free }));
+        }
+        self.promised = n;
+        Ok(())
+    }
+
+    #[tactic(auto, unfolding(fsd_table::specs::Pages::page_at))]
     fn look(&self, page: u32) -> &[u8; 512] {
         &self.pages[page as usize]
     }
 
-    fn rest(&mut self) {}
+    fn change(&mut self, page: u32) -> &mut [u8; 512] {
+        put_one(&mut self.changed, page);
+        &mut self.pages[page as usize]
+    }
+
+    fn take(&mut self) -> u32 {
+        let i = first_true(&self.spare);
+        put_one(&mut self.changed, i as u32);
+        self.promised -= 1;
+        self.spare[i] = false;
+        i as u32
+    }
+
+    fn give_back(&mut self, page: u32) {
+        self.spare[page as usize] = true;
+    }
+
+    fn rest(&mut self) {
+        self.reached.clear();
+        self.changed.clear();
+        self.promised = 0;
+        self.refusal = None;
+    }
 }

@@ -1,0 +1,4 @@
+pub mod BoundLaws
+pub mod KeyLaws
+pub mod PageLaws
+pub mod VisitLaws
