@@ -1,0 +1,13 @@
+pub mod CountLaws
+pub mod CutLaws
+pub mod DescentLaws
+pub mod FindLaws
+pub mod HighestLaws
+pub mod LastLaws
+pub mod ListLaws
+pub mod MarkLaws
+pub mod NextLaws
+pub mod NodeLaws
+pub mod ResultLaws
+pub mod TopLaws
+pub mod WalkLaws

@@ -1,0 +1,131 @@
+-- Marks, one a page.
+use Rattle.std.proofs.Common.{◌≡◌, ◌≢◌, ℕ, zero, suc, ◌<◌, Bool, true, false, not, ◌&&◌, ◌||◌, List, [], ◌∷◌, ◌++◌, length, Some, refl, sym, ap, subst, ◌∙◌, arith}
+use Rattle.std.specs.Prelude.{slice_get, slice_set, ◌==◌}
+use Rattle.std.specs.List.{AllByRecursion}
+use Rattle.std.proofs.lemmas.Bool.{and_parts, and_from, or_parts}
+use Rattle.std.proofs.lemmas.Bool.Decides.{nat_tests}
+use Rattle.std.proofs.lemmas.List.{get_or-set_other, length-set}
+use Rattle.std.proofs.lemmas.Option.{get_or_from_slice_get, slice_get-get_or}
+use Rattle.run_table.specs.Space.{contains, all_differ}
+use Rattle.name_btree.specs.Walk.{AreMarksOf, is_marked, can_mark, marked}
+
+equal : (m n : ℕ) → (m == n) ≡ true → m ≡ n
+equal m n e = grind (arith, nat_tests)
+
+unequal : (m n : ℕ) → (m == n) ≡ false → n ≢ m
+unequal m n e = λ h. grind (arith, nat_tests)
+
+other_way : (m n : ℕ) → (m == n) ≡ false → (n == m) ≡ false
+other_way m n e = grind (arith, nat_tests)
+
+unnot : (b : Bool) → not b ≡ true → b ≡ false
+unnot false e = refl
+unnot true e = absurd cc
+
+or_both : (a b : Bool) → a ≡ false → b ≡ false → (a || b) ≡ false
+or_both false b e h = h
+or_both true b e h = absurd cc
+
+or_false : (b : Bool) → (b || false) ≡ b
+or_false true = refl
+or_false false = refl
+
+or_swap : (a b c : Bool) → (a || (b || c)) ≡ ((b || a) || c)
+or_swap true true c = refl
+or_swap true false c = refl
+or_swap false true c = refl
+or_swap false false c = refl
+
+and_group : (a b c : Bool) → (a && (b && c)) ≡ ((a && b) && c)
+and_group true b c = refl
+and_group false b c = refl
+
+-- ---- one mark more
+
+set_marked : (marks : List Bool) (p : ℕ) → is_marked (slice_set marks p true) p ≡ true
+set_marked [] p = refl
+set_marked (m ∷ marks) zero = refl
+set_marked (m ∷ marks) (suc p) = set_marked marks p
+
+stays_marked : (marks : List Bool) (p q : ℕ) → is_marked marks q ≡ true → is_marked (slice_set marks p true) q ≡ true
+stays_marked [] p q e = refl
+stays_marked (m ∷ marks) zero zero e = refl
+stays_marked (m ∷ marks) zero (suc q) e = e
+stays_marked (m ∷ marks) (suc p) zero e = e
+stays_marked (m ∷ marks) (suc p) (suc q) e = stays_marked marks p q e
+
+read_by : (marks : List Bool) (p q : ℕ) (b : Bool) → (p == q) ≡ b → is_marked (slice_set marks p true) q ≡ (b || is_marked marks q)
+read_by marks p q true e = subst (λ (n : ℕ). is_marked (slice_set marks p true) n ≡ true) (equal p q e) (set_marked marks p)
+read_by marks p q false e = get_or-set_other marks p q true true (unequal p q e)
+
+-- ---- many marks
+
+pub length_marked : (marks : List Bool) (pages : List ℕ) → length (marked marks pages) ≡ length marks
+length_marked marks [] = refl
+length_marked marks (p ∷ pages) = length_marked (slice_set marks p true) pages ∙ length-set marks p true
+
+marked_read : (marks : List Bool) (pages : List ℕ) (q : ℕ) → is_marked (marked marks pages) q ≡ (contains pages q || is_marked marks q)
+marked_read marks [] q = refl
+marked_read marks (p ∷ pages) q =
+    marked_read (slice_set marks p true) pages q
+    ∙ ap (λ (b : Bool). contains pages q || b) (read_by marks p q (p == q) refl)
+    ∙ or_swap (contains pages q) (p == q) (is_marked marks q)
+
+pub marked_append : (marks : List Bool) (xs ys : List ℕ) → marked marks (xs ++ ys) ≡ marked (marked marks xs) ys
+marked_append marks [] ys = refl
+marked_append marks (x ∷ xs) ys = marked_append (slice_set marks x true) xs ys
+
+pub can_append : (marks : List Bool) (xs ys : List ℕ) → can_mark marks (xs ++ ys) ≡ (can_mark marks xs && can_mark (marked marks xs) ys)
+can_append marks [] ys = refl
+can_append marks (x ∷ xs) ys =
+    ap (λ (b : Bool). not (is_marked marks x) && b) (can_append (slice_set marks x true) xs ys)
+    ∙ and_group (not (is_marked marks x)) (can_mark (slice_set marks x true) xs) (can_mark (marked (slice_set marks x true) xs) ys)
+
+-- ---- pages that differ
+
+apart_by : (marks : List Bool) (p q : ℕ) → is_marked marks q ≡ true → not (is_marked marks p) ≡ true → (b : Bool) → (p == q) ≡ b → b ≡ false
+apart_by marks p q is new false e = refl
+apart_by marks p q is new true e =
+    let here : is_marked marks p ≡ true = ap (is_marked marks) (equal p q e) ∙ is in
+    let none : is_marked marks p ≡ false = unnot (is_marked marks p) new in
+    absurd cc
+
+not_again : (marks : List Bool) (pages : List ℕ) (q : ℕ) → is_marked marks q ≡ true → can_mark marks pages ≡ true → contains pages q ≡ false
+not_again marks [] q is can = refl
+not_again marks (p ∷ pages) q is can =
+    let parts = and_parts (not (is_marked marks p)) (can_mark (slice_set marks p true) pages) can in
+    or_both (p == q) (contains pages q) (apart_by marks p q is parts.0 (p == q) refl) (not_again (slice_set marks p true) pages q (stays_marked marks p q is) parts.1)
+
+pub marks_differ : (marks : List Bool) (pages : List ℕ) → can_mark marks pages ≡ true → all_differ pages ≡ true
+marks_differ marks [] can = refl
+marks_differ marks (p ∷ pages) can =
+    let parts = and_parts (not (is_marked marks p)) (can_mark (slice_set marks p true) pages) can in
+    and_from (not (contains pages p)) (all_differ pages) (ap not (not_again (slice_set marks p true) pages p (set_marked marks p) parts.1)) (marks_differ (slice_set marks p true) pages parts.1)
+
+abbrev pub IsUnmarked : List Bool → ℕ → Type 0
+IsUnmarked marks page = is_marked marks page ≡ false
+
+still : (marks : List Bool) (p : ℕ) (pages : List ℕ) → contains pages p ≡ false → AllByRecursion (IsUnmarked marks) pages → AllByRecursion (IsUnmarked (slice_set marks p true)) pages
+still marks p [] e a = tt
+still marks p (q ∷ pages) e a =
+    let parts = or_parts (q == p) (contains pages p) e in
+    (read_by marks p q false (other_way q p parts.0) ∙ a.0, still marks p pages parts.1 a.1)
+
+pub differ_marks : (marks : List Bool) (pages : List ℕ) → all_differ pages ≡ true → AllByRecursion (IsUnmarked marks) pages → can_mark marks pages ≡ true
+differ_marks marks [] e a = refl
+differ_marks marks (p ∷ pages) e a =
+    let parts = and_parts (not (contains pages p)) (all_differ pages) e in
+    and_from (not (is_marked marks p)) (can_mark (slice_set marks p true) pages) (ap not a.0)
+    (differ_marks (slice_set marks p true) pages parts.1 (still marks p pages (unnot (contains pages p) parts.0) a.1))
+
+-- ---- marks that begin clear
+
+pub clear_at : (marks : List Bool) → AreMarksOf [] marks → (page : ℕ) → page < length marks → is_marked marks page ≡ false
+clear_at marks clear page low = get_or_from_slice_get marks page false true (clear page low)
+
+pub marks_of : (marks : List Bool) (pages : List ℕ) → AreMarksOf [] marks → AreMarksOf pages (marked marks pages)
+marks_of marks pages clear = λ page low.
+    let within : page < length marks = subst (λ (n : ℕ). page < n) (length_marked marks pages) low in
+    let is : is_marked (marked marks pages) page ≡ contains pages page =
+    marked_read marks pages page ∙ ap (λ (b : Bool). contains pages page || b) (clear_at marks clear page within) ∙ or_false (contains pages page) in
+    slice_get-get_or (marked marks pages) page true low ∙ ap Some is

@@ -1,0 +1,154 @@
+-- A walk below a child, one child after another.
+use Rattle.std.proofs.Common.{◌≡◌, ℕ, zero, suc, ◌+◌, ◌≤◌, ◌<◌, ◌^◌, Bool, true, false, not, ◌&&◌, List, [], ◌∷◌, ◌++◌, length, take, drop, Option, Some, None, refl, sym, ap, subst, ◌∙◌, arith, length-append}
+use Rattle.std.specs.Prelude.{slice_get, slice_set}
+use Rattle.std.specs.List.{flat_map, AllByRecursion}
+use Rattle.std.proofs.lemmas.Bool.{and_parts, and_from}
+use Rattle.std.proofs.lemmas.List.{append-nil, take_more, take-append-drop}
+use Rattle.std.proofs.lemmas.List.Concat.{flat_map-append}
+use Rattle.std.proofs.lemmas.Option.{slice_get_within, get_or_from_slice_get}
+use Rattle.fsd_bytes.specs.declared.key.Key.{Key}
+use Rattle.fsd_bytes.specs.declared.refusal.Refusal.{Refusal}
+use Rattle.fsd_formats.specs.declared.entry.Entry.{Entry}
+use Rattle.fsd_formats.specs.declared.page.Separator.{Separator}
+use Rattle.fsd_formats.specs.NamePage.{Content, Interior}
+use Rattle.fsd_table.specs.declared.child.Child.{Child}
+use Rattle.fsd_table.specs.Pages.{page_at, children, children_of, keys_fit, separator_keys}
+use Rattle.fsd_table.specs.Tree.{entries_below, pages_below, IsInterior, IsSubtree}
+use Rattle.fsd_table.proofs.BoundLaws.{all_append}
+use Rattle.name_btree.specs.declared.fault.TreeFault.{TreeFault}
+use Rattle.name_btree.specs.declared.fault.TreeFault.TheVariants.{Pages, Broken}
+use Rattle.name_btree.specs.Descent.{end_of}
+use Rattle.name_btree.specs.Fault.{HasCause, IsMisfit}
+use Rattle.name_btree.specs.Walk.{is_marked, can_mark, marked, IsWalked, AreWalked, BreaksWalk, BreakWalk}
+use Rattle.name_btree.proofs.ListLaws.{drop_at}
+use Rattle.name_btree.proofs.DescentLaws.{misfit}
+use Rattle.name_btree.proofs.MarkLaws.{marked_append, can_append}
+
+-- ---- children by their number
+
+pub child_first : (first : ℕ) (low high : Option Key) (xs : List Separator) → slice_get (children first low high xs) 0 ≡ Some (record { page = first; low = low; high = end_of high xs })
+child_first first low high [] = refl
+child_first first low high (s ∷ xs) = refl
+
+child_behind : (first : ℕ) (low high : Option Key) (xs : List Separator) (k : ℕ) (s : Separator) → slice_get xs k ≡ Some s
+    → slice_get (children first low high xs) (suc k) ≡ Some (record { page = s.child; low = Some s.key; high = end_of high (drop (suc k) xs) })
+child_behind first low high [] k s e = absurd cc
+child_behind first low high (x ∷ xs) zero s e =
+    let same : x ≡ s = some_same x s e in
+    child_first x.child (Some x.key) high xs ∙ ap (λ (y : Separator). Some (child_of y.child y.key)) same
+  where
+    some_same : (x s : Separator) → Some x ≡ Some s → x ≡ s
+    some_same x s e = cc
+
+    child_of : ℕ → Key → Child
+    child_of page key = record { page = page; low = Some key; high = end_of high xs }
+child_behind first low high (x ∷ xs) (suc k) s e = child_behind x.child (Some x.key) high xs k s e
+
+pub child_later : (first : ℕ) (low high : Option Key) (xs : List Separator) (i k : ℕ) (s : Separator) → suc k ≡ i → slice_get xs k ≡ Some s
+    → slice_get (children first low high xs) i ≡ Some (record { page = s.child; low = Some s.key; high = end_of high (drop i xs) })
+child_later first low high xs i k s is e =
+    let P : ℕ → Type 0 = λ (n : ℕ). slice_get (children first low high xs) n ≡ Some (record { page = s.child; low = Some s.key; high = end_of high (drop n xs) }) in
+    subst P is (child_behind first low high xs k s e)
+
+pub children_count : (first : ℕ) (low high : Option Key) (xs : List Separator) → length (children first low high xs) ≡ suc (length xs)
+children_count first low high [] = refl
+children_count first low high (s ∷ xs) = ap suc (children_count s.child (Some s.key) high xs)
+
+pub all_at : (P : Child → Type 0) (cs : List Child) (i : ℕ) (d : Child) → slice_get cs i ≡ Some d → AllByRecursion P cs → P d
+all_at P [] i d e a = absurd cc
+all_at P (c ∷ cs) zero d e a = subst P (same c d e) a.0
+  where
+    same : (c d : Child) → Some c ≡ Some d → c ≡ d
+    same c d e = cc
+all_at P (c ∷ cs) (suc i) d e a = all_at P cs i d e a.1
+
+take_one : (cs : List Child) (i : ℕ) (d : Child) → slice_get cs i ≡ Some d → take (i + 1) cs ≡ take i cs ++ d ∷ []
+take_one cs i d e = take_more cs i d (slice_get_within cs i d e) ∙ ap (λ (x : Child). take i cs ++ x ∷ []) (get_or_from_slice_get cs i d d e)
+
+cut_at : (cs : List Child) (i : ℕ) (d : Child) → slice_get cs i ≡ Some d → cs ≡ take i cs ++ d ∷ drop (i + 1) cs
+cut_at cs i d e = sym (take-append-drop i cs) ∙ ap (λ (xs : List Child). take i cs ++ xs) (drop_at cs i d e)
+
+-- ---- one child more
+
+abbrev Below : ℕ → List (List ℕ) → List Child → List ℕ
+Below level pages cs = flat_map (pages_below level pages) cs
+
+append_one : (level : ℕ) (pages : List (List ℕ)) (xs : List Child) (d : Child) (before mid after : List Bool) (n m : ℕ)
+    → AreWalked level pages xs before mid n → IsWalked level pages d mid after m → AreWalked level pages (xs ++ d ∷ []) before after (n + m)
+append_one level pages xs d before mid after n m a w =
+    let f : Child → List ℕ = pages_below level pages in
+    let g : Child → List Entry = entries_below level pages in
+    let split : flat_map f (xs ++ d ∷ []) ≡ flat_map f xs ++ f d = flat_map-append f xs (d ∷ []) ∙ ap (λ (ys : List ℕ). flat_map f xs ++ ys) (append-nil (f d)) in
+    let entries : flat_map g (xs ++ d ∷ []) ≡ flat_map g xs ++ g d = flat_map-append g xs (d ∷ []) ∙ ap (λ (ys : List Entry). flat_map g xs ++ ys) (append-nil (g d)) in
+    record {
+      subtrees = all_append (IsSubtree level pages) xs (d ∷ []) a.subtrees (w.subtree, tt);
+      unmarked = ap (can_mark before) split ∙ can_append before (flat_map f xs) (f d)
+          ∙ and_from (can_mark before (flat_map f xs)) (can_mark (marked before (flat_map f xs)) (f d)) a.unmarked (ap (λ (x : List Bool). can_mark x (f d)) (sym a.marks) ∙ w.unmarked);
+      marks = w.marks ∙ ap (λ (x : List Bool). marked x (f d)) a.marks ∙ sym (marked_append before (flat_map f xs) (f d)) ∙ ap (marked before) (sym split);
+      count_is = ap (λ (k : ℕ). k + m) a.count_is ∙ ap (λ (k : ℕ). length (flat_map g xs) + k) w.count_is ∙ sym (length-append (flat_map g xs) (g d)) ∙ ap (λ (ys : List Entry). length ys) (sym entries);
+    }
+
+pub one_more : (level : ℕ) (pages : List (List ℕ)) (cs : List Child) (i : ℕ) (d : Child) (before mid after : List Bool) (n m : ℕ) → slice_get cs i ≡ Some d
+    → AreWalked level pages (take i cs) before mid n → IsWalked level pages d mid after m → AreWalked level pages (take (i + 1) cs) before after (n + m)
+one_more level pages cs i d before mid after n m at a w =
+    let P : List Child → Type 0 = λ (xs : List Child). AreWalked level pages xs before after (n + m) in
+    subst P (sym (take_one cs i d at)) (append_one level pages (take i cs) d before mid after n m a w)
+
+one_breaks : (level : ℕ) (pages : List (List ℕ)) (cs : List Child) (i : ℕ) (d : Child) (before mid : List Bool) (n page : ℕ) → slice_get cs i ≡ Some d
+    → AreWalked level pages (take i cs) before mid n → BreaksWalk level pages d mid page → BreakWalk level pages cs before page
+one_breaks level pages cs i d before mid n page at a breaks = λ subs can.
+    let f : Child → List ℕ = pages_below level pages in
+    let left : List ℕ = flat_map f (take i cs) in
+    let right : List ℕ = flat_map f (drop (i + 1) cs) in
+    let split : flat_map f cs ≡ left ++ (f d ++ right) = ap (flat_map f) (cut_at cs i d at) ∙ flat_map-append f (take i cs) (d ∷ drop (i + 1) cs) in
+    let whole = and_parts (can_mark before left) (can_mark (marked before left) (f d ++ right)) (sym (ap (can_mark before) split ∙ can_append before left (f d ++ right)) ∙ can) in
+    let here = and_parts (can_mark (marked before left) (f d)) (can_mark (marked (marked before left) (f d)) right) (sym (can_append (marked before left) (f d) right) ∙ whole.1) in
+    breaks (all_at (IsSubtree level pages) cs i d at subs) (ap (λ (x : List Bool). can_mark x (f d)) a.marks ∙ here.0)
+
+pub fault_among : (given : Option Refusal) (fault : TreeFault) (level : ℕ) (pages : List (List ℕ)) (cs : List Child) (i : ℕ) (d : Child) (before mid : List Bool) (n : ℕ) → slice_get cs i ≡ Some d
+    → AreWalked level pages (take i cs) before mid n → HasCause given (BreaksWalk level pages d mid) fault → HasCause given (BreakWalk level pages cs before) fault
+fault_among given (Pages refusal) level pages cs i d before mid n at a h = h
+fault_among given (Broken page) level pages cs i d before mid n at a h = one_breaks level pages cs i d before mid n page at a h
+
+-- ---- the page above
+
+below_is : (level : ℕ) (pages : List (List ℕ)) (c : Child) (first : ℕ) (xs : List Separator) → page_at pages c.page ≡ Some (Interior first xs)
+    → pages_below (suc level) pages c ≡ c.page ∷ Below level pages (children first c.low c.high xs)
+below_is level pages c first xs at = ap (λ (x : Option Content). c.page ∷ flat_map (pages_below level pages) (children_of c.low c.high x)) at
+
+above_at : (level : ℕ) (pages : List (List ℕ)) (c : Child) (first : ℕ) (xs : List Separator) (before after : List Bool) (count : ℕ) → page_at pages c.page ≡ Some (Interior first xs)
+    → keys_fit c.low c.high (separator_keys xs) ≡ true → not (is_marked before c.page) ≡ true
+    → AreWalked level pages (children first c.low c.high xs) (slice_set before c.page true) after count → IsWalked (suc level) pages c before after count
+above_at level pages c first xs before after count at fits new a =
+    let cs : List Child = children first c.low c.high xs in
+    let is = below_is level pages c first xs at in
+    record {
+      subtree = subst (IsInterior (IsSubtree level pages) c) (sym at) (fits, a.subtrees);
+      unmarked = ap (can_mark before) is ∙ and_from (not (is_marked before c.page)) (can_mark (slice_set before c.page true) (Below level pages cs)) new a.unmarked;
+      marks = a.marks ∙ ap (marked before) (sym is);
+      count_is = a.count_is ∙ ap (λ (x : Option Content). length (flat_map (entries_below level pages) (children_of c.low c.high x))) (sym at);
+    }
+
+pub above_walked : (level up : ℕ) (pages : List (List ℕ)) (c : Child) (first : ℕ) (xs : List Separator) (before after : List Bool) (count : ℕ) → suc level ≡ up → page_at pages c.page ≡ Some (Interior first xs)
+    → keys_fit c.low c.high (separator_keys xs) ≡ true → not (is_marked before c.page) ≡ true
+    → AreWalked level pages (children first c.low c.high xs) (slice_set before c.page true) after count → IsWalked up pages c before after count
+above_walked level up pages c first xs before after count is at fits new a =
+    subst (λ (l : ℕ). IsWalked l pages c before after count) is (above_at level pages c first xs before after count at fits new a)
+
+above_breaks : (level : ℕ) (pages : List (List ℕ)) (c : Child) (first : ℕ) (xs : List Separator) (before : List Bool) (page : ℕ) → page_at pages c.page ≡ Some (Interior first xs)
+    → BreakWalk level pages (children first c.low c.high xs) (slice_set before c.page true) page → BreaksWalk (suc level) pages c before page
+above_breaks level pages c first xs before page at breaks = λ sub can.
+    let cs : List Child = children first c.low c.high xs in
+    let h = subst (IsInterior (IsSubtree level pages) c) at sub in
+    breaks h.1 (and_parts (not (is_marked before c.page)) (can_mark (slice_set before c.page true) (Below level pages cs)) (sym (ap (can_mark before) (below_is level pages c first xs at)) ∙ can)).1
+
+pub fault_above : (given : Option Refusal) (fault : TreeFault) (level up : ℕ) (pages : List (List ℕ)) (c : Child) (first : ℕ) (xs : List Separator) (before : List Bool) → suc level ≡ up
+    → page_at pages c.page ≡ Some (Interior first xs)
+    → HasCause given (BreakWalk level pages (children first c.low c.high xs) (slice_set before c.page true)) fault → HasCause given (BreaksWalk up pages c before) fault
+fault_above given (Pages refusal) level up pages c first xs before is at h = h
+fault_above given (Broken page) level up pages c first xs before is at h = subst (λ (l : ℕ). BreaksWalk l pages c before page) is (above_breaks level pages c first xs before page at h)
+
+pub fault_here : (given : Option Refusal) (fault : TreeFault) (level : ℕ) (pages : List (List ℕ)) (c : Child) (before : List Bool)
+    → HasCause given (IsMisfit pages c) fault → HasCause given (BreaksWalk level pages c before) fault
+fault_here given (Pages refusal) level pages c before h = h
+fault_here given (Broken page) level pages c before h = λ sub can. misfit level pages c h.1 sub

@@ -1,0 +1,15 @@
+use Rattle.std.proofs.Common.{◌≡◌, ◌+◌, ◌≤◌}
+use Rattle.name_btree.proofs.DescentLaws.{IsOnWay}
+use Rattle.name_btree.specs.Cut.{is_before}
+use Rattle.name_btree.proofs.descent.leaf_below.Given as goal
+use Rattle.name_page.specs.Pages.{reaches}
+
+-- so many levels down, and the pages as they were
+abbrev pub invariant-loop : goal.invariant-loop
+invariant-loop g l = record {
+  images : (g.T.Pages.step l.t).images ≡ (g.T.Pages.step l.fn.t).images;
+  spares : (g.T.Pages.step l.t).spares ≡ (g.T.Pages.step l.fn.t).spares;
+  step : (g.T.Pages.step l.t).most_reached ≡ (g.T.Pages.step l.fn.t).most_reached;
+  reaches : reaches (g.T.Pages.step l.fn.t) ≤ reaches (g.T.Pages.step l.t) + l.counter;
+  way : IsOnWay (is_before l.cut) (g.T.Pages.step l.fn.t).images l.fn.start l.counter l.way;
+}

@@ -1,0 +1,16 @@
+use Rattle.std.proofs.Common.{◌∙◌, subst}
+use Rattle.fsd_bytes.specs.declared.key.Key.{Key}
+use Rattle.fsd_table.specs.declared.child.Child.{Child}
+use Rattle.name_btree.specs.declared.cut.Cut.TheVariants.{UpTo}
+use Rattle.name_btree.specs.Cut.{is_before}
+use Rattle.name_btree.specs.Descent.{IsPlace}
+use Rattle.name_btree.proofs.FindLaws.{entry_found}
+use Rattle.name_btree.proofs.lookup.find.Goals as goal
+
+pub returns-clause-found : goal.returns-clause-found
+returns-clause-found g c = λ height t.
+    let pages = (g.T.Pages.step c.args.t.now).images in
+    let found = c.in_ok-found.found in
+    let by_key : Key → Type 0 = λ (k : Key). IsPlace (is_before (UpTo k)) pages c.top.result found in
+    let by_top : Child → Type 0 = λ (d : Child). IsPlace (is_before (UpTo c.args.key.now)) pages d found in
+    c.entry_in.ensures ∙ entry_found c.args.key.now pages found (subst by_top c.top.ensures (subst by_key c.copied.ensures c.in_ok-found.ensures.place)) height t

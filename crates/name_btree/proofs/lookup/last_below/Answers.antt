@@ -1,0 +1,14 @@
+use Rattle.std.proofs.Common.{◌≡◌, ◌<◌, length, arith}
+use Rattle.name_btree.proofs.NextLaws.{ends, empty_is, leaf_has_entries}
+use Rattle.name_btree.proofs.lookup.last_below.Goals as goal
+
+pub returns-then-count-eq0-clause-fault : goal.returns-then-count-eq0-clause-fault
+returns-then-count-eq0-clause-fault g c = λ level low sub up.
+    let found = c.in_ok-found.found in
+    let none : length found.entries ≡ 0 = omega arith in
+    leaf_has_entries (g.T.Pages.step c.args.t.now).images found.page found.entries c.in_ok-found.ensures.leaf up (empty_is found.entries none)
+
+pub returns-clause-last : goal.returns-clause-last
+returns-clause-last g c =
+    let some : 0 < c.len-count.result = omega arith in
+    ends (g.T.Pages.step c.args.t.now).images c.args.child c.in_ok-found.found c.len-count.result c.get.result c.in_ok-found.ensures.place c.len-count.ensures some c.get.ensures

@@ -1,0 +1,69 @@
+-- The way to the leaf at a place between keys, and what stands left and right of it.
+use Rattle.std.specs.Prelude.{◌≡◌, ℕ, ◌<◌, Bool, true, false, List, [], ◌∷◌, ◌++◌, Option, Some, None, if◌then◌else◌}
+use Rattle.std.specs.List.{AllByRecursion}
+use Rattle.fsd_bytes.specs.declared.key.Key.{Key}
+use Rattle.fsd_bytes.specs.Keys.{key_lt}
+use Rattle.fsd_formats.specs.declared.entry.Entry.{Entry}
+use Rattle.fsd_formats.specs.declared.page.Separator.{Separator}
+use Rattle.fsd_formats.specs.NamePage.{Interior}
+use Rattle.fsd_table.specs.declared.child.Child.{Child}
+use Rattle.fsd_table.specs.Pages.{page_at}
+use Rattle.fsd_table.specs.Table.{max_height}
+use Rattle.fsd_table.specs.Tree.{entries_below, IsSubtree}
+use Rattle.name_btree.specs.declared.descent.Way.{Way}
+use Rattle.name_btree.specs.declared.descent.Found.{Found}
+
+-- where a first child ends
+abbrev pub end_of : Option Key → List Separator → Option Key
+end_of high [] = high
+end_of high (s ∷ separators) = Some s.key
+
+-- behind the last of the separators that stand before the place, with the nearest child on each side
+abbrev pub way_to : (Key → Bool) → Option Child → Option Child → ℕ → Option Key → Option Key → List Separator → Way
+way_to before previous next first low high [] = record { child = record { page = first; low = low; high = high }; previous = previous; next = next }
+way_to before previous next first low high (s ∷ separators) =
+    let c : Child = record { page = first; low = low; high = Some s.key } in
+    if before s.key then way_to before (Some c) next s.child (Some s.key) high separators
+    else record { child = c; previous = previous; next = Some (record { page = s.child; low = Some s.key; high = end_of high separators }) }
+
+-- a key that stands before the place is greater
+abbrev pub IsLesser : (Key → Bool) → Entry → Type 0
+IsLesser before e = (k : Key) × (before k ≡ true) × (key_lt e.key k ≡ true)
+
+-- an interior page, so that other pages stand below it
+abbrev pub IsAbove : List (List ℕ) → Child → Type 0
+IsAbove pages start = (first : ℕ) × (separators : List Separator) × (page_at pages start.page ≡ Some (Interior first separators))
+
+-- the entries right of a place begin with those below the next child
+abbrev pub IsNext : List (List ℕ) → Child → Option Child → List Entry → Type 0
+IsNext pages start None right = right ≡ []
+IsNext pages start (Some c) right =
+    IsAbove pages start × ((level : ℕ) × (level < max_height) × IsSubtree level pages c × ((rest : List Entry) × (right ≡ entries_below level pages c ++ rest)))
+
+-- those left of it end with those below the previous child
+abbrev pub IsPrevious : List (List ℕ) → Child → Option Child → List Entry → Type 0
+IsPrevious pages start None left = left ≡ []
+IsPrevious pages start (Some c) left =
+    IsAbove pages start × ((level : ℕ) × (level < max_height) × IsSubtree level pages c × ((rest : List Entry) × (left ≡ rest ++ entries_below level pages c)))
+
+-- some entries among those below a child, as they stand at a place between keys
+pub record IsAt (before : Key → Bool) (pages : List (List ℕ)) (start : Child) (whole some : List Entry) (previous next : Option Child) : Type 0 where
+  pub left : List Entry
+  pub right : List Entry
+  pub parts : whole ≡ left ++ (some ++ right)
+  pub lesser : AllByRecursion (IsLesser before) left
+  pub greater : AllByRecursion (λ e. before e.key ≡ false) right
+  pub previous_is : IsPrevious pages start previous left
+  pub next_is : IsNext pages start next right
+
+-- the leaf at a place
+abbrev pub IsPlace : (Key → Bool) → List (List ℕ) → Child → Found → Type 0
+IsPlace before pages start found =
+    (level : ℕ) → level < max_height → IsSubtree level pages start → IsAt before pages start (entries_below level pages start) found.entries found.previous found.next
+
+-- the first and the last entry below a child
+abbrev pub BeginsWith : List (List ℕ) → Child → Entry → Type 0
+BeginsWith pages c e = (level : ℕ) → level < max_height → IsSubtree level pages c → (rest : List Entry) × (entries_below level pages c ≡ e ∷ rest)
+
+abbrev pub EndsWith : List (List ℕ) → Child → Entry → Type 0
+EndsWith pages c e = (level : ℕ) → level < max_height → IsSubtree level pages c → (rest : List Entry) × (entries_below level pages c ≡ rest ++ e ∷ [])

@@ -1,0 +1,36 @@
+-- Why a call of the table fails.
+use Rattle.std.specs.Prelude.{◌≡◌, ℕ, ◌<◌, false, List, Option, Some}
+use Rattle.fsd_bytes.specs.declared.refusal.Refusal.{Refusal}
+use Rattle.fsd_table.specs.declared.child.Child.{Child}
+use Rattle.fsd_table.specs.Pages.{page_at, content_fits}
+use Rattle.fsd_table.specs.Table.{max_height, top}
+use Rattle.fsd_table.specs.Tree.{IsSubtree, IsTree}
+use Rattle.name_page.specs.Pages.{IsReachRefusal}
+use Rattle.name_btree.specs.Descent.{IsAbove}
+use Rattle.name_btree.specs.declared.fault.TreeFault.{TreeFault}
+use Rattle.name_btree.specs.declared.fault.TreeFault.TheVariants.{Pages, Broken}
+
+-- the pages gave this refusal, or the page breaks something
+abbrev pub HasCause : Option Refusal → (ℕ → Type 0) → TreeFault → Type 0
+HasCause given Breaks (Pages refusal) = (given ≡ Some refusal) × IsReachRefusal refusal
+HasCause given Breaks (Broken page) = Breaks page
+
+-- no page breaks anything
+abbrev pub Never : ℕ → Type 0
+Never page = ⊥
+
+-- the child is no page whose keys stand between its own
+abbrev pub IsMisfit : List (List ℕ) → Child → ℕ → Type 0
+IsMisfit pages c page = (page ≡ c.page) × (content_fits c.low c.high (page_at pages c.page) ≡ false)
+
+-- the child leads to no subtree
+abbrev pub BreaksSubtree : List (List ℕ) → Child → ℕ → Type 0
+BreaksSubtree pages c page = (level : ℕ) → level < max_height → IsSubtree level pages c → ⊥
+
+-- the pages are no tree
+abbrev pub BreaksTree : List (List ℕ) → ℕ → Type 0
+BreaksTree pages page = (height : ℕ) → IsTree pages height → ⊥
+
+-- the child leads to no subtree below an interior root
+abbrev pub BreaksInner : List (List ℕ) → Child → ℕ → Type 0
+BreaksInner pages c page = (level : ℕ) → level < max_height → IsSubtree level pages c → IsAbove pages top → ⊥

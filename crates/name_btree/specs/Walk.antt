@@ -1,0 +1,63 @@
+-- What a walk over the pages shows.
+use Rattle.std.specs.Prelude.{◌≡◌, ℕ, ◌<◌, Bool, true, not, ◌&&◌, List, [], ◌∷◌, length, Some, slice_get, slice_set, slice_index_or}
+use Rattle.std.specs.List.{flat_map, AllByRecursion}
+use Rattle.run_table.specs.Space.{contains}
+use Rattle.fsd_table.specs.declared.child.Child.{Child}
+use Rattle.fsd_table.specs.Table.{top, max_height}
+use Rattle.fsd_table.specs.Tree.{entries_below, pages_below, table_of, pages_of, IsSubtree, IsTree}
+
+-- ---- marks, one a page
+
+-- these pages are marked, and no others
+abbrev pub AreMarksOf : List ℕ → List Bool → Type 0
+AreMarksOf reached marks = (page : ℕ) → page < length marks → slice_get marks page ≡ Some (contains reached page)
+
+-- a page that has no mark of its own counts as marked
+abbrev pub is_marked : List Bool → ℕ → Bool
+is_marked marks page = slice_index_or marks page true
+
+-- one after another, none of them marked before
+abbrev pub can_mark : List Bool → List ℕ → Bool
+can_mark marks [] = true
+can_mark marks (page ∷ pages) = not (is_marked marks page) && can_mark (slice_set marks page true) pages
+
+abbrev pub marked : List Bool → List ℕ → List Bool
+marked marks [] = marks
+marked marks (page ∷ pages) = marked (slice_set marks page true) pages
+
+-- ---- a walk below a child, and below many
+
+-- a subtree, whose pages were not marked and then are, and so many entries
+pub record IsWalked (level : ℕ) (pages : List (List ℕ)) (c : Child) (before after : List Bool) (count : ℕ) : Type 0 where
+  pub subtree : IsSubtree level pages c
+  pub unmarked : can_mark before (pages_below level pages c) ≡ true
+  pub marks : after ≡ marked before (pages_below level pages c)
+  pub count_is : count ≡ length (entries_below level pages c)
+
+pub record AreWalked (level : ℕ) (pages : List (List ℕ)) (cs : List Child) (before after : List Bool) (count : ℕ) : Type 0 where
+  pub subtrees : AllByRecursion (IsSubtree level pages) cs
+  pub unmarked : can_mark before (flat_map (pages_below level pages) cs) ≡ true
+  pub marks : after ≡ marked before (flat_map (pages_below level pages) cs)
+  pub count_is : count ≡ length (flat_map (entries_below level pages) cs)
+
+-- the child leads to no subtree of pages that were not marked
+abbrev pub BreaksWalk : (level : ℕ) → List (List ℕ) → Child → List Bool → ℕ → Type 0
+BreaksWalk level pages c before page = IsSubtree level pages c → can_mark before (pages_below level pages c) ≡ true → ⊥
+
+abbrev pub BreakWalk : (level : ℕ) → List (List ℕ) → List Child → List Bool → ℕ → Type 0
+BreakWalk level pages cs before page = AllByRecursion (IsSubtree level pages) cs → can_mark before (flat_map (pages_below level pages) cs) ≡ true → ⊥
+
+-- ---- the level of page 0
+
+-- page 0 leads to no subtree of another level
+abbrev pub IsTopLevel : List (List ℕ) → ℕ → Type 0
+IsTopLevel pages found = (found < max_height) × ((level : ℕ) → level < max_height → IsSubtree level pages top → level ≡ found)
+
+-- ---- the whole
+
+-- a tree, all of whose pages are marked and no others, and so many entries
+pub record IsCounted (pages : List (List ℕ)) (marks : List Bool) (count : ℕ) : Type 0 where
+  pub height : ℕ
+  pub tree : IsTree pages height
+  pub marks_are : AreMarksOf (pages_of pages height) marks
+  pub count_is : count ≡ length (table_of pages height)

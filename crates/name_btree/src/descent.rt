@@ -1,0 +1,129 @@
+//! The way to a leaf.
+ghost use Rattle.std.specs.Prelude.{◌≡◌, ◌+◌, ◌-◌, ◌<◌, ◌≤◌, ℕ, IfOk, IfErr, Some, length, drop, true};
+ghost use Rattle.fsd_formats.specs.NamePage.{Leaf};
+ghost use Rattle.fsd_table.specs.Pages.{page_at};
+ghost use Rattle.name_btree.specs.Cut.{is_before};
+ghost use Rattle.name_btree.specs.Descent.{end_of, way_to, IsPlace};
+ghost use Rattle.name_btree.specs.Fault.{HasCause, BreaksSubtree};
+ghost use Rattle.name_page.specs.Pages.{reaches};
+
+use crate::child::child_node;
+use crate::cut::Cut;
+use crate::fault::TreeFault;
+use crate::node::{Entries, Node, Ways};
+use fsd_bytes::Key;
+use fsd_table::Child;
+use name_page::Pages;
+
+// A child, and the nearest ones on each side of it.
+#[derive(Drop)]
+struct Way {
+    child: Child,
+    previous: Option<Child>,
+    next: Option<Child>,
+}
+
+/// The leaf at a place between keys, and the nearest children on each side of the way to it.
+#[derive(Drop)]
+pub(crate) struct Found {
+    pub(crate) page: u32,
+    pub(crate) entries: Entries,
+    pub(crate) previous: Option<Child>,
+    pub(crate) next: Option<Child>,
+}
+
+pub(crate) fn copied(key: &Option<Key>) -> Option<Key>
+    ensures { result ≡ key.now }
+{
+    match key {
+        Some(key) => Some(key.copied()),
+        None => None,
+    }
+}
+
+// Where child `i` ends, counted from 0.
+pub(crate) fn end_of(ways: &Ways, i: u32, high: &Option<Key>) -> Option<Key>
+    requires { i ≤ length ways.now.1 }
+    ensures { result ≡ end_of high.now (drop i ways.now.1) }
+{
+    if i < ways.len() {
+        Some(ways.get(i).key)
+    } else {
+        copied(high)
+    }
+}
+
+// The child at a place between keys.
+fn way_to(ways: &Ways, way: Way, cut: &Cut) -> Way
+    ensures { result ≡ way_to (is_before cut.now) way.previous way.next ways.now.0 way.child.low way.child.high ways.now.1 }
+{
+    let high = way.child.high;
+    let mut page = ways.first();
+    let mut low = way.child.low;
+    let mut previous = way.previous;
+    for i in 0..ways.len() {
+        let separator = ways.get(i);
+        if !cut.is_before(&separator.key) {
+            let next = Child {
+                page: separator.child,
+                low: Some(separator.key.copied()),
+                high: end_of(ways, i + 1, &high),
+            };
+            let child = Child {
+                page,
+                low,
+                high: Some(separator.key),
+            };
+            return Way {
+                child,
+                previous,
+                next: Some(next),
+            };
+        }
+        previous = Some(Child {
+            page,
+            low,
+            high: Some(separator.key.copied()),
+        });
+        page = separator.child;
+        low = Some(separator.key);
+    }
+    Way {
+        child: Child { page, low, high },
+        previous,
+        next: way.next,
+    }
+}
+
+/// The leaf below a child at a place between keys.
+pub(crate) fn leaf_below<T: Pages>(t: &mut T, start: Child, cut: &Cut) -> Result<Found, TreeFault>
+    requires { 6 ≤ reaches (T.step t.old) }
+    ensures images { (T.step t.new).images ≡ (T.step t.old).images }
+    ensures spares { (T.step t.new).spares ≡ (T.step t.old).spares }
+    ensures step { (T.step t.new).most_reached ≡ (T.step t.old).most_reached }
+    ensures reaches { reaches (T.step t.old) ≤ reaches (T.step t.new) + 6 }
+    ensures leaf { IfOk result (λ found. page_at (T.step t.old).images found.page ≡ Some (Leaf found.entries)) }
+    ensures place { IfOk result (IsPlace (is_before cut.now) (T.step t.old).images start) }
+    ensures fault { IfErr result (HasCause (T.step t.new).refusal (BreaksSubtree (T.step t.old).images start)) }
+{
+    let mut way = Way {
+        child: start,
+        previous: None,
+        next: None,
+    };
+    for _ in 0..6u32 {
+        match child_node(t, &way.child)? {
+            Node::Free => return Err(TreeFault::Broken(way.child.page)),
+            Node::Leaf(entries) => {
+                return Ok(Found {
+                    page: way.child.page,
+                    entries,
+                    previous: way.previous,
+                    next: way.next,
+                });
+            }
+            Node::Interior(ways) => way = way_to(&ways, way, cut),
+        }
+    }
+    Err(TreeFault::Broken(way.child.page))
+}

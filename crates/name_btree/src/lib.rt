@@ -1,0 +1,165 @@
+//! The name table: a B-tree of name pages that is an ordered map from keys to entries.
+#![tactic(auto)]
+
+ghost use Rattle.std.specs.Prelude.{◌≡◌, ◌≤◌, IfSome, IfOk, IsTrue, true};
+ghost use Rattle.fsd_bytes.specs.Keys.{is_key};
+ghost use Rattle.fsd_formats.specs.NamePage.{is_entry};
+ghost use Rattle.name_page.specs.Pages.{reaches};
+
+mod child;
+mod cut;
+mod descent;
+mod fault;
+mod lookup;
+mod node;
+mod walking;
+
+pub use fault::TreeFault;
+pub use lookup::{find, highest, next_after};
+pub use walking::walk;
+
+#[cfg(test)]
+mod tests {
+    use super::*;
+    use fsd_bytes::{FileName, Key, Refusal, Serial};
+    use name_page::{Entry, Pages, Separator, VecPages, entry_len, write_interior, write_leaf};
+    use run_table::{Run, Runs};
+    use std::alloc::{AllocError, Global};
+    use std::test::Fail;
+
+    // A name of 40 bytes, by its last one.
+    fn name(last: u8) -> FileName {
+        let mut bytes = [b'n'; 40];
+        bytes[39] = last;
+        FileName::parse(&bytes).unwrap_or_default()
+    }
+
+    fn key(last: u8, version: u32) -> Key {
+        Key {
+            name: name(last),
+            version,
+        }
+    }
+
+    // An empty version in one sector.
+    fn entry(key: Key) -> Option<Entry>
+        ensures { IfSome result (λ e. is_entry e ≡ true) }
+    {
+        let mut runs = Runs::new();
+        runs.push(Run {
+            start: 921,
+            length: 1,
+        });
+        if key.version == 0 {
+            return None;
+        }
+        match FileName::parse(key.name.as_bytes()) {
+            Ok(name) => Some(Entry {
+                key: Key {
+                    name,
+                    version: key.version,
+                },
+                keep: 2,
+                serial: Serial { epoch: 2, count: 1 },
+                length: 0,
+                runs,
+            }),
+            Err(_) => None,
+        }
+    }
+
+    fn separator(last: u8, version: u32, child: u32) -> Separator
+        requires { 1 ≤ version }
+        ensures { IsTrue (is_key result.key) }
+    {
+        let name = name(last);
+        let _bytes = name.as_bytes();
+        Separator {
+            key: Key { name, version },
+            child,
+        }
+    }
+
+    // A leaf of three versions.
+    fn leaf(page: u32, a: Key, b: Key, c: Key) -> [u8; 512] {
+        let mut image = [0; 512];
+        if let (Some(a), Some(b), Some(c)) = (entry(a), entry(b), entry(c)) {
+            let _used = entry_len(&a) + entry_len(&b) + entry_len(&c);
+            write_leaf(page, &[a, b, c], &mut image);
+        }
+        image
+    }
+
+    // A root and two leaves. The keys of the right child are from b!9 on.
+    fn table(alloc: Global, left: u32, right: u32) -> Result<VecPages, AllocError>
+        ensures { IfOk result (λ t. reaches (⟦<VecPages as Pages>⟧.step t) ≡ 80) }
+    {
+        let mut root = [0; 512];
+        write_interior(0, left, &[separator(b'b', 9, right)], &mut root);
+        let low = leaf(1, key(b'a', 1), key(b'b', 2), key(b'b', 5));
+        let high = leaf(2, key(b'p', 1), key(b'q', 3), key(b'q', 4));
+        let pages = vec![in alloc; root, low, high]?;
+        Ok(VecPages::new(pages, vec![in alloc; false; 3]?, 100))
+    }
+
+    #[test]
+    fn keys_are_found(rt: HostRuntime) -> Result<(), Fail> {
+        let mut t = table(rt.alloc(), 1, 2)?;
+        for (last, version, stands) in [
+            (b'a', 1, true),
+            (b'b', 5, true),
+            (b'b', 9, false),
+            (b'q', 3, true),
+        ] {
+            t.rest();
+            assert_eq!(rt; find(&mut t, &key(last, version))?.is_some(), stands);
+        }
+        Ok(())
+    }
+
+    #[test]
+    fn highest_versions_are_found(rt: HostRuntime) -> Result<(), Fail> {
+        let mut t = table(rt.alloc(), 1, 2)?;
+        for (last, version) in [(b'a', 1), (b'b', 5), (b'c', 0), (b'q', 4)] {
+            t.rest();
+            let found = highest(&mut t, &name(last))?;
+            assert_eq!(rt; found.map_or(0, |e| e.key.version), version);
+        }
+        Ok(())
+    }
+
+    #[test]
+    fn entries_come_in_order(rt: HostRuntime) -> Result<(), Fail> {
+        let mut t = table(rt.alloc(), 1, 2)?;
+        let mut last = None;
+        for (letter, version) in [
+            (b'a', 1),
+            (b'b', 2),
+            (b'b', 5),
+            (b'p', 1),
+            (b'q', 3),
+            (b'q', 4),
+        ] {
+            t.rest();
+            let found = next_after(&mut t, last.as_ref())?;
+            last = found.map(|e| e.key);
+            assert_eq!(rt; last, Some(key(letter, version)));
+        }
+        t.rest();
+        assert!(rt; next_after(&mut t, last.as_ref())?.is_none());
+        Ok(())
+    }
+
+    #[test]
+    fn broken_tables_are_told(rt: HostRuntime) -> Result<(), Fail> {
+        for (left, right, fault) in [
+            (2, 1, TreeFault::Broken(1)),
+            (1, 0, TreeFault::Broken(0)),
+            (1, 3, TreeFault::Pages(Refusal::Unsound(100))),
+        ] {
+            let mut t = table(rt.alloc(), left, right)?;
+            assert_eq!(rt; find(&mut t, &key(b'q', 3)).err(), Some(fault));
+        }
+        Ok(())
+    }
+}

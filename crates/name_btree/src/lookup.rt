@@ -1,0 +1,181 @@
+//! Looking up entries.
+ghost use Rattle.std.specs.Prelude.{◌≡◌, ◌+◌, ◌<◌, ◌≤◌, ℕ, IfOk, IfErr, Some, None, length, find, drop, take, not, if◌then◌else◌};
+ghost use Rattle.std.specs.Option.{option_copied};
+ghost use Rattle.fsd_table.specs.Table.{top};
+ghost use Rattle.fsd_table.specs.Tree.{IsTree, table_of};
+ghost use Rattle.name_btree.specs.Cut.{after_cut, is_before};
+ghost use Rattle.name_btree.specs.Descent.{BeginsWith, EndsWith};
+ghost use Rattle.name_btree.specs.Fault.{HasCause, BreaksInner, BreaksTree};
+ghost use Rattle.name_btree.specs.Lookups.{entry_with, entry_after, highest_of, last_that, same_name};
+ghost use Rattle.name_page.specs.Pages.{reaches};
+
+use crate::cut::Cut;
+use crate::descent::leaf_below;
+use crate::fault::TreeFault;
+use crate::node::Entries;
+use fsd_bytes::{FileName, Key};
+use fsd_formats::Entry;
+use fsd_table::Child;
+use name_page::Pages;
+
+// Page 0, below which all pages stand.
+pub(crate) fn top() -> Child
+    ensures { result ≡ top }
+{
+    Child {
+        page: 0,
+        low: None,
+        high: None,
+    }
+}
+
+fn entry_in(entries: &Entries, key: &Key) -> Option<Entry>
+    ensures { result ≡ entry_with key.now entries.now }
+{
+    for i in 0..entries.len() {
+        let entry = entries.get(i);
+        if entry.key.cmp(key).is_eq() {
+            return Some(entry);
+        }
+    }
+    None
+}
+
+/// The entry with this key.
+pub fn find<T: Pages>(t: &mut T, key: &Key) -> Result<Option<Entry>, TreeFault>
+    requires { 80 ≤ reaches (T.step t.old) }
+    ensures images { (T.step t.new).images ≡ (T.step t.old).images }
+    ensures spares { (T.step t.new).spares ≡ (T.step t.old).spares }
+    ensures step { (T.step t.new).most_reached ≡ (T.step t.old).most_reached }
+    ensures reaches { reaches (T.step t.old) ≤ reaches (T.step t.new) + 6 }
+    ensures found { IfOk result (λ found. (height : ℕ) → IsTree (T.step t.old).images height → found ≡ entry_with key.now (table_of (T.step t.old).images height)) }
+    ensures fault { IfErr result (HasCause (T.step t.new).refusal (BreaksTree (T.step t.old).images)) }
+{
+    let found = leaf_below(t, top(), &Cut::UpTo(key.copied()))?;
+    Ok(entry_in(&found.entries, key))
+}
+
+// The first entry behind a place between keys.
+fn first_behind(entries: &Entries, cut: &Cut) -> Option<Entry>
+    ensures { result ≡ find (λ e. not (is_before cut.now e.key)) entries.now }
+{
+    for i in 0..entries.len() {
+        let entry = entries.get(i);
+        if !cut.is_before(&entry.key) {
+            return Some(entry);
+        }
+    }
+    None
+}
+
+// The last entry before a place between keys.
+fn last_before(entries: &Entries, cut: &Cut) -> Option<Entry>
+    ensures { result ≡ last_that (λ e. is_before cut.now e.key) entries.now }
+{
+    for i in (0..entries.len()).rev() {
+        let entry = entries.get(i);
+        if cut.is_before(&entry.key) {
+            return Some(entry);
+        }
+    }
+    None
+}
+
+// The entry, if it has the name.
+fn named(entry: Entry, name: &FileName) -> Option<Entry>
+    ensures { result ≡ (if same_name entry.key.name name.now then Some entry else None) }
+{
+    if entry.key.name.cmp(name).is_eq() {
+        Some(entry)
+    } else {
+        None
+    }
+}
+
+// The first entry below a child.
+fn first_below<T: Pages>(t: &mut T, child: Child) -> Result<Entry, TreeFault>
+    requires { 6 ≤ reaches (T.step t.old) }
+    ensures images { (T.step t.new).images ≡ (T.step t.old).images }
+    ensures spares { (T.step t.new).spares ≡ (T.step t.old).spares }
+    ensures step { (T.step t.new).most_reached ≡ (T.step t.old).most_reached }
+    ensures reaches { reaches (T.step t.old) ≤ reaches (T.step t.new) + 6 }
+    ensures first { IfOk result (BeginsWith (T.step t.old).images child) }
+    ensures fault { IfErr result (HasCause (T.step t.new).refusal (BreaksInner (T.step t.old).images child)) }
+{
+    let found = leaf_below(t, child, &Cut::Start)?;
+    if found.entries.len() == 0 {
+        return Err(TreeFault::Broken(found.page));
+    }
+    Ok(found.entries.get(0))
+}
+
+// The last entry below a child.
+fn last_below<T: Pages>(t: &mut T, child: Child) -> Result<Entry, TreeFault>
+    requires { 6 ≤ reaches (T.step t.old) }
+    ensures images { (T.step t.new).images ≡ (T.step t.old).images }
+    ensures spares { (T.step t.new).spares ≡ (T.step t.old).spares }
+    ensures step { (T.step t.new).most_reached ≡ (T.step t.old).most_reached }
+    ensures reaches { reaches (T.step t.old) ≤ reaches (T.step t.new) + 6 }
+    ensures last { IfOk result (EndsWith (T.step t.old).images child) }
+    ensures fault { IfErr result (HasCause (T.step t.new).refusal (BreaksInner (T.step t.old).images child)) }
+{
+    let found = leaf_below(t, child, &Cut::End)?;
+    let count = found.entries.len();
+    if count == 0 {
+        return Err(TreeFault::Broken(found.page));
+    }
+    Ok(found.entries.get(count - 1))
+}
+
+// The place behind a key, or before all.
+fn cut_after(after: Option<&Key>) -> Cut
+    ensures { result ≡ after_cut (option_copied after.entry) }
+{
+    match after {
+        Some(key) => Cut::UpTo(key.copied()),
+        None => Cut::Start,
+    }
+}
+
+/// The entry with the least later key. Any key is later than none.
+pub fn next_after<T: Pages>(t: &mut T, after: Option<&Key>) -> Result<Option<Entry>, TreeFault>
+    requires { 80 ≤ reaches (T.step t.old) }
+    ensures images { (T.step t.new).images ≡ (T.step t.old).images }
+    ensures spares { (T.step t.new).spares ≡ (T.step t.old).spares }
+    ensures step { (T.step t.new).most_reached ≡ (T.step t.old).most_reached }
+    ensures reaches { reaches (T.step t.old) ≤ reaches (T.step t.new) + 12 }
+    ensures found { IfOk result (λ found. (height : ℕ) → IsTree (T.step t.old).images height
+        → found ≡ entry_after (option_copied after.entry) (table_of (T.step t.old).images height)) }
+    ensures fault { IfErr result (HasCause (T.step t.new).refusal (BreaksTree (T.step t.old).images)) }
+{
+    let cut = cut_after(after);
+    let found = leaf_below(t, top(), &cut)?;
+    if let Some(entry) = first_behind(&found.entries, &cut) {
+        return Ok(Some(entry));
+    }
+    match found.next {
+        Some(next) => Ok(Some(first_below(t, next)?)),
+        None => Ok(None),
+    }
+}
+
+/// The entry with the highest version of a name.
+pub fn highest<T: Pages>(t: &mut T, name: &FileName) -> Result<Option<Entry>, TreeFault>
+    requires { 80 ≤ reaches (T.step t.old) }
+    ensures images { (T.step t.new).images ≡ (T.step t.old).images }
+    ensures spares { (T.step t.new).spares ≡ (T.step t.old).spares }
+    ensures step { (T.step t.new).most_reached ≡ (T.step t.old).most_reached }
+    ensures reaches { reaches (T.step t.old) ≤ reaches (T.step t.new) + 12 }
+    ensures found { IfOk result (λ found. (height : ℕ) → IsTree (T.step t.old).images height → found ≡ highest_of name.now (table_of (T.step t.old).images height)) }
+    ensures fault { IfErr result (HasCause (T.step t.new).refusal (BreaksTree (T.step t.old).images)) }
+{
+    let cut = Cut::Named(name.copied());
+    let found = leaf_below(t, top(), &cut)?;
+    if let Some(entry) = last_before(&found.entries, &cut) {
+        return Ok(named(entry, name));
+    }
+    match found.previous {
+        Some(previous) => Ok(named(last_below(t, previous)?, name)),
+        None => Ok(None),
+    }
+}

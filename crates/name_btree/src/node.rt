@@ -1,0 +1,133 @@
+//! Pages as values.
+ghost use Rattle.std.specs.Prelude.{◌≡◌, ◌+◌, ◌<◌, ◌≤◌, IfOk, IfErr, IsSome, Some, length, slice_get};
+ghost use Rattle.fsd_table.specs.Pages.{page_at};
+ghost use Rattle.name_page.specs.Reading.{content_in};
+ghost use Rattle.name_btree.specs.Node.{content_of};
+ghost use Rattle.name_btree.specs.Fault.{HasCause, Never};
+ghost use Rattle.name_page.specs.Pages.{reaches};
+
+use crate::fault::TreeFault;
+use fsd_bytes::{u8_at, u16_at, u32_at};
+use fsd_formats::{Entry, Separator};
+use name_page::{Pages, leaf_entry, separator};
+use std::marker::Model;
+
+/// The entries of a leaf.
+#[derive(Drop)]
+pub(crate) struct Entries {
+    image: [u8; 512],
+    count: u32,
+}
+
+impl Model for Entries {
+    ghost use Rattle.std.specs.Prelude.{List, ◌≡◌, length};
+    ghost use Rattle.fsd_formats.specs.declared.entry.Entry.{Entry};
+    ghost use Rattle.name_page.specs.Reading.{entries_in};
+
+    ghost Value = { List Entry };
+
+    ghost view = { λ s. entries_in s.image };
+
+    ghost invariant = { λ s. s.count ≡ length (entries_in s.image) };
+}
+
+impl Entries {
+    pub(crate) fn len(&self) -> u32
+        ensures { result ≡ length self.now }
+    {
+        self.count
+    }
+
+    /// Entry `i`, counted from 0.
+    pub(crate) fn get(&self, i: u32) -> Entry
+        requires { i < length self.now }
+        ensures { slice_get self.now i ≡ Some result }
+    {
+        leaf_entry(&self.image, i)
+    }
+}
+
+/// The first child of an interior page, and its separators.
+#[derive(Drop)]
+pub(crate) struct Ways {
+    image: [u8; 512],
+    first: u32,
+    count: u32,
+}
+
+impl Model for Ways {
+    ghost use Rattle.std.specs.Prelude.{ℕ, List, ◌≡◌, length};
+    ghost use Rattle.fsd_formats.specs.declared.page.Separator.{Separator};
+    ghost use Rattle.name_page.specs.Reading.{separators_in};
+
+    ghost Value = { ℕ × List Separator };
+
+    ghost view = { λ s. (s.first, separators_in s.image) };
+
+    ghost invariant = { λ s. s.count ≡ length (separators_in s.image) };
+}
+
+impl Ways {
+    pub(crate) fn first(&self) -> u32
+        ensures { result ≡ self.now.0 }
+    {
+        self.first
+    }
+
+    /// How many separators there are.
+    pub(crate) fn len(&self) -> u32
+        ensures { result ≡ length self.now.1 }
+    {
+        self.count
+    }
+
+    /// Separator `i`, counted from 0.
+    pub(crate) fn get(&self, i: u32) -> Separator
+        requires { i < length self.now.1 }
+        ensures { slice_get self.now.1 i ≡ Some result }
+    {
+        separator(&self.image, i)
+    }
+}
+
+/// What a page has.
+#[derive(Drop)]
+pub(crate) enum Node {
+    Free,
+    Leaf(Entries),
+    Interior(Ways),
+}
+
+// What the bytes of a page have.
+fn node_in(b: &[u8; 512]) -> Node
+    requires { IsSome (content_in b.now) }
+    ensures { content_in b.now ≡ Some (content_of result) }
+{
+    let count = u32::from(u16_at(b, 6));
+    match u8_at(b, 4) {
+        0 => Node::Free,
+        1 => Node::Leaf(Entries { image: *b, count }),
+        _ => Node::Interior(Ways {
+            image: *b,
+            first: u32_at(b, 24),
+            count,
+        }),
+    }
+}
+
+/// Reaches a page and looks at it.
+pub(crate) fn node_at<T: Pages>(t: &mut T, page: u32) -> Result<Node, TreeFault>
+    requires more { 0 < reaches (T.step t.old) }
+    requires within { page < length (T.step t.old).images }
+    ensures images { (T.step t.new).images ≡ (T.step t.old).images }
+    ensures spares { (T.step t.new).spares ≡ (T.step t.old).spares }
+    ensures step { (T.step t.new).most_reached ≡ (T.step t.old).most_reached }
+    ensures reaches { reaches (T.step t.old) ≤ reaches (T.step t.new) + 1 }
+    ensures node { IfOk result (λ node. page_at (T.step t.old).images page ≡ Some (content_of node)) }
+    ensures fault { IfErr result (HasCause (T.step t.new).refusal Never) }
+{
+    match t.reach(page) {
+        Ok(()) => Ok(node_in(t.look(page))),
+        Err(refusal) => Err(TreeFault::Pages(refusal)),
+    }
+}

@@ -1,0 +1,137 @@
+//! The walk over all pages that page 0 leads to.
+ghost use Rattle.std.specs.Prelude.{◌≡◌, ◌<◌, ◌≤◌, IfOk, IfErr, [], Some, true, length, not, slice_get, slice_set, if◌then◌else◌};
+ghost use Rattle.fsd_table.specs.Pages.{children};
+ghost use Rattle.fsd_table.specs.Table.{top};
+ghost use Rattle.name_btree.specs.Fault.{HasCause, BreaksSubtree, BreaksTree};
+ghost use Rattle.name_btree.specs.Walk.{AreMarksOf, is_marked, IsWalked, AreWalked, BreaksWalk, BreakWalk, IsTopLevel, IsCounted};
+
+use crate::child::child_node;
+use crate::descent::{copied, end_of};
+use crate::fault::TreeFault;
+use crate::lookup::top;
+use crate::node::{Node, Ways};
+use fsd_table::Child;
+use name_page::Pages;
+
+// Child `i` of an interior page, counted from 0.
+fn child_at(ways: &Ways, i: u32, above: &Child) -> Child
+    requires { i ≤ length ways.now.1 }
+    ensures { slice_get (children ways.now.0 above.now.low above.now.high ways.now.1) i ≡ Some result }
+{
+    let high = end_of(ways, i, &above.high);
+    if i == 0 {
+        return Child {
+            page: ways.first(),
+            low: copied(&above.low),
+            high,
+        };
+    }
+    let separator = ways.get(i - 1);
+    Child {
+        page: separator.child,
+        low: Some(separator.key),
+        high,
+    }
+}
+
+// Marks a page, unless it is marked.
+fn is_new(reached: &mut [bool], page: u32) -> bool
+    ensures new { result ≡ not (is_marked reached.old page) }
+    ensures marks { reached.new ≡ (if result then slice_set reached.old page true else reached.old) }
+{
+    let i = page as usize;
+    if i >= reached.len() || reached[i] {
+        return false;
+    }
+    reached[i] = true;
+    true
+}
+
+// The level of page 0, down the first children.
+fn top_level<T: Pages>(t: &mut T) -> Result<u32, TreeFault>
+    requires { 0 < (T.step t.old).most_reached }
+    ensures images { (T.step t.new).images ≡ (T.step t.old).images }
+    ensures spares { (T.step t.new).spares ≡ (T.step t.old).spares }
+    ensures step { (T.step t.new).most_reached ≡ (T.step t.old).most_reached }
+    ensures level { IfOk result (IsTopLevel (T.step t.old).images) }
+    ensures fault { IfErr result (HasCause (T.step t.new).refusal (BreaksSubtree (T.step t.old).images top)) }
+{
+    let mut child = top();
+    for level in 0..6u32 {
+        t.rest();
+        match child_node(t, &child)? {
+            Node::Free => return Err(TreeFault::Broken(child.page)),
+            Node::Leaf(_) => return Ok(level),
+            Node::Interior(ways) => child = child_at(&ways, 0, &child),
+        }
+    }
+    Err(TreeFault::Broken(child.page))
+}
+
+// Marks the pages below a child of a level, and counts their entries. Each page has a step of its own.
+#[cycle(walk)]
+fn walk_below<T: Pages>(
+    t: &mut T,
+    child: &Child,
+    level: u32,
+    reached: &mut [bool],
+) -> Result<u32, TreeFault>
+    requires more { 0 < (T.step t.old).most_reached }
+    requires level { level ≤ 5 }
+    ensures images { (T.step t.new).images ≡ (T.step t.old).images }
+    ensures spares { (T.step t.new).spares ≡ (T.step t.old).spares }
+    ensures step { (T.step t.new).most_reached ≡ (T.step t.old).most_reached }
+    ensures walked { IfOk result (IsWalked level (T.step t.old).images child.now reached.old reached.new) }
+    ensures fault { IfErr result (HasCause (T.step t.new).refusal (BreaksWalk level (T.step t.old).images child.now reached.old)) }
+{
+    if !is_new(reached, child.page) {
+        return Err(TreeFault::Broken(child.page));
+    }
+    t.rest();
+    match child_node(t, child)? {
+        Node::Leaf(entries) if level == 0 => Ok(entries.len()),
+        Node::Interior(ways) if level > 0 => walk_children(t, child, &ways, level - 1, reached),
+        _ => Err(TreeFault::Broken(child.page)),
+    }
+}
+
+#[cycle(walk)]
+fn walk_children<T: Pages>(
+    t: &mut T,
+    above: &Child,
+    ways: &Ways,
+    level: u32,
+    reached: &mut [bool],
+) -> Result<u32, TreeFault>
+    requires more { 0 < (T.step t.old).most_reached }
+    requires level { level ≤ 4 }
+    requires few { length ways.now.1 ≤ 9 }
+    ensures images { (T.step t.new).images ≡ (T.step t.old).images }
+    ensures spares { (T.step t.new).spares ≡ (T.step t.old).spares }
+    ensures step { (T.step t.new).most_reached ≡ (T.step t.old).most_reached }
+    ensures walked { IfOk result (AreWalked level (T.step t.old).images (children ways.now.0 above.now.low above.now.high ways.now.1) reached.old reached.new) }
+    ensures fault { IfErr result (HasCause (T.step t.new).refusal (BreakWalk level (T.step t.old).images (children ways.now.0 above.now.low above.now.high ways.now.1) reached.old)) }
+{
+    let mut count = 0;
+    for i in 0..ways.len() + 1 {
+        let child = child_at(ways, i, above);
+        count += walk_below(t, &child, level, reached)?;
+    }
+    Ok(count)
+}
+
+/// Marks the pages that page 0 leads to, and counts the entries. It ends over any pages at all, and rests before each that it
+/// reaches. After a fault some pages may be marked.
+pub fn walk<T: Pages>(t: &mut T, reached: &mut [bool]) -> Result<u32, TreeFault>
+    requires more { 0 < (T.step t.old).most_reached }
+    requires whole { length reached.old ≡ length (T.step t.old).images }
+    requires clear { AreMarksOf [] reached.old }
+    ensures images { (T.step t.new).images ≡ (T.step t.old).images }
+    ensures spares { (T.step t.new).spares ≡ (T.step t.old).spares }
+    ensures step { (T.step t.new).most_reached ≡ (T.step t.old).most_reached }
+    ensures counted { IfOk result (IsCounted (T.step t.old).images reached.new) }
+    ensures fault { IfErr result (HasCause (T.step t.new).refusal (BreaksTree (T.step t.old).images)) }
+{
+    let level = top_level(t)?;
+    walk_below(t, &top(), level, reached)
+}
