@@ -4,6 +4,8 @@
 mod longest;
 mod map;
 mod no_place;
+#[cfg(test)]
+mod tests;
 
 pub use map::Map;
 pub use no_place::NoPlace;

@@ -8,11 +8,11 @@ use Rattle.std.proofs.lemmas.List.Folds.{list_any-append}
 use Rattle.std.proofs.lemmas.List.Sums.{sum_by-cons}
 use Rattle.run_table.specs.declared.run.Run.{Run}
 use Rattle.run_table.specs.RunTable.{run_of, total, sectors_of}
-use Rattle.run_table.specs.Space.{contains, where_free, runs_of}
+use Rattle.run_table.specs.Space.{contains, all_differ, where_free, runs_of}
 use Rattle.sector_set.specs.SectorSet.{SectorsBelow, below, in_run, runs_from, IsFirstRun}
 use Rattle.sector_set.proofs.FreeLaws.{where_same, contains_where, contains_where_outside, contains_range, total_of_runs}
 use Rattle.sector_set.proofs.SetLaws.{contains_below}
-use Rattle.sector_set.specs.Area.{Area, area, without, together, AreIn, AreOut, Counts, IsOwn, left_of, IsFirstOf}
+use Rattle.sector_set.specs.Area.{Area, area, without, together, AreIn, AreOut, IsThere, Counts, IsOwn, left_of, IsFirstOf}
 use Rattle.sector_set.proofs.CountLaws.{none_where, count_without, count_together, no_more_than}
 
 -- ---- one run more
@@ -194,6 +194,35 @@ pub is_in_area : (from s : ℕ) (set : SectorsBelow) (m : Area) → area from se
 is_in_area from s set m is low high =
     let family : Area → Type 0 = λ v. v.from ≤ s → s < v.to → contains set.sectors s ≡ contains v.sectors s in
     subst family is (λ h k. sym (contains_where (contains set.sectors) from set.end s h k)) low high
+
+-- ---- whether sectors are in it, or out of it
+
+pub those_in : (from : ℕ) (set : SectorsBelow) (m : Area) (runs : List Run) → area from set.end (contains set.sectors) ≡ m → ((s : ℕ) → contains (sectors_of runs) s ≡ true → IsThere from set true s) → all_differ (sectors_of runs) ≡ true → AreIn m runs
+those_in from set m runs is each once =
+    subst (λ (v : Area). AreIn v runs) is (record {
+      inside = λ s c. let there = each s c in contains_where (contains set.sectors) from set.end s there.0 there.1 ∙ there.2;
+      differ = once;
+    })
+
+pub in_those : (from : ℕ) (set : SectorsBelow) (m : Area) (runs : List Run) → area from set.end (contains set.sectors) ≡ m → AreIn m runs → (s : ℕ) → contains (sectors_of runs) s ≡ true → IsThere from set true s
+in_those from set m runs is are s c =
+    let inside : contains (where_free (contains set.sectors) from set.end) s ≡ true = (subst (λ (v : Area). AreIn v runs) (sym is) are).inside s c in
+    let within = free_within from set.end (contains set.sectors) s inside in
+    (within.0, within.1, free_passes from set.end (contains set.sectors) s inside)
+
+pub those_out : (from : ℕ) (set : SectorsBelow) (m : Area) (runs : List Run) → area from set.end (contains set.sectors) ≡ m → ((s : ℕ) → contains (sectors_of runs) s ≡ true → IsThere from set false s) → all_differ (sectors_of runs) ≡ true → AreOut m runs
+those_out from set m runs is each once =
+    subst (λ (v : Area). AreOut v runs) is (record {
+      within = λ s c. let there = each s c in (there.0, there.1);
+      outside = λ s c. let there = each s c in contains_where (contains set.sectors) from set.end s there.0 there.1 ∙ there.2;
+      differ = once;
+    })
+
+pub out_those : (from : ℕ) (set : SectorsBelow) (m : Area) (runs : List Run) → area from set.end (contains set.sectors) ≡ m → AreOut m runs → (s : ℕ) → contains (sectors_of runs) s ≡ true → IsThere from set false s
+out_those from set m runs is are s c =
+    let out : AreOut (area from set.end (contains set.sectors)) runs = subst (λ (v : Area). AreOut v runs) (sym is) are in
+    let within = out.within s c in
+    (within.0, within.1, sym (contains_where (contains set.sectors) from set.end s within.0 within.1) ∙ out.outside s c)
 
 -- ---- its runs from a place on
 

@@ -37,6 +37,10 @@ pub record AreOut (m : Area) (runs : List Run) : Type 0 where
   pub outside : (s : ℕ) → IsTrue (contains (sectors_of runs) s) → IsFalse (contains m.sectors s)
   pub differ : IsTrue (all_differ (sectors_of runs))
 
+-- a sector from a place on up to the end, in the set or not as is wanted
+abbrev pub IsThere : ℕ → SectorsBelow → Bool → ℕ → Type 0
+IsThere from set wanted s = (from ≤ s) × (s < set.end) × (contains set.sectors s ≡ wanted)
+
 -- the number of a set's sectors from a place on
 pub record Counts (from : ℕ) (set : SectorsBelow) (count : ℕ) : Type 0 where
   pub order : from ≤ set.end

@@ -1,3 +1,4 @@
 pub mod Area
 pub mod Bits
+pub mod Meet
 pub mod SectorSet

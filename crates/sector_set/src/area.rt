@@ -1,8 +1,10 @@
 //! Sets of sectors of an interval that know their number.
-ghost use Rattle.std.specs.Prelude.{◌≡◌, ◌+◌, ◌≤◌, ◌<◌, ◌^◌, ◌||◌, ◌&&◌, ℕ, not, false, length, IfOk, IfSome};
+ghost use Rattle.std.specs.Prelude.{◌≡◌, ◌+◌, ◌≤◌, ◌<◌, ◌^◌, ◌||◌, ◌&&◌, ◌↔◌, ℕ, not, false, length, IfOk, IfSome, IsTrue};
 ghost use Rattle.run_table.specs.RunTable.{sectors_of};
 ghost use Rattle.run_table.specs.Space.{contains, where_free, runs_of};
+ghost use Rattle.sector_set.specs.Area.{IsThere};
 
+use crate::meet::differ;
 use crate::set::SectorSet;
 use run_table::{Run, Runs};
 use std::alloc::{AllocError, Global};
@@ -91,6 +93,22 @@ impl SectorArea {
         self.set.contains(s)
     }
 
+    /// Whether the sectors of runs are in it, each named once.
+    pub fn are_in(&self, runs: &Runs) -> bool
+        ensures { IsTrue result ↔ AreIn self.now runs.now }
+    {
+        let runs = runs.as_slice();
+        all_are(&self.set, self.from, runs, true) && differ(runs)
+    }
+
+    /// Whether the sectors of runs are of the interval and not in it, each named once.
+    pub fn are_out(&self, runs: &Runs) -> bool
+        ensures { IsTrue result ↔ AreOut self.now runs.now }
+    {
+        let runs = runs.as_slice();
+        all_are(&self.set, self.from, runs, false) && differ(runs)
+    }
+
     /// The first run of its sectors from `at` on: adjacent sectors, as many as there are.
     pub fn next_run(&self, at: u32) -> Option<Run>
         requires from { self.now.from ≤ at }
@@ -119,6 +137,31 @@ impl SectorArea {
         insert_all(&mut self.set, runs.as_slice());
         self.count += runs.total();
     }
+}
+
+// Whether each sector of runs is one from a place on up to the end, in the set or not as is wanted.
+fn all_are(set: &SectorSet, from: u32, runs: &[Run], wanted: bool) -> bool
+    ensures { IsTrue result ↔ ((s : ℕ) → IsTrue (contains (sectors_of runs.now) s) → IsThere from set.now wanted s) }
+{
+    for run in runs {
+        if !is_all(set, from, *run, wanted) {
+            return false;
+        }
+    }
+    true
+}
+
+fn is_all(set: &SectorSet, from: u32, run: Run, wanted: bool) -> bool
+    ensures { IsTrue result ↔ ((s : ℕ) → run.start ≤ s → s < run.start + run.length → IsThere from set.now wanted s) }
+{
+    if run.length == 0 {
+        return true;
+    }
+    if run.start < from || run.start > set.end() {
+        return false;
+    }
+    let past = set.first(run.start, !wanted);
+    run.start as u64 + run.length as u64 <= past as u64
 }
 
 // Takes the sectors of runs out of a set.

@@ -3,7 +3,9 @@
 
 mod area;
 mod bits;
+mod meet;
 mod set;
 
 pub use area::SectorArea;
+pub use meet::{differ, overlap};
 pub use set::SectorSet;

@@ -37,6 +37,13 @@ impl SectorSet {
         Ok(SectorSet { end, words })
     }
 
+    /// The end: all its sectors are below.
+    pub fn end(&self) -> u32
+        ensures { result ≡ self.now.end }
+    {
+        self.end
+    }
+
     /// Whether a sector is in it.
     pub fn contains(&self, s: u32) -> bool
         requires { s < self.now.end }
@@ -85,8 +92,8 @@ impl SectorSet {
         run.start.saturating_add(run.length).min(self.end)
     }
 
-    // The first sector from `at` on that is in it, or that is not, else the end.
-    fn first(&self, at: u32, wanted: bool) -> u32
+    /// The first sector from `at` on that is in it, or that is not, else the end.
+    pub(crate) fn first(&self, at: u32, wanted: bool) -> u32
         requires { at ≤ self.now.end }
         ensures { IsFirst self.now.end (contains self.now.sectors) at wanted result }
     {

@@ -12,8 +12,9 @@ use Rattle.sector_set.specs.Area.{Area, area, without, together, AreIn, AreOut, 
 use Rattle.run_table.proofs.SameLaws.{same_runs_are, runs_are_same}
 use Rattle.sector_set.proofs.FreeLaws.{where_same, contains_where}
 use Rattle.shadow_frees.specs.Waits.{AreApart}
-use Rattle.shadow_frees.specs.Readers.{Slots, meets, Agrees, has_same, has_sector, is_held, unheld, with_held, AreTogether, IsVersion, IsSlot, AreSlots}
-use Rattle.shadow_frees.proofs.MeetLaws.{none_any, any_none, all_any}
+use Rattle.sector_set.specs.Meet.{meets}
+use Rattle.shadow_frees.specs.Readers.{Slots, Agrees, has_same, has_sector, is_held, unheld, with_held, AreTogether, IsVersion, IsSlot, AreSlots}
+use Rattle.sector_set.proofs.MeetLaws.{none_any, any_none, all_any}
 
 -- ---- two versions are the same, or apart
 

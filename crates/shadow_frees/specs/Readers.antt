@@ -5,6 +5,7 @@ use Rattle.run_table.specs.declared.run.Run.{Run}
 use Rattle.run_table.specs.RunTable.{sectors_of, same_runs}
 use Rattle.run_table.specs.Space.{contains, all_differ}
 use Rattle.sector_set.specs.Area.{Area, area}
+use Rattle.sector_set.specs.Meet.{meets}
 
 -- for each slot the runs of the version that its reader holds, if there is one
 abbrev pub Slots : Type 0
@@ -13,10 +14,6 @@ Slots = List (Option (List Run))
 abbrev pub is_empty : Option (List Run) → Bool
 is_empty None = true
 is_empty (Some runs) = false
-
--- whether any of these sectors is one of the runs'
-abbrev pub meets : List ℕ → List Run → Bool
-meets sectors runs = list_any (contains sectors) (sectors_of runs)
 
 -- a slot has these very runs, or none of their sectors
 abbrev pub Agrees : List Run → Option (List Run) → Type 0

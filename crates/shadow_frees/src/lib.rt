@@ -2,8 +2,9 @@
 //! until these end.
 #![tactic(auto)]
 
-mod overlap;
 mod readers;
 mod shadow;
+#[cfg(test)]
+mod tests;
 
 pub use shadow::{Shadow, Waiting};

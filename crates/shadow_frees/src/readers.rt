@@ -1,13 +1,25 @@
 //! The versions that open readers hold, each in a slot.
-ghost use Rattle.std.specs.Prelude.{◌≡◌, ◌<◌, ◌↔◌, All, IsTrue, length, get_or, None, Some};
+ghost use Rattle.std.specs.Prelude.{◌≡◌, ◌<◌, ◌↔◌, not, All, IsTrue, length, get_or, None, Some};
 ghost use Rattle.std.specs.List.{list_any};
 ghost use Rattle.sector_set.specs.Area.{IsOwn};
+ghost use Rattle.sector_set.specs.Meet.{meets};
 ghost use Rattle.shadow_frees.specs.Waits.{AreApart};
-ghost use Rattle.shadow_frees.specs.Readers.{is_empty, meets, Agrees, AreSlots, AreTogether, AreWithin, has_same, unheld, with_held};
+ghost use Rattle.shadow_frees.specs.Readers.{is_empty, Agrees, AreSlots, AreTogether, AreWithin, has_same, unheld, with_held};
 
-use crate::overlap::overlap;
 use run_table::{Run, Runs};
-use sector_set::SectorArea;
+use sector_set::{SectorArea, overlap};
+
+/// Whether each slot holds something.
+pub(crate) fn are_all_taken(held: &[Option<Runs>]) -> bool
+    ensures { result ≡ not (list_any is_empty held.now) }
+{
+    for slot in held {
+        if slot.is_none() {
+            return false;
+        }
+    }
+    true
+}
 
 /// The first slot that holds nothing.
 pub(crate) fn empty_slot(held: &[Option<Runs>]) -> usize

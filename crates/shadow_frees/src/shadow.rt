@@ -1,5 +1,5 @@
 //! The sectors that wait.
-ghost use Rattle.std.specs.Prelude.{◌≡◌, ◌+◌, ◌<◌, ◌≤◌, ◌||◌, ◌↔◌, false, [], ◌∷◌, length, replicate, set, get_or, None, Some, All, IsTrue, IsNone, IsSome, IfOk, IfSome, OnSome};
+ghost use Rattle.std.specs.Prelude.{◌≡◌, ◌+◌, ◌<◌, ◌≤◌, ◌||◌, ◌↔◌, not, false, [], ◌∷◌, length, replicate, set, get_or, None, Some, All, IsTrue, IsNone, IsSome, IfOk, IfSome, OnSome};
 ghost use Rattle.std.specs.List.{list_any};
 ghost use Rattle.run_table.specs.Space.{contains};
 ghost use Rattle.sector_set.specs.Area.{area, without, together, AreIn, AreOut};
@@ -57,6 +57,35 @@ impl Shadow {
             unfinished,
             held: [None, None, None, None, None, None, None, None],
         })
+    }
+
+    /// Whether the runs' sectors are of the area and do not wait, each named once.
+    pub fn are_idle(&self, runs: &Runs) -> bool
+        ensures { IsTrue result ↔ AreIdle self.now runs.now }
+    {
+        self.removed.are_out(runs) && self.kept.are_out(runs) && self.unfinished.are_out(runs)
+    }
+
+    /// Whether the runs' sectors are of unfinished creations, each named once.
+    pub fn are_unfinished(&self, runs: &Runs) -> bool
+        ensures { IsTrue result ↔ AreIn self.now.unfinished runs.now }
+    {
+        self.unfinished.are_in(runs)
+    }
+
+    /// Whether eight readers hold a version each.
+    pub fn is_full(&self) -> bool
+        ensures { result ≡ not (list_any is_empty self.now.held) }
+    {
+        readers::are_all_taken(&self.held)
+    }
+
+    /// Whether a reader holds a version by this slot.
+    pub fn holds(&self, slot: u32) -> bool
+        requires { slot < 8 }
+        ensures { IsTrue result ↔ IsSome (get_or self.now.held slot None) }
+    {
+        self.held[slot as usize].is_some()
     }
 
     /// The sectors of a version that is removed wait for the next force, and then for the last reader that holds it.

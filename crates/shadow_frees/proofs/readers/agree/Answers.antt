@@ -2,7 +2,8 @@ use Rattle.std.proofs.Common.{◌∙◌, All, List, Some, None, sym, ap, subst, 
 use Rattle.std.proofs.lemmas.List.{take_all}
 use Rattle.run_table.specs.declared.run.Run.{Run}
 use Rattle.run_table.specs.RunTable.{sectors_of}
-use Rattle.shadow_frees.specs.Readers.{Agrees, meets}
+use Rattle.sector_set.specs.Meet.{meets}
+use Rattle.shadow_frees.specs.Readers.{Agrees}
 use Rattle.shadow_frees.proofs.HeldLaws.{slot_at, are_equal, no_agreement, agree_more}
 use Rattle.shadow_frees.proofs.readers.agree.Goals.{in-Some+else-ne, else-ne-via-then-ne+else-overlap, else-ne-via-else-ne, in_default}
 use Rattle.shadow_frees.proofs.readers.agree.Goals as goal

@@ -1,6 +1,6 @@
 use Rattle.std.proofs.Common.{◌∙◌, arith}
 use Rattle.run_table.specs.RunTable.{sectors_of}
-use Rattle.shadow_frees.proofs.MeetLaws.{first_is_in, first_decides}
+use Rattle.sector_set.proofs.MeetLaws.{first_is_in, first_decides}
 use Rattle.shadow_frees.proofs.readers.are_in.Goals as goal
 
 pub contains-requires-clause-from : goal.contains-requires-clause-from

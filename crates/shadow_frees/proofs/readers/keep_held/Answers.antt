@@ -1,8 +1,9 @@
 use Rattle.std.proofs.Common.{◌∙◌, List, Some, None, sym, ap, subst, arith}
 use Rattle.run_table.specs.declared.run.Run.{Run}
 use Rattle.sector_set.specs.Area.{Area}
-use Rattle.shadow_frees.specs.Readers.{meets, AreTogether}
-use Rattle.shadow_frees.proofs.MeetLaws.{none_any}
+use Rattle.sector_set.specs.Meet.{meets}
+use Rattle.shadow_frees.specs.Readers.{AreTogether}
+use Rattle.sector_set.proofs.MeetLaws.{none_any}
 use Rattle.run_table.specs.RunTable.{sectors_of}
 use Rattle.run_table.specs.Space.{contains}
 use Rattle.shadow_frees.proofs.HeldLaws.{slot_at, version_at, still_together, may_move, may_come, removed_moved, kept_moved, all_removed, removed_stays, kept_stays, all_there, all_kept, nobody, nothing_kept}

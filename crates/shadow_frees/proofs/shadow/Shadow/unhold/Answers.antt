@@ -1,6 +1,7 @@
 use Rattle.std.proofs.Common.{sym, subst, ap, ◌∙◌, All, set, None, List, Option, arith}
 use Rattle.run_table.specs.declared.run.Run.{Run}
-use Rattle.shadow_frees.specs.Readers.{Agrees, meets}
+use Rattle.sector_set.specs.Meet.{meets}
+use Rattle.shadow_frees.specs.Readers.{Agrees}
 use Rattle.shadow_frees.specs.Waits.{Waits, AreSound}
 use Rattle.sector_set.specs.Area.{AreIn}
 use Rattle.shadow_frees.proofs.HeldLaws.{nobody_holds}

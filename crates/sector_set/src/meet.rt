@@ -2,13 +2,13 @@
 ghost use Rattle.std.specs.Prelude.{◌≡◌};
 ghost use Rattle.std.specs.List.{list_any, range_with_len};
 ghost use Rattle.run_table.specs.RunTable.{sectors_of};
-ghost use Rattle.run_table.specs.Space.{contains};
-ghost use Rattle.shadow_frees.specs.Readers.{meets};
+ghost use Rattle.run_table.specs.Space.{contains, all_differ};
+ghost use Rattle.sector_set.specs.Meet.{meets};
 
 use run_table::Run;
 
 /// Whether a sector of some runs is one of other runs.
-pub(crate) fn overlap(runs: &[Run], others: &[Run]) -> bool
+pub fn overlap(runs: &[Run], others: &[Run]) -> bool
     ensures { result ≡ meets (sectors_of others.now) runs.now }
 {
     for run in runs {
@@ -37,4 +37,16 @@ fn run_overlaps_run(run: Run, other: Run) -> bool
     let end = run.start as u64 + run.length as u64;
     let other_end = other.start as u64 + other.length as u64;
     first < end && first < other_end
+}
+
+/// Whether the runs name each sector once.
+pub fn differ(runs: &[Run]) -> bool
+    ensures { result ≡ all_differ (sectors_of runs.now) }
+{
+    for (i, run) in runs.iter().enumerate() {
+        if run_overlaps(*run, &runs[i + 1..]) {
+            return false;
+        }
+    }
+    true
 }

@@ -1,7 +1,7 @@
 use Rattle.std.proofs.Common.{◌∙◌, sym, arith}
 use Rattle.std.proofs.lemmas.Bool.{le-ltb}
-use Rattle.shadow_frees.proofs.MeetLaws.{meet_in, meet_out}
-use Rattle.shadow_frees.proofs.overlap.run_overlaps_run.Goals as goal
+use Rattle.sector_set.proofs.MeetLaws.{meet_in, meet_out}
+use Rattle.sector_set.proofs.meet.run_overlaps_run.Goals as goal
 
 pub returns-then-first-end : goal.returns-then-first-end
 returns-then-first-end c = meet_in c.args.run.start c.args.run.length c.args.other.start c.args.other.length c.max-first.result (omega arith) (omega arith) (λ x a b. omega arith) (omega arith)

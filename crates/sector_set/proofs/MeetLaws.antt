@@ -9,7 +9,7 @@ use Rattle.run_table.specs.declared.run.Run.{Run}
 use Rattle.run_table.specs.RunTable.{sectors_of}
 use Rattle.run_table.specs.Space.{contains}
 use Rattle.sector_set.proofs.FreeLaws.{contains_range}
-use Rattle.shadow_frees.specs.Readers.{meets}
+use Rattle.sector_set.specs.Meet.{meets}
 
 -- ---- any of a list
 

@@ -1,7 +1,7 @@
 use Rattle.std.proofs.Common.{◌∙◌, sym, arith}
 use Rattle.std.specs.List.{range_with_len}
-use Rattle.shadow_frees.proofs.MeetLaws.{meet_found, meet_passed, meet_end}
-use Rattle.shadow_frees.proofs.overlap.run_overlaps.Goals as goal
+use Rattle.sector_set.proofs.MeetLaws.{meet_found, meet_passed, meet_end}
+use Rattle.sector_set.proofs.meet.run_overlaps.Goals as goal
 
 pub returns-then-run_overlaps_run : goal.returns-then-run_overlaps_run
 returns-then-run_overlaps_run c =

@@ -1,0 +1,188 @@
+//! The waiting sectors beside their plain program, over random calls.
+ghost use Rattle.std.specs.Prelude.{◌≡◌, ◌<◌};
+
+mod model;
+
+use crate::tests::model::{FROM, Made, Plain, TO, Wait};
+use crate::{Shadow, Waiting};
+use run_table::{Run, Runs};
+use std::process::Abort;
+use std::test::Fail;
+
+fn count(times: &mut u32) {
+    *times = times.wrapping_add(1);
+}
+
+// The next number of a fixed sequence.
+fn next(seed: &mut u64) -> u32 {
+    *seed = seed
+        .wrapping_mul(6_364_136_223_846_793_005)
+        .wrapping_add(1_442_695_040_888_963_407);
+    ((*seed >> 32) & 0xffff_ffff) as u32
+}
+
+// One of 24 versions; at times halves of two, past the end for the last, or a sector named twice.
+fn some_runs(seed: &mut u64) -> Runs {
+    let start = FROM + 4 * (next(seed) % 24);
+    let (skip, length) = match next(seed) % 8 {
+        0 | 1 => (2, 2),
+        2 => (0, 3),
+        _ => (0, 4),
+    };
+    let mut runs = Runs::new();
+    runs.push(Run {
+        start: start + skip,
+        length,
+    });
+    if length < 4 {
+        runs.push(Run {
+            start: start + skip + 2,
+            length: 2,
+        });
+    }
+    runs
+}
+
+// What a reader holds, or any of the versions.
+fn held_or_some(held: &Option<Runs>, seed: &mut u64) -> Runs {
+    if next(seed) % 2 == 0 {
+        if let Some(runs) = held {
+            return runs.copied();
+        }
+    }
+    some_runs(seed)
+}
+
+fn free(shadow: &mut Shadow, plain: &mut Plain, runs: &Runs)
+    ensures from { shadow.new.removed.from ≡ shadow.old.removed.from }
+    ensures to { shadow.new.removed.to ≡ shadow.old.removed.to }
+{
+    if shadow.are_idle(runs) && shadow.agrees(runs) {
+        shadow.freed(runs);
+        plain.put(runs, Wait::Force);
+        count(&mut plain.made.freed);
+    }
+}
+
+fn hold(rt: &impl Abort, shadow: &mut Shadow, plain: &mut Plain, runs: &Runs)
+    ensures { shadow.new.removed ≡ shadow.old.removed }
+{
+    if !shadow.is_full() && shadow.are_idle(runs) && shadow.agrees(runs) {
+        assert_eq!(rt; Some(shadow.hold(runs)), plain.hold(runs));
+        count(&mut plain.made.held);
+    }
+}
+
+fn unhold(rt: &impl Abort, shadow: &mut Shadow, plain: &mut Plain, slot: u32)
+    requires { slot < 8 }
+    ensures { shadow.new.removed ≡ shadow.old.removed }
+{
+    if shadow.holds(slot) {
+        let given = shadow.unhold(slot);
+        if given.is_some() {
+            count(&mut plain.made.given);
+        }
+        assert_eq!(rt; given, plain.unhold(slot));
+        count(&mut plain.made.unheld);
+    }
+}
+
+fn begin(shadow: &mut Shadow, plain: &mut Plain, runs: &Runs)
+    ensures { shadow.new.removed ≡ shadow.old.removed }
+{
+    if shadow.are_idle(runs) {
+        shadow.unfinished(runs);
+        plain.put(runs, Wait::Creation);
+        count(&mut plain.made.begun);
+    }
+}
+
+fn end(shadow: &mut Shadow, plain: &mut Plain, runs: &Runs)
+    ensures { shadow.new.removed ≡ shadow.old.removed }
+{
+    if shadow.are_unfinished(runs) {
+        shadow.ended(runs);
+        plain.put(runs, Wait::Nothing);
+        count(&mut plain.made.ended);
+    }
+}
+
+fn commit(rt: &impl Abort, shadow: &mut Shadow, plain: &mut Plain)
+    ensures from { shadow.new.removed.from ≡ shadow.old.removed.from }
+    ensures to { shadow.new.removed.to ≡ shadow.old.removed.to }
+{
+    for _ in FROM..TO {
+        let given = shadow.committed();
+        assert_eq!(rt; given, plain.committed());
+        if given.is_none() {
+            return;
+        }
+        count(&mut plain.made.committed);
+    }
+}
+
+fn tests_are_same(shadow: &Shadow, plain: &Plain, runs: &Runs, slot: u32) -> bool
+    requires { slot < 8 }
+{
+    shadow.are_idle(runs) == plain.are_all(runs, Wait::Nothing)
+        && shadow.are_unfinished(runs) == plain.are_all(runs, Wait::Creation)
+        && shadow.agrees(runs) == plain.agrees(runs)
+        && shadow.is_full() == plain.is_full()
+        && shadow.holds(slot) == plain.held[slot as usize].is_some()
+}
+
+fn sectors_are_same(shadow: &Shadow, plain: &Plain) -> bool
+    requires from { shadow.now.removed.from ≡ 100 }
+    requires to { shadow.now.removed.to ≡ 196 }
+{
+    for s in FROM..TO {
+        if shadow.waits(s) == (plain.sectors[(s - FROM) as usize] == Wait::Nothing) {
+            return false;
+        }
+    }
+    let removed = plain.count(Wait::Force);
+    let all = 96u32.wrapping_sub(plain.count(Wait::Nothing));
+    shadow.waiting() == Waiting { all, removed }
+}
+
+// One of the calls, where its tests say that it may be made.
+fn step(rt: &impl Abort, shadow: &mut Shadow, plain: &mut Plain, seed: &mut u64)
+    ensures from { shadow.new.removed.from ≡ shadow.old.removed.from }
+    ensures to { shadow.new.removed.to ≡ shadow.old.removed.to }
+{
+    let slot = next(seed) % 8;
+    let runs = held_or_some(&plain.held[slot as usize], seed);
+    assert!(rt; tests_are_same(shadow, plain, &runs, slot));
+    if shadow.is_full() {
+        count(&mut plain.made.full);
+    }
+    if !shadow.agrees(&runs) {
+        count(&mut plain.made.refused);
+    }
+    match next(seed) % 8 {
+        0 => free(shadow, plain, &runs),
+        1 | 2 | 3 => hold(rt, shadow, plain, &runs),
+        4 => unhold(rt, shadow, plain, slot),
+        5 => begin(shadow, plain, &runs),
+        6 => end(shadow, plain, &runs),
+        _ => commit(rt, shadow, plain),
+    }
+}
+
+#[test]
+fn waits_as_the_plain_program(rt: HostRuntime) -> Result<(), Fail> {
+    let mut shadow = Shadow::new(rt.alloc(), FROM, TO)?;
+    let mut plain = Plain {
+        sectors: [Wait::Nothing; 96],
+        held: [None, None, None, None, None, None, None, None],
+        made: Made::default(),
+    };
+    let mut seed = 1;
+    for call in 0u32..5000 {
+        step(&rt, &mut shadow, &mut plain, &mut seed);
+        assert!(rt; sectors_are_same(&shadow, &plain), "after call {call}");
+    }
+    let made = plain.made;
+    assert!(rt; made.least() > 80, "{made:?}");
+    Ok(())
+}
