@@ -1,9 +1,10 @@
 // Name pages at home.
 ghost use Rattle.std.specs.Prelude.{◌≡◌, ◌<◌, ◌≤◌, IfOk, IfErr, OnOk, OnErr};
+ghost use Rattle.sector_disk.specs.Image.{stand};
 ghost use Rattle.volume_layout.specs.Layout.{home_a, home_b};
-ghost use Rattle.sector_disk.specs.Machine.{DeviceFault, UsesDisk, Trusts, Wears, Writes, Tears, wrote};
+ghost use Rattle.sector_disk.specs.Machine.{DeviceFault, UsesDisk, Trusts, OnlyWrites, Wears, Writes, Tears, LeavesOnly, Holds, wrote};
 ghost use Rattle.fsd_sound.specs.Homes.{home_of};
-ghost use Rattle.twin_home.specs.Home.{ShowsHome};
+ghost use Rattle.twin_home.specs.Home.{ShowsHome, WritesPart, with_homes, HomesIn};
 
 use sector_disk::{Failed, Machine, Seen};
 use volume_layout::Layout;
@@ -48,6 +49,8 @@ pub fn write_a<M: Machine>(m: &mut M, l: &Layout, page: u32, b: &[u8; 512]) -> R
 
     ensures written { OnOk result (M.honest m.new → Writes (home_a l.now page) b.now (M.now m.old) (M.now m.new)) }
     ensures cut { M.honest m.new → Tears (home_a l.now page) b.now (M.now m.old) (M.now m.new) }
+    ensures any_moment { M.honest m.new → LeavesOnly M.moment M.left_since m.old m.new (WritesPart (home_a l.now page) b.now (M.now m.old)) }
+    ensures done { OnOk result (M.honest m.new → Holds (M.now m.old) (stand (M.now m.old).image (home_a l.now page) b.now 1) (M.now m.new)) }
 {
     m.write(l.home_a(page), b)
 }
@@ -65,6 +68,28 @@ pub fn write_b<M: Machine>(m: &mut M, l: &Layout, page: u32, b: &[u8; 512]) -> R
 
     ensures written { OnOk result (M.honest m.new → Writes (home_b l.now page) b.now (M.now m.old) (M.now m.new)) }
     ensures cut { M.honest m.new → Tears (home_b l.now page) b.now (M.now m.old) (M.now m.new) }
+    ensures any_moment { M.honest m.new → LeavesOnly M.moment M.left_since m.old m.new (WritesPart (home_b l.now page) b.now (M.now m.old)) }
+    ensures done { OnOk result (M.honest m.new → Holds (M.now m.old) (stand (M.now m.old).image (home_b l.now page) b.now 1) (M.now m.new)) }
 {
     m.write(l.home_b(page), b)
+}
+
+/// Writes a page to its first home, and then to its second.
+pub fn write_home<M: Machine>(m: &mut M, l: &Layout, page: u32, b: &[u8; 512]) -> Result<(), Failed>
+    requires page { page < l.now.pages }
+    requires room { l.now.sectors ≤ (M.report m.old).sectors }
+
+    ensures fault { IfErr result (λ failed. DeviceFault (M.report m.old) (M.report m.new) failed.place) }
+    ensures uses { UsesDisk (M.report m.old) (M.report m.new) }
+    ensures trust { Trusts (M.tells m.old) (M.tells m.new) (M.honest m.old) (M.honest m.new) }
+    ensures ledger { M.tells m.new → OnlyWrites (M.ledger m.old) (M.ledger m.new) }
+    ensures counted { OnOk result (M.tells m.new → M.ledger m.new ≡ wrote (M.ledger m.old) 2) }
+    ensures quiet { M.honest m.new → (M.now m.new).said ≡ (M.now m.old).said }
+    ensures windows { M.honest m.new → (M.now m.new).windows ≡ (M.now m.old).windows }
+
+    ensures any_moment { M.honest m.new → LeavesOnly M.moment M.left_since m.old m.new (HomesIn l.now page b.now (M.now m.old)) }
+    ensures done { OnOk result (M.honest m.new → Holds (M.now m.old) (with_homes l.now page b.now (M.now m.old).image 1 1) (M.now m.new)) }
+{
+    write_a(m, l, page, b)?;
+    write_b(m, l, page, b)
 }

@@ -3,7 +3,7 @@
 
 mod home;
 
-pub use home::{read_home, write_a, write_b};
+pub use home::{read_home, write_a, write_b, write_home};
 
 #[cfg(test)]
 mod tests {

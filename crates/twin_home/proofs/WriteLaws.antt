@@ -1,0 +1,57 @@
+-- A page that is written home.
+use Rattle.std.proofs.Common.{◌≡◌, ℕ, ◌/◌, List, length, Result, Ok, Err, subst, ◌∙◌, arith}
+use Rattle.std.specs.Prelude.{OnOk}
+use Rattle.volume_layout.specs.declared.layout.Layout.{Layout}
+use Rattle.volume_layout.specs.Layout.{home_a, home_b}
+use Rattle.sector_disk.specs.Image.{stand, IsWorn, Windows, open_damage}
+use Rattle.sector_disk.specs.Machine.{Moment, Tears, Writes, Holds}
+use Rattle.sector_disk.proofs.Holding.{holds_now, holds_tears, holds_writes}
+use Rattle.sector_disk.proofs.Wear.{worn_trans, stand_worn}
+use Rattle.sector_disk.specs.declared.sector.Sector.{Sector}
+use Rattle.twin_home.specs.Home.{WritesPart, with_homes, HomesIn}
+
+module _ (place : ℕ) (bytes : List ℕ) (long : length bytes ≡ 512) (old left : Moment) where
+  one : length bytes / 512 ≡ 1
+  one = omega (arith, long)
+
+  pub torn_part : Tears place bytes old left → WritesPart place bytes old left
+  torn_part torn =
+      let some = holds_tears old old.image old left (holds_now old) place bytes torn in
+      record { stood = some.stood; within = omega (arith, some.some, one); holds = some.holds }
+
+  pub written_whole : Writes place bytes old left → Holds old (stand old.image place bytes 1) left
+  written_whole written = subst (λ (k : ℕ). Holds old (stand old.image place bytes k) left) one (holds_writes old old.image old left (holds_now old) place bytes written)
+
+pub nothing_part : (place : ℕ) (bytes : List ℕ) (old : Moment) → WritesPart place bytes old old
+nothing_part place bytes old = record { stood = 0; within = omega arith; holds = holds_now old }
+
+-- a write over what holds
+pub holds_on : (old mid left : Moment) (image : List Sector) (place : ℕ) (bytes : List ℕ) (k : ℕ) → Holds old image mid → Holds mid (stand mid.image place bytes k) left → Holds old (stand image place bytes k) left
+holds_on old mid left image place bytes k first second =
+    let may = open_damage old.windows in
+    let worn : IsWorn (open_damage old.windows) (stand mid.image place bytes k) left.image = subst (λ (w : Windows). IsWorn (open_damage w) (stand mid.image place bytes k) left.image) first.windows second.worn in
+    record {
+      worn = worn_trans may (stand image place bytes k) (stand mid.image place bytes k) left.image (stand_worn may image mid.image place bytes k first.worn) worn;
+      windows = second.windows ∙ first.windows;
+      said = second.said ∙ first.said;
+    }
+
+pub on_ok_more : {T E : Type 0} (P Q : Type 0) (r : Result T E) → (P → Q) → OnOk r P → OnOk r Q
+on_ok_more P Q (Ok x) more p = more p
+on_ok_more P Q (Err e) more p = tt
+
+module _ (l : Layout) (page : ℕ) (bytes : List ℕ) (old : Moment) where
+  pub first_only : (left : Moment) → WritesPart (home_a l page) bytes old left → HomesIn l page bytes old left
+  first_only left part = record { first = part.stood; second = 0; in_order = omega arith; once = part.within; holds = part.holds }
+
+  pub then_second : (mid left : Moment) → Holds old (stand old.image (home_a l page) bytes 1) mid → WritesPart (home_b l page) bytes mid left → HomesIn l page bytes old left
+  then_second mid left first part = record {
+    first = 1;
+    second = part.stood;
+    in_order = part.within;
+    once = omega arith;
+    holds = holds_on old mid left (stand old.image (home_a l page) bytes 1) (home_b l page) bytes part.stood first part.holds;
+  }
+
+  pub both_stand : (mid left : Moment) → Holds old (stand old.image (home_a l page) bytes 1) mid → Holds mid (stand mid.image (home_b l page) bytes 1) left → Holds old (with_homes l page bytes old.image 1 1) left
+  both_stand mid left first second = holds_on old mid left (stand old.image (home_a l page) bytes 1) (home_b l page) bytes 1 first second
