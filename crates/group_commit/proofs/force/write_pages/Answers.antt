@@ -1,0 +1,86 @@
+use Rattle.std.proofs.Common.{◌≡◌, ◌*◌, ◌≤◌, ℕ, true, List, [], ◌∷◌, ◌++◌, length, take, sym, ap, subst, ◌∙◌, arith}
+use Rattle.std.proofs.lemmas.List.{length-take-le}
+use Rattle.fsd_formats.specs.Record.{Stamp, are_pages}
+use Rattle.fsd_log.specs.Borne.{FitsStamp}
+use Rattle.sector_disk.proofs.Moments.{leaves_more}
+use Rattle.log_thirds.specs.LogValue.{LogValue}
+use Rattle.log_thirds.specs.Append.{stamp_now, next_record, log_with, IsLogIn}
+use Rattle.log_thirds.proofs.MomentLaws.{all_small, are_few}
+use Rattle.group_commit.specs.Resident.{ResidentValue, stamped}
+use Rattle.group_commit.specs.Force.{Committed}
+use Rattle.group_commit.proofs.ImageLaws.{record_laid}
+use Rattle.group_commit.proofs.CommitLaws.{calm_moment, may_commit, commits, committed}
+use Rattle.group_commit.proofs.force.write_pages.Goals as goal
+
+pub append-requires-clause-stamped : goal.append-requires-clause-stamped
+append-requires-clause-stamped g c =
+    let log = c.args.log.now in
+    let s : ResidentValue = record { pages = c.args.pages.now; dirty = c.args.dirty.now } in
+    let read : Stamp = record { epoch = c.epoch.result; number = c.next_number.result } in
+    let stamp : read ≡ stamp_now log = λ i. record { epoch = c.epoch.ensures i; number = c.next_number.ensures i } in
+    let fits : FitsStamp read = record { epoch = c.epoch.type_inv; number = c.next_number.type_inv } in
+    let are : are_pages (length c.args.pages.now) c.args.dirty.now ≡ true = ap (λ (n : ℕ). are_pages n c.args.dirty.now) c.requires.table ∙ c.requires.accepted in
+    (record_laid (stamp_now log) read fits stamp s are c.requires.images c.told-pages c.stamp_pages.new.pages (take (512 * length c.args.dirty.now) c.lay_images.new.room) c.stamp_pages.ensures c.lay_images.ensures).bear
+
+pub returns-in_err-append-clause-any_moment : goal.returns-in_err-append-clause-any_moment
+returns-in_err-append-clause-any_moment g c windows records disk h1 calm ends over =
+    let M = g.M.Machine in
+    let old = M.now c.args.m.now in
+    let log = c.args.log.now in
+    let s : ResidentValue = record { pages = c.args.pages.now; dirty = c.args.dirty.now } in
+    let images : List ℕ = take (512 * length c.args.dirty.now) c.lay_images.new.room in
+    let read : Stamp = record { epoch = c.epoch.result; number = c.next_number.result } in
+    let stamp : read ≡ stamp_now log = λ i. record { epoch = c.epoch.ensures i; number = c.next_number.ensures i } in
+    let fits : FitsStamp read = record { epoch = c.epoch.type_inv; number = c.next_number.type_inv } in
+    let are : are_pages (length c.args.pages.now) c.args.dirty.now ≡ true = ap (λ (n : ℕ). are_pages n c.args.dirty.now) c.requires.table ∙ c.requires.accepted in
+    let of = record_laid (stamp_now log) read fits stamp s are c.requires.images c.told-pages c.stamp_pages.new.pages images c.stamp_pages.ensures c.lay_images.ensures in
+    let few : length c.args.dirty.now ≤ 96 = are_few log.layout.pages c.args.dirty.now c.requires.accepted in
+    let long : length images ≡ 512 * length c.args.dirty.now = length-take-le (512 * length c.args.dirty.now) c.lay_images.new.room (omega (arith, c.lay_images.auto.room, c.requires.long)) in
+    let sized : log.layout.sectors ≤ length old.image = omega (arith, c.requires.sectors, g.met.M.Machine.sized c.args.m.now (c.append.ensures.trust.honest h1)) in
+    let may = may_commit log s images records disk windows old c.append.ensures.shape c.requires.numbered c.requires.accepted (all_small c.args.dirty.now (λ k. omega (arith, c.type_inv.dirty k))) long of c.requires.fits sized c.requires.table calm ends over in
+    leaves_more M.moment M.left_since c.args.m.now c.append.new.m _ _
+    (λ left app. commits log s images records disk windows old may left app)
+    (c.append.ensures.any_moment records h1 (calm_moment old calm) over.own.log)
+
+pub returns-clause-any_moment : goal.returns-clause-any_moment
+returns-clause-any_moment g c windows records disk h1 calm ends over =
+    let M = g.M.Machine in
+    let old = M.now c.args.m.now in
+    let log = c.args.log.now in
+    let s : ResidentValue = record { pages = c.args.pages.now; dirty = c.args.dirty.now } in
+    let images : List ℕ = take (512 * length c.args.dirty.now) c.lay_images.new.room in
+    let read : Stamp = record { epoch = c.epoch.result; number = c.next_number.result } in
+    let stamp : read ≡ stamp_now log = λ i. record { epoch = c.epoch.ensures i; number = c.next_number.ensures i } in
+    let fits : FitsStamp read = record { epoch = c.epoch.type_inv; number = c.next_number.type_inv } in
+    let are : are_pages (length c.args.pages.now) c.args.dirty.now ≡ true = ap (λ (n : ℕ). are_pages n c.args.dirty.now) c.requires.table ∙ c.requires.accepted in
+    let of = record_laid (stamp_now log) read fits stamp s are c.requires.images c.told-pages c.stamp_pages.new.pages images c.stamp_pages.ensures c.lay_images.ensures in
+    let few : length c.args.dirty.now ≤ 96 = are_few log.layout.pages c.args.dirty.now c.requires.accepted in
+    let long : length images ≡ 512 * length c.args.dirty.now = length-take-le (512 * length c.args.dirty.now) c.lay_images.new.room (omega (arith, c.lay_images.auto.room, c.requires.long)) in
+    let sized : log.layout.sectors ≤ length old.image = omega (arith, c.requires.sectors, g.met.M.Machine.sized c.args.m.now (c.append.ensures.trust.honest h1)) in
+    let may = may_commit log s images records disk windows old c.append.ensures.shape c.requires.numbered c.requires.accepted (all_small c.args.dirty.now (λ k. omega (arith, c.type_inv.dirty k))) long of c.requires.fits sized c.requires.table calm ends over in
+    leaves_more M.moment M.left_since c.args.m.now c.append.new.m _ _
+    (λ left app. commits log s images records disk windows old may left app)
+    (c.append.ensures.any_moment records h1 (calm_moment old calm) over.own.log)
+
+pub returns-clause-done : goal.returns-clause-done
+returns-clause-done g c windows records disk h1 calm ends over =
+    let M = g.M.Machine in
+    let old = M.now c.args.m.now in
+    let log = c.args.log.now in
+    let s : ResidentValue = record { pages = c.args.pages.now; dirty = c.args.dirty.now } in
+    let images : List ℕ = take (512 * length c.args.dirty.now) c.lay_images.new.room in
+    let read : Stamp = record { epoch = c.epoch.result; number = c.next_number.result } in
+    let stamp : read ≡ stamp_now log = λ i. record { epoch = c.epoch.ensures i; number = c.next_number.ensures i } in
+    let fits : FitsStamp read = record { epoch = c.epoch.type_inv; number = c.next_number.type_inv } in
+    let are : are_pages (length c.args.pages.now) c.args.dirty.now ≡ true = ap (λ (n : ℕ). are_pages n c.args.dirty.now) c.requires.table ∙ c.requires.accepted in
+    let of = record_laid (stamp_now log) read fits stamp s are c.requires.images c.told-pages c.stamp_pages.new.pages images c.stamp_pages.ensures c.lay_images.ensures in
+    let few : length c.args.dirty.now ≤ 96 = are_few log.layout.pages c.args.dirty.now c.requires.accepted in
+    let long : length images ≡ 512 * length c.args.dirty.now = length-take-le (512 * length c.args.dirty.now) c.lay_images.new.room (omega (arith, c.lay_images.auto.room, c.requires.long)) in
+    let sized : log.layout.sectors ≤ length old.image = omega (arith, c.requires.sectors, g.met.M.Machine.sized c.args.m.now (c.append.ensures.trust.honest h1)) in
+    let may = may_commit log s images records disk windows old c.append.ensures.shape c.requires.numbered c.requires.accepted (all_small c.args.dirty.now (λ k. omega (arith, c.type_inv.dirty k))) long of c.requires.fits sized c.requires.table calm ends over in
+    let past : c.append.new.self ≡ log_with log c.args.dirty.now = c.in_ok-append.ensures.past in
+    let stamped_as : c.stamp_pages.new.pages ≡ stamped (stamp_now log) c.args.dirty.now c.args.pages.now = c.stamp_pages.ensures ∙ ap (λ (t : Stamp). stamped t c.args.dirty.now c.args.pages.now) stamp in
+    let is_log = subst (λ (x : LogValue). IsLogIn x (records ++ next_record log c.args.dirty.now images ∷ []) (M.now c.append.new.m)) past (c.in_ok-append.ensures.done records h1 (calm_moment old calm) over.own.log) in
+    let done = committed log s images records disk windows old may (M.now c.append.new.m) (c.in_ok-append.ensures.stands h1) is_log in
+    subst (λ (x : LogValue). Committed x (record { pages = c.stamp_pages.new.pages; dirty = [] }) windows (M.now c.append.new.m).image) (sym past)
+    (subst (λ (p : List (List ℕ)). Committed (log_with log c.args.dirty.now) (record { pages = p; dirty = [] }) windows (M.now c.append.new.m).image) (sym stamped_as) (record { records = done.records; stands = done.stands }))

@@ -1,0 +1,2 @@
+pub mod Force
+pub mod Resident

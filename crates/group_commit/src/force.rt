@@ -1,0 +1,144 @@
+//! The force of the pages that wait.
+use crate::laying::{lay_images, stamp_pages};
+use crate::resident::Resident;
+use log_thirds::Log;
+use sector_disk::{Failed, Machine};
+use thiserror::Error;
+
+/// What a force has written.
+#[derive(Clone, Copy, Debug, PartialEq, Eq)]
+pub struct Forced {
+    /// Name pages.
+    pub pages: u32,
+}
+
+/// Why a force failed.
+#[derive(Clone, Copy, Debug, PartialEq, Eq, Error)]
+pub enum ForceFault {
+    /// A call of the disk failed at this place.
+    #[error("the disk failed at {0}")]
+    Device(u32),
+    /// Both copies of a page are damaged.
+    #[error("sectors {a} and {b} are damaged")]
+    Lost { a: u32, b: u32 },
+}
+
+/// The commit of many changes at once (Hagmann 1987, group commit).
+#[derive(Clone, Copy, Debug)]
+pub struct Group;
+
+ghost use Rattle.std.specs.Prelude.{◌≡◌, ◌<◌, ◌≤◌, ◌^◌, ◌-◌, ◌+◌, ◌*◌, ℕ, List, [], length, IsTrue, IfOk, IfErr, OnOk, OnErr};
+ghost use Rattle.sector_disk.specs.declared.sector.WeakRun.{WeakRun};
+ghost use Rattle.sector_disk.specs.Image.{IsCalm};
+ghost use Rattle.sector_disk.specs.Machine.{DeviceFault, UsesDisk, Trusts, OnlyWrites, LeavesOnly, wrote};
+ghost use Rattle.fsd_formats.specs.Record.{are_pages};
+ghost use Rattle.fsd_log.specs.Scan.{Placed, HasRoom};
+ghost use Rattle.fsd_sound.specs.Sound.{EndIn};
+ghost use Rattle.log_thirds.specs.Append.{stamp_now, log_with};
+ghost use Rattle.group_commit.specs.Resident.{AreImages, stamped};
+ghost use Rattle.group_commit.specs.Force.{HasRoomFor, sectors_written, stamped_by, log_forced, StandsOver, Commits, Committed, ForceCause};
+
+// Stamps these pages and writes their record.
+fn write_pages<M: Machine>(
+    m: &mut M,
+    log: &mut Log,
+    dirty: &[u32],
+    pages: &mut [[u8; 512]],
+    room: &mut [u8],
+) -> Result<(), Failed>
+    requires accepted { IsTrue (are_pages log.old.layout.pages dirty.now) }
+    requires table { length pages.old ≡ log.old.layout.pages }
+    requires images { AreImages (record { pages = pages.old; dirty = dirty.now }) }
+    requires fits { HasRoom log.old.layout (length dirty.now) log.old.head }
+    requires numbered { log.old.head.number < 2 ^ 32 - 1 }
+    requires sectors { log.old.layout.sectors ≤ (M.report m.old).sectors }
+    requires long { length room.old ≡ 49152 }
+    ensures fault { IfErr result (λ failed. DeviceFault (M.report m.old) (M.report m.new) failed.place) }
+    ensures uses { UsesDisk (M.report m.old) (M.report m.new) }
+    ensures trust { Trusts (M.tells m.old) (M.tells m.new) (M.honest m.old) (M.honest m.new) }
+    ensures ledger { M.tells m.new → OnlyWrites (M.ledger m.old) (M.ledger m.new) }
+    ensures quiet { M.honest m.new → (M.now m.new).said ≡ (M.now m.old).said }
+    ensures windows { M.honest m.new → (M.now m.new).windows ≡ (M.now m.old).windows }
+    ensures counted { OnOk result (M.tells m.new → M.ledger m.new ≡ wrote (M.ledger m.old) (2 * length dirty.now + 5)) }
+    ensures stamps { pages.new ≡ stamped (stamp_now log.old) dirty.now pages.old }
+    ensures past { OnOk result (log.new ≡ log_with log.old dirty.now) }
+    ensures kept { OnErr result (log.new ≡ log.old) }
+    ensures any_moment { (windows : List WeakRun) (records : List Placed) (disk : List (List ℕ)) →
+        M.honest m.new → IsCalm (M.now m.old).windows → EndIn (M.now m.old).windows windows →
+        StandsOver log.old records disk (record { pages = pages.old; dirty = dirty.now }) windows (M.now m.old).image →
+        LeavesOnly M.moment M.left_since m.old m.new (Commits log.old.layout windows disk (stamped (stamp_now log.old) dirty.now pages.old) (M.now m.old)) }
+    ensures done { OnOk result ((windows : List WeakRun) (records : List Placed) (disk : List (List ℕ)) →
+        M.honest m.new → IsCalm (M.now m.old).windows → EndIn (M.now m.old).windows windows →
+        StandsOver log.old records disk (record { pages = pages.old; dirty = dirty.now }) windows (M.now m.old).image →
+        Committed log.new (record { pages = pages.new; dirty = [] }) windows (M.now m.new).image) }
+{
+    stamp_pages(pages, dirty, log.epoch(), log.next_number());
+    lay_images(pages, dirty, room);
+    log.append(m, dirty, &room[..512 * dirty.len()])?;
+    Ok(())
+}
+
+impl Group {
+    /// Writes one record of all pages that wait, stamped with its epoch and number; where none waits, nothing. It takes no
+    /// memory. Where the disk fails the pages still wait, and only a mount says whether the record stands.
+    pub fn force<M: Machine>(
+        m: &mut M,
+        log: &mut Log,
+        pages: &mut Resident,
+    ) -> Result<Forced, ForceFault>
+        requires table { length pages.old.pages ≡ log.old.layout.pages }
+        requires images { AreImages pages.old }
+        requires room { HasRoomFor log.old pages.old }
+        requires numbered { log.old.head.number < 2 ^ 32 - 1 }
+        requires sectors { log.old.layout.sectors ≤ (M.report m.old).sectors }
+
+        ensures fault { IfErr result (ForceCause (M.report m.old) (M.report m.new)) }
+        ensures uses { UsesDisk (M.report m.old) (M.report m.new) }
+        ensures trust { Trusts (M.tells m.old) (M.tells m.new) (M.honest m.old) (M.honest m.new) }
+        ensures ledger { M.tells m.new → OnlyWrites (M.ledger m.old) (M.ledger m.new) }
+        ensures quiet { M.honest m.new → (M.now m.new).said ≡ (M.now m.old).said }
+        ensures windows { M.honest m.new → (M.now m.new).windows ≡ (M.now m.old).windows }
+
+        ensures pages { IfOk result (λ forced. forced.pages ≡ length pages.old.dirty) }
+        ensures counted { OnOk result (M.tells m.new → (M.ledger m.new).written ≡ (M.ledger m.old).written + sectors_written pages.old.dirty) }
+        ensures idle { pages.old.dirty ≡ [] → m.new ≡ m.old }
+        ensures state { OnOk result (pages.new ≡ record { pages = stamped_by log.old pages.old; dirty = [] }) }
+        ensures state_err { OnErr result (pages.new ≡ record { pages = stamped_by log.old pages.old; dirty = pages.old.dirty }) }
+        ensures log { OnOk result (log.new ≡ log_forced log.old pages.old.dirty) }
+        ensures log_err { OnErr result (log.new ≡ log.old) }
+        ensures layout { log.new.layout ≡ log.old.layout }
+        ensures size { length pages.new.pages ≡ length pages.old.pages }
+
+        // At each moment the disk shows the pages as they were or as they are now.
+        ensures any_moment { (windows : List WeakRun) (records : List Placed) (disk : List (List ℕ)) →
+            M.honest m.new → IsCalm (M.now m.old).windows → EndIn (M.now m.old).windows windows →
+            StandsOver log.old records disk pages.old windows (M.now m.old).image →
+            LeavesOnly M.moment M.left_since m.old m.new (Commits log.old.layout windows disk (stamped_by log.old pages.old) (M.now m.old)) }
+
+        // At the end it shows them as they are now.
+        ensures done { OnOk result ((windows : List WeakRun) (records : List Placed) (disk : List (List ℕ)) →
+            M.honest m.new → IsCalm (M.now m.old).windows → EndIn (M.now m.old).windows windows →
+            StandsOver log.old records disk pages.old windows (M.now m.old).image →
+            Committed log.new pages.new windows (M.now m.new).image) }
+    {
+        let count = pages.dirty.len();
+        if count == 0 {
+            return Ok(Forced { pages: 0 });
+        }
+        match write_pages(
+            m,
+            log,
+            pages.dirty.as_slice(),
+            pages.pages.as_mut_slice(),
+            pages.room.as_mut_slice(),
+        ) {
+            Ok(()) => {
+                pages.dirty.clear();
+                Ok(Forced {
+                    pages: count as u32,
+                })
+            }
+            Err(failed) => Err(ForceFault::Device(failed.place)),
+        }
+    }
+}

@@ -1,0 +1,12 @@
+//! The force: one record of the log commits all pages of the name table that were changed since the last.
+#![tactic(auto)]
+
+mod force;
+mod laying;
+mod resident;
+
+pub use force::{ForceFault, Forced, Group};
+pub use resident::Resident;
+
+#[cfg(test)]
+mod tests;
