@@ -5,7 +5,8 @@ use Rattle.fsd_formats.specs.declared.anchor.Anchor.{Anchor}
 use Rattle.sector_disk.specs.Image.{Windows, IsCalm}
 use Rattle.sector_disk.specs.Machine.{Moment, Wears}
 use Rattle.sector_disk.proofs.Calm.{calm_wears}
-use Rattle.fsd_sound.specs.Anchors.{anchor_at, greater_anchor, anchor_of}
+use Rattle.fsd_log.specs.Scan.{newer_of}
+use Rattle.fsd_sound.specs.Anchors.{anchor_at, anchor_of}
 use Rattle.mount_recover.specs.declared.fault.MountFault.{MountFault}
 use Rattle.mount_recover.specs.declared.fault.MountFault.TheVariants.{NotVolume, Device, Memory, Lost, NoAnchor, Unsound, WornOut}
 use Rattle.mount_recover.specs.Recover.{LeavesAll}
@@ -16,11 +17,11 @@ still_calm old new calm worn = subst (λ (w : Windows). IsCalm w) (sym worn.wind
 
 -- both anchors are those of the image as the first read found it
 pub anchor_found : (old mid new : Moment) (first copy found : Option Anchor) → mid ≡ old → new ≡ mid → first ≡ anchor_at mid.image 8 → copy ≡ anchor_at new.image 12
-    → found ≡ greater_anchor first copy → found ≡ anchor_of old.image
+    → found ≡ newer_of first copy → found ≡ anchor_of old.image
 anchor_found old mid new first copy found one two at_8 at_12 greater =
     let front : first ≡ anchor_at old.image 8 = at_8 ∙ ap (λ (m : Moment). anchor_at m.image 8) one in
     let back : copy ≡ anchor_at old.image 12 = at_12 ∙ ap (λ (m : Moment). anchor_at m.image 12) (two ∙ one) in
-    greater ∙ (λ i. greater_anchor (front i) (back i))
+    greater ∙ (λ i. newer_of (front i) (back i))
 
 leaves_all : (fault : MountFault) (old new : Moment) → new ≡ old → LeavesAll fault old new
 leaves_all (Device s) old new same = tt

@@ -15,29 +15,30 @@ use Rattle.sector_disk.specs.declared.sector.Sector.{Sector}
 use Rattle.sector_disk.specs.declared.sector.Sector.TheVariants.{Whole, Damaged}
 use Rattle.sector_disk.specs.Image.{sector_at, with_sector}
 use Rattle.fsd_files.specs.Disk.{Image, bytes_of, either_copy}
-use Rattle.fsd_sound.specs.AtHome.{IsAtHome, anchor_of as fresh_anchor}
+use Rattle.fsd_sound.specs.AtHome.{IsAtHome, fresh_anchor}
 use Rattle.fsd_sound.specs.Roots.{counted_root, root_at}
-use Rattle.fsd_sound.specs.Anchors.{anchor_at, greater_anchor, later_anchor}
+use Rattle.fsd_log.specs.Scan.{is_newer, newer_of}
+use Rattle.fsd_sound.specs.Anchors.{anchor_at}
 use Rattle.mount_recover.specs.Recover.{IsVolume, with_anchors}
 
 -- ---- what is found
 
-root_stands : (l : Layout) (sectors : ℕ) (i : Image) (s : ℕ) → plan l.sectors l.third l.pages ≡ Ok l → l.sectors ≤ sectors → sector_at i s ≡ Whole (root_bytes l) → root_at sectors i s ≡ Some l
+pub root_stands : (l : Layout) (sectors : ℕ) (i : Image) (s : ℕ) → plan l.sectors l.third l.pages ≡ Ok l → l.sectors ≤ sectors → sector_at i s ≡ Whole (root_bytes l) → root_at sectors i s ≡ Some l
 root_stands l sectors i s planned room stands =
     ap (λ (x : Sector). option_and_then (counted_root sectors) (option_and_then read_root (bytes_of x))) stands
     ∙ ap (option_and_then (counted_root sectors)) (planned_root_is_read l planned)
     ∙ cond-true (nat_le l.sectors sectors) (Some l) None (le-leb l.sectors sectors room)
 
-anchor_stands : (epoch : ℕ) (i : Image) (s : ℕ) → 1 ≤ epoch → epoch < 2 ^ 32 → sector_at i s ≡ Whole (anchor_bytes (fresh_anchor epoch)) → anchor_at i s ≡ Some (fresh_anchor epoch)
+pub anchor_stands : (epoch : ℕ) (i : Image) (s : ℕ) → 1 ≤ epoch → epoch < 2 ^ 32 → sector_at i s ≡ Whole (anchor_bytes (fresh_anchor epoch)) → anchor_at i s ≡ Some (fresh_anchor epoch)
 anchor_stands epoch i s first last stands =
     let fits : is_anchor (fresh_anchor epoch) ≡ true = ap (λ (b : Bool). b && nat_le 0 2 && nat_le 1 1) (le-leb 1 epoch first) in
     ap (λ (x : Sector). option_and_then read_anchor (bytes_of x)) stands
     ∙ anchor_is_read (fresh_anchor epoch) fits last (omega arith)
 
-greater_same : (a : Anchor) → greater_anchor (Some a) (Some a) ≡ Some a
-greater_same a = either (later_anchor a a)
+newer_same : (a : Anchor) → newer_of (Some a) (Some a) ≡ Some a
+newer_same a = either (is_newer a a)
   where
-    either : (b : Bool) → cond b (Some a) (Some a) ≡ Some a
+    either : (b : Bool) → Some (cond b a a) ≡ Some a
     either true = refl
     either false = refl
 
@@ -48,7 +49,7 @@ at_home_found l epoch sectors entries i h room = record {
   anchor =
       let front = anchor_stands epoch i 8 h.first_epoch h.last_epoch h.anchor in
       let back = anchor_stands epoch i 12 h.first_epoch h.last_epoch h.anchor_copy in
-      (λ j. greater_anchor (front j) (back j)) ∙ greater_same (fresh_anchor epoch);
+      (λ j. newer_of (front j) (back j)) ∙ newer_same (fresh_anchor epoch);
 }
 
 -- ---- the renewed anchors

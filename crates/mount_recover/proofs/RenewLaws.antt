@@ -7,7 +7,7 @@ use Rattle.sector_disk.specs.declared.sector.WeakRun.{WeakRun}
 use Rattle.sector_disk.specs.Image.{with_sector, Windows, IsEmpty, IsCalm, settled}
 use Rattle.sector_disk.specs.Machine.{Moment, Writes, Names, Settles}
 use Rattle.sector_disk.proofs.Calm.{calm_names, calm_settles, calm_sector, named_calm, settled_calm}
-use Rattle.fsd_sound.specs.AtHome.{anchor_of as fresh_anchor}
+use Rattle.fsd_sound.specs.AtHome.{fresh_anchor}
 use Rattle.mount_recover.specs.Recover.{Renews}
 
 -- a named run is the present one once it is settled

@@ -6,7 +6,7 @@ use Rattle.fsd_formats.specs.Anchors.{anchor_bytes}
 use Rattle.sector_disk.specs.Image.{with_sector}
 use Rattle.sector_disk.specs.Machine.{Report, Moment, DeviceFault}
 use Rattle.fsd_files.specs.Disk.{Image}
-use Rattle.fsd_sound.specs.AtHome.{anchor_of as fresh_anchor}
+use Rattle.fsd_sound.specs.AtHome.{fresh_anchor}
 use Rattle.fsd_sound.specs.Roots.{root_of}
 use Rattle.fsd_sound.specs.Anchors.{anchor_of}
 use Rattle.mount_recover.specs.declared.fault.MountFault.{MountFault}

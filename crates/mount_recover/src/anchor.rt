@@ -2,7 +2,8 @@
 ghost use Rattle.std.specs.Prelude.{◌≡◌, ◌<◌, ◌≤◌, IfOk, IfErr, OnOk};
 ghost use Rattle.sector_disk.specs.Machine.{DeviceFault, UsesDisk, Trusts, Wears, OnlyWrites};
 ghost use Rattle.sector_disk.specs.Image.{IsCalm};
-ghost use Rattle.fsd_sound.specs.Anchors.{anchor_at, anchor_of, greater_anchor, later_anchor};
+ghost use Rattle.fsd_log.specs.Scan.{is_newer, newer_of};
+ghost use Rattle.fsd_sound.specs.Anchors.{anchor_at, anchor_of};
 ghost use Rattle.mount_recover.specs.Recover.{Renews};
 
 use fsd_formats::Anchor;
@@ -27,19 +28,19 @@ fn anchor_at<M: Machine>(m: &mut M, place: u32) -> Result<Option<Anchor>, Failed
     }
 }
 
-// Whether an anchor is later than another.
-fn is_later(a: Anchor, b: Anchor) -> bool
-    ensures { result ≡ later_anchor a b }
+// Whether an anchor is newer than another.
+fn is_newer(a: Anchor, b: Anchor) -> bool
+    ensures { result ≡ is_newer a b }
 {
     b.epoch < a.epoch || a.epoch == b.epoch && b.first < a.first
 }
 
 // The greater of two anchors, and the first of two alike.
 fn greater(first: Option<Anchor>, copy: Option<Anchor>) -> Option<Anchor>
-    ensures { result ≡ greater_anchor first copy }
+    ensures { result ≡ newer_of first copy }
 {
     match (first, copy) {
-        (Some(a), Some(b)) => if is_later(b, a) { Some(b) } else { Some(a) },
+        (Some(a), Some(b)) => Some(if is_newer(b, a) { b } else { a }),
         (Some(a), None) => Some(a),
         (None, b) => b,
     }

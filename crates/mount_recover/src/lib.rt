@@ -2,12 +2,20 @@
 #![tactic(auto)]
 
 mod anchor;
+mod epoch;
 mod fault;
+mod finding;
+mod laws;
 mod mounting;
+mod replay;
 mod root;
 
+pub use epoch::begin_epoch;
 pub use fault::MountFault;
+pub use finding::{Found, find_volume};
+pub use laws::{completing_shows_the_same, homing_shows_the_same, new_anchors_show_the_same};
 pub use mounting::{Settled, recover};
+pub use replay::home_page;
 
 #[cfg(test)]
 mod tests {

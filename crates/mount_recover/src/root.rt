@@ -1,6 +1,6 @@
 // The root of an image.
 ghost use Rattle.std.specs.Prelude.{◌≡◌, ◌<◌, ◌≤◌, IfOk, IfErr, IfSome};
-ghost use Rattle.sector_disk.specs.Machine.{DeviceFault, UsesDisk, Trusts, Wears};
+ghost use Rattle.sector_disk.specs.Machine.{DeviceFault, UsesDisk, Trusts, Wears, LeavesOnly};
 ghost use Rattle.sector_disk.specs.Image.{IsCalm};
 ghost use Rattle.fsd_sound.specs.Roots.{root_at, root_of};
 
@@ -17,6 +17,7 @@ fn root_at<M: Machine>(m: &mut M, sectors: u32, place: u32) -> Result<Option<Lay
     ensures trust { Trusts (M.tells m.old) (M.tells m.new) (M.honest m.old) (M.honest m.new) }
     ensures ledger { M.tells m.new → M.ledger m.new ≡ M.ledger m.old }
     ensures worn { M.honest m.new → Wears (M.now m.old) (M.now m.new) }
+    ensures any_moment { M.honest m.new → LeavesOnly M.moment M.left_since m.old m.new (Wears (M.now m.old)) }
     ensures found { IfOk result (λ found. M.honest m.new → found ≡ root_at sectors (M.now m.new).image place) }
     ensures fits { IfOk result (λ found. IfSome found (λ l. l.sectors ≤ sectors)) }
 {
@@ -48,6 +49,7 @@ pub fn find_root<M: Machine>(m: &mut M, sectors: u32) -> Result<Option<Layout>, 
     ensures trust { Trusts (M.tells m.old) (M.tells m.new) (M.honest m.old) (M.honest m.new) }
     ensures ledger { M.tells m.new → M.ledger m.new ≡ M.ledger m.old }
     ensures worn { M.honest m.new → Wears (M.now m.old) (M.now m.new) }
+    ensures any_moment { M.honest m.new → LeavesOnly M.moment M.left_since m.old m.new (Wears (M.now m.old)) }
     ensures found { IfOk result (λ found. M.honest m.new → IsCalm (M.now m.old).windows → found ≡ root_of sectors (M.now m.old).image) }
     ensures fits { IfOk result (λ found. IfSome found (λ l. l.sectors ≤ sectors)) }
 {

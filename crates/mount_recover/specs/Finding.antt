@@ -1,0 +1,47 @@
+-- What a mount finds before it writes.
+use Rattle.std.specs.Prelude.{◌≡◌, ⊤, ℕ, None, IsSome}
+use Rattle.sector_disk.specs.Machine.{Report, DeviceFault}
+use Rattle.fsd_files.specs.Disk.{Image}
+use Rattle.fsd_sound.specs.Roots.{root_of}
+use Rattle.fsd_sound.specs.Anchors.{anchor_of}
+use Rattle.log_thirds.specs.declared.fault.LogFault.{LogFault}
+use Rattle.log_thirds.specs.declared.fault.LogFault.TheVariants as log
+use Rattle.mount_recover.specs.declared.fault.MountFault.{MountFault}
+use Rattle.mount_recover.specs.declared.fault.MountFault.TheVariants.{NotVolume, Device, Memory, Lost, NoAnchor, Unsound, WornOut}
+use Rattle.mount_recover.specs.Recover.{IsWornOut}
+
+abbrev pub mount_fault_of : LogFault → MountFault
+mount_fault_of (log.Device s) = Device s
+mount_fault_of log.Memory = Memory
+mount_fault_of log.NoAnchor = NoAnchor
+mount_fault_of log.WornOut = WornOut
+
+-- the disk failed, where it is said to, and nothing is Lost or Unsound
+abbrev pub FindCause : Report → Report → MountFault → Type 0
+FindCause old new (Device s) = DeviceFault old new s
+FindCause old new NotVolume = ⊤
+FindCause old new NoAnchor = ⊤
+FindCause old new WornOut = ⊤
+FindCause old new Memory = ⊤
+FindCause old new (Lost a b) = ⊥
+FindCause old new (Unsound s) = ⊥
+
+-- what a refusal says of the image; a fault of the disk and want of memory say nothing
+abbrev pub NotFoundFor : ℕ → Image → MountFault → Type 0
+NotFoundFor sectors i NotVolume = root_of sectors i ≡ None
+NotFoundFor sectors i NoAnchor = IsSome (root_of sectors i) × (anchor_of i ≡ None)
+NotFoundFor sectors i WornOut = IsWornOut sectors i
+NotFoundFor sectors i (Device s) = ⊤
+NotFoundFor sectors i Memory = ⊤
+NotFoundFor sectors i (Lost a b) = ⊥
+NotFoundFor sectors i (Unsound s) = ⊥
+
+-- the only refusals of an image that can be mounted
+abbrev pub IsExcuse : MountFault → Type 0
+IsExcuse (Device s) = ⊤
+IsExcuse Memory = ⊤
+IsExcuse WornOut = ⊤
+IsExcuse NotVolume = ⊥
+IsExcuse NoAnchor = ⊥
+IsExcuse (Lost a b) = ⊥
+IsExcuse (Unsound s) = ⊥
