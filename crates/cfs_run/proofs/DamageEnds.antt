@@ -21,7 +21,7 @@ use Rattle.fsd_volume.specs.Mount.{IsFoundOn}
 use Rattle.fsd_volume.specs.Pieces.{DamagedIn}
 use Rattle.fsd_volume.specs.State.{IsTable, State}
 use Rattle.fsd_volume.proofs.HomeLaws.{data_from}
-use Rattle.fsd_volume.proofs.KeptLaws.{Agree, behind_there, first_there, rest_there}
+use Rattle.fsd_files.proofs.KeptLaws.{Agree, behind_there, first_there, rest_there}
 use Rattle.fsd_volume.proofs.StoredLaws.{stored}
 use Rattle.cfs_run.specs.declared.answer.Answer.{Answer}
 use Rattle.cfs_run.specs.declared.answer.Answer.TheVariants as Said

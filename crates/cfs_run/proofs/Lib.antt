@@ -1,6 +1,7 @@
 mod DamageEnds
 mod FormatEnds
 mod GetLaws
+mod GetSaid
 mod InputSoFar
 mod MountEnds
 mod OpenLaws

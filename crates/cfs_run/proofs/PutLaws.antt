@@ -18,7 +18,7 @@ use Rattle.fsd_files.specs.Replies.{Made, Refused}
 use Rattle.fsd_files.specs.Volume.{Volume, drawn, forced, free_runs, place_for}
 use Rattle.fsd_sound.specs.AtHome.{HoldsFiles}
 use Rattle.fsd_volume.specs.State.{IsMounted, State}
-use Rattle.fsd_volume.specs.Put.{PutsOn, StandsOn}
+use Rattle.fsd_volume.specs.Put.{PutsOn}
 use Rattle.cfs_run.specs.declared.line.Line.{Line}
 use Rattle.cfs_run.specs.declared.line.Line.TheVariants as Lines
 use Rattle.cfs_run.specs.declared.fault.Fault.TheVariants as Ends
@@ -118,7 +118,7 @@ stored_reply : (v : Volume) (need : ℕ) (out : Outcome) (why : Refusal) (state 
 stored_reply v need out why state after j k reply same mounted =
     record { reply_is = reply; holds = mounted_holds v need out state after v.files j k same mounted (sym (k.files why reply)) }
 
-stored : (why : Refusal) (v : Volume) (need : ℕ) (out : Outcome) (state : State) (j : Image) → Keeps v need out → v.serial.count ≡ 1 → StandsOn v out v.files state j (Err why) → Stores v.layout v.serial.epoch out (line_of why) j
+stored : (why : Refusal) (v : Volume) (need : ℕ) (out : Outcome) (state : State) (j : Image) → Keeps v need out → v.serial.count ≡ 1 → PutsOn v out v.files state j (Err why) → Stores v.layout v.serial.epoch out (line_of why) j
 stored Why.NoSuch v need out state j k first on = stored_reply v need out Why.NoSuch state on.after j k on.says.0 on.says.1 on.mounted
 stored (Why.TooLong n) v need out state j k first on = stored_reply v need out (Why.TooLong n) state on.after j k on.says.0 on.says.1 on.mounted
 stored (Why.NoSpace wanted free) v need out state j k first on = stored_reply v need out (Why.NoSpace wanted free) state on.after j k on.says.0 on.says.1 on.mounted
@@ -139,7 +139,7 @@ stored (Why.Device s) v need out state j k first on = tt
 stored Why.Memory v need out state j k first on = tt
 stored Why.WornOut v need out state j k first on = absurd (omega (arith, on.says.0, first))
 
-pub refusal_stored : (why : Refusal) (line : Line) (v : Volume) (need : ℕ) (out : Outcome) (state : State) (j : Image) → Keeps v need out → v.serial.count ≡ 1 → StandsOn v out v.files state j (Err why) → line ≡ line_of why
+pub refusal_stored : (why : Refusal) (line : Line) (v : Volume) (need : ℕ) (out : Outcome) (state : State) (j : Image) → Keeps v need out → v.serial.count ≡ 1 → PutsOn v out v.files state j (Err why) → line ≡ line_of why
     → Stores v.layout v.serial.epoch out line j
 refusal_stored why line v need out state j k first on told = subst (λ (x : Line). Stores v.layout v.serial.epoch out x j) (sym told) (stored why v need out state j k first on)
 
@@ -170,9 +170,9 @@ put_on state l epoch files name bytes input line mid i j mounts same all stores 
     (subst (λ (b : List ℕ). Stores state.layout state.serial.epoch (put_outcome (volume_of state files) name b None) line j) all stored))
 
 put_done : (state : State) (l : Layout) (epoch : ℕ) (files : Files) (name input : List ℕ) (line : Line) (mid j : Image) → Mounts l epoch files state mid → state.serial.count ≡ 1
-    → Stores l (epoch + 1) (put_outcome (volume_of state files) name input None) line j → Puts name input l epoch files line j
-put_done state l epoch files name input (Lines.Made key n) mid j mounts first stores = record { state = state; image = mid; mounts = mounts; first = first; stores = stores }
-put_done state l epoch files name input (Lines.Refused why) mid j mounts first stores = record { state = state; image = mid; mounts = mounts; first = first; stores = stores }
+    → Stores l (epoch + 1) (put_outcome (volume_of state files) name input None) line j → Puts name input l epoch files line mid j
+put_done state l epoch files name input (Lines.Made key n) mid j mounts first stores = record { state = state; mounts = mounts; first = first; stores = stores }
+put_done state l epoch files name input (Lines.Refused why) mid j mounts first stores = record { state = state; mounts = mounts; first = first; stores = stores }
 put_done state l epoch files name input (Lines.Ended Ends.Memory) mid j mounts first stores = tt
 put_done state l epoch files name input (Lines.Ended (Ends.Device s)) mid j mounts first stores = tt
 put_done state l epoch files name input (Lines.Ended Ends.Input) mid j mounts first stores = tt
@@ -189,17 +189,17 @@ put_done state l epoch files name input (Lines.Unplanned why) mid j mounts first
 put_done state l epoch files name input (Lines.Damaged key s) mid j mounts first stores = absurd stores
 
 pub input_put : (state : State) (l : Layout) (epoch : ℕ) (files : Files) (name bytes input : List ℕ) (line : Line) (mid i j : Image) → Mounts l epoch files state mid → state.serial.count ≡ 1 → i ≡ mid → bytes ≡ input
-    → (IsMounted state (volume_of state files) files i → Stores state.layout state.serial.epoch (put_outcome (volume_of state files) name bytes None) line j) → Puts name input l epoch files line j
+    → (IsMounted state (volume_of state files) files i → Stores state.layout state.serial.epoch (put_outcome (volume_of state files) name bytes None) line j) → Puts name input l epoch files line mid j
 input_put state l epoch files name bytes input line mid i j mounts first same all stores =
     put_done state l epoch files name input line mid j mounts first (put_on state l epoch files name bytes input line mid i j mounts same all stores)
 
-pub excuse_puts : (name input : List ℕ) (l : Layout) (epoch : ℕ) (files : Files) (fault : Fault) (j : Image) → IsExcuse fault → Puts name input l epoch files (Lines.Ended fault) j
-excuse_puts name input l epoch files (Ends.Device s) j h = tt
-excuse_puts name input l epoch files Ends.Memory j h = tt
-excuse_puts name input l epoch files Ends.Input j h = absurd h
-excuse_puts name input l epoch files Ends.InputTooLong j h = absurd h
-excuse_puts name input l epoch files Ends.NotVolume j h = absurd h
-excuse_puts name input l epoch files (Ends.Lost a b) j h = absurd h
-excuse_puts name input l epoch files Ends.NoAnchor j h = absurd h
-excuse_puts name input l epoch files (Ends.Unsound s) j h = absurd h
-excuse_puts name input l epoch files Ends.WornOut j h = absurd h
+pub excuse_puts : (name input : List ℕ) (l : Layout) (epoch : ℕ) (files : Files) (fault : Fault) (i j : Image) → IsExcuse fault → Puts name input l epoch files (Lines.Ended fault) i j
+excuse_puts name input l epoch files (Ends.Device s) i j h = tt
+excuse_puts name input l epoch files Ends.Memory i j h = tt
+excuse_puts name input l epoch files Ends.Input i j h = absurd h
+excuse_puts name input l epoch files Ends.InputTooLong i j h = absurd h
+excuse_puts name input l epoch files Ends.NotVolume i j h = absurd h
+excuse_puts name input l epoch files (Ends.Lost a b) i j h = absurd h
+excuse_puts name input l epoch files Ends.NoAnchor i j h = absurd h
+excuse_puts name input l epoch files (Ends.Unsound s) i j h = absurd h
+excuse_puts name input l epoch files Ends.WornOut i j h = absurd h

@@ -8,6 +8,7 @@ use Rattle.fsd_files.specs.Files.{Files}
 use Rattle.fsd_files.specs.OneLeaf.{put_outcome}
 use Rattle.fsd_files.specs.Replies.{Made, Refused, Reply}
 use Rattle.fsd_volume.specs.Mount.{volume_of}
+use Rattle.mount_recover.specs.Recover.{with_anchors}
 use Rattle.cfs_run.specs.declared.fault.Fault.TheVariants as Ends
 use Rattle.cfs_run.specs.declared.line.Line.{Line}
 use Rattle.cfs_run.specs.declared.line.Line.TheVariants as Lines
@@ -22,7 +23,7 @@ use Rattle.cfs_run.proofs.RunLaws.{forgotten, heard, replied}
 
 -- the reply's line is this one
 said_reply : (H : Type 0) (name input : List ℕ) (l : Layout) (epoch : ℕ) (files : Files) (line : Line) (reply : Reply) (mid new : Report) (at between after : Moment) (result : ℕ)
-    → (s : PutStores name input l epoch files line between.image) → (let out = put_outcome (volume_of s.state files) name input None in (out.0 ≡ reply) × Rattle.fsd_sound.specs.AtHome.HoldsFiles l (epoch + 1) out.1.files between.image)
+    → (s : PutStores name input l epoch files line (with_anchors (epoch + 1) at.image) between.image) → (let out = put_outcome (volume_of s.state files) name input None in (out.0 ≡ reply) × Rattle.fsd_sound.specs.AtHome.HoldsFiles l (epoch + 1) out.1.files between.image)
     → line ≡ reply_line reply → between.said ≡ at.said → (Rose mid.output_faults new.output_faults → ⊥) → H → IsCalm after.windows → Finishes H (text line) (status_of line) mid new between after result
     → PutReplies name input l epoch files at after result ⊎ ((result ≡ 7) × (after.said ≡ at.said ++ memory_text))
 said_reply H name input l epoch files line reply mid new at between after result s stored is same never h calm said =
@@ -30,12 +31,12 @@ said_reply H name input l epoch files line reply mid new at between after result
     let as_line : line ≡ reply_line out.0 = is ∙ ap reply_line (sym stored.0) in
     elim (replied H (text (reply_line out.0)) (status_of (reply_line out.0)) mid new at between after result l (epoch + 1) out.1.files same never h calm stored.1
     (subst (λ (x : Line). Finishes H (text x) (status_of x) mid new between after result) as_line said)) [
-      | inl replies ↦ inl (record { state = s.state; image = s.image; mounts = s.mounts; first = s.first; replies = replies })
+      | inl replies ↦ inl (record { state = s.state; mounts = s.mounts; first = s.first; replies = replies })
       | inr memory ↦ inr memory
     ]
 
 line_heard : (H : Type 0) (name input left : List ℕ) (l : Layout) (epoch : ℕ) (files : Files) (line : Line) (old mid new : Report) (at between after : Moment) (result : ℕ)
-    → Puts name input l epoch files line between.image → TakesFor line input left → CausesLine line old mid → (Rose old.disk_faults mid.disk_faults → ⊥) → (Rose old.input_faults mid.input_faults → ⊥)
+    → Puts name input l epoch files line (with_anchors (epoch + 1) at.image) between.image → TakesFor line input left → CausesLine line old mid → (Rose old.disk_faults mid.disk_faults → ⊥) → (Rose old.input_faults mid.input_faults → ⊥)
     → between.said ≡ at.said → (Rose mid.output_faults new.output_faults → ⊥) → H → IsCalm after.windows → Finishes H (text line) (status_of line) mid new between after result
     → PutEnds name input l epoch files at after result
 line_heard H name input left l epoch files (Lines.Made key n) old mid new at between after result puts taken cause disk no_input same never h calm said = inr (said_reply H name input l epoch files (Lines.Made key n) (Made key n) mid new at between after result puts (puts.stores.reply_is, puts.stores.holds) refl same never h calm said)

@@ -381,7 +381,7 @@ whole_part : (bytes before after : List ℕ) → after ≡ before ++ bytes → a
 whole_part bytes before after said = said ∙ ap (λ (b : List ℕ). before ++ b) (sym (take_all (length bytes) bytes (omega arith)))
 
 -- some first bytes of the answer's text, or of that of refused memory
-part_said : (H : Type 0) (bytes : List ℕ) (status : ℕ) (mid new : Report) (at between after : Moment) (result : ℕ) → between.said ≡ at.said → H
+pub part_said : (H : Type 0) (bytes : List ℕ) (status : ℕ) (mid new : Report) (at between after : Moment) (result : ℕ) → between.said ≡ at.said → H
     → Finishes H bytes status mid new between after result → ((heard : ℕ) × (after.said ≡ at.said ++ take heard memory_text)) ⊎ ((heard : ℕ) × (after.said ≡ at.said ++ take heard bytes))
 part_said H bytes status mid new at between after result same h (inl (inl all)) = inr (length bytes, whole_part bytes at.said after.said ((all.said h).said ∙ ap (λ (s : List ℕ). s ++ bytes) same))
 part_said H bytes status mid new at between after result same h (inl (inr some)) = let cut = some.said h in inr (cut.heard, cut.said ∙ ap (λ (s : List ℕ). s ++ take cut.heard bytes) same)

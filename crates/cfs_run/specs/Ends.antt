@@ -29,6 +29,7 @@ use Rattle.cfs_run.specs.declared.fault.Fault.TheVariants as Ends
 use Rattle.fsd_bytes.specs.declared.key.Key.{Key}
 use Rattle.cfs_run.specs.declared.input.TheConstants.{MOST_INPUT}
 use Rattle.mount_recover.specs.declared.fault.MountFault.{MountFault}
+use Rattle.mount_recover.specs.Recover.{with_anchors}
 use Rattle.cfs_run.specs.Mounting.{IfMount, IsExcuse, IsMountFault, OpensDisk, fault_of, mount_asks}
 use Rattle.cfs_run.specs.Text.{fault_text, memory_text, text}
 use Rattle.cfs_run.specs.Answer.{CausesLine, answer_status, fault_status, status_of}
@@ -162,23 +163,22 @@ Stores l epoch out (Says.Refused why) i = StoresAs (Refused why) l epoch out i
 Stores l epoch out (Says.Ended fault) i = IsExcuse fault
 Stores l epoch out line i = ⊥
 
--- A mount gave this volume of the files, and the line is that of what it answers to the put.
-pub record PutStores (name input : List ℕ) (l : Layout) (epoch : ℕ) (files : Files) (line : Line) (i : Image) : Type 0 where
+-- A mount of the image i gave this volume of the files, and the line is that of what it answers to the put, which leaves j.
+pub record PutStores (name input : List ℕ) (l : Layout) (epoch : ℕ) (files : Files) (line : Line) (i j : Image) : Type 0 where
   pub state : State
-  pub image : Image
-  pub mounts : Mounts l epoch files state image
+  pub mounts : Mounts l epoch files state i
   pub first : state.serial.count ≡ 1
-  pub stores : Stores l (epoch + 1) (put_outcome (volume_of state files) name input None) line i
+  pub stores : Stores l (epoch + 1) (put_outcome (volume_of state files) name input None) line j
 
-abbrev pub Puts : (name input : List ℕ) → Layout → ℕ → Files → Line → Image → Type 0
-Puts name input l epoch files (Says.Ended Ends.Input) i = ⊤
-Puts name input l epoch files (Says.Ended Ends.InputTooLong) i = ⊤
-Puts name input l epoch files (Says.Ended fault) i = IsExcuse fault
-Puts name input l epoch files line i = PutStores name input l epoch files line i
+abbrev pub Puts : (name input : List ℕ) → Layout → ℕ → Files → Line → Image → Image → Type 0
+Puts name input l epoch files (Says.Ended Ends.Input) i j = ⊤
+Puts name input l epoch files (Says.Ended Ends.InputTooLong) i j = ⊤
+Puts name input l epoch files (Says.Ended fault) i j = IsExcuse fault
+Puts name input l epoch files line i j = PutStores name input l epoch files line i j
 
--- so it is of every disk that holds files and has an epoch left, where nothing wears
+-- so it is of every disk that holds files and has an epoch left, where nothing wears; it is mounted with the next epoch's anchors
 abbrev pub PutLeaves : (name input : List ℕ) → Line → Moment → Moment → Type 0
-PutLeaves name input line old new = OpensDisk old new (λ l epoch files. epoch + 1 < 2 ^ 32 → Puts name input l epoch files line new.image)
+PutLeaves name input line old new = OpensDisk old new (λ l epoch files. epoch + 1 < 2 ^ 32 → Puts name input l epoch files line (with_anchors (epoch + 1) old.image) new.image)
 
 abbrev pub PutsFor : Request → Answer → List ℕ → Moment → Moment → Type 0
 PutsFor (Put name) (Said.Line line) input old new = PutLeaves name input line old new
@@ -255,11 +255,11 @@ reply_line (Made key sectors) = Says.Made key sectors
 reply_line (Refused why) = Says.Refused why
 reply_line reply = Says.Usage
 
--- A mount gave this volume of the files, what it answers to the put is said, and the disk holds the files then.
+-- A mount of the old image, with the next epoch's anchors, gave this volume of the files, what it answers to the put is said, and
+-- the disk holds the files then.
 pub record PutReplies (name input : List ℕ) (l : Layout) (epoch : ℕ) (files : Files) (old new : Moment) (result : ℕ) : Type 0 where
   pub state : State
-  pub image : Image
-  pub mounts : Mounts l epoch files state image
+  pub mounts : Mounts l epoch files state (with_anchors (epoch + 1) old.image)
   pub first : state.serial.count ≡ 1
   pub replies : let out = put_outcome (volume_of state files) name input None in
       Replies (text (reply_line out.0)) (status_of (reply_line out.0)) l (epoch + 1) out.1.files old new result
@@ -296,6 +296,23 @@ pub record SaysPart (request : Request) (place : ℕ) (before after : List ℕ) 
   pub may : MaySay request place bytes ⊎ (bytes ≡ memory_text)
   pub heard : ℕ
   pub said : after ≡ before ++ take heard bytes
+
+-- what a get says of a version, or that there is none
+abbrev pub file_text : Option File → List ℕ
+file_text (Some file) = file.bytes
+file_text None = text (Says.Refused NoSuch)
+
+-- Some first bytes of the version are said, or of that there is none, or of a fault of the disk at this place, or of refused memory.
+pub record GetSaysPart (file : Option File) (place : ℕ) (before after : List ℕ) : Type 0 where
+  pub bytes : List ℕ
+  pub may : (bytes ≡ file_text file) ⊎ ((bytes ≡ fault_text (Ends.Device place)) ⊎ (bytes ≡ memory_text))
+  pub heard : ℕ
+  pub said : after ≡ before ++ take heard bytes
+
+-- so it is of every disk that holds files and has an epoch left, where nothing wears
+abbrev pub GetsPart : Request → (place : ℕ) → Moment → Moment → Type 0
+GetsPart (Get key) place old new = OpensDisk old new (λ l epoch files. epoch + 1 < 2 ^ 32 → GetSaysPart (find key_cmp key files) place old.said new.said)
+GetsPart request place old new = ⊤
 
 -- the statuses that come only once the volume is mounted
 abbrev pub mounted_statuses : List ℕ

@@ -59,7 +59,7 @@ fn put_input<M: Machine>(alloc: Global, volume: Volume, name: &FileName, m: &mut
     ensures windows { M.honest m.new → (M.now m.new).windows ≡ (M.now m.old).windows }
     ensures mounted { volume.serial.count ≡ 1 → IfMountLine Never result }
     ensures puts { M.honest m.new → IsCalm (M.now m.old).windows → (l : Planned) (epoch : ℕ) (files : Files) → Mounts l epoch files volume (M.now m.old).image → volume.serial.count ≡ 1
-        → Puts name.now (M.ledger m.old).input l epoch files result (M.now m.new).image }
+        → Puts name.now (M.ledger m.old).input l epoch files result (M.now m.old).image (M.now m.new).image }
 {
     match read_input(alloc, m) {
         Ok(bytes) => put_bytes(volume, name, bytes.as_slice(), m),

@@ -9,7 +9,7 @@ ghost use Rattle.cfs_run.specs.Text.{fault_text};
 ghost use Rattle.cfs_run.specs.declared.input.TheConstants.{MOST_INPUT};
 ghost use Rattle.cfs_run.specs.Words.{path_of, request_of};
 ghost use Rattle.cfs_run.specs.Input.{UsesCounts};
-ghost use Rattle.cfs_run.specs.Ends.{Answers, AsksAtMost, AsksFor, CausesAnswer, DamagedAnswer, DamagedFor, Holds, IfMountAnswer, IfMounts, IsAnswerTo, IsUntouched, Leaves, NoneRose, NotMounted, PutAnswersFor, PutsFor, SaysPart, Takes, LeavesInput, WhereMounted, asks_of, complete_statuses, fault_statuses, is_one_of, mounted_statuses};
+ghost use Rattle.cfs_run.specs.Ends.{Answers, AsksAtMost, AsksFor, CausesAnswer, DamagedAnswer, DamagedFor, GetsPart, Holds, IfMountAnswer, IfMounts, IsAnswerTo, IsUntouched, Leaves, NoneRose, NotMounted, PutAnswersFor, PutsFor, SaysPart, Takes, LeavesInput, WhereMounted, asks_of, complete_statuses, fault_statuses, is_one_of, mounted_statuses};
 
 use crate::answer::{Answer, finish};
 use crate::formatting::make;
@@ -49,6 +49,8 @@ pub fn run_cfs<M: Machine>(alloc: Global, words: &[String], m: &mut M) -> u8
 
     // What is said: some first bytes of one of the texts that the words allow, all of them but at status 6.
     ensures said { M.honest m.new → SaysPart (request_of (map string_bytes words.now)) (M.report m.new).fault_place (M.now m.old).said (M.now m.new).said }
+    // Of a get: where nothing wears, some first bytes of the version that the disk holds, or of that there is none, unless the disk or memory fails.
+    ensures gives { M.honest m.new → GetsPart (request_of (map string_bytes words.now)) (M.report m.new).fault_place (M.now m.old) (M.now m.new) }
     ensures fault_said { result ≡ 4 → M.honest m.new → (M.now m.new).said ≡ (M.now m.old).said ++ fault_text (Ends.Device (M.report m.new).fault_place) }
     ensures answers { M.honest m.new → NoneRose (M.report m.old) (M.report m.new)
         → Answers (request_of (map string_bytes words.now)) (M.now m.old) (M.now m.new) result }

@@ -21,7 +21,7 @@ use Rattle.fsd_files.specs.Kept.{Describes}
 use Rattle.fsd_files.specs.Space.{Apart}
 use Rattle.fsd_files.specs.Volume.{plans_of}
 use Rattle.fsd_sound.specs.AtHome.{IsAtHome, IsRootLeaf, HoldsFiles}
-use Rattle.fsd_volume.proofs.KeptLaws.{kept_on}
+use Rattle.fsd_files.proofs.KeptLaws.{kept_on}
 
 -- all in front of the data area is the same, but the leaf's two homes
 pub record SameHead (l : Layout) (i j : Image) : Type 0 where

@@ -30,7 +30,7 @@ pub monotone_lay : (first : ℕ) (sector : ℕ → Sector) (k : ℕ) → Monoton
 monotone_lay first sector k = record { worn = λ may a b worn. lay_worn may a b first sector k worn }
 
 -- a write of one sector
-one_slice : (bytes : List ℕ) → length bytes ≡ 512 → slice_of bytes 0 ≡ bytes
+pub one_slice : (bytes : List ℕ) → length bytes ≡ 512 → slice_of bytes 0 ≡ bytes
 one_slice bytes size = take_all 512 bytes (omega (arith, size))
 
 pub holds_sector : (old new : Moment) (place : ℕ) (bytes : List ℕ) → length bytes ≡ 512 → Writes place bytes old new → Holds old (with_sector old.image place bytes) new

@@ -2,10 +2,10 @@ pub mod ApartLaws
 pub mod CallLaws
 pub mod EnterLaws
 pub mod ForceLaws
+pub mod ForceMoments
 pub mod FormatLaws
 pub mod HeadLaws
 pub mod HomeLaws
-pub mod KeptLaws
 pub mod Laying
 pub mod ListLaws
 pub mod MountLaws
@@ -20,3 +20,4 @@ pub mod SliceLaws
 pub mod StoredLaws
 pub mod TableLaws
 pub mod VersionLaws
+pub mod WritingLaws

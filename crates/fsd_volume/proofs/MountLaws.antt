@@ -14,7 +14,7 @@ use Rattle.fsd_files.specs.Disk.{Image, nowhere, bytes_of, bytes_at, either_copy
 use Rattle.fsd_files.specs.Files.{Files}
 use Rattle.fsd_files.specs.Kept.{Describes}
 use Rattle.fsd_files.specs.Volume.{plans_of, is_in}
-use Rattle.fsd_sound.specs.AtHome.{anchor_of as fresh_anchor, IsAtHome, HoldsFiles}
+use Rattle.fsd_sound.specs.AtHome.{fresh_anchor, IsAtHome, HoldsFiles}
 use Rattle.fsd_sound.specs.Homes.{home_of}
 use Rattle.fsd_sound.specs.Roots.{root_of}
 use Rattle.fsd_sound.specs.Anchors.{anchor_of}
@@ -27,7 +27,7 @@ use Rattle.fsd_volume.specs.State.{State, IsMounted}
 use Rattle.fsd_volume.specs.Mount.{table_on, TableShown, MountRefused, Mounts, Excuses, IsAccepted, IsFoundOn, volume_of}
 use Rattle.fsd_volume.specs.Table.{table_in, leaf_of}
 use Rattle.fsd_volume.proofs.HomeLaws.{plans_in_data, data_from}
-use Rattle.fsd_volume.proofs.KeptLaws.{kept_on}
+use Rattle.fsd_files.proofs.KeptLaws.{kept_on}
 use Rattle.fsd_volume.proofs.TableLaws.{table_is}
 
 -- ---- the renewed anchors

@@ -1,5 +1,5 @@
 -- What a put answers, and what the volume and its disk are then.
-use Rattle.std.proofs.Common.{◌≡◌, ℕ, suc, ◌+◌, ◌<◌, ◌≤◌, Bool, true, false, cond, nat_lt, List, [], ◌∷◌, ◌++◌, length, Option, Some, None, Result, Ok, Err, refl, sym, ap, subst, ◌∙◌, arith}
+use Rattle.std.proofs.Common.{◌≡◌, inl, inr, ℕ, suc, ◌+◌, ◌<◌, ◌≤◌, Bool, true, false, cond, nat_lt, List, [], ◌∷◌, ◌++◌, length, Option, Some, None, Result, Ok, Err, refl, sym, ap, subst, ◌∙◌, arith}
 use Rattle.std.specs.Prelude.{IsTrue, IsSome, IfSome, IfOk, slice_index_or}
 use Rattle.std.specs.List.{flat_map}
 use Rattle.std.specs.declared.cmp.Ordering.{Ordering}
@@ -17,7 +17,9 @@ use Rattle.fsd_bytes.specs.declared.refusal.Refusal.TheVariants as Why
 use Rattle.run_table.specs.declared.run.Run.{Run}
 use Rattle.run_table.specs.RunTable.{sectors_of, total}
 use Rattle.run_table.specs.Space.{contains, runs_of, pick, best}
-use Rattle.sector_disk.specs.Image.{sector_at}
+use Rattle.sector_disk.specs.Image.{sector_at, IsCalm}
+use Rattle.sector_disk.specs.Machine.{Moment}
+use Rattle.sector_disk.proofs.Calm.{calm_nowhere}
 use Rattle.fsd_formats.specs.declared.entry.Entry.{Entry}
 use Rattle.fsd_formats.specs.NamePage.{room, sectors_for}
 use Rattle.fsd_files.specs.Space.{Apart}
@@ -29,11 +31,11 @@ use Rattle.fsd_files.specs.OneLeaf.{has_name, leaf_used, put_in, put_at, put_unl
 use Rattle.fsd_files.specs.Replies.{Refused, Made}
 use Rattle.fsd_files.specs.Volume.{Volume, drawn, plans_of, entries_at, entries_without, free_runs}
 use Rattle.fsd_sound.specs.AtHome.{IsAtHome}
-use Rattle.fsd_volume.specs.Put.{names, placed, AreNew, Enters, EntersOk, entered, PutSays, Puts, PutsOn, StandsOn}
-use Rattle.fsd_volume.specs.Slices.{with_version}
-use Rattle.fsd_volume.specs.State.{State, StandsFor, IsMounted, free_space}
+use Rattle.fsd_volume.specs.Put.{names, placed, AreNew, Enters, EntersOk, entered, PutSays, Puts, PutsOn}
+use Rattle.fsd_volume.specs.Slices.{with_version, WritesIn}
+use Rattle.fsd_volume.specs.State.{State, StandsFor, IsMounted, StaysMounted, free_space}
 use Rattle.fsd_volume.proofs.HomeLaws.{at_home_with, data_from}
-use Rattle.fsd_volume.proofs.KeptLaws.{kept_on}
+use Rattle.fsd_files.proofs.KeptLaws.{kept_on}
 use Rattle.fsd_volume.proofs.ListLaws.{lists_put, has_name_is, first_key, first_keep, keys_gone, without_none, entries_without_none, entries_at_none}
 use Rattle.fsd_volume.proofs.PlaceLaws.{same_runs_free}
 use Rattle.fsd_volume.proofs.PlanLaws.{apart_put}
@@ -195,11 +197,11 @@ made_leader s e new j (Err refusal) ok leader = tt
 
 -- ---- the disk
 
--- the disk with the version in free sectors: all else stands
-pub version_on : (s : State) (v : Volume) (files : Files) (i : Image) (e : Entry) (bytes : List ℕ) → length (sectors_of e.runs) ≡ sectors_for (length bytes) → AreNew s.layout (plans_of s.entries) e.runs
-    → IsMounted s v files i → IsMounted (drawn_state s) (drawn v) files (with_version i e bytes)
-version_on s v files i e bytes count new mounted = record {
-  stands = stands_drawn s v mounted.stands;
+-- a disk on which only free sectors differ
+pub mounted_beside : (s : State) (v : Volume) (files : Files) (i j : Image) (runs : List Run) → AreNew s.layout (plans_of s.entries) runs → length j ≡ length i
+    → ((t : ℕ) → (IsTrue (contains (sectors_of runs) t) → ⊥) → sector_at j t ≡ sector_at i t) → IsMounted s v files i → IsMounted s v files j
+mounted_beside s v files i j runs new size same mounted = record {
+  stands = mounted.stands;
   describes = record { lists = mounted.describes.lists; apart = mounted.describes.apart; kept = kept_on nowhere i j v.files v.entries (λ t there. same t (not_new t there)) mounted.describes.kept };
   disk = record {
     entries = mounted.disk.entries;
@@ -214,24 +216,38 @@ version_on s v files i e bytes count new mounted = record {
   written = mounted.written;
 }
   where
-    j : Image
-    j = with_version i e bytes
-
-    same : (t : ℕ) → (IsTrue (contains (sectors_of e.runs) t) → ⊥) → sector_at j t ≡ sector_at i t
-    same t absent = version_elsewhere i e bytes count new.differ t absent
-
-    not_new : (t : ℕ) → IsTrue (contains (flat_map sectors_of (plans_of v.entries)) t) → IsTrue (contains (sectors_of e.runs) t) → ⊥
+    not_new : (t : ℕ) → IsTrue (contains (flat_map sectors_of (plans_of v.entries)) t) → IsTrue (contains (sectors_of runs) t) → ⊥
     not_new t there of_new = new.unused t of_new (subst (λ (es : List Entry). IsTrue (contains (flat_map sectors_of (plans_of es)) t)) mounted.stands.entries there)
 
-    low : (t : ℕ) → t < data_start s.layout → IsTrue (contains (sectors_of e.runs) t) → ⊥
+    low : (t : ℕ) → t < data_start s.layout → IsTrue (contains (sectors_of runs) t) → ⊥
     low t below of_new = let from = data_from s.layout t (new.are_data t of_new) in absurd (omega (arith, from))
 
     at_home : IsAtHome s.layout s.serial.epoch mounted.disk.entries j
     at_home =
         let h = mounted.disk.at_home in
         at_home_with s.layout s.serial.epoch mounted.disk.entries mounted.disk.entries i j h
-        (record { size = length-with_version i e bytes count new.differ; same = λ t below a b. same t (low t below) })
+        (record { size = size; same = λ t below a b. same t (low t below) })
         (record { leaf = h.leaf; stamp = h.stamp; stamp_fits = h.stamp_fits; home = same (home_a s.layout 0) (low (home_a s.layout 0) (omega arith)) ∙ h.home; copy = same (home_b s.layout 0) (low (home_b s.layout 0) (omega arith)) ∙ h.copy })
+
+-- the next serial is drawn
+pub mounted_drawn : (s : State) (v : Volume) (files : Files) (i : Image) → IsMounted s v files i → IsMounted (drawn_state s) (drawn v) files i
+mounted_drawn s v files i mounted = record { stands = stands_drawn s v mounted.stands; describes = mounted.describes; disk = mounted.disk; inside = mounted.inside; written = mounted.written }
+
+-- the disk with the version in free sectors: all else stands
+pub version_on : (s : State) (v : Volume) (files : Files) (i : Image) (e : Entry) (bytes : List ℕ) → length (sectors_of e.runs) ≡ sectors_for (length bytes) → AreNew s.layout (plans_of s.entries) e.runs
+    → IsMounted s v files i → IsMounted (drawn_state s) (drawn v) files (with_version i e bytes)
+version_on s v files i e bytes count new mounted =
+    mounted_drawn s v files (with_version i e bytes)
+    (mounted_beside s v files i (with_version i e bytes) e.runs new (length-with_version i e bytes count new.differ) (λ t absent. version_elsewhere i e bytes count new.differ t absent) mounted)
+
+-- at a moment of its writing, where no sector wears
+pub stays_mounted : (s : State) (v : Volume) (files : Files) (old left : Moment) (runs : List Run) → AreNew s.layout (plans_of s.entries) runs → IsCalm old.windows → IsMounted s v files old.image
+    → WritesIn (sectors_of runs) old left → StaysMounted s v files old left
+stays_mounted s v files old left runs new calm mounted writes = record {
+  mounted = mounted_beside s v files old.image left.image runs new writes.size (λ t absent. elim (writes.others t absent) [ inl same ↦ same | inr hurt ↦ absurd (calm_nowhere old.windows.present old.windows.next t calm.present calm.next hurt.0) ]) mounted;
+  windows = writes.windows;
+  said = writes.said;
+}
 
 -- the new version is kept beside the others
 kept_put : (j : Image) (k : Key) (x : File) (e : Entry) (s : Files) (entries : List Entry) → KeptIn j nowhere x.bytes e.runs → e.key ≡ k → Lists s entries → Kept j s entries nowhere → Kept j (put key_cmp k x s) (entry_put e entries) nowhere
@@ -277,11 +293,6 @@ entered_on s v name bytes given e h files i count new room none mounted =
   where
     has_none : (es : List Entry) → es ≡ s.entries → names (new_entry (drawn v) name bytes given e.runs v.serial).key.name es ≡ false
     has_none es same = ap (names name) same ∙ ap (λ (k : Key). names k.name s.entries) (sym h.key) ∙ none
-
-pub stands_on : (v : Volume) (out : Outcome) (files : Files) (new : State) (j : Image) (r : Result Key Refusal) → PutsOn v out files new j r → StandsOn v out files new j r
-stands_on v out files new j (Ok key) p = p
-stands_on v out files new j (Err (Why.Device place)) p = tt
-stands_on v out files new j (Err refusal) p = p
 
 pub puts_on : (s : State) (v : Volume) (name bytes : List ℕ) (given : Option ℕ) (e : Entry) (h : Entering s v name bytes given e) (files : Files) (i j : Image) (new : State) (r : Result Key Refusal) → length (sectors_of e.runs) ≡ sectors_for (length bytes)
     → AreNew s.layout (plans_of s.entries) e.runs → ((k : ℕ) → k < length (sectors_of e.runs) → slice_index_or (sectors_of e.runs) k 0 < length i) → IsMounted s v files i → j ≡ with_version i e bytes → Enters (drawn_state s) e new r

@@ -20,7 +20,7 @@ use Rattle.fsd_files.specs.Answers.{entry_of}
 use Rattle.fsd_files.specs.Volume.{plans_of}
 use Rattle.fsd_volume.specs.State.{IsTable}
 use Rattle.fsd_volume.proofs.HomeLaws.{plans_in_data}
-use Rattle.fsd_volume.proofs.KeptLaws.{first_there, rest_there, front_there, back_there, plan_sectors}
+use Rattle.fsd_files.proofs.KeptLaws.{first_there, rest_there, front_there, back_there, plan_sectors}
 
 -- its runs are good, its sectors are as many as its bytes need, and all lie below the volume's end
 pub record IsStored (l : Layout) (e : Entry) : Type 0 where

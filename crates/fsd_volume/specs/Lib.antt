@@ -1,4 +1,5 @@
 pub mod Calls
+pub mod Forcing
 pub mod Formatting
 pub mod Mount
 pub mod Pieces

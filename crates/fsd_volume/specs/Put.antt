@@ -1,5 +1,5 @@
 -- What a put answers.
-use Rattle.std.specs.Prelude.{◌≡◌, ◌≤◌, ◌<◌, ◌-◌, ◌^◌, ℕ, Bool, true, false, List, Option, Some, None, Result, Ok, Err, IsTrue, ⊤, nat_lt, if◌then◌else◌}
+use Rattle.std.specs.Prelude.{◌≡◌, ◌≤◌, ◌<◌, ◌-◌, ◌^◌, ℕ, Bool, true, false, List, Option, Some, None, Result, Ok, Err, IsTrue, nat_lt, if◌then◌else◌}
 use Rattle.std.specs.List.{list_any, flat_map}
 use Rattle.fsd_bytes.specs.Bytes.{same_bytes}
 use Rattle.fsd_bytes.specs.declared.key.Key.{Key}
@@ -86,8 +86,3 @@ pub record AreNew (l : Layout) (plans : List (List Run)) (runs : List Run) : Typ
   pub differ : IsTrue (all_differ (sectors_of runs))
   pub unused : (s : ℕ) → IsTrue (contains (sectors_of runs) s) → IsTrue (contains (flat_map sectors_of plans) s) → ⊥
   pub are_data : (s : ℕ) → IsTrue (contains (sectors_of runs) s) → IsTrue (is_data l s)
-
--- After a fault of the disk nothing is said of it.
-abbrev pub StandsOn : Volume → Outcome → Files → State → Image → Result Key Refusal → Type 0
-StandsOn v out files new j (Err (Device s)) = ⊤
-StandsOn v out files new j result = PutsOn v out files new j result

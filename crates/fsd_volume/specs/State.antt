@@ -7,6 +7,7 @@ use Rattle.volume_layout.specs.Layout.{plan, data_start}
 use Rattle.run_table.specs.RunTable.{sectors_of}
 use Rattle.run_table.specs.Space.{contains}
 use Rattle.sector_set.specs.Area.{Area, area}
+use Rattle.sector_disk.specs.Machine.{Moment}
 use Rattle.fsd_formats.specs.declared.entry.Entry.{Entry}
 use Rattle.fsd_files.specs.Disk.{Image, nowhere}
 use Rattle.fsd_files.specs.Files.{Files}
@@ -57,3 +58,9 @@ pub record IsMounted (state : State) (v : Volume) (forced : Files) (i : Image) :
   pub disk : HoldsFiles state.layout state.serial.epoch forced i
   pub inside : (s : ℕ) → IsTrue (is_in (plans_of disk.entries) s) → IsTrue (in_version v s)
   pub written : state.waits ≡ false → forced ≡ v.files
+
+-- The volume stays mounted from the disk that is left, with the same forced files; the windows and what was said are as they were.
+pub record StaysMounted (state : State) (v : Volume) (forced : Files) (old left : Moment) : Type 0 where
+  pub mounted : IsMounted state v forced left.image
+  pub windows : left.windows ≡ old.windows
+  pub said : left.said ≡ old.said

@@ -7,16 +7,16 @@ ghost use Rattle.run_table.specs.RunTable.{sectors_of};
 ghost use Rattle.fsd_formats.specs.declared.entry.Entry.{Entry as Listed};
 ghost use Rattle.fsd_formats.specs.NamePage.{room, is_entry, sectors_for, max_length, FitsEntry};
 ghost use Rattle.sector_disk.specs.Image.{IsCalm};
-ghost use Rattle.sector_disk.specs.Machine.{DeviceFault, UsesDisk, Trusts, OnlyWrites, Holds};
+ghost use Rattle.sector_disk.specs.Machine.{DeviceFault, UsesDisk, Trusts, OnlyWrites, LeavesOnly, Holds};
 ghost use Rattle.fsd_files.specs.Answers.{entry_put, entry_of, size_fault, keep_given, HasLeader};
 ghost use Rattle.fsd_files.specs.Disk.{nowhere};
 ghost use Rattle.fsd_files.specs.Files.{Files};
 ghost use Rattle.fsd_files.specs.OneLeaf.{leaf_used, put_outcome};
 ghost use Rattle.fsd_files.specs.Volume.{Volume as Mounted, plans_of};
 ghost use Rattle.fsd_volume.specs.Calls.{TellsDevice};
-ghost use Rattle.fsd_volume.specs.Put.{names, placed, last_count, AreNew, Enters, Puts, StandsOn};
-ghost use Rattle.fsd_volume.specs.Slices.{with_version};
-ghost use Rattle.fsd_volume.specs.State.{StandsFor, IsMounted};
+ghost use Rattle.fsd_volume.specs.Put.{names, placed, last_count, AreNew, Enters, Puts, PutsOn};
+ghost use Rattle.fsd_volume.specs.Slices.{with_version, WritesIn};
+ghost use Rattle.fsd_volume.specs.State.{StandsFor, IsMounted, StaysMounted};
 
 use crate::Volume;
 use crate::sectors::write_sector;
@@ -64,9 +64,13 @@ impl Volume {
         ensures leader { IfOk result (λ key. M.honest m.new → IsCalm (M.now m.old).windows →
             IfSome (entry_of key self.new.entries) (HasLeader nowhere (M.now m.new).image)) }
 
-        // The versions stand on the disk, and what was forced before.
+        // A stop at any moment leaves the versions that there were, and what was forced before.
+        ensures any_moment { M.honest m.new → IsCalm (M.now m.old).windows → (v : Mounted) (files : Files) → IsMounted self.old v files (M.now m.old).image →
+            LeavesOnly M.moment M.left_since m.old m.new (StaysMounted self.old v files (M.now m.old)) }
+
+        // The versions stand on the disk, and what was forced before, also where the disk has failed.
         ensures stands { M.honest m.new → IsCalm (M.now m.old).windows → (v : Mounted) (files : Files) → IsMounted self.old v files (M.now m.old).image →
-            StandsOn v (put_outcome v name.now bytes.now keep) files self.new (M.now m.new).image result }
+            PutsOn v (put_outcome v name.now bytes.now keep) files self.new (M.now m.new).image result }
     {
         if let Some(refusal) = size_fault(keep, bytes.len()) {
             return Err(refusal);
@@ -169,6 +173,7 @@ fn write_version<M: Machine>(m: &mut M, e: &Entry, bytes: &[u8]) -> Result<(), F
     ensures ledger { M.tells m.new → OnlyWrites (M.ledger m.old) (M.ledger m.new) }
     ensures quiet { M.honest m.new → (M.now m.new).said ≡ (M.now m.old).said }
     ensures windows { M.honest m.new → (M.now m.new).windows ≡ (M.now m.old).windows }
+    ensures any_moment { M.honest m.new → LeavesOnly M.moment M.left_since m.old m.new (WritesIn (sectors_of e.now.runs) (M.now m.old)) }
     ensures done { OnOk result (M.honest m.new → Holds (M.now m.old) (with_version (M.now m.old).image e.now bytes.now) (M.now m.new)) }
 {
     write_slices(m, &e.runs, bytes)?;

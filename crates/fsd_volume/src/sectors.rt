@@ -1,7 +1,8 @@
 //! Single sectors.
-ghost use Rattle.std.specs.Prelude.{◌≡◌, ◌<◌, OnOk, IfErr};
-ghost use Rattle.sector_disk.specs.Machine.{DeviceFault, UsesDisk, Trusts, OnlyWrites, Holds};
+ghost use Rattle.std.specs.Prelude.{◌≡◌, ◌<◌, [], ◌∷◌, OnOk, IfErr};
+ghost use Rattle.sector_disk.specs.Machine.{DeviceFault, UsesDisk, Trusts, OnlyWrites, LeavesOnly, Holds};
 ghost use Rattle.sector_disk.specs.Image.{with_sector};
+ghost use Rattle.fsd_volume.specs.Slices.{WritesIn};
 
 use sector_disk::{Failed, Machine};
 
@@ -18,6 +19,7 @@ pub(crate) fn write_sector<M: Machine>(
     ensures ledger { M.tells m.new → OnlyWrites (M.ledger m.old) (M.ledger m.new) }
     ensures quiet { M.honest m.new → (M.now m.new).said ≡ (M.now m.old).said }
     ensures windows { M.honest m.new → (M.now m.new).windows ≡ (M.now m.old).windows }
+    ensures any_moment { M.honest m.new → LeavesOnly M.moment M.left_since m.old m.new (WritesIn (place ∷ []) (M.now m.old)) }
     ensures done { OnOk result (M.honest m.new → Holds (M.now m.old) (with_sector (M.now m.old).image place bytes.now) (M.now m.new)) }
 {
     m.write(place, bytes)?;

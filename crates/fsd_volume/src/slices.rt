@@ -1,10 +1,10 @@
 //! The bytes of a version in its sectors.
 ghost use Rattle.std.specs.Prelude.{◌≡◌, ◌+◌, ◌-◌, ◌*◌, ◌^◌, ◌≤◌, ◌<◌, All, length, OnOk, IfErr};
-ghost use Rattle.sector_disk.specs.Machine.{DeviceFault, UsesDisk, Trusts, OnlyWrites, Holds};
+ghost use Rattle.sector_disk.specs.Machine.{DeviceFault, UsesDisk, Trusts, OnlyWrites, LeavesOnly, Holds};
 ghost use Rattle.run_table.specs.RunTable.{sectors_of, total};
 ghost use Rattle.fsd_formats.specs.NamePage.{sectors_for, max_length};
 ghost use Rattle.fsd_files.specs.Kept.{slice_of};
-ghost use Rattle.fsd_volume.specs.Slices.{with_slices};
+ghost use Rattle.fsd_volume.specs.Slices.{with_slices, WritesIn};
 
 use crate::sectors::write_sector;
 use run_table::Runs;
@@ -22,6 +22,7 @@ pub(crate) fn write_slices<M: Machine>(m: &mut M, runs: &Runs, bytes: &[u8]) -> 
     ensures ledger { M.tells m.new → OnlyWrites (M.ledger m.old) (M.ledger m.new) }
     ensures quiet { M.honest m.new → (M.now m.new).said ≡ (M.now m.old).said }
     ensures windows { M.honest m.new → (M.now m.new).windows ≡ (M.now m.old).windows }
+    ensures any_moment { M.honest m.new → LeavesOnly M.moment M.left_since m.old m.new (WritesIn (sectors_of runs.now) (M.now m.old)) }
     ensures done { OnOk result (M.honest m.new → Holds (M.now m.old) (with_slices (M.now m.old).image runs.now bytes.now (sectors_for (length bytes.now) - 1)) (M.now m.new)) }
 {
     let count = (bytes.len() as u32).div_ceil(512);

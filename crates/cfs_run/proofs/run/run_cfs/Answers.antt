@@ -6,6 +6,7 @@ use Rattle.fsd_volume.specs.Mount.{IsMountable, MountRefused}
 use Rattle.cfs_run.specs.Words.{request_of}
 use Rattle.cfs_run.specs.Ends.{DamagedAnswer, IfMountAnswer, IfMounts, LeavesInput, WhereMounted}
 use Rattle.cfs_run.proofs.DamageEnds.{run_damaged}
+use Rattle.cfs_run.proofs.GetSaid.{get_part}
 use Rattle.cfs_run.proofs.MountEnds.{not_mounted, other, run_mounted, unlike}
 use Rattle.cfs_run.proofs.PutSaid.{put_heard}
 use Rattle.cfs_run.proofs.RunLaws.{Ran, said_untouched, run_input, run_takes, run_answers, run_completes, run_fault_said, run_holds, run_said, run_says, run_status, run_untouched}
@@ -82,6 +83,14 @@ returns-clause-said g c =
       quiet = λ h. c.carry_out-answer.ensures.quiet (c.finish.ensures.trust.honest h);
       leaves = λ h. c.carry_out-answer.ensures.leaves (c.finish.ensures.trust.honest h);
     })
+
+pub returns-clause-gives : goal.returns-clause-gives
+returns-clause-gives g c h =
+    let M = g.M.Machine in
+    let h1 = c.finish.ensures.trust.honest h in
+    get_part (M.honest c.finish.new.m) (request_of (map (string_bytes {Z = Global}) c.args.words.now)) c.carry_out-answer.result (M.report c.args.m.now) (M.report c.carry_out-answer.new.m) (M.report c.finish.new.m)
+    (M.now c.args.m.now) (M.now c.carry_out-answer.new.m) (M.now c.finish.new.m) c.finish.result c.carry_out-answer.ensures.cause c.finish.ensures.uses.place
+    (c.carry_out-answer.ensures.quiet h1) (c.carry_out-answer.ensures.leaves h1) h c.finish.ensures.said
 
 pub returns-clause-fault_said : goal.returns-clause-fault_said
 returns-clause-fault_said g c =
