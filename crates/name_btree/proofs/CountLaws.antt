@@ -1,6 +1,6 @@
 -- How many entries stand below a page, at most.
-use Rattle.std.proofs.Common.{◌≡◌, ℕ, zero, suc, ◌+◌, ◌≤◌, ◌<◌, ◌^◌, true, ◌&&◌, List, [], ◌∷◌, ◌++◌, length, map, take, Option, Some, None, refl, sym, ap, subst, ◌∙◌, arith, length-append}
-use Rattle.std.specs.Prelude.{nat_lt, nat_le}
+use Rattle.std.proofs.Common.{◌≡◌, ℕ, zero, suc, ◌+◌, ◌≤◌, ◌<◌, ◌^◌, true, ◌&&◌, List, [], ◌∷◌, length, take, Option, Some, None, refl, ap, arith, length-append}
+use Rattle.std.specs.Prelude.{nat_lt}
 use Rattle.std.specs.List.{flat_map, list_all, AllByRecursion}
 use Rattle.std.proofs.lemmas.Bool.{and_parts}
 use Rattle.fsd_bytes.specs.Keys.{is_key}
@@ -22,13 +22,13 @@ each_has_bytes (e ∷ entries) =
     let some : 1 ≤ length (entry_bytes e) = omega arith in
     omega (arith, each_has_bytes entries, more, some)
 
-leaf_few : (page p : ℕ) (entries : List Entry) → is_page page p (Leaf entries) ≡ true → length entries ≤ 488
+pub leaf_few : (page p : ℕ) (entries : List Entry) → is_page page p (Leaf entries) ≡ true → length entries ≤ 488
 leaf_few page p entries e =
     let fits = (and_parts (list_all is_entry entries && are_ascending (entry_keys entries)) (is_between (least_used page) room (length (contents_of (Leaf entries)))) e).1 in
     let most = (between (least_used page) room (length (contents_of (Leaf entries))) fits).1 in
     omega (arith, each_has_bytes entries, most)
 
-interior_few : (page p first : ℕ) (separators : List Separator) → is_page page p (Interior first separators) ≡ true → length separators ≤ 9
+pub interior_few : (page p first : ℕ) (separators : List Separator) → is_page page p (Interior first separators) ≡ true → length separators ≤ 9
 interior_few page p first separators e =
     let all = list_all (λ s. is_key s.key && nat_lt s.child p) separators in
     let fits = (and_parts (all && are_ascending (separator_keys separators) && nat_lt first p) (is_between (least_separators page) 9 (length separators)) e).1 in

@@ -28,7 +28,7 @@ abbrev pub IsMonotone : (Key → Bool) → Type 0
 IsMonotone before = (a b : Key) → not (key_lt b a) ≡ true → before b ≡ true → before a ≡ true
 
 -- a key that stands behind a place has all greater ones behind it
-behind : (before : Key → Bool) → IsMonotone before → (k key : Key) → before k ≡ false → not (key_lt key k) ≡ true → before key ≡ false
+pub behind : (before : Key → Bool) → IsMonotone before → (k key : Key) → before k ≡ false → not (key_lt key k) ≡ true → before key ≡ false
 behind before mono k key e le = by (before key) refl
   where
     by : (b : Bool) → before key ≡ b → b ≡ false

@@ -52,6 +52,9 @@ leaf_is bytes h e =
       sym (ap length same ∙ count_entries (u16_at 6 bytes) (drop 24 bytes)),
     )
 
+pub leaf_entries : (bytes : List ℕ) → IsSome (content_in bytes) → u8_at 4 bytes ≡ 1 → entries_in bytes ≡ entries_from (u16_at 6 bytes) (drop 24 bytes)
+leaf_entries bytes h e = entries_are bytes (entries_from (u16_at 6 bytes) (drop 24 bytes)) (at_kind bytes 1 h e)
+
 other_kind : (kind : ℕ) → kind ≢ 0 → kind ≢ 1 → (k : ℕ) × (kind ≡ suc (suc k))
 other_kind zero a b = absurd (a refl)
 other_kind (suc zero) a b = absurd (b refl)
@@ -66,6 +69,11 @@ interior_is bytes h a b =
       is ∙ ap (λ (n : ℕ). Some (Interior n (separators_from (u16_at 6 bytes) (drop 4 (drop 24 bytes))))) (sym (u32_there 24 bytes)) ∙ ap (λ (xs : List Separator). Some (Interior (u32_at 24 bytes) xs)) (sym same),
       sym (ap length same ∙ count_separators (u16_at 6 bytes) (drop 4 (drop 24 bytes))),
     )
+
+pub interior_separators : (bytes : List ℕ) → IsSome (content_in bytes) → u8_at 4 bytes ≢ 0 → u8_at 4 bytes ≢ 1 → separators_in bytes ≡ separators_from (u16_at 6 bytes) (drop 4 (drop 24 bytes))
+interior_separators bytes h a b =
+    let o = other_kind (u8_at 4 bytes) a b in
+    separators_are bytes (u32_at 0 (drop 24 bytes)) (separators_from (u16_at 6 bytes) (drop 4 (drop 24 bytes))) (at_kind bytes (suc (suc o.0)) h o.1)
 
 -- ---- a page of the table
 

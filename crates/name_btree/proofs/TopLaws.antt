@@ -1,5 +1,5 @@
 -- The level of page 0, and the walk below it.
-use Rattle.std.proofs.Common.{◌≡◌, ℕ, zero, suc, ◌+◌, ◌-◌, ◌≤◌, ◌<◌, Bool, true, false, List, [], ◌∷◌, ◌++◌, length, Option, Some, None, refl, sym, ap, subst, ◌∙◌, arith}
+use Rattle.std.proofs.Common.{◌≡◌, ℕ, zero, suc, ◌+◌, ◌-◌, ◌≤◌, ◌<◌, Bool, true, List, [], ◌∷◌, length, Option, Some, None, refl, sym, subst, arith}
 use Rattle.std.specs.Prelude.{slice_get, option_and_then}
 use Rattle.std.specs.List.{flat_map, AllByRecursion}
 use Rattle.std.proofs.lemmas.Option.{slice_get_within}
@@ -8,14 +8,14 @@ use Rattle.fsd_formats.specs.declared.entry.Entry.{Entry}
 use Rattle.fsd_formats.specs.declared.page.Separator.{Separator}
 use Rattle.fsd_formats.specs.NamePage.{Content, Free, Leaf, Interior, read_page}
 use Rattle.fsd_table.specs.declared.child.Child.{Child}
-use Rattle.fsd_table.specs.Pages.{page_at, children, children_of, content_fits}
+use Rattle.fsd_table.specs.Pages.{page_at, children, children_of}
 use Rattle.fsd_table.specs.Table.{top, max_height}
 use Rattle.fsd_table.specs.Tree.{pages_below, IsLeaf, IsInterior, IsSubtree, IsTree}
 use Rattle.fsd_table.proofs.BoundLaws.{all_append, all_weaker}
 use Rattle.name_btree.specs.declared.fault.TreeFault.{TreeFault}
 use Rattle.name_btree.specs.declared.fault.TreeFault.TheVariants.{Pages, Broken}
 use Rattle.name_btree.specs.Fault.{HasCause, IsMisfit, BreaksSubtree, BreaksTree}
-use Rattle.name_btree.specs.Walk.{AreMarksOf, can_mark, marked, IsWalked, BreaksWalk, IsTopLevel, IsCounted}
+use Rattle.name_btree.specs.Walk.{AreMarksOf, can_mark, IsWalked, BreaksWalk, IsTopLevel, IsCounted}
 use Rattle.name_btree.proofs.DescentLaws.{misfit}
 use Rattle.name_btree.proofs.FindLaws.{low_height}
 use Rattle.name_btree.proofs.WalkLaws.{all_at}

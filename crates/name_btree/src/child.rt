@@ -1,9 +1,9 @@
 //! Children, and whether they fit between their keys.
-ghost use Rattle.std.specs.Prelude.{◌≡◌, ◌+◌, ◌<◌, ◌≤◌, ◌&&◌, IfOk, IfErr, Some, length, false, true};
+ghost use Rattle.std.specs.Prelude.{◌≡◌, ◌+◌, ◌<◌, ◌≤◌, ◌&&◌, IfOk, IfErr, OnOk, Some, length, false, true};
 ghost use Rattle.fsd_table.specs.Pages.{page_at, not_below, below, keys_fit, entry_keys, separator_keys, content_fits};
-ghost use Rattle.name_btree.specs.Node.{content_of};
+ghost use Rattle.name_btree.specs.Node.{content_of, IsStill};
 ghost use Rattle.name_btree.specs.Fault.{HasCause, IsMisfit};
-ghost use Rattle.name_page.specs.Pages.{reaches};
+ghost use Rattle.name_page.specs.Pages.{reaches, is_spare, IsReached};
 
 use crate::fault::TreeFault;
 use crate::node::{Entries, Node, Ways, node_at};
@@ -58,7 +58,8 @@ fn ways_fit(child: &Child, ways: &Ways) -> bool
     true
 }
 
-fn node_fits(child: &Child, node: &Node) -> bool
+/// Whether the page's keys stand between the child's.
+pub(crate) fn node_fits(child: &Child, node: &Node) -> bool
     ensures { result ≡ content_fits child.now.low child.now.high (Some (content_of node.now)) }
 {
     match node {
@@ -75,6 +76,9 @@ pub(crate) fn child_node<T: Pages>(t: &mut T, child: &Child) -> Result<Node, Tre
     ensures spares { (T.step t.new).spares ≡ (T.step t.old).spares }
     ensures step { (T.step t.new).most_reached ≡ (T.step t.old).most_reached }
     ensures reaches { reaches (T.step t.old) ≤ reaches (T.step t.new) + 1 }
+    ensures changes { IsStill (T.step t.old) (T.step t.new) }
+    ensures reached { OnOk result (IsReached (T.step t.new) child.now.page) }
+    ensures used { OnOk result (is_spare (T.step t.old).spares child.now.page ≡ false) }
     ensures node { IfOk result (λ node. page_at (T.step t.old).images child.now.page ≡ Some (content_of node)) }
     ensures fits { IfOk result (λ node. content_fits child.now.low child.now.high (Some (content_of node)) ≡ true) }
     ensures fault { IfErr result (HasCause (T.step t.new).refusal (IsMisfit (T.step t.old).images child.now)) }

@@ -1,11 +1,13 @@
 //! The way to a leaf.
-ghost use Rattle.std.specs.Prelude.{◌≡◌, ◌+◌, ◌-◌, ◌<◌, ◌≤◌, ℕ, IfOk, IfErr, Some, length, drop, true};
+ghost use Rattle.std.specs.Prelude.{◌≡◌, ◌+◌, ◌-◌, ◌<◌, ◌≤◌, ℕ, IfOk, IfErr, Some, length, drop, true, false};
 ghost use Rattle.fsd_formats.specs.NamePage.{Leaf};
 ghost use Rattle.fsd_table.specs.Pages.{page_at};
+ghost use Rattle.name_btree.specs.Change.{IsLeafAt};
 ghost use Rattle.name_btree.specs.Cut.{is_before};
 ghost use Rattle.name_btree.specs.Descent.{end_of, way_to, IsPlace};
 ghost use Rattle.name_btree.specs.Fault.{HasCause, BreaksSubtree};
-ghost use Rattle.name_page.specs.Pages.{reaches};
+ghost use Rattle.name_page.specs.Pages.{reaches, is_spare, IsReached};
+ghost use Rattle.name_btree.specs.Node.{IsStill};
 
 use crate::child::child_node;
 use crate::cut::Cut;
@@ -102,7 +104,11 @@ pub(crate) fn leaf_below<T: Pages>(t: &mut T, start: Child, cut: &Cut) -> Result
     ensures spares { (T.step t.new).spares ≡ (T.step t.old).spares }
     ensures step { (T.step t.new).most_reached ≡ (T.step t.old).most_reached }
     ensures reaches { reaches (T.step t.old) ≤ reaches (T.step t.new) + 6 }
+    ensures changes { IsStill (T.step t.old) (T.step t.new) }
+    ensures reached { IfOk result (λ found. IsReached (T.step t.new) found.page) }
+    ensures used { IfOk result (λ found. is_spare (T.step t.old).spares found.page ≡ false) }
     ensures leaf { IfOk result (λ found. page_at (T.step t.old).images found.page ≡ Some (Leaf found.entries)) }
+    ensures at { IfOk result (λ found. IsLeafAt (is_before cut.now) (T.step t.old).images start found.page found.entries) }
     ensures place { IfOk result (IsPlace (is_before cut.now) (T.step t.old).images start) }
     ensures fault { IfErr result (HasCause (T.step t.new).refusal (BreaksSubtree (T.step t.old).images start)) }
 {

@@ -3,19 +3,32 @@
 
 ghost use Rattle.std.specs.Prelude.{◌≡◌, ◌≤◌, IfSome, IfOk, IsTrue, true};
 ghost use Rattle.fsd_bytes.specs.Keys.{is_key};
-ghost use Rattle.fsd_formats.specs.NamePage.{is_entry};
+ghost use Rattle.fsd_formats.specs.NamePage.{is_entry, FitsEntry};
 ghost use Rattle.name_page.specs.Pages.{reaches};
 
+mod changing;
 mod child;
 mod cut;
 mod descent;
+mod draft;
+mod entries;
 mod fault;
+mod laws;
 mod lookup;
 mod node;
+mod parting;
+mod replacing;
 mod walking;
+mod ways;
+mod writing;
 
+pub use changing::{put_in_leaf, remove_from_leaf};
 pub use fault::TreeFault;
+pub use laws::{
+    changes_go_up, pages_part_and_join, pages_regroup, parents_follow, trees_change_and_grow,
+};
 pub use lookup::{find, highest, next_after};
+pub use replacing::replace_same_size;
 pub use walking::walk;
 
 #[cfg(test)]
@@ -42,8 +55,10 @@ mod tests {
     }
 
     // An empty version in one sector.
-    fn entry(key: Key) -> Option<Entry>
-        ensures { IfSome result (λ e. is_entry e ≡ true) }
+    fn entry(key: Key, keep: u32) -> Option<Entry>
+        requires { keep ≤ 999 }
+        ensures entry { IfSome result (λ e. is_entry e ≡ true) }
+        ensures fits { IfSome result FitsEntry }
     {
         let mut runs = Runs::new();
         runs.push(Run {
@@ -59,7 +74,7 @@ mod tests {
                     name,
                     version: key.version,
                 },
-                keep: 2,
+                keep,
                 serial: Serial { epoch: 2, count: 1 },
                 length: 0,
                 runs,
@@ -83,7 +98,7 @@ mod tests {
     // A leaf of three versions.
     fn leaf(page: u32, a: Key, b: Key, c: Key) -> [u8; 512] {
         let mut image = [0; 512];
-        if let (Some(a), Some(b), Some(c)) = (entry(a), entry(b), entry(c)) {
+        if let (Some(a), Some(b), Some(c)) = (entry(a, 2), entry(b, 2), entry(c, 2)) {
             let _used = entry_len(&a) + entry_len(&b) + entry_len(&c);
             write_leaf(page, &[a, b, c], &mut image);
         }
@@ -92,7 +107,7 @@ mod tests {
 
     // A root and two leaves. The keys of the right child are from b!9 on.
     fn table(alloc: Global, left: u32, right: u32) -> Result<VecPages, AllocError>
-        ensures { IfOk result (λ t. reaches (⟦<VecPages as Pages>⟧.step t) ≡ 80) }
+        ensures { IfOk result (λ t. (reaches (⟦<VecPages as Pages>⟧.step t) ≡ 80) × ((⟦<VecPages as Pages>⟧.step t).most_changed ≡ 40)) }
     {
         let mut root = [0; 512];
         write_interior(0, left, &[separator(b'b', 9, right)], &mut root);
@@ -147,6 +162,79 @@ mod tests {
         }
         t.rest();
         assert!(rt; next_after(&mut t, last.as_ref())?.is_none());
+        Ok(())
+    }
+
+    // Puts an entry in place of the one with its key, if there is one as long.
+    fn replace<T: Pages>(t: &mut T, entry: &Entry) -> Result<bool, TreeFault>
+        requires reached { 80 ≤ (T.step t.old).most_reached }
+        requires changed { 40 ≤ (T.step t.old).most_changed }
+        requires entry { is_entry entry.now ≡ true }
+        requires fits { FitsEntry entry.now }
+    {
+        t.rest();
+        let Some(old) = find(t, &entry.key)? else {
+            return Ok(false);
+        };
+        t.rest();
+        if entry_len(&old) != entry_len(entry) {
+            return Ok(false);
+        }
+        replace_same_size(t, entry)?;
+        Ok(true)
+    }
+
+    #[test]
+    fn entries_are_replaced(rt: HostRuntime) -> Result<(), Fail> {
+        let mut t = table(rt.alloc(), 1, 2)?;
+        for (last, version, stands) in [(b'b', 5, true), (b'b', 9, false), (b'q', 3, true)] {
+            let Some(entry) = entry(key(last, version), 7) else {
+                return Ok(());
+            };
+            assert_eq!(rt; replace(&mut t, &entry)?, stands);
+            t.rest();
+            let found = find(&mut t, &entry.key)?;
+            assert_eq!(rt; found.map(|e| e.keep), if stands { Some(7) } else { None });
+        }
+        Ok(())
+    }
+
+    // A table of one page that has no entry.
+    fn one_page(alloc: Global) -> Result<VecPages, AllocError> {
+        let mut root = [0; 512];
+        write_leaf(0, &[], &mut root);
+        let pages = vec![in alloc; root; 1]?;
+        Ok(VecPages::new(pages, vec![in alloc; false; 1]?, 100))
+    }
+
+    // An entry with a name of 40 bytes and one run takes 66 bytes: seven of them have room in a page.
+    #[test]
+    fn seven_long_names_have_room(rt: HostRuntime) -> Result<(), Fail> {
+        let mut t = one_page(rt.alloc())?;
+        for (last, stands) in [
+            (b'd', true),
+            (b'a', true),
+            (b'g', true),
+            (b'b', true),
+            (b'f', true),
+            (b'c', true),
+            (b'e', true),
+            (b'h', false),
+            (b'a', true),
+        ] {
+            let Some(entry) = entry(key(last, 1), 2) else {
+                return Ok(());
+            };
+            t.rest();
+            assert_eq!(rt; put_in_leaf(&mut t, &entry)?, stands);
+        }
+        for last in [b'c', b'z'] {
+            t.rest();
+            assert!(rt; remove_from_leaf(&mut t, &key(last, 1))?);
+        }
+        t.rest();
+        let found = next_after(&mut t, Some(&key(b'b', 1)))?;
+        assert_eq!(rt; found.map(|e| e.key), Some(key(b'd', 1)));
         Ok(())
     }
 

@@ -7,6 +7,7 @@ ghost use Rattle.name_btree.specs.Cut.{after_cut, is_before};
 ghost use Rattle.name_btree.specs.Descent.{BeginsWith, EndsWith};
 ghost use Rattle.name_btree.specs.Fault.{HasCause, BreaksInner, BreaksTree};
 ghost use Rattle.name_btree.specs.Lookups.{entry_with, entry_after, highest_of, last_that, same_name};
+ghost use Rattle.name_btree.specs.Node.{IsStill};
 ghost use Rattle.name_page.specs.Pages.{reaches};
 
 use crate::cut::Cut;
@@ -29,7 +30,7 @@ pub(crate) fn top() -> Child
     }
 }
 
-fn entry_in(entries: &Entries, key: &Key) -> Option<Entry>
+pub(crate) fn entry_in(entries: &Entries, key: &Key) -> Option<Entry>
     ensures { result ≡ entry_with key.now entries.now }
 {
     for i in 0..entries.len() {
@@ -48,6 +49,7 @@ pub fn find<T: Pages>(t: &mut T, key: &Key) -> Result<Option<Entry>, TreeFault>
     ensures spares { (T.step t.new).spares ≡ (T.step t.old).spares }
     ensures step { (T.step t.new).most_reached ≡ (T.step t.old).most_reached }
     ensures reaches { reaches (T.step t.old) ≤ reaches (T.step t.new) + 6 }
+    ensures changes { IsStill (T.step t.old) (T.step t.new) }
     ensures found { IfOk result (λ found. (height : ℕ) → IsTree (T.step t.old).images height → found ≡ entry_with key.now (table_of (T.step t.old).images height)) }
     ensures fault { IfErr result (HasCause (T.step t.new).refusal (BreaksTree (T.step t.old).images)) }
 {
@@ -99,6 +101,7 @@ fn first_below<T: Pages>(t: &mut T, child: Child) -> Result<Entry, TreeFault>
     ensures spares { (T.step t.new).spares ≡ (T.step t.old).spares }
     ensures step { (T.step t.new).most_reached ≡ (T.step t.old).most_reached }
     ensures reaches { reaches (T.step t.old) ≤ reaches (T.step t.new) + 6 }
+    ensures changes { IsStill (T.step t.old) (T.step t.new) }
     ensures first { IfOk result (BeginsWith (T.step t.old).images child) }
     ensures fault { IfErr result (HasCause (T.step t.new).refusal (BreaksInner (T.step t.old).images child)) }
 {
@@ -116,6 +119,7 @@ fn last_below<T: Pages>(t: &mut T, child: Child) -> Result<Entry, TreeFault>
     ensures spares { (T.step t.new).spares ≡ (T.step t.old).spares }
     ensures step { (T.step t.new).most_reached ≡ (T.step t.old).most_reached }
     ensures reaches { reaches (T.step t.old) ≤ reaches (T.step t.new) + 6 }
+    ensures changes { IsStill (T.step t.old) (T.step t.new) }
     ensures last { IfOk result (EndsWith (T.step t.old).images child) }
     ensures fault { IfErr result (HasCause (T.step t.new).refusal (BreaksInner (T.step t.old).images child)) }
 {
@@ -144,6 +148,7 @@ pub fn next_after<T: Pages>(t: &mut T, after: Option<&Key>) -> Result<Option<Ent
     ensures spares { (T.step t.new).spares ≡ (T.step t.old).spares }
     ensures step { (T.step t.new).most_reached ≡ (T.step t.old).most_reached }
     ensures reaches { reaches (T.step t.old) ≤ reaches (T.step t.new) + 12 }
+    ensures changes { IsStill (T.step t.old) (T.step t.new) }
     ensures found { IfOk result (λ found. (height : ℕ) → IsTree (T.step t.old).images height
         → found ≡ entry_after (option_copied after.entry) (table_of (T.step t.old).images height)) }
     ensures fault { IfErr result (HasCause (T.step t.new).refusal (BreaksTree (T.step t.old).images)) }
@@ -166,6 +171,7 @@ pub fn highest<T: Pages>(t: &mut T, name: &FileName) -> Result<Option<Entry>, Tr
     ensures spares { (T.step t.new).spares ≡ (T.step t.old).spares }
     ensures step { (T.step t.new).most_reached ≡ (T.step t.old).most_reached }
     ensures reaches { reaches (T.step t.old) ≤ reaches (T.step t.new) + 12 }
+    ensures changes { IsStill (T.step t.old) (T.step t.new) }
     ensures found { IfOk result (λ found. (height : ℕ) → IsTree (T.step t.old).images height → found ≡ highest_of name.now (table_of (T.step t.old).images height)) }
     ensures fault { IfErr result (HasCause (T.step t.new).refusal (BreaksTree (T.step t.old).images)) }
 {

@@ -1,10 +1,12 @@
 //! Pages as values.
-ghost use Rattle.std.specs.Prelude.{◌≡◌, ◌+◌, ◌<◌, ◌≤◌, IfOk, IfErr, IsSome, Some, length, slice_get};
+ghost use Rattle.std.specs.Prelude.{◌≡◌, ◌+◌, ◌<◌, ◌≤◌, ℕ, false, IfOk, IfErr, OnOk, IsSome, Some, length, slice_get};
+ghost use Rattle.fsd_formats.specs.NamePage.{FitsEntry, FitsSeparator};
 ghost use Rattle.fsd_table.specs.Pages.{page_at};
 ghost use Rattle.name_page.specs.Reading.{content_in};
 ghost use Rattle.name_btree.specs.Node.{content_of};
 ghost use Rattle.name_btree.specs.Fault.{HasCause, Never};
-ghost use Rattle.name_page.specs.Pages.{reaches};
+ghost use Rattle.name_page.specs.Pages.{reaches, is_spare, IsReached};
+ghost use Rattle.name_btree.specs.Node.{IsStill};
 
 use crate::fault::TreeFault;
 use fsd_bytes::{u8_at, u16_at, u32_at};
@@ -21,14 +23,16 @@ pub(crate) struct Entries {
 
 impl Model for Entries {
     ghost use Rattle.std.specs.Prelude.{List, ◌≡◌, length};
+    ghost use Rattle.std.specs.List.{AllByRecursion};
     ghost use Rattle.fsd_formats.specs.declared.entry.Entry.{Entry};
+    ghost use Rattle.fsd_formats.specs.NamePage.{FitsEntry};
     ghost use Rattle.name_page.specs.Reading.{entries_in};
 
     ghost Value = { List Entry };
 
     ghost view = { λ s. entries_in s.image };
 
-    ghost invariant = { λ s. s.count ≡ length (entries_in s.image) };
+    ghost invariant = { λ s. (s.count ≡ length (entries_in s.image)) × AllByRecursion FitsEntry (entries_in s.image) };
 }
 
 impl Entries {
@@ -41,7 +45,8 @@ impl Entries {
     /// Entry `i`, counted from 0.
     pub(crate) fn get(&self, i: u32) -> Entry
         requires { i < length self.now }
-        ensures { slice_get self.now i ≡ Some result }
+        ensures there { slice_get self.now i ≡ Some result }
+        ensures fits { FitsEntry result }
     {
         leaf_entry(&self.image, i)
     }
@@ -57,14 +62,16 @@ pub(crate) struct Ways {
 
 impl Model for Ways {
     ghost use Rattle.std.specs.Prelude.{ℕ, List, ◌≡◌, length};
+    ghost use Rattle.std.specs.List.{AllByRecursion};
     ghost use Rattle.fsd_formats.specs.declared.page.Separator.{Separator};
+    ghost use Rattle.fsd_formats.specs.NamePage.{FitsSeparator};
     ghost use Rattle.name_page.specs.Reading.{separators_in};
 
     ghost Value = { ℕ × List Separator };
 
     ghost view = { λ s. (s.first, separators_in s.image) };
 
-    ghost invariant = { λ s. s.count ≡ length (separators_in s.image) };
+    ghost invariant = { λ s. (s.count ≡ length (separators_in s.image)) × AllByRecursion FitsSeparator (separators_in s.image) };
 }
 
 impl Ways {
@@ -84,7 +91,8 @@ impl Ways {
     /// Separator `i`, counted from 0.
     pub(crate) fn get(&self, i: u32) -> Separator
         requires { i < length self.now.1 }
-        ensures { slice_get self.now.1 i ≡ Some result }
+        ensures there { slice_get self.now.1 i ≡ Some result }
+        ensures fits { FitsSeparator result }
     {
         separator(&self.image, i)
     }
@@ -98,8 +106,8 @@ pub(crate) enum Node {
     Interior(Ways),
 }
 
-// What the bytes of a page have.
-fn node_in(b: &[u8; 512]) -> Node
+/// What the bytes of a page have.
+pub(crate) fn node_in(b: &[u8; 512]) -> Node
     requires { IsSome (content_in b.now) }
     ensures { content_in b.now ≡ Some (content_of result) }
 {
@@ -123,6 +131,10 @@ pub(crate) fn node_at<T: Pages>(t: &mut T, page: u32) -> Result<Node, TreeFault>
     ensures spares { (T.step t.new).spares ≡ (T.step t.old).spares }
     ensures step { (T.step t.new).most_reached ≡ (T.step t.old).most_reached }
     ensures reaches { reaches (T.step t.old) ≤ reaches (T.step t.new) + 1 }
+    ensures changes { IsStill (T.step t.old) (T.step t.new) }
+    ensures reached { OnOk result (IsReached (T.step t.new) page) }
+    ensures kept { (q : ℕ) → IsReached (T.step t.old) q → IsReached (T.step t.new) q }
+    ensures used { OnOk result (is_spare (T.step t.old).spares page ≡ false) }
     ensures node { IfOk result (λ node. page_at (T.step t.old).images page ≡ Some (content_of node)) }
     ensures fault { IfErr result (HasCause (T.step t.new).refusal Never) }
 {

@@ -53,6 +53,7 @@ fn top_level<T: Pages>(t: &mut T) -> Result<u32, TreeFault>
     ensures images { (T.step t.new).images ≡ (T.step t.old).images }
     ensures spares { (T.step t.new).spares ≡ (T.step t.old).spares }
     ensures step { (T.step t.new).most_reached ≡ (T.step t.old).most_reached }
+    ensures most { (T.step t.new).most_changed ≡ (T.step t.old).most_changed }
     ensures level { IfOk result (IsTopLevel (T.step t.old).images) }
     ensures fault { IfErr result (HasCause (T.step t.new).refusal (BreaksSubtree (T.step t.old).images top)) }
 {
@@ -81,6 +82,7 @@ fn walk_below<T: Pages>(
     ensures images { (T.step t.new).images ≡ (T.step t.old).images }
     ensures spares { (T.step t.new).spares ≡ (T.step t.old).spares }
     ensures step { (T.step t.new).most_reached ≡ (T.step t.old).most_reached }
+    ensures most { (T.step t.new).most_changed ≡ (T.step t.old).most_changed }
     ensures walked { IfOk result (IsWalked level (T.step t.old).images child.now reached.old reached.new) }
     ensures fault { IfErr result (HasCause (T.step t.new).refusal (BreaksWalk level (T.step t.old).images child.now reached.old)) }
 {
@@ -109,6 +111,7 @@ fn walk_children<T: Pages>(
     ensures images { (T.step t.new).images ≡ (T.step t.old).images }
     ensures spares { (T.step t.new).spares ≡ (T.step t.old).spares }
     ensures step { (T.step t.new).most_reached ≡ (T.step t.old).most_reached }
+    ensures most { (T.step t.new).most_changed ≡ (T.step t.old).most_changed }
     ensures walked { IfOk result (AreWalked level (T.step t.old).images (children ways.now.0 above.now.low above.now.high ways.now.1) reached.old reached.new) }
     ensures fault { IfErr result (HasCause (T.step t.new).refusal (BreakWalk level (T.step t.old).images (children ways.now.0 above.now.low above.now.high ways.now.1) reached.old)) }
 {
@@ -129,6 +132,7 @@ pub fn walk<T: Pages>(t: &mut T, reached: &mut [bool]) -> Result<u32, TreeFault>
     ensures images { (T.step t.new).images ≡ (T.step t.old).images }
     ensures spares { (T.step t.new).spares ≡ (T.step t.old).spares }
     ensures step { (T.step t.new).most_reached ≡ (T.step t.old).most_reached }
+    ensures most { (T.step t.new).most_changed ≡ (T.step t.old).most_changed }
     ensures counted { IfOk result (IsCounted (T.step t.old).images reached.new) }
     ensures fault { IfErr result (HasCause (T.step t.new).refusal (BreaksTree (T.step t.old).images)) }
 {

@@ -7,12 +7,12 @@ pub returns-then-not-is_within : goal.returns-then-not-is_within
 returns-then-not-is_within c =
     let child = c.args.child.now in
     let no : c.is_within.result ≡ false = cc in
-    let more = separators_more child.low child.high c.args.ways.now.1 c.loop-i.i c.get.result c.is_within.result c.get.ensures c.is_within.ensures in
+    let more = separators_more child.low child.high c.args.ways.now.1 c.loop-i.i c.get.result c.is_within.result c.get.ensures.there c.is_within.ensures in
     sym (sym c.loop-i.invariant ∙ more ∙ ap (λ (b : Bool). b && keys_fit child.low child.high (separator_keys (drop (c.loop-i.i + 1) c.args.ways.now.1))) no)
 
 pub loop-i-preserved : goal.loop-i-preserved
 loop-i-preserved c =
     let child = c.args.child.now in
     let yes : c.is_within.result ≡ true = cc in
-    let more = separators_more child.low child.high c.args.ways.now.1 c.loop-i.i c.get.result c.is_within.result c.get.ensures c.is_within.ensures in
+    let more = separators_more child.low child.high c.args.ways.now.1 c.loop-i.i c.get.result c.is_within.result c.get.ensures.there c.is_within.ensures in
     sym (more ∙ ap (λ (b : Bool). b && keys_fit child.low child.high (separator_keys (drop (c.loop-i.i + 1) c.args.ways.now.1))) yes) ∙ c.loop-i.invariant

@@ -9,6 +9,7 @@ use Rattle.name_btree.specs.Cut.{is_before}
 use Rattle.name_btree.specs.Fault.{HasCause, IsMisfit}
 use Rattle.name_btree.proofs.CutLaws.{cuts_monotone}
 use Rattle.name_btree.proofs.DescentLaws.{IsOnWay, way_down, way_ends, misfit_breaks}
+use Rattle.name_btree.proofs.PathLaws.{IsPath, path_down, path_ends}
 use Rattle.name_btree.proofs.descent.leaf_below.Goals as goal
 
 pub returns-in_err-child_node-clause-fault : goal.returns-in_err-child_node-clause-fault
@@ -36,12 +37,22 @@ loop-preserved g c =
     let ways = c.in-Interior.ways in
     let at : page_at pages page ≡ Some (Interior ways.0 ways.1) =
     ap (λ (p : List (List ℕ)). page_at p page) (sym c.loop.invariant.images) ∙ c.in_ok-child_node.ensures.node ∙ ap (λ (n : Node). Some (content_of n)) c.in-Interior.is in
+    let way = way_down (is_before c.args.cut.now) (cuts_monotone c.args.cut.now) pages c.args.start c.loop.counter c.loop.way ways.0 ways.1 at c.loop.invariant.way in
     let P : Way → Type 0 = λ (w : Way). IsOnWay (is_before c.args.cut.now) pages c.args.start (c.loop.counter + 1) w in
     record {
       images = c.child_node.ensures.images ∙ c.loop.invariant.images;
       spares = c.child_node.ensures.spares ∙ c.loop.invariant.spares;
       step = c.child_node.ensures.step ∙ c.loop.invariant.step;
       reaches = omega (arith, c.child_node.ensures.reaches, c.loop.invariant.reaches);
-      way = subst P (sym c.way_to-way.ensures)
-          (way_down (is_before c.args.cut.now) (cuts_monotone c.args.cut.now) pages c.args.start c.loop.counter c.loop.way ways.0 ways.1 at c.loop.invariant.way);
+      changes = record { changed = c.child_node.ensures.changes.changed ∙ c.loop.invariant.changes.changed; most_changed = c.child_node.ensures.changes.most_changed ∙ c.loop.invariant.changes.most_changed };
+      path = subst (λ (w : Way). IsPath (is_before c.args.cut.now) pages c.args.start (c.loop.counter + 1) w.child) (sym c.way_to-way.ensures)
+          (path_down (is_before c.args.cut.now) (cuts_monotone c.args.cut.now) pages c.args.start c.loop.counter c.loop.way ways.0 ways.1 at c.loop.invariant.path);
+      way = subst P (sym c.way_to-way.ensures) way;
     }
+
+pub returns-in-Leaf-clause-at : goal.returns-in-Leaf-clause-at
+returns-in-Leaf-clause-at g c =
+    let pages = (g.T.Pages.step c.args.t.now).images in
+    let at : page_at pages c.loop.way.child.page ≡ Some (Leaf c.in-Leaf.entries) =
+    ap (λ (p : List (List ℕ)). page_at p c.loop.way.child.page) (sym c.loop.invariant.images) ∙ c.in_ok-child_node.ensures.node ∙ ap (λ (n : Node). Some (content_of n)) c.in-Leaf.is in
+    path_ends (is_before c.args.cut.now) pages c.args.start c.loop.counter c.loop.way.child c.in-Leaf.entries at c.loop.invariant.path

@@ -1,5 +1,7 @@
 use Rattle.std.proofs.Common.{◌≡◌, ◌+◌, ◌≤◌}
 use Rattle.name_btree.proofs.DescentLaws.{IsOnWay}
+use Rattle.name_btree.proofs.PathLaws.{IsPath}
+use Rattle.name_btree.specs.Node.{IsStill}
 use Rattle.name_btree.specs.Cut.{is_before}
 use Rattle.name_btree.proofs.descent.leaf_below.Given as goal
 use Rattle.name_page.specs.Pages.{reaches}
@@ -11,5 +13,7 @@ invariant-loop g l = record {
   spares : (g.T.Pages.step l.t).spares ≡ (g.T.Pages.step l.fn.t).spares;
   step : (g.T.Pages.step l.t).most_reached ≡ (g.T.Pages.step l.fn.t).most_reached;
   reaches : reaches (g.T.Pages.step l.fn.t) ≤ reaches (g.T.Pages.step l.t) + l.counter;
+  changes : IsStill (g.T.Pages.step l.fn.t) (g.T.Pages.step l.t);
+  path : IsPath (is_before l.cut) (g.T.Pages.step l.fn.t).images l.fn.start l.counter l.way.child;
   way : IsOnWay (is_before l.cut) (g.T.Pages.step l.fn.t).images l.fn.start l.counter l.way;
 }

@@ -13,7 +13,7 @@ returns-then-not-is_before c =
     let w : Key → Option Key → Way = λ k h. record { child = record { page = c.loop-i.page; low = c.loop-i.low; high = Some s.key }; previous = c.loop-i.previous; next = Some (record { page = s.child; low = Some k; high = h }) } in
     ap (λ (k : Key). w k c.end_of.result) c.copied.ensures
     ∙ ap (λ (h : Option Key). w s.key h) c.end_of.ensures
-    ∙ sym (way_stops (is_before c.args.cut.now) c.loop-i.previous c.args.way.next c.loop-i.page c.loop-i.low c.args.way.child.high c.args.ways.now.1 c.loop-i.i s c.get-separator.ensures no)
+    ∙ sym (way_stops (is_before c.args.cut.now) c.loop-i.previous c.args.way.next c.loop-i.page c.loop-i.low c.args.way.child.high c.args.ways.now.1 c.loop-i.i s c.get-separator.ensures.there no)
     ∙ c.loop-i.invariant
 
 pub loop-i-preserved : goal.loop-i-preserved
@@ -21,5 +21,5 @@ loop-i-preserved c =
     let s = c.get-separator.result in
     let yes : is_before c.args.cut.now s.key ≡ true = cc in
     ap (λ (k : Key). way_to (is_before c.args.cut.now) (Some (record { page = c.loop-i.page; low = c.loop-i.low; high = Some k })) c.args.way.next s.child (Some s.key) c.args.way.child.high (drop (c.loop-i.i + 1) c.args.ways.now.1)) c.copied-in-loop-i.ensures
-    ∙ sym (way_goes (is_before c.args.cut.now) c.loop-i.previous c.args.way.next c.loop-i.page c.loop-i.low c.args.way.child.high c.args.ways.now.1 c.loop-i.i s c.get-separator.ensures yes)
+    ∙ sym (way_goes (is_before c.args.cut.now) c.loop-i.previous c.args.way.next c.loop-i.page c.loop-i.low c.args.way.child.high c.args.ways.now.1 c.loop-i.i s c.get-separator.ensures.there yes)
     ∙ c.loop-i.invariant

@@ -7,10 +7,10 @@ pub returns-then-not-is_before : goal.returns-then-not-is_before
 returns-then-not-is_before c =
     let e = c.get-entry.result in
     let stops : is_before c.args.cut.now e.key ≡ false = cc in
-    sym (sym c.loop-i.invariant ∙ find_more (λ e. not (is_before c.args.cut.now e.key)) c.args.entries.now c.loop-i.i e true c.get-entry.ensures (sym (ap not stops)))
+    sym (sym c.loop-i.invariant ∙ find_more (λ e. not (is_before c.args.cut.now e.key)) c.args.entries.now c.loop-i.i e true c.get-entry.ensures.there (sym (ap not stops)))
 
 pub loop-i-preserved : goal.loop-i-preserved
 loop-i-preserved c =
     let e = c.get-entry.result in
     let goes : is_before c.args.cut.now e.key ≡ true = cc in
-    sym (find_more (λ e. not (is_before c.args.cut.now e.key)) c.args.entries.now c.loop-i.i e false c.get-entry.ensures (sym (ap not goes))) ∙ c.loop-i.invariant
+    sym (find_more (λ e. not (is_before c.args.cut.now e.key)) c.args.entries.now c.loop-i.i e false c.get-entry.ensures.there (sym (ap not goes))) ∙ c.loop-i.invariant

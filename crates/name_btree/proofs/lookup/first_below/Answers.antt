@@ -9,4 +9,4 @@ returns-then-len-eq0-clause-fault g c = λ level low sub up.
     leaf_has_entries (g.T.Pages.step c.args.t.now).images found.page found.entries c.in_ok-found.ensures.leaf up (empty_is found.entries none)
 
 pub returns-clause-first : goal.returns-clause-first
-returns-clause-first g c = begins (g.T.Pages.step c.args.t.now).images c.args.child c.in_ok-found.found c.get.result c.in_ok-found.ensures.place c.get.ensures
+returns-clause-first g c = begins (g.T.Pages.step c.args.t.now).images c.args.child c.in_ok-found.found c.get.result c.in_ok-found.ensures.place c.get.ensures.there

@@ -8,11 +8,11 @@ returns-then-is_before c =
     let some : 0 < c.loop-i.i = omega arith in
     let e = c.get-entry.result in
     let stops : is_before c.args.cut.now e.key ≡ true = cc in
-    sym (sym c.loop-i.invariant ∙ last_more (λ e. is_before c.args.cut.now e.key) c.args.entries.now c.loop-i.i e true some c.get-entry.ensures (sym stops))
+    sym (sym c.loop-i.invariant ∙ last_more (λ e. is_before c.args.cut.now e.key) c.args.entries.now c.loop-i.i e true some c.get-entry.ensures.there (sym stops))
 
 pub loop-i-preserved : goal.loop-i-preserved
 loop-i-preserved c =
     let some : 0 < c.loop-i.i = omega arith in
     let e = c.get-entry.result in
     let goes : is_before c.args.cut.now e.key ≡ false = cc in
-    sym (last_more (λ e. is_before c.args.cut.now e.key) c.args.entries.now c.loop-i.i e false some c.get-entry.ensures (sym goes)) ∙ c.loop-i.invariant
+    sym (last_more (λ e. is_before c.args.cut.now e.key) c.args.entries.now c.loop-i.i e false some c.get-entry.ensures.there (sym goes)) ∙ c.loop-i.invariant

@@ -11,4 +11,4 @@ returns-then-count-eq0-clause-fault g c = λ level low sub up.
 pub returns-clause-last : goal.returns-clause-last
 returns-clause-last g c =
     let some : 0 < c.len-count.result = omega arith in
-    ends (g.T.Pages.step c.args.t.now).images c.args.child c.in_ok-found.found c.len-count.result c.get.result c.in_ok-found.ensures.place c.len-count.ensures some c.get.ensures
+    ends (g.T.Pages.step c.args.t.now).images c.args.child c.in_ok-found.found c.len-count.result c.get.result c.in_ok-found.ensures.place c.len-count.ensures some c.get.ensures.there

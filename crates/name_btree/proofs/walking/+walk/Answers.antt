@@ -6,7 +6,6 @@ use Rattle.fsd_table.specs.declared.child.Child.{Child}
 use Rattle.fsd_table.specs.Pages.{page_at, children, content_fits, keys_fit, separator_keys}
 use Rattle.name_page.specs.Pages.{Step}
 use Rattle.name_btree.specs.declared.node.Node.{Node}
-use Rattle.name_btree.specs.declared.fault.TreeFault.{TreeFault}
 use Rattle.name_btree.specs.Node.{content_of}
 use Rattle.name_btree.specs.Fault.{HasCause, IsMisfit}
 use Rattle.name_btree.specs.Walk.{is_marked, IsWalked, AreWalked, BreaksWalk, BreakWalk}
@@ -130,6 +129,7 @@ walk_children-loop-i-preserved g t c =
       images = c.walk_below.ensures.images ∙ c.loop-i.invariant.images;
       spares = c.walk_below.ensures.spares ∙ c.loop-i.invariant.spares;
       step = c.walk_below.ensures.step ∙ c.loop-i.invariant.step;
+      most = c.walk_below.ensures.most ∙ c.loop-i.invariant.most;
       walked = one_more c.args.level pages cs c.loop-i.i child c.args.reached.now c.loop-i.reached c.walk_below.new.reached c.loop-i.count more c.child_at-child.ensures c.loop-i.invariant.walked w;
     }
 

@@ -15,5 +15,6 @@ invariant-walk_children-loop-i g l = record {
   images : (g.T.Pages.step l.t).images ≡ (g.T.Pages.step l.fn.t).images;
   spares : (g.T.Pages.step l.t).spares ≡ (g.T.Pages.step l.fn.t).spares;
   step : (g.T.Pages.step l.t).most_reached ≡ (g.T.Pages.step l.fn.t).most_reached;
+  most : (g.T.Pages.step l.t).most_changed ≡ (g.T.Pages.step l.fn.t).most_changed;
   walked : AreWalked l.level (g.T.Pages.step l.fn.t).images (take l.i (children l.ways.0 l.above.low l.above.high l.ways.1)) l.fn.reached l.reached l.count;
 }

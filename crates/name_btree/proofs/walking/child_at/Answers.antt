@@ -1,4 +1,4 @@
-use Rattle.std.proofs.Common.{◌≡◌, ◌∙◌, ◌-◌, sym, ap, subst, ℕ, suc, List, Some, arith, drop}
+use Rattle.std.proofs.Common.{◌≡◌, ◌∙◌, ◌-◌, sym, ap, subst, ℕ, suc, Some, arith, drop}
 use Rattle.std.specs.Prelude.{slice_get, Option}
 use Rattle.fsd_bytes.specs.declared.key.Key.{Key}
 use Rattle.fsd_table.specs.declared.child.Child.{Child}
@@ -24,5 +24,5 @@ returns c =
     let above = c.args.above.now in
     let made : Option Key → Child = λ high. record { page = c.get-separator.result.child; low = Some c.get-separator.result.key; high = high } in
     let k : suc (c.args.i - 1) ≡ c.args.i = omega arith in
-    child_later ways.0 above.low above.high ways.1 c.args.i (c.args.i - 1) c.get-separator.result k c.get-separator.ensures
+    child_later ways.0 above.low above.high ways.1 c.args.i (c.args.i - 1) c.get-separator.result k c.get-separator.ensures.there
     ∙ ap (λ (high : Option Key). Some (made high)) (sym c.end_of-high.ensures)

@@ -1,4 +1,4 @@
-use Rattle.std.proofs.Common.{◌≡◌, ◌∙◌, ◌+◌, ◌<◌, refl, sym, ap, subst, List, ℕ, Some, arith}
+use Rattle.std.proofs.Common.{◌≡◌, ◌∙◌, ◌<◌, refl, sym, ap, subst, List, ℕ, Some, arith}
 use Rattle.std.proofs.lemmas.Result.{err_from_is_err_and}
 use Rattle.fsd_formats.specs.NamePage.{Leaf, Interior}
 use Rattle.fsd_table.specs.Pages.{page_at}
@@ -14,6 +14,7 @@ loop-level-init g c = record {
   images = refl;
   spares = refl;
   step = refl;
+  most = refl;
   down = down_begins (g.T.Pages.step c.args.t.now).images c.top-child.result c.top-child.ensures;
 }
 
@@ -59,5 +60,6 @@ loop-level-preserved g c =
       images = c.child_node.ensures.images ∙ same;
       spares = c.child_node.ensures.spares ∙ (ap (λ (s : Step). s.spares) c.rest.ensures ∙ c.loop-level.invariant.spares);
       step = c.child_node.ensures.step ∙ (ap (λ (s : Step). s.most_reached) c.rest.ensures ∙ c.loop-level.invariant.step);
+      most = c.child_node.ensures.changes.most_changed ∙ (ap (λ (s : Step). s.most_changed) c.rest.ensures ∙ c.loop-level.invariant.most);
       down = down_first pages c.loop-level.level child c.child_at-child.result ways.0 ways.1 at c.child_at-child.ensures c.loop-level.invariant.down;
     }

@@ -8,5 +8,6 @@ invariant-loop-level g l = record {
   images : (g.T.Pages.step l.t).images ≡ (g.T.Pages.step l.fn.t).images;
   spares : (g.T.Pages.step l.t).spares ≡ (g.T.Pages.step l.fn.t).spares;
   step : (g.T.Pages.step l.t).most_reached ≡ (g.T.Pages.step l.fn.t).most_reached;
+  most : (g.T.Pages.step l.t).most_changed ≡ (g.T.Pages.step l.fn.t).most_changed;
   down : IsDown (g.T.Pages.step l.fn.t).images l.level l.child;
 }

@@ -1,6 +1,5 @@
-use Rattle.std.proofs.Common.{◌≡◌, ◌∙◌, sym, ap, subst, List, ℕ, Some, arith}
+use Rattle.std.proofs.Common.{subst, List, ℕ}
 use Rattle.std.specs.Prelude.{IfOk, IfErr}
-use Rattle.name_btree.specs.declared.fault.TreeFault.{TreeFault}
 use Rattle.name_btree.specs.Fault.{HasCause, BreaksTree}
 use Rattle.name_btree.specs.Walk.{IsWalked, BreaksWalk, IsCounted}
 use Rattle.name_btree.proofs.ResultLaws.{ok_more, err_more}

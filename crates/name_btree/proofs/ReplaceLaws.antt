@@ -1,0 +1,81 @@
+-- A leaf in which an entry is replaced, and the tree that it stands in.
+use Rattle.std.proofs.Common.{◌≡◌, ℕ, ◌+◌, ◌*◌, ◌≤◌, true, ◌&&◌, List, [], ◌∷◌, length, map, Some, ap, ◌∙◌, arith, length-append}
+use Rattle.std.specs.Prelude.{◌==◌, nat_le}
+use Rattle.std.specs.List.{flat_map, list_all}
+use Rattle.std.proofs.lemmas.Bool.{and_parts, and_from}
+use Rattle.run_table.specs.RunTable.{are_runs, total, max_runs}
+use Rattle.fsd_bytes.specs.Keys.{is_key}
+use Rattle.fsd_bytes.specs.Names.{is_between, is_name, is_name_byte, max_name_len}
+use Rattle.fsd_formats.specs.declared.entry.Entry.{Entry}
+use Rattle.fsd_formats.specs.NamePage.{Leaf, is_page, is_entry, entry_bytes, are_ascending, room, least_used, max_keep, max_length, sectors_for}
+use Rattle.fsd_table.specs.Pages.{page_at, entry_keys}
+use Rattle.fsd_table.specs.Table.{top}
+use Rattle.fsd_table.specs.Tree.{IsTree, table_of}
+use Rattle.fsd_table.proofs.PageLaws.{at_is_page}
+use Rattle.name_page.proofs.LeafLaws.{between}
+use Rattle.name_page.proofs.LengthLaws.{length_entry}
+use Rattle.name_btree.specs.declared.cut.Cut.TheVariants.{UpTo}
+use Rattle.name_btree.specs.declared.descent.Found.{Found}
+use Rattle.name_btree.specs.Cut.{is_before}
+use Rattle.name_btree.specs.Descent.{IsPlace}
+use Rattle.name_btree.specs.Replace.{put, HasAsLong}
+use Rattle.name_btree.proofs.FindLaws.{entry_found}
+use Rattle.name_btree.proofs.PutLaws.{put_keys, put_all, put_size}
+
+-- ---- how many entries a leaf has
+
+entry_long : (e : Entry) → is_entry e ≡ true → 27 ≤ length (entry_bytes e)
+entry_long e is =
+    let p1 = and_parts (is_key e.key && nat_le e.keep max_keep && nat_le e.length max_length && are_runs e.runs) (total e.runs == sectors_for e.length) is in
+    let p2 = and_parts (is_key e.key && nat_le e.keep max_keep && nat_le e.length max_length) (are_runs e.runs) p1.0 in
+    let p3 = and_parts (is_key e.key && nat_le e.keep max_keep) (nat_le e.length max_length) p2.0 in
+    let key = (and_parts (is_key e.key) (nat_le e.keep max_keep) p3.0).0 in
+    let name = (and_parts (is_name e.key.name) (nat_le 1 e.key.version) key).0 in
+    let named = (between 1 max_name_len (length e.key.name) (and_parts (is_between 1 max_name_len (length e.key.name)) (list_all is_name_byte e.key.name) name).0).0 in
+    let runs = (between 1 max_runs (length e.runs) (and_parts (is_between 1 max_runs (length e.runs)) (list_all (λ r. is_between 1 65535 r.length) e.runs) p2.1).0).0 in
+    at_least (length (entry_bytes e)) (length e.key.name) (length e.runs) (length_entry e) named runs
+  where
+    at_least : (n name runs : ℕ) → n ≡ 20 + name + 6 * runs → 1 ≤ name → 1 ≤ runs → 27 ≤ n
+    at_least n name runs is a b = omega arith
+
+each_long : (entries : List Entry) → list_all is_entry entries ≡ true → 27 * length entries ≤ length (flat_map entry_bytes entries)
+each_long [] is = omega arith
+each_long (e ∷ entries) is =
+    let parts = and_parts (is_entry e) (list_all is_entry entries) is in
+    omega (arith, entry_long e parts.0, each_long entries parts.1, length-append (entry_bytes e) (flat_map entry_bytes entries))
+
+-- ---- the leaf
+
+pub record LeafParts (page : ℕ) (entries : List Entry) : Type 0 where
+  pub each : list_all is_entry entries ≡ true
+  pub order : are_ascending (entry_keys entries) ≡ true
+  pub used : is_between (least_used page) room (length (flat_map entry_bytes entries)) ≡ true
+
+pub leaf_parts : (page p : ℕ) (entries : List Entry) → is_page page p (Leaf entries) ≡ true → LeafParts page entries
+leaf_parts page p entries is =
+    let both = and_parts (list_all is_entry entries && are_ascending (entry_keys entries)) (is_between (least_used page) room (length (flat_map entry_bytes entries))) is in
+    let front = and_parts (list_all is_entry entries) (are_ascending (entry_keys entries)) both.0 in
+    record { each = front.0; order = front.1; used = both.1 }
+
+pub few_in_leaf : (pages : List (List ℕ)) (page : ℕ) (entries : List Entry) → page_at pages page ≡ Some (Leaf entries) → length entries ≤ 18
+few_in_leaf pages page entries at =
+    let parts = leaf_parts page (length pages) entries (at_is_page pages page (Leaf entries) at) in
+    omega (arith, each_long entries parts.each, (between (least_used page) room (length (flat_map entry_bytes entries)) parts.used).1)
+
+-- a leaf stays one
+pub put_is_page : (pages : List (List ℕ)) (page : ℕ) (e : Entry) (entries : List Entry) → page_at pages page ≡ Some (Leaf entries) → is_entry e ≡ true → HasAsLong e entries
+    → is_page page 0 (Leaf (map (put e) entries)) ≡ true
+put_is_page pages page e entries at is long =
+    let parts = leaf_parts page (length pages) entries (at_is_page pages page (Leaf entries) at) in
+    let new : List Entry = map (put e) entries in
+    and_from (list_all is_entry new && are_ascending (entry_keys new)) (is_between (least_used page) room (length (flat_map entry_bytes new)))
+    (and_from (list_all is_entry new) (are_ascending (entry_keys new)) (put_all is_entry e entries is parts.each) (ap are_ascending (put_keys e entries) ∙ parts.order))
+    (ap (is_between (least_used page) room) (put_size e long.0 entries parts.order long.1 long.2) ∙ parts.used)
+
+-- ---- the tree
+
+pub not_in_tree : (pages : List (List ℕ)) (e : Entry) (found : Found) → IsPlace (is_before (UpTo e.key)) pages top found → (HasAsLong e found.entries → ⊥)
+    → ((height : ℕ) → IsTree pages height → HasAsLong e (table_of pages height)) → (height : ℕ) → IsTree pages height → ⊥
+not_in_tree pages e found place none present height t =
+    let long = present height t in
+    none (long.0, entry_found e.key pages found place height t ∙ long.1, long.2)

@@ -1,0 +1,41 @@
+use Rattle.std.proofs.Common.{◌≡◌, ◌∙◌, ap, subst, List, map}
+use Rattle.fsd_bytes.specs.declared.key.Key.{Key}
+use Rattle.fsd_formats.specs.declared.entry.Entry.{Entry}
+use Rattle.fsd_formats.specs.NamePage.{Leaf, is_page}
+use Rattle.fsd_table.specs.declared.child.Child.{Child}
+use Rattle.name_btree.specs.declared.cut.Cut.TheVariants.{UpTo}
+use Rattle.name_btree.specs.Cut.{is_before}
+use Rattle.name_btree.specs.Descent.{IsPlace}
+use Rattle.name_btree.specs.Change.{IsLeafAt}
+use Rattle.name_btree.proofs.ChangeLaws.{edited_put}
+use Rattle.name_btree.proofs.ReplaceLaws.{few_in_leaf, put_is_page, not_in_tree}
+use Rattle.name_btree.proofs.replacing.replace_same_size.Goals as goal
+
+pub returns-then-not-has_as_long-clause-fault : goal.returns-then-not-has_as_long-clause-fault
+returns-then-not-has_as_long-clause-fault g c =
+    let pages = (g.T.Pages.step c.args.t.now).images in
+    let found = c.in_ok-found.found in
+    let by_key : Key → Type 0 = λ (k : Key). IsPlace (is_before (UpTo k)) pages c.top.result found in
+    let by_top : Child → Type 0 = λ (d : Child). IsPlace (is_before (UpTo c.args.entry.now.key)) pages d found in
+    let place = subst by_top c.top.ensures (subst by_key c.copied.ensures c.in_ok-found.ensures.place) in
+    not_in_tree pages c.args.entry.now found place (c.has_as_long.ensures.not c.if-not-has_as_long.true) c.requires.present
+
+pub put_among-list-requires-clause-few : goal.put_among-list-requires-clause-few
+put_among-list-requires-clause-few g c = few_in_leaf (g.T.Pages.step c.args.t.now).images c.in_ok-found.found.page c.in_ok-found.found.entries c.in_ok-found.ensures.leaf
+
+pub put_leaf-requires-clause-accepted : goal.put_leaf-requires-clause-accepted
+put_leaf-requires-clause-accepted g c =
+    let found = c.in_ok-found.found in
+    let same : c.as_slice.result.now ≡ map _ found.entries = c.as_slice.ensures.value ∙ c.put_among-list.ensures.put in
+    ap (λ (xs : List Entry). is_page found.page 0 (Leaf xs)) same
+    ∙ put_is_page (g.T.Pages.step c.args.t.now).images found.page c.args.entry.now found.entries c.in_ok-found.ensures.leaf c.requires.entry (c.has_as_long.ensures.long c.if-not-has_as_long.false)
+
+pub returns-clause-replaced : goal.returns-clause-replaced
+returns-clause-replaced g c =
+    let pages = (g.T.Pages.step c.args.t.now).images in
+    let found = c.in_ok-found.found in
+    let by_key : Key → Type 0 = λ (k : Key). IsLeafAt (is_before (UpTo k)) pages c.top.result found.page found.entries in
+    let by_top : Child → Type 0 = λ (d : Child). IsLeafAt (is_before (UpTo c.args.entry.now.key)) pages d found.page found.entries in
+    let at = subst by_top c.top.ensures (subst by_key c.copied.ensures c.in_ok-found.ensures.at) in
+    edited_put c.args.entry.now (g.T.Pages.step c.args.t.now) (g.T.Pages.step c.leaf_below.new.t) (g.T.Pages.step c.put_leaf.new.t) found.page found.entries c.as_slice.result.now
+    c.in_ok-found.ensures.images c.in_ok-found.ensures.changes.changed c.in_ok-found.ensures.used c.in_ok-found.ensures.leaf (c.as_slice.ensures.value ∙ c.put_among-list.ensures.put) c.put_leaf.ensures at

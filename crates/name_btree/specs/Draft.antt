@@ -1,0 +1,53 @@
+-- Pages that are to be written, over those that there are.
+use Rattle.std.specs.Prelude.{◌≡◌, ℕ, ◌+◌, ◌==◌, false, List, [], ◌∷◌, length, Option, Some, None, IsSome, slice_set, if◌then◌else◌}
+use Rattle.std.specs.List.{AllByRecursion}
+use Rattle.std.specs.Option.{option_or}
+use Rattle.fsd_formats.specs.NamePage.{Content, read_page}
+use Rattle.fsd_table.specs.Pages.{page_at}
+use Rattle.name_page.specs.Pages.{Step, is_spare, with_page, with_spare, IsReached}
+use Rattle.name_btree.specs.declared.draft.Sheet.{Sheet}
+
+-- ---- what is written
+
+-- the pages, once the sheets are written one after another
+abbrev pub drafted : List Sheet → List (List ℕ) → List (List ℕ)
+drafted [] pages = pages
+drafted (s ∷ sheets) pages = drafted sheets (slice_set pages s.page s.image)
+
+abbrev pub committed : List Sheet → Step → Step
+committed [] step = step
+committed (s ∷ sheets) step = committed sheets (with_page s.page s.image step)
+
+-- the step, once the pages are spare
+abbrev pub freed : List ℕ → Step → Step
+freed [] step = step
+freed (p ∷ pages) step = freed pages (with_spare p step)
+
+-- the bytes of the last sheet of a page
+abbrev pub last_sheet : ℕ → List Sheet → Option (List ℕ)
+last_sheet page [] = None
+last_sheet page (s ∷ sheets) = option_or (last_sheet page sheets) (if s.page == page then Some s.image else None)
+
+-- ---- what a draft may have
+
+-- a sheet of a page that was reached and isn't spare, with bytes that the grammar accepts
+pub record IsSheet (step : Step) (s : Sheet) : Type 0 where
+  pub reached : IsReached step s.page
+  pub used : is_spare step.spares s.page ≡ false
+  pub accepted : IsSome (read_page s.page (length step.images) s.image)
+
+abbrev pub AreSheets : Step → List Sheet → Type 0
+AreSheets step sheets = AllByRecursion (IsSheet step) sheets
+
+-- a page that was reached and isn't spare, and isn't page 0
+pub record MayGo (step : Step) (page : ℕ) : Type 0 where
+  pub reached : IsReached step page
+  pub used : is_spare step.spares page ≡ false
+  pub inner : page ≡ 0 → ⊥
+
+-- one sheet more: of the drafted pages this one has other content
+pub record IsDrafted (step : Step) (old new : List Sheet) (page : ℕ) (x : Content) : Type 0 where
+  pub one : length new ≡ length old + 1
+  pub sheets : AreSheets step new
+  pub content : page_at (drafted new step.images) page ≡ Some x
+  pub others : (q : ℕ) → (q ≡ page → ⊥) → page_at (drafted new step.images) q ≡ page_at (drafted old step.images) q

@@ -1,0 +1,12 @@
+-- What is too much for one page, in two.
+use Rattle.std.specs.Prelude.{◌≡◌, ℕ, true, List}
+use Rattle.fsd_formats.specs.declared.entry.Entry.{Entry}
+use Rattle.fsd_formats.specs.declared.page.Separator.{Separator}
+use Rattle.fsd_formats.specs.NamePage.{Leaf, Interior, is_page}
+
+-- any page may have the one or the other
+abbrev pub AreLeaves : List Entry → List Entry → Type 0
+AreLeaves front behind = (page : ℕ) → (is_page page 0 (Leaf front) ≡ true) × (is_page page 0 (Leaf behind) ≡ true)
+
+abbrev pub AreInteriors : (p first : ℕ) → List Separator → (second : ℕ) → List Separator → Type 0
+AreInteriors p first front second behind = (page : ℕ) → (is_page page p (Interior first front) ≡ true) × (is_page page p (Interior second behind) ≡ true)

@@ -1,0 +1,23 @@
+-- One entry in place of another with the same key.
+use Rattle.std.specs.Prelude.{◌≡◌, ℕ, List, length, Some, if◌then◌else◌}
+use Rattle.fsd_bytes.specs.Keys.{same_key}
+use Rattle.fsd_formats.specs.declared.entry.Entry.{Entry}
+use Rattle.fsd_formats.specs.NamePage.{Content, entry_bytes}
+use Rattle.fsd_table.specs.Pages.{page_at}
+use Rattle.name_page.specs.Pages.{Step, with_page}
+use Rattle.name_btree.specs.Lookups.{entry_with}
+
+-- the entry, in place of one with its key
+abbrev pub put : Entry → Entry → Entry
+put entry old = if same_key old.key entry.key then entry else old
+
+-- an entry with the key is there, and takes as many bytes
+abbrev pub HasAsLong : Entry → List Entry → Type 0
+HasAsLong entry table = (old : Entry) × (entry_with entry.key table ≡ Some old) × (length (entry_bytes old) ≡ length (entry_bytes entry))
+
+-- what a page has was changed, and nothing else of the pages
+pub record IsWritten (old new : Step) (page : ℕ) (x : Content) : Type 0 where
+  pub bytes : List ℕ
+  pub step : new ≡ with_page page bytes old
+  pub content : page_at new.images page ≡ Some x
+  pub others : (q : ℕ) → (q ≡ page → ⊥) → page_at new.images q ≡ page_at old.images q

@@ -1,0 +1,54 @@
+//! Replacing an entry.
+ghost use Rattle.std.specs.Prelude.{◌≡◌, ◌≤◌, ◌+◌, ℕ, IsTrue, IfErr, OnErr, OnOk, true, false, map};
+ghost use Rattle.fsd_formats.specs.NamePage.{is_entry, FitsEntry};
+ghost use Rattle.fsd_table.specs.Tree.{IsTree, table_of};
+ghost use Rattle.name_btree.specs.Change.{IsEdited};
+ghost use Rattle.name_btree.specs.Fault.{HasCause, BreaksTree};
+ghost use Rattle.name_btree.specs.Replace.{put, HasAsLong};
+ghost use Rattle.name_page.specs.Pages.{reaches, changes};
+
+use crate::cut::Cut;
+use crate::descent::leaf_below;
+use crate::entries::put_among;
+use crate::fault::TreeFault;
+use crate::lookup::{entry_in, top};
+use crate::node::Entries;
+use crate::writing::put_leaf;
+use fsd_formats::Entry;
+use name_page::{Pages, entry_len};
+
+// Whether an entry with the key is there, and takes as many bytes.
+fn has_as_long(entries: &Entries, entry: &Entry) -> bool
+    ensures long { result ≡ true → HasAsLong entry.now entries.now }
+    ensures not { result ≡ false → HasAsLong entry.now entries.now → ⊥ }
+{
+    match entry_in(entries, &entry.key) {
+        Some(old) => entry_len(&old) == entry_len(entry),
+        None => false,
+    }
+}
+
+/// Puts an entry in place of the one with its key, which takes as many bytes.
+pub fn replace_same_size<T: Pages>(t: &mut T, entry: &Entry) -> Result<(), TreeFault>
+    requires more { 80 ≤ reaches (T.step t.old) }
+    requires changes { 40 ≤ changes (T.step t.old) }
+    requires entry { IsTrue (is_entry entry.now) }
+    requires fits { FitsEntry entry.now }
+    requires present { (height : ℕ) → IsTree (T.step t.old).images height → HasAsLong entry.now (table_of (T.step t.old).images height) }
+    ensures images { OnErr result ((T.step t.new).images ≡ (T.step t.old).images) }
+    ensures spares { (T.step t.new).spares ≡ (T.step t.old).spares }
+    ensures step { (T.step t.new).most_reached ≡ (T.step t.old).most_reached }
+    ensures reaches { reaches (T.step t.old) ≤ reaches (T.step t.new) + 6 }
+    ensures most { (T.step t.new).most_changed ≡ (T.step t.old).most_changed }
+    ensures changed { OnErr result ((T.step t.new).changed ≡ (T.step t.old).changed) }
+    ensures replaced { OnOk result (IsEdited (T.step t.old) (T.step t.new) (map (put entry.now))) }
+    ensures fault { IfErr result (HasCause (T.step t.new).refusal (BreaksTree (T.step t.old).images)) }
+{
+    let found = leaf_below(t, top(), &Cut::UpTo(entry.key.copied()))?;
+    if !has_as_long(&found.entries, entry) {
+        return Err(TreeFault::Broken(found.page));
+    }
+    let list = put_among(&found.entries, entry);
+    put_leaf(t, found.page, list.as_slice());
+    Ok(())
+}
