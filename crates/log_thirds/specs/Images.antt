@@ -1,13 +1,18 @@
 -- What a page's slot gives of its last image.
-use Rattle.std.specs.Prelude.{◌≡◌, ℕ, List, Option, Some, None, slice_index_or, ⊤}
+use Rattle.std.specs.Prelude.{◌≡◌, ℕ, List, Option, Some, None, IfSome, slice_index_or, ⊤}
+use Rattle.sector_disk.specs.declared.sector.Sector.{Sector}
 use Rattle.sector_disk.specs.Machine.{Report, Moment, DeviceFault}
 use Rattle.sector_disk.specs.declared.machine.LoadFault.{LoadFault}
 use Rattle.sector_disk.specs.declared.machine.LoadFault.TheVariants.{Device, Lost}
 use Rattle.fsd_formats.specs.Record.{Stamp, bears}
 use Rattle.fsd_log.specs.Judged.{Reader}
 use Rattle.fsd_log.specs.Plain.{served, either_copy}
+use Rattle.fsd_log.specs.Images.{last_image}
+use Rattle.fsd_log.specs.Scan.{Placed}
+use Rattle.log_thirds.specs.Disk.{reads}
 use Rattle.log_thirds.specs.Reading.{ReadWorn}
 use Rattle.log_thirds.specs.LogValue.{LogValue}
+use Rattle.log_thirds.specs.Slots.{slot_of}
 use Rattle.log_thirds.specs.declared.slots.Slot.{Slot}
 
 -- The page, or else its copy, bears the record's stamp, and is the image that is meant.
@@ -15,6 +20,10 @@ pub record GivesSlot (page epoch : ℕ) (disk : Reader) (slot : Slot) (o : Optio
   pub image : List ℕ
   pub read : either_copy (bears page (record { epoch = epoch; number = slot.number })) (disk slot.place) (disk slot.copy) ≡ Some image
   pub is : o ≡ Some image
+
+-- where one of these records has the page, the slot in the last of them gives the image that it has there
+abbrev pub GivesLast : LogValue → List Placed → (page : ℕ) → List Sector → Type 0
+GivesLast log records page sectors = IfSome (slot_of log.layout log.anchor.third page records) (λ slot. GivesSlot page log.anchor.epoch (reads sectors) slot (last_image page records))
 
 -- the page's image of this stamp, if it could be read at a place
 pub record SeesImage (old : Moment) (place page : ℕ) (stamp : Stamp) (image : Option (List ℕ)) : Type 0 where

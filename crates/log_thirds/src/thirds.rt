@@ -64,7 +64,7 @@ impl Log {
     ghost use Rattle.fsd_log.specs.Laid.{laid_bytes, slices};
     ghost use Rattle.fsd_log.specs.Scan.{Placed, HasRoom, spot_for, place_of};
     ghost use Rattle.log_thirds.specs.LogValue.{FitsLayout};
-    ghost use Rattle.log_thirds.specs.Images.{ImageCause, LostCause, IsDevice};
+    ghost use Rattle.log_thirds.specs.Images.{ImageCause, LostCause, IsDevice, GivesLast};
     ghost use Rattle.fsd_log.specs.Images.{last_image};
     ghost use Rattle.log_thirds.specs.Copies.{copies_count, IsLast};
     ghost use Rattle.log_thirds.specs.Append.{IsCalm, IsLogIn, Appends, IsNarrow, IsLogWorn, AppendsWorn, stamp_now, next_record, log_with, scan_of, GoesAt, FitsTwo, IsIndexed, KnowsLast, StandsInPart, IsLeastOfThird, NoneOfThird};
@@ -268,6 +268,11 @@ impl Log {
         ensures image { IfOk result (λ there. (records : List Placed) → M.honest m.new → IsCalm (M.now m.old) → IsIndexed self.now records → (scan_of self.now (M.now m.old)).records ≡ records
             → last_image page records ≡ (if there then Some buf.new else None)) }
         ensures never_lost { IfErr result (λ fault. (records : List Placed) → M.honest m.new → IsCalm (M.now m.old) → IsIndexed self.now records → (scan_of self.now (M.now m.old)).records ≡ records → IsDevice fault) }
+
+        // Where nothing wears, it is enough that the page's own sectors still give its image, whatever a scan gives.
+        ensures given { IfOk result (λ there. (records : List Placed) → M.honest m.new → IsCalm (M.now m.old) → IsIndexed self.now records → GivesLast self.now records page (M.now m.old).image
+            → last_image page records ≡ (if there then Some buf.new else None)) }
+        ensures none_lost { IfErr result (λ fault. (records : List Placed) → M.honest m.new → IsCalm (M.now m.old) → IsIndexed self.now records → GivesLast self.now records page (M.now m.old).image → IsDevice fault) }
         ensures nowhere { result ≡ Ok false → (records : List Placed) → IsIndexed self.now records → last_image page records ≡ None }
         ensures kept { result ≡ Ok false → buf.new ≡ buf.old }
     {
