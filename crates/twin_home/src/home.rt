@@ -25,6 +25,7 @@ pub fn read_home<M: Machine>(
     ensures trust { Trusts (M.tells m.old) (M.tells m.new) (M.honest m.old) (M.honest m.new) }
     ensures ledger { M.tells m.new → M.ledger m.new ≡ M.ledger m.old }
     ensures worn { M.honest m.new → Wears (M.now m.old) (M.now m.new) }
+    ensures any_moment { M.honest m.new → LeavesOnly M.moment M.left_since m.old m.new (Wears (M.now m.old)) }
 
     // The answer is what the image shows as the call ends.
     ensures shown { IfOk result (λ seen. M.honest m.new → ShowsHome seen (home_of l.now (M.now m.new).image page) buf.new) }
