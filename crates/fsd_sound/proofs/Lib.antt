@@ -1,4 +1,3 @@
-pub mod FormatLaws
 pub mod FormatSoundLaws
 pub mod FrontLaws
 pub mod LogPlaces

@@ -14,3 +14,7 @@ anchor_of i = anchor_on (bytes_at i)
 -- P of each copy that stands
 abbrev pub EachAnchor : Image → (Anchor → Type 0) → Type 0
 EachAnchor i P = IfSome (anchor_at i 8) P × IfSome (anchor_at i 12) P
+
+-- the anchor of an epoch in which nothing was logged
+abbrev pub fresh_anchor : ℕ → Anchor
+fresh_anchor epoch = record { epoch = epoch; third = 0; first = 1 }

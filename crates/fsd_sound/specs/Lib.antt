@@ -1,5 +1,4 @@
 pub mod Anchors
-pub mod AtHome
 pub mod Format
 pub mod Homes
 pub mod Laid

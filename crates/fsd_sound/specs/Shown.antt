@@ -1,11 +1,11 @@
 -- What an image shows of a volume with this layout: the pages of the name table, each by its newest image.
-use Rattle.std.specs.Prelude.{ℕ, List, [], ◌∷◌, Option, Some, None, option_map, option_and_then, slice_get}
+use Rattle.std.specs.Prelude.{ℕ, List, [], ◌∷◌, Option, Some, None, option_map, option_and_then, slice_get, IsTrue}
 use Rattle.std.specs.List.{range_with_len}
 use Rattle.std.specs.Option.{option_or}
 use Rattle.volume_layout.specs.declared.layout.Layout.{Layout}
 use Rattle.fsd_formats.specs.declared.anchor.Anchor.{Anchor}
 use Rattle.fsd_formats.specs.declared.entry.Entry.{Entry}
-use Rattle.fsd_formats.specs.NamePage.{Content, Leaf, read_page}
+use Rattle.fsd_formats.specs.NamePage.{Content, Leaf, is_page, read_page, FitsPage}
 use Rattle.fsd_log.specs.Scan.{Placed, Walked, scan, tape}
 use Rattle.fsd_log.specs.Images.{last_image}
 use Rattle.fsd_files.specs.Disk.{Image, bytes_at}
@@ -52,3 +52,8 @@ told_in l pages = option_and_then entries_of (option_and_then (read_page 0 l.pag
 
 abbrev pub told : Layout → Image → Option (List Entry)
 told l i = option_and_then (told_in l) (shown l i)
+
+-- a leaf that page 0 may be
+pub record IsRootLeaf (l : Layout) (entries : List Entry) : Type 0 where
+  pub page : IsTrue (is_page 0 l.pages (Leaf entries))
+  pub fits : FitsPage (Leaf entries)

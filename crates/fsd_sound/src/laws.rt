@@ -6,17 +6,11 @@ ghost use Rattle.sector_disk.specs.declared.sector.WeakRun.{WeakRun};
 ghost use Rattle.sector_disk.specs.Image.{Windows, open_damage, IsWorn};
 ghost use Rattle.fsd_files.specs.Disk.{Image, in_runs};
 ghost use Rattle.fsd_files.specs.Files.{Change};
-ghost use Rattle.fsd_sound.specs.AtHome.{HoldsFiles};
 ghost use Rattle.fsd_sound.specs.Format.{IsFormatted, IsFormattedIn};
 ghost use Rattle.fsd_log.specs.Scan.{Placed, Head};
 ghost use Rattle.fsd_sound.specs.Mounted.{Mounted, StandsOver, IsMounted, SameTaken, SameData, ChangesTo, IsFresh, with_forced};
 ghost use Rattle.fsd_sound.specs.Shown.{told_in};
 ghost use Rattle.fsd_sound.specs.Sound.{EndIn, weak_of, IsSound, IsStill, ShowsPages, Tells, TellsPrefix};
-
-/// A formatted disk holds no file, and is of epoch 1.
-pub fn formatted_disks_hold_no_file()
-    ensures { (l : Layout) (i : Image) → IsFormatted l i → HoldsFiles l 1 [] i }
-{}
 
 /// A formatted disk is sound, with no changes, in a window whose weak run has at most three sectors, also as its own window
 /// has worn it.

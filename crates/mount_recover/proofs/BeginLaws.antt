@@ -16,7 +16,7 @@ use Rattle.sector_disk.proofs.Wear.{worn_refl}
 use Rattle.sector_disk.proofs.Calm.{calm_nowhere, calm_worn, calm_settles, stand_one}
 use Rattle.fsd_log.specs.Scan.{start}
 use Rattle.fsd_files.specs.Disk.{Image}
-use Rattle.fsd_sound.specs.AtHome.{fresh_anchor}
+use Rattle.fsd_sound.specs.Anchors.{fresh_anchor}
 use Rattle.fsd_sound.specs.Laid.{HasOwnLog}
 use Rattle.fsd_sound.specs.Shown.{shown}
 use Rattle.fsd_sound.specs.Sound.{weak_of, ShowsPages}

@@ -1,5 +1,5 @@
 -- The copies of the last record are laid again: what is shown stays.
-use Rattle.std.proofs.Common.{◌≡◌, ◌⊎◌, inl, inr, ⊎_elim, ℕ, zero, suc, ◌+◌, ◌-◌, ◌*◌, ◌^◌, ◌<◌, ◌≤◌, List, [], ◌∷◌, ◌++◌, length, map, get_or, Option, None, append_assoc, refl, sym, ap, subst, ◌∙◌, arith}
+use Rattle.std.proofs.Common.{◌≡◌, ◌⊎◌, inl, inr, ⊎_elim, ℕ, zero, suc, ◌+◌, ◌-◌, ◌*◌, ◌^◌, ◌<◌, ◌≤◌, List, [], ◌∷◌, ◌++◌, length, map, get_or, Option, Some, None, append_assoc, refl, sym, ap, subst, ◌∙◌, arith}
 use Rattle.std.specs.Prelude.{IfSome}
 use Rattle.std.specs.List.{AllByRecursion}
 use Rattle.std.proofs.lemmas.Bool.{cases_lt}
@@ -19,12 +19,13 @@ use Rattle.fsd_sound.specs.Homes.{home_of}
 use Rattle.fsd_sound.specs.Laid.{AllStand, HasFront, HasCopies, GoodCopies, IsLaid}
 use Rattle.fsd_sound.specs.Shown.{scan_by, records_by}
 use Rattle.fsd_sound.specs.Sound.{EachStamp, on_disk, disk_records}
-use Rattle.fsd_log.proofs.PlaceLaws.{place_cases, place_add, place_inside, place_from, first_most, end_most, below_numbers}
+use Rattle.fsd_log.proofs.PlaceLaws.{place_cases, place_add, place_inside, place_from, first_most, end_most, below_numbers, above_numbers}
 use Rattle.fsd_log.proofs.WalkLaws.{found_goes_on, Goes, goes_far}
 use Rattle.mount_recover.specs.Replay.{copies_at, copies_of, LaysSome, Completes}
 use Rattle.mount_recover.proofs.AnchorFacts.{IsAnchor}
 use Rattle.mount_recover.proofs.CalmShows.{Nowhere, Stands, HasBoth, by_each, Covers, covers_first, covers_second, KeepsBy, Keeps, stands_kept}
-use Rattle.mount_recover.proofs.CompletingScan.{EndsWith, TapeWith, FrontOn, ends, row_bears, scan_stays, get_left}
+use Rattle.mount_recover.proofs.CompletingScan.{EndsWith, TapeWith, FrontOn, ends, row_bears, there_again, scan_stays, get_left}
+use Rattle.mount_recover.proofs.GivenLaws.{RecordAgain}
 use Rattle.mount_recover.proofs.HomingLaws.{newest_same, whole_not}
 use Rattle.fsd_sound.proofs.LogPlaces.{on_tape, off_tape, IsRecord, scan_records, start_in, has_same, stand_same, front_same, copies_same}
 
@@ -37,6 +38,10 @@ all_last P (q ∷ front) r all = all_last P front r all.1
 all_front : {A : Type 0} (P : A → Type 0) (front : List A) (r : A) → AllByRecursion P (front ++ r ∷ []) → AllByRecursion P front
 all_front P [] r all = tt
 all_front P (q ∷ front) r all = (all.0, all_front P front r all.1)
+
+all_more : {A : Type 0} (P : A → Type 0) (front : List A) (r : A) → AllByRecursion P front → P r → AllByRecursion P (front ++ r ∷ [])
+all_more P [] r all last = (last, tt)
+all_more P (q ∷ front) r all last = (all.0, all_more P front r all.1 last)
 
 -- what was completed
 record CompletesLast (l : Layout) (a : Anchor) (rs : List Placed) (i j : Image) : Type 0 where
@@ -112,8 +117,7 @@ goes_before l epoch disk h (q ∷ rs) end is_in goes =
 
 -- ---- by one anchor
 
-module _ (l : Layout) (pages : l.pages ≤ 2 ^ 32) (weak : Sectors) (strong : Nowhere weak) (i j : Image) (c : Anchor) (is : IsAnchor c) (front : List Placed) (r : Placed) (joined : records_by l i c ≡ front ++ r ∷ [])
-    (lays : LaysSome (copies_at l c r) (copies_of c r) i j) (laid : IsLaid l c weak i (records_by l i c)) where
+module _ (l : Layout) (pages : l.pages ≤ 2 ^ 32) (i j : Image) (c : Anchor) (is : IsAnchor c) (front : List Placed) (r : Placed) (joined : records_by l i c ≡ front ++ r ∷ []) (lays : LaysSome (copies_at l c r) (copies_of c r) i j) where
   abbrev n : ℕ
   n = length r.entry.pages
 
@@ -158,50 +162,19 @@ module _ (l : Layout) (pages : l.pages ≤ 2 ^ 32) (weak : Sectors) (strong : No
   before_same : (w : ℕ) → w < r.at → sector_at j (place_of l c.third w) ≡ sector_at i (place_of l c.third w)
   before_same w lt = outside (place_of l c.third w) (⊎_elim (λ below. inl (omega arith)) (λ above. inr above) (before w lt))
 
-  -- ---- the records
-
-  front_laid : (rs : List Placed) → AllByRecursion (IsRecord l c.third) rs → AllByRecursion (λ q. q.at + record_len (length q.entry.pages) ≤ part.mid.at) rs → AllByRecursion (FullyLaid l c weak i) rs → AllByRecursion (FullyLaid l c weak j) rs
-  front_laid [] records ends full = tt
-  front_laid (q ∷ rs) records ends full =
-      let same : (k : ℕ) → k < record_len (length q.entry.pages) → sector_at j (place_of l c.third q.at + k) ≡ sector_at i (place_of l c.third q.at + k) = λ k lt.
-      let at = place_add l c.third q.at (record_len (length q.entry.pages)) records.0.end k records.0.inside lt in
-      subst (λ (s : ℕ). sector_at j s ≡ sector_at i s) at (before_same (q.at + k) (omega (arith, ends.0, from_mid))) in
-      ((front_same l c weak i j q records.0 same full.0.0, copies_same l c weak i j q records.0 same full.0.1), front_laid rs records.1 ends.1 full.1)
-
-  was : AllByRecursion (FullyLaid l c weak i) front × LastLaid l c weak i r
-  was = laid_split l c weak i front r (subst (IsLaid l c weak i) joined laid)
-
-  last_front : HasFront l c weak j r
-  last_front = record {
-    header = has_same l c weak i j _ p (outside p (inl (omega arith))) was.1.0.header;
-    header_copy = has_same l c weak i j _ (p + 2) (outside (p + 2) (inl (omega arith))) was.1.0.header_copy;
-    pages = stand_same l c weak i j (p + 3) (copies_of c r) (λ k ge lt. outside k (inl (omega (arith, many)))) was.1.0.pages;
-  }
-
-  last_good : GoodCopies l c weak j (record { epoch = c.epoch; number = r.entry.number }) (p + (4 + n)) r.entry.pages r.entry.images
-  last_good = good_laid l c weak strong i j (record { epoch = c.epoch; number = r.entry.number }) (p + (4 + n)) r.entry.pages r.entry.images
-      (λ k lt. ⊎_elim (λ same. inl same) (λ row. inr (
-      let at : row.0 ≡ k = omega (arith, row.2) in
-      row.3 ∙ ap (λ (x : ℕ). Whole (get_or (copies_of c r) x [])) at ∙ ap (λ (x : List ℕ). Whole x) (get_left r.entry.images (end_bytes (record { epoch = c.epoch; number = r.entry.number }) n) k lt)
-      )) (lays.each (p + (4 + n) + k)))
-      was.1.1
-
-  laid_now : IsLaid l c weak j (records_by l i c)
-  laid_now = subst (IsLaid l c weak j) (sym joined)
-      (laid_join l c weak j front r (front_laid front (all_front (IsRecord l c.third) front r are) (goes_before l c.epoch old_tape (start l c.first) front part.mid (start_in l c.first) part.goes) was.0) (last_front, last_good))
-
   -- ---- the tape
 
-  in_order : (w k : ℕ) → place_of l c.third w ≡ p + (4 + n) + k → k < n + 1 → r.at + (4 + n) ≤ w
-  in_order w k at lt = elim (cases_lt w (r.at + (4 + n))) [
-    | inr ge ↦ ge
-    | inl below ↦ elim (cases_lt w r.at) [
-      | inl lower ↦ absurd (⊎_elim (λ x. omega arith) (λ x. omega arith) (before w lower))
-      | inr from ↦
-          let d : ℕ = w - r.at in
+  -- a place of the copies lies in order on the tape
+  in_order : (w k : ℕ) → w < 3 * l.third → place_of l c.third w ≡ p + (4 + n) + k → k < n + 1 → w ≡ r.at + (4 + n) + k
+  in_order w k within at lt = elim (cases_lt w r.at) [
+    | inl lower ↦ absurd (⊎_elim (λ x. omega arith) (λ x. omega arith) (before w lower))
+    | inr from ↦ elim (cases_lt w (r.at + record_len n)) [
+      | inl below ↦
           let is_w : r.at + (w - r.at) ≡ w = omega arith in
           let there = place_add l c.third r.at (record_len n) is_record.end (w - r.at) is_record.inside (omega arith) in
-          absurd (omega (arith, there, at, ap (place_of l c.third) is_w))
+          omega (arith, there, at, ap (place_of l c.third) is_w)
+      | inr above ↦ absurd (⊎_elim (λ x. omega arith) (λ x. omega arith)
+          (above_numbers l.third (c.third * l.third) r.at (record_len n) p w (place_of l c.third w) above within (place_cases l c.third r.at) (place_cases l c.third w)))
     ]
   ]
 
@@ -211,7 +184,9 @@ module _ (l : Layout) (pages : l.pages ≤ 2 ^ 32) (weak : Sectors) (strong : No
       | inr past ↦ inl (off_tape l c.third w (bytes_at j) past ∙ sym (off_tape l c.third w (bytes_at i) past))
       | inl lt ↦ ⊎_elim
           (λ same. inl (on_tape l c.third w (bytes_at j) lt ∙ ap bytes_of same ∙ sym (on_tape l c.third w (bytes_at i) lt)))
-          (λ row. inr (in_order w row.0 row.2 (omega (arith, row.1, many)), (row.0, row.1, on_tape l c.third w (bytes_at j) lt ∙ ap bytes_of row.3)))
+          (λ row.
+          let at = in_order w row.0 lt row.2 (omega (arith, row.1, many)) in
+          inr (omega (arith, at), (row.0, row.1, on_tape l c.third w (bytes_at j) lt ∙ ap bytes_of row.3)))
           (lays.each (place_of l c.third w))
     ];
   }
@@ -219,18 +194,41 @@ module _ (l : Layout) (pages : l.pages ≤ 2 ^ 32) (weak : Sectors) (strong : No
   on_record : (k : ℕ) → k < record_len n → r.at + k < 3 * l.third
   on_record k lt = omega (arith, is_record.inside.to, end_most l is_record.end is_record.inside.ends)
 
-  front_on : FrontOn (record { epoch = c.epoch; number = r.entry.number }) r (tape l c.third (bytes_at j))
-  front_on = record {
-    header = on_tape l c.third r.at (bytes_at j) (omega (arith, on_record 0 (omega arith))) ∙ ap bytes_of (has_calm weak j _ p strong last_front.header);
-    rows = λ k lt.
-        let at : place_of l c.third (r.at + (3 + k)) ≡ (p + 3) + k = place_add l c.third r.at (record_len n) is_record.end (3 + k) is_record.inside (omega (arith, many)) ∙ omega arith in
-        on_tape l c.third (r.at + (3 + k)) (bytes_at j) (on_record (3 + k) (omega (arith, many)))
-        ∙ ap (bytes_at j) at
-        ∙ ap bytes_of (stand_at l c weak strong j (p + 3) (copies_of c r) last_front.pages k lt);
+  -- ---- the images
+
+  again_front : (rs : List Placed) → AllByRecursion (IsRecord l c.third) rs → AllByRecursion (λ q. q.at + record_len (length q.entry.pages) ≤ part.mid.at) rs → AllByRecursion (RecordAgain l c.third (bytes_at i) (bytes_at j)) rs
+  again_front [] records ends = tt
+  again_front (q ∷ rs) records ends =
+      let same : (k : ℕ) → k < record_len (length q.entry.pages) → bytes_at j (place_of l c.third q.at + k) ≡ bytes_at i (place_of l c.third q.at + k) = λ k lt.
+      let at = place_add l c.third q.at (record_len (length q.entry.pages)) records.0.end k records.0.inside lt in
+      ap bytes_of (subst (λ (s : ℕ). sector_at j s ≡ sector_at i s) at (before_same (q.at + k) (omega (arith, ends.0, from_mid)))) in (
+        record {
+          images = records.0.images;
+          first = λ k lt. let at : place_of l c.third q.at + 3 + k ≡ place_of l c.third q.at + (3 + k) = omega arith in ap (bytes_at j) at ∙ same (3 + k) (omega arith) ∙ ap (bytes_at i) (sym at);
+          copy = λ k lt.
+              let at : place_of l c.third q.at + 3 + length q.entry.pages + 1 + k ≡ place_of l c.third q.at + (4 + length q.entry.pages + k) = omega arith in
+              inl (ap (bytes_at j) at ∙ same (4 + length q.entry.pages + k) (omega arith) ∙ ap (bytes_at i) (sym at));
+        },
+        again_front rs records.1 ends.1,
+      )
+
+  again_last : RecordAgain l c.third (bytes_at i) (bytes_at j) r
+  again_last = record {
+    images = is_record.images;
+    first = λ k lt. ap bytes_of (outside (place_of l c.third r.at + 3 + k) (inl (omega arith)));
+    copy = λ k lt. ⊎_elim
+        (λ same. inl (ap bytes_of same))
+        (λ row.
+        let at : row.0 ≡ k = omega (arith, row.2) in
+        inr (ap bytes_of row.3 ∙ ap (λ (x : ℕ). Some (get_or (copies_of c r) x [])) at
+        ∙ ap (λ (x : List ℕ). Some x) (get_left r.entry.images (end_bytes (record { epoch = c.epoch; number = r.entry.number }) n) k (omega (arith, is_record.images, lt)))))
+        (lays.each (place_of l c.third r.at + 3 + length r.entry.pages + 1 + k));
   }
 
-  scan_now : scan_by l j c ≡ scan_by l i c
-  scan_now = scan_stays l pages c.epoch c.first is.epoch old_tape (tape l c.third (bytes_at j)) front r joined tape_with front_on
+  -- each record's images are read as they were, but maybe a copy as the image that was laid there
+  pub again_all : AllByRecursion (RecordAgain l c.third (bytes_at i) (bytes_at j)) (records_by l i c)
+  again_all = subst (AllByRecursion (RecordAgain l c.third (bytes_at i) (bytes_at j))) (sym joined)
+      (all_more (RecordAgain l c.third (bytes_at i) (bytes_at j)) front r (again_front front (all_front (IsRecord l c.third) front r are) (goes_before l c.epoch old_tape (start l c.first) front part.mid (start_in l c.first) part.goes)) again_last)
 
   stamps_now : EachStamp l i (λ stamp. stamp.epoch ≤ c.epoch) → EachStamp l j (λ stamp. stamp.epoch ≤ c.epoch)
   stamps_now stamps s within bytes at = ⊎_elim
@@ -245,16 +243,77 @@ module _ (l : Layout) (pages : l.pages ≤ 2 ^ 32) (weak : Sectors) (strong : No
       whole_bytes : (x : Sector) (b d : List ℕ) → x ≡ Whole b → x ≡ Whole d → b ≡ d
       whole_bytes x b d xb xd = let both : Whole b ≡ Whole d = sym xb ∙ xd in cc
 
-  pub completed_by : EachStamp l i (λ stamp. stamp.epoch ≤ c.epoch)
-      → ((page : ℕ) → page < l.pages → last_image page (records_by l i c) ≡ None → (x y : List ℕ) → sector_at i (home_a l page) ≡ Whole x → sector_at i (home_b l page) ≡ Whole y → x ≡ y) → KeepsBy l weak i j c
-  completed_by stamps same_homes = record {
-    scan = ap (λ (w : Walked). w.records) scan_now;
-    stamps = stamps_now stamps;
-    laid = laid_now;
-    homes = λ page lt none x y first second. same_homes page lt none x y
-        (sym (outside (home_a l page) (inr (omega (arith, inside)))) ∙ first)
-        (sym (outside (home_b l page) (inr (omega (arith, inside)))) ∙ second);
-  }
+  -- ---- as the records were laid
+
+  module _ (weak : Sectors) (strong : Nowhere weak) (laid : IsLaid l c weak i (records_by l i c)) where
+    front_laid : (rs : List Placed) → AllByRecursion (IsRecord l c.third) rs → AllByRecursion (λ q. q.at + record_len (length q.entry.pages) ≤ part.mid.at) rs → AllByRecursion (FullyLaid l c weak i) rs → AllByRecursion (FullyLaid l c weak j) rs
+    front_laid [] records ends full = tt
+    front_laid (q ∷ rs) records ends full =
+        let same : (k : ℕ) → k < record_len (length q.entry.pages) → sector_at j (place_of l c.third q.at + k) ≡ sector_at i (place_of l c.third q.at + k) = λ k lt.
+        let at = place_add l c.third q.at (record_len (length q.entry.pages)) records.0.end k records.0.inside lt in
+        subst (λ (s : ℕ). sector_at j s ≡ sector_at i s) at (before_same (q.at + k) (omega (arith, ends.0, from_mid))) in
+        ((front_same l c weak i j q records.0 same full.0.0, copies_same l c weak i j q records.0 same full.0.1), front_laid rs records.1 ends.1 full.1)
+
+    was : AllByRecursion (FullyLaid l c weak i) front × LastLaid l c weak i r
+    was = laid_split l c weak i front r (subst (IsLaid l c weak i) joined laid)
+
+    last_front : HasFront l c weak j r
+    last_front = record {
+      header = has_same l c weak i j _ p (outside p (inl (omega arith))) was.1.0.header;
+      header_copy = has_same l c weak i j _ (p + 2) (outside (p + 2) (inl (omega arith))) was.1.0.header_copy;
+      pages = stand_same l c weak i j (p + 3) (copies_of c r) (λ k ge lt. outside k (inl (omega (arith, many)))) was.1.0.pages;
+    }
+
+    last_good : GoodCopies l c weak j (record { epoch = c.epoch; number = r.entry.number }) (p + (4 + n)) r.entry.pages r.entry.images
+    last_good = good_laid l c weak strong i j (record { epoch = c.epoch; number = r.entry.number }) (p + (4 + n)) r.entry.pages r.entry.images
+        (λ k lt. ⊎_elim (λ same. inl same) (λ row. inr (
+        let at : row.0 ≡ k = omega (arith, row.2) in
+        row.3 ∙ ap (λ (x : ℕ). Whole (get_or (copies_of c r) x [])) at ∙ ap (λ (x : List ℕ). Whole x) (get_left r.entry.images (end_bytes (record { epoch = c.epoch; number = r.entry.number }) n) k lt)
+        )) (lays.each (p + (4 + n) + k)))
+        was.1.1
+
+    laid_now : IsLaid l c weak j (records_by l i c)
+    laid_now = subst (IsLaid l c weak j) (sym joined)
+        (laid_join l c weak j front r (front_laid front (all_front (IsRecord l c.third) front r are) (goes_before l c.epoch old_tape (start l c.first) front part.mid (start_in l c.first) part.goes) was.0) (last_front, last_good))
+
+    front_on : FrontOn (record { epoch = c.epoch; number = r.entry.number }) r (tape l c.third (bytes_at j))
+    front_on = record {
+      header = on_tape l c.third r.at (bytes_at j) (omega (arith, on_record 0 (omega arith))) ∙ ap bytes_of (has_calm weak j _ p strong last_front.header);
+      rows = λ k lt.
+          let at : place_of l c.third (r.at + (3 + k)) ≡ (p + 3) + k = place_add l c.third r.at (record_len n) is_record.end (3 + k) is_record.inside (omega (arith, many)) ∙ omega arith in
+          on_tape l c.third (r.at + (3 + k)) (bytes_at j) (on_record (3 + k) (omega (arith, many)))
+          ∙ ap (bytes_at j) at
+          ∙ ap bytes_of (stand_at l c weak strong j (p + 3) (copies_of c r) last_front.pages k lt);
+    }
+
+    scan_now : scan_by l j c ≡ scan_by l i c
+    scan_now = scan_stays l pages c.epoch c.first is.epoch old_tape (tape l c.third (bytes_at j)) front r joined tape_with
+        (there_again l pages c.epoch c.first is.epoch old_tape (tape l c.third (bytes_at j)) front r joined front_on)
+
+    pub completed_by : EachStamp l i (λ stamp. stamp.epoch ≤ c.epoch)
+        → ((page : ℕ) → page < l.pages → last_image page (records_by l i c) ≡ None → (x y : List ℕ) → sector_at i (home_a l page) ≡ Whole x → sector_at i (home_b l page) ≡ Whole y → x ≡ y) → KeepsBy l weak i j c
+    completed_by stamps same_homes = record {
+      scan = ap (λ (w : Walked). w.records) scan_now;
+      stamps = stamps_now stamps;
+      laid = laid_now;
+      homes = λ page lt none x y first second. same_homes page lt none x y
+          (sym (outside (home_a l page) (inr (omega (arith, inside)))) ∙ first)
+          (sym (outside (home_b l page) (inr (omega (arith, inside)))) ∙ second);
+    }
+
+-- ---- of any image
+
+-- nothing was laid
+again_here : (l : Layout) (third : ℕ) (i : Image) (rs : List Placed) → AllByRecursion (IsRecord l third) rs → AllByRecursion (RecordAgain l third (bytes_at i) (bytes_at i)) rs
+again_here l third i [] records = tt
+again_here l third i (q ∷ rs) records = (record { images = records.0.images; first = λ k lt. refl; copy = λ k lt. inl refl }, again_here l third i rs records.1)
+
+-- where the last record's copies are laid again each record is as it was, but maybe for the copies of its images
+pub records_again : (l : Layout) → l.pages ≤ 2 ^ 32 → (i j : Image) (c : Anchor) → IsAnchor c → Completes l c (records_by l i c) i j → AllByRecursion (RecordAgain l c.third (bytes_at i) (bytes_at j)) (records_by l i c)
+records_again l pages i j c is completes = ⊎_elim
+    (λ same. subst (λ (k : Image). AllByRecursion (RecordAgain l c.third (bytes_at i) (bytes_at k)) (records_by l i c)) (sym same) (again_here l c.third i (records_by l i c) (scan_records l i c is.third)))
+    (λ last. again_all l pages i j c is last.front last.r last.joined last.lays)
+    (completes_last l c (records_by l i c) i j completes)
 
 -- ---- by the other anchor too
 
@@ -303,7 +362,7 @@ module _ (l : Layout) (pages : l.pages ≤ 2 ^ 32) (weak : Sectors) (strong : No
       let at = last_of_map (on_disk l c) (records_by l i c) (suffix.1.0 ++ map (on_disk l t) last.front) (on_disk l t last.r) joined in
       let lays_at : Placed → ℕ → Type 0 = λ q e. LaysSome (q.at + (4 + length q.entry.pages)) (q.entry.images ++ end_bytes (record { epoch = e; number = q.entry.number }) (length q.entry.pages) ∷ []) i j in
       let lays : LaysSome (copies_at l c at.r) (copies_of c at.r) i j = subst (λ (e : ℕ). lays_at (on_disk l c at.r) e) (sym suffix.0) (subst (λ (q : Placed). lays_at q t.epoch) (sym at.is) last.lays) in
-      completed_by l pages weak strong i j c is at.front at.r at.joined lays laid stamps homes
+      completed_by l pages i j c is at.front at.r at.joined lays weak strong laid stamps homes
 
   unhurt : (s : ℕ) → sector_at j s ≡ Damaged → sector_at i s ≡ Damaged
   unhurt s hurt = ⊎_elim (λ at. sym at ∙ hurt) (λ row. whole_not (sector_at j s) (sector_at i s) (get_or (copies_of t last.r) row.0 []) row.3 hurt) (last.lays.each s)

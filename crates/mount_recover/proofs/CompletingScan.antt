@@ -83,11 +83,11 @@ get_left [] x k lt = absurd (omega arith)
 get_left (y ∷ xs) x zero lt = refl
 get_left (y ∷ xs) x (suc k) lt = get_left xs x k (omega arith)
 
-get_last : (xs : List (List ℕ)) (x : List ℕ) → get_or (xs ++ x ∷ []) (length xs) [] ≡ x
+pub get_last : (xs : List (List ℕ)) (x : List ℕ) → get_or (xs ++ x ∷ []) (length xs) [] ≡ x
 get_last [] x = refl
 get_last (y ∷ xs) x = get_last xs x
 
-length_more : (xs : List (List ℕ)) (x : List ℕ) → length (xs ++ x ∷ []) ≡ length xs + 1
+pub length_more : (xs : List (List ℕ)) (x : List ℕ) → length (xs ++ x ∷ []) ≡ length xs + 1
 length_more [] x = refl
 length_more (y ∷ xs) x = ap suc (length_more xs x) ∙ omega arith
 
@@ -125,7 +125,39 @@ module _ (l : Shape) (pages : l.pages ≤ 2 ^ 32) (epoch first : ℕ) (fits : ep
   from_mid : ends.mid.at ≤ r.at
   from_mid = (found_goes_on l epoch old ends.mid r end far.is_in ends.found).from
 
-  module _ (with : TapeWith stamp r old new) (stands : FrontOn stamp r new) where
+  -- ---- the record itself
+
+  abbrev pub room : ℕ
+  room = room_at r.at ends.found.end
+
+  pub long : record_len (length r.entry.pages) ≤ room_at r.at ends.found.end
+  long = record_room l.pages (stamp_of epoch ends.mid.number) (room_at r.at ends.found.end) (window old r.at (room_at r.at ends.found.end)) r.entry looks.1
+
+  pub many : length r.entry.images ≡ length r.entry.pages
+  many = length-stamped stamp r.entry.pages r.entry.images stamped_so.stamped
+
+  pub in_window : (k : ℕ) → k < room_at r.at ends.found.end → window new r.at (room_at r.at ends.found.end) k ≡ new (r.at + k)
+  in_window k lt = cond-true (nat_lt k (room_at r.at ends.found.end)) (new (r.at + k)) None (lt-ltb k (room_at r.at ends.found.end) lt)
+
+  -- by its front
+  module _ (stands : FrontOn stamp r new) where
+    row_at : (k : ℕ) → k ≤ length r.entry.pages → window new r.at (room_at r.at ends.found.end) (3 + k) ≡ Some (get_or (rows_of stamp r.entry) k [])
+    row_at k le = in_window (3 + k) (omega (arith, long)) ∙ stands.rows k (omega (arith, many, length_more r.entry.images (end_bytes stamp (length r.entry.pages))))
+
+    front_stands : FrontStands stamp r.entry.pages r.entry.images (window new r.at (room_at r.at ends.found.end))
+    front_stands = record {
+      header = in_window 0 (omega (arith, long)) ∙ (let at : r.at + 0 ≡ r.at = omega arith in ap new at) ∙ stands.header;
+      whole = images_stand_of stamp (window new r.at (room_at r.at ends.found.end)) 3 r.entry.pages r.entry.images stamped_so.stamped
+          (λ j lt. row_at j (omega arith) ∙ ap (λ (x : List ℕ). Some x) (get_left r.entry.images (end_bytes stamp (length r.entry.pages)) j (omega (arith, many))));
+      ends = row_at (length r.entry.pages) (omega arith) ∙ ap (λ (k : ℕ). Some (get_or (rows_of stamp r.entry) k [])) (sym many)
+          ∙ ap (λ (x : List ℕ). Some x) (get_last r.entry.images (end_bytes stamp (length r.entry.pages)));
+    }
+
+    pub there_again : record_in l.pages stamp (room_at r.at ends.found.end) (window new r.at (room_at r.at ends.found.end)) ≡ Some r.entry
+    there_again = front_judged l.pages stamp r.entry.pages stamped_so.accepted (pages_small l.pages r.entry.pages pages stamped_so.accepted) (omega (arith, are_few l.pages r.entry.pages stamped_so.accepted))
+        (window new r.at (room_at r.at ends.found.end)) (room_at r.at ends.found.end) r.entry.images front_stands long
+
+  module _ (with : TapeWith stamp r old new) (again : record_in l.pages stamp (room_at r.at ends.found.end) (window new r.at (room_at r.at ends.found.end)) ≡ Some r.entry) where
     -- a place that is not as it was has nothing of another record
     less_at : (w m : ℕ) → (m ≡ r.entry.number → ⊥) → (new w ≡ old w) ⊎ Foreign (stamp_of epoch m) (new w)
     less_at w m other = ⊎_elim (λ same. inl same)
@@ -140,39 +172,9 @@ module _ (l : Shape) (pages : l.pages ≤ 2 ^ 32) (epoch first : ℕ) (fits : ep
     front_goes : Goes l epoch new (start l first) front ends.mid
     front_goes = goes_keeps l epoch fits old new (start l first) front ends.mid (start_in l first) (omega (arith, looks.0)) tape_less (λ w lt. below_same w (omega (arith, from_mid))) ends.goes
 
-    -- ---- the record itself
-
-    room : ℕ
-    room = room_at r.at ends.found.end
-
-    long : record_len (length r.entry.pages) ≤ room_at r.at ends.found.end
-    long = record_room l.pages (stamp_of epoch ends.mid.number) (room_at r.at ends.found.end) (window old r.at (room_at r.at ends.found.end)) r.entry looks.1
-
-    many : length r.entry.images ≡ length r.entry.pages
-    many = length-stamped stamp r.entry.pages r.entry.images stamped_so.stamped
-
-    in_window : (k : ℕ) → k < room_at r.at ends.found.end → window new r.at (room_at r.at ends.found.end) k ≡ new (r.at + k)
-    in_window k lt = cond-true (nat_lt k (room_at r.at ends.found.end)) (new (r.at + k)) None (lt-ltb k (room_at r.at ends.found.end) lt)
-
-    row_at : (k : ℕ) → k ≤ length r.entry.pages → window new r.at (room_at r.at ends.found.end) (3 + k) ≡ Some (get_or (rows_of stamp r.entry) k [])
-    row_at k le = in_window (3 + k) (omega (arith, long)) ∙ stands.rows k (omega (arith, many, length_more r.entry.images (end_bytes stamp (length r.entry.pages))))
-
-    front_stands : FrontStands stamp r.entry.pages r.entry.images (window new r.at (room_at r.at ends.found.end))
-    front_stands = record {
-      header = in_window 0 (omega (arith, long)) ∙ (let at : r.at + 0 ≡ r.at = omega arith in ap new at) ∙ stands.header;
-      whole = images_stand_of stamp (window new r.at (room_at r.at ends.found.end)) 3 r.entry.pages r.entry.images stamped_so.stamped
-          (λ j lt. row_at j (omega arith) ∙ ap (λ (x : List ℕ). Some x) (get_left r.entry.images (end_bytes stamp (length r.entry.pages)) j (omega (arith, many))));
-      ends = row_at (length r.entry.pages) (omega arith) ∙ ap (λ (k : ℕ). Some (get_or (rows_of stamp r.entry) k [])) (sym many)
-          ∙ ap (λ (x : List ℕ). Some x) (get_last r.entry.images (end_bytes stamp (length r.entry.pages)));
-    }
-
-    there_again : record_in l.pages stamp (room_at r.at ends.found.end) (window new r.at (room_at r.at ends.found.end)) ≡ Some r.entry
-    there_again = front_judged l.pages stamp r.entry.pages stamped_so.accepted (pages_small l.pages r.entry.pages pages stamped_so.accepted) (omega (arith, are_few l.pages r.entry.pages stamped_so.accepted))
-        (window new r.at (room_at r.at ends.found.end)) (room_at r.at ends.found.end) r.entry.images front_stands long
-
     found_there : record_here l epoch new ends.mid.number r.at ends.found.end ≡ Some r.entry
     found_there = here_looks l epoch new ends.mid.number r.at ends.found.end looks.0
-        ∙ subst (λ (n : ℕ). record_in l.pages (stamp_of epoch n) (room_at r.at ends.found.end) (window new r.at (room_at r.at ends.found.end)) ≡ Some r.entry) number_is there_again
+        ∙ subst (λ (n : ℕ). record_in l.pages (stamp_of epoch n) (room_at r.at ends.found.end) (window new r.at (room_at r.at ends.found.end)) ≡ Some r.entry) number_is again
 
     -- the third before it has no record more
     window_before : (at room : ℕ) → at + room ≤ r.at → (k : ℕ) → window new at room k ≡ window old at room k

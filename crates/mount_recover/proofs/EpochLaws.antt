@@ -17,8 +17,7 @@ use Rattle.fsd_log.specs.Borne.{borne_by}
 use Rattle.fsd_log.specs.Scan.{Placed, Walked, IsLog, start, tape, is_newer, newer_of}
 use Rattle.fsd_log.specs.Images.{last_image}
 use Rattle.fsd_files.specs.Disk.{Image, Sectors, bytes_of, bytes_at, either_copy}
-use Rattle.fsd_sound.specs.Anchors.{anchor_at, anchor_of}
-use Rattle.fsd_sound.specs.AtHome.{fresh_anchor}
+use Rattle.fsd_sound.specs.Anchors.{anchor_at, anchor_of, fresh_anchor}
 use Rattle.fsd_sound.specs.Homes.{home_of}
 use Rattle.fsd_sound.specs.Laid.{IsLaid, HasOwnLog}
 use Rattle.fsd_sound.specs.Shown.{records_by, newest, each_of, all_pages, shown_by, shown}

@@ -18,7 +18,7 @@ use Rattle.fsd_sound.specs.Anchors.{anchor_of}
 use Rattle.fsd_sound.specs.Roots.{root_at, root_of}
 use Rattle.fsd_sound.specs.Shown.{records_by}
 use Rattle.fsd_sound.specs.Sound.{weak_of, EndIn, ShowsPages}
-use Rattle.log_thirds.specs.Append.{IsCalm as IsCalmNow, scan_of, IsIndexed}
+use Rattle.log_thirds.specs.Append.{IsCalm as IsCalmNow, scan_of, IsIndexed, KnowsLast}
 use Rattle.log_thirds.specs.declared.fault.LogFault.{LogFault}
 use Rattle.log_thirds.specs.declared.fault.LogFault.TheVariants as log
 use Rattle.log_thirds.specs.Disk.{bytes_in, reads}
@@ -29,6 +29,7 @@ use Rattle.mount_recover.specs.declared.fault.MountFault.{MountFault}
 use Rattle.mount_recover.specs.declared.fault.MountFault.TheVariants.{NotVolume, Device, Memory, Lost, NoAnchor, Unsound, WornOut}
 use Rattle.mount_recover.specs.Recover.{IsVolume}
 use Rattle.mount_recover.specs.Finding.{mount_fault_of, NotFoundFor, IsExcuse}
+use Rattle.mount_recover.specs.Replaying.{IsLogOf}
 use Rattle.mount_recover.proofs.CalmShows.{Nowhere, calm_weak}
 use Rattle.mount_recover.proofs.HomeLaws.{root_stands}
 use Rattle.mount_recover.proofs.ReplayLaws.{has_anchor}
@@ -114,6 +115,9 @@ module _ (sectors : ℕ) (old mid : Moment) (calm : IsCalm old.windows) (wears :
   pub volume_indexed : (log : LogValue) (l : Layout) → log.layout ≡ l → (IsCalmNow mid → IsIndexed log (scan_of log mid).records) → IsIndexed log (records_by l old.image log.anchor)
   volume_indexed log l is indexed = subst (λ (rs : List Placed). IsIndexed log rs) (scan_bytes log mid l is ∙ ap (λ (m : Moment). records_by l m.image log.anchor) same) (indexed (calm_now mid calm_mid))
 
+  pub volume_last : (log : LogValue) (l : Layout) → log.layout ≡ l → (IsCalmNow mid → KnowsLast log (scan_of log mid).records) → KnowsLast log (records_by l old.image log.anchor)
+  volume_last log l is last = subst (λ (rs : List Placed). KnowsLast log rs) (scan_bytes log mid l is ∙ ap (λ (m : Moment). records_by l m.image log.anchor) same) (last (calm_now mid calm_mid))
+
   pub scan_refused : (l : Layout) (o : Option Layout) (fault : LogFault) (told : MountFault) → o ≡ root_of sectors old.image → o ≡ Some l → told ≡ mount_fault_of fault → (fault ≡ log.NoAnchor → SeesAnchor mid None) → (fault ≡ log.WornOut → SeesLastEpoch mid)
       → NotFoundFor sectors old.image told
   scan_refused l o fault told found is told_is none last = subst (NotFoundFor sectors old.image) (sym told_is) (by_fault fault none last)
@@ -125,3 +129,11 @@ module _ (sectors : ℕ) (old mid : Moment) (calm : IsCalm old.windows) (wears :
       by_fault log.WornOut none last =
           let sees = last refl in
           record { layout = l; anchor = sees.anchor; found = record { root = sym found ∙ is; anchor = anchor_at_mid (Some sees.anchor) sees.sees }; epoch = sees.last }
+
+-- the log that is found is the image's
+pub log_found : (log : LogValue) (l : Layout) (i : Image) → log.layout ≡ l → anchor_of i ≡ Some log.anchor → IsIndexed log (records_by l i log.anchor) → KnowsLast log (records_by l i log.anchor) → IsLogOf log i
+log_found log l i same taken indexed last = record {
+  taken = taken;
+  indexed = subst (λ (k : Layout). IsIndexed log (records_by k i log.anchor)) (sym same) indexed;
+  last = subst (λ (k : Layout). KnowsLast log (records_by k i log.anchor)) (sym same) last;
+}

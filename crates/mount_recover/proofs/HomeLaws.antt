@@ -1,5 +1,5 @@
--- What a mount finds on the disk of a volume at home, and where the renewed anchors stand.
-use Rattle.std.proofs.Common.{◌≡◌, ◌≢◌, ℕ, ◌^◌, ◌<◌, ◌≤◌, Bool, true, false, ◌&&◌, cond, List, length, Option, Some, None, Ok, refl, ap, ◌∙◌, arith}
+-- What a mount finds where a root or an anchor stands, and where the renewed anchors stand.
+use Rattle.std.proofs.Common.{◌≡◌, ◌≢◌, ℕ, ◌^◌, ◌<◌, ◌≤◌, Bool, true, ◌&&◌, List, length, Some, None, Ok, ap, ◌∙◌, arith}
 use Rattle.std.specs.Prelude.{option_and_then, nat_le}
 use Rattle.std.proofs.lemmas.Bool.{cond-true, le-leb}
 use Rattle.std.proofs.lemmas.List.{length-set, get_or-set_same, get_or-set_other}
@@ -7,19 +7,15 @@ use Rattle.volume_layout.specs.declared.layout.Layout.{Layout}
 use Rattle.volume_layout.specs.Layout.{plan}
 use Rattle.volume_layout.specs.Root.{root_bytes, read_root}
 use Rattle.volume_layout.proofs.RootLaws.{planned_root_is_read}
-use Rattle.fsd_formats.specs.declared.anchor.Anchor.{Anchor}
-use Rattle.fsd_formats.specs.declared.entry.Entry.{Entry}
 use Rattle.fsd_formats.specs.Anchors.{anchor_bytes, read_anchor, is_anchor}
 use Rattle.fsd_formats.proofs.SpellingLaws.{anchor_is_read}
 use Rattle.sector_disk.specs.declared.sector.Sector.{Sector}
 use Rattle.sector_disk.specs.declared.sector.Sector.TheVariants.{Whole, Damaged}
 use Rattle.sector_disk.specs.Image.{sector_at, with_sector}
-use Rattle.fsd_files.specs.Disk.{Image, bytes_of, either_copy}
-use Rattle.fsd_sound.specs.AtHome.{IsAtHome, fresh_anchor}
+use Rattle.fsd_files.specs.Disk.{Image, bytes_of}
 use Rattle.fsd_sound.specs.Roots.{counted_root, root_at}
-use Rattle.fsd_log.specs.Scan.{is_newer, newer_of}
-use Rattle.fsd_sound.specs.Anchors.{anchor_at}
-use Rattle.mount_recover.specs.Recover.{IsVolume, with_anchors}
+use Rattle.fsd_sound.specs.Anchors.{anchor_at, fresh_anchor}
+use Rattle.mount_recover.specs.Recover.{with_anchors}
 
 -- ---- what is found
 
@@ -34,23 +30,6 @@ anchor_stands epoch i s first last stands =
     let fits : is_anchor (fresh_anchor epoch) ≡ true = ap (λ (b : Bool). b && nat_le 0 2 && nat_le 1 1) (le-leb 1 epoch first) in
     ap (λ (x : Sector). option_and_then read_anchor (bytes_of x)) stands
     ∙ anchor_is_read (fresh_anchor epoch) fits last (omega arith)
-
-newer_same : (a : Anchor) → newer_of (Some a) (Some a) ≡ Some a
-newer_same a = either (is_newer a a)
-  where
-    either : (b : Bool) → Some (cond b a a) ≡ Some a
-    either true = refl
-    either false = refl
-
--- the root and the anchor of a volume at home are found where its sectors are told
-pub at_home_found : (l : Layout) (epoch sectors : ℕ) (entries : List Entry) (i : Image) → IsAtHome l epoch entries i → l.sectors ≤ sectors → IsVolume sectors i l (fresh_anchor epoch)
-at_home_found l epoch sectors entries i h room = record {
-  root = ap (λ (r : Option Layout). either_copy r (root_at sectors i 4)) (root_stands l sectors i 0 h.planned room h.root);
-  anchor =
-      let front = anchor_stands epoch i 8 h.first_epoch h.last_epoch h.anchor in
-      let back = anchor_stands epoch i 12 h.first_epoch h.last_epoch h.anchor_copy in
-      (λ j. newer_of (front j) (back j)) ∙ newer_same (fresh_anchor epoch);
-}
 
 -- ---- the renewed anchors
 

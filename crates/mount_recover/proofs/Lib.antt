@@ -1,15 +1,19 @@
 mod AnchorFacts
+mod AroundLaws
 mod BeginLaws
-mod CalmReads
 mod CalmShows
 mod CompletingLaws
 mod CompletingScan
 mod EpochLaws
 mod HomedLaws
 mod FindingLaws
+mod GivenLaws
 pub mod HomeLaws
 mod HomingLaws
 mod HomingSteps
+mod MountLaws
+mod KeptLaws
 mod RecordFacts
-mod RenewLaws
 mod ReplayLaws
+mod StageLaws
+mod WritingLaws

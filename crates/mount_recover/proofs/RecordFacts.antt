@@ -22,7 +22,7 @@ serves_which test a c d e = by_tests (passes test a) (passes test c) refl refl d
     by_tests false true pa pc false e = absurd (cc)
     by_tests false false pa pc z e = absurd (cc)
 
-read_either : (at : Reader) (a c : ℕ) (d : Bool) → (if d then at c else at a) ≡ at (if d then c else a)
+pub read_either : (at : Reader) (a c : ℕ) (d : Bool) → (if d then at c else at a) ≡ at (if d then c else a)
 read_either at a c true = refl
 read_either at a c false = refl
 

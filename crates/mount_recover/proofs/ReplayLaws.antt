@@ -12,8 +12,7 @@ use Rattle.sector_disk.specs.declared.sector.WeakRun.{WeakRun}
 use Rattle.sector_disk.specs.Image.{sector_at}
 use Rattle.fsd_log.specs.Scan.{start}
 use Rattle.fsd_files.specs.Disk.{Image, Sectors}
-use Rattle.fsd_sound.specs.Anchors.{anchor_of}
-use Rattle.fsd_sound.specs.AtHome.{fresh_anchor}
+use Rattle.fsd_sound.specs.Anchors.{anchor_of, fresh_anchor}
 use Rattle.fsd_sound.specs.Laid.{HasOwnLog}
 use Rattle.fsd_sound.specs.Shown.{records_by, shown}
 use Rattle.fsd_sound.specs.Sound.{weak_of, ShowsOne, ShowsPages}

@@ -1,3 +1,4 @@
 pub mod Finding
 pub mod Recover
 pub mod Replay
+pub mod Replaying

@@ -13,8 +13,7 @@ use Rattle.fsd_log.specs.Scan.{Placed, place_of, start}
 use Rattle.fsd_log.specs.Images.{last_image}
 use Rattle.fsd_files.specs.Disk.{Image}
 use Rattle.sector_disk.specs.declared.sector.WeakRun.{WeakRun}
-use Rattle.fsd_sound.specs.Anchors.{anchor_of}
-use Rattle.fsd_sound.specs.AtHome.{fresh_anchor}
+use Rattle.fsd_sound.specs.Anchors.{anchor_of, fresh_anchor}
 use Rattle.fsd_sound.specs.Shown.{records_by}
 use Rattle.fsd_sound.specs.Laid.{HasOwnLog}
 use Rattle.fsd_sound.specs.Sound.{weak_of, EndIn, ShowsPages}

@@ -1,8 +1,8 @@
 // The beginning of a new epoch, when every page that the log has is at home.
-ghost use Rattle.std.specs.Prelude.{◌≡◌, ◌+◌, ◌-◌, ◌<◌, ◌≤◌, ◌^◌, ℕ, List, IfErr, OnOk};
+ghost use Rattle.std.specs.Prelude.{◌≡◌, ◌+◌, ◌-◌, ◌<◌, ◌≤◌, ◌^◌, ℕ, List, IfErr, OnOk, OnErr};
 ghost use Rattle.volume_layout.specs.declared.layout.Layout.{Layout as Plan};
 ghost use Rattle.sector_disk.specs.declared.sector.WeakRun.{WeakRun as Run};
-ghost use Rattle.sector_disk.specs.Image.{IsCalm};
+ghost use Rattle.sector_disk.specs.Image.{IsCalm, settled};
 ghost use Rattle.sector_disk.specs.Machine.{DeviceFault, UsesDisk, Trusts, OnlyWrites, LeavesOnly};
 ghost use Rattle.log_thirds.specs.Anchoring.{in_next_epoch};
 ghost use Rattle.mount_recover.specs.Recover.{with_anchors};
@@ -22,6 +22,8 @@ pub fn begin_epoch<M: Machine>(m: &mut M, log: &mut Log) -> Result<(), Failed>
     ensures trust { Trusts (M.tells m.old) (M.tells m.new) (M.honest m.old) (M.honest m.new) }
     ensures ledger { M.tells m.new → OnlyWrites (M.ledger m.old) (M.ledger m.new) }
     ensures quiet { M.honest m.new → (M.now m.new).said ≡ (M.now m.old).said }
+    ensures windows { OnOk result (M.honest m.new → (M.now m.new).windows ≡ settled (M.now m.old).windows.present (M.now m.old).windows.next) }
+    ensures windows_err { OnErr result (M.honest m.new → (M.now m.new).windows ≡ (M.now m.old).windows) }
     ensures past { OnOk result (log.new ≡ in_next_epoch log.old) }
 
     // Where nothing wears, the image shows the same pages at each moment.

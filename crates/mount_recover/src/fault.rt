@@ -1,4 +1,4 @@
-use sector_disk::Failed;
+use sector_disk::{Failed, LoadFault};
 use thiserror::Error;
 
 /// Why a volume was not mounted.
@@ -35,5 +35,19 @@ impl From<Failed> for MountFault {
 
     fn from(failed: Failed) -> Self {
         MountFault::Device(failed.place)
+    }
+}
+
+impl From<LoadFault> for MountFault {
+    ghost use Rattle.std.specs.Prelude.{◌≡◌};
+    ghost use Rattle.mount_recover.specs.Replaying.{load_fault_of};
+
+    ghost from_gives = { λ load fault. fault ≡ load_fault_of load };
+
+    fn from(load: LoadFault) -> Self {
+        match load {
+            LoadFault::Device(place) => MountFault::Device(place),
+            LoadFault::Lost { a, b } => MountFault::Lost { a, b },
+        }
     }
 }

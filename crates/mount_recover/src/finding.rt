@@ -7,7 +7,7 @@ ghost use Rattle.sector_disk.specs.Image.{IsCalm};
 ghost use Rattle.sector_disk.specs.Machine.{UsesDisk, Trusts, Wears, LeavesOnly};
 ghost use Rattle.fsd_sound.specs.Shown.{records_by};
 ghost use Rattle.fsd_sound.specs.Sound.{EndIn, ShowsPages};
-ghost use Rattle.log_thirds.specs.Append.{IsIndexed};
+ghost use Rattle.log_thirds.specs.Append.{IsIndexed, KnowsLast};
 ghost use Rattle.mount_recover.specs.Recover.{IsVolume};
 ghost use Rattle.mount_recover.specs.Finding.{mount_fault_of, FindCause, NotFoundFor, IsExcuse};
 
@@ -48,12 +48,15 @@ pub fn find_volume<M: Machine>(alloc: Global, m: &mut M, sectors: u32) -> Result
     ensures any_moment { M.honest m.new → LeavesOnly M.moment M.left_since m.old m.new (Wears (M.now m.old)) }
     ensures room { IfOk result (λ found. found.layout.sectors ≤ sectors) }
     ensures layout { IfOk result (λ found. found.log.layout ≡ found.layout) }
+    ensures planned { IfOk result (λ found. plan found.layout.sectors found.layout.third found.layout.pages ≡ Ok found.layout) }
     ensures epoch { IfOk result (λ found. found.log.anchor.epoch < 2 ^ 32 - 1) }
 
     // Of an image that does not wear, each answer but a fault of the disk and want of memory says what the image is.
     ensures found { IfOk result (λ found. M.honest m.new → IsCalm (M.now m.old).windows → IsVolume sectors (M.now m.old).image found.layout found.log.anchor) }
     ensures indexed { IfOk result (λ found. M.honest m.new → IsCalm (M.now m.old).windows →
         IsIndexed found.log (records_by found.layout (M.now m.old).image found.log.anchor)) }
+    ensures last { IfOk result (λ found. M.honest m.new → IsCalm (M.now m.old).windows →
+        KnowsLast found.log (records_by found.layout (M.now m.old).image found.log.anchor)) }
     ensures refused { IfErr result (λ fault. M.honest m.new → IsCalm (M.now m.old).windows → NotFoundFor sectors (M.now m.old).image fault) }
 
     // An image that shows the pages of a volume is refused for nothing else but its last epoch.

@@ -1,13 +1,13 @@
-//! The mount of a volume up to its name table: the root, the anchor, and the anchors of a new epoch.
+//! The mount of a volume up to its name table: the root, the log brought home, and the anchors of a new epoch.
 #![tactic(auto)]
 
-mod anchor;
 mod epoch;
 mod fault;
 mod finding;
 mod laws;
 mod mounting;
 mod replay;
+mod replaying;
 mod root;
 
 pub use epoch::begin_epoch;
@@ -20,7 +20,9 @@ pub use replay::home_page;
 #[cfg(test)]
 mod tests {
     use super::*;
+    use log_record::lay;
     use sector_disk::{Attach, Machine, MemoryMachine, Sector};
+    use std::alloc::{AllocError, Global};
     use std::test::Fail;
     use volume_layout::Layout;
 
@@ -30,34 +32,84 @@ mod tests {
         bytes
     }
 
+    // The root of 2048 sectors, with thirds of 256 and 64 pages.
+    fn root() -> [u8; 512] {
+        beginning(b"CFSR\0\0\0\x01\0\0\x08\0\0\0\x01\0\0\0\0\x40")
+    }
+
+    fn anchor(epoch: u8) -> [u8; 512] {
+        let mut bytes = beginning(b"CFSA\0\0\0\0\0\0\0\0\0\0\0\x01\0\0\0\0");
+        bytes[7] = epoch;
+        bytes
+    }
+
+    // A machine over 2048 damaged sectors.
+    fn machine(alloc: Global) -> Result<MemoryMachine, AllocError> {
+        let image = vec![in alloc; Sector::Damaged; 2048]?;
+        let runs = Vec::new(alloc);
+        let events = Vec::new(alloc);
+        let input = Vec::new(alloc);
+        Ok(MemoryMachine::with_runs(alloc, image, runs, events, input))
+    }
+
+    fn epoch_of(mounted: Result<Settled, MountFault>) -> Result<u32, MountFault> {
+        let settled = mounted?;
+        Ok(settled.log.epoch())
+    }
+
     #[test]
     fn volumes_and_what_is_none(rt: HostRuntime) -> Result<(), Fail> {
         let alloc = rt.alloc();
-        let root = beginning(b"CFSR\0\0\0\x01\0\0\x08\0\0\0\x01\0\0\0\0\x40");
-        let first = beginning(b"CFSA\0\0\0\x01\0\0\0\0\0\0\0\x01\0\0\0\0");
-        let second = beginning(b"CFSA\0\0\0\x02\0\0\0\0\0\0\0\x01\0\0\0\0");
         let last = beginning(b"CFSA\xff\xff\xff\xff\0\0\0\0\0\0\0\x01\0\0\0\0");
-        let image = vec![in alloc; Sector::Damaged; 2048]?;
-        let mut m = MemoryMachine::with_runs(
-            alloc,
-            image,
-            Vec::new(alloc),
-            Vec::new(alloc),
-            Vec::new(alloc),
-        );
+        let mut m = machine(alloc)?;
         let sectors = m.attach("v", Attach::Old)?;
         assert!(rt; sectors == 2048);
-        assert_eq!(rt; recover(&mut m, sectors), Err(MountFault::NotVolume));
-        assert_eq!(rt; m.write(4, &root), Ok(()));
-        assert_eq!(rt; recover(&mut m, sectors), Err(MountFault::NoAnchor));
+        assert_eq!(rt;
+            epoch_of(recover(alloc, &mut m, sectors)),
+            Err(MountFault::NotVolume)
+        );
+        assert_eq!(rt; m.write(4, &root()), Ok(()));
+        assert_eq!(rt;
+            epoch_of(recover(alloc, &mut m, sectors)),
+            Err(MountFault::NoAnchor)
+        );
         assert_eq!(rt; m.write(8, &last), Ok(()));
-        assert_eq!(rt; recover(&mut m, sectors), Err(MountFault::WornOut));
-        assert_eq!(rt; m.write(8, &first), Ok(()));
+        assert_eq!(rt;
+            epoch_of(recover(alloc, &mut m, sectors)),
+            Err(MountFault::WornOut)
+        );
+        assert_eq!(rt; m.write(8, &anchor(1)), Ok(()));
+        assert_eq!(rt; epoch_of(recover(alloc, &mut m, sectors)), Ok(2));
+        assert_eq!(rt; m.image().get(8).copied(), Some(Sector::Whole(anchor(2))));
+        assert_eq!(rt; m.image().get(12).copied(), Some(Sector::Whole(anchor(2))));
+        assert_eq!(rt; epoch_of(recover(alloc, &mut m, sectors)), Ok(3));
+        Ok(())
+    }
+
+    #[test]
+    fn logged_pages_are_brought_home(rt: HostRuntime) -> Result<(), Fail> {
+        let alloc = rt.alloc();
         let layout = Layout::plan(2048, 256, 64)?;
-        assert_eq!(rt; recover(&mut m, sectors), Ok(Settled { layout, epoch: 2 }));
-        assert_eq!(rt; m.image().get(8).copied(), Some(Sector::Whole(second)));
-        assert_eq!(rt; m.image().get(12).copied(), Some(Sector::Whole(second)));
-        assert_eq!(rt; recover(&mut m, sectors), Ok(Settled { layout, epoch: 3 }));
+        let mut page = beginning(b"CNPG\0\0\0\0\0\0\0\0\0\0\0\x05\0\0\0\x02");
+        page[23] = 1;
+        let mut record = [0; 3584];
+        lay(2, 1, &[5], &page, &mut record);
+        let mut m = machine(alloc)?;
+        let sectors = m.attach("v", Attach::Old)?;
+        assert!(rt; sectors == 2048);
+        m.write(0, &root())?;
+        m.write(8, &anchor(2))?;
+        m.write(16, &record)?;
+        m.write(21, &[0; 1024])?;
+        let settled = recover(alloc, &mut m, sectors)?;
+        assert_eq!(rt; settled.layout, layout);
+        assert_eq!(rt; (settled.log.epoch(), settled.log.next_number()), (3, 1));
+        let home = layout.home_a(5) as usize;
+        let copy = layout.home_b(5) as usize;
+        assert_eq!(rt; m.image().get(home).copied(), Some(Sector::Whole(page)));
+        assert_eq!(rt; m.image().get(copy).copied(), Some(Sector::Whole(page)));
+        assert_eq!(rt; m.image().get(home + 1).copied(), Some(Sector::Damaged));
+        assert_eq!(rt; m.image().get(21).copied(), Some(Sector::Whole(page)));
         Ok(())
     }
 }

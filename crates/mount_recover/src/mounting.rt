@@ -1,75 +1,76 @@
 // The mount of a volume, up to its name table.
-ghost use Rattle.std.specs.Prelude.{◌≡◌, ◌<◌, ◌≤◌, IfOk, IfErr, OnOk};
-ghost use Rattle.sector_disk.specs.Machine.{UsesDisk, Trusts, OnlyWrites, Wears};
+ghost use Rattle.std.specs.Prelude.{◌≡◌, ◌<◌, ◌≤◌, ◌^◌, ℕ, List, Some, Ok, IfOk, IfErr};
+ghost use Rattle.volume_layout.specs.declared.layout.Layout.{Layout as Plan};
+ghost use Rattle.volume_layout.specs.Layout.{plan};
+ghost use Rattle.sector_disk.specs.declared.sector.WeakRun.{WeakRun as Run};
 ghost use Rattle.sector_disk.specs.Image.{IsCalm};
-ghost use Rattle.mount_recover.specs.Recover.{IsSettled, RefusedFor, LeavesAll, HasFault, Renews};
+ghost use Rattle.sector_disk.specs.Machine.{UsesDisk, Trusts, OnlyWrites, LeavesOnly};
+ghost use Rattle.fsd_formats.specs.declared.anchor.Anchor.{Anchor as Named};
+ghost use Rattle.fsd_sound.specs.Anchors.{anchor_of};
+ghost use Rattle.mount_recover.specs.Recover.{IsSettled, IsFreshLog, RefusedFor, LosesNothing, LeavesAll, HasFault, IsMountable};
+ghost use Rattle.mount_recover.specs.Replaying.{StandAsShown};
+ghost use Rattle.mount_recover.specs.Finding.{IsExcuse};
+ghost use Rattle.mount_recover.specs.Replay.{SameBehind, Replays, IsMounted};
 
-use crate::anchor::{find_anchor, renew};
+use crate::epoch::begin_epoch;
 use crate::fault::MountFault;
-use crate::root::find_root;
+use crate::finding::{Found, find_volume};
+use crate::replaying::replay_log;
+use log_thirds::Log;
 use sector_disk::Machine;
+use std::alloc::Global;
 use volume_layout::Layout;
 
-/// A volume whose anchors name a new epoch.
-#[derive(Clone, Copy, Debug, PartialEq, Eq)]
+/// A volume whose log was replayed, and whose anchors name a new epoch in which nothing is logged yet.
+#[derive(Drop)]
 pub struct Settled {
     pub layout: Layout,
-    /// The epoch of this mount. Nothing is logged in it yet.
-    pub epoch: u32,
+    pub log: Log,
 }
 
-/// Finds the volume of an image with so many sectors, and begins its next epoch (Hagmann 1987).
-pub fn recover<M: Machine>(m: &mut M, sectors: u32) -> Result<Settled, MountFault>
+/// Finds the volume of an image with so many sectors, brings every page that its log has home, and begins its next epoch
+/// (Hagmann 1987). Needs room for the log and its table of the pages. A volume on which nothing wears shows the same pages
+/// also where the disk fails, so it can be called again.
+pub fn recover<M: Machine>(alloc: Global, m: &mut M, sectors: u32) -> Result<Settled, MountFault>
     requires { sectors ≡ (M.report m.old).sectors }
 
-    // A fault of the disk is told only where there was one, and neither Memory, nor Lost, nor Unsound ever.
+    // A fault of the disk is told only where there was one, and Unsound never.
     ensures fault { IfErr result (HasFault (M.report m.old) (M.report m.new)) }
     ensures uses { UsesDisk (M.report m.old) (M.report m.new) }
     ensures trust { Trusts (M.tells m.old) (M.tells m.new) (M.honest m.old) (M.honest m.new) }
     ensures ledger { M.tells m.new → OnlyWrites (M.ledger m.old) (M.ledger m.new) }
     ensures quiet { M.honest m.new → (M.now m.new).said ≡ (M.now m.old).said }
     ensures room { IfOk result (λ settled. settled.layout.sectors ≤ sectors) }
+    ensures planned { IfOk result (λ settled. plan settled.layout.sectors settled.layout.third settled.layout.pages ≡ Ok settled.layout) }
+    ensures log { IfOk result (λ settled. IsFreshLog settled.layout settled.log) }
 
-    // Of an image that does not wear, each answer but a fault of the disk says what the image is.
-    ensures found { IfOk result (λ settled. M.honest m.new → IsCalm (M.now m.old).windows → IsSettled sectors (M.now m.old).image settled) }
+    // Of an image that does not wear, each answer but a fault of the disk and want of memory says what the image is.
+    ensures found { IfOk result (λ settled. M.honest m.new → IsCalm (M.now m.old).windows → IsSettled sectors (M.now m.old).image settled.layout settled.log) }
     ensures refused { IfErr result (λ fault. M.honest m.new → IsCalm (M.now m.old).windows → RefusedFor sectors (M.now m.old).image fault) }
+    ensures unchanged { IfErr result (λ fault. M.honest m.new → LeavesAll fault (M.now m.old) (M.now m.new)) }
+    ensures behind { IfOk result (λ settled. M.honest m.new → IsCalm (M.now m.old).windows → IsCalm (M.now m.new).windows →
+        SameBehind settled.layout (M.now m.old).image (M.now m.new).image) }
 
-    // At Ok both anchors are new, and nothing else is. What is refused for what the image is changes nothing.
-    ensures renewed { IfOk result (λ settled. M.honest m.new → IsCalm (M.now m.old).windows → IsCalm (M.now m.new).windows
-        → Renews settled.epoch (M.now m.old) (M.now m.new)) }
-    ensures unchanged { IfErr result (λ fault. M.honest m.new → IsCalm (M.now m.old).windows → LeavesAll fault (M.now m.old) (M.now m.new)) }
+    ensures epoch { IfOk result (λ settled. settled.log.anchor.epoch < 2 ^ 32) }
+
+    // Where nothing wears, each page stands at home then as the image showed it, and none is lost, whatever the image shows.
+    ensures shown { IfOk result (λ settled. (a : Named) → M.honest m.new → IsCalm (M.now m.old).windows → IsCalm (M.now m.new).windows → anchor_of (M.now m.old).image ≡ Some a →
+        StandAsShown settled.layout a (M.now m.old).image (M.now m.new).image) }
+    ensures all_shown { IfErr result (λ fault. M.honest m.new → IsCalm (M.now m.old).windows → IsCalm (M.now m.new).windows → LosesNothing fault) }
+
+    // An image that shows the pages of a volume shows them at each moment, also at the exit. At Ok the log is empty and the
+    // pages stand at home; else it is refused for nothing but the disk, memory and the last epoch.
+    ensures any_moment { (l : Plan) (windows : List Run) (choices : List (List (List ℕ))) → M.honest m.new → IsMountable sectors l windows choices (M.now m.old) →
+        IsCalm (M.now m.new).windows → LeavesOnly M.moment M.left_since m.old m.new (Replays l windows choices (M.now m.old)) }
+    ensures exit { (l : Plan) (windows : List Run) (choices : List (List (List ℕ))) → M.honest m.new → IsMountable sectors l windows choices (M.now m.old) →
+        IsCalm (M.now m.new).windows → Replays l windows choices (M.now m.old) (M.now m.new) }
+    ensures same { IfOk result (λ settled. (l : Plan) (windows : List Run) (choices : List (List (List ℕ))) → M.honest m.new → IsMountable sectors l windows choices (M.now m.old) → settled.layout ≡ l) }
+    ensures done { IfOk result (λ settled. (l : Plan) (windows : List Run) (choices : List (List (List ℕ))) → M.honest m.new → IsMountable sectors l windows choices (M.now m.old) →
+        IsCalm (M.now m.new).windows → IsMounted l windows choices settled.log.anchor.epoch (M.now m.new)) }
+    ensures excuses { IfErr result (λ fault. (l : Plan) (windows : List Run) (choices : List (List (List ℕ))) → M.honest m.new → IsMountable sectors l windows choices (M.now m.old) → IsExcuse fault) }
 {
-    let settled = find(m, sectors)?;
-    renew(m, settled.epoch)?;
-    Ok(settled)
-}
-
-// The image's root and the epoch behind its anchor's.
-fn find<M: Machine>(m: &mut M, sectors: u32) -> Result<Settled, MountFault>
-    requires { sectors ≡ (M.report m.old).sectors }
-
-    ensures fault { IfErr result (HasFault (M.report m.old) (M.report m.new)) }
-    ensures uses { UsesDisk (M.report m.old) (M.report m.new) }
-    ensures trust { Trusts (M.tells m.old) (M.tells m.new) (M.honest m.old) (M.honest m.new) }
-    ensures ledger { M.tells m.new → M.ledger m.new ≡ M.ledger m.old }
-    ensures worn { M.honest m.new → Wears (M.now m.old) (M.now m.new) }
-    ensures found { IfOk result (λ settled. M.honest m.new → IsCalm (M.now m.old).windows → IsSettled sectors (M.now m.old).image settled) }
-    ensures refused { IfErr result (λ fault. M.honest m.new → IsCalm (M.now m.old).windows → RefusedFor sectors (M.now m.old).image fault) }
-    ensures room { IfOk result (λ settled. settled.layout.sectors ≤ sectors) }
-    ensures epoch { IfOk result (λ settled. 1 ≤ settled.epoch) }
-    ensures anchors { OnOk result (12 < sectors) }
-{
-    let Some(layout) = find_root(m, sectors)? else {
-        return Err(MountFault::NotVolume);
-    };
-    let Some(anchor) = find_anchor(m)? else {
-        return Err(MountFault::NoAnchor);
-    };
-    if anchor.epoch == u32::MAX {
-        return Err(MountFault::WornOut);
-    }
-    Ok(Settled {
-        layout,
-        epoch: anchor.epoch + 1,
-    })
+    let Found { layout, mut log } = find_volume(alloc, m, sectors)?;
+    replay_log(m, &layout, &log)?;
+    begin_epoch(m, &mut log)?;
+    Ok(Settled { layout, log })
 }

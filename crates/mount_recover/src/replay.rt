@@ -3,7 +3,9 @@ ghost use Rattle.std.specs.Prelude.{◌≡◌, ◌+◌, ◌<◌, ◌≤◌, List
 ghost use Rattle.sector_disk.specs.Machine.{Moment as At, DeviceFault, UsesDisk, Trusts, OnlyWrites, LeavesOnly, Holds};
 ghost use Rattle.fsd_log.specs.Scan.{Placed};
 ghost use Rattle.fsd_log.specs.Images.{last_image};
+ghost use Rattle.log_thirds.specs.Append.{IsCalm};
 ghost use Rattle.mount_recover.specs.Replay.{homed, HomingIn};
+ghost use Rattle.mount_recover.specs.Replaying.{SameButHomes};
 
 use sector_disk::{Failed, Machine};
 use twin_home::write_home;
@@ -34,6 +36,7 @@ pub fn home_page<M: Machine>(
     // At the end it is home too.
     ensures done { OnOk result ((records : List Placed) (first : At) → M.honest m.new → Holds first (homed l.now records page first.image) (M.now m.old) →
         last_image page records ≡ (if there then Some b.now else None) → Holds first (homed l.now records (page + 1) first.image) (M.now m.new)) }
+    ensures around { M.honest m.new → IsCalm (M.now m.old) → SameButHomes l.now (M.now m.old).image (M.now m.new).image }
 {
     if there {
         write_home(m, l, page, b)

@@ -1,5 +1,6 @@
 // The root of an image.
-ghost use Rattle.std.specs.Prelude.{◌≡◌, ◌<◌, ◌≤◌, IfOk, IfErr, IfSome};
+ghost use Rattle.std.specs.Prelude.{◌≡◌, ◌<◌, ◌≤◌, Ok, IfOk, IfErr, IfSome};
+ghost use Rattle.volume_layout.specs.Layout.{plan};
 ghost use Rattle.sector_disk.specs.Machine.{DeviceFault, UsesDisk, Trusts, Wears, LeavesOnly};
 ghost use Rattle.sector_disk.specs.Image.{IsCalm};
 ghost use Rattle.fsd_sound.specs.Roots.{root_at, root_of};
@@ -20,6 +21,7 @@ fn root_at<M: Machine>(m: &mut M, sectors: u32, place: u32) -> Result<Option<Lay
     ensures any_moment { M.honest m.new → LeavesOnly M.moment M.left_since m.old m.new (Wears (M.now m.old)) }
     ensures found { IfOk result (λ found. M.honest m.new → found ≡ root_at sectors (M.now m.new).image place) }
     ensures fits { IfOk result (λ found. IfSome found (λ l. l.sectors ≤ sectors)) }
+    ensures planned { IfOk result (λ found. IfSome found (λ l. plan l.sectors l.third l.pages ≡ Ok l)) }
 {
     if place >= sectors {
         return Ok(None);
@@ -52,6 +54,7 @@ pub fn find_root<M: Machine>(m: &mut M, sectors: u32) -> Result<Option<Layout>, 
     ensures any_moment { M.honest m.new → LeavesOnly M.moment M.left_since m.old m.new (Wears (M.now m.old)) }
     ensures found { IfOk result (λ found. M.honest m.new → IsCalm (M.now m.old).windows → found ≡ root_of sectors (M.now m.old).image) }
     ensures fits { IfOk result (λ found. IfSome found (λ l. l.sectors ≤ sectors)) }
+    ensures planned { IfOk result (λ found. IfSome found (λ l. plan l.sectors l.third l.pages ≡ Ok l)) }
 {
     match root_at(m, sectors, 0)? {
         Some(l) => Ok(Some(l)),

@@ -1,6 +1,6 @@
 use Rattle.std.proofs.Common.{◌+◌, ◌^◌, ◌<◌, arith}
 use Rattle.sector_disk.proofs.Moments.{goes_on, leaves_more}
-use Rattle.fsd_sound.specs.AtHome.{fresh_anchor}
+use Rattle.fsd_sound.specs.Anchors.{fresh_anchor}
 use Rattle.log_thirds.specs.Anchoring.{AnchorsIn}
 use Rattle.mount_recover.specs.Replay.{Replays}
 use Rattle.mount_recover.proofs.BeginLaws.{replays_anchors, replays_before, replays_failed, is_mounted, anchors_settled}

@@ -1,7 +1,7 @@
 use Rattle.std.proofs.Common.{Err, sym, ◌∙◌}
 use Rattle.log_thirds.proofs.ReadingLaws.{reads_on}
 use Rattle.mount_recover.specs.declared.fault.MountFault.TheVariants.{NotVolume}
-use Rattle.mount_recover.proofs.FindingLaws.{volume_found, volume_indexed, scan_refused, excused, found_same}
+use Rattle.mount_recover.proofs.FindingLaws.{volume_found, volume_indexed, volume_last, scan_refused, excused, found_same}
 use Rattle.mount_recover.proofs.finding.find_volume.Goals as goal
 
 pub returns-in-Ok-clause-any_moment : goal.returns-in-Ok-clause-any_moment
@@ -21,6 +21,12 @@ returns-in-Ok-clause-indexed g c h calm =
     let M = g.M.Machine in
     let h1 = c.scan.ensures.trust.honest h in
     volume_indexed c.args.sectors (M.now c.args.m.now) (M.now c.find_root.new.m) calm (c.find_root.ensures.worn h1) c.in-Ok.log c.in-Ok-Some.layout c.in-Ok.ensures.layout (c.in-Ok.ensures.indexed h)
+
+pub returns-in-Ok-clause-last : goal.returns-in-Ok-clause-last
+returns-in-Ok-clause-last g c h calm =
+    let M = g.M.Machine in
+    let h1 = c.scan.ensures.trust.honest h in
+    volume_last c.args.sectors (M.now c.args.m.now) (M.now c.find_root.new.m) calm (c.find_root.ensures.worn h1) c.in-Ok.log c.in-Ok-Some.layout c.in-Ok.ensures.layout (c.in-Ok.ensures.last h)
 
 pub returns-in-Ok-clause-same : goal.returns-in-Ok-clause-same
 returns-in-Ok-clause-same g c l windows choices planned room h calm ends shows =

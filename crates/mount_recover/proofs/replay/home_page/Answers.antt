@@ -7,6 +7,7 @@ use Rattle.fsd_log.specs.Images.{last_image}
 use Rattle.twin_home.specs.Home.{with_homes, HomesIn}
 use Rattle.twin_home.proofs.WriteLaws.{on_ok_more}
 use Rattle.mount_recover.specs.Replay.{homed, HomingIn}
+use Rattle.mount_recover.proofs.AroundLaws.{homes_around}
 use Rattle.mount_recover.proofs.HomingSteps.{homing_here, page_absent, there_homing, there_homed}
 use Rattle.mount_recover.proofs.replay.home_page.Goals as goal
 
@@ -37,3 +38,10 @@ pub returns-else-there-clause-done : goal.returns-else-there-clause-done
 returns-else-there-clause-done g c records first h holds logged =
     let M = g.M.Machine in
     page_absent c.args.l.now records first (M.now c.args.m.now) c.args.page holds c.args.there c.args.b.now logged c.if-there.false
+
+pub returns-then-there-clause-around : goal.returns-then-there-clause-around
+returns-then-there-clause-around g c h still =
+    let M = g.M.Machine in
+    let run = c.write_home.ensures.any_moment h in
+    homes_around c.args.l.now c.args.page c.args.b.now (M.now c.args.m.now) (M.now c.write_home.new.m) c.requires.page still
+    (run.each (M.now c.write_home.new.m) (g.met.M.Machine.counts_now c.write_home.new.m (M.moment c.args.m.now) h run.later))
