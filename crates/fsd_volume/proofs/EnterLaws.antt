@@ -8,7 +8,7 @@ use Rattle.std.specs.declared.cmp.Ordering.{Ordering}
 use Rattle.std.specs.declared.cmp.Ordering.TheVariants.{Less, Equal, Greater}
 use Rattle.std.specs.FinMap.Entries.{by_order}
 use Rattle.std.proofs.lemmas.Bool.{and_parts, and_from, or_parts, le-leb, not_from_false, or_cases, or_left, or_right, false_from_ne_true, cases_lt, ltb-true}
-use Rattle.std.proofs.lemmas.List.{length-append}
+use Rattle.std.proofs.lemmas.List.{length-append, length-set}
 use Rattle.volume_layout.specs.declared.layout.Layout.{Layout}
 use Rattle.volume_layout.specs.Layout.{data_start}
 use Rattle.fsd_bytes.specs.Bytes.{same_bytes}
@@ -26,10 +26,13 @@ use Rattle.fsd_files.specs.Answers.{entry_put, entry_of}
 use Rattle.fsd_files.specs.OneLeaf.{leaf_used}
 use Rattle.fsd_files.specs.Volume.{plans_of}
 use Rattle.fsd_files.proofs.HistoryLaws.{keys_total}
-use Rattle.fsd_volume.specs.Put.{names, AreNew, IsFull}
-use Rattle.fsd_volume.specs.State.{State, IsTable, IsKept, free_space}
+use Rattle.group_commit.specs.Resident.{ResidentValue}
+use Rattle.fsd_sound.specs.Mounted.{image_at}
+use Rattle.fsd_volume.specs.Put.{names, rewritten, with_leaf, AreNew, IsFull}
+use Rattle.fsd_volume.specs.State.{State, IsTable, IsKept, IsSpelled, TakesRecord, free_space}
 use Rattle.fsd_volume.proofs.ApartLaws.{occurs, contains_occurs, occurs_contains}
 use Rattle.fsd_volume.proofs.HomeLaws.{data_from}
+use Rattle.fsd_volume.proofs.LeafLaws.{planned_pages, first_image, spelled_again, leaf_waits}
 use Rattle.fsd_volume.proofs.ListLaws.{none_alike}
 use Rattle.fsd_volume.proofs.PlanLaws.{used, used-cons, apart_put}
 
@@ -242,16 +245,25 @@ inserted e items new seen i ok after is same place =
     after ∙ ap (λ (b : Bool). cond b (take i items ++ e ∷ drop i items) items) is
     ∙ ap (λ (es : List Entry). take i es ++ e ∷ drop i es) (sym same) ∙ sym place ∙ ap (entry_put e) same
 
-pub kept_put : (l : Layout) (e : Entry) (items new : List Entry) (before after : Area) (runs : List Run) → IsKept l items before → IsTrue (is_entry e) → FitsEntry e → AreNew l (plans_of items) e.runs → names e.key.name items ≡ false
-    → leaf_used (entry_put e items) ≤ room → new ≡ entry_put e items → runs ≡ e.runs → after ≡ without before runs → IsKept l new after
-kept_put l e items new before after runs kept good fits free absent small is same taken = record {
-  table = subst (IsTable l) (sym is) (table_put l e items kept.table good fits free absent small);
-  map = taken ∙ ap (without before) same ∙ ap (λ (m : Area). without m e.runs) kept.map ∙ space_put l e items absent ∙ ap (free_space l) (sym is);
-}
+pub kept_put : (s : State) (e : Entry) (new : List Entry) (table : ResidentValue) (before after : Area) (runs : List Run) → IsKept s before → IsTrue (is_entry e) → FitsEntry e → AreNew s.layout (plans_of s.entries) e.runs → TakesRecord s.log
+    → names e.key.name s.entries ≡ false → leaf_used (entry_put e s.entries) ≤ room → new ≡ entry_put e s.entries → table ≡ with_leaf new s.table → runs ≡ e.runs → after ≡ without before runs → IsKept (record s { entries = new; table = table }) after
+kept_put s e new table before after runs kept good fits free takes absent small is written same taken =
+    let some = planned_pages s.layout kept.table.planned in
+    let bytes : List ℕ = rewritten new (image_at s.table.pages 0) in
+    record {
+      table = subst (IsTable s.layout) (sym is) (table_put s.layout e s.entries kept.table good fits free absent small);
+      map = taken ∙ ap (without before) same ∙ ap (λ (m : Area). without m e.runs) kept.map ∙ space_put s.layout e s.entries absent ∙ ap (free_space s.layout) (sym is);
+      log = kept.log;
+      epoch = kept.epoch;
+      pages = ap (λ (t : ResidentValue). length t.pages) written ∙ length-set s.table.pages 0 bytes ∙ kept.pages;
+      leaf = subst (λ (t : ResidentValue). IsSpelled new (image_at t.pages 0)) (sym written)
+          (subst (IsSpelled new) (sym (first_image s.table.pages bytes (omega (arith, some, kept.pages)))) (spelled_again s.entries new (image_at s.table.pages 0) kept.leaf));
+      force = inr (ap (λ (t : ResidentValue). t.dirty) written ∙ leaf_waits s.log s.table kept.force, takes);
+    }
 
-pub free_as_kept : (l : Layout) (items : List Entry) (before : Area) (e : Entry) (runs : List Run) → IsKept l items before → AreNew l (plans_of items) e.runs → runs ≡ e.runs → AreIn before runs
-free_as_kept l items before e runs kept free same =
-    subst (λ (rs : List Run). AreIn before rs) (sym same) (subst (λ (m : Area). AreIn m e.runs) (sym kept.map) (place_free l items e.runs free))
+pub free_as_kept : (s : State) (before : Area) (e : Entry) (runs : List Run) → IsKept s before → AreNew s.layout (plans_of s.entries) e.runs → runs ≡ e.runs → AreIn before runs
+free_as_kept s before e runs kept free same =
+    subst (λ (rs : List Run). AreIn before rs) (sym same) (subst (λ (m : Area). AreIn m e.runs) (sym kept.map) (place_free s.layout s.entries e.runs free))
 
 -- what stood in the entries stands there still
 pub still_there : (s : ℕ) (e : Entry) (entries : List Entry) → names e.key.name entries ≡ false → IsTrue (contains (flat_map sectors_of (plans_of entries)) s) → IsTrue (contains (flat_map sectors_of (plans_of (entry_put e entries))) s)

@@ -1,59 +1,169 @@
--- A volume whose leaf is written.
-use Rattle.std.proofs.Common.{◌≡◌, ℕ, ◌^◌, ◌<◌, false, List, refl, sym, ap, subst, ◌∙◌}
-use Rattle.std.specs.Prelude.{IsTrue}
+-- What a force makes of a volume and its disk.
+use Rattle.std.proofs.Common.{◌≡◌, inl, inr, ℕ, ◌<◌, ◌≤◌, ◌^◌, List, [], ◌∷◌, length, Some, refl, sym, ap, subst, ◌∙◌, arith}
+use Rattle.std.specs.Prelude.{slice_set}
+use Rattle.std.proofs.lemmas.List.{length-set}
 use Rattle.volume_layout.specs.declared.layout.Layout.{Layout}
+use Rattle.volume_layout.specs.Layout.{map_start}
+use Rattle.sector_set.specs.Area.{Area}
+use Rattle.sector_disk.specs.declared.sector.WeakRun.{WeakRun}
+use Rattle.sector_disk.specs.Image.{IsCalm, sector_at}
+use Rattle.sector_disk.specs.Machine.{Moment}
+use Rattle.sector_disk.proofs.Calm.{calm_nowhere}
+use Rattle.fsd_formats.specs.declared.anchor.Anchor.{Anchor}
 use Rattle.fsd_formats.specs.declared.entry.Entry.{Entry}
 use Rattle.fsd_formats.specs.Record.{Stamp}
-use Rattle.fsd_formats.specs.NamePage.{Leaf, page_bytes}
-use Rattle.fsd_files.specs.Disk.{Image, nowhere}
-use Rattle.fsd_files.specs.Files.{Files}
-use Rattle.fsd_files.specs.Kept.{Describes}
-use Rattle.fsd_files.specs.Volume.{Volume, forced, plans_of, is_in}
-use Rattle.fsd_volume.specs.State.{State, IsTable, StandsFor, IsMounted}
-use Rattle.fsd_volume.proofs.HomeLaws.{with_leaf, leaf_written, leaf_entries, leaf_leaves_data}
+use Rattle.log_thirds.specs.LogValue.{LogValue}
+use Rattle.log_thirds.specs.Append.{stamp_now}
+use Rattle.group_commit.specs.Resident.{ResidentValue, stamped, with_stamp}
+use Rattle.group_commit.specs.Force.{KeepsData, StandsOver, Commits, Committed, stamped_by, log_forced}
+use Rattle.group_commit.proofs.CommitLaws.{idle_committed}
+use Rattle.fsd_files.specs.Disk.{Image}
+use Rattle.fsd_files.specs.Files.{Change}
+use Rattle.fsd_files.specs.Volume.{Volume, forced}
+use Rattle.fsd_sound.specs.Mounted.{IsMounted as StandsOnDisk, StandsOver as Over, SameData, image_at}
+use Rattle.fsd_sound.specs.Shown.{told_in}
+use Rattle.fsd_sound.specs.Sound.{IsSound, ShowsPages}
+use Rattle.fsd_sound.proofs.MountedLaws.{mounted_sound, force_sound, force_mounted}
+use Rattle.fsd_volume.specs.Forcing.{Forces, stamped_state, forced_state}
+use Rattle.fsd_volume.specs.State.{State, IsKept, IsSpelled, IsMounted, StandsFor, mounted_of}
+use Rattle.fsd_volume.proofs.LeafLaws.{planned_pages, first_image, spelled_stamped, told_leaf}
 
--- the same state, and nothing waits for a force
-abbrev pub written_state : State → State
-written_state state = record state { waits = false }
+-- ---- the state then
 
-pub stands_forced : (state : State) (v : Volume) → StandsFor state v → StandsFor (written_state state) (forced v)
-stands_forced state v s = record {
-  layout = s.layout;
-  entries = s.entries;
-  lists = s.lists;
-  serial = s.serial;
-  removed = refl;
-  held = s.held;
-  drafts = s.drafts;
-  reached = s.reached;
+stamped_size : (stamp : Stamp) (dirty : List ℕ) (pages : List (List ℕ)) → length (stamped stamp dirty pages) ≡ length pages
+stamped_size stamp [] pages = refl
+stamped_size stamp (page ∷ more) pages =
+    stamped_size stamp more (slice_set pages page (with_stamp stamp (image_at pages page))) ∙ length-set pages page (with_stamp stamp (image_at pages page))
+
+log_layout : (log : LogValue) (dirty : List ℕ) → (log_forced log dirty).layout ≡ log.layout
+log_layout log [] = refl
+log_layout log (page ∷ more) = refl
+
+log_anchor : (log : LogValue) (dirty : List ℕ) → (log_forced log dirty).anchor ≡ log.anchor
+log_anchor log [] = refl
+log_anchor log (page ∷ more) = refl
+
+module _ (s : State) (free : Area) (kept : IsKept s free) (epoch : s.serial.epoch < 2 ^ 32) where
+  abbrev now : List (List ℕ)
+  now = stamped_by s.log s.table
+
+  some_pages : 0 < length s.table.pages
+  some_pages = let some = planned_pages s.layout kept.table.planned in omega (arith, some, kept.pages)
+
+  spelled_now : IsSpelled s.entries (image_at now 0)
+  spelled_now = elim kept.force [
+    | inl none ↦ subst (λ (d : List ℕ). IsSpelled s.entries (image_at (stamped (stamp_now s.log) d s.table.pages) 0)) (sym none) kept.leaf
+    | inr one ↦ subst (λ (d : List ℕ). IsSpelled s.entries (image_at (stamped (stamp_now s.log) d s.table.pages) 0)) (sym one.0)
+        (subst (IsSpelled s.entries) (sym (first_image s.table.pages (with_stamp (stamp_now s.log) (image_at s.table.pages 0)) some_pages))
+        (spelled_stamped (stamp_now s.log) s.entries (image_at s.table.pages 0) (subst (λ (n : ℕ). n < 2 ^ 32) kept.epoch epoch, let few = one.1.numbered in omega (arith, few)) kept.leaf))
+  ]
+
+  pub kept_stamped : IsKept (stamped_state s) free
+  kept_stamped = record {
+    table = kept.table;
+    map = kept.map;
+    log = kept.log;
+    epoch = kept.epoch;
+    pages = stamped_size (stamp_now s.log) s.table.dirty s.table.pages ∙ kept.pages;
+    leaf = spelled_now;
+    force = kept.force;
+  }
+
+  pub kept_forced : IsKept (forced_state s) free
+  kept_forced = record {
+    table = kept.table;
+    map = kept.map;
+    log = log_layout s.log s.table.dirty ∙ kept.log;
+    epoch = kept.epoch ∙ ap (λ (a : Anchor). a.epoch) (sym (log_anchor s.log s.table.dirty));
+    pages = stamped_size (stamp_now s.log) s.table.dirty s.table.pages ∙ kept.pages;
+    leaf = spelled_now;
+    force = inl refl;
+  }
+
+  -- the stamped pages tell the same entries
+  told_now : told_in s.layout now ≡ Some s.entries
+  told_now = told_leaf s.layout s.entries now kept.table.leaf (omega (arith, some_pages, stamped_size (stamp_now s.log) s.table.dirty s.table.pages)) spelled_now
+
+  -- ---- the disk
+
+  module _ (v : Volume) (windows : List WeakRun) (h : List Change) (f : ℕ) (i : Image) (mounted : IsMounted s v windows h f i) where
+    layout_is : v.layout ≡ s.log.layout
+    layout_is = mounted.stands.layout ∙ sym kept.log
+
+    told_volume : told_in v.layout now ≡ Some v.entries
+    told_volume = subst (λ (l : Layout). told_in l now ≡ Some v.entries) (sym mounted.stands.layout) (told_now ∙ ap (λ (es : List Entry). Some es) (sym mounted.stands.entries))
+
+    pub over_log : StandsOver s.log mounted.on_disk.records mounted.on_disk.disk s.table windows i
+    over_log = subst (λ (l : Layout). Over l s.log.anchor s.log.head mounted.on_disk.records mounted.on_disk.disk s.table.pages s.table.dirty windows i) layout_is mounted.on_disk.over
+
+    same_data : (old left : Moment) → old.image ≡ i → IsCalm old.windows → KeepsData s.log.layout old left → SameData v.layout i left.image
+    same_data old left at calm keeps = λ t from.
+        elim (keeps t (subst (λ (l : Layout). map_start l ≤ t) layout_is from)) [
+          | inl same ↦ same ∙ ap (λ (x : Image). sector_at x t) at
+          | inr hurt ↦ absurd (calm_nowhere old.windows.present old.windows.next t calm.present calm.next hurt.0)
+        ]
+
+    pub forces_at : (old left : Moment) → old.image ≡ i → IsCalm old.windows → Commits s.log.layout windows mounted.on_disk.disk now old left → Forces s.layout windows h f old left
+    forces_at old left at calm commits = record {
+      sound = subst (λ (l : Layout). IsSound l windows h f left.image) mounted.stands.layout
+          (force_sound (mounted_of s v) windows h f i left.image now mounted.on_disk (same_data old left at calm commits.kept) told_volume
+          (subst (λ (l : Layout). ShowsPages l windows (mounted.on_disk.disk ∷ now ∷ []) left.image) (sym layout_is) commits.shows));
+      kept = subst (λ (l : Layout). KeepsData l old left) kept.log commits.kept;
+      windows = commits.windows;
+      said = commits.said;
+    }
+
+    stands_forced : StandsFor (forced_state s) (forced v)
+    stands_forced = record {
+      layout = mounted.stands.layout;
+      entries = mounted.stands.entries;
+      lists = mounted.stands.lists;
+      serial = mounted.stands.serial;
+      removed = refl;
+      held = mounted.stands.held;
+      drafts = mounted.stands.drafts;
+      reached = mounted.stands.reached;
+    }
+
+    pub all_forced : (j : Image) → SameData v.layout i j → Committed (log_forced s.log s.table.dirty) (record { pages = now; dirty = [] }) windows j → IsMounted (forced_state s) (forced v) windows h (length h) j
+    all_forced j same committed =
+        let log = log_forced s.log s.table.dirty in
+        let over = subst (λ (a : Anchor). Over v.layout a log.head committed.records now now [] windows j) (log_anchor s.log s.table.dirty)
+        (subst (λ (l : Layout). Over l log.anchor log.head committed.records now now [] windows j) (log_layout s.log s.table.dirty ∙ sym layout_is) committed.stands) in
+        let done = force_mounted (mounted_of s v) windows h f i j now log.head committed.records mounted.on_disk same told_volume over in
+        record {
+          stands = stands_forced;
+          on_disk = subst (λ (a : Anchor). StandsOnDisk (record { volume = forced v; pages = now; dirty = []; anchor = a; head = log.head }) windows h (length h) j) (sym (log_anchor s.log s.table.dirty)) done;
+        }
+
+    pub forced_at : (old left : Moment) (log : LogValue) (table : ResidentValue) → old.image ≡ i → IsCalm old.windows → Commits s.log.layout windows mounted.on_disk.disk now old left
+        → log ≡ log_forced s.log s.table.dirty → table ≡ record { pages = now; dirty = [] } → Committed log table windows left.image → IsMounted (record s { log = log; table = table }) (forced v) windows h (length h) left.image
+    forced_at old left log table at calm commits log_is table_is committed =
+        let then : forced_state s ≡ record s { log = log; table = table } = λ k. record s { log = sym log_is k; table = sym table_is k } in
+        subst (λ (x : State). IsMounted x (forced v) windows h (length h) left.image) then
+        (all_forced left.image (same_data old left at calm commits.kept)
+        (subst (λ (t : ResidentValue). Committed (log_forced s.log s.table.dirty) t windows left.image) table_is (subst (λ (l : LogValue). Committed l table windows left.image) log_is committed)))
+
+-- ---- nothing waits
+
+pub idle_state : (s : State) → s.table.dirty ≡ [] → s ≡ forced_state s
+idle_state s none =
+    let force_of : List ℕ → State = λ d. record s { log = log_forced s.log d; table = record { pages = stamped (stamp_now s.log) d s.table.pages; dirty = [] } } in
+    let empty : s ≡ force_of [] = λ i. record s { table = record { pages = s.table.pages; dirty = none i } } in
+    empty ∙ ap force_of (sym none)
+
+pub idle_forces : (s : State) (v : Volume) (windows : List WeakRun) (h : List Change) (f : ℕ) (at : Moment) → IsMounted s v windows h f at.image → Forces s.layout windows h f at at
+idle_forces s v windows h f at mounted = record {
+  sound = subst (λ (l : Layout). IsSound l windows h f at.image) mounted.stands.layout (mounted_sound (mounted_of s v) windows h f at.image mounted.on_disk);
+  kept = λ t from. inl refl;
+  windows = refl;
+  said = refl;
 }
 
--- nothing waited
-pub idle_mounted : (state : State) (v : Volume) (files : Files) (i : Image) → state.waits ≡ false → IsMounted state v files i → IsMounted state (forced v) v.files i
-idle_mounted state v files i idle mounted =
-    let stands = stands_forced state v mounted.stands in record {
-      stands = record { layout = stands.layout; entries = stands.entries; lists = stands.lists; serial = stands.serial; removed = refl; held = stands.held; drafts = stands.drafts; reached = stands.reached };
-      describes = mounted.describes;
-      disk = record {
-        entries = mounted.disk.entries;
-        at_home = mounted.disk.at_home;
-        describes = subst (λ (f : Files). Describes state.layout nowhere i f mounted.disk.entries) (mounted.written idle) mounted.disk.describes;
-      };
-      inside = mounted.inside;
-      written = λ e. refl;
-    }
-
-pub force_mounted : (state : State) (v : Volume) (files : Files) (i j : Image) → IsTable state.layout state.entries → (state.serial.epoch < 2 ^ 32) × (state.serial.count < 2 ^ 32) → IsMounted state v files i
-    → (entries : List Entry) → entries ≡ state.entries → j ≡ with_leaf state.layout i (page_bytes 0 (record { epoch = state.serial.epoch; number = state.serial.count }) (Leaf entries)) → IsMounted (written_state state) (forced v) v.files j
-force_mounted state v files i j table fits mounted entries same is =
-    let l : Layout = state.layout in
-    let stamp : Stamp = record { epoch = state.serial.epoch; number = state.serial.count } in
-    let bytes : List ℕ = page_bytes 0 stamp (Leaf state.entries) in
-    let described : Describes l nowhere i v.files state.entries = subst (λ (es : List Entry). Describes l nowhere i v.files es) mounted.stands.entries mounted.describes in
-    subst (λ (x : Image). IsMounted (written_state state) (forced v) v.files x) (sym (is ∙ ap (λ (es : List Entry). with_leaf l i (page_bytes 0 stamp (Leaf es))) same)) record {
-      stands = stands_forced state v mounted.stands;
-      describes = leaf_leaves_data l v.files v.entries i bytes mounted.describes;
-      disk = leaf_written l state.serial.epoch files v.files state.entries i stamp fits table.leaf mounted.disk described;
-      inside = λ s there. subst (λ (es : List Entry). IsTrue (is_in (plans_of es) s)) (leaf_entries l state.serial.epoch files v.files state.entries i stamp fits table.leaf mounted.disk described ∙ sym mounted.stands.entries) there;
-      written = λ e. refl;
-    }
+pub idle_mounted : (s : State) (free : Area) → IsKept s free → s.serial.epoch < 2 ^ 32 → s.table.dirty ≡ [] → (v : Volume) (windows : List WeakRun) (h : List Change) (f : ℕ) (i : Image)
+    → IsMounted s v windows h f i → IsMounted s (forced v) windows h (length h) i
+idle_mounted s free kept epoch none v windows h f i mounted =
+    let is = idle_state s none in
+    let committed = idle_committed s.log s.table mounted.on_disk.records mounted.on_disk.disk windows i none (over_log s free kept epoch v windows h f i mounted) in
+    subst (λ (x : State). IsMounted x (forced v) windows h (length h) i) (sym is)
+    (all_forced s free kept epoch v windows h f i mounted i (λ t from. refl) (subst (λ (x : State). Committed x.log x.table windows i) is committed))

@@ -49,12 +49,6 @@ holds_row old mid new first sector k bytes is so_far next =
     let here = subst (λ (x : Sector). Holds old (set (lay old.image first sector k) (first + k) x) new) is more in
     subst (λ (n : ℕ). Holds old (lay old.image first sector n) new) (sym (add-one k)) here
 
--- two sectors with the same bytes
-pub holds_twins : (m0 m1 m2 : Moment) (a b : ℕ) (bytes same : List ℕ) → length bytes ≡ 512 → bytes ≡ same → Writes a bytes m0 m1 → Writes b bytes m1 m2 → Holds m0 (with_sector (with_sector m0.image a same) b same) m2
-holds_twins m0 m1 m2 a b bytes same size is first second =
-    subst (λ (x : List ℕ). Holds m0 (with_sector (with_sector m0.image a x) b x) m2) is
-    (holds_then (λ image. with_sector image b bytes) m0 m1 m2 (with_sector m0.image a bytes) (monotone_sector b bytes) (holds_sector m0 m1 a bytes size first) (holds_sector m1 m2 b bytes size second))
-
 -- where no sector may wear, the image is what was laid
 pub calm_holds : (old new : Moment) (image : List Sector) → IsCalm old.windows → Holds old image new → new.image ≡ image
 calm_holds old new image calm holds = calm_worn old.windows image new.image calm holds.worn

@@ -87,6 +87,24 @@ free_alike state v stands s low high =
     by used true false true c i p q r = absurd (cc q)
     by used true false false true i p q r = absurd (cc r)
 
+-- a free sector is a data sector that no entry has
+pub free_is : (state : State) (v : Volume) → StandsFor state v → (s : ℕ) → is_free v s ≡ (is_data state.layout s && not (contains (flat_map sectors_of (plans_of state.entries)) s))
+free_is state v stands s =
+    let removed : contains v.removed s ≡ false = ap (λ (xs : List ℕ). contains xs s) stands.removed in
+    let held : contains (flat_map sectors_of v.held) s ≡ false = ap (λ (xs : List (List Run)). contains (flat_map sectors_of xs) s) stands.held in
+    let drafts : contains (flat_map sectors_of v.drafts) s ≡ false = ap (λ (xs : List (List Run)). contains (flat_map sectors_of xs) s) stands.drafts in
+    by (is_data v.layout s) (in_version v s) (contains v.removed s) (contains (flat_map sectors_of v.held) s) (contains (flat_map sectors_of v.drafts) s) removed held drafts
+    ∙ ap (λ (l : Layout). is_data l s && not (in_version v s)) stands.layout
+    ∙ ap (λ (es : List Entry). is_data state.layout s && not (contains (flat_map sectors_of (plans_of es)) s)) stands.entries
+  where
+    by : (inside used a b c : Bool) → a ≡ false → b ≡ false → c ≡ false → (inside && not used && not (not used && (a || b || c))) ≡ (inside && not used)
+    by true true false false false p q r = refl
+    by true false false false false p q r = refl
+    by false used false false false p q r = refl
+    by inside used true b c p q r = absurd (cc p)
+    by inside used false true c p q r = absurd (cc q)
+    by inside used false false true p q r = absurd (cc r)
+
 pub same_runs_free : (state : State) (v : Volume) → StandsFor state v → free_runs v ≡ runs_of (free_space state.layout state.entries).sectors
 same_runs_free state v stands =
     let l : Layout = state.layout in

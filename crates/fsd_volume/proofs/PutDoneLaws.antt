@@ -1,13 +1,17 @@
 -- What a put answers, and what the volume and its disk are then.
-use Rattle.std.proofs.Common.{◌≡◌, inl, inr, ℕ, suc, ◌+◌, ◌<◌, ◌≤◌, Bool, true, false, cond, nat_lt, List, [], ◌∷◌, ◌++◌, length, Option, Some, None, Result, Ok, Err, refl, sym, ap, subst, ◌∙◌, arith}
+use Rattle.std.proofs.Common.{◌≡◌, inl, inr, ℕ, suc, ◌+◌, ◌<◌, ◌≤◌, Bool, true, false, not, ◌&&◌, cond, nat_lt, List, [], ◌∷◌, ◌++◌, length, Option, Some, None, Result, Ok, Err, refl, sym, ap, subst, ◌∙◌, arith}
 use Rattle.std.specs.Prelude.{IsTrue, IsSome, IfSome, IfOk, slice_index_or}
 use Rattle.std.specs.List.{flat_map}
 use Rattle.std.specs.declared.cmp.Ordering.{Ordering}
 use Rattle.std.specs.declared.cmp.Ordering.TheVariants.{Less, Equal, Greater}
 use Rattle.std.specs.FinMap.{put}
 use Rattle.std.specs.FinMap.Entries.{by_order}
-use Rattle.std.proofs.lemmas.Bool.{lt-ltb, le-ltb}
-use Rattle.volume_layout.specs.Layout.{data_start, home_a, home_b}
+use Rattle.std.proofs.lemmas.Bool.{lt-ltb, le-ltb, both_ways}
+use Rattle.std.proofs.lemmas.List.{append-nil, length-set}
+use Rattle.sector_set.specs.Area.{Area}
+use Rattle.sector_disk.specs.declared.sector.WeakRun.{WeakRun}
+use Rattle.volume_layout.specs.declared.layout.Layout.{Layout}
+use Rattle.volume_layout.specs.Layout.{is_data}
 use Rattle.fsd_bytes.specs.declared.key.Key.{Key}
 use Rattle.fsd_bytes.specs.declared.key.Serial.{Serial}
 use Rattle.fsd_bytes.specs.Keys.{key_cmp, key_of}
@@ -21,25 +25,27 @@ use Rattle.sector_disk.specs.Image.{sector_at, IsCalm}
 use Rattle.sector_disk.specs.Machine.{Moment}
 use Rattle.sector_disk.proofs.Calm.{calm_nowhere}
 use Rattle.fsd_formats.specs.declared.entry.Entry.{Entry}
-use Rattle.fsd_formats.specs.NamePage.{room, sectors_for}
+use Rattle.fsd_formats.specs.NamePage.{room, sectors_for, is_entry, FitsEntry}
 use Rattle.fsd_files.specs.Space.{Apart}
-use Rattle.fsd_files.specs.Disk.{Image, nowhere}
-use Rattle.fsd_files.specs.Files.{File, Files, new_key, new_keep, with_new, gone_keys, keep_of, without}
+use Rattle.fsd_files.specs.Disk.{Image, Sectors, nowhere, in_runs}
+use Rattle.fsd_files.specs.Files.{File, Files, Change, after, step, new_key, new_keep, with_new, gone_keys, keep_of, without}
 use Rattle.fsd_files.specs.Kept.{Lists, Kept, KeptIn}
 use Rattle.fsd_files.specs.Answers.{Outcome, refused, entry_put, entry_of, HasLeader, new_entry, no_place, size_fault, with_version as volume_with, keep_given}
 use Rattle.fsd_files.specs.OneLeaf.{has_name, leaf_used, put_in, put_at, put_unless, put_outcome}
 use Rattle.fsd_files.specs.Replies.{Refused, Made}
-use Rattle.fsd_files.specs.Volume.{Volume, drawn, plans_of, entries_at, entries_without, free_runs}
-use Rattle.fsd_sound.specs.AtHome.{IsAtHome}
-use Rattle.fsd_volume.specs.Put.{names, placed, AreNew, Enters, EntersOk, entered, PutSays, Puts, PutsOn}
+use Rattle.fsd_files.specs.Volume.{Volume, drawn, is_free, plans_of, entries_at, entries_without, free_runs}
+use Rattle.fsd_sound.specs.Mounted.{image_at}
+use Rattle.fsd_sound.specs.Shown.{told_in}
+use Rattle.fsd_sound.proofs.MountedLaws.{still_mounted, change_mounted}
+use Rattle.fsd_volume.specs.Put.{names, placed, made_by, rewritten, AreNew, Enters, EntersOk, entered, PutSays, Puts, PutsOn}
 use Rattle.fsd_volume.specs.Slices.{with_version, WritesIn}
-use Rattle.fsd_volume.specs.State.{State, StandsFor, IsMounted, StaysMounted, free_space}
-use Rattle.fsd_volume.proofs.HomeLaws.{at_home_with, data_from}
-use Rattle.fsd_files.proofs.KeptLaws.{kept_on}
+use Rattle.fsd_volume.specs.State.{State, StandsFor, IsKept, IsSpelled, IsMounted, StaysMounted, mounted_of, free_space}
+use Rattle.fsd_files.proofs.HistoryLaws.{after_one_more}
+use Rattle.fsd_volume.proofs.LeafLaws.{planned_pages, first_image, spelled_again, told_leaf, waits_still, leaf_agrees}
 use Rattle.fsd_volume.proofs.ListLaws.{lists_put, has_name_is, first_key, first_keep, keys_gone, without_none, entries_without_none, entries_at_none}
-use Rattle.fsd_volume.proofs.PlaceLaws.{same_runs_free}
+use Rattle.fsd_volume.proofs.PlaceLaws.{free_is, same_runs_free}
 use Rattle.fsd_volume.proofs.PlanLaws.{apart_put}
-use Rattle.fsd_volume.proofs.EnterLaws.{still_there, entry_of_put}
+use Rattle.fsd_volume.proofs.EnterLaws.{still_there, entry_of_put, table_put}
 use Rattle.fsd_volume.proofs.VersionLaws.{length-with_version, version_elsewhere, version_kept}
 
 -- the state whose next serial is drawn
@@ -61,9 +67,9 @@ stands_drawn s v h = record {
 -- ---- no place
 
 pub place_refused : (s : State) (v : Volume) (name bytes : List ℕ) (given : Option ℕ) (refusal : Refusal) → StandsFor s v → size_fault (keep_given given) (length bytes) ≡ None
-    → placed (free_space s.layout s.entries).sectors (sectors_for (length bytes)) ≡ Err refusal → PutSays v (put_outcome v name bytes given) v (Err refusal)
+    → placed (free_space s.layout s.entries).sectors (sectors_for (length bytes)) ≡ Err refusal → PutSays s v (put_outcome v name bytes given) v (Err refusal)
 place_refused s v name bytes given refusal stands fits none =
-    subst (λ (o : Option Refusal). PutSays v (put_unless o v name bytes given) v (Err refusal)) (sym fits)
+    subst (λ (o : Option Refusal). PutSays s v (put_unless o v name bytes given) v (Err refusal)) (sym fits)
     (by (pick (free_runs v) need) (ap (λ (rs : List Run). placed_in rs (pick rs need)) (same_runs_free s v stands) ∙ none))
   where
     need : ℕ
@@ -73,11 +79,11 @@ place_refused s v name bytes given refusal stands fits none =
     placed_in runs (Some out) = Ok out
     placed_in runs None = Err (cond (nat_lt (total runs) need) (Why.NoSpace need (total runs)) (Why.TooFragmented need (best runs)))
 
-    says : (b : Bool) (n m : ℕ) → cond b (Why.NoSpace need n) (Why.TooFragmented need m) ≡ refusal → (out : Outcome) → out ≡ refused v (cond b (Why.NoSpace need n) (Why.TooFragmented need m)) → PutSays v out v (Err refusal)
-    says true n m e out is = subst (λ (r : Refusal). PutSays v out v (Err r)) e (ap (λ (o : Outcome). o.0) is, sym (ap (λ (o : Outcome). o.1) is))
-    says false n m e out is = subst (λ (r : Refusal). PutSays v out v (Err r)) e (ap (λ (o : Outcome). o.0) is, sym (ap (λ (o : Outcome). o.1) is))
+    says : (b : Bool) (n m : ℕ) → cond b (Why.NoSpace need n) (Why.TooFragmented need m) ≡ refusal → (out : Outcome) → out ≡ refused v (cond b (Why.NoSpace need n) (Why.TooFragmented need m)) → PutSays s v out v (Err refusal)
+    says true n m e out is = subst (λ (r : Refusal). PutSays s v out v (Err r)) e (ap (λ (o : Outcome). o.0) is, sym (ap (λ (o : Outcome). o.1) is))
+    says false n m e out is = subst (λ (r : Refusal). PutSays s v out v (Err r)) e (ap (λ (o : Outcome). o.0) is, sym (ap (λ (o : Outcome). o.1) is))
 
-    by : (o : Option (List Run)) → placed_in (free_runs v) o ≡ Err refusal → PutSays v (put_at v name bytes given need o) v (Err refusal)
+    by : (o : Option (List Run)) → placed_in (free_runs v) o ≡ Err refusal → PutSays s v (put_at v name bytes given need o) v (Err refusal)
     by (Some out) e = absurd cc
     by None e =
         let is : cond (nat_lt (total (free_runs v)) need) (Why.NoSpace need (total (free_runs v))) (Why.TooFragmented need (best (free_runs v))) ≡ refusal = cc in
@@ -149,9 +155,9 @@ module _ (s : State) (v : Volume) (name bytes : List ℕ) (given : Option ℕ) (
         reached = refl;
       }
 
-  says_by : (a b : Bool) (after : Volume) (r : Result Key Refusal) → has_name name v.files ≡ a → nat_lt room used_then ≡ b → PutSays v (branches a b) after r → PutSays v (put_outcome v name bytes given) after r
+  says_by : (a b : Bool) (after : Volume) (r : Result Key Refusal) → has_name name v.files ≡ a → nat_lt room used_then ≡ b → PutSays s v (branches a b) after r → PutSays s v (put_outcome v name bytes given) after r
   says_by a b after r p q says =
-      subst (λ (o : Outcome). PutSays v o after r) (sym (outcome_is ∙ ap (λ (x : Bool). branches x (nat_lt room used_then)) p ∙ ap (branches a) q)) says
+      subst (λ (o : Outcome). PutSays s v o after r) (sym (outcome_is ∙ ap (λ (x : Bool). branches x (nat_lt room used_then)) p ∙ ap (branches a) q)) says
 
   abbrev pub after_of : Result Key Refusal → Volume
   after_of (Ok key) = made
@@ -160,7 +166,7 @@ module _ (s : State) (v : Volume) (name bytes : List ℕ) (given : Option ℕ) (
   le_false : has_name name v.files ≡ false → leaf_used (entry_put e s.entries) ≤ room → nat_lt room used_then ≡ false
   le_false absent fits = le-ltb room used_then (omega (arith, used_same absent, fits))
 
-  pub says_entered : (new : State) (r : Result Key Refusal) → Enters (drawn_state s) e new r → PutSays v (put_outcome v name bytes given) (after_of r) r
+  pub says_entered : (new : State) (r : Result Key Refusal) → Enters (drawn_state s) e new r → PutSays s v (put_outcome v name bytes given) (after_of r) r
   says_entered new (Ok key) ok =
       let absent = has_is ∙ ok.absent in
       says_by false false made (Ok key) absent (le_false absent ok.fits) ((total e.runs, ap (λ (k : Key). Made k (total e.runs)) (first_key name v.files absent ∙ sym h.key ∙ sym ok.is)), refl)
@@ -171,7 +177,7 @@ module _ (s : State) (v : Volume) (name bytes : List ℕ) (given : Option ℕ) (
   says_entered new (Err Why.Memory) entering = refl
   says_entered new (Err refusal) entering = absurd entering
 
-  pub puts_entered : (new : State) (r : Result Key Refusal) → Enters (drawn_state s) e new r → Puts v (put_outcome v name bytes given) new r
+  pub puts_entered : (new : State) (r : Result Key Refusal) → Enters (drawn_state s) e new r → Puts s v (put_outcome v name bytes given) new r
   puts_entered new r entering = record { after = after_of r; stands = by r entering; says = says_entered new r entering }
     where
       by : (q : Result Key Refusal) → Enters (drawn_state s) e new q → StandsFor new (after_of q)
@@ -197,118 +203,163 @@ made_leader s e new j (Err refusal) ok leader = tt
 
 -- ---- the disk
 
+free_by : (a b : Bool) → IsTrue a → (IsTrue b → ⊥) → (a && not b) ≡ true
+free_by true false is out = refl
+free_by true true is out = absurd (out refl)
+free_by false b is out = absurd (cc is)
+
+-- sectors that are new are free
+new_free : (s : State) (v : Volume) (runs : List Run) (t : ℕ) → StandsFor s v → AreNew s.layout (plans_of s.entries) runs → IsTrue (contains (sectors_of runs) t) → is_free v t ≡ true
+new_free s v runs t stands new there =
+    free_is s v stands t ∙ free_by (is_data s.layout t) (contains (flat_map sectors_of (plans_of s.entries)) t) (new.are_data t there) (new.unused t there)
+
 -- a disk on which only free sectors differ
-pub mounted_beside : (s : State) (v : Volume) (files : Files) (i j : Image) (runs : List Run) → AreNew s.layout (plans_of s.entries) runs → length j ≡ length i
-    → ((t : ℕ) → (IsTrue (contains (sectors_of runs) t) → ⊥) → sector_at j t ≡ sector_at i t) → IsMounted s v files i → IsMounted s v files j
-mounted_beside s v files i j runs new size same mounted = record {
+pub mounted_beside : (s : State) (v : Volume) (windows : List WeakRun) (h : List Change) (f : ℕ) (i j : Image) (runs : List Run) → AreNew s.layout (plans_of s.entries) runs → length j ≡ length i
+    → ((t : ℕ) → (IsTrue (contains (sectors_of runs) t) → ⊥) → sector_at j t ≡ sector_at i t) → IsMounted s v windows h f i → IsMounted s v windows h f j
+mounted_beside s v windows h f i j runs new size same mounted = record {
   stands = mounted.stands;
-  describes = record { lists = mounted.describes.lists; apart = mounted.describes.apart; kept = kept_on nowhere i j v.files v.entries (λ t there. same t (not_new t there)) mounted.describes.kept };
-  disk = record {
-    entries = mounted.disk.entries;
-    at_home = at_home;
-    describes = record {
-      lists = mounted.disk.describes.lists;
-      apart = mounted.disk.describes.apart;
-      kept = kept_on nowhere i j files mounted.disk.entries (λ t there. same t (not_new t (mounted.inside t there))) mounted.disk.describes.kept;
-    };
-  };
-  inside = mounted.inside;
-  written = mounted.written;
+  on_disk = still_mounted (mounted_of s v) windows h f i j size (λ t taken. same t (λ there. both_ways (is_free v t) taken (new_free s v runs t mounted.stands new there))) mounted.on_disk;
 }
-  where
-    not_new : (t : ℕ) → IsTrue (contains (flat_map sectors_of (plans_of v.entries)) t) → IsTrue (contains (sectors_of runs) t) → ⊥
-    not_new t there of_new = new.unused t of_new (subst (λ (es : List Entry). IsTrue (contains (flat_map sectors_of (plans_of es)) t)) mounted.stands.entries there)
-
-    low : (t : ℕ) → t < data_start s.layout → IsTrue (contains (sectors_of runs) t) → ⊥
-    low t below of_new = let from = data_from s.layout t (new.are_data t of_new) in absurd (omega (arith, from))
-
-    at_home : IsAtHome s.layout s.serial.epoch mounted.disk.entries j
-    at_home =
-        let h = mounted.disk.at_home in
-        at_home_with s.layout s.serial.epoch mounted.disk.entries mounted.disk.entries i j h
-        (record { size = size; same = λ t below a b. same t (low t below) })
-        (record { leaf = h.leaf; stamp = h.stamp; stamp_fits = h.stamp_fits; home = same (home_a s.layout 0) (low (home_a s.layout 0) (omega arith)) ∙ h.home; copy = same (home_b s.layout 0) (low (home_b s.layout 0) (omega arith)) ∙ h.copy })
 
 -- the next serial is drawn
-pub mounted_drawn : (s : State) (v : Volume) (files : Files) (i : Image) → IsMounted s v files i → IsMounted (drawn_state s) (drawn v) files i
-mounted_drawn s v files i mounted = record { stands = stands_drawn s v mounted.stands; describes = mounted.describes; disk = mounted.disk; inside = mounted.inside; written = mounted.written }
+pub mounted_drawn : (s : State) (v : Volume) (windows : List WeakRun) (h : List Change) (f : ℕ) (i : Image) → IsMounted s v windows h f i → IsMounted (drawn_state s) (drawn v) windows h f i
+mounted_drawn s v windows h f i mounted =
+    let d = mounted.on_disk in
+    record {
+      stands = stands_drawn s v mounted.stands;
+      on_disk = record {
+        files = d.files;
+        described = d.described;
+        count = d.count;
+        epoch = d.epoch;
+        third = d.third;
+        room = d.room;
+        in_memory = d.in_memory;
+        disk = d.disk;
+        records = d.records;
+        over = d.over;
+        forced = record { entries = d.forced.entries; told = d.forced.told; described = d.forced.described; taken = d.forced.taken };
+      };
+    }
 
 -- the disk with the version in free sectors: all else stands
-pub version_on : (s : State) (v : Volume) (files : Files) (i : Image) (e : Entry) (bytes : List ℕ) → length (sectors_of e.runs) ≡ sectors_for (length bytes) → AreNew s.layout (plans_of s.entries) e.runs
-    → IsMounted s v files i → IsMounted (drawn_state s) (drawn v) files (with_version i e bytes)
-version_on s v files i e bytes count new mounted =
-    mounted_drawn s v files (with_version i e bytes)
-    (mounted_beside s v files i (with_version i e bytes) e.runs new (length-with_version i e bytes count new.differ) (λ t absent. version_elsewhere i e bytes count new.differ t absent) mounted)
+pub version_on : (s : State) (v : Volume) (windows : List WeakRun) (h : List Change) (f : ℕ) (i : Image) (e : Entry) (bytes : List ℕ) → length (sectors_of e.runs) ≡ sectors_for (length bytes) → AreNew s.layout (plans_of s.entries) e.runs
+    → IsMounted s v windows h f i → IsMounted (drawn_state s) (drawn v) windows h f (with_version i e bytes)
+version_on s v windows h f i e bytes count new mounted =
+    mounted_drawn s v windows h f (with_version i e bytes)
+    (mounted_beside s v windows h f i (with_version i e bytes) e.runs new (length-with_version i e bytes count new.differ) (λ t absent. version_elsewhere i e bytes count new.differ t absent) mounted)
 
 -- at a moment of its writing, where no sector wears
-pub stays_mounted : (s : State) (v : Volume) (files : Files) (old left : Moment) (runs : List Run) → AreNew s.layout (plans_of s.entries) runs → IsCalm old.windows → IsMounted s v files old.image
-    → WritesIn (sectors_of runs) old left → StaysMounted s v files old left
-stays_mounted s v files old left runs new calm mounted writes = record {
-  mounted = mounted_beside s v files old.image left.image runs new writes.size (λ t absent. elim (writes.others t absent) [ inl same ↦ same | inr hurt ↦ absurd (calm_nowhere old.windows.present old.windows.next t calm.present calm.next hurt.0) ]) mounted;
+pub stays_mounted : (s : State) (v : Volume) (windows : List WeakRun) (h : List Change) (f : ℕ) (old left : Moment) (runs : List Run) → AreNew s.layout (plans_of s.entries) runs → IsCalm old.windows → IsMounted s v windows h f old.image
+    → WritesIn (sectors_of runs) old left → StaysMounted s v windows h f old left
+stays_mounted s v windows h f old left runs new calm mounted writes = record {
+  mounted = mounted_beside s v windows h f old.image left.image runs new writes.size (λ t absent. elim (writes.others t absent) [ inl same ↦ same | inr hurt ↦ absurd (calm_nowhere old.windows.present old.windows.next t calm.present calm.next hurt.0) ]) mounted;
   windows = writes.windows;
   said = writes.said;
 }
 
 -- the new version is kept beside the others
-kept_put : (j : Image) (k : Key) (x : File) (e : Entry) (s : Files) (entries : List Entry) → KeptIn j nowhere x.bytes e.runs → e.key ≡ k → Lists s entries → Kept j s entries nowhere → Kept j (put key_cmp k x s) (entry_put e entries) nowhere
-kept_put j k x e [] [] one key lists kept = (one, tt)
-kept_put j k x e [] (z ∷ entries) one key lists kept = absurd kept
-kept_put j k x e (y ∷ s) [] one key lists kept = absurd kept
-kept_put j k x e (y ∷ s) (z ∷ entries) one key lists kept =
+kept_put : (hurt : Sectors) (j : Image) (k : Key) (x : File) (e : Entry) (s : Files) (entries : List Entry) → KeptIn j hurt x.bytes e.runs → e.key ≡ k → Lists s entries → Kept j s entries hurt → Kept j (put key_cmp k x s) (entry_put e entries) hurt
+kept_put hurt j k x e [] [] one key lists kept = (one, tt)
+kept_put hurt j k x e [] (z ∷ entries) one key lists kept = absurd kept
+kept_put hurt j k x e (y ∷ s) [] one key lists kept = absurd kept
+kept_put hurt j k x e (y ∷ s) (z ∷ entries) one key lists kept =
     let same : key_cmp k y.0 ≡ key_cmp e.key z.key = ap (λ (a : Key). key_cmp a y.0) (sym key) ∙ ap (key_cmp e.key) (sym lists.0.key) in
-    subst (λ (o : Ordering). Kept j (put key_cmp k x (y ∷ s)) (by_order o (e ∷ z ∷ entries) (e ∷ entries) (z ∷ entry_put e entries)) nowhere) same
-    (by (key_cmp k y.0) (kept_put j k x e s entries one key lists.1 kept.1))
+    subst (λ (o : Ordering). Kept j (put key_cmp k x (y ∷ s)) (by_order o (e ∷ z ∷ entries) (e ∷ entries) (z ∷ entry_put e entries)) hurt) same
+    (by (key_cmp k y.0) (kept_put hurt j k x e s entries one key lists.1 kept.1))
   where
-    by : (o : Ordering) → Kept j (put key_cmp k x s) (entry_put e entries) nowhere → Kept j (by_order o ((k, x) ∷ y ∷ s) ((y.0, x) ∷ s) (y ∷ put key_cmp k x s)) (by_order o (e ∷ z ∷ entries) (e ∷ entries) (z ∷ entry_put e entries)) nowhere
+    by : (o : Ordering) → Kept j (put key_cmp k x s) (entry_put e entries) hurt → Kept j (by_order o ((k, x) ∷ y ∷ s) ((y.0, x) ∷ s) (y ∷ put key_cmp k x s)) (by_order o (e ∷ z ∷ entries) (e ∷ entries) (z ∷ entry_put e entries)) hurt
     by Less rest = (one, kept)
     by Equal rest = (one, kept.1)
     by Greater rest = (kept.0, rest)
 
--- the volume with the version stands on the disk
-pub entered_on : (s : State) (v : Volume) (name bytes : List ℕ) (given : Option ℕ) (e : Entry) (h : Entering s v name bytes given e) (files : Files) (i : Image) → length (sectors_of e.runs) ≡ sectors_for (length bytes)
-    → AreNew s.layout (plans_of s.entries) e.runs → ((k : ℕ) → k < length (sectors_of e.runs) → slice_index_or (sectors_of e.runs) k 0 < length i) → names e.key.name s.entries ≡ false
-    → IsMounted s v files i → IsMounted (entered (drawn_state s) e) (volume_with (drawn v) name bytes given e.runs v.serial 1) files (with_version i e bytes)
-entered_on s v name bytes given e h files i count new room none mounted =
-    let j : Image = with_version i e bytes in
-    let absent = has_is s v name bytes given e h ∙ none in
-    let stands = entered_stands s v name bytes given e h absent in
-    let before = version_on s v files i e bytes count new mounted in
-    let gone = keys_gone name bytes given v.files (is_same name) absent in
-    let x : Entry = new_entry (drawn v) name bytes given e.runs v.serial in
-    let entries = ap (λ (ks : List Key). entries_without ks (entry_put x v.entries)) gone ∙ entries_without_none (entry_put x v.entries) in
-    let made_files = ap (λ (ks : List Key). without ks (with_new name given bytes v.files)) gone ∙ without_none (with_new name given bytes v.files) in
-    let new_v : AreNew s.layout (plans_of v.entries) e.runs = subst (λ (es : List Entry). AreNew s.layout (plans_of es) e.runs) (sym h.stands.entries) new in
-    let kept = kept_put j (new_key name v.files) (record { bytes = bytes; keep = new_keep name given v.files }) x v.files v.entries (version_kept i e bytes count new.differ room) refl h.stands.lists before.describes.kept in
-    record {
-      stands = stands;
-      describes = record {
-        lists = stands.lists;
-        apart = subst (λ (es : List Entry). Apart s.layout (plans_of es)) (sym entries) (apart_put s.layout x v.entries new_v mounted.describes.apart);
-        kept = subst (λ (fs : Files). Kept j fs (volume_with (drawn v) name bytes given e.runs v.serial 1).entries nowhere) (sym made_files) (subst (λ (es : List Entry). Kept j (with_new name given bytes v.files) es nowhere) (sym entries) kept);
-      };
-      disk = before.disk;
-      inside = λ t there. subst (λ (es : List Entry). IsTrue (contains (flat_map sectors_of (plans_of es)) t)) (sym entries) (still_there t x v.entries (has_none v.entries h.stands.entries) (before.inside t there));
-      written = λ idle. absurd (cc idle);
-    }
-  where
-    has_none : (es : List Entry) → es ≡ s.entries → names (new_entry (drawn v) name bytes given e.runs v.serial).key.name es ≡ false
-    has_none es same = ap (names name) same ∙ ap (λ (k : Key). names k.name s.entries) (sym h.key) ∙ none
+fewer_by : (inside old new : Bool) → (IsTrue old → IsTrue new) → (inside && not old) ≡ false → (inside && not new) ≡ false
+fewer_by false old new more out = refl
+fewer_by true true new more out = ap not (more refl)
+fewer_by true false new more out = absurd (cc out)
 
-pub puts_on : (s : State) (v : Volume) (name bytes : List ℕ) (given : Option ℕ) (e : Entry) (h : Entering s v name bytes given e) (files : Files) (i j : Image) (new : State) (r : Result Key Refusal) → length (sectors_of e.runs) ≡ sectors_for (length bytes)
-    → AreNew s.layout (plans_of s.entries) e.runs → ((k : ℕ) → k < length (sectors_of e.runs) → slice_index_or (sectors_of e.runs) k 0 < length i) → IsMounted s v files i → j ≡ with_version i e bytes → Enters (drawn_state s) e new r
-    → PutsOn v (put_outcome v name bytes given) files new j r
-puts_on s v name bytes given e h files i j new r count free room mounted is entering = record {
-  after = after_of s v name bytes given e h r;
-  says = says_entered s v name bytes given e h new r entering;
-  mounted = subst (λ (x : Image). IsMounted new (after_of s v name bytes given e h r) files x) (sym is) (by r entering);
-}
-  where
-    with_drawn : IsMounted (drawn_state s) (drawn v) files (with_version i e bytes)
-    with_drawn = version_on s v files i e bytes count free mounted
+-- what an entry needs to be entered
+pub record Enterable (s : State) (e : Entry) (bytes : List ℕ) (i : Image) : Type 0 where
+  pub free : Area
+  pub kept : IsKept s free
+  pub good : IsTrue (is_entry e)
+  pub fits : FitsEntry e
+  pub count : length (sectors_of e.runs) ≡ sectors_for (length bytes)
+  pub new : AreNew s.layout (plans_of s.entries) e.runs
+  pub room : (k : ℕ) → k < length (sectors_of e.runs) → slice_index_or (sectors_of e.runs) k 0 < length i
 
-    by : (q : Result Key Refusal) → Enters (drawn_state s) e new q → IsMounted new (after_of s v name bytes given e h q) files (with_version i e bytes)
-    by (Ok key) ok = subst (λ (x : State). IsMounted x (volume_with (drawn v) name bytes given e.runs v.serial 1) files (with_version i e bytes)) (sym ok.now) (entered_on s v name bytes given e h files i count free room ok.absent mounted)
-    by (Err Why.VersionsUsedUp) x = subst (λ (y : State). IsMounted y (drawn v) files (with_version i e bytes)) (sym x.1) with_drawn
-    by (Err (Why.NameTableFull full)) x = subst (λ (y : State). IsMounted y (drawn v) files (with_version i e bytes)) (sym x.1.now) with_drawn
-    by (Err Why.Memory) x = subst (λ (y : State). IsMounted y (drawn v) files (with_version i e bytes)) (sym x) with_drawn
-    by (Err refusal) x = absurd x
+module _ (s : State) (v : Volume) (name bytes : List ℕ) (given : Option ℕ) (e : Entry) (entering : Entering s v name bytes given e) (i : Image) (may : Enterable s e bytes i) where
+  abbrev made_volume : Volume
+  made_volume = volume_with (drawn v) name bytes given e.runs v.serial 1
+
+  abbrev made_state : State
+  made_state = entered (drawn_state s) e
+
+  -- the pages in memory tell the entries with the new one
+  told_made : names e.key.name s.entries ≡ false → leaf_used (entry_put e s.entries) ≤ room → told_in s.layout made_state.table.pages ≡ Some (entry_put e s.entries)
+  told_made none small =
+      let all : List Entry = entry_put e s.entries in
+      let table = table_put s.layout e s.entries may.kept.table may.good may.fits may.new none small in
+      let old : List ℕ = image_at s.table.pages 0 in
+      let some = planned_pages s.layout may.kept.table.planned in
+      let most : 0 < length s.table.pages = omega (arith, some, may.kept.pages) in
+      told_leaf s.layout all made_state.table.pages table.leaf (omega (arith, most, length-set s.table.pages 0 (rewritten all old)))
+      (subst (IsSpelled all) (sym (first_image s.table.pages (rewritten all old) most)) (spelled_again s.entries all old may.kept.leaf))
+
+  -- the volume with the version stands on the disk
+  pub entered_on : (windows : List WeakRun) (h : List Change) (f : ℕ) → names e.key.name s.entries ≡ false → leaf_used (entry_put e s.entries) ≤ room
+      → IsMounted s v windows h f i → IsMounted made_state made_volume windows (h ++ Change.Put name given bytes ∷ []) f (with_version i e bytes)
+  entered_on windows h f none small mounted =
+      let j : Image = with_version i e bytes in
+      let hurt = in_runs windows in
+      let absent = has_is s v name bytes given e entering ∙ none in
+      let stands = entered_stands s v name bytes given e entering absent in
+      let before = version_on s v windows h f i e bytes may.count may.new mounted in
+      let gone = keys_gone name bytes given v.files (is_same name) absent in
+      let x : Entry = new_entry (drawn v) name bytes given e.runs v.serial in
+      let entries = ap (λ (ks : List Key). entries_without ks (entry_put x v.entries)) gone ∙ entries_without_none (entry_put x v.entries) in
+      let made_files = ap (λ (ks : List Key). without ks (with_new name given bytes v.files)) gone ∙ without_none (with_new name given bytes v.files) in
+      let new_v : AreNew v.layout (plans_of v.entries) e.runs = subst (λ (l : Layout). AreNew l (plans_of v.entries) e.runs) (sym entering.stands.layout) (subst (λ (es : List Entry). AreNew s.layout (plans_of es) e.runs) (sym entering.stands.entries) may.new) in
+      let kept = kept_put hurt j (new_key name v.files) (record { bytes = bytes; keep = new_keep name given v.files }) x v.files v.entries (version_kept i e bytes may.count may.new.differ hurt may.room) refl entering.stands.lists before.on_disk.described.kept in
+      let stands_before = before.stands in
+      record {
+        stands = stands;
+        on_disk = change_mounted (mounted_of (drawn_state s) (drawn v)) (mounted_of made_state made_volume) windows h f j (Change.Put name given bytes) before.on_disk (record {
+          volume = record {
+            layout = refl;
+            unforced = refl;
+            epoch = refl;
+            fewer = λ t out. free_is made_state made_volume stands t ∙ fewer_by (is_data s.layout t) (contains (flat_map sectors_of (plans_of s.entries)) t) (contains (flat_map sectors_of (plans_of (entry_put e s.entries))) t)
+                (still_there t e s.entries none) (sym (free_is (drawn_state s) (drawn v) stands_before t) ∙ out);
+          };
+          anchor = refl;
+          head = refl;
+          files = ap (λ (fs : Files). step fs (Change.Put name given bytes)) mounted.on_disk.files ∙ sym (after_one_more h (Change.Put name given bytes));
+          described = record {
+            lists = stands.lists;
+            apart = subst (λ (es : List Entry). Apart v.layout (plans_of es)) (sym entries) (apart_put v.layout x v.entries new_v mounted.on_disk.described.apart);
+            kept = subst (λ (fs : Files). Kept j fs made_volume.entries hurt) (sym made_files) (subst (λ (es : List Entry). Kept j (with_new name given bytes v.files) es hurt) (sym entries) kept);
+          };
+          told = subst (λ (l : Layout). told_in l made_state.table.pages ≡ Some made_volume.entries) (sym entering.stands.layout) (told_made none small ∙ ap (λ (es : List Entry). Some es) (sym stands.entries));
+          still = λ page out. waits_still s.log s.table page may.kept.force out;
+          clean = leaf_agrees s.log s.table (entry_put e s.entries) may.kept.force;
+        });
+      }
+
+  pub puts_on : (windows : List WeakRun) (h : List Change) (f : ℕ) (j : Image) (new : State) (r : Result Key Refusal) → IsMounted s v windows h f i → j ≡ with_version i e bytes → Enters (drawn_state s) e new r
+      → PutsOn s v (put_outcome v name bytes given) windows h (made_by (Change.Put name given bytes) r) f new j r
+  puts_on windows h f j new r mounted is entered_so = record {
+    after = after_of s v name bytes given e entering r;
+    says = says_entered s v name bytes given e entering new r entered_so;
+    mounted = subst (λ (x : Image). IsMounted new (after_of s v name bytes given e entering r) windows (h ++ made_by (Change.Put name given bytes) r) f x) (sym is) (by r entered_so);
+  }
+    where
+      unchanged : IsMounted (drawn_state s) (drawn v) windows (h ++ []) f (with_version i e bytes)
+      unchanged = subst (λ (g : List Change). IsMounted (drawn_state s) (drawn v) windows g f (with_version i e bytes)) (sym (append-nil h)) (version_on s v windows h f i e bytes may.count may.new mounted)
+
+      by : (q : Result Key Refusal) → Enters (drawn_state s) e new q → IsMounted new (after_of s v name bytes given e entering q) windows (h ++ made_by (Change.Put name given bytes) q) f (with_version i e bytes)
+      by (Ok key) ok = subst (λ (x : State). IsMounted x made_volume windows (h ++ Change.Put name given bytes ∷ []) f (with_version i e bytes)) (sym ok.now) (entered_on windows h f ok.absent ok.fits mounted)
+      by (Err Why.VersionsUsedUp) x = subst (λ (y : State). IsMounted y (drawn v) windows (h ++ []) f (with_version i e bytes)) (sym x.1) unchanged
+      by (Err (Why.NameTableFull full)) x = subst (λ (y : State). IsMounted y (drawn v) windows (h ++ []) f (with_version i e bytes)) (sym x.1.now) unchanged
+      by (Err Why.Memory) x = subst (λ (y : State). IsMounted y (drawn v) windows (h ++ []) f (with_version i e bytes)) (sym x) unchanged
+      by (Err refusal) x = absurd x

@@ -1,8 +1,8 @@
 -- A put: the entry that it makes, its answer, and the disk then.
-use Rattle.std.proofs.Common.{◌≡◌, ℕ, zero, suc, ◌+◌, ◌^◌, ◌<◌, ◌≤◌, Bool, true, false, cond, ◌&&◌, nat_le, nat_lt, List, [], ◌∷◌, length, Option, Some, None, Ok, refl, ap, arith}
+use Rattle.std.proofs.Common.{◌≡◌, inl, inr, sym, subst, ◌∙◌, ◌*◌, ℕ, zero, suc, ◌+◌, ◌^◌, ◌<◌, ◌≤◌, Bool, true, false, cond, ◌&&◌, nat_le, nat_lt, List, [], ◌∷◌, length, Option, Some, None, Ok, refl, ap, arith}
 use Rattle.std.specs.Prelude.{IsTrue, All, unwrap_or, ◌==◌}
 use Rattle.std.specs.List.{AllByRecursion, list_all}
-use Rattle.std.proofs.lemmas.Bool.{and_parts, and_from, le-leb, leb-true, ltb-false, eq-eqb}
+use Rattle.std.proofs.lemmas.Bool.{cases_lt, and_parts, and_from, le-leb, leb-true, ltb-false, eq-eqb}
 use Rattle.std.proofs.lemmas.List.Sums.{sum_by-cons}
 use Rattle.volume_layout.specs.declared.layout.Layout.{Layout}
 use Rattle.fsd_bytes.specs.Keys.{is_key}
@@ -12,9 +12,17 @@ use Rattle.run_table.specs.RunTable.{total, are_runs, FitsRun}
 use Rattle.run_table.specs.Space.{runs_of, pick}
 use Rattle.fsd_formats.specs.declared.entry.Entry.{Entry}
 use Rattle.fsd_formats.specs.NamePage.{is_entry, sectors_for, max_length, max_keep, FitsEntry}
-use Rattle.fsd_volume.specs.Put.{placed, placed_or}
-use Rattle.fsd_volume.proofs.PlaceLaws.{IsPlace, AreSome}
-use Rattle.fsd_volume.proofs.StoredLaws.{IsStored, stored_runs}
+use Rattle.sector_set.specs.Area.{Area}
+use Rattle.fsd_bytes.specs.declared.key.Key.{Key}
+use Rattle.fsd_bytes.specs.Keys.{key_of}
+use Rattle.fsd_files.specs.Files.{keep_of}
+use Rattle.run_table.specs.RunTable.{sectors_of}
+use Rattle.fsd_formats.specs.Record.{record_len}
+use Rattle.fsd_log.specs.Scan.{HasRoom}
+use Rattle.fsd_volume.specs.State.{State, IsKept, TakesRecord, free_space}
+use Rattle.fsd_volume.specs.Put.{IsWornOut, last_count, placed, placed_or}
+use Rattle.fsd_volume.proofs.PlaceLaws.{IsPlace, AreSome, picked_place}
+use Rattle.fsd_volume.proofs.StoredLaws.{IsStored, most_sectors, stored_runs, stored_below, stored_count}
 use Rattle.fsd_bytes.specs.declared.refusal.Refusal.TheVariants.{KeepTooLarge, TooLong}
 use Rattle.fsd_files.specs.Answers.{size_fault, keep_given}
 
@@ -98,3 +106,75 @@ runs_written need [] some count few = λ k d lt. absurd (omega arith)
 runs_written need (r ∷ runs) some count few =
     let all = total-cons r runs in
     first_and r runs (some.0, omega (arith, all)) (runs_written (total runs) runs some.1 refl (omega (arith, all)))
+
+-- ---- what was chosen
+
+-- the entry of a put, whose runs were picked among the free sectors
+pub record IsChosen (s : State) (name bytes : List ℕ) (given : Option ℕ) (e : Entry) : Type 0 where
+  pub sizes : size_fault (keep_given given) (length bytes) ≡ None
+  pub picked : pick (runs_of (free_space s.layout s.entries).sectors) (sectors_for (length bytes)) ≡ Some e.runs
+  pub is : IsPlace s.layout s.entries (sectors_for (length bytes)) e.runs
+  pub good : IsTrue (is_entry e)
+  pub fits : FitsEntry e
+  pub key : e.key ≡ key_of name 1
+  pub keep : e.keep ≡ keep_of given None
+  pub serial : e.serial ≡ s.serial
+  pub length : e.length ≡ length bytes
+
+pub chosen : (s : State) (free : Area) (name bytes : List ℕ) (given : Option ℕ) (key : Key) (keep need : ℕ) (runs : List Run) → IsKept s free → size_fault (keep_given given) (length bytes) ≡ None
+    → key ≡ key_of name 1 → IsTrue (is_key key) → keep ≡ unwrap_or given 2 → need ≡ sectors_for (length bytes) → placed free.sectors need ≡ Ok runs → (s.serial.epoch < 2 ^ 32) × (s.serial.count < 2 ^ 32)
+    → IsChosen s name bytes given (record { key = key; keep = keep; serial = s.serial; length = length bytes; runs = runs })
+chosen s free name bytes given key keep need runs kept fine key_is is_key_so keep_is need_is place serial =
+    let n : ℕ = sectors_for (length bytes) in
+    let e : Entry = record { key = key; keep = keep; serial = s.serial; length = length bytes; runs = runs } in
+    let picked = placed_ok (free_space s.layout s.entries).sectors n runs (ap (λ (m : Area). placed m.sectors n) (sym kept.map) ∙ ap (placed free.sectors) (sym need_is) ∙ place) in
+    let is = picked_place s.layout s.entries n runs (omega arith) picked in
+    let sizes = sizes_fit (keep_given given) (length bytes) fine in
+    let small : keep ≤ max_keep = subst (λ (k : ℕ). k ≤ max_keep) (sym keep_is) (keep_fits given sizes.0) in
+    let good = entry_good s.layout s.entries e is is_key_so small sizes.1 in
+    let first : key.version < 2 ^ 32 = omega (arith, ap (λ (k : Key). k.version) key_is) in
+    record {
+      sizes = fine;
+      picked = picked;
+      is = is;
+      good = good;
+      fits = entry_fits s.layout s.entries e (most_sectors s.layout s.entries kept.table) is good first small serial sizes.1;
+      key = key_is;
+      keep = keep_is;
+      serial = refl;
+      length = refl;
+    }
+
+module _ (s : State) (free : Area) (name bytes : List ℕ) (given : Option ℕ) (e : Entry) (kept : IsKept s free) (made : IsChosen s name bytes given e) where
+  as_stored : IsStored s.layout e
+  as_stored = record { entry = made.good; data_sectors = made.is.new.are_data }
+
+  pub chosen_ends : All (λ r. r.start + r.length ≤ 2 ^ 32) e.runs
+  chosen_ends = stored_runs s.layout e (most_sectors s.layout s.entries kept.table) as_stored
+
+  pub chosen_lengths : All (λ r. (1 ≤ r.length) × (r.length ≤ 65535)) e.runs
+  chosen_lengths = let sizes = sizes_fit (keep_given given) (length bytes) made.sizes in runs_written (sectors_for (length bytes)) e.runs made.is.few.some made.is.count (omega (arith, sizes.1))
+
+  pub chosen_below : All (λ t. t < s.layout.sectors) (sectors_of e.runs)
+  chosen_below = stored_below s.layout e (most_sectors s.layout s.entries kept.table) as_stored
+
+  pub chosen_count : length (sectors_of e.runs) ≡ sectors_for (length bytes)
+  chosen_count = stored_count s.layout e (most_sectors s.layout s.entries kept.table) as_stored ∙ ap sectors_for made.length
+
+-- ---- the log has room
+
+pub takes_record : (s : State) → (IsWornOut s → ⊥) → TakesRecord s.log
+takes_record s fresh = record {
+  room = elim (cases_lt s.log.head.end (s.log.head.at + record_len 1)) [
+    | inr here ↦ inl here
+    | inl full ↦ elim (cases_lt s.log.head.end (3 * s.log.layout.third)) [
+      | inl next ↦ inr next
+      | inr last ↦ absurd (fresh (inr (inr (λ two. no_room two.0 full last))))
+    ]
+  ];
+  numbered = elim (cases_lt s.log.head.number last_count) [ inl low ↦ omega (arith, low) | inr high ↦ absurd (fresh (inr (inl high))) ];
+}
+  where
+    no_room : HasRoom s.log.layout 96 s.log.head → s.log.head.end < s.log.head.at + record_len 1 → 3 * s.log.layout.third ≤ s.log.head.end → ⊥
+    no_room (inl here) full last = omega (arith, here, full)
+    no_room (inr next) full last = omega (arith, next, last)

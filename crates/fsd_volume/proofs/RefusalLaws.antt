@@ -1,14 +1,12 @@
 -- An image that can be mounted is refused for no reason of its own.
 use Rattle.std.proofs.Common.{◌≡◌, ℕ, ◌+◌, ◌^◌, ◌<◌, true, false, Option, Some, None, sym, ap, subst, ◌∙◌, arith}
-use Rattle.std.specs.Prelude.{IsSome, is_some, option_and_then}
+use Rattle.std.specs.Prelude.{IsSome, is_some}
 use Rattle.volume_layout.specs.declared.layout.Layout.{Layout}
 use Rattle.fsd_formats.specs.declared.anchor.Anchor.{Anchor}
 use Rattle.fsd_files.specs.Disk.{Image}
-use Rattle.fsd_sound.specs.Homes.{home_of}
 use Rattle.mount_recover.specs.declared.fault.MountFault.{MountFault}
 use Rattle.mount_recover.specs.declared.fault.MountFault.TheVariants.{NotVolume, Device, Memory, Lost, NoAnchor, Unsound, WornOut}
-use Rattle.fsd_volume.specs.Mount.{Excuses, IsMountable, MountRefused, table_on}
-use Rattle.fsd_volume.specs.Table.{table_in}
+use Rattle.fsd_volume.specs.Mount.{Excuses, IsMountable, MountRefused, shown_page, table_on}
 
 -- two values that one option has
 one : {A : Type 0} (o : Option A) (a b : A) → o ≡ Some a → o ≡ Some b → a ≡ b
@@ -30,11 +28,14 @@ excused sectors i WornOut m r =
     absurd (omega (arith, fits, last))
 excused sectors i (Lost a b) m r =
     let same : m.layout ≡ r.0 = one _ m.layout r.0 m.accepted.found.root r.1.found.root in
-    let none : home_of m.layout i 0 ≡ None = subst (λ (l : Layout). home_of l i 0 ≡ None) (sym same) r.2.none in
-    absurd (nothing (table_on m.layout i) m.table (ap (option_and_then (table_in m.layout)) none))
+    let lost = r.2 in
+    let within : lost.page < m.layout.pages = subst (λ (l : Layout). lost.page < l.pages) (sym same) lost.within in
+    let none : shown_page m.layout i lost.page ≡ None = subst (λ (l : Layout). shown_page l i lost.page ≡ None) (sym same) lost.none in
+    absurd (nothing (shown_page m.layout i lost.page) (m.pages lost.page within) none)
 excused sectors i (Unsound s) m r =
     let same : m.layout ≡ r.0 = one _ m.layout r.0 m.accepted.found.root r.1.found.root in
-    let none : table_on m.layout i ≡ None = subst (λ (l : Layout). table_on l i ≡ None) (sym same) r.2.none in
+    let broken = r.2 in
+    let none : table_on m.layout i ≡ None = subst (λ (l : Layout). table_on l i ≡ None) (sym same) broken.none in
     absurd (nothing (table_on m.layout i) m.table none)
 excused sectors i (Device s) m r = tt
 excused sectors i Memory m r = tt

@@ -8,7 +8,7 @@ use Rattle.std.proofs.lemmas.List.Folds.{list_all-append}
 use Rattle.volume_layout.specs.declared.layout.Layout.{Layout}
 use Rattle.volume_layout.specs.Layout.{plan, is_data}
 use Rattle.fsd_bytes.specs.Bytes.{u8_at, u16_at, same_bytes}
-use Rattle.fsd_bytes.proofs.SameLaws.{given_if}
+use Rattle.fsd_bytes.proofs.SameLaws.{given_if, same_is}
 use Rattle.run_table.specs.declared.run.Run.{Run}
 use Rattle.run_table.specs.RunTable.{runs_from, FitsRun}
 use Rattle.run_table.specs.Space.{all_differ}
@@ -22,7 +22,7 @@ use Rattle.fsd_bytes.specs.Keys.{is_key}
 use Rattle.fsd_bytes.specs.Names.{is_between}
 use Rattle.run_table.specs.RunTable.{total, are_runs, max_runs}
 use Rattle.fsd_formats.specs.NamePage.{is_entry, sectors_for, max_length, max_keep, contents_of, are_ascending, room, least_used}
-use Rattle.fsd_volume.specs.State.{IsTable}
+use Rattle.fsd_volume.specs.State.{IsTable, IsSpelled}
 use Rattle.fsd_volume.specs.Table.{leaf_of, if_apart, table_in, sectors_apart, are_apart}
 use Rattle.fsd_volume.proofs.RunApartLaws.{runs_apart, sectors_of_all}
 
@@ -91,6 +91,18 @@ leaf_fits p bytes entries small found =
     }
 
 -- ---- the entries one by one
+
+-- its bytes are spelled from the entries
+pub leaf_spelled : (p : ℕ) (bytes : List ℕ) (entries : List Entry) → AreSmall bytes → leaf_of (read_page 0 p bytes) ≡ Some entries → IsSpelled entries bytes
+leaf_spelled p bytes entries small leaf =
+    let x : Content = content_from (u8_at 4 bytes) (u16_at 6 bytes) (drop 24 bytes) in
+    let given = given_if (is_page 0 p x && same_bytes (page_bytes 0 (stamp_at 16 bytes) x) bytes) x (Leaf entries) (leaf_is (read_page 0 p bytes) entries leaf) in
+    let same = same_is (page_bytes 0 (stamp_at 16 bytes) x) bytes (and_parts (is_page 0 p x) (same_bytes (page_bytes 0 (stamp_at 16 bytes) x) bytes) given.0).1 in
+    record {
+      stamp = stamp_at 16 bytes;
+      fits = (u32_small bytes 16 small, u32_small bytes 20 small);
+      is = sym same ∙ ap (λ (c : Content). page_bytes 0 (stamp_at 16 bytes) c) given.1;
+    }
 
 pub take_next : (entries : List Entry) (i : ℕ) (e : Entry) → slice_get entries i ≡ Some e → take (i + 1) entries ≡ take i entries ++ e ∷ []
 take_next entries i e there =

@@ -14,7 +14,7 @@ use Rattle.fsd_formats.specs.declared.entry.Entry.{Entry}
 use Rattle.fsd_formats.specs.Leader.{leader_of, leader_bytes}
 use Rattle.fsd_formats.specs.NamePage.{sectors_for}
 use Rattle.fsd_files.specs.Answers.{HasLeader}
-use Rattle.fsd_files.specs.Disk.{Image, nowhere, Has}
+use Rattle.fsd_files.specs.Disk.{Image, Sectors, nowhere, Has}
 use Rattle.fsd_files.specs.Kept.{slice_of, slices_from, data_sectors, KeptIn}
 use Rattle.fsd_volume.specs.Slices.{slice_place, with_slices, with_version}
 use Rattle.fsd_volume.proofs.Laying.{holds_then, monotone_sector}
@@ -43,14 +43,14 @@ differ_at (x ∷ xs) (suc j) (suc k) d lt inside = differ_at xs j k (and_parts (
 not_there : (xs : List ℕ) (s k : ℕ) → (IsTrue (contains xs s) → ⊥) → k < length xs → s ≢ slice_index_or xs k 0
 not_there xs s k absent inside e = absent (subst (λ (x : ℕ). IsTrue (contains xs x)) (sym e) (index_there xs k 0 inside))
 
-zip_from : (j : Image) (bytes : List ℕ) (k n : ℕ) (ys : List ℕ) → length ys ≡ n → ((h : ℕ) → h < n → sector_at j (slice_index_or ys h 0) ≡ Whole (slice_of bytes (k + h))) → AllZip (Has nowhere j) (slices_from k n bytes) ys
-zip_from j bytes k zero [] size each = tt
-zip_from j bytes k zero (y ∷ ys) size each = absurd (omega arith)
-zip_from j bytes k (suc n) [] size each = absurd (omega arith)
-zip_from j bytes k (suc n) (y ∷ ys) size each =
+zip_from : (hurt : Sectors) (j : Image) (bytes : List ℕ) (k n : ℕ) (ys : List ℕ) → length ys ≡ n → ((h : ℕ) → h < n → sector_at j (slice_index_or ys h 0) ≡ Whole (slice_of bytes (k + h))) → AllZip (Has hurt j) (slices_from k n bytes) ys
+zip_from hurt j bytes k zero [] size each = tt
+zip_from hurt j bytes k zero (y ∷ ys) size each = absurd (omega arith)
+zip_from hurt j bytes k (suc n) [] size each = absurd (omega arith)
+zip_from hurt j bytes k (suc n) (y ∷ ys) size each =
     let here : k + 0 ≡ k = omega arith in (
       inl (subst (λ (m : ℕ). sector_at j y ≡ Whole (slice_of bytes m)) here (each 0 (omega arith))),
-      zip_from j bytes (k + 1) n ys (omega arith) (λ h lt. let next : k + suc h ≡ k + 1 + h = omega arith in subst (λ (m : ℕ). sector_at j (slice_index_or ys h 0) ≡ Whole (slice_of bytes m)) next (each (suc h) (omega arith))),
+      zip_from hurt j bytes (k + 1) n ys (omega arith) (λ h lt. let next : k + suc h ≡ k + 1 + h = omega arith in subst (λ (m : ℕ). sector_at j (slice_index_or ys h 0) ≡ Whole (slice_of bytes m)) next (each (suc h) (omega arith))),
     )
 
 at_first : (P : ℕ → Type 0) (xs : List ℕ) → P (slice_index_or xs 0 0) → IfSome (slice_get xs 0) P
@@ -83,9 +83,9 @@ module _ (image : Image) (e : Entry) (bytes : List ℕ) (count : length (sectors
       get_or-set_other laid first (slice_place e.runs j) (Whole (leader_bytes (leader_of e))) Damaged (λ same. differ_at (sectors_of e.runs) 0 (j + 1) differ (omega arith) (omega (arith, count)) (sym same))
       ∙ lay_at_in image (slice_place e.runs) (slice_of bytes) n j lt (λ k above below. differ_at (sectors_of e.runs) (j + 1) (k + 1) differ (omega arith) (omega (arith, count))) (room (j + 1) (omega (arith, count)))
 
-  pub version_kept : ((k : ℕ) → k < length (sectors_of e.runs) → slice_index_or (sectors_of e.runs) k 0 < length image) → KeptIn (with_version image e bytes) nowhere bytes e.runs
-  version_kept room =
-      zip_from (with_version image e bytes) bytes 0 n (data_sectors e.runs) (omega (arith, count, length-drop 1 (sectors_of e.runs)))
+  pub version_kept : (hurt : Sectors) → ((k : ℕ) → k < length (sectors_of e.runs) → slice_index_or (sectors_of e.runs) k 0 < length image) → KeptIn (with_version image e bytes) hurt bytes e.runs
+  version_kept hurt room =
+      zip_from hurt (with_version image e bytes) bytes 0 n (data_sectors e.runs) (omega (arith, count, length-drop 1 (sectors_of e.runs)))
       (λ j lt. let here : 0 + j ≡ j = omega arith in
       subst (λ (s : ℕ). sector_at (with_version image e bytes) s ≡ Whole (slice_of bytes (0 + j))) (sym (data_place e.runs j))
       (subst (λ (m : ℕ). sector_at (with_version image e bytes) (slice_place e.runs j) ≡ Whole (slice_of bytes m)) (sym here) (slice_stands room j lt)))

@@ -1,24 +1,29 @@
--- What a force leaves at any moment.
-use Rattle.std.specs.Prelude.{◌≡◌, ◌⊎◌, List, [], ◌∷◌, Some}
+-- What a force leaves.
+use Rattle.std.specs.Prelude.{◌≡◌, ℕ, List, [], ◌∷◌}
 use Rattle.volume_layout.specs.declared.layout.Layout.{Layout}
-use Rattle.volume_layout.specs.Layout.{home_a, home_b}
+use Rattle.sector_disk.specs.declared.sector.WeakRun.{WeakRun}
 use Rattle.sector_disk.specs.Machine.{Moment}
-use Rattle.fsd_formats.specs.declared.entry.Entry.{Entry}
-use Rattle.fsd_files.specs.Disk.{Image, nowhere}
-use Rattle.fsd_files.specs.Files.{Files}
-use Rattle.fsd_files.specs.Kept.{Describes}
-use Rattle.fsd_files.specs.Volume.{Volume}
-use Rattle.fsd_volume.specs.Mount.{table_on}
-use Rattle.fsd_volume.specs.Slices.{WritesIn}
+use Rattle.fsd_files.specs.Files.{Change}
+use Rattle.fsd_sound.specs.Sound.{IsSound}
+use Rattle.group_commit.specs.Force.{KeepsData, stamped_by, log_forced}
 use Rattle.fsd_volume.specs.State.{State}
 
--- Page 0, by the first of its homes that is whole, lists these files, and each slice of them stands.
-pub record ShowsFiles (l : Layout) (files : Files) (i : Image) : Type 0 where
-  pub entries : List Entry
-  pub table : table_on l i ≡ Some entries
-  pub describes : Describes l nowhere i files entries
+-- the sectors of one record of one page, or none
+abbrev pub force_len : List ℕ → ℕ
+force_len [] = 0
+force_len (page ∷ more) = 7
 
--- The disk that is left shows the files that were forced before, or the volume's. Nothing was written but page 0's homes.
-pub record Forces (state : State) (v : Volume) (forced : Files) (old left : Moment) : Type 0 where
-  pub writes : WritesIn (home_a state.layout 0 ∷ home_b state.layout 0 ∷ []) old left
-  pub shows : ShowsFiles state.layout forced left.image ⊎ ShowsFiles state.layout v.files left.image
+-- the state whose waiting pages bear the next record's stamp
+abbrev pub stamped_state : State → State
+stamped_state state = record state { table = record { pages = stamped_by state.log state.table; dirty = state.table.dirty } }
+
+-- the state behind a force: the record is in the log, and nothing waits
+abbrev pub forced_state : State → State
+forced_state state = record state { log = log_forced state.log state.table.dirty; table = record { pages = stamped_by state.log state.table; dirty = [] } }
+
+-- The disk that is left is sound, with the changes that were forced before at least; no data changes.
+pub record Forces (l : Layout) (runs : List WeakRun) (h : List Change) (f : ℕ) (old left : Moment) : Type 0 where
+  pub sound : IsSound l runs h f left.image
+  pub kept : KeepsData l old left
+  pub windows : left.windows ≡ old.windows
+  pub said : left.said ≡ old.said

@@ -1,5 +1,5 @@
 -- A mounted volume as its calls show it, and what it stands for.
-use Rattle.std.specs.Prelude.{◌≡◌, ℕ, Bool, false, not, List, [], Ok, IsTrue}
+use Rattle.std.specs.Prelude.{◌≡◌, ◌⊎◌, ℕ, ◌<◌, ◌-◌, ◌^◌, not, List, [], ◌∷◌, length, Ok}
 use Rattle.std.specs.List.{flat_map}
 use Rattle.fsd_bytes.specs.declared.key.Serial.{Serial}
 use Rattle.volume_layout.specs.declared.layout.Layout.{Layout}
@@ -7,22 +7,30 @@ use Rattle.volume_layout.specs.Layout.{plan, data_start}
 use Rattle.run_table.specs.RunTable.{sectors_of}
 use Rattle.run_table.specs.Space.{contains}
 use Rattle.sector_set.specs.Area.{Area, area}
+use Rattle.sector_disk.specs.declared.sector.WeakRun.{WeakRun}
 use Rattle.sector_disk.specs.Machine.{Moment}
 use Rattle.fsd_formats.specs.declared.entry.Entry.{Entry}
-use Rattle.fsd_files.specs.Disk.{Image, nowhere}
-use Rattle.fsd_files.specs.Files.{Files}
-use Rattle.fsd_files.specs.Kept.{Lists, Describes}
+use Rattle.fsd_formats.specs.NamePage.{Leaf, page_bytes}
+use Rattle.fsd_formats.specs.Record.{Stamp}
+use Rattle.fsd_log.specs.Scan.{HasRoom}
+use Rattle.log_thirds.specs.LogValue.{LogValue}
+use Rattle.group_commit.specs.Resident.{ResidentValue}
+use Rattle.fsd_files.specs.Disk.{Image}
+use Rattle.fsd_files.specs.Files.{Change}
+use Rattle.fsd_files.specs.Kept.{Lists}
 use Rattle.fsd_files.specs.Space.{Apart}
-use Rattle.fsd_files.specs.Volume.{Volume, plans_of, is_in, in_version}
-use Rattle.fsd_sound.specs.AtHome.{IsRootLeaf, HoldsFiles}
+use Rattle.fsd_files.specs.Volume.{Volume, plans_of}
+use Rattle.fsd_sound.specs.Shown.{IsRootLeaf}
+use Rattle.fsd_sound.specs.Mounted.{Mounted, IsMounted as StandsOnDisk, image_at}
 
--- The layout, the entries of the one leaf in order, the serial that the next creation draws, and whether the leaf was changed
--- since it was last written.
+-- The layout, the entries of the one leaf in order, the serial that the next creation draws, the log, and the pages of the
+-- name table in memory.
 pub record State : Type 0 where
   pub layout : Layout
   pub entries : List Entry
   pub serial : Serial
-  pub waits : Bool
+  pub log : LogValue
+  pub table : ResidentValue
 
 -- The layout is a plan, the entries are a leaf that page 0 may be, and their sectors are apart.
 pub record IsTable (l : Layout) (entries : List Entry) : Type 0 where
@@ -34,12 +42,33 @@ pub record IsTable (l : Layout) (entries : List Entry) : Type 0 where
 abbrev pub free_space : Layout → List Entry → Area
 free_space l entries = area (data_start l) l.sectors (λ s. not (contains (flat_map sectors_of (plans_of entries)) s))
 
--- The entries are a table, and the map has the sectors that they leave.
-pub record IsKept (l : Layout) (entries : List Entry) (free : Area) : Type 0 where
-  pub table : IsTable l entries
-  pub map : free ≡ free_space l entries
+-- The bytes are page 0, a leaf of these entries.
+pub record IsSpelled (entries : List Entry) (bytes : List ℕ) : Type 0 where
+  pub stamp : Stamp
+  pub fits : (stamp.epoch < 2 ^ 32) × (stamp.number < 2 ^ 32)
+  pub is : bytes ≡ page_bytes 0 stamp (Leaf entries)
 
--- The volume has these entries and lists its files by them; nothing waits for a force, no reader holds and no creation is open.
+-- There is room for one record of one page, and a number.
+pub record TakesRecord (log : LogValue) : Type 0 where
+  pub room : HasRoom log.layout 1 log.head
+  pub numbered : log.head.number < 2 ^ 32 - 1
+
+-- nothing waits, or page 0 does, for whose record there is room
+abbrev pub MayForce : LogValue → ResidentValue → Type 0
+MayForce log table = (table.dirty ≡ []) ⊎ ((table.dirty ≡ 0 ∷ []) × TakesRecord log)
+
+-- The entries are a table, the map has the sectors that they leave, the log is the layout's, in the epoch of the serials, and
+-- the pages in memory are the table's, page 0 with the entries.
+pub record IsKept (state : State) (free : Area) : Type 0 where
+  pub table : IsTable state.layout state.entries
+  pub map : free ≡ free_space state.layout state.entries
+  pub log : state.log.layout ≡ state.layout
+  pub epoch : state.serial.epoch ≡ state.log.anchor.epoch
+  pub pages : length state.table.pages ≡ state.layout.pages
+  pub leaf : IsSpelled state.entries (image_at state.table.pages 0)
+  pub force : MayForce state.log state.table
+
+-- The volume has these entries and lists its files by them; no reader holds and no creation is open.
 pub record StandsFor (state : State) (v : Volume) : Type 0 where
   pub layout : v.layout ≡ state.layout
   pub entries : v.entries ≡ state.entries
@@ -50,17 +79,17 @@ pub record StandsFor (state : State) (v : Volume) : Type 0 where
   pub drafts : v.drafts ≡ []
   pub reached : v.reached ≡ 1
 
--- The volume is mounted from a disk: each slice of its files stands there. The disk holds the files that were forced, in sectors
--- that no new version has taken, and those are the volume's own where its leaf was written since.
-pub record IsMounted (state : State) (v : Volume) (forced : Files) (i : Image) : Type 0 where
-  pub stands : StandsFor state v
-  pub describes : Describes state.layout nowhere i v.files v.entries
-  pub disk : HoldsFiles state.layout state.serial.epoch forced i
-  pub inside : (s : ℕ) → IsTrue (is_in (plans_of disk.entries) s) → IsTrue (in_version v s)
-  pub written : state.waits ≡ false → forced ≡ v.files
+-- the volume over its log and pages
+abbrev pub mounted_of : State → Volume → Mounted
+mounted_of state v = record { volume = v; pages = state.table.pages; dirty = state.table.dirty; anchor = state.log.anchor; head = state.log.head }
 
--- The volume stays mounted from the disk that is left, with the same forced files; the windows and what was said are as they were.
-pub record StaysMounted (state : State) (v : Volume) (forced : Files) (old left : Moment) : Type 0 where
-  pub mounted : IsMounted state v forced left.image
+-- The volume is mounted on this disk, after these changes, the first f of them forced.
+pub record IsMounted (state : State) (v : Volume) (windows : List WeakRun) (h : List Change) (f : ℕ) (i : Image) : Type 0 where
+  pub stands : StandsFor state v
+  pub on_disk : StandsOnDisk (mounted_of state v) windows h f i
+
+-- The volume stays mounted on the disk that is left; the windows and what was said are as they were.
+pub record StaysMounted (state : State) (v : Volume) (runs : List WeakRun) (h : List Change) (f : ℕ) (old left : Moment) : Type 0 where
+  pub mounted : IsMounted state v runs h f left.image
   pub windows : left.windows ≡ old.windows
   pub said : left.said ≡ old.said

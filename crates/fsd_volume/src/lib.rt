@@ -14,8 +14,8 @@ mod slices;
 mod table;
 mod volume;
 
-pub use forcing::Forced;
 pub use formatting::format;
+pub use group_commit::Forced;
 pub use laws::mounts_are_refused_or_not;
 pub use volume::Volume;
 

@@ -1,6 +1,6 @@
 //! The bytes of a version out of its sectors.
 ghost use Rattle.std.specs.Prelude.{◌≡◌, ◌+◌, ◌-◌, ◌*◌, ◌^◌, ◌≤◌, ◌<◌, ℕ, List, All, length, take, IfOk, IfErr};
-ghost use Rattle.sector_disk.specs.Machine.{DeviceFault, UsesDisk, Trusts, Wears};
+ghost use Rattle.sector_disk.specs.Machine.{DeviceFault, UsesDisk, Trusts, Wears, LeavesOnly};
 ghost use Rattle.run_table.specs.RunTable.{sectors_of};
 ghost use Rattle.fsd_files.specs.Disk.{Sectors};
 ghost use Rattle.fsd_files.specs.Kept.{KeptIn};
@@ -30,6 +30,7 @@ pub(crate) fn read_range<M: Machine>(
     ensures trust { Trusts (M.tells m.old) (M.tells m.new) (M.honest m.old) (M.honest m.new) }
     ensures ledger { M.tells m.new → M.ledger m.new ≡ M.ledger m.old }
     ensures worn { M.honest m.new → Wears (M.now m.old) (M.now m.new) }
+    ensures any_moment { M.honest m.new → LeavesOnly M.moment M.left_since m.old m.new (Wears (M.now m.old)) }
     ensures gives { M.honest m.new → (bytes : List ℕ) (hurt : Sectors) → KeptIn (M.now m.old).image hurt bytes runs.now → from + n ≤ length bytes →
         GivesRange (M.now m.old).image (M.now m.new).image bytes runs.now from n result (take n buf.new) }
     ensures damaged { M.honest m.new → NamesDamaged (M.now m.old).image (M.now m.new).image runs.now from n result }
@@ -66,6 +67,7 @@ fn read_part<M: Machine>(
     ensures trust { Trusts (M.tells m.old) (M.tells m.new) (M.honest m.old) (M.honest m.new) }
     ensures ledger { M.tells m.new → M.ledger m.new ≡ M.ledger m.old }
     ensures worn { M.honest m.new → Wears (M.now m.old) (M.now m.new) }
+    ensures any_moment { M.honest m.new → LeavesOnly M.moment M.left_since m.old m.new (Wears (M.now m.old)) }
     ensures shown { IfOk result (λ seen. M.honest m.new → ShowsPart (M.now m.old).image (M.now m.new).image place at to len buf.old buf.new seen) }
     ensures size { length buf.new ≡ length buf.old }
 {

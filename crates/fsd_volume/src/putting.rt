@@ -1,22 +1,25 @@
 //! The making of versions.
-ghost use Rattle.std.specs.Prelude.{◌≡◌, ◌≤◌, ◌<◌, ◌+◌, ◌-◌, ◌^◌, false, true, ℕ, List, None, Some, Err, All, OnOk, IfErr, IsTrue, length, IfOk, IfSome, IsSome};
-ghost use Rattle.std.specs.List.{insert};
+ghost use Rattle.std.specs.Prelude.{◌≡◌, ◌≤◌, ◌<◌, ◌+◌, ◌-◌, ◌^◌, ◌↔◌, false, true, ℕ, List, None, Some, Err, All, OnOk, IfErr, IsTrue, length, IfOk, IfSome, IsSome};
+ghost use Rattle.std.specs.List.{insert, list_all};
 ghost use Rattle.fsd_bytes.specs.declared.refusal.Refusal.TheVariants.{WornOut};
 ghost use Rattle.fsd_bytes.specs.Keys.{key_of, is_key};
 ghost use Rattle.run_table.specs.RunTable.{sectors_of};
 ghost use Rattle.fsd_formats.specs.declared.entry.Entry.{Entry as Listed};
 ghost use Rattle.fsd_formats.specs.NamePage.{room, is_entry, sectors_for, max_length, FitsEntry};
+ghost use Rattle.sector_disk.specs.declared.sector.WeakRun.{WeakRun};
 ghost use Rattle.sector_disk.specs.Image.{IsCalm};
 ghost use Rattle.sector_disk.specs.Machine.{DeviceFault, UsesDisk, Trusts, OnlyWrites, LeavesOnly, Holds};
 ghost use Rattle.fsd_files.specs.Answers.{entry_put, entry_of, size_fault, keep_given, HasLeader};
 ghost use Rattle.fsd_files.specs.Disk.{nowhere};
-ghost use Rattle.fsd_files.specs.Files.{Files};
+ghost use Rattle.fsd_files.specs.Files.{Change};
 ghost use Rattle.fsd_files.specs.OneLeaf.{leaf_used, put_outcome};
 ghost use Rattle.fsd_files.specs.Volume.{Volume as Mounted, plans_of};
 ghost use Rattle.fsd_volume.specs.Calls.{TellsDevice};
-ghost use Rattle.fsd_volume.specs.Put.{names, placed, last_count, AreNew, Enters, Puts, PutsOn};
+ghost use Rattle.fsd_sound.specs.Sound.{EndIn};
+ghost use Rattle.group_commit.specs.Resident.{MayWait};
+ghost use Rattle.fsd_volume.specs.Put.{names, placed, made_by, with_leaf, AreNew, Enters, IsWornOut, Puts, PutsOn};
 ghost use Rattle.fsd_volume.specs.Slices.{with_version, WritesIn};
-ghost use Rattle.fsd_volume.specs.State.{StandsFor, IsMounted, StaysMounted};
+ghost use Rattle.fsd_volume.specs.State.{StandsFor, TakesRecord, IsMounted, StaysMounted};
 
 use crate::Volume;
 use crate::sectors::write_sector;
@@ -24,8 +27,9 @@ use crate::slices::write_slices;
 use alloc_map::{Map, NoPlace};
 use fsd_bytes::{FileName, Key, Refusal};
 use fsd_formats::{Entry, Leader};
+use group_commit::Resident;
 use leader_page::leader_bytes;
-use name_page::entry_len;
+use name_page::{entry_len, write_leaf};
 use run_table::Runs;
 use sector_disk::{Failed, Machine};
 use std::cmp::Ordering;
@@ -53,29 +57,32 @@ impl Volume {
         ensures windows { M.honest m.new → (M.now m.new).windows ≡ (M.now m.old).windows }
         ensures layout { self.new.layout ≡ self.old.layout }
 
-        // This many serials are enough for one mount.
-        ensures spent { size_fault (keep_given keep) (length bytes.now) ≡ None → last_count ≤ self.old.serial.count → result ≡ Err WornOut }
+        // What one mount has is used up at some time.
+        ensures spent { size_fault (keep_given keep) (length bytes.now) ≡ None → IsWornOut self.old → result ≡ Err WornOut }
 
-        // It answers what the volume answers, and is the volume then.
-        ensures answers { (v : Mounted) → StandsFor self.old v → Puts v (put_outcome v name.now bytes.now keep) self.new result }
+        // It answers what the volume answers, and is the volume then. The log stays, up to the next force.
+        ensures answers { (v : Mounted) → StandsFor self.old v → Puts self.old v (put_outcome v name.now bytes.now keep) self.new result }
+        ensures log { self.new.log ≡ self.old.log }
 
         // The new version is listed, and its leader stands in its first sector.
         ensures listed { IfOk result (λ key. IsSome (entry_of key self.new.entries)) }
         ensures leader { IfOk result (λ key. M.honest m.new → IsCalm (M.now m.old).windows →
             IfSome (entry_of key self.new.entries) (HasLeader nowhere (M.now m.new).image)) }
 
-        // A stop at any moment leaves the versions that there were, and what was forced before.
-        ensures any_moment { M.honest m.new → IsCalm (M.now m.old).windows → (v : Mounted) (files : Files) → IsMounted self.old v files (M.now m.old).image →
-            LeavesOnly M.moment M.left_since m.old m.new (StaysMounted self.old v files (M.now m.old)) }
+        // A stop at any moment leaves the volume on its disk as it was.
+        ensures any_moment { M.honest m.new → IsCalm (M.now m.old).windows → (v : Mounted) (windows : List WeakRun) (h : List Change) (f : ℕ) →
+            EndIn (M.now m.old).windows windows → IsMounted self.old v windows h f (M.now m.old).image →
+            LeavesOnly M.moment M.left_since m.old m.new (StaysMounted self.old v windows h f (M.now m.old)) }
 
-        // The versions stand on the disk, and what was forced before, also where the disk has failed.
-        ensures stands { M.honest m.new → IsCalm (M.now m.old).windows → (v : Mounted) (files : Files) → IsMounted self.old v files (M.now m.old).image →
-            PutsOn v (put_outcome v name.now bytes.now keep) files self.new (M.now m.new).image result }
+        // The volume stands on the disk, after one change more where the put was made, and with the same changes forced.
+        ensures stands { M.honest m.new → IsCalm (M.now m.old).windows → (v : Mounted) (windows : List WeakRun) (h : List Change) (f : ℕ) →
+            EndIn (M.now m.old).windows windows → IsMounted self.old v windows h f (M.now m.old).image →
+            PutsOn self.old v (put_outcome v name.now bytes.now keep) windows h (made_by (Change.Put name.now keep bytes.now) result) f self.new (M.now m.new).image result }
     {
         if let Some(refusal) = size_fault(keep, bytes.len()) {
             return Err(refusal);
         }
-        if self.serial.count >= 4_294_967_280 {
+        if self.is_worn_out() {
             return Err(Refusal::WornOut);
         }
         let length = bytes.len() as u32;
@@ -97,11 +104,21 @@ impl Volume {
         }
     }
 
-    // Puts an entry in, whose sectors are free.
+    // Whether this mount can make no version more.
+    fn is_worn_out(&self) -> bool
+        ensures { IsTrue result ↔ IsWornOut self.now }
+    {
+        self.serial.count >= 4_294_967_280
+            || self.log.next_number() >= 4_294_967_280
+            || !self.log.two_fit()
+    }
+
+    // Puts an entry in, whose sectors are free, with room for its page's record.
     fn enter(&mut self, entry: Entry) -> Result<Key, Refusal>
         requires entry { IsTrue (is_entry entry) }
         requires fits { FitsEntry entry }
         requires free { AreNew self.old.layout (plans_of self.old.entries) entry.runs }
+        requires room { TakesRecord self.old.log }
         ensures { Enters self.old entry self.new result }
     {
         if has_name(self.entries.as_slice(), &entry.key.name) {
@@ -117,9 +134,23 @@ impl Volume {
             return Err(Refusal::Memory);
         }
         self.map.take(&runs);
-        self.waits = true;
+        rewrite(&mut self.pages, self.entries.as_slice());
         Ok(key)
     }
+}
+
+// Makes these entries page 0, which waits for a force.
+fn rewrite(pages: &mut Resident, entries: &[Entry])
+    requires some { 0 < length pages.old.pages }
+    requires room { MayWait 0 pages.old.dirty }
+    requires entries { IsTrue (list_all is_entry entries.now) }
+    requires fits { leaf_used entries.now ≤ room }
+    ensures { pages.new ≡ with_leaf entries.now pages.old }
+{
+    let mut page = *pages.bytes(0);
+    write_leaf(0, entries, &mut page);
+    pages.put(0, &page);
+    pages.dirty(0);
 }
 
 // The key of a name's first version.

@@ -1,7 +1,7 @@
 //! The look-up and the reading of versions.
 ghost use Rattle.std.specs.Prelude.{◌≡◌, ◌+◌, ◌-◌, ◌≤◌, ◌<◌, ℕ, List, Some, None, MatchResult, MatchOption, IfOk, IfErr, length, take, min, option_map};
 ghost use Rattle.fsd_bytes.specs.declared.refusal.Refusal.TheVariants.{NoSuch};
-ghost use Rattle.sector_disk.specs.Machine.{DeviceFault, UsesDisk, Trusts, Wears};
+ghost use Rattle.sector_disk.specs.Machine.{DeviceFault, UsesDisk, Trusts, Wears, LeavesOnly};
 ghost use Rattle.fsd_formats.specs.declared.entry.Entry.{Entry as Listed};
 ghost use Rattle.fsd_files.specs.Answers.{entry_of};
 ghost use Rattle.fsd_files.specs.Disk.{Sectors};
@@ -43,6 +43,7 @@ impl Volume {
         ensures trust { Trusts (M.tells m.old) (M.tells m.new) (M.honest m.old) (M.honest m.new) }
         ensures ledger { M.tells m.new → M.ledger m.new ≡ M.ledger m.old }
         ensures worn { M.honest m.new → Wears (M.now m.old) (M.now m.new) }
+        ensures any_moment { M.honest m.new → LeavesOnly M.moment M.left_since m.old m.new (Wears (M.now m.old)) }
         ensures state { self.new ≡ self.old }
         ensures size { length buf.new ≡ length buf.old }
 

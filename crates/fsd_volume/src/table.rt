@@ -4,7 +4,7 @@ ghost use Rattle.std.specs.List.{flat_map};
 ghost use Rattle.fsd_formats.specs.NamePage.{read_page};
 ghost use Rattle.name_page.specs.Reading.{entries_in};
 ghost use Rattle.fsd_volume.specs.Table.{leaf_of, table_in, meets, is_inside, are_apart};
-ghost use Rattle.fsd_volume.specs.State.{IsTable};
+ghost use Rattle.fsd_volume.specs.State.{IsTable, IsSpelled};
 
 use fsd_formats::Entry;
 use name_page::{PageKind, leaf_entry, read_page};
@@ -20,6 +20,7 @@ pub(crate) fn table_of(
 ) -> Result<Option<Vec<Entry>>, AllocError>
     ensures found { IfOk result (λ table. MatchOption table (table_in l.now page.now ≡ None) (λ entries. table_in l.now page.now ≡ Some entries.items)) }
     ensures sound { IfOk result (λ table. IfSome table (λ entries. IsTable l.now entries.items)) }
+    ensures spelled { IfOk result (λ table. IfSome table (λ entries. IsSpelled entries.items page.now)) }
 {
     let Some(count) = leaf_count(page, l.pages()) else {
         return Ok(None);

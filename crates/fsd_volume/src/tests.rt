@@ -1,13 +1,17 @@
 //! Each call once.
+ghost use Rattle.std.specs.Prelude.{◌≡◌, IfOk};
+
 use crate::{Volume, format};
 use fsd_bytes::{FileName, Refusal};
 use sector_disk::{Attach, Machine, MemoryMachine, Sector};
+use std::alloc::Global;
 use std::test::Fail;
 use volume_layout::Layout;
 
-#[test]
-fn a_version_is_made_and_read(rt: HostRuntime) -> Result<(), Fail> {
-    let alloc = rt.alloc();
+// A machine that has attached an empty volume of 2048 sectors.
+fn formatted(alloc: Global) -> Result<MemoryMachine, Fail>
+    ensures { IfOk result (λ m. (⟦<MemoryMachine as Machine>⟧.report m).sectors ≡ 2048) }
+{
     let mut m = MemoryMachine::with_runs(
         alloc,
         Vec::new(alloc),
@@ -15,14 +19,20 @@ fn a_version_is_made_and_read(rt: HostRuntime) -> Result<(), Fail> {
         Vec::new(alloc),
         Vec::new(alloc),
     );
-    let sectors = m.attach("v", Attach::New(2048))?;
+    m.attach("v", Attach::New(2048))?;
     let l = Layout::plan(2048, 256, 64)?;
-    assert!(rt; l.sectors() <= sectors);
-    assert_eq!(rt; format(&mut m, &l), Ok(()));
+    if l.sectors() == 2048 {
+        format(&mut m, &l)?;
+    }
+    Ok(m)
+}
 
-    let mut v = Volume::mount(alloc, &mut m, sectors)?;
+#[test]
+fn a_version_is_made_and_read(rt: HostRuntime) -> Result<(), Fail> {
+    let alloc = rt.alloc();
+    let mut m = formatted(alloc)?;
+    let mut v = Volume::mount(alloc, &mut m, 2048)?;
     let name = FileName::parse(b"a")?;
-    assert!(rt; v.layout.sectors() <= sectors);
     let key = v.put(&mut m, &name, None, b"hi")?;
     assert_eq!(rt; key.version, 1);
     assert_eq!(rt;
@@ -42,5 +52,18 @@ fn a_version_is_made_and_read(rt: HostRuntime) -> Result<(), Fail> {
     data[1] = b'i';
     assert!(rt; m.image()[922] == Sector::Whole(data));
     assert!(rt; m.image()[921] != Sector::Damaged);
+    Ok(())
+}
+
+// The next mount finds the record of the force.
+#[test]
+fn a_closed_volume_is_mounted_again(rt: HostRuntime) -> Result<(), Fail> {
+    let alloc = rt.alloc();
+    let mut m = formatted(alloc)?;
+    let mut v = Volume::mount(alloc, &mut m, 2048)?;
+    let key = v.put(&mut m, &FileName::parse(b"a")?, None, b"hi")?;
+    assert_eq!(rt; v.close(&mut m), Ok(()));
+    let v = Volume::mount(alloc, &mut m, 2048)?;
+    assert_eq!(rt; v.entry(&key)?.length, 2);
     Ok(())
 }

@@ -3,7 +3,7 @@ use Rattle.run_table.specs.RunTable.{sectors_of}
 use Rattle.sector_disk.specs.declared.machine.Seen.{Seen}
 use Rattle.sector_disk.proofs.Holding.{trusts_on}
 use Rattle.fsd_volume.specs.Pieces.{ShowsPart}
-use Rattle.fsd_volume.proofs.CallLaws.{uses_on, wears_same, wears_on}
+use Rattle.fsd_volume.proofs.CallLaws.{uses_on, wears_same, wears_on, no_call_wears, calls_wear}
 use Rattle.fsd_volume.proofs.PieceLaws.{WholeTo, FrontStands, none_yet, nothing_yet, whole_more, front_more, gives_all, gives_damaged, part_before, range_damaged, is_there, in_all}
 use Rattle.fsd_volume.proofs.pieces.read_range.Goals as goal
 
@@ -17,6 +17,7 @@ loop-done-init g c =
       trust = record { tells = λ t. t; honest = λ h. h };
       ledger = λ t. refl;
       worn = λ h. wears_same (M.now old);
+      moments = λ h. no_call_wears M.moment M.left_since old (M.now old) (λ left. λ since. g.met.M.Machine.only_now old left h since);
       whole = λ h. none_yet (M.now old).image c.args.runs.now c.args.from;
       front = λ h bytes hurt kept room. nothing_yet bytes c.args.from c.args.buf.now;
     }
@@ -43,6 +44,8 @@ loop-done-preserved g c =
       trust = trusts_on so_far.trust c.read_part.ensures.trust;
       ledger = λ t. c.read_part.ensures.ledger t ∙ so_far.ledger (c.read_part.ensures.trust.tells t);
       worn = λ h. wears_on (so_far.worn (c.read_part.ensures.trust.honest h)) (c.read_part.ensures.worn h);
+      moments = λ h. let h1 = c.read_part.ensures.trust.honest h in
+          calls_wear M.moment M.left_since old c.loop-done.m c.read_part.new.m (M.now old) (M.now c.loop-done.m) (so_far.moments h1) (so_far.worn h1) (c.read_part.ensures.any_moment h);
       whole = λ h. whole_more (M.now old).image c.args.runs.now c.args.from c.loop-done.done c.min-len.result c.unwrap-place.result (part h).bytes (so_far.whole (c.read_part.ensures.trust.honest h)) at (part h).whole (omega arith);
       front = λ h bytes hurt kept room. front_more (M.now old).image hurt c.args.runs.now bytes c.loop-done.buf c.read_part.new.buf c.args.from c.loop-done.done c.min-len.result c.args.n c.unwrap-place.result
           kept room (omega arith) (omega (arith, so_far.size)) (omega arith) (omega arith) at (part h) (so_far.front (c.read_part.ensures.trust.honest h) bytes hurt kept room);
@@ -69,3 +72,15 @@ returns-in-Ok-Damaged-clause-damaged g c h =
     let shown = subst (λ (s : Seen). ShowsPart (M.now c.loop-done.m).image (M.now c.read_part.new.m).image c.unwrap-place.result ((c.args.from + c.loop-done.done) % 512) c.loop-done.done c.min-len.result c.loop-done.buf c.read_part.new.buf s) c.in-Ok-Damaged.field-0-is (c.in-Ok-Damaged.ensures.shown h) in
     range_damaged (M.now c.args.m.now).image (M.now c.read_part.new.m).image c.args.runs.now c.args.from c.args.n c.loop-done.done c.unwrap-place.result (omega arith)
     (c.loop-done.invariant.whole (c.read_part.ensures.trust.honest h)) (sym c.sector.ensures ∙ c.unwrap-place.ensures) shown (omega arith)
+
+pub returns-in-Ok-Damaged-clause-any_moment : goal.returns-in-Ok-Damaged-clause-any_moment
+returns-in-Ok-Damaged-clause-any_moment g c h =
+    let M = g.M.Machine in
+    let h1 = c.read_part.ensures.trust.honest h in
+    calls_wear M.moment M.left_since c.args.m.now c.loop-done.m c.read_part.new.m (M.now c.args.m.now) (M.now c.loop-done.m) (c.loop-done.invariant.moments h1) (c.loop-done.invariant.worn h1) (c.read_part.ensures.any_moment h)
+
+pub returns-in-Err-clause-any_moment : goal.returns-in-Err-clause-any_moment
+returns-in-Err-clause-any_moment g c h =
+    let M = g.M.Machine in
+    let h1 = c.read_part.ensures.trust.honest h in
+    calls_wear M.moment M.left_since c.args.m.now c.loop-done.m c.read_part.new.m (M.now c.args.m.now) (M.now c.loop-done.m) (c.loop-done.invariant.moments h1) (c.loop-done.invariant.worn h1) (c.read_part.ensures.any_moment h)

@@ -1,61 +1,88 @@
-use Rattle.std.proofs.Common.{sym, ap, subst, ◌∙◌}
+use Rattle.std.proofs.Common.{◌≡◌, ◌<◌, ◌^◌, [], length, Result, Ok, Err, refl, sym, subst, ◌∙◌, rules}
+use Rattle.std.specs.Prelude.{OnErr}
+use Rattle.std.proofs.lemmas.Bool.{eqb-true}
+use Rattle.std.proofs.lemmas.List.{nil_from_length}
 use Rattle.sector_disk.specs.Machine.{LeavesOnly}
 use Rattle.sector_disk.proofs.Moments.{leaves_more, started}
-use Rattle.fsd_formats.specs.NamePage.{Leaf, page_bytes}
-use Rattle.twin_home.specs.Home.{HomesIn}
+use Rattle.fsd_files.specs.Volume.{forced}
 use Rattle.fsd_volume.specs.Forcing.{Forces}
-use Rattle.fsd_volume.specs.State.{State, IsMounted}
-use Rattle.fsd_volume.proofs.ForceMoments.{forces_at, forces_none}
-use Rattle.fsd_volume.proofs.Laying.{calm_holds}
-use Rattle.fsd_volume.proofs.ForceLaws.{idle_mounted, force_mounted}
+use Rattle.fsd_volume.specs.State.{State, IsKept, IsMounted}
+use Rattle.fsd_volume.proofs.ForceLaws.{kept_stamped, kept_forced, over_log, forces_at, forced_at, idle_forces, idle_mounted}
 use Rattle.fsd_volume.proofs.volume.Volume.force.Goals as goal
+use Rattle.fsd_volume.proofs.volume.Volume.force.Goals.{in-Ok, in-Err-Device, in-Err-Lost}
 
-pub returns-then-not-self-clause-done : goal.returns-then-not-self-clause-done
-returns-then-not-self-clause-done g c h calm v files mounted =
-    idle_mounted c.args.self.now v files (g.M.Machine.now c.args.m.now).image (ap (λ (s : State). s.waits) (sym c.self.view_is) ∙ c.if-not-self.true) mounted
+on_err : {T E A : Type 0} (r : Result T E) → A → OnErr r A
+on_err (Ok x) a = tt
+on_err (Err e) a = a
 
-pub returns-in-Ok-clause-done : goal.returns-in-Ok-clause-done
-returns-in-Ok-clause-done g c h calm v files mounted =
+pub returns-then-is_empty-clause-any_moment : goal.returns-then-is_empty-clause-any_moment
+returns-then-is_empty-clause-any_moment g c honest calm v windows h f ends mounted =
     let M = g.M.Machine in
-    let here = subst (λ (s : State). IsMounted s v files (M.now c.args.m.now).image) (sym c.self.view_is) mounted in
-    let state : State = record { layout = c.self.inside.layout; entries = c.self.inside.entries.items; serial = c.self.inside.serial; waits = c.self.inside.waits } in
-    force_mounted state v files (M.now c.args.m.now).image (M.now c.write_table.new.m).image c.self.invariant.table c.in-Ok.ensures.fits here
-    c.as_slice.result.now c.as_slice.ensures.value (calm_holds (M.now c.args.m.now) (M.now c.write_table.new.m) _ calm (c.in-Ok.ensures.done h))
+    started M.moment M.left_since c.args.m.now (M.now c.args.m.now) (Forces c.args.self.now.layout windows h f (M.now c.args.m.now)) (λ l left. g.met.M.Machine.only_now c.args.m.now l honest left)
+    (idle_forces c.args.self.now v windows h f (M.now c.args.m.now) mounted)
 
-pub returns-in-Ok-clause-any_moment : goal.returns-in-Ok-clause-any_moment
-returns-in-Ok-clause-any_moment g c h calm v files mounted =
+pub returns-then-is_empty-clause-done : goal.returns-then-is_empty-clause-done
+returns-then-is_empty-clause-done g c honest calm v windows h f ends mounted =
     let M = g.M.Machine in
-    let here = subst (λ (s : State). IsMounted s v files (M.now c.args.m.now).image) (sym c.self.view_is) mounted in
-    let state : State = record { layout = c.self.inside.layout; entries = c.self.inside.entries.items; serial = c.self.inside.serial; waits = c.self.inside.waits } in
+    let state : State = record { layout = c.self.inside.layout; entries = c.self.inside.entries.items; serial = c.self.inside.serial; log = c.self.inside.log; table = c.self.inside.pages } in
     let old = M.now c.args.m.now in
-    let bytes = page_bytes 0 (record { epoch = state.serial.epoch; number = state.serial.count }) (Leaf c.as_slice.result.now) in
-    subst (λ (s : State). LeavesOnly M.moment M.left_since c.args.m.now c.write_table.new.m (Forces s v files old)) c.self.view_is
-    (leaves_more M.moment M.left_since c.args.m.now c.write_table.new.m (HomesIn state.layout 0 bytes old) (Forces state v files old) (λ left homes. forces_at state v files old left c.self.invariant.table c.write_table.ensures.fits calm here c.as_slice.result.now c.as_slice.ensures.value c.write_table.ensures.whole homes) (c.write_table.ensures.any_moment h))
+    let epoch : c.self.inside.serial.epoch < 2 ^ 32 = search rules in
+    let here = subst (λ (s : State). IsMounted s v windows h f old.image) (sym c.self.view_is) mounted in
+    let none : c.self.inside.pages.dirty ≡ [] = sym c.dirty_list.ensures ∙ nil_from_length c.dirty_list.result.now (eqb-true (length c.dirty_list.result.now) 0 (sym c.is_empty.ensures ∙ c.if-is_empty.true)) in
+    subst (λ (s : State). IsMounted s (forced v) windows h (length h) old.image) c.self.view_is (idle_mounted state c.self.inside.map c.self.invariant epoch none v windows h f old.image here)
 
-pub returns-in-Err-clause-any_moment : goal.returns-in-Err-clause-any_moment
-returns-in-Err-clause-any_moment g c h calm v files mounted =
+pub invariant_of-self : goal.invariant_of-self
+invariant_of-self g c =
+    let state : State = record { layout = c.self.inside.layout; entries = c.self.inside.entries.items; serial = c.self.inside.serial; log = c.self.inside.log; table = c.self.inside.pages } in
+    let epoch : c.self.inside.serial.epoch < 2 ^ 32 = search rules in
+    let map = c.self.inside.map in
+    elim c.match-force.branch [
+      | in-Ok w ↦ subst (λ (s : State). IsKept s map) (λ i. record state { log = sym w.in-Ok.ensures.log i; table = sym w.in-Ok.ensures.state i }) (kept_forced state map c.self.invariant epoch)
+      | in-Err-Device w ↦ subst (λ (s : State). IsKept s map) (λ i. record state { log = sym w.in-Err-Device.ensures.log_err i; table = sym w.in-Err-Device.ensures.state_err i }) (kept_stamped state map c.self.invariant epoch)
+      | in-Err-Lost w ↦ subst (λ (s : State). IsKept s map) (λ i. record state { log = sym w.in-Err-Lost.ensures.log_err i; table = sym w.in-Err-Lost.ensures.state_err i }) (kept_stamped state map c.self.invariant epoch)
+    ]
+
+pub returns-clause-any_moment : goal.returns-clause-any_moment
+returns-clause-any_moment g c honest calm v windows h f ends mounted =
     let M = g.M.Machine in
-    let here = subst (λ (s : State). IsMounted s v files (M.now c.args.m.now).image) (sym c.self.view_is) mounted in
-    let state : State = record { layout = c.self.inside.layout; entries = c.self.inside.entries.items; serial = c.self.inside.serial; waits = c.self.inside.waits } in
+    let state : State = record { layout = c.self.inside.layout; entries = c.self.inside.entries.items; serial = c.self.inside.serial; log = c.self.inside.log; table = c.self.inside.pages } in
     let old = M.now c.args.m.now in
-    let bytes = page_bytes 0 (record { epoch = state.serial.epoch; number = state.serial.count }) (Leaf c.as_slice.result.now) in
-    subst (λ (s : State). LeavesOnly M.moment M.left_since c.args.m.now c.write_table.new.m (Forces s v files old)) c.self.view_is
-    (leaves_more M.moment M.left_since c.args.m.now c.write_table.new.m (HomesIn state.layout 0 bytes old) (Forces state v files old) (λ left homes. forces_at state v files old left c.self.invariant.table c.write_table.ensures.fits calm here c.as_slice.result.now c.as_slice.ensures.value c.write_table.ensures.whole homes) (c.write_table.ensures.any_moment h))
+    let epoch : c.self.inside.serial.epoch < 2 ^ 32 = search rules in
+    let here = subst (λ (s : State). IsMounted s v windows h f old.image) (sym c.self.view_is) mounted in
+    let over = over_log state c.self.inside.map c.self.invariant epoch v windows h f old.image here in
+    let moments = c.force.ensures.any_moment windows here.on_disk.records here.on_disk.disk honest calm ends over in
+    subst (λ (s : State). LeavesOnly M.moment M.left_since c.args.m.now c.force.new.m (Forces s.layout windows h f old)) c.self.view_is
+    (leaves_more M.moment M.left_since c.args.m.now c.force.new.m _ (Forces state.layout windows h f old)
+    (λ left commits. forces_at state c.self.inside.map c.self.invariant epoch v windows h f old.image here old left refl calm commits) moments)
 
-pub returns-in-Err-clause-failed : goal.returns-in-Err-clause-failed
-returns-in-Err-clause-failed g c h calm v files mounted =
+pub returns-clause-failed : goal.returns-clause-failed
+returns-clause-failed g c = on_err c.match-force.result (λ honest calm v windows h f ends mounted.
     let M = g.M.Machine in
-    let here = subst (λ (s : State). IsMounted s v files (M.now c.args.m.now).image) (sym c.self.view_is) mounted in
-    let state : State = record { layout = c.self.inside.layout; entries = c.self.inside.entries.items; serial = c.self.inside.serial; waits = c.self.inside.waits } in
+    let state : State = record { layout = c.self.inside.layout; entries = c.self.inside.entries.items; serial = c.self.inside.serial; log = c.self.inside.log; table = c.self.inside.pages } in
     let old = M.now c.args.m.now in
-    let bytes = page_bytes 0 (record { epoch = state.serial.epoch; number = state.serial.count }) (Leaf c.as_slice.result.now) in
-    let left = M.now c.write_table.new.m in
-    let moments = c.write_table.ensures.any_moment h in
-    let homes = moments.each left (g.met.M.Machine.counts_now c.write_table.new.m (M.moment c.args.m.now) h moments.later) in
-    subst (λ (s : State). Forces s v files old left) c.self.view_is (forces_at state v files old left c.self.invariant.table c.write_table.ensures.fits calm here c.as_slice.result.now c.as_slice.ensures.value c.write_table.ensures.whole homes)
+    let epoch : c.self.inside.serial.epoch < 2 ^ 32 = search rules in
+    let here = subst (λ (s : State). IsMounted s v windows h f old.image) (sym c.self.view_is) mounted in
+    let over = over_log state c.self.inside.map c.self.invariant epoch v windows h f old.image here in
+    let moments = c.force.ensures.any_moment windows here.on_disk.records here.on_disk.disk honest calm ends over in
+    let left = M.now c.force.new.m in
+    let commits = moments.each left (g.met.M.Machine.counts_now c.force.new.m (M.moment c.args.m.now) honest moments.later) in
+    subst (λ (s : State). Forces s.layout windows h f old left) c.self.view_is (forces_at state c.self.inside.map c.self.invariant epoch v windows h f old.image here old left refl calm commits))
 
-pub returns-then-not-self-clause-any_moment : goal.returns-then-not-self-clause-any_moment
-returns-then-not-self-clause-any_moment g c h calm v files mounted =
-    let M = g.M.Machine in
-    started M.moment M.left_since c.args.m.now (M.now c.args.m.now) (Forces c.args.self.now v files (M.now c.args.m.now)) (λ l left. g.met.M.Machine.only_now c.args.m.now l h left)
-    (forces_none c.args.self.now v files (M.now c.args.m.now) mounted)
+pub returns-clause-done : goal.returns-clause-done
+returns-clause-done g c =
+    elim c.match-force.branch [
+      | in-Ok w ↦ rw w.result-is (λ honest calm v windows h f ends mounted.
+          let M = g.M.Machine in
+          let state : State = record { layout = c.self.inside.layout; entries = c.self.inside.entries.items; serial = c.self.inside.serial; log = c.self.inside.log; table = c.self.inside.pages } in
+          let old = M.now c.args.m.now in
+          let epoch : c.self.inside.serial.epoch < 2 ^ 32 = search rules in
+          let here = subst (λ (s : State). IsMounted s v windows h f old.image) (sym c.self.view_is) mounted in
+          let over = over_log state c.self.inside.map c.self.invariant epoch v windows h f old.image here in
+          let moments = c.force.ensures.any_moment windows here.on_disk.records here.on_disk.disk honest calm ends over in
+          let left = M.now c.force.new.m in
+          let commits = moments.each left (g.met.M.Machine.counts_now c.force.new.m (M.moment c.args.m.now) honest moments.later) in
+          let done = w.in-Ok.ensures.done windows here.on_disk.records here.on_disk.disk honest calm ends over in
+          forced_at state c.self.inside.map c.self.invariant epoch v windows h f old.image here old left c.force.new.log c.force.new.pages refl calm commits w.in-Ok.ensures.log w.in-Ok.ensures.state done)
+      | in-Err-Device w ↦ rw w.result-is tt
+      | in-Err-Lost w ↦ rw w.result-is tt
+    ]

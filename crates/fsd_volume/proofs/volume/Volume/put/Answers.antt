@@ -1,270 +1,263 @@
-use Rattle.std.proofs.Common.{◌+◌, ◌<◌, ◌≤◌, ◌^◌, ℕ, length, refl, sym, ap, subst, ◌∙◌, arith, rules}
+use Rattle.std.proofs.Common.{◌+◌, ◌<◌, ◌^◌, ℕ, List, [], Err, length, refl, sym, ap, subst, ◌∙◌, arith, rules}
+use Rattle.std.specs.Prelude.{slice_index_or}
+use Rattle.std.proofs.lemmas.Bool.{both_ways}
+use Rattle.std.proofs.lemmas.List.{append-nil}
+use Rattle.run_table.specs.RunTable.{sectors_of}
 use Rattle.sector_disk.specs.Machine.{LeavesOnly}
 use Rattle.sector_disk.proofs.Moments.{started, leaves_more}
 use Rattle.sector_set.specs.Area.{Area}
 use Rattle.fsd_formats.specs.declared.entry.Entry.{Entry}
-use Rattle.fsd_formats.specs.NamePage.{sectors_for, max_keep}
-use Rattle.fsd_files.specs.Answers.{keep_given, HasLeader}
-use Rattle.fsd_files.specs.Volume.{drawn}
-use Rattle.fsd_volume.specs.Put.{placed}
-use Rattle.fsd_volume.specs.State.{State, StandsFor, IsMounted, StaysMounted, free_space}
-use Rattle.fsd_volume.proofs.PlaceLaws.{picked_place}
-use Rattle.fsd_volume.proofs.StoredLaws.{most_sectors, stored_runs, stored_below, stored_count}
-use Rattle.fsd_volume.proofs.PutLaws.{placed_ok, sizes_fit, keep_fits, entry_good, entry_fits, entry_stored, runs_written}
-use Rattle.fsd_volume.proofs.PutDoneLaws.{place_refused, Entering, puts_entered, puts_on, mounted_drawn, stays_mounted, drawn_state, made_listed, made_leader}
-use Rattle.fsd_volume.proofs.VersionLaws.{leader_stands}
+use Rattle.fsd_formats.specs.NamePage.{sectors_for}
+use Rattle.fsd_files.specs.Answers.{HasLeader}
 use Rattle.fsd_files.specs.Disk.{Image, nowhere}
-use Rattle.run_table.specs.RunTable.{sectors_of}
-use Rattle.std.specs.Prelude.{slice_index_or}
+use Rattle.fsd_files.specs.Files.{Change}
+use Rattle.fsd_files.specs.OneLeaf.{put_outcome}
+use Rattle.fsd_files.specs.Volume.{drawn}
+use Rattle.fsd_volume.specs.Put.{placed, made_by, IsWornOut, Puts, PutsOn}
 use Rattle.fsd_volume.specs.Slices.{with_version, WritesIn}
+use Rattle.fsd_volume.specs.State.{State, StandsFor, IsMounted, StaysMounted}
 use Rattle.fsd_volume.proofs.Laying.{calm_holds}
+use Rattle.fsd_volume.proofs.PutLaws.{IsChosen, chosen, chosen_ends, chosen_lengths, chosen_below, chosen_count, takes_record}
+use Rattle.fsd_volume.proofs.PutDoneLaws.{place_refused, Entering, Enterable, puts_entered, puts_on, mounted_drawn, stays_mounted, drawn_state, made_listed, made_leader}
+use Rattle.fsd_volume.proofs.VersionLaws.{leader_stands}
 use Rattle.fsd_volume.proofs.volume.Volume.put.Goals as goal
+
+pub returns-in-Some-clause-any_moment : goal.returns-in-Some-clause-any_moment
+returns-in-Some-clause-any_moment g c honest calm v windows h f ends mounted =
+    let M = g.M.Machine in
+    started M.moment M.left_since c.args.m.now (M.now c.args.m.now) (StaysMounted c.args.self.now v windows h f (M.now c.args.m.now)) (λ l left. g.met.M.Machine.only_now c.args.m.now l honest left) (record { mounted = mounted; windows = refl; said = refl })
+
+pub returns-then-is_worn_out-clause-any_moment : goal.returns-then-is_worn_out-clause-any_moment
+returns-then-is_worn_out-clause-any_moment g c honest calm v windows h f ends mounted =
+    let M = g.M.Machine in
+    started M.moment M.left_since c.args.m.now (M.now c.args.m.now) (StaysMounted c.args.self.now v windows h f (M.now c.args.m.now)) (λ l left. g.met.M.Machine.only_now c.args.m.now l honest left) (record { mounted = mounted; windows = refl; said = refl })
+
+pub returns-in-Err-clause-any_moment : goal.returns-in-Err-clause-any_moment
+returns-in-Err-clause-any_moment g c honest calm v windows h f ends mounted =
+    let M = g.M.Machine in
+    started M.moment M.left_since c.args.m.now (M.now c.args.m.now) (StaysMounted c.args.self.now v windows h f (M.now c.args.m.now)) (λ l left. g.met.M.Machine.only_now c.args.m.now l honest left) (record { mounted = mounted; windows = refl; said = refl })
+
+pub returns-then-is_worn_out-clause-stands : goal.returns-then-is_worn_out-clause-stands
+returns-then-is_worn_out-clause-stands g c honest calm v windows h f ends mounted =
+    let M = g.M.Machine in
+    let worn : IsWornOut c.args.self.now = c.is_worn_out.ensures.0 c.if-is_worn_out.true in
+    record { after = v; says = (worn, refl); mounted = subst (λ (hs : List Change). IsMounted c.args.self.now v windows hs f (M.now c.args.m.now).image) (sym (append-nil h)) mounted }
 
 pub returns-in-Err-clause-answers : goal.returns-in-Err-clause-answers
 returns-in-Err-clause-answers g c v stands =
-    let state : State = record { layout = c.self.inside.layout; entries = c.self.inside.entries.items; serial = c.self.inside.serial; waits = c.self.inside.waits } in
+    let state : State = record { layout = c.self.inside.layout; entries = c.self.inside.entries.items; serial = c.self.inside.serial; log = c.self.inside.log; table = c.self.inside.pages } in
     let fits = sym c.size_fault.ensures ∙ c.in_default.is in
     let need = ap (λ (n : ℕ). 1 + n) c.div_ceil.ensures in
     let place = ap (λ (m : Area). placed m.sectors (sectors_for (length c.args.bytes.now))) (sym c.self.invariant.map) ∙ ap (placed c.self.inside.map.sectors) (sym need) ∙ sym c.place.ensures ∙ c.in-Err.is in
-    record { after = v; stands = stands; says = place_refused state v c.args.name.now c.args.bytes.now c.args.keep c.in-Err.refusal (subst (λ (s : State). StandsFor s v) (sym c.self.view_is) stands) fits place }
+    let here = subst (λ (s : State). StandsFor s v) (sym c.self.view_is) stands in
+    subst (λ (s : State). Puts s v (put_outcome v c.args.name.now c.args.bytes.now c.args.keep) s (Err c.in-Err.refusal)) c.self.view_is
+    (record { after = v; stands = here; says = place_refused state v c.args.name.now c.args.bytes.now c.args.keep c.in-Err.refusal here fits place })
 
 pub returns-in-Err-clause-stands : goal.returns-in-Err-clause-stands
-returns-in-Err-clause-stands g c h calm v files mounted =
-    let state : State = record { layout = c.self.inside.layout; entries = c.self.inside.entries.items; serial = c.self.inside.serial; waits = c.self.inside.waits } in
+returns-in-Err-clause-stands g c honest calm v windows h f ends mounted =
+    let state : State = record { layout = c.self.inside.layout; entries = c.self.inside.entries.items; serial = c.self.inside.serial; log = c.self.inside.log; table = c.self.inside.pages } in
     let fits = sym c.size_fault.ensures ∙ c.in_default.is in
     let need = ap (λ (n : ℕ). 1 + n) c.div_ceil.ensures in
     let place = ap (λ (m : Area). placed m.sectors (sectors_for (length c.args.bytes.now))) (sym c.self.invariant.map) ∙ ap (placed c.self.inside.map.sectors) (sym need) ∙ sym c.place.ensures ∙ c.in-Err.is in
-    record { after = v; says = place_refused state v c.args.name.now c.args.bytes.now c.args.keep c.in-Err.refusal (subst (λ (s : State). StandsFor s v) (sym c.self.view_is) mounted.stands) fits place; mounted = mounted }
+    let M = g.M.Machine in
+    let image = (M.now c.args.m.now).image in
+    let here = subst (λ (s : State). IsMounted s v windows h f image) (sym c.self.view_is) mounted in
+    let so = subst (λ (hs : List Change). IsMounted state v windows hs f image) (sym (append-nil h)) here in
+    subst (λ (s : State). PutsOn s v (put_outcome v c.args.name.now c.args.bytes.now c.args.keep) windows h [] f s image (Err c.in-Err.refusal)) c.self.view_is
+    (record { after = v; says = place_refused state v c.args.name.now c.args.bytes.now c.args.keep c.in-Err.refusal here.stands fits place; mounted = so })
 
 pub write_version-requires-clause-runs : goal.write_version-requires-clause-runs
 write_version-requires-clause-runs g c =
-    let state : State = record { layout = c.self.inside.layout; entries = c.self.inside.entries.items; serial = c.self.inside.serial; waits = c.self.inside.waits } in
-    let fits = sym c.size_fault.ensures ∙ c.in_default.is in
-    let need = ap (λ (n : ℕ). 1 + n) c.div_ceil.ensures in
-    let place = ap (λ (m : Area). placed m.sectors (sectors_for (length c.args.bytes.now))) (sym c.self.invariant.map) ∙ ap (placed c.self.inside.map.sectors) (sym need) ∙ sym c.place.ensures ∙ c.in-Ok.is in
-    let picked = placed_ok (free_space state.layout state.entries).sectors (sectors_for (length c.args.bytes.now)) c.in-Ok.runs place in
-    let is = picked_place state.layout state.entries (sectors_for (length c.args.bytes.now)) c.in-Ok.runs (omega arith) picked in
-    let most = most_sectors state.layout state.entries c.self.invariant.table in
-    let sizes = sizes_fit (keep_given c.args.keep) (length c.args.bytes.now) fits in
+    let state : State = record { layout = c.self.inside.layout; entries = c.self.inside.entries.items; serial = c.self.inside.serial; log = c.self.inside.log; table = c.self.inside.pages } in
     let e : Entry = record { key = c.first_key.result; keep = c.unwrap_or.result; serial = c.self.inside.serial; length = length c.args.bytes.now; runs = c.in-Ok.runs } in
-    let keep : c.unwrap_or.result ≤ max_keep = subst (λ (n : ℕ). n ≤ max_keep) (sym c.unwrap_or.ensures) (keep_fits c.args.keep sizes.0) in
-    let good = entry_good state.layout state.entries e is c.first_key.ensures.key keep sizes.1 in
-    stored_runs state.layout e most (entry_stored state.layout state.entries e is good)
+    let epoch : c.self.inside.serial.epoch < 2 ^ 32 = search rules in
+    let count : c.self.inside.serial.count < 2 ^ 32 = search rules in
+    let is : IsChosen state c.args.name.now c.args.bytes.now c.args.keep e =
+    chosen state c.self.inside.map c.args.name.now c.args.bytes.now c.args.keep c.first_key.result c.unwrap_or.result (1 + c.div_ceil.result) c.in-Ok.runs c.self.invariant (sym c.size_fault.ensures ∙ c.in_default.is)
+    c.first_key.ensures.value c.first_key.ensures.key c.unwrap_or.ensures (ap (λ (n : ℕ). 1 + n) c.div_ceil.ensures) (sym c.place.ensures ∙ c.in-Ok.is) (epoch, count) in
+    chosen_ends state c.self.inside.map c.args.name.now c.args.bytes.now c.args.keep e c.self.invariant is
 
 pub write_version-requires-clause-lengths : goal.write_version-requires-clause-lengths
 write_version-requires-clause-lengths g c =
-    let state : State = record { layout = c.self.inside.layout; entries = c.self.inside.entries.items; serial = c.self.inside.serial; waits = c.self.inside.waits } in
-    let fits = sym c.size_fault.ensures ∙ c.in_default.is in
-    let need = ap (λ (n : ℕ). 1 + n) c.div_ceil.ensures in
-    let place = ap (λ (m : Area). placed m.sectors (sectors_for (length c.args.bytes.now))) (sym c.self.invariant.map) ∙ ap (placed c.self.inside.map.sectors) (sym need) ∙ sym c.place.ensures ∙ c.in-Ok.is in
-    let picked = placed_ok (free_space state.layout state.entries).sectors (sectors_for (length c.args.bytes.now)) c.in-Ok.runs place in
-    let is = picked_place state.layout state.entries (sectors_for (length c.args.bytes.now)) c.in-Ok.runs (omega arith) picked in
-    let most = most_sectors state.layout state.entries c.self.invariant.table in
-    let sizes = sizes_fit (keep_given c.args.keep) (length c.args.bytes.now) fits in
+    let state : State = record { layout = c.self.inside.layout; entries = c.self.inside.entries.items; serial = c.self.inside.serial; log = c.self.inside.log; table = c.self.inside.pages } in
     let e : Entry = record { key = c.first_key.result; keep = c.unwrap_or.result; serial = c.self.inside.serial; length = length c.args.bytes.now; runs = c.in-Ok.runs } in
-    let keep : c.unwrap_or.result ≤ max_keep = subst (λ (n : ℕ). n ≤ max_keep) (sym c.unwrap_or.ensures) (keep_fits c.args.keep sizes.0) in
-    let good = entry_good state.layout state.entries e is c.first_key.ensures.key keep sizes.1 in
-    runs_written (sectors_for (length c.args.bytes.now)) c.in-Ok.runs is.few.some is.count (omega (arith, sizes.1))
+    let epoch : c.self.inside.serial.epoch < 2 ^ 32 = search rules in
+    let count : c.self.inside.serial.count < 2 ^ 32 = search rules in
+    let is : IsChosen state c.args.name.now c.args.bytes.now c.args.keep e =
+    chosen state c.self.inside.map c.args.name.now c.args.bytes.now c.args.keep c.first_key.result c.unwrap_or.result (1 + c.div_ceil.result) c.in-Ok.runs c.self.invariant (sym c.size_fault.ensures ∙ c.in_default.is)
+    c.first_key.ensures.value c.first_key.ensures.key c.unwrap_or.ensures (ap (λ (n : ℕ). 1 + n) c.div_ceil.ensures) (sym c.place.ensures ∙ c.in-Ok.is) (epoch, count) in
+    chosen_lengths state c.self.inside.map c.args.name.now c.args.bytes.now c.args.keep e c.self.invariant is
 
 pub write_version-requires-clause-in_range : goal.write_version-requires-clause-in_range
 write_version-requires-clause-in_range g c k d lt =
-    let state : State = record { layout = c.self.inside.layout; entries = c.self.inside.entries.items; serial = c.self.inside.serial; waits = c.self.inside.waits } in
-    let fits = sym c.size_fault.ensures ∙ c.in_default.is in
-    let need = ap (λ (n : ℕ). 1 + n) c.div_ceil.ensures in
-    let place = ap (λ (m : Area). placed m.sectors (sectors_for (length c.args.bytes.now))) (sym c.self.invariant.map) ∙ ap (placed c.self.inside.map.sectors) (sym need) ∙ sym c.place.ensures ∙ c.in-Ok.is in
-    let picked = placed_ok (free_space state.layout state.entries).sectors (sectors_for (length c.args.bytes.now)) c.in-Ok.runs place in
-    let is = picked_place state.layout state.entries (sectors_for (length c.args.bytes.now)) c.in-Ok.runs (omega arith) picked in
-    let most = most_sectors state.layout state.entries c.self.invariant.table in
-    let sizes = sizes_fit (keep_given c.args.keep) (length c.args.bytes.now) fits in
+    let state : State = record { layout = c.self.inside.layout; entries = c.self.inside.entries.items; serial = c.self.inside.serial; log = c.self.inside.log; table = c.self.inside.pages } in
     let e : Entry = record { key = c.first_key.result; keep = c.unwrap_or.result; serial = c.self.inside.serial; length = length c.args.bytes.now; runs = c.in-Ok.runs } in
-    let keep : c.unwrap_or.result ≤ max_keep = subst (λ (n : ℕ). n ≤ max_keep) (sym c.unwrap_or.ensures) (keep_fits c.args.keep sizes.0) in
-    let good = entry_good state.layout state.entries e is c.first_key.ensures.key keep sizes.1 in
-    let below = stored_below state.layout e most (entry_stored state.layout state.entries e is good) k d lt in
+    let epoch : c.self.inside.serial.epoch < 2 ^ 32 = search rules in
+    let count : c.self.inside.serial.count < 2 ^ 32 = search rules in
+    let is : IsChosen state c.args.name.now c.args.bytes.now c.args.keep e =
+    chosen state c.self.inside.map c.args.name.now c.args.bytes.now c.args.keep c.first_key.result c.unwrap_or.result (1 + c.div_ceil.result) c.in-Ok.runs c.self.invariant (sym c.size_fault.ensures ∙ c.in_default.is)
+    c.first_key.ensures.value c.first_key.ensures.key c.unwrap_or.ensures (ap (λ (n : ℕ). 1 + n) c.div_ceil.ensures) (sym c.place.ensures ∙ c.in-Ok.is) (epoch, count) in
+    let below = chosen_below state c.self.inside.map c.args.name.now c.args.bytes.now c.args.keep e c.self.invariant is k d lt in
     let room = ap (λ (s : State). s.layout.sectors) c.self.view_is in
     omega (arith, below, room, c.requires)
 
 pub write_version-requires-clause-count : goal.write_version-requires-clause-count
 write_version-requires-clause-count g c =
-    let state : State = record { layout = c.self.inside.layout; entries = c.self.inside.entries.items; serial = c.self.inside.serial; waits = c.self.inside.waits } in
-    let fits = sym c.size_fault.ensures ∙ c.in_default.is in
-    let need = ap (λ (n : ℕ). 1 + n) c.div_ceil.ensures in
-    let place = ap (λ (m : Area). placed m.sectors (sectors_for (length c.args.bytes.now))) (sym c.self.invariant.map) ∙ ap (placed c.self.inside.map.sectors) (sym need) ∙ sym c.place.ensures ∙ c.in-Ok.is in
-    let picked = placed_ok (free_space state.layout state.entries).sectors (sectors_for (length c.args.bytes.now)) c.in-Ok.runs place in
-    let is = picked_place state.layout state.entries (sectors_for (length c.args.bytes.now)) c.in-Ok.runs (omega arith) picked in
-    let most = most_sectors state.layout state.entries c.self.invariant.table in
-    let sizes = sizes_fit (keep_given c.args.keep) (length c.args.bytes.now) fits in
+    let state : State = record { layout = c.self.inside.layout; entries = c.self.inside.entries.items; serial = c.self.inside.serial; log = c.self.inside.log; table = c.self.inside.pages } in
     let e : Entry = record { key = c.first_key.result; keep = c.unwrap_or.result; serial = c.self.inside.serial; length = length c.args.bytes.now; runs = c.in-Ok.runs } in
-    let keep : c.unwrap_or.result ≤ max_keep = subst (λ (n : ℕ). n ≤ max_keep) (sym c.unwrap_or.ensures) (keep_fits c.args.keep sizes.0) in
-    let good = entry_good state.layout state.entries e is c.first_key.ensures.key keep sizes.1 in
-    stored_count state.layout e most (entry_stored state.layout state.entries e is good)
+    let epoch : c.self.inside.serial.epoch < 2 ^ 32 = search rules in
+    let count : c.self.inside.serial.count < 2 ^ 32 = search rules in
+    let is : IsChosen state c.args.name.now c.args.bytes.now c.args.keep e =
+    chosen state c.self.inside.map c.args.name.now c.args.bytes.now c.args.keep c.first_key.result c.unwrap_or.result (1 + c.div_ceil.result) c.in-Ok.runs c.self.invariant (sym c.size_fault.ensures ∙ c.in_default.is)
+    c.first_key.ensures.value c.first_key.ensures.key c.unwrap_or.ensures (ap (λ (n : ℕ). 1 + n) c.div_ceil.ensures) (sym c.place.ensures ∙ c.in-Ok.is) (epoch, count) in
+    chosen_count state c.self.inside.map c.args.name.now c.args.bytes.now c.args.keep e c.self.invariant is
 
 pub enter-requires-clause-entry : goal.enter-requires-clause-entry
 enter-requires-clause-entry g c =
-    let state : State = record { layout = c.self.inside.layout; entries = c.self.inside.entries.items; serial = c.self.inside.serial; waits = c.self.inside.waits } in
-    let fits = sym c.size_fault.ensures ∙ c.in_default.is in
-    let need = ap (λ (n : ℕ). 1 + n) c.div_ceil.ensures in
-    let place = ap (λ (m : Area). placed m.sectors (sectors_for (length c.args.bytes.now))) (sym c.self.invariant.map) ∙ ap (placed c.self.inside.map.sectors) (sym need) ∙ sym c.place.ensures ∙ c.in-Ok.is in
-    let picked = placed_ok (free_space state.layout state.entries).sectors (sectors_for (length c.args.bytes.now)) c.in-Ok.runs place in
-    let is = picked_place state.layout state.entries (sectors_for (length c.args.bytes.now)) c.in-Ok.runs (omega arith) picked in
-    let most = most_sectors state.layout state.entries c.self.invariant.table in
-    let sizes = sizes_fit (keep_given c.args.keep) (length c.args.bytes.now) fits in
+    let state : State = record { layout = c.self.inside.layout; entries = c.self.inside.entries.items; serial = c.self.inside.serial; log = c.self.inside.log; table = c.self.inside.pages } in
     let e : Entry = record { key = c.first_key.result; keep = c.unwrap_or.result; serial = c.self.inside.serial; length = length c.args.bytes.now; runs = c.in-Ok.runs } in
-    let keep : c.unwrap_or.result ≤ max_keep = subst (λ (n : ℕ). n ≤ max_keep) (sym c.unwrap_or.ensures) (keep_fits c.args.keep sizes.0) in
-    let good = entry_good state.layout state.entries e is c.first_key.ensures.key keep sizes.1 in
-    good
+    let epoch : c.self.inside.serial.epoch < 2 ^ 32 = search rules in
+    let count : c.self.inside.serial.count < 2 ^ 32 = search rules in
+    let is : IsChosen state c.args.name.now c.args.bytes.now c.args.keep e =
+    chosen state c.self.inside.map c.args.name.now c.args.bytes.now c.args.keep c.first_key.result c.unwrap_or.result (1 + c.div_ceil.result) c.in-Ok.runs c.self.invariant (sym c.size_fault.ensures ∙ c.in_default.is)
+    c.first_key.ensures.value c.first_key.ensures.key c.unwrap_or.ensures (ap (λ (n : ℕ). 1 + n) c.div_ceil.ensures) (sym c.place.ensures ∙ c.in-Ok.is) (epoch, count) in
+    is.good
 
 pub enter-requires-clause-fits : goal.enter-requires-clause-fits
 enter-requires-clause-fits g c =
-    let state : State = record { layout = c.self.inside.layout; entries = c.self.inside.entries.items; serial = c.self.inside.serial; waits = c.self.inside.waits } in
-    let fits = sym c.size_fault.ensures ∙ c.in_default.is in
-    let need = ap (λ (n : ℕ). 1 + n) c.div_ceil.ensures in
-    let place = ap (λ (m : Area). placed m.sectors (sectors_for (length c.args.bytes.now))) (sym c.self.invariant.map) ∙ ap (placed c.self.inside.map.sectors) (sym need) ∙ sym c.place.ensures ∙ c.in-Ok.is in
-    let picked = placed_ok (free_space state.layout state.entries).sectors (sectors_for (length c.args.bytes.now)) c.in-Ok.runs place in
-    let is = picked_place state.layout state.entries (sectors_for (length c.args.bytes.now)) c.in-Ok.runs (omega arith) picked in
-    let most = most_sectors state.layout state.entries c.self.invariant.table in
-    let sizes = sizes_fit (keep_given c.args.keep) (length c.args.bytes.now) fits in
+    let state : State = record { layout = c.self.inside.layout; entries = c.self.inside.entries.items; serial = c.self.inside.serial; log = c.self.inside.log; table = c.self.inside.pages } in
     let e : Entry = record { key = c.first_key.result; keep = c.unwrap_or.result; serial = c.self.inside.serial; length = length c.args.bytes.now; runs = c.in-Ok.runs } in
-    let keep : c.unwrap_or.result ≤ max_keep = subst (λ (n : ℕ). n ≤ max_keep) (sym c.unwrap_or.ensures) (keep_fits c.args.keep sizes.0) in
-    let good = entry_good state.layout state.entries e is c.first_key.ensures.key keep sizes.1 in
-    let first : c.first_key.result.version < 2 ^ 32 = search rules in
     let epoch : c.self.inside.serial.epoch < 2 ^ 32 = search rules in
     let count : c.self.inside.serial.count < 2 ^ 32 = search rules in
-    entry_fits state.layout state.entries e most is good first keep (epoch, count) sizes.1
+    let is : IsChosen state c.args.name.now c.args.bytes.now c.args.keep e =
+    chosen state c.self.inside.map c.args.name.now c.args.bytes.now c.args.keep c.first_key.result c.unwrap_or.result (1 + c.div_ceil.result) c.in-Ok.runs c.self.invariant (sym c.size_fault.ensures ∙ c.in_default.is)
+    c.first_key.ensures.value c.first_key.ensures.key c.unwrap_or.ensures (ap (λ (n : ℕ). 1 + n) c.div_ceil.ensures) (sym c.place.ensures ∙ c.in-Ok.is) (epoch, count) in
+    is.fits
 
 pub enter-requires-clause-free : goal.enter-requires-clause-free
 enter-requires-clause-free g c =
-    let state : State = record { layout = c.self.inside.layout; entries = c.self.inside.entries.items; serial = c.self.inside.serial; waits = c.self.inside.waits } in
-    let fits = sym c.size_fault.ensures ∙ c.in_default.is in
-    let need = ap (λ (n : ℕ). 1 + n) c.div_ceil.ensures in
-    let place = ap (λ (m : Area). placed m.sectors (sectors_for (length c.args.bytes.now))) (sym c.self.invariant.map) ∙ ap (placed c.self.inside.map.sectors) (sym need) ∙ sym c.place.ensures ∙ c.in-Ok.is in
-    let picked = placed_ok (free_space state.layout state.entries).sectors (sectors_for (length c.args.bytes.now)) c.in-Ok.runs place in
-    let is = picked_place state.layout state.entries (sectors_for (length c.args.bytes.now)) c.in-Ok.runs (omega arith) picked in
-    let most = most_sectors state.layout state.entries c.self.invariant.table in
-    let sizes = sizes_fit (keep_given c.args.keep) (length c.args.bytes.now) fits in
+    let state : State = record { layout = c.self.inside.layout; entries = c.self.inside.entries.items; serial = c.self.inside.serial; log = c.self.inside.log; table = c.self.inside.pages } in
     let e : Entry = record { key = c.first_key.result; keep = c.unwrap_or.result; serial = c.self.inside.serial; length = length c.args.bytes.now; runs = c.in-Ok.runs } in
-    let keep : c.unwrap_or.result ≤ max_keep = subst (λ (n : ℕ). n ≤ max_keep) (sym c.unwrap_or.ensures) (keep_fits c.args.keep sizes.0) in
-    let good = entry_good state.layout state.entries e is c.first_key.ensures.key keep sizes.1 in
-    is.new
+    let epoch : c.self.inside.serial.epoch < 2 ^ 32 = search rules in
+    let count : c.self.inside.serial.count < 2 ^ 32 = search rules in
+    let is : IsChosen state c.args.name.now c.args.bytes.now c.args.keep e =
+    chosen state c.self.inside.map c.args.name.now c.args.bytes.now c.args.keep c.first_key.result c.unwrap_or.result (1 + c.div_ceil.result) c.in-Ok.runs c.self.invariant (sym c.size_fault.ensures ∙ c.in_default.is)
+    c.first_key.ensures.value c.first_key.ensures.key c.unwrap_or.ensures (ap (λ (n : ℕ). 1 + n) c.div_ceil.ensures) (sym c.place.ensures ∙ c.in-Ok.is) (epoch, count) in
+    is.is.new
+
+pub enter-requires-clause-room : goal.enter-requires-clause-room
+enter-requires-clause-room g c =
+    let state : State = record { layout = c.self.inside.layout; entries = c.self.inside.entries.items; serial = c.self.inside.serial; log = c.self.inside.log; table = c.self.inside.pages } in
+    takes_record state (λ worn. both_ways c.is_worn_out.result c.if-is_worn_out.false (c.is_worn_out.ensures.1 (subst IsWornOut c.self.view_is worn)))
 
 pub returns-in-Ok-write_version-clause-answers : goal.returns-in-Ok-write_version-clause-answers
 returns-in-Ok-write_version-clause-answers g c v stands =
-    let state : State = record { layout = c.self.inside.layout; entries = c.self.inside.entries.items; serial = c.self.inside.serial; waits = c.self.inside.waits } in
-    let fits = sym c.size_fault.ensures ∙ c.in_default.is in
-    let need = ap (λ (n : ℕ). 1 + n) c.div_ceil.ensures in
-    let place = ap (λ (m : Area). placed m.sectors (sectors_for (length c.args.bytes.now))) (sym c.self.invariant.map) ∙ ap (placed c.self.inside.map.sectors) (sym need) ∙ sym c.place.ensures ∙ c.in-Ok.is in
-    let picked = placed_ok (free_space state.layout state.entries).sectors (sectors_for (length c.args.bytes.now)) c.in-Ok.runs place in
-    let is = picked_place state.layout state.entries (sectors_for (length c.args.bytes.now)) c.in-Ok.runs (omega arith) picked in
-    let most = most_sectors state.layout state.entries c.self.invariant.table in
-    let sizes = sizes_fit (keep_given c.args.keep) (length c.args.bytes.now) fits in
+    let state : State = record { layout = c.self.inside.layout; entries = c.self.inside.entries.items; serial = c.self.inside.serial; log = c.self.inside.log; table = c.self.inside.pages } in
     let e : Entry = record { key = c.first_key.result; keep = c.unwrap_or.result; serial = c.self.inside.serial; length = length c.args.bytes.now; runs = c.in-Ok.runs } in
-    let keep : c.unwrap_or.result ≤ max_keep = subst (λ (n : ℕ). n ≤ max_keep) (sym c.unwrap_or.ensures) (keep_fits c.args.keep sizes.0) in
-    let good = entry_good state.layout state.entries e is c.first_key.ensures.key keep sizes.1 in
-    let h : Entering state v c.args.name.now c.args.bytes.now c.args.keep e = record { stands = subst (λ (s : State). StandsFor s v) (sym c.self.view_is) stands; fits = fits; place = picked; key = c.first_key.ensures.value; keep = c.unwrap_or.ensures; serial = refl; length = refl } in
-    puts_entered state v c.args.name.now c.args.bytes.now c.args.keep e h c.enter.new.self c.enter.result c.enter.ensures
+    let epoch : c.self.inside.serial.epoch < 2 ^ 32 = search rules in
+    let count : c.self.inside.serial.count < 2 ^ 32 = search rules in
+    let is : IsChosen state c.args.name.now c.args.bytes.now c.args.keep e =
+    chosen state c.self.inside.map c.args.name.now c.args.bytes.now c.args.keep c.first_key.result c.unwrap_or.result (1 + c.div_ceil.result) c.in-Ok.runs c.self.invariant (sym c.size_fault.ensures ∙ c.in_default.is)
+    c.first_key.ensures.value c.first_key.ensures.key c.unwrap_or.ensures (ap (λ (n : ℕ). 1 + n) c.div_ceil.ensures) (sym c.place.ensures ∙ c.in-Ok.is) (epoch, count) in
+    let entering : Entering state v c.args.name.now c.args.bytes.now c.args.keep e = record { stands = subst (λ (s : State). StandsFor s v) (sym c.self.view_is) stands; fits = is.sizes; place = is.picked; key = is.key; keep = is.keep; serial = is.serial; length = is.length } in
+    subst (λ (s : State). Puts s v (put_outcome v c.args.name.now c.args.bytes.now c.args.keep) c.enter.new.self c.enter.result) c.self.view_is
+    (puts_entered state v c.args.name.now c.args.bytes.now c.args.keep e entering c.enter.new.self c.enter.result c.enter.ensures)
 
 pub returns-in-Ok-write_version-clause-stands : goal.returns-in-Ok-write_version-clause-stands
-returns-in-Ok-write_version-clause-stands g c honest calm v files mounted =
-    let state : State = record { layout = c.self.inside.layout; entries = c.self.inside.entries.items; serial = c.self.inside.serial; waits = c.self.inside.waits } in
-    let fits = sym c.size_fault.ensures ∙ c.in_default.is in
-    let need = ap (λ (n : ℕ). 1 + n) c.div_ceil.ensures in
-    let place = ap (λ (m : Area). placed m.sectors (sectors_for (length c.args.bytes.now))) (sym c.self.invariant.map) ∙ ap (placed c.self.inside.map.sectors) (sym need) ∙ sym c.place.ensures ∙ c.in-Ok.is in
-    let picked = placed_ok (free_space state.layout state.entries).sectors (sectors_for (length c.args.bytes.now)) c.in-Ok.runs place in
-    let is = picked_place state.layout state.entries (sectors_for (length c.args.bytes.now)) c.in-Ok.runs (omega arith) picked in
-    let most = most_sectors state.layout state.entries c.self.invariant.table in
-    let sizes = sizes_fit (keep_given c.args.keep) (length c.args.bytes.now) fits in
+returns-in-Ok-write_version-clause-stands g c honest calm v windows h f ends mounted =
+    let state : State = record { layout = c.self.inside.layout; entries = c.self.inside.entries.items; serial = c.self.inside.serial; log = c.self.inside.log; table = c.self.inside.pages } in
     let e : Entry = record { key = c.first_key.result; keep = c.unwrap_or.result; serial = c.self.inside.serial; length = length c.args.bytes.now; runs = c.in-Ok.runs } in
-    let keep : c.unwrap_or.result ≤ max_keep = subst (λ (n : ℕ). n ≤ max_keep) (sym c.unwrap_or.ensures) (keep_fits c.args.keep sizes.0) in
-    let good = entry_good state.layout state.entries e is c.first_key.ensures.key keep sizes.1 in
-    let h : Entering state v c.args.name.now c.args.bytes.now c.args.keep e = record { stands = subst (λ (s : State). StandsFor s v) (sym c.self.view_is) mounted.stands; fits = fits; place = picked; key = c.first_key.ensures.value; keep = c.unwrap_or.ensures; serial = refl; length = refl } in
+    let epoch : c.self.inside.serial.epoch < 2 ^ 32 = search rules in
+    let count : c.self.inside.serial.count < 2 ^ 32 = search rules in
+    let is : IsChosen state c.args.name.now c.args.bytes.now c.args.keep e =
+    chosen state c.self.inside.map c.args.name.now c.args.bytes.now c.args.keep c.first_key.result c.unwrap_or.result (1 + c.div_ceil.result) c.in-Ok.runs c.self.invariant (sym c.size_fault.ensures ∙ c.in_default.is)
+    c.first_key.ensures.value c.first_key.ensures.key c.unwrap_or.ensures (ap (λ (n : ℕ). 1 + n) c.div_ceil.ensures) (sym c.place.ensures ∙ c.in-Ok.is) (epoch, count) in
     let M = g.M.Machine in
-    let here = subst (λ (s : State). IsMounted s v files (M.now c.args.m.now).image) (sym c.self.view_is) mounted in
-    let count = stored_count state.layout e most (entry_stored state.layout state.entries e is good) in
-    let below = stored_below state.layout e most (entry_stored state.layout state.entries e is good) in
-    let room : (k : ℕ) → k < length (sectors_of c.in-Ok.runs) → slice_index_or (sectors_of c.in-Ok.runs) k 0 < length (M.now c.args.m.now).image = λ k lt. let b = below k 0 lt in omega (arith, b, here.disk.at_home.long) in
-    let image = calm_holds (M.now c.args.m.now) (M.now c.write_version.new.m) (with_version (M.now c.args.m.now).image e c.args.bytes.now) calm (c.in-Ok-write_version.ensures.done honest) in
-    puts_on state v c.args.name.now c.args.bytes.now c.args.keep e h files (M.now c.args.m.now).image (M.now c.write_version.new.m).image c.enter.new.self c.enter.result count is.new room here image c.enter.ensures
+    let old = M.now c.args.m.now in
+    let new = M.now c.write_version.new.m in
+    let here = subst (λ (s : State). IsMounted s v windows h f old.image) (sym c.self.view_is) mounted in
+    let entering : Entering state v c.args.name.now c.args.bytes.now c.args.keep e = record { stands = here.stands; fits = is.sizes; place = is.picked; key = is.key; keep = is.keep; serial = is.serial; length = is.length } in
+    let below = chosen_below state c.self.inside.map c.args.name.now c.args.bytes.now c.args.keep e c.self.invariant is in
+    let sized = g.met.M.Machine.sized c.args.m.now (c.write_version.ensures.trust.honest honest) in
+    let room : (k : ℕ) → k < length (sectors_of c.in-Ok.runs) → slice_index_or (sectors_of c.in-Ok.runs) k 0 < length old.image = λ k lt. let b = below k 0 lt in omega (arith, b, ap (λ (s : State). s.layout.sectors) c.self.view_is, c.requires, sized) in
+    let may : Enterable state e c.args.bytes.now old.image = record { free = c.self.inside.map; kept = c.self.invariant; good = is.good; fits = is.fits; count = chosen_count state c.self.inside.map c.args.name.now c.args.bytes.now c.args.keep e c.self.invariant is; new = is.is.new; room = room } in
+    let image = calm_holds old new (with_version old.image e c.args.bytes.now) calm (c.in-Ok-write_version.ensures.done honest) in
+    subst (λ (s : State). PutsOn s v (put_outcome v c.args.name.now c.args.bytes.now c.args.keep) windows h (made_by (Change.Put c.args.name.now c.args.keep c.args.bytes.now) c.enter.result) f c.enter.new.self new.image c.enter.result) c.self.view_is
+    (puts_on state v c.args.name.now c.args.bytes.now c.args.keep e entering old.image may windows h f new.image c.enter.new.self c.enter.result here image c.enter.ensures)
 
 pub returns-in-Ok-write_version-clause-listed : goal.returns-in-Ok-write_version-clause-listed
 returns-in-Ok-write_version-clause-listed g c =
-    let state : State = record { layout = c.self.inside.layout; entries = c.self.inside.entries.items; serial = c.self.inside.serial; waits = c.self.inside.waits } in
+    let state : State = record { layout = c.self.inside.layout; entries = c.self.inside.entries.items; serial = c.self.inside.serial; log = c.self.inside.log; table = c.self.inside.pages } in
     let e : Entry = record { key = c.first_key.result; keep = c.unwrap_or.result; serial = c.self.inside.serial; length = length c.args.bytes.now; runs = c.in-Ok.runs } in
     made_listed (drawn_state state) e c.enter.new.self c.enter.result c.enter.ensures
 
 pub returns-in-Ok-write_version-clause-leader : goal.returns-in-Ok-write_version-clause-leader
 returns-in-Ok-write_version-clause-leader g c =
-    let state : State = record { layout = c.self.inside.layout; entries = c.self.inside.entries.items; serial = c.self.inside.serial; waits = c.self.inside.waits } in
-    let fits = sym c.size_fault.ensures ∙ c.in_default.is in
-    let need = ap (λ (n : ℕ). 1 + n) c.div_ceil.ensures in
-    let place = ap (λ (m : Area). placed m.sectors (sectors_for (length c.args.bytes.now))) (sym c.self.invariant.map) ∙ ap (placed c.self.inside.map.sectors) (sym need) ∙ sym c.place.ensures ∙ c.in-Ok.is in
-    let picked = placed_ok (free_space state.layout state.entries).sectors (sectors_for (length c.args.bytes.now)) c.in-Ok.runs place in
-    let is = picked_place state.layout state.entries (sectors_for (length c.args.bytes.now)) c.in-Ok.runs (omega arith) picked in
-    let most = most_sectors state.layout state.entries c.self.invariant.table in
-    let sizes = sizes_fit (keep_given c.args.keep) (length c.args.bytes.now) fits in
+    let state : State = record { layout = c.self.inside.layout; entries = c.self.inside.entries.items; serial = c.self.inside.serial; log = c.self.inside.log; table = c.self.inside.pages } in
     let e : Entry = record { key = c.first_key.result; keep = c.unwrap_or.result; serial = c.self.inside.serial; length = length c.args.bytes.now; runs = c.in-Ok.runs } in
-    let keep : c.unwrap_or.result ≤ max_keep = subst (λ (n : ℕ). n ≤ max_keep) (sym c.unwrap_or.ensures) (keep_fits c.args.keep sizes.0) in
-    let good = entry_good state.layout state.entries e is c.first_key.ensures.key keep sizes.1 in
+    let epoch : c.self.inside.serial.epoch < 2 ^ 32 = search rules in
+    let count : c.self.inside.serial.count < 2 ^ 32 = search rules in
+    let is : IsChosen state c.args.name.now c.args.bytes.now c.args.keep e =
+    chosen state c.self.inside.map c.args.name.now c.args.bytes.now c.args.keep c.first_key.result c.unwrap_or.result (1 + c.div_ceil.result) c.in-Ok.runs c.self.invariant (sym c.size_fault.ensures ∙ c.in_default.is)
+    c.first_key.ensures.value c.first_key.ensures.key c.unwrap_or.ensures (ap (λ (n : ℕ). 1 + n) c.div_ceil.ensures) (sym c.place.ensures ∙ c.in-Ok.is) (epoch, count) in
     let M = g.M.Machine in
-    let count = stored_count state.layout e most (entry_stored state.layout state.entries e is good) in
-    let below = stored_below state.layout e most (entry_stored state.layout state.entries e is good) in
+    let below = chosen_below state c.self.inside.map c.args.name.now c.args.bytes.now c.args.keep e c.self.invariant is in
+    let long = chosen_count state c.self.inside.map c.args.name.now c.args.bytes.now c.args.keep e c.self.invariant is in
     made_leader (drawn_state state) e c.enter.new.self (M.now c.write_version.new.m).image c.enter.result c.enter.ensures
     (λ honest calm.
     let old = c.write_version.ensures.trust.honest honest in
-    let first = below 0 0 (omega (arith, count)) in
+    let first = below 0 0 (omega (arith, long)) in
     let room : slice_index_or (sectors_of c.in-Ok.runs) 0 0 < length (M.now c.args.m.now).image = omega (arith, first, ap (λ (s : State). s.layout.sectors) c.self.view_is, c.requires, g.met.M.Machine.sized c.args.m.now old) in
     let image = calm_holds (M.now c.args.m.now) (M.now c.write_version.new.m) (with_version (M.now c.args.m.now).image e c.args.bytes.now) calm (c.in-Ok-write_version.ensures.done honest) in
-    subst (λ (x : Image). HasLeader nowhere x e) (sym image) (leader_stands (M.now c.args.m.now).image e c.args.bytes.now count is.new.differ room))
+    subst (λ (x : Image). HasLeader nowhere x e) (sym image) (leader_stands (M.now c.args.m.now).image e c.args.bytes.now long is.is.new.differ room))
 
 pub returns-in-Ok-write_version-clause-any_moment : goal.returns-in-Ok-write_version-clause-any_moment
-returns-in-Ok-write_version-clause-any_moment g c honest calm v files mounted =
-    let state : State = record { layout = c.self.inside.layout; entries = c.self.inside.entries.items; serial = c.self.inside.serial; waits = c.self.inside.waits } in
-    let need = ap (λ (n : ℕ). 1 + n) c.div_ceil.ensures in
-    let place = ap (λ (m : Area). placed m.sectors (sectors_for (length c.args.bytes.now))) (sym c.self.invariant.map) ∙ ap (placed c.self.inside.map.sectors) (sym need) ∙ sym c.place.ensures ∙ c.in-Ok.is in
-    let picked = placed_ok (free_space state.layout state.entries).sectors (sectors_for (length c.args.bytes.now)) c.in-Ok.runs place in
-    let is = picked_place state.layout state.entries (sectors_for (length c.args.bytes.now)) c.in-Ok.runs (omega arith) picked in
+returns-in-Ok-write_version-clause-any_moment g c honest calm v windows h f ends mounted =
+    let state : State = record { layout = c.self.inside.layout; entries = c.self.inside.entries.items; serial = c.self.inside.serial; log = c.self.inside.log; table = c.self.inside.pages } in
+    let e : Entry = record { key = c.first_key.result; keep = c.unwrap_or.result; serial = c.self.inside.serial; length = length c.args.bytes.now; runs = c.in-Ok.runs } in
+    let epoch : c.self.inside.serial.epoch < 2 ^ 32 = search rules in
+    let count : c.self.inside.serial.count < 2 ^ 32 = search rules in
+    let is : IsChosen state c.args.name.now c.args.bytes.now c.args.keep e =
+    chosen state c.self.inside.map c.args.name.now c.args.bytes.now c.args.keep c.first_key.result c.unwrap_or.result (1 + c.div_ceil.result) c.in-Ok.runs c.self.invariant (sym c.size_fault.ensures ∙ c.in_default.is)
+    c.first_key.ensures.value c.first_key.ensures.key c.unwrap_or.ensures (ap (λ (n : ℕ). 1 + n) c.div_ceil.ensures) (sym c.place.ensures ∙ c.in-Ok.is) (epoch, count) in
     let M = g.M.Machine in
-    let here = subst (λ (s : State). IsMounted s v files (M.now c.args.m.now).image) (sym c.self.view_is) mounted in
-    subst (λ (s : State). LeavesOnly M.moment M.left_since c.args.m.now c.write_version.new.m (StaysMounted s v files (M.now c.args.m.now))) c.self.view_is
-    (leaves_more M.moment M.left_since c.args.m.now c.write_version.new.m (WritesIn (sectors_of c.in-Ok.runs) (M.now c.args.m.now)) (StaysMounted state v files (M.now c.args.m.now))
-    (λ left writes. stays_mounted state v files (M.now c.args.m.now) left c.in-Ok.runs is.new calm here writes) (c.write_version.ensures.any_moment honest))
+    let old = M.now c.args.m.now in
+    let here = subst (λ (s : State). IsMounted s v windows h f old.image) (sym c.self.view_is) mounted in
+    subst (λ (s : State). LeavesOnly M.moment M.left_since c.args.m.now c.write_version.new.m (StaysMounted s v windows h f old)) c.self.view_is
+    (leaves_more M.moment M.left_since c.args.m.now c.write_version.new.m (WritesIn (sectors_of c.in-Ok.runs) old) (StaysMounted state v windows h f old)
+    (λ left writes. stays_mounted state v windows h f old left c.in-Ok.runs is.is.new calm here writes) (c.write_version.ensures.any_moment honest))
 
 pub returns-in-Err-write_version-clause-any_moment : goal.returns-in-Err-write_version-clause-any_moment
-returns-in-Err-write_version-clause-any_moment g c honest calm v files mounted =
-    let state : State = record { layout = c.self.inside.layout; entries = c.self.inside.entries.items; serial = c.self.inside.serial; waits = c.self.inside.waits } in
-    let need = ap (λ (n : ℕ). 1 + n) c.div_ceil.ensures in
-    let place = ap (λ (m : Area). placed m.sectors (sectors_for (length c.args.bytes.now))) (sym c.self.invariant.map) ∙ ap (placed c.self.inside.map.sectors) (sym need) ∙ sym c.place.ensures ∙ c.in-Ok.is in
-    let picked = placed_ok (free_space state.layout state.entries).sectors (sectors_for (length c.args.bytes.now)) c.in-Ok.runs place in
-    let is = picked_place state.layout state.entries (sectors_for (length c.args.bytes.now)) c.in-Ok.runs (omega arith) picked in
+returns-in-Err-write_version-clause-any_moment g c honest calm v windows h f ends mounted =
+    let state : State = record { layout = c.self.inside.layout; entries = c.self.inside.entries.items; serial = c.self.inside.serial; log = c.self.inside.log; table = c.self.inside.pages } in
+    let e : Entry = record { key = c.first_key.result; keep = c.unwrap_or.result; serial = c.self.inside.serial; length = length c.args.bytes.now; runs = c.in-Ok.runs } in
+    let epoch : c.self.inside.serial.epoch < 2 ^ 32 = search rules in
+    let count : c.self.inside.serial.count < 2 ^ 32 = search rules in
+    let is : IsChosen state c.args.name.now c.args.bytes.now c.args.keep e =
+    chosen state c.self.inside.map c.args.name.now c.args.bytes.now c.args.keep c.first_key.result c.unwrap_or.result (1 + c.div_ceil.result) c.in-Ok.runs c.self.invariant (sym c.size_fault.ensures ∙ c.in_default.is)
+    c.first_key.ensures.value c.first_key.ensures.key c.unwrap_or.ensures (ap (λ (n : ℕ). 1 + n) c.div_ceil.ensures) (sym c.place.ensures ∙ c.in-Ok.is) (epoch, count) in
     let M = g.M.Machine in
-    let here = subst (λ (s : State). IsMounted s v files (M.now c.args.m.now).image) (sym c.self.view_is) mounted in
-    subst (λ (s : State). LeavesOnly M.moment M.left_since c.args.m.now c.write_version.new.m (StaysMounted s v files (M.now c.args.m.now))) c.self.view_is
-    (leaves_more M.moment M.left_since c.args.m.now c.write_version.new.m (WritesIn (sectors_of c.in-Ok.runs) (M.now c.args.m.now)) (StaysMounted state v files (M.now c.args.m.now))
-    (λ left writes. stays_mounted state v files (M.now c.args.m.now) left c.in-Ok.runs is.new calm here writes) (c.write_version.ensures.any_moment honest))
+    let old = M.now c.args.m.now in
+    let here = subst (λ (s : State). IsMounted s v windows h f old.image) (sym c.self.view_is) mounted in
+    subst (λ (s : State). LeavesOnly M.moment M.left_since c.args.m.now c.write_version.new.m (StaysMounted s v windows h f old)) c.self.view_is
+    (leaves_more M.moment M.left_since c.args.m.now c.write_version.new.m (WritesIn (sectors_of c.in-Ok.runs) old) (StaysMounted state v windows h f old)
+    (λ left writes. stays_mounted state v windows h f old left c.in-Ok.runs is.is.new calm here writes) (c.write_version.ensures.any_moment honest))
 
 pub returns-in-Err-write_version-clause-stands : goal.returns-in-Err-write_version-clause-stands
-returns-in-Err-write_version-clause-stands g c honest calm v files mounted =
-    let state : State = record { layout = c.self.inside.layout; entries = c.self.inside.entries.items; serial = c.self.inside.serial; waits = c.self.inside.waits } in
-    let need = ap (λ (n : ℕ). 1 + n) c.div_ceil.ensures in
-    let place = ap (λ (m : Area). placed m.sectors (sectors_for (length c.args.bytes.now))) (sym c.self.invariant.map) ∙ ap (placed c.self.inside.map.sectors) (sym need) ∙ sym c.place.ensures ∙ c.in-Ok.is in
-    let picked = placed_ok (free_space state.layout state.entries).sectors (sectors_for (length c.args.bytes.now)) c.in-Ok.runs place in
-    let is = picked_place state.layout state.entries (sectors_for (length c.args.bytes.now)) c.in-Ok.runs (omega arith) picked in
+returns-in-Err-write_version-clause-stands g c honest calm v windows h f ends mounted =
+    let state : State = record { layout = c.self.inside.layout; entries = c.self.inside.entries.items; serial = c.self.inside.serial; log = c.self.inside.log; table = c.self.inside.pages } in
+    let e : Entry = record { key = c.first_key.result; keep = c.unwrap_or.result; serial = c.self.inside.serial; length = length c.args.bytes.now; runs = c.in-Ok.runs } in
+    let epoch : c.self.inside.serial.epoch < 2 ^ 32 = search rules in
+    let count : c.self.inside.serial.count < 2 ^ 32 = search rules in
+    let is : IsChosen state c.args.name.now c.args.bytes.now c.args.keep e =
+    chosen state c.self.inside.map c.args.name.now c.args.bytes.now c.args.keep c.first_key.result c.unwrap_or.result (1 + c.div_ceil.result) c.in-Ok.runs c.self.invariant (sym c.size_fault.ensures ∙ c.in_default.is)
+    c.first_key.ensures.value c.first_key.ensures.key c.unwrap_or.ensures (ap (λ (n : ℕ). 1 + n) c.div_ceil.ensures) (sym c.place.ensures ∙ c.in-Ok.is) (epoch, count) in
     let M = g.M.Machine in
-    let here = subst (λ (s : State). IsMounted s v files (M.now c.args.m.now).image) (sym c.self.view_is) mounted in
+    let old = M.now c.args.m.now in
+    let left = M.now c.write_version.new.m in
+    let here = subst (λ (s : State). IsMounted s v windows h f old.image) (sym c.self.view_is) mounted in
     let moments = c.write_version.ensures.any_moment honest in
-    let writes = moments.each (M.now c.write_version.new.m) (g.met.M.Machine.counts_now c.write_version.new.m (M.moment c.args.m.now) honest moments.later) in
-    let stays = stays_mounted state v files (M.now c.args.m.now) (M.now c.write_version.new.m) c.in-Ok.runs is.new calm here writes in
-    record { after = drawn v; says = refl; mounted = mounted_drawn state v files (M.now c.write_version.new.m).image stays.mounted }
-
-pub returns-in-Err-clause-any_moment : goal.returns-in-Err-clause-any_moment
-returns-in-Err-clause-any_moment g c honest calm v files mounted =
-    let M = g.M.Machine in
-    started M.moment M.left_since c.args.m.now (M.now c.args.m.now) (StaysMounted c.args.self.now v files (M.now c.args.m.now)) (λ l left. g.met.M.Machine.only_now c.args.m.now l honest left) (record { mounted = mounted; windows = refl; said = refl })
-
-pub returns-in-Some-clause-any_moment : goal.returns-in-Some-clause-any_moment
-returns-in-Some-clause-any_moment g c honest calm v files mounted =
-    let M = g.M.Machine in
-    started M.moment M.left_since c.args.m.now (M.now c.args.m.now) (StaysMounted c.args.self.now v files (M.now c.args.m.now)) (λ l left. g.met.M.Machine.only_now c.args.m.now l honest left) (record { mounted = mounted; windows = refl; said = refl })
-
-pub returns-then-self-ge4294967280-clause-any_moment : goal.returns-then-self-ge4294967280-clause-any_moment
-returns-then-self-ge4294967280-clause-any_moment g c honest calm v files mounted =
-    let M = g.M.Machine in
-    started M.moment M.left_since c.args.m.now (M.now c.args.m.now) (StaysMounted c.args.self.now v files (M.now c.args.m.now)) (λ l left. g.met.M.Machine.only_now c.args.m.now l honest left) (record { mounted = mounted; windows = refl; said = refl })
+    let writes = moments.each left (g.met.M.Machine.counts_now c.write_version.new.m (M.moment c.args.m.now) honest moments.later) in
+    let stays = stays_mounted state v windows h f old left c.in-Ok.runs is.is.new calm here writes in
+    let so = mounted_drawn state v windows h f left.image stays.mounted in
+    record { after = drawn v; says = refl; mounted = subst (λ (hs : List Change). IsMounted (drawn_state state) (drawn v) windows hs f left.image) (sym (append-nil h)) so }
