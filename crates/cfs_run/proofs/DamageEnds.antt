@@ -15,8 +15,7 @@ use Rattle.sector_disk.specs.Machine.{Moment}
 use Rattle.fsd_files.specs.Answers.{entry_of}
 use Rattle.fsd_files.specs.Disk.{Image}
 use Rattle.fsd_files.specs.Kept.{FirstDamaged, data_sectors, range_sectors}
-use Rattle.mount_recover.specs.Recover.{with_anchors}
-use Rattle.mount_recover.proofs.HomeLaws.{with_anchors_other}
+use Rattle.mount_recover.specs.Replay.{SameBehind}
 use Rattle.fsd_volume.specs.Mount.{IsFoundOn}
 use Rattle.fsd_volume.specs.Pieces.{DamagedIn}
 use Rattle.fsd_volume.specs.State.{IsTable, State}
@@ -83,28 +82,27 @@ range_on : (i j : Image) (runs : List Run) (n s : ℕ) → Agree (data_sectors r
 range_on i j runs zero s agree first = absurd first
 range_on i j runs (suc n) s agree first = first_on i j _ (data_sectors runs) s agree first
 
--- a mount changes the anchors alone, which lie before the data
-before_mount : (l : Layout) (epoch : ℕ) (key : Key) (entries : List Entry) (i : Image) (s : ℕ) → IsTable l entries → HasDamage key entries (with_anchors epoch i) s → HasDamage key entries i s
-before_mount l epoch key entries i s table damage =
+-- a mount leaves the data as it is
+before_mount : (l : Layout) (key : Key) (entries : List Entry) (i j : Image) (s : ℕ) → IsTable l entries → SameBehind l i j → HasDamage key entries j s → HasDamage key entries i s
+before_mount l key entries i j s table behind damage =
     let there = stored l entries key damage.entry table damage.listed in
     record {
       entry = damage.entry;
       listed = damage.listed;
-      first = range_on i (with_anchors epoch i) damage.entry.runs damage.entry.length s
-          (λ t h. let from = data_from l t (there.data_sectors t (behind_there t (sectors_of damage.entry.runs) h)) in with_anchors_other epoch i t (λ e. omega (arith, from)) (λ e. omega (arith, from)))
-          damage.first;
+      first = range_on i j damage.entry.runs damage.entry.length s
+          (λ t h. let from = data_from l t (there.data_sectors t (behind_there t (sectors_of damage.entry.runs) h)) in behind t (omega (arith, from))) damage.first;
     }
 
-damaged_on : (state : State) (count sectors : ℕ) (key : Key) (i j : Image) (s : ℕ) → sectors ≡ count → IsFoundOn count i state → IsTable state.layout state.entries → j ≡ with_anchors state.serial.epoch i
+damaged_on : (state : State) (count sectors : ℕ) (key : Key) (i j : Image) (s : ℕ) → sectors ≡ count → IsFoundOn count i state → IsTable state.layout state.entries → SameBehind state.layout i j
     → HasDamage key state.entries j s → IsDamagedOn sectors i key s
-damaged_on state count sectors key i j s same on table renewed damage =
+damaged_on state count sectors key i j s same on table behind damage =
     let here = subst (λ (n : ℕ). IsFoundOn n i state) (sym same) on in
     record {
       layout = state.layout;
       accepted = record { anchor = here.anchor; found = here.found; fits = omega (arith, here.next, here.fits) };
       entries = state.entries;
       table = here.table;
-      damage = before_mount state.layout state.serial.epoch key state.entries i s table (subst (λ (k : Image). HasDamage key state.entries k s) renewed damage);
+      damage = before_mount state.layout key state.entries i j s table behind damage;
     }
 
 if_damaged : (P Q : ℕ → Type 0) (answer : Answer) → ((s : ℕ) → P s → Q s) → IfDamaged P answer → IfDamaged Q answer
@@ -118,10 +116,10 @@ if_damaged P Q (Said.Line (Lines.Refused why)) more damaged = tt
 if_damaged P Q (Said.Line (Lines.Ended fault)) more damaged = tt
 if_damaged P Q (Said.Bytes bytes) more damaged = tt
 
-pub get_damaged : (state : State) (count sectors : ℕ) (key : Key) (i j : Image) (answer : Answer) → sectors ≡ count → IsFoundOn count i state → IsTable state.layout state.entries → j ≡ with_anchors state.serial.epoch i
+pub get_damaged : (state : State) (count sectors : ℕ) (key : Key) (i j : Image) (answer : Answer) → sectors ≡ count → IsFoundOn count i state → IsTable state.layout state.entries → SameBehind state.layout i j
     → IfDamaged (HasDamage key state.entries j) answer → IfDamaged (IsDamagedOn sectors i key) answer
-get_damaged state count sectors key i j answer same on table renewed damaged =
-    if_damaged (HasDamage key state.entries j) (IsDamagedOn sectors i key) answer (λ s. damaged_on state count sectors key i j s same on table renewed) damaged
+get_damaged state count sectors key i j answer same on table behind damaged =
+    if_damaged (HasDamage key state.entries j) (IsDamagedOn sectors i key) answer (λ s. damaged_on state count sectors key i j s same on table behind) damaged
 
 -- ---- the run
 

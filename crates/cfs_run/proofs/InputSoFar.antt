@@ -1,8 +1,12 @@
 -- An input of which some front is read.
 use Rattle.std.proofs.Common.{◌≡◌, Bool, true, false, cond, ℕ, ◌+◌, ◌≤◌, List, [], ◌++◌, length, take, drop, refl, sym, ap, ◌∙◌, arith, length-append, length-take-le, length-drop, drop-drop}
-use Rattle.std.proofs.lemmas.List.{drop_all, take_all}
+use Rattle.std.proofs.lemmas.List.{append-nil, drop_all, take_all}
 use Rattle.std.proofs.Math.Seq.{take-add}
-use Rattle.sector_disk.specs.Machine.{Ledger, Takes, took}
+use Rattle.sector_disk.specs.Machine.{Elapses, Ledger, LeavesOnly, Moment, Takes, Utters, Wears, took}
+use Rattle.sector_disk.specs.Image.{open_damage}
+use Rattle.sector_disk.proofs.Holding.{wears_on}
+use Rattle.sector_disk.proofs.Moments.{goes_on, started}
+use Rattle.sector_disk.proofs.Wear.{worn_refl}
 use Rattle.cfs_run.specs.Input.{TakesAll, TakesSome}
 use Rattle.cfs_run.specs.declared.input.InputFault.{InputFault}
 use Rattle.cfs_run.specs.declared.input.InputFault.TheVariants.{Failed}
@@ -70,3 +74,19 @@ failed_after old now next bytes s e = record { too_long = tt; count = length byt
 pub pushed : (ok : Bool) (more bytes items : List ℕ) → items ≡ cond ok more bytes → ok ≡ true → items ≡ more
 pushed true more bytes items e h = e
 pushed false more bytes items e h = cc
+
+-- ---- moments of calls that wear, and of a text that is said
+
+module _ {D : Type 0} (moment : D → ℕ) (left_since : D → ℕ → Moment → Type 0) where
+  pub no_wear : (a : D) (old : Moment) → ((t : Moment) → left_since a (moment a) t → t ≡ old) → LeavesOnly moment left_since a a (Wears old)
+  no_wear a old only = started moment left_since a old (Wears old) only (record { image = worn_refl (open_damage old.windows) old.image; windows = refl; said = refl })
+
+  pub wears_more : (a b c : D) (old mid : Moment) → LeavesOnly moment left_since a b (Wears old) → Wears old mid → Elapses (moment b) (moment c) (left_since b) (left_since c) (Wears mid)
+      → LeavesOnly moment left_since a c (Wears old)
+  wears_more a b c old mid first worn time = goes_on moment left_since a b c (Wears old) (Wears mid) first time (λ left wears. wears_on old mid left worn wears)
+
+  pub utters : (bytes : List ℕ) (a b : D) (old : Moment) → ((t : Moment) → left_since a (moment a) t → t ≡ old) → Elapses (moment a) (moment b) (left_since a) (left_since b) (Utters bytes old)
+      → LeavesOnly moment left_since a b (Utters bytes old)
+  utters bytes a b old only time =
+      goes_on moment left_since a a b (Utters bytes old) (Utters bytes old)
+      (started moment left_since a old (Utters bytes old) only (record { image = worn_refl (open_damage old.windows) old.image; windows = refl; heard = 0; said = sym (append-nil old.said) })) time (λ left uttered. uttered)

@@ -1,12 +1,12 @@
 mod DamageEnds
+mod EndLaws
 mod FormatEnds
 mod GetLaws
-mod GetSaid
 mod InputSoFar
 mod MountEnds
 mod OpenLaws
 mod PutEnds
 mod PutLaws
-mod PutSaid
 mod RunLaws
+mod StageLaws
 mod WordLists

@@ -10,13 +10,15 @@ use Rattle.fsd_files.specs.Kept.{Lists}
 use Rattle.fsd_files.specs.OneLeaf.{put_outcome}
 use Rattle.fsd_files.specs.Volume.{Volume}
 use Rattle.mount_recover.specs.declared.fault.MountFault.{MountFault}
+use Rattle.mount_recover.specs.Replay.{SameBehind}
+use Rattle.volume_layout.specs.declared.layout.Layout.{Layout}
 use Rattle.mount_recover.specs.declared.fault.MountFault.TheVariants as Mount
 use Rattle.sector_disk.specs.declared.sector.Sector.{Sector}
 use Rattle.sector_disk.specs.Image.{IsCalm}
 use Rattle.sector_disk.specs.Machine.{Finds, Moment}
 use Rattle.sector_disk.proofs.Calm.{calm_worn}
-use Rattle.fsd_volume.specs.Mount.{IsMountable, IsFoundOn, MountRefused, volume_of}
-use Rattle.fsd_volume.specs.Put.{PutSays, Puts}
+use Rattle.fsd_volume.specs.Mount.{IsFoundOn, IsMountable, MountRefused, volume_of}
+use Rattle.fsd_volume.specs.Put.{IsWornOut, PutSays, Puts}
 use Rattle.fsd_volume.specs.State.{StandsFor, State}
 use Rattle.cfs_run.specs.declared.fault.Fault.{Fault}
 use Rattle.cfs_run.specs.declared.fault.Fault.TheVariants as Ends
@@ -27,8 +29,8 @@ use Rattle.cfs_run.specs.declared.request.Request.{Request}
 use Rattle.cfs_run.specs.declared.request.Request.TheVariants.{Outside, BadField, Format, Put, Get}
 use Rattle.cfs_run.specs.declared.answer.Answer.TheVariants as Said
 use Rattle.cfs_run.specs.Answer.{answer_status, answer_text}
-use Rattle.cfs_run.specs.Mounting.{IfMount, IsMountFault, fault_of}
-use Rattle.cfs_run.specs.Ends.{IfMountAnswer, IfMountLine, IfMounts, Never, NotMounted, WhereMounted, is_one_of, mounted_statuses}
+use Rattle.cfs_run.specs.Mounting.{IfMount, IfMounts, IsMountFault, fault_of}
+use Rattle.cfs_run.specs.Ends.{IfMountAnswer, IfMountLine, Never, NotMounted, WhereMounted, is_one_of, mounted_statuses}
 use Rattle.cfs_run.specs.Text.{line_of}
 use Rattle.cfs_run.proofs.PutLaws.{keeps}
 
@@ -56,12 +58,16 @@ opened_on state count sectors old at calm found same on =
     let here = subst (λ (i : List Sector). IsFoundOn count i state) (calm_worn old.windows old.image at.image calm found.image) on in
     subst (λ (n : ℕ). IsFoundOn n old.image state) (sym same) here
 
+pub opened_behind : (l : Layout) (old at : Moment) (j : List Sector) → IsCalm old.windows → Finds old at → SameBehind l at.image j → SameBehind l old.image j
+opened_behind l old at j calm found same = subst (λ (i : List Sector). SameBehind l i j) (calm_worn old.windows old.image at.image calm found.image) same
+
 pub mountable : (state : State) (count sectors : ℕ) (i : List Sector) → sectors ≡ count → IsFoundOn count i state → IsMountable sectors i
 mountable state count sectors i same on =
     let here = subst (λ (n : ℕ). IsFoundOn n i state) (sym same) on in
     record {
       layout = state.layout;
       accepted = record { anchor = here.anchor; found = here.found; fits = omega (arith, here.next, here.fits) };
+      pages = here.pages;
       table = ap is_some here.table;
     }
 
@@ -90,33 +96,55 @@ lists (e ∷ entries) = (record { key = refl; keep = refl; length = sym (length-
 stands : (state : State) → StandsFor state (volume_of state (files_of state.entries))
 stands state = record { layout = refl; entries = refl; lists = lists state.entries; serial = refl; removed = refl; held = refl; drafts = refl; reached = refl }
 
-put_refusal : (why : Refusal) (v after : Volume) (name bytes : List ℕ) → v.serial.count ≡ 1 → PutSays v (put_outcome v name bytes None) after (Err why) → IfMountLine Never (line_of why)
-put_refusal (Why.Lost a b) v after name bytes first says = absurd ((keeps v name bytes None).told (Why.Lost a b) says.0)
-put_refusal (Why.Unsound s) v after name bytes first says = absurd ((keeps v name bytes None).told (Why.Unsound s) says.0)
-put_refusal Why.WornOut v after name bytes first says = absurd (omega (arith, says.0, first))
-put_refusal (Why.Device s) v after name bytes first says = tt
-put_refusal Why.Memory v after name bytes first says = tt
-put_refusal Why.NoSuch v after name bytes first says = tt
-put_refusal (Why.TooLong n) v after name bytes first says = tt
-put_refusal (Why.NoSpace need free) v after name bytes first says = tt
-put_refusal (Why.TooFragmented need best) v after name bytes first says = tt
-put_refusal (Why.NameTableFull free) v after name bytes first says = tt
-put_refusal Why.VersionsUsedUp v after name bytes first says = tt
-put_refusal (Why.KeepTooLarge keep) v after name bytes first says = tt
-put_refusal (Why.Damaged s) v after name bytes first says = tt
-put_refusal (Why.Down s) v after name bytes first says = tt
-put_refusal (Why.BadClient c) v after name bytes first says = tt
-put_refusal (Why.Busy c) v after name bytes first says = tt
-put_refusal (Why.Idle c) v after name bytes first says = tt
-put_refusal (Why.Short declared got) v after name bytes first says = tt
-put_refusal (Why.Long declared got) v after name bytes first says = tt
+put_refusal : (why : Refusal) (old : State) (v after : Volume) (name bytes : List ℕ) → (IsWornOut old → ⊥) → PutSays old v (put_outcome v name bytes None) after (Err why) → IfMountLine Never (line_of why)
+put_refusal (Why.Lost a b) old v after name bytes first says = absurd ((keeps v name bytes None).told (Why.Lost a b) says.0)
+put_refusal (Why.Unsound s) old v after name bytes first says = absurd ((keeps v name bytes None).told (Why.Unsound s) says.0)
+put_refusal Why.WornOut old v after name bytes first says = absurd (first says.0)
+put_refusal (Why.Device s) old v after name bytes first says = tt
+put_refusal Why.Memory old v after name bytes first says = tt
+put_refusal Why.NoSuch old v after name bytes first says = tt
+put_refusal (Why.TooLong n) old v after name bytes first says = tt
+put_refusal (Why.NoSpace need free) old v after name bytes first says = tt
+put_refusal (Why.TooFragmented need best) old v after name bytes first says = tt
+put_refusal (Why.NameTableFull free) old v after name bytes first says = tt
+put_refusal Why.VersionsUsedUp old v after name bytes first says = tt
+put_refusal (Why.KeepTooLarge keep) old v after name bytes first says = tt
+put_refusal (Why.Damaged s) old v after name bytes first says = tt
+put_refusal (Why.Down s) old v after name bytes first says = tt
+put_refusal (Why.BadClient c) old v after name bytes first says = tt
+put_refusal (Why.Busy c) old v after name bytes first says = tt
+put_refusal (Why.Idle c) old v after name bytes first says = tt
+put_refusal (Why.Short declared got) old v after name bytes first says = tt
+put_refusal (Why.Long declared got) old v after name bytes first says = tt
 
-pub put_refused : (why : Refusal) (line : Line) (state new : State) (name bytes : List ℕ) → state.serial.count ≡ 1
-    → ((v : Volume) → StandsFor state v → Puts v (put_outcome v name bytes None) new (Err why)) → line ≡ line_of why → IfMountLine Never line
+pub put_refused : (why : Refusal) (line : Line) (state new : State) (name bytes : List ℕ) → (IsWornOut state → ⊥)
+    → ((v : Volume) → StandsFor state v → Puts state v (put_outcome v name bytes None) new (Err why)) → line ≡ line_of why → IfMountLine Never line
 put_refused why line state new name bytes first answers told =
     let v = volume_of state (files_of state.entries) in
     let puts = answers v (stands state) in
-    subst (λ (x : Line). IfMountLine Never x) (sym told) (put_refusal why v puts.after name bytes first puts.says)
+    subst (λ (x : Line). IfMountLine Never x) (sym told) (put_refusal why state v puts.after name bytes first puts.says)
+
+-- what tells no fault of a mount is refused for none
+never_fault : (P : MountFault → Type 0) (fault : Fault) → IfMount Never fault → IfMount P fault
+never_fault P Ends.NotVolume never = absurd never
+never_fault P (Ends.Lost a b) never = absurd never
+never_fault P Ends.NoAnchor never = absurd never
+never_fault P (Ends.Unsound s) never = absurd never
+never_fault P Ends.WornOut never = absurd never
+never_fault P (Ends.Device s) never = tt
+never_fault P Ends.Input never = tt
+never_fault P Ends.InputTooLong never = tt
+never_fault P Ends.Memory never = tt
+
+pub never_refused : (P : MountFault → Type 0) (line : Line) → IfMountLine Never line → IfMountLine P line
+never_refused P (Lines.Ended fault) never = never_fault P fault never
+never_refused P Lines.Usage never = tt
+never_refused P (Lines.BadField cause) never = tt
+never_refused P (Lines.Formatted n free) never = tt
+never_refused P (Lines.Unplanned why) never = tt
+never_refused P (Lines.Made key made) never = tt
+never_refused P (Lines.Damaged key s) never = tt
+never_refused P (Lines.Refused why) never = tt
 
 -- ---- a run
 

@@ -1,6 +1,8 @@
--- What a put answers, by the outcome of the volume, and what the disk holds then.
-use Rattle.std.proofs.Common.{◌≡◌, ℕ, ◌+◌, Bool, true, false, cond, List, length, Option, Some, None, refl, sym, ap, subst, ◌∙◌, arith}
-use Rattle.std.specs.Prelude.{⊤, IfSome, Ok, Err}
+-- What a put answers, by the outcome of the volume, and what the disk is then.
+use Rattle.std.proofs.Common.{◌≡◌, inl, inr, ℕ, ◌+◌, ◌<◌, ◌≤◌, nat_lt, Bool, true, false, cond, List, [], ◌∷◌, ◌++◌, length, Option, Some, None, refl, sym, ap, subst, ◌∙◌, arith}
+use Rattle.std.specs.Prelude.{⊤, IfSome, Err}
+use Rattle.std.proofs.lemmas.Bool.{le-ltb, lt-ltb}
+use Rattle.std.proofs.lemmas.List.{length-append}
 use Rattle.fsd_bytes.specs.declared.key.Key.{Key}
 use Rattle.fsd_bytes.specs.declared.key.Serial.{Serial}
 use Rattle.fsd_bytes.specs.declared.refusal.Refusal.{Refusal}
@@ -9,24 +11,34 @@ use Rattle.volume_layout.specs.declared.layout.Layout.{Layout}
 use Rattle.run_table.specs.declared.run.Run.{Run}
 use Rattle.run_table.specs.RunTable.{total}
 use Rattle.run_table.proofs.ChoiceLaws.{total_of_pick}
+use Rattle.sector_disk.specs.declared.sector.WeakRun.{WeakRun}
+use Rattle.sector_disk.specs.Image.{IsCalm}
+use Rattle.sector_disk.specs.Machine.{LeavesOnly, Moment, Wears}
+use Rattle.sector_disk.proofs.Calm.{calm_worn}
+use Rattle.sector_disk.proofs.Moments.{leaves_more, then_on}
 use Rattle.fsd_formats.specs.NamePage.{sectors_for}
 use Rattle.fsd_files.specs.Answers.{Outcome, keep_given, no_place, refused, size_fault, with_version}
 use Rattle.fsd_files.specs.Disk.{Image}
-use Rattle.fsd_files.specs.Files.{Files, new_key}
+use Rattle.fsd_files.specs.Files.{Change, new_key}
 use Rattle.fsd_files.specs.OneLeaf.{put_at, put_outcome, put_unless}
-use Rattle.fsd_files.specs.Replies.{Made, Refused}
-use Rattle.fsd_files.specs.Volume.{Volume, drawn, forced, free_runs, place_for}
-use Rattle.fsd_sound.specs.AtHome.{HoldsFiles}
-use Rattle.fsd_volume.specs.State.{IsMounted, State}
-use Rattle.fsd_volume.specs.Put.{PutsOn}
+use Rattle.fsd_files.specs.Replies.{Made, Refused, Reply}
+use Rattle.fsd_files.specs.Volume.{Volume, drawn, free_runs, place_for}
+use Rattle.fsd_sound.specs.Sound.{IsSound}
+use Rattle.fsd_sound.proofs.MountedLaws.{mounted_sound}
+use Rattle.fsd_volume.specs.Forcing.{Forces}
+use Rattle.fsd_volume.specs.Put.{IsWornOut, PutSays}
+use Rattle.fsd_volume.specs.State.{IsMounted, State, StaysMounted, mounted_of}
+use Rattle.cfs_run.specs.declared.answer.Answer.{Answer}
+use Rattle.cfs_run.specs.declared.answer.Answer.TheVariants as Said
+use Rattle.cfs_run.specs.declared.fault.Fault.{Fault}
+use Rattle.cfs_run.specs.declared.fault.Fault.TheVariants as Ends
 use Rattle.cfs_run.specs.declared.line.Line.{Line}
 use Rattle.cfs_run.specs.declared.line.Line.TheVariants as Lines
-use Rattle.cfs_run.specs.declared.fault.Fault.TheVariants as Ends
-use Rattle.cfs_run.specs.Text.{line_of}
-use Rattle.fsd_volume.specs.Mount.{Mounts, volume_of}
-use Rattle.cfs_run.specs.declared.fault.Fault.{Fault}
-use Rattle.cfs_run.specs.Mounting.{IsExcuse}
-use Rattle.cfs_run.specs.Ends.{Puts, Stores, StoresAs}
+use Rattle.cfs_run.specs.declared.input.TheConstants.{MOST_INPUT}
+use Rattle.cfs_run.specs.Text.{line_of, text}
+use Rattle.cfs_run.specs.Leaves.{Turn, line_turn, put_turn, reply_turn}
+use Rattle.cfs_run.specs.Working.{IsOutside, Stays, WorkEnds, Works}
+use Rattle.cfs_run.proofs.StageLaws.{sound_fewer, sound_more}
 
 -- a refusal that is a reply, and no end of a run
 abbrev pub IsReply : Refusal → Type 0
@@ -98,108 +110,167 @@ reply_of_size false false keep n = tt
 pub keeps : (v : Volume) (name bytes : List ℕ) (given : Option ℕ) → Keeps v (sectors_for (length bytes)) (put_outcome v name bytes given)
 keeps v name bytes given = keeps_unless v name bytes given (size_fault (keep_given given) (length bytes)) (reply_of_size _ _ (keep_given given) (length bytes))
 
--- ---- what the disk holds
+-- ---- the sound disk below the volume
 
-held : (l m : Layout) (a b : ℕ) (s t : Files) (j : Image) → l ≡ m → a ≡ b → s ≡ t → HoldsFiles l a s j → HoldsFiles m b t j
-held l m a b s t j layout epoch files h =
-    subst (λ (x : Layout). HoldsFiles x b t j) layout (subst (λ (n : ℕ). HoldsFiles l n t j) epoch (subst (λ (x : Files). HoldsFiles l a x j) files h))
+pub mounted_is_sound : (state : State) (v : Volume) (windows : List WeakRun) (h : List Change) (f : ℕ) (i : Image) → IsMounted state v windows h f i → IsSound state.layout windows h f i
+mounted_is_sound state v windows h f i m = subst (λ (l : Layout). IsSound l windows h f i) m.stands.layout (mounted_sound (mounted_of state v) windows h f i m.on_disk)
 
--- a mounted volume that is the outcome's
-mounted_holds : (v : Volume) (need : ℕ) (out : Outcome) (state : State) (after : Volume) (held_files : Files) (j : Image) → Keeps v need out → after ≡ out.1 → IsMounted state after held_files j → held_files ≡ out.1.files
-    → HoldsFiles v.layout v.serial.epoch out.1.files j
-mounted_holds v need out state after held_files j k same mounted files =
-    held state.layout v.layout state.serial.epoch v.serial.epoch held_files out.1.files j
-    (sym mounted.stands.layout ∙ ap (λ (x : Volume). x.layout) same ∙ k.layout)
-    (ap (λ (x : Serial). x.epoch) (sym mounted.stands.serial) ∙ ap (λ (x : Volume). x.serial.epoch) same ∙ k.epoch)
-    files mounted.disk
+forced_at_most : (state : State) (v : Volume) (windows : List WeakRun) (h : List Change) (f : ℕ) (i : Image) → IsMounted state v windows h f i → f ≤ length h
+forced_at_most state v windows h f i m = let count = m.on_disk.count in omega (arith, count)
 
-stored_reply : (v : Volume) (need : ℕ) (out : Outcome) (why : Refusal) (state : State) (after : Volume) (j : Image) → Keeps v need out → out.0 ≡ Refused why → after ≡ out.1 → IsMounted state after v.files j
-    → StoresAs (Refused why) v.layout v.serial.epoch out j
-stored_reply v need out why state after j k reply same mounted =
-    record { reply_is = reply; holds = mounted_holds v need out state after v.files j k same mounted (sym (k.files why reply)) }
+pub stays_more : (l : Layout) (windows : List WeakRun) (h c : List Change) (f : ℕ) (old left : Moment) → Stays l windows h f old left → Stays l windows (h ++ c) f old left
+stays_more l windows h c f old left stays = record { windows = stays.windows; said = stays.said; sound = sound_more l windows h c f left.image stays.sound }
 
-stored : (why : Refusal) (v : Volume) (need : ℕ) (out : Outcome) (state : State) (j : Image) → Keeps v need out → v.serial.count ≡ 1 → PutsOn v out v.files state j (Err why) → Stores v.layout v.serial.epoch out (line_of why) j
-stored Why.NoSuch v need out state j k first on = stored_reply v need out Why.NoSuch state on.after j k on.says.0 on.says.1 on.mounted
-stored (Why.TooLong n) v need out state j k first on = stored_reply v need out (Why.TooLong n) state on.after j k on.says.0 on.says.1 on.mounted
-stored (Why.NoSpace wanted free) v need out state j k first on = stored_reply v need out (Why.NoSpace wanted free) state on.after j k on.says.0 on.says.1 on.mounted
-stored (Why.TooFragmented wanted best) v need out state j k first on = stored_reply v need out (Why.TooFragmented wanted best) state on.after j k on.says.0 on.says.1 on.mounted
-stored (Why.NameTableFull free) v need out state j k first on = stored_reply v need out (Why.NameTableFull free) state on.after j k on.says.0 on.says.1 on.mounted
-stored Why.VersionsUsedUp v need out state j k first on = stored_reply v need out Why.VersionsUsedUp state on.after j k on.says.0 on.says.1 on.mounted
-stored (Why.KeepTooLarge keep) v need out state j k first on = stored_reply v need out (Why.KeepTooLarge keep) state on.after j k on.says.0 on.says.1 on.mounted
-stored (Why.Damaged s) v need out state j k first on = stored_reply v need out (Why.Damaged s) state on.after j k on.says.0 on.says.1 on.mounted
-stored (Why.Down s) v need out state j k first on = stored_reply v need out (Why.Down s) state on.after j k on.says.0 on.says.1 on.mounted
-stored (Why.BadClient c) v need out state j k first on = stored_reply v need out (Why.BadClient c) state on.after j k on.says.0 on.says.1 on.mounted
-stored (Why.Busy c) v need out state j k first on = stored_reply v need out (Why.Busy c) state on.after j k on.says.0 on.says.1 on.mounted
-stored (Why.Idle c) v need out state j k first on = stored_reply v need out (Why.Idle c) state on.after j k on.says.0 on.says.1 on.mounted
-stored (Why.Short declared got) v need out state j k first on = stored_reply v need out (Why.Short declared got) state on.after j k on.says.0 on.says.1 on.mounted
-stored (Why.Long declared got) v need out state j k first on = stored_reply v need out (Why.Long declared got) state on.after j k on.says.0 on.says.1 on.mounted
-stored (Why.Lost a b) v need out state j k first on = absurd (k.told (Why.Lost a b) on.says.0)
-stored (Why.Unsound s) v need out state j k first on = absurd (k.told (Why.Unsound s) on.says.0)
-stored (Why.Device s) v need out state j k first on = tt
-stored Why.Memory v need out state j k first on = tt
-stored Why.WornOut v need out state j k first on = absurd (omega (arith, on.says.0, first))
+stays_mounted : (state : State) (v : Volume) (windows : List WeakRun) (h c : List Change) (f : ℕ) (old left : Moment) → StaysMounted state v windows h f old left → Stays state.layout windows (h ++ c) f old left
+stays_mounted state v windows h c f old left stays = stays_more state.layout windows h c f old left (record { windows = stays.windows; said = stays.said; sound = mounted_is_sound state v windows h f left.image stays.mounted })
 
-pub refusal_stored : (why : Refusal) (line : Line) (v : Volume) (need : ℕ) (out : Outcome) (state : State) (j : Image) → Keeps v need out → v.serial.count ≡ 1 → PutsOn v out v.files state j (Err why) → line ≡ line_of why
-    → Stores v.layout v.serial.epoch out line j
-refusal_stored why line v need out state j k first on told = subst (λ (x : Line). Stores v.layout v.serial.epoch out x j) (sym told) (stored why v need out state j k first on)
+-- ---- a put that is refused
 
-made_as : (out : Outcome) (key : Key) (n m : ℕ) → out.0 ≡ Made key n → n ≡ m → out.0 ≡ Made key m
-made_as out key n m made e = made ∙ ap (Made key) e
+-- the reply is said, and nothing was made
+refused_ends : (name bytes : List ℕ) (reply : Reply) (why : Refusal) (l : Layout) (windows : List WeakRun) (h : List Change) (f : ℕ) (old new : Moment) → reply ≡ Refused why → Stays l windows h f old new
+    → WorkEnds l windows h f (reply_turn name bytes reply) old new (Said.Line (Lines.Refused why))
+refused_ends name bytes reply why l windows h f old new is stays =
+    subst (λ (r : Reply). WorkEnds l windows h f (reply_turn name bytes r) old new (Said.Line (Lines.Refused why))) (sym is)
+    (inl (
+      record { text = refl; status = refl },
+      record {
+        windows = stays.windows;
+        said = stays.said;
+        sound = sound_fewer l windows (h ++ []) (f + 0) f new.image (omega arith) (sound_more l windows h [] f new.image stays.sound);
+      },
+    ))
 
-pub version_stored : (key : Key) (n : ℕ) (v : Volume) (need : ℕ) (out : Outcome) (state last : State) (i j : Image) → Keeps v need out → (on : PutsOn v out v.files state i (Ok key)) → n ≡ need
-    → IsMounted last (forced on.after) on.after.files j → StoresAs (Made key n) v.layout v.serial.epoch out j
-version_stored key n v need out state last i j k on sectors mounted = record {
-  reply_is = made_as out key on.says.0.0 n on.says.0.1 (k.count key on.says.0.0 on.says.0.1 ∙ sym sectors);
-  holds =
-      held last.layout v.layout last.serial.epoch v.serial.epoch on.after.files out.1.files j
-      (sym mounted.stands.layout ∙ ap (λ (x : Volume). x.layout) on.says.1 ∙ k.layout)
-      (ap (λ (x : Serial). x.epoch) (sym mounted.stands.serial) ∙ ap (λ (x : Volume). x.serial.epoch) on.says.1 ∙ k.epoch)
-      (ap (λ (x : Volume). x.files) on.says.1) mounted.disk;
-}
+ended_ends : (turn : Turn) (fault : Fault) (l : Layout) (windows : List WeakRun) (h : List Change) (f : ℕ) (old new : Moment) → IsOutside fault → Stays l windows h f old new
+    → WorkEnds l windows h f turn old new (Said.Line (Lines.Ended fault))
+ended_ends turn fault l windows h f old new outside stays = inr (record { fault = fault; allowed = outside; is = refl }, stays_more l windows h turn.changes f old new stays)
 
--- ---- the whole command
+put_ends : (why : Refusal) (state : State) (v after : Volume) (name bytes : List ℕ) (l : Layout) (windows : List WeakRun) (h : List Change) (f : ℕ) (old new : Moment) → (IsWornOut state → ⊥)
+    → PutSays state v (put_outcome v name bytes None) after (Err why) → Stays l windows h f old new → WorkEnds l windows h f (reply_turn name bytes (put_outcome v name bytes None).0) old new (Said.Line (line_of why))
+put_ends (Why.Device s) state v after name bytes l windows h f old new fresh says stays = ended_ends _ (Ends.Device s) l windows h f old new tt stays
+put_ends Why.Memory state v after name bytes l windows h f old new fresh says stays = ended_ends _ Ends.Memory l windows h f old new tt stays
+put_ends Why.WornOut state v after name bytes l windows h f old new fresh says stays = absurd (fresh says.0)
+put_ends (Why.Lost a b) state v after name bytes l windows h f old new fresh says stays = absurd ((keeps v name bytes None).told (Why.Lost a b) says.0)
+put_ends (Why.Unsound s) state v after name bytes l windows h f old new fresh says stays = absurd ((keeps v name bytes None).told (Why.Unsound s) says.0)
+put_ends Why.NoSuch state v after name bytes l windows h f old new fresh says stays = refused_ends name bytes _ Why.NoSuch l windows h f old new says.0 stays
+put_ends (Why.TooLong n) state v after name bytes l windows h f old new fresh says stays = refused_ends name bytes _ (Why.TooLong n) l windows h f old new says.0 stays
+put_ends (Why.NoSpace need free) state v after name bytes l windows h f old new fresh says stays = refused_ends name bytes _ (Why.NoSpace need free) l windows h f old new says.0 stays
+put_ends (Why.TooFragmented need best) state v after name bytes l windows h f old new fresh says stays = refused_ends name bytes _ (Why.TooFragmented need best) l windows h f old new says.0 stays
+put_ends (Why.NameTableFull free) state v after name bytes l windows h f old new fresh says stays = refused_ends name bytes _ (Why.NameTableFull free) l windows h f old new says.0 stays
+put_ends Why.VersionsUsedUp state v after name bytes l windows h f old new fresh says stays = refused_ends name bytes _ Why.VersionsUsedUp l windows h f old new says.0 stays
+put_ends (Why.KeepTooLarge keep) state v after name bytes l windows h f old new fresh says stays = refused_ends name bytes _ (Why.KeepTooLarge keep) l windows h f old new says.0 stays
+put_ends (Why.Damaged s) state v after name bytes l windows h f old new fresh says stays = refused_ends name bytes _ (Why.Damaged s) l windows h f old new says.0 stays
+put_ends (Why.Down s) state v after name bytes l windows h f old new fresh says stays = refused_ends name bytes _ (Why.Down s) l windows h f old new says.0 stays
+put_ends (Why.BadClient c) state v after name bytes l windows h f old new fresh says stays = refused_ends name bytes _ (Why.BadClient c) l windows h f old new says.0 stays
+put_ends (Why.Busy c) state v after name bytes l windows h f old new fresh says stays = refused_ends name bytes _ (Why.Busy c) l windows h f old new says.0 stays
+put_ends (Why.Idle c) state v after name bytes l windows h f old new fresh says stays = refused_ends name bytes _ (Why.Idle c) l windows h f old new says.0 stays
+put_ends (Why.Short declared got) state v after name bytes l windows h f old new fresh says stays = refused_ends name bytes _ (Why.Short declared got) l windows h f old new says.0 stays
+put_ends (Why.Long declared got) state v after name bytes l windows h f old new fresh says stays = refused_ends name bytes _ (Why.Long declared got) l windows h f old new says.0 stays
 
--- the input changes nothing of the disk
-put_on : (state : State) (l : Layout) (epoch : ℕ) (files : Files) (name bytes input : List ℕ) (line : Line) (mid i j : Image) → Mounts l epoch files state mid → i ≡ mid → bytes ≡ input
-    → (IsMounted state (volume_of state files) files i → Stores state.layout state.serial.epoch (put_outcome (volume_of state files) name bytes None) line j)
-    → Stores l (epoch + 1) (put_outcome (volume_of state files) name input None) line j
-put_on state l epoch files name bytes input line mid i j mounts same all stores =
-    let stored = stores (subst (λ (x : Image). IsMounted state (volume_of state files) files x) (sym same) mounts.mounted) in
-    subst (λ (x : Layout). Stores x (epoch + 1) (put_outcome (volume_of state files) name input None) line j) mounts.layout
-    (subst (λ (n : ℕ). Stores state.layout n (put_outcome (volume_of state files) name input None) line j) mounts.next
-    (subst (λ (b : List ℕ). Stores state.layout state.serial.epoch (put_outcome (volume_of state files) name b None) line j) all stored))
+-- ---- a put, and its force
 
-put_done : (state : State) (l : Layout) (epoch : ℕ) (files : Files) (name input : List ℕ) (line : Line) (mid j : Image) → Mounts l epoch files state mid → state.serial.count ≡ 1
-    → Stores l (epoch + 1) (put_outcome (volume_of state files) name input None) line j → Puts name input l epoch files line mid j
-put_done state l epoch files name input (Lines.Made key n) mid j mounts first stores = record { state = state; mounts = mounts; first = first; stores = stores }
-put_done state l epoch files name input (Lines.Refused why) mid j mounts first stores = record { state = state; mounts = mounts; first = first; stores = stores }
-put_done state l epoch files name input (Lines.Ended Ends.Memory) mid j mounts first stores = tt
-put_done state l epoch files name input (Lines.Ended (Ends.Device s)) mid j mounts first stores = tt
-put_done state l epoch files name input (Lines.Ended Ends.Input) mid j mounts first stores = tt
-put_done state l epoch files name input (Lines.Ended Ends.InputTooLong) mid j mounts first stores = tt
-put_done state l epoch files name input (Lines.Ended Ends.NotVolume) mid j mounts first stores = absurd stores
-put_done state l epoch files name input (Lines.Ended (Ends.Lost a b)) mid j mounts first stores = absurd stores
-put_done state l epoch files name input (Lines.Ended Ends.NoAnchor) mid j mounts first stores = absurd stores
-put_done state l epoch files name input (Lines.Ended (Ends.Unsound s)) mid j mounts first stores = absurd stores
-put_done state l epoch files name input (Lines.Ended Ends.WornOut) mid j mounts first stores = absurd stores
-put_done state l epoch files name input Lines.Usage mid j mounts first stores = absurd stores
-put_done state l epoch files name input (Lines.BadField why) mid j mounts first stores = absurd stores
-put_done state l epoch files name input (Lines.Formatted n free) mid j mounts first stores = absurd stores
-put_done state l epoch files name input (Lines.Unplanned why) mid j mounts first stores = absurd stores
-put_done state l epoch files name input (Lines.Damaged key s) mid j mounts first stores = absurd stores
+module _ {D : Type 0} (moment : D → ℕ) (left_since : D → ℕ → Moment → Type 0) (state : State) (v : Volume) (name bytes : List ℕ) (windows : List WeakRun) (h : List Change) (f : ℕ) (a b : D) (old mid : Moment)
+    (put : LeavesOnly moment left_since a b (StaysMounted state v windows h f old)) (now : left_since b (moment a) mid) where
+  abbrev change : List Change
+  change = Change.Put name None bytes ∷ []
 
-pub input_put : (state : State) (l : Layout) (epoch : ℕ) (files : Files) (name bytes input : List ℕ) (line : Line) (mid i j : Image) → Mounts l epoch files state mid → state.serial.count ≡ 1 → i ≡ mid → bytes ≡ input
-    → (IsMounted state (volume_of state files) files i → Stores state.layout state.serial.epoch (put_outcome (volume_of state files) name bytes None) line j) → Puts name input l epoch files line mid j
-input_put state l epoch files name bytes input line mid i j mounts first same all stores =
-    put_done state l epoch files name input line mid j mounts first (put_on state l epoch files name bytes input line mid i j mounts same all stores)
+  moments_with : (c : List Change) → LeavesOnly moment left_since a b (Stays state.layout windows (h ++ c) f old)
+  moments_with c = leaves_more moment left_since a b (StaysMounted state v windows h f old) (Stays state.layout windows (h ++ c) f old) (λ left. stays_mounted state v windows h c f old left) put
 
-pub excuse_puts : (name input : List ℕ) (l : Layout) (epoch : ℕ) (files : Files) (fault : Fault) (i j : Image) → IsExcuse fault → Puts name input l epoch files (Lines.Ended fault) i j
-excuse_puts name input l epoch files (Ends.Device s) i j h = tt
-excuse_puts name input l epoch files Ends.Memory i j h = tt
-excuse_puts name input l epoch files Ends.Input i j h = absurd h
-excuse_puts name input l epoch files Ends.InputTooLong i j h = absurd h
-excuse_puts name input l epoch files Ends.NotVolume i j h = absurd h
-excuse_puts name input l epoch files (Ends.Lost a b) i j h = absurd h
-excuse_puts name input l epoch files Ends.NoAnchor i j h = absurd h
-excuse_puts name input l epoch files (Ends.Unsound s) i j h = absurd h
-excuse_puts name input l epoch files Ends.WornOut i j h = absurd h
+  pub refused_works : (why : Refusal) (after : Volume) (line : Line) → (IsWornOut state → ⊥) → PutSays state v (put_outcome v name bytes None) after (Err why) → line ≡ line_of why
+      → Works state.layout windows h f (reply_turn name bytes (put_outcome v name bytes None).0) (LeavesOnly moment left_since a b) old mid (Said.Line line)
+  refused_works why after line fresh says is =
+      let turn = reply_turn name bytes (put_outcome v name bytes None).0 in
+      let at = put.each mid now in
+      let stays : Stays state.layout windows h f old mid = record { windows = at.windows; said = at.said; sound = mounted_is_sound state v windows h f mid.image at.mounted } in
+      record {
+        moments = moments_with turn.changes;
+        ends = subst (λ (x : Line). WorkEnds state.layout windows h f turn old mid (Said.Line x)) (sym is) (put_ends why state v after name bytes state.layout windows h f old mid fresh says stays);
+      }
+
+  module _ (key : Key) (n : ℕ) (made : (put_outcome v name bytes None).0 ≡ Made key n) (c : D) (new : Moment) (force : LeavesOnly moment left_since b c (Forces state.layout windows (h ++ change) f mid)) where
+    from_mid : (left : Moment) (g : ℕ) → left.windows ≡ mid.windows → left.said ≡ mid.said → IsSound state.layout windows (h ++ change) g left.image → Stays state.layout windows (h ++ change) g old left
+    from_mid left g same quiet sound = let at = put.each mid now in record { windows = same ∙ at.windows; said = quiet ∙ at.said; sound = sound }
+
+    both_moments : LeavesOnly moment left_since a c (Stays state.layout windows (h ++ change) f old)
+    both_moments =
+        let P = Stays state.layout windows (h ++ change) f old in
+        then_on moment left_since a b c P (moments_with change) (leaves_more moment left_since b c (Forces state.layout windows (h ++ change) f mid) P (λ left forces. from_mid left f forces.windows forces.said forces.sound) force)
+
+    pub made_works : (sectors : ℕ) (last : State) (after : Volume) → n ≡ sectors → IsMounted state v windows h f old.image → last.layout ≡ state.layout → IsMounted last after windows (h ++ change) (length (h ++ change)) new.image
+        → new.windows ≡ mid.windows → new.said ≡ mid.said
+        → Works state.layout windows h f (reply_turn name bytes (put_outcome v name bytes None).0) (LeavesOnly moment left_since a c) old new (Said.Line (Lines.Made key sectors))
+    made_works sectors last after count mounted same done windows_same quiet =
+        let most = forced_at_most state v windows h f old.image mounted in
+        let sound = subst (λ (l : Layout). IsSound l windows (h ++ change) (length (h ++ change)) new.image) same (mounted_is_sound last after windows (h ++ change) (length (h ++ change)) new.image done) in
+        subst (λ (r : Reply). Works state.layout windows h f (reply_turn name bytes r) (LeavesOnly moment left_since a c) old new (Said.Line (Lines.Made key sectors))) (sym made)
+        (record {
+          moments = both_moments;
+          ends = inl (
+            record { text = ap (λ (k : ℕ). text (Lines.Made key k)) (sym count); status = refl },
+            from_mid new (f + 1) windows_same quiet (sound_fewer state.layout windows (h ++ change) (f + 1) (length (h ++ change)) new.image (omega (arith, most, length-append h change)) sound),
+          );
+        })
+
+    pub unforced_works : (why : Refusal) (place : ℕ) (line : Line) → why ≡ Why.Device place → line ≡ line_of why → Forces state.layout windows (h ++ change) f mid new
+        → Works state.layout windows h f (reply_turn name bytes (put_outcome v name bytes None).0) (LeavesOnly moment left_since a c) old new (Said.Line line)
+    unforced_works why place line device is failed =
+        subst (λ (r : Reply). Works state.layout windows h f (reply_turn name bytes r) (LeavesOnly moment left_since a c) old new (Said.Line line)) (sym made)
+        (record {
+          moments = both_moments;
+          ends = inr (record { fault = Ends.Device place; allowed = tt; is = ap Said.Line (is ∙ ap line_of device) }, from_mid new f failed.windows failed.said failed.sound);
+        })
+
+-- ---- the input before it
+
+module _ {D : Type 0} (moment : D → ℕ) (left_since : D → ℕ → Moment → Type 0) (l : Layout) (windows : List WeakRun) (h : List Change) (f : ℕ) (a b : D) (old mid : Moment) (calm : IsCalm old.windows) (sound : IsSound l windows h f old.image)
+    (input : LeavesOnly moment left_since a b (Wears old)) (worn : Wears old mid) where
+  worn_stays : (c : List Change) (left : Moment) → Wears old left → Stays l windows (h ++ c) f old left
+  worn_stays c left wears = record {
+    windows = wears.windows;
+    said = wears.said;
+    sound = subst (λ (i : Image). IsSound l windows (h ++ c) f i) (sym (calm_worn old.windows old.image left.image calm wears.image)) (sound_more l windows h c f old.image sound);
+  }
+
+  input_moments : (c : List Change) → LeavesOnly moment left_since a b (Stays l windows (h ++ c) f old)
+  input_moments c = leaves_more moment left_since a b (Wears old) (Stays l windows (h ++ c) f old) (worn_stays c) input
+
+  after_input : (c : List Change) (g : ℕ) (left : Moment) → Stays l windows (h ++ c) g mid left → Stays l windows (h ++ c) g old left
+  after_input c g left stays = record { windows = stays.windows ∙ worn.windows; said = stays.said ∙ worn.said; sound = stays.sound }
+
+  pub input_works : (turn : Turn) (c : D) (new : Moment) (answer : Answer) → Works l windows h f turn (LeavesOnly moment left_since b c) mid new answer → Works l windows h f turn (LeavesOnly moment left_since a c) old new answer
+  input_works turn c new answer works =
+      let P = Stays l windows (h ++ turn.changes) f old in
+      record {
+        moments = then_on moment left_since a b c P (input_moments turn.changes)
+            (leaves_more moment left_since b c (Stays l windows (h ++ turn.changes) f mid) P (after_input turn.changes f) works.moments);
+        ends = elim works.ends [
+          | inl answered ↦ inl (answered.0, after_input turn.changes (f + length turn.changes) new answered.1)
+          | inr failed ↦ inr (failed.0, after_input turn.changes f new failed.1)
+        ];
+      }
+
+  pub ended_works : (turn : Turn) (fault : Fault) → IsOutside fault → Works l windows h f turn (LeavesOnly moment left_since a b) old mid (Said.Line (Lines.Ended fault))
+  ended_works turn fault outside =
+      record { moments = input_moments turn.changes; ends = inr (record { fault = fault; allowed = outside; is = refl }, worn_stays turn.changes mid worn) }
+
+  pub long_works : (v : Volume) (name bytes : List ℕ) → MOST_INPUT < length bytes → Works l windows h f (put_turn v name bytes) (LeavesOnly moment left_since a b) old mid (Said.Line (Lines.Ended Ends.InputTooLong))
+  long_works v name bytes long =
+      let too_long : nat_lt MOST_INPUT (length bytes) ≡ true = lt-ltb MOST_INPUT (length bytes) long in
+      subst (λ (yes : Bool). Works l windows h f (cond yes (line_turn (Lines.Ended Ends.InputTooLong) []) (reply_turn name bytes (put_outcome v name bytes None).0)) (LeavesOnly moment left_since a b) old mid (Said.Line (Lines.Ended Ends.InputTooLong)))
+      (sym too_long) (record {
+        moments = input_moments [];
+        ends = inl (
+          record { text = refl; status = refl },
+          let stays = worn_stays [] mid worn in record {
+            windows = stays.windows;
+            said = stays.said;
+            sound = sound_fewer l windows (h ++ []) (f + 0) f mid.image (omega arith) stays.sound;
+          },
+        );
+      })
+
+pub short_turn : (v : Volume) (name bytes : List ℕ) → length bytes ≤ MOST_INPUT → put_turn v name bytes ≡ reply_turn name bytes (put_outcome v name bytes None).0
+short_turn v name bytes short = ap (λ (b : Bool). cond b (line_turn (Lines.Ended Ends.InputTooLong) []) (reply_turn name bytes (put_outcome v name bytes None).0)) not_long
+  where
+    not_long : nat_lt MOST_INPUT (length bytes) ≡ false
+    not_long = le-ltb MOST_INPUT (length bytes) short

@@ -1,17 +1,10 @@
 -- What a run ends with, by its answer and how it is said.
-use Rattle.std.proofs.Common.{◌≡◌, ◌⊎◌, inl, inr, ℕ, ◌<◌, ◌≤◌, List, [], ◌∷◌, ◌++◌, length, take, take_all, ◌+◌, Option, Some, None, Result, Ok, Err, refl, sym, ap, subst, ◌∙◌, arith}
+use Rattle.std.proofs.Common.{◌≡◌, ◌⊎◌, inl, inr, ℕ, ◌<◌, ◌≤◌, List, [], ◌∷◌, ◌++◌, length, take, take_all, Result, Ok, Err, refl, sym, ap, subst, ◌∙◌, arith}
 use Rattle.std.specs.Prelude.{IsTrue}
 use Rattle.sector_disk.specs.Machine.{DeviceFault, Moment, Report, Rose}
-use Rattle.sector_disk.specs.Image.{IsCalm, IsWorn, Windows, open_damage}
+use Rattle.sector_disk.specs.Image.{IsWorn, Windows, open_damage}
 use Rattle.sector_disk.proofs.Wear.{worn_trans}
-use Rattle.sector_disk.proofs.Calm.{calm_worn, same_calm}
-use Rattle.sector_disk.specs.declared.sector.Sector.{Sector}
-use Rattle.std.specs.FinMap.{find}
-use Rattle.fsd_bytes.specs.Keys.{key_cmp}
-use Rattle.fsd_bytes.specs.declared.refusal.Refusal.{Refusal}
-use Rattle.fsd_bytes.specs.declared.refusal.Refusal.TheVariants.{NoSuch}
-use Rattle.fsd_files.specs.Files.{File, Files}
-use Rattle.fsd_sound.specs.AtHome.{HoldsFiles}
+use Rattle.fsd_sound.specs.Format.{IsFormattedIn}
 use Rattle.volume_layout.specs.declared.layout.Layout.{Layout}
 use Rattle.volume_layout.specs.declared.fault.LayoutFault.{LayoutFault}
 use Rattle.volume_layout.specs.Layout.{plan}
@@ -24,11 +17,13 @@ use Rattle.cfs_run.specs.declared.request.Request.{Request}
 use Rattle.cfs_run.specs.declared.request.Request.TheVariants.{Outside, BadField, Format, Put, Get}
 use Rattle.fsd_bytes.specs.declared.key.Key.{Key}
 use Rattle.cfs_run.specs.declared.input.TheConstants.{MOST_INPUT}
+use Rattle.cfs_run.specs.Mounting.{IfMounts, OpensDisk}
 use Rattle.cfs_run.specs.Text.{fault_text, memory_text, text}
 use Rattle.cfs_run.specs.Answer.{CausesLine, Finishes, UsesOutput, answer_status, answer_text, status_of}
 use Rattle.cfs_run.specs.Input.{UsesCounts}
 use Rattle.cfs_run.specs.Formatting.{HoldsVolume, IsDeviceLine, IsFormatLine, MakesVolume, VolumeMade, format_line, plan_asks}
-use Rattle.cfs_run.specs.Ends.{Answers, GetAnswers, GetEnds, GetLeaves, GivesFile, RepliesAs, UnlessEnded, CausesAnswer, EndsAs, Holds, IsAnswerTo, IsUntouched, Leaves, NoneRose, LeavesInput, MaySay, PlanLeaves, SaysPart, Takes, TakesFor, IsGetLine, IsPutLine, asks_of, complete_statuses, fault_statuses, is_one_of, plan_statuses}
+use Rattle.cfs_run.specs.Ends.{Answers, RepliesAs, CausesAnswer, EndsAs, Holds, IsAnswerTo, IsUntouched, Leaves, NoneRose, LeavesInput, MaySay, PlanLeaves, SaysPart, Takes, TakesFor, IsGetLine, IsPutLine, asks_of, complete_statuses, fault_statuses, is_one_of, plan_statuses}
+use Rattle.cfs_run.proofs.FormatEnds.{formatted_sound}
 
 -- a run: what was answered, and how that was said
 pub record Ran (H : Type 0) (request : Request) (answer : Answer) (old mid new : Report) (at between after : Moment) (result : ℕ) : Type 0 where
@@ -278,101 +273,18 @@ plan_heard H (Ok l) line mid new at between after result (inr device) no_fault m
 plan_heard H (Err why) line mid new at between after result same no_fault made never h =
     heard_as H line (format_line (Err why)) mid new at between after result same (ap (λ (m : Moment). m.said) made) never h
 
--- ---- a get, of a disk that holds files
-
--- a text is said with its status, and the disk stays as it is
-pub replied : (H : Type 0) (bytes : List ℕ) (status : ℕ) (mid new : Report) (at between after : Moment) (result : ℕ) (l : Layout) (epoch : ℕ) (files : Files) → between.said ≡ at.said
-    → (Rose mid.output_faults new.output_faults → ⊥) → H → IsCalm after.windows → HoldsFiles l epoch files between.image → Finishes H bytes status mid new between after result
-    → RepliesAs bytes status l epoch files at after result
-replied H bytes status mid new at between after result l epoch files same never h calm holds (inl (inl all)) =
-    let says = all.said h in
-    let image = calm_worn between.windows between.image after.image (same_calm between.windows after.windows says.windows calm) says.image in
-    inl (record {
-      ends = all.ends;
-      said = says.said ∙ ap (λ (s : List ℕ). s ++ bytes) same;
-      holds = subst (λ (i : List Sector). HoldsFiles l epoch files i) (sym image) holds;
-    })
-replied H bytes status mid new at between after result l epoch files same never h calm holds (inl (inr some)) = absurd (never some.rose)
-replied H bytes status mid new at between after result l epoch files same never h calm holds (inr (inl all)) = inr (all.ends, (all.said h).said ∙ ap (λ (s : List ℕ). s ++ memory_text) same)
-replied H bytes status mid new at between after result l epoch files same never h calm holds (inr (inr some)) = absurd (never some.rose)
-
--- that memory was refused is said
-pub forgotten : (H : Type 0) (mid new : Report) (at between after : Moment) (result : ℕ) → between.said ≡ at.said → (Rose mid.output_faults new.output_faults → ⊥) → H
-    → Finishes H memory_text 7 mid new between after result → (result ≡ 7) × (after.said ≡ at.said ++ memory_text)
-forgotten H mid new at between after result same never h (inl (inl all)) = (all.ends, (all.said h).said ∙ ap (λ (s : List ℕ). s ++ memory_text) same)
-forgotten H mid new at between after result same never h (inl (inr some)) = absurd (never some.rose)
-forgotten H mid new at between after result same never h (inr (inl all)) = (all.ends, (all.said h).said ∙ ap (λ (s : List ℕ). s ++ memory_text) same)
-forgotten H mid new at between after result same never h (inr (inr some)) = absurd (never some.rose)
-
-got_nothing : (H : Type 0) (line : Line) (mid new : Report) (at between after : Moment) (result : ℕ) (l : Layout) (epoch : ℕ) (files : Files) → (status_of line ≡ 4 → ⊥) → GivesFile None (Said.Line line)
-    → UnlessEnded (Said.Line line) (HoldsFiles l epoch files between.image) → between.said ≡ at.said → (Rose mid.output_faults new.output_faults → ⊥) → H → IsCalm after.windows
-    → Finishes H (text line) (status_of line) mid new between after result → RepliesAs (text (Lines.Refused NoSuch)) 1 l epoch files at after result
-got_nothing H (Lines.Refused why) mid new at between after result l epoch files no_fault gives holds same never h calm said =
-    replied H (text (Lines.Refused NoSuch)) 1 mid new at between after result l epoch files same never h calm holds
-    (subst (λ (w : Refusal). Finishes H (text (Lines.Refused w)) 1 mid new between after result) gives said)
-got_nothing H (Lines.Ended Ends.Memory) mid new at between after result l epoch files no_fault gives holds same never h calm said = inr (forgotten H mid new at between after result same never h said)
-got_nothing H (Lines.Ended Ends.NotVolume) mid new at between after result l epoch files no_fault gives holds same never h calm said = absurd gives
-got_nothing H (Lines.Ended (Ends.Lost a b)) mid new at between after result l epoch files no_fault gives holds same never h calm said = absurd gives
-got_nothing H (Lines.Ended Ends.NoAnchor) mid new at between after result l epoch files no_fault gives holds same never h calm said = absurd gives
-got_nothing H (Lines.Ended (Ends.Unsound s)) mid new at between after result l epoch files no_fault gives holds same never h calm said = absurd gives
-got_nothing H (Lines.Ended (Ends.Device s)) mid new at between after result l epoch files no_fault gives holds same never h calm said = absurd (no_fault refl)
-got_nothing H (Lines.Ended Ends.Input) mid new at between after result l epoch files no_fault gives holds same never h calm said = absurd gives
-got_nothing H (Lines.Ended Ends.InputTooLong) mid new at between after result l epoch files no_fault gives holds same never h calm said = absurd gives
-got_nothing H (Lines.Ended Ends.WornOut) mid new at between after result l epoch files no_fault gives holds same never h calm said = absurd gives
-got_nothing H Lines.Usage mid new at between after result l epoch files no_fault gives holds same never h calm said = absurd gives
-got_nothing H (Lines.BadField why) mid new at between after result l epoch files no_fault gives holds same never h calm said = absurd gives
-got_nothing H (Lines.Formatted n free) mid new at between after result l epoch files no_fault gives holds same never h calm said = absurd gives
-got_nothing H (Lines.Unplanned why) mid new at between after result l epoch files no_fault gives holds same never h calm said = absurd gives
-got_nothing H (Lines.Made key sectors) mid new at between after result l epoch files no_fault gives holds same never h calm said = absurd gives
-got_nothing H (Lines.Damaged key s) mid new at between after result l epoch files no_fault gives holds same never h calm said = absurd gives
-
-got_file : (H : Type 0) (file : File) (line : Line) (mid new : Report) (at between after : Moment) (result : ℕ) (l : Layout) (epoch : ℕ) (files : Files) → (status_of line ≡ 4 → ⊥) → GivesFile (Some file) (Said.Line line)
-    → between.said ≡ at.said → (Rose mid.output_faults new.output_faults → ⊥) → H → Finishes H (text line) (status_of line) mid new between after result → RepliesAs file.bytes 0 l epoch files at after result
-got_file H file (Lines.Ended Ends.Memory) mid new at between after result l epoch files no_fault gives same never h said = inr (forgotten H mid new at between after result same never h said)
-got_file H file (Lines.Ended Ends.NotVolume) mid new at between after result l epoch files no_fault gives same never h said = absurd gives
-got_file H file (Lines.Ended (Ends.Lost a b)) mid new at between after result l epoch files no_fault gives same never h said = absurd gives
-got_file H file (Lines.Ended Ends.NoAnchor) mid new at between after result l epoch files no_fault gives same never h said = absurd gives
-got_file H file (Lines.Ended (Ends.Unsound s)) mid new at between after result l epoch files no_fault gives same never h said = absurd gives
-got_file H file (Lines.Ended (Ends.Device s)) mid new at between after result l epoch files no_fault gives same never h said = absurd (no_fault refl)
-got_file H file (Lines.Ended Ends.Input) mid new at between after result l epoch files no_fault gives same never h said = absurd gives
-got_file H file (Lines.Ended Ends.InputTooLong) mid new at between after result l epoch files no_fault gives same never h said = absurd gives
-got_file H file (Lines.Ended Ends.WornOut) mid new at between after result l epoch files no_fault gives same never h said = absurd gives
-got_file H file Lines.Usage mid new at between after result l epoch files no_fault gives same never h said = absurd gives
-got_file H file (Lines.BadField why) mid new at between after result l epoch files no_fault gives same never h said = absurd gives
-got_file H file (Lines.Formatted n free) mid new at between after result l epoch files no_fault gives same never h said = absurd gives
-got_file H file (Lines.Unplanned why) mid new at between after result l epoch files no_fault gives same never h said = absurd gives
-got_file H file (Lines.Made key sectors) mid new at between after result l epoch files no_fault gives same never h said = absurd gives
-got_file H file (Lines.Damaged key s) mid new at between after result l epoch files no_fault gives same never h said = absurd gives
-got_file H file (Lines.Refused why) mid new at between after result l epoch files no_fault gives same never h said = absurd gives
-
-get_ends : (H : Type 0) (o : Option File) (answer : Answer) (mid new : Report) (at between after : Moment) (result : ℕ) (l : Layout) (epoch : ℕ) (files : Files) → (answer_status answer ≡ 4 → ⊥) → GivesFile o answer
-    → UnlessEnded answer (HoldsFiles l epoch files between.image) → between.said ≡ at.said → (Rose mid.output_faults new.output_faults → ⊥) → H → IsCalm after.windows
-    → Finishes H (answer_text answer) (answer_status answer) mid new between after result → GetEnds o l epoch files at after result
-get_ends H None (Said.Line line) mid new at between after result l epoch files no_fault gives holds same never h calm said = got_nothing H line mid new at between after result l epoch files no_fault gives holds same never h calm said
-get_ends H None (Said.Bytes bytes) mid new at between after result l epoch files no_fault gives holds same never h calm said = absurd gives
-get_ends H (Some file) (Said.Line line) mid new at between after result l epoch files no_fault gives holds same never h calm said = got_file H file line mid new at between after result l epoch files no_fault gives same never h said
-get_ends H (Some file) (Said.Bytes bytes) mid new at between after result l epoch files no_fault gives holds same never h calm said =
-    replied H file.bytes 0 mid new at between after result l epoch files same never h calm holds (subst (λ (b : List ℕ). Finishes H b 0 mid new between after result) gives said)
-
-get_heard : (H : Type 0) (key : Key) (answer : Answer) (mid new : Report) (at between after : Moment) (result : ℕ) → (answer_status answer ≡ 4 → ⊥) → GetLeaves key answer at between
-    → between.said ≡ at.said → (Rose mid.output_faults new.output_faults → ⊥) → H → between.windows ≡ after.windows → Finishes H (answer_text answer) (answer_status answer) mid new between after result → GetAnswers key at after result
-get_heard H key answer mid new at between after result no_fault leaves same never h windows said calm last l epoch files disk fits =
-    let still = same_calm between.windows after.windows (sym windows) last in
-    let gets = leaves calm still l epoch files disk fits in
-    get_ends H (find key_cmp key files) answer mid new at between after result l (epoch + 1) files no_fault gets.gives gets.holds same never h last said
-
 request_heard : (H : Type 0) (request : Request) (answer : Answer) (mid new : Report) (at between after : Moment) (result : ℕ) → IsAnswerTo request answer → (answer_status answer ≡ 4 → ⊥)
     → Leaves request answer at between → (Rose mid.output_faults new.output_faults → ⊥) → H → Finishes H (answer_text answer) (answer_status answer) mid new between after result
-    → between.said ≡ at.said → between.windows ≡ after.windows → Answers request at after result
-request_heard H (Format n t p) (Said.Line line) mid new at between after result is no_fault made never h said quiet windows =
+    → (input : List ℕ) → IfMounts request (OpensDisk at after (λ l windows history f. RepliesAs request input l windows history f at after result)) → Answers request input at after result
+request_heard H (Format n t p) (Said.Line line) mid new at between after result is no_fault made never h said input mounts =
     plan_heard H (plan n t p) line mid new at between after result is (λ device. no_fault (device_status line device)) made never h said
-request_heard H (Format n t p) (Said.Bytes bytes) mid new at between after result is no_fault made never h said quiet windows = absurd is
-request_heard H Outside (Said.Line line) mid new at between after result is no_fault made never h said quiet windows = heard_as H line Lines.Usage mid new at between after result is (ap (λ (m : Moment). m.said) made) never h said
-request_heard H Outside (Said.Bytes bytes) mid new at between after result is no_fault made never h said quiet windows = absurd is
-request_heard H (BadField cause) (Said.Line line) mid new at between after result is no_fault made never h said quiet windows = heard_as H line (Lines.BadField cause) mid new at between after result is (ap (λ (m : Moment). m.said) made) never h said
-request_heard H (BadField cause) (Said.Bytes bytes) mid new at between after result is no_fault made never h said quiet windows = absurd is
-request_heard H (Put name) answer mid new at between after result is no_fault made never h said quiet windows = tt
-request_heard H (Get key) answer mid new at between after result is no_fault made never h said quiet windows = get_heard H key answer mid new at between after result no_fault made quiet never h windows said
+request_heard H (Format n t p) (Said.Bytes bytes) mid new at between after result is no_fault made never h said input mounts = absurd is
+request_heard H Outside (Said.Line line) mid new at between after result is no_fault made never h said input mounts = heard_as H line Lines.Usage mid new at between after result is (ap (λ (m : Moment). m.said) made) never h said
+request_heard H Outside (Said.Bytes bytes) mid new at between after result is no_fault made never h said input mounts = absurd is
+request_heard H (BadField cause) (Said.Line line) mid new at between after result is no_fault made never h said input mounts = heard_as H line (Lines.BadField cause) mid new at between after result is (ap (λ (m : Moment). m.said) made) never h said
+request_heard H (BadField cause) (Said.Bytes bytes) mid new at between after result is no_fault made never h said input mounts = absurd is
+request_heard H (Put name) answer mid new at between after result is no_fault made never h said input mounts = tt
+request_heard H (Get key) answer mid new at between after result is no_fault made never h said input mounts = mounts
 
 -- ---- what may be said at all
 
@@ -417,13 +329,16 @@ said_untouched H bytes status mid new between after result h (inr (inr some)) = 
 holds_on : (l : Layout) (between after : Moment) → HoldsVolume l between → IsUntouched between after → HoldsVolume l after
 holds_on l between after holds still =
     let may = λ (w : Windows). IsWorn (open_damage w) between.image after.image in
+    let formatted : IsFormattedIn l holds.run after.image = record {
+      written = holds.formatted.written;
+      formatted = holds.formatted.formatted;
+      worn = worn_trans _ holds.formatted.written between.image after.image holds.formatted.worn (subst may holds.windows still.image);
+    } in
     record {
       run = holds.run;
-      formatted = record {
-        written = holds.formatted.written;
-        formatted = holds.formatted.formatted;
-        worn = worn_trans _ holds.formatted.written between.image after.image holds.formatted.worn (subst may holds.windows still.image);
-      };
+      short = holds.short;
+      formatted = formatted;
+      sound = formatted_sound l holds.run after.image holds.short formatted;
       windows = still.windows ∙ holds.windows;
     }
 
@@ -565,9 +480,8 @@ module _ (H : Type 0) (request : Request) (answer : Answer) (old mid new : Repor
   still : H → IsUntouched between after
   still h = said_untouched H (answer_text answer) (answer_status answer) mid new between after result h ran.said
 
-  pub run_answers : H → NoneRose old new → Answers request at after result
-  run_answers h none =
-      request_heard H request answer mid new at between after result ran.answers (no_device none) (ran.leaves h) (no_output none) h ran.said (ran.quiet h) (sym (still h).windows)
+  pub run_answers : H → NoneRose old new → (input : List ℕ) → IfMounts request (OpensDisk at after (λ l windows history f. RepliesAs request input l windows history f at after result)) → Answers request input at after result
+  run_answers h none input mounts = request_heard H request answer mid new at between after result ran.answers (no_device none) (ran.leaves h) (no_output none) h ran.said input mounts
 
   pub run_said : H → SaysPart request new.fault_place at.said after.said
   run_said h = elim (part_said H (answer_text answer) (answer_status answer) mid new at between after result (ran.quiet h) h ran.said) [

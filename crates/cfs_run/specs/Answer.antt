@@ -77,6 +77,10 @@ abbrev pub Spoken : Type 0 → List ℕ → ℕ → Report → Report → Moment
 Spoken Honest text status old new before after result =
     SaysAll Honest text status before after result ⊎ SaysSome Honest text old new before after result
 
+-- some first bytes of the text are said, or of that of refused memory
+abbrev pub UttersOne : List ℕ → Moment → Moment → Type 0
+UttersOne text old left = Utters text old left ⊎ Utters memory_text old left
+
 -- the text is said, or in its place that memory was refused
 abbrev pub Finishes : Type 0 → List ℕ → ℕ → Report → Report → Moment → Moment → ℕ → Type 0
 Finishes Honest text status old new before after result =

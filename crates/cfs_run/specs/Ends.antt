@@ -1,24 +1,20 @@
 -- How a run ends, by what its words ask for.
-use Rattle.std.specs.Prelude.{◌≡◌, ◌⊎◌, ◌<◌, ◌≤◌, ◌+◌, ◌^◌, ⊤, ℕ, Bool, ◌==◌, List, [], ◌∷◌, ◌++◌, length, take, Option, Some, None, IsTrue, Result, Ok, Err}
+use Rattle.std.specs.Prelude.{◌≡◌, ◌⊎◌, ◌<◌, ◌≤◌, ⊤, ℕ, Bool, ◌==◌, List, [], ◌∷◌, ◌++◌, length, take, Some, IsTrue, Result, Ok, Err}
 use Rattle.std.specs.List.{list_any}
-use Rattle.std.specs.FinMap.{find}
-use Rattle.sector_disk.specs.Image.{IsCalm, IsWorn, open_damage}
+use Rattle.sector_disk.specs.declared.sector.WeakRun.{WeakRun}
+use Rattle.sector_disk.specs.Image.{IsWorn, open_damage}
 use Rattle.sector_disk.specs.Machine.{Asked, Moment, Report, Rose}
 use Rattle.volume_layout.specs.declared.layout.Layout.{Layout}
 use Rattle.volume_layout.specs.declared.fault.LayoutFault.{LayoutFault}
 use Rattle.volume_layout.specs.Layout.{plan}
-use Rattle.fsd_bytes.specs.Keys.{key_cmp}
-use Rattle.fsd_bytes.specs.declared.refusal.Refusal.TheVariants.{NoSuch}
 use Rattle.fsd_files.specs.Disk.{Image}
-use Rattle.fsd_files.specs.Files.{File, Files}
-use Rattle.fsd_files.specs.Answers.{Outcome, entry_of}
+use Rattle.fsd_files.specs.Files.{Change}
+use Rattle.fsd_files.specs.Volume.{Volume}
+use Rattle.fsd_files.specs.Answers.{entry_of}
 use Rattle.fsd_files.specs.Kept.{FirstDamaged, range_sectors}
 use Rattle.fsd_formats.specs.declared.entry.Entry.{Entry}
-use Rattle.fsd_files.specs.Replies.{Made, Refused, Reply}
-use Rattle.fsd_files.specs.OneLeaf.{put_outcome}
-use Rattle.fsd_volume.specs.Mount.{IsAccepted, MountRefused, Mounts, table_on, volume_of}
-use Rattle.fsd_volume.specs.State.{State}
-use Rattle.fsd_sound.specs.AtHome.{HoldsFiles}
+use Rattle.fsd_sound.specs.Sound.{IsPrefixOf}
+use Rattle.fsd_volume.specs.Mount.{IsAccepted, MountRefused, table_on}
 use Rattle.cfs_run.specs.declared.line.Line.{Line}
 use Rattle.cfs_run.specs.declared.line.Line.TheVariants as Says
 use Rattle.cfs_run.specs.declared.answer.Answer.{Answer}
@@ -29,8 +25,8 @@ use Rattle.cfs_run.specs.declared.fault.Fault.TheVariants as Ends
 use Rattle.fsd_bytes.specs.declared.key.Key.{Key}
 use Rattle.cfs_run.specs.declared.input.TheConstants.{MOST_INPUT}
 use Rattle.mount_recover.specs.declared.fault.MountFault.{MountFault}
-use Rattle.mount_recover.specs.Recover.{with_anchors}
-use Rattle.cfs_run.specs.Mounting.{IfMount, IsExcuse, IsMountFault, OpensDisk, fault_of, mount_asks}
+use Rattle.cfs_run.specs.Leaves.{HasEpoch, IsLastEpoch, LeavesRun, Replies, Starts, get_turn}
+use Rattle.cfs_run.specs.Mounting.{IfMount, IfMounts, IsMountFault, OpensDisk, fault_of, mount_asks}
 use Rattle.cfs_run.specs.Text.{fault_text, memory_text, text}
 use Rattle.cfs_run.specs.Answer.{CausesLine, answer_status, fault_status, status_of}
 use Rattle.cfs_run.specs.Formatting.{AsksLine, HoldsVolume, IsFormatLine, VolumeMade, format_line, plan_asks}
@@ -126,63 +122,7 @@ abbrev pub Takes : Request → Answer → (old new : List ℕ) → Type 0
 Takes (Put name) answer old new = TakesAnswer answer old new
 Takes request answer old new = new ≡ old
 
--- ---- what a get gives, by the version that the key has
-
--- the version's bytes, or that there is none
-abbrev pub GivesFile : Option File → Answer → Type 0
-GivesFile (Some file) (Said.Bytes bytes) = bytes.items ≡ file.bytes
-GivesFile None (Said.Line (Says.Refused why)) = why ≡ NoSuch
-GivesFile file (Said.Line (Says.Ended fault)) = IsExcuse fault
-GivesFile file answer = ⊥
-
--- what holds of the image, unless a fault ended the run
-abbrev pub UnlessEnded : Answer → Type 0 → Type 0
-UnlessEnded (Said.Line (Says.Ended fault)) P = ⊤
-UnlessEnded answer P = P
-
--- The version that the disk holds is given, and the disk holds the same files in the next epoch.
-pub record Gets (key : Key) (l : Layout) (epoch : ℕ) (files : Files) (answer : Answer) (i : Image) : Type 0 where
-  pub gives : GivesFile (find key_cmp key files) answer
-  pub holds : UnlessEnded answer (HoldsFiles l (epoch + 1) files i)
-
--- so it is of every disk that holds files and has an epoch left, where nothing wears
-abbrev pub GetLeaves : Key → Answer → Moment → Moment → Type 0
-GetLeaves key answer old new = IsCalm old.windows → IsCalm new.windows → (l : Layout) (epoch : ℕ) (files : Files) → HoldsFiles l epoch files old.image → epoch + 1 < 2 ^ 32
-    → Gets key l epoch files answer new.image
-
--- ---- what a put makes, by the outcome of the volume
-
--- The line is that of the reply, and the disk holds the files that the outcome has.
-pub record StoresAs (reply : Reply) (l : Layout) (epoch : ℕ) (out : Outcome) (i : Image) : Type 0 where
-  pub reply_is : out.0 ≡ reply
-  pub holds : HoldsFiles l epoch out.1.files i
-
-abbrev pub Stores : Layout → ℕ → Outcome → Line → Image → Type 0
-Stores l epoch out (Says.Made key sectors) i = StoresAs (Made key sectors) l epoch out i
-Stores l epoch out (Says.Refused why) i = StoresAs (Refused why) l epoch out i
-Stores l epoch out (Says.Ended fault) i = IsExcuse fault
-Stores l epoch out line i = ⊥
-
--- A mount of the image i gave this volume of the files, and the line is that of what it answers to the put, which leaves j.
-pub record PutStores (name input : List ℕ) (l : Layout) (epoch : ℕ) (files : Files) (line : Line) (i j : Image) : Type 0 where
-  pub state : State
-  pub mounts : Mounts l epoch files state i
-  pub first : state.serial.count ≡ 1
-  pub stores : Stores l (epoch + 1) (put_outcome (volume_of state files) name input None) line j
-
-abbrev pub Puts : (name input : List ℕ) → Layout → ℕ → Files → Line → Image → Image → Type 0
-Puts name input l epoch files (Says.Ended Ends.Input) i j = ⊤
-Puts name input l epoch files (Says.Ended Ends.InputTooLong) i j = ⊤
-Puts name input l epoch files (Says.Ended fault) i j = IsExcuse fault
-Puts name input l epoch files line i j = PutStores name input l epoch files line i j
-
--- so it is of every disk that holds files and has an epoch left, where nothing wears; it is mounted with the next epoch's anchors
-abbrev pub PutLeaves : (name input : List ℕ) → Line → Moment → Moment → Type 0
-PutLeaves name input line old new = OpensDisk old new (λ l epoch files. epoch + 1 < 2 ^ 32 → Puts name input l epoch files line (with_anchors (epoch + 1) old.image) new.image)
-
-abbrev pub PutsFor : Request → Answer → List ℕ → Moment → Moment → Type 0
-PutsFor (Put name) (Said.Line line) input old new = PutLeaves name input line old new
-PutsFor request answer input old new = ⊤
+-- ---- what is left
 
 -- the image after an answer
 abbrev pub Leaves : Request → Answer → Moment → Moment → Type 0
@@ -191,7 +131,7 @@ Leaves (BadField cause) answer old new = new ≡ old
 Leaves (Format n t p) (Said.Line line) old new = VolumeMade (plan n t p) line old new
 Leaves (Format n t p) (Said.Bytes bytes) old new = ⊤
 Leaves (Put name) answer old new = ⊤
-Leaves (Get key) answer old new = GetLeaves key answer old new
+Leaves (Get key) answer old new = ⊤
 
 -- ---- statuses
 
@@ -231,56 +171,23 @@ abbrev pub EndsAs : Line → List ℕ → List ℕ → ℕ → Type 0
 EndsAs line before after result =
     ((result ≡ status_of line) × (after ≡ before ++ text line)) ⊎ ((result ≡ 7) × (after ≡ before ++ memory_text))
 
--- A reply is said with its status, and the disk holds these files.
-pub record Replies (bytes : List ℕ) (status : ℕ) (l : Layout) (epoch : ℕ) (files : Files) (old new : Moment) (result : ℕ) : Type 0 where
-  pub ends : result ≡ status
-  pub said : new.said ≡ old.said ++ bytes
-  pub holds : HoldsFiles l epoch files new.image
+-- a turn is said with its status, or that memory was refused
+abbrev pub RepliesAs : Request → (input : List ℕ) → Layout → List WeakRun → List Change → ℕ → (old new : Moment) → (result : ℕ) → Type 0
+RepliesAs request input l windows h f old new result =
+    HasEpoch old.image → Replies request input l windows h f old new result ⊎ ((result ≡ 7) × (new.said ≡ old.said ++ memory_text))
 
--- or memory was refused, and that is said
-abbrev pub RepliesAs : List ℕ → ℕ → Layout → ℕ → Files → Moment → Moment → ℕ → Type 0
-RepliesAs bytes status l epoch files old new result = Replies bytes status l epoch files old new result ⊎ ((result ≡ 7) × (new.said ≡ old.said ++ memory_text))
-
--- a version's bytes are said alone
-abbrev pub GetEnds : Option File → Layout → ℕ → Files → Moment → Moment → ℕ → Type 0
-GetEnds None l epoch files old new result = RepliesAs (text (Says.Refused NoSuch)) 1 l epoch files old new result
-GetEnds (Some file) l epoch files old new result = RepliesAs file.bytes 0 l epoch files old new result
-
-abbrev pub GetAnswers : Key → Moment → Moment → ℕ → Type 0
-GetAnswers key old new result = IsCalm old.windows → IsCalm new.windows → (l : Layout) (epoch : ℕ) (files : Files) → HoldsFiles l epoch files old.image → epoch + 1 < 2 ^ 32
-    → GetEnds (find key_cmp key files) l (epoch + 1) files old new result
-
-abbrev pub reply_line : Reply → Line
-reply_line (Made key sectors) = Says.Made key sectors
-reply_line (Refused why) = Says.Refused why
-reply_line reply = Says.Usage
-
--- A mount of the old image, with the next epoch's anchors, gave this volume of the files, what it answers to the put is said, and
--- the disk holds the files then.
-pub record PutReplies (name input : List ℕ) (l : Layout) (epoch : ℕ) (files : Files) (old new : Moment) (result : ℕ) : Type 0 where
-  pub state : State
-  pub mounts : Mounts l epoch files state (with_anchors (epoch + 1) old.image)
-  pub first : state.serial.count ≡ 1
-  pub replies : let out = put_outcome (volume_of state files) name input None in
-      Replies (text (reply_line out.0)) (status_of (reply_line out.0)) l (epoch + 1) out.1.files old new result
-
--- an input that is too long is told; else the put is answered
-abbrev pub PutEnds : (name input : List ℕ) → Layout → ℕ → Files → Moment → Moment → ℕ → Type 0
-PutEnds name input l epoch files old new result =
-    (MOST_INPUT < length input × EndsAs (Says.Ended Ends.InputTooLong) old.said new.said result)
-    ⊎ (PutReplies name input l epoch files old new result ⊎ ((result ≡ 7) × (new.said ≡ old.said ++ memory_text)))
-
+-- so it is of a put, from a sound disk whose anchor has an epoch left
 abbrev pub PutAnswersFor : Request → List ℕ → Moment → Moment → ℕ → Type 0
-PutAnswersFor (Put name) input old new result = OpensDisk old new (λ l epoch files. epoch + 1 < 2 ^ 32 → PutEnds name input l epoch files old new result)
+PutAnswersFor (Put name) input old new result = OpensDisk old new (λ l windows h f. RepliesAs (Put name) input l windows h f old new result)
 PutAnswersFor request input old new result = ⊤
 
--- where nothing fails
-abbrev pub Answers : Request → Moment → Moment → ℕ → Type 0
-Answers Outside old new result = EndsAs Says.Usage old.said new.said result
-Answers (BadField cause) old new result = EndsAs (Says.BadField cause) old.said new.said result
-Answers (Format n t p) old new result = EndsAs (format_line (plan n t p)) old.said new.said result
-Answers (Put name) old new result = ⊤
-Answers (Get key) old new result = GetAnswers key old new result
+-- where nothing fails; a put is told apart, by PutAnswersFor
+abbrev pub Answers : Request → (input : List ℕ) → Moment → Moment → ℕ → Type 0
+Answers Outside input old new result = EndsAs Says.Usage old.said new.said result
+Answers (BadField cause) input old new result = EndsAs (Says.BadField cause) old.said new.said result
+Answers (Format n t p) input old new result = EndsAs (format_line (plan n t p)) old.said new.said result
+Answers (Put name) input old new result = ⊤
+Answers (Get key) input old new result = OpensDisk old new (λ l windows h f. RepliesAs (Get key) input l windows h f old new result)
 
 -- the texts that may be said but for that of refused memory; the place is that of the disk's last fault
 abbrev pub MaySay : Request → (place : ℕ) → List ℕ → Type 0
@@ -297,32 +204,29 @@ pub record SaysPart (request : Request) (place : ℕ) (before after : List ℕ) 
   pub heard : ℕ
   pub said : after ≡ before ++ take heard bytes
 
--- what a get says of a version, or that there is none
-abbrev pub file_text : Option File → List ℕ
-file_text (Some file) = file.bytes
-file_text None = text (Says.Refused NoSuch)
+-- The bytes are those of a get's turn, over the volume that a mount of the image gives.
+pub record IsGetText (key : Key) (l : Layout) (windows : List WeakRun) (h : List Change) (f : ℕ) (i : Image) (bytes : List ℕ) : Type 0 where
+  pub count : ℕ
+  pub prefix : IsPrefixOf h f count
+  pub volume : Volume
+  pub starts : Starts l windows h count volume i
+  pub is : bytes ≡ (get_turn volume i key).said
 
--- Some first bytes of the version are said, or of that there is none, or of a fault of the disk at this place, or of refused memory.
-pub record GetSaysPart (file : Option File) (place : ℕ) (before after : List ℕ) : Type 0 where
+-- Some first bytes of such a text are said, or of a fault of the disk at this place, or of refused memory.
+pub record GetSaysPart (key : Key) (place : ℕ) (l : Layout) (windows : List WeakRun) (h : List Change) (f : ℕ) (old new : Moment) : Type 0 where
   pub bytes : List ℕ
-  pub may : (bytes ≡ file_text file) ⊎ ((bytes ≡ fault_text (Ends.Device place)) ⊎ (bytes ≡ memory_text))
+  pub may : IsGetText key l windows h f old.image bytes ⊎ ((bytes ≡ fault_text (Ends.Device place)) ⊎ (bytes ≡ memory_text))
   pub heard : ℕ
-  pub said : after ≡ before ++ take heard bytes
+  pub said : new.said ≡ old.said ++ take heard bytes
 
--- so it is of every disk that holds files and has an epoch left, where nothing wears
+-- so it is of every sound disk whose anchor has an epoch left, where nothing wears
 abbrev pub GetsPart : Request → (place : ℕ) → Moment → Moment → Type 0
-GetsPart (Get key) place old new = OpensDisk old new (λ l epoch files. epoch + 1 < 2 ^ 32 → GetSaysPart (find key_cmp key files) place old.said new.said)
+GetsPart (Get key) place old new = OpensDisk old new (λ l windows h f. HasEpoch old.image → GetSaysPart key place l windows h f old new)
 GetsPart request place old new = ⊤
 
 -- the statuses that come only once the volume is mounted
 abbrev pub mounted_statuses : List ℕ
 mounted_statuses = 0 ∷ 1 ∷ 5 ∷ 8 ∷ []
-
--- it is so where the request is one that mounts
-abbrev pub IfMounts : Request → Type 0 → Type 0
-IfMounts (Put name) P = P
-IfMounts (Get key) P = P
-IfMounts request P = ⊤
 
 -- it is so where the answer's status is one of a mounted volume
 abbrev pub WhereMounted : Type 0 → Answer → Type 0
@@ -396,3 +300,20 @@ Holds (Get key) new = ⊤
 pub record IsUntouched (old new : Moment) : Type 0 where
   pub image : IsWorn (open_damage old.windows) old.image new.image
   pub windows : new.windows ≡ old.windows
+
+-- ---- a run that mounts a sound disk
+
+-- each moment of the run and its end
+abbrev pub RunLeaves : Request → (input : List ℕ) → (Only : (Moment → Type 0) → Type 0) → (old new : Moment) → Type 0
+RunLeaves request input Only old new = IfMounts request (OpensDisk old new (λ l windows h f. LeavesRun request input l windows h f Only old new))
+
+-- the statuses of a turn
+abbrev pub turn_statuses : List ℕ
+turn_statuses = 0 ∷ 1 ∷ 8 ∷ []
+
+abbrev pub RunReplies : Request → (input : List ℕ) → (old new : Moment) → (result : ℕ) → Type 0
+RunReplies request input old new result = IfMounts request (OpensDisk old new (λ l windows h f. Replies request input l windows h f old new result))
+
+-- it is refused for its last epoch alone
+abbrev pub RefusesLast : Request → (old new : Moment) → (result : ℕ) → Type 0
+RefusesLast request old new result = IfMounts request (OpensDisk old new (λ l windows h f. (result ≡ 9) × IsLastEpoch old.image))

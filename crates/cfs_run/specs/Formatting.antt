@@ -2,11 +2,13 @@
 use Rattle.std.specs.Prelude.{◌≡◌, ◌⊎◌, ℕ, ◌-◌, ◌≤◌, List, [], ◌∷◌, ◌++◌, Some, None, Result, Ok, Err}
 use Rattle.sector_disk.specs.declared.machine.Attach.TheVariants.{New}
 use Rattle.sector_disk.specs.declared.sector.WeakRun.{WeakRun}
+use Rattle.sector_disk.specs.Image.{IsShort}
 use Rattle.sector_disk.specs.Machine.{Asked, Ledger, Moment, Report}
 use Rattle.volume_layout.specs.declared.layout.Layout.{Layout}
 use Rattle.volume_layout.specs.declared.fault.LayoutFault.{LayoutFault}
 use Rattle.volume_layout.specs.Layout.{data_start}
 use Rattle.fsd_sound.specs.Format.{IsFormattedIn}
+use Rattle.fsd_sound.specs.Sound.{IsSound}
 use Rattle.cfs_run.specs.declared.fault.Fault.TheVariants as Ends
 use Rattle.cfs_run.specs.declared.line.Line.{Line}
 use Rattle.cfs_run.specs.declared.line.Line.TheVariants.{Formatted, Unplanned, Ended}
@@ -46,10 +48,12 @@ pub record AsksPlan (planned : Result Layout LayoutFault) (path : List ℕ) (lin
   pub input : new.input ≡ old.input
   pub attaches : AsksLine (plan_asks planned path) line old.attaches new.attaches
 
--- An empty volume stands, in a window of its own.
+-- An empty volume stands, in a window of its own with a short run, and its disk is sound.
 pub record HoldsVolume (l : Layout) (moment : Moment) : Type 0 where
   pub run : WeakRun
+  pub short : IsShort run
   pub formatted : IsFormattedIn l run moment.image
+  pub sound : IsSound l (run ∷ []) [] 0 moment.image
   pub windows : moment.windows ≡ record { present = Some run; next = None }
 
 -- It is made, and nothing is said of it.

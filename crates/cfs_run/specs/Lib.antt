@@ -2,6 +2,8 @@ pub mod Answer
 pub mod Ends
 pub mod Formatting
 pub mod Input
+pub mod Leaves
 pub mod Mounting
 pub mod Text
 pub mod Words
+pub mod Working

@@ -3,13 +3,17 @@ use Rattle.std.specs.Prelude.{◌≡◌, ◌⊎◌, ⊤, ℕ, List, [], ◌∷�
 use Rattle.sector_disk.specs.declared.machine.Attach.TheVariants.{Old}
 use Rattle.sector_disk.specs.Image.{IsCalm}
 use Rattle.sector_disk.specs.Machine.{Asked, Ledger, Moment}
+use Rattle.sector_disk.specs.declared.sector.WeakRun.{WeakRun}
 use Rattle.volume_layout.specs.declared.layout.Layout.{Layout}
-use Rattle.fsd_files.specs.Files.{Files}
-use Rattle.fsd_sound.specs.AtHome.{HoldsFiles}
+use Rattle.volume_layout.specs.Layout.{plan}
+use Rattle.fsd_files.specs.Files.{Change}
+use Rattle.fsd_sound.specs.Sound.{EndIn, IsSound}
 use Rattle.mount_recover.specs.declared.fault.MountFault.{MountFault}
 use Rattle.mount_recover.specs.declared.fault.MountFault.TheVariants.{NotVolume, Device, Memory, Lost, NoAnchor, Unsound, WornOut}
 use Rattle.cfs_run.specs.declared.fault.Fault.{Fault}
 use Rattle.cfs_run.specs.declared.fault.Fault.TheVariants as Ends
+use Rattle.cfs_run.specs.declared.request.Request.{Request}
+use Rattle.cfs_run.specs.declared.request.Request.TheVariants.{Put, Get}
 
 abbrev pub fault_of : MountFault → Fault
 fault_of NotVolume = Ends.NotVolume
@@ -41,9 +45,10 @@ IfMount P (Ends.Unsound s) = P (Unsound s)
 IfMount P Ends.WornOut = P WornOut
 IfMount P fault = ⊤
 
--- it is so of every disk that holds files, where nothing wears
-abbrev pub OpensDisk : Moment → Moment → (Layout → ℕ → Files → Type 0) → Type 0
-OpensDisk old new P = IsCalm old.windows → IsCalm new.windows → (l : Layout) (epoch : ℕ) (files : Files) → HoldsFiles l epoch files old.image → P l epoch files
+-- it is so of every sound disk, where nothing wears
+abbrev pub OpensDisk : Moment → Moment → (Layout → List WeakRun → List Change → ℕ → Type 0) → Type 0
+OpensDisk old new P = IsCalm old.windows → IsCalm new.windows → (l : Layout) (windows : List WeakRun) (h : List Change) (f : ℕ) → plan l.sectors l.third l.pages ≡ Ok l
+    → EndIn old.windows windows → IsSound l windows h f old.image → P l windows h f
 
 -- the attach that a command asks for, of an image that is there
 abbrev pub mount_asks : List ℕ → List Asked
@@ -59,3 +64,9 @@ MayAsk asks (Err fault) old new = new ≡ old ++ asks
 pub record AsksMount {T : Type 0} (path : List ℕ) (result : Result T Fault) (old new : Ledger) : Type 0 where
   pub attaches : MayAsk (mount_asks path) result old.attaches new.attaches
   pub input : new.input ≡ old.input
+
+-- it is so where the request is one that mounts
+abbrev pub IfMounts : Request → Type 0 → Type 0
+IfMounts (Put name) P = P
+IfMounts (Get key) P = P
+IfMounts request P = ⊤

@@ -3,6 +3,7 @@ use Rattle.std.specs.Prelude.{ℕ, List, [], ◌∷◌, ◌++◌, codes, decimal
 use Rattle.fsd_bytes.specs.declared.refusal.Refusal.{Refusal}
 use Rattle.fsd_bytes.specs.declared.refusal.Refusal.TheVariants.{NoSuch, TooLong, NoSpace, TooFragmented, NameTableFull, VersionsUsedUp, KeepTooLarge, BadClient, Busy, Idle, Short, Long}
 use Rattle.fsd_bytes.specs.declared.refusal.Refusal.TheVariants as Why
+use Rattle.fsd_bytes.specs.declared.key.Key.{Key}
 use Rattle.fsd_bytes.specs.Keys.{key_text}
 use Rattle.volume_layout.specs.declared.fault.LayoutFault.{LayoutFault}
 use Rattle.volume_layout.specs.declared.fault.LayoutFault.TheVariants.{BadThird, BadPages, TooLarge, TooSmall}
@@ -96,3 +97,8 @@ line_of (Why.Unsound s) = Ended (Ends.Unsound s)
 line_of Why.WornOut = Ended Ends.WornOut
 line_of Why.Memory = Ended Ends.Memory
 line_of why = Refused why
+
+-- of one that a read gives: a damaged sector is told by a line of its own
+abbrev pub read_line : Key → Refusal → Line
+read_line key (Why.Damaged s) = Damaged key s
+read_line key why = line_of why

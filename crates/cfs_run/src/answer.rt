@@ -1,7 +1,7 @@
 //! What a run answers, and how it is said.
 ghost use Rattle.std.specs.Prelude.{◌≡◌};
-ghost use Rattle.sector_disk.specs.Machine.{Trusts};
-ghost use Rattle.cfs_run.specs.Answer.{answer_status, answer_text, fault_status, status_of, Finishes, Spoken, UsesOutput};
+ghost use Rattle.sector_disk.specs.Machine.{LeavesOnly, Trusts, Utters};
+ghost use Rattle.cfs_run.specs.Answer.{answer_status, answer_text, fault_status, status_of, Finishes, Spoken, UsesOutput, UttersOne};
 ghost use Rattle.cfs_run.specs.Text.{fault_text, memory_text};
 
 use crate::fault::Fault;
@@ -47,6 +47,7 @@ pub(crate) fn finish<M: Machine>(alloc: Global, m: &mut M, answer: &Answer) -> u
     ensures trust { Trusts (M.tells m.old) (M.tells m.new) (M.honest m.old) (M.honest m.new) }
     ensures ledger { M.tells m.new → M.ledger m.new ≡ M.ledger m.old }
     ensures said { Finishes (M.honest m.new) (answer_text answer.now) (answer_status answer.now) (M.report m.old) (M.report m.new) (M.now m.old) (M.now m.new) result }
+    ensures any_moment { M.honest m.new → LeavesOnly M.moment M.left_since m.old m.new (UttersOne (answer_text answer.now) (M.now m.old)) }
 {
     match answer {
         Answer::Bytes(bytes) => say(m, bytes.as_slice(), 0),
@@ -63,6 +64,7 @@ fn say<M: Machine>(m: &mut M, text: &[u8], status: u8) -> u8
     ensures trust { Trusts (M.tells m.old) (M.tells m.new) (M.honest m.old) (M.honest m.new) }
     ensures ledger { M.tells m.new → M.ledger m.new ≡ M.ledger m.old }
     ensures said { Spoken (M.honest m.new) text.now status (M.report m.old) (M.report m.new) (M.now m.old) (M.now m.new) result }
+    ensures any_moment { M.honest m.new → LeavesOnly M.moment M.left_since m.old m.new (Utters text.now (M.now m.old)) }
 {
     match m.say(text) {
         Ok(()) => status,

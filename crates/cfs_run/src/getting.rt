@@ -1,23 +1,25 @@
 //! The command `get`.
-ghost use Rattle.std.specs.Prelude.{◌≡◌, ◌≤◌};
-ghost use Rattle.sector_disk.specs.Machine.{Trusts, Wears};
-ghost use Rattle.cfs_run.specs.Formatting.{UsesAttach};
-ghost use Rattle.cfs_run.specs.Ends.{AsksFor, CausesAnswer, GetLeaves, GivesFile, HasDamage, IfDamaged, IfMountAnswer, IsDamagedOn, IsGetAnswer, Never, WhereMounted};
-ghost use Rattle.cfs_run.specs.Mounting.{mount_asks};
-ghost use Rattle.std.specs.FinMap.{find};
+ghost use Rattle.std.specs.Prelude.{◌≡◌, ◌≤◌, ℕ, List};
+ghost use Rattle.sector_disk.specs.declared.sector.WeakRun.{WeakRun};
 ghost use Rattle.sector_disk.specs.Image.{IsCalm};
+ghost use Rattle.sector_disk.specs.Machine.{LeavesOnly, Trusts, Wears};
+ghost use Rattle.fsd_files.specs.Files.{Change};
+ghost use Rattle.fsd_files.specs.Volume.{Volume as Mounted};
 ghost use Rattle.fsd_volume.specs.Mount.{IsMountable, MountRefused};
-ghost use Rattle.fsd_bytes.specs.Keys.{key_cmp};
-ghost use Rattle.fsd_files.specs.Disk.{nowhere};
-ghost use Rattle.fsd_files.specs.Files.{Files};
-ghost use Rattle.fsd_files.specs.Kept.{Kept, Lists};
+ghost use Rattle.fsd_volume.specs.State.{IsMounted};
+ghost use Rattle.cfs_run.specs.declared.request.Request.TheVariants as Words;
+ghost use Rattle.cfs_run.specs.Formatting.{UsesAttach};
+ghost use Rattle.cfs_run.specs.Ends.{AsksFor, CausesAnswer, HasDamage, IfDamaged, IfMountAnswer, IsDamagedOn, IsGetAnswer, Never, WhereMounted};
+ghost use Rattle.cfs_run.specs.Leaves.{get_turn};
+ghost use Rattle.cfs_run.specs.Mounting.{OpensDisk, mount_asks};
+ghost use Rattle.cfs_run.specs.Working.{Carries, Works};
 
 use crate::answer::Answer;
 use crate::fault::Fault;
 use crate::line::Line;
 use crate::mounting::open;
-use crate::refusal::line_of;
-use fsd_bytes::{Key, Refusal};
+use crate::refusal::{line_of, read_line};
+use fsd_bytes::Key;
 use fsd_volume::Volume;
 use sector_disk::Machine;
 use std::alloc::Global;
@@ -34,7 +36,7 @@ pub(crate) fn get<M: Machine>(alloc: Global, path: &str, key: &Key, m: &mut M) -
     ensures refused { M.honest m.new → IsCalm (M.now m.old).windows → IsCalm (M.now m.new).windows → IfMountAnswer (MountRefused (M.report m.new).sectors (M.now m.old).image) result }
     ensures accepted { M.honest m.new → IsCalm (M.now m.old).windows → IsCalm (M.now m.new).windows → WhereMounted (IsMountable (M.report m.new).sectors (M.now m.old).image) result }
     ensures damaged { M.honest m.new → IsCalm (M.now m.old).windows → IsCalm (M.now m.new).windows → IfDamaged (IsDamagedOn (M.report m.new).sectors (M.now m.old).image key.now) result }
-    ensures leaves { M.honest m.new → GetLeaves key.now result (M.now m.old) (M.now m.new) }
+    ensures carries { M.honest m.new → OpensDisk (M.now m.old) (M.now m.new) (λ l windows h f. Carries (Words.Get key.now) (M.ledger m.old).input l windows h f (LeavesOnly M.moment M.left_since m.old m.new) (M.now m.old) (M.now m.new) result) }
 {
     match open(alloc, path, m) {
         Ok(volume) => read_whole(alloc, volume, key, m),
@@ -53,8 +55,8 @@ fn read_whole<M: Machine>(alloc: Global, volume: Volume, key: &Key, m: &mut M) -
     ensures worn { M.honest m.new → Wears (M.now m.old) (M.now m.new) }
     ensures mounted { IfMountAnswer Never result }
     ensures damaged { M.honest m.new → IsCalm (M.now m.old).windows → IfDamaged (HasDamage key.now volume.entries (M.now m.old).image) result }
-    ensures gives { M.honest m.new → IsCalm (M.now m.old).windows → (files : Files) → Lists files volume.entries → Kept (M.now m.old).image files volume.entries nowhere
-        → GivesFile (find key_cmp key.now files) result }
+    ensures works { M.honest m.new → IsCalm (M.now m.old).windows → (v : Mounted) (windows : List WeakRun) (h : List Change) (f : ℕ) → IsMounted volume v windows h f (M.now m.old).image
+        → Works volume.layout windows h f (get_turn v (M.now m.old).image key.now) (LeavesOnly M.moment M.left_since m.old m.new) (M.now m.old) (M.now m.new) result }
 {
     let mut volume = volume;
     let length = match volume.entry(key) {
@@ -66,10 +68,6 @@ fn read_whole<M: Machine>(alloc: Global, volume: Volume, key: &Key, m: &mut M) -
     };
     match volume.read(m, key, 0, bytes.as_mut_slice()) {
         Ok(_) => Answer::Bytes(bytes),
-        Err(Refusal::Damaged(sector)) => Answer::Line(Line::Damaged {
-            key: key.copied(),
-            sector,
-        }),
-        Err(why) => Answer::Line(line_of(why)),
+        Err(why) => Answer::Line(read_line(key, why)),
     }
 }

@@ -1,6 +1,6 @@
 //! The input, read to its end.
 ghost use Rattle.std.specs.Prelude.{◌≤◌, length, IfOk, IfErr};
-ghost use Rattle.sector_disk.specs.Machine.{Trusts, Wears};
+ghost use Rattle.sector_disk.specs.Machine.{LeavesOnly, Trusts, Wears};
 ghost use Rattle.cfs_run.specs.Input.{CausesInput, TakesAll, TakesSome, UsesInput};
 
 use sector_disk::Machine;
@@ -33,6 +33,7 @@ pub fn read_input<M: Machine>(alloc: Global, m: &mut M) -> Result<Vec<u8>, Input
     ensures all { IfOk result (λ bytes. M.tells m.new → TakesAll (M.ledger m.old) bytes.items (M.ledger m.new)) }
     ensures some { IfErr result (λ fault. M.tells m.new → TakesSome fault (M.ledger m.old) (M.ledger m.new)) }
     ensures worn { M.honest m.new → Wears (M.now m.old) (M.now m.new) }
+    ensures any_moment { M.honest m.new → LeavesOnly M.moment M.left_since m.old m.new (Wears (M.now m.old)) }
 {
     let mut bytes = Vec::new(alloc);
     let mut buf = [0u8; 4096];

@@ -1,13 +1,15 @@
 //! How a command finds its volume.
-ghost use Rattle.std.specs.Prelude.{◌≡◌, ◌≤◌, ◌<◌, ◌+◌, ◌^◌, false, IfOk, IfErr};
+ghost use Rattle.std.specs.Prelude.{◌≡◌, ◌≤◌, [], IfOk, IfErr};
 ghost use Rattle.sector_disk.specs.Image.{IsCalm};
-ghost use Rattle.sector_disk.specs.Machine.{Trusts};
+ghost use Rattle.sector_disk.specs.Machine.{LeavesOnly, Trusts};
 ghost use Rattle.cfs_run.specs.Answer.{CausesFault};
 ghost use Rattle.cfs_run.specs.Formatting.{UsesAttach};
-ghost use Rattle.cfs_run.specs.Mounting.{AsksMount, IfMount, IsExcuse, IsMountFault, OpensDisk, fault_of};
-ghost use Rattle.fsd_volume.specs.Mount.{IsFoundOn, MountRefused, Mounts};
+ghost use Rattle.cfs_run.specs.Mounting.{AsksMount, IfMount, IsMountFault, OpensDisk, fault_of};
+ghost use Rattle.cfs_run.specs.Working.{Opens};
+ghost use Rattle.mount_recover.specs.Replay.{SameBehind};
+ghost use Rattle.fsd_volume.specs.Mount.{IsFoundOn, MountRefused};
+ghost use Rattle.fsd_volume.specs.Put.{IsWornOut};
 ghost use Rattle.fsd_volume.specs.State.{IsTable};
-ghost use Rattle.mount_recover.specs.Recover.{with_anchors};
 
 use crate::fault::Fault;
 use fsd_volume::Volume;
@@ -39,14 +41,14 @@ pub(crate) fn open<M: Machine>(alloc: Global, path: &str, m: &mut M) -> Result<V
     ensures asks { M.tells m.new → AsksMount path.now result (M.ledger m.old) (M.ledger m.new) }
     ensures quiet { M.honest m.new → (M.now m.new).said ≡ (M.now m.old).said }
     ensures room { IfOk result (λ volume. volume.layout.sectors ≤ (M.report m.new).sectors) }
-    ensures idle { IfOk result (λ volume. volume.waits ≡ false) }
+    ensures idle { IfOk result (λ volume. volume.table.dirty ≡ []) }
     ensures first { IfOk result (λ volume. volume.serial.count ≡ 1) }
+    ensures fresh { IfOk result (λ volume. IsWornOut volume → ⊥) }
     ensures sound { IfOk result (λ volume. IsTable volume.layout volume.entries) }
     ensures found { IfOk result (λ volume. M.honest m.new → IsCalm (M.now m.old).windows → IsCalm (M.now m.new).windows → IsFoundOn (M.report m.new).sectors (M.now m.old).image volume) }
-    ensures renewed { IfOk result (λ volume. M.honest m.new → IsCalm (M.now m.old).windows → IsCalm (M.now m.new).windows → (M.now m.new).image ≡ with_anchors volume.serial.epoch (M.now m.old).image) }
+    ensures behind { IfOk result (λ volume. M.honest m.new → IsCalm (M.now m.old).windows → IsCalm (M.now m.new).windows → SameBehind volume.layout (M.now m.old).image (M.now m.new).image) }
     ensures refused { IfErr result (λ fault. M.honest m.new → IsCalm (M.now m.old).windows → IsCalm (M.now m.new).windows → IfMount (MountRefused (M.report m.new).sectors (M.now m.old).image) fault) }
-    ensures mounted { IfOk result (λ volume. M.honest m.new → OpensDisk (M.now m.old) (M.now m.new) (λ l epoch files. Mounts l epoch files volume (M.now m.new).image)) }
-    ensures excuses { IfErr result (λ fault. M.honest m.new → OpensDisk (M.now m.old) (M.now m.new) (λ l epoch files. epoch + 1 < 2 ^ 32 → IsExcuse fault)) }
+    ensures opens { M.honest m.new → OpensDisk (M.now m.old) (M.now m.new) (λ l windows h f. Opens l windows h f (LeavesOnly M.moment M.left_since m.old m.new) (M.now m.old) (M.now m.new) result) }
 {
     match m.attach(path, Attach::Old) {
         Ok(sectors) => match Volume::mount(alloc, m, sectors) {

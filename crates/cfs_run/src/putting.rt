@@ -1,20 +1,25 @@
 //! The command `put`.
-ghost use Rattle.std.specs.Prelude.{◌≡◌, ◌≤◌, ℕ, None, length};
-ghost use Rattle.sector_disk.specs.Machine.{OnlyWrites, Trusts};
-ghost use Rattle.cfs_run.specs.declared.input.TheConstants.{MOST_INPUT};
-ghost use Rattle.cfs_run.specs.Answer.{CausesLine};
-ghost use Rattle.cfs_run.specs.Ends.{IfMountLine, IsMadeLine, IsPutLine, Never, PutLeaves, Puts, Stores, TakesFor, WhereMounted};
-ghost use Rattle.cfs_run.specs.declared.answer.Answer.TheVariants as Said;
-ghost use Rattle.cfs_run.specs.Formatting.{AsksLine, UsesAttach};
-ghost use Rattle.cfs_run.specs.Input.{UsesCounts};
-ghost use Rattle.cfs_run.specs.Mounting.{mount_asks};
+ghost use Rattle.std.specs.Prelude.{◌≡◌, ◌≤◌, ℕ, List, None, length};
+ghost use Rattle.sector_disk.specs.declared.sector.WeakRun.{WeakRun};
 ghost use Rattle.sector_disk.specs.Image.{IsCalm};
-ghost use Rattle.volume_layout.specs.declared.layout.Layout.{Layout as Planned};
-ghost use Rattle.fsd_files.specs.Files.{Files};
-ghost use Rattle.fsd_volume.specs.Mount.{IsMountable, MountRefused, Mounts};
+ghost use Rattle.sector_disk.specs.Machine.{LeavesOnly, OnlyWrites, Trusts};
+ghost use Rattle.fsd_files.specs.Files.{Change};
 ghost use Rattle.fsd_files.specs.OneLeaf.{put_outcome};
 ghost use Rattle.fsd_files.specs.Volume.{Volume as Mounted};
+ghost use Rattle.fsd_sound.specs.Sound.{EndIn};
+ghost use Rattle.fsd_volume.specs.Mount.{IsMountable, MountRefused};
+ghost use Rattle.fsd_volume.specs.Put.{IsWornOut};
 ghost use Rattle.fsd_volume.specs.State.{IsMounted};
+ghost use Rattle.cfs_run.specs.declared.answer.Answer.TheVariants as Said;
+ghost use Rattle.cfs_run.specs.declared.input.TheConstants.{MOST_INPUT};
+ghost use Rattle.cfs_run.specs.declared.request.Request.TheVariants as Words;
+ghost use Rattle.cfs_run.specs.Answer.{CausesLine};
+ghost use Rattle.cfs_run.specs.Ends.{IfMountLine, IsMadeLine, IsPutLine, Never, TakesFor, WhereMounted};
+ghost use Rattle.cfs_run.specs.Formatting.{AsksLine, UsesAttach};
+ghost use Rattle.cfs_run.specs.Input.{UsesCounts};
+ghost use Rattle.cfs_run.specs.Leaves.{put_turn, reply_turn};
+ghost use Rattle.cfs_run.specs.Mounting.{OpensDisk, mount_asks};
+ghost use Rattle.cfs_run.specs.Working.{Carries, Works};
 
 use crate::fault::Fault;
 use crate::input::{InputFault, MOST_INPUT, read_input};
@@ -37,7 +42,7 @@ pub(crate) fn put<M: Machine>(alloc: Global, path: &str, name: &FileName, m: &mu
     ensures quiet { M.honest m.new → (M.now m.new).said ≡ (M.now m.old).said }
     ensures refused { M.honest m.new → IsCalm (M.now m.old).windows → IsCalm (M.now m.new).windows → IfMountLine (MountRefused (M.report m.new).sectors (M.now m.old).image) result }
     ensures accepted { M.honest m.new → IsCalm (M.now m.old).windows → IsCalm (M.now m.new).windows → WhereMounted (IsMountable (M.report m.new).sectors (M.now m.old).image) (Said.Line result) }
-    ensures leaves { M.honest m.new → PutLeaves name.now (M.ledger m.old).input result (M.now m.old) (M.now m.new) }
+    ensures carries { M.honest m.new → OpensDisk (M.now m.old) (M.now m.new) (λ l windows h f. Carries (Words.Put name.now) (M.ledger m.old).input l windows h f (LeavesOnly M.moment M.left_since m.old m.new) (M.now m.old) (M.now m.new) (Said.Line result)) }
 {
     match open(alloc, path, m) {
         Ok(volume) => put_input(alloc, volume, name, m),
@@ -57,9 +62,10 @@ fn put_input<M: Machine>(alloc: Global, volume: Volume, name: &FileName, m: &mut
     ensures takes { M.tells m.new → TakesFor result (M.ledger m.old).input (M.ledger m.new).input }
     ensures quiet { M.honest m.new → (M.now m.new).said ≡ (M.now m.old).said }
     ensures windows { M.honest m.new → (M.now m.new).windows ≡ (M.now m.old).windows }
-    ensures mounted { volume.serial.count ≡ 1 → IfMountLine Never result }
-    ensures puts { M.honest m.new → IsCalm (M.now m.old).windows → (l : Planned) (epoch : ℕ) (files : Files) → Mounts l epoch files volume (M.now m.old).image → volume.serial.count ≡ 1
-        → Puts name.now (M.ledger m.old).input l epoch files result (M.now m.old).image (M.now m.new).image }
+    ensures mounted { (IsWornOut volume → ⊥) → IfMountLine Never result }
+    ensures works { M.honest m.new → IsCalm (M.now m.old).windows → (IsWornOut volume → ⊥) → (v : Mounted) (windows : List WeakRun) (h : List Change) (f : ℕ) → EndIn (M.now m.old).windows windows
+        → IsMounted volume v windows h f (M.now m.old).image
+        → Works volume.layout windows h f (put_turn v name.now (M.ledger m.old).input) (LeavesOnly M.moment M.left_since m.old m.new) (M.now m.old) (M.now m.new) (Said.Line result) }
 {
     match read_input(alloc, m) {
         Ok(bytes) => put_bytes(volume, name, bytes.as_slice(), m),
@@ -80,9 +86,10 @@ fn put_bytes<M: Machine>(volume: Volume, name: &FileName, bytes: &[u8], m: &mut 
     ensures ledger { M.tells m.new → OnlyWrites (M.ledger m.old) (M.ledger m.new) }
     ensures quiet { M.honest m.new → (M.now m.new).said ≡ (M.now m.old).said }
     ensures windows { M.honest m.new → (M.now m.new).windows ≡ (M.now m.old).windows }
-    ensures mounted { volume.serial.count ≡ 1 → IfMountLine Never result }
-    ensures stores { M.honest m.new → IsCalm (M.now m.old).windows → (v : Mounted) → IsMounted volume v v.files (M.now m.old).image → v.serial.count ≡ 1
-        → Stores v.layout v.serial.epoch (put_outcome v name.now bytes.now None) result (M.now m.new).image }
+    ensures mounted { (IsWornOut volume → ⊥) → IfMountLine Never result }
+    ensures works { M.honest m.new → IsCalm (M.now m.old).windows → (IsWornOut volume → ⊥) → (v : Mounted) (windows : List WeakRun) (h : List Change) (f : ℕ) → EndIn (M.now m.old).windows windows
+        → IsMounted volume v windows h f (M.now m.old).image
+        → Works volume.layout windows h f (reply_turn name.now bytes.now (put_outcome v name.now bytes.now None).0) (LeavesOnly M.moment M.left_since m.old m.new) (M.now m.old) (M.now m.new) (Said.Line result) }
 {
     let mut volume = volume;
     let key = match volume.put(m, name, None, bytes) {

@@ -1,10 +1,10 @@
-//! The line of a volume's refusal.
+//! The lines of a volume's refusals.
 ghost use Rattle.std.specs.Prelude.{◌≡◌};
-ghost use Rattle.cfs_run.specs.Text.{line_of};
+ghost use Rattle.cfs_run.specs.Text.{line_of, read_line};
 
 use crate::fault::Fault;
 use crate::line::Line;
-use fsd_bytes::Refusal;
+use fsd_bytes::{Key, Refusal};
 
 /// The line that tells a refusal: one that ends the run is a fault.
 pub(crate) fn line_of(why: Refusal) -> Line
@@ -17,5 +17,18 @@ pub(crate) fn line_of(why: Refusal) -> Line
         Refusal::WornOut => Line::Ended(Fault::WornOut),
         Refusal::Memory => Line::Ended(Fault::Memory),
         refused => Line::Refused(refused),
+    }
+}
+
+/// The line that tells why a version was not read: a damaged sector is told by a line of its own.
+pub(crate) fn read_line(key: &Key, why: Refusal) -> Line
+    ensures { result ≡ read_line key.now why }
+{
+    match why {
+        Refusal::Damaged(sector) => Line::Damaged {
+            key: key.copied(),
+            sector,
+        },
+        refused => line_of(refused),
     }
 }

@@ -2,14 +2,16 @@
 ghost use Rattle.std.specs.Prelude.{◌≡◌, ◌⊎◌, ◌<◌, ◌++◌, [], length, map, IsTrue};
 ghost use Rattle.std.specs.String.{string_bytes};
 ghost use Rattle.sector_disk.specs.Image.{IsCalm};
-ghost use Rattle.sector_disk.specs.Machine.{Rose, Trusts};
+ghost use Rattle.sector_disk.specs.Machine.{LeavesOnly, Rose, Trusts};
 ghost use Rattle.fsd_volume.specs.Mount.{IsMountable, MountRefused};
 ghost use Rattle.cfs_run.specs.declared.fault.Fault.TheVariants as Ends;
 ghost use Rattle.cfs_run.specs.Text.{fault_text};
 ghost use Rattle.cfs_run.specs.declared.input.TheConstants.{MOST_INPUT};
 ghost use Rattle.cfs_run.specs.Words.{path_of, request_of};
 ghost use Rattle.cfs_run.specs.Input.{UsesCounts};
-ghost use Rattle.cfs_run.specs.Ends.{Answers, AsksAtMost, AsksFor, CausesAnswer, DamagedAnswer, DamagedFor, GetsPart, Holds, IfMountAnswer, IfMounts, IsAnswerTo, IsUntouched, Leaves, NoneRose, NotMounted, PutAnswersFor, PutsFor, SaysPart, Takes, LeavesInput, WhereMounted, asks_of, complete_statuses, fault_statuses, is_one_of, mounted_statuses};
+ghost use Rattle.cfs_run.specs.Ends.{Answers, AsksAtMost, AsksFor, CausesAnswer, DamagedAnswer, DamagedFor, GetsPart, Holds, IfMountAnswer, IsAnswerTo, IsUntouched, Leaves, LeavesInput, NoneRose, NotMounted, PutAnswersFor, RefusesLast, RunLeaves, RunReplies, SaysPart, Takes, WhereMounted, asks_of, complete_statuses, fault_statuses, is_one_of, mounted_statuses, turn_statuses};
+ghost use Rattle.cfs_run.specs.Mounting.{IfMounts};
+ghost use Rattle.cfs_run.specs.Working.{Carried};
 
 use crate::answer::{Answer, finish};
 use crate::formatting::make;
@@ -49,13 +51,20 @@ pub fn run_cfs<M: Machine>(alloc: Global, words: &[String], m: &mut M) -> u8
 
     // What is said: some first bytes of one of the texts that the words allow, all of them but at status 6.
     ensures said { M.honest m.new → SaysPart (request_of (map string_bytes words.now)) (M.report m.new).fault_place (M.now m.old).said (M.now m.new).said }
-    // Of a get: where nothing wears, some first bytes of the version that the disk holds, or of that there is none, unless the disk or memory fails.
+    // Of a get: where nothing wears, some first bytes of what a sound disk has of the version, unless the disk or memory fails.
     ensures gives { M.honest m.new → GetsPart (request_of (map string_bytes words.now)) (M.report m.new).fault_place (M.now m.old) (M.now m.new) }
     ensures fault_said { result ≡ 4 → M.honest m.new → (M.now m.new).said ≡ (M.now m.old).said ++ fault_text (Ends.Device (M.report m.new).fault_place) }
     ensures answers { M.honest m.new → NoneRose (M.report m.old) (M.report m.new)
-        → Answers (request_of (map string_bytes words.now)) (M.now m.old) (M.now m.new) result }
+        → Answers (request_of (map string_bytes words.now)) (M.ledger m.old).input (M.now m.old) (M.now m.new) result }
     ensures stored { M.honest m.new → NoneRose (M.report m.old) (M.report m.new)
         → PutAnswersFor (request_of (map string_bytes words.now)) (M.ledger m.old).input (M.now m.old) (M.now m.new) result }
+
+    // From a sound disk where nothing wears: a stop at any moment, also of the mount, leaves a disk that tells the changes of
+    // before in order, at least those that were forced, and the request's own, which is forced once its reply is said. So does the end.
+    ensures leaves { M.honest m.new → RunLeaves (request_of (map string_bytes words.now)) (M.ledger m.old).input (LeavesOnly M.moment M.left_since m.old m.new) (M.now m.old) (M.now m.new) }
+    ensures replied { IsTrue (is_one_of turn_statuses result) → M.honest m.new
+        → RunReplies (request_of (map string_bytes words.now)) (M.ledger m.old).input (M.now m.old) (M.now m.new) result }
+    ensures safe { (result ≡ 3) ⊎ (result ≡ 9) → M.honest m.new → RefusesLast (request_of (map string_bytes words.now)) (M.now m.old) (M.now m.new) result }
 
     // What the image holds.
     ensures image { result ≡ 0 → M.honest m.new → Holds (request_of (map string_bytes words.now)) (M.now m.new) }
@@ -77,13 +86,13 @@ fn carry_out<M: Machine>(alloc: Global, words: &[String], m: &mut M) -> Answer
         M.tells m.new → AsksFor (asks_of (request_of asked) (path_of asked)) result (M.ledger m.old).attaches (M.ledger m.new).attaches }
     ensures takes { M.tells m.new → Takes (request_of (map string_bytes words.now)) result (M.ledger m.old).input (M.ledger m.new).input }
     ensures quiet { M.honest m.new → (M.now m.new).said ≡ (M.now m.old).said }
-    ensures puts { M.honest m.new → PutsFor (request_of (map string_bytes words.now)) result (M.ledger m.old).input (M.now m.old) (M.now m.new) }
     ensures refused { M.honest m.new → IsCalm (M.now m.old).windows → IsCalm (M.now m.new).windows → IfMountAnswer (MountRefused (M.report m.new).sectors (M.now m.old).image) result }
     ensures accepted { M.honest m.new → IsCalm (M.now m.old).windows → IsCalm (M.now m.new).windows
         → IfMounts (request_of (map string_bytes words.now)) (WhereMounted (IsMountable (M.report m.new).sectors (M.now m.old).image) result) }
     ensures damaged { M.honest m.new → IsCalm (M.now m.old).windows → IsCalm (M.now m.new).windows
         → DamagedAnswer (request_of (map string_bytes words.now)) (M.report m.new).sectors (M.now m.old).image result }
     ensures leaves { M.honest m.new → Leaves (request_of (map string_bytes words.now)) result (M.now m.old) (M.now m.new) }
+    ensures carries { M.honest m.new → Carried (request_of (map string_bytes words.now)) (M.ledger m.old).input (LeavesOnly M.moment M.left_since m.old m.new) (M.now m.old) (M.now m.new) result }
 {
     match read_words(words) {
         Request::Outside => Answer::Line(Line::Usage),

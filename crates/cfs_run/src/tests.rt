@@ -1,6 +1,7 @@
 //! Runs over a machine in memory, each on what the one before has left.
 use crate::run_cfs;
-use sector_disk::MemoryMachine;
+use log_record::{Judged, judge};
+use sector_disk::{Event, MemoryMachine, Sector};
 use std::alloc::{AllocError, Global};
 use std::test::Fail;
 
@@ -150,6 +151,113 @@ fn puts_and_gets(rt: HostRuntime) -> Result<(), Fail> {
         let words = split(alloc, "cfs put v c")?;
         assert_eq!(rt; run_cfs(alloc, words.as_slice(), &mut m), 1, "{length}");
         assert_eq!(rt; m.said(), said.as_bytes(), "{length}");
+    }
+    Ok(())
+}
+
+// One line over what the machine has, with one event.
+fn run(
+    alloc: Global,
+    m: MemoryMachine,
+    event: Option<Event>,
+    input: &[u8],
+    line: &str,
+) -> Result<(MemoryMachine, u8), AllocError> {
+    let mut events = Vec::new(alloc);
+    if let Some(event) = event {
+        events.push(event)?;
+    }
+    let mut m = m.again(events, input.to_vec(alloc)?);
+    let words = split(alloc, line)?;
+    let status = run_cfs(alloc, words.as_slice(), &mut m);
+    Ok((m, status))
+}
+
+// An empty volume.
+fn formatted(alloc: Global) -> Result<MemoryMachine, AllocError> {
+    let (m, _) = run(alloc, machine(alloc), None, b"", "cfs format v 721 200 16")?;
+    Ok(m)
+}
+
+// The first four bytes of a sector, if it is whole.
+fn word_at(m: &MemoryMachine, sector: usize) -> Option<[u8; 4]> {
+    match m.image().get(sector) {
+        Some(Sector::Whole(bytes)) => Some([bytes[0], bytes[1], bytes[2], bytes[3]]),
+        _ => None,
+    }
+}
+
+#[test]
+fn one_record_commits_a_put(rt: HostRuntime) -> Result<(), Fail> {
+    let alloc = rt.alloc();
+    let words = [
+        *b"CLHD", [0; 4], *b"CLHD", *b"CNPG", *b"CLEN", *b"CNPG", *b"CLEN",
+    ];
+    let (m, status) = run(alloc, formatted(alloc)?, None, b"x", "cfs put v a")?;
+    assert_eq!(rt; status, 0);
+    for (k, word) in words.iter().enumerate() {
+        assert_eq!(rt; word_at(&m, 16 + k), Some(*word), "{k}");
+    }
+
+    for (stand, said) in [(4, b"refused no-such\n".as_slice()), (5, b"x".as_slice())] {
+        let stop = Event::StopIn {
+            first: 16,
+            nth: 1,
+            stand,
+        };
+        let (m, _) = run(alloc, formatted(alloc)?, Some(stop), b"x", "cfs put v a")?;
+        assert!(rt; m.said().is_empty());
+        let (m, _) = run(alloc, m, None, b"", "cfs get v a!1")?;
+        assert_eq!(rt; m.said(), said, "{stand}");
+    }
+    Ok(())
+}
+
+#[test]
+fn an_old_copy_serves_no_record(rt: HostRuntime) -> Result<(), Fail> {
+    let alloc = rt.alloc();
+    let (m, _) = run(alloc, formatted(alloc)?, None, b"x", "cfs put v a")?;
+    let stop = Event::StopIn {
+        first: 16,
+        nth: 1,
+        stand: 5,
+    };
+    let (m, _) = run(alloc, m, Some(stop), b"y", "cfs put v b")?;
+    let mut whole = [true; 7];
+    let mut bytes = [0; 3584];
+    for k in 0..7 {
+        match m.image().get(16 + k) {
+            Some(Sector::Whole(sector)) => bytes[512 * k..512 * k + 512].copy_from_slice(sector),
+            _ => whole[k] = false,
+        }
+    }
+    assert!(rt; matches!(&judge(&whole, &bytes, 16, 3, 1), Judged::Good(_)));
+    whole[3] = false;
+    assert!(rt; matches!(&judge(&whole, &bytes, 16, 3, 1), Judged::NotThere));
+    Ok(())
+}
+
+#[test]
+fn a_stop_at_any_sector_leaves_all_or_nothing(rt: HostRuntime) -> Result<(), Fail> {
+    let alloc = rt.alloc();
+    let get = "cfs get v a!1";
+    for first in 0..13 {
+        for second in 0..8 {
+            let (m, _) = run(
+                alloc,
+                formatted(alloc)?,
+                Some(Event::Stop { after: first }),
+                b"x",
+                "cfs put v a",
+            )?;
+            let made = !m.said().is_empty();
+            let (m, _) = run(alloc, m, Some(Event::Stop { after: second }), b"", get)?;
+            let (m, _) = run(alloc, m, Some(Event::Stop { after: 7 - second }), b"", get)?;
+            let (m, _) = run(alloc, m, None, b"", get)?;
+            let there = m.said() == b"x".as_slice();
+            let none = !made && m.said() == b"refused no-such\n".as_slice();
+            assert!(rt; there || none, "{first} {second}");
+        }
     }
     Ok(())
 }

@@ -1,6 +1,6 @@
 use Rattle.std.proofs.Common.{◌≡◌, ◌++◌, ◌+◌, ◌≤◌, ◌∙◌, List, ℕ, take, length, ap, arith, rules, sym, subst, not}
 use Rattle.cfs_run.specs.declared.input.InputFault.TheVariants.{TooLong, Memory}
-use Rattle.cfs_run.proofs.InputSoFar.{SoFar, so_far_more, length-more, all_taken, some_taken, pushed}
+use Rattle.cfs_run.proofs.InputSoFar.{SoFar, so_far_more, length-more, all_taken, some_taken, pushed, wears_more}
 use Rattle.cfs_run.proofs.input.read_input.Goals as goal
 
 pub returns-then-count-eq0-clause-all : goal.returns-then-count-eq0-clause-all
@@ -31,6 +31,32 @@ loop-preserved g c =
       taken = λ h. subst family (sym same)
           (so_far_more _ _ _ c.loop.bytes.items c.take.new.buf c.in-Ok.count (c.loop.invariant.taken (c.take.ensures.trust.tells h)) (c.in-Ok.ensures.left h) (c.in-Ok.ensures.taken h) room);
       worn = search rules;
+      moments = λ h. let h1 = c.take.ensures.trust.honest h in
+          wears_more g.M.Machine.moment g.M.Machine.left_since c.args.m.now c.loop.m c.take.new.self (g.M.Machine.now c.args.m.now) (g.M.Machine.now c.loop.m) (c.loop.invariant.moments h1) (c.loop.invariant.worn h1) (c.take.ensures.time h);
       turns = omega (arith, long, c.loop.invariant.turns, c.if-count-eq0.false);
       most = omega (arith, c.if-len-gt-MOST_INPUT.false, c.len.ensures);
     }
+
+pub returns-then-count-eq0-clause-any_moment : goal.returns-then-count-eq0-clause-any_moment
+returns-then-count-eq0-clause-any_moment g c h =
+    let M = g.M.Machine in
+    let h1 = c.take.ensures.trust.honest h in
+    wears_more M.moment M.left_since c.args.m.now c.loop.m c.take.new.self (M.now c.args.m.now) (M.now c.loop.m) (c.loop.invariant.moments h1) (c.loop.invariant.worn h1) (c.take.ensures.time h)
+
+pub returns-then-is_err-clause-any_moment : goal.returns-then-is_err-clause-any_moment
+returns-then-is_err-clause-any_moment g c h =
+    let M = g.M.Machine in
+    let h1 = c.take.ensures.trust.honest h in
+    wears_more M.moment M.left_since c.args.m.now c.loop.m c.take.new.self (M.now c.args.m.now) (M.now c.loop.m) (c.loop.invariant.moments h1) (c.loop.invariant.worn h1) (c.take.ensures.time h)
+
+pub returns-then-len-gt-MOST_INPUT-clause-any_moment : goal.returns-then-len-gt-MOST_INPUT-clause-any_moment
+returns-then-len-gt-MOST_INPUT-clause-any_moment g c h =
+    let M = g.M.Machine in
+    let h1 = c.take.ensures.trust.honest h in
+    wears_more M.moment M.left_since c.args.m.now c.loop.m c.take.new.self (M.now c.args.m.now) (M.now c.loop.m) (c.loop.invariant.moments h1) (c.loop.invariant.worn h1) (c.take.ensures.time h)
+
+pub returns-in-Err-clause-any_moment : goal.returns-in-Err-clause-any_moment
+returns-in-Err-clause-any_moment g c h =
+    let M = g.M.Machine in
+    let h1 = c.take.ensures.trust.honest h in
+    wears_more M.moment M.left_since c.args.m.now c.loop.m c.take.new.self (M.now c.args.m.now) (M.now c.loop.m) (c.loop.invariant.moments h1) (c.loop.invariant.worn h1) (c.take.ensures.time h)

@@ -1,33 +1,47 @@
-use Rattle.std.proofs.Common.{◌∙◌, List, ap, subst, sym}
-use Rattle.sector_disk.specs.declared.sector.Sector.{Sector}
-use Rattle.sector_disk.proofs.Calm.{calm_worn}
-use Rattle.mount_recover.specs.Recover.{with_anchors}
+use Rattle.std.proofs.Common.{◌∙◌, subst, sym}
 use Rattle.cfs_run.specs.declared.fault.Fault.{Fault}
-use Rattle.cfs_run.specs.Mounting.{IsExcuse}
-use Rattle.cfs_run.proofs.MountEnds.{opened_on, opened_refused}
-use Rattle.cfs_run.proofs.OpenLaws.{excused, found_calm, found_disk, found_room}
+use Rattle.cfs_run.specs.declared.fault.Fault.TheVariants as Ends
+use Rattle.cfs_run.specs.Working.{IsFailure}
+use Rattle.cfs_run.proofs.MountEnds.{opened_behind, opened_on, opened_refused}
+use Rattle.cfs_run.proofs.OpenLaws.{excused, found_calm, found_entries, found_image, found_sound, found_told, is_fresh, not_opened, opened, unopened}
 use Rattle.cfs_run.proofs.mounting.open.Goals as goal
 
-pub returns-in-Ok-mount-clause-mounted : goal.returns-in-Ok-mount-clause-mounted
-returns-in-Ok-mount-clause-mounted g c h calm after l epoch files disk =
-    let M = g.M.Machine in
-    let h1 = c.mount.ensures.trust.honest h in
-    let old = M.now c.args.m.now in
-    let at = M.now c.attach.new.self in
-    let found = c.in-Ok.ensures.attached h1 in
-    let disk1 = found_disk old at l epoch files calm found disk in
-    c.in-Ok-mount.ensures.mounted h (found_calm old at calm found) after l epoch files disk1 (found_room l epoch c.in-Ok.sectors files at.image disk1 (c.in-Ok.ensures.size h1))
+pub returns-in-Ok-mount-clause-fresh : goal.returns-in-Ok-mount-clause-fresh
+returns-in-Ok-mount-clause-fresh g c = is_fresh c.in-Ok-mount.volume c.in-Ok-mount.ensures.sound.planned c.in-Ok-mount.ensures.fresh c.in-Ok-mount.ensures.first
 
-pub returns-in-Err-mount-clause-excuses : goal.returns-in-Err-mount-clause-excuses
-returns-in-Err-mount-clause-excuses g c h calm after l epoch files disk fits =
+pub returns-in-Ok-mount-clause-opens : goal.returns-in-Ok-mount-clause-opens
+returns-in-Ok-mount-clause-opens g c h calm after l windows history f planned ends sound =
     let M = g.M.Machine in
     let h1 = c.mount.ensures.trust.honest h in
+    let h0 = c.attach.ensures.trust.honest h1 in
     let old = M.now c.args.m.now in
     let at = M.now c.attach.new.self in
     let found = c.in-Ok.ensures.attached h1 in
-    let disk1 = found_disk old at l epoch files calm found disk in
-    subst (λ (fault : Fault). IsExcuse fault) (sym c.fault_of.ensures)
-    (excused c.in-Err-mount.fault (c.in-Err-mount.ensures.excuses h (found_calm old at calm found) after l epoch files disk1 (found_room l epoch c.in-Ok.sectors files at.image disk1 (c.in-Ok.ensures.size h1)) fits))
+    let here = found_sound l windows history f c.in-Ok.sectors old at calm found (c.in-Ok.ensures.size h1) planned ends sound in
+    let mounted = c.in-Ok-mount.ensures.mounted l windows history f h here after in
+    opened M.moment M.left_since l windows history f mounted.0 c.args.m.now c.attach.new.self c.mount.new.m old at (M.now c.mount.new.m) calm sound (λ t left. g.met.M.Machine.only_now c.args.m.now t h0 left)
+    (c.attach.ensures.time h1) found (found_told l windows history f mounted.0 old at calm found mounted.1) mounted.2 c.in-Ok-mount.volume (mounted.3.0, found_entries l c.in-Ok-mount.volume.entries old at calm found mounted.3.1)
+
+pub returns-in-Err-mount-clause-opens : goal.returns-in-Err-mount-clause-opens
+returns-in-Err-mount-clause-opens g c h calm after l windows history f planned ends sound =
+    let M = g.M.Machine in
+    let h1 = c.mount.ensures.trust.honest h in
+    let h0 = c.attach.ensures.trust.honest h1 in
+    let old = M.now c.args.m.now in
+    let at = M.now c.attach.new.self in
+    let found = c.in-Ok.ensures.attached h1 in
+    let here = found_sound l windows history f c.in-Ok.sectors old at calm found (c.in-Ok.ensures.size h1) planned ends sound in
+    let mounted = c.in-Err-mount.ensures.mounted l windows history f h here after in
+    let failure = excused c.in-Err-mount.fault c.in-Ok.sectors old.image at.image (found_image old at calm found) mounted.3.0 (c.in-Err-mount.ensures.refused h here.calm after) in
+    not_opened M.moment M.left_since l windows history f mounted.0 c.args.m.now c.attach.new.self c.mount.new.m old at (M.now c.mount.new.m) calm sound (λ t left. g.met.M.Machine.only_now c.args.m.now t h0 left)
+    (c.attach.ensures.time h1) found (found_told l windows history f mounted.0 old at calm found mounted.1) mounted.2 c.fault_of.result (subst (λ (fault : Fault). IsFailure old.image fault) (sym c.fault_of.ensures) failure) mounted.3.1
+
+pub returns-in-Err-clause-opens : goal.returns-in-Err-clause-opens
+returns-in-Err-clause-opens g c h calm after l windows history f planned ends sound =
+    let M = g.M.Machine in
+    let old = M.now c.args.m.now in
+    unopened M.moment M.left_since l windows history f c.args.m.now c.attach.new.self old (M.now c.attach.new.self) (Ends.Device 0) calm sound (λ t left. g.met.M.Machine.only_now c.args.m.now t (c.attach.ensures.trust.honest h) left)
+    (c.attach.ensures.time h) (c.in-Err.ensures.failed h) tt
 
 pub returns-in-Err-mount-clause-refused : goal.returns-in-Err-mount-clause-refused
 returns-in-Err-mount-clause-refused g c h calm after =
@@ -46,11 +60,10 @@ returns-in-Ok-mount-clause-found g c h calm after =
     let found = c.in-Ok.ensures.attached (c.mount.ensures.trust.honest h) in
     opened_on c.in-Ok-mount.volume c.in-Ok.sectors (M.report c.mount.new.m).sectors old at calm found (c.mount.ensures.uses.sectors ∙ c.in-Ok.ensures.sectors) (c.in-Ok-mount.ensures.found h (found_calm old at calm found) after)
 
-pub returns-in-Ok-mount-clause-renewed : goal.returns-in-Ok-mount-clause-renewed
-returns-in-Ok-mount-clause-renewed g c h calm after =
+pub returns-in-Ok-mount-clause-behind : goal.returns-in-Ok-mount-clause-behind
+returns-in-Ok-mount-clause-behind g c h calm after =
     let M = g.M.Machine in
     let old = M.now c.args.m.now in
     let at = M.now c.attach.new.self in
     let found = c.in-Ok.ensures.attached (c.mount.ensures.trust.honest h) in
-    c.in-Ok-mount.ensures.renewed h (found_calm old at calm found) after
-    ∙ ap (λ (i : List Sector). with_anchors c.in-Ok-mount.volume.serial.epoch i) (calm_worn old.windows old.image at.image calm found.image)
+    opened_behind c.in-Ok-mount.volume.layout old at (M.now c.mount.new.m).image calm found (c.in-Ok-mount.ensures.behind h (found_calm old at calm found) after)

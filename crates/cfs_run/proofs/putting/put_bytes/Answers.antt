@@ -1,25 +1,62 @@
-use Rattle.std.proofs.Common.{◌+◌, ℕ, ap, length, None, sym}
+use Rattle.std.proofs.Common.{◌+◌, ◌++◌, ◌∷◌, [], ℕ, List, ap, None, subst, sym, ◌∙◌}
+use Rattle.volume_layout.specs.declared.layout.Layout.{Layout}
+use Rattle.sector_disk.specs.Image.{Windows}
+use Rattle.sector_disk.specs.Machine.{LeavesOnly}
 use Rattle.sector_disk.proofs.Calm.{same_calm}
-use Rattle.fsd_formats.specs.NamePage.{sectors_for}
-use Rattle.fsd_files.specs.OneLeaf.{put_outcome}
+use Rattle.fsd_files.specs.Files.{Change}
+use Rattle.fsd_sound.specs.Sound.{EndIn}
+use Rattle.fsd_volume.specs.Forcing.{Forces}
+use Rattle.fsd_volume.specs.State.{State}
 use Rattle.cfs_run.proofs.MountEnds.{put_refused}
-use Rattle.cfs_run.proofs.PutLaws.{keeps, refusal_stored, version_stored}
+use Rattle.cfs_run.proofs.PutLaws.{keeps, made_works, refused_works, unforced_works}
 use Rattle.cfs_run.proofs.putting.put_bytes.Goals as goal
 
-pub returns-in-Err-clause-stores : goal.returns-in-Err-clause-stores
-returns-in-Err-clause-stores g c h calm v mounted first =
-    refusal_stored c.in-Err.why c.line_of.result v (sectors_for (length c.args.bytes.now)) (put_outcome v c.args.name.now c.args.bytes.now None) c.put.new.self (g.M.Machine.now c.put.new.m).image
-    (keeps v c.args.name.now c.args.bytes.now None) first (c.in-Err.ensures.stands h calm v v.files mounted) c.line_of.ensures
+pub returns-in-Err-clause-mounted : goal.returns-in-Err-clause-mounted
+returns-in-Err-clause-mounted g c fresh = put_refused c.in-Err.why c.line_of.result c.args.volume c.put.new.self c.args.name.now c.args.bytes.now fresh c.in-Err.ensures.answers c.line_of.ensures
 
-pub returns-in-Ok-force-clause-stores : goal.returns-in-Ok-force-clause-stores
-returns-in-Ok-force-clause-stores g c h calm v mounted first =
+pub returns-in-Err-clause-works : goal.returns-in-Err-clause-works
+returns-in-Err-clause-works g c h calm fresh v windows history f ends mounted =
+    let M = g.M.Machine in
+    let moments = c.put.ensures.any_moment h calm v windows history f ends mounted in
+    let on = c.in-Err.ensures.stands h calm v windows history f ends mounted in
+    refused_works M.moment M.left_since c.args.volume v c.args.name.now c.args.bytes.now windows history f c.args.m.now c.put.new.m (M.now c.args.m.now) (M.now c.put.new.m) moments
+    (g.met.M.Machine.counts_now c.put.new.m (M.moment c.args.m.now) h moments.later) c.in-Err.why on.after c.line_of.result fresh on.says c.line_of.ensures
+
+pub returns-in-Ok-force-clause-works : goal.returns-in-Ok-force-clause-works
+returns-in-Ok-force-clause-works g c h calm fresh v windows history f ends mounted =
     let M = g.M.Machine in
     let h1 = c.force.ensures.trust.honest h in
-    let on = c.in-Ok.ensures.stands h1 calm v v.files mounted in
-    let still = same_calm (M.now c.put.new.m).windows (M.now c.args.m.now).windows (sym (c.put.ensures.windows h1)) calm in
-    version_stored c.in-Ok.key (1 + c.div_ceil.result) v (sectors_for (length c.args.bytes.now)) (put_outcome v c.args.name.now c.args.bytes.now None) c.put.new.self c.force.new.self
-    (M.now c.put.new.m).image (M.now c.force.new.m).image (keeps v c.args.name.now c.args.bytes.now None) on (ap (λ (n : ℕ). 1 + n) c.div_ceil.ensures) (c.in-Ok-force.ensures.done h still on.after v.files on.mounted)
+    let old = M.now c.args.m.now in
+    let mid = M.now c.put.new.m in
+    let change : List Change = Change.Put c.args.name.now None c.args.bytes.now ∷ [] in
+    let moments = c.put.ensures.any_moment h1 calm v windows history f ends mounted in
+    let on = c.in-Ok.ensures.stands h1 calm v windows history f ends mounted in
+    let same = c.put.ensures.windows h1 in
+    let still = same_calm mid.windows old.windows (sym same) calm in
+    let within = subst (λ (w : Windows). EndIn w windows) (sym same) ends in
+    let forces = subst (λ (l : Layout). LeavesOnly M.moment M.left_since c.put.new.m c.force.new.m (Forces l windows (history ++ change) f mid)) c.put.ensures.layout
+    (c.force.ensures.any_moment h still on.after windows (history ++ change) f within on.mounted) in
+    let layout = ap (λ (s : State). s.layout) c.in-Ok-force.ensures.state ∙ c.put.ensures.layout in
+    let count = (keeps v c.args.name.now c.args.bytes.now None).count c.in-Ok.key on.says.0.0 on.says.0.1 in
+    made_works M.moment M.left_since c.args.volume v c.args.name.now c.args.bytes.now windows history f c.args.m.now c.put.new.m old mid moments
+    (g.met.M.Machine.counts_now c.put.new.m (M.moment c.args.m.now) h1 moments.later) c.in-Ok.key on.says.0.0 on.says.0.1 c.force.new.m (M.now c.force.new.m) forces (1 + c.div_ceil.result) c.force.new.self _
+    (count ∙ sym (ap (λ (n : ℕ). 1 + n) c.div_ceil.ensures)) mounted layout (c.in-Ok-force.ensures.done h still on.after windows (history ++ change) f within on.mounted) (c.force.ensures.windows h) (c.force.ensures.quiet h)
 
-pub returns-in-Err-clause-mounted : goal.returns-in-Err-clause-mounted
-returns-in-Err-clause-mounted g c first =
-    put_refused c.in-Err.why c.line_of.result c.args.volume c.put.new.self c.args.name.now c.args.bytes.now first c.in-Err.ensures.answers c.line_of.ensures
+pub returns-clause-works : goal.returns-clause-works
+returns-clause-works g c h calm fresh v windows history f ends mounted =
+    let M = g.M.Machine in
+    let h1 = c.force.ensures.trust.honest h in
+    let old = M.now c.args.m.now in
+    let mid = M.now c.put.new.m in
+    let change : List Change = Change.Put c.args.name.now None c.args.bytes.now ∷ [] in
+    let moments = c.put.ensures.any_moment h1 calm v windows history f ends mounted in
+    let on = c.in-Ok.ensures.stands h1 calm v windows history f ends mounted in
+    let same = c.put.ensures.windows h1 in
+    let still = same_calm mid.windows old.windows (sym same) calm in
+    let within = subst (λ (w : Windows). EndIn w windows) (sym same) ends in
+    let forces = subst (λ (l : Layout). LeavesOnly M.moment M.left_since c.put.new.m c.force.new.m (Forces l windows (history ++ change) f mid)) c.put.ensures.layout
+    (c.force.ensures.any_moment h still on.after windows (history ++ change) f within on.mounted) in
+    let left = subst (λ (l : Layout). Forces l windows (history ++ change) f mid (M.now c.force.new.m)) c.put.ensures.layout (c.in-Err-force.ensures.failed h still on.after windows (history ++ change) f within on.mounted) in
+    unforced_works M.moment M.left_since c.args.volume v c.args.name.now c.args.bytes.now windows history f c.args.m.now c.put.new.m old mid moments
+    (g.met.M.Machine.counts_now c.put.new.m (M.moment c.args.m.now) h1 moments.later) c.in-Ok.key on.says.0.0 on.says.0.1 c.force.new.m (M.now c.force.new.m) forces c.in-Err-force.why (M.report c.force.new.m).fault_place
+    c.line_of-in-Err-force.result c.in-Err-force.ensures.fault.told c.line_of-in-Err-force.ensures left

@@ -1,17 +1,23 @@
 use Rattle.std.proofs.Common.{◌∙◌, subst, sym}
+use Rattle.fsd_volume.specs.Mount.{IsMountable}
 use Rattle.cfs_run.specs.declared.request.Request.{Request}
 use Rattle.cfs_run.specs.declared.answer.Answer.TheVariants as Said
-use Rattle.cfs_run.specs.Ends.{DamagedAnswer, IfMounts, Leaves, PutsFor, WhereMounted}
-use Rattle.fsd_volume.specs.Mount.{IsMountable}
+use Rattle.sector_disk.specs.Machine.{LeavesOnly}
+use Rattle.cfs_run.specs.Ends.{DamagedAnswer, WhereMounted}
+use Rattle.cfs_run.specs.Mounting.{IfMounts}
+use Rattle.cfs_run.specs.Working.{Carried}
 use Rattle.cfs_run.proofs.run.carry_out.Goals as goal
 
-pub returns-in-Get-clause-leaves : goal.returns-in-Get-clause-leaves
-returns-in-Get-clause-leaves g c h =
-    subst (λ (request : Request). Leaves request c.get.result (g.M.Machine.now c.args.m.now) (g.M.Machine.now c.get.new.m)) (sym c.in-Get.is ∙ c.read_words.ensures) (c.get.ensures.leaves h)
+pub returns-in-Get-clause-carries : goal.returns-in-Get-clause-carries
+returns-in-Get-clause-carries g c h =
+    let M = g.M.Machine in
+    subst (λ (request : Request). Carried request (M.ledger c.args.m.now).input (LeavesOnly M.moment M.left_since c.args.m.now c.get.new.m) (M.now c.args.m.now) (M.now c.get.new.m) c.get.result) (sym c.in-Get.is ∙ c.read_words.ensures) (c.get.ensures.carries h)
 
-pub returns-in-Put-clause-puts : goal.returns-in-Put-clause-puts
-returns-in-Put-clause-puts g c h =
-    subst (λ (request : Request). PutsFor request (Said.Line c.put.result) (g.M.Machine.ledger c.args.m.now).input (g.M.Machine.now c.args.m.now) (g.M.Machine.now c.put.new.m)) (sym c.in-Put.is ∙ c.read_words.ensures) (c.put.ensures.leaves h)
+pub returns-in-Put-clause-carries : goal.returns-in-Put-clause-carries
+returns-in-Put-clause-carries g c h =
+    let M = g.M.Machine in
+    subst (λ (request : Request). Carried request (M.ledger c.args.m.now).input (LeavesOnly M.moment M.left_since c.args.m.now c.put.new.m) (M.now c.args.m.now) (M.now c.put.new.m) (Said.Line c.put.result)) (sym c.in-Put.is ∙ c.read_words.ensures)
+    (c.put.ensures.carries h)
 
 pub returns-in-Get-clause-accepted : goal.returns-in-Get-clause-accepted
 returns-in-Get-clause-accepted g c h calm after =
