@@ -1,6 +1,6 @@
 -- What a table tells: the entries of the leaves that paths from page 0 reach.
-use Rattle.std.specs.Prelude.{ℕ, zero, suc, ◌+◌, Bool, true, not, ◌&&◌, ◌||◌, List, [], ◌∷◌, length, Option, Some, None, nat_le, ◌==◌, if◌then◌else◌, count_by}
-use Rattle.std.specs.List.{list_all, flat_map}
+use Rattle.std.specs.Prelude.{◌≡◌, ℕ, zero, suc, ◌+◌, Bool, true, false, not, ◌&&◌, ◌||◌, List, [], ◌∷◌, length, Option, Some, None, nat_le, ◌==◌, if◌then◌else◌, count_by}
+use Rattle.std.specs.List.{list_all, flat_map, Contains}
 use Rattle.fsd_bytes.specs.declared.key.Key.{Key}
 use Rattle.fsd_formats.specs.declared.entry.Entry.{Entry}
 use Rattle.fsd_formats.specs.NamePage.{Content, kind_of}
@@ -57,6 +57,13 @@ same_kind all v = list_all (λ w. not (w.depth == v.depth) || kinds_agree w.cont
 
 abbrev pub in_shape : List Visit → Visit → Bool
 in_shape all v = visit_fits v && alone all v && same_kind all v
+
+-- the page is reached so that it breaks the order of the keys or the shape of the table
+pub record BreaksTable (pages : List (List ℕ)) (page : ℕ) : Type 0 where
+  pub visit : Visit
+  pub reached : Contains (visits pages) visit
+  pub page_is : visit.page ≡ page
+  pub broken : in_shape (visits pages) visit ≡ false
 
 -- ---- what a table tells
 

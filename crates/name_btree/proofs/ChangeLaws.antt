@@ -17,18 +17,21 @@ use Rattle.fsd_table.proofs.BoundLaws.{Ascend, all_weaker}
 use Rattle.fsd_table.proofs.PageLaws.{at_is_page}
 use Rattle.name_page.proofs.LeafLaws.{between, is_between_from}
 use Rattle.name_page.specs.Pages.{Step, is_spare, with_one}
-use Rattle.name_btree.specs.declared.cut.Cut.TheVariants.{UpTo}
-use Rattle.name_btree.specs.Cut.{is_before}
-use Rattle.name_btree.specs.Change.{is_on, without, with_entry, Stay, AtLow, AtHigh, IsLeafAt, HasEdit, IsEdited, IsRefused}
-use Rattle.name_btree.specs.Descent.{IsLesser}
-use Rattle.name_btree.specs.Replace.{put, IsWritten}
+use Rattle.name_node.specs.declared.cut.Cut.TheVariants.{UpTo}
+use Rattle.name_node.specs.Cut.{is_before}
+use Rattle.name_node.specs.Edits.{is_on, without, with_entry}
+use Rattle.name_node.specs.Cut.{AtLow, AtHigh}
+use Rattle.name_btree.specs.Change.{Stay, IsLeafAt, HasEdit, IsEdited, IsRefused}
+use Rattle.name_node.specs.Cut.{IsLesser}
+use Rattle.name_node.specs.Edits.{put}
+use Rattle.name_btree.specs.Replace.{IsWritten}
 use Rattle.name_btree.proofs.FindLaws.{low_height}
-use Rattle.name_btree.specs.declared.entries.Side.TheVariants.{Lesser, Greater}
-use Rattle.name_btree.proofs.CutLaws.{greater}
-use Rattle.name_btree.proofs.PutLaws.{Others, lt_unequal, gt_unequal, put_keys, put_beside}
+use Rattle.name_node.specs.declared.entries.Side.TheVariants.{Lesser, Greater}
+use Rattle.name_node.proofs.CutLaws.{greater}
+use Rattle.name_node.proofs.PutLaws.{Others, lt_unequal, gt_unequal, put_keys, put_beside}
 use Rattle.name_btree.proofs.ReachLaws.{equal, same_itself}
 use Rattle.name_btree.proofs.ReplaceLaws.{LeafParts, leaf_parts}
-use Rattle.name_btree.proofs.SideLaws.{without_ascends, with_ascends, without_part, with_part, without_all, with_all, without_fits, with_fits, all_lesser, all_greater, without_used}
+use Rattle.name_node.proofs.SideLaws.{without_ascends, with_ascends, without_part, with_part, without_all, with_all, without_fits, with_fits, all_lesser, all_greater, without_used}
 
 -- ---- the same pages are reached
 

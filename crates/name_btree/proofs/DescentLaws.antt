@@ -1,7 +1,7 @@
 -- The way down to a leaf.
 use Rattle.std.proofs.Common.{◌≡◌, ◌⊎◌, inl, inr, ℕ, zero, suc, ◌+◌, ◌≤◌, ◌<◌, Bool, true, false, cond, not, ◌&&◌, List, [], ◌∷◌, ◌++◌, length, Option, Some, None, refl, sym, ap, subst, ◌∙◌, arith, append_assoc}
 use Rattle.std.specs.Prelude.{slice_get, drop}
-use Rattle.name_btree.proofs.ListLaws.{drop_at}
+use Rattle.name_node.proofs.ListLaws.{drop_at}
 use Rattle.std.specs.List.{flat_map, AllByRecursion}
 use Rattle.std.proofs.lemmas.Bool.{and_parts}
 use Rattle.std.proofs.lemmas.List.{append-nil}
@@ -21,19 +21,9 @@ use Rattle.name_btree.specs.declared.descent.Way.{Way}
 use Rattle.name_btree.specs.declared.fault.TreeFault.{TreeFault}
 use Rattle.name_btree.specs.declared.fault.TreeFault.TheVariants.{Pages, Broken}
 use Rattle.name_btree.specs.Fault.{HasCause, IsMisfit, BreaksSubtree}
-use Rattle.name_btree.specs.Descent.{end_of, way_to, IsLesser, IsAbove, IsNext, IsPrevious, IsAt}
-
--- with a key all lesser ones stand before a place
-abbrev pub IsMonotone : (Key → Bool) → Type 0
-IsMonotone before = (a b : Key) → not (key_lt b a) ≡ true → before b ≡ true → before a ≡ true
-
--- a key that stands behind a place has all greater ones behind it
-pub behind : (before : Key → Bool) → IsMonotone before → (k key : Key) → before k ≡ false → not (key_lt key k) ≡ true → before key ≡ false
-behind before mono k key e le = by (before key) refl
-  where
-    by : (b : Bool) → before key ≡ b → b ≡ false
-    by false is = refl
-    by true is = absurd (let no : before k ≡ true = mono k key le is in cc)
+use Rattle.name_node.specs.Cut.{IsLesser}
+use Rattle.name_node.proofs.CutLaws.{IsMonotone, behind}
+use Rattle.name_btree.specs.Descent.{end_of, way_to, IsAbove, IsNext, IsPrevious, IsAt}
 
 -- ---- one page
 

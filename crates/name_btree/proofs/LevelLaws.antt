@@ -14,13 +14,13 @@ use Rattle.fsd_table.specs.Pages.{children_of}
 use Rattle.fsd_table.specs.Tree.{entries_below, pages_below, IsInterior, IsSubtree}
 use Rattle.fsd_table.proofs.BoundLaws.{all_append, all_weaker, Fits, entries_between}
 use Rattle.name_btree.specs.Change.{Within, Stay, Changed}
-use Rattle.name_btree.specs.Cut.{is_before}
-use Rattle.name_btree.specs.Descent.{IsLesser}
+use Rattle.name_node.specs.Cut.{is_before}
+use Rattle.name_node.specs.Cut.{IsLesser}
 use Rattle.name_btree.specs.Level.{children_before, child_behind, HasOthers, AreChanged, EndsBefore, BeginsBehind, Disjoint, ChangesGoUp, ChildrenBeside, ChildrenBetween}
-use Rattle.name_btree.proofs.CutLaws.{cuts_monotone}
-use Rattle.name_btree.proofs.DescentLaws.{IsMonotone, behind}
+use Rattle.name_node.proofs.CutLaws.{cuts_monotone}
+use Rattle.name_node.proofs.CutLaws.{IsMonotone, behind}
 use Rattle.name_btree.proofs.KeepLaws.{Keep, kept_all, disjoint_back, disjoint_append, disjoint_less, apart_from}
-use Rattle.name_btree.proofs.PutLaws.{all_split}
+use Rattle.name_node.proofs.PutLaws.{all_split}
 use Rattle.name_btree.proofs.ReachLaws.{apart_parts, in_left, in_right}
 
 -- ---- entries beside those below the child

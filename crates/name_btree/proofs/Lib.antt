@@ -1,30 +1,17 @@
 mod ChangeLaws
-pub mod CountLaws
-pub mod CutLaws
 pub mod DescentLaws
+mod DraftLaws
 pub mod FindLaws
 pub mod HighestLaws
+mod KeepLaws
 pub mod LastLaws
-pub mod ListLaws
+mod LevelLaws
 pub mod MarkLaws
 pub mod NextLaws
-pub mod NodeLaws
+mod PathLaws
+mod ReachLaws
+mod ReplaceLaws
 pub mod ResultLaws
+mod SetLaws
 pub mod TopLaws
 pub mod WalkLaws
-mod CutPageLaws
-mod DraftLaws
-mod FitsLaws
-mod KeepLaws
-mod LevelLaws
-mod ParentLaws
-mod PartLaws
-mod PathLaws
-mod PutLaws
-mod ReachLaws
-mod RegroupLaws
-mod ReplaceLaws
-mod RootLaws
-mod SetLaws
-mod SideLaws
-mod WaysLaws

@@ -19,13 +19,14 @@ use Rattle.fsd_table.proofs.BoundLaws.{ascend_tail}
 use Rattle.fsd_table.proofs.KeyLaws.{lt_is_le}
 use Rattle.fsd_table.proofs.PageLaws.{at_is_page, interior_ascends}
 use Rattle.name_btree.specs.declared.descent.Way.{Way}
-use Rattle.name_btree.specs.Change.{Within, Stay, Changed, AtLow, AtHigh, IsAround, LeafAt, IsLeafAt}
+use Rattle.name_node.specs.Cut.{AtLow, AtHigh}
+use Rattle.name_btree.specs.Change.{Within, Stay, Changed, IsAround, LeafAt, IsLeafAt}
 use Rattle.name_btree.specs.Descent.{way_to, end_of}
-use Rattle.name_btree.proofs.DescentLaws.{IsMonotone, behind}
+use Rattle.name_node.proofs.CutLaws.{IsMonotone, behind}
 use Rattle.name_btree.specs.Level.{HasOthers, AreChanged, EndsBefore, BeginsBehind, Disjoint}
 use Rattle.name_btree.proofs.KeepLaws.{disjoint_append, disjoint_less, false_by}
 use Rattle.name_btree.proofs.LevelLaws.{parted, goes_up}
-use Rattle.name_btree.proofs.PutLaws.{all_split}
+use Rattle.name_node.proofs.PutLaws.{all_split}
 use Rattle.name_btree.proofs.ReachLaws.{apart_parts, in_left, in_right, same_itself}
 
 -- ---- the children beside the one at a place

@@ -20,7 +20,7 @@ use Rattle.name_btree.specs.declared.fault.TreeFault.TheVariants.{Pages, Broken}
 use Rattle.name_btree.specs.Descent.{end_of}
 use Rattle.name_btree.specs.Fault.{HasCause, IsMisfit}
 use Rattle.name_btree.specs.Walk.{is_marked, can_mark, marked, IsWalked, AreWalked, BreaksWalk, BreakWalk}
-use Rattle.name_btree.proofs.ListLaws.{drop_at}
+use Rattle.name_node.proofs.ListLaws.{children_count, drop_at}
 use Rattle.name_btree.proofs.DescentLaws.{misfit}
 use Rattle.name_btree.proofs.MarkLaws.{marked_append, can_append}
 
@@ -49,10 +49,6 @@ pub child_later : (first : ℕ) (low high : Option Key) (xs : List Separator) (i
 child_later first low high xs i k s is e =
     let P : ℕ → Type 0 = λ (n : ℕ). slice_get (children first low high xs) n ≡ Some (record { page = s.child; low = Some s.key; high = end_of high (drop n xs) }) in
     subst P is (child_behind first low high xs k s e)
-
-pub children_count : (first : ℕ) (low high : Option Key) (xs : List Separator) → length (children first low high xs) ≡ suc (length xs)
-children_count first low high [] = refl
-children_count first low high (s ∷ xs) = ap suc (children_count s.child (Some s.key) high xs)
 
 pub all_at : (P : Child → Type 0) (cs : List Child) (i : ℕ) (d : Child) → slice_get cs i ≡ Some d → AllByRecursion P cs → P d
 all_at P [] i d e a = absurd cc

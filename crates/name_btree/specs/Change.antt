@@ -1,10 +1,8 @@
 -- Changes of leaves, and of the trees that they stand in.
-use Rattle.std.specs.Prelude.{◌≡◌, ◌<◌, ℕ, Bool, true, false, List, [], ◌∷◌, ◌++◌, length, filter, Option, Some, None, slice_set, ⊤}
+use Rattle.std.specs.Prelude.{◌≡◌, ◌<◌, ℕ, Bool, true, false, List, [], ◌∷◌, ◌++◌, length, Option, Some, None, slice_set, ⊤}
 use Rattle.std.specs.List.{flat_map, AllByRecursion}
-use Rattle.std.specs.Ordering.{is_gt}
 use Rattle.run_table.specs.Space.{contains, all_differ}
 use Rattle.fsd_bytes.specs.declared.key.Key.{Key}
-use Rattle.fsd_bytes.specs.Keys.{key_cmp, key_lt}
 use Rattle.fsd_bytes.specs.Names.{is_between}
 use Rattle.fsd_formats.specs.declared.entry.Entry.{Entry}
 use Rattle.fsd_formats.specs.NamePage.{Leaf, entry_bytes, least_used, room}
@@ -13,29 +11,8 @@ use Rattle.fsd_table.specs.Pages.{page_at, keys_fit, entry_keys}
 use Rattle.fsd_table.specs.Table.{max_height, top}
 use Rattle.fsd_table.specs.Tree.{entries_below, pages_below, table_of, pages_of, IsSubtree, IsTree}
 use Rattle.name_page.specs.Pages.{Step, is_spare, with_one}
-use Rattle.name_btree.specs.declared.entries.Side.{Side}
-use Rattle.name_btree.specs.declared.entries.Side.TheVariants.{Lesser, Greater}
-use Rattle.name_btree.specs.declared.cut.Cut.TheVariants.{UpTo}
-use Rattle.name_btree.specs.Cut.{is_before}
-use Rattle.name_btree.specs.Descent.{IsLesser}
-
--- ---- tables
-
-abbrev pub is_on : Side → Key → Entry → Bool
-is_on Lesser key e = key_lt e.key key
-is_on Greater key e = is_gt (key_cmp e.key key)
-
--- the entries on one side of a key
-abbrev pub beside : Side → Key → List Entry → List Entry
-beside side key entries = filter (is_on side key) entries
-
--- a table without a key
-abbrev pub without : Key → List Entry → List Entry
-without key table = beside Lesser key table ++ beside Greater key table
-
--- a table with an entry, in place of one with its key
-abbrev pub with_entry : Entry → List Entry → List Entry
-with_entry entry table = beside Lesser entry.key table ++ entry ∷ beside Greater entry.key table
+use Rattle.name_node.specs.declared.cut.Cut.TheVariants.{UpTo}
+use Rattle.name_node.specs.Cut.{is_before, IsLesser, AtLow, AtHigh}
 
 -- ---- pages
 
@@ -60,15 +37,7 @@ pub record Changed (before : Key → Bool) (pages after : List (List ℕ)) (fres
   pub lesser : AllByRecursion (IsLesser before) left
   pub greater : AllByRecursion (λ e. before e.key ≡ false) right
 
--- the place stands between two keys
-abbrev pub AtLow : (Key → Bool) → Option Key → Type 0
-AtLow before None = ⊤
-AtLow before (Some k) = before k ≡ true
-
-abbrev pub AtHigh : (Key → Bool) → Option Key → Type 0
-AtHigh before None = ⊤
-AtHigh before (Some k) = before k ≡ false
-
+-- the place stands between the child's keys
 abbrev pub IsAround : (Key → Bool) → Child → Type 0
 IsAround before c = AtLow before c.low × AtHigh before c.high
 

@@ -2,7 +2,7 @@
 use Rattle.std.specs.Prelude.{◌≡◌, ℕ, ◌<◌, Bool, true, false, List, [], ◌∷◌, ◌++◌, Option, Some, None, if◌then◌else◌}
 use Rattle.std.specs.List.{AllByRecursion}
 use Rattle.fsd_bytes.specs.declared.key.Key.{Key}
-use Rattle.fsd_bytes.specs.Keys.{key_lt}
+use Rattle.name_node.specs.Cut.{IsLesser}
 use Rattle.fsd_formats.specs.declared.entry.Entry.{Entry}
 use Rattle.fsd_formats.specs.declared.page.Separator.{Separator}
 use Rattle.fsd_formats.specs.NamePage.{Interior}
@@ -25,10 +25,6 @@ way_to before previous next first low high (s ∷ separators) =
     let c : Child = record { page = first; low = low; high = Some s.key } in
     if before s.key then way_to before (Some c) next s.child (Some s.key) high separators
     else record { child = c; previous = previous; next = Some (record { page = s.child; low = Some s.key; high = end_of high separators }) }
-
--- a key that stands before the place is greater
-abbrev pub IsLesser : (Key → Bool) → Entry → Type 0
-IsLesser before e = (k : Key) × (before k ≡ true) × (key_lt e.key k ≡ true)
 
 -- an interior page, so that other pages stand below it
 abbrev pub IsAbove : List (List ℕ) → Child → Type 0

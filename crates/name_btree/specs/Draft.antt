@@ -1,10 +1,12 @@
 -- Pages that are to be written, over those that there are.
-use Rattle.std.specs.Prelude.{◌≡◌, ℕ, ◌+◌, ◌==◌, false, List, [], ◌∷◌, length, Option, Some, None, IsSome, slice_set, if◌then◌else◌}
+use Rattle.std.specs.Prelude.{◌≡◌, ℕ, ◌+◌, ◌==◌, ◌&&◌, not, true, false, List, [], ◌∷◌, length, Option, Some, None, IsSome, slice_set, if◌then◌else◌}
 use Rattle.std.specs.List.{AllByRecursion}
 use Rattle.std.specs.Option.{option_or}
+use Rattle.run_table.specs.Space.{contains, all_differ}
 use Rattle.fsd_formats.specs.NamePage.{Content, read_page}
 use Rattle.fsd_table.specs.Pages.{page_at}
-use Rattle.name_page.specs.Pages.{Step, is_spare, with_page, with_spare, IsReached}
+use Rattle.name_page.specs.Pages.{Step, is_spare, with_one, with_page, with_spare, IsReached}
+use Rattle.name_btree.specs.declared.draft.Draft.{Draft}
 use Rattle.name_btree.specs.declared.draft.Sheet.{Sheet}
 
 -- ---- what is written
@@ -44,6 +46,26 @@ pub record MayGo (step : Step) (page : ℕ) : Type 0 where
   pub reached : IsReached step page
   pub used : is_spare step.spares page ≡ false
   pub inner : page ≡ 0 → ⊥
+
+-- what is to be written may be, and what is to be spare too, each page once
+pub record IsDraft (step : Step) (d : Draft) : Type 0 where
+  pub sheets : AreSheets step d.sheets.items
+  pub freed : AllByRecursion (MayGo step) d.freed.items
+  pub apart : all_differ d.freed.items ≡ true
+
+-- the pages as they are to be
+abbrev pub images_of : Draft → Step → List (List ℕ)
+images_of d step = drafted d.sheets.items step.images
+
+-- one page more is to be spare, but page 0 never is
+abbrev pub with_freed : ℕ → List ℕ → List ℕ
+with_freed page pages = if page == 0 then pages else with_one pages page
+
+-- these pages were spare, and were taken
+pub record IsTaken (old new : Step) (came : List ℕ) : Type 0 where
+  pub spare : AllByRecursion (λ page. is_spare old.spares page ≡ true) came
+  pub apart : all_differ came ≡ true
+  pub spares : (page : ℕ) → is_spare new.spares page ≡ (is_spare old.spares page && not (contains came page))
 
 -- one sheet more: of the drafted pages this one has other content
 pub record IsDrafted (step : Step) (old new : List Sheet) (page : ℕ) (x : Content) : Type 0 where

@@ -9,10 +9,11 @@ use Rattle.fsd_formats.specs.NamePage.{Interior}
 use Rattle.fsd_table.specs.declared.child.Child.{Child}
 use Rattle.fsd_table.specs.Pages.{page_at, children, keys_fit, separator_keys}
 use Rattle.fsd_table.specs.Tree.{entries_below, pages_below, IsSubtree}
-use Rattle.name_btree.specs.Cut.{is_before}
-use Rattle.name_btree.specs.declared.cut.Cut.{Cut}
+use Rattle.name_node.specs.Cut.{is_before}
+use Rattle.name_node.specs.declared.cut.Cut.{Cut}
 use Rattle.name_btree.specs.Change.{Within, Stay, Changed}
-use Rattle.name_btree.specs.Descent.{end_of, IsLesser}
+use Rattle.name_node.specs.Cut.{IsLesser}
+use Rattle.name_btree.specs.Descent.{end_of}
 
 -- ---- children by their separators
 

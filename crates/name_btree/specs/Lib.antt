@@ -1,15 +1,8 @@
 pub mod Change
-pub mod Cut
 pub mod Descent
 pub mod Draft
 pub mod Fault
 pub mod Level
-pub mod Lookups
-pub mod Node
-pub mod Parents
-pub mod Parting
-pub mod Parts
-pub mod Regroup
 pub mod Replace
-pub mod Root
+pub mod Still
 pub mod Walk

@@ -1,15 +1,10 @@
 -- One entry in place of another with the same key.
-use Rattle.std.specs.Prelude.{◌≡◌, ℕ, List, length, Some, if◌then◌else◌}
-use Rattle.fsd_bytes.specs.Keys.{same_key}
+use Rattle.std.specs.Prelude.{◌≡◌, ℕ, List, length, Some}
 use Rattle.fsd_formats.specs.declared.entry.Entry.{Entry}
 use Rattle.fsd_formats.specs.NamePage.{Content, entry_bytes}
 use Rattle.fsd_table.specs.Pages.{page_at}
 use Rattle.name_page.specs.Pages.{Step, with_page}
-use Rattle.name_btree.specs.Lookups.{entry_with}
-
--- the entry, in place of one with its key
-abbrev pub put : Entry → Entry → Entry
-put entry old = if same_key old.key entry.key then entry else old
+use Rattle.name_node.specs.Lookups.{entry_with}
 
 -- an entry with the key is there, and takes as many bytes
 abbrev pub HasAsLong : Entry → List Entry → Type 0

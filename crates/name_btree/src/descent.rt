@@ -3,18 +3,17 @@ ghost use Rattle.std.specs.Prelude.{◌≡◌, ◌+◌, ◌-◌, ◌<◌, ◌≤
 ghost use Rattle.fsd_formats.specs.NamePage.{Leaf};
 ghost use Rattle.fsd_table.specs.Pages.{page_at};
 ghost use Rattle.name_btree.specs.Change.{IsLeafAt};
-ghost use Rattle.name_btree.specs.Cut.{is_before};
+ghost use Rattle.name_node.specs.Cut.{is_before};
 ghost use Rattle.name_btree.specs.Descent.{end_of, way_to, IsPlace};
 ghost use Rattle.name_btree.specs.Fault.{HasCause, BreaksSubtree};
 ghost use Rattle.name_page.specs.Pages.{reaches, is_spare, IsReached};
-ghost use Rattle.name_btree.specs.Node.{IsStill};
+ghost use Rattle.name_btree.specs.Still.{IsStill};
 
 use crate::child::child_node;
-use crate::cut::Cut;
 use crate::fault::TreeFault;
-use crate::node::{Entries, Node, Ways};
 use fsd_bytes::Key;
 use fsd_table::Child;
+use name_node::{Cut, Entries, Node, Ways};
 use name_page::Pages;
 
 // A child, and the nearest ones on each side of it.

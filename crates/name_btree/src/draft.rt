@@ -6,18 +6,18 @@ ghost use Rattle.run_table.specs.Space.{all_differ};
 ghost use Rattle.fsd_formats.specs.NamePage.{Leaf, Interior, is_page, FitsEntry, FitsSeparator};
 ghost use Rattle.fsd_table.specs.Pages.{page_at, content_fits};
 ghost use Rattle.name_btree.specs.declared.draft.Sheet.{Sheet};
-ghost use Rattle.name_btree.specs.Draft.{drafted, committed, freed, last_sheet, AreSheets, MayGo, IsDrafted};
+ghost use Rattle.name_btree.specs.Draft.{IsDraft, with_freed, drafted, committed, freed, last_sheet, AreSheets, MayGo, IsDrafted};
 ghost use Rattle.name_btree.specs.Fault.{HasCause, IsMisfit, Never};
-ghost use Rattle.name_btree.specs.Node.{content_of, IsStill};
+ghost use Rattle.name_btree.specs.Still.{IsStill};
+ghost use Rattle.name_node.specs.Node.{content_of};
 ghost use Rattle.name_page.specs.Pages.{reaches, changes, is_spare, with_page, IsReached, MayChange};
 
-use crate::child::node_fits;
+use crate::child::node_at;
 use crate::fault::TreeFault;
-use crate::node::{Node, node_at, node_in};
-use crate::writing::{write_entries, write_ways};
 use arrayvec::ArrayVec;
 use fsd_formats::{Entry, Separator};
 use fsd_table::Child;
+use name_node::{Node, node_fits, node_in, write_entries, write_ways};
 use name_page::Pages;
 
 /// What a page is to have.
@@ -200,13 +200,19 @@ impl Draft {
         self.sheets.push(Sheet { page, image });
     }
 
-    /// The page is to be spare.
-    pub(crate) fn free(&mut self, page: u32)
-        requires { length self.old.freed.items < 20 }
+    /// The page is to be spare, once. Page 0 never is.
+    pub(crate) fn free<T: Pages>(&mut self, t: &T, page: u32)
+        requires room { length self.old.freed.items < 20 }
+        requires draft { IsDraft (T.step t.now) self.old }
+        requires reached { IsReached (T.step t.now) page }
+        requires used { is_spare (T.step t.now).spares page ≡ false }
+        ensures draft { IsDraft (T.step t.now) self.new }
         ensures sheets { self.new.sheets.items ≡ self.old.sheets.items }
-        ensures freed { self.new.freed.items ≡ self.old.freed.items ++ page ∷ [] }
+        ensures freed { self.new.freed.items ≡ with_freed page self.old.freed.items }
     {
-        self.freed.push(page);
+        if page != 0 && !self.freed.as_slice().contains(&page) {
+            self.freed.push(page);
+        }
     }
 
     /// Writes all that is to be written, and then makes pages spare.

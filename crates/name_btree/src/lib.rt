@@ -6,28 +6,23 @@ ghost use Rattle.fsd_bytes.specs.Keys.{is_key};
 ghost use Rattle.fsd_formats.specs.NamePage.{is_entry, FitsEntry};
 ghost use Rattle.name_page.specs.Pages.{reaches};
 
-mod changing;
 mod child;
-mod cut;
 mod descent;
 mod draft;
-mod entries;
 mod fault;
-mod laws;
+mod growing;
+mod inserting;
 mod lookup;
-mod node;
-mod parting;
+mod removing;
 mod replacing;
+mod trimming;
 mod walking;
-mod ways;
 mod writing;
 
-pub use changing::{put_in_leaf, remove_from_leaf};
 pub use fault::TreeFault;
-pub use laws::{
-    changes_go_up, pages_part_and_join, pages_regroup, parents_follow, trees_change_and_grow,
-};
+pub use inserting::insert;
 pub use lookup::{find, highest, next_after};
+pub use removing::remove;
 pub use replacing::replace_same_size;
 pub use walking::walk;
 
@@ -196,45 +191,6 @@ mod tests {
             let found = find(&mut t, &entry.key)?;
             assert_eq!(rt; found.map(|e| e.keep), if stands { Some(7) } else { None });
         }
-        Ok(())
-    }
-
-    // A table of one page that has no entry.
-    fn one_page(alloc: Global) -> Result<VecPages, AllocError> {
-        let mut root = [0; 512];
-        write_leaf(0, &[], &mut root);
-        let pages = vec![in alloc; root; 1]?;
-        Ok(VecPages::new(pages, vec![in alloc; false; 1]?, 100))
-    }
-
-    // An entry with a name of 40 bytes and one run takes 66 bytes: seven of them have room in a page.
-    #[test]
-    fn seven_long_names_have_room(rt: HostRuntime) -> Result<(), Fail> {
-        let mut t = one_page(rt.alloc())?;
-        for (last, stands) in [
-            (b'd', true),
-            (b'a', true),
-            (b'g', true),
-            (b'b', true),
-            (b'f', true),
-            (b'c', true),
-            (b'e', true),
-            (b'h', false),
-            (b'a', true),
-        ] {
-            let Some(entry) = entry(key(last, 1), 2) else {
-                return Ok(());
-            };
-            t.rest();
-            assert_eq!(rt; put_in_leaf(&mut t, &entry)?, stands);
-        }
-        for last in [b'c', b'z'] {
-            t.rest();
-            assert!(rt; remove_from_leaf(&mut t, &key(last, 1))?);
-        }
-        t.rest();
-        let found = next_after(&mut t, Some(&key(b'b', 1)))?;
-        assert_eq!(rt; found.map(|e| e.key), Some(key(b'd', 1)));
         Ok(())
     }
 

@@ -3,20 +3,19 @@ ghost use Rattle.std.specs.Prelude.{◌≡◌, ◌+◌, ◌<◌, ◌≤◌, ℕ,
 ghost use Rattle.std.specs.Option.{option_copied};
 ghost use Rattle.fsd_table.specs.Table.{top};
 ghost use Rattle.fsd_table.specs.Tree.{IsTree, table_of};
-ghost use Rattle.name_btree.specs.Cut.{after_cut, is_before};
+ghost use Rattle.name_node.specs.Cut.{after_cut, is_before};
 ghost use Rattle.name_btree.specs.Descent.{BeginsWith, EndsWith};
 ghost use Rattle.name_btree.specs.Fault.{HasCause, BreaksInner, BreaksTree};
-ghost use Rattle.name_btree.specs.Lookups.{entry_with, entry_after, highest_of, last_that, same_name};
-ghost use Rattle.name_btree.specs.Node.{IsStill};
+ghost use Rattle.name_node.specs.Lookups.{entry_with, entry_after, highest_of, last_that, same_name};
+ghost use Rattle.name_btree.specs.Still.{IsStill};
 ghost use Rattle.name_page.specs.Pages.{reaches};
 
-use crate::cut::Cut;
 use crate::descent::leaf_below;
 use crate::fault::TreeFault;
-use crate::node::Entries;
 use fsd_bytes::{FileName, Key};
 use fsd_formats::Entry;
 use fsd_table::Child;
+use name_node::{Cut, Entries};
 use name_page::Pages;
 
 // Page 0, below which all pages stand.

@@ -4,17 +4,16 @@ ghost use Rattle.fsd_formats.specs.NamePage.{is_entry, FitsEntry};
 ghost use Rattle.fsd_table.specs.Tree.{IsTree, table_of};
 ghost use Rattle.name_btree.specs.Change.{IsEdited};
 ghost use Rattle.name_btree.specs.Fault.{HasCause, BreaksTree};
-ghost use Rattle.name_btree.specs.Replace.{put, HasAsLong};
+ghost use Rattle.name_node.specs.Edits.{put};
+ghost use Rattle.name_btree.specs.Replace.{HasAsLong};
 ghost use Rattle.name_page.specs.Pages.{reaches, changes};
 
-use crate::cut::Cut;
 use crate::descent::leaf_below;
-use crate::entries::put_among;
 use crate::fault::TreeFault;
 use crate::lookup::{entry_in, top};
-use crate::node::Entries;
 use crate::writing::put_leaf;
 use fsd_formats::Entry;
+use name_node::{Cut, Entries, put_among};
 use name_page::{Pages, entry_len};
 
 // Whether an entry with the key is there, and takes as many bytes.

@@ -9,12 +9,12 @@ use crate::child::child_node;
 use crate::descent::{copied, end_of};
 use crate::fault::TreeFault;
 use crate::lookup::top;
-use crate::node::{Node, Ways};
 use fsd_table::Child;
+use name_node::{Node, Ways};
 use name_page::Pages;
 
 // Child `i` of an interior page, counted from 0.
-fn child_at(ways: &Ways, i: u32, above: &Child) -> Child
+pub(crate) fn child_at(ways: &Ways, i: u32, above: &Child) -> Child
     requires { i ≤ length ways.now.1 }
     ensures { slice_get (children ways.now.0 above.now.low above.now.high ways.now.1) i ≡ Some result }
 {

@@ -24,7 +24,7 @@ true_found flags h = rw (lt-ltb _ _ (true_within flags 0 h)) refl
 
 module _ (s : VecPages) (page : ℕ) (bytes : List ℕ) where
   abbrev Small : Type 0
-  Small = length (with_item s.pages page bytes).items < 2 ^ 32
+  Small = length (with_item s.pages page bytes).items ≤ 4096
 
   abbrev Flags : Type 0
   Flags = length s.spare.items ≡ length (with_item s.pages page bytes).items

@@ -1,5 +1,5 @@
 -- Pages in memory, with the bytes of one of them written.
-use Rattle.std.specs.Prelude.{ℕ, ◌<◌, ◌^◌, List}
+use Rattle.std.specs.Prelude.{ℕ, ◌≤◌, List}
 use Rattle.std.specs.Vec.{with_item}
 use Rattle.std.proofs.Common.{subst, sym, ◌∙◌, length-set}
 use Rattle.name_page.specs.Pages.{with_one}
@@ -7,7 +7,7 @@ use Rattle.name_page.specs.declared.vec_pages.VecPages.{VecPages}
 
 abbrev pub written : VecPages → ℕ → List ℕ → VecPages
 written s page bytes =
-    let Small : ℕ → Type 0 = λ n. n < 2 ^ 32 in
+    let Small : ℕ → Type 0 = λ n. n ≤ 4096 in
     let same = sym (length-set s.pages.items page bytes) in
     record {
       pages = with_item s.pages page bytes;

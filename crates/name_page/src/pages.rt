@@ -1,5 +1,5 @@
 //! The pages of a name table, which are reached and changed in steps.
-ghost use Rattle.std.specs.Prelude.{◌≡◌, ◌≢◌, ◌↔◌, ◌<◌, ◌^◌, ℕ, List, Some, Err, true, false, IsSome, OnOk, IfErr, slice_get, length};
+ghost use Rattle.std.specs.Prelude.{◌≡◌, ◌≢◌, ◌↔◌, ◌<◌, ◌≤◌, ℕ, List, Some, Err, true, false, IsSome, OnOk, IfErr, slice_get, length};
 ghost use Rattle.std.specs.Borrow.{sem};
 ghost use Rattle.fsd_table.specs.Pages.{page_at};
 ghost use Rattle.name_page.specs.Lends.{LendsPage};
@@ -71,8 +71,8 @@ pub trait Pages {
     /// What the step knows once the bytes that were lent have come back.
     ghost changed: { (s : Self) (page : ℕ) (bytes : List ℕ) → step (written s page bytes) ≡ with_page page bytes (step s) };
 
-    /// The number of pages is a number of 32 bits.
-    ghost small: { (s : Self) → length (step s).images < 2 ^ 32 };
+    /// A table has at most 4096 pages.
+    ghost small: { (s : Self) → length (step s).images ≤ 4096 };
 
     /// Each page is spare or not.
     ghost flags: { (s : Self) → length (step s).spares ≡ length (step s).images };

@@ -18,7 +18,7 @@ pub struct VecPages {
     changed: ArrayVec<u32, 40>,
     promised: u32,
     refusal: Option<Refusal>,
-    ghost small: { length pages.items < 2 ^ 32 },
+    ghost small: { length pages.items ≤ 4096 },
     ghost flags: { length spare.items ≡ length pages.items },
     ghost kept: { promised ≤ count_by (λ spare. spare) spare.items },
 }
@@ -26,7 +26,7 @@ pub struct VecPages {
 impl VecPages {
     /// The pages in order, which of them are spare, and the first sector of their homes A.
     pub fn new(pages: Vec<[u8; 512]>, spare: Vec<bool>, home_a: u32) -> VecPages
-        requires small { length pages.items < 2 ^ 32 }
+        requires small { length pages.items ≤ 4096 }
         requires flags { length spare.items ≡ length pages.items }
         ensures { ⟦<VecPages as Pages>⟧.step result ≡ first_step pages.items spare.items 80 40 }
     {

@@ -2,12 +2,12 @@ use Rattle.std.proofs.Common.{◌≡◌, ◌∙◌, ◌+◌, sym, ap, subst, Lis
 use Rattle.std.proofs.lemmas.Result.{err_from_is_err_and}
 use Rattle.fsd_formats.specs.NamePage.{Leaf, Interior}
 use Rattle.fsd_table.specs.Pages.{page_at}
-use Rattle.name_btree.specs.declared.node.Node.{Node}
+use Rattle.name_node.specs.declared.node.Node.{Node}
 use Rattle.name_btree.specs.declared.descent.Way.{Way}
-use Rattle.name_btree.specs.Node.{content_of}
-use Rattle.name_btree.specs.Cut.{is_before}
+use Rattle.name_node.specs.Node.{content_of}
+use Rattle.name_node.specs.Cut.{is_before}
 use Rattle.name_btree.specs.Fault.{HasCause, IsMisfit}
-use Rattle.name_btree.proofs.CutLaws.{cuts_monotone}
+use Rattle.name_node.proofs.CutLaws.{cuts_monotone}
 use Rattle.name_btree.proofs.DescentLaws.{IsOnWay, way_down, way_ends, misfit_breaks}
 use Rattle.name_btree.proofs.PathLaws.{IsPath, path_down, path_ends}
 use Rattle.name_btree.proofs.descent.leaf_below.Goals as goal

@@ -1,8 +1,8 @@
 use Rattle.std.proofs.Common.{◌≡◌, ◌+◌, ◌≤◌}
 use Rattle.name_btree.proofs.DescentLaws.{IsOnWay}
 use Rattle.name_btree.proofs.PathLaws.{IsPath}
-use Rattle.name_btree.specs.Node.{IsStill}
-use Rattle.name_btree.specs.Cut.{is_before}
+use Rattle.name_btree.specs.Still.{IsStill}
+use Rattle.name_node.specs.Cut.{is_before}
 use Rattle.name_btree.proofs.descent.leaf_below.Given as goal
 use Rattle.name_page.specs.Pages.{reaches}
 

@@ -1,8 +1,8 @@
 use Rattle.std.proofs.Common.{◌∙◌, subst}
 use Rattle.fsd_bytes.specs.declared.key.Key.{Key}
 use Rattle.fsd_table.specs.declared.child.Child.{Child}
-use Rattle.name_btree.specs.declared.cut.Cut.TheVariants.{UpTo}
-use Rattle.name_btree.specs.Cut.{is_before}
+use Rattle.name_node.specs.declared.cut.Cut.TheVariants.{UpTo}
+use Rattle.name_node.specs.Cut.{is_before}
 use Rattle.name_btree.specs.Descent.{IsPlace}
 use Rattle.name_btree.proofs.FindLaws.{entry_found}
 use Rattle.name_btree.proofs.lookup.find.Goals as goal

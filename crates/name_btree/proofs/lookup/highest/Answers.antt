@@ -1,9 +1,9 @@
 use Rattle.std.proofs.Common.{◌∙◌, sym, ap, subst, List, ℕ}
 use Rattle.fsd_table.specs.declared.child.Child.{Child}
-use Rattle.name_btree.specs.declared.cut.Cut.TheVariants.{Named}
-use Rattle.name_btree.specs.Cut.{is_before}
+use Rattle.name_node.specs.declared.cut.Cut.TheVariants.{Named}
+use Rattle.name_node.specs.Cut.{is_before}
 use Rattle.name_btree.specs.Descent.{IsPlace, EndsWith}
-use Rattle.name_btree.specs.Lookups.{last_that}
+use Rattle.name_node.specs.Lookups.{last_that}
 use Rattle.name_btree.proofs.HighestLaws.{highest_in_leaf, highest_at_start, highest_in_previous}
 use Rattle.name_btree.proofs.lookup.highest.Goals as goal
 

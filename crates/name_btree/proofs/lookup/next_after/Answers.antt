@@ -2,7 +2,7 @@ use Rattle.std.proofs.Common.{◌∙◌, sym, subst, List, ℕ}
 use Rattle.std.specs.Option.{option_copied}
 use Rattle.fsd_table.specs.declared.child.Child.{Child}
 use Rattle.fsd_table.specs.Table.{top}
-use Rattle.name_btree.specs.Cut.{is_before}
+use Rattle.name_node.specs.Cut.{is_before}
 use Rattle.name_btree.specs.Descent.{IsPlace, BeginsWith}
 use Rattle.name_btree.proofs.NextLaws.{next_in_leaf, next_at_end, next_in_next}
 use Rattle.name_btree.proofs.lookup.next_after.Goals as goal

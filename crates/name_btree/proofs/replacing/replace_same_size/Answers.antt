@@ -3,8 +3,8 @@ use Rattle.fsd_bytes.specs.declared.key.Key.{Key}
 use Rattle.fsd_formats.specs.declared.entry.Entry.{Entry}
 use Rattle.fsd_formats.specs.NamePage.{Leaf, is_page}
 use Rattle.fsd_table.specs.declared.child.Child.{Child}
-use Rattle.name_btree.specs.declared.cut.Cut.TheVariants.{UpTo}
-use Rattle.name_btree.specs.Cut.{is_before}
+use Rattle.name_node.specs.declared.cut.Cut.TheVariants.{UpTo}
+use Rattle.name_node.specs.Cut.{is_before}
 use Rattle.name_btree.specs.Descent.{IsPlace}
 use Rattle.name_btree.specs.Change.{IsLeafAt}
 use Rattle.name_btree.proofs.ChangeLaws.{edited_put}

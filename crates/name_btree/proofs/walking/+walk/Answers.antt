@@ -5,13 +5,14 @@ use Rattle.fsd_formats.specs.NamePage.{Interior}
 use Rattle.fsd_table.specs.declared.child.Child.{Child}
 use Rattle.fsd_table.specs.Pages.{page_at, children, content_fits, keys_fit, separator_keys}
 use Rattle.name_page.specs.Pages.{Step}
-use Rattle.name_btree.specs.declared.node.Node.{Node}
-use Rattle.name_btree.specs.Node.{content_of}
+use Rattle.name_node.specs.declared.node.Node.{Node}
+use Rattle.name_node.specs.Node.{content_of}
 use Rattle.name_btree.specs.Fault.{HasCause, IsMisfit}
 use Rattle.name_btree.specs.Walk.{is_marked, IsWalked, AreWalked, BreaksWalk, BreakWalk}
-use Rattle.name_btree.proofs.CountLaws.{few_separators, few_entries, take_short, take_whole}
+use Rattle.name_node.proofs.CountLaws.{few_separators, few_entries, take_short, take_whole}
 use Rattle.name_btree.proofs.ResultLaws.{ok_more, err_more}
-use Rattle.name_btree.proofs.WalkLaws.{children_count, one_more, fault_among, above_walked, fault_above, fault_here}
+use Rattle.name_node.proofs.ListLaws.{children_count}
+use Rattle.name_btree.proofs.WalkLaws.{one_more, fault_among, above_walked, fault_above, fault_here}
 use Rattle.name_btree.proofs.walking.+walk.Goals as goal
 
 pub walk_below-returns-in_err-entries-clause-fault : goal.walk_below-returns-in_err-entries-clause-fault

@@ -3,8 +3,8 @@ use Rattle.std.proofs.lemmas.Result.{err_from_is_err_and}
 use Rattle.fsd_formats.specs.NamePage.{Leaf, Interior}
 use Rattle.fsd_table.specs.Pages.{page_at}
 use Rattle.name_page.specs.Pages.{Step, reaches, rested}
-use Rattle.name_btree.specs.declared.node.Node.{Node}
-use Rattle.name_btree.specs.Node.{content_of}
+use Rattle.name_node.specs.declared.node.Node.{Node}
+use Rattle.name_node.specs.Node.{content_of}
 use Rattle.name_btree.specs.Fault.{HasCause, IsMisfit}
 use Rattle.name_btree.proofs.TopLaws.{down_begins, down_first, down_ends, down_too_long, down_breaks}
 use Rattle.name_btree.proofs.walking.top_level.Goals as goal

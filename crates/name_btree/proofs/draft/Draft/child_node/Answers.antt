@@ -2,7 +2,7 @@ use Rattle.std.proofs.Common.{◌≤◌, List, ℕ, length, ap, refl, arith}
 use Rattle.fsd_table.specs.Pages.{content_fits}
 use Rattle.name_btree.specs.Draft.{drafted}
 use Rattle.name_btree.proofs.DraftLaws.{drafted_length}
-use Rattle.name_btree.proofs.NodeLaws.{past_end}
+use Rattle.name_node.proofs.NodeLaws.{past_end}
 use Rattle.name_btree.proofs.draft.Draft.child_node.Goals as goal
 
 pub returns-then-child-count-clause-fault : goal.returns-then-child-count-clause-fault

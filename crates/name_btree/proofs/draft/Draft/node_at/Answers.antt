@@ -2,7 +2,7 @@ use Rattle.std.proofs.Common.{◌≡◌, ◌∙◌, sym, ap, subst, ℕ, Option,
 use Rattle.fsd_formats.specs.NamePage.{Content}
 use Rattle.fsd_table.specs.Pages.{page_at}
 use Rattle.name_btree.specs.Draft.{last_sheet, drafted}
-use Rattle.name_btree.specs.Node.{content_of}
+use Rattle.name_node.specs.Node.{content_of}
 use Rattle.name_btree.proofs.DraftLaws.{sheet_is, sheet_has, sheets_kept, drafted_at, by_sheet}
 use Rattle.name_btree.proofs.draft.Draft.node_at.Goals as goal
 
@@ -12,7 +12,7 @@ node_in-requires g c =
     let sheets = c.args.self.now.sheets.items in
     let found : last_sheet c.args.page sheets ≡ Some c.in-Some.image = ap (last_sheet c.args.page) (sym c.as_slice.ensures.value) ∙ sym c.in-Some.ensures in
     let is = sheet_is step sheets c.args.page c.in-Some.image c.requires.sheets found in
-    (sheet_has step (record { page = c.args.page; image = c.in-Some.image }) is (g.met.T.Pages.small c.args.t.now)).1
+    (sheet_has step (record { page = c.args.page; image = c.in-Some.image }) is (omega (arith, g.met.T.Pages.small c.args.t.now))).1
 
 pub returns-in-Some-clause-reached : goal.returns-in-Some-clause-reached
 returns-in-Some-clause-reached g c =
@@ -33,7 +33,7 @@ returns-in-Some-clause-node g c =
     let is = sheet_is step sheets page c.in-Some.image c.requires.sheets found in
     drafted_at sheets step.images page c.requires.within
     ∙ ap (by_sheet page step.images) found
-    ∙ sym (sheet_has step (record { page = page; image = c.in-Some.image }) is (g.met.T.Pages.small c.args.t.now)).0
+    ∙ sym (sheet_has step (record { page = page; image = c.in-Some.image }) is (omega (arith, g.met.T.Pages.small c.args.t.now))).0
     ∙ c.node_in.ensures
 
 pub returns-in-None-clause-sheets : goal.returns-in-None-clause-sheets

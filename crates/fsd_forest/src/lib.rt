@@ -1,0 +1,6 @@
+//! Definitions: what becomes of a name table's pages and entries, as pages are changed, parted and joined.
+#![tactic(auto)]
+
+mod laws;
+
+pub use laws::{pages_part_and_join};

@@ -1,0 +1,5 @@
+pub mod Cut
+pub mod Edits
+pub mod Lookups
+pub mod Node
+pub mod Parting
