@@ -44,7 +44,7 @@ loop-preserved g c =
       spares = c.child_node.ensures.spares ∙ c.loop.invariant.spares;
       step = c.child_node.ensures.step ∙ c.loop.invariant.step;
       reaches = omega (arith, c.child_node.ensures.reaches, c.loop.invariant.reaches);
-      changes = record { changed = c.child_node.ensures.changes.changed ∙ c.loop.invariant.changes.changed; most_changed = c.child_node.ensures.changes.most_changed ∙ c.loop.invariant.changes.most_changed };
+      changes = record { changed = c.child_node.ensures.changes.changed ∙ c.loop.invariant.changes.changed; most_changed = c.child_node.ensures.changes.most_changed ∙ c.loop.invariant.changes.most_changed; promised = c.child_node.ensures.changes.promised ∙ c.loop.invariant.changes.promised };
       path = subst (λ (w : Way). IsPath (is_before c.args.cut.now) pages c.args.start (c.loop.counter + 1) w.child) (sym c.way_to-way.ensures)
           (path_down (is_before c.args.cut.now) (cuts_monotone c.args.cut.now) pages c.args.start c.loop.counter c.loop.way ways.0 ways.1 at c.loop.invariant.path);
       way = subst P (sym c.way_to-way.ensures) way;

@@ -1,4 +1,4 @@
-use Rattle.std.proofs.Common.{◌≡◌, ◌∙◌, sym, ap, subst, ℕ, Option, Some, None, IfOk}
+use Rattle.std.proofs.Common.{◌≡◌, ◌∙◌, sym, ap, subst, ℕ, Option, Some, None, IfOk, arith}
 use Rattle.fsd_formats.specs.NamePage.{Content}
 use Rattle.fsd_table.specs.Pages.{page_at}
 use Rattle.name_btree.specs.Draft.{last_sheet, drafted}
