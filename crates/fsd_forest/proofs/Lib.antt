@@ -1,1 +1,4 @@
+pub mod CountLaws
+pub mod ForestLaws
+pub mod KeepLaws
 pub mod PartLaws
