@@ -2,3 +2,5 @@ pub mod CountLaws
 pub mod ForestLaws
 pub mod KeepLaws
 pub mod PartLaws
+pub mod RiseLaws
+pub mod TreeLaws
