@@ -41,7 +41,7 @@ all_kept pages after level each (d ∷ cs) keep subs =
       reached = λ i. here.reached i ++ rest.reached i;
     }
 
-kept_interior : (pages after : List (List ℕ)) (level : ℕ) (c : Child) (x : Option Content) → ((d : Child) → Keep pages after (pages_below level pages d) → IsSubtree level pages d → Same pages after level d)
+pub kept_interior : (pages after : List (List ℕ)) (level : ℕ) (c : Child) (x : Option Content) → ((d : Child) → Keep pages after (pages_below level pages d) → IsSubtree level pages d → Same pages after level d)
     → Keep pages after (forest_pages level pages (children_of c.low c.high x)) → IsInterior (IsSubtree level pages) c x
     → IsInterior (IsSubtree level after) c x × AllSame pages after level (children_of c.low c.high x)
 kept_interior pages after level c None each keep h = absurd h

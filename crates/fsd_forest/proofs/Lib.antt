@@ -3,4 +3,5 @@ pub mod ForestLaws
 pub mod KeepLaws
 pub mod PartLaws
 pub mod RiseLaws
+pub mod ShrinkLaws
 pub mod TreeLaws
