@@ -6,3 +6,4 @@ pub mod PartLaws
 pub mod RiseLaws
 pub mod ShrinkLaws
 pub mod TreeLaws
+pub mod WayLaws

@@ -1,3 +1,4 @@
 pub mod Forest
 pub mod Laws
 pub mod Parts
+pub mod Ways

@@ -1,6 +1,7 @@
 //! Laws over the definitions: the functions do nothing, the contract of each is a law.
 ghost use Rattle.fsd_forest.specs.Laws.{LeavesBecome, Widens, Rises, Follows, Remains, TreesBecome, TreesGrow, TreesShrink, TreesAreLow};
 ghost use Rattle.fsd_forest.specs.Parts.{LeavesPart, LeavesJoin, InteriorsPart, InteriorsJoin, ChildrenPart};
+ghost use Rattle.fsd_forest.specs.Ways.{ChildrenBeside, ChildrenBetween, ChildrenParted, ChildrenEnd, ChildrenBegin, ChildrenAround, ChildAt, KeyInside};
 
 /// A page is parted in two at a key, and two pages side by side are joined to one: the same entries, and the same children.
 pub fn pages_part_and_join()
@@ -26,4 +27,16 @@ pub fn trees_follow()
     ensures trees_grow { TreesGrow }
     ensures trees_shrink { TreesShrink }
     ensures trees_are_low { TreesAreLow }
+{}
+
+/// The children of an interior page around a key: those that end up to it, the child that it is inside, and those that begin behind it.
+pub fn ways_lead()
+    ensures beside { ChildrenBeside }
+    ensures between { ChildrenBetween }
+    ensures parted { ChildrenParted }
+    ensures end { ChildrenEnd }
+    ensures begin { ChildrenBegin }
+    ensures around { ChildrenAround }
+    ensures at { ChildAt }
+    ensures inside { KeyInside }
 {}

@@ -3,4 +3,4 @@
 
 mod laws;
 
-pub use laws::{forests_follow, pages_part_and_join, trees_follow};
+pub use laws::{forests_follow, pages_part_and_join, trees_follow, ways_lead};
