@@ -69,7 +69,7 @@ entries_greater key f (x ∷ xs) begins each =
 in_three : {X : Type 0} (f : Child → List X) (xs ys zs : List Child) → flat_map f (xs ++ (ys ++ zs)) ≡ flat_map f xs ++ (flat_map f ys ++ flat_map f zs)
 in_three f xs ys zs = flat_map-append f xs (ys ++ zs) ∙ ap (λ us. flat_map f xs ++ us) (flat_map-append f ys zs)
 
-count_three : (p : ℕ) (f : Child → List ℕ) (xs ys zs : List Child) → count_of p (flat_map f (xs ++ (ys ++ zs))) ≡ count_of p (flat_map f xs) + (count_of p (flat_map f ys) + count_of p (flat_map f zs))
+pub count_three : (p : ℕ) (f : Child → List ℕ) (xs ys zs : List Child) → count_of p (flat_map f (xs ++ (ys ++ zs))) ≡ count_of p (flat_map f xs) + (count_of p (flat_map f ys) + count_of p (flat_map f zs))
 count_three p f xs ys zs =
     ap (count_of p) (in_three f xs ys zs) ∙ count_append p (flat_map f xs) (flat_map f ys ++ flat_map f zs) ∙ ap (λ (n : ℕ). count_of p (flat_map f xs) + n) (count_append p (flat_map f ys) (flat_map f zs))
 

@@ -5,5 +5,6 @@ pub mod LowLaws
 pub mod PartLaws
 pub mod RiseLaws
 pub mod ShrinkLaws
+pub mod StepLaws
 pub mod TreeLaws
 pub mod WayLaws

@@ -1,6 +1,7 @@
 //! Laws over the definitions: the functions do nothing, the contract of each is a law.
 ghost use Rattle.fsd_forest.specs.Laws.{LeavesBecome, Widens, Rises, Follows, Remains, TreesBecome, TreesGrow, TreesShrink, TreesAreLow};
 ghost use Rattle.fsd_forest.specs.Parts.{LeavesPart, LeavesJoin, InteriorsPart, InteriorsJoin, ChildrenPart};
+ghost use Rattle.fsd_forest.specs.Steps.{StepsUp, PageStepsUp, SidesStay, PageSidesStay};
 ghost use Rattle.fsd_forest.specs.Ways.{ChildrenBeside, ChildrenBetween, ChildrenParted, ChildrenEnd, ChildrenBegin, ChildrenAround, ChildAt, KeyInside};
 
 /// A page is parted in two at a key, and two pages side by side are joined to one: the same entries, and the same children.
@@ -39,4 +40,12 @@ pub fn ways_lead()
     ensures around { ChildrenAround }
     ensures at { ChildAt }
     ensures inside { KeyInside }
+{}
+
+/// Where children around a key are changed and those on both sides stay, so are the pages above them.
+pub fn pages_step_up()
+    ensures steps_up { StepsUp }
+    ensures page_steps_up { PageStepsUp }
+    ensures sides_stay { SidesStay }
+    ensures page_sides_stay { PageSidesStay }
 {}
