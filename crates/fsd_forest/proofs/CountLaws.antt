@@ -8,6 +8,7 @@ use Rattle.std.proofs.lemmas.List.Sums.{sum_by-append, sum_by-cons}
 use Rattle.run_table.specs.Space.{contains, all_differ}
 use Rattle.fsd_forest.specs.Forest.{count_of, Exchange}
 
+-- what one page counts
 abbrev pub one_where : Bool → ℕ
 one_where b = cond b 1 0
 
@@ -80,6 +81,7 @@ exchange_differ old new came went e d = counts_differ new (λ p. omega (arith, e
 
 -- ---- not more than there is room for
 
+-- all pages but one
 abbrev without : ℕ → List ℕ → List ℕ
 without n [] = []
 without n (x ∷ xs) = cond (x == n) (without n xs) (x ∷ without n xs)

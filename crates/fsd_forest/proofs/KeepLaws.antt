@@ -23,6 +23,7 @@ pub record Same (pages after : List (List ℕ)) (level : ℕ) (c : Child) : Type
   pub entries : entries_below level after c ≡ entries_below level pages c
   pub reached : pages_below level after c ≡ pages_below level pages c
 
+-- and below children side by side
 pub record AllSame (pages after : List (List ℕ)) (level : ℕ) (cs : List Child) : Type 0 where
   pub subtrees : AllByRecursion (IsSubtree level after) cs
   pub entries : forest_entries level after cs ≡ forest_entries level pages cs

@@ -18,6 +18,7 @@ pub flat_flat : {X : Type 0} (g : Child → List X) (k : Child → List Child) (
 flat_flat g k [] = refl
 flat_flat g k (c ∷ cs) = ap (λ xs. flat_map g (k c) ++ xs) (flat_flat g k cs) ∙ sym (flat_map-append g (k c) (flat_map k cs))
 
+-- the children of a page
 abbrev pub children_at : List (List ℕ) → Child → List Child
 children_at pages c = children_of c.low c.high (page_at pages c.page)
 
