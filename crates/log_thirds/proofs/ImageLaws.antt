@@ -1,8 +1,9 @@
 -- Where a page's last image is read.
-use Rattle.std.proofs.Common.{◌≡◌, inl, inr, ℕ, ◌+◌, ◌*◌, ◌<◌, ◌≤◌, Bool, true, false, cond, List, [], ◌∷◌, length, get_or, Option, Some, None, nat_lt, refl, sym, ap, subst, ◌∙◌, arith}
+use Rattle.std.proofs.Common.{◌≡◌, ◌⊎◌, inl, inr, ℕ, ◌+◌, ◌*◌, ◌<◌, ◌≤◌, Bool, true, false, cond, List, [], ◌∷◌, length, get_or, Option, Some, None, nat_lt, refl, sym, ap, subst, ◌∙◌, arith}
 use Rattle.std.specs.Prelude.{◌==◌, option_map, option_and_then}
 use Rattle.std.specs.Option.{option_or}
-use Rattle.std.proofs.lemmas.Bool.{eqb-true, cond-true, lt-ltb, false≢true}
+use Rattle.std.proofs.lemmas.Bool.{cases_lt, eqb-true, cond-true, lt-ltb, false≢true}
+use Rattle.std.proofs.lemmas.List.{get_or_past}
 use Rattle.volume_layout.specs.Shape.{Shape}
 use Rattle.fsd_formats.specs.Record.{Stamp, bears, record_len}
 use Rattle.fsd_log.specs.Judged.{Reader, Logged, Serving, judged, images_of, logged_of, record_in}
@@ -12,18 +13,20 @@ use Rattle.fsd_log.specs.Scan.{IsEnd, IsIn, Head, Placed, start, scan, place_of,
 use Rattle.fsd_log.proofs.JudgedLaws.{is_judged, record_room}
 use Rattle.fsd_log.proofs.PlainLaws.{images_same}
 use Rattle.log_thirds.specs.declared.slots.Slot.{Slot}
-use Rattle.sector_disk.specs.Machine.{Moment, Wears}
-use Rattle.log_thirds.specs.Disk.{reads}
+use Rattle.sector_disk.specs.declared.sector.Sector.{Sector}
+use Rattle.sector_disk.specs.declared.sector.Sector.TheVariants.{Whole, Damaged}
+use Rattle.sector_disk.specs.Image.{sector_at}
+use Rattle.sector_disk.specs.Machine.{Moment}
+use Rattle.log_thirds.specs.Disk.{bytes_in, reads}
 use Rattle.log_thirds.specs.LogValue.{LogValue}
 use Rattle.log_thirds.specs.Append.{IsCalm, IsIndexed, scan_of}
-use Rattle.log_thirds.specs.Images.{GivesSlot, SeesImage, SeesSlot, NeitherBears}
+use Rattle.log_thirds.specs.Images.{GivesSlot, LiesAt, SeesSlot, StandsAt, best_copy}
 use Rattle.log_thirds.specs.Reading.{ReadWorn}
 use Rattle.log_thirds.specs.Slots.{slot_in, slot_at, slot_of}
 use Rattle.fsd_log.proofs.HereLaws.{here_some}
 use Rattle.fsd_log.proofs.PlaceLaws.{InThird, place_add, end_most}
 use Rattle.fsd_log.proofs.WalkLaws.{IsFound, Goes, found_goes_on, goes_of_walk}
 use Rattle.log_thirds.proofs.ScanLaws.{found_number}
-use Rattle.log_thirds.proofs.ReadingLaws.{read_back}
 
 -- ---- in one record
 
@@ -179,43 +182,95 @@ read_calm : (old : Moment) (place : ℕ) (o : Option (List ℕ)) → IsCalm old 
 read_calm old place o calm (inl is) = is
 read_calm old place o calm (inr hurt) = absurd (false≢true (sym (calm place) ∙ hurt.0))
 
+some_left : {A : Type 0} (o p q : Option A) (x : A) → o ≡ Some x → option_or (option_or o p) q ≡ Some x
+some_left {A = A} o p q x is = ap (λ (y : Option A). option_or (option_or y p) q) is
+
 -- where nothing wears, what is read is what the slot gives
 pub slot_seen : (old : Moment) (slot : Slot) (page epoch : ℕ) (o image : Option (List ℕ)) → IsCalm old → SeesSlot old slot page epoch o → GivesSlot page epoch (reads old.image) slot image → image ≡ o
 slot_seen old slot page epoch o image calm sees gives =
     let first : sees.first ≡ reads old.image slot.place = read_calm old slot.place sees.first calm sees.read_first in
     let copy : sees.copy ≡ reads old.image slot.copy = read_calm old slot.copy sees.copy calm sees.read_copy in
-    gives.is ∙ sym (sees.serves ∙ (λ i. either_copy (bears page (record { epoch = epoch; number = slot.number })) (first i) (copy i)) ∙ gives.read)
-
-neither_of : {A : Type 0} (a b : Option A) → None ≡ option_or a b → (None ≡ a) × (None ≡ b)
-neither_of None b is = (refl, is)
-neither_of (Some x) b is = absurd (cc is)
+    let test : List ℕ → Bool = bears page (record { epoch = epoch; number = slot.number }) in
+    gives.is ∙ sym (sees.serves ∙ (λ i. best_copy test (first i) (copy i)) ∙ some_left (either_copy test (reads old.image slot.place) (reads old.image slot.copy)) (reads old.image slot.place) (reads old.image slot.copy) gives.image gives.read)
 
 module _ (old : Moment) (slot : Slot) (page epoch : ℕ) where
-  pub slot_first : (image : List ℕ) → SeesImage old slot.place page (record { epoch = epoch; number = slot.number }) (Some image) → SeesSlot old slot page epoch (Some image)
-  slot_first image sees = record {
-    first = sees.bytes;
+  abbrev test : List ℕ → Bool
+  test = bears page (record { epoch = epoch; number = slot.number })
+
+  -- the first sector serves, whatever the copy gives
+  pub slot_first : (first : Option (List ℕ)) (image : List ℕ) → ReadWorn old slot.place first → served test first ≡ Some image → SeesSlot old slot page epoch (Some image)
+  slot_first first image read serves = record {
+    first = first;
     copy = reads old.image slot.copy;
-    read_first = sees.read;
+    read_first = read;
     read_copy = inl refl;
-    serves = ap (λ (o : Option (List ℕ)). option_or o (served (bears page (record { epoch = epoch; number = slot.number })) (reads old.image slot.copy))) sees.serves;
+    serves = ap (λ (o : Option (List ℕ)). option_or (option_or (option_or o (served test (reads old.image slot.copy))) first) (reads old.image slot.copy)) (sym serves);
   }
 
-  pub slot_second : (mid : Moment) (o : Option (List ℕ)) → Wears old mid → SeesImage old slot.place page (record { epoch = epoch; number = slot.number }) None
-      → SeesImage mid slot.copy page (record { epoch = epoch; number = slot.number }) o → SeesSlot old slot page epoch o
-  slot_second mid o wears one two = record {
-    first = one.bytes;
-    copy = two.bytes;
-    read_first = one.read;
-    read_copy = read_back old mid slot.copy two.bytes wears two.read;
-    serves = two.serves ∙ ap (λ (x : Option (List ℕ)). option_or x (served (bears page (record { epoch = epoch; number = slot.number })) two.bytes)) one.serves;
-  }
+-- of two copies none is given exactly where neither is there
+both_none : {A : Type 0} (o first copy : Option A) → option_or (option_or o first) copy ≡ None → (first ≡ None) × (copy ≡ None)
+both_none None None copy is = (refl, is)
+both_none None (Some x) copy is = absurd (cc is)
+both_none (Some y) first copy is = absurd (cc is)
 
-pub neither_bears : (log : LogValue) (page : ℕ) (old : Moment) (slot : Slot) → get_or log.slots page None ≡ Some slot → SeesSlot old slot page log.anchor.epoch None → NeitherBears log page old slot.place slot.copy
-neither_bears log page old slot is sees =
-    let test : List ℕ → Bool = bears page (record { epoch = log.anchor.epoch; number = slot.number }) in
-    let parts = neither_of (served test sees.first) (served test sees.copy) sees.serves in
+pub none_is_neither : (test : List ℕ → Bool) (first copy : Option (List ℕ)) → best_copy test first copy ≡ None → (first ≡ None) × (copy ≡ None)
+none_is_neither test first copy is = both_none (either_copy test first copy) first copy is
+
+-- what is given is one of the two
+served_is : (test : List ℕ → Bool) (o : Option (List ℕ)) (image : List ℕ) → served test o ≡ Some image → o ≡ Some image
+served_is test None image is = is
+served_is test (Some bytes) image is = by (test bytes) is
+  where
+    by : (b : Bool) → cond b (Some bytes) None ≡ Some image → Some bytes ≡ Some image
+    by true e = e
+    by false e = absurd (cc e)
+
+one_of_two : (o p : Option (List ℕ)) (image : List ℕ) → option_or o p ≡ Some image → (o ≡ Some image) ⊎ (p ≡ Some image)
+one_of_two None p image is = inr is
+one_of_two (Some x) p image is = inl is
+
+given_is : (test : List ℕ → Bool) (first copy : Option (List ℕ)) (image : List ℕ) → best_copy test first copy ≡ Some image → (first ≡ Some image) ⊎ (copy ≡ Some image)
+given_is test first copy image is = elim (one_of_two (option_or (either_copy test first copy) first) copy image is) [
+  | inr of_copy ↦ inr of_copy
+  | inl more ↦ elim (one_of_two (either_copy test first copy) first image more) [
+    | inr of_first ↦ inl of_first
+    | inl borne ↦ elim (one_of_two (served test first) (served test copy) image borne) [
+      | inl one ↦ inl (served_is test first image one)
+      | inr two ↦ inr (served_is test copy image two)
+    ]
+  ]
+]
+
+whole_there : (s : Sector) (bytes : List ℕ) → bytes_in s ≡ Some bytes → s ≡ Whole bytes
+whole_there (Whole b) bytes is = let same : b ≡ bytes = cc is in ap (λ (x : List ℕ). Whole x) same
+whole_there Damaged bytes is = absurd (cc is)
+
+read_there : (old : Moment) (place : ℕ) (o : Option (List ℕ)) (bytes : List ℕ) → ReadWorn old place o → o ≡ Some bytes → sector_at old.image place ≡ Whole bytes
+read_there old place o bytes (inl read) is = whole_there (sector_at old.image place) bytes (sym read ∙ is)
+read_there old place o bytes (inr hurt) is = absurd (none_some bytes (sym hurt.1 ∙ is))
+  where
+    none_some : (x : List ℕ) → None ≡ Some x → ⊥
+    none_some x e = cc e
+
+pub stands_there : (old : Moment) (slot : Slot) (page epoch : ℕ) (image : List ℕ) → SeesSlot old slot page epoch (Some image) → StandsAt (Some slot) old.image image
+stands_there old slot page epoch image sees =
+    let test : List ℕ → Bool = bears page (record { epoch = epoch; number = slot.number }) in
     record {
-      lies = record { number = slot.number; is = is };
-      first = record { bytes = sees.first; read = sees.read_first; serves = parts.0 };
-      copy = record { bytes = sees.copy; read = sees.read_copy; serves = parts.1 };
+      a = slot.place;
+      b = slot.copy;
+      lies = record { number = slot.number; is = refl };
+      stands = elim (given_is test sees.first sees.copy image (sym sees.serves)) [
+        | inl one ↦ inl (read_there old slot.place sees.first image sees.read_first one)
+        | inr two ↦ inr (read_there old slot.copy sees.copy image sees.read_copy two)
+      ];
     }
+
+-- a page's two sectors by the table are those by the records
+pub logged_by : (log : LogValue) (records : List Placed) (page a b : ℕ) → IsIndexed log records → LiesAt (get_or log.slots page None) a b → LiesAt (slot_of log.layout log.anchor.third page records) a b
+logged_by log records page a b are lies = elim (cases_lt page (length log.slots)) [
+  | inl within ↦ record { number = lies.number; is = sym (are page within) ∙ lies.is }
+  | inr past ↦ absurd (none_some (record { place = a; copy = b; number = lies.number }) (sym (get_or_past log.slots page None past) ∙ lies.is))
+]
+  where
+    none_some : (slot : Slot) → None ≡ Some slot → ⊥
+    none_some slot is = cc is

@@ -7,8 +7,8 @@ use Rattle.std.proofs.lemmas.List.{length-set, drop_all, length-replicate, get_o
 use Rattle.volume_layout.specs.Shape.{Shape}
 use Rattle.fsd_log.specs.Scan.{Placed, place_of}
 use Rattle.log_thirds.specs.declared.slots.Slot.{Slot}
-use Rattle.log_thirds.specs.Slots.{slot_in, slot_at, slot_of, noted, slots_with, AreSlots, SlotsInside}
-use Rattle.fsd_log.proofs.PlaceLaws.{InThird, place_inside}
+use Rattle.log_thirds.specs.Slots.{slot_in, slot_at, slot_of, noted, slots_with, AreSlots, LieInRecord, LieInRecords, SlotsInside}
+use Rattle.fsd_log.proofs.PlaceLaws.{InThird, place_from, place_inside}
 
 module _ (number : ℕ) (slots : List (Option Slot)) where
   pub length-noted : (place copy : ℕ) (pages : List ℕ) → length (noted number place copy pages slots) ≡ length slots
@@ -73,32 +73,59 @@ no_records l third n page lt = get_or-replicate n page None None (omega (arith, 
 
 -- ---- on the disk
 
+module _ (P : Slot → Type 0) where
+  -- each slot of the table is such a one
+  abbrev pub Each : List (Option Slot) → Type 0
+  Each slots = (page : ℕ) → IfSome (get_or slots page None) P
+
+  noted_each : (number place copy : ℕ) (pages : List ℕ) (slots : List (Option Slot)) → ((j : ℕ) → j < length pages → P (record { place = place + j; copy = copy + j; number = number })) → Each slots → Each (noted number place copy pages slots)
+  noted_each number place copy [] slots here before page = before page
+  noted_each number place copy (p ∷ pages) slots here before page = by_place (noted_each number (place + 1) (copy + 1) pages slots later before page) (cases_eq page p) (cases_lt p (length (noted number (place + 1) (copy + 1) pages slots)))
+    where
+      later : (j : ℕ) → j < length pages → P (record { place = place + 1 + j; copy = copy + 1 + j; number = number })
+      later j lt =
+          let x : place + (j + 1) ≡ place + 1 + j = omega arith in
+          let y : copy + (j + 1) ≡ copy + 1 + j = omega arith in
+          let same : ◌≡◌ {A = Slot} (record { place = place + (j + 1); copy = copy + (j + 1); number = number }) (record { place = place + 1 + j; copy = copy + 1 + j; number = number }) = λ i. record { place = x i; copy = y i; number = number } in
+          subst P same (here (j + 1) (omega (arith, lt)))
+
+      first : P (record { place = place; copy = copy; number = number })
+      first =
+          let x : place + 0 ≡ place = omega arith in
+          let y : copy + 0 ≡ copy = omega arith in
+          let same : ◌≡◌ {A = Slot} (record { place = place + 0; copy = copy + 0; number = number }) (record { place = place; copy = copy; number = number }) = λ i. record { place = x i; copy = y i; number = number } in
+          subst P same (here 0 (omega arith))
+
+      by_place : IfSome (get_or (noted number (place + 1) (copy + 1) pages slots) page None) P → (page ≡ p) ⊎ (page ≡ p → ⊥)
+          → (p < length (noted number (place + 1) (copy + 1) pages slots)) ⊎ (length (noted number (place + 1) (copy + 1) pages slots) ≤ p)
+          → IfSome (get_or (set (noted number (place + 1) (copy + 1) pages slots) p (Some (record { place = place; copy = copy; number = number }))) page None) P
+      by_place rest (inl same) (inl lt) =
+          subst (λ (o : Option Slot). IfSome o P)
+          (sym (ap (λ (q : ℕ). get_or (set (noted number (place + 1) (copy + 1) pages slots) p (Some (record { place = place; copy = copy; number = number }))) q None) same
+          ∙ get_or-set_same (noted number (place + 1) (copy + 1) pages slots) p (Some (record { place = place; copy = copy; number = number })) None lt))
+          first
+      by_place rest (inl same) (inr past) =
+          subst (λ (l : List (Option Slot)). IfSome (get_or l page None) P) (sym (set_past (noted number (place + 1) (copy + 1) pages slots) p (Some (record { place = place; copy = copy; number = number })) past)) rest
+      by_place rest (inr other) at =
+          subst (λ (o : Option Slot). IfSome o P) (sym (get_or-set_other (noted number (place + 1) (copy + 1) pages slots) p page (Some (record { place = place; copy = copy; number = number })) None other)) rest
+
+  none_each : (n : ℕ) → Each (replicate n None)
+  none_each n page = subst (λ (o : Option Slot). IfSome o P) (sym (by_place (cases_lt page n))) tt
+    where
+      by_place : (page < n) ⊎ (n ≤ page) → get_or (replicate {A = Option Slot} n None) page None ≡ None
+      by_place (inl lt) = get_or-replicate n page None None lt
+      by_place (inr past) = get_or_past (replicate {A = Option Slot} n None) page None (omega (arith, past, length-replicate {A = Option Slot} n None))
+
 pub noted_inside : (sectors number place copy : ℕ) (pages : List ℕ) (slots : List (Option Slot)) → place + length pages ≤ sectors → copy + length pages ≤ sectors → SlotsInside sectors slots
     → SlotsInside sectors (noted number place copy pages slots)
-noted_inside sectors number place copy [] slots first second inside page = inside page
-noted_inside sectors number place copy (p ∷ pages) slots first second inside page = by_place (noted_inside sectors number (place + 1) (copy + 1) pages slots (omega (arith, first)) (omega (arith, second)) inside page) (cases_eq page p) (cases_lt p (length (noted number (place + 1) (copy + 1) pages slots)))
-  where
-    by_place : IfSome (get_or (noted number (place + 1) (copy + 1) pages slots) page None) (λ slot. (slot.place < sectors) × (slot.copy < sectors))
-        → (page ≡ p) ⊎ (page ≡ p → ⊥) → (p < length (noted number (place + 1) (copy + 1) pages slots)) ⊎ (length (noted number (place + 1) (copy + 1) pages slots) ≤ p)
-        → IfSome (get_or (set (noted number (place + 1) (copy + 1) pages slots) p (Some (record { place = place; copy = copy; number = number }))) page None) (λ slot. (slot.place < sectors) × (slot.copy < sectors))
-    by_place rest (inl same) (inl lt) =
-        subst (λ (o : Option Slot). IfSome o (λ slot. (slot.place < sectors) × (slot.copy < sectors)))
-        (sym (ap (λ (q : ℕ). get_or (set (noted number (place + 1) (copy + 1) pages slots) p (Some (record { place = place; copy = copy; number = number }))) q None) same
-        ∙ get_or-set_same (noted number (place + 1) (copy + 1) pages slots) p (Some (record { place = place; copy = copy; number = number })) None lt))
-        (omega (arith, first), omega (arith, second))
-    by_place rest (inl same) (inr past) =
-        subst (λ (l : List (Option Slot)). IfSome (get_or l page None) (λ slot. (slot.place < sectors) × (slot.copy < sectors)))
-        (sym (set_past (noted number (place + 1) (copy + 1) pages slots) p (Some (record { place = place; copy = copy; number = number })) past)) rest
-    by_place rest (inr other) at =
-        subst (λ (o : Option Slot). IfSome o (λ slot. (slot.place < sectors) × (slot.copy < sectors)))
-        (sym (get_or-set_other (noted number (place + 1) (copy + 1) pages slots) p page (Some (record { place = place; copy = copy; number = number })) None other)) rest
+noted_inside sectors number place copy pages slots first second inside =
+    noted_each (λ slot. (slot.place < sectors) × (slot.copy < sectors)) number place copy pages slots (λ j lt. (omega (arith, first, lt), omega (arith, second, lt))) inside
 
 pub none_inside : (sectors n : ℕ) → SlotsInside sectors (replicate n None)
-none_inside sectors n page = subst (λ (o : Option Slot). IfSome o (λ slot. (slot.place < sectors) × (slot.copy < sectors))) (sym (by_place (cases_lt page n))) tt
-  where
-    by_place : (page < n) ⊎ (n ≤ page) → get_or (replicate {A = Option Slot} n None) page None ≡ None
-    by_place (inl lt) = get_or-replicate n page None None lt
-    by_place (inr past) = get_or_past (replicate {A = Option Slot} n None) page None (omega (arith, past, length-replicate {A = Option Slot} n None))
+none_inside sectors n = none_each (λ slot. (slot.place < sectors) × (slot.copy < sectors)) n
+
+pub none_lie : (l : Shape) (n : ℕ) → LieInRecords l (replicate n None)
+none_lie l n = none_each (λ slot. LieInRecord l slot.place slot.copy) n
 
 -- a record that ends in its third lies on the disk
 pub record_inside : (l : Shape) (third number at end place : ℕ) (pages : List ℕ) (slots : List (Option Slot)) → InThird l third at (2 * length pages + 5) end → 16 + 3 * l.third ≤ l.sectors → place ≡ place_of l third at
@@ -106,3 +133,12 @@ pub record_inside : (l : Shape) (third number at end place : ℕ) (pages : List 
 record_inside l third number at end place pages slots within fits is inside =
     let last = place_inside l third at (2 * length pages + 5) end within (omega arith) in
     noted_inside l.sectors number (place + 3) (place + 3 + length pages + 1) pages slots (omega (arith, last, fits, is)) (omega (arith, last, fits, is)) inside
+
+-- its pages' sectors are those of a record in the log
+pub record_lies : (l : Shape) (third number at end place : ℕ) (pages : List ℕ) (slots : List (Option Slot)) → InThird l third at (2 * length pages + 5) end → place ≡ place_of l third at
+    → LieInRecords l slots → LieInRecords l (noted number (place + 3) (place + 3 + length pages + 1) pages slots)
+record_lies l third number at end place pages slots within is before =
+    let last = place_inside l third at (2 * length pages + 5) end within (omega arith) in
+    let from = place_from l third at in
+    noted_each (λ slot. LieInRecord l slot.place slot.copy) number (place + 3) (place + 3 + length pages + 1) pages slots
+    (λ j lt. record { start = place; count = length pages; index = j; there = lt; first = refl; copy = refl; from = omega (arith, from, is); to = omega (arith, last, is) }) before

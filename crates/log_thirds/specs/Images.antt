@@ -1,18 +1,21 @@
 -- What a page's slot gives of its last image.
-use Rattle.std.specs.Prelude.{◌≡◌, ℕ, List, Option, Some, None, IfSome, slice_index_or, ⊤}
+use Rattle.std.specs.Prelude.{◌≡◌, ◌⊎◌, ℕ, Bool, List, Option, Some, None, IfSome, slice_index_or, ⊤}
+use Rattle.std.specs.Option.{option_or}
 use Rattle.sector_disk.specs.declared.sector.Sector.{Sector}
+use Rattle.sector_disk.specs.declared.sector.Sector.TheVariants.{Whole}
+use Rattle.sector_disk.specs.Image.{sector_at}
 use Rattle.sector_disk.specs.Machine.{Report, Moment, DeviceFault}
 use Rattle.sector_disk.specs.declared.machine.LoadFault.{LoadFault}
 use Rattle.sector_disk.specs.declared.machine.LoadFault.TheVariants.{Device, Lost}
-use Rattle.fsd_formats.specs.Record.{Stamp, bears}
+use Rattle.fsd_formats.specs.Record.{bears}
 use Rattle.fsd_log.specs.Judged.{Reader}
-use Rattle.fsd_log.specs.Plain.{served, either_copy}
+use Rattle.fsd_log.specs.Plain.{either_copy}
 use Rattle.fsd_log.specs.Images.{last_image}
 use Rattle.fsd_log.specs.Scan.{Placed}
 use Rattle.log_thirds.specs.Disk.{reads}
 use Rattle.log_thirds.specs.Reading.{ReadWorn}
 use Rattle.log_thirds.specs.LogValue.{LogValue}
-use Rattle.log_thirds.specs.Slots.{slot_of}
+use Rattle.log_thirds.specs.Slots.{LieInRecord, slot_of}
 use Rattle.log_thirds.specs.declared.slots.Slot.{Slot}
 
 -- The page, or else its copy, bears the record's stamp, and is the image that is meant.
@@ -25,21 +28,19 @@ pub record GivesSlot (page epoch : ℕ) (disk : Reader) (slot : Slot) (o : Optio
 abbrev pub GivesLast : LogValue → List Placed → (page : ℕ) → List Sector → Type 0
 GivesLast log records page sectors = IfSome (slot_of log.layout log.anchor.third page records) (λ slot. GivesSlot page log.anchor.epoch (reads sectors) slot (last_image page records))
 
--- the page's image of this stamp, if it could be read at a place
-pub record SeesImage (old : Moment) (place page : ℕ) (stamp : Stamp) (image : Option (List ℕ)) : Type 0 where
-  pub bytes : Option (List ℕ)
-  pub read : ReadWorn old place bytes
-  pub serves : image ≡ served (bears page stamp) bytes
+-- Of two copies the one that passes the test, the first where both do; where neither does, one that could be read.
+abbrev pub best_copy : (List ℕ → Bool) → Option (List ℕ) → Option (List ℕ) → Option (List ℕ)
+best_copy test first copy = option_or (option_or (either_copy test first copy) first) copy
 
--- the page's image, as it could be read at its slot, or else at the copy
+-- what could be read of a page at its slot: its image there or at the copy, or else one of the two that is whole
 pub record SeesSlot (old : Moment) (slot : Slot) (page epoch : ℕ) (image : Option (List ℕ)) : Type 0 where
   pub first : Option (List ℕ)
   pub copy : Option (List ℕ)
   pub read_first : ReadWorn old slot.place first
   pub read_copy : ReadWorn old slot.copy copy
-  pub serves : image ≡ either_copy (bears page (record { epoch = epoch; number = slot.number })) first copy
+  pub serves : image ≡ best_copy (bears page (record { epoch = epoch; number = slot.number })) first copy
 
--- the two sectors of a page's slot
+-- the two sectors of a page's slot: the page's own and its copy, in the record that the slot is of
 pub record LiesAt (slot : Option Slot) (a b : ℕ) : Type 0 where
   pub number : ℕ
   pub is : slot ≡ Some (record { place = a; copy = b; number = number })
@@ -49,15 +50,17 @@ abbrev pub ImageCause : Option Slot → Report → Report → LoadFault → Type
 ImageCause slot old new (Device place) = DeviceFault old new place
 ImageCause slot old new (Lost a b) = LiesAt slot a b
 
--- at neither of the slot's sectors could the page be read with the stamp of the slot's record
-pub record NeitherBears (log : LogValue) (page : ℕ) (old : Moment) (a b : ℕ) : Type 0 where
+-- The sectors are a page's own and its copy in the record that the log names as the page's last, and that lies in its layout.
+pub record AreLogged (log : LogValue) (page a b : ℕ) : Type 0 where
   pub lies : LiesAt (slice_index_or log.slots page None) a b
-  pub first : SeesImage old a page (record { epoch = log.anchor.epoch; number = lies.number }) None
-  pub copy : SeesImage old b page (record { epoch = log.anchor.epoch; number = lies.number }) None
+  pub in_record : LieInRecord log.layout a b
 
-abbrev pub LostCause : LogValue → ℕ → Moment → LoadFault → Type 0
-LostCause log page old (Device place) = ⊤
-LostCause log page old (Lost a b) = NeitherBears log page old a b
+-- The bytes stand whole in one of a slot's two sectors.
+pub record StandsAt (slot : Option Slot) (image : List Sector) (bytes : List ℕ) : Type 0 where
+  pub a : ℕ
+  pub b : ℕ
+  pub lies : LiesAt slot a b
+  pub stands : (sector_at image a ≡ Whole bytes) ⊎ (sector_at image b ≡ Whole bytes)
 
 abbrev pub IsDevice : LoadFault → Type 0
 IsDevice (Device place) = ⊤

@@ -4,7 +4,7 @@ use Rattle.fsd_formats.specs.declared.anchor.Anchor.{Anchor}
 use Rattle.volume_layout.specs.Shape.{Shape}
 use Rattle.fsd_log.specs.Scan.{Head, IsIn}
 use Rattle.log_thirds.specs.declared.slots.Slot.{Slot}
-use Rattle.log_thirds.specs.Slots.{SlotsInside}
+use Rattle.log_thirds.specs.Slots.{LieInRecords, SlotsInside}
 use Rattle.log_thirds.specs.Copies.{Copies, FitsDisk}
 
 pub record LogValue : Type 0 where
@@ -22,6 +22,7 @@ pub record IsShaped (layout : Shape) (anchor : Anchor) (head : Head) (slots : Li
   pub is_in : IsIn layout head
   pub table : length slots ≡ layout.pages
   pub on_disk : SlotsInside layout.sectors slots
+  pub in_records : LieInRecords layout slots
   pub copied : FitsDisk layout.sectors copies
   pub long : length buffer ≡ 100864
 

@@ -1,9 +1,10 @@
 //! Reading a page's image in a record.
-ghost use Rattle.std.specs.Prelude.{◌≡◌, ◌<◌, IfErr, IfOk};
+ghost use Rattle.std.specs.Prelude.{◌≡◌, ◌<◌, Some, None, Ok, IfErr, IfOk};
+ghost use Rattle.sector_disk.specs.Damage.{AreLost};
 ghost use Rattle.sector_disk.specs.Machine.{Moment, DeviceFault, UsesDisk, Trusts, Wears, LeavesOnly};
 ghost use Rattle.fsd_formats.specs.Record.{bears};
 ghost use Rattle.fsd_log.specs.Plain.{served};
-ghost use Rattle.log_thirds.specs.Images.{SeesImage, SeesSlot};
+ghost use Rattle.log_thirds.specs.Images.{best_copy, LiesAt, SeesSlot};
 
 use crate::reading::read_sector;
 use crate::slots::Slot;
@@ -35,28 +36,25 @@ fn serve(sector: Option<[u8; 512]>, page: u32, epoch: u32, number: u32) -> Optio
     }
 }
 
-// Reads the page's image in a record, if it stands at this place.
-fn read_image<M: Machine>(
-    m: &mut M,
-    place: u32,
+// Of a page's two copies, as they could be read, the one that is its image in a record, the first where both are; where
+// neither is, one that is whole.
+fn choose(
+    first: Option<[u8; 512]>,
+    copy: Option<[u8; 512]>,
     page: u32,
     epoch: u32,
     number: u32,
-) -> Result<Option<[u8; 512]>, Failed>
-    requires { place < (M.report m.old).sectors }
-    ensures fault { IfErr result (λ failed. DeviceFault (M.report m.old) (M.report m.new) failed.place) }
-    ensures uses { UsesDisk (M.report m.old) (M.report m.new) }
-    ensures trust { Trusts (M.tells m.old) (M.tells m.new) (M.honest m.old) (M.honest m.new) }
-    ensures ledger { M.tells m.new → M.ledger m.new ≡ M.ledger m.old }
-    ensures worn { M.honest m.new → Wears (M.now m.old) (M.now m.new) }
-    ensures any_moment { M.honest m.new → LeavesOnly M.moment M.left_since m.old m.new (Wears (M.now m.old)) }
-    ensures sees { IfOk result (λ o. M.honest m.new → SeesImage (M.now m.old) place page (record { epoch = epoch; number = number }) o) }
+) -> Option<[u8; 512]>
+    ensures { result ≡ best_copy (bears page (record { epoch = epoch; number = number })) first copy }
 {
-    let sector = read_sector(m, place)?;
-    Ok(serve(sector, page, epoch, number))
+    serve(first, page, epoch, number)
+        .or(serve(copy, page, epoch, number))
+        .or(first)
+        .or(copy)
 }
 
-/// Reads the page's image at its slot, and where it doesn't stand there, at the copy.
+/// Reads the page's image at its slot, and where it doesn't stand there, at the copy. Where it stands at neither, it gives
+/// one of the two that is whole; none where both are damaged.
 pub(crate) fn read_slot<M: Machine>(
     m: &mut M,
     slot: Slot,
@@ -72,10 +70,12 @@ pub(crate) fn read_slot<M: Machine>(
     ensures worn { M.honest m.new → Wears (M.now m.old) (M.now m.new) }
     ensures any_moment { M.honest m.new → LeavesOnly M.moment M.left_since m.old m.new (Wears (M.now m.old)) }
     ensures sees { IfOk result (λ o. M.honest m.new → SeesSlot (M.now m.old) slot page epoch o) }
+    ensures lost { result ≡ Ok None → M.honest m.new → AreLost (LiesAt (Some slot)) (M.now m.new).image slot.place slot.copy }
 {
-    match read_image(m, slot.place, page, epoch, slot.number) {
-        Ok(Some(image)) => Ok(Some(image)),
-        Ok(None) => read_image(m, slot.copy, page, epoch, slot.number),
-        Err(failed) => Err(failed),
+    let first = read_sector(m, slot.place)?;
+    if let Some(image) = serve(first, page, epoch, slot.number) {
+        return Ok(Some(image));
     }
+    let copy = read_sector(m, slot.copy)?;
+    Ok(choose(first, copy, page, epoch, slot.number))
 }

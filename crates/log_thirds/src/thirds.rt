@@ -58,13 +58,14 @@ impl Model for Log {
 
 impl Log {
     ghost use Rattle.std.specs.Prelude.{◌≡◌, ◌≤◌, ◌<◌, ◌+◌, ◌-◌, ◌*◌, ◌^◌, ◌↔◌, ◌++◌, ◌∷◌, [], List, ℕ, length, Some, None, Ok, Err, true, false, if◌then◌else◌, slice_index_or, IsTrue, IfErr, IfOk, IfSome, IfNone, OnOk, OnErr};
+    ghost use Rattle.sector_disk.specs.Damage.{LostCause};
     ghost use Rattle.sector_disk.specs.Image.{stand};
     ghost use Rattle.sector_disk.specs.Machine.{DeviceFault, UsesDisk, Trusts, LeavesOnly, Holds, Wears, OnlyWrites, wrote};
     ghost use Rattle.fsd_formats.specs.Record.{are_pages, AreStamped};
     ghost use Rattle.fsd_log.specs.Laid.{laid_bytes, slices};
     ghost use Rattle.fsd_log.specs.Scan.{Placed, HasRoom, spot_for, place_of};
     ghost use Rattle.log_thirds.specs.LogValue.{FitsLayout};
-    ghost use Rattle.log_thirds.specs.Images.{ImageCause, LostCause, IsDevice, GivesLast};
+    ghost use Rattle.log_thirds.specs.Images.{ImageCause, AreLogged, StandsAt, IsDevice, GivesLast};
     ghost use Rattle.fsd_log.specs.Images.{last_image};
     ghost use Rattle.log_thirds.specs.Copies.{copies_count, IsLast};
     ghost use Rattle.log_thirds.specs.Append.{IsCalm, IsLogIn, Appends, IsNarrow, IsLogWorn, AppendsWorn, stamp_now, next_record, log_with, scan_of, GoesAt, FitsTwo, IsIndexed, KnowsLast, StandsInPart, IsLeastOfThird, NoneOfThird};
@@ -246,10 +247,10 @@ impl Log {
         least_in(self.slots.as_slice(), first, start, third)
     }
 
-    /// Reads a page's last image, and answers false where the log has none. Where sectors have worn, or the disk no longer
-    /// is what the log was found on, it may be lost: neither of the two sectors, which the fault names, could be read with
-    /// the page and the stamp of its record, since each was damaged or bears something else. Where nothing wears and a scan
-    /// still gives the log's records, none is lost.
+    /// Reads a page's last image, and answers false where the log has none. Its sector is taken where that bears the page and
+    /// the stamp of its record, else the copy where that does. It is lost exactly where both read damaged. Where the disk no
+    /// longer is what the log was found on, one of them may be whole and bear something else: then that is what it gives.
+    /// Where nothing wears and a scan still gives the log's records, none is lost.
     pub fn image_of<M: Machine>(
         &self,
         m: &mut M,
@@ -259,7 +260,8 @@ impl Log {
         requires page { page < self.now.layout.pages }
         requires sectors { self.now.layout.sectors ≤ (M.report m.old).sectors }
         ensures fault { IfErr result (ImageCause (slice_index_or self.now.slots page None) (M.report m.old) (M.report m.new)) }
-        ensures lost { IfErr result (λ fault. M.honest m.new → LostCause self.now page (M.now m.old) fault) }
+        ensures lost { IfErr result (λ fault. M.honest m.new → LostCause (AreLogged self.now page) (M.now m.new).image fault) }
+        ensures whole { result ≡ Ok true → M.honest m.new → StandsAt (slice_index_or self.now.slots page None) (M.now m.old).image buf.new }
         ensures uses { UsesDisk (M.report m.old) (M.report m.new) }
         ensures trust { Trusts (M.tells m.old) (M.tells m.new) (M.honest m.old) (M.honest m.new) }
         ensures ledger { M.tells m.new → M.ledger m.new ≡ M.ledger m.old }

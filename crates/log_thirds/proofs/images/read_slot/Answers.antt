@@ -1,24 +1,29 @@
-use Rattle.std.proofs.Common.{ℕ, List, Option, subst}
-use Rattle.std.specs.Prelude.{IfOk, Result, Ok, Err}
-use Rattle.log_thirds.specs.Images.{SeesImage}
-use Rattle.log_thirds.proofs.ImageLaws.{slot_first, slot_second}
+use Rattle.std.proofs.Common.{◌≡◌, ℕ, Bool, List, Option, None, Result, Ok, refl, sym, ap, ◌∙◌}
+use Rattle.sector_disk.specs.Image.{open_damage}
+use Rattle.sector_disk.proofs.Wear.{worn_damaged}
+use Rattle.fsd_formats.specs.Record.{bears}
+use Rattle.log_thirds.proofs.ImageLaws.{none_is_neither, slot_first}
 use Rattle.log_thirds.proofs.images.read_slot.Goals as goal
 
-if_ok : {T E : Type 0} {P Q : T → Type 0} (r : Result T E) → ((x : T) → P x → Q x) → IfOk r P → IfOk r Q
-if_ok (Ok x) more holds = more x holds
-if_ok (Err e) more holds = tt
+is_none : {E : Type 0} (o : Option (List ℕ)) → ◌≡◌ {A = Result (Option (List ℕ)) E} (Ok o) (Ok None) → o ≡ None
+is_none o is = cc is
 
-pub returns-in-Ok-Some-clause-sees : goal.returns-in-Ok-Some-clause-sees
-returns-in-Ok-Some-clause-sees g c h =
+pub returns-in-Some-clause-sees : goal.returns-in-Some-clause-sees
+returns-in-Some-clause-sees g c h =
+    let M = g.M.Machine in
+    slot_first (M.now c.args.m.now) c.args.slot c.args.page c.args.epoch c.in_ok-first.first c.in-Some.image (c.in_ok-first.ensures.read h) (sym c.in-Some.ensures)
+
+pub returns-clause-lost : goal.returns-clause-lost
+returns-clause-lost g c is h =
     let M = g.M.Machine in
     let slot = c.args.slot in
-    slot_first (M.now c.args.m.now) slot c.args.page c.args.epoch c.in-Ok-Some.image
-    (subst (λ (o : Option (List ℕ)). SeesImage (M.now c.args.m.now) c.args.slot.place c.args.page (record { epoch = c.args.epoch; number = c.args.slot.number }) o) c.in-Ok-Some.field-0-is (c.in-Ok-Some.ensures.sees h))
-
-pub returns-in-Ok-None-clause-sees : goal.returns-in-Ok-None-clause-sees
-returns-in-Ok-None-clause-sees g c =
-    let M = g.M.Machine in
-    let h1 = c.read_image-in-Ok-None.ensures.trust.honest in
-    if_ok c.read_image-in-Ok-None.result (λ o sees h. slot_second (M.now c.args.m.now) c.args.slot c.args.page c.args.epoch (M.now c.read_image.new.m) o (c.read_image.ensures.worn (h1 h))
-    (subst (λ (x : Option (List ℕ)). SeesImage (M.now c.args.m.now) c.args.slot.place c.args.page (record { epoch = c.args.epoch; number = c.args.slot.number }) x) c.in-Ok-None.field-0-is (c.in-Ok-None.ensures.sees (h1 h))) (sees h))
-    c.read_image-in-Ok-None.ensures.sees
+    let mid = M.now c.read_sector.new.m in
+    let worn = c.read_sector-2.ensures.worn h in
+    let test : List ℕ → Bool = bears c.args.page (record { epoch = c.args.epoch; number = slot.number }) in
+    let neither = none_is_neither test c.in_ok-first.first c.in_ok-copy.copy (sym c.choose.ensures ∙ is_none c.choose.result is) in
+    record {
+      copies = record { number = slot.number; is = refl };
+      first = worn_damaged (open_damage mid.windows) mid.image (M.now c.read_sector-2.new.m).image slot.place worn.image
+          (c.in_ok-first.ensures.damaged (ap (λ (o : Option (List ℕ)). Ok o) neither.0) (c.read_sector-2.ensures.trust.honest h));
+      second = c.in_ok-copy.ensures.damaged (ap (λ (o : Option (List ℕ)). Ok o) neither.1) h;
+    }

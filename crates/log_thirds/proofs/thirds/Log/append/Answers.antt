@@ -7,8 +7,8 @@ use Rattle.fsd_log.specs.Laid.{laid_bytes}
 use Rattle.fsd_log.specs.Scan.{IsIn, IsEnd, spot_for, place_of}
 use Rattle.log_thirds.specs.LogValue.{LogValue}
 use Rattle.log_thirds.specs.Append.{StandsInPart, IsLogIn, IsLogWorn, stamp_now, next_record, head_past, log_past, log_with, IsIndexed}
-use Rattle.log_thirds.specs.Slots.{noted, SlotsInside}
-use Rattle.log_thirds.proofs.SlotLaws.{length-noted, slots_more, record_inside}
+use Rattle.log_thirds.specs.Slots.{noted, LieInRecords, SlotsInside}
+use Rattle.log_thirds.proofs.SlotLaws.{length-noted, slots_more, record_inside, record_lies}
 use Rattle.std.specs.Vec.{with_items}
 use Rattle.std.proofs.lemmas.List.{with_items_is}
 use Rattle.log_thirds.proofs.MomentLaws.{MayAppend, all_small, write_inside, spots, in_third, appends_at, appended_at}
@@ -270,6 +270,7 @@ invariant_of-self-2 g c =
     let buffer : (with_items c.self.inside.buffer c.write_record.new.buffer).items ≡ c.write_record.new.buffer = with_items_is c.self.inside.buffer c.write_record.new.buffer (c.write_record.auto.buffer ∙ c.as_mut_slice.ensures.len) in
     let slots : c.as_mut_slice-2.result.now ≡ log.slots = c.as_mut_slice-2.ensures.value ∙ ap (λ (x : LogValue). x.slots) c.self.view_is in
     let on_disk : SlotsInside log.layout.sectors c.as_mut_slice-2.result.now = subst (SlotsInside log.layout.sectors) (sym slots) (subst (λ (x : LogValue). SlotsInside x.layout.sectors x.slots) c.self.view_is was.on_disk) in
+    let in_records : LieInRecords log.layout c.as_mut_slice-2.result.now = subst (LieInRecords log.layout) (sym slots) (subst (λ (x : LogValue). LieInRecords x.layout x.slots) c.self.view_is was.in_records) in
     record {
       least = was.least;
       most = was.most;
@@ -282,6 +283,10 @@ invariant_of-self-2 g c =
           (subst (λ (x : LogValue). SlotsInside x.layout.sectors (noted c.self.inside.number (c.place-place.result + 3) (c.place-place.result + 3 + length c.args.pages.now + 1) c.args.pages.now c.as_mut_slice-2.result.now)) (sym c.self.view_is)
           (record_inside log.layout log.anchor.third c.self.inside.number (spot_for log.layout (length c.args.pages.now) log.head).at (spot_for log.layout (length c.args.pages.now) log.head).end c.place-place.result c.args.pages.now c.as_mut_slice-2.result.now
           (in_third log c.args.pages.now c.args.images.now (16 + 3 * log.layout.third) may) inside (c.place-place.ensures ∙ ap (place_of log.layout log.anchor.third) at) on_disk));
+      in_records = subst (LieInRecords c.self.inside.layout) (sym (kept ∙ c.note.ensures))
+          (subst (λ (x : LogValue). LieInRecords x.layout (noted c.self.inside.number (c.place-place.result + 3) (c.place-place.result + 3 + length c.args.pages.now + 1) c.args.pages.now c.as_mut_slice-2.result.now)) (sym c.self.view_is)
+          (record_lies log.layout log.anchor.third c.self.inside.number (spot_for log.layout (length c.args.pages.now) log.head).at (spot_for log.layout (length c.args.pages.now) log.head).end c.place-place.result c.args.pages.now c.as_mut_slice-2.result.now
+          (in_third log c.args.pages.now c.args.images.now (16 + 3 * log.layout.third) may) (c.place-place.ensures ∙ ap (place_of log.layout log.anchor.third) at) in_records));
       copied = was.copied;
       long = ap length buffer ∙ c.write_record.auto.buffer ∙ ap length c.as_mut_slice.ensures.value ∙ was.long;
     }

@@ -9,12 +9,12 @@ use Rattle.log_thirds.specs.declared.find.Step.{Step}
 use Rattle.log_thirds.specs.declared.slots.Slot.{Slot}
 use Rattle.fsd_log.specs.Scan.{Head, tape, next, last_number}
 use Rattle.log_thirds.specs.Disk.{reads}
-use Rattle.log_thirds.specs.Slots.{noted, slots_with, SlotsInside}
+use Rattle.log_thirds.specs.Slots.{noted, slots_with, LieInRecords, SlotsInside}
 use Rattle.log_thirds.specs.Reading.{StepsOn, stepped_in, stepped_of}
 use Rattle.fsd_log.proofs.WalkLaws.{ends_inside}
 use Rattle.log_thirds.proofs.ReadingLaws.{wears_here, wears_on, uses_on, reads_on, fault_on}
 use Rattle.log_thirds.proofs.FindLaws.{reads_same, calm_on, place_most}
-use Rattle.log_thirds.proofs.SlotLaws.{length-noted, none_inside, record_inside}
+use Rattle.log_thirds.proofs.SlotLaws.{length-noted, none_inside, none_lie, record_inside, record_lies}
 use Rattle.log_thirds.specs.Copies.{FitsDisk, AreCopies}
 use Rattle.fsd_log.proofs.PlaceLaws.{place_inside}
 use Rattle.log_thirds.proofs.ScanLaws.{Reaches, reaches_start, reaches_on, reaches_end}
@@ -35,6 +35,7 @@ loop-from-init g c =
       moments = λ h. started M.moment M.left_since c.args.m.now (M.now c.args.m.now) _ (λ l left. g.met.M.Machine.only_now c.args.m.now l h left) (wears_here (M.now c.args.m.now));
       table = ap length table ∙ length-replicate c.pages.result _ ∙ c.pages.ensures.value;
       on_disk = subst (SlotsInside c.args.layout.now.sectors) (sym table) (none_inside c.args.layout.now.sectors c.pages.result);
+      in_records = subst (LieInRecords c.args.layout.now) (sym table) (none_lie c.args.layout.now c.pages.result);
       fits = subst (λ (b : List ℕ). FitsDisk c.args.layout.now.sectors (record { place = 0; bytes = b })) (sym c.new-copies.ensures.items) (record { whole = refl; inside = omega arith });
       reaches = λ h calm. subst (λ (b : List ℕ). Reaches c.args.layout.now c.args.anchor.now.epoch c.args.anchor.now.first c.args.anchor.now.third (tape c.args.layout.now c.args.anchor.now.third (reads (M.now c.args.m.now).image)) (record { number = c.args.anchor.now.first; at = 0; end = c.third-third.result }) c.in-Ok-no_slots.slots.items (record { place = 0; bytes = b })) (sym c.new-copies.ensures.items) (subst (λ (s : List (Option Slot)). Reaches c.args.layout.now c.args.anchor.now.epoch c.args.anchor.now.first c.args.anchor.now.third (tape c.args.layout.now c.args.anchor.now.third (reads (M.now c.args.m.now).image)) (record { number = c.args.anchor.now.first; at = 0; end = c.third-third.result }) s (record { place = 0; bytes = [] })) (sym table)
           (subst (λ (x : Head). Reaches c.args.layout.now c.args.anchor.now.epoch c.args.anchor.now.first c.args.anchor.now.third (tape c.args.layout.now c.args.anchor.now.third (reads (M.now c.args.m.now).image)) x (replicate c.pages.result None) (record { place = 0; bytes = [] })) same
@@ -134,6 +135,10 @@ loop-from-preserved g c =
           (record_inside c.args.layout.now c.args.anchor.now.third c.loop-from.number c.in-Ok-Some.field-0-0.from c.in-Ok-Some.field-0-0.past.end c.place_of-place.result c.as_slice.result.now c.as_mut_slice.result.now
           (record { one_of = c.requires.third; ends = gone.goes.ends; from = gone.in_third; to = omega (arith, gone.lies, gone.goes.before, ap length c.as_slice.ensures.value) })
           (omega (arith, c.sectors-sectors.ensures.log, c.sectors-sectors.ensures.value)) c.place_of-place.ensures (subst (SlotsInside c.args.layout.now.sectors) (sym c.as_mut_slice.ensures.value) so_far.on_disk));
+      in_records = subst (LieInRecords c.args.layout.now) (sym (kept ∙ c.note.ensures))
+          (record_lies c.args.layout.now c.args.anchor.now.third c.loop-from.number c.in-Ok-Some.field-0-0.from c.in-Ok-Some.field-0-0.past.end c.place_of-place.result c.as_slice.result.now c.as_mut_slice.result.now
+          (record { one_of = c.requires.third; ends = gone.goes.ends; from = gone.in_third; to = omega (arith, gone.lies, gone.goes.before, ap length c.as_slice.ensures.value) })
+          c.place_of-place.ensures (subst (LieInRecords c.args.layout.now) (sym c.as_mut_slice.ensures.value) so_far.in_records));
       fits = record {
         whole = omega (arith, copied.long);
         inside = omega (

@@ -2,7 +2,7 @@ use Rattle.std.proofs.Common.{◌≡◌, ◌-◌, ◌*◌, length}
 use Rattle.sector_disk.specs.Machine.{UsesDisk, Trusts, Wears, LeavesOnly}
 use Rattle.fsd_log.specs.Scan.{IsIn, tape}
 use Rattle.log_thirds.specs.Disk.{reads}
-use Rattle.log_thirds.specs.Slots.{SlotsInside}
+use Rattle.log_thirds.specs.Slots.{LieInRecords, SlotsInside}
 use Rattle.log_thirds.specs.Copies.{FitsDisk}
 use Rattle.log_thirds.specs.Append.{IsCalm}
 use Rattle.log_thirds.proofs.ScanLaws.{Reaches}
@@ -18,6 +18,7 @@ invariant-loop-from g l = let M = g.M.Machine in let old = l.fn.m in record {
   moments : M.honest l.m → LeavesOnly M.moment M.left_since old l.m (Wears (M.now old));
   table : length l.slots.items ≡ l.layout.pages;
   on_disk : SlotsInside l.layout.sectors l.slots.items;
+  in_records : LieInRecords l.layout l.slots.items;
   fits : FitsDisk l.layout.sectors (record { place = l.copies_at; bytes = l.copies.items });
   reaches : M.honest l.m → IsCalm (M.now old) → Reaches l.layout l.anchor.epoch l.anchor.first l.anchor.third (tape l.layout l.anchor.third (reads (M.now old).image)) (record { number = l.number; at = l.at; end = l.end }) l.slots.items (record { place = l.copies_at; bytes = l.copies.items });
 }
