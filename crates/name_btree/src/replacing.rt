@@ -43,7 +43,7 @@ pub fn replace_same_size<T: Pages>(t: &mut T, entry: &Entry) -> Result<(), TreeF
     ensures replaced { OnOk result (IsEdited (T.step t.old) (T.step t.new) (map (put entry.now))) }
     ensures fault { IfErr result (HasCause (T.step t.new).refusal (BreaksTree (T.step t.old).images)) }
 {
-    let found = leaf_below(t, top(), &Cut::UpTo(entry.key.copied()))?;
+    let found = leaf_below(t, top(), 0, &Cut::UpTo(entry.key.copied()))?;
     if !has_as_long(&found.entries, entry) {
         return Err(TreeFault::Broken(found.page));
     }
