@@ -12,9 +12,10 @@ use Rattle.fsd_table.specs.Table.{max_height, top, IsVisited, BreaksTable}
 use Rattle.fsd_table.proofs.BreakLaws.{visited_top, visited_children, above_visited, misfit_breaks, too_deep_breaks}
 use Rattle.name_btree.specs.declared.descent.Way.{Way}
 use Rattle.name_btree.specs.declared.descent.Neighbour.{Neighbour}
+use Rattle.name_btree.specs.declared.descent.Found.{Found}
 use Rattle.name_btree.specs.declared.fault.TreeFault.{TreeFault}
 use Rattle.name_btree.specs.declared.fault.TreeFault.TheVariants.{Pages, Broken}
-use Rattle.name_btree.specs.Descent.{end_of, way_to, IsAbove, IsNeighbour}
+use Rattle.name_btree.specs.Descent.{end_of, way_to, IsAbove, IsNeighbour, HasNeighbours}
 use Rattle.name_btree.specs.Fault.{HasCause, IsMisfit, BreaksBelow, BreaksBeside}
 
 -- ---- one page
@@ -88,9 +89,20 @@ pub neighbour_breaks : (given : Option Refusal) (fault : TreeFault) (pages : Lis
 neighbour_breaks given (Pages refusal) pages n h = h
 neighbour_breaks given (Broken page) pages n h = λ is. h is.1
 
-pub beside_breaks : (given : Option Refusal) (fault : TreeFault) (pages : List (List ℕ)) (n : Neighbour) → IsNeighbour pages n → HasCause given (BreaksBeside pages n) fault → HasCause given (BreaksTable pages) fault
+beside_breaks : (given : Option Refusal) (fault : TreeFault) (pages : List (List ℕ)) (n : Neighbour) → IsNeighbour pages n → HasCause given (BreaksBeside pages n) fault → HasCause given (BreaksTable pages) fault
 beside_breaks given (Pages refusal) pages n is h = h
 beside_breaks given (Broken page) pages n is h = h is
+
+found_beside : (pages : List (List ℕ)) (c : Child) (found : Found) → c ≡ top → HasNeighbours pages 0 c found → IfSome found.previous (IsNeighbour pages) × IfSome found.next (IsNeighbour pages)
+found_beside pages c found is beside = beside (subst (IsVisited pages 1) (sym is) (visited_top pages))
+
+pub next_breaks : (given : Option Refusal) (fault : TreeFault) (pages : List (List ℕ)) (c : Child) (found : Found) (n : Neighbour) → c ≡ top → HasNeighbours pages 0 c found → found.next ≡ Some n
+    → HasCause given (BreaksBeside pages n) fault → HasCause given (BreaksTable pages) fault
+next_breaks given fault pages c found n is beside at h = beside_breaks given fault pages n (subst (λ (o : Option Neighbour). IfSome o (IsNeighbour pages)) at (found_beside pages c found is beside).1) h
+
+pub previous_breaks : (given : Option Refusal) (fault : TreeFault) (pages : List (List ℕ)) (c : Child) (found : Found) (n : Neighbour) → c ≡ top → HasNeighbours pages 0 c found → found.previous ≡ Some n
+    → HasCause given (BreaksBeside pages n) fault → HasCause given (BreaksTable pages) fault
+previous_breaks given fault pages c found n is beside at h = beside_breaks given fault pages n (subst (λ (o : Option Neighbour). IfSome o (IsNeighbour pages)) at (found_beside pages c found is beside).0) h
 
 pub root_above : (pages : List (List ℕ)) (n : Neighbour) → IsNeighbour pages n → IsAbove pages top
 root_above pages n is = above_visited pages (n.above + 1) n.child (omega (arith, is.0)) is.1
