@@ -190,22 +190,29 @@ length-of_map : (all : List Visit) → length (map (λ v. v.page) all) ≡ lengt
 length-of_map [] = refl
 length-of_map (v ∷ all) = ap suc (length-of_map all)
 
--- what a tree tells
-pub tree_told : (pages : List (List ℕ)) (height : ℕ) → IsTree pages height → told_in pages ≡ Some (record { entries = table_of pages height; reached = length (pages_of pages height) })
-unfolding told_in visits
-tree_told pages height t =
-    let all : List Visit = visits pages in
-    let tell : Tells height (height - 1) pages top all = tells (height - 1) (suc max_height) height 1 pages top (low height t.most) (from_one height t.least) t.subtree in
-    let shape = shaped height (height - 1) pages top all t.most tell t.apart in
-    ap (λ (b : Bool). cond b (Some (told (entries_in all) (length all))) None) shape
-    ∙ ap (λ (x : List Entry). Some (told x (length all))) tell.entries_are
-    ∙ ap (λ (n : ℕ). Some (told (table_of pages height) n)) (sym (length-of_map all) ∙ ap length tell.pages_are)
+-- the visits of a tree
+tree_tells : (pages : List (List ℕ)) (height : ℕ) → IsTree pages height → Tells height (height - 1) pages top (visits pages)
+unfolding visits
+tree_tells pages height t = tells (height - 1) (suc max_height) height 1 pages top (low height t.most) (from_one height t.least) t.subtree
   where
-    told : List Entry → ℕ → Telling
-    told entries reached = record { entries = entries; reached = reached }
-
     low : (height : ℕ) → height ≤ max_height → height - 1 < suc max_height
     low height h = omega arith
 
     from_one : (height : ℕ) → 1 ≤ height → 1 + (height - 1) ≡ height
     from_one height h = omega arith
+
+pub all_in_shape : (pages : List (List ℕ)) (height : ℕ) → IsTree pages height → list_all (in_shape (visits pages)) (visits pages) ≡ true
+all_in_shape pages height t = shaped height (height - 1) pages top (visits pages) t.most (tree_tells pages height t) t.apart
+
+-- what a tree tells
+pub tree_told : (pages : List (List ℕ)) (height : ℕ) → IsTree pages height → told_in pages ≡ Some (record { entries = table_of pages height; reached = length (pages_of pages height) })
+unfolding told_in
+tree_told pages height t =
+    let all : List Visit = visits pages in
+    let tell : Tells height (height - 1) pages top all = tree_tells pages height t in
+    ap (λ (b : Bool). cond b (Some (told (entries_in all) (length all))) None) (all_in_shape pages height t)
+    ∙ ap (λ (x : List Entry). Some (told x (length all))) tell.entries_are
+    ∙ ap (λ (n : ℕ). Some (told (table_of pages height) n)) (sym (length-of_map all) ∙ ap length tell.pages_are)
+  where
+    told : List Entry → ℕ → Telling
+    told entries reached = record { entries = entries; reached = reached }

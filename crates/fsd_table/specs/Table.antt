@@ -17,13 +17,14 @@ pub record Visit : Type 0 where
   pub high : Option Key
   pub content : Option Content
 
+-- a child that is reached so deep
+abbrev pub visit_of : List (List ℕ) → (depth : ℕ) → Child → Visit
+visit_of pages depth c = record { page = c.page; depth = depth; low = c.low; high = c.high; content = page_at pages c.page }
+
 -- the page, and all below it, to a depth
 abbrev pub visits_below : ℕ → List (List ℕ) → (depth : ℕ) → Child → List Visit
 visits_below zero pages depth c = []
-visits_below (suc levels) pages depth c =
-    let content = page_at pages c.page in
-    record { page = c.page; depth = depth; low = c.low; high = c.high; content = content }
-    ∷ flat_map (visits_below levels pages (depth + 1)) (children_of c.low c.high content)
+visits_below (suc levels) pages depth c = visit_of pages depth c ∷ flat_map (visits_below levels pages (depth + 1)) (children_of c.low c.high (page_at pages c.page))
 
 abbrev pub max_height : ℕ
 max_height = 6
@@ -35,6 +36,10 @@ top = record { page = 0; low = None; high = None }
 -- one level more than a table may have
 unfoldable pub visits : List (List ℕ) → List Visit
 visits pages = visits_below (suc max_height) pages 1 top
+
+-- a path from page 0 reaches the child so deep
+abbrev pub IsVisited : List (List ℕ) → (depth : ℕ) → Child → Type 0
+IsVisited pages depth c = Contains (visits pages) (visit_of pages depth c)
 
 -- ---- what breaks a table
 

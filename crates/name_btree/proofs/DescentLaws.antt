@@ -16,11 +16,8 @@ use Rattle.fsd_table.specs.Table.{max_height}
 use Rattle.fsd_table.specs.Tree.{entries_below, IsLeaf, IsInterior, IsSubtree}
 use Rattle.fsd_table.proofs.PageLaws.{at_is_page, interior_ascends}
 use Rattle.fsd_table.proofs.BoundLaws.{all_append, all_weaker, Fits, parts_fit, later_fit, ascend_tail, entries_between}
-use Rattle.fsd_bytes.specs.declared.refusal.Refusal.{Refusal}
 use Rattle.name_btree.specs.declared.descent.Way.{Way}
-use Rattle.name_btree.specs.declared.fault.TreeFault.{TreeFault}
-use Rattle.name_btree.specs.declared.fault.TreeFault.TheVariants.{Pages, Broken}
-use Rattle.name_btree.specs.Fault.{HasCause, IsMisfit, BreaksSubtree}
+use Rattle.name_btree.specs.declared.descent.Neighbour.{Neighbour}
 use Rattle.name_node.specs.Cut.{IsLesser}
 use Rattle.name_node.proofs.CutLaws.{IsMonotone, behind}
 use Rattle.name_btree.specs.Descent.{end_of, way_to, IsAbove, IsNext, IsPrevious, IsAt}
@@ -28,7 +25,7 @@ use Rattle.name_btree.specs.Descent.{end_of, way_to, IsAbove, IsNext, IsPrevious
 -- ---- one page
 
 -- what stands below the way's child, among what stands below all children and beside them
-record Inner (before : Key → Bool) (f : Child → List Entry) (P : Child → Type 0) (Q R : Option Child → List Entry → Type 0) (whole : List Entry) (w : Way) : Type 0 where
+record Inner (before : Key → Bool) (f : Child → List Entry) (P : Child → Type 0) (Q R : Option Neighbour → List Entry → Type 0) (whole : List Entry) (w : Way) : Type 0 where
   left : List Entry
   right : List Entry
   parts : whole ≡ left ++ (f w.child ++ right)
@@ -42,23 +39,23 @@ record Inner (before : Key → Bool) (f : Child → List Entry) (P : Child → T
 abbrev Stands : (Child → List Entry) → (Child → Type 0) → Child → Type 0
 Stands f P d = P d × AllByRecursion (Fits d.low d.high) (f d)
 
-module _ (before : Key → Bool) (mono : IsMonotone before) (f : Child → List Entry) (P : Child → Type 0) (Q R : Option Child → List Entry → Type 0) (high lo : Option Key) (next : Option Child) (right0 : List Entry)
-    (ends : (d : Child) (xs : List Entry) → P d → Q (Some d) (xs ++ f d)) (begins : (d : Child) (xs : List Entry) → P d → R (Some d) (f d ++ xs))
+module _ (before : Key → Bool) (mono : IsMonotone before) (above : ℕ) (f : Child → List Entry) (P : Child → Type 0) (Q R : Option Neighbour → List Entry → Type 0) (high lo : Option Key) (next : Option Neighbour) (right0 : List Entry)
+    (ends : (d : Child) (xs : List Entry) → P d → Q (Some (record { child = d; above = above })) (xs ++ f d)) (begins : (d : Child) (xs : List Entry) → P d → R (Some (record { child = d; above = above })) (f d ++ xs))
     (over : AllByRecursion (λ e. before e.key ≡ false) right0) (next_is : R next right0) where
   head_is : (first : ℕ) (low : Option Key) (separators : List Separator) → AllByRecursion (Stands f P) (children first low high separators)
-      → R (Some (record { page = first; low = low; high = end_of high separators })) (flat_map f (children first low high separators) ++ right0)
+      → R (Some (record { child = record { page = first; low = low; high = end_of high separators }; above = above })) (flat_map f (children first low high separators) ++ right0)
   head_is first low [] each =
       let c : Child = record { page = first; low = low; high = high } in
-      subst (R (Some c)) (sym (append_assoc (f c) [] right0)) (begins c ([] ++ right0) each.0.0)
+      subst (R (Some (record { child = c; above = above }))) (sym (append_assoc (f c) [] right0)) (begins c ([] ++ right0) each.0.0)
   head_is first low (s ∷ separators) each =
       let c : Child = record { page = first; low = low; high = Some s.key } in
       let rest : List Entry = flat_map f (children s.child (Some s.key) high separators) in
-      subst (R (Some c)) (sym (append_assoc (f c) rest right0)) (begins c (rest ++ right0) each.0.0)
+      subst (R (Some (record { child = c; above = above }))) (sym (append_assoc (f c) rest right0)) (begins c (rest ++ right0) each.0.0)
 
-  inner : (first : ℕ) (low : Option Key) (separators : List Separator) (previous : Option Child) (left0 : List Entry)
+  inner : (first : ℕ) (low : Option Key) (separators : List Separator) (previous : Option Neighbour) (left0 : List Entry)
       → AllByRecursion (IsLesser before) left0 → Q previous left0 → keys_fit lo high (separator_keys separators) ≡ true → are_ascending (separator_keys separators) ≡ true
       → AllByRecursion (Stands f P) (children first low high separators)
-      → Inner before f P Q R (left0 ++ (flat_map f (children first low high separators) ++ right0)) (way_to before previous next first low high separators)
+      → Inner before f P Q R (left0 ++ (flat_map f (children first low high separators) ++ right0)) (way_to before above previous next first low high separators)
   inner first low [] previous left0 under previous_is fit asc each = record {
     left = left0;
     right = right0;
@@ -71,15 +68,15 @@ module _ (before : Key → Bool) (mono : IsMonotone before) (f : Child → List 
   }
   inner first low (s ∷ separators) previous left0 under previous_is fit asc each =
       let fits = and_parts (not_below lo s.key && below high s.key) (keys_fit lo high (separator_keys separators)) fit in
-      by fits.1 (λ left1 under1 previous1. inner s.child (Some s.key) separators (Some (record { page = first; low = low; high = Some s.key })) left1 under1 previous1 fits.1 (ascend_tail s.key (separator_keys separators) asc) each.1) (before s.key) refl
+      by fits.1 (λ left1 under1 previous1. inner s.child (Some s.key) separators (Some (record { child = record { page = first; low = low; high = Some s.key }; above = above })) left1 under1 previous1 fits.1 (ascend_tail s.key (separator_keys separators) asc) each.1) (before s.key) refl
     where
       by : keys_fit lo high (separator_keys separators) ≡ true
-          → ((left1 : List Entry) → AllByRecursion (IsLesser before) left1 → Q (Some (record { page = first; low = low; high = Some s.key })) left1
-          → Inner before f P Q R (left1 ++ (flat_map f (children s.child (Some s.key) high separators) ++ right0)) (way_to before (Some (record { page = first; low = low; high = Some s.key })) next s.child (Some s.key) high separators))
+          → ((left1 : List Entry) → AllByRecursion (IsLesser before) left1 → Q (Some (record { child = record { page = first; low = low; high = Some s.key }; above = above })) left1
+          → Inner before f P Q R (left1 ++ (flat_map f (children s.child (Some s.key) high separators) ++ right0)) (way_to before above (Some (record { child = record { page = first; low = low; high = Some s.key }; above = above })) next s.child (Some s.key) high separators))
           → (b : Bool) → before s.key ≡ b
           → Inner before f P Q R (left0 ++ ((f (record { page = first; low = low; high = Some s.key }) ++ flat_map f (children s.child (Some s.key) high separators)) ++ right0))
-          (cond b (way_to before (Some (record { page = first; low = low; high = Some s.key })) next s.child (Some s.key) high separators)
-          (record { child = record { page = first; low = low; high = Some s.key }; previous = previous; next = Some (record { page = s.child; low = Some s.key; high = end_of high separators }) }))
+          (cond b (way_to before above (Some (record { child = record { page = first; low = low; high = Some s.key }; above = above })) next s.child (Some s.key) high separators)
+          (record { child = record { page = first; low = low; high = Some s.key }; previous = previous; next = Some (record { child = record { page = s.child; low = Some s.key; high = end_of high separators }; above = above }) }))
       by fit1 again true is =
           let c : Child = record { page = first; low = low; high = Some s.key } in
           let rest : List Child = children s.child (Some s.key) high separators in
@@ -144,25 +141,25 @@ way_begins before pages start level0 low sub = record {
   from = inl refl;
 }
 
-above : (pages : List (List ℕ)) (start c : Child) (first : ℕ) (separators : List Separator) → page_at pages c.page ≡ Some (Interior first separators) → (c ≡ start) ⊎ IsAbove pages start → IsAbove pages start
-above pages start c first separators at (inl e) = (first, separators, ap (λ (d : Child). page_at pages d.page) (sym e) ∙ at)
-above pages start c first separators at (inr a) = a
+start_above : (pages : List (List ℕ)) (start c : Child) (first : ℕ) (separators : List Separator) → page_at pages c.page ≡ Some (Interior first separators) → (c ≡ start) ⊎ IsAbove pages start → IsAbove pages start
+start_above pages start c first separators at (inl e) = (first, separators, ap (λ (d : Child). page_at pages d.page) (sym e) ∙ at)
+start_above pages start c first separators at (inr a) = a
 
-down_by : (before : Key → Bool) → IsMonotone before → (pages : List (List ℕ)) (start : Child) (level0 i : ℕ) (w : Way) (first : ℕ) (separators : List Separator)
+down_by : (before : Key → Bool) → IsMonotone before → (pages : List (List ℕ)) (start : Child) (level0 i above : ℕ) (w : Way) (first : ℕ) (separators : List Separator)
     → page_at pages w.child.page ≡ Some (Interior first separators) → level0 < max_height → (level : ℕ) → level + i ≡ level0 → IsSubtree level pages w.child
     → IsAt before pages start (entries_below level0 pages start) (entries_below level pages w.child) w.previous w.next → (w.child ≡ start) ⊎ IsAbove pages start
-    → OnWay before pages start level0 (i + 1) (way_to before w.previous w.next first w.child.low w.child.high separators)
-down_by before mono pages start level0 i w first separators at low zero levels sub is from = absurd (subst (IsLeaf w.child) at sub)
-down_by before mono pages start level0 i w first separators at low (suc level) levels sub is from =
+    → OnWay before pages start level0 (i + 1) (way_to before above w.previous w.next first w.child.low w.child.high separators)
+down_by before mono pages start level0 i above w first separators at low zero levels sub is from = absurd (subst (IsLeaf w.child) at sub)
+down_by before mono pages start level0 i above w first separators at low (suc level) levels sub is from =
     let c : Child = w.child in
     let f : Child → List Entry = entries_below level pages in
     let h = subst (IsInterior (IsSubtree level pages) c) at sub in
     let asc = interior_ascends c.page (length pages) first separators (at_is_page pages c.page (Interior first separators) at) in
-    let up = above pages start c first separators at from in
+    let up = start_above pages start c first separators at from in
     let few : level < max_height = lower level i level0 levels low in
     let cs : List Child = children first c.low c.high separators in
     let whole : entries_below (suc level) pages c ≡ flat_map f cs = ap (λ (x : Option Content). flat_map f (children_of c.low c.high x)) at in
-    let r = inner before mono f (IsSubtree level pages) (IsPrevious pages start) (IsNext pages start) c.high c.low w.next is.right
+    let r = inner before mono above f (IsSubtree level pages) (IsPrevious pages start) (IsNext pages start) c.high c.low w.next is.right
     (λ d xs t. (up, (level, few, t, (xs, refl)))) (λ d xs t. (up, (level, few, t, (xs, refl)))) is.greater is.next_is
     first c.low separators w.previous is.left is.lesser is.previous_is h.0 asc
     (all_weaker (IsSubtree level pages) (Stands f (IsSubtree level pages)) cs (λ d t. (t, entries_between level pages d t)) h.1) in
@@ -185,12 +182,12 @@ down_by before mono pages start level0 i w first separators at low (suc level) l
     lower : (level i level0 : ℕ) → suc level + i ≡ level0 → level0 < max_height → level < max_height
     lower level i level0 e h = omega arith
 
-pub way_down : (before : Key → Bool) → IsMonotone before → (pages : List (List ℕ)) (start : Child) (i : ℕ) (w : Way) (first : ℕ) (separators : List Separator)
+pub way_down : (before : Key → Bool) → IsMonotone before → (pages : List (List ℕ)) (start : Child) (i above : ℕ) (w : Way) (first : ℕ) (separators : List Separator)
     → page_at pages w.child.page ≡ Some (Interior first separators) → IsOnWay before pages start i w
-    → IsOnWay before pages start (i + 1) (way_to before w.previous w.next first w.child.low w.child.high separators)
-way_down before mono pages start i w first separators at on level0 low sub =
+    → IsOnWay before pages start (i + 1) (way_to before above w.previous w.next first w.child.low w.child.high separators)
+way_down before mono pages start i above w first separators at on level0 low sub =
     let o = on level0 low sub in
-    down_by before mono pages start level0 i w first separators at low o.level o.levels o.subtree o.at o.from
+    down_by before mono pages start level0 i above w first separators at low o.level o.levels o.subtree o.at o.from
 
 -- ---- the end of the way
 
@@ -221,36 +218,19 @@ pub misfit : (level : ℕ) (pages : List (List ℕ)) (c : Child) → content_fit
 misfit zero pages c e h = misfit_leaf c (page_at pages c.page) e h
 misfit (suc level) pages c e h = misfit_interior (IsSubtree level pages) c (page_at pages c.page) e h
 
-pub way_breaks : (before : Key → Bool) (pages : List (List ℕ)) (start : Child) (i : ℕ) (w : Way) → content_fits w.child.low w.child.high (page_at pages w.child.page) ≡ false → IsOnWay before pages start i w
-    → (level0 : ℕ) → level0 < max_height → IsSubtree level0 pages start → ⊥
-way_breaks before pages start i w e on level0 low sub = let o = on level0 low sub in misfit o.level pages w.child e o.subtree
-
-pub way_too_long : (before : Key → Bool) (pages : List (List ℕ)) (start : Child) (i : ℕ) (w : Way) → max_height ≤ i → IsOnWay before pages start i w → (level0 : ℕ) → level0 < max_height → IsSubtree level0 pages start → ⊥
-way_too_long before pages start i w long on level0 low sub = let o = on level0 low sub in let e = o.levels in too_long o.level i level0 e low long
-  where
-    too_long : (level i level0 : ℕ) → level + i ≡ level0 → level0 < max_height → max_height ≤ i → ⊥
-    too_long level i level0 e h long = omega arith
-
 -- ---- the way among the separators that are left
 
-pub way_stops : (before : Key → Bool) (previous next : Option Child) (page : ℕ) (low high : Option Key) (xs : List Separator) (i : ℕ) (s : Separator) → slice_get xs i ≡ Some s → before s.key ≡ false
-    → way_to before previous next page low high (drop i xs)
-    ≡ record { child = record { page = page; low = low; high = Some s.key }; previous = previous; next = Some (record { page = s.child; low = Some s.key; high = end_of high (drop (i + 1) xs) }) }
-way_stops before previous next page low high xs i s at stops =
-    let stop : Way = record { child = record { page = page; low = low; high = Some s.key }; previous = previous; next = Some (record { page = s.child; low = Some s.key; high = end_of high (drop (i + 1) xs) }) } in
-    let go : Way = way_to before (Some (record { page = page; low = low; high = Some s.key })) next s.child (Some s.key) high (drop (i + 1) xs) in
-    ap (λ (ys : List Separator). way_to before previous next page low high ys) (drop_at xs i s at) ∙ ap (λ (b : Bool). cond b go stop) stops
+pub way_stops : (before : Key → Bool) (above : ℕ) (previous next : Option Neighbour) (page : ℕ) (low high : Option Key) (xs : List Separator) (i : ℕ) (s : Separator) → slice_get xs i ≡ Some s → before s.key ≡ false
+    → way_to before above previous next page low high (drop i xs)
+    ≡ record { child = record { page = page; low = low; high = Some s.key }; previous = previous; next = Some (record { child = record { page = s.child; low = Some s.key; high = end_of high (drop (i + 1) xs) }; above = above }) }
+way_stops before above previous next page low high xs i s at stops =
+    let stop : Way = record { child = record { page = page; low = low; high = Some s.key }; previous = previous; next = Some (record { child = record { page = s.child; low = Some s.key; high = end_of high (drop (i + 1) xs) }; above = above }) } in
+    let go : Way = way_to before above (Some (record { child = record { page = page; low = low; high = Some s.key }; above = above })) next s.child (Some s.key) high (drop (i + 1) xs) in
+    ap (λ (ys : List Separator). way_to before above previous next page low high ys) (drop_at xs i s at) ∙ ap (λ (b : Bool). cond b go stop) stops
 
-pub way_goes : (before : Key → Bool) (previous next : Option Child) (page : ℕ) (low high : Option Key) (xs : List Separator) (i : ℕ) (s : Separator) → slice_get xs i ≡ Some s → before s.key ≡ true
-    → way_to before previous next page low high (drop i xs) ≡ way_to before (Some (record { page = page; low = low; high = Some s.key })) next s.child (Some s.key) high (drop (i + 1) xs)
-way_goes before previous next page low high xs i s at goes =
-    let stop : Way = record { child = record { page = page; low = low; high = Some s.key }; previous = previous; next = Some (record { page = s.child; low = Some s.key; high = end_of high (drop (i + 1) xs) }) } in
-    let go : Way = way_to before (Some (record { page = page; low = low; high = Some s.key })) next s.child (Some s.key) high (drop (i + 1) xs) in
-    ap (λ (ys : List Separator). way_to before previous next page low high ys) (drop_at xs i s at) ∙ ap (λ (b : Bool). cond b go stop) goes
-
--- ---- faults
-
-pub misfit_breaks : (before : Key → Bool) (pages : List (List ℕ)) (given : Option Refusal) (start : Child) (i : ℕ) (w : Way) (fault : TreeFault) → IsOnWay before pages start i w
-    → HasCause given (IsMisfit pages w.child) fault → HasCause given (BreaksSubtree pages start) fault
-misfit_breaks before pages given start i w (Pages refusal) on h = h
-misfit_breaks before pages given start i w (Broken page) on h = way_breaks before pages start i w h.1 on
+pub way_goes : (before : Key → Bool) (above : ℕ) (previous next : Option Neighbour) (page : ℕ) (low high : Option Key) (xs : List Separator) (i : ℕ) (s : Separator) → slice_get xs i ≡ Some s → before s.key ≡ true
+    → way_to before above previous next page low high (drop i xs) ≡ way_to before above (Some (record { child = record { page = page; low = low; high = Some s.key }; above = above })) next s.child (Some s.key) high (drop (i + 1) xs)
+way_goes before above previous next page low high xs i s at goes =
+    let stop : Way = record { child = record { page = page; low = low; high = Some s.key }; previous = previous; next = Some (record { child = record { page = s.child; low = Some s.key; high = end_of high (drop (i + 1) xs) }; above = above }) } in
+    let go : Way = way_to before above (Some (record { child = record { page = page; low = low; high = Some s.key }; above = above })) next s.child (Some s.key) high (drop (i + 1) xs) in
+    ap (λ (ys : List Separator). way_to before above previous next page low high ys) (drop_at xs i s at) ∙ ap (λ (b : Bool). cond b go stop) goes

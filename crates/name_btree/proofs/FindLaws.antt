@@ -15,6 +15,7 @@ use Rattle.fsd_table.proofs.BoundLaws.{all_weaker}
 use Rattle.fsd_table.proofs.KeyLaws.{lt_le}
 use Rattle.name_node.specs.declared.cut.Cut.TheVariants.{UpTo}
 use Rattle.name_btree.specs.declared.descent.Found.{Found}
+use Rattle.name_btree.specs.declared.descent.Neighbour.{Neighbour}
 use Rattle.name_node.specs.Cut.{is_before}
 use Rattle.name_node.specs.Cut.{IsLesser}
 use Rattle.name_btree.specs.Descent.{IsAt, IsPlace}
@@ -52,7 +53,7 @@ lesser_unequal key e h =
     let upto : not (key_lt key h.0) ≡ true = ap not (sym (greater h.0 key)) ∙ h.1 in
     unequal_less (key_cmp e.key key) (lt_le e.key h.0 key h.2 upto)
 
-entry_at : (key : Key) (pages : List (List ℕ)) (start : Child) (whole some : List Entry) (previous next : Option Child)
+entry_at : (key : Key) (pages : List (List ℕ)) (start : Child) (whole some : List Entry) (previous next : Option Neighbour)
     → IsAt (is_before (UpTo key)) pages start whole some previous next → entry_with key some ≡ entry_with key whole
 entry_at key pages start whole some previous next at =
     let test : Entry → Bool = λ e. same_key e.key key in

@@ -19,6 +19,7 @@ use Rattle.fsd_table.specs.Tree.{IsTree, table_of}
 use Rattle.fsd_table.proofs.BoundLaws.{all_append, all_weaker, Ascend, ascend_skip, ascend_tail, entries_ascend}
 use Rattle.name_node.specs.declared.cut.Cut.TheVariants.{Named}
 use Rattle.name_btree.specs.declared.descent.Found.{Found}
+use Rattle.name_btree.specs.declared.descent.Neighbour.{Neighbour}
 use Rattle.name_node.specs.Cut.{is_before}
 use Rattle.name_node.specs.Cut.{IsLesser}
 use Rattle.name_btree.specs.Descent.{IsAt, IsPlace, EndsWith}
@@ -116,7 +117,7 @@ highest_in_leaf name pages found e place h height t =
 pub highest_at_start : (name : List ℕ) (pages : List (List ℕ)) (found : Found) → found.previous ≡ None → IsPlace (is_before (Named name)) pages top found → last_that (λ x. is_before (Named name) x.key) found.entries ≡ None
     → (height : ℕ) → IsTree pages height → None ≡ highest_of name (table_of pages height)
 highest_at_start name pages found none place h height t =
-    let P : Option Child → Type 0 = λ (o : Option Child). IsAt (is_before (Named name)) pages top (table_of pages height) found.entries o found.next in
+    let P : Option Neighbour → Type 0 = λ (o : Option Neighbour). IsAt (is_before (Named name)) pages top (table_of pages height) found.entries o found.next in
     let at = subst P none (place (height - 1) (low_height pages height t) t.subtree) in
     let test : Entry → Bool = λ x. same_name x.key.name name in
     let is : table_of pages height ≡ found.entries ++ at.right = at.parts ∙ ap (λ (xs : List Entry). xs ++ (found.entries ++ at.right)) at.previous_is in
@@ -129,10 +130,10 @@ last_lesser : (before : Key → Bool) (xs : List Entry) (e : Entry) → AllByRec
 last_lesser before [] e h = h.0
 last_lesser before (x ∷ xs) e h = last_lesser before xs e h.1
 
-pub highest_in_previous : (name : List ℕ) (pages : List (List ℕ)) (found : Found) (c : Child) (e : Entry) → found.previous ≡ Some c → IsPlace (is_before (Named name)) pages top found → EndsWith pages c e
+pub highest_in_previous : (name : List ℕ) (pages : List (List ℕ)) (found : Found) (c : Neighbour) (e : Entry) → found.previous ≡ Some c → IsPlace (is_before (Named name)) pages top found → EndsWith pages c.child e
     → last_that (λ x. is_before (Named name) x.key) found.entries ≡ None → (height : ℕ) → IsTree pages height → cond (same_name e.key.name name) (Some e) None ≡ highest_of name (table_of pages height)
 highest_in_previous name pages found c e before_is place end h height t =
-    let P : Option Child → Type 0 = λ (o : Option Child). IsAt (is_before (Named name)) pages top (table_of pages height) found.entries o found.next in
+    let P : Option Neighbour → Type 0 = λ (o : Option Neighbour). IsAt (is_before (Named name)) pages top (table_of pages height) found.entries o found.next in
     let at = subst P before_is (place (height - 1) (low_height pages height t) t.subtree) in
     let previous = at.previous_is.1 in
     let last = end previous.0 previous.1 previous.2 in

@@ -10,7 +10,6 @@ use Rattle.std.proofs.lemmas.Bool.Decides.{nat_tests}
 use Rattle.std.proofs.lemmas.List.{append-nil, take_all}
 use Rattle.name_btree.proofs.LastLaws.{take_back}
 use Rattle.fsd_bytes.specs.declared.key.Key.{Key}
-use Rattle.fsd_bytes.specs.declared.refusal.Refusal.{Refusal}
 use Rattle.fsd_bytes.specs.Keys.{key_cmp}
 use Rattle.fsd_bytes.specs.Names.{is_between}
 use Rattle.fsd_formats.specs.declared.entry.Entry.{Entry}
@@ -27,12 +26,10 @@ use Rattle.name_page.proofs.LeafLaws.{between}
 use Rattle.name_node.specs.declared.cut.Cut.{Cut}
 use Rattle.name_node.specs.declared.cut.Cut.TheVariants.{Start, End}
 use Rattle.name_btree.specs.declared.descent.Found.{Found}
-use Rattle.name_btree.specs.declared.fault.TreeFault.{TreeFault}
-use Rattle.name_btree.specs.declared.fault.TreeFault.TheVariants.{Pages, Broken}
+use Rattle.name_btree.specs.declared.descent.Neighbour.{Neighbour}
 use Rattle.name_node.specs.Cut.{is_before, after_cut}
 use Rattle.name_node.specs.Cut.{IsLesser}
 use Rattle.name_btree.specs.Descent.{IsAbove, IsAt, IsPlace, BeginsWith, EndsWith}
-use Rattle.name_btree.specs.Fault.{HasCause, BreaksSubtree, BreaksInner, BreaksTree}
 use Rattle.name_node.specs.Lookups.{entry_after, is_after}
 use Rattle.name_node.proofs.CutLaws.{cuts_monotone, greater}
 use Rattle.name_node.proofs.CutLaws.{IsMonotone}
@@ -124,23 +121,23 @@ found_later : (test : Entry → Bool) (xs ys : List Entry) → find test xs ≡ 
 found_later test xs ys h = find-append test xs ys ∙ ap (λ (o : Option Entry). option_or o (find test ys)) h
 
 -- what stands behind the place, by what stands left of the leaf
-past_left : (cut : Cut) (pages : List (List ℕ)) (whole some : List Entry) (previous next : Option Child) (at : IsAt (is_before cut) pages top whole some previous next)
+past_left : (cut : Cut) (pages : List (List ℕ)) (whole some : List Entry) (previous next : Option Neighbour) (at : IsAt (is_before cut) pages top whole some previous next)
     → find (λ e. not (is_before cut e.key)) whole ≡ find (λ e. not (is_before cut e.key)) (some ++ at.right)
 past_left cut pages whole some previous next at =
     ap (find (λ e. not (is_before cut e.key))) at.parts
     ∙ find_behind (λ e. not (is_before cut e.key)) at.left (some ++ at.right)
     (all_weaker (IsLesser (is_before cut)) (λ e. not (is_before cut e.key) ≡ false) at.left (λ e h. ap not (lesser_before (is_before cut) (cuts_monotone cut) e h)) at.lesser)
 
-in_leaf : (cut : Cut) (pages : List (List ℕ)) (whole some : List Entry) (previous next : Option Child) (e : Entry) → IsAt (is_before cut) pages top whole some previous next
+in_leaf : (cut : Cut) (pages : List (List ℕ)) (whole some : List Entry) (previous next : Option Neighbour) (e : Entry) → IsAt (is_before cut) pages top whole some previous next
     → find (λ x. not (is_before cut x.key)) some ≡ Some e → find (λ x. not (is_before cut x.key)) whole ≡ Some e
 in_leaf cut pages whole some previous next e at h = past_left cut pages whole some previous next at ∙ found_first (λ x. not (is_before cut x.key)) some at.right e h
 
-at_end : (cut : Cut) (pages : List (List ℕ)) (whole some : List Entry) (previous : Option Child) → IsAt (is_before cut) pages top whole some previous None
+at_end : (cut : Cut) (pages : List (List ℕ)) (whole some : List Entry) (previous : Option Neighbour) → IsAt (is_before cut) pages top whole some previous None
     → find (λ x. not (is_before cut x.key)) some ≡ None → find (λ x. not (is_before cut x.key)) whole ≡ None
 at_end cut pages whole some previous at h =
     past_left cut pages whole some previous None at ∙ ap (λ (xs : List Entry). find (λ x. not (is_before cut x.key)) (some ++ xs)) at.next_is ∙ ap (find (λ x. not (is_before cut x.key))) (append-nil some) ∙ h
 
-in_next : (cut : Cut) (pages : List (List ℕ)) (whole some : List Entry) (previous : Option Child) (c : Child) (e : Entry) → IsAt (is_before cut) pages top whole some previous (Some c) → BeginsWith pages c e
+in_next : (cut : Cut) (pages : List (List ℕ)) (whole some : List Entry) (previous : Option Neighbour) (c : Neighbour) (e : Entry) → IsAt (is_before cut) pages top whole some previous (Some c) → BeginsWith pages c.child e
     → find (λ x. not (is_before cut x.key)) some ≡ None → find (λ x. not (is_before cut x.key)) whole ≡ Some e
 in_next cut pages whole some previous c e at begin h =
     let test : Entry → Bool = λ x. not (is_before cut x.key) in
@@ -163,39 +160,11 @@ next_in_leaf before cut pages found e same place h height t =
 pub next_at_end : (before : Option Key) (cut : Cut) (pages : List (List ℕ)) (found : Found) → cut ≡ after_cut before → found.next ≡ None → IsPlace (is_before cut) pages top found
     → find (λ x. not (is_before cut x.key)) found.entries ≡ None → (height : ℕ) → IsTree pages height → None ≡ entry_after before (table_of pages height)
 next_at_end before cut pages found same none place h height t =
-    let P : Option Child → Type 0 = λ (o : Option Child). IsAt (is_before cut) pages top (table_of pages height) found.entries found.previous o in
+    let P : Option Neighbour → Type 0 = λ (o : Option Neighbour). IsAt (is_before cut) pages top (table_of pages height) found.entries found.previous o in
     sym (at_end cut pages (table_of pages height) found.entries found.previous (subst P none (place (height - 1) (low_height pages height t) t.subtree)) h) ∙ cut_tests before cut same (table_of pages height)
 
-pub next_in_next : (before : Option Key) (cut : Cut) (pages : List (List ℕ)) (found : Found) (c : Child) (e : Entry) → cut ≡ after_cut before → found.next ≡ Some c → IsPlace (is_before cut) pages top found → BeginsWith pages c e
+pub next_in_next : (before : Option Key) (cut : Cut) (pages : List (List ℕ)) (found : Found) (c : Neighbour) (e : Entry) → cut ≡ after_cut before → found.next ≡ Some c → IsPlace (is_before cut) pages top found → BeginsWith pages c.child e
     → find (λ x. not (is_before cut x.key)) found.entries ≡ None → (height : ℕ) → IsTree pages height → Some e ≡ entry_after before (table_of pages height)
 next_in_next before cut pages found c e same is place begin h height t =
-    let P : Option Child → Type 0 = λ (o : Option Child). IsAt (is_before cut) pages top (table_of pages height) found.entries found.previous o in
+    let P : Option Neighbour → Type 0 = λ (o : Option Neighbour). IsAt (is_before cut) pages top (table_of pages height) found.entries found.previous o in
     sym (in_next cut pages (table_of pages height) found.entries found.previous c e (subst P is (place (height - 1) (low_height pages height t) t.subtree)) begin h) ∙ cut_tests before cut same (table_of pages height)
-
--- ---- faults
-
-pub next_breaks : (before : Key → Bool) (pages : List (List ℕ)) (given : Option Refusal) (found : Found) (c : Child) (fault : TreeFault) → found.next ≡ Some c → IsPlace before pages top found
-    → HasCause given (BreaksInner pages c) fault → HasCause given (BreaksTree pages) fault
-next_breaks before pages given found c (Pages refusal) is place h = h
-next_breaks before pages given found c (Broken page) is place h = λ height t.
-    let P : Option Child → Type 0 = λ (o : Option Child). IsAt before pages top (table_of pages height) found.entries found.previous o in
-    let at = subst P is (place (height - 1) (low_height pages height t) t.subtree) in
-    let next = at.next_is in
-    h next.1.0 next.1.1 next.1.2 next.0
-
-pub previous_breaks : (before : Key → Bool) (pages : List (List ℕ)) (given : Option Refusal) (found : Found) (c : Child) (fault : TreeFault) → found.previous ≡ Some c → IsPlace before pages top found
-    → HasCause given (BreaksInner pages c) fault → HasCause given (BreaksTree pages) fault
-previous_breaks before pages given found c (Pages refusal) is place h = h
-previous_breaks before pages given found c (Broken page) is place h = λ height t.
-    let P : Option Child → Type 0 = λ (o : Option Child). IsAt before pages top (table_of pages height) found.entries o found.next in
-    let at = subst P is (place (height - 1) (low_height pages height t) t.subtree) in
-    let previous = at.previous_is in
-    h previous.1.0 previous.1.1 previous.1.2 previous.0
-
-pub inner_breaks : (pages : List (List ℕ)) (given : Option Refusal) (c : Child) (fault : TreeFault) → HasCause given (BreaksSubtree pages c) fault → HasCause given (BreaksInner pages c) fault
-inner_breaks pages given c (Pages refusal) h = h
-inner_breaks pages given c (Broken page) h = λ level low sub up. h level low sub
-
-pub tree_breaks : (pages : List (List ℕ)) (given : Option Refusal) (fault : TreeFault) → HasCause given (BreaksSubtree pages top) fault → HasCause given (BreaksTree pages) fault
-tree_breaks pages given (Pages refusal) h = h
-tree_breaks pages given (Broken page) h = λ height t. h (height - 1) (low_height pages height t) t.subtree

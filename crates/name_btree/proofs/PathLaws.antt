@@ -19,6 +19,7 @@ use Rattle.fsd_table.proofs.BoundLaws.{ascend_tail}
 use Rattle.fsd_table.proofs.KeyLaws.{lt_is_le}
 use Rattle.fsd_table.proofs.PageLaws.{at_is_page, interior_ascends}
 use Rattle.name_btree.specs.declared.descent.Way.{Way}
+use Rattle.name_btree.specs.declared.descent.Neighbour.{Neighbour}
 use Rattle.name_node.specs.Cut.{AtLow, AtHigh}
 use Rattle.name_btree.specs.Change.{Within, Stay, Changed, IsAround, LeafAt, IsLeafAt}
 use Rattle.name_btree.specs.Descent.{way_to, end_of}
@@ -45,21 +46,21 @@ all_behind before mono first low high k (s ∷ separators) is stops asc =
     let parts = and_parts (key_lt k s.key) (are_ascending (separator_keys (s ∷ separators))) asc in
     ((k, is, stops), all_behind before mono s.child (Some s.key) high s.key separators refl (behind before mono k s.key stops (lt_is_le k s.key parts.0)) parts.1)
 
-beside : (before : Key → Bool) → IsMonotone before → (previous next : Option Child) (first : ℕ) (low high : Option Key) (separators : List Separator) → are_ascending (separator_keys separators) ≡ true
-    → Beside before (children first low high separators) (way_to before previous next first low high separators).child
-beside before mono previous next first low high [] asc = record { left = []; right = []; parts = refl; ends = tt; begins = tt }
-beside before mono previous next first low high (s ∷ separators) asc =
-    by (beside before mono (Some c) next s.child (Some s.key) high separators (ascend_tail s.key (separator_keys separators) asc))
+beside : (before : Key → Bool) → IsMonotone before → (above : ℕ) (previous next : Option Neighbour) (first : ℕ) (low high : Option Key) (separators : List Separator) → are_ascending (separator_keys separators) ≡ true
+    → Beside before (children first low high separators) (way_to before above previous next first low high separators).child
+beside before mono above previous next first low high [] asc = record { left = []; right = []; parts = refl; ends = tt; begins = tt }
+beside before mono above previous next first low high (s ∷ separators) asc =
+    by (beside before mono above (Some (record { child = c; above = above })) next s.child (Some s.key) high separators (ascend_tail s.key (separator_keys separators) asc))
     (λ is. all_behind before mono s.child (Some s.key) high s.key separators refl is asc) (before s.key) refl
   where
     c : Child
     c = record { page = first; low = low; high = Some s.key }
 
     go : Way
-    go = way_to before (Some c) next s.child (Some s.key) high separators
+    go = way_to before above (Some (record { child = c; above = above })) next s.child (Some s.key) high separators
 
     stop : Way
-    stop = record { child = c; previous = previous; next = Some (record { page = s.child; low = Some s.key; high = end_of high separators }) }
+    stop = record { child = c; previous = previous; next = Some (record { child = record { page = s.child; low = Some s.key; high = end_of high separators }; above = above }) }
 
     by : Beside before (children s.child (Some s.key) high separators) go.child → (before s.key ≡ false → AllByRecursion (BeginsBehind before) (children s.child (Some s.key) high separators))
         → (b : Bool) → before s.key ≡ b → Beside before (c ∷ children s.child (Some s.key) high separators) (cond b go stop).child
@@ -68,20 +69,20 @@ beside before mono previous next first low high (s ∷ separators) asc =
 
 -- ---- the bounds of the child at a place
 
-around : (before : Key → Bool) (previous next : Option Child) (first : ℕ) (low high : Option Key) (separators : List Separator) → AtLow before low → AtHigh before high
-    → IsAround before (way_to before previous next first low high separators).child
-around before previous next first low high [] a b = (a, b)
-around before previous next first low high (s ∷ separators) a b =
-    by (λ is. around before (Some (record { page = first; low = low; high = Some s.key })) next s.child (Some s.key) high separators is b) (before s.key) refl
+around : (before : Key → Bool) (above : ℕ) (previous next : Option Neighbour) (first : ℕ) (low high : Option Key) (separators : List Separator) → AtLow before low → AtHigh before high
+    → IsAround before (way_to before above previous next first low high separators).child
+around before above previous next first low high [] a b = (a, b)
+around before above previous next first low high (s ∷ separators) a b =
+    by (λ is. around before above (Some (record { child = record { page = first; low = low; high = Some s.key }; above = above })) next s.child (Some s.key) high separators is b) (before s.key) refl
   where
     c : Child
     c = record { page = first; low = low; high = Some s.key }
 
     go : Way
-    go = way_to before (Some c) next s.child (Some s.key) high separators
+    go = way_to before above (Some (record { child = c; above = above })) next s.child (Some s.key) high separators
 
     stop : Way
-    stop = record { child = c; previous = previous; next = Some (record { page = s.child; low = Some s.key; high = end_of high separators }) }
+    stop = record { child = c; previous = previous; next = Some (record { child = record { page = s.child; low = Some s.key; high = end_of high separators }; above = above }) }
 
     by : (before s.key ≡ true → IsAround before go.child) → (v : Bool) → before s.key ≡ v → IsAround before (cond v go stop).child
     by later true is = later is
@@ -171,20 +172,20 @@ path_begins before pages start level0 low sub = record {
 within_both : (xs ys fresh : List ℕ) → Within xs ys → Within (xs ++ fresh) (ys ++ fresh)
 within_both xs ys fresh within p e = elim (parted xs fresh p e) [ inl h ↦ in_left ys fresh p (within p h) | inr h ↦ in_right ys fresh p h ]
 
-path_by : (before : Key → Bool) → IsMonotone before → (pages : List (List ℕ)) (start : Child) (level0 i : ℕ) (w : Way) (first : ℕ) (separators : List Separator)
+path_by : (before : Key → Bool) → IsMonotone before → (pages : List (List ℕ)) (start : Child) (level0 i above : ℕ) (w : Way) (first : ℕ) (separators : List Separator)
     → page_at pages w.child.page ≡ Some (Interior first separators) → Path before pages start level0 i w.child → (level : ℕ) → level + i ≡ level0 → IsSubtree level pages w.child
     → (all_differ (pages_below level0 pages start) ≡ true → all_differ (pages_below level pages w.child) ≡ true) → Within (pages_below level pages w.child) (pages_below level0 pages start)
     → ((after : List (List ℕ)) (fresh : List ℕ) (old new : List Entry) → all_differ (pages_below level0 pages start) ≡ true → Disjoint (pages_below level0 pages start) fresh
     → Stay pages after (pages_below level pages w.child ++ fresh) → Changed before pages after fresh old new level w.child → Changed before pages after fresh old new level0 start)
-    → Path before pages start level0 (i + 1) (way_to before w.previous w.next first w.child.low w.child.high separators).child
-path_by before mono pages start level0 i w first separators at path zero levels sub apart inside lift = absurd (subst (IsLeaf w.child) at sub)
-path_by before mono pages start level0 i w first separators at path (suc level) levels sub apart inside lift =
+    → Path before pages start level0 (i + 1) (way_to before above w.previous w.next first w.child.low w.child.high separators).child
+path_by before mono pages start level0 i above w first separators at path zero levels sub apart inside lift = absurd (subst (IsLeaf w.child) at sub)
+path_by before mono pages start level0 i above w first separators at path (suc level) levels sub apart inside lift =
     let c : Child = w.child in
-    let d : Child = (way_to before w.previous w.next first c.low c.high separators).child in
+    let d : Child = (way_to before above w.previous w.next first c.low c.high separators).child in
     let f : Child → List ℕ = pages_below level pages in
     let h = subst (IsInterior (IsSubtree level pages) c) at sub in
     let asc = interior_ascends c.page (length pages) first separators (at_is_page pages c.page (Interior first separators) at) in
-    let b = beside before mono w.previous w.next first c.low c.high separators asc in
+    let b = beside before mono above w.previous w.next first c.low c.high separators asc in
     let subs = subst (AllByRecursion (IsSubtree level pages)) b.parts h.1 in
     let split : pages_below (suc level) pages c ≡ c.page ∷ (flat_map f b.left ++ (f d ++ flat_map f b.right)) =
     ap (λ (x : Option Content). c.page ∷ flat_map f (children_of c.low c.high x)) at ∙ ap (λ (xs : List Child). c.page ∷ flat_map f xs) b.parts
@@ -196,7 +197,7 @@ path_by before mono pages start level0 i w first separators at path (suc level) 
       level = level;
       levels = omega arith;
       subtree = (all_split (IsSubtree level pages) b.left (d ∷ b.right) subs).1.0;
-      bounds = λ a. let here = path.bounds a in around before w.previous w.next first c.low c.high separators here.0 here.1;
+      bounds = λ a. let here = path.bounds a in around before above w.previous w.next first c.low c.high separators here.0 here.1;
       apart = λ a.
           let top = apart_parts (c.page ∷ []) (flat_map f b.left ++ (f d ++ flat_map f b.right)) (ap all_differ (sym split) ∙ apart a) in
           (apart_parts (f d) (flat_map f b.right) (apart_parts (flat_map f b.left) (f d ++ flat_map f b.right) top.second).second).first;
@@ -206,12 +207,12 @@ path_by before mono pages start level0 i w first separators at path (suc level) 
           (lift_among before mono pages after fresh level old new c d first separators at stay h.0 b sub (apart a) (λ p i. out p (inside p i)) e);
     }
 
-pub path_down : (before : Key → Bool) → IsMonotone before → (pages : List (List ℕ)) (start : Child) (i : ℕ) (w : Way) (first : ℕ) (separators : List Separator)
+pub path_down : (before : Key → Bool) → IsMonotone before → (pages : List (List ℕ)) (start : Child) (i above : ℕ) (w : Way) (first : ℕ) (separators : List Separator)
     → page_at pages w.child.page ≡ Some (Interior first separators) → IsPath before pages start i w.child
-    → IsPath before pages start (i + 1) (way_to before w.previous w.next first w.child.low w.child.high separators).child
-path_down before mono pages start i w first separators at on level0 low sub =
+    → IsPath before pages start (i + 1) (way_to before above w.previous w.next first w.child.low w.child.high separators).child
+path_down before mono pages start i above w first separators at on level0 low sub =
     let o = on level0 low sub in
-    path_by before mono pages start level0 i w first separators at o o.level o.levels o.subtree o.apart o.inside o.lift
+    path_by before mono pages start level0 i above w first separators at o o.level o.levels o.subtree o.apart o.inside o.lift
 
 -- ---- the leaf at its end
 

@@ -1,5 +1,5 @@
 -- The way to the leaf at a place between keys, and what stands left and right of it.
-use Rattle.std.specs.Prelude.{◌≡◌, ℕ, ◌<◌, Bool, true, false, List, [], ◌∷◌, ◌++◌, Option, Some, None, if◌then◌else◌}
+use Rattle.std.specs.Prelude.{◌≡◌, ℕ, ◌+◌, ◌<◌, IfSome, Bool, true, false, List, [], ◌∷◌, ◌++◌, Option, Some, None, if◌then◌else◌}
 use Rattle.std.specs.List.{AllByRecursion}
 use Rattle.fsd_bytes.specs.declared.key.Key.{Key}
 use Rattle.name_node.specs.Cut.{IsLesser}
@@ -8,9 +8,10 @@ use Rattle.fsd_formats.specs.declared.page.Separator.{Separator}
 use Rattle.fsd_formats.specs.NamePage.{Interior}
 use Rattle.fsd_table.specs.declared.child.Child.{Child}
 use Rattle.fsd_table.specs.Pages.{page_at}
-use Rattle.fsd_table.specs.Table.{max_height}
+use Rattle.fsd_table.specs.Table.{max_height, IsVisited}
 use Rattle.fsd_table.specs.Tree.{entries_below, IsSubtree}
 use Rattle.name_btree.specs.declared.descent.Way.{Way}
+use Rattle.name_btree.specs.declared.descent.Neighbour.{Neighbour}
 use Rattle.name_btree.specs.declared.descent.Found.{Found}
 
 -- where a first child ends
@@ -18,32 +19,33 @@ abbrev pub end_of : Option Key → List Separator → Option Key
 end_of high [] = high
 end_of high (s ∷ separators) = Some s.key
 
--- behind the last of the separators that stand before the place, with the nearest child on each side
-abbrev pub way_to : (Key → Bool) → Option Child → Option Child → ℕ → Option Key → Option Key → List Separator → Way
-way_to before previous next first low high [] = record { child = record { page = first; low = low; high = high }; previous = previous; next = next }
-way_to before previous next first low high (s ∷ separators) =
+-- behind the last of the separators that stand before the place, with the nearest child on each side, below so many pages
+abbrev pub way_to : (Key → Bool) → (above : ℕ) → Option Neighbour → Option Neighbour → ℕ → Option Key → Option Key → List Separator → Way
+way_to before above previous next first low high [] = record { child = record { page = first; low = low; high = high }; previous = previous; next = next }
+way_to before above previous next first low high (s ∷ separators) =
     let c : Child = record { page = first; low = low; high = Some s.key } in
-    if before s.key then way_to before (Some c) next s.child (Some s.key) high separators
-    else record { child = c; previous = previous; next = Some (record { page = s.child; low = Some s.key; high = end_of high separators }) }
+    let d : Child = record { page = s.child; low = Some s.key; high = end_of high separators } in
+    if before s.key then way_to before above (Some (record { child = c; above = above })) next s.child (Some s.key) high separators
+    else record { child = c; previous = previous; next = Some (record { child = d; above = above }) }
 
 -- an interior page, so that other pages stand below it
 abbrev pub IsAbove : List (List ℕ) → Child → Type 0
 IsAbove pages start = (first : ℕ) × (separators : List Separator) × (page_at pages start.page ≡ Some (Interior first separators))
 
 -- the entries right of a place begin with those below the next child
-abbrev pub IsNext : List (List ℕ) → Child → Option Child → List Entry → Type 0
+abbrev pub IsNext : List (List ℕ) → Child → Option Neighbour → List Entry → Type 0
 IsNext pages start None right = right ≡ []
-IsNext pages start (Some c) right =
-    IsAbove pages start × ((level : ℕ) × (level < max_height) × IsSubtree level pages c × ((rest : List Entry) × (right ≡ entries_below level pages c ++ rest)))
+IsNext pages start (Some n) right =
+    IsAbove pages start × ((level : ℕ) × (level < max_height) × IsSubtree level pages n.child × ((rest : List Entry) × (right ≡ entries_below level pages n.child ++ rest)))
 
 -- those left of it end with those below the previous child
-abbrev pub IsPrevious : List (List ℕ) → Child → Option Child → List Entry → Type 0
+abbrev pub IsPrevious : List (List ℕ) → Child → Option Neighbour → List Entry → Type 0
 IsPrevious pages start None left = left ≡ []
-IsPrevious pages start (Some c) left =
-    IsAbove pages start × ((level : ℕ) × (level < max_height) × IsSubtree level pages c × ((rest : List Entry) × (left ≡ rest ++ entries_below level pages c)))
+IsPrevious pages start (Some n) left =
+    IsAbove pages start × ((level : ℕ) × (level < max_height) × IsSubtree level pages n.child × ((rest : List Entry) × (left ≡ rest ++ entries_below level pages n.child)))
 
 -- some entries among those below a child, as they stand at a place between keys
-pub record IsAt (before : Key → Bool) (pages : List (List ℕ)) (start : Child) (whole some : List Entry) (previous next : Option Child) : Type 0 where
+pub record IsAt (before : Key → Bool) (pages : List (List ℕ)) (start : Child) (whole some : List Entry) (previous next : Option Neighbour) : Type 0 where
   pub left : List Entry
   pub right : List Entry
   pub parts : whole ≡ left ++ (some ++ right)
@@ -63,3 +65,13 @@ BeginsWith pages c e = (level : ℕ) → level < max_height → IsSubtree level 
 
 abbrev pub EndsWith : List (List ℕ) → Child → Entry → Type 0
 EndsWith pages c e = (level : ℕ) → level < max_height → IsSubtree level pages c → (rest : List Entry) × (entries_below level pages c ≡ rest ++ e ∷ [])
+
+-- ---- where the way leads
+
+-- a path from page 0 reaches the child, below so many pages
+abbrev pub IsNeighbour : List (List ℕ) → Neighbour → Type 0
+IsNeighbour pages n = (0 < n.above) × IsVisited pages (n.above + 1) n.child
+
+-- where a path reaches the start, others reach the children beside the way
+abbrev pub HasNeighbours : List (List ℕ) → (above : ℕ) → Child → Found → Type 0
+HasNeighbours pages above start found = IsVisited pages (above + 1) start → IfSome found.previous (IsNeighbour pages) × IfSome found.next (IsNeighbour pages)

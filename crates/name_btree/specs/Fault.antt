@@ -1,12 +1,13 @@
 -- Why a call of the table fails.
-use Rattle.std.specs.Prelude.{◌≡◌, ℕ, ◌<◌, false, List, Option, Some}
+use Rattle.std.specs.Prelude.{◌≡◌, ℕ, ◌+◌, ◌<◌, false, List, Option, Some}
 use Rattle.fsd_bytes.specs.declared.refusal.Refusal.{Refusal}
 use Rattle.fsd_table.specs.declared.child.Child.{Child}
 use Rattle.fsd_table.specs.Pages.{page_at, content_fits}
-use Rattle.fsd_table.specs.Table.{max_height, top}
+use Rattle.fsd_table.specs.Table.{max_height, IsVisited, BreaksTable}
 use Rattle.fsd_table.specs.Tree.{IsSubtree, IsTree}
 use Rattle.name_page.specs.Pages.{IsReachRefusal}
-use Rattle.name_btree.specs.Descent.{IsAbove}
+use Rattle.name_btree.specs.Descent.{IsNeighbour}
+use Rattle.name_btree.specs.declared.descent.Neighbour.{Neighbour}
 use Rattle.name_btree.specs.declared.fault.TreeFault.{TreeFault}
 use Rattle.name_btree.specs.declared.fault.TreeFault.TheVariants.{Pages, Broken}
 
@@ -31,6 +32,9 @@ BreaksSubtree pages c page = (level : ℕ) → level < max_height → IsSubtree 
 abbrev pub BreaksTree : List (List ℕ) → ℕ → Type 0
 BreaksTree pages page = (height : ℕ) → IsTree pages height → ⊥
 
--- the child leads to no subtree below an interior root
-abbrev pub BreaksInner : List (List ℕ) → Child → ℕ → Type 0
-BreaksInner pages c page = (level : ℕ) → level < max_height → IsSubtree level pages c → IsAbove pages top → ⊥
+-- where a path reaches the child below so many pages, this page breaks the table
+abbrev pub BreaksBelow : List (List ℕ) → (above : ℕ) → Child → ℕ → Type 0
+BreaksBelow pages above c page = IsVisited pages (above + 1) c → BreaksTable pages page
+
+abbrev pub BreaksBeside : List (List ℕ) → Neighbour → ℕ → Type 0
+BreaksBeside pages n page = IsNeighbour pages n → BreaksTable pages page

@@ -4,8 +4,8 @@ ghost use Rattle.fsd_formats.specs.NamePage.{Leaf};
 ghost use Rattle.fsd_table.specs.Pages.{page_at};
 ghost use Rattle.name_btree.specs.Change.{IsLeafAt};
 ghost use Rattle.name_node.specs.Cut.{is_before};
-ghost use Rattle.name_btree.specs.Descent.{end_of, way_to, IsPlace};
-ghost use Rattle.name_btree.specs.Fault.{HasCause, BreaksSubtree};
+ghost use Rattle.name_btree.specs.Descent.{end_of, way_to, IsPlace, HasNeighbours};
+ghost use Rattle.name_btree.specs.Fault.{HasCause, BreaksBelow};
 ghost use Rattle.name_page.specs.Pages.{reaches, is_spare, IsReached};
 ghost use Rattle.name_btree.specs.Still.{IsStill};
 
@@ -16,12 +16,19 @@ use fsd_table::Child;
 use name_node::{Cut, Entries, Node, Ways};
 use name_page::Pages;
 
+/// A child beside the way to a leaf, and how many pages stand above it.
+#[derive(Drop)]
+pub(crate) struct Neighbour {
+    pub(crate) child: Child,
+    pub(crate) above: u32,
+}
+
 // A child, and the nearest ones on each side of it.
 #[derive(Drop)]
 struct Way {
     child: Child,
-    previous: Option<Child>,
-    next: Option<Child>,
+    previous: Option<Neighbour>,
+    next: Option<Neighbour>,
 }
 
 /// The leaf at a place between keys, and the nearest children on each side of the way to it.
@@ -29,8 +36,8 @@ struct Way {
 pub(crate) struct Found {
     pub(crate) page: u32,
     pub(crate) entries: Entries,
-    pub(crate) previous: Option<Child>,
-    pub(crate) next: Option<Child>,
+    pub(crate) previous: Option<Neighbour>,
+    pub(crate) next: Option<Neighbour>,
 }
 
 pub(crate) fn copied(key: &Option<Key>) -> Option<Key>
@@ -54,9 +61,9 @@ pub(crate) fn end_of(ways: &Ways, i: u32, high: &Option<Key>) -> Option<Key>
     }
 }
 
-// The child at a place between keys.
-fn way_to(ways: &Ways, way: Way, cut: &Cut) -> Way
-    ensures { result ≡ way_to (is_before cut.now) way.previous way.next ways.now.0 way.child.low way.child.high ways.now.1 }
+// The child at a place between keys, below so many pages.
+fn way_to(ways: &Ways, way: Way, above: u32, cut: &Cut) -> Way
+    ensures { result ≡ way_to (is_before cut.now) above way.previous way.next ways.now.0 way.child.low way.child.high ways.now.1 }
 {
     let high = way.child.high;
     let mut page = ways.first();
@@ -78,13 +85,17 @@ fn way_to(ways: &Ways, way: Way, cut: &Cut) -> Way
             return Way {
                 child,
                 previous,
-                next: Some(next),
+                next: Some(Neighbour { child: next, above }),
             };
         }
-        previous = Some(Child {
+        let passed = Child {
             page,
             low,
             high: Some(separator.key.copied()),
+        };
+        previous = Some(Neighbour {
+            child: passed,
+            above,
         });
         page = separator.child;
         low = Some(separator.key);
@@ -96,8 +107,13 @@ fn way_to(ways: &Ways, way: Way, cut: &Cut) -> Way
     }
 }
 
-/// The leaf below a child at a place between keys.
-pub(crate) fn leaf_below<T: Pages>(t: &mut T, start: Child, cut: &Cut) -> Result<Found, TreeFault>
+/// The leaf at a place between keys, below a child that so many pages stand above.
+pub(crate) fn leaf_below<T: Pages>(
+    t: &mut T,
+    start: Child,
+    above: u32,
+    cut: &Cut,
+) -> Result<Found, TreeFault>
     requires { 6 ≤ reaches (T.step t.old) }
     ensures images { (T.step t.new).images ≡ (T.step t.old).images }
     ensures spares { (T.step t.new).spares ≡ (T.step t.old).spares }
@@ -109,14 +125,15 @@ pub(crate) fn leaf_below<T: Pages>(t: &mut T, start: Child, cut: &Cut) -> Result
     ensures leaf { IfOk result (λ found. page_at (T.step t.old).images found.page ≡ Some (Leaf found.entries)) }
     ensures at { IfOk result (λ found. IsLeafAt (is_before cut.now) (T.step t.old).images start found.page found.entries) }
     ensures place { IfOk result (IsPlace (is_before cut.now) (T.step t.old).images start) }
-    ensures fault { IfErr result (HasCause (T.step t.new).refusal (BreaksSubtree (T.step t.old).images start)) }
+    ensures beside { IfOk result (HasNeighbours (T.step t.old).images above start) }
+    ensures fault { IfErr result (HasCause (T.step t.new).refusal (BreaksBelow (T.step t.old).images above start)) }
 {
     let mut way = Way {
         child: start,
         previous: None,
         next: None,
     };
-    for _ in 0..6u32 {
+    for above in above..6 {
         match child_node(t, &way.child)? {
             Node::Free => return Err(TreeFault::Broken(way.child.page)),
             Node::Leaf(entries) => {
@@ -127,7 +144,7 @@ pub(crate) fn leaf_below<T: Pages>(t: &mut T, start: Child, cut: &Cut) -> Result
                     next: way.next,
                 });
             }
-            Node::Interior(ways) => way = way_to(&ways, way, cut),
+            Node::Interior(ways) => way = way_to(&ways, way, above + 1, cut),
         }
     }
     Err(TreeFault::Broken(way.child.page))

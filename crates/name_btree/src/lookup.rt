@@ -1,16 +1,16 @@
 //! Looking up entries.
 ghost use Rattle.std.specs.Prelude.{◌≡◌, ◌+◌, ◌<◌, ◌≤◌, ℕ, IfOk, IfErr, Some, None, length, find, drop, take, not, if◌then◌else◌};
 ghost use Rattle.std.specs.Option.{option_copied};
-ghost use Rattle.fsd_table.specs.Table.{top};
+ghost use Rattle.fsd_table.specs.Table.{top, BreaksTable};
 ghost use Rattle.fsd_table.specs.Tree.{IsTree, table_of};
 ghost use Rattle.name_node.specs.Cut.{after_cut, is_before};
 ghost use Rattle.name_btree.specs.Descent.{BeginsWith, EndsWith};
-ghost use Rattle.name_btree.specs.Fault.{HasCause, BreaksInner, BreaksTree};
+ghost use Rattle.name_btree.specs.Fault.{HasCause, BreaksBeside};
 ghost use Rattle.name_node.specs.Lookups.{entry_with, entry_after, highest_of, last_that, same_name};
 ghost use Rattle.name_btree.specs.Still.{IsStill};
 ghost use Rattle.name_page.specs.Pages.{reaches};
 
-use crate::descent::leaf_below;
+use crate::descent::{Neighbour, leaf_below};
 use crate::fault::TreeFault;
 use fsd_bytes::{FileName, Key};
 use fsd_formats::Entry;
@@ -50,9 +50,9 @@ pub fn find<T: Pages>(t: &mut T, key: &Key) -> Result<Option<Entry>, TreeFault>
     ensures reaches { reaches (T.step t.old) ≤ reaches (T.step t.new) + 6 }
     ensures changes { IsStill (T.step t.old) (T.step t.new) }
     ensures found { IfOk result (λ found. (height : ℕ) → IsTree (T.step t.old).images height → found ≡ entry_with key.now (table_of (T.step t.old).images height)) }
-    ensures fault { IfErr result (HasCause (T.step t.new).refusal (BreaksTree (T.step t.old).images)) }
+    ensures fault { IfErr result (HasCause (T.step t.new).refusal (BreaksTable (T.step t.old).images)) }
 {
-    let found = leaf_below(t, top(), &Cut::UpTo(key.copied()))?;
+    let found = leaf_below(t, top(), 0, &Cut::UpTo(key.copied()))?;
     Ok(entry_in(&found.entries, key))
 }
 
@@ -93,36 +93,36 @@ fn named(entry: Entry, name: &FileName) -> Option<Entry>
     }
 }
 
-// The first entry below a child.
-fn first_below<T: Pages>(t: &mut T, child: Child) -> Result<Entry, TreeFault>
+// The first entry below a child beside the way.
+fn first_below<T: Pages>(t: &mut T, next: Neighbour) -> Result<Entry, TreeFault>
     requires { 6 ≤ reaches (T.step t.old) }
     ensures images { (T.step t.new).images ≡ (T.step t.old).images }
     ensures spares { (T.step t.new).spares ≡ (T.step t.old).spares }
     ensures step { (T.step t.new).most_reached ≡ (T.step t.old).most_reached }
     ensures reaches { reaches (T.step t.old) ≤ reaches (T.step t.new) + 6 }
     ensures changes { IsStill (T.step t.old) (T.step t.new) }
-    ensures first { IfOk result (BeginsWith (T.step t.old).images child) }
-    ensures fault { IfErr result (HasCause (T.step t.new).refusal (BreaksInner (T.step t.old).images child)) }
+    ensures first { IfOk result (BeginsWith (T.step t.old).images next.child) }
+    ensures fault { IfErr result (HasCause (T.step t.new).refusal (BreaksBeside (T.step t.old).images next)) }
 {
-    let found = leaf_below(t, child, &Cut::Start)?;
+    let found = leaf_below(t, next.child, next.above, &Cut::Start)?;
     if found.entries.len() == 0 {
         return Err(TreeFault::Broken(found.page));
     }
     Ok(found.entries.get(0))
 }
 
-// The last entry below a child.
-fn last_below<T: Pages>(t: &mut T, child: Child) -> Result<Entry, TreeFault>
+// The last entry below a child beside the way.
+fn last_below<T: Pages>(t: &mut T, previous: Neighbour) -> Result<Entry, TreeFault>
     requires { 6 ≤ reaches (T.step t.old) }
     ensures images { (T.step t.new).images ≡ (T.step t.old).images }
     ensures spares { (T.step t.new).spares ≡ (T.step t.old).spares }
     ensures step { (T.step t.new).most_reached ≡ (T.step t.old).most_reached }
     ensures reaches { reaches (T.step t.old) ≤ reaches (T.step t.new) + 6 }
     ensures changes { IsStill (T.step t.old) (T.step t.new) }
-    ensures last { IfOk result (EndsWith (T.step t.old).images child) }
-    ensures fault { IfErr result (HasCause (T.step t.new).refusal (BreaksInner (T.step t.old).images child)) }
+    ensures last { IfOk result (EndsWith (T.step t.old).images previous.child) }
+    ensures fault { IfErr result (HasCause (T.step t.new).refusal (BreaksBeside (T.step t.old).images previous)) }
 {
-    let found = leaf_below(t, child, &Cut::End)?;
+    let found = leaf_below(t, previous.child, previous.above, &Cut::End)?;
     let count = found.entries.len();
     if count == 0 {
         return Err(TreeFault::Broken(found.page));
@@ -150,10 +150,10 @@ pub fn next_after<T: Pages>(t: &mut T, after: Option<&Key>) -> Result<Option<Ent
     ensures changes { IsStill (T.step t.old) (T.step t.new) }
     ensures found { IfOk result (λ found. (height : ℕ) → IsTree (T.step t.old).images height
         → found ≡ entry_after (option_copied after.entry) (table_of (T.step t.old).images height)) }
-    ensures fault { IfErr result (HasCause (T.step t.new).refusal (BreaksTree (T.step t.old).images)) }
+    ensures fault { IfErr result (HasCause (T.step t.new).refusal (BreaksTable (T.step t.old).images)) }
 {
     let cut = cut_after(after);
-    let found = leaf_below(t, top(), &cut)?;
+    let found = leaf_below(t, top(), 0, &cut)?;
     if let Some(entry) = first_behind(&found.entries, &cut) {
         return Ok(Some(entry));
     }
@@ -172,10 +172,10 @@ pub fn highest<T: Pages>(t: &mut T, name: &FileName) -> Result<Option<Entry>, Tr
     ensures reaches { reaches (T.step t.old) ≤ reaches (T.step t.new) + 12 }
     ensures changes { IsStill (T.step t.old) (T.step t.new) }
     ensures found { IfOk result (λ found. (height : ℕ) → IsTree (T.step t.old).images height → found ≡ highest_of name.now (table_of (T.step t.old).images height)) }
-    ensures fault { IfErr result (HasCause (T.step t.new).refusal (BreaksTree (T.step t.old).images)) }
+    ensures fault { IfErr result (HasCause (T.step t.new).refusal (BreaksTable (T.step t.old).images)) }
 {
     let cut = Cut::Named(name.copied());
-    let found = leaf_below(t, top(), &cut)?;
+    let found = leaf_below(t, top(), 0, &cut)?;
     if let Some(entry) = last_before(&found.entries, &cut) {
         return Ok(named(entry, name));
     }

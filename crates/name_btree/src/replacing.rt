@@ -3,9 +3,9 @@ ghost use Rattle.std.specs.Prelude.{◌≡◌, ◌≤◌, ◌+◌, ℕ, IsTrue, 
 ghost use Rattle.fsd_formats.specs.NamePage.{is_entry, FitsEntry};
 ghost use Rattle.fsd_table.specs.Tree.{IsTree, table_of};
 ghost use Rattle.name_btree.specs.Change.{IsEdited};
-ghost use Rattle.name_btree.specs.Fault.{HasCause, BreaksTree};
+ghost use Rattle.name_btree.specs.Fault.{HasCause};
 ghost use Rattle.name_node.specs.Edits.{put};
-ghost use Rattle.name_btree.specs.Replace.{HasAsLong};
+ghost use Rattle.name_btree.specs.Replace.{HasAsLong, BreaksOrLacks};
 ghost use Rattle.name_page.specs.Pages.{reaches, changes};
 
 use crate::descent::leaf_below;
@@ -41,9 +41,9 @@ pub fn replace_same_size<T: Pages>(t: &mut T, entry: &Entry) -> Result<(), TreeF
     ensures most { (T.step t.new).most_changed ≡ (T.step t.old).most_changed }
     ensures changed { OnErr result ((T.step t.new).changed ≡ (T.step t.old).changed) }
     ensures replaced { OnOk result (IsEdited (T.step t.old) (T.step t.new) (map (put entry.now))) }
-    ensures fault { IfErr result (HasCause (T.step t.new).refusal (BreaksTree (T.step t.old).images)) }
+    ensures fault { IfErr result (HasCause (T.step t.new).refusal (BreaksOrLacks (T.step t.old).images entry.now)) }
 {
-    let found = leaf_below(t, top(), &Cut::UpTo(entry.key.copied()))?;
+    let found = leaf_below(t, top(), 0, &Cut::UpTo(entry.key.copied()))?;
     if !has_as_long(&found.entries, entry) {
         return Err(TreeFault::Broken(found.page));
     }
