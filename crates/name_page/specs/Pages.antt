@@ -1,5 +1,5 @@
 -- The pages of a name table, as the tree sees them, and what a step over them has done.
-use Rattle.std.specs.Prelude.{◌≡◌, ◌<◌, ℕ, ◌-◌, Bool, true, false, ◌==◌, ◌||◌, if◌then◌else◌, IsTrue, List, [], ◌∷◌, ◌++◌, Option, Some, None, length, count_by, slice_set, slice_index_or, ⊤}
+use Rattle.std.specs.Prelude.{◌≡◌, ◌<◌, ℕ, ◌+◌, ◌-◌, ◌%◌, ◌^◌, Bool, true, false, ◌==◌, ◌||◌, if◌then◌else◌, IsTrue, List, [], ◌∷◌, ◌++◌, Option, Some, None, length, count_by, slice_set, slice_index_or, ⊤}
 use Rattle.std.specs.List.{list_any}
 use Rattle.fsd_bytes.specs.declared.refusal.Refusal.{Refusal}
 use Rattle.fsd_bytes.specs.declared.refusal.Refusal.TheVariants.{Device, Lost, Unsound, Memory, NameTableFull}
@@ -25,10 +25,11 @@ IsSpareRefusal free other = ⊥
 
 -- ---- a step
 
--- the bytes of each page, which pages are spare, and what this step has done with them
+-- the bytes of each page, which pages are spare, the first sector of their homes A, and what this step has done with them
 pub record Step : Type 0 where
   pub images : List (List ℕ)
   pub spares : List Bool
+  pub home_a : ℕ
   pub reached : List ℕ
   pub changed : List ℕ
   pub promised : ℕ
@@ -37,13 +38,17 @@ pub record Step : Type 0 where
   pub most_changed : ℕ
 
 -- a step that has done nothing
-abbrev pub first_step : (images : List (List ℕ)) (spares : List Bool) (most_reached most_changed : ℕ) → Step
-first_step images spares most_reached most_changed =
-    record { images = images; spares = spares; reached = []; changed = []; promised = 0; refusal = None; most_reached = most_reached; most_changed = most_changed }
+abbrev pub first_step : (images : List (List ℕ)) (spares : List Bool) (home_a most_reached most_changed : ℕ) → Step
+first_step images spares home_a most_reached most_changed =
+    record { images = images; spares = spares; home_a = home_a; reached = []; changed = []; promised = 0; refusal = None; most_reached = most_reached; most_changed = most_changed }
 
 -- how many pages are spare
 abbrev pub free_count : Step → ℕ
 free_count s = count_by (λ spare. spare) s.spares
+
+-- the sector of a page's home A, as a number of 32 bits
+abbrev pub home_of : Step → ℕ → ℕ
+home_of s page = (s.home_a + page) % 2 ^ 32
 
 -- how many more pages may be reached, and how many more changed
 abbrev pub reaches : Step → ℕ
@@ -87,4 +92,4 @@ abbrev pub with_spare : ℕ → Step → Step
 with_spare page s = record s { spares = slice_set s.spares page true }
 
 abbrev pub rested : Step → Step
-rested s = first_step s.images s.spares s.most_reached s.most_changed
+rested s = first_step s.images s.spares s.home_a s.most_reached s.most_changed

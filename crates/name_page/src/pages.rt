@@ -3,7 +3,7 @@ ghost use Rattle.std.specs.Prelude.{◌≡◌, ◌≢◌, ◌↔◌, ◌<◌, �
 ghost use Rattle.std.specs.Borrow.{sem};
 ghost use Rattle.fsd_table.specs.Pages.{page_at};
 ghost use Rattle.name_page.specs.Lends.{LendsPage};
-ghost use Rattle.name_page.specs.Pages.{is_spare, free_count, reaches, changes, Step, IsReached, IsReachRefusal, IsSpareRefusal, MayChange, with_refusal, with_reached, with_promise, with_page, with_taken, with_spare, rested};
+ghost use Rattle.name_page.specs.Pages.{is_spare, free_count, home_of, reaches, changes, Step, IsReached, IsReachRefusal, IsSpareRefusal, MayChange, with_refusal, with_reached, with_promise, with_page, with_taken, with_spare, rested};
 
 use fsd_bytes::Refusal;
 
@@ -28,7 +28,8 @@ pub trait Pages {
         ensures reached { OnOk result (IsReached (step self.new) page) }
         ensures accepted { OnOk result (IsSome (page_at (step self.old).images page)) }
         ensures used { OnOk result (is_spare (step self.old).spares page ≡ false) }
-        ensures spare { is_spare (step self.old).spares page ≡ true → (sector : ℕ) × (result ≡ Err (Refusal.Unsound sector)) }
+        ensures spare { is_spare (step self.old).spares page ≡ true → result ≡ Err (Refusal.Unsound (home_of (step self.old) page)) }
+        ensures unsound { (sector : ℕ) → result ≡ Err (Refusal.Unsound sector) → sector ≡ home_of (step self.old) page }
         ensures refused { IfErr result (λ refusal. (step self.new ≡ with_refusal refusal (step self.old)) × IsReachRefusal refusal) };
 
     /// Promises so many pages that may be taken, in place of what was promised before.

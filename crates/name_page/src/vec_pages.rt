@@ -28,7 +28,7 @@ impl VecPages {
     pub fn new(pages: Vec<[u8; 512]>, spare: Vec<bool>, home_a: u32) -> VecPages
         requires small { length pages.items ≤ 4096 }
         requires flags { length spare.items ≡ length pages.items }
-        ensures { ⟦<VecPages as Pages>⟧.step result ≡ first_step pages.items spare.items 80 40 }
+        ensures { ⟦<VecPages as Pages>⟧.step result ≡ first_step pages.items spare.items home_a 80 40 }
     {
         VecPages {
             pages,
@@ -54,7 +54,7 @@ impl Pages for VecPages {
     ghost use Rattle.std.specs.Prelude.{refl};
     ghost use Rattle.name_page.specs.VecPages.{written};
 
-    ghost step = { λ s. record { images = s.pages.items; spares = s.spare.items; reached = s.reached.items; changed = s.changed.items; promised = s.promised; refusal = s.refusal; most_reached = 80; most_changed = 40 } };
+    ghost step = { λ s. record { images = s.pages.items; spares = s.spare.items; home_a = s.home_a; reached = s.reached.items; changed = s.changed.items; promised = s.promised; refusal = s.refusal; most_reached = 80; most_changed = 40 } };
 
     ghost written = { written };
 
