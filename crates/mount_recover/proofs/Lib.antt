@@ -13,6 +13,7 @@ mod HomingLaws
 mod HomingSteps
 mod MountLaws
 mod KeptLaws
+pub mod LostLaws
 mod RecordFacts
 mod ReplayLaws
 mod StageLaws

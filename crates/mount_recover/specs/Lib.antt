@@ -1,4 +1,5 @@
 pub mod Finding
+pub mod Lost
 pub mod Recover
 pub mod Replay
 pub mod Replaying

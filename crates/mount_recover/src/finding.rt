@@ -8,6 +8,7 @@ ghost use Rattle.sector_disk.specs.Machine.{UsesDisk, Trusts, Wears, LeavesOnly}
 ghost use Rattle.fsd_sound.specs.Shown.{records_by};
 ghost use Rattle.fsd_sound.specs.Sound.{EndIn, ShowsPages};
 ghost use Rattle.log_thirds.specs.Append.{IsIndexed, KnowsLast};
+ghost use Rattle.mount_recover.specs.Lost.{HasRoot};
 ghost use Rattle.mount_recover.specs.Recover.{IsVolume};
 ghost use Rattle.mount_recover.specs.Finding.{mount_fault_of, FindCause, NotFoundFor, IsExcuse};
 
@@ -50,6 +51,9 @@ pub fn find_volume<M: Machine>(alloc: Global, m: &mut M, sectors: u32) -> Result
     ensures layout { IfOk result (λ found. found.log.layout ≡ found.layout) }
     ensures planned { IfOk result (λ found. plan found.layout.sectors found.layout.third found.layout.pages ≡ Ok found.layout) }
     ensures epoch { IfOk result (λ found. found.log.anchor.epoch < 2 ^ 32 - 1) }
+
+    // The layout is that of a root of the image, also where sectors wear.
+    ensures root { IfOk result (λ found. M.honest m.new → HasRoot sectors (M.now m.old).image found.layout) }
 
     // Of an image that does not wear, each answer but a fault of the disk and want of memory says what the image is.
     ensures found { IfOk result (λ found. M.honest m.new → IsCalm (M.now m.old).windows → IsVolume sectors (M.now m.old).image found.layout found.log.anchor) }

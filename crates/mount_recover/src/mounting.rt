@@ -7,6 +7,7 @@ ghost use Rattle.sector_disk.specs.Image.{IsCalm};
 ghost use Rattle.sector_disk.specs.Machine.{UsesDisk, Trusts, OnlyWrites, LeavesOnly};
 ghost use Rattle.fsd_formats.specs.declared.anchor.Anchor.{Anchor as Named};
 ghost use Rattle.fsd_sound.specs.Anchors.{anchor_of};
+ghost use Rattle.mount_recover.specs.Lost.{AreLoggedOn, HasRoot, LostIn};
 ghost use Rattle.mount_recover.specs.Recover.{IsSettled, IsFreshLog, RefusedFor, LosesNothing, LeavesAll, HasFault, IsMountable};
 ghost use Rattle.mount_recover.specs.Replaying.{StandAsShown};
 ghost use Rattle.mount_recover.specs.Finding.{IsExcuse};
@@ -50,6 +51,13 @@ pub fn recover<M: Machine>(alloc: Global, m: &mut M, sectors: u32) -> Result<Set
     ensures unchanged { IfErr result (λ fault. M.honest m.new → LeavesAll fault (M.now m.old) (M.now m.new)) }
     ensures behind { IfOk result (λ settled. M.honest m.new → IsCalm (M.now m.old).windows → IsCalm (M.now m.new).windows →
         SameBehind settled.layout (M.now m.old).image (M.now m.new).image) }
+
+    // A page is lost only where its sector and its copy in a record of the log read damaged: in the last one that has it, where
+    // nothing wore before.
+    ensures lost { IfErr result (λ fault. M.honest m.new → LostIn (AreLoggedOn sectors (M.now m.old)) (M.now m.new).image fault) }
+
+    // The layout is that of a root of the image, also where sectors wear.
+    ensures root { IfOk result (λ settled. M.honest m.new → HasRoot sectors (M.now m.old).image settled.layout) }
 
     ensures epoch { IfOk result (λ settled. settled.log.anchor.epoch < 2 ^ 32) }
 

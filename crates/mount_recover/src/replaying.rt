@@ -8,6 +8,7 @@ ghost use Rattle.fsd_log.specs.Scan.{Placed};
 ghost use Rattle.fsd_sound.specs.Sound.{EndIn, ShowsPages};
 ghost use Rattle.log_thirds.specs.Append.{IsCalm as IsCalmNow};
 ghost use Rattle.mount_recover.specs.Finding.{IsExcuse};
+ghost use Rattle.mount_recover.specs.Lost.{AreOfLog, LostIn};
 ghost use Rattle.mount_recover.specs.Replay.{homed, HomingIn, Replays, IsHealed};
 ghost use Rattle.mount_recover.specs.Replaying.{ReplayCause, GivesPages, IsLogOf, CopiesStand, SameButHomes, SameAround, StandAsShown};
 
@@ -42,6 +43,9 @@ pub(crate) fn replay_log<M: Machine>(m: &mut M, l: &Layout, log: &Log) -> Result
 
     // Nothing is lost in a window that was settled, whatever the image shows.
     ensures never_lost { IfErr result (λ fault. M.honest m.new → IsCalm (M.now m.old).windows → IsSome (M.now m.old).windows.present → IsLogOf log.now (M.now m.old).image → IsExcuse fault) }
+
+    // A page is lost only where its sector and its copy in the log read damaged.
+    ensures lost { IfErr result (λ fault. M.honest m.new → LostIn (AreOfLog log.now) (M.now m.new).image fault) }
 
     // The last record's copies stand then.
     ensures copied { OnOk result (M.honest m.new → IsCalm (M.now m.old).windows → IsCalmNow (M.now m.new) → IsLogOf log.now (M.now m.old).image →
@@ -82,6 +86,7 @@ fn write_homes<M: Machine>(m: &mut M, l: &Layout, log: &Log) -> Result<(), Mount
         Holds (M.now m.old) (homed l.now records l.now.pages (M.now m.old).image) (M.now m.new)) }
     ensures around { M.honest m.new → IsCalmNow (M.now m.old) → SameButHomes l.now (M.now m.old).image (M.now m.new).image }
     ensures never_lost { IfErr result (λ fault. (records : List Placed) → M.honest m.new → IsCalmNow (M.now m.old) → GivesPages log.now records (M.now m.old).image → IsExcuse fault) }
+    ensures lost { IfErr result (λ fault. M.honest m.new → LostIn (AreOfLog log.now) (M.now m.new).image fault) }
 {
     for page in 0..l.pages() {
         write_page(m, l, log, page)?;
@@ -111,6 +116,7 @@ fn write_page<M: Machine>(m: &mut M, l: &Layout, log: &Log, page: u32) -> Result
     ensures around { M.honest m.new → IsCalmNow (M.now m.old) → SameButHomes l.now (M.now m.old).image (M.now m.new).image }
     ensures never_lost { IfErr result (λ fault. (records : List Placed) (first : At) → M.honest m.new → IsCalmNow first → GivesPages log.now records first.image →
         Holds first (homed l.now records page first.image) (M.now m.old) → IsExcuse fault) }
+    ensures lost { IfErr result (λ fault. M.honest m.new → LostIn (AreOfLog log.now) (M.now m.new).image fault) }
 {
     let mut image = [0; 512];
     let there = log.image_of(m, page, &mut image)?;

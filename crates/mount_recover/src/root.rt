@@ -4,6 +4,7 @@ ghost use Rattle.volume_layout.specs.Layout.{plan};
 ghost use Rattle.sector_disk.specs.Machine.{DeviceFault, UsesDisk, Trusts, Wears, LeavesOnly};
 ghost use Rattle.sector_disk.specs.Image.{IsCalm};
 ghost use Rattle.fsd_sound.specs.Roots.{root_at, root_of};
+ghost use Rattle.mount_recover.specs.Lost.{HasRoot};
 
 use sector_disk::{Failed, Machine, Seen};
 use volume_layout::{Layout, read_root};
@@ -53,6 +54,7 @@ pub fn find_root<M: Machine>(m: &mut M, sectors: u32) -> Result<Option<Layout>, 
     ensures worn { M.honest m.new → Wears (M.now m.old) (M.now m.new) }
     ensures any_moment { M.honest m.new → LeavesOnly M.moment M.left_since m.old m.new (Wears (M.now m.old)) }
     ensures found { IfOk result (λ found. M.honest m.new → IsCalm (M.now m.old).windows → found ≡ root_of sectors (M.now m.old).image) }
+    ensures stands { IfOk result (λ found. IfSome found (λ l. M.honest m.new → HasRoot sectors (M.now m.old).image l)) }
     ensures fits { IfOk result (λ found. IfSome found (λ l. l.sectors ≤ sectors)) }
     ensures planned { IfOk result (λ found. IfSome found (λ l. plan l.sectors l.third l.pages ≡ Ok l)) }
 {

@@ -7,10 +7,12 @@ use Rattle.sector_disk.proofs.Calm.{calm_wears}
 use Rattle.sector_disk.proofs.Moments.{leaves_more, then_on}
 use Rattle.log_thirds.specs.LogValue.{LogValue}
 use Rattle.mount_recover.specs.Finding.{IsExcuse}
+use Rattle.mount_recover.specs.Lost.{AreLoggedOn, LostIn}
 use Rattle.mount_recover.specs.Recover.{LosesNothing, IsMountable}
 use Rattle.mount_recover.specs.Replay.{Replays, IsMounted}
 use Rattle.mount_recover.specs.Replaying.{IsLogOf}
 use Rattle.mount_recover.proofs.FindingLaws.{calm_now, log_found}
+use Rattle.mount_recover.proofs.LostLaws.{none_found, lost_on}
 use Rattle.mount_recover.proofs.MountLaws.{one_anchor, shown_on, not_found_keeps, excuse_keeps, replays_wears, reached, replays_from, calm_on, stays_behind, healed_two, replays_on, next_settled, next_kept, handed_up}
 use Rattle.mount_recover.proofs.mounting.recover.Goals as goal
 
@@ -180,3 +182,21 @@ returns-in_err-replay_log-clause-all_shown g c =
     let as_old = calm_wears old one calm (c.find_volume.ensures.worn h1) in
     let calm_one = subst (λ (m : Moment). IsCalm m.windows) (sym as_old) calm in
     excuse_keeps c.in_err-replay_log.field-0.0 (c.in_err-replay_log.ensures.all_kept h calm_one (calm_now two calm_new) (subst (λ (m : Moment). IsLogOf found.log m.image) (sym as_old) log_of)))
+
+pub returns-in_err-layout-clause-lost : goal.returns-in_err-layout-clause-lost
+returns-in_err-layout-clause-lost g c =
+    let M = g.M.Machine in
+    let old = M.now c.args.m.now in let new = M.now c.find_volume.new.m in
+    handed_up (λ fault. M.honest c.find_volume.new.m → LostIn (AreLoggedOn c.args.sectors old) new.image fault) c.from_residual.result c.in_err-layout.field-0.0 c.from_residual.ensures.1
+    (λ h. none_found (AreLoggedOn c.args.sectors old) new.image (M.report c.args.m.now) (M.report c.find_volume.new.m) c.in_err-layout.field-0.0 c.in_err-layout.ensures.fault)
+
+pub returns-in_err-replay_log-clause-lost : goal.returns-in_err-replay_log-clause-lost
+returns-in_err-replay_log-clause-lost g c =
+    let M = g.M.Machine in
+    let old = M.now c.args.m.now in let new = M.now c.replay_log.new.m in
+    handed_up (λ fault. M.honest c.replay_log.new.m → LostIn (AreLoggedOn c.args.sectors old) new.image fault)
+    c.from_residual-in_err-replay_log.result c.in_err-replay_log.field-0.0 c.from_residual-in_err-replay_log.ensures.1
+    (λ h.
+    let h1 = c.replay_log.ensures.trust.honest h in
+    let found = c.in_ok-layout.field-0 in
+    lost_on c.args.sectors found.layout found.log old new.image c.in_ok-layout.ensures.layout (c.in_ok-layout.ensures.root h1) (c.in_ok-layout.ensures.found h1) (c.in_ok-layout.ensures.indexed h1) c.in_err-replay_log.field-0.0 (c.in_err-replay_log.ensures.lost h))

@@ -6,6 +6,7 @@ use Rattle.log_thirds.proofs.ReadingLaws.{uses_on}
 use Rattle.fsd_log.specs.Scan.{Placed}
 use Rattle.log_thirds.specs.Append.{IsCalm as IsCalmNow}
 use Rattle.mount_recover.specs.Finding.{IsExcuse}
+use Rattle.mount_recover.specs.Lost.{AreOfLog, LostIn}
 use Rattle.mount_recover.specs.Replay.{homed, HomingIn}
 use Rattle.mount_recover.specs.Replaying.{GivesPages}
 use Rattle.mount_recover.proofs.AroundLaws.{around_on}
@@ -50,6 +51,12 @@ returns-in_err-write_page-clause-never_lost g c =
     let old = M.now c.args.m.now in let so_far = c.loop-page.invariant in
     handed_up (λ fault. (records : List Placed) → M.honest c.write_page.new.m → IsCalmNow old → GivesPages c.args.log.now records old.image → IsExcuse fault) c.from_residual.result c.in_err-write_page.field-0.0 c.from_residual.ensures.1
     (λ records h still given. c.in_err-write_page.ensures.never_lost records old h still given (so_far.holds records (c.write_page.ensures.trust.honest h) still given))
+
+pub returns-in_err-write_page-clause-lost : goal.returns-in_err-write_page-clause-lost
+returns-in_err-write_page-clause-lost g c =
+    let M = g.M.Machine in
+    handed_up (λ fault. M.honest c.write_page.new.m → LostIn (AreOfLog c.args.log.now) (M.now c.write_page.new.m).image fault) c.from_residual.result c.in_err-write_page.field-0.0 c.from_residual.ensures.1
+    c.in_err-write_page.ensures.lost
 
 pub loop-page-preserved : goal.loop-page-preserved
 loop-page-preserved g c =

@@ -1,8 +1,11 @@
-use Rattle.std.proofs.Common.{◌≤◌, length, arith}
+use Rattle.std.proofs.Common.{◌<◌, ◌≤◌, length, sym, subst, arith}
 use Rattle.std.proofs.lemmas.Result.{err_from_is_err_and}
 use Rattle.sector_disk.specs.Machine.{Wears}
 use Rattle.sector_disk.proofs.Moments.{leaves_more, then_on}
 use Rattle.mount_recover.specs.Replay.{HomingIn}
+use Rattle.volume_layout.specs.declared.layout.Layout.{Layout}
+use Rattle.mount_recover.specs.Lost.{AreOfLog}
+use Rattle.mount_recover.proofs.LostLaws.{loaded_as, logged_as}
 use Rattle.mount_recover.proofs.AroundLaws.{around_same, around_on}
 use Rattle.mount_recover.proofs.WritingLaws.{still_next, excused_as, still_mid, given_mid, read_homing, read_holds}
 use Rattle.mount_recover.proofs.replaying.write_page.Goals as goal
@@ -24,6 +27,14 @@ returns-in_err-there-clause-never_lost g c =
     excused_as c.in_err-there.field-0.0 told.0 told.2
     (c.in_err-there.ensures.none_lost records h (still_mid c.args.l.now c.args.log.now c.requires.layout c.requires.planned records first (M.now c.args.m.now) c.args.page c.requires.page still given holds) given.indexed
     (given_mid c.args.l.now c.args.log.now c.requires.layout c.requires.planned records first (M.now c.args.m.now) c.args.page c.requires.page still given holds fits)))
+
+pub returns-in_err-there-clause-lost : goal.returns-in_err-there-clause-lost
+returns-in_err-there-clause-lost g c =
+    let M = g.M.Machine in
+    let told = err_from_is_err_and c.from_residual.result c.from_residual.ensures.1 in
+    let within : c.args.page < c.args.log.now.layout.pages = subst (λ (l : Layout). c.args.page < l.pages) (sym c.requires.layout) c.requires.page in
+    rw told.1 (λ h. loaded_as (AreOfLog c.args.log.now) (M.now c.image_of.new.m).image c.in_err-there.field-0.0 told.0 told.2
+    (logged_as c.args.log.now c.args.page (M.now c.image_of.new.m).image c.in_err-there.field-0.0 within (c.in_err-there.ensures.lost h)))
 
 pub returns-in_err-home_page-clause-any_moment : goal.returns-in_err-home_page-clause-any_moment
 returns-in_err-home_page-clause-any_moment g c records first h still given holds =
