@@ -9,6 +9,7 @@ pub mod Laying
 pub mod LeafLaws
 pub mod ListLaws
 pub mod LoadLaws
+pub mod LostLaws
 pub mod MountEnds
 pub mod MountLaws
 pub mod MountMoments

@@ -35,6 +35,7 @@ use Rattle.fsd_volume.specs.State.{State, IsMounted, mounted_of}
 use Rattle.fsd_volume.specs.Mount.{IsSoundAt, Mounts, MountLeaves, MountEnds, volume_of}
 use Rattle.fsd_volume.specs.Opening.{AreAtHome, UnreadFor, Opens, OpensNotFor}
 use Rattle.fsd_volume.specs.Table.{table_in, leaf_of, if_apart, sectors_apart}
+use Rattle.fsd_volume.proofs.LostLaws.{none_at_home}
 use Rattle.fsd_volume.proofs.MountMoments.{told_now, pages_now, count_now, entries_told, described_after, chosen_now, took_so_many}
 use Rattle.fsd_volume.proofs.TableLaws.{table_is}
 
@@ -131,7 +132,7 @@ module _ (sectors : ℕ) (l : Layout) (windows : List WeakRun) (h : List Change)
     pub unread_now : (fault : MountFault) → UnreadFor l mid.image fault → IsExcuse fault
     unread_now (Device s) un = tt
     unread_now Memory un = tt
-    unread_now (Lost a b) un = let e : Some (image_at shown_pages un.page) ≡ None = sym (stands_home l mid.image shown_pages un.page home_now un.within) ∙ un.none in absurd cc
+    unread_now (Lost a b) un = let e : Some (image_at shown_pages un.copies.page) ≡ None = sym (stands_home l mid.image shown_pages un.copies.page home_now un.copies.within) ∙ none_at_home l mid.image a b un in absurd cc
     unread_now NotVolume un = un
     unread_now NoAnchor un = un
     unread_now (Unsound s) un = un

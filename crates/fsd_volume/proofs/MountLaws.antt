@@ -20,6 +20,7 @@ use Rattle.fsd_volume.specs.State.{State}
 use Rattle.fsd_volume.specs.Mount.{shown_page, table_on, IsAccepted, IsFoundOn, MountRefused}
 use Rattle.fsd_volume.specs.Opening.{AreAtHome, UnreadFor, Opens, OpensNotFor}
 use Rattle.fsd_volume.specs.Table.{table_in}
+use Rattle.fsd_volume.proofs.LostLaws.{none_at_home}
 
 -- the first image shows what stands at home once the log was replayed
 module _ (sectors : ℕ) (i j : Image) (l : Layout) (log : LogValue) (settled : IsSettled sectors i l log) (fits : log.anchor.epoch < 2 ^ 32) (shown : StandAsShown l settled.anchor i j) where
@@ -33,7 +34,7 @@ module _ (sectors : ℕ) (i j : Image) (l : Layout) (log : LogValue) (settled : 
   shows_page page lt = by_anchor page ∙ sym (shown page lt)
 
   pub unread_refused : (fault : MountFault) → UnreadFor l j fault → MountRefused sectors i fault
-  unread_refused (Lost a b) un = (l, accepted, record { page = un.page; within = un.within; first = un.first; second = un.second; none = shows_page un.page un.within ∙ un.none })
+  unread_refused (Lost a b) un = (l, accepted, record { page = un.copies.page; within = un.copies.within; first = un.copies.first; second = un.copies.second; none = shows_page un.copies.page un.copies.within ∙ none_at_home l j a b un })
   unread_refused (Device s) un = tt
   unread_refused Memory un = tt
   unread_refused NotVolume un = absurd un

@@ -1,13 +1,15 @@
 -- The pages of a name table as a mount reads them, and the volume that it makes of them.
 use Rattle.std.specs.Prelude.{◌≡◌, ◌<◌, ℕ, List, [], Some, None, ⊤}
 use Rattle.volume_layout.specs.declared.layout.Layout.{Layout}
-use Rattle.volume_layout.specs.Layout.{home_a, home_b}
+use Rattle.volume_layout.specs.Layout.{home_a}
+use Rattle.sector_disk.specs.Damage.{AreLost}
 use Rattle.fsd_files.specs.Disk.{Image}
 use Rattle.fsd_sound.specs.Homes.{home_of}
 use Rattle.fsd_sound.specs.Mounted.{image_at}
 use Rattle.log_thirds.specs.LogValue.{LogValue}
 use Rattle.mount_recover.specs.declared.fault.MountFault.{MountFault}
 use Rattle.mount_recover.specs.declared.fault.MountFault.TheVariants.{Device, Memory, Lost, Unsound}
+use Rattle.mount_recover.specs.Lost.{AreHomes}
 use Rattle.fsd_volume.specs.State.{State, IsTable}
 use Rattle.fsd_volume.specs.Table.{table_in}
 
@@ -15,17 +17,9 @@ use Rattle.fsd_volume.specs.Table.{table_in}
 abbrev pub AreAtHome : Layout → Image → ℕ → List (List ℕ) → Type 0
 AreAtHome l i count pages = (page : ℕ) → page < count → home_of l i page ≡ Some (image_at pages page)
 
--- Both homes of a page are damaged.
-pub record IsDamaged (l : Layout) (i : Image) (a b : ℕ) : Type 0 where
-  pub page : ℕ
-  pub within : page < l.pages
-  pub first : a ≡ home_a l page
-  pub second : b ≡ home_b l page
-  pub none : home_of l i page ≡ None
-
--- why a page could not be read
+-- why a page could not be read: both its homes are damaged, or the disk or memory failed
 abbrev pub UnreadFor : Layout → Image → MountFault → Type 0
-UnreadFor l i (Lost a b) = IsDamaged l i a b
+UnreadFor l i (Lost a b) = AreLost (AreHomes l) i a b
 UnreadFor l i (Device s) = ⊤
 UnreadFor l i Memory = ⊤
 UnreadFor l i fault = ⊥

@@ -6,6 +6,7 @@ ghost use Rattle.sector_disk.specs.declared.sector.WeakRun.{WeakRun as Run};
 ghost use Rattle.sector_disk.specs.Image.{IsCalm};
 ghost use Rattle.sector_disk.specs.Machine.{UsesDisk, Trusts, OnlyWrites, Wears, LeavesOnly};
 ghost use Rattle.fsd_files.specs.Files.{Change};
+ghost use Rattle.mount_recover.specs.Lost.{AreCopiesOn, AreHomes, LostIn};
 ghost use Rattle.mount_recover.specs.Recover.{IsFreshLog};
 ghost use Rattle.mount_recover.specs.Replay.{SameBehind};
 ghost use Rattle.fsd_volume.specs.State.{IsTable, free_space};
@@ -56,6 +57,9 @@ impl Volume {
         ensures refused { IfErr result (λ fault. M.honest m.new → IsCalm (M.now m.old).windows → IsCalm (M.now m.new).windows →
             MountRefused sectors (M.now m.old).image fault) }
 
+        // A page is lost only where both its copies read damaged: its sector and its copy in the log, or its two homes.
+        ensures lost { IfErr result (λ fault. M.honest m.new → LostIn (AreCopiesOn sectors (M.now m.old)) (M.now m.new).image fault) }
+
         // A sound disk is sound at each moment, and its files after a prefix of the changes, with every forced one, are mounted.
         ensures mounted { (l : Plan) (windows : List Run) (h : List Change) (f : ℕ) → M.honest m.new → IsSoundAt sectors l windows h f (M.now m.old) → IsCalm (M.now m.new).windows →
             (n : ℕ) × TellsFirst l windows h f n (M.now m.old).image × LeavesOnly M.moment M.left_since m.old m.new (MountLeaves l windows h f n (M.now m.old)) × MountEnds l windows h f n (M.now m.old) (M.now m.new) result }
@@ -83,6 +87,7 @@ fn load_pages<M: Machine>(
     ensures count { IfOk result (λ pages. length pages.items ≡ l.now.pages) }
     ensures shown { IfOk result (λ pages. M.honest m.new → IsCalm (M.now m.old).windows → AreAtHome l.now (M.now m.old).image l.now.pages pages.items) }
     ensures unread { IfErr result (λ fault. M.honest m.new → IsCalm (M.now m.old).windows → UnreadFor l.now (M.now m.old).image fault) }
+    ensures lost { IfErr result (λ fault. M.honest m.new → LostIn (AreHomes l.now) (M.now m.new).image fault) }
 {
     let mut pages = Vec::new(alloc);
     for page in 0..l.pages() {

@@ -4,9 +4,11 @@ use Rattle.sector_disk.proofs.Moments.{started}
 use Rattle.sector_disk.specs.Image.{IsCalm}
 use Rattle.sector_disk.specs.Machine.{Wears}
 use Rattle.log_thirds.proofs.ReadingLaws.{reads_on}
+use Rattle.mount_recover.specs.Lost.{AreHomes, LostIn}
 use Rattle.fsd_volume.specs.Opening.{AreAtHome, UnreadFor}
 use Rattle.fsd_volume.proofs.CallLaws.{uses_on, wears_same, wears_on}
 use Rattle.fsd_volume.proofs.LoadLaws.{home_none, home_more, home_before, unread_before, handed_up}
+use Rattle.fsd_volume.proofs.LostLaws.{unread_lost}
 use Rattle.fsd_volume.proofs.mounting.load_pages.Goals as goal
 
 pub loop-page-init : goal.loop-page-init
@@ -57,3 +59,10 @@ returns-in_err-bytes-clause-unread g c =
     let old = M.now c.args.m.now in
     handed_up (λ fault. M.honest c.load_page.new.m → IsCalm old.windows → UnreadFor c.args.l.now old.image fault) c.from_residual.result c.in_err-bytes.field-0.0 c.from_residual.ensures.1
     (λ h calm. unread_before c.args.l.now old (M.now c.load_page.new.m) c.in_err-bytes.field-0.0 calm (wears_on (c.loop-page.invariant.worn (c.load_page.ensures.trust.honest h)) (c.load_page.ensures.worn h)) (c.in_err-bytes.ensures.unread h))
+
+pub returns-in_err-bytes-clause-lost : goal.returns-in_err-bytes-clause-lost
+returns-in_err-bytes-clause-lost g c =
+    let M = g.M.Machine in
+    let new = M.now c.load_page.new.m in
+    handed_up (λ fault. M.honest c.load_page.new.m → LostIn (AreHomes c.args.l.now) new.image fault) c.from_residual.result c.in_err-bytes.field-0.0 c.from_residual.ensures.1
+    (λ h. unread_lost c.args.l.now new.image c.in_err-bytes.field-0.0 (c.in_err-bytes.ensures.unread h))

@@ -5,11 +5,13 @@ use Rattle.sector_disk.specs.Image.{IsCalm}
 use Rattle.sector_disk.specs.Machine.{Moment, Wears}
 use Rattle.sector_disk.proofs.Calm.{calm_wears, same_calm}
 use Rattle.sector_disk.proofs.Moments.{leaves_more, then_on}
+use Rattle.mount_recover.specs.Lost.{AreCopiesOn, LostIn}
 use Rattle.mount_recover.specs.Recover.{IsFreshLog}
 use Rattle.mount_recover.specs.Replay.{SameBehind, Replays}
 use Rattle.fsd_volume.specs.Mount.{IsFoundOn, MountRefused, MountLeaves, MountEnds}
 use Rattle.fsd_volume.specs.Opening.{AreAtHome, UnreadFor, Opens, OpensNotFor}
 use Rattle.fsd_volume.proofs.LoadLaws.{handed_up}
+use Rattle.fsd_volume.proofs.LostLaws.{home_lost, logged_lost, none_lost}
 use Rattle.fsd_volume.proofs.MountLaws.{if_ok_more, if_err_more, opens_behind, opens_found, opens_refused, recover_refused, unread_refused}
 use Rattle.fsd_volume.proofs.MountMoments.{first_now, pages_now, count_now, mountable_now, leaves_at, leaves_read}
 use Rattle.fsd_volume.proofs.MountEnds.{unread_now, ends_now, ends_err}
@@ -153,3 +155,29 @@ returns-in_err-settled-clause-refused g c =
     let old = M.now c.args.m.now in
     handed_up (λ fault. M.honest c.recover.new.m → IsCalm old.windows → IsCalm (M.now c.recover.new.m).windows → MountRefused c.args.sectors old.image fault) c.from_residual.result c.in_err-settled.field-0.0 c.from_residual.ensures.1
     (λ h calm calm_new. recover_refused c.args.sectors old.image c.in_err-settled.field-0.0 (c.in_err-settled.ensures.refused h calm) (c.in_err-settled.ensures.all_shown h calm calm_new))
+
+pub returns-in_err-settled-clause-lost : goal.returns-in_err-settled-clause-lost
+returns-in_err-settled-clause-lost g c =
+    let M = g.M.Machine in
+    let old = M.now c.args.m.now in let new = M.now c.recover.new.m in
+    handed_up (λ fault. M.honest c.recover.new.m → LostIn (AreCopiesOn c.args.sectors old) new.image fault) c.from_residual.result c.in_err-settled.field-0.0 c.from_residual.ensures.1
+    (λ h. logged_lost c.args.sectors old new.image c.in_err-settled.field-0.0 (c.in_err-settled.ensures.lost h))
+
+pub returns-in_err-pages-clause-lost : goal.returns-in_err-pages-clause-lost
+returns-in_err-pages-clause-lost g c =
+    let M = g.M.Machine in
+    let old = M.now c.args.m.now in let new = M.now c.load_pages.new.m in
+    let settled = c.in_ok-settled.settled in
+    handed_up (λ fault. M.honest c.load_pages.new.m → LostIn (AreCopiesOn c.args.sectors old) new.image fault) c.from_residual-in_err-pages.result c.in_err-pages.field-0.0 c.from_residual-in_err-pages.ensures.1
+    (λ h.
+    let h1 = c.load_pages.ensures.trust.honest h in
+    home_lost c.args.sectors old new.image settled.layout (c.in_ok-settled.ensures.root h1) (λ calm. (c.in_ok-settled.ensures.found h1 calm).found.root) c.in_err-pages.field-0.0 (c.in_err-pages.ensures.lost h))
+
+pub returns-clause-lost : goal.returns-clause-lost
+returns-clause-lost g c =
+    let M = g.M.Machine in
+    let old = M.now c.args.m.now in let new = M.now c.load_pages.new.m in
+    let settled = c.in_ok-settled.settled in
+    let pages = c.in_ok-pages.pages.items in
+    if_err_more (OpensNotFor settled.layout pages) (λ fault. M.honest c.load_pages.new.m → LostIn (AreCopiesOn c.args.sectors old) new.image fault) c.assemble.result
+    (λ fault un h. none_lost c.args.sectors old new.image settled.layout pages fault un) c.assemble.ensures.broken
