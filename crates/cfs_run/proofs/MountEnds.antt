@@ -1,5 +1,5 @@
 -- A run that ends with the fault of its mount.
-use Rattle.std.proofs.Common.{◌≡◌, ◌⊎◌, inl, inr, ℕ, is_some, true, false, List, [], ◌∷◌, ◌++◌, replicate, None, refl, sym, ap, subst, ◌∙◌, arith}
+use Rattle.std.proofs.Common.{◌≡◌, ◌⊎◌, inl, inr, ℕ, is_some, true, false, List, [], ◌∷◌, ◌++◌, replicate, Some, None, refl, sym, ap, subst, ◌∙◌, arith}
 use Rattle.std.specs.Prelude.{Err, IsTrue}
 use Rattle.std.proofs.lemmas.List.{length-replicate}
 use Rattle.fsd_bytes.specs.declared.refusal.Refusal.{Refusal}
@@ -14,9 +14,13 @@ use Rattle.mount_recover.specs.Replay.{SameBehind}
 use Rattle.volume_layout.specs.declared.layout.Layout.{Layout}
 use Rattle.mount_recover.specs.declared.fault.MountFault.TheVariants as Mount
 use Rattle.sector_disk.specs.declared.sector.Sector.{Sector}
-use Rattle.sector_disk.specs.Image.{IsCalm}
+use Rattle.sector_disk.specs.Image.{IsCalm, IsWorn, open_damage}
 use Rattle.sector_disk.specs.Machine.{Finds, Moment}
 use Rattle.sector_disk.proofs.Calm.{calm_worn}
+use Rattle.sector_disk.proofs.Damage.{lost_as, lost_worn}
+use Rattle.mount_recover.specs.Lost.{AreCopiesOn, AreLastOf, HasRoot, LostIn}
+use Rattle.fsd_sound.specs.Roots.{root_of}
+use Rattle.mount_recover.proofs.LostLaws.{has_root_before}
 use Rattle.fsd_volume.specs.Mount.{IsFoundOn, IsMountable, MountRefused, volume_of}
 use Rattle.fsd_volume.specs.Put.{IsWornOut, PutSays, Puts}
 use Rattle.fsd_volume.specs.State.{StandsFor, State}
@@ -30,8 +34,9 @@ use Rattle.cfs_run.specs.declared.request.Request.TheVariants.{Outside, BadField
 use Rattle.cfs_run.specs.declared.answer.Answer.TheVariants as Said
 use Rattle.cfs_run.specs.Answer.{answer_status, answer_text}
 use Rattle.cfs_run.specs.Mounting.{IfMount, IfMounts, IsMountFault, fault_of}
-use Rattle.cfs_run.specs.Ends.{IfMountAnswer, IfMountLine, Never, NotMounted, WhereMounted, is_one_of, mounted_statuses}
+use Rattle.cfs_run.specs.Ends.{IfMountAnswer, IfMountLine, Never, TellsFor, TellsLost, WhereMounted, is_one_of, mounted_statuses}
 use Rattle.cfs_run.specs.Text.{line_of}
+use Rattle.cfs_run.proofs.OpenLaws.{found_calm}
 use Rattle.cfs_run.proofs.PutLaws.{keeps}
 
 -- the mount's own fault
@@ -146,31 +151,86 @@ never_refused P (Lines.Made key made) never = tt
 never_refused P (Lines.Damaged key s) never = tt
 never_refused P (Lines.Refused why) never = tt
 
+-- ---- a page that is lost
+
+still_lost : (AreCopies : ℕ → ℕ → Type 0) (between after : Moment) → IsWorn (open_damage between.windows) between.image after.image → (fault : MountFault) → LostIn AreCopies between.image fault → LostIn AreCopies after.image fault
+still_lost AreCopies between after worn (Mount.Lost a b) lost = lost_worn AreCopies a b (open_damage between.windows) between.image after.image worn lost
+still_lost AreCopies between after worn Mount.NotVolume lost = tt
+still_lost AreCopies between after worn (Mount.Device s) lost = tt
+still_lost AreCopies between after worn Mount.Memory lost = tt
+still_lost AreCopies between after worn Mount.NoAnchor lost = tt
+still_lost AreCopies between after worn (Mount.Unsound s) lost = tt
+still_lost AreCopies between after worn Mount.WornOut lost = tt
+
+-- the attach leaves the image as it is, where nothing wears
+module _ (count sectors : ℕ) (old at : Moment) (found : Finds old at) (same : sectors ≡ count) where
+  calm_at : IsCalm old.windows → IsCalm at.windows
+  calm_at calm = found_calm old at calm found
+
+  copies_before : (a b : ℕ) → AreCopiesOn count at a b → AreCopiesOn sectors old a b
+  copies_before a b copies = elim copies [
+    | inl logged ↦ inl (record {
+      layout = logged.layout;
+      root = root_at_first logged.layout logged.root;
+      in_record = logged.in_record;
+      calm = λ calm. subst (λ (n : ℕ). AreLastOf n old.image a b) (sym same) (subst (λ (i : List Sector). AreLastOf count i a b) (calm_worn old.windows old.image at.image calm found.image) (logged.calm (calm_at calm)));
+    })
+    | inr homes ↦ inr (record {
+      layout = homes.layout;
+      root = root_at_first homes.layout homes.root;
+      homes = homes.homes;
+      calm = λ calm. subst (λ (n : ℕ). root_of n old.image ≡ Some homes.layout) (sym same) (subst (λ (i : List Sector). root_of count i ≡ Some homes.layout) (calm_worn old.windows old.image at.image calm found.image) (homes.calm (calm_at calm)));
+    })
+  ]
+    where
+      root_at_first : (l : Layout) → HasRoot count at.image l → HasRoot sectors old.image l
+      root_at_first l root = subst (λ (n : ℕ). HasRoot n old.image l) (sym same) (has_root_before count (open_damage old.windows) old.image at.image l found.image root)
+
+  lost_before : (image : List Sector) (fault : MountFault) → LostIn (AreCopiesOn count at) image fault → LostIn (AreCopiesOn sectors old) image fault
+  lost_before image (Mount.Lost a b) lost = lost_as (AreCopiesOn count at) a b (AreCopiesOn sectors old) image (copies_before a b) lost
+  lost_before image Mount.NotVolume lost = tt
+  lost_before image (Mount.Device s) lost = tt
+  lost_before image Mount.Memory lost = tt
+  lost_before image Mount.NoAnchor lost = tt
+  lost_before image (Mount.Unsound s) lost = tt
+  lost_before image Mount.WornOut lost = tt
+
+  pub opened_lost : (image : List Sector) (fault : MountFault) (told : Fault) → LostIn (AreCopiesOn count at) image fault → told ≡ fault_of fault → IfMount (LostIn (AreCopiesOn sectors old) image) told
+  opened_lost image fault told lost is =
+      subst (λ (f : Fault). IfMount (LostIn (AreCopiesOn sectors old) image) f) (sym is) (of_mount (LostIn (AreCopiesOn sectors old) image) fault (lost_before image fault lost))
+
 -- ---- a run
 
 pub other : (status result : ℕ) → is_one_of (3 ∷ 9 ∷ []) status ≡ false → result ≡ status → (result ≡ 3) ⊎ (result ≡ 9) → ⊥
 other status result neither e (inl three) = let yes : is_one_of (3 ∷ 9 ∷ []) status ≡ true = ap (is_one_of (3 ∷ 9 ∷ [])) (sym e ∙ three) in cc
 other status result neither e (inr nine) = let yes : is_one_of (3 ∷ 9 ∷ []) status ≡ true = ap (is_one_of (3 ∷ 9 ∷ [])) (sym e ∙ nine) in cc
 
-pub not_mounted : (answer : Answer) (sectors : ℕ) (at after : Moment) (result : ℕ) → IfMountAnswer (MountRefused sectors at.image) answer → result ≡ answer_status answer
-    → after.said ≡ at.said ++ answer_text answer → (result ≡ 3) ⊎ (result ≡ 9) → NotMounted sectors at after result
-not_mounted (Said.Line (Lines.Ended Ends.NotVolume)) sectors at after result refused e said which = record { fault = Mount.NotVolume; refused = refused; said = said; ends = e }
-not_mounted (Said.Line (Lines.Ended (Ends.Lost a b))) sectors at after result refused e said which = record { fault = Mount.Lost a b; refused = refused; said = said; ends = e }
-not_mounted (Said.Line (Lines.Ended Ends.NoAnchor)) sectors at after result refused e said which = record { fault = Mount.NoAnchor; refused = refused; said = said; ends = e }
-not_mounted (Said.Line (Lines.Ended (Ends.Unsound s))) sectors at after result refused e said which = record { fault = Mount.Unsound s; refused = refused; said = said; ends = e }
-not_mounted (Said.Line (Lines.Ended Ends.WornOut)) sectors at after result refused e said which = record { fault = Mount.WornOut; refused = refused; said = said; ends = e }
-not_mounted (Said.Line (Lines.Ended (Ends.Device s))) sectors at after result refused e said which = absurd (other 4 result refl e which)
-not_mounted (Said.Line (Lines.Ended Ends.Input)) sectors at after result refused e said which = absurd (other 5 result refl e which)
-not_mounted (Said.Line (Lines.Ended Ends.InputTooLong)) sectors at after result refused e said which = absurd (other 5 result refl e which)
-not_mounted (Said.Line (Lines.Ended Ends.Memory)) sectors at after result refused e said which = absurd (other 7 result refl e which)
-not_mounted (Said.Line Lines.Usage) sectors at after result refused e said which = absurd (other 2 result refl e which)
-not_mounted (Said.Line (Lines.BadField cause)) sectors at after result refused e said which = absurd (other 2 result refl e which)
-not_mounted (Said.Line (Lines.Formatted n free)) sectors at after result refused e said which = absurd (other 0 result refl e which)
-not_mounted (Said.Line (Lines.Unplanned why)) sectors at after result refused e said which = absurd (other 1 result refl e which)
-not_mounted (Said.Line (Lines.Made key made)) sectors at after result refused e said which = absurd (other 0 result refl e which)
-not_mounted (Said.Line (Lines.Damaged key s)) sectors at after result refused e said which = absurd (other 8 result refl e which)
-not_mounted (Said.Line (Lines.Refused why)) sectors at after result refused e said which = absurd (other 1 result refl e which)
-not_mounted (Said.Bytes bytes) sectors at after result refused e said which = absurd (other 0 result refl e which)
+pub tells_for : (P : MountFault → Type 0) (answer : Answer) (at after : Moment) (result : ℕ) → IfMountAnswer P answer → result ≡ answer_status answer
+    → after.said ≡ at.said ++ answer_text answer → (result ≡ 3) ⊎ (result ≡ 9) → TellsFor P at after result
+tells_for P (Said.Line (Lines.Ended Ends.NotVolume)) at after result holds e said which = record { fault = Mount.NotVolume; why = holds; said = said; ends = e }
+tells_for P (Said.Line (Lines.Ended (Ends.Lost a b))) at after result holds e said which = record { fault = Mount.Lost a b; why = holds; said = said; ends = e }
+tells_for P (Said.Line (Lines.Ended Ends.NoAnchor)) at after result holds e said which = record { fault = Mount.NoAnchor; why = holds; said = said; ends = e }
+tells_for P (Said.Line (Lines.Ended (Ends.Unsound s))) at after result holds e said which = record { fault = Mount.Unsound s; why = holds; said = said; ends = e }
+tells_for P (Said.Line (Lines.Ended Ends.WornOut)) at after result holds e said which = record { fault = Mount.WornOut; why = holds; said = said; ends = e }
+tells_for P (Said.Line (Lines.Ended (Ends.Device s))) at after result holds e said which = absurd (other 4 result refl e which)
+tells_for P (Said.Line (Lines.Ended Ends.Input)) at after result holds e said which = absurd (other 5 result refl e which)
+tells_for P (Said.Line (Lines.Ended Ends.InputTooLong)) at after result holds e said which = absurd (other 5 result refl e which)
+tells_for P (Said.Line (Lines.Ended Ends.Memory)) at after result holds e said which = absurd (other 7 result refl e which)
+tells_for P (Said.Line Lines.Usage) at after result holds e said which = absurd (other 2 result refl e which)
+tells_for P (Said.Line (Lines.BadField cause)) at after result holds e said which = absurd (other 2 result refl e which)
+tells_for P (Said.Line (Lines.Formatted n free)) at after result holds e said which = absurd (other 0 result refl e which)
+tells_for P (Said.Line (Lines.Unplanned why)) at after result holds e said which = absurd (other 1 result refl e which)
+tells_for P (Said.Line (Lines.Made key made)) at after result holds e said which = absurd (other 0 result refl e which)
+tells_for P (Said.Line (Lines.Damaged key s)) at after result holds e said which = absurd (other 8 result refl e which)
+tells_for P (Said.Line (Lines.Refused why)) at after result holds e said which = absurd (other 1 result refl e which)
+tells_for P (Said.Bytes bytes) at after result holds e said which = absurd (other 0 result refl e which)
+
+-- the copies of a page that is told as lost are damaged, also once that is said
+pub tells_lost : (answer : Answer) (sectors : ℕ) (at between after : Moment) (result : ℕ) → IfMountAnswer (LostIn (AreCopiesOn sectors at) between.image) answer → IsWorn (open_damage between.windows) between.image after.image
+    → result ≡ answer_status answer → after.said ≡ at.said ++ answer_text answer → (result ≡ 3) ⊎ (result ≡ 9) → TellsLost sectors at after result
+tells_lost answer sectors at between after result lost worn e said which =
+    let tells = tells_for (LostIn (AreCopiesOn sectors at) between.image) answer at after result lost e said which in
+    record { fault = tells.fault; why = still_lost (AreCopiesOn sectors at) between after worn tells.fault tells.why; said = tells.said; ends = tells.ends }
 
 pub unlike : (status result : ℕ) → is_one_of mounted_statuses status ≡ false → IsTrue (is_one_of mounted_statuses result) → result ≡ status → ⊥
 unlike status result neither which e = let yes : is_one_of mounted_statuses status ≡ true = ap (is_one_of mounted_statuses) (sym e) ∙ which in cc

@@ -25,6 +25,7 @@ use Rattle.cfs_run.specs.declared.fault.Fault.TheVariants as Ends
 use Rattle.fsd_bytes.specs.declared.key.Key.{Key}
 use Rattle.cfs_run.specs.declared.input.TheConstants.{MOST_INPUT}
 use Rattle.mount_recover.specs.declared.fault.MountFault.{MountFault}
+use Rattle.mount_recover.specs.Lost.{AreCopiesOn, LostIn}
 use Rattle.cfs_run.specs.Leaves.{HasEpoch, IsLastEpoch, LeavesRun, Replies, Starts, get_turn}
 use Rattle.cfs_run.specs.Mounting.{IfMount, IfMounts, IsMountFault, OpensDisk, fault_of, mount_asks}
 use Rattle.cfs_run.specs.Text.{fault_text, memory_text, text}
@@ -266,12 +267,20 @@ abbrev pub DamagedFor : Request → (sectors : ℕ) → (old new : Moment) → T
 DamagedFor (Get key) sectors old new = NamesDamage key sectors old new
 DamagedFor request sectors old new = ⊥
 
--- The image is one whose mount is refused for this fault, the fault's line is said, and the status is the fault's.
-pub record NotMounted (sectors : ℕ) (old new : Moment) (result : ℕ) : Type 0 where
+-- The fault's line is said, it is one of which this is so, and the status is the fault's.
+pub record TellsFor (P : MountFault → Type 0) (old new : Moment) (result : ℕ) : Type 0 where
   pub fault : MountFault
-  pub refused : MountRefused sectors old.image fault
+  pub why : P fault
   pub said : new.said ≡ old.said ++ fault_text (fault_of fault)
   pub ends : result ≡ fault_status (fault_of fault)
+
+-- the image is one whose mount is refused for the fault that is said
+abbrev pub NotMounted : (sectors : ℕ) → (old new : Moment) → (result : ℕ) → Type 0
+NotMounted sectors old new result = TellsFor (MountRefused sectors old.image) old new result
+
+-- where the fault that is said tells two copies of a page as lost, both are damaged
+abbrev pub TellsLost : (sectors : ℕ) → (old new : Moment) → (result : ℕ) → Type 0
+TellsLost sectors old new result = TellsFor (LostIn (AreCopiesOn sectors old) new.image) old new result
 
 -- ---- what is left
 

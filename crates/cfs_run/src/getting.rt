@@ -5,6 +5,7 @@ ghost use Rattle.sector_disk.specs.Image.{IsCalm};
 ghost use Rattle.sector_disk.specs.Machine.{LeavesOnly, Trusts, Wears};
 ghost use Rattle.fsd_files.specs.Files.{Change};
 ghost use Rattle.fsd_files.specs.Volume.{Volume as Mounted};
+ghost use Rattle.mount_recover.specs.Lost.{AreCopiesOn, LostIn};
 ghost use Rattle.fsd_volume.specs.Mount.{IsMountable, MountRefused};
 ghost use Rattle.fsd_volume.specs.State.{IsMounted};
 ghost use Rattle.cfs_run.specs.declared.request.Request.TheVariants as Words;
@@ -34,6 +35,7 @@ pub(crate) fn get<M: Machine>(alloc: Global, path: &str, key: &Key, m: &mut M) -
     ensures left { M.tells m.new → (M.ledger m.new).input ≡ (M.ledger m.old).input }
     ensures quiet { M.honest m.new → (M.now m.new).said ≡ (M.now m.old).said }
     ensures refused { M.honest m.new → IsCalm (M.now m.old).windows → IsCalm (M.now m.new).windows → IfMountAnswer (MountRefused (M.report m.new).sectors (M.now m.old).image) result }
+    ensures lost { M.honest m.new → IfMountAnswer (LostIn (AreCopiesOn (M.report m.new).sectors (M.now m.old)) (M.now m.new).image) result }
     ensures accepted { M.honest m.new → IsCalm (M.now m.old).windows → IsCalm (M.now m.new).windows → WhereMounted (IsMountable (M.report m.new).sectors (M.now m.old).image) result }
     ensures damaged { M.honest m.new → IsCalm (M.now m.old).windows → IsCalm (M.now m.new).windows → IfDamaged (IsDamagedOn (M.report m.new).sectors (M.now m.old).image key.now) result }
     ensures carries { M.honest m.new → OpensDisk (M.now m.old) (M.now m.new) (λ l windows h f. Carries (Words.Get key.now) (M.ledger m.old).input l windows h f (LeavesOnly M.moment M.left_since m.old m.new) (M.now m.old) (M.now m.new) result) }

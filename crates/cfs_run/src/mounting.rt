@@ -6,6 +6,7 @@ ghost use Rattle.cfs_run.specs.Answer.{CausesFault};
 ghost use Rattle.cfs_run.specs.Formatting.{UsesAttach};
 ghost use Rattle.cfs_run.specs.Mounting.{AsksMount, IfMount, IsMountFault, OpensDisk, fault_of};
 ghost use Rattle.cfs_run.specs.Working.{Opens};
+ghost use Rattle.mount_recover.specs.Lost.{AreCopiesOn, LostIn};
 ghost use Rattle.mount_recover.specs.Replay.{SameBehind};
 ghost use Rattle.fsd_volume.specs.Mount.{IsFoundOn, MountRefused};
 ghost use Rattle.fsd_volume.specs.Put.{IsWornOut};
@@ -48,6 +49,7 @@ pub(crate) fn open<M: Machine>(alloc: Global, path: &str, m: &mut M) -> Result<V
     ensures found { IfOk result (λ volume. M.honest m.new → IsCalm (M.now m.old).windows → IsCalm (M.now m.new).windows → IsFoundOn (M.report m.new).sectors (M.now m.old).image volume) }
     ensures behind { IfOk result (λ volume. M.honest m.new → IsCalm (M.now m.old).windows → IsCalm (M.now m.new).windows → SameBehind volume.layout (M.now m.old).image (M.now m.new).image) }
     ensures refused { IfErr result (λ fault. M.honest m.new → IsCalm (M.now m.old).windows → IsCalm (M.now m.new).windows → IfMount (MountRefused (M.report m.new).sectors (M.now m.old).image) fault) }
+    ensures lost { IfErr result (λ fault. M.honest m.new → IfMount (LostIn (AreCopiesOn (M.report m.new).sectors (M.now m.old)) (M.now m.new).image) fault) }
     ensures opens { M.honest m.new → OpensDisk (M.now m.old) (M.now m.new) (λ l windows h f. Opens l windows h f (LeavesOnly M.moment M.left_since m.old m.new) (M.now m.old) (M.now m.new) result) }
 {
     match m.attach(path, Attach::Old) {

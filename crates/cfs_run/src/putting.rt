@@ -7,6 +7,7 @@ ghost use Rattle.fsd_files.specs.Files.{Change};
 ghost use Rattle.fsd_files.specs.OneLeaf.{put_outcome};
 ghost use Rattle.fsd_files.specs.Volume.{Volume as Mounted};
 ghost use Rattle.fsd_sound.specs.Sound.{EndIn};
+ghost use Rattle.mount_recover.specs.Lost.{AreCopiesOn, LostIn};
 ghost use Rattle.fsd_volume.specs.Mount.{IsMountable, MountRefused};
 ghost use Rattle.fsd_volume.specs.Put.{IsWornOut};
 ghost use Rattle.fsd_volume.specs.State.{IsMounted};
@@ -41,6 +42,7 @@ pub(crate) fn put<M: Machine>(alloc: Global, path: &str, name: &FileName, m: &mu
     ensures takes { M.tells m.new → TakesFor result (M.ledger m.old).input (M.ledger m.new).input }
     ensures quiet { M.honest m.new → (M.now m.new).said ≡ (M.now m.old).said }
     ensures refused { M.honest m.new → IsCalm (M.now m.old).windows → IsCalm (M.now m.new).windows → IfMountLine (MountRefused (M.report m.new).sectors (M.now m.old).image) result }
+    ensures lost { M.honest m.new → IfMountLine (LostIn (AreCopiesOn (M.report m.new).sectors (M.now m.old)) (M.now m.new).image) result }
     ensures accepted { M.honest m.new → IsCalm (M.now m.old).windows → IsCalm (M.now m.new).windows → WhereMounted (IsMountable (M.report m.new).sectors (M.now m.old).image) (Said.Line result) }
     ensures carries { M.honest m.new → OpensDisk (M.now m.old) (M.now m.new) (λ l windows h f. Carries (Words.Put name.now) (M.ledger m.old).input l windows h f (LeavesOnly M.moment M.left_since m.old m.new) (M.now m.old) (M.now m.new) (Said.Line result)) }
 {

@@ -3,13 +3,14 @@ ghost use Rattle.std.specs.Prelude.{◌≡◌, ◌⊎◌, ◌<◌, ◌++◌, [],
 ghost use Rattle.std.specs.String.{string_bytes};
 ghost use Rattle.sector_disk.specs.Image.{IsCalm};
 ghost use Rattle.sector_disk.specs.Machine.{LeavesOnly, Rose, Trusts};
+ghost use Rattle.mount_recover.specs.Lost.{AreCopiesOn, LostIn};
 ghost use Rattle.fsd_volume.specs.Mount.{IsMountable, MountRefused};
 ghost use Rattle.cfs_run.specs.declared.fault.Fault.TheVariants as Ends;
 ghost use Rattle.cfs_run.specs.Text.{fault_text};
 ghost use Rattle.cfs_run.specs.declared.input.TheConstants.{MOST_INPUT};
 ghost use Rattle.cfs_run.specs.Words.{path_of, request_of};
 ghost use Rattle.cfs_run.specs.Input.{UsesCounts};
-ghost use Rattle.cfs_run.specs.Ends.{Answers, AsksAtMost, AsksFor, CausesAnswer, DamagedAnswer, DamagedFor, GetsPart, Holds, IfMountAnswer, IsAnswerTo, IsUntouched, Leaves, LeavesInput, NoneRose, NotMounted, PutAnswersFor, RefusesLast, RunLeaves, RunReplies, SaysPart, Takes, WhereMounted, asks_of, complete_statuses, fault_statuses, is_one_of, mounted_statuses, turn_statuses};
+ghost use Rattle.cfs_run.specs.Ends.{Answers, AsksAtMost, AsksFor, CausesAnswer, DamagedAnswer, DamagedFor, GetsPart, Holds, IfMountAnswer, IsAnswerTo, IsUntouched, Leaves, LeavesInput, NoneRose, NotMounted, PutAnswersFor, RefusesLast, RunLeaves, RunReplies, SaysPart, Takes, TellsLost, WhereMounted, asks_of, complete_statuses, fault_statuses, is_one_of, mounted_statuses, turn_statuses};
 ghost use Rattle.cfs_run.specs.Mounting.{IfMounts};
 ghost use Rattle.cfs_run.specs.Working.{Carried};
 
@@ -35,6 +36,9 @@ pub fn run_cfs<M: Machine>(alloc: Global, words: &[String], m: &mut M) -> u8
     // A volume that is not mounted: where nothing wears, the image is one whose mount is refused for the fault that is said.
     ensures unmounted { (result ≡ 3) ⊎ (result ≡ 9) → M.honest m.new → IsCalm (M.now m.old).windows → IsCalm (M.now m.new).windows
         → NotMounted (M.report m.new).sectors (M.now m.old) (M.now m.new) result }
+    // Where it is for a page that is lost, both its copies, which are said, read damaged: its sector and its copy in the log,
+    // or its two homes.
+    ensures lost { (result ≡ 3) ⊎ (result ≡ 9) → M.honest m.new → TellsLost (M.report m.new).sectors (M.now m.old) (M.now m.new) result }
     // One that is mounted: where nothing wears, the image is one whose mount is not refused.
     ensures mounted { IsTrue (is_one_of mounted_statuses result) → M.honest m.new → IsCalm (M.now m.old).windows → IsCalm (M.now m.new).windows
         → IfMounts (request_of (map string_bytes words.now)) (IsMountable (M.report m.new).sectors (M.now m.old).image) }
@@ -87,6 +91,7 @@ fn carry_out<M: Machine>(alloc: Global, words: &[String], m: &mut M) -> Answer
     ensures takes { M.tells m.new → Takes (request_of (map string_bytes words.now)) result (M.ledger m.old).input (M.ledger m.new).input }
     ensures quiet { M.honest m.new → (M.now m.new).said ≡ (M.now m.old).said }
     ensures refused { M.honest m.new → IsCalm (M.now m.old).windows → IsCalm (M.now m.new).windows → IfMountAnswer (MountRefused (M.report m.new).sectors (M.now m.old).image) result }
+    ensures lost { M.honest m.new → IfMountAnswer (LostIn (AreCopiesOn (M.report m.new).sectors (M.now m.old)) (M.now m.new).image) result }
     ensures accepted { M.honest m.new → IsCalm (M.now m.old).windows → IsCalm (M.now m.new).windows
         → IfMounts (request_of (map string_bytes words.now)) (WhereMounted (IsMountable (M.report m.new).sectors (M.now m.old).image) result) }
     ensures damaged { M.honest m.new → IsCalm (M.now m.old).windows → IsCalm (M.now m.new).windows

@@ -2,7 +2,7 @@ use Rattle.std.proofs.Common.{◌∙◌, subst, sym}
 use Rattle.cfs_run.specs.declared.fault.Fault.{Fault}
 use Rattle.cfs_run.specs.declared.fault.Fault.TheVariants as Ends
 use Rattle.cfs_run.specs.Working.{IsFailure}
-use Rattle.cfs_run.proofs.MountEnds.{opened_behind, opened_on, opened_refused}
+use Rattle.cfs_run.proofs.MountEnds.{opened_behind, opened_lost, opened_on, opened_refused}
 use Rattle.cfs_run.proofs.OpenLaws.{excused, found_calm, found_entries, found_image, found_sound, found_told, is_fresh, not_opened, opened, unopened}
 use Rattle.cfs_run.proofs.mounting.open.Goals as goal
 
@@ -67,3 +67,11 @@ returns-in-Ok-mount-clause-behind g c h calm after =
     let at = M.now c.attach.new.self in
     let found = c.in-Ok.ensures.attached (c.mount.ensures.trust.honest h) in
     opened_behind c.in-Ok-mount.volume.layout old at (M.now c.mount.new.m).image calm found (c.in-Ok-mount.ensures.behind h (found_calm old at calm found) after)
+
+pub returns-in-Err-mount-clause-lost : goal.returns-in-Err-mount-clause-lost
+returns-in-Err-mount-clause-lost g c h =
+    let M = g.M.Machine in
+    let old = M.now c.args.m.now in
+    let at = M.now c.attach.new.self in
+    opened_lost c.in-Ok.sectors (M.report c.mount.new.m).sectors old at (c.in-Ok.ensures.attached (c.mount.ensures.trust.honest h)) (c.mount.ensures.uses.sectors ∙ c.in-Ok.ensures.sectors)
+    (M.now c.mount.new.m).image c.in-Err-mount.fault c.fault_of.result (c.in-Err-mount.ensures.lost h) c.fault_of.ensures

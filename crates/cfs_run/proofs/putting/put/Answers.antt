@@ -3,6 +3,7 @@ use Rattle.volume_layout.specs.declared.layout.Layout.{Layout}
 use Rattle.sector_disk.specs.Machine.{LeavesOnly}
 use Rattle.sector_disk.proofs.Calm.{same_calm}
 use Rattle.fsd_files.specs.Files.{after}
+use Rattle.mount_recover.specs.Lost.{AreCopiesOn, LostIn}
 use Rattle.fsd_volume.specs.Mount.{IsMountable, MountRefused, volume_of}
 use Rattle.cfs_run.specs.declared.answer.Answer.TheVariants as Said
 use Rattle.cfs_run.specs.declared.request.Request.TheVariants as Words
@@ -51,3 +52,8 @@ pub returns-in-Ok-clause-refused : goal.returns-in-Ok-clause-refused
 returns-in-Ok-clause-refused g c h calm last =
     let M = g.M.Machine in
     never_refused (MountRefused (M.report c.put_input.new.m).sectors (M.now c.args.m.now).image) c.put_input.result (c.put_input.ensures.mounted c.in-Ok.ensures.fresh)
+
+pub returns-in-Ok-clause-lost : goal.returns-in-Ok-clause-lost
+returns-in-Ok-clause-lost g c h =
+    let M = g.M.Machine in
+    never_refused (LostIn (AreCopiesOn (M.report c.put_input.new.m).sectors (M.now c.args.m.now)) (M.now c.put_input.new.m).image) c.put_input.result (c.put_input.ensures.mounted c.in-Ok.ensures.fresh)

@@ -2,13 +2,14 @@ use Rattle.std.proofs.Common.{Global, ℕ, arith, map, refl, subst, sym}
 use Rattle.std.specs.String.{string_bytes}
 use Rattle.sector_disk.specs.Machine.{Ledger, Rose}
 use Rattle.sector_disk.proofs.Calm.{same_calm}
+use Rattle.mount_recover.specs.Lost.{AreCopiesOn, LostIn}
 use Rattle.fsd_volume.specs.Mount.{IsMountable, MountRefused}
 use Rattle.cfs_run.specs.Words.{request_of}
 use Rattle.cfs_run.specs.Ends.{DamagedAnswer, IfMountAnswer, LeavesInput, WhereMounted}
 use Rattle.cfs_run.specs.Mounting.{IfMounts}
 use Rattle.cfs_run.proofs.DamageEnds.{run_damaged}
 use Rattle.cfs_run.proofs.EndLaws.{gets_part, heard_turn, leaves_run, put_heard, refuses_run, replies_run}
-use Rattle.cfs_run.proofs.MountEnds.{not_mounted, other, run_mounted, unlike}
+use Rattle.cfs_run.proofs.MountEnds.{tells_for, tells_lost, other, run_mounted, unlike}
 use Rattle.cfs_run.proofs.RunLaws.{Ran, said_untouched, run_input, run_takes, run_answers, run_completes, run_fault_said, run_holds, run_said, run_says, run_status, run_untouched}
 use Rattle.cfs_run.proofs.run.run_cfs.Goals as goal
 
@@ -188,7 +189,27 @@ returns-clause-unmounted g c which h calm last =
       quiet = λ h2. c.carry_out-answer.ensures.quiet (c.finish.ensures.trust.honest h2);
       leaves = λ h2. c.carry_out-answer.ensures.leaves (c.finish.ensures.trust.honest h2);
     }) h (λ six. other 6 c.finish.result refl six which) (λ seven. other 7 c.finish.result refl seven which) in
-    not_mounted c.carry_out-answer.result (M.report c.finish.new.m).sectors at after c.finish.result counted says.0 says.1 which
+    tells_for (MountRefused (M.report c.finish.new.m).sectors at.image) c.carry_out-answer.result at after c.finish.result counted says.0 says.1 which
+
+pub returns-clause-lost : goal.returns-clause-lost
+returns-clause-lost g c which h =
+    let M = g.M.Machine in
+    let h1 = c.finish.ensures.trust.honest h in
+    let at = M.now c.args.m.now in
+    let between = M.now c.carry_out-answer.new.m in
+    let after = M.now c.finish.new.m in
+    let worn = (said_untouched (M.honest c.finish.new.m) _ _ _ _ _ _ _ h c.finish.ensures.said).image in
+    let counted = subst (λ (n : ℕ). IfMountAnswer (LostIn (AreCopiesOn n at) between.image) c.carry_out-answer.result) (sym c.finish.ensures.uses.sectors) (c.carry_out-answer.ensures.lost h1) in
+    let says = run_says (M.honest c.finish.new.m) _ c.carry_out-answer.result _ _ _ at _ _ _ (record {
+      answers = c.carry_out-answer.ensures.answer;
+      cause = c.carry_out-answer.ensures.cause;
+      uses = c.carry_out-answer.ensures.uses;
+      says = c.finish.ensures.uses;
+      said = c.finish.ensures.said;
+      quiet = λ h2. c.carry_out-answer.ensures.quiet (c.finish.ensures.trust.honest h2);
+      leaves = λ h2. c.carry_out-answer.ensures.leaves (c.finish.ensures.trust.honest h2);
+    }) h (λ six. other 6 c.finish.result refl six which) (λ seven. other 7 c.finish.result refl seven which) in
+    tells_lost c.carry_out-answer.result (M.report c.finish.new.m).sectors at between after c.finish.result counted worn says.0 says.1 which
 
 pub returns-clause-mounted : goal.returns-clause-mounted
 returns-clause-mounted g c which h calm last =
