@@ -35,11 +35,7 @@ module _ (AreCopies : ℕ → ℕ → Type 0) (image : Image) where
   pub loaded_as : (fault : LoadFault) (told : MountFault) → told ≡ load_fault_of fault → LostCause AreCopies image fault → LostIn AreCopies image told
   loaded_as fault told is lost = subst (LostIn AreCopies image) (sym is) (loaded fault lost)
 
-  -- a fault of the disk loses nothing
-  pub device_as : (s : ℕ) (told : MountFault) → told ≡ Device s → LostIn AreCopies image told
-  device_as s told is = subst (LostIn AreCopies image) (sym is) tt
-
-  -- what is found before the log is read is not lost
+  -- what is refused before the log is read is not lost
   pub none_found : (old new : Report) (fault : MountFault) → FindCause old new fault → LostIn AreCopies image fault
   none_found old new NotVolume cause = tt
   none_found old new (Device s) cause = tt
