@@ -2,7 +2,7 @@
 use Rattle.std.proofs.Common.{◌≡◌, ℕ, zero, suc, ◌+◌, Bool, true, not, List, [], ◌∷◌, ◌++◌, length, take, drop, Option, Some, refl, sym, ap, subst, ◌∙◌, length-append}
 use Rattle.std.specs.Prelude.{slice_get, slice_set}
 use Rattle.std.specs.List.{flat_map, AllByRecursion}
-use Rattle.std.proofs.lemmas.Bool.{and_parts, and_from}
+use Rattle.std.proofs.lemmas.Bool.{and_from}
 use Rattle.std.proofs.lemmas.List.{append-nil, take_more, take-append-drop}
 use Rattle.std.proofs.lemmas.List.Concat.{flat_map-append}
 use Rattle.std.proofs.lemmas.Option.{slice_get_within, get_or_from_slice_get}
@@ -16,7 +16,7 @@ use Rattle.fsd_table.specs.Tree.{entries_below, pages_below, IsInterior, IsSubtr
 use Rattle.fsd_table.proofs.BoundLaws.{all_append}
 use Rattle.name_btree.specs.Descent.{end_of}
 use Rattle.name_btree.specs.Walk.{is_marked, can_mark, marked, IsWalked, AreWalked}
-use Rattle.name_node.proofs.ListLaws.{children_count, drop_at}
+use Rattle.name_node.proofs.ListLaws.{drop_at}
 use Rattle.name_btree.proofs.MarkLaws.{marked_append, can_append}
 
 -- ---- children by their number
