@@ -1,14 +1,16 @@
 -- Pages that paths from page 0 reach, and how they break a table.
-use Rattle.std.proofs.Common.{◌≡◌, ◌⊎◌, inl, inr, ℕ, zero, suc, ◌+◌, ◌≤◌, ◌<◌, Bool, true, false, ◌&&◌, List, [], ◌∷◌, ◌++◌, length, Option, Some, None, refl, sym, ap, subst, ◌∙◌, arith}
-use Rattle.std.specs.Prelude.{nat_le, slice_index_or}
+use Rattle.std.proofs.Common.{◌≡◌, ◌⊎◌, inl, inr, ℕ, zero, suc, ◌+◌, ◌≤◌, ◌<◌, Bool, true, false, cond, not, ◌&&◌, ◌||◌, List, [], ◌∷◌, ◌++◌, length, map, Option, Some, None, refl, sym, ap, subst, ◌∙◌, arith}
+use Rattle.std.specs.Prelude.{nat_le, slice_index_or, ◌==◌, count_by}
 use Rattle.std.specs.List.{list_all, flat_map, AllByRecursion, Contains}
 use Rattle.std.proofs.lemmas.Bool.{and_parts}
 use Rattle.std.proofs.lemmas.Bool.Decides.{nat_tests}
+use Rattle.std.proofs.lemmas.List.Sums.{sum_by-cons}
+use Rattle.run_table.specs.Space.{contains}
 use Rattle.fsd_formats.specs.declared.page.Separator.{Separator}
 use Rattle.fsd_formats.specs.NamePage.{Content, Free, Leaf, Interior}
 use Rattle.fsd_table.specs.declared.child.Child.{Child}
 use Rattle.fsd_table.specs.Pages.{page_at, children, children_of, content_fits}
-use Rattle.fsd_table.specs.Table.{Visit, visit_of, visits_below, visits, max_height, top, visit_fits, alone, same_kind, in_shape, IsVisited, BreaksTable}
+use Rattle.fsd_table.specs.Table.{Visit, visit_of, visits_below, visits, max_height, top, visit_fits, alone, kinds_agree, same_kind, in_shape, IsVisited, BreaksTable}
 use Rattle.fsd_table.specs.Tree.{IsTree}
 use Rattle.fsd_table.proofs.VisitLaws.{all_in_shape}
 
@@ -166,6 +168,86 @@ too_deep_breaks pages depth c h deep = unfit_breaks pages depth c h (and_false (
   where
     too_deep : (n : ℕ) → max_height < n → nat_le n max_height ≡ false
     too_deep n h = grind (arith, nat_tests)
+
+-- ---- a walk through all that is reached
+
+pub visited_between : (pages : List (List ℕ)) (levels depth : ℕ) (c : Child) (cs : List Child) (before after : List Visit) → 0 < levels
+    → visits pages ≡ before ++ (flat_map (visits_below levels pages depth) (c ∷ cs) ++ after) → IsVisited pages depth c
+visited_between pages levels depth c cs before after some parts =
+    let f : Child → List Visit = visits_below levels pages depth in
+    let v : Visit = visit_of pages depth c in
+    let here = in_left v (f c) (flat_map f cs) (first_visit levels pages depth c some) in
+    in_to v (visits pages) (subst (In v) (sym parts) (in_right v before (flat_map f (c ∷ cs) ++ after) (in_left v (flat_map f (c ∷ cs)) after here)))
+
+is_itself : (m n : ℕ) → m ≡ n → (m == n) ≡ true
+is_itself m n e = grind (arith, nat_tests)
+
+abbrev one_if : Bool → ℕ
+one_if b = cond b 1 0
+
+counts_one : (page : ℕ) (v : Visit) (xs : List Visit) → count_by (λ w. w.page == page) (v ∷ xs) ≡ cond (v.page == page) 1 0 + count_by (λ w. w.page == page) xs
+counts_one page v xs = sum_by-cons (λ (w : Visit). cond (w.page == page) 1 0) v xs
+
+counts_here : (page : ℕ) (xs : List Visit) (v : Visit) → In v xs → v.page ≡ page → 1 ≤ count_by (λ w. w.page == page) xs
+counts_here page [] v h e = absurd h
+counts_here page (w ∷ xs) v (inl same) e =
+    let here = ap one_if (is_itself w.page page (ap (λ (x : Visit). x.page) same ∙ e)) in
+    omega (arith, counts_one page w xs, here)
+counts_here page (w ∷ xs) v (inr h) e = omega (arith, counts_one page w xs, counts_here page xs v h e)
+
+counts_twice : (page : ℕ) (xs ys : List Visit) (v : Visit) → contains (map (λ w. w.page) xs) page ≡ true → In v ys → v.page ≡ page → 2 ≤ count_by (λ w. w.page == page) (xs ++ ys)
+counts_twice page [] ys v has h e = absurd cc
+counts_twice page (w ∷ xs) ys v has h e = by (λ more. counts_twice page xs ys v more h e) (w.page == page) refl has
+  where
+    rest : 1 ≤ count_by (λ w. w.page == page) (xs ++ ys)
+    rest = counts_here page (xs ++ ys) v (in_right v xs ys h) e
+
+    by : (contains (map (λ w. w.page) xs) page ≡ true → 2 ≤ count_by (λ w. w.page == page) (xs ++ ys)) → (b : Bool) → (w.page == page) ≡ b → (b || contains (map (λ w. w.page) xs) page) ≡ true
+        → 2 ≤ count_by (λ w. w.page == page) (w ∷ (xs ++ ys))
+    by later true is h =
+        let here = ap one_if is in
+        omega (arith, counts_one page w (xs ++ ys), here, rest)
+    by later false is h = omega (arith, counts_one page w (xs ++ ys), later h)
+
+-- a page that was reached before is reached again
+pub again_breaks : (pages : List (List ℕ)) (levels depth : ℕ) (c : Child) (cs : List Child) (before after : List Visit) → 0 < levels
+    → visits pages ≡ before ++ (flat_map (visits_below levels pages depth) (c ∷ cs) ++ after) → contains (map (λ v. v.page) before) c.page ≡ true → BreaksTable pages c.page
+again_breaks pages levels depth c cs before after some parts has =
+    let f : Child → List Visit = visits_below levels pages depth in
+    let v : Visit = visit_of pages depth c in
+    let later = in_left v (flat_map f (c ∷ cs)) after (in_left v (f c) (flat_map f cs) (first_visit levels pages depth c some)) in
+    let twice = counts_twice c.page before (flat_map f (c ∷ cs) ++ after) v has later refl in
+    let many : 2 ≤ count_by (λ w. w.page == c.page) (visits pages) = subst (λ (all : List Visit). 2 ≤ count_by (λ w. w.page == c.page) all) (sym parts) twice in
+    record {
+      visit = v;
+      reached = visited_between pages levels depth c cs before after some parts;
+      page_is = refl;
+      broken = and_false (visit_fits v && alone (visits pages) v) (same_kind (visits pages) v) (and_false_right (visit_fits v) (alone (visits pages) v) (not_one (count_by (λ w. w.page == c.page) (visits pages)) many));
+    }
+  where
+    not_one : (n : ℕ) → 2 ≤ n → (n == 1) ≡ false
+    not_one n h = grind (arith, nat_tests)
+
+-- a page as deep is of another kind
+pub kind_breaks : (pages : List (List ℕ)) (depth : ℕ) (c d : Child) → IsVisited pages depth c → IsVisited pages depth d → kinds_agree (page_at pages d.page) (page_at pages c.page) ≡ false → BreaksTable pages c.page
+kind_breaks pages depth c d h other unlike =
+    let v : Visit = visit_of pages depth c in
+    record {
+      visit = v;
+      reached = h;
+      page_is = refl;
+      broken = and_false_right (visit_fits v && alone (visits pages) v) (same_kind (visits pages) v) (by (same_kind (visits pages) v) refl);
+    }
+  where
+    by : (b : Bool) → same_kind (visits pages) (visit_of pages depth c) ≡ b → b ≡ false
+    by false e = refl
+    by true e =
+        let alike : (not (depth == depth) || kinds_agree (page_at pages d.page) (page_at pages c.page)) ≡ true =
+        all_has (λ w. not (w.depth == depth) || kinds_agree w.content (page_at pages c.page)) (visit_of pages depth d) (visits pages) (in_from (visit_of pages depth d) (visits pages) other) e in
+        let same = is_itself depth depth refl in
+        cc
+
+-- ---- a tree
 
 pub tree_unbroken : (pages : List (List ℕ)) (height page : ℕ) → IsTree pages height → BreaksTable pages page → ⊥
 tree_unbroken pages height page t b =

@@ -89,6 +89,14 @@ tells (suc level) (suc levels) bottom depth pages c lt e h =
     interior_tells levels level bottom depth pages c (page_at pages c.page) refl (omega arith) h
     (λ d t. tells level levels bottom (depth + 1) pages d (omega arith) (omega arith) t)
 
+-- the pages that subtrees have are those that are visited
+pub visited_pages : (level levels depth : ℕ) (pages : List (List ℕ)) (cs : List Child) → level < levels → AllByRecursion (IsSubtree level pages) cs
+    → map (λ v. v.page) (flat_map (visits_below levels pages depth) cs) ≡ flat_map (pages_below level pages) cs
+visited_pages level levels depth pages cs low each =
+    let f : Child → List Visit = visits_below levels pages depth in
+    let all = all_weaker (IsSubtree level pages) (λ d. Tells (depth + level) level pages d (f d)) cs (λ d t. tells level levels (depth + level) depth pages d low refl t) each in
+    (join_tell (depth + level) level pages f cs all).pages_are
+
 -- ---- each visit is in shape
 
 no_count : (x : ℕ) (xs : List ℕ) → contains xs x ≡ false → count_by (λ t. t == x) xs ≡ 0

@@ -10,7 +10,7 @@ use Rattle.fsd_bytes.specs.Keys.{key_cmp, key_lt, same_key}
 use Rattle.fsd_formats.specs.declared.entry.Entry.{Entry}
 use Rattle.fsd_table.specs.declared.child.Child.{Child}
 use Rattle.fsd_table.specs.Table.{max_height, top}
-use Rattle.fsd_table.specs.Tree.{IsSubtree, IsTree, table_of}
+use Rattle.fsd_table.specs.Tree.{IsTree, table_of}
 use Rattle.fsd_table.proofs.BoundLaws.{all_weaker}
 use Rattle.fsd_table.proofs.KeyLaws.{lt_le}
 use Rattle.name_node.specs.declared.cut.Cut.TheVariants.{UpTo}
@@ -71,7 +71,3 @@ low_height pages height t = low height t.least t.most
 pub entry_found : (key : Key) (pages : List (List ℕ)) (found : Found) → IsPlace (is_before (UpTo key)) pages top found → (height : ℕ) → IsTree pages height → entry_with key found.entries ≡ entry_with key (table_of pages height)
 entry_found key pages found place height t =
     entry_at key pages top (table_of pages height) found.entries found.previous found.next (place (height - 1) (low_height pages height t) t.subtree)
-
--- a table has no fault that its pages have not
-pub tree_unbroken : (pages : List (List ℕ)) → ((level : ℕ) → level < max_height → IsSubtree level pages top → ⊥) → (height : ℕ) → IsTree pages height → ⊥
-tree_unbroken pages breaks height t = breaks (height - 1) (low_height pages height t) t.subtree

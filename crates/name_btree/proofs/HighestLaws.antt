@@ -12,7 +12,6 @@ use Rattle.fsd_bytes.specs.declared.key.Key.{Key}
 use Rattle.fsd_bytes.specs.Keys.{key_cmp, key_lt}
 use Rattle.fsd_formats.specs.declared.entry.Entry.{Entry}
 use Rattle.fsd_formats.specs.NamePage.{are_ascending}
-use Rattle.fsd_table.specs.declared.child.Child.{Child}
 use Rattle.fsd_table.specs.Pages.{entry_keys}
 use Rattle.fsd_table.specs.Table.{top}
 use Rattle.fsd_table.specs.Tree.{IsTree, table_of}

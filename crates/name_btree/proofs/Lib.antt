@@ -1,4 +1,5 @@
 mod ChangeLaws
+mod ComeLaws
 pub mod DescentLaws
 mod DraftLaws
 pub mod FindLaws

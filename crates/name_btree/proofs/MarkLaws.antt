@@ -1,8 +1,7 @@
 -- Marks, one a page.
 use Rattle.std.proofs.Common.{◌≡◌, ◌≢◌, ℕ, zero, suc, ◌<◌, Bool, true, false, not, ◌&&◌, ◌||◌, List, [], ◌∷◌, ◌++◌, length, Some, refl, ap, subst, ◌∙◌, arith}
 use Rattle.std.specs.Prelude.{slice_set, ◌==◌}
-use Rattle.std.specs.List.{AllByRecursion}
-use Rattle.std.proofs.lemmas.Bool.{and_parts, and_from, or_parts}
+use Rattle.std.proofs.lemmas.Bool.{and_parts, and_from}
 use Rattle.std.proofs.lemmas.Bool.Decides.{nat_tests}
 use Rattle.std.proofs.lemmas.List.{get_or-set_other, length-set}
 use Rattle.std.proofs.lemmas.Option.{get_or_from_slice_get, slice_get-get_or}
@@ -102,30 +101,24 @@ marks_differ marks (p ∷ pages) can =
     let parts = and_parts (not (is_marked marks p)) (can_mark (slice_set marks p true) pages) can in
     and_from (not (contains pages p)) (all_differ pages) (ap not (not_again (slice_set marks p true) pages p (set_marked marks p) parts.1)) (marks_differ (slice_set marks p true) pages parts.1)
 
-abbrev pub IsUnmarked : List Bool → ℕ → Type 0
-IsUnmarked marks page = is_marked marks page ≡ false
+-- ---- marks of pages, and of more
 
-still : (marks : List Bool) (p : ℕ) (pages : List ℕ) → contains pages p ≡ false → AllByRecursion (IsUnmarked marks) pages → AllByRecursion (IsUnmarked (slice_set marks p true)) pages
-still marks p [] e a = tt
-still marks p (q ∷ pages) e a =
-    let parts = or_parts (q == p) (contains pages p) e in
-    (read_by marks p q false (other_way q p parts.0) ∙ a.0, still marks p pages parts.1 a.1)
+contains_both : (done xs : List ℕ) (p : ℕ) → (contains xs p || contains done p) ≡ contains (done ++ xs) p
+contains_both [] xs p = or_false (contains xs p)
+contains_both (d ∷ done) xs p = or_turn (contains xs p) (d == p) (contains done p) ∙ ap (λ (b : Bool). (d == p) || b) (contains_both done xs p)
+  where
+    or_turn : (a b c : Bool) → (a || (b || c)) ≡ (b || (a || c))
+    or_turn true true c = refl
+    or_turn true false c = refl
+    or_turn false true c = refl
+    or_turn false false c = refl
 
-pub differ_marks : (marks : List Bool) (pages : List ℕ) → all_differ pages ≡ true → AllByRecursion (IsUnmarked marks) pages → can_mark marks pages ≡ true
-differ_marks marks [] e a = refl
-differ_marks marks (p ∷ pages) e a =
-    let parts = and_parts (not (contains pages p)) (all_differ pages) e in
-    and_from (not (is_marked marks p)) (can_mark (slice_set marks p true) pages) (ap not a.0)
-    (differ_marks (slice_set marks p true) pages parts.1 (still marks p pages (unnot (contains pages p) parts.0) a.1))
+pub marked_at : (marks : List Bool) (done : List ℕ) (page : ℕ) → AreMarksOf done marks → page < length marks → is_marked marks page ≡ contains done page
+marked_at marks done page are low = get_or_from_slice_get marks page (contains done page) true (are page low)
 
--- ---- marks that begin clear
-
-pub clear_at : (marks : List Bool) → AreMarksOf [] marks → (page : ℕ) → page < length marks → is_marked marks page ≡ false
-clear_at marks clear page low = get_or_from_slice_get marks page false true (clear page low)
-
-pub marks_of : (marks : List Bool) (pages : List ℕ) → AreMarksOf [] marks → AreMarksOf pages (marked marks pages)
-marks_of marks pages clear = λ page low.
-    let within : page < length marks = subst (λ (n : ℕ). page < n) (length_marked marks pages) low in
-    let is : is_marked (marked marks pages) page ≡ contains pages page =
-    marked_read marks pages page ∙ ap (λ (b : Bool). contains pages page || b) (clear_at marks clear page within) ∙ or_false (contains pages page) in
-    slice_get-get_or (marked marks pages) page true low ∙ ap Some is
+pub marks_more : (marks : List Bool) (done xs : List ℕ) → AreMarksOf done marks → AreMarksOf (done ++ xs) (marked marks xs)
+marks_more marks done xs are = λ page low.
+    let within : page < length marks = subst (λ (n : ℕ). page < n) (length_marked marks xs) low in
+    let is : is_marked (marked marks xs) page ≡ contains (done ++ xs) page =
+    marked_read marks xs page ∙ ap (λ (b : Bool). contains xs page || b) (marked_at marks done page are within) ∙ contains_both done xs page in
+    slice_get-get_or (marked marks xs) page true low ∙ ap Some is

@@ -2,12 +2,11 @@
 use Rattle.std.proofs.Common.{◌≡◌, ℕ, zero, suc, ◌+◌, Bool, true, not, List, [], ◌∷◌, ◌++◌, length, take, drop, Option, Some, refl, sym, ap, subst, ◌∙◌, length-append}
 use Rattle.std.specs.Prelude.{slice_get, slice_set}
 use Rattle.std.specs.List.{flat_map, AllByRecursion}
-use Rattle.std.proofs.lemmas.Bool.{and_parts, and_from}
+use Rattle.std.proofs.lemmas.Bool.{and_from}
 use Rattle.std.proofs.lemmas.List.{append-nil, take_more, take-append-drop}
 use Rattle.std.proofs.lemmas.List.Concat.{flat_map-append}
 use Rattle.std.proofs.lemmas.Option.{slice_get_within, get_or_from_slice_get}
 use Rattle.fsd_bytes.specs.declared.key.Key.{Key}
-use Rattle.fsd_bytes.specs.declared.refusal.Refusal.{Refusal}
 use Rattle.fsd_formats.specs.declared.entry.Entry.{Entry}
 use Rattle.fsd_formats.specs.declared.page.Separator.{Separator}
 use Rattle.fsd_formats.specs.NamePage.{Content, Interior}
@@ -15,13 +14,9 @@ use Rattle.fsd_table.specs.declared.child.Child.{Child}
 use Rattle.fsd_table.specs.Pages.{page_at, children, children_of, keys_fit, separator_keys}
 use Rattle.fsd_table.specs.Tree.{entries_below, pages_below, IsInterior, IsSubtree}
 use Rattle.fsd_table.proofs.BoundLaws.{all_append}
-use Rattle.name_btree.specs.declared.fault.TreeFault.{TreeFault}
-use Rattle.name_btree.specs.declared.fault.TreeFault.TheVariants.{Pages, Broken}
 use Rattle.name_btree.specs.Descent.{end_of}
-use Rattle.name_btree.specs.Fault.{HasCause, IsMisfit}
-use Rattle.name_btree.specs.Walk.{is_marked, can_mark, marked, IsWalked, AreWalked, BreaksWalk, BreakWalk}
-use Rattle.name_node.proofs.ListLaws.{children_count, drop_at}
-use Rattle.name_btree.proofs.DescentLaws.{misfit}
+use Rattle.name_btree.specs.Walk.{is_marked, can_mark, marked, IsWalked, AreWalked}
+use Rattle.name_node.proofs.ListLaws.{drop_at}
 use Rattle.name_btree.proofs.MarkLaws.{marked_append, can_append}
 
 -- ---- children by their number
@@ -61,7 +56,7 @@ all_at P (c ∷ cs) (suc i) d e a = all_at P cs i d e a.1
 take_one : (cs : List Child) (i : ℕ) (d : Child) → slice_get cs i ≡ Some d → take (i + 1) cs ≡ take i cs ++ d ∷ []
 take_one cs i d e = take_more cs i d (slice_get_within cs i d e) ∙ ap (λ (x : Child). take i cs ++ x ∷ []) (get_or_from_slice_get cs i d d e)
 
-cut_at : (cs : List Child) (i : ℕ) (d : Child) → slice_get cs i ≡ Some d → cs ≡ take i cs ++ d ∷ drop (i + 1) cs
+pub cut_at : (cs : List Child) (i : ℕ) (d : Child) → slice_get cs i ≡ Some d → cs ≡ take i cs ++ d ∷ drop (i + 1) cs
 cut_at cs i d e = sym (take-append-drop i cs) ∙ ap (λ (xs : List Child). take i cs ++ xs) (drop_at cs i d e)
 
 -- ---- one child more
@@ -90,22 +85,6 @@ one_more level pages cs i d before mid after n m at a w =
     let P : List Child → Type 0 = λ (xs : List Child). AreWalked level pages xs before after (n + m) in
     subst P (sym (take_one cs i d at)) (append_one level pages (take i cs) d before mid after n m a w)
 
-one_breaks : (level : ℕ) (pages : List (List ℕ)) (cs : List Child) (i : ℕ) (d : Child) (before mid : List Bool) (n page : ℕ) → slice_get cs i ≡ Some d
-    → AreWalked level pages (take i cs) before mid n → BreaksWalk level pages d mid page → BreakWalk level pages cs before page
-one_breaks level pages cs i d before mid n page at a breaks = λ subs can.
-    let f : Child → List ℕ = pages_below level pages in
-    let left : List ℕ = flat_map f (take i cs) in
-    let right : List ℕ = flat_map f (drop (i + 1) cs) in
-    let split : flat_map f cs ≡ left ++ (f d ++ right) = ap (flat_map f) (cut_at cs i d at) ∙ flat_map-append f (take i cs) (d ∷ drop (i + 1) cs) in
-    let whole = and_parts (can_mark before left) (can_mark (marked before left) (f d ++ right)) (sym (ap (can_mark before) split ∙ can_append before left (f d ++ right)) ∙ can) in
-    let here = and_parts (can_mark (marked before left) (f d)) (can_mark (marked (marked before left) (f d)) right) (sym (can_append (marked before left) (f d) right) ∙ whole.1) in
-    breaks (all_at (IsSubtree level pages) cs i d at subs) (ap (λ (x : List Bool). can_mark x (f d)) a.marks ∙ here.0)
-
-pub fault_among : (given : Option Refusal) (fault : TreeFault) (level : ℕ) (pages : List (List ℕ)) (cs : List Child) (i : ℕ) (d : Child) (before mid : List Bool) (n : ℕ) → slice_get cs i ≡ Some d
-    → AreWalked level pages (take i cs) before mid n → HasCause given (BreaksWalk level pages d mid) fault → HasCause given (BreakWalk level pages cs before) fault
-fault_among given (Pages refusal) level pages cs i d before mid n at a h = h
-fault_among given (Broken page) level pages cs i d before mid n at a h = one_breaks level pages cs i d before mid n page at a h
-
 -- ---- the page above
 
 below_is : (level : ℕ) (pages : List (List ℕ)) (c : Child) (first : ℕ) (xs : List Separator) → page_at pages c.page ≡ Some (Interior first xs)
@@ -130,21 +109,3 @@ pub above_walked : (level up : ℕ) (pages : List (List ℕ)) (c : Child) (first
     → AreWalked level pages (children first c.low c.high xs) (slice_set before c.page true) after count → IsWalked up pages c before after count
 above_walked level up pages c first xs before after count is at fits new a =
     subst (λ (l : ℕ). IsWalked l pages c before after count) is (above_at level pages c first xs before after count at fits new a)
-
-above_breaks : (level : ℕ) (pages : List (List ℕ)) (c : Child) (first : ℕ) (xs : List Separator) (before : List Bool) (page : ℕ) → page_at pages c.page ≡ Some (Interior first xs)
-    → BreakWalk level pages (children first c.low c.high xs) (slice_set before c.page true) page → BreaksWalk (suc level) pages c before page
-above_breaks level pages c first xs before page at breaks = λ sub can.
-    let cs : List Child = children first c.low c.high xs in
-    let h = subst (IsInterior (IsSubtree level pages) c) at sub in
-    breaks h.1 (and_parts (not (is_marked before c.page)) (can_mark (slice_set before c.page true) (Below level pages cs)) (sym (ap (can_mark before) (below_is level pages c first xs at)) ∙ can)).1
-
-pub fault_above : (given : Option Refusal) (fault : TreeFault) (level up : ℕ) (pages : List (List ℕ)) (c : Child) (first : ℕ) (xs : List Separator) (before : List Bool) → suc level ≡ up
-    → page_at pages c.page ≡ Some (Interior first xs)
-    → HasCause given (BreakWalk level pages (children first c.low c.high xs) (slice_set before c.page true)) fault → HasCause given (BreaksWalk up pages c before) fault
-fault_above given (Pages refusal) level up pages c first xs before is at h = h
-fault_above given (Broken page) level up pages c first xs before is at h = subst (λ (l : ℕ). BreaksWalk l pages c before page) is (above_breaks level pages c first xs before page at h)
-
-pub fault_here : (given : Option Refusal) (fault : TreeFault) (level : ℕ) (pages : List (List ℕ)) (c : Child) (before : List Bool)
-    → HasCause given (IsMisfit pages c) fault → HasCause given (BreaksWalk level pages c before) fault
-fault_here given (Pages refusal) level pages c before h = h
-fault_here given (Broken page) level pages c before h = λ sub can. misfit level pages c h.1 sub

@@ -1,10 +1,14 @@
 -- What a walk over the pages shows.
-use Rattle.std.specs.Prelude.{◌≡◌, ℕ, ◌<◌, Bool, true, not, ◌&&◌, List, [], ◌∷◌, length, Some, slice_get, slice_set, slice_index_or}
+use Rattle.std.specs.Prelude.{◌≡◌, ℕ, zero, suc, ◌+◌, ◌<◌, Bool, true, not, ◌&&◌, List, [], ◌∷◌, ◌++◌, length, map, Some, slice_get, slice_set, slice_index_or}
 use Rattle.std.specs.List.{flat_map, AllByRecursion}
 use Rattle.run_table.specs.Space.{contains}
+use Rattle.fsd_formats.specs.declared.entry.Entry.{Entry}
+use Rattle.fsd_formats.specs.NamePage.{Leaf}
 use Rattle.fsd_table.specs.declared.child.Child.{Child}
-use Rattle.fsd_table.specs.Table.{top, max_height}
+use Rattle.fsd_table.specs.Pages.{page_at}
+use Rattle.fsd_table.specs.Table.{Visit, max_height, visits, visits_below, IsVisited, BreaksTable}
 use Rattle.fsd_table.specs.Tree.{entries_below, pages_below, table_of, pages_of, IsSubtree, IsTree}
+use Rattle.name_btree.specs.Descent.{IsAbove}
 
 -- ---- marks, one a page
 
@@ -40,18 +44,32 @@ pub record AreWalked (level : ℕ) (pages : List (List ℕ)) (cs : List Child) (
   pub marks : after ≡ marked before (flat_map (pages_below level pages) cs)
   pub count_is : count ≡ length (flat_map (entries_below level pages) cs)
 
--- the child leads to no subtree of pages that were not marked
-abbrev pub BreaksWalk : (level : ℕ) → List (List ℕ) → Child → List Bool → ℕ → Type 0
-BreaksWalk level pages c before page = IsSubtree level pages c → can_mark before (pages_below level pages c) ≡ true → ⊥
+-- ---- what breaks a walk
 
-abbrev pub BreakWalk : (level : ℕ) → List (List ℕ) → List Child → List Bool → ℕ → Type 0
-BreakWalk level pages cs before page = AllByRecursion (IsSubtree level pages) cs → can_mark before (flat_map (pages_below level pages) cs) ≡ true → ⊥
+-- on each level below, some page so deep: a leaf on level 0, and an interior page on a higher one
+abbrev pub HasKinds : List (List ℕ) → (depth level : ℕ) → Type 0
+HasKinds pages depth zero = (c : Child) × IsVisited pages depth c × ((entries : List Entry) × (page_at pages c.page ≡ Some (Leaf entries)))
+HasKinds pages depth (suc level) = ((c : Child) × IsVisited pages depth c × IsAbove pages c) × HasKinds pages (depth + 1) level
 
--- ---- the level of page 0
-
--- page 0 leads to no subtree of another level
+-- the level of page 0, down the first children
 abbrev pub IsTopLevel : List (List ℕ) → ℕ → Type 0
-IsTopLevel pages found = (found < max_height) × ((level : ℕ) → level < max_height → IsSubtree level pages top → level ≡ found)
+IsTopLevel pages found = (found < max_height) × HasKinds pages 1 found
+
+-- the walk comes to these children: those pages are marked that it visited before
+pub record ComesTo (pages : List (List ℕ)) (level : ℕ) (cs : List Child) (marks : List Bool) : Type 0 where
+  pub depth : ℕ
+  pub levels : ℕ
+  pub enough : level < levels
+  pub before : List Visit
+  pub after : List Visit
+  pub parts : visits pages ≡ before ++ (flat_map (visits_below levels pages depth) cs ++ after)
+  pub whole : length marks ≡ length pages
+  pub marked : AreMarksOf (map (λ v. v.page) before) marks
+  pub kinds : HasKinds pages depth level
+
+-- where the walk comes to these children, this page breaks the table
+abbrev pub BreaksWalk : (level : ℕ) → List (List ℕ) → List Child → List Bool → ℕ → Type 0
+BreaksWalk level pages cs marks page = ComesTo pages level cs marks → BreaksTable pages page
 
 -- ---- the whole
 

@@ -1,9 +1,9 @@
 //! The walk over all pages that page 0 leads to.
-ghost use Rattle.std.specs.Prelude.{◌≡◌, ◌<◌, ◌≤◌, IfOk, IfErr, [], Some, true, length, not, slice_get, slice_set, if◌then◌else◌};
+ghost use Rattle.std.specs.Prelude.{◌≡◌, ◌<◌, ◌≤◌, IfOk, IfErr, [], ◌∷◌, Some, true, length, not, slice_get, slice_set, if◌then◌else◌};
 ghost use Rattle.fsd_table.specs.Pages.{children};
-ghost use Rattle.fsd_table.specs.Table.{top};
-ghost use Rattle.name_btree.specs.Fault.{HasCause, BreaksSubtree, BreaksTree};
-ghost use Rattle.name_btree.specs.Walk.{AreMarksOf, is_marked, IsWalked, AreWalked, BreaksWalk, BreakWalk, IsTopLevel, IsCounted};
+ghost use Rattle.fsd_table.specs.Table.{BreaksTable};
+ghost use Rattle.name_btree.specs.Fault.{HasCause};
+ghost use Rattle.name_btree.specs.Walk.{AreMarksOf, is_marked, IsWalked, AreWalked, BreaksWalk, IsTopLevel, IsCounted};
 
 use crate::child::child_node;
 use crate::descent::{copied, end_of};
@@ -55,7 +55,7 @@ fn top_level<T: Pages>(t: &mut T) -> Result<u32, TreeFault>
     ensures step { (T.step t.new).most_reached ≡ (T.step t.old).most_reached }
     ensures most { (T.step t.new).most_changed ≡ (T.step t.old).most_changed }
     ensures level { IfOk result (IsTopLevel (T.step t.old).images) }
-    ensures fault { IfErr result (HasCause (T.step t.new).refusal (BreaksSubtree (T.step t.old).images top)) }
+    ensures fault { IfErr result (HasCause (T.step t.new).refusal (BreaksTable (T.step t.old).images)) }
 {
     let mut child = top();
     for level in 0..6u32 {
@@ -84,7 +84,7 @@ fn walk_below<T: Pages>(
     ensures step { (T.step t.new).most_reached ≡ (T.step t.old).most_reached }
     ensures most { (T.step t.new).most_changed ≡ (T.step t.old).most_changed }
     ensures walked { IfOk result (IsWalked level (T.step t.old).images child.now reached.old reached.new) }
-    ensures fault { IfErr result (HasCause (T.step t.new).refusal (BreaksWalk level (T.step t.old).images child.now reached.old)) }
+    ensures fault { IfErr result (HasCause (T.step t.new).refusal (BreaksWalk level (T.step t.old).images (child.now ∷ []) reached.old)) }
 {
     if !is_new(reached, child.page) {
         return Err(TreeFault::Broken(child.page));
@@ -113,7 +113,7 @@ fn walk_children<T: Pages>(
     ensures step { (T.step t.new).most_reached ≡ (T.step t.old).most_reached }
     ensures most { (T.step t.new).most_changed ≡ (T.step t.old).most_changed }
     ensures walked { IfOk result (AreWalked level (T.step t.old).images (children ways.now.0 above.now.low above.now.high ways.now.1) reached.old reached.new) }
-    ensures fault { IfErr result (HasCause (T.step t.new).refusal (BreakWalk level (T.step t.old).images (children ways.now.0 above.now.low above.now.high ways.now.1) reached.old)) }
+    ensures fault { IfErr result (HasCause (T.step t.new).refusal (BreaksWalk level (T.step t.old).images (children ways.now.0 above.now.low above.now.high ways.now.1) reached.old)) }
 {
     let mut count = 0;
     for i in 0..ways.len() + 1 {
@@ -134,7 +134,7 @@ pub fn walk<T: Pages>(t: &mut T, reached: &mut [bool]) -> Result<u32, TreeFault>
     ensures step { (T.step t.new).most_reached ≡ (T.step t.old).most_reached }
     ensures most { (T.step t.new).most_changed ≡ (T.step t.old).most_changed }
     ensures counted { IfOk result (IsCounted (T.step t.old).images reached.new) }
-    ensures fault { IfErr result (HasCause (T.step t.new).refusal (BreaksTree (T.step t.old).images)) }
+    ensures fault { IfErr result (HasCause (T.step t.new).refusal (BreaksTable (T.step t.old).images)) }
 {
     let level = top_level(t)?;
     walk_below(t, &top(), level, reached)

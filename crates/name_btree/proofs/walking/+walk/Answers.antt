@@ -1,4 +1,4 @@
-use Rattle.std.proofs.Common.{◌≡◌, ◌∙◌, ◌+◌, ◌-◌, ◌<◌, ◌≤◌, Bool, true, cond, not, sym, ap, subst, List, length, take, ℕ, suc, Some, arith, rules}
+use Rattle.std.proofs.Common.{◌≡◌, ◌∙◌, ◌+◌, ◌-◌, ◌<◌, ◌≤◌, Bool, true, false, cond, not, sym, ap, subst, List, [], ◌∷◌, length, take, ℕ, suc, Some, arith, rules}
 use Rattle.std.specs.Prelude.{IfOk, IfErr, slice_set}
 use Rattle.std.proofs.lemmas.Result.{err_from_is_err_and}
 use Rattle.fsd_formats.specs.NamePage.{Interior}
@@ -8,12 +8,36 @@ use Rattle.name_page.specs.Pages.{Step}
 use Rattle.name_node.specs.declared.node.Node.{Node}
 use Rattle.name_node.specs.Node.{content_of}
 use Rattle.name_btree.specs.Fault.{HasCause, IsMisfit}
-use Rattle.name_btree.specs.Walk.{is_marked, IsWalked, AreWalked, BreaksWalk, BreakWalk}
+use Rattle.name_btree.specs.Walk.{is_marked, IsWalked, AreWalked, BreaksWalk}
 use Rattle.name_node.proofs.CountLaws.{few_separators, few_entries, take_short, take_whole}
 use Rattle.name_btree.proofs.ResultLaws.{ok_more, err_more}
 use Rattle.name_node.proofs.ListLaws.{children_count}
-use Rattle.name_btree.proofs.WalkLaws.{one_more, fault_among, above_walked, fault_above, fault_here}
+use Rattle.name_btree.proofs.WalkLaws.{one_more, above_walked}
+use Rattle.name_btree.proofs.ComeLaws.{marked_breaks, leaf_breaks, interior_breaks, fault_here, fault_above, fault_among}
 use Rattle.name_btree.proofs.walking.+walk.Goals as goal
+use Rattle.name_btree.proofs.walking.+walk.Goals.{walk_below-in_default-via-in-Leaf+else-level-eq0, walk_below-in_default-via-in-Interior+else-level-gt0, walk_below-in_default-via-in_default}
+
+pub walk_below-returns-then-not-is_new-clause-fault : goal.walk_below-returns-then-not-is_new-clause-fault
+walk_below-returns-then-not-is_new-clause-fault g t c =
+    let no : c.is_new.result ≡ false = cc in
+    marked_breaks c.args.level (g.T.Pages.step c.args.t.now).images c.args.child.now c.args.reached.now (sym c.is_new.ensures.new ∙ no)
+
+-- a page of a kind that doesn't belong to the level
+pub walk_below-returns-in_default-clause-fault : goal.walk_below-returns-in_default-clause-fault
+walk_below-returns-in_default-clause-fault g t c =
+    let child = c.args.child.now in
+    let level = c.args.level in
+    let marks = c.args.reached.now in
+    let pages = (g.T.Pages.step c.args.t.now).images in
+    let is = ap (λ (s : Step). page_at s.images child.page) (sym c.rest.ensures) ∙ c.in_ok-entries.ensures.node in
+    elim c.in_default.branch [
+      | walk_below-in_default-via-in-Leaf+else-level-eq0 w ↦
+          leaf_breaks level pages child marks w.in-Leaf.entries (is ∙ ap (λ (n : Node). Some (content_of n)) w.in-Leaf.is) (omega (arith, w.if-level-eq0.false))
+      | walk_below-in_default-via-in-Interior+else-level-gt0 w ↦
+          interior_breaks level pages child marks w.in-Interior.ways.0 w.in-Interior.ways.1 (is ∙ ap (λ (n : Node). Some (content_of n)) w.in-Interior.is) (omega (arith, w.if-level-gt0.false))
+      | walk_below-in_default-via-in_default w ↦
+          absurd (let none : false ≡ true = ap (λ (n : Node). content_fits child.low child.high (Some (content_of n))) (sym w.in_default.is) ∙ c.in_ok-entries.ensures.fits in cc)
+    ]
 
 pub walk_below-returns-in_err-entries-clause-fault : goal.walk_below-returns-in_err-entries-clause-fault
 walk_below-returns-in_err-entries-clause-fault g t c =
@@ -80,11 +104,11 @@ walk_below-returns-in-Interior-clause-fault g t c =
     ap (λ (p : List (List ℕ)). page_at p child.page) (sym same) ∙ c.in_ok-entries.ensures.node ∙ ap (λ (n : Node). Some (content_of n)) c.in-Interior.is in
     let yes : c.is_new.result ≡ true = cc in
     let marks : c.is_new.new.reached ≡ slice_set before child.page true = c.is_new.ensures.marks ∙ ap (λ (b : Bool). cond b (slice_set before child.page true) before) yes in
-    let P : List (List ℕ) → Type 0 = λ (x : List (List ℕ)). IfErr r (HasCause given (BreakWalk (level - 1) x cs c.is_new.new.reached)) in
-    let Q : List Bool → Type 0 = λ (m : List Bool). IfErr r (HasCause given (BreakWalk (level - 1) pages cs m)) in
+    let P : List (List ℕ) → Type 0 = λ (x : List (List ℕ)). IfErr r (HasCause given (BreaksWalk (level - 1) x cs c.is_new.new.reached)) in
+    let Q : List Bool → Type 0 = λ (m : List Bool). IfErr r (HasCause given (BreaksWalk (level - 1) pages cs m)) in
     let h = subst Q marks (subst P (c.child_node.ensures.images ∙ same) c.walk_children.ensures.fault) in
     let up : suc (level - 1) ≡ level = omega arith in
-    err_more r (HasCause given (BreakWalk (level - 1) pages cs (slice_set before child.page true))) (HasCause given (BreaksWalk level pages child before))
+    err_more r (HasCause given (BreaksWalk (level - 1) pages cs (slice_set before child.page true))) (HasCause given (BreaksWalk level pages (child ∷ []) before))
     (λ fault b. fault_above given fault (level - 1) level pages child ways.0 ways.1 before up at b) h
 
 pub walk_children-returns-in_err-count-clause-fault : goal.walk_children-returns-in_err-count-clause-fault
@@ -96,7 +120,7 @@ walk_children-returns-in_err-count-clause-fault g t c =
     let fault = c.in_err-count.field-0.0 in
     let cs : List Child = children ways.0 above.low above.high ways.1 in
     let child = c.child_at-child.result in
-    let P : List (List ℕ) → Type 0 = λ (x : List (List ℕ)). HasCause given (BreaksWalk c.args.level x child c.loop-i.reached) fault in
+    let P : List (List ℕ) → Type 0 = λ (x : List (List ℕ)). HasCause given (BreaksWalk c.args.level x (child ∷ []) c.loop-i.reached) fault in
     let h = subst P c.loop-i.invariant.images c.in_err-count.ensures.fault in
     let p = err_from_is_err_and c.from_residual.result c.from_residual.ensures.1 in
     rw (p.1, p.2) (fault_among given fault c.args.level pages cs c.loop-i.i child c.args.reached.now c.loop-i.reached c.loop-i.count c.child_at-child.ensures c.loop-i.invariant.walked h)

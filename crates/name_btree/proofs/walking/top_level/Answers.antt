@@ -46,7 +46,7 @@ returns-in-Leaf-clause-level g c =
 
 pub returns-clause-fault : goal.returns-clause-fault
 returns-clause-fault g c =
-    down_too_long (g.T.Pages.step c.args.t.now).images c.loop-level.level c.loop-level.child c.loop-level.child.page c.loop-level-test.false c.loop-level.invariant.down
+    down_too_long (g.T.Pages.step c.args.t.now).images c.loop-level.level c.loop-level.child c.loop-level-test.false c.loop-level.invariant.down
 
 pub loop-level-preserved : goal.loop-level-preserved
 loop-level-preserved g c =
@@ -61,5 +61,5 @@ loop-level-preserved g c =
       spares = c.child_node.ensures.spares ∙ (ap (λ (s : Step). s.spares) c.rest.ensures ∙ c.loop-level.invariant.spares);
       step = c.child_node.ensures.step ∙ (ap (λ (s : Step). s.most_reached) c.rest.ensures ∙ c.loop-level.invariant.step);
       most = c.child_node.ensures.changes.most_changed ∙ (ap (λ (s : Step). s.most_changed) c.rest.ensures ∙ c.loop-level.invariant.most);
-      down = down_first pages c.loop-level.level child c.child_at-child.result ways.0 ways.1 at c.child_at-child.ensures c.loop-level.invariant.down;
+      down = down_first pages c.loop-level.level child c.child_at-child.result ways.0 ways.1 at c.child_at-child.ensures c.loop-level-test.true c.loop-level.invariant.down;
     }
