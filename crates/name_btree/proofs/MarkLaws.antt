@@ -14,9 +14,6 @@ equal m n e = grind (arith, nat_tests)
 unequal : (m n : ℕ) → (m == n) ≡ false → n ≢ m
 unequal m n e = λ h. grind (arith, nat_tests)
 
-other_way : (m n : ℕ) → (m == n) ≡ false → (n == m) ≡ false
-other_way m n e = grind (arith, nat_tests)
-
 unnot : (b : Bool) → not b ≡ true → b ≡ false
 unnot false e = refl
 unnot true e = absurd cc
