@@ -30,7 +30,7 @@ use Rattle.mount_recover.specs.declared.fault.MountFault.{MountFault}
 use Rattle.mount_recover.specs.declared.fault.MountFault.TheVariants.{NotVolume, Device, Memory, Lost, NoAnchor, Unsound, WornOut}
 use Rattle.mount_recover.specs.Finding.{IsExcuse}
 use Rattle.mount_recover.specs.Recover.{IsFreshLog}
-use Rattle.mount_recover.specs.Replay.{SameBehind, StandAtHome, IsMounted as IsReplayed}
+use Rattle.mount_recover.specs.Replay.{SameBehind, StandAtHome, IsReplayed}
 use Rattle.fsd_volume.specs.State.{State, IsMounted, mounted_of}
 use Rattle.fsd_volume.specs.Mount.{IsSoundAt, Mounts, MountLeaves, MountEnds, volume_of}
 use Rattle.fsd_volume.specs.Opening.{AreAtHome, UnreadFor, Opens, OpensNotFor}

@@ -22,7 +22,7 @@ use Rattle.fsd_sound.specs.Sound.{EndIn, IsStill, ShowsOne, Tells, TellsPrefix, 
 use Rattle.fsd_sound.proofs.MountedLaws.{one_of}
 use Rattle.fsd_sound.proofs.SoundLaws.{sound_from_pages}
 use Rattle.fsd_sound.proofs.StillLaws.{tells_prefix}
-use Rattle.mount_recover.specs.Recover.{IsMountable}
+use Rattle.mount_recover.specs.Recover.{ShowsVolume}
 use Rattle.mount_recover.specs.Replay.{SameBehind, IsBefore, IsAfter, Replays}
 use Rattle.fsd_volume.specs.Mount.{IsSoundAt, LeavesFound, LeavesSettled, MountLeaves, TellsFirst}
 use Rattle.fsd_volume.proofs.HomeLaws.{plans_in_data, data_from}
@@ -86,7 +86,7 @@ module _ (sectors : ℕ) (l : Layout) (windows : List WeakRun) (h : List Change)
   pub first_now : TellsFirst l windows h f count_now old.image
   first_now = record { prefix = told_now.prefix; entries = told_now.entries; tells = entries_told; described = told_now.described }
 
-  pub mountable_now : IsMountable sectors l windows (pages_now ∷ []) old
+  pub mountable_now : ShowsVolume sectors l windows (pages_now ∷ []) old
   mountable_now = record { planned = start.planned; fits = start.fits; calm = start.calm; ends = start.ends; shows = told_now.shows }
 
   tells_found : (j : Image) → SameBehind l old.image j → Tells l (in_runs windows) j h f (told_in l pages_now)

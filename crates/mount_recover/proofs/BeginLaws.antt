@@ -22,7 +22,7 @@ use Rattle.fsd_sound.specs.Shown.{shown}
 use Rattle.fsd_sound.specs.Sound.{weak_of, ShowsPages}
 use Rattle.log_thirds.specs.Anchoring.{AnchorsIn}
 use Rattle.mount_recover.specs.Recover.{with_anchors}
-use Rattle.mount_recover.specs.Replay.{StandAtHome, Renewing, IsAfter, SameBehind, Replays, IsMounted, IsHealed}
+use Rattle.mount_recover.specs.Replay.{StandAtHome, Renewing, IsAfter, SameBehind, Replays, IsReplayed, IsHealed}
 use Rattle.mount_recover.proofs.CalmShows.{Nowhere, calm_weak}
 use Rattle.mount_recover.proofs.HomedLaws.{with_same, with_other}
 use Rattle.mount_recover.proofs.ReplayLaws.{renewing_shows, renewed_own, renewed_home, one_shown, shows_alone, shows_next, own_next}
@@ -204,7 +204,7 @@ module _ (l : Layout) (windows : List WeakRun) (choices : List (List (List ℕ))
         said = done.said ∙ written.said;
       }
 
-      pub is_mounted : IsMounted l windows choices (a.epoch + 1) new
+      pub is_mounted : IsReplayed l windows choices (a.epoch + 1) new
       unfolding is_after named
       is_mounted = record {
         after = is_after;

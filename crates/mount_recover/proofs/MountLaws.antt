@@ -16,7 +16,7 @@ use Rattle.fsd_sound.specs.Sound.{EndIn, ShowsPages}
 use Rattle.log_thirds.specs.LogValue.{LogValue}
 use Rattle.mount_recover.specs.declared.fault.MountFault.{MountFault}
 use Rattle.mount_recover.specs.declared.fault.MountFault.TheVariants.{NotVolume, Device, Memory, Lost, NoAnchor, Unsound, WornOut}
-use Rattle.mount_recover.specs.Recover.{with_anchors, IsMountable, LosesNothing}
+use Rattle.mount_recover.specs.Recover.{with_anchors, ShowsVolume, LosesNothing}
 use Rattle.mount_recover.specs.Replay.{SameBehind, Replays, IsHealed}
 use Rattle.mount_recover.specs.Finding.{NotFoundFor, IsExcuse}
 use Rattle.mount_recover.specs.Replaying.{StandAsShown, IsLogOf}
@@ -33,7 +33,7 @@ pub record Reached (l : Layout) (windows : List WeakRun) (choices : List (List (
   pub shows : ShowsPages log.layout windows choices one.image
   pub log_of : IsLogOf log one.image
 
-module _ (sectors : ℕ) (l : Layout) (windows : List WeakRun) (choices : List (List (List ℕ))) (old : Moment) (start : IsMountable sectors l windows choices old) where
+module _ (sectors : ℕ) (l : Layout) (windows : List WeakRun) (choices : List (List (List ℕ))) (old : Moment) (start : ShowsVolume sectors l windows choices old) where
   pub replays_still : Replays l windows choices old old
   replays_still = record { stage = inl (record { present = refl; shows = start.shows }); behind = λ s from. refl; said = refl }
 

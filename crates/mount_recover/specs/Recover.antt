@@ -81,7 +81,7 @@ HasFault old new (Unsound s) = ⊥
 HasFault old new fault = ⊤
 
 -- The moment's image shows pages of a volume with this layout, and nothing wears.
-pub record IsMountable (sectors : ℕ) (l : Layout) (windows : List WeakRun) (choices : List (List (List ℕ))) (now : Moment) : Type 0 where
+pub record ShowsVolume (sectors : ℕ) (l : Layout) (windows : List WeakRun) (choices : List (List (List ℕ))) (now : Moment) : Type 0 where
   pub planned : plan l.sectors l.third l.pages ≡ Ok l
   pub fits : l.sectors ≤ sectors
   pub calm : IsCalm now.windows

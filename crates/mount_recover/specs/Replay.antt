@@ -130,7 +130,7 @@ pub record Replays (l : Layout) (windows : List WeakRun) (choices : List (List (
   pub said : left.said ≡ old.said
 
 -- A mount that is done: the log of the new epoch is empty, and the one page list that is shown stands at both homes.
-pub record IsMounted (l : Layout) (windows : List WeakRun) (choices : List (List (List ℕ))) (epoch : ℕ) (new : Moment) : Type 0 where
+pub record IsReplayed (l : Layout) (windows : List WeakRun) (choices : List (List (List ℕ))) (epoch : ℕ) (new : Moment) : Type 0 where
   pub after : IsAfter l windows choices new
   pub log : HasOwnLog l (fresh_anchor epoch) [] (start l 1) (weak_of (windows ++ after.run ∷ [])) new.image
   pub home : StandAtHome l after.pages new.image

@@ -6,7 +6,7 @@ ghost use Rattle.sector_disk.specs.Image.{IsCalm, settled};
 ghost use Rattle.sector_disk.specs.Machine.{DeviceFault, UsesDisk, Trusts, OnlyWrites, LeavesOnly};
 ghost use Rattle.log_thirds.specs.Anchoring.{in_next_epoch};
 ghost use Rattle.mount_recover.specs.Recover.{with_anchors};
-ghost use Rattle.mount_recover.specs.Replay.{Replays, IsHealed, IsMounted};
+ghost use Rattle.mount_recover.specs.Replay.{Replays, IsHealed, IsReplayed};
 
 use log_thirds::Log;
 use sector_disk::{Failed, Machine};
@@ -32,7 +32,7 @@ pub fn begin_epoch<M: Machine>(m: &mut M, log: &mut Log) -> Result<(), Failed>
 
     // At the end the epoch is the next one, its log is empty, and the pages stand at home.
     ensures done { OnOk result ((l : Plan) (windows : List Run) (choices : List (List (List ℕ))) → M.honest m.new → IsCalm (M.now m.old).windows →
-        IsHealed l windows choices log.old.anchor (M.now m.old) → IsMounted l windows choices (log.old.anchor.epoch + 1) (M.now m.new)) }
+        IsHealed l windows choices log.old.anchor (M.now m.old) → IsReplayed l windows choices (log.old.anchor.epoch + 1) (M.now m.new)) }
     ensures renewed { OnOk result (M.honest m.new → IsCalm (M.now m.old).windows →
         (M.now m.new).image ≡ with_anchors (log.old.anchor.epoch + 1) (M.now m.old).image) }
 {

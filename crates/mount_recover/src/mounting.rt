@@ -8,10 +8,10 @@ ghost use Rattle.sector_disk.specs.Machine.{UsesDisk, Trusts, OnlyWrites, Leaves
 ghost use Rattle.fsd_formats.specs.declared.anchor.Anchor.{Anchor as Named};
 ghost use Rattle.fsd_sound.specs.Anchors.{anchor_of};
 ghost use Rattle.mount_recover.specs.Lost.{AreLoggedOn, HasRoot, LostIn};
-ghost use Rattle.mount_recover.specs.Recover.{IsSettled, IsFreshLog, RefusedFor, LosesNothing, LeavesAll, HasFault, IsMountable};
+ghost use Rattle.mount_recover.specs.Recover.{IsSettled, IsFreshLog, RefusedFor, LosesNothing, LeavesAll, HasFault, ShowsVolume};
 ghost use Rattle.mount_recover.specs.Replaying.{StandAsShown};
 ghost use Rattle.mount_recover.specs.Finding.{IsExcuse};
-ghost use Rattle.mount_recover.specs.Replay.{SameBehind, Replays, IsMounted};
+ghost use Rattle.mount_recover.specs.Replay.{SameBehind, Replays, IsReplayed};
 
 use crate::epoch::begin_epoch;
 use crate::fault::MountFault;
@@ -68,14 +68,14 @@ pub fn recover<M: Machine>(alloc: Global, m: &mut M, sectors: u32) -> Result<Set
 
     // An image that shows the pages of a volume shows them at each moment, also at the exit. At Ok the log is empty and the
     // pages stand at home; else it is refused for nothing but the disk, memory and the last epoch.
-    ensures any_moment { (l : Plan) (windows : List Run) (choices : List (List (List ℕ))) → M.honest m.new → IsMountable sectors l windows choices (M.now m.old) →
+    ensures any_moment { (l : Plan) (windows : List Run) (choices : List (List (List ℕ))) → M.honest m.new → ShowsVolume sectors l windows choices (M.now m.old) →
         IsCalm (M.now m.new).windows → LeavesOnly M.moment M.left_since m.old m.new (Replays l windows choices (M.now m.old)) }
-    ensures exit { (l : Plan) (windows : List Run) (choices : List (List (List ℕ))) → M.honest m.new → IsMountable sectors l windows choices (M.now m.old) →
+    ensures exit { (l : Plan) (windows : List Run) (choices : List (List (List ℕ))) → M.honest m.new → ShowsVolume sectors l windows choices (M.now m.old) →
         IsCalm (M.now m.new).windows → Replays l windows choices (M.now m.old) (M.now m.new) }
-    ensures same { IfOk result (λ settled. (l : Plan) (windows : List Run) (choices : List (List (List ℕ))) → M.honest m.new → IsMountable sectors l windows choices (M.now m.old) → settled.layout ≡ l) }
-    ensures done { IfOk result (λ settled. (l : Plan) (windows : List Run) (choices : List (List (List ℕ))) → M.honest m.new → IsMountable sectors l windows choices (M.now m.old) →
-        IsCalm (M.now m.new).windows → IsMounted l windows choices settled.log.anchor.epoch (M.now m.new)) }
-    ensures excuses { IfErr result (λ fault. (l : Plan) (windows : List Run) (choices : List (List (List ℕ))) → M.honest m.new → IsMountable sectors l windows choices (M.now m.old) → IsExcuse fault) }
+    ensures same { IfOk result (λ settled. (l : Plan) (windows : List Run) (choices : List (List (List ℕ))) → M.honest m.new → ShowsVolume sectors l windows choices (M.now m.old) → settled.layout ≡ l) }
+    ensures done { IfOk result (λ settled. (l : Plan) (windows : List Run) (choices : List (List (List ℕ))) → M.honest m.new → ShowsVolume sectors l windows choices (M.now m.old) →
+        IsCalm (M.now m.new).windows → IsReplayed l windows choices settled.log.anchor.epoch (M.now m.new)) }
+    ensures excuses { IfErr result (λ fault. (l : Plan) (windows : List Run) (choices : List (List (List ℕ))) → M.honest m.new → ShowsVolume sectors l windows choices (M.now m.old) → IsExcuse fault) }
 {
     let Found { layout, mut log } = find_volume(alloc, m, sectors)?;
     replay_log(m, &layout, &log)?;

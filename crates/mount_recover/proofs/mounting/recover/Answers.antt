@@ -8,8 +8,8 @@ use Rattle.sector_disk.proofs.Moments.{leaves_more, then_on}
 use Rattle.log_thirds.specs.LogValue.{LogValue}
 use Rattle.mount_recover.specs.Finding.{IsExcuse}
 use Rattle.mount_recover.specs.Lost.{AreLoggedOn, LostIn}
-use Rattle.mount_recover.specs.Recover.{LosesNothing, IsMountable}
-use Rattle.mount_recover.specs.Replay.{Replays, IsMounted}
+use Rattle.mount_recover.specs.Recover.{LosesNothing, ShowsVolume}
+use Rattle.mount_recover.specs.Replay.{Replays, IsReplayed}
 use Rattle.mount_recover.specs.Replaying.{IsLogOf}
 use Rattle.mount_recover.proofs.FindingLaws.{calm_now, log_found}
 use Rattle.mount_recover.proofs.LostLaws.{none_found, lost_on}
@@ -31,7 +31,7 @@ pub returns-in_err-layout-clause-excuses : goal.returns-in_err-layout-clause-exc
 returns-in_err-layout-clause-excuses g c =
     let M = g.M.Machine in
     let old = M.now c.args.m.now in
-    handed_up (λ fault. (l : Layout) (windows : List WeakRun) (choices : List (List (List ℕ))) → M.honest c.find_volume.new.m → IsMountable c.args.sectors l windows choices old → IsExcuse fault) c.from_residual.result c.in_err-layout.field-0.0 c.from_residual.ensures.1
+    handed_up (λ fault. (l : Layout) (windows : List WeakRun) (choices : List (List (List ℕ))) → M.honest c.find_volume.new.m → ShowsVolume c.args.sectors l windows choices old → IsExcuse fault) c.from_residual.result c.in_err-layout.field-0.0 c.from_residual.ensures.1
     (λ l windows choices h start. c.in_err-layout.ensures.safe l windows choices start.planned start.fits h start.calm start.ends start.shows)
 
 pub returns-in_err-replay_log-clause-any_moment : goal.returns-in_err-replay_log-clause-any_moment
@@ -56,7 +56,7 @@ pub returns-in_err-replay_log-clause-excuses : goal.returns-in_err-replay_log-cl
 returns-in_err-replay_log-clause-excuses g c =
     let M = g.M.Machine in
     let old = M.now c.args.m.now in let one = M.now c.find_volume.new.m in
-    handed_up (λ fault. (l : Layout) (windows : List WeakRun) (choices : List (List (List ℕ))) → M.honest c.replay_log.new.m → IsMountable c.args.sectors l windows choices old → IsExcuse fault) c.from_residual-in_err-replay_log.result c.in_err-replay_log.field-0.0 c.from_residual-in_err-replay_log.ensures.1
+    handed_up (λ fault. (l : Layout) (windows : List WeakRun) (choices : List (List (List ℕ))) → M.honest c.replay_log.new.m → ShowsVolume c.args.sectors l windows choices old → IsExcuse fault) c.from_residual-in_err-replay_log.result c.in_err-replay_log.field-0.0 c.from_residual-in_err-replay_log.ensures.1
     (λ l windows choices h start.
     let h1 = c.replay_log.ensures.trust.honest h in
     let found = c.in_ok-layout.field-0 in
@@ -131,7 +131,7 @@ returns-clause-done g c l windows choices h start calm_new =
     let present = c.replay_log.ensures.present h2 in
     let calm_two = calm_on one two r.calm present (next_settled two.windows (M.now c.begin_epoch.new.m).windows (c.in_ok-begin_epoch.ensures.windows h) calm_new) in
     let healed = healed_two l windows choices old one found.log r two present (c.in_ok-replay_log.ensures.done windows choices h2 r.calm r.ends r.shows r.log_of) in
-    subst (λ (epoch : ℕ). IsMounted l windows choices epoch (M.now c.begin_epoch.new.m)) (sym (ap (λ (log : LogValue). log.anchor.epoch) c.in_ok-begin_epoch.ensures.past)) (c.in_ok-begin_epoch.ensures.done l windows choices h calm_two healed)
+    subst (λ (epoch : ℕ). IsReplayed l windows choices epoch (M.now c.begin_epoch.new.m)) (sym (ap (λ (log : LogValue). log.anchor.epoch) c.in_ok-begin_epoch.ensures.past)) (c.in_ok-begin_epoch.ensures.done l windows choices h calm_two healed)
 
 pub returns-clause-behind : goal.returns-clause-behind
 returns-clause-behind g c h calm calm_new =
