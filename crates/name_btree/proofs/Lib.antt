@@ -3,6 +3,7 @@ pub mod DescentLaws
 mod DraftLaws
 pub mod FindLaws
 pub mod HighestLaws
+mod GrowLaws
 mod KeepLaws
 pub mod LastLaws
 mod LevelLaws
@@ -13,5 +14,6 @@ mod ReachLaws
 mod ReplaceLaws
 pub mod ResultLaws
 mod SetLaws
+mod TakeLaws
 pub mod TopLaws
 pub mod WalkLaws

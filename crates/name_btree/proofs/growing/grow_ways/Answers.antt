@@ -1,0 +1,56 @@
+use Rattle.std.proofs.Common.{◌≡◌, ◌∙◌, ap, sym, subst, List, length, take, drop, true, ◌<◌, ◌^◌, arith}
+use Rattle.fsd_formats.specs.declared.page.Separator.{Separator}
+use Rattle.fsd_formats.specs.NamePage.{Interior, is_page}
+use Rattle.name_btree.specs.declared.draft.Sheet.{Sheet}
+use Rattle.name_btree.specs.Draft.{IsDrafted}
+use Rattle.name_btree.proofs.TakeLaws.{sheets_over, used_over}
+use Rattle.name_btree.proofs.GrowLaws.{IsParted, HasInteriors, ways_parted, rest_of}
+use Rattle.name_btree.proofs.growing.grow_ways.Given as given
+use Rattle.name_btree.proofs.growing.grow_ways.Goals as goal
+
+pub put_ways-requires-2-clause-sheets : goal.put_ways-requires-2-clause-sheets
+put_ways-requires-2-clause-sheets g c =
+    let step = g.T.Pages.step c.args.t.now in
+    let between = g.T.Pages.step c.front_page-left.new.t in
+    let last = g.T.Pages.step c.take_page-right.new.t in
+    let sheets = c.args.draft.now.sheets.items in
+    sheets_over between last _ sheets c.take_page-right.ensures.takes (sheets_over step between _ sheets c.front_page-left.ensures.takes c.requires.sheets)
+
+pub put_ways-requires-3-clause-used : goal.put_ways-requires-3-clause-used
+put_ways-requires-3-clause-used g c = ?
+
+pub put_ways-requires-3-clause-accepted : goal.put_ways-requires-3-clause-accepted
+put_ways-requires-3-clause-accepted g c = ?
+
+parted : (g : given.Over) (c : goal.After-put_ways-3 g) → HasInteriors (g.T.Pages.step c.args.t.now) (g.T.Pages.step c.take_page-right.new.t) c.args.draft.now.sheets.items c.put_ways-3.new.self.sheets.items c.args.page c.args.first
+    c.args.separators.now.items c.front_page-left.result (record { key = c.middle-middle.result.key; child = c.take_page-right.result })
+parted g c =
+    let step = g.T.Pages.step c.args.t.now in
+    let between = g.T.Pages.step c.front_page-left.new.t in
+    let last = g.T.Pages.step c.take_page-right.new.t in
+    let left = c.front_page-left.result in
+    let right = c.take_page-right.result in
+    let some = c.as_slice-separators.result.now in
+    let middle = c.middle-middle.result in
+    let s0 = c.args.draft.now.sheets.items in
+    let s1 = c.put_ways-2.new.self.sheets.items in
+    let s2 = c.put_ways-3.new.self.sheets.items in
+    let is : IsParted step between last s0 s1 s2 c.args.page left right (Interior c.args.first (take 4 some)) (Interior middle.child (drop 5 some)) = record {
+      front_takes = c.front_page-left.ensures.takes;
+      takes = c.take_page-right.ensures.takes;
+      own = c.front_page-left.ensures.own;
+      used = c.front_page-left.ensures.used;
+      place = c.front_page-left.ensures.place;
+      front = c.put_ways-2.ensures.sheets;
+      behind = subst (λ (zs : List Separator). IsDrafted last s1 s2 right (Interior middle.child zs)) (rest_of some 5) c.put_ways-3.ensures.sheets;
+    } in
+    let small : right < 2 ^ 32 = omega arith in
+    let ten : length some ≡ 10 = omega (arith, c.requires.separators.most, ap length c.as_slice-separators.ensures.value) in
+    ways_parted step between last s0 s1 s2 c.args.page left right c.args.first (length step.images) c.args.separators.now.items some middle
+    c.as_slice-separators.ensures.value ten c.middle-middle.ensures.there is c.requires.separators.each c.requires.fits small
+
+pub returns-clause-grown : goal.returns-clause-grown
+returns-clause-grown g c = (parted g c).grown
+
+pub returns-clause-interiors : goal.returns-clause-interiors
+returns-clause-interiors g c = (parted g c).interiors
