@@ -134,6 +134,13 @@ takes_then a b c xs ys s t = record {
     more : (x y z m n k : ℕ) → x ≤ y + m → y ≤ z + n → k ≡ m + n → x ≤ z + k
     more x y z m n k h i e = omega arith
 
+pub taken_itself : (b : Bool) (page : ℕ) → (b && not ((page == page) || false)) ≡ false
+taken_itself b page = ap (λ (x : Bool). b && not (x || false)) (same_itself page) ∙ by b
+  where
+    by : (b : Bool) → (b && false) ≡ false
+    by true = refl
+    by false = refl
+
 -- ---- what stays
 
 pub used_over : (old new : Step) (came : List ℕ) (q : ℕ) → Takes old new came → is_spare old.spares q ≡ false → is_spare new.spares q ≡ false

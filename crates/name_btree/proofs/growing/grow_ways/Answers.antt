@@ -1,9 +1,14 @@
-use Rattle.std.proofs.Common.{◌≡◌, ◌∙◌, ap, sym, subst, List, length, take, drop, true, ◌<◌, ◌^◌, arith}
+use Rattle.std.proofs.Common.{◌≡◌, ◌∙◌, ap, sym, subst, List, length, take, drop, true, ◌&&◌, ◌<◌, ◌^◌, arith}
 use Rattle.fsd_formats.specs.declared.page.Separator.{Separator}
-use Rattle.fsd_formats.specs.NamePage.{Interior, is_page}
+use Rattle.std.specs.Prelude.{nat_lt}
+use Rattle.std.specs.List.{list_all}
+use Rattle.fsd_bytes.specs.Keys.{is_key}
+use Rattle.fsd_formats.specs.NamePage.{Interior, is_page, are_ascending}
+use Rattle.fsd_table.specs.Pages.{separator_keys}
+use Rattle.name_page.specs.Pages.{is_spare}
 use Rattle.name_btree.specs.declared.draft.Sheet.{Sheet}
 use Rattle.name_btree.specs.Draft.{IsDrafted}
-use Rattle.name_btree.proofs.TakeLaws.{sheets_over, used_over}
+use Rattle.name_btree.proofs.TakeLaws.{sheets_over, taken_itself}
 use Rattle.name_btree.proofs.GrowLaws.{IsParted, HasInteriors, ways_parted, rest_of}
 use Rattle.name_btree.proofs.growing.grow_ways.Given as given
 use Rattle.name_btree.proofs.growing.grow_ways.Goals as goal
@@ -17,10 +22,24 @@ put_ways-requires-2-clause-sheets g c =
     sheets_over between last _ sheets c.take_page-right.ensures.takes (sheets_over step between _ sheets c.front_page-left.ensures.takes c.requires.sheets)
 
 pub put_ways-requires-3-clause-used : goal.put_ways-requires-3-clause-used
-put_ways-requires-3-clause-used g c = ?
+put_ways-requires-3-clause-used g c =
+    let last = g.T.Pages.step c.take_page-right.new.t in
+    let right = c.take_page-right.result in
+    c.take_page-right.ensures.takes.taken.spares right ∙ taken_itself (is_spare (g.T.Pages.step c.front_page-left.new.t).spares right) right
 
 pub put_ways-requires-3-clause-accepted : goal.put_ways-requires-3-clause-accepted
-put_ways-requires-3-clause-accepted g c = ?
+put_ways-requires-3-clause-accepted g c =
+    let step = g.T.Pages.step c.args.t.now in
+    let last = g.T.Pages.step c.take_page-right.new.t in
+    let right = c.take_page-right.result in
+    let some = c.as_slice-separators.result.now in
+    let middle = c.middle-middle.result in
+    let images : length last.images ≡ length step.images = ap length (c.take_page-right.ensures.takes.images ∙ c.front_page-left.ensures.takes.images) in
+    let fits = c.requires.separators in
+    let each = ap (list_all (λ s. is_key s.key && nat_lt s.child (length step.images))) c.as_slice-separators.ensures.value ∙ fits.each in
+    let order = ap (λ (zs : List Separator). are_ascending (separator_keys zs)) c.as_slice-separators.ensures.value ∙ fits.order in
+    let is = (c.middle-middle.ensures.interiors (length step.images) c.args.first each order fits.low right).1 in
+    (λ i. is_page right (images i) (Interior middle.child (rest_of some 5 i))) ∙ is
 
 parted : (g : given.Over) (c : goal.After-put_ways-3 g) → HasInteriors (g.T.Pages.step c.args.t.now) (g.T.Pages.step c.take_page-right.new.t) c.args.draft.now.sheets.items c.put_ways-3.new.self.sheets.items c.args.page c.args.first
     c.args.separators.now.items c.front_page-left.result (record { key = c.middle-middle.result.key; child = c.take_page-right.result })
