@@ -1,5 +1,5 @@
 -- What becomes of a page that is given more than it had, and of those above it.
-use Rattle.std.specs.Prelude.{◌≡◌, ℕ, ◌+◌, ◌*◌, ◌≤◌, ◌<◌, ◌==◌, ◌&&◌, nat_lt, true, false, List, [], ◌∷◌, ◌++◌, length, Option, Some, None, if◌then◌else◌, ⊤}
+use Rattle.std.specs.Prelude.{◌≡◌, ℕ, ◌+◌, ◌*◌, ◌≤◌, ◌<◌, ◌==◌, ◌&&◌, nat_lt, true, false, List, [], ◌∷◌, ◌++◌, length, take, drop, Option, Some, None, if◌then◌else◌, ⊤}
 use Rattle.std.specs.List.{flat_map, list_all, AllByRecursion}
 use Rattle.run_table.specs.Space.{contains, all_differ}
 use Rattle.fsd_bytes.specs.Keys.{is_key}
@@ -131,6 +131,11 @@ abbrev pub AreInteriorsOf : List (List ℕ) → ℕ → (first : ℕ) → List S
 AreInteriorsOf pages page first separators Whole = page_at pages page ≡ Some (Interior first separators)
 AreInteriorsOf pages page first separators (Parted left s) = AreWaysOf pages first separators left s
 
+-- what a page above has, once one of its children has grown: as before, or one separator more
+abbrev pub IsAboveGrown : (pages after : List (List ℕ)) (page first : ℕ) → List Separator → ℕ → (below g : Grown) → Type 0
+IsAboveGrown pages after page first separators i Whole g = (g ≡ Whole) × (after ≡ pages)
+IsAboveGrown pages after page first separators i (Parted left s) g = AreInteriorsOf after page first (take i separators ++ s ∷ drop i separators) g
+
 -- ---- what stands below a child
 
 -- a subtree that reaches no page twice, and page 0 only at its own top
@@ -162,6 +167,7 @@ pub record Grows (e : Entry) (old new : Step) (pages after : List (List ℕ)) (l
   pub few : length came ≤ most_taken c.page levels
   pub takes : Takes old new came
   pub sound : IsSound new g
+  pub place : IsInPlace c.page g
   pub divided : IsDivided c g
   pub full : IsFull (page_at pages c.page) g
   pub becomes : (level : ℕ) → level ≤ levels → IsBranch pages level c → AreUsed old (pages_below level pages c) → BranchBecomes e pages after came level c g
