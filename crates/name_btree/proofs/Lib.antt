@@ -6,6 +6,7 @@ pub mod HighestLaws
 mod GrowLaws
 mod KeepLaws
 pub mod LastLaws
+mod LeafGrowthLaws
 mod LevelLaws
 pub mod MarkLaws
 pub mod NextLaws

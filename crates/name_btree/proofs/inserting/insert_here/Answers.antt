@@ -1,24 +1,21 @@
-use Rattle.std.proofs.Common.{rules, ◌≡◌, ◌+◌, ◌*◌, ◌<◌, ◌≤◌, ℕ, IfOk, IfErr, OnOk, OnErr, Some, None, length, take, drop, true, false, ◌-◌, ◌/◌, ◌%◌, Bool, nat_eq, nat_lt, List, [], ◌∷◌, ◌++◌, slice_index_or, slice_set, bit_and, bit_or, Fits, w8, w32, w64, Bor, MutBor}
-use Rattle.fsd_formats.specs.NamePage.{Leaf, Interior, is_page, is_entry, FitsEntry}
-use Rattle.fsd_forest.specs.Parts.{is_inside}
-use Rattle.fsd_forest.specs.Ways.{child_between}
-use Rattle.fsd_table.specs.Pages.{page_at, keys_fit, entry_keys}
-use Rattle.fsd_table.specs.Tree.{IsTree, table_of}
-use Rattle.name_btree.specs.Draft.{drafted, AreSheets, IsDraft, images_of}
-use Rattle.name_btree.specs.Fault.{HasCause, BreaksTree}
-use Rattle.name_btree.specs.Grown.{most_parted, most_taken, IsGrown, IsAboveGrown, IsSound, IsDivided, Grows, BreaksGrowth}
+use Rattle.std.proofs.Common.{◌≡◌, ◌∙◌, sym, List, None}
+use Rattle.std.specs.Option.{is_some}
+use Rattle.name_btree.specs.Draft.{drafted}
 use Rattle.name_node.specs.Lookups.{entry_with}
-use Rattle.name_page.specs.Pages.{reaches, changes, is_spare, IsReached}
+use Rattle.name_btree.proofs.ReplaceLaws.{few_in_leaf}
+use Rattle.name_btree.proofs.LeafGrowthLaws.{none_if, with_fits_two, grows_leaf}
 use Rattle.name_btree.proofs.inserting.insert_here.Goals as goal
 
--- src/inserting.rt:161:16
 pub entries_with-list-requires-clause-few : goal.entries_with-list-requires-clause-few
-entries_with-list-requires-clause-few g c = ?
+entries_with-list-requires-clause-few g c = few_in_leaf (drafted c.args.draft.now.sheets.items (g.T.Pages.step c.args.t.now).images) c.args.child.now.page c.args.entries.now c.requires.leaf
 
--- src/inserting.rt:162:8
 pub grow_leaf-requires-clause-entries : goal.grow_leaf-requires-clause-entries
-grow_leaf-requires-clause-entries g c = ?
+grow_leaf-requires-clause-entries g c =
+    let pages = drafted c.args.draft.now.sheets.items (g.T.Pages.step c.args.t.now).images in
+    let none = none_if c.entry_in.result (sym c.is_some.ensures ∙ c.if-is_some.false) in
+    with_fits_two pages c.args.child.now.page c.args.entry.now c.args.entries.now c.entries_with-list.result.items c.requires.leaf c.entries_with-list.ensures.entries c.requires.entry (sym c.entry_in.ensures ∙ none)
 
--- src/inserting.rt:133:1
 pub returns-clause-grows : goal.returns-clause-grows
-returns-clause-grows g c = ?
+returns-clause-grows g c =
+    grows_leaf c.args.entry.now (g.T.Pages.step c.args.t.now) (g.T.Pages.step c.grow_leaf.new.t) c.args.draft.now.sheets.items c.grow_leaf.new.draft.sheets.items c.args.child.now c.args.entries.now c.entries_with-list.result.items c.grow_leaf.result
+    c.requires.leaf c.entries_with-list.ensures.entries c.requires.keys c.requires.inside c.grow_leaf.ensures.grown c.grow_leaf.ensures.leaves
