@@ -18,3 +18,4 @@ mod SetLaws
 mod TakeLaws
 pub mod TopLaws
 pub mod WalkLaws
+mod WaysGrowthLaws

@@ -94,7 +94,7 @@ takes_none old new images spares most still kept = record {
   own = tt;
 }
 
-each_in : (P : ℕ → Type 0) (xs : List ℕ) (p : ℕ) → AllByRecursion P xs → contains xs p ≡ true → P p
+pub each_in : (P : ℕ → Type 0) (xs : List ℕ) (p : ℕ) → AllByRecursion P xs → contains xs p ≡ true → P p
 each_in P [] p a h = absurd cc
 each_in P (x ∷ xs) p a h = by (x == p) refl (λ i. each_in P xs p a.1 i) h
   where

@@ -1,16 +1,20 @@
-use Rattle.std.proofs.Common.{rules, ◌≡◌, ◌+◌, ◌*◌, ◌<◌, ◌≤◌, ℕ, IfOk, IfErr, OnOk, OnErr, Some, None, length, take, drop, true, false, ◌-◌, ◌/◌, ◌%◌, Bool, nat_eq, nat_lt, List, [], ◌∷◌, ◌++◌, slice_index_or, slice_set, bit_and, bit_or, Fits, w8, w32, w64, Bor, MutBor}
-use Rattle.fsd_formats.specs.NamePage.{Leaf, Interior, is_page, is_entry, FitsEntry}
-use Rattle.fsd_forest.specs.Parts.{is_inside}
+use Rattle.std.proofs.Common.{◌≡◌, ◌∙◌, ◌++◌, ◌∷◌, ℕ, List, Some, length, take, drop, true, ap, sym, subst}
+use Rattle.fsd_formats.specs.declared.page.Separator.{Separator}
+use Rattle.fsd_formats.specs.NamePage.{Interior, is_page}
 use Rattle.fsd_forest.specs.Ways.{child_between}
-use Rattle.fsd_table.specs.Pages.{page_at, keys_fit, entry_keys}
-use Rattle.fsd_table.specs.Tree.{IsTree, table_of}
-use Rattle.name_btree.specs.Draft.{drafted, AreSheets, IsDraft, images_of}
-use Rattle.name_btree.specs.Fault.{HasCause, BreaksTree}
-use Rattle.name_btree.specs.Grown.{most_parted, most_taken, IsGrown, IsAboveGrown, IsSound, IsDivided, Grows, BreaksGrowth}
-use Rattle.name_node.specs.Lookups.{entry_with}
-use Rattle.name_page.specs.Pages.{reaches, changes, is_spare, IsReached}
+use Rattle.name_btree.specs.Grown.{FitsTwoInteriors, IsSound, IsDivided}
+use Rattle.name_btree.specs.declared.growing.Grown.{Grown}
+use Rattle.name_btree.proofs.WaysGrowthLaws.{one_way_more}
 use Rattle.name_btree.proofs.inserting.grow_above.Goals as goal
 
--- src/inserting.rt:127:13
 pub grow_ways-requires-clause-separators : goal.grow_ways-requires-clause-separators
-grow_ways-requires-clause-separators g c = ?
+grow_ways-requires-clause-separators g c =
+    let step = g.T.Pages.step c.args.t.now in
+    let p : ℕ = length step.images in
+    let above = c.args.above.now in
+    let ways = c.args.ways.now in
+    let s = c.in-Parted.separator in
+    let sound = subst (IsSound step) c.in-Parted.is c.requires.sound in
+    let divided = subst (IsDivided (child_between ways.0 above.low above.high (take c.args.i ways.1) (drop c.args.i ways.1))) c.in-Parted.is c.requires.divided in
+    subst (λ (n : ℕ). FitsTwoInteriors p above.page n c.ways_with-separators.result.items) (sym c.first.ensures)
+    (one_way_more p above.page ways.0 c.args.i above.low above.high ways.1 c.ways_with-separators.result.items s c.requires.ways c.ways_with-separators.ensures.separators sound.behind.0 sound.key divided.0 divided.1)
