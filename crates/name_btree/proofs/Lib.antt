@@ -1,3 +1,4 @@
+mod BranchLaws
 mod ChangeLaws
 pub mod DescentLaws
 mod DraftLaws
@@ -15,6 +16,7 @@ mod ReachLaws
 mod ReplaceLaws
 pub mod ResultLaws
 mod SetLaws
+mod StepLaws
 mod TakeLaws
 pub mod TopLaws
 pub mod WalkLaws
