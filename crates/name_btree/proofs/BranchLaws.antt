@@ -105,7 +105,7 @@ among_below : (above : ℕ) (ls ms rs : List ℕ) → Within ms (above ∷ (ls +
 among_below above ls ms rs p h = in_right (above ∷ []) (ls ++ (ms ++ rs)) p (in_right ls (ms ++ rs) p (in_left ms rs p h))
 
 pub branch_below : (key : Key) (pages : List (List ℕ)) (level : ℕ) (c : Child) (first : ℕ) (separators : List Separator) (i : ℕ) → page_at pages c.page ≡ Some (Interior first separators) → StandAround key separators i → IsBranch pages (suc level) c
-    → IsBranch pages level (middle_child c first separators i) × Within (pages_below level pages (middle_child c first separators i)) (pages_below (suc level) pages c)
+    → IsBranch pages level (middle_child c first separators i) × (Within (pages_below level pages (middle_child c first separators i)) (pages_below (suc level) pages c) × (contains (pages_below level pages (middle_child c first separators i)) 0 ≡ true → ⊥))
 branch_below key pages level c first separators i at around branch =
     let d : Child = middle_child c first separators i in
     let b = is_below key pages level c first separators i at around branch.subtree in
@@ -120,7 +120,7 @@ branch_below key pages level c first separators i at around branch =
     let there = in_right ls (ms ++ rs) 0 (in_left ms rs 0 h) in
     let never = subst (λ (n : ℕ). contains (ls ++ (ms ++ rs)) n ≡ false) zero_is (top.outside c.page (first_there c.page)) in
     cc in
-    (record { subtree = b.subtree; apart = inner.first; inner = λ h. absurd (out h) }, within)
+    (record { subtree = b.subtree; apart = inner.first; inner = λ h. absurd (out h) }, (within, out))
   where
     first_there : (p : ℕ) → contains (p ∷ []) p ≡ true
     first_there p = ap (λ (b : Bool). b || false) (same_itself p)

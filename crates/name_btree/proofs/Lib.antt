@@ -5,6 +5,7 @@ mod DraftLaws
 pub mod FindLaws
 pub mod HighestLaws
 mod GrowLaws
+mod InsertLaws
 mod KeepLaws
 pub mod LastLaws
 mod LeafGrowthLaws

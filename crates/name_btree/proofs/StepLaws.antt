@@ -125,10 +125,10 @@ full_above pages after page first separators i x g above at is = subst (λ (y : 
     by Whole (Parted left s) is = absurd (let never = is.0 in cc)
     by (Parted left2 s2) (Parted left s) is = omega (arith, is.many, length-append (take i separators) (s2 ∷ drop i separators), ap length (take-append-drop i separators), length-append (take i separators) (drop i separators))
 
-leaf_never : (pages : List (List ℕ)) (c : Child) (x : Option Content) (first : ℕ) (separators : List Separator) → x ≡ Some (Interior first separators) → IsLeaf c x → ⊥
+pub leaf_never : (pages : List (List ℕ)) (c : Child) (x : Option Content) (first : ℕ) (separators : List Separator) → x ≡ Some (Interior first separators) → IsLeaf c x → ⊥
 leaf_never pages c x first separators at leaf = subst (IsLeaf c) at leaf
 
-few_above : (page d levels : ℕ) → (d ≡ 0 → ⊥) → most_taken d levels ≡ suc levels
+pub few_above : (page d levels : ℕ) → (d ≡ 0 → ⊥) → most_taken d levels ≡ suc levels
 few_above page d levels apart = by (d == 0) refl
   where
     by : (b : Bool) → (d == 0) ≡ b → cond b 2 1 + levels ≡ suc levels
@@ -225,6 +225,6 @@ above_grows e a b c s0 s1 s2 levels above first separators i g grown at fit arou
         let pages : List (List ℕ) = drafted s0 a.images in
         let between : List (List ℕ) = drafted s1 b.images in
         let below = branch_below e.key pages level above first separators i at around branch in
-        let lower = grows.becomes level (omega arith) below.0 (λ p h. used p (below.1 p h)) in
+        let lower = grows.becomes level (omega arith) below.0 (λ p h. used p (below.1.0 p h)) in
         branch_grows e pages between (drafted s2 c.images) a c grows.came (came_of above.page grown) level above first separators i g grown
         at order fit around differs grows.place grows.divided is.place refl taken is.stay up branch used lower

@@ -5,7 +5,7 @@ use Rattle.fsd_forest.specs.Ways.{child_between}
 use Rattle.name_btree.specs.Grown.{FitsTwoInteriors, IsSound, IsDivided}
 use Rattle.name_btree.specs.declared.growing.Grown.{Grown}
 use Rattle.name_btree.proofs.WaysGrowthLaws.{one_way_more}
-use Rattle.name_btree.proofs.StepLaws.{above_grows}
+use Rattle.name_btree.proofs.InsertLaws.{grows_looked}
 use Rattle.name_btree.proofs.inserting.grow_above.Goals as goal
 
 pub grow_ways-requires-clause-separators : goal.grow_ways-requires-clause-separators
