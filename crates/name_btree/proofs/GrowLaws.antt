@@ -33,7 +33,7 @@ use Rattle.name_btree.proofs.TakeLaws.{takes_then}
 
 -- ---- a page that is to be spare
 
-differs : (p q : ℕ) → (p == q) ≡ false → p ≡ q → ⊥
+pub differs : (p q : ℕ) → (p == q) ≡ false → p ≡ q → ⊥
 differs p q apart e = let yes = same_itself q in let never : (q == q) ≡ false = ap (λ (n : ℕ). n == q) (sym e) ∙ apart in cc
 
 pub draft_frees : (step : Step) (d new : Draft) (page : ℕ) → new.sheets.items ≡ d.sheets.items → new.freed.items ≡ d.freed.items ++ page ∷ [] → IsDraft step d → MayGo step page → contains d.freed.items page ≡ false → IsDraft step new

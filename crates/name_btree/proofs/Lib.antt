@@ -20,5 +20,6 @@ mod SetLaws
 mod StepLaws
 mod TakeLaws
 pub mod TopLaws
+mod TreeGrowthLaws
 pub mod WalkLaws
 mod WaysGrowthLaws

@@ -8,8 +8,8 @@ use Rattle.fsd_formats.specs.declared.page.Separator.{Separator}
 use Rattle.fsd_formats.specs.NamePage.{Content, Leaf, Interior, is_entry, entry_bytes, are_ascending, least_used, least_separators, FitsSeparator}
 use Rattle.fsd_table.specs.declared.child.Child.{Child}
 use Rattle.fsd_table.specs.Pages.{page_at, below, entry_keys, separator_keys}
-use Rattle.fsd_table.specs.Tree.{entries_below, pages_below, IsSubtree}
-use Rattle.fsd_forest.specs.Forest.{Stay, Becomes}
+use Rattle.fsd_table.specs.Tree.{entries_below, pages_below, pages_of, IsSubtree, IsTree}
+use Rattle.fsd_forest.specs.Forest.{Stay, Becomes, TreeBecomes}
 use Rattle.fsd_forest.specs.Parts.{left_part, right_part}
 use Rattle.name_node.specs.Edits.{with_entry}
 use Rattle.name_node.specs.Lookups.{entry_with, is_after}
@@ -175,3 +175,12 @@ pub record Grows (e : Entry) (old new : Step) (pages after : List (List ℕ)) (l
 -- no entry can be put in below the child
 abbrev pub BreaksGrowth : Entry → List (List ℕ) → (levels : ℕ) → Child → ℕ → Type 0
 BreaksGrowth e pages levels c page = (level : ℕ) → level ≤ levels → IsBranch pages level c → entry_with e.key (entries_below level pages c) ≡ None → ⊥
+
+-- ---- the whole
+
+-- the drafted pages are a tree with an entry more
+pub record Inserts (e : Entry) (old new : Step) (pages after : List (List ℕ)) : Type 0 where
+  pub came : List ℕ
+  pub few : length came ≤ 7
+  pub takes : Takes old new came
+  pub tree : (height : ℕ) → IsTree pages height → AreUsed old (pages_of pages height) → TreeBecomes (with_entry e) pages after came [] height

@@ -7,7 +7,7 @@ ghost use Rattle.fsd_table.specs.Pages.{page_at, keys_fit, entry_keys};
 ghost use Rattle.fsd_table.specs.Tree.{IsTree, table_of};
 ghost use Rattle.name_btree.specs.Draft.{drafted, AreSheets, IsDraft, images_of};
 ghost use Rattle.name_btree.specs.Fault.{HasCause, BreaksTree};
-ghost use Rattle.name_btree.specs.Grown.{most_parted, most_taken, IsGrown, IsAboveGrown, IsSound, IsDivided, Grows, BreaksGrowth};
+ghost use Rattle.name_btree.specs.Grown.{most_parted, most_taken, IsGrown, IsAboveGrown, IsSound, IsDivided, Grows, Inserts, BreaksGrowth};
 ghost use Rattle.name_node.specs.Lookups.{entry_with};
 ghost use Rattle.name_page.specs.Pages.{reaches, changes, is_spare, IsReached};
 
@@ -43,11 +43,34 @@ pub fn insert<T: Pages>(
 }
 
 // Puts an entry into the drafted pages.
-fn insert_in<T: Pages>(t: &mut T, draft: &mut Draft, entry: &Entry) -> Result<(), TreeFault> {
-    if let Grown::Parted(left, separator) = insert_below(t, draft, &top(), entry, 5)? {
-        draft.put_ways(t, 0, left, &[separator]);
+fn insert_in<T: Pages>(t: &mut T, draft: &mut Draft, entry: &Entry) -> Result<(), TreeFault>
+    requires more { 6 ≤ reaches (T.step t.old) }
+    requires promised { 7 ≤ (T.step t.old).promised }
+    requires changes { 7 ≤ changes (T.step t.old) }
+    requires room { length draft.old.sheets.items ≤ 26 }
+    requires draft { IsDraft (T.step t.old) draft.old }
+    requires entry { is_entry entry.now ≡ true }
+    requires fits { FitsEntry entry.now }
+    requires new { (height : ℕ) → IsTree (images_of draft.old (T.step t.old)) height → entry_with entry.now.key (table_of (images_of draft.old (T.step t.old)) height) ≡ None }
+    ensures images { (T.step t.new).images ≡ (T.step t.old).images }
+    ensures step { (T.step t.new).most_reached ≡ (T.step t.old).most_reached }
+    ensures most { (T.step t.new).most_changed ≡ (T.step t.old).most_changed }
+    ensures reaches { reaches (T.step t.old) ≤ reaches (T.step t.new) + 6 }
+    ensures spares { OnErr result ((T.step t.new).spares ≡ (T.step t.old).spares) }
+    ensures changed { OnErr result ((T.step t.new).changed ≡ (T.step t.old).changed) }
+    ensures draft { OnOk result (IsDraft (T.step t.new) draft.new) }
+    ensures room { OnOk result (length draft.new.sheets.items ≤ length draft.old.sheets.items + 13) }
+    ensures freed { OnOk result (draft.new.freed.items ≡ draft.old.freed.items) }
+    ensures inserted { OnOk result (Inserts entry.now (T.step t.old) (T.step t.new) (images_of draft.old (T.step t.old)) (images_of draft.new (T.step t.new))) }
+    ensures fault { IfErr result (HasCause (T.step t.new).refusal (BreaksTree (images_of draft.old (T.step t.old)))) }
+{
+    match insert_below(t, draft, &top(), entry, 5)? {
+        Grown::Whole => Ok(()),
+        Grown::Parted(left, separator) => {
+            draft.put_ways(t, 0, left, &[separator]);
+            Ok(())
+        }
     }
-    Ok(())
 }
 
 // Puts an entry in below a child, so many levels at most above the leaves.
