@@ -10,6 +10,7 @@ mod KeepLaws
 pub mod LastLaws
 mod LeafGrowthLaws
 mod LevelLaws
+mod MapLaws
 pub mod MarkLaws
 pub mod NextLaws
 mod PathLaws

@@ -1,12 +1,13 @@
 -- Pages that are taken one after another.
 use Rattle.std.proofs.Common.{◌≡◌, ℕ, zero, suc, ◌+◌, ◌<◌, ◌≤◌, Bool, true, false, cond, not, ◌&&◌, ◌||◌, List, [], ◌∷◌, ◌++◌, length, get_or, refl, sym, ap, subst, ◌∙◌, arith, length-append, get_or-set_other}
-use Rattle.std.specs.Prelude.{◌==◌, IsSome, slice_set}
+use Rattle.std.specs.Prelude.{◌==◌, IsSome, slice_set, count_by}
 use Rattle.std.specs.List.{AllByRecursion}
 use Rattle.std.proofs.lemmas.List.Folds.{list_any-append}
+use Rattle.std.proofs.lemmas.List.Sums.{sum_by-cons}
 use Rattle.run_table.specs.Space.{contains, all_differ}
 use Rattle.fsd_formats.specs.NamePage.{read_page}
 use Rattle.fsd_table.proofs.BoundLaws.{all_append, all_weaker}
-use Rattle.name_page.specs.Pages.{Step, is_spare, changes, with_taken, IsReached}
+use Rattle.name_page.specs.Pages.{Step, is_spare, changes, free_count, with_taken, IsReached}
 use Rattle.name_btree.specs.declared.draft.Draft.{Draft}
 use Rattle.name_btree.specs.declared.draft.Sheet.{Sheet}
 use Rattle.name_btree.specs.Draft.{IsSheet, AreSheets, MayGo, IsDraft, IsTaken}
@@ -54,6 +55,26 @@ still_used : (b x : Bool) → b ≡ false → (b && not x) ≡ false
 still_used true x e = absurd cc
 still_used false x e = refl
 
+abbrev one_of : Bool → ℕ
+one_of b = cond b 1 0
+
+count_cons : (b : Bool) (spares : List Bool) → count_by (λ spare. spare) (b ∷ spares) ≡ one_of b + count_by (λ spare. spare) spares
+count_cons b spares = sum_by-cons (λ (t : Bool). cond t 1 0) b spares
+
+at_most_one : (b : Bool) → one_of b ≤ 1
+at_most_one true = omega arith
+at_most_one false = omega arith
+
+pub one_less : (spares : List Bool) (page : ℕ) → count_by (λ spare. spare) spares ≤ count_by (λ spare. spare) (slice_set spares page false) + 1
+one_less [] page = omega arith
+one_less (b ∷ spares) zero = omega (arith, count_cons b spares, count_cons false spares, at_most_one b)
+one_less (b ∷ spares) (suc page) = omega (arith, one_less spares page, count_cons b spares, count_cons b (slice_set spares page false))
+
+pub one_more : (spares : List Bool) (page : ℕ) → count_by (λ spare. spare) spares ≤ count_by (λ spare. spare) (slice_set spares page true)
+one_more [] page = omega arith
+one_more (b ∷ spares) zero = omega (arith, count_cons b spares, count_cons true spares, at_most_one b)
+one_more (b ∷ spares) (suc page) = omega (arith, one_more spares page, count_cons b spares, count_cons b (slice_set spares page true))
+
 -- ---- one page, none, or more
 
 taken_once : (step : Step) (page : ℕ) → is_spare step.spares page ≡ true → IsTaken step (with_taken page step) (page ∷ [])
@@ -66,6 +87,7 @@ takes_one step page spare promised reached = record {
   most_changed = refl;
   promised = omega arith;
   changes = taken_changes step page;
+  free = one_less step.spares page;
   taken = taken_once step page spare;
   reached = λ q h. taken_kept step page q h;
   own = (reached, tt);
@@ -89,6 +111,7 @@ takes_none old new images spares most still kept = record {
   most_changed = still.most_changed;
   promised = omega (arith, still.promised);
   changes = same_changes old new still;
+  free = omega (arith, ap (count_by (λ spare. spare)) spares);
   taken = record { spare = tt; apart = refl; spares = λ q. same_spares old.spares new.spares q spares };
   reached = kept;
   own = tt;
@@ -126,6 +149,7 @@ takes_then a b c xs ys s t = record {
   most_changed = t.most_changed ∙ s.most_changed;
   promised = omega (arith, s.promised, t.promised, length-append xs ys);
   changes = more (changes a) (changes b) (changes c) (length xs) (length ys) (length (xs ++ ys)) s.changes t.changes (length-append xs ys);
+  free = more (free_count a) (free_count b) (free_count c) (length xs) (length ys) (length (xs ++ ys)) s.free t.free (length-append xs ys);
   taken = taken_then a b c xs ys s.taken t.taken;
   reached = λ q h. t.reached q (s.reached q h);
   own = all_append (IsReached c) xs ys (all_weaker (IsReached b) (IsReached c) xs (λ q h. t.reached q h) s.own) t.own;

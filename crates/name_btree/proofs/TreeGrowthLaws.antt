@@ -27,8 +27,8 @@ use Rattle.name_btree.specs.declared.fault.TreeFault.TheVariants.{Pages, Broken}
 use Rattle.name_btree.specs.declared.growing.Grown.{Grown}
 use Rattle.name_btree.specs.declared.growing.Grown.TheVariants.{Whole, Parted}
 use Rattle.name_btree.specs.Draft.{drafted, AreSheets, IsDraft, IsDrafted, IsTaken}
-use Rattle.name_btree.specs.Fault.{HasCause, BreaksTree}
-use Rattle.name_btree.specs.Grown.{Takes, parts_of, IsFull, IsBranch, AreUsed, BranchBecomes, Grows, Inserts, BreaksGrowth}
+use Rattle.name_btree.specs.Fault.{HasCause}
+use Rattle.name_btree.specs.Grown.{Takes, parts_of, IsFull, IsBranch, AreUsed, BranchBecomes, Grows, Inserts, BreaksGrowth, BreaksNew}
 use Rattle.name_btree.proofs.BranchLaws.{taken_apart, becomes_by}
 use Rattle.name_btree.proofs.GrowLaws.{differs}
 use Rattle.name_btree.proofs.ReachLaws.{same_itself}
@@ -42,10 +42,9 @@ branch_of pages height tree = record { subtree = tree.subtree; apart = tree.apar
 low_levels : (pages : List (List ℕ)) (height : ℕ) → IsTree pages height → height - 1 ≤ 5
 low_levels pages height tree = omega (arith, tree.least, tree.most)
 
-pub fault_tree : (given : Option Refusal) (fault : TreeFault) (e : Entry) (pages : List (List ℕ)) → ((height : ℕ) → IsTree pages height → entry_with e.key (table_of pages height) ≡ None) → HasCause given (BreaksGrowth e pages 5 top) fault
-    → HasCause given (BreaksTree pages) fault
-fault_tree given (Pages refusal) e pages new h = h
-fault_tree given (Broken page) e pages new h = λ height tree. h (height - 1) (low_levels pages height tree) (branch_of pages height tree) (new height tree)
+pub fault_new : (given : Option Refusal) (fault : TreeFault) (e : Entry) (pages : List (List ℕ)) → HasCause given (BreaksGrowth e pages 5 top) fault → HasCause given (BreaksNew e pages) fault
+fault_new given (Pages refusal) e pages h = h
+fault_new given (Broken page) e pages h = λ height tree none. h (height - 1) (low_levels pages height tree) (branch_of pages height tree) none
 
 -- a full root leaves room for one level more
 room_above : (pages : List (List ℕ)) (height : ℕ) (left : ℕ) (s : Separator) → IsTree pages height → length pages ≤ 4096 → IsFull (page_at pages 0) (Parted left s) → height < max_height

@@ -8,12 +8,12 @@ use Rattle.fsd_formats.specs.declared.page.Separator.{Separator}
 use Rattle.fsd_formats.specs.NamePage.{Content, Leaf, Interior, is_entry, entry_bytes, are_ascending, least_used, least_separators, FitsSeparator}
 use Rattle.fsd_table.specs.declared.child.Child.{Child}
 use Rattle.fsd_table.specs.Pages.{page_at, below, entry_keys, separator_keys}
-use Rattle.fsd_table.specs.Tree.{entries_below, pages_below, pages_of, IsSubtree, IsTree}
+use Rattle.fsd_table.specs.Tree.{entries_below, pages_below, pages_of, table_of, IsSubtree, IsTree}
 use Rattle.fsd_forest.specs.Forest.{Stay, Becomes, TreeBecomes}
 use Rattle.fsd_forest.specs.Parts.{left_part, right_part}
 use Rattle.name_node.specs.Edits.{with_entry}
 use Rattle.name_node.specs.Lookups.{entry_with, is_after}
-use Rattle.name_page.specs.Pages.{Step, changes, is_spare, IsReached}
+use Rattle.name_page.specs.Pages.{Step, changes, free_count, is_spare, IsReached}
 use Rattle.name_btree.specs.declared.draft.Sheet.{Sheet}
 use Rattle.name_btree.specs.declared.growing.Grown.{Grown}
 use Rattle.name_btree.specs.declared.growing.Grown.TheVariants.{Whole, Parted}
@@ -28,6 +28,7 @@ pub record Takes (old new : Step) (came : List ℕ) : Type 0 where
   pub most_changed : new.most_changed ≡ old.most_changed
   pub promised : old.promised ≤ new.promised + length came
   pub changes : changes old ≤ changes new + length came
+  pub free : free_count old ≤ free_count new + length came
   pub taken : IsTaken old new came
   pub reached : (q : ℕ) → IsReached old q → IsReached new q
   pub own : AllByRecursion (IsReached new) came
@@ -175,6 +176,10 @@ pub record Grows (e : Entry) (old new : Step) (pages after : List (List ℕ)) (l
 -- no entry can be put in below the child
 abbrev pub BreaksGrowth : Entry → List (List ℕ) → (levels : ℕ) → Child → ℕ → Type 0
 BreaksGrowth e pages levels c page = (level : ℕ) → level ≤ levels → IsBranch pages level c → entry_with e.key (entries_below level pages c) ≡ None → ⊥
+
+-- the pages are no tree in which the key of an entry is new
+abbrev pub BreaksNew : Entry → List (List ℕ) → ℕ → Type 0
+BreaksNew e pages page = (height : ℕ) → IsTree pages height → entry_with e.key (table_of pages height) ≡ None → ⊥
 
 -- ---- the whole
 

@@ -4,6 +4,7 @@ pub mod Draft
 pub mod Fault
 pub mod Grown
 pub mod Level
+pub mod Map
 pub mod Replace
 pub mod Still
 pub mod Walk

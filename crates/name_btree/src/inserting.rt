@@ -1,15 +1,18 @@
 //! Putting entries in.
-ghost use Rattle.std.specs.Prelude.{◌≡◌, ◌+◌, ◌*◌, ◌<◌, ◌≤◌, ℕ, IfOk, IfErr, OnOk, OnErr, Some, None, length, take, drop, true, false};
+ghost use Rattle.std.specs.Prelude.{◌≡◌, ◌+◌, ◌*◌, ◌<◌, ◌≤◌, ℕ, ◌↔◌, IsTrue, IfOk, IfErr, OnOk, OnErr, Err, Some, None, [], length, take, drop, true, false};
 ghost use Rattle.fsd_formats.specs.NamePage.{Leaf, Interior, is_page, is_entry, FitsEntry};
 ghost use Rattle.fsd_forest.specs.Parts.{is_inside};
 ghost use Rattle.fsd_forest.specs.Ways.{child_between};
 ghost use Rattle.fsd_table.specs.Pages.{page_at, keys_fit, entry_keys};
 ghost use Rattle.fsd_table.specs.Tree.{IsTree, table_of};
 ghost use Rattle.name_btree.specs.Draft.{drafted, AreSheets, IsDraft, images_of};
-ghost use Rattle.name_btree.specs.Fault.{HasCause, BreaksTree};
-ghost use Rattle.name_btree.specs.Grown.{most_parted, most_taken, IsGrown, IsAboveGrown, IsSound, IsDivided, Grows, Inserts, BreaksGrowth};
+ghost use Rattle.name_btree.specs.Fault.{HasCause, HasSpareCause, BreaksTree};
+ghost use Rattle.name_btree.specs.Grown.{most_parted, most_taken, IsGrown, IsAboveGrown, IsSound, IsDivided, Grows, Inserts, BreaksGrowth, BreaksNew};
+ghost use Rattle.name_btree.specs.Map.{IsTable, HasTable, LeavesTree, without_all};
+ghost use Rattle.name_btree.specs.Still.{IsStill};
+ghost use Rattle.name_node.specs.Edits.{with_entry};
 ghost use Rattle.name_node.specs.Lookups.{entry_with};
-ghost use Rattle.name_page.specs.Pages.{reaches, changes, is_spare, IsReached};
+ghost use Rattle.name_page.specs.Pages.{reaches, changes, free_count, is_spare, IsReached};
 
 use crate::draft::Draft;
 use crate::fault::TreeFault;
@@ -29,16 +32,53 @@ pub fn insert<T: Pages>(
     t: &mut T,
     entry: &Entry,
     gone: &ArrayVec<Key, 2>,
-) -> Result<(), TreeFault> {
+) -> Result<(), TreeFault>
+    requires more { 80 ≤ reaches (T.step t.old) }
+    requires changes { 40 ≤ changes (T.step t.old) }
+    requires entry { IsTrue (is_entry entry.now) }
+    requires fits { FitsEntry entry.now }
+    requires new { (height : ℕ) → IsTree (T.step t.old).images height → entry_with entry.now.key (without_all gone.now.items (table_of (T.step t.old).images height)) ≡ None }
+    ensures images { OnErr result ((T.step t.new).images ≡ (T.step t.old).images) }
+    ensures spares { OnErr result ((T.step t.new).spares ≡ (T.step t.old).spares) }
+    ensures step { (T.step t.new).most_reached ≡ (T.step t.old).most_reached }
+    ensures most { (T.step t.new).most_changed ≡ (T.step t.old).most_changed }
+    ensures reaches { reaches (T.step t.old) ≤ reaches (T.step t.new) + 30 }
+    ensures changed { OnErr result ((T.step t.new).changed ≡ (T.step t.old).changed) }
+    ensures changes { changes (T.step t.old) ≤ changes (T.step t.new) + 36 }
+    ensures taken { free_count (T.step t.old) ≤ free_count (T.step t.new) + 7 }
+    ensures inserted { OnOk result ((height : ℕ) → IsTable (T.step t.old) height → HasTable (T.step t.new) (with_entry entry.now (without_all gone.now.items (table_of (T.step t.old).images height)))) }
+    ensures full { let free = free_count (T.step t.old) in (result ≡ Err (TreeFault.Pages (NameTableFull free))) ↔ (free < 8) }
+    ensures fault { IfErr result (HasSpareCause (T.step t.new).refusal (free_count (T.step t.old)) (BreaksTree (T.step t.old).images)) }
+{
     if let Err(refusal) = t.spare(8) {
         return Err(TreeFault::Pages(refusal));
     }
     let mut draft = Draft::new();
-    for key in gone.as_slice() {
-        remove_in(t, &mut draft, key)?;
-    }
+    remove_all(t, &mut draft, gone.as_slice())?;
     insert_in(t, &mut draft, entry)?;
     draft.commit(t);
+    Ok(())
+}
+
+// Takes the entries with some keys out of the pages.
+fn remove_all<T: Pages>(t: &mut T, draft: &mut Draft, gone: &[Key]) -> Result<(), TreeFault>
+    requires more { 24 ≤ reaches (T.step t.old) }
+    requires few { length gone.now ≤ 2 }
+    requires sheets { draft.old.sheets.items ≡ [] }
+    requires freed { draft.old.freed.items ≡ [] }
+    ensures images { (T.step t.new).images ≡ (T.step t.old).images }
+    ensures spares { (T.step t.new).spares ≡ (T.step t.old).spares }
+    ensures step { (T.step t.new).most_reached ≡ (T.step t.old).most_reached }
+    ensures reaches { reaches (T.step t.old) ≤ reaches (T.step t.new) + 24 }
+    ensures still { IsStill (T.step t.old) (T.step t.new) }
+    ensures draft { OnOk result (IsDraft (T.step t.new) draft.new) }
+    ensures room { OnOk result (length draft.new.sheets.items ≤ 16) }
+    ensures left { OnOk result (LeavesTree (T.step t.old).images draft.new gone.now) }
+    ensures fault { IfErr result (HasCause (T.step t.new).refusal (BreaksTree (T.step t.old).images)) }
+{
+    for key in gone {
+        remove_in(t, draft, key)?;
+    }
     Ok(())
 }
 
@@ -51,7 +91,6 @@ fn insert_in<T: Pages>(t: &mut T, draft: &mut Draft, entry: &Entry) -> Result<()
     requires draft { IsDraft (T.step t.old) draft.old }
     requires entry { is_entry entry.now ≡ true }
     requires fits { FitsEntry entry.now }
-    requires new { (height : ℕ) → IsTree (images_of draft.old (T.step t.old)) height → entry_with entry.now.key (table_of (images_of draft.old (T.step t.old)) height) ≡ None }
     ensures images { (T.step t.new).images ≡ (T.step t.old).images }
     ensures step { (T.step t.new).most_reached ≡ (T.step t.old).most_reached }
     ensures most { (T.step t.new).most_changed ≡ (T.step t.old).most_changed }
@@ -62,7 +101,7 @@ fn insert_in<T: Pages>(t: &mut T, draft: &mut Draft, entry: &Entry) -> Result<()
     ensures room { OnOk result (length draft.new.sheets.items ≤ length draft.old.sheets.items + 13) }
     ensures freed { OnOk result (draft.new.freed.items ≡ draft.old.freed.items) }
     ensures inserted { OnOk result (Inserts entry.now (T.step t.old) (T.step t.new) (images_of draft.old (T.step t.old)) (images_of draft.new (T.step t.new))) }
-    ensures fault { IfErr result (HasCause (T.step t.new).refusal (BreaksTree (images_of draft.old (T.step t.old)))) }
+    ensures fault { IfErr result (HasCause (T.step t.new).refusal (BreaksNew entry.now (images_of draft.old (T.step t.old)))) }
 {
     match insert_below(t, draft, &top(), entry, 5)? {
         Grown::Whole => Ok(()),
