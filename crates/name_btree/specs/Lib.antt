@@ -3,6 +3,9 @@ pub mod Descent
 pub mod Draft
 pub mod Fault
 pub mod Level
+pub mod Map
+pub mod Remove
 pub mod Replace
 pub mod Still
+pub mod Trim
 pub mod Walk
