@@ -8,6 +8,7 @@ pub mod LastLaws
 mod LevelLaws
 pub mod MarkLaws
 pub mod NextLaws
+pub mod PairLaws
 mod PathLaws
 mod ReachLaws
 mod ReplaceLaws

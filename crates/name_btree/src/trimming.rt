@@ -104,7 +104,7 @@ fn pair_with(ways: &Ways, i: u32, above: &Child) -> Pair
     ensures place { result.place ≡ i - 1 }
     ensures pair { IsPair above.now ways.now.0 ways.now.1 result }
 {
-    let place = if i == 0 { 0 } else { i - 1 };
+    let place = i.saturating_sub(1);
     Pair {
         place,
         left: child_at(ways, place, above).page,
