@@ -1,1 +1,10 @@
+pub mod CountLaws
+pub mod ForestLaws
+pub mod KeepLaws
+pub mod LowLaws
 pub mod PartLaws
+pub mod RiseLaws
+pub mod ShrinkLaws
+pub mod StepLaws
+pub mod TreeLaws
+pub mod WayLaws

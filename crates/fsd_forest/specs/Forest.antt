@@ -1,13 +1,13 @@
 -- What becomes of subtrees that stand side by side, as pages are changed: others stand in their place, with edited entries.
-use Rattle.std.specs.Prelude.{◌≡◌, ◌≤◌, ◌<◌, ◌+◌, ◌-◌, ℕ, zero, suc, true, false, List, [], ◌∷◌, ◌++◌, Option, Some, map, count_by, ◌==◌, ⊤}
+use Rattle.std.specs.Prelude.{◌≡◌, ◌+◌, ℕ, true, false, List, ◌++◌, Some, map, count_by, ◌==◌, ⊤}
 use Rattle.std.specs.List.{flat_map, AllByRecursion}
 use Rattle.run_table.specs.Space.{contains}
 use Rattle.fsd_bytes.specs.declared.key.Key.{Key}
 use Rattle.fsd_bytes.specs.Keys.{key_lt}
 use Rattle.fsd_formats.specs.declared.entry.Entry.{Entry}
 use Rattle.fsd_table.specs.declared.child.Child.{Child}
-use Rattle.fsd_table.specs.Pages.{page_at, children_of, entries_of}
-use Rattle.fsd_table.specs.Tree.{entries_below, pages_below, table_of, pages_of, IsLeaf, IsInterior, IsSubtree, IsTree}
+use Rattle.fsd_table.specs.Pages.{page_at, children_of}
+use Rattle.fsd_table.specs.Tree.{entries_below, pages_below, table_of, pages_of, IsInterior, IsSubtree, IsTree}
 
 -- ---- side by side
 

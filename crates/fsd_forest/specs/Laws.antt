@@ -1,5 +1,5 @@
 -- The laws of what becomes of subtrees.
-use Rattle.std.specs.Prelude.{◌≡◌, ◌≤◌, ◌<◌, ◌+◌, ◌-◌, ℕ, zero, suc, true, List, [], ◌∷◌, ◌++◌, Option, Some, None, length}
+use Rattle.std.specs.Prelude.{◌≡◌, ◌≤◌, ◌<◌, ◌-◌, ℕ, zero, suc, true, List, [], ◌∷◌, ◌++◌, Some, None, length}
 use Rattle.std.specs.List.{flat_map, AllByRecursion}
 use Rattle.run_table.specs.Space.{all_differ}
 use Rattle.fsd_bytes.specs.declared.key.Key.{Key}
@@ -7,10 +7,10 @@ use Rattle.fsd_formats.specs.declared.entry.Entry.{Entry}
 use Rattle.fsd_formats.specs.declared.page.Separator.{Separator}
 use Rattle.fsd_formats.specs.NamePage.{Interior}
 use Rattle.fsd_table.specs.declared.child.Child.{Child}
-use Rattle.fsd_table.specs.Pages.{page_at, children_of, entries_of}
+use Rattle.fsd_table.specs.Pages.{page_at, entries_of}
 use Rattle.fsd_table.specs.Table.{top, max_height}
 use Rattle.fsd_table.specs.Tree.{pages_of, IsLeaf, IsSubtree, IsTree}
-use Rattle.fsd_forest.specs.Forest.{heads, inner, forest_pages, Exchange, Keep, Stay, Disjoint, IsLocal, EndsUpTo, BeginsBehind, Becomes, IsAbove, TreeBecomes}
+use Rattle.fsd_forest.specs.Forest.{heads, inner, forest_pages, Exchange, Keep, Stay, IsLocal, EndsUpTo, BeginsBehind, Becomes, IsAbove, TreeBecomes}
 use Rattle.fsd_forest.specs.Parts.{left_part, right_part}
 
 -- where leaves stand in the place of leaves, the entries are those of the pages

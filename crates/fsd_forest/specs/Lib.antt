@@ -1,3 +1,5 @@
 pub mod Forest
 pub mod Laws
 pub mod Parts
+pub mod Steps
+pub mod Ways

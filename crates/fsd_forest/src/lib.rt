@@ -3,4 +3,4 @@
 
 mod laws;
 
-pub use laws::{pages_part_and_join};
+pub use laws::{forests_follow, pages_part_and_join, pages_step_up, trees_follow, ways_lead};
