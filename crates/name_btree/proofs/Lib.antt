@@ -7,6 +7,7 @@ mod KeepLaws
 pub mod LastLaws
 mod LevelLaws
 pub mod MarkLaws
+pub mod MendLaws
 pub mod NextLaws
 pub mod PairLaws
 mod PathLaws
@@ -15,4 +16,5 @@ mod ReplaceLaws
 pub mod ResultLaws
 mod SetLaws
 pub mod TopLaws
+pub mod TrimLaws
 pub mod WalkLaws

@@ -1,5 +1,5 @@
 -- Two children side by side, and the separators beside the one between them.
-use Rattle.std.proofs.Common.{◌≡◌, ◌⊎◌, inl, inr, ℕ, zero, suc, ◌+◌, ◌-◌, ◌<◌, ◌≤◌, Bool, true, false, not, ◌&&◌, List, [], ◌∷◌, ◌++◌, length, take, drop, Option, Some, refl, sym, ap, subst, ◌∙◌, cond, arith, length-append, take-append-drop, length-take, length-drop}
+use Rattle.std.proofs.Common.{◌≡◌, ◌⊎◌, inl, inr, ℕ, zero, suc, ◌+◌, ◌-◌, ◌<◌, ◌≤◌, Bool, true, false, not, ◌&&◌, List, [], ◌∷◌, ◌++◌, length, get_or, take, drop, Option, Some, refl, sym, ap, subst, ◌∙◌, cond, arith, length-append, take-append-drop, length-take, length-drop}
 use Rattle.std.specs.Prelude.{◌==◌, nat_lt, slice_get}
 use Rattle.std.specs.List.{list_all, AllByRecursion}
 use Rattle.std.proofs.lemmas.Bool.{and_parts, and_from}
@@ -13,8 +13,7 @@ use Rattle.fsd_table.specs.Pages.{children, keys_fit, not_below, below, separato
 use Rattle.fsd_table.proofs.BoundLaws.{all_append, ascend_tail, ascend_skip, later_fit}
 use Rattle.fsd_table.proofs.KeyLaws.{le_lt}
 use Rattle.name_btree.specs.declared.trimming.Pair.{Pair}
-use Rattle.name_btree.specs.Descent.{end_of}
-use Rattle.name_btree.specs.Level.{child_behind}
+use Rattle.fsd_forest.specs.Ways.{child_behind, end_of}
 use Rattle.name_btree.specs.Trim.{IsPair, beside, pair_fits, IsBetween, separators_joined, separators_shared}
 use Rattle.name_btree.proofs.WalkLaws.{child_later}
 use Rattle.name_node.proofs.ListLaws.{drop_at}
@@ -131,3 +130,19 @@ ascend_with first low high high2 (x ∷ []) s new behind a asc not_under under o
 ascend_with first low high high2 (x ∷ y ∷ front) s new behind a asc not_under under over =
     let parts = and_parts (key_lt x.key y.key) (are_ascending (separator_keys (y ∷ (front ++ s ∷ behind)))) asc in
     and_from (key_lt x.key y.key) (are_ascending (separator_keys (y ∷ (front ++ new ∷ behind)))) parts.0 (ascend_with x.child (Some x.key) high high2 (y ∷ front) s new behind a parts.1 not_under under over)
+
+-- ---- places
+
+pub at_place : {X : Type 0} (xs : List X) (i : ℕ) (d : X) → i < length xs → slice_get xs i ≡ Some (get_or xs i d)
+at_place [] i d h = absurd (omega arith)
+at_place (x ∷ xs) zero d h = refl
+at_place (x ∷ xs) (suc i) d h = at_place xs i d (omega arith)
+
+pub head_of : {X : Type 0} (xs : List X) (i : ℕ) (ys : List X) (d : X) → ys ≡ drop i xs → get_or xs i d ≡ get_or ys 0 d
+head_of {X = X} xs i ys d e = by xs i ∙ ap (λ zs. get_or zs 0 d) (sym e)
+  where
+    by : (xs : List X) (i : ℕ) → get_or xs i d ≡ get_or (drop i xs) 0 d
+    by [] zero = refl
+    by [] (suc i) = refl
+    by (x ∷ xs) zero = refl
+    by (x ∷ xs) (suc i) = by xs i

@@ -16,9 +16,8 @@ use Rattle.name_btree.specs.declared.draft.Sheet.{Sheet}
 use Rattle.name_btree.specs.declared.trimming.Pair.{Pair}
 use Rattle.name_btree.specs.declared.trimming.Trimmed.{Trimmed}
 use Rattle.name_btree.specs.declared.trimming.Trimmed.TheVariants.{Whole, Leaf, Interior}
-use Rattle.name_btree.specs.Descent.{end_of}
 use Rattle.name_btree.specs.Draft.{IsDrafted, images_of, with_freed}
-use Rattle.name_btree.specs.Level.{child_behind}
+use Rattle.fsd_forest.specs.Ways.{child_behind, end_of}
 
 -- ---- what a page may have, but for how much
 

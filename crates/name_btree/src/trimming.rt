@@ -235,9 +235,12 @@ fn put_interiors<T: Pages>(
         draft.put_ways(t, pair.left, first, list);
         return join_pair(t, draft, above, ways, pair);
     }
-    draft.put_ways(t, pair.left, first, &list[..cut]);
-    draft.put_ways(t, pair.right, list[cut].child, &list[cut + 1..]);
-    share_pair(t, draft, above, ways, pair, list[cut].key.copied())
+    let (front, _) = list.split_at(cut);
+    let (_, behind) = list.split_at(cut + 1);
+    let middle = &list[cut];
+    draft.put_ways(t, pair.left, first, front);
+    draft.put_ways(t, pair.right, middle.child, behind);
+    share_pair(t, draft, above, ways, pair, middle.key.copied())
 }
 
 // The entries of child `i` and of its neighbour, in order.
