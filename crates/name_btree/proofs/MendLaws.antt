@@ -7,7 +7,7 @@ use Rattle.fsd_bytes.specs.declared.key.Key.{Key}
 use Rattle.fsd_bytes.specs.Keys.{is_key, key_lt}
 use Rattle.fsd_formats.specs.declared.entry.Entry.{Entry}
 use Rattle.fsd_formats.specs.declared.page.Separator.{Separator}
-use Rattle.fsd_formats.specs.NamePage.{is_entry, are_ascending, least_used, FitsEntry, FitsSeparator}
+use Rattle.fsd_formats.specs.NamePage.{Interior, is_page, is_entry, are_ascending, least_used, FitsEntry, FitsSeparator}
 use Rattle.fsd_table.specs.declared.child.Child.{Child}
 use Rattle.fsd_table.specs.Pages.{children, keys_fit, not_below, below, entry_keys, separator_keys}
 use Rattle.fsd_table.proofs.KeyLaws.{not_below_more, below_less}
@@ -18,8 +18,9 @@ use Rattle.name_btree.specs.declared.trimming.Pair.{Pair}
 use Rattle.name_btree.specs.Draft.{MayGo, IsDraft}
 use Rattle.name_btree.specs.Trim.{used_by, AreEntries, AreWays, MayHave, IsOpened, AreFewEntries, AreFewWays, IsPair, pair_fits, entries_at, ways_at, first_at, right_at, is_behind}
 use Rattle.name_btree.proofs.DraftLaws.{sheets_kept}
-use Rattle.name_btree.proofs.PairLaws.{parts_at, left_child, right_child, AreSides, AtLeft, AtRight, low_same, high_is, key_inside}
-use Rattle.name_btree.proofs.TrimLaws.{separator_keys_append, entry_keys_append, fit_append, used_append, PageEntries, least_at, entries_touch, PageWays, ways_touch}
+use Rattle.name_node.proofs.PutLaws.{all_split}
+use Rattle.name_btree.proofs.PairLaws.{parts_at, left_child, right_child, AreSides, AtLeft, AtRight, low_same, high_is, key_inside, same_of}
+use Rattle.name_btree.proofs.TrimLaws.{separator_keys_append, entry_keys_append, fit_append, used_append, PageEntries, least_at, entries_touch, PageWays, page_ways, ways_touch, good_at, least_ways_at}
 
 -- ---- steps that only look
 
@@ -188,3 +189,34 @@ ways_are_at p first above xs pair is o i child neighbour sides lead few second o
         let under2 = subst (λ (h : Option Key). keys_fit (left_child above first xs pair is.between).low h (separator_keys others) ≡ true) high under in
         let ahead : is_behind is.between.key few ≡ true = subst (λ (b : Bool). is_behind is.between.key (cond b others few) ≡ true) e behind in
         subst Both (sym e) (both_ways p first above xs pair is o second lead others few b a.are under2 over good (fits lead a.are.first_below) ahead)
+
+-- ---- what is known of them where they are found
+
+pub ways_count : (i : ℕ) (key : Key) (lead : ℕ) (few : List Separator) (second : ℕ) (others : List Separator) → length (ways_at i key lead few second others) ≡ length few + length others + 1
+ways_count i key lead few second others = by (i == 0)
+  where
+    by : (b : Bool) → length (cond b (few ++ record { key = key; child = second } ∷ others) (others ++ record { key = key; child = lead } ∷ few)) ≡ length few + length others + 1
+    by true = length-append few (record { key = key; child = second } ∷ others) ∙ omega arith
+    by false = length-append others (record { key = key; child = lead } ∷ few) ∙ omega arith
+
+others_fit : (i : ℕ) (key : Key) (lead : ℕ) (few : List Separator) (second : ℕ) (others : List Separator) → AllByRecursion FitsSeparator (ways_at i key lead few second others) → AllByRecursion FitsSeparator others
+others_fit i key lead few second others = by (i == 0)
+  where
+    by : (b : Bool) → AllByRecursion FitsSeparator (cond b (few ++ record { key = key; child = second } ∷ others) (others ++ record { key = key; child = lead } ∷ few)) → AllByRecursion FitsSeparator others
+    by true a = (all_split FitsSeparator few (record { key = key; child = second } ∷ others) a).1.1
+    by false a = (all_split FitsSeparator others (record { key = key; child = lead } ∷ few) a).0
+
+pub ways_found : (p first : ℕ) (above : Child) (xs : List Separator) (pair : Pair) (is : IsPair above first xs pair) → IsOpened p above first xs → (i : ℕ) (child neighbour : Child) → AreSides above first xs pair is.between i child neighbour
+    → (lead : ℕ) (few : List Separator) (second : ℕ) (others : List Separator) → AreFewWays p child lead few → is_page neighbour.page p (Interior second others) ≡ true → keys_fit neighbour.low neighbour.high (separator_keys others) ≡ true
+    → p ≤ 4096 → (got : Separator) → slice_get xs pair.place ≡ Some got → FitsSeparator got → is_behind got.key (right_at i few others) ≡ true
+    → (lead2 : ℕ) (list : List Separator) → lead2 ≡ first_at i lead second → list ≡ ways_at i got.key lead few second others → AllByRecursion FitsSeparator list → AreBothWays p above first xs pair lead2 list
+ways_found p first above xs pair is o i child neighbour sides lead few second others a page fit small got at got_fits behind lead2 list lead_is list_is fits =
+    let same : is.between ≡ got = same_of is.between got (sym is.there ∙ at) in
+    let between_fits : FitsSeparator is.between = subst FitsSeparator (sym same) got_fits in
+    let all = others_fit i got.key lead few second others (subst (AllByRecursion FitsSeparator) list_is fits) in
+    let b = page_ways neighbour.page p second others page all in
+    let under : (q : ℕ) → q < p → FitsSeparator (record { key = is.between.key; child = q }) = λ q h. record { name = between_fits.name; version = between_fits.version; child = omega (arith, h, small) } in
+    let behind2 : is_behind is.between.key (right_at i few others) ≡ true = subst (λ (s : Separator). is_behind s.key (right_at i few others) ≡ true) (sym same) behind in
+    let both = ways_are_at p first above xs pair is o i child neighbour sides lead few second others a b.ways fit (good_at p first xs pair.place is.between o.ways is.there) under behind2 in
+    let list_is2 : list ≡ ways_at i is.between.key lead few second others = list_is ∙ ap (λ (s : Separator). ways_at i s.key lead few second others) (sym same) in
+    subst (λ (n : ℕ). AreBothWays p above first xs pair n list) (sym lead_is) (subst (AreBothWays p above first xs pair (first_at i lead second)) (sym list_is2) both)

@@ -21,7 +21,7 @@ use Rattle.name_node.proofs.PutLaws.{all_split}
 
 -- ---- the children at places
 
-same_of : {X : Type 0} (x y : X) → Some x ≡ Some y → x ≡ y
+pub same_of : {X : Type 0} (x y : X) → Some x ≡ Some y → x ≡ y
 same_of x y e = cc
 
 pub some_at : (xs : List Separator) (i : ℕ) → i < length xs → (s : Separator) × (slice_get xs i ≡ Some s)

@@ -293,3 +293,18 @@ separator_between above first xs pair list cut s some at asc fit =
     count_keys : (es : List Separator) → length (separator_keys es) ≡ length es
     count_keys [] = refl
     count_keys (e ∷ es) = ap suc (count_keys es)
+
+pub good_at : (p first : ℕ) (xs : List Separator) (i : ℕ) (s : Separator) → AreWays p first xs → slice_get xs i ≡ Some s → is_key s.key ≡ true
+good_at p first xs i s w at = (ways_parts p (take i xs) s (drop (i + 1) xs) (ap (all_below p) (sym (parts_at xs i s at)) ∙ w.below)).key
+
+pub least_ways_at : (page n : ℕ) → (page ≡ 0 → ⊥) → least_separators page ≤ n → 4 ≤ n
+least_ways_at page n some h = by (page == 0) refl h
+  where
+    by : (b : Bool) → (page == 0) ≡ b → cond b 1 4 ≤ n → 4 ≤ n
+    by true e h = absurd (some (eqb-true page 0 e))
+    by false e h = h
+
+pub least_of_page : (page p first : ℕ) (xs : List Separator) → (page ≡ 0 → ⊥) → is_page page p (Interior first xs) ≡ true → 4 ≤ length xs
+least_of_page page p first xs some e =
+    let outer = and_parts (all_below p xs && are_ascending (separator_keys xs) && nat_lt first p) (is_between (least_separators page) 9 (length xs)) e in
+    least_ways_at page (length xs) some (leb-true (least_separators page) (length xs) (and_parts (nat_le (least_separators page) (length xs)) (nat_le (length xs) 9) outer.1).0)
