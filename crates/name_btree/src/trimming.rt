@@ -1,5 +1,5 @@
 //! What is left in a page, which joins a neighbour or shares with it where it is too little for one.
-ghost use Rattle.std.specs.Prelude.{◌≡◌, ◌≢◌, ◌+◌, ◌-◌, ◌==◌, ◌<◌, ◌≤◌, ℕ, ◌∷◌, ◌++◌, OnOk, IfOk, IfErr, IfSome, Some, None, length, slice_get, true, false, if◌then◌else◌};
+ghost use Rattle.std.specs.Prelude.{◌≡◌, ◌≢◌, ◌+◌, ◌-◌, ◌==◌, ◌<◌, ◌≤◌, ℕ, List, ◌∷◌, ◌++◌, OnOk, IfOk, IfErr, IfSome, Some, None, length, slice_get, true, false, if◌then◌else◌};
 ghost use Rattle.std.specs.List.{AllByRecursion};
 ghost use Rattle.fsd_bytes.specs.Keys.{is_key};
 ghost use Rattle.fsd_formats.specs.NamePage.{is_page, FitsEntry, FitsSeparator};
@@ -475,6 +475,7 @@ fn put_on_top<T: Pages>(t: &T, draft: &mut Draft, node: &Node)
     requires top { MayHave (T.step t.now) 0 }
     requires some { node.now ≢ Free }
     requires page { (page : ℕ) × (is_page page (length (T.step t.now).images) (content_of node.now) ≡ true) }
+    requires there { (pages : List (List ℕ)) × (page : ℕ) × (page_at pages page ≡ Some (content_of node.now)) }
     ensures draft { IsDraft (T.step t.now) draft.new }
     ensures freed { draft.new.freed.items ≡ draft.old.freed.items }
     ensures put { IsDrafted (T.step t.now) draft.old.sheets.items draft.new.sheets.items 0 (content_of node.now) }
