@@ -1,3 +1,4 @@
+pub mod AboveLaws
 mod ChangeLaws
 pub mod DescentLaws
 mod DraftLaws

@@ -442,7 +442,7 @@ pub(crate) fn trim_above<T: Pages>(
     below: Trimmed,
 ) -> Result<Trimmed, TreeFault>
     requires more { 0 < reaches (T.step t.old) }
-    requires room { length draft.old.sheets.items ≤ 37 }
+    requires room { below ≢ Whole → length draft.old.sheets.items ≤ 37 }
     requires free { length draft.old.freed.items < 20 }
     requires draft { IsDraft (T.step t.old) draft.old }
     requires page { MayHave (T.step t.old) above.now.page }
