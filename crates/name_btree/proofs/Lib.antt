@@ -13,6 +13,7 @@ pub mod NextLaws
 pub mod PairLaws
 mod PathLaws
 mod ReachLaws
+pub mod RemoveLaws
 mod ReplaceLaws
 pub mod ResultLaws
 mod SetLaws
