@@ -72,6 +72,7 @@ put_left step old new p first above separators (Interior f list) w fit h = recor
   are = subst (λ (n : ℕ). AreWays p n list.items) (sym h.1) (subst (AreWays p first) (sym h.2) w);
   within = ap (λ (ys : List Separator). keys_fit above.low above.high (separator_keys ys)) h.2 ∙ fit;
   few = least_three above.page (length list.items) (subst (λ (ys : List Separator). length ys < least_separators above.page) (sym h.2) h.3);
+  fits = h.4;
 }
 
 put_sheets : (step : Step) (old new : List Sheet) (page first : ℕ) (separators : List Separator) (left : Trimmed) → AreWaysPut step old new page first separators left → (n levels : ℕ) → length old ≤ n + (levels + 1) → length new ≤ n + sheets_below (levels + 1) left

@@ -140,9 +140,9 @@ pub record AreBothWays (p : ℕ) (above : Child) (first : ℕ) (xs : List Separa
 
 both_ways : (p first : ℕ) (above : Child) (xs : List Separator) (pair : Pair) (is : IsPair above first xs pair) → IsOpened p above first xs → (lead second : ℕ) (ls rs : List Separator) → AreWays p lead ls → AreWays p second rs
     → keys_fit (left_child above first xs pair is.between).low (Some is.between.key) (separator_keys ls) ≡ true → keys_fit (Some is.between.key) (end_of above.high (drop (pair.place + 1) xs)) (separator_keys rs) ≡ true
-    → is_key is.between.key ≡ true → FitsSeparator (record { key = is.between.key; child = second }) → is_behind is.between.key rs ≡ true
+    → is_key is.between.key ≡ true → is_behind is.between.key rs ≡ true
     → AreBothWays p above first xs pair lead (ls ++ record { key = is.between.key; child = second } ∷ rs)
-both_ways p first above xs pair is o lead second ls rs a b under over good fits behind =
+both_ways p first above xs pair is o lead second ls rs a b under over good behind =
     let front : List Separator = take pair.place xs in
     let k : Key = is.between.key in
     let s : Separator = record { key = k; child = second } in
@@ -153,7 +153,7 @@ both_ways p first above xs pair is o lead second ls rs a b under over good fits 
     let inside = pair_inside p first above xs pair is o in
     let both = and_parts (not_below lowest k) (below highest k) inside in
     record {
-      are = ways_touch p lead second lowest highest ls k rs a b good fits under2 behind;
+      are = ways_touch p lead second lowest highest ls k rs a b good under2 behind;
       within = ap (keys_fit lowest highest) (separator_keys_append ls (s ∷ rs)) ∙ fit_append lowest highest (separator_keys ls) (separator_keys (s ∷ rs))
           ∙ and_from (keys_fit lowest highest (separator_keys ls)) (keys_fit lowest highest (separator_keys (s ∷ rs))) (fits_left lowest highest k (separator_keys ls) both.1 under2)
           (and_from (not_below lowest k && below highest k) (keys_fit lowest highest (separator_keys rs)) inside (fits_right lowest highest k (separator_keys rs) both.0 over));
@@ -161,9 +161,9 @@ both_ways p first above xs pair is o lead second ls rs a b under over good fits 
 
 pub ways_are_at : (p first : ℕ) (above : Child) (xs : List Separator) (pair : Pair) (is : IsPair above first xs pair) → IsOpened p above first xs → (i : ℕ) (child neighbour : Child) → AreSides above first xs pair is.between i child neighbour
     → (lead : ℕ) (few : List Separator) (second : ℕ) (others : List Separator) → AreFewWays p child lead few → AreWays p second others → keys_fit neighbour.low neighbour.high (separator_keys others) ≡ true
-    → is_key is.between.key ≡ true → ((q : ℕ) → q < p → FitsSeparator (record { key = is.between.key; child = q })) → is_behind is.between.key (right_at i few others) ≡ true
+    → is_key is.between.key ≡ true → is_behind is.between.key (right_at i few others) ≡ true
     → AreBothWays p above first xs pair (first_at i lead second) (ways_at i is.between.key lead few second others)
-ways_are_at p first above xs pair is o i child neighbour sides lead few second others a b fit good fits behind = by sides
+ways_are_at p first above xs pair is o i child neighbour sides lead few second others a b fit good behind = by sides
   where
     k : Key
     k = is.between.key
@@ -181,14 +181,14 @@ ways_are_at p first above xs pair is o i child neighbour sides lead few second o
         let high = high_is first above.low (Some is.between.key) (take pair.place xs) in
         let under2 = subst (λ (h : Option Key). keys_fit (left_child above first xs pair is.between).low h (separator_keys few) ≡ true) high under in
         let ahead : is_behind is.between.key others ≡ true = subst (λ (b : Bool). is_behind is.between.key (cond b others few) ≡ true) e behind in
-        subst Both (sym e) (both_ways p first above xs pair is o lead second few others a.are b under2 over good (fits second b.first_below) ahead)
+        subst Both (sym e) (both_ways p first above xs pair is o lead second few others a.are b under2 over good ahead)
     by (AtRight e at next) =
         let over = subst (Fit few) at a.within in
         let under = subst (Fit others) next fit in
         let high = high_is first above.low (Some is.between.key) (take pair.place xs) in
         let under2 = subst (λ (h : Option Key). keys_fit (left_child above first xs pair is.between).low h (separator_keys others) ≡ true) high under in
         let ahead : is_behind is.between.key few ≡ true = subst (λ (b : Bool). is_behind is.between.key (cond b others few) ≡ true) e behind in
-        subst Both (sym e) (both_ways p first above xs pair is o second lead others few b a.are under2 over good (fits lead a.are.first_below) ahead)
+        subst Both (sym e) (both_ways p first above xs pair is o second lead others few b a.are under2 over good ahead)
 
 -- ---- what is known of them where they are found
 
@@ -199,24 +199,14 @@ ways_count i key lead few second others = by (i == 0)
     by true = length-append few (record { key = key; child = second } ∷ others) ∙ omega arith
     by false = length-append others (record { key = key; child = lead } ∷ few) ∙ omega arith
 
-others_fit : (i : ℕ) (key : Key) (lead : ℕ) (few : List Separator) (second : ℕ) (others : List Separator) → AllByRecursion FitsSeparator (ways_at i key lead few second others) → AllByRecursion FitsSeparator others
-others_fit i key lead few second others = by (i == 0)
-  where
-    by : (b : Bool) → AllByRecursion FitsSeparator (cond b (few ++ record { key = key; child = second } ∷ others) (others ++ record { key = key; child = lead } ∷ few)) → AllByRecursion FitsSeparator others
-    by true a = (all_split FitsSeparator few (record { key = key; child = second } ∷ others) a).1.1
-    by false a = (all_split FitsSeparator others (record { key = key; child = lead } ∷ few) a).0
-
 pub ways_found : (p first : ℕ) (above : Child) (xs : List Separator) (pair : Pair) (is : IsPair above first xs pair) → IsOpened p above first xs → (i : ℕ) (child neighbour : Child) → AreSides above first xs pair is.between i child neighbour
     → (lead : ℕ) (few : List Separator) (second : ℕ) (others : List Separator) → AreFewWays p child lead few → is_page neighbour.page p (Interior second others) ≡ true → keys_fit neighbour.low neighbour.high (separator_keys others) ≡ true
-    → p ≤ 4096 → (got : Separator) → slice_get xs pair.place ≡ Some got → FitsSeparator got → is_behind got.key (right_at i few others) ≡ true
-    → (lead2 : ℕ) (list : List Separator) → lead2 ≡ first_at i lead second → list ≡ ways_at i got.key lead few second others → AllByRecursion FitsSeparator list → AreBothWays p above first xs pair lead2 list
-ways_found p first above xs pair is o i child neighbour sides lead few second others a page fit small got at got_fits behind lead2 list lead_is list_is fits =
+    → (got : Separator) → slice_get xs pair.place ≡ Some got → is_behind got.key (right_at i few others) ≡ true
+    → (lead2 : ℕ) (list : List Separator) → lead2 ≡ first_at i lead second → list ≡ ways_at i got.key lead few second others → AreBothWays p above first xs pair lead2 list
+ways_found p first above xs pair is o i child neighbour sides lead few second others a page fit got at behind lead2 list lead_is list_is =
     let same : is.between ≡ got = same_of is.between got (sym is.there ∙ at) in
-    let between_fits : FitsSeparator is.between = subst FitsSeparator (sym same) got_fits in
-    let all = others_fit i got.key lead few second others (subst (AllByRecursion FitsSeparator) list_is fits) in
-    let b = page_ways neighbour.page p second others page all in
-    let under : (q : ℕ) → q < p → FitsSeparator (record { key = is.between.key; child = q }) = λ q h. record { name = between_fits.name; version = between_fits.version; child = omega (arith, h, small) } in
+    let b = page_ways neighbour.page p second others page in
     let behind2 : is_behind is.between.key (right_at i few others) ≡ true = subst (λ (s : Separator). is_behind s.key (right_at i few others) ≡ true) (sym same) behind in
-    let both = ways_are_at p first above xs pair is o i child neighbour sides lead few second others a b.ways fit (good_at p first xs pair.place is.between o.ways is.there) under behind2 in
+    let both = ways_are_at p first above xs pair is o i child neighbour sides lead few second others a b.ways fit (good_at p first xs pair.place is.between o.ways is.there) behind2 in
     let list_is2 : list ≡ ways_at i is.between.key lead few second others = list_is ∙ ap (λ (s : Separator). ways_at i s.key lead few second others) (sym same) in
     subst (λ (n : ℕ). AreBothWays p above first xs pair n list) (sym lead_is) (subst (AreBothWays p above first xs pair (first_at i lead second)) (sym list_is2) both)

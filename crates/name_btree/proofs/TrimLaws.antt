@@ -103,13 +103,11 @@ below_from p xs s ys a key child b =
 pub ways_without : (p first : ℕ) (xs : List Separator) (s : Separator) (ys : List Separator) → AreWays p first (xs ++ s ∷ ys) → AreWays p first (xs ++ ys)
 ways_without p first xs s ys w =
     let parts = ways_parts p xs s ys w.below in
-    let fits = all_split FitsSeparator xs (s ∷ ys) w.fits in
     record {
       below = list_all-append (λ s. is_key s.key && nat_lt s.child p) xs ys ∙ and_from (all_below p xs) (all_below p ys) parts.front parts.behind;
       ascend = ap are_ascending (separator_keys_append xs ys)
           ∙ ascend_without (separator_keys xs) s.key (separator_keys ys) (ap are_ascending (sym (separator_keys_append xs (s ∷ ys))) ∙ w.ascend);
       first_below = w.first_below;
-      fits = all_append FitsSeparator xs ys fits.0 fits.1.1;
     }
 
 pub ways_front : (p first : ℕ) (xs ys : List Separator) → AreWays p first (xs ++ ys) → AreWays p first xs
@@ -117,7 +115,6 @@ ways_front p first xs ys w = record {
   below = (and_parts (all_below p xs) (all_below p ys) (sym (list_all-append (λ s. is_key s.key && nat_lt s.child p) xs ys) ∙ w.below)).0;
   ascend = keys_front (separator_keys xs) (separator_keys ys) (ap are_ascending (sym (separator_keys_append xs ys)) ∙ w.ascend);
   first_below = w.first_below;
-  fits = (all_split FitsSeparator xs ys w.fits).0;
 }
 
 pub ways_behind : (p first : ℕ) (xs : List Separator) (s : Separator) (ys : List Separator) → AreWays p first (xs ++ s ∷ ys) → AreWays p s.child ys
@@ -127,7 +124,6 @@ ways_behind p first xs s ys w =
       below = parts.behind;
       ascend = ascend_tail s.key (separator_keys ys) (keys_behind (separator_keys xs) (separator_keys (s ∷ ys)) (ap are_ascending (sym (separator_keys_append xs (s ∷ ys))) ∙ w.ascend));
       first_below = parts.child;
-      fits = (all_split FitsSeparator xs (s ∷ ys) w.fits).1.1;
     }
 
 pub ways_page : (page p first : ℕ) (xs : List Separator) → AreWays p first xs → least_separators page ≤ length xs → length xs ≤ 9 → is_page page p (Interior first xs) ≡ true
@@ -141,14 +137,14 @@ pub record PageWays (page p first : ℕ) (xs : List Separator) : Type 0 where
   pub least : least_separators page ≤ length xs
   pub most : length xs ≤ 9
 
-pub page_ways : (page p first : ℕ) (xs : List Separator) → is_page page p (Interior first xs) ≡ true → AllByRecursion FitsSeparator xs → PageWays page p first xs
-page_ways page p first xs e fits =
+pub page_ways : (page p first : ℕ) (xs : List Separator) → is_page page p (Interior first xs) ≡ true → PageWays page p first xs
+page_ways page p first xs e =
     let outer = and_parts (all_below p xs && are_ascending (separator_keys xs) && nat_lt first p) (is_between (least_separators page) 9 (length xs)) e in
     let three = and_parts (all_below p xs && are_ascending (separator_keys xs)) (nat_lt first p) outer.0 in
     let two = and_parts (all_below p xs) (are_ascending (separator_keys xs)) three.0 in
     let count = and_parts (nat_le (least_separators page) (length xs)) (nat_le (length xs) 9) outer.1 in
     record {
-      ways = record { below = two.0; ascend = two.1; first_below = ltb-true first p three.1; fits = fits };
+      ways = record { below = two.0; ascend = two.1; first_below = ltb-true first p three.1 };
       least = leb-true (least_separators page) (length xs) count.0;
       most = leb-true (length xs) 9 count.1;
     }
@@ -173,15 +169,14 @@ pub joined_ways : (p first : ℕ) (above : Child) (xs : List Separator) (pair : 
 joined_ways p first above xs pair is w = ways_without p first (take pair.place xs) is.between (drop (pair.place + 1) xs) (subst (AreWays p first) (parts_at xs pair.place is.between is.there) w)
 
 pub shared_page : (p first : ℕ) (above : Child) (xs : List Separator) (pair : Pair) (key : Key) → IsOpened p above first xs → IsPair above first xs pair → is_key key ≡ true → pair.right < p
-    → FitsSeparator (record { key = key; child = pair.right }) → IsBetween above first xs pair key → is_page above.page p (Interior first (separators_shared xs pair key)) ≡ true
-shared_page p first above xs pair key o is good low fits between =
+    → IsBetween above first xs pair key → is_page above.page p (Interior first (separators_shared xs pair key)) ≡ true
+shared_page p first above xs pair key o is good low between =
     let front : List Separator = take pair.place xs in
     let behind : List Separator = drop (pair.place + 1) xs in
     let new : Separator = record { key = key; child = pair.right } in
     let w = subst (AreWays p first) (parts_at xs pair.place is.between is.there) o.ways in
     let parts = ways_parts p front is.between behind w.below in
     let count = split_count xs pair.place is.between new is.there in
-    let fit_all = all_split FitsSeparator front (is.between ∷ behind) w.fits in
     let lowest : Option Key = (child_behind first above.low front above.high).low in
     let highest : Option Key = end_of above.high behind in
     let under = and_parts (not_below lowest between.1) (below highest between.1) (and_parts (not_below lowest between.1 && below highest between.1) true between.2).0 in
@@ -190,7 +185,6 @@ shared_page p first above xs pair key o is good low fits between =
       below = below_from p front new behind parts.front good low parts.behind;
       ascend = ascend_with first above.low above.high above.high front is.between new behind between.1 w.ascend under.0 between.3 over.1;
       first_below = o.ways.first_below;
-      fits = all_append FitsSeparator front (new ∷ behind) fit_all.0 (fits, fit_all.1.1);
     } in
     ways_page above.page p first (front ++ new ∷ behind) ways (subst (λ (n : ℕ). least_separators above.page ≤ n) (sym count) o.least) (subst (λ (n : ℕ). n ≤ 9) (sym count) o.most)
 
@@ -254,15 +248,14 @@ entries_touch low high xs k ys a b under over = record {
   fits = all_append FitsEntry xs ys a.fits b.fits;
 }
 
-pub ways_touch : (p first second : ℕ) (low high : Option Key) (xs : List Separator) (k : Key) (ys : List Separator) → AreWays p first xs → AreWays p second ys → is_key k ≡ true → FitsSeparator (record { key = k; child = second })
+pub ways_touch : (p first second : ℕ) (low high : Option Key) (xs : List Separator) (k : Key) (ys : List Separator) → AreWays p first xs → AreWays p second ys → is_key k ≡ true
     → keys_fit low (Some k) (separator_keys xs) ≡ true → is_behind k ys ≡ true → AreWays p first (xs ++ record { key = k; child = second } ∷ ys)
-ways_touch p first second low high xs k ys a b good fits under over =
+ways_touch p first second low high xs k ys a b good under over =
     let s : Separator = record { key = k; child = second } in
     record {
       below = below_from p xs s ys a.below good b.first_below b.below;
       ascend = ap are_ascending (separator_keys_append xs (s ∷ ys)) ∙ keys_meet low high (separator_keys xs) k (separator_keys ys) a.ascend under (ahead ys b.ascend over);
       first_below = a.first_below;
-      fits = all_append FitsSeparator xs (s ∷ ys) a.fits (fits, b.fits);
     }
   where
     ahead : (ys : List Separator) → are_ascending (separator_keys ys) ≡ true → is_behind k ys ≡ true → are_ascending (k ∷ separator_keys ys) ≡ true

@@ -33,7 +33,6 @@ pub record AreWays (p first : ℕ) (separators : List Separator) : Type 0 where
   pub below : list_all (λ s. is_key s.key && nat_lt s.child p) separators ≡ true
   pub ascend : are_ascending (separator_keys separators) ≡ true
   pub first_below : first < p
-  pub fits : AllByRecursion FitsSeparator separators
 
 -- a page that may be written
 pub record MayHave (step : Step) (page : ℕ) : Type 0 where
@@ -58,6 +57,7 @@ pub record AreFewWays (p : ℕ) (c : Child) (first : ℕ) (separators : List Sep
   pub are : AreWays p first separators
   pub within : keys_fit c.low c.high (separator_keys separators) ≡ true
   pub few : length separators ≤ 3
+  pub fits : AllByRecursion FitsSeparator separators
 
 abbrev pub IsLeft : (p : ℕ) → Child → Trimmed → Type 0
 IsLeft p c Whole = ⊤
@@ -73,7 +73,7 @@ IsLeafPut step old new page entries (Interior first list) = ⊥
 abbrev pub AreWaysPut : Step → (old new : List Sheet) → ℕ → (first : ℕ) → List Separator → Trimmed → Type 0
 AreWaysPut step old new page first separators Whole = IsDrafted step old new page (grammar.Interior first separators)
 AreWaysPut step old new page first separators (Leaf list) = ⊥
-AreWaysPut step old new page first separators (Interior f list) = (new ≡ old) × (f ≡ first) × (list.items ≡ separators) × (length separators < least_separators page)
+AreWaysPut step old new page first separators (Interior f list) = (new ≡ old) × (f ≡ first) × (list.items ≡ separators) × (length separators < least_separators page) × AllByRecursion FitsSeparator list.items
 
 -- how many sheets more, where a child may be left over so many levels above the leaves
 abbrev pub sheets_below : ℕ → Trimmed → ℕ

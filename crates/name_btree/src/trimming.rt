@@ -77,6 +77,7 @@ fn trim_ways<T: Pages>(
     requires draft { IsDraft (T.step t.now) draft.old }
     requires page { MayHave (T.step t.now) page }
     requires ways { AreWays (length (T.step t.now).images) first separators.items }
+    requires fits { AllByRecursion FitsSeparator separators.items }
     requires most { length separators.items ≤ 9 }
     ensures draft { IsDraft (T.step t.now) draft.new }
     ensures freed { draft.new.freed.items ≡ draft.old.freed.items }
@@ -222,6 +223,7 @@ fn put_interiors<T: Pages>(
     requires ways { IsOpened (length (T.step t.now).images) above.now ways.now.0 ways.now.1 }
     requires pair { IsPair above.now ways.now.0 ways.now.1 pair }
     requires list { AreWays (length (T.step t.now).images) first list.now }
+    requires fits { AllByRecursion FitsSeparator list.now }
     requires least { 4 ≤ length list.now }
     requires front { 8 < length list.now → 4 ≤ cut }
     requires short { 8 < length list.now → cut ≤ 9 }

@@ -21,6 +21,7 @@ use Rattle.name_btree.proofs.DraftLaws.{drafted_length}
 use Rattle.name_btree.proofs.MendLaws.{draft_kept}
 use Rattle.name_btree.proofs.RemoveLaws.{misfit_below, leaf_most, leaf_left, leaf_trimmed}
 use Rattle.name_btree.proofs.ReplaceLaws.{few_in_leaf}
+use Rattle.name_btree.proofs.TrimLaws.{page_ways}
 use Rattle.name_btree.proofs.removing.+remove_below.Goals as goal
 
 pub returns-in_err-entries-clause-fault : goal.returns-in_err-entries-clause-fault
@@ -73,7 +74,17 @@ trim_above-requires-clause-room g t c some =
     room_left c.in_ok-trimmed-in-Interior.trimmed n (length c.remove_below.new.draft.sheets.items) levels c.in_ok-trimmed-in-Interior.ensures.sheets (omega arith) some
 
 pub trim_above-requires-clause-ways : goal.trim_above-requires-clause-ways
-trim_above-requires-clause-ways g t c = ?
+trim_above-requires-clause-ways g t c =
+    let old = g.T.Pages.step c.args.t.now in
+    let child = c.args.child.now in
+    let ways = c.in-Interior.ways in
+    let pages : List (List ℕ) = drafted c.args.draft.now.sheets.items old.images in
+    let at : page_at pages child.page ≡ Some (Interior ways.0 ways.1) = c.in_ok-entries.ensures.node ∙ ap (λ (n : Node). Some (content_of n)) c.in-Interior.is in
+    let fit = sym (ap (λ (n : Node). content_fits child.low child.high (Some (content_of n))) c.in-Interior.is) ∙ c.in_ok-entries.ensures.fits in
+    let has = page_ways child.page (length pages) ways.0 ways.1 (at_is_page pages child.page (Interior ways.0 ways.1) at) in
+    let count : length pages ≡ length (g.T.Pages.step c.remove_below.new.t).images =
+    drafted_length c.args.draft.now.sheets.items old.images ∙ ap (λ (x : List (List ℕ)). length x) (sym c.child_node.ensures.images ∙ sym c.remove_below.ensures.images) in
+    subst (λ (n : ℕ). IsOpened n child ways.0 ways.1) count (record { ways = has.ways; within = fit; least = has.least; most = has.most })
 
 pub returns-in-Leaf-clause-left : goal.returns-in-Leaf-clause-left
 returns-in-Leaf-clause-left g t c =
@@ -117,7 +128,22 @@ returns-in_ok-trimmed-in-Interior-clause-freed g t c =
     (λ left m. omega (arith, mended_freed step old new c.args.child.now ways.0 ways.1 c.ways_before-i.result below left m, c.in_ok-trimmed-in-Interior.ensures.freed)) c.trim_above.ensures.mended
 
 pub returns-in_ok-trimmed-in-Interior-clause-left : goal.returns-in_ok-trimmed-in-Interior-clause-left
-returns-in_ok-trimmed-in-Interior-clause-left g t c = ?
+returns-in_ok-trimmed-in-Interior-clause-left g t c =
+    let step = g.T.Pages.step c.trim_above.new.t in
+    let old = g.T.Pages.step c.args.t.now in
+    let draft = c.remove_below.new.draft in
+    let new = c.trim_above.new.draft in
+    let child = c.args.child.now in
+    let ways = c.in-Interior.ways in
+    let below = c.in_ok-trimmed-in-Interior.trimmed in
+    let pages : List (List ℕ) = drafted c.args.draft.now.sheets.items old.images in
+    let at : page_at pages child.page ≡ Some (Interior ways.0 ways.1) = c.in_ok-entries.ensures.node ∙ ap (λ (n : Node). Some (content_of n)) c.in-Interior.is in
+    let fit = sym (ap (λ (n : Node). content_fits child.low child.high (Some (content_of n))) c.in-Interior.is) ∙ c.in_ok-entries.ensures.fits in
+    let has = page_ways child.page (length pages) ways.0 ways.1 (at_is_page pages child.page (Interior ways.0 ways.1) at) in
+    let opened : IsOpened (length pages) child ways.0 ways.1 = record { ways = has.ways; within = fit; least = has.least; most = has.most } in
+    let o = subst (λ (n : ℕ). IsOpened n child ways.0 ways.1) (drafted_length c.args.draft.now.sheets.items old.images) opened in
+    ok_left c.trim_above.result (IsMended step draft new child ways.0 ways.1 c.ways_before-i.result below) (IsLeft (length old.images) child)
+    (λ left m. mended_left step draft new (length old.images) child ways.0 ways.1 c.ways_before-i.result below left o m) c.trim_above.ensures.mended
 
 pub returns-in_ok-trimmed-in-Interior-clause-trimmed : goal.returns-in_ok-trimmed-in-Interior-clause-trimmed
 returns-in_ok-trimmed-in-Interior-clause-trimmed g t c = ?

@@ -61,8 +61,8 @@ put_interiors-requires g c =
     let within = sym (ap (λ (n : Node). content_fits neighbour.low neighbour.high (Some (content_of n))) c.in-Interior.is) ∙ c.in_ok-others.ensures.fits in
     let is_list : list ≡ ways_at c.args.i c.get.result.key c.args.first few others.0 others.1 = c.as_slice-list.ensures.value ∙ c.in-Some.ensures.list in
     let fits = subst (AllByRecursion FitsSeparator) (sym c.as_slice-list.ensures.value) c.in-Some.ensures.fits in
-    let both = ways_found p ways.0 above ways.1 pair is c.requires.ways c.args.i child neighbour sides c.args.first few others.0 others.1 c.requires.few page within (g.met.T.Pages.small c.args.t.now)
-    c.get.result c.get.ensures.there c.get.ensures.fits c.in-Some.ensures.behind c.in-Some.joined.first list c.in-Some.ensures.first is_list fits in
+    let both = ways_found p ways.0 above ways.1 pair is c.requires.ways c.args.i child neighbour sides c.args.first few others.0 others.1 c.requires.few page within
+    c.get.result c.get.ensures.there c.in-Some.ensures.behind c.in-Some.joined.first list c.in-Some.ensures.first is_list in
     let count : 5 ≤ length list =
     omega (arith, ap length is_list, ways_count c.args.i c.get.result.key c.args.first few others.0 others.1, least_of_page neighbour.page p others.0 others.1 c.if-neighbour-ne0.true page) in
     let kept = c.child_node.ensures.kept in
@@ -79,6 +79,7 @@ put_interiors-requires g c =
       ways = search rules;
       pair = search rules;
       list = subst (λ (n : ℕ). AreWays n c.in-Some.joined.first list) (ap (λ (x : List (List ℕ)). length x) (sym c.child_node.ensures.images)) both.are;
+      fits = fits;
       least = omega (arith, count);
       front = search rules;
       short = search rules;

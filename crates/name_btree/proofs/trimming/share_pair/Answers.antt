@@ -11,4 +11,4 @@ put_ways-requires-clause-accepted g c =
     let ways = c.args.ways.now in
     ap (λ (first : ℕ). is_page page p (Interior first c.as_slice.result.now)) c.first.ensures
     ∙ ap (λ (xs : List Separator). is_page page p (Interior ways.0 xs)) (c.as_slice.ensures.value ∙ c.ways_replaced-separators.ensures.separators)
-    ∙ shared_page p ways.0 c.args.above.now ways.1 c.args.pair c.args.key c.requires.ways c.requires.pair c.requires.key c.requires.right.0 c.requires.fits c.requires.between
+    ∙ shared_page p ways.0 c.args.above.now ways.1 c.args.pair c.args.key c.requires.ways c.requires.pair c.requires.key c.requires.right.0 c.requires.between
