@@ -1,10 +1,11 @@
+pub mod AboveLaws
 mod BranchLaws
 mod ChangeLaws
 pub mod DescentLaws
 mod DraftLaws
 pub mod FindLaws
-pub mod HighestLaws
 mod GrowLaws
+pub mod HighestLaws
 mod InsertLaws
 mod KeepLaws
 pub mod LastLaws
@@ -12,9 +13,12 @@ mod LeafGrowthLaws
 mod LevelLaws
 mod MapLaws
 pub mod MarkLaws
+pub mod MendLaws
 pub mod NextLaws
+pub mod PairLaws
 mod PathLaws
 mod ReachLaws
+pub mod RemoveLaws
 mod ReplaceLaws
 pub mod ResultLaws
 mod SetLaws
@@ -22,5 +26,6 @@ mod StepLaws
 mod TakeLaws
 pub mod TopLaws
 mod TreeGrowthLaws
+pub mod TrimLaws
 pub mod WalkLaws
 mod WaysGrowthLaws

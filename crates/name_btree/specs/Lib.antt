@@ -5,6 +5,8 @@ pub mod Fault
 pub mod Grown
 pub mod Level
 pub mod Map
+pub mod Remove
 pub mod Replace
 pub mod Still
+pub mod Trim
 pub mod Walk
