@@ -84,14 +84,14 @@ left_more images now d d2 keys key same left removes height tree =
     let h = left height tree in
     let more = r h.height_after h.tree (gone_apart images d keys height tree h) in
     let went : List ℕ = more.0 in
-    let b = more.1.0 in
+    let b = more.1 in
     record {
       height_after = b.height_after;
       went = h.went ++ went;
       tree = b.tree;
       table = b.table ∙ ap (without key) h.table ∙ sym (without_more keys key (table_of images height));
       pages_are = λ p. omega (arith, b.pages_are p, h.pages_are p, count_append p h.went went, count_nothing p);
-      freed = λ page. more.1.1 page ∙ ap (λ (v : Bool). v || contains went page) (h.freed page) ∙ sym (list_any-append (λ t. t == page) h.went went);
+      freed = λ page. more.2 page ∙ ap (λ (v : Bool). v || contains went page) (h.freed page) ∙ sym (list_any-append (λ t. t == page) h.went went);
     }
 
 pub cleared_more : (old now new : Step) (d d2 : Draft) (keys : List Key) (key : Key) (n : ℕ) → IsCleared old now d keys n → new.images ≡ now.images → new.spares ≡ now.spares → new.most_reached ≡ now.most_reached → reaches now ≤ reaches new + 12

@@ -1,4 +1,4 @@
-use Rattle.std.proofs.Common.{◌≡◌, ◌∙◌, ◌≤◌, ◌+◌, ◌∷◌, [], ◌++◌, List, length, take, get_or, sym, ap, subst, arith}
+use Rattle.std.proofs.Common.{◌≡◌, ◌∙◌, ◌≤◌, ◌+◌, ◌∷◌, [], ◌++◌, List, length, take, sym, ap, subst, arith}
 use Rattle.std.proofs.lemmas.List.{take_more}
 use Rattle.fsd_bytes.specs.declared.key.Key.{Key}
 use Rattle.name_btree.specs.Map.{LeavesTree}
@@ -17,11 +17,11 @@ loop-key-preserved g c =
     let new = g.T.Pages.step c.remove_in.new.t in
     let i = c.loop-key.key-index in
     let keys = c.args.gone.now in
-    let none : Key = record { name = []; version = 0 } in
-    let key : Key = get_or keys i none in
+    let key : Key = c.key-item.result in
+    let more : take (i + 1) keys ≡ take i keys ++ key ∷ [] = take_more keys i key (omega arith) ∙ ap (λ (k : Key). take i keys ++ k ∷ []) (sym c.key-item.is) in
     let h = c.remove_in.ensures in
     let e = c.in_ok-remove_in.ensures in
-    subst (λ (ks : List Key). IsCleared old new c.remove_in.new.draft ks (i + 1)) (sym (take_more keys i none (omega arith)))
+    subst (λ (ks : List Key). IsCleared old new c.remove_in.new.draft ks (i + 1)) (sym more)
     (cleared_more old now new c.loop-key.draft c.remove_in.new.draft (take i keys) key i c.loop-key.invariant h.images h.spares h.step h.reaches h.changes e.draft e.sheets e.freed e.removed)
 
 pub returns-in_err-remove_in-clause-fault : goal.returns-in_err-remove_in-clause-fault
