@@ -22,6 +22,7 @@ pub mod RemoveLaws
 mod ReplaceLaws
 pub mod ResultLaws
 mod SetLaws
+mod SpareLaws
 mod StepLaws
 mod TakeLaws
 pub mod TopLaws

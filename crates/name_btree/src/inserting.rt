@@ -1,5 +1,6 @@
 //! Putting entries in.
 ghost use Rattle.std.specs.Prelude.{◌≡◌, ◌+◌, ◌*◌, ◌<◌, ◌≤◌, ℕ, ◌↔◌, IsTrue, IfOk, IfErr, OnOk, OnErr, Err, Some, None, [], length, take, drop, true, false};
+ghost use Rattle.fsd_bytes.specs.declared.refusal.Refusal.TheVariants.{NameTableFull};
 ghost use Rattle.fsd_formats.specs.NamePage.{Leaf, Interior, is_page, is_entry, FitsEntry};
 ghost use Rattle.fsd_forest.specs.Parts.{is_inside};
 ghost use Rattle.fsd_forest.specs.Ways.{child_between};
