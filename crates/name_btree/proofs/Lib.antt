@@ -1,5 +1,7 @@
 pub mod AboveLaws
 mod ChangeLaws
+pub mod AroundLaws
+pub mod CommitLaws
 pub mod DescentLaws
 mod DraftLaws
 pub mod FindLaws
@@ -13,6 +15,7 @@ pub mod NextLaws
 pub mod PairLaws
 mod PathLaws
 mod ReachLaws
+pub mod PutTreeLaws
 pub mod RemoveLaws
 mod ReplaceLaws
 pub mod ResultLaws
