@@ -1,6 +1,8 @@
 pub mod AboveLaws
 mod BranchLaws
 mod ChangeLaws
+pub mod AroundLaws
+pub mod CommitLaws
 pub mod DescentLaws
 mod DraftLaws
 pub mod FindLaws
@@ -18,6 +20,7 @@ pub mod NextLaws
 pub mod PairLaws
 mod PathLaws
 mod ReachLaws
+pub mod PutTreeLaws
 pub mod RemoveLaws
 mod ReplaceLaws
 pub mod ResultLaws
