@@ -75,15 +75,15 @@ told p xs = by (contains xs p) refl
     by false is = out_counts p xs is
 
 -- those that went are spare, and those that were and didn't come
-spare_then : (w a c n : Bool) (ws as cs ns : ℕ) → Tells w ws → Tells a as → Tells c cs → Tells n ns → ns + ws ≡ as + cs → as + cs ≤ 1 → (w || (not a && not c)) ≡ not n
-spare_then true a c true ws as cs ns tw ta tc tn e one = absurd (omega arith)
-spare_then true a c false ws as cs ns tw ta tc tn e one = refl
-spare_then false true c true ws as cs ns tw ta tc tn e one = refl
-spare_then false true c false ws as cs ns tw ta tc tn e one = absurd (omega arith)
-spare_then false false true true ws as cs ns tw ta tc tn e one = refl
-spare_then false false true false ws as cs ns tw ta tc tn e one = absurd (omega arith)
-spare_then false false false true ws as cs ns tw ta tc tn e one = absurd (omega arith)
-spare_then false false false false ws as cs ns tw ta tc tn e one = refl
+spare_then : (w a c n : Bool) (ws xs cs ns : ℕ) → Tells w ws → Tells a xs → Tells c cs → Tells n ns → ns + ws ≡ xs + cs → xs + cs ≤ 1 → (w || (not a && not c)) ≡ not n
+spare_then true a c true ws xs cs ns tw ta tc tn e one = absurd (omega arith)
+spare_then true a c false ws xs cs ns tw ta tc tn e one = refl
+spare_then false true c true ws xs cs ns tw ta tc tn e one = refl
+spare_then false true c false ws xs cs ns tw ta tc tn e one = absurd (omega arith)
+spare_then false false true true ws xs cs ns tw ta tc tn e one = refl
+spare_then false false true false ws xs cs ns tw ta tc tn e one = absurd (omega arith)
+spare_then false false false true ws xs cs ns tw ta tc tn e one = absurd (omega arith)
+spare_then false false false false ws xs cs ns tw ta tc tn e one = refl
 
 -- ---- the table
 
