@@ -52,17 +52,6 @@ draft_frees step d new page sheets freed is goes none = record {
 
 -- ---- one page, or two
 
--- what one sheet more leaves as it was
-pub grown_whole : (step : Step) (sheets after : List Sheet) (page : ℕ) (x : Content) → IsDrafted step sheets after page x → Takes step step [] → IsGrown step step sheets after page Whole
-grown_whole step sheets after page x d takes = record {
-  takes = takes;
-  few = omega (arith, d.one);
-  ready = d.sheets;
-  stay = λ q out. d.others q (λ e. differs page q (or_parts (page == q) false out).0 (sym e));
-  sound = tt;
-  place = tt;
-}
-
 -- a page that is taken last is none that is used
 pub record IsParted (a b c : Step) (s0 s1 s2 : List Sheet) (page left right : ℕ) (x y : Content) : Type 0 where
   pub front_takes : Takes a b (front_came page left)

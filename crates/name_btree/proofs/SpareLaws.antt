@@ -129,17 +129,3 @@ inserted_table old cleared last new d d2 e keys images spares left inserts same_
       };
       table_is = ap (λ (im : List (List ℕ)). table_of im b.height_after) images_new ∙ b.table ∙ ap (with_entry e) h.table;
     }
-
--- ---- faults
-
-pub remove_fault : (given : Option Refusal) (free : ℕ) (fault : TreeFault) (pages : List (List ℕ)) → HasCause given (BreaksTree pages) fault → HasSpareCause given free (BreaksTree pages) fault
-remove_fault given free (Pages refusal) pages h = (h.0, inl h.1)
-remove_fault given free (Broken page) pages h = h
-
-pub insert_fault : (given : Option Refusal) (free : ℕ) (fault : TreeFault) (old cleared : Step) (d : Draft) (e : Entry) (keys : List Key) → cleared.images ≡ old.images → LeavesTree old.images d keys
-    → ((height : ℕ) → IsTree old.images height → entry_with e.key (without_all keys (table_of old.images height)) ≡ None) → HasCause given (BreaksNew e (images_of d cleared)) fault → HasSpareCause given free (BreaksTree old.images) fault
-insert_fault given free (Pages refusal) old cleared d e keys images left new h = (h.0, inl h.1)
-insert_fault given free (Broken page) old cleared d e keys images left new h = λ height tree.
-    let breaks = subst (λ (im : List (List ℕ)). BreaksNew e (drafted d.sheets.items im) page) images h in
-    let after = left height tree in
-    breaks after.height_after after.tree (ap (entry_with e.key) after.table ∙ new height tree)

@@ -46,7 +46,6 @@ stay_less pages after xs ys less stay q out = stay q (counts_out q xs (none (cou
 stay_both : (pages between after : List (List ℕ)) (above : ℕ) (below came came2 : List ℕ) → Stay pages between (below ++ came) → Stay between after (above ∷ came2) → Stay pages after (above ∷ ((below ++ []) ++ (came ++ came2)))
 stay_both pages between after above below came came2 first second q out =
     let none = out_counts q (above ∷ ((below ++ []) ++ (came ++ came2))) out in
-
     second q (counts_out q (above ∷ came2) (omega (
       arith,
       none,

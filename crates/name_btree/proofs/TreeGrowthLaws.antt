@@ -42,10 +42,6 @@ branch_of pages height tree = record { subtree = tree.subtree; apart = tree.apar
 low_levels : (pages : List (List ℕ)) (height : ℕ) → IsTree pages height → height - 1 ≤ 5
 low_levels pages height tree = omega (arith, tree.least, tree.most)
 
-pub fault_new : (given : Option Refusal) (fault : TreeFault) (e : Entry) (pages : List (List ℕ)) → HasCause given (BreaksGrowth e pages 5 top) fault → HasCause given (BreaksNew e pages) fault
-fault_new given (Pages refusal) e pages h = h
-fault_new given (Broken page) e pages h = λ height tree none. h (height - 1) (low_levels pages height tree) (branch_of pages height tree) none
-
 -- a full root leaves room for one level more
 room_above : (pages : List (List ℕ)) (height : ℕ) (left : ℕ) (s : Separator) → IsTree pages height → length pages ≤ 4096 → IsFull (page_at pages 0) (Parted left s) → height < max_height
 room_above pages height left s tree small full = by (height - 1) refl tree.subtree (page_at pages 0) refl full

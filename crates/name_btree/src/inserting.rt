@@ -29,11 +29,7 @@ use name_node::{Cut, Entries, Node, Ways, entries_with, ways_before, ways_with};
 use name_page::Pages;
 
 /// Puts an entry in, whose key no entry has, and takes those with two keys at most out. It takes 7 pages at most.
-pub fn insert<T: Pages>(
-    t: &mut T,
-    entry: &Entry,
-    gone: &ArrayVec<Key, 2>,
-) -> Result<(), TreeFault>
+pub fn insert<T: Pages>(t: &mut T, entry: &Entry, gone: &ArrayVec<Key, 2>) -> Result<(), TreeFault>
     requires more { 80 ≤ reaches (T.step t.old) }
     requires changes { 40 ≤ changes (T.step t.old) }
     requires entry { IsTrue (is_entry entry.now) }

@@ -1,5 +1,4 @@
-use Rattle.std.proofs.Common.{◌≡◌, ◌∙◌, ap, List, ◌<◌, ◌^◌, arith}
-use Rattle.fsd_formats.specs.declared.entry.Entry.{Entry}
+use Rattle.std.proofs.Common.{◌<◌, ◌^◌, arith}
 use Rattle.fsd_formats.specs.NamePage.{Leaf}
 use Rattle.name_btree.proofs.TakeLaws.{sheets_over}
 use Rattle.name_btree.proofs.GrowLaws.{IsParted, HasLeaves, leaves_parted}

@@ -1,4 +1,4 @@
-use Rattle.std.proofs.Common.{◌≡◌, ◌∙◌, ap, sym, subst, List, length, take, drop, true, ◌&&◌, ◌<◌, ◌^◌, arith}
+use Rattle.std.proofs.Common.{◌≡◌, ◌∙◌, ap, subst, List, length, take, drop, ◌&&◌, ◌<◌, ◌^◌, arith}
 use Rattle.fsd_formats.specs.declared.page.Separator.{Separator}
 use Rattle.std.specs.Prelude.{nat_lt}
 use Rattle.std.specs.List.{list_all}
@@ -6,7 +6,6 @@ use Rattle.fsd_bytes.specs.Keys.{is_key}
 use Rattle.fsd_formats.specs.NamePage.{Interior, is_page, are_ascending}
 use Rattle.fsd_table.specs.Pages.{separator_keys}
 use Rattle.name_page.specs.Pages.{is_spare}
-use Rattle.name_btree.specs.declared.draft.Sheet.{Sheet}
 use Rattle.name_btree.specs.Draft.{IsDrafted}
 use Rattle.name_btree.proofs.TakeLaws.{sheets_over, taken_itself}
 use Rattle.name_btree.proofs.GrowLaws.{IsParted, HasInteriors, ways_parted, rest_of}

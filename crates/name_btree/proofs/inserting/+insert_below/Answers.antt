@@ -1,5 +1,5 @@
-use Rattle.std.proofs.Common.{◌≡◌, ◌∙◌, ◌-◌, ◌≤◌, ℕ, suc, List, [], Some, length, true, take, drop, sym, ap, subst, arith, rules}
-use Rattle.std.specs.Prelude.{IfOk, IfErr}
+use Rattle.std.proofs.Common.{◌≡◌, ◌∙◌, ◌-◌, ◌≤◌, ℕ, suc, List, Some, length, true, sym, ap, subst, arith, rules}
+use Rattle.std.specs.Prelude.{IfErr}
 use Rattle.std.proofs.lemmas.Result.{err_from_is_err_and}
 use Rattle.fsd_formats.specs.NamePage.{Leaf, Interior, is_page}
 use Rattle.fsd_forest.specs.Parts.{is_inside}
@@ -9,15 +9,13 @@ use Rattle.fsd_table.proofs.PageLaws.{at_is_page}
 use Rattle.name_page.specs.Pages.{changes}
 use Rattle.name_node.specs.declared.node.Node.{Node}
 use Rattle.name_node.specs.Node.{content_of}
-use Rattle.name_btree.specs.declared.fault.TreeFault.{TreeFault}
-use Rattle.name_btree.specs.declared.growing.Grown.{Grown}
 use Rattle.name_btree.specs.Draft.{drafted}
 use Rattle.name_btree.specs.Fault.{HasCause}
-use Rattle.name_btree.specs.Grown.{Takes, most_taken, IsDivided, Grows, BreaksGrowth}
+use Rattle.name_btree.specs.Grown.{most_taken, IsDivided, Grows, BreaksGrowth}
 use Rattle.name_btree.proofs.DraftLaws.{drafted_length}
 use Rattle.name_btree.proofs.StepLaws.{above_grows, few_above}
 use Rattle.name_btree.proofs.TakeLaws.{takes_none}
-use Rattle.name_btree.proofs.InsertLaws.{IsMiddle, middle_is, inside_middle, least_taken, fault_misfit, fault_below, zero_below, leaf_grows, leaf_fault, ok_grows, err_grows, grows_looked}
+use Rattle.name_btree.proofs.InsertLaws.{middle_is, inside_middle, least_taken, fault_misfit, fault_below, zero_below, leaf_grows, leaf_fault, ok_grows, err_grows, grows_looked}
 use Rattle.name_btree.proofs.inserting.+insert_below.Goals as goal
 
 pub returns-in_err-entries-clause-fault : goal.returns-in_err-entries-clause-fault

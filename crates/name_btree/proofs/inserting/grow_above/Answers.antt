@@ -1,11 +1,7 @@
-use Rattle.std.proofs.Common.{◌≡◌, ◌∙◌, ◌++◌, ◌∷◌, ℕ, List, Some, length, take, drop, true, ap, sym, subst}
-use Rattle.fsd_formats.specs.declared.page.Separator.{Separator}
-use Rattle.fsd_formats.specs.NamePage.{Interior, is_page}
+use Rattle.std.proofs.Common.{ℕ, length, take, drop, sym, subst}
 use Rattle.fsd_forest.specs.Ways.{child_between}
 use Rattle.name_btree.specs.Grown.{FitsTwoInteriors, IsSound, IsDivided}
-use Rattle.name_btree.specs.declared.growing.Grown.{Grown}
 use Rattle.name_btree.proofs.WaysGrowthLaws.{one_way_more}
-use Rattle.name_btree.proofs.InsertLaws.{grows_looked}
 use Rattle.name_btree.proofs.inserting.grow_above.Goals as goal
 
 pub grow_ways-requires-clause-separators : goal.grow_ways-requires-clause-separators

@@ -1,7 +1,5 @@
-use Rattle.std.proofs.Common.{◌≡◌, ◌∙◌, sym, List, None}
-use Rattle.std.specs.Option.{is_some}
+use Rattle.std.proofs.Common.{◌∙◌, sym}
 use Rattle.name_btree.specs.Draft.{drafted}
-use Rattle.name_node.specs.Lookups.{entry_with}
 use Rattle.name_btree.proofs.ReplaceLaws.{few_in_leaf}
 use Rattle.name_btree.proofs.LeafGrowthLaws.{none_if, with_fits_two, grows_leaf}
 use Rattle.name_btree.proofs.inserting.insert_here.Goals as goal

@@ -1,8 +1,6 @@
-use Rattle.std.proofs.Common.{◌≡◌, ◌∙◌, ◌≤◌, ◌∷◌, [], List, ℕ, Some, length, sym, ap, subst, arith}
+use Rattle.std.proofs.Common.{◌∙◌, ◌≤◌, length, subst, arith}
 use Rattle.fsd_table.specs.Table.{top}
 use Rattle.fsd_table.specs.declared.child.Child.{Child}
-use Rattle.name_btree.specs.declared.growing.Grown.{Grown}
-use Rattle.name_btree.specs.declared.growing.Grown.TheVariants.{Whole, Parted}
 use Rattle.name_btree.specs.Draft.{drafted}
 use Rattle.name_btree.specs.Grown.{Grows}
 use Rattle.name_btree.proofs.DraftLaws.{drafted_length}
