@@ -1,8 +1,8 @@
 -- What stands below a page, once one of its children has grown.
-use Rattle.std.proofs.Common.{◌≡◌, ℕ, zero, suc, ◌+◌, ◌<◌, ◌≤◌, Bool, true, false, cond, not, ◌&&◌, List, [], ◌∷◌, ◌++◌, length, take, drop, refl, sym, ap, subst, ◌∙◌, arith, Some, None, Option, length-append, take-append-drop, append_assoc, ◌||◌}
+use Rattle.std.proofs.Common.{◌≡◌, ℕ, suc, ◌+◌, Bool, true, false, cond, ◌&&◌, List, [], ◌∷◌, ◌++◌, take, drop, refl, sym, ap, subst, ◌∙◌, arith, Some, Option, take-append-drop, ◌||◌}
 use Rattle.std.specs.Prelude.{◌==◌, ⊤}
 use Rattle.std.specs.List.{flat_map, AllByRecursion}
-use Rattle.std.proofs.lemmas.Bool.{and_parts, or_parts}
+use Rattle.std.proofs.lemmas.Bool.{and_parts}
 use Rattle.std.proofs.lemmas.List.Concat.{flat_map-append}
 use Rattle.run_table.specs.Space.{contains, all_differ}
 use Rattle.fsd_bytes.specs.declared.key.Key.{Key}
@@ -14,14 +14,10 @@ use Rattle.fsd_table.specs.declared.child.Child.{Child}
 use Rattle.fsd_table.specs.Pages.{page_at, children, children_of, not_below, below, keys_fit, separator_keys}
 use Rattle.fsd_table.specs.Tree.{entries_below, pages_below, IsInterior, IsSubtree}
 use Rattle.fsd_table.proofs.BoundLaws.{all_weaker}
-use Rattle.fsd_table.proofs.PageLaws.{at_is_page, interior_ascends}
-use Rattle.fsd_forest.specs.Forest.{Stay, Keep, heads, inner, count_of, forest_pages, Exchange, IsLocal, Becomes, IsAbove}
+use Rattle.fsd_forest.specs.Forest.{inner, count_of, forest_pages, IsLocal, Becomes, IsAbove}
 use Rattle.fsd_forest.specs.Parts.{left_part, right_part}
 use Rattle.fsd_forest.specs.Ways.{children_before, children_from, child_between, StandsAt, IsUpTo, IsBehind}
-use Rattle.fsd_forest.proofs.CountLaws.{count_cons, count_append, count_nothing, there_counts, counts_out, differ_counts}
-use Rattle.fsd_forest.proofs.ForestLaws.{follows, remains}
 use Rattle.fsd_forest.proofs.PartLaws.{children_part, keys_parted}
-use Rattle.fsd_forest.proofs.StepLaws.{steps_up, page_sides_stay}
 use Rattle.fsd_forest.proofs.TreeLaws.{alone}
 use Rattle.fsd_forest.proofs.WayLaws.{children_around, children_parted}
 use Rattle.name_page.specs.Pages.{Step, is_spare}
@@ -31,17 +27,16 @@ use Rattle.name_node.specs.Lookups.{is_after}
 use Rattle.name_node.proofs.CutLaws.{greater}
 use Rattle.name_node.proofs.PutLaws.{all_split}
 use Rattle.name_node.proofs.SideLaws.{with_part}
-use Rattle.name_btree.specs.declared.draft.Sheet.{Sheet}
 use Rattle.name_btree.specs.declared.growing.Grown.{Grown}
 use Rattle.name_btree.specs.declared.growing.Grown.TheVariants.{Whole, Parted}
-use Rattle.name_btree.specs.Draft.{drafted, IsTaken}
-use Rattle.name_btree.specs.Grown.{came_of, went_of, parts_of, most_parted, most_taken, AreInteriorsOf, IsGrown, IsInPlace, IsAboveGrown, IsDivided, IsFull, IsBranch, AreUsed, BranchBecomes, Grows}
+use Rattle.name_btree.specs.Draft.{IsTaken}
+use Rattle.name_btree.specs.Grown.{went_of, parts_of, AreInteriorsOf, IsInPlace, IsAboveGrown, IsDivided, IsBranch, AreUsed}
 use Rattle.name_btree.specs.Level.{Disjoint}
 use Rattle.name_btree.specs.Change.{Within}
 use Rattle.name_btree.proofs.KeepLaws.{apart_from, false_by}
-use Rattle.name_btree.proofs.LeafGrowthLaws.{behind_low, came_few, heads_exchange}
+use Rattle.name_btree.proofs.LeafGrowthLaws.{behind_low}
 use Rattle.name_btree.proofs.ReachLaws.{apart_parts, equal, in_left, in_right, same_itself}
-use Rattle.name_btree.proofs.TakeLaws.{takes_then, each_in}
+use Rattle.name_btree.proofs.TakeLaws.{each_in}
 use Rattle.name_btree.proofs.WaysGrowthLaws.{between_ascends, between_fits}
 
 -- ---- an edit at a key

@@ -1,7 +1,7 @@
 -- A page that is given more than it had, and is parted where it is too much.
-use Rattle.std.proofs.Common.{◌≡◌, ℕ, zero, suc, ◌+◌, ◌-◌, ◌<◌, ◌≤◌, ◌^◌, Bool, true, false, cond, not, ◌&&◌, ◌||◌, List, [], ◌∷◌, ◌++◌, length, take, drop, refl, sym, ap, subst, ◌∙◌, arith, Some, length-append, take-append-drop}
+use Rattle.std.proofs.Common.{◌≡◌, ℕ, zero, suc, ◌-◌, ◌<◌, ◌≤◌, ◌^◌, Bool, true, false, cond, ◌&&◌, ◌||◌, List, [], ◌∷◌, ◌++◌, length, take, drop, refl, sym, ap, subst, ◌∙◌, arith, Some, take-append-drop}
 use Rattle.std.specs.Prelude.{◌==◌, slice_get, slice_index_or, nat_lt, nat_le}
-use Rattle.std.specs.List.{flat_map, list_all, AllByRecursion}
+use Rattle.std.specs.List.{list_all, AllByRecursion}
 use Rattle.std.proofs.lemmas.Bool.{and_parts, or_parts}
 use Rattle.std.proofs.lemmas.List.{length-drop}
 use Rattle.std.proofs.lemmas.List.Folds.{list_any-append, list_all-append}
@@ -12,20 +12,18 @@ use Rattle.fsd_bytes.specs.Keys.{is_key}
 use Rattle.fsd_bytes.specs.Names.{is_between, is_name, is_name_byte, max_name_len}
 use Rattle.fsd_formats.specs.declared.entry.Entry.{Entry}
 use Rattle.fsd_formats.specs.declared.page.Separator.{Separator}
-use Rattle.fsd_formats.specs.NamePage.{Content, Leaf, Interior, is_page, is_entry, max_keep, max_length, sectors_for, FitsEntry, FitsSeparator}
+use Rattle.fsd_formats.specs.NamePage.{Content, Leaf, Interior, is_entry, max_keep, max_length, sectors_for, FitsEntry, FitsSeparator}
 use Rattle.fsd_table.specs.Pages.{page_at}
 use Rattle.fsd_table.proofs.BoundLaws.{all_append}
-use Rattle.fsd_forest.specs.Forest.{Stay}
-use Rattle.name_page.specs.Pages.{Step, is_spare, with_one, IsReached}
+use Rattle.name_page.specs.Pages.{Step, is_spare, IsReached}
 use Rattle.name_page.proofs.LeafLaws.{between}
 use Rattle.name_node.proofs.ListLaws.{drop_at}
 use Rattle.name_node.proofs.PutLaws.{all_split}
 use Rattle.name_btree.specs.declared.draft.Draft.{Draft}
 use Rattle.name_btree.specs.declared.draft.Sheet.{Sheet}
-use Rattle.name_btree.specs.declared.growing.Grown.{Grown}
-use Rattle.name_btree.specs.declared.growing.Grown.TheVariants.{Whole, Parted}
+use Rattle.name_btree.specs.declared.growing.Grown.TheVariants.{Parted}
 use Rattle.name_btree.specs.Draft.{drafted, IsDraft, IsDrafted, MayGo}
-use Rattle.name_btree.specs.Grown.{Takes, front_came, came_of, IsBetween, IsGrown, ArePartsOf, AreWaysOf}
+use Rattle.name_btree.specs.Grown.{Takes, front_came, IsGrown, ArePartsOf, AreWaysOf}
 use Rattle.name_btree.specs.Level.{Disjoint}
 use Rattle.name_btree.proofs.KeepLaws.{apart_from, false_by}
 use Rattle.name_btree.proofs.ReachLaws.{equal, same_itself}

@@ -1,39 +1,36 @@
 -- An entry that is put into a leaf.
-use Rattle.std.proofs.Common.{◌≡◌, ℕ, zero, suc, ◌+◌, ◌*◌, ◌<◌, ◌≤◌, Bool, true, false, cond, not, ◌&&◌, List, [], ◌∷◌, ◌++◌, length, refl, sym, ap, subst, ◌∙◌, arith, Some, None, Option, length-append}
+use Rattle.std.proofs.Common.{◌≡◌, ℕ, zero, suc, ◌+◌, ◌*◌, ◌≤◌, Bool, true, false, cond, not, ◌&&◌, List, [], ◌∷◌, ◌++◌, length, refl, sym, ap, subst, ◌∙◌, arith, Some, None, Option, length-append}
 use Rattle.std.specs.Prelude.{◌==◌, nat_le}
 use Rattle.std.specs.List.{flat_map, list_all, AllByRecursion}
 use Rattle.std.specs.Option.{is_some}
 use Rattle.std.specs.Ordering.{is_gt, is_lt, is_eq}
 use Rattle.std.specs.declared.cmp.Ordering.{Ordering}
 use Rattle.std.specs.declared.cmp.Ordering.TheVariants as orders
-use Rattle.std.proofs.lemmas.Bool.{and_parts, and_from}
+use Rattle.std.proofs.lemmas.Bool.{and_parts}
 use Rattle.std.proofs.lemmas.List.Concat.{flat_map-append}
-use Rattle.run_table.specs.Space.{contains, all_differ}
 use Rattle.run_table.specs.RunTable.{are_runs, total, max_runs}
 use Rattle.fsd_bytes.specs.declared.key.Key.{Key}
 use Rattle.fsd_bytes.specs.Keys.{is_key, key_cmp, key_lt, same_key}
 use Rattle.fsd_bytes.specs.Names.{is_between, is_name, is_name_byte, max_name_len}
 use Rattle.fsd_formats.specs.declared.entry.Entry.{Entry}
-use Rattle.fsd_formats.specs.declared.page.Separator.{Separator}
-use Rattle.fsd_formats.specs.NamePage.{Content, Leaf, Interior, is_page, is_entry, entry_bytes, are_ascending, room, least_used, max_keep, max_length, sectors_for}
+use Rattle.fsd_formats.specs.NamePage.{Content, Leaf, is_entry, entry_bytes, are_ascending, room, least_used, max_keep, max_length, sectors_for}
 use Rattle.fsd_table.specs.declared.child.Child.{Child}
 use Rattle.fsd_table.specs.Pages.{page_at, not_below, below, keys_fit, entry_keys, entries_of}
-use Rattle.fsd_table.specs.Tree.{entries_below, pages_below, IsLeaf, IsSubtree}
+use Rattle.fsd_table.specs.Tree.{IsLeaf}
 use Rattle.fsd_table.proofs.KeyLaws.{le_lt}
 use Rattle.fsd_table.proofs.PageLaws.{at_is_page}
-use Rattle.fsd_forest.specs.Forest.{Stay, heads, count_of, Exchange, Becomes}
+use Rattle.fsd_forest.specs.Forest.{heads, count_of, Exchange, Becomes}
 use Rattle.fsd_forest.specs.Parts.{is_inside, left_part, right_part}
-use Rattle.fsd_forest.proofs.CountLaws.{count_cons, count_append, count_nothing}
+use Rattle.fsd_forest.proofs.CountLaws.{count_cons, count_nothing}
 use Rattle.fsd_forest.proofs.ForestLaws.{leaves_become}
 use Rattle.fsd_forest.proofs.PartLaws.{leaves_part}
-use Rattle.name_page.specs.Pages.{Step, is_spare}
+use Rattle.name_page.specs.Pages.{Step}
 use Rattle.name_page.proofs.LeafLaws.{between}
 use Rattle.name_page.proofs.LengthLaws.{length_entry}
 use Rattle.name_node.specs.declared.cut.Cut.TheVariants.{UpTo}
-use Rattle.name_node.specs.declared.entries.Side.{Side}
 use Rattle.name_node.specs.declared.entries.Side.TheVariants.{Lesser, Greater}
 use Rattle.name_node.specs.Cut.{is_before, AtLow, AtHigh}
-use Rattle.name_node.specs.Edits.{is_on, beside, with_entry}
+use Rattle.name_node.specs.Edits.{beside, with_entry}
 use Rattle.name_node.specs.Lookups.{entry_with, is_after}
 use Rattle.name_node.proofs.CutLaws.{greater}
 use Rattle.name_node.proofs.SideLaws.{with_ascends, with_all, with_fits}
@@ -41,9 +38,9 @@ use Rattle.name_btree.specs.declared.draft.Sheet.{Sheet}
 use Rattle.name_btree.specs.declared.growing.Grown.{Grown}
 use Rattle.name_btree.specs.declared.growing.Grown.TheVariants.{Whole, Parted}
 use Rattle.name_btree.specs.Draft.{drafted}
-use Rattle.name_btree.specs.Grown.{came_of, went_of, parts_of, front_came, most_parted, most_taken, FitsTwoLeaves, IsGrown, IsInPlace, ArePartsOf, AreLeavesOf, IsDivided, IsFull, IsBranch, AreUsed, BranchBecomes, Grows}
+use Rattle.name_btree.specs.Grown.{came_of, went_of, parts_of, most_parted, FitsTwoLeaves, IsGrown, IsInPlace, AreLeavesOf, IsDivided, IsFull, BranchBecomes, Grows}
 use Rattle.name_btree.proofs.ReachLaws.{equal}
-use Rattle.name_btree.proofs.ReplaceLaws.{LeafParts, leaf_parts}
+use Rattle.name_btree.proofs.ReplaceLaws.{leaf_parts}
 
 pub none_if : (o : Option Entry) → is_some o ≡ false → o ≡ None
 none_if None e = refl

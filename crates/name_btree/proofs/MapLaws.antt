@@ -1,5 +1,5 @@
 -- Entries that are taken out one after another, and one that is put in then.
-use Rattle.std.proofs.Common.{◌≡◌, ℕ, zero, suc, ◌+◌, ◌*◌, ◌-◌, ◌<◌, ◌≤◌, Bool, true, false, not, ◌&&◌, ◌||◌, List, [], ◌∷◌, ◌++◌, length, refl, sym, ap, subst, ◌∙◌, arith, Some, None, Option}
+use Rattle.std.proofs.Common.{◌≡◌, ℕ, ◌+◌, ◌*◌, ◌≤◌, Bool, ◌||◌, List, [], ◌∷◌, ◌++◌, length, refl, sym, ap, subst, ◌∙◌, arith, Option}
 use Rattle.std.specs.Prelude.{◌==◌}
 use Rattle.std.specs.List.{AllByRecursion}
 use Rattle.std.proofs.lemmas.List.Folds.{list_any-append}
@@ -9,8 +9,8 @@ use Rattle.fsd_bytes.specs.declared.refusal.Refusal.{Refusal}
 use Rattle.fsd_formats.specs.declared.entry.Entry.{Entry}
 use Rattle.fsd_table.specs.Tree.{pages_of, table_of, IsTree}
 use Rattle.fsd_forest.specs.Forest.{Disjoint, count_of, TreeBecomes}
-use Rattle.fsd_forest.proofs.CountLaws.{count_append, count_nothing, there_counts, out_counts, differ_counts}
-use Rattle.name_page.specs.Pages.{Step, reaches, is_spare}
+use Rattle.fsd_forest.proofs.CountLaws.{count_append, count_nothing, there_counts, differ_counts}
+use Rattle.name_page.specs.Pages.{Step, reaches}
 use Rattle.name_node.specs.Edits.{without}
 use Rattle.name_btree.specs.declared.draft.Draft.{Draft}
 use Rattle.name_btree.specs.declared.draft.Sheet.{Sheet}

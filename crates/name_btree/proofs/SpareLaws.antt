@@ -1,28 +1,22 @@
 -- Which pages are spare, once an entry was put in.
-use Rattle.std.proofs.Common.{◌≡◌, ℕ, zero, suc, ◌+◌, ◌-◌, ◌<◌, ◌≤◌, Bool, true, false, not, ◌&&◌, ◌||◌, List, [], ◌∷◌, ◌++◌, length, get_or, refl, sym, ap, subst, ◌∙◌, arith, Some, None, Option, inl, inr, length-set, get_or-set_other}
+use Rattle.std.proofs.Common.{◌≡◌, ℕ, ◌+◌, ◌-◌, ◌<◌, ◌≤◌, Bool, true, false, not, ◌&&◌, ◌||◌, List, [], ◌∷◌, ◌++◌, length, get_or, refl, sym, ap, subst, ◌∙◌, arith, length-set, get_or-set_other}
 use Rattle.std.specs.Prelude.{◌==◌, slice_set, count_by}
-use Rattle.std.specs.List.{AllByRecursion}
 use Rattle.std.proofs.lemmas.List.{get_or-set_same}
-use Rattle.run_table.specs.Space.{contains, all_differ}
+use Rattle.run_table.specs.Space.{contains}
 use Rattle.fsd_bytes.specs.declared.key.Key.{Key}
-use Rattle.fsd_bytes.specs.declared.refusal.Refusal.{Refusal}
 use Rattle.fsd_formats.specs.declared.entry.Entry.{Entry}
 use Rattle.fsd_table.specs.Table.{top}
-use Rattle.fsd_table.specs.Tree.{pages_of, pages_below, table_of, IsTree}
-use Rattle.fsd_forest.specs.Forest.{count_of, TreeBecomes}
+use Rattle.fsd_table.specs.Tree.{pages_of, table_of, IsTree}
+use Rattle.fsd_forest.specs.Forest.{count_of}
 use Rattle.fsd_forest.proofs.CountLaws.{count_append, count_nothing, there_counts, counts_there, out_counts, differ_counts}
 use Rattle.fsd_forest.proofs.LowLaws.{all_within}
 use Rattle.name_page.specs.Pages.{Step, free_count, is_spare, with_spare}
 use Rattle.name_node.specs.Edits.{with_entry}
-use Rattle.name_node.specs.Lookups.{entry_with}
 use Rattle.name_btree.specs.declared.draft.Draft.{Draft}
 use Rattle.name_btree.specs.declared.draft.Sheet.{Sheet}
-use Rattle.name_btree.specs.declared.fault.TreeFault.{TreeFault}
-use Rattle.name_btree.specs.declared.fault.TreeFault.TheVariants.{Pages, Broken}
 use Rattle.name_btree.specs.Draft.{drafted, committed, freed, images_of}
-use Rattle.name_btree.specs.Fault.{HasCause, HasSpareCause, BreaksTree}
-use Rattle.name_btree.specs.Grown.{AreUsed, Inserts, BreaksNew}
-use Rattle.name_btree.specs.Map.{IsTable, HasTable, without_all, HasLeft, LeavesTree}
+use Rattle.name_btree.specs.Grown.{AreUsed, Inserts}
+use Rattle.name_btree.specs.Map.{IsTable, HasTable, without_all, LeavesTree}
 use Rattle.name_btree.proofs.BranchLaws.{taken_apart}
 use Rattle.name_btree.proofs.DraftLaws.{committed_spares, drafted_length}
 use Rattle.name_btree.proofs.ReachLaws.{equal, same_itself}

@@ -1,8 +1,6 @@
 -- An entry more below a page, where one of its children has grown.
-use Rattle.std.proofs.Common.{◌≡◌, ℕ, zero, suc, ◌+◌, ◌<◌, ◌≤◌, Bool, true, false, List, [], ◌∷◌, ◌++◌, length, take, drop, cond, refl, sym, ap, subst, ◌∙◌, arith, Some, None, Option, length-append, take-append-drop}
+use Rattle.std.proofs.Common.{◌≡◌, ℕ, zero, suc, ◌+◌, ◌≤◌, Bool, true, false, List, [], ◌∷◌, ◌++◌, length, take, drop, cond, refl, sym, ap, subst, ◌∙◌, arith, Some, Option, length-append, take-append-drop}
 use Rattle.std.specs.Prelude.{◌==◌}
-use Rattle.std.specs.List.{flat_map, AllByRecursion}
-use Rattle.std.proofs.lemmas.List.Concat.{flat_map-append}
 use Rattle.run_table.specs.Space.{contains, all_differ}
 use Rattle.fsd_bytes.specs.declared.key.Key.{Key}
 use Rattle.fsd_formats.specs.declared.entry.Entry.{Entry}
@@ -10,7 +8,7 @@ use Rattle.fsd_formats.specs.declared.page.Separator.{Separator}
 use Rattle.fsd_formats.specs.NamePage.{Content, Interior, are_ascending}
 use Rattle.fsd_table.specs.declared.child.Child.{Child}
 use Rattle.fsd_table.specs.Pages.{page_at, children_of, keys_fit, separator_keys}
-use Rattle.fsd_table.specs.Tree.{pages_below, IsLeaf, IsSubtree}
+use Rattle.fsd_table.specs.Tree.{pages_below, IsLeaf}
 use Rattle.fsd_table.proofs.PageLaws.{at_is_page, interior_ascends}
 use Rattle.fsd_forest.specs.Forest.{Stay, Keep, Exchange, count_of, heads, inner, forest_pages, Becomes}
 use Rattle.fsd_forest.specs.Ways.{StandsAt}
@@ -18,16 +16,15 @@ use Rattle.fsd_forest.proofs.CountLaws.{one_if, count_cons, count_append, count_
 use Rattle.fsd_forest.proofs.ForestLaws.{follows, remains}
 use Rattle.fsd_forest.proofs.StepLaws.{steps_up, page_sides_stay}
 use Rattle.fsd_forest.proofs.TreeLaws.{alone}
-use Rattle.name_page.specs.Pages.{Step, is_spare}
+use Rattle.name_page.specs.Pages.{Step}
 use Rattle.name_node.specs.Edits.{with_entry}
 use Rattle.name_btree.specs.declared.draft.Sheet.{Sheet}
 use Rattle.name_btree.specs.declared.growing.Grown.{Grown}
 use Rattle.name_btree.specs.declared.growing.Grown.TheVariants.{Whole, Parted}
 use Rattle.name_btree.specs.Draft.{drafted, IsTaken}
-use Rattle.name_btree.specs.Grown.{Takes, came_of, went_of, parts_of, most_parted, most_taken, IsGrown, IsInPlace, IsAboveGrown, IsDivided, IsFull, IsBranch, AreUsed, BranchBecomes, Grows}
-use Rattle.name_btree.proofs.BranchLaws.{StandAround, IsBelow, IsGrownAbove, middle_child, left_children, right_children, children_are, is_below, branch_below, sides_grown, becomes_by, went_nothing, taken_apart, with_entry_local}
+use Rattle.name_btree.specs.Grown.{came_of, went_of, parts_of, most_taken, IsGrown, IsInPlace, IsAboveGrown, IsDivided, IsFull, IsBranch, AreUsed, BranchBecomes, Grows}
+use Rattle.name_btree.proofs.BranchLaws.{StandAround, middle_child, left_children, right_children, children_are, is_below, branch_below, sides_grown, becomes_by, went_nothing, taken_apart, with_entry_local}
 use Rattle.name_btree.proofs.LeafGrowthLaws.{came_few, heads_exchange}
-use Rattle.name_btree.proofs.KeepLaws.{false_by}
 use Rattle.name_btree.proofs.ReachLaws.{equal, same_itself}
 use Rattle.name_btree.proofs.TakeLaws.{takes_then}
 

@@ -4,13 +4,12 @@ use Rattle.std.specs.Prelude.{◌==◌, IsSome, slice_set, count_by}
 use Rattle.std.specs.List.{AllByRecursion}
 use Rattle.std.proofs.lemmas.List.Folds.{list_any-append}
 use Rattle.std.proofs.lemmas.List.Sums.{sum_by-cons}
-use Rattle.run_table.specs.Space.{contains, all_differ}
+use Rattle.run_table.specs.Space.{contains}
 use Rattle.fsd_formats.specs.NamePage.{read_page}
 use Rattle.fsd_table.proofs.BoundLaws.{all_append, all_weaker}
 use Rattle.name_page.specs.Pages.{Step, is_spare, changes, free_count, with_taken, IsReached}
-use Rattle.name_btree.specs.declared.draft.Draft.{Draft}
 use Rattle.name_btree.specs.declared.draft.Sheet.{Sheet}
-use Rattle.name_btree.specs.Draft.{IsSheet, AreSheets, MayGo, IsDraft, IsTaken}
+use Rattle.name_btree.specs.Draft.{IsSheet, AreSheets, MayGo, IsTaken}
 use Rattle.name_btree.specs.Grown.{Takes}
 use Rattle.name_btree.specs.Still.{IsStill}
 use Rattle.name_btree.specs.Level.{Disjoint}

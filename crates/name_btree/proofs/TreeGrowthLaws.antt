@@ -1,37 +1,30 @@
 -- A tree into which an entry was put.
-use Rattle.std.proofs.Common.{◌≡◌, ℕ, zero, suc, ◌+◌, ◌-◌, ◌<◌, ◌≤◌, Bool, true, false, List, [], ◌∷◌, ◌++◌, length, refl, sym, ap, subst, ◌∙◌, arith, Some, None, Option}
+use Rattle.std.proofs.Common.{◌≡◌, ℕ, zero, suc, ◌-◌, ◌<◌, ◌≤◌, true, false, List, [], ◌∷◌, ◌++◌, length, refl, sym, ap, subst, ◌∙◌, arith, Some, None, Option}
 use Rattle.std.specs.Prelude.{◌==◌}
 use Rattle.std.specs.List.{AllByRecursion}
 use Rattle.std.proofs.lemmas.Bool.{or_parts}
-use Rattle.run_table.specs.Space.{contains, all_differ}
-use Rattle.fsd_bytes.specs.declared.refusal.Refusal.{Refusal}
+use Rattle.run_table.specs.Space.{all_differ}
 use Rattle.fsd_formats.specs.declared.entry.Entry.{Entry}
 use Rattle.fsd_formats.specs.declared.page.Separator.{Separator}
 use Rattle.fsd_formats.specs.NamePage.{Content, Free, Leaf, Interior}
 use Rattle.fsd_table.specs.declared.child.Child.{Child}
 use Rattle.fsd_table.specs.Pages.{page_at}
 use Rattle.fsd_table.specs.Table.{max_height, top}
-use Rattle.fsd_table.specs.Tree.{pages_of, pages_below, table_of, IsLeaf, IsInterior, IsSubtree, IsTree}
-use Rattle.fsd_forest.specs.Forest.{Stay, Keep, count_of, forest_pages, Becomes, TreeBecomes}
-use Rattle.fsd_forest.proofs.CountLaws.{one_if, count_cons, count_append, count_nothing, there_counts, counts_out, differ_counts}
+use Rattle.fsd_table.specs.Tree.{pages_of, pages_below, IsInterior, IsSubtree, IsTree}
+use Rattle.fsd_forest.specs.Forest.{Stay, Keep, count_of, forest_pages, Becomes}
+use Rattle.fsd_forest.proofs.CountLaws.{count_append, count_nothing, there_counts, counts_out, differ_counts}
 use Rattle.fsd_forest.proofs.ForestLaws.{follows, remains}
 use Rattle.fsd_forest.proofs.LowLaws.{trees_are_low}
 use Rattle.fsd_forest.proofs.TreeLaws.{alone, trees_become, trees_grow}
 use Rattle.name_page.specs.Pages.{Step}
 use Rattle.name_node.specs.Edits.{with_entry}
-use Rattle.name_node.specs.Lookups.{entry_with}
 use Rattle.name_btree.specs.declared.draft.Draft.{Draft}
 use Rattle.name_btree.specs.declared.draft.Sheet.{Sheet}
-use Rattle.name_btree.specs.declared.fault.TreeFault.{TreeFault}
-use Rattle.name_btree.specs.declared.fault.TreeFault.TheVariants.{Pages, Broken}
-use Rattle.name_btree.specs.declared.growing.Grown.{Grown}
 use Rattle.name_btree.specs.declared.growing.Grown.TheVariants.{Whole, Parted}
-use Rattle.name_btree.specs.Draft.{drafted, AreSheets, IsDraft, IsDrafted, IsTaken}
-use Rattle.name_btree.specs.Fault.{HasCause}
-use Rattle.name_btree.specs.Grown.{Takes, parts_of, IsFull, IsBranch, AreUsed, BranchBecomes, Grows, Inserts, BreaksGrowth, BreaksNew}
+use Rattle.name_btree.specs.Draft.{drafted, AreSheets, IsDraft, IsDrafted}
+use Rattle.name_btree.specs.Grown.{Takes, parts_of, IsFull, IsBranch, Grows, Inserts}
 use Rattle.name_btree.proofs.BranchLaws.{taken_apart, becomes_by}
 use Rattle.name_btree.proofs.GrowLaws.{differs}
-use Rattle.name_btree.proofs.ReachLaws.{same_itself}
 use Rattle.name_btree.proofs.TakeLaws.{goes_over}
 
 -- ---- the root

@@ -1,7 +1,7 @@
 -- A separator that is put between those of an interior page.
-use Rattle.std.proofs.Common.{◌≡◌, ℕ, suc, ◌+◌, ◌<◌, ◌≤◌, Bool, true, false, not, ◌&&◌, List, [], ◌∷◌, ◌++◌, length, take, drop, refl, sym, ap, subst, ◌∙◌, arith, Some, None, Option, length-append, take-append-drop}
-use Rattle.std.specs.Prelude.{◌==◌, nat_lt}
-use Rattle.std.specs.List.{flat_map, list_all, AllByRecursion}
+use Rattle.std.proofs.Common.{◌≡◌, ℕ, suc, ◌+◌, ◌<◌, ◌≤◌, Bool, true, ◌&&◌, List, [], ◌∷◌, ◌++◌, length, take, drop, refl, sym, ap, ◌∙◌, arith, Some, None, Option, length-append, take-append-drop}
+use Rattle.std.specs.Prelude.{nat_lt}
+use Rattle.std.specs.List.{list_all}
 use Rattle.std.proofs.lemmas.Bool.{and_parts, and_from, le-leb}
 use Rattle.std.proofs.lemmas.Bool.Decides.{nat_tests}
 use Rattle.std.proofs.lemmas.List.Folds.{list_all-append}
@@ -10,11 +10,10 @@ use Rattle.fsd_bytes.specs.Keys.{is_key, key_lt}
 use Rattle.fsd_bytes.specs.Names.{is_between}
 use Rattle.fsd_formats.specs.declared.page.Separator.{Separator}
 use Rattle.fsd_formats.specs.NamePage.{Interior, is_page, are_ascending, least_separators}
-use Rattle.fsd_table.specs.declared.child.Child.{Child}
 use Rattle.fsd_table.specs.Pages.{not_below, below, keys_fit, separator_keys}
 use Rattle.fsd_table.proofs.BoundLaws.{ascend_tail}
 use Rattle.fsd_table.proofs.KeyLaws.{lt_is_le, not_below_more, below_less}
-use Rattle.fsd_forest.specs.Ways.{end_of, child_behind, child_between}
+use Rattle.fsd_forest.specs.Ways.{child_between}
 use Rattle.name_page.proofs.LeafLaws.{between}
 use Rattle.name_node.specs.Lookups.{is_after}
 use Rattle.name_btree.specs.Grown.{FitsTwoInteriors}

@@ -145,6 +145,7 @@ fn insert_below<T: Pages>(
         Node::Interior(ways) if levels > 0 => {
             let i = ways_before(&ways, &Cut::UpTo(entry.key.copied()));
             let below = child_at(&ways, i, child);
+            // Page 0 stands below no other, and may take two pages where it is parted.
             if below.page == 0 {
                 return Err(TreeFault::Broken(below.page));
             }
