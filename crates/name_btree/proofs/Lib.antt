@@ -1,19 +1,37 @@
+pub mod AboveLaws
+pub mod AroundLaws
+mod BranchLaws
 mod ChangeLaws
 mod ComeLaws
+pub mod CommitLaws
 pub mod DescentLaws
 mod DraftLaws
 pub mod FindLaws
+mod GrowLaws
 pub mod HighestLaws
+mod InsertLaws
 mod KeepLaws
 pub mod LastLaws
+mod LeafGrowthLaws
 mod LevelLaws
+mod MapLaws
 pub mod MarkLaws
+pub mod MendLaws
 pub mod NextLaws
+pub mod PairLaws
 mod PathLaws
+pub mod PutTreeLaws
 mod ReachLaws
+pub mod RemoveLaws
 mod ReplaceLaws
 pub mod ResultLaws
 mod SetLaws
+mod SpareLaws
+mod StepLaws
+mod TakeLaws
 pub mod TopLaws
+mod TreeGrowthLaws
+pub mod TrimLaws
 mod VisitedLaws
 pub mod WalkLaws
+mod WaysGrowthLaws

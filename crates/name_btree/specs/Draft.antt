@@ -1,10 +1,14 @@
 -- Pages that are to be written, over those that there are.
-use Rattle.std.specs.Prelude.{◌≡◌, ℕ, ◌+◌, ◌==◌, ◌&&◌, not, true, false, List, [], ◌∷◌, length, Option, Some, None, IsSome, slice_set, if◌then◌else◌}
+use Rattle.std.specs.Prelude.{◌≡◌, ℕ, ◌+◌, ◌==◌, ◌&&◌, ◌||◌, not, true, false, List, [], ◌∷◌, length, Option, Some, None, IsSome, slice_set, if◌then◌else◌}
 use Rattle.std.specs.List.{AllByRecursion}
 use Rattle.std.specs.Option.{option_or}
 use Rattle.run_table.specs.Space.{contains, all_differ}
+use Rattle.fsd_bytes.specs.declared.key.Key.{Key}
 use Rattle.fsd_formats.specs.NamePage.{Content, read_page}
 use Rattle.fsd_table.specs.Pages.{page_at}
+use Rattle.fsd_table.specs.Tree.{pages_of, IsTree}
+use Rattle.fsd_forest.specs.Forest.{Disjoint, TreeBecomes}
+use Rattle.name_node.specs.Edits.{without}
 use Rattle.name_page.specs.Pages.{Step, is_spare, with_one, with_page, with_spare, IsReached}
 use Rattle.name_btree.specs.declared.draft.Draft.{Draft}
 use Rattle.name_btree.specs.declared.draft.Sheet.{Sheet}
@@ -73,3 +77,9 @@ pub record IsDrafted (step : Step) (old new : List Sheet) (page : ℕ) (x : Cont
   pub sheets : AreSheets step new
   pub content : page_at (drafted new step.images) page ≡ Some x
   pub others : (q : ℕ) → (q ≡ page → ⊥) → page_at (drafted new step.images) q ≡ page_at (drafted old step.images) q
+
+-- a tree without a key; the pages that went are to be spare
+abbrev pub RemovesFrom : Step → (old new : Draft) → Key → Type 0
+RemovesFrom step old new key =
+    (height : ℕ) → IsTree (images_of old step) height → Disjoint (pages_of (images_of old step) height) old.freed.items
+    → (went : List ℕ) × TreeBecomes (without key) (images_of old step) (images_of new step) [] went height × ((page : ℕ) → contains new.freed.items page ≡ (contains old.freed.items page || contains went page))

@@ -2,7 +2,11 @@ pub mod Change
 pub mod Descent
 pub mod Draft
 pub mod Fault
+pub mod Grown
 pub mod Level
+pub mod Map
+pub mod Remove
 pub mod Replace
 pub mod Still
+pub mod Trim
 pub mod Walk

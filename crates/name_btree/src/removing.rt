@@ -1,5 +1,14 @@
 //! Taking entries out.
-ghost use Rattle.std.specs.Prelude.{◌≡◌};
+ghost use Rattle.std.specs.Prelude.{◌≡◌, ◌+◌, ◌*◌, ◌≤◌, ℕ, OnOk, OnErr, IfOk, IfErr, length, true};
+ghost use Rattle.fsd_table.specs.Tree.{table_of};
+ghost use Rattle.name_btree.specs.Draft.{IsDraft, RemovesFrom, images_of};
+ghost use Rattle.name_btree.specs.Fault.{HasCause, BreaksTree};
+ghost use Rattle.name_btree.specs.Map.{IsTable, HasTable};
+ghost use Rattle.name_btree.specs.Remove.{IsTrimmedBelow, BreaksBelow};
+ghost use Rattle.name_btree.specs.Still.{IsStill};
+ghost use Rattle.name_btree.specs.Trim.{MayHave, IsLeft, sheets_below};
+ghost use Rattle.name_node.specs.Edits.{without};
+ghost use Rattle.name_page.specs.Pages.{reaches, changes, is_spare, IsReached};
 
 use crate::draft::Draft;
 use crate::fault::TreeFault;
@@ -12,7 +21,20 @@ use name_node::{Cut, Node, entries_without, ways_before};
 use name_page::Pages;
 
 /// Takes the entry with a key out. Where no entry has the key, the table stays. It takes no page.
-pub fn remove<T: Pages>(t: &mut T, key: &Key) -> Result<(), TreeFault> {
+pub fn remove<T: Pages>(t: &mut T, key: &Key) -> Result<(), TreeFault>
+    requires more { 80 ≤ reaches (T.step t.old) }
+    requires changes { 40 ≤ changes (T.step t.old) }
+    ensures images { OnErr result ((T.step t.new).images ≡ (T.step t.old).images) }
+    ensures spares { OnErr result ((T.step t.new).spares ≡ (T.step t.old).spares) }
+    ensures step { (T.step t.new).most_reached ≡ (T.step t.old).most_reached }
+    ensures most { (T.step t.new).most_changed ≡ (T.step t.old).most_changed }
+    ensures reaches { reaches (T.step t.old) ≤ reaches (T.step t.new) + 12 }
+    ensures changed { OnErr result ((T.step t.new).changed ≡ (T.step t.old).changed) }
+    ensures changes { changes (T.step t.old) ≤ changes (T.step t.new) + 8 }
+    ensures taken { (page : ℕ) → is_spare (T.step t.old).spares page ≡ true → is_spare (T.step t.new).spares page ≡ true }
+    ensures removed { OnOk result ((height : ℕ) → IsTable (T.step t.old) height → HasTable (T.step t.new) (without key.now (table_of (T.step t.old).images height))) }
+    ensures fault { IfErr result (HasCause (T.step t.new).refusal (BreaksTree (T.step t.old).images)) }
+{
     let mut draft = Draft::new();
     remove_in(t, &mut draft, key)?;
     draft.commit(t);
@@ -20,11 +42,22 @@ pub fn remove<T: Pages>(t: &mut T, key: &Key) -> Result<(), TreeFault> {
 }
 
 // Takes the entry with a key out of the drafted pages.
-pub(crate) fn remove_in<T: Pages>(
-    t: &mut T,
-    draft: &mut Draft,
-    key: &Key,
-) -> Result<(), TreeFault> {
+pub(crate) fn remove_in<T: Pages>(t: &mut T, draft: &mut Draft, key: &Key) -> Result<(), TreeFault>
+    requires more { 12 ≤ reaches (T.step t.old) }
+    requires draft { IsDraft (T.step t.old) draft.old }
+    requires room { length draft.old.sheets.items ≤ 32 }
+    requires free { length draft.old.freed.items ≤ 14 }
+    ensures images { (T.step t.new).images ≡ (T.step t.old).images }
+    ensures spares { (T.step t.new).spares ≡ (T.step t.old).spares }
+    ensures step { (T.step t.new).most_reached ≡ (T.step t.old).most_reached }
+    ensures reaches { reaches (T.step t.old) ≤ reaches (T.step t.new) + 12 }
+    ensures changes { IsStill (T.step t.old) (T.step t.new) }
+    ensures draft { OnOk result (IsDraft (T.step t.new) draft.new) }
+    ensures sheets { OnOk result (length draft.new.sheets.items ≤ length draft.old.sheets.items + 8) }
+    ensures freed { OnOk result (length draft.new.freed.items ≤ length draft.old.freed.items + 6) }
+    ensures removed { OnOk result (RemovesFrom (T.step t.old) draft.old draft.new key.now) }
+    ensures fault { IfErr result (HasCause (T.step t.new).refusal (BreaksTree (images_of draft.old (T.step t.old)))) }
+{
     match remove_below(t, draft, &top(), key, 5)? {
         Trimmed::Interior(only, _) => take_over(t, draft, only),
         _ => Ok(()),
@@ -38,7 +71,26 @@ fn remove_below<T: Pages>(
     child: &Child,
     key: &Key,
     levels: u32,
-) -> Result<Trimmed, TreeFault> {
+) -> Result<Trimmed, TreeFault>
+    requires levels { levels ≤ 5 }
+    requires more { 2 * levels + 1 ≤ reaches (T.step t.old) }
+    requires draft { IsDraft (T.step t.old) draft.old }
+    requires room { length draft.old.sheets.items + levels ≤ 38 }
+    requires free { length draft.old.freed.items + levels ≤ 20 }
+    ensures images { (T.step t.new).images ≡ (T.step t.old).images }
+    ensures spares { (T.step t.new).spares ≡ (T.step t.old).spares }
+    ensures step { (T.step t.new).most_reached ≡ (T.step t.old).most_reached }
+    ensures reaches { reaches (T.step t.old) ≤ reaches (T.step t.new) + (2 * levels + 1) }
+    ensures changes { IsStill (T.step t.old) (T.step t.new) }
+    ensures kept { (q : ℕ) → IsReached (T.step t.old) q → IsReached (T.step t.new) q }
+    ensures draft { OnOk result (IsDraft (T.step t.new) draft.new) }
+    ensures sheets { IfOk result (λ left. length draft.new.sheets.items ≤ length draft.old.sheets.items + sheets_below levels left) }
+    ensures freed { OnOk result (length draft.new.freed.items ≤ length draft.old.freed.items + levels) }
+    ensures page { OnOk result (MayHave (T.step t.new) child.now.page) }
+    ensures left { IfOk result (IsLeft (length (T.step t.old).images) child.now) }
+    ensures trimmed { IfOk result (IsTrimmedBelow key.now (images_of draft.old (T.step t.old)) (images_of draft.new (T.step t.old)) draft.old.freed.items draft.new.freed.items levels child.now) }
+    ensures fault { IfErr result (HasCause (T.step t.new).refusal (BreaksBelow key.now (images_of draft.old (T.step t.old)) levels child.now)) }
+{
     match draft.child_node(t, child)? {
         Node::Leaf(entries) => {
             let left = entries_without(&entries, key);
@@ -48,7 +100,7 @@ fn remove_below<T: Pages>(
             let i = ways_before(&ways, &Cut::UpTo(key.copied()));
             let below = child_at(&ways, i, child);
             let trimmed = remove_below(t, draft, &below, key, levels - 1)?;
-            trim_above(t, draft, child, &ways, i, trimmed)
+            trim_above(t, draft, child, &ways, i, &below, trimmed)
         }
         _ => Err(TreeFault::Broken(child.page)),
     }

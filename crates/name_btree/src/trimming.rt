@@ -1,14 +1,28 @@
 //! What is left in a page, which joins a neighbour or shares with it where it is too little for one.
-ghost use Rattle.std.specs.Prelude.{◌≡◌};
+ghost use Rattle.std.specs.Prelude.{◌≡◌, ◌≢◌, ◌+◌, ◌-◌, ◌==◌, ◌<◌, ◌≤◌, ℕ, List, ◌∷◌, ◌++◌, OnOk, IfOk, IfErr, IfSome, Some, None, length, slice_get, true, false, if◌then◌else◌};
+ghost use Rattle.std.specs.List.{AllByRecursion};
+ghost use Rattle.fsd_bytes.specs.Keys.{is_key};
+ghost use Rattle.fsd_formats.specs.NamePage.{is_page, FitsEntry, FitsSeparator};
+ghost use Rattle.fsd_formats.specs.NamePage as grammar;
+ghost use Rattle.fsd_table.specs.Pages.{page_at, children, entry_keys, separator_keys};
+ghost use Rattle.name_btree.specs.declared.trimming.Trimmed.TheVariants.{Whole};
+ghost use Rattle.name_btree.specs.Draft.{IsDraft, IsDrafted, images_of, with_freed};
+ghost use Rattle.name_btree.specs.Fault.{HasCause};
+ghost use Rattle.name_btree.specs.Still.{IsStill};
+ghost use Rattle.name_btree.specs.Trim.{used_by, AreEntries, AreWays, MayHave, IsOpened, AreFewEntries, AreFewWays, IsLeafPut, AreWaysPut, IsPair, pair_fits, IsBetween, separators_joined, separators_shared, AreLeavesMended, AreWaysMended, entries_at, ways_at, first_at, right_at, is_behind, LeafIsMended, WayIsMended, HasNoLeaf, HasNoWays, IsLeft, IsMended, IsUnlike, IsTakenOver};
+ghost use Rattle.name_node.specs.declared.node.Node.TheVariants.{Free};
+ghost use Rattle.name_node.specs.Node.{content_of};
+ghost use Rattle.name_page.specs.Pages.{reaches, IsReached};
 
 use crate::draft::Draft;
 use crate::fault::TreeFault;
 use crate::walking::child_at;
-use fsd_formats::Separator;
+use fsd_bytes::Key;
+use fsd_formats::{Entry, Separator};
 use fsd_table::Child;
 use name_node::{
-    Entries, EntryList, Node, SeparatorList, Ways, joined, joined_ways, leaf_cut, listed,
-    listed_ways, used, ways_replaced, ways_without,
+    Entries, EntryList, JoinedList, Node, SeparatorList, Ways, WideList, joined, joined_ways,
+    leaf_cut, listed, listed_ways, used, ways_replaced, ways_without,
 };
 use name_page::Pages;
 
@@ -20,9 +34,9 @@ pub(crate) enum Trimmed {
     Interior(u32, SeparatorList),
 }
 
-// Two children side by side, by the place of the separator between them.
+/// Two children side by side, by the place of the separator between them.
 #[derive(Clone, Copy)]
-struct Pair {
+pub(crate) struct Pair {
     place: u32,
     left: u32,
     right: u32,
@@ -34,7 +48,16 @@ pub(crate) fn trim_leaf<T: Pages>(
     draft: &mut Draft,
     page: u32,
     entries: EntryList,
-) -> Trimmed {
+) -> Trimmed
+    requires room { length draft.old.sheets.items < 40 }
+    requires draft { IsDraft (T.step t.now) draft.old }
+    requires page { MayHave (T.step t.now) page }
+    requires entries { AreEntries entries.items }
+    requires most { used_by entries.items ≤ 488 }
+    ensures draft { IsDraft (T.step t.now) draft.new }
+    ensures freed { draft.new.freed.items ≡ draft.old.freed.items }
+    ensures put { IsLeafPut (T.step t.now) draft.old.sheets.items draft.new.sheets.items page entries.items result }
+{
     if page != 0 && used(entries.as_slice()) < 190 {
         return Trimmed::Leaf(entries);
     }
@@ -49,7 +72,17 @@ fn trim_ways<T: Pages>(
     page: u32,
     first: u32,
     separators: SeparatorList,
-) -> Trimmed {
+) -> Trimmed
+    requires room { length draft.old.sheets.items < 40 }
+    requires draft { IsDraft (T.step t.now) draft.old }
+    requires page { MayHave (T.step t.now) page }
+    requires ways { AreWays (length (T.step t.now).images) first separators.items }
+    requires fits { AllByRecursion FitsSeparator separators.items }
+    requires most { length separators.items ≤ 9 }
+    ensures draft { IsDraft (T.step t.now) draft.new }
+    ensures freed { draft.new.freed.items ≡ draft.old.freed.items }
+    ensures put { AreWaysPut (T.step t.now) draft.old.sheets.items draft.new.sheets.items page first separators.items result }
+{
     let least = if page == 0 { 1 } else { 4 };
     if separators.len() < least {
         return Trimmed::Interior(first, separators);
@@ -59,17 +92,344 @@ fn trim_ways<T: Pages>(
 }
 
 // The place of the neighbour of child `i`: the one before it, if there is one.
-fn neighbour_of(i: u32) -> u32 {
+fn neighbour_of(i: u32) -> u32
+    ensures { result ≡ (if i == 0 then 1 else i - 1) }
+{
     if i == 0 { 1 } else { i - 1 }
 }
 
 // Child `i` and its neighbour.
-fn pair_with(ways: &Ways, i: u32, above: &Child) -> Pair {
-    let place = if i == 0 { 0 } else { i - 1 };
+fn pair_with(ways: &Ways, i: u32, above: &Child) -> Pair
+    requires some { 1 ≤ length ways.now.1 }
+    requires within { i ≤ length ways.now.1 }
+    ensures place { result.place ≡ i - 1 }
+    ensures pair { IsPair above.now ways.now.0 ways.now.1 result }
+{
+    let place = i.saturating_sub(1);
     Pair {
         place,
         left: child_at(ways, place, above).page,
         right: child_at(ways, place + 1, above).page,
+    }
+}
+
+// The second of a pair goes, and the separator between them.
+fn join_pair<T: Pages>(t: &T, draft: &mut Draft, above: &Child, ways: &Ways, pair: Pair) -> Trimmed
+    requires room { length draft.old.sheets.items < 40 }
+    requires freed { length draft.old.freed.items < 20 }
+    requires draft { IsDraft (T.step t.now) draft.old }
+    requires page { MayHave (T.step t.now) above.now.page }
+    requires right { MayHave (T.step t.now) pair.right }
+    requires ways { IsOpened (length (T.step t.now).images) above.now ways.now.0 ways.now.1 }
+    requires pair { IsPair above.now ways.now.0 ways.now.1 pair }
+    ensures draft { IsDraft (T.step t.now) draft.new }
+    ensures freed { draft.new.freed.items ≡ with_freed pair.right draft.old.freed.items }
+    ensures put { AreWaysPut (T.step t.now) draft.old.sheets.items draft.new.sheets.items above.now.page ways.now.0 (separators_joined ways.now.1 pair) result }
+{
+    draft.free(t, pair.right);
+    trim_ways(
+        t,
+        draft,
+        above.page,
+        ways.first(),
+        ways_without(ways, pair.place),
+    )
+}
+
+// Another separator stands between a pair.
+fn share_pair<T: Pages>(
+    t: &T,
+    draft: &mut Draft,
+    above: &Child,
+    ways: &Ways,
+    pair: Pair,
+    key: Key,
+) -> Trimmed
+    requires room { length draft.old.sheets.items < 40 }
+    requires draft { IsDraft (T.step t.now) draft.old }
+    requires page { MayHave (T.step t.now) above.now.page }
+    requires right { IsReached (T.step t.now) pair.right }
+    requires ways { IsOpened (length (T.step t.now).images) above.now ways.now.0 ways.now.1 }
+    requires pair { IsPair above.now ways.now.0 ways.now.1 pair }
+    requires key { is_key key ≡ true }
+    requires fits { FitsSeparator (record { key = key; child = pair.right }) }
+    requires between { IsBetween above.now ways.now.0 ways.now.1 pair key }
+    ensures draft { IsDraft (T.step t.now) draft.new }
+    ensures freed { draft.new.freed.items ≡ draft.old.freed.items }
+    ensures put { IsDrafted (T.step t.now) draft.old.sheets.items draft.new.sheets.items above.now.page (grammar.Interior ways.now.0 (separators_shared ways.now.1 pair key)) }
+    ensures whole { result ≡ Whole }
+{
+    let separator = Separator {
+        key,
+        child: pair.right,
+    };
+    let separators = ways_replaced(ways, pair.place, separator);
+    draft.put_ways(t, above.page, ways.first(), separators.as_slice());
+    Trimmed::Whole
+}
+
+// Two leaves have these entries, or one of them has.
+fn put_leaves<T: Pages>(
+    t: &T,
+    draft: &mut Draft,
+    above: &Child,
+    ways: &Ways,
+    pair: Pair,
+    list: &[Entry],
+) -> Trimmed
+    requires room { length draft.old.sheets.items ≤ 37 }
+    requires freed { length draft.old.freed.items < 20 }
+    requires draft { IsDraft (T.step t.now) draft.old }
+    requires page { MayHave (T.step t.now) above.now.page }
+    requires left { MayHave (T.step t.now) pair.left }
+    requires right { MayHave (T.step t.now) pair.right }
+    requires ways { IsOpened (length (T.step t.now).images) above.now ways.now.0 ways.now.1 }
+    requires pair { IsPair above.now ways.now.0 ways.now.1 pair }
+    requires few { length list.now ≤ 38 }
+    requires entries { AreEntries list.now }
+    requires least { 190 ≤ used_by list.now }
+    requires most { used_by list.now ≤ 678 }
+    requires within { pair_fits above.now ways.now.0 ways.now.1 pair (entry_keys list.now) ≡ true }
+    ensures draft { IsDraft (T.step t.now) draft.new }
+    ensures put { AreLeavesMended (T.step t.now) draft.old draft.new above.now.page ways.now.0 ways.now.1 pair list.now result }
+{
+    if used(list) <= 488 {
+        draft.put_leaf(t, pair.left, list);
+        return join_pair(t, draft, above, ways, pair);
+    }
+    let (front, behind) = list.split_at(leaf_cut(list));
+    draft.put_leaf(t, pair.left, front);
+    draft.put_leaf(t, pair.right, behind);
+    share_pair(t, draft, above, ways, pair, behind[0].key.copied())
+}
+
+// Two interior pages have these ways, or one of them has.
+fn put_interiors<T: Pages>(
+    t: &T,
+    draft: &mut Draft,
+    above: &Child,
+    ways: &Ways,
+    pair: Pair,
+    first: u32,
+    list: &[Separator],
+    cut: usize,
+) -> Trimmed
+    requires room { length draft.old.sheets.items ≤ 37 }
+    requires freed { length draft.old.freed.items < 20 }
+    requires draft { IsDraft (T.step t.now) draft.old }
+    requires page { MayHave (T.step t.now) above.now.page }
+    requires left { MayHave (T.step t.now) pair.left }
+    requires right { MayHave (T.step t.now) pair.right }
+    requires ways { IsOpened (length (T.step t.now).images) above.now ways.now.0 ways.now.1 }
+    requires pair { IsPair above.now ways.now.0 ways.now.1 pair }
+    requires list { AreWays (length (T.step t.now).images) first list.now }
+    requires fits { AllByRecursion FitsSeparator list.now }
+    requires least { 4 ≤ length list.now }
+    requires front { 8 < length list.now → 4 ≤ cut }
+    requires short { 8 < length list.now → cut ≤ 9 }
+    requires behind { 8 < length list.now → cut + 5 ≤ length list.now }
+    requires most { 8 < length list.now → length list.now ≤ cut + 10 }
+    requires within { pair_fits above.now ways.now.0 ways.now.1 pair (separator_keys list.now) ≡ true }
+    ensures draft { IsDraft (T.step t.now) draft.new }
+    ensures put { AreWaysMended (T.step t.now) draft.old draft.new above.now.page ways.now.0 ways.now.1 pair first list.now result }
+{
+    if list.len() <= 8 {
+        draft.put_ways(t, pair.left, first, list);
+        return join_pair(t, draft, above, ways, pair);
+    }
+    let (front, _) = list.split_at(cut);
+    let (_, behind) = list.split_at(cut + 1);
+    let middle = &list[cut];
+    draft.put_ways(t, pair.left, first, front);
+    draft.put_ways(t, pair.right, middle.child, behind);
+    share_pair(t, draft, above, ways, pair, middle.key.copied())
+}
+
+// The entries of child `i` and of its neighbour, in order.
+fn leaves_joined(i: u32, few: &[Entry], others: &[Entry]) -> JoinedList
+    requires room { length few.now + length others.now ≤ 38 }
+    requires few { AllByRecursion FitsEntry few.now }
+    requires others { AllByRecursion FitsEntry others.now }
+    ensures { result.items ≡ entries_at i few.now others.now }
+{
+    if i == 0 {
+        joined(few, others)
+    } else {
+        joined(others, few)
+    }
+}
+
+/// What is left of a page one of whose children, child `i`, is a leaf of too few entries: it joins its neighbour, or shares with it.
+pub(crate) fn mend_leaf<T: Pages>(
+    t: &mut T,
+    draft: &mut Draft,
+    above: &Child,
+    ways: &Ways,
+    i: u32,
+    child: &Child,
+    few: &EntryList,
+) -> Result<Trimmed, TreeFault>
+    requires more { 0 < reaches (T.step t.old) }
+    requires room { length draft.old.sheets.items ≤ 37 }
+    requires free { length draft.old.freed.items < 20 }
+    requires draft { IsDraft (T.step t.old) draft.old }
+    requires page { MayHave (T.step t.old) above.now.page }
+    requires ways { IsOpened (length (T.step t.old).images) above.now ways.now.0 ways.now.1 }
+    requires within { i ≤ length ways.now.1 }
+    requires child { slice_get (children ways.now.0 above.now.low above.now.high ways.now.1) i ≡ Some child.now }
+    requires below { MayHave (T.step t.old) child.now.page }
+    requires few { AreFewEntries child.now few.now.items }
+    ensures images { (T.step t.new).images ≡ (T.step t.old).images }
+    ensures spares { (T.step t.new).spares ≡ (T.step t.old).spares }
+    ensures step { (T.step t.new).most_reached ≡ (T.step t.old).most_reached }
+    ensures reaches { reaches (T.step t.old) ≤ reaches (T.step t.new) + 1 }
+    ensures changes { IsStill (T.step t.old) (T.step t.new) }
+    ensures kept { (q : ℕ) → IsReached (T.step t.old) q → IsReached (T.step t.new) q }
+    ensures draft { OnOk result (IsDraft (T.step t.new) draft.new) }
+    ensures mended { IfOk result (LeafIsMended (T.step t.new) draft.old draft.new above.now ways.now.0 ways.now.1 i few.now.items) }
+    ensures fault { IfErr result (HasCause (T.step t.new).refusal (HasNoLeaf (images_of draft.old (T.step t.old)) (children ways.now.0 above.now.low above.now.high ways.now.1) i)) }
+{
+    let neighbour = child_at(ways, neighbour_of(i), above);
+    match draft.child_node(t, &neighbour)? {
+        Node::Leaf(others) if neighbour.page != 0 => {
+            let list = leaves_joined(i, few.as_slice(), listed(&others).as_slice());
+            let pair = pair_with(ways, i, above);
+            Ok(put_leaves(t, draft, above, ways, pair, list.as_slice()))
+        }
+        _ => Err(TreeFault::Broken(neighbour.page)),
+    }
+}
+
+// The first child and the separators of two pages side by side.
+#[derive(Drop)]
+struct JoinedWays {
+    first: u32,
+    list: WideList,
+}
+
+// Whether the first of the separators, if there is one, stands behind a key.
+fn is_behind(key: &Key, separators: &[Separator]) -> bool
+    ensures { result ≡ is_behind key.now separators.now }
+{
+    match separators.first() {
+        Some(separator) => key.cmp(&separator.key).is_lt(),
+        None => true,
+    }
+}
+
+// The ways of two pages side by side, if their keys ascend.
+fn joined_behind(
+    first: u32,
+    left: &[Separator],
+    key: Key,
+    second: u32,
+    right: &[Separator],
+) -> Option<JoinedWays>
+    requires room { length left.now + length right.now ≤ 12 }
+    requires left { AllByRecursion FitsSeparator left.now }
+    requires between { FitsSeparator (record { key = key; child = second }) }
+    requires right { AllByRecursion FitsSeparator right.now }
+    ensures some { IfSome result (λ x. (x.first ≡ first) × (x.list.items ≡ left.now ++ record { key = key; child = second } ∷ right.now) × AllByRecursion FitsSeparator x.list.items) }
+    ensures behind { IfSome result (λ x. is_behind key right.now ≡ true) }
+    ensures none { result ≡ None → is_behind key right.now ≡ false }
+{
+    if !is_behind(&key, right) {
+        return None;
+    }
+    let list = joined_ways(left, key, second, right);
+    Some(JoinedWays { first, list })
+}
+
+// The ways of child `i` and of its neighbour, in order, if their keys ascend.
+fn ways_joined(
+    i: u32,
+    key: Key,
+    first: u32,
+    few: &SeparatorList,
+    others: &Ways,
+) -> Option<JoinedWays>
+    requires room { length few.now.items ≤ 3 }
+    requires few { AllByRecursion FitsSeparator few.now.items }
+    requires first { FitsSeparator (record { key = key; child = first }) }
+    requires others { length others.now.1 ≤ 9 }
+    requires second { FitsSeparator (record { key = key; child = others.now.0 }) }
+    ensures first { IfSome result (λ x. x.first ≡ first_at i first others.now.0) }
+    ensures list { IfSome result (λ x. x.list.items ≡ ways_at i key first few.now.items others.now.0 others.now.1) }
+    ensures fits { IfSome result (λ x. AllByRecursion FitsSeparator x.list.items) }
+    ensures behind { IfSome result (λ x. is_behind key (right_at i few.now.items others.now.1) ≡ true) }
+    ensures none { result ≡ None → is_behind key (right_at i few.now.items others.now.1) ≡ false }
+{
+    let listed = listed_ways(others);
+    if i == 0 {
+        joined_behind(
+            first,
+            few.as_slice(),
+            key,
+            others.first(),
+            listed.as_slice(),
+        )
+    } else {
+        joined_behind(
+            others.first(),
+            listed.as_slice(),
+            key,
+            first,
+            few.as_slice(),
+        )
+    }
+}
+
+// Where the ways of child `i` and of its neighbour are parted, if they are too many for one page.
+fn ways_cut(i: u32, list: &[Separator]) -> usize
+    requires { 5 ≤ length list.now }
+    ensures { result ≡ (if i == 0 then 4 else length list.now - 5) }
+{
+    if i == 0 { 4 } else { list.len() - 5 }
+}
+
+/// What is left of a page one of whose children, child `i`, has too few ways: it joins its neighbour, or takes one of it.
+pub(crate) fn mend_ways<T: Pages>(
+    t: &mut T,
+    draft: &mut Draft,
+    above: &Child,
+    ways: &Ways,
+    i: u32,
+    child: &Child,
+    first: u32,
+    few: &SeparatorList,
+) -> Result<Trimmed, TreeFault>
+    requires more { 0 < reaches (T.step t.old) }
+    requires room { length draft.old.sheets.items ≤ 37 }
+    requires free { length draft.old.freed.items < 20 }
+    requires draft { IsDraft (T.step t.old) draft.old }
+    requires page { MayHave (T.step t.old) above.now.page }
+    requires ways { IsOpened (length (T.step t.old).images) above.now ways.now.0 ways.now.1 }
+    requires within { i ≤ length ways.now.1 }
+    requires child { slice_get (children ways.now.0 above.now.low above.now.high ways.now.1) i ≡ Some child.now }
+    requires below { MayHave (T.step t.old) child.now.page }
+    requires few { AreFewWays (length (T.step t.old).images) child.now first few.now.items }
+    ensures images { (T.step t.new).images ≡ (T.step t.old).images }
+    ensures spares { (T.step t.new).spares ≡ (T.step t.old).spares }
+    ensures step { (T.step t.new).most_reached ≡ (T.step t.old).most_reached }
+    ensures reaches { reaches (T.step t.old) ≤ reaches (T.step t.new) + 1 }
+    ensures changes { IsStill (T.step t.old) (T.step t.new) }
+    ensures kept { (q : ℕ) → IsReached (T.step t.old) q → IsReached (T.step t.new) q }
+    ensures draft { OnOk result (IsDraft (T.step t.new) draft.new) }
+    ensures mended { IfOk result (WayIsMended (T.step t.new) draft.old draft.new above.now ways.now.0 ways.now.1 i first few.now.items) }
+    ensures fault { IfErr result (HasCause (T.step t.new).refusal (HasNoWays (images_of draft.old (T.step t.old)) above.now ways.now.0 ways.now.1 i child.now few.now.items)) }
+{
+    let neighbour = child_at(ways, neighbour_of(i), above);
+    let pair = pair_with(ways, i, above);
+    match draft.child_node(t, &neighbour)? {
+        Node::Interior(others) if neighbour.page != 0 => {
+            let Some(joined) = ways_joined(i, ways.get(pair.place).key, first, few, &others) else {
+                return Err(TreeFault::Broken(pair.right));
+            };
+            let list = joined.list.as_slice();
+            let cut = ways_cut(i, list);
+            Ok(put_interiors(t, draft, above, ways, pair, joined.first, list, cut))
+        }
+        _ => Err(TreeFault::Broken(neighbour.page)),
     }
 }
 
@@ -80,128 +440,79 @@ pub(crate) fn trim_above<T: Pages>(
     above: &Child,
     ways: &Ways,
     i: u32,
+    child: &Child,
     below: Trimmed,
-) -> Result<Trimmed, TreeFault> {
-    if let Trimmed::Whole = below {
-        return Ok(Trimmed::Whole);
+) -> Result<Trimmed, TreeFault>
+    requires more { 0 < reaches (T.step t.old) }
+    requires room { below ≢ Whole → length draft.old.sheets.items ≤ 37 }
+    requires free { length draft.old.freed.items < 20 }
+    requires draft { IsDraft (T.step t.old) draft.old }
+    requires page { MayHave (T.step t.old) above.now.page }
+    requires ways { IsOpened (length (T.step t.old).images) above.now ways.now.0 ways.now.1 }
+    requires within { i ≤ length ways.now.1 }
+    requires child { slice_get (children ways.now.0 above.now.low above.now.high ways.now.1) i ≡ Some child.now }
+    requires below { MayHave (T.step t.old) child.now.page }
+    requires left { IsLeft (length (T.step t.old).images) child.now below }
+    ensures images { (T.step t.new).images ≡ (T.step t.old).images }
+    ensures spares { (T.step t.new).spares ≡ (T.step t.old).spares }
+    ensures step { (T.step t.new).most_reached ≡ (T.step t.old).most_reached }
+    ensures reaches { reaches (T.step t.old) ≤ reaches (T.step t.new) + 1 }
+    ensures changes { IsStill (T.step t.old) (T.step t.new) }
+    ensures kept { (q : ℕ) → IsReached (T.step t.old) q → IsReached (T.step t.new) q }
+    ensures draft { OnOk result (IsDraft (T.step t.new) draft.new) }
+    ensures mended { IfOk result (IsMended (T.step t.new) draft.old draft.new above.now ways.now.0 ways.now.1 i below) }
+    ensures fault { IfErr result (HasCause (T.step t.new).refusal (IsUnlike (images_of draft.old (T.step t.old)) above.now ways.now.0 ways.now.1 i child.now below)) }
+{
+    match below {
+        Trimmed::Whole => Ok(Trimmed::Whole),
+        Trimmed::Leaf(few) => mend_leaf(t, draft, above, ways, i, child, &few),
+        Trimmed::Interior(first, few) => mend_ways(t, draft, above, ways, i, child, first, &few),
     }
-    let neighbour = child_at(ways, neighbour_of(i), above);
-    match (below, draft.child_node(t, &neighbour)?) {
-        (Trimmed::Leaf(few), Node::Leaf(others)) => {
-            Ok(mend_leaves(t, draft, above, ways, i, &few, &others))
+}
+
+// Page 0 has what another page has.
+fn put_on_top<T: Pages>(t: &T, draft: &mut Draft, node: &Node)
+    requires room { length draft.old.sheets.items < 40 }
+    requires draft { IsDraft (T.step t.now) draft.old }
+    requires top { MayHave (T.step t.now) 0 }
+    requires some { node.now ≢ Free }
+    requires page { (page : ℕ) × (is_page page (length (T.step t.now).images) (content_of node.now) ≡ true) }
+    requires there { (pages : List (List ℕ)) × (page : ℕ) × (page_at pages page ≡ Some (content_of node.now)) }
+    ensures draft { IsDraft (T.step t.now) draft.new }
+    ensures freed { draft.new.freed.items ≡ draft.old.freed.items }
+    ensures put { IsDrafted (T.step t.now) draft.old.sheets.items draft.new.sheets.items 0 (content_of node.now) }
+{
+    match node {
+        Node::Free => {}
+        Node::Leaf(entries) => draft.put_leaf(t, 0, listed(entries).as_slice()),
+        Node::Interior(ways) => {
+            draft.put_ways(t, 0, ways.first(), listed_ways(ways).as_slice());
         }
-        (Trimmed::Interior(first, few), Node::Interior(others)) => {
-            Ok(mend_ways(t, draft, above, ways, i, first, &few, &others))
-        }
-        _ => Err(TreeFault::Broken(neighbour.page)),
     }
-}
-
-// A leaf of few entries, child `i`, joins its neighbour, or shares with it.
-fn mend_leaves<T: Pages>(
-    t: &T,
-    draft: &mut Draft,
-    above: &Child,
-    ways: &Ways,
-    i: u32,
-    few: &EntryList,
-    others: &Entries,
-) -> Trimmed {
-    let pair = pair_with(ways, i, above);
-    let others = listed(others);
-    let list = if i == 0 {
-        joined(few.as_slice(), others.as_slice())
-    } else {
-        joined(others.as_slice(), few.as_slice())
-    };
-    let list = list.as_slice();
-    if used(list) <= 488 {
-        draft.put_leaf(t, pair.left, list);
-        return join_pair(t, draft, above.page, ways, pair);
-    }
-    let (front, behind) = list.split_at(leaf_cut(list));
-    draft.put_leaf(t, pair.left, front);
-    draft.put_leaf(t, pair.right, behind);
-    let separator = Separator {
-        key: behind[0].key.copied(),
-        child: pair.right,
-    };
-    share_pair(t, draft, above.page, ways, pair, separator)
-}
-
-// The second of a pair goes, and the separator between them.
-fn join_pair<T: Pages>(t: &T, draft: &mut Draft, page: u32, ways: &Ways, pair: Pair) -> Trimmed {
-    draft.free(t, pair.right);
-    trim_ways(t, draft, page, ways.first(), ways_without(ways, pair.place))
-}
-
-// Another separator stands between a pair.
-fn share_pair<T: Pages>(
-    t: &T,
-    draft: &mut Draft,
-    page: u32,
-    ways: &Ways,
-    pair: Pair,
-    separator: Separator,
-) -> Trimmed {
-    let separators = ways_replaced(ways, pair.place, separator);
-    draft.put_ways(t, page, ways.first(), separators.as_slice());
-    Trimmed::Whole
-}
-
-// A page of three separators, child `i`, joins its neighbour of four, or takes one of a neighbour that has more.
-fn mend_ways<T: Pages>(
-    t: &T,
-    draft: &mut Draft,
-    above: &Child,
-    ways: &Ways,
-    i: u32,
-    first: u32,
-    few: &SeparatorList,
-    others: &Ways,
-) -> Trimmed {
-    let pair = pair_with(ways, i, above);
-    let between = ways.get(pair.place).key;
-    let listed = listed_ways(others);
-    let (first, list) = if i == 0 {
-        (
-            first,
-            joined_ways(few.as_slice(), between, others.first(), listed.as_slice()),
-        )
-    } else {
-        (
-            others.first(),
-            joined_ways(listed.as_slice(), between, first, few.as_slice()),
-        )
-    };
-    let list = list.as_slice();
-    if list.len() <= 8 {
-        draft.put_ways(t, pair.left, first, list);
-        return join_pair(t, draft, above.page, ways, pair);
-    }
-    let cut = if i == 0 { 4 } else { list.len() - 5 };
-    draft.put_ways(t, pair.left, first, &list[..cut]);
-    draft.put_ways(t, pair.right, list[cut].child, &list[cut + 1..]);
-    let separator = Separator {
-        key: list[cut].key.copied(),
-        child: pair.right,
-    };
-    share_pair(t, draft, above.page, ways, pair, separator)
 }
 
 /// Page 0 takes over what its only child has.
-pub(crate) fn take_over<T: Pages>(
-    t: &mut T,
-    draft: &mut Draft,
-    child: u32,
-) -> Result<(), TreeFault> {
-    match draft.node_at(t, child)? {
-        Node::Free => return Err(TreeFault::Broken(child)),
-        Node::Leaf(entries) => draft.put_leaf(t, 0, listed(&entries).as_slice()),
-        Node::Interior(ways) => {
-            draft.put_ways(t, 0, ways.first(), listed_ways(&ways).as_slice());
-        }
+pub(crate) fn take_over<T: Pages>(t: &mut T, draft: &mut Draft, child: u32) -> Result<(), TreeFault>
+    requires more { 0 < reaches (T.step t.old) }
+    requires room { length draft.old.sheets.items < 40 }
+    requires free { length draft.old.freed.items < 20 }
+    requires draft { IsDraft (T.step t.old) draft.old }
+    requires top { MayHave (T.step t.old) 0 }
+    requires within { child < length (T.step t.old).images }
+    ensures images { (T.step t.new).images ≡ (T.step t.old).images }
+    ensures spares { (T.step t.new).spares ≡ (T.step t.old).spares }
+    ensures step { (T.step t.new).most_reached ≡ (T.step t.old).most_reached }
+    ensures reaches { reaches (T.step t.old) ≤ reaches (T.step t.new) + 1 }
+    ensures changes { IsStill (T.step t.old) (T.step t.new) }
+    ensures draft { OnOk result (IsDraft (T.step t.new) draft.new) }
+    ensures taken { OnOk result (IsTakenOver (T.step t.new) draft.old draft.new child) }
+    ensures fault { IfErr result (HasCause (T.step t.new).refusal (λ page. page_at (images_of draft.old (T.step t.old)) child ≡ Some grammar.Free)) }
+{
+    let node = draft.node_at(t, child)?;
+    if let Node::Free = node {
+        return Err(TreeFault::Broken(child));
     }
+    put_on_top(t, draft, &node);
     draft.free(t, child);
     Ok(())
 }

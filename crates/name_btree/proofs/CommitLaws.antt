@@ -1,0 +1,72 @@
+-- What a step knows once a draft is written.
+use Rattle.std.proofs.Common.{◌≡◌, ℕ, zero, suc, ◌+◌, ◌-◌, ◌≤◌, Bool, true, false, List, [], ◌∷◌, cond, ◌++◌, length-append, length, get_or, refl, sym, ap, ◌∙◌, arith}
+use Rattle.std.specs.Prelude.{slice_set}
+use Rattle.name_page.specs.Pages.{Step, reaches, changes, is_spare, with_page, with_spare, with_one, is_one_of}
+use Rattle.name_btree.specs.declared.draft.Sheet.{Sheet}
+use Rattle.name_btree.specs.Draft.{committed, freed}
+
+-- ---- what is written
+
+one_more : (pages : List ℕ) (page : ℕ) → length (with_one pages page) ≤ length pages + 1
+one_more pages page = by (is_one_of pages page)
+  where
+    by : (b : Bool) → length (cond b pages (pages ++ page ∷ [])) ≤ length pages + 1
+    by true = omega arith
+    by false = omega (arith, length-append pages (page ∷ []))
+
+-- what the writes leave as it was
+record Leaves (old new : Step) : Type 0 where
+  most_reached : new.most_reached ≡ old.most_reached
+  most_changed : new.most_changed ≡ old.most_changed
+  reached : new.reached ≡ old.reached
+
+committed_leaves : (sheets : List Sheet) (step : Step) → Leaves step (committed sheets step)
+committed_leaves [] step = record { most_reached = refl; most_changed = refl; reached = refl }
+committed_leaves (s ∷ sheets) step =
+    let rest = committed_leaves sheets (with_page s.page s.image step) in
+    record { most_reached = rest.most_reached; most_changed = rest.most_changed; reached = rest.reached }
+
+committed_changed : (sheets : List Sheet) (step : Step) → length (committed sheets step).changed ≤ length step.changed + length sheets
+committed_changed [] step = omega arith
+committed_changed (s ∷ sheets) step = omega (arith, committed_changed sheets (with_page s.page s.image step), one_more step.changed s.page)
+
+-- ---- what is made spare
+
+freed_leaves : (pages : List ℕ) (step : Step) → Leaves step (freed pages step)
+freed_leaves [] step = record { most_reached = refl; most_changed = refl; reached = refl }
+freed_leaves (p ∷ pages) step =
+    let rest = freed_leaves pages (with_spare p step) in
+    record { most_reached = rest.most_reached; most_changed = rest.most_changed; reached = rest.reached }
+
+freed_changed : (pages : List ℕ) (step : Step) → (freed pages step).changed ≡ step.changed
+freed_changed [] step = refl
+freed_changed (p ∷ pages) step = freed_changed pages (with_spare p step)
+
+more_spare : (spares : List Bool) (page q : ℕ) → get_or spares q false ≡ true → get_or (slice_set spares page true) q false ≡ true
+more_spare [] page q h = h
+more_spare (x ∷ spares) zero zero h = refl
+more_spare (x ∷ spares) zero (suc q) h = h
+more_spare (x ∷ spares) (suc page) zero h = h
+more_spare (x ∷ spares) (suc page) (suc q) h = more_spare spares page q h
+
+pub freed_spare : (pages : List ℕ) (step : Step) (q : ℕ) → is_spare step.spares q ≡ true → is_spare (freed pages step).spares q ≡ true
+freed_spare [] step q h = h
+freed_spare (p ∷ pages) step q h = freed_spare pages (with_spare p step) q (more_spare step.spares p q h)
+
+-- ---- both
+
+pub commit_most_reached : (pages : List ℕ) (sheets : List Sheet) (step : Step) → (freed pages (committed sheets step)).most_reached ≡ step.most_reached
+commit_most_reached pages sheets step = (freed_leaves pages (committed sheets step)).most_reached ∙ (committed_leaves sheets step).most_reached
+
+pub commit_most_changed : (pages : List ℕ) (sheets : List Sheet) (step : Step) → (freed pages (committed sheets step)).most_changed ≡ step.most_changed
+commit_most_changed pages sheets step = (freed_leaves pages (committed sheets step)).most_changed ∙ (committed_leaves sheets step).most_changed
+
+pub commit_reaches : (pages : List ℕ) (sheets : List Sheet) (step : Step) → reaches (freed pages (committed sheets step)) ≡ reaches step
+commit_reaches pages sheets step =
+    let most = commit_most_reached pages sheets step in
+    let reached : (freed pages (committed sheets step)).reached ≡ step.reached = (freed_leaves pages (committed sheets step)).reached ∙ (committed_leaves sheets step).reached in
+    omega (arith, most, ap length reached)
+
+pub commit_changes : (pages : List ℕ) (sheets : List Sheet) (step : Step) → changes step ≤ changes (freed pages (committed sheets step)) + length sheets
+commit_changes pages sheets step =
+    omega (arith, commit_most_changed pages sheets step, ap length (freed_changed pages (committed sheets step)), committed_changed sheets step)

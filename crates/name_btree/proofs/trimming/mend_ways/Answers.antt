@@ -1,0 +1,118 @@
+use Rattle.std.proofs.Common.{◌≡◌, ◌∙◌, ◌+◌, ◌<◌, ◌≤◌, Bool, true, sym, ap, subst, length, ℕ, List, Some, arith, rules}
+use Rattle.std.specs.Prelude.{slice_get}
+use Rattle.std.specs.List.{AllByRecursion}
+use Rattle.fsd_formats.specs.declared.page.Separator.{Separator}
+use Rattle.fsd_formats.specs.NamePage.{Interior, is_page, FitsSeparator}
+use Rattle.fsd_bytes.specs.Keys.{is_key}
+use Rattle.fsd_table.specs.declared.child.Child.{Child}
+use Rattle.fsd_table.specs.Pages.{page_at, children, content_fits}
+use Rattle.fsd_table.proofs.PageLaws.{at_is_page}
+use Rattle.name_node.specs.declared.node.Node.{Node}
+use Rattle.name_node.specs.Node.{content_of}
+use Rattle.name_node.proofs.CountLaws.{few_separators}
+use Rattle.name_page.specs.Pages.{is_spare}
+use Rattle.name_btree.specs.Draft.{drafted}
+use Rattle.name_btree.specs.Trim.{MayHave, AreWays, AreWaysMended, ways_at}
+use Rattle.name_btree.proofs.DraftLaws.{drafted_length}
+use Rattle.name_btree.proofs.MendLaws.{draft_kept, page_kept, left_page, right_page, ways_found, ways_count}
+use Rattle.name_btree.proofs.PairLaws.{sides_are, same_of}
+use Rattle.name_btree.proofs.TrimLaws.{least_of_page}
+use Rattle.name_btree.proofs.trimming.mend_ways.Goals as goal
+
+pub ways_joined-requires-clause-others : goal.ways_joined-requires-clause-others
+ways_joined-requires-clause-others g c =
+    let pages : List (List ℕ) = drafted c.args.draft.now.sheets.items (g.T.Pages.step c.args.t.now).images in
+    let page : ℕ = c.child_at-neighbour.result.page in
+    let others = c.in-Interior.others in
+    let at : page_at pages page ≡ Some (Interior others.0 others.1) = c.in_ok-others.ensures.node ∙ ap (λ (n : Node). Some (content_of n)) c.in-Interior.is in
+    few_separators pages page others.0 others.1 at
+
+pub ways_cut-cut-requires : goal.ways_cut-cut-requires
+ways_cut-cut-requires g c =
+    let pages : List (List ℕ) = drafted c.args.draft.now.sheets.items (g.T.Pages.step c.args.t.now).images in
+    let neighbour = c.child_at-neighbour.result in
+    let others = c.in-Interior.others in
+    let few = c.args.few.now.items in
+    let at : page_at pages neighbour.page ≡ Some (Interior others.0 others.1) = c.in_ok-others.ensures.node ∙ ap (λ (n : Node). Some (content_of n)) c.in-Interior.is in
+    let least : 4 ≤ length others.1 = least_of_page neighbour.page (length pages) others.0 others.1 c.if-neighbour-ne0.true (at_is_page pages neighbour.page (Interior others.0 others.1) at) in
+    let is : c.as_slice-list.result.now ≡ ways_at c.args.i c.get.result.key c.args.first few others.0 others.1 = c.as_slice-list.ensures.value ∙ c.in-Some.ensures.list in
+    omega (arith, ap length is, ways_count c.args.i c.get.result.key c.args.first few others.0 others.1, least)
+
+pub put_interiors-requires : goal.put_interiors-requires
+put_interiors-requires g c =
+    let old = g.T.Pages.step c.args.t.now in
+    let new = g.T.Pages.step c.child_node.new.t in
+    let p : ℕ = length old.images in
+    let above = c.args.above.now in
+    let ways = c.args.ways.now in
+    let pair = c.pair_with-pair.result in
+    let is = c.pair_with-pair.ensures.pair in
+    let child = c.args.child.now in
+    let neighbour = c.child_at-neighbour.result in
+    let others = c.in-Interior.others in
+    let few = c.args.few.now.items in
+    let list : List Separator = c.as_slice-list.result.now in
+    let cs : List Child = children ways.0 above.low above.high ways.1 in
+    let sheets = c.args.draft.now.sheets.items in
+    let pages : List (List ℕ) = drafted sheets old.images in
+    let at : page_at pages neighbour.page ≡ Some (Interior others.0 others.1) = c.in_ok-others.ensures.node ∙ ap (λ (n : Node). Some (content_of n)) c.in-Interior.is in
+    let page = subst (λ (n : ℕ). is_page neighbour.page n (Interior others.0 others.1) ≡ true) (drafted_length sheets old.images) (at_is_page pages neighbour.page (Interior others.0 others.1) at) in
+    let sides = sides_are above ways.0 ways.1 pair is c.args.i child neighbour c.pair_with-pair.ensures.place c.requires.child (ap (slice_get cs) (sym c.neighbour_of.ensures) ∙ c.child_at-neighbour.ensures) in
+    let within = sym (ap (λ (n : Node). content_fits neighbour.low neighbour.high (Some (content_of n))) c.in-Interior.is) ∙ c.in_ok-others.ensures.fits in
+    let is_list : list ≡ ways_at c.args.i c.get.result.key c.args.first few others.0 others.1 = c.as_slice-list.ensures.value ∙ c.in-Some.ensures.list in
+    let fits = subst (AllByRecursion FitsSeparator) (sym c.as_slice-list.ensures.value) c.in-Some.ensures.fits in
+    let both = ways_found p ways.0 above ways.1 pair is c.requires.ways c.args.i child neighbour sides c.args.first few others.0 others.1 c.requires.few page within
+    c.get.result c.get.ensures.there c.in-Some.ensures.behind c.in-Some.joined.first list c.in-Some.ensures.first is_list in
+    let count : 5 ≤ length list =
+    omega (arith, ap length is_list, ways_count c.args.i c.get.result.key c.args.first few others.0 others.1, least_of_page neighbour.page p others.0 others.1 c.if-neighbour-ne0.true page) in
+    let kept = c.child_node.ensures.kept in
+    let spares = c.child_node.ensures.spares in
+    let child_may = page_kept old new child.page kept spares c.requires.below in
+    let other_may : MayHave new neighbour.page = record { reached = c.in_ok-others.ensures.reached; used = ap (λ (x : List Bool). is_spare x neighbour.page) spares ∙ c.in_ok-others.ensures.used } in
+    record {
+      room = search rules;
+      freed = search rules;
+      draft = draft_kept old new c.args.draft.now kept spares c.child_node.ensures.images c.requires.draft;
+      page = search rules;
+      left = left_page (MayHave new) above ways.0 ways.1 pair is c.args.i child neighbour sides child_may other_may;
+      right = right_page (MayHave new) above ways.0 ways.1 pair is c.args.i child neighbour sides child_may other_may;
+      ways = search rules;
+      pair = search rules;
+      list = subst (λ (n : ℕ). AreWays n c.in-Some.joined.first list) (ap (λ (x : List (List ℕ)). length x) (sym c.child_node.ensures.images)) both.are;
+      fits = fits;
+      least = omega (arith, count);
+      front = search rules;
+      short = search rules;
+      behind = search rules;
+      most = search rules;
+      within = both.within;
+    }
+
+pub returns-in-Some-clause-mended : goal.returns-in-Some-clause-mended
+returns-in-Some-clause-mended g c =
+    let new = g.T.Pages.step c.child_node.new.t in
+    let above = c.args.above.now in
+    let ways = c.args.ways.now in
+    let pair = c.pair_with-pair.result in
+    let is = c.pair_with-pair.ensures.pair in
+    let cs : List Child = children ways.0 above.low above.high ways.1 in
+    let others = c.in-Interior.others in
+    let few = c.args.few.now.items in
+    let draft = c.args.draft.now in
+    let at = c.in_ok-others.ensures.node ∙ ap (λ (n : Node). Some (content_of n)) c.in-Interior.is in
+    let same = same_of c.get.result is.between (sym c.get.ensures.there ∙ is.there) in
+    let is_list : c.as_slice-list.result.now ≡ ways_at c.args.i is.between.key c.args.first few others.0 others.1 =
+    c.as_slice-list.ensures.value ∙ c.in-Some.ensures.list ∙ ap (λ (s : Separator). ways_at c.args.i s.key c.args.first few others.0 others.1) same in
+    record {
+      pair = pair;
+      place = c.pair_with-pair.ensures.place;
+      is = is;
+      neighbour = c.child_at-neighbour.result;
+      there = ap (slice_get cs) (sym c.neighbour_of.ensures) ∙ c.child_at-neighbour.ensures;
+      second = others.0;
+      others = others.1;
+      has = ap (λ (x : List (List ℕ)). page_at (drafted draft.sheets.items x) c.child_at-neighbour.result.page) c.child_node.ensures.images ∙ at;
+      mended = subst (λ (n : ℕ). AreWaysMended new draft c.put_interiors.new.draft above.page ways.0 ways.1 pair n (ways_at c.args.i is.between.key c.args.first few others.0 others.1) c.put_interiors.result)
+          c.in-Some.ensures.first
+          (subst (λ (xs : List Separator). AreWaysMended new draft c.put_interiors.new.draft above.page ways.0 ways.1 pair c.in-Some.joined.first xs c.put_interiors.result) is_list c.put_interiors.ensures.put);
+    }

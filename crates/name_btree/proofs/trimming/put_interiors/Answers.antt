@@ -1,0 +1,35 @@
+use Rattle.std.proofs.Common.{◌≡◌, ◌∙◌, ◌<◌, ◌≤◌, sym, ap, subst, length, ℕ, List, Some, arith}
+use Rattle.std.specs.Prelude.{slice_get}
+use Rattle.fsd_bytes.specs.declared.key.Key.{Key}
+use Rattle.fsd_formats.specs.declared.page.Separator.{Separator}
+use Rattle.fsd_formats.specs.NamePage.{Interior, is_page}
+use Rattle.name_btree.specs.Trim.{IsBetween}
+use Rattle.name_btree.proofs.PairLaws.{at_place}
+use Rattle.name_btree.proofs.TrimLaws.{front_page, behind_page, separator_between}
+use Rattle.name_btree.proofs.trimming.put_interiors.Goals as goal
+
+pub put_ways-requires-2-clause-accepted : goal.put_ways-requires-2-clause-accepted
+put_ways-requires-2-clause-accepted g c =
+    let p : ℕ = length (g.T.Pages.step c.args.t.now).images in
+    let list = c.args.list.now in
+    let many : 8 < length list = omega arith in
+    ap (λ (xs : List Separator). is_page c.args.pair.left p (Interior c.args.first xs)) c.split_at.ensures.front
+    ∙ front_page c.args.pair.left p c.args.first list c.args.cut c.requires.list (c.requires.front many) (c.requires.short many) (omega (arith, c.requires.behind many))
+
+pub put_ways-requires-3-clause-accepted : goal.put_ways-requires-3-clause-accepted
+put_ways-requires-3-clause-accepted g c =
+    let p : ℕ = length (g.T.Pages.step c.args.t.now).images in
+    let list = c.args.list.now in
+    let many : 8 < length list = omega arith in
+    let s : Separator = c.index-list-cut.result in
+    ap (λ (xs : List Separator). is_page c.args.pair.right p (Interior s.child xs)) c.split_at-2.ensures.back
+    ∙ behind_page c.args.pair.right p c.args.first list c.args.cut s c.requires.list (at_place list c.args.cut s (omega (arith, c.requires.behind many)) ∙ ap Some (sym c.index-list-cut.is)) (c.requires.behind many) (c.requires.most many)
+
+pub share_pair-requires-clause-between : goal.share_pair-requires-clause-between
+share_pair-requires-clause-between g c =
+    let list = c.args.list.now in
+    let many : 8 < length list = omega arith in
+    let s : Separator = c.index-list-cut.result in
+    let at : slice_get list c.args.cut ≡ Some s = at_place list c.args.cut s (omega (arith, c.requires.behind many)) ∙ ap Some (sym c.index-list-cut.is) in
+    let is = separator_between c.args.above.now c.args.ways.now.0 c.args.ways.now.1 c.args.pair list c.args.cut s (omega (arith, c.requires.front many)) at c.requires.list.ascend c.requires.within in
+    subst (IsBetween c.args.above.now c.args.ways.now.0 c.args.ways.now.1 c.args.pair) (sym c.copied.ensures) is
