@@ -25,6 +25,7 @@ mod ReachLaws
 pub mod RemoveLaws
 mod ReplaceLaws
 pub mod ResultLaws
+mod RunLaws
 mod SetLaws
 mod SpareLaws
 mod StepLaws

@@ -7,6 +7,7 @@ pub mod Level
 pub mod Map
 pub mod Remove
 pub mod Replace
+pub mod Runs
 pub mod Still
 pub mod Trim
 pub mod Walk

@@ -12,6 +12,7 @@ mod draft;
 mod fault;
 mod growing;
 mod inserting;
+mod laws;
 mod lookup;
 mod removing;
 mod replacing;
@@ -21,6 +22,7 @@ mod writing;
 
 pub use fault::TreeFault;
 pub use inserting::insert;
+pub use laws::tables_are_maps;
 pub use lookup::{find, highest, next_after};
 pub use removing::remove;
 pub use replacing::replace_same_size;
