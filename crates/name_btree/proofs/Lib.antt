@@ -14,4 +14,5 @@ mod ReplaceLaws
 pub mod ResultLaws
 mod SetLaws
 pub mod TopLaws
+mod TrialLaws
 pub mod WalkLaws

@@ -3,6 +3,7 @@ pub mod Descent
 pub mod Draft
 pub mod Fault
 pub mod Level
+pub mod Map
 pub mod Replace
 pub mod Still
 pub mod Walk
