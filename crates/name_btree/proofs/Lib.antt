@@ -12,6 +12,7 @@ mod PathLaws
 mod ReachLaws
 mod ReplaceLaws
 pub mod ResultLaws
+mod RunsLaws
 mod SetLaws
 pub mod TopLaws
 mod TrialLaws

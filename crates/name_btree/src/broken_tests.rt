@@ -1,6 +1,9 @@
 //! Calls that would change broken tables.
-ghost use Rattle.std.specs.Prelude.{◌≡◌, true};
+ghost use Rattle.std.specs.Prelude.{◌≡◌, ◌≤◌, ℕ, IfOk, None, true};
 ghost use Rattle.fsd_formats.specs.NamePage.{is_entry, FitsEntry};
+ghost use Rattle.fsd_table.specs.Tree.{IsTree, table_of};
+ghost use Rattle.name_node.specs.Lookups.{entry_with};
+ghost use Rattle.name_page.specs.Pages.{reaches};
 
 use crate::tests::{entry, key, leaf, separator};
 use crate::{TreeFault, find, insert, remove};
@@ -24,16 +27,34 @@ fn table(alloc: Global, left: u32, right: u32) -> Result<VecPages, AllocError> {
     ];
     let mut above = [0; 512];
     write_interior(3, 4, &ways, &mut above);
-    let mut pages = vec![in alloc; root, low, high, above]?;
-    let mut spare = vec![in alloc; false; 4]?;
-    for _ in 4..16u32 {
-        pages.push([0; 512])?;
-        spare.push(true)?;
-    }
+    let mut pages = vec![in alloc; [0; 512]; 16]?;
+    let mut spare = vec![in alloc; true; 16]?;
+    pages[0] = root;
+    pages[1] = low;
+    pages[2] = high;
+    pages[3] = above;
+    spare[0] = false;
+    spare[1] = false;
+    spare[2] = false;
+    spare[3] = false;
     Ok(VecPages::new(pages, spare, 100))
 }
 
-// Puts an entry in and takes another out, where no entry has its key or a page breaks the table.
+// Whether no entry of a tree has the key: none is found, or a page breaks the table.
+fn may_put(t: &mut VecPages, key: &Key) -> Result<bool, TreeFault>
+    requires { 80 ≤ reaches (⟦<VecPages as Pages>⟧.step t.old) }
+    ensures images { (⟦<VecPages as Pages>⟧.step t.new).images ≡ (⟦<VecPages as Pages>⟧.step t.old).images }
+    ensures new { IfOk result (λ new. new ≡ true → (height : ℕ) → IsTree (⟦<VecPages as Pages>⟧.step t.old).images height
+        → entry_with key.now (table_of (⟦<VecPages as Pages>⟧.step t.old).images height) ≡ None) }
+{
+    match find(t, key) {
+        Ok(found) => Ok(found.is_none()),
+        Err(TreeFault::Broken(_)) => Ok(true),
+        Err(fault) => Err(fault),
+    }
+}
+
+// Puts an entry in and takes another out, if it may.
 fn put(t: &mut VecPages, entry: &Entry, gone: Key) -> Result<(), TreeFault>
     requires entry { is_entry entry.now ≡ true }
     requires fits { FitsEntry entry.now }
@@ -41,10 +62,8 @@ fn put(t: &mut VecPages, entry: &Entry, gone: Key) -> Result<(), TreeFault>
     let mut keys = ArrayVec::new();
     keys.push(gone);
     t.rest();
-    match find(t, &entry.key) {
-        Ok(Some(_)) => return Ok(()),
-        Ok(None) | Err(TreeFault::Broken(_)) => {}
-        Err(fault) => return Err(fault),
+    if !may_put(t, &entry.key)? {
+        return Ok(());
     }
     t.rest();
     insert(t, entry, &keys)

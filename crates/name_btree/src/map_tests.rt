@@ -9,7 +9,7 @@ use crate::walking::top_level;
 use crate::{TreeFault, find, highest, insert, next_after, remove, replace_same_size, walk};
 use arrayvec::ArrayVec;
 use fsd_bytes::{Key, Refusal, u16_at};
-use name_page::{Entry, Pages, VecPages, entry_len, write_free, write_leaf};
+use name_page::{Entry, Pages, VecPages, entry_len, write_leaf};
 use std::alloc::{AllocError, Global};
 use std::collections::BTreeMap;
 use std::process::Abort;
@@ -54,25 +54,12 @@ fn next(seed: &mut u64) -> u32 {
     ((*seed >> 32) & 0xffff_ffff) as u32
 }
 
-// The first image of a page: page 0 is an empty leaf, the others are free.
-fn blank(page: u32) -> [u8; 512] {
-    let mut image = [0; 512];
-    if page == 0 {
-        write_leaf(0, &[], &mut image);
-    } else {
-        write_free(page, &mut image);
-    }
-    image
-}
-
-// A table with no entry.
+// A table with no entry: page 0 is an empty leaf, and the others are spare.
 fn table(alloc: Global) -> Result<VecPages, AllocError> {
-    let mut images = Vec::new(alloc);
-    let mut spare = Vec::new(alloc);
-    for page in 0..PAGES {
-        images.push(blank(page))?;
-        spare.push(page > 0)?;
-    }
+    let mut images = vec![in alloc; [0; 512]; PAGES as usize]?;
+    write_leaf(0, &[], &mut images[0]);
+    let mut spare = vec![in alloc; true; PAGES as usize]?;
+    spare[0] = false;
     Ok(VecPages::new(images, spare, 100))
 }
 
@@ -171,8 +158,9 @@ fn put(
     let before = images(t, alloc)?;
     let free = spare_pages(t);
     t.rest();
-    let found = find(t, &entry.key)?;
-    assert!(rt; found.is_none());
+    if find(t, &entry.key)?.is_some() {
+        return Err(Fail::new("an entry has the key"));
+    }
     t.rest();
     match insert(t, &entry, gone) {
         Ok(()) => {

@@ -1,6 +1,8 @@
 //! What the table is to have: std's ordered map, and versions to put into it.
-ghost use Rattle.std.specs.Prelude.{◌≡◌, ◌≤◌, IfSome, true};
-ghost use Rattle.fsd_formats.specs.NamePage.{is_entry, FitsEntry};
+ghost use Rattle.std.specs.Prelude.{◌≡◌, ◌≤◌, ◌*◌, IfSome, true};
+ghost use Rattle.std.specs.List.{AllByRecursion};
+ghost use Rattle.run_table.specs.RunTable.{are_runs, total, FitsRun};
+ghost use Rattle.fsd_formats.specs.NamePage.{is_entry, sectors_for, FitsEntry};
 
 use arrayvec::ArrayVec;
 use fsd_bytes::{FileName, Key, Serial};
@@ -18,12 +20,12 @@ pub(crate) fn name(i: u32) -> FileName {
     FileName::parse(&bytes).unwrap_or_default()
 }
 
-// A version in one run more than `more`.
-pub(crate) fn entry(key: &Key, keep: u32, more: u32) -> Option<Entry>
-    requires keep { keep ≤ 999 }
-    requires more { more ≤ 7 }
-    ensures entry { IfSome result (λ e. is_entry e ≡ true) }
-    ensures fits { IfSome result FitsEntry }
+// One run more than `more`, of one sector each.
+fn some_runs(more: u32) -> Runs
+    requires { more ≤ 7 }
+    ensures runs { are_runs result ≡ true }
+    ensures total { total result ≡ sectors_for (512 * more) }
+    ensures fits { AllByRecursion FitsRun result }
 {
     let mut runs = Runs::new();
     for i in 0..more + 1 {
@@ -32,6 +34,16 @@ pub(crate) fn entry(key: &Key, keep: u32, more: u32) -> Option<Entry>
             length: 1,
         });
     }
+    runs
+}
+
+// A version in one run more than `more`.
+pub(crate) fn entry(key: &Key, keep: u32, more: u32) -> Option<Entry>
+    requires keep { keep ≤ 999 }
+    requires more { more ≤ 7 }
+    ensures entry { IfSome result (λ e. is_entry e ≡ true) }
+    ensures fits { IfSome result FitsEntry }
+{
     match FileName::parse(key.name.as_bytes()) {
         Ok(name) if key.version > 0 => Some(Entry {
             key: Key {
@@ -41,7 +53,7 @@ pub(crate) fn entry(key: &Key, keep: u32, more: u32) -> Option<Entry>
             keep,
             serial: Serial { epoch: 2, count: 1 },
             length: 512 * more,
-            runs,
+            runs: some_runs(more),
         }),
         _ => None,
     }
