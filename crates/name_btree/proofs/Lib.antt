@@ -26,12 +26,14 @@ pub mod RemoveLaws
 mod ReplaceLaws
 pub mod ResultLaws
 mod RunLaws
+mod RunsLaws
 mod SetLaws
 mod SpareLaws
 mod StepLaws
 mod TakeLaws
 pub mod TopLaws
 mod TreeGrowthLaws
+mod TrialLaws
 pub mod TrimLaws
 mod VisitedLaws
 pub mod WalkLaws

@@ -29,6 +29,11 @@ pub use replacing::replace_same_size;
 pub use walking::walk;
 
 #[cfg(test)]
+mod broken_tests;
+#[cfg(test)]
+mod map_tests;
+
+#[cfg(test)]
 mod tests {
     use super::*;
     use fsd_bytes::{FileName, Key, Refusal, Serial};
@@ -44,7 +49,7 @@ mod tests {
         FileName::parse(&bytes).unwrap_or_default()
     }
 
-    fn key(last: u8, version: u32) -> Key {
+    pub(crate) fn key(last: u8, version: u32) -> Key {
         Key {
             name: name(last),
             version,
@@ -52,7 +57,7 @@ mod tests {
     }
 
     // An empty version in one sector.
-    fn entry(key: Key, keep: u32) -> Option<Entry>
+    pub(crate) fn entry(key: Key, keep: u32) -> Option<Entry>
         requires { keep ≤ 999 }
         ensures entry { IfSome result (λ e. is_entry e ≡ true) }
         ensures fits { IfSome result FitsEntry }
@@ -80,7 +85,7 @@ mod tests {
         }
     }
 
-    fn separator(last: u8, version: u32, child: u32) -> Separator
+    pub(crate) fn separator(last: u8, version: u32, child: u32) -> Separator
         requires { 1 ≤ version }
         ensures { IsTrue (is_key result.key) }
     {
@@ -93,7 +98,7 @@ mod tests {
     }
 
     // A leaf of three versions.
-    fn leaf(page: u32, a: Key, b: Key, c: Key) -> [u8; 512] {
+    pub(crate) fn leaf(page: u32, a: Key, b: Key, c: Key) -> [u8; 512] {
         let mut image = [0; 512];
         if let (Some(a), Some(b), Some(c)) = (entry(a, 2), entry(b, 2), entry(c, 2)) {
             let _used = entry_len(&a) + entry_len(&b) + entry_len(&c);

@@ -48,7 +48,7 @@ fn is_new(reached: &mut [bool], page: u32) -> bool
 }
 
 // The level of page 0, down the first children.
-fn top_level<T: Pages>(t: &mut T) -> Result<u32, TreeFault>
+pub(crate) fn top_level<T: Pages>(t: &mut T) -> Result<u32, TreeFault>
     requires { 0 < (T.step t.old).most_reached }
     ensures images { (T.step t.new).images ≡ (T.step t.old).images }
     ensures spares { (T.step t.new).spares ≡ (T.step t.old).spares }

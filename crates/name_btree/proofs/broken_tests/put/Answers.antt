@@ -1,0 +1,11 @@
+use Rattle.std.proofs.Common.{◌≡◌, ap, ◌∙◌}
+use Rattle.name_page.specs.Pages.{Step}
+use Rattle.name_btree.proofs.TrialLaws.{still_new}
+use Rattle.name_btree.proofs.broken_tests.put.Goals as goal
+
+pub insert-requires-clause-new : goal.insert-requires-clause-new
+insert-requires-clause-new c =
+    let before = c.rest.new.self.pages.items in
+    let after = c.rest-2.new.self.pages.items in
+    let same : after ≡ before = ap (λ (s : Step). s.images) c.rest-2.ensures ∙ c.in_ok-may_put.ensures.images in
+    still_new before after c.args.entry.now.key c.push.new.self.items same (c.in_ok-may_put.ensures.new c.if-not-branch.false)

@@ -1,0 +1,92 @@
+//! Calls that would change broken tables.
+ghost use Rattle.std.specs.Prelude.{◌≡◌, ◌≤◌, ℕ, IfOk, None, true};
+ghost use Rattle.fsd_formats.specs.NamePage.{is_entry, FitsEntry};
+ghost use Rattle.fsd_table.specs.Tree.{IsTree, table_of};
+ghost use Rattle.name_node.specs.Lookups.{entry_with};
+ghost use Rattle.name_page.specs.Pages.{reaches};
+
+use crate::tests::{entry, key, leaf, separator};
+use crate::{TreeFault, find, insert, remove};
+use arrayvec::ArrayVec;
+use fsd_bytes::{Key, Refusal};
+use name_page::{Entry, Pages, VecPages, write_interior};
+use std::alloc::{AllocError, Global};
+use std::test::Fail;
+
+// A root, two leaves, an interior page, and twelve spare pages. The keys of the right child are from m!1 on.
+fn table(alloc: Global, left: u32, right: u32) -> Result<VecPages, AllocError> {
+    let mut root = [0; 512];
+    write_interior(0, left, &[separator(b'm', 1, right)], &mut root);
+    let low = leaf(1, key(b'a', 1), key(b'b', 2), key(b'b', 5));
+    let high = leaf(2, key(b'p', 1), key(b'q', 3), key(b'q', 4));
+    let ways = [
+        separator(b'p', 1, 5),
+        separator(b'q', 1, 6),
+        separator(b'r', 1, 7),
+        separator(b's', 1, 8),
+    ];
+    let mut above = [0; 512];
+    write_interior(3, 4, &ways, &mut above);
+    let mut pages = vec![in alloc; [0; 512]; 16]?;
+    let mut spare = vec![in alloc; true; 16]?;
+    pages[0] = root;
+    pages[1] = low;
+    pages[2] = high;
+    pages[3] = above;
+    spare[0] = false;
+    spare[1] = false;
+    spare[2] = false;
+    spare[3] = false;
+    Ok(VecPages::new(pages, spare, 100))
+}
+
+// Whether no entry of a tree has the key: none is found, or a page breaks the table.
+fn may_put(t: &mut VecPages, key: &Key) -> Result<bool, TreeFault>
+    requires { 80 ≤ reaches (⟦<VecPages as Pages>⟧.step t.old) }
+    ensures images { (⟦<VecPages as Pages>⟧.step t.new).images ≡ (⟦<VecPages as Pages>⟧.step t.old).images }
+    ensures new { IfOk result (λ new. new ≡ true → (height : ℕ) → IsTree (⟦<VecPages as Pages>⟧.step t.old).images height
+        → entry_with key.now (table_of (⟦<VecPages as Pages>⟧.step t.old).images height) ≡ None) }
+{
+    match find(t, key) {
+        Ok(found) => Ok(found.is_none()),
+        Err(TreeFault::Broken(_)) => Ok(true),
+        Err(fault) => Err(fault),
+    }
+}
+
+// Puts an entry in and takes another out, if it may.
+fn put(t: &mut VecPages, entry: &Entry, gone: Key) -> Result<(), TreeFault>
+    requires entry { is_entry entry.now ≡ true }
+    requires fits { FitsEntry entry.now }
+{
+    let mut keys = ArrayVec::new();
+    keys.push(gone);
+    t.rest();
+    if !may_put(t, &entry.key)? {
+        return Ok(());
+    }
+    t.rest();
+    insert(t, entry, &keys)
+}
+
+#[test]
+fn broken_tables_are_not_changed(rt: HostRuntime) -> Result<(), Fail> {
+    for (left, right, last, version, fault) in [
+        (1, 0, b'q', 3, TreeFault::Broken(0)),
+        (2, 1, b'q', 3, TreeFault::Broken(1)),
+        (1, 16, b'q', 3, TreeFault::Pages(Refusal::Unsound(100))),
+        (1, 3, b'a', 1, TreeFault::Broken(3)),
+    ] {
+        let mut t = table(rt.alloc(), left, right)?;
+        let before = format!(in rt.alloc(); "{t:?}")?;
+        assert_eq!(rt; remove(&mut t, &key(last, version)), Err(fault));
+        t.rest();
+        assert_eq!(rt; format!(in rt.alloc(); "{t:?}")?, before);
+        if let Some(entry) = entry(key(last, 9), 2) {
+            assert_eq!(rt; put(&mut t, &entry, key(last, version)), Err(fault));
+        }
+        t.rest();
+        assert_eq!(rt; format!(in rt.alloc(); "{t:?}")?, before);
+    }
+    Ok(())
+}

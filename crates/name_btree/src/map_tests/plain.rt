@@ -1,0 +1,107 @@
+//! What the table is to have: std's ordered map, and versions to put into it.
+ghost use Rattle.std.specs.Prelude.{◌≡◌, ◌≤◌, ◌*◌, IfSome, true};
+ghost use Rattle.std.specs.List.{AllByRecursion};
+ghost use Rattle.run_table.specs.RunTable.{are_runs, total, FitsRun};
+ghost use Rattle.fsd_formats.specs.NamePage.{is_entry, sectors_for, FitsEntry};
+
+use arrayvec::ArrayVec;
+use fsd_bytes::{FileName, Key, Serial};
+use name_page::Entry;
+use run_table::{Run, Runs};
+use std::collections::BTreeMap;
+
+pub(crate) type Versions = BTreeMap<Key, Entry>;
+
+// The name of 40 bytes with this number.
+pub(crate) fn name(i: u32) -> FileName {
+    let mut bytes = [b'n'; 40];
+    bytes[38] = b'0' + (i / 10 % 10) as u8;
+    bytes[39] = b'0' + (i % 10) as u8;
+    FileName::parse(&bytes).unwrap_or_default()
+}
+
+// One run more than `more`, of one sector each.
+fn some_runs(more: u32) -> Runs
+    requires { more ≤ 7 }
+    ensures runs { are_runs result ≡ true }
+    ensures total { total result ≡ sectors_for (512 * more) }
+    ensures fits { AllByRecursion FitsRun result }
+{
+    let mut runs = Runs::new();
+    for i in 0..more + 1 {
+        runs.push(Run {
+            start: 921 + 2 * i,
+            length: 1,
+        });
+    }
+    runs
+}
+
+// A version in one run more than `more`.
+pub(crate) fn entry(key: &Key, keep: u32, more: u32) -> Option<Entry>
+    requires keep { keep ≤ 999 }
+    requires more { more ≤ 7 }
+    ensures entry { IfSome result (λ e. is_entry e ≡ true) }
+    ensures fits { IfSome result FitsEntry }
+{
+    match FileName::parse(key.name.as_bytes()) {
+        Ok(name) if key.version > 0 => Some(Entry {
+            key: Key {
+                name,
+                version: key.version,
+            },
+            keep,
+            serial: Serial { epoch: 2, count: 1 },
+            length: 512 * more,
+            runs: some_runs(more),
+        }),
+        _ => None,
+    }
+}
+
+// The entry with the least later key.
+pub(crate) fn next_in(map: &Versions, after: &Option<Key>) -> Option<Entry> {
+    for (key, entry) in map {
+        let is_later = match after {
+            Some(before) => before.cmp(key).is_lt(),
+            None => true,
+        };
+        if is_later {
+            return Some(entry.copied());
+        }
+    }
+    None
+}
+
+// The entry with the highest version of a name.
+pub(crate) fn highest_in(map: &Versions, name: &FileName) -> Option<Entry> {
+    let mut highest = None;
+    for (key, entry) in map {
+        if key.name.cmp(name).is_eq() {
+            highest = Some(entry.copied());
+        }
+    }
+    highest
+}
+
+// How many versions a name has.
+pub(crate) fn count_in(map: &Versions, name: &FileName) -> u32 {
+    let mut count = 0u32;
+    for key in map.keys() {
+        if key.name.cmp(name).is_eq() {
+            count = count.wrapping_add(1);
+        }
+    }
+    count
+}
+
+// The oldest versions of a name, so many and two at most.
+pub(crate) fn oldest_in(map: &Versions, name: &FileName, many: u32) -> ArrayVec<Key, 2> {
+    let mut oldest = ArrayVec::new();
+    for key in map.keys() {
+        if oldest.len() < 2 && oldest.len() < many as usize && key.name.cmp(name).is_eq() {
+            oldest.push(key.copied());
+        }
+    }
+    oldest
+}
