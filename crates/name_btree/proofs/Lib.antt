@@ -1,4 +1,5 @@
 pub mod AboveLaws
+mod AbsentLaws
 pub mod AroundLaws
 mod BranchLaws
 mod ChangeLaws
@@ -9,6 +10,7 @@ mod DraftLaws
 pub mod FindLaws
 mod GrowLaws
 pub mod HighestLaws
+mod HistoryLaws
 mod InsertLaws
 mod KeepLaws
 pub mod LastLaws
@@ -18,6 +20,7 @@ mod MapLaws
 pub mod MarkLaws
 pub mod MendLaws
 pub mod NextLaws
+mod OnesLaws
 pub mod PairLaws
 mod PathLaws
 pub mod PutTreeLaws
@@ -25,15 +28,12 @@ mod ReachLaws
 pub mod RemoveLaws
 mod ReplaceLaws
 pub mod ResultLaws
-mod RunLaws
-mod RunsLaws
 mod SetLaws
 mod SpareLaws
 mod StepLaws
 mod TakeLaws
 pub mod TopLaws
 mod TreeGrowthLaws
-mod TrialLaws
 pub mod TrimLaws
 mod VisitedLaws
 pub mod WalkLaws

@@ -1,6 +1,6 @@
 use Rattle.std.proofs.Common.{◌≡◌, ap, ◌∙◌}
 use Rattle.name_page.specs.Pages.{Step}
-use Rattle.name_btree.proofs.TrialLaws.{still_new}
+use Rattle.name_btree.proofs.AbsentLaws.{still_new}
 use Rattle.name_btree.proofs.broken_tests.put.Goals as goal
 
 pub insert-requires-clause-new : goal.insert-requires-clause-new

@@ -1,4 +1,4 @@
-use Rattle.name_btree.proofs.RunLaws.{tables_run, replacing_makes}
+use Rattle.name_btree.proofs.HistoryLaws.{tables_run, replacing_makes}
 use Rattle.name_btree.proofs.laws.tables_are_maps.Goals as goal
 
 pub returns : goal.returns

@@ -1,6 +1,6 @@
 use Rattle.std.proofs.Common.{◌≡◌, sym, ap, ◌∙◌}
 use Rattle.name_page.specs.Pages.{Step}
-use Rattle.name_btree.proofs.TrialLaws.{still_new, none_found}
+use Rattle.name_btree.proofs.AbsentLaws.{still_new, none_found}
 use Rattle.name_btree.proofs.map_tests.put.Goals as goal
 
 pub insert-requires-clause-new : goal.insert-requires-clause-new

@@ -1,4 +1,4 @@
-use Rattle.name_btree.proofs.RunsLaws.{AreOnes}
+use Rattle.name_btree.proofs.OnesLaws.{AreOnes}
 use Rattle.name_btree.proofs.map_tests.plain.some_runs.Given as goal
 
 -- a run for each number before
