@@ -9,8 +9,10 @@ pub mod HighestLaws
 mod KeepLaws
 pub mod LastLaws
 mod LevelLaws
+pub mod LeafTreeLaws
 pub mod MarkLaws
 pub mod MendLaws
+pub mod MendTreeLaws
 pub mod NextLaws
 pub mod PairLaws
 mod PathLaws
