@@ -134,7 +134,7 @@ pub record Raised (key : Key) (pages after : List (List ℕ)) (went : List ℕ) 
   pub inner : Becomes (without key) pages after [] went level (children_of above.low above.high (page_at pages above.page)) (children first above.low above.high separators)
   pub whole : page_at after above.page ≡ Some (Interior first separators) → Becomes (without key) pages after [] went (suc level) (above ∷ []) (above ∷ [])
 
-all_top : (cs : List Child) → AllByRecursion (λ (d : Child). ⊤) cs
+pub all_top : (cs : List Child) → AllByRecursion (λ (d : Child). ⊤) cs
 all_top [] = tt
 all_top (c ∷ cs) = (tt, all_top cs)
 

@@ -13,6 +13,7 @@ pub mod LeafTreeLaws
 pub mod MarkLaws
 pub mod MendLaws
 pub mod MendTreeLaws
+pub mod MendedLaws
 pub mod NextLaws
 pub mod PairLaws
 mod PathLaws
@@ -25,3 +26,4 @@ mod SetLaws
 pub mod TopLaws
 pub mod TrimLaws
 pub mod WalkLaws
+pub mod WayTreeLaws

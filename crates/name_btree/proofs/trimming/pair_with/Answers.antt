@@ -1,5 +1,4 @@
 use Rattle.std.proofs.Common.{◌<◌, length, refl, arith}
-use Rattle.name_btree.proofs.MendTreeLaws.{joined_trimmed}
 use Rattle.name_btree.proofs.PairLaws.{pair_is}
 use Rattle.name_btree.proofs.trimming.pair_with.Goals as goal
 
