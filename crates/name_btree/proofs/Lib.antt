@@ -21,6 +21,7 @@ mod ReachLaws
 pub mod PutTreeLaws
 pub mod RemoveLaws
 mod ReplaceLaws
+pub mod RootLaws
 pub mod ResultLaws
 mod SetLaws
 pub mod TopLaws

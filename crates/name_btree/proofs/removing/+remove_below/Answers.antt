@@ -17,7 +17,7 @@ use Rattle.name_page.specs.Pages.{reaches}
 use Rattle.name_btree.specs.declared.trimming.Trimmed.{Trimmed}
 use Rattle.name_btree.specs.declared.trimming.Trimmed.TheVariants.{Whole}
 use Rattle.name_btree.specs.Draft.{drafted, IsDraft}
-use Rattle.name_btree.specs.Remove.{IsAround, IsTrimmed, IsTrimmedBelow}
+use Rattle.name_btree.specs.Remove.{IsAround, IsTrimmed, IsTrimmedBelow, IsRootLeft}
 use Rattle.name_btree.specs.Trim.{AreEntries, IsOpened, IsMended, IsLeft, used_by}
 use Rattle.name_btree.proofs.AboveLaws.{ok_left, ok_on, mended_left, mended_freed, mended_sheets, room_left}
 use Rattle.name_btree.proofs.ChangeLaws.{without_leaf}
@@ -26,6 +26,7 @@ use Rattle.name_btree.proofs.MendLaws.{draft_kept}
 use Rattle.name_btree.proofs.MendedLaws.{trimmed_above, breaks_above}
 use Rattle.name_btree.proofs.RemoveLaws.{misfit_below, leaf_most, leaf_left, leaf_trimmed}
 use Rattle.name_btree.proofs.ReplaceLaws.{few_in_leaf}
+use Rattle.name_btree.proofs.RootLaws.{mended_root}
 use Rattle.name_btree.proofs.TrimLaws.{page_ways}
 use Rattle.name_btree.proofs.removing.+remove_below.Goals as goal
 
@@ -198,3 +199,14 @@ returns-in_err-trimmed-in-Interior-clause-fault g t c =
 
 pub returns-in_ok-trimmed-in-Interior-clause-fault : goal.returns-in_ok-trimmed-in-Interior-clause-fault
 returns-in_ok-trimmed-in-Interior-clause-fault g t c = ?
+
+pub returns-in_ok-trimmed-in-Interior-clause-root : goal.returns-in_ok-trimmed-in-Interior-clause-root
+returns-in_ok-trimmed-in-Interior-clause-root g t c =
+    let step = g.T.Pages.step c.trim_above.new.t in
+    let mid = c.remove_below.new.draft in
+    let new = c.trim_above.new.draft in
+    let child = c.args.child.now in
+    let ways = c.in-Interior.ways in
+    let below = c.in_ok-trimmed-in-Interior.trimmed in
+    ok_left c.trim_above.result (IsMended step mid new child ways.0 ways.1 c.ways_before-i.result below) (IsRootLeft child.page)
+    (λ left m. mended_root step mid new child ways.0 ways.1 c.ways_before-i.result below left m) c.trim_above.ensures.mended
