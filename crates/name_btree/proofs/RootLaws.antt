@@ -1,17 +1,18 @@
 -- What is left of page 0, and a tree without a key.
 use Rattle.std.proofs.Common.{◌≡◌, ◌≢◌, ◌⊎◌, inl, inr, ℕ, zero, suc, ◌+◌, ◌-◌, ◌<◌, ◌≤◌, Bool, true, false, ◌||◌, List, [], ◌∷◌, ◌++◌, length, Option, Some, None, refl, sym, ap, subst, ◌∙◌, arith}
-use Rattle.std.specs.Prelude.{◌==◌}
-use Rattle.std.specs.List.{flat_map}
+use Rattle.std.specs.Prelude.{◌==◌, Result, Ok, Err, OnOk, IfErr}
+use Rattle.std.specs.List.{flat_map, AllByRecursion}
 use Rattle.std.proofs.lemmas.List.{append-nil}
 use Rattle.run_table.specs.Space.{contains, all_differ}
 use Rattle.fsd_bytes.specs.declared.key.Key.{Key}
 use Rattle.fsd_formats.specs.declared.entry.Entry.{Entry}
 use Rattle.fsd_formats.specs.declared.page.Separator.{Separator}
 use Rattle.fsd_formats.specs.NamePage.{Content, least_separators}
+use Rattle.fsd_formats.specs.NamePage as grammar
 use Rattle.fsd_table.specs.declared.child.Child.{Child}
 use Rattle.fsd_table.specs.Pages.{page_at, children, children_of}
 use Rattle.fsd_table.specs.Table.{top}
-use Rattle.fsd_table.specs.Tree.{pages_of, pages_below, IsTree, IsSubtree}
+use Rattle.fsd_table.specs.Tree.{pages_of, pages_below, IsTree, IsSubtree, IsLeaf, IsInterior}
 use Rattle.fsd_forest.specs.Forest.{inner, count_of, forest_pages, Stay, Becomes, TreeBecomes}
 use Rattle.fsd_forest.proofs.CountLaws.{count_cons, count_append, count_nothing, differ_counts, one_if, one_where}
 use Rattle.fsd_forest.proofs.TreeLaws.{trees_become}
@@ -20,6 +21,10 @@ use Rattle.name_node.specs.Edits.{without}
 use Rattle.name_page.specs.Pages.{Step}
 use Rattle.name_btree.specs.declared.draft.Draft.{Draft}
 use Rattle.name_btree.specs.declared.draft.Sheet.{Sheet}
+use Rattle.fsd_bytes.specs.declared.refusal.Refusal.{Refusal}
+use Rattle.name_btree.specs.declared.fault.TreeFault.{TreeFault}
+use Rattle.name_btree.specs.declared.fault.TreeFault.TheVariants.{Pages, Broken}
+use Rattle.name_btree.specs.Fault.{HasCause}
 use Rattle.name_btree.specs.declared.trimming.Trimmed.{Trimmed}
 use Rattle.name_btree.specs.declared.trimming.Trimmed.TheVariants.{Whole, Leaf, Interior}
 use Rattle.name_btree.specs.Draft.{drafted, with_freed}
@@ -117,3 +122,37 @@ shrunk_tree step key pages mid new old0 first (Interior only list) is root t tak
     by zero up h = absurd h.becomes
     by (suc l) up h =
         shrunk step key pages mid new old0 height l only list.items tree up (none_of list.items root) h.went h.freed h.becomes (subst (IsTakenOver step mid new) (sym (same only first is)) taken)
+
+-- ---- faults
+
+not_free : (l : ℕ) (pages : List (List ℕ)) (c : Child) → page_at pages c.page ≡ Some grammar.Free → IsSubtree l pages c → ⊥
+not_free zero pages c at sub = subst (IsLeaf c) at sub
+not_free (suc l) pages c at sub = subst (IsInterior (IsSubtree l pages) c) at sub
+
+pub free_breaks : (key : Key) (pages between : List (List ℕ)) (old0 new0 : List ℕ) (first : ℕ) (left : Trimmed) → only_of left ≡ Some first → IsTrimmedBelow key pages between old0 new0 5 top left → page_at between first ≡ Some grammar.Free → (height : ℕ) → IsTree pages height → ⊥
+free_breaks key pages between old0 new0 first Whole is t free height tree = absurd cc
+free_breaks key pages between old0 new0 first (Leaf list) is t free height tree = absurd cc
+free_breaks key pages between old0 new0 first (Interior only list) is t free height tree = by (height - 1) (t (height - 1) (omega (arith, tree.most)) (tree_around key pages height tree))
+  where
+    same : (a b : ℕ) → Some a ≡ Some b → a ≡ b
+    same a b e = cc
+
+    head : (l : ℕ) (ys : List Separator) → AllByRecursion (IsSubtree l between) (children only None None ys) → ⊥
+    head l [] a = not_free l between (record { page = only; low = None; high = None }) (ap (page_at between) (same only first is) ∙ free) a.0
+    head l (y ∷ ys) a = not_free l between (record { page = only; low = None; high = Some y.key }) (ap (page_at between) (same only first is) ∙ free) a.0
+
+    by : (n : ℕ) → IsTrimmed key pages between old0 new0 n top (Interior only list) → ⊥
+    by zero h = h.becomes
+    by (suc l) h = head l list.items h.becomes.subtrees
+
+pub on_ok_more : {X : Type 0} (r : Result X TreeFault) (A B : Type 0) → (A → B) → OnOk r A → OnOk r B
+on_ok_more (Ok x) A B f h = f h
+on_ok_more (Err fault) A B f h = tt
+
+pub on_err_more : {X : Type 0} (r : Result X TreeFault) (P Q : TreeFault → Type 0) → ((fault : TreeFault) → P fault → Q fault) → IfErr r P → IfErr r Q
+on_err_more (Ok x) P Q f h = tt
+on_err_more (Err fault) P Q f h = f fault h
+
+pub cause_more : (given : Option Refusal) (A B : ℕ → Type 0) → ((page : ℕ) → A page → B page) → (fault : TreeFault) → HasCause given A fault → HasCause given B fault
+cause_more given A B f (Pages refusal) h = h
+cause_more given A B f (Broken page) h = f page h
