@@ -90,7 +90,7 @@ pair_stands key above first xs pair is i place ends begins = record {
 
 -- ---- the child
 
-count_one : (p : ℕ) (f : Child → List ℕ) (cs : List Child) (i : ℕ) (c : Child) → slice_get cs i ≡ Some c → count_of p (f c) ≤ count_of p (flat_map f cs)
+pub count_one : (p : ℕ) (f : Child → List ℕ) (cs : List Child) (i : ℕ) (c : Child) → slice_get cs i ≡ Some c → count_of p (f c) ≤ count_of p (flat_map f cs)
 count_one p f [] i c at = absurd cc
 count_one p f (d ∷ cs) zero c at =
     let same : f d ≡ f c = ap f (same_of d c at) in

@@ -67,11 +67,11 @@ leaves_shared key pages after above first xs pair is es y ys now next asc fit ed
 
 -- ---- pages apart
 
-head_counts : (p level : ℕ) (pages : List (List ℕ)) (c : Child) → one_where (c.page == p) ≤ count_of p (pages_below level pages c)
+pub head_counts : (p level : ℕ) (pages : List (List ℕ)) (c : Child) → one_where (c.page == p) ≤ count_of p (pages_below level pages c)
 head_counts p zero pages c = omega (arith, count_cons p c.page [])
 head_counts p (suc level) pages c = omega (arith, count_cons p c.page (flat_map (pages_below level pages) (children_of c.low c.high (page_at pages c.page))))
 
-one_same : (a b : ℕ) → a ≡ b → one_where (a == b) ≡ 1
+pub one_same : (a b : ℕ) → a ≡ b → one_where (a == b) ≡ 1
 one_same a b e = one_if (a == b) (grind arith)
 
 pub record AreApart (above : ℕ) (pair : Pair) : Type 0 where

@@ -26,5 +26,6 @@ pub mod ResultLaws
 mod SetLaws
 pub mod TopLaws
 pub mod TrimLaws
+pub mod UnlikeLaws
 pub mod WalkLaws
 pub mod WayTreeLaws

@@ -17,16 +17,18 @@ use Rattle.name_page.specs.Pages.{reaches}
 use Rattle.name_btree.specs.declared.trimming.Trimmed.{Trimmed}
 use Rattle.name_btree.specs.declared.trimming.Trimmed.TheVariants.{Whole}
 use Rattle.name_btree.specs.Draft.{drafted, IsDraft}
-use Rattle.name_btree.specs.Remove.{IsAround, IsTrimmed, IsTrimmedBelow, IsRootLeft}
-use Rattle.name_btree.specs.Trim.{AreEntries, IsOpened, IsMended, IsLeft, used_by}
-use Rattle.name_btree.proofs.AboveLaws.{ok_left, ok_on, mended_left, mended_freed, mended_sheets, room_left}
+use Rattle.name_btree.specs.Fault.{HasCause}
+use Rattle.name_btree.specs.Remove.{BreaksBelow, IsAround, IsTrimmed, IsTrimmedBelow, IsRootLeft}
+use Rattle.name_btree.specs.Trim.{IsUnlike, AreEntries, IsOpened, IsMended, IsLeft, used_by}
+use Rattle.name_btree.proofs.AboveLaws.{ok_left, err_left, ok_on, mended_left, mended_freed, mended_sheets, room_left}
 use Rattle.name_btree.proofs.ChangeLaws.{without_leaf}
 use Rattle.name_btree.proofs.DraftLaws.{drafted_length}
 use Rattle.name_btree.proofs.MendLaws.{draft_kept}
 use Rattle.name_btree.proofs.MendedLaws.{trimmed_above, breaks_above}
 use Rattle.name_btree.proofs.RemoveLaws.{misfit_below, leaf_most, leaf_left, leaf_trimmed}
 use Rattle.name_btree.proofs.ReplaceLaws.{few_in_leaf}
-use Rattle.name_btree.proofs.RootLaws.{mended_root}
+use Rattle.name_btree.proofs.RootLaws.{mended_root, cause_more}
+use Rattle.name_btree.proofs.UnlikeLaws.{unlike_above}
 use Rattle.name_btree.proofs.TrimLaws.{page_ways}
 use Rattle.name_btree.proofs.removing.+remove_below.Goals as goal
 
@@ -198,7 +200,31 @@ returns-in_err-trimmed-in-Interior-clause-fault g t c =
     at c.ways_before-i.ensures.within before behind c.child_at-below.ensures c.in_err-trimmed-in-Interior.ensures.fault)
 
 pub returns-in_ok-trimmed-in-Interior-clause-fault : goal.returns-in_ok-trimmed-in-Interior-clause-fault
-returns-in_ok-trimmed-in-Interior-clause-fault g t c = ?
+returns-in_ok-trimmed-in-Interior-clause-fault g t c =
+    let old = g.T.Pages.step c.args.t.now in
+    let between = g.T.Pages.step c.child_node.new.t in
+    let given = (g.T.Pages.step c.trim_above.new.t).refusal in
+    let key = c.args.key.now in
+    let draft = c.args.draft.now in
+    let mid = c.remove_below.new.draft in
+    let child = c.args.child.now in
+    let ways = c.in-Interior.ways in
+    let i = c.ways_before-i.result in
+    let below = c.in_ok-trimmed-in-Interior.trimmed in
+    let below_child = c.child_at-below.result in
+    let images2 = (g.T.Pages.step c.remove_below.new.t).images in
+    let pages : List (List ℕ) = drafted draft.sheets.items old.images in
+    let at : page_at pages child.page ≡ Some (Interior ways.0 ways.1) = c.in_ok-entries.ensures.node ∙ ap (λ (n : Node). Some (content_of n)) c.in-Interior.is in
+    let fit = sym (ap (λ (n : Node). content_fits child.low child.high (Some (content_of n))) c.in-Interior.is) ∙ c.in_ok-entries.ensures.fits in
+    let has = page_ways child.page (length pages) ways.0 ways.1 (at_is_page pages child.page (Interior ways.0 ways.1) at) in
+    let opened : IsOpened (length pages) child ways.0 ways.1 = record { ways = has.ways; within = fit; least = has.least; most = has.most } in
+    let before = subst (λ (k : Key). AllByRecursion (λ s. is_before (UpTo k) s.key ≡ true) (take i ways.1)) c.copied.ensures c.ways_before-i.ensures.before in
+    let behind = subst (λ (k : Key). AllByRecursion (λ s. is_before (UpTo k) s.key ≡ false) (drop i ways.1)) c.copied.ensures (c.ways_before-i.ensures.behind has.ways.ascend) in
+    let A : ℕ → Type 0 = IsUnlike (drafted mid.sheets.items images2) child ways.0 ways.1 i below_child below in
+    let B : ℕ → Type 0 = BreaksBelow key pages c.args.levels child in
+    err_left c.trim_above.result (HasCause given A) (HasCause given B)
+    (λ fault h. cause_more given A B (unlike_above old.images between.images images2 c.child_node.ensures.images c.remove_below.ensures.images key draft mid c.args.levels (length pages) child ways.0 ways.1 i below_child below
+    at opened c.ways_before-i.ensures.within before behind c.child_at-below.ensures c.in_ok-trimmed-in-Interior.ensures.trimmed) fault h) c.trim_above.ensures.fault
 
 pub returns-in_ok-trimmed-in-Interior-clause-root : goal.returns-in_ok-trimmed-in-Interior-clause-root
 returns-in_ok-trimmed-in-Interior-clause-root g t c =
