@@ -90,7 +90,7 @@ pair_stands key above first xs pair is i place ends begins = record {
 
 -- ---- the child
 
-count_one : (p : ℕ) (f : Child → List ℕ) (cs : List Child) (i : ℕ) (c : Child) → slice_get cs i ≡ Some c → count_of p (f c) ≤ count_of p (flat_map f cs)
+pub count_one : (p : ℕ) (f : Child → List ℕ) (cs : List Child) (i : ℕ) (c : Child) → slice_get cs i ≡ Some c → count_of p (f c) ≤ count_of p (flat_map f cs)
 count_one p f [] i c at = absurd cc
 count_one p f (d ∷ cs) zero c at =
     let same : f d ≡ f c = ap f (same_of d c at) in
@@ -134,7 +134,7 @@ pub record Raised (key : Key) (pages after : List (List ℕ)) (went : List ℕ) 
   pub inner : Becomes (without key) pages after [] went level (children_of above.low above.high (page_at pages above.page)) (children first above.low above.high separators)
   pub whole : page_at after above.page ≡ Some (Interior first separators) → Becomes (without key) pages after [] went (suc level) (above ∷ []) (above ∷ [])
 
-all_top : (cs : List Child) → AllByRecursion (λ (d : Child). ⊤) cs
+pub all_top : (cs : List Child) → AllByRecursion (λ (d : Child). ⊤) cs
 all_top [] = tt
 all_top (c ∷ cs) = (tt, all_top cs)
 

@@ -15,10 +15,13 @@ mod InsertLaws
 mod KeepLaws
 pub mod LastLaws
 mod LeafGrowthLaws
+pub mod LeafTreeLaws
 mod LevelLaws
 mod MapLaws
 pub mod MarkLaws
 pub mod MendLaws
+pub mod MendTreeLaws
+pub mod MendedLaws
 pub mod NextLaws
 mod OnesLaws
 pub mod PairLaws
@@ -28,6 +31,7 @@ mod ReachLaws
 pub mod RemoveLaws
 mod ReplaceLaws
 pub mod ResultLaws
+pub mod RootLaws
 mod SetLaws
 mod SpareLaws
 mod StepLaws
@@ -35,6 +39,8 @@ mod TakeLaws
 pub mod TopLaws
 mod TreeGrowthLaws
 pub mod TrimLaws
+pub mod UnlikeLaws
 mod VisitedLaws
 pub mod WalkLaws
+pub mod WayTreeLaws
 mod WaysGrowthLaws

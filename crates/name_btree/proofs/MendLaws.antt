@@ -66,7 +66,7 @@ fits_right low high k (a ∷ ks) in_low fit =
     let both = and_parts (not (key_lt a k)) (below high a) parts.0 in
     and_from (not_below low a && below high a) (keys_fit low high ks) (and_from (not_below low a) (below high a) (not_below_more low k a in_low both.0) both.1) (fits_right low high k ks in_low parts.1)
 
-fits_both : (low high : Option Key) (ks ls : List Key) (k : Key) → (not_below low k && below high k) ≡ true → keys_fit low (Some k) ks ≡ true → keys_fit (Some k) high ls ≡ true → keys_fit low high (ks ++ ls) ≡ true
+pub fits_both : (low high : Option Key) (ks ls : List Key) (k : Key) → (not_below low k && below high k) ≡ true → keys_fit low (Some k) ks ≡ true → keys_fit (Some k) high ls ≡ true → keys_fit low high (ks ++ ls) ≡ true
 fits_both low high ks ls k inside left right =
     let both = and_parts (not_below low k) (below high k) inside in
     fit_append low high ks ls ∙ and_from (keys_fit low high ks) (keys_fit low high ls) (fits_left low high k ks both.1 left) (fits_right low high k ls both.0 right)

@@ -301,3 +301,8 @@ pub least_of_page : (page p first : ℕ) (xs : List Separator) → (page ≡ 0 �
 least_of_page page p first xs some e =
     let outer = and_parts (all_below p xs && are_ascending (separator_keys xs) && nat_lt first p) (is_between (least_separators page) 9 (length xs)) e in
     least_ways_at page (length xs) some (leb-true (least_separators page) (length xs) (and_parts (nat_le (least_separators page) (length xs)) (nat_le (length xs) 9) outer.1).0)
+
+pub leaf_least : (page p : ℕ) (xs : List Entry) → is_page page p (Leaf xs) ≡ true → least_used page ≤ used_by xs
+leaf_least page p xs e =
+    let outer = and_parts (list_all is_entry xs && are_ascending (entry_keys xs)) (is_between (least_used page) room (used_by xs)) e in
+    leb-true (least_used page) (used_by xs) (and_parts (nat_le (least_used page) (used_by xs)) (nat_le (used_by xs) 488) outer.1).0

@@ -1,8 +1,9 @@
 -- What becomes of a tree from which a key is taken out.
-use Rattle.std.specs.Prelude.{◌≡◌, ◌≢◌, ℕ, zero, suc, ◌≤◌, ◌||◌, true, List, [], ◌∷◌}
+use Rattle.std.specs.Prelude.{◌≡◌, ◌≢◌, ℕ, zero, suc, ◌≤◌, ◌<◌, ◌||◌, true, List, [], ◌∷◌, length, ⊤}
 use Rattle.run_table.specs.Space.{contains, all_differ}
 use Rattle.fsd_bytes.specs.declared.key.Key.{Key}
 use Rattle.fsd_formats.specs.declared.entry.Entry.{Entry}
+use Rattle.fsd_formats.specs.NamePage.{least_separators}
 use Rattle.fsd_table.specs.declared.child.Child.{Child}
 use Rattle.fsd_table.specs.Pages.{page_at, children, children_of, entries_of, not_below, below}
 use Rattle.fsd_table.specs.Tree.{pages_below, IsSubtree}
@@ -42,3 +43,9 @@ IsTrimmedBelow key pages after old new levels c left = (level : ℕ) → level �
 -- there is none
 abbrev pub BreaksBelow : Key → List (List ℕ) → ℕ → Child → ℕ → Type 0
 BreaksBelow key pages levels c page = (level : ℕ) → level ≤ levels → IsAround key pages level c → ⊥
+
+-- of page 0 no leaf is left, and no separator
+abbrev pub IsRootLeft : ℕ → Trimmed → Type 0
+IsRootLeft page Whole = ⊤
+IsRootLeft page (Leaf list) = page ≢ 0
+IsRootLeft page (Interior first list) = length list.items < least_separators page

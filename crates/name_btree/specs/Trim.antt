@@ -195,6 +195,7 @@ pub record WayIsMended (step : Step) (old new : Draft) (above : Child) (first : 
   pub second : ℕ
   pub others : List Separator
   pub has : page_at (images_of old step) neighbour.page ≡ Some (grammar.Interior second others)
+  pub behind : is_behind is.between.key (right_at i few others) ≡ true
   pub mended : AreWaysMended step old new above.page first separators pair (first_at i lead second) (ways_at i is.between.key lead few second others) left
 
 -- the neighbour is no leaf, or page 0

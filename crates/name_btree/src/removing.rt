@@ -4,7 +4,7 @@ ghost use Rattle.fsd_table.specs.Tree.{table_of};
 ghost use Rattle.name_btree.specs.Draft.{IsDraft, RemovesFrom, images_of};
 ghost use Rattle.name_btree.specs.Fault.{HasCause, BreaksTree};
 ghost use Rattle.name_btree.specs.Map.{IsTable, HasTable};
-ghost use Rattle.name_btree.specs.Remove.{IsTrimmedBelow, BreaksBelow};
+ghost use Rattle.name_btree.specs.Remove.{IsTrimmedBelow, BreaksBelow, IsRootLeft};
 ghost use Rattle.name_btree.specs.Still.{IsStill};
 ghost use Rattle.name_btree.specs.Trim.{MayHave, IsLeft, sheets_below};
 ghost use Rattle.name_node.specs.Edits.{without};
@@ -59,8 +59,9 @@ pub(crate) fn remove_in<T: Pages>(t: &mut T, draft: &mut Draft, key: &Key) -> Re
     ensures fault { IfErr result (HasCause (T.step t.new).refusal (BreaksTree (images_of draft.old (T.step t.old)))) }
 {
     match remove_below(t, draft, &top(), key, 5)? {
+        Trimmed::Whole => Ok(()),
+        Trimmed::Leaf(_) => Ok(()),
         Trimmed::Interior(only, _) => take_over(t, draft, only),
-        _ => Ok(()),
     }
 }
 
@@ -88,6 +89,7 @@ fn remove_below<T: Pages>(
     ensures freed { OnOk result (length draft.new.freed.items ≤ length draft.old.freed.items + levels) }
     ensures page { OnOk result (MayHave (T.step t.new) child.now.page) }
     ensures left { IfOk result (IsLeft (length (T.step t.old).images) child.now) }
+    ensures root { IfOk result (IsRootLeft child.now.page) }
     ensures trimmed { IfOk result (IsTrimmedBelow key.now (images_of draft.old (T.step t.old)) (images_of draft.new (T.step t.old)) draft.old.freed.items draft.new.freed.items levels child.now) }
     ensures fault { IfErr result (HasCause (T.step t.new).refusal (BreaksBelow key.now (images_of draft.old (T.step t.old)) levels child.now)) }
 {

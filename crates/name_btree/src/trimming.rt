@@ -8,6 +8,7 @@ ghost use Rattle.fsd_table.specs.Pages.{page_at, children, entry_keys, separator
 ghost use Rattle.name_btree.specs.declared.trimming.Trimmed.TheVariants.{Whole};
 ghost use Rattle.name_btree.specs.Draft.{IsDraft, IsDrafted, images_of, with_freed};
 ghost use Rattle.name_btree.specs.Fault.{HasCause};
+ghost use Rattle.name_btree.specs.Remove.{IsRootLeft};
 ghost use Rattle.name_btree.specs.Still.{IsStill};
 ghost use Rattle.name_btree.specs.Trim.{used_by, AreEntries, AreWays, MayHave, IsOpened, AreFewEntries, AreFewWays, IsLeafPut, AreWaysPut, IsPair, pair_fits, IsBetween, separators_joined, separators_shared, AreLeavesMended, AreWaysMended, entries_at, ways_at, first_at, right_at, is_behind, LeafIsMended, WayIsMended, HasNoLeaf, HasNoWays, IsLeft, IsMended, IsUnlike, IsTakenOver};
 ghost use Rattle.name_node.specs.declared.node.Node.TheVariants.{Free};
@@ -57,6 +58,7 @@ pub(crate) fn trim_leaf<T: Pages>(
     ensures draft { IsDraft (T.step t.now) draft.new }
     ensures freed { draft.new.freed.items ≡ draft.old.freed.items }
     ensures put { IsLeafPut (T.step t.now) draft.old.sheets.items draft.new.sheets.items page entries.items result }
+    ensures root { IsRootLeft page result }
 {
     if page != 0 && used(entries.as_slice()) < 190 {
         return Trimmed::Leaf(entries);

@@ -1,4 +1,8 @@
-use Rattle.std.proofs.Common.{◌≡◌, ◌≢◌, ◌∙◌, ◌+◌, ◌*◌, ◌-◌, ◌<◌, ◌≤◌, Bool, true, sym, ap, subst, length, ℕ, List, Some, arith, rules}
+use Rattle.std.proofs.Common.{◌≡◌, ◌≢◌, ◌∙◌, ◌+◌, ◌*◌, ◌-◌, ◌<◌, ◌≤◌, Bool, true, false, take, drop, sym, ap, subst, length, ℕ, List, Some, arith, rules}
+use Rattle.std.specs.List.{AllByRecursion}
+use Rattle.fsd_bytes.specs.declared.key.Key.{Key}
+use Rattle.name_node.specs.declared.cut.Cut.TheVariants.{UpTo}
+use Rattle.name_node.specs.Cut.{is_before}
 use Rattle.std.specs.Prelude.{IfOk, IfErr}
 use Rattle.std.proofs.lemmas.Result.{err_from_is_err_and}
 use Rattle.fsd_formats.specs.declared.entry.Entry.{Entry}
@@ -13,14 +17,18 @@ use Rattle.name_page.specs.Pages.{reaches}
 use Rattle.name_btree.specs.declared.trimming.Trimmed.{Trimmed}
 use Rattle.name_btree.specs.declared.trimming.Trimmed.TheVariants.{Whole}
 use Rattle.name_btree.specs.Draft.{drafted, IsDraft}
-use Rattle.name_btree.specs.Remove.{IsAround, IsTrimmed}
-use Rattle.name_btree.specs.Trim.{AreEntries, IsOpened, IsMended, IsLeft, used_by}
-use Rattle.name_btree.proofs.AboveLaws.{ok_left, ok_on, mended_left, mended_freed, mended_sheets, room_left}
+use Rattle.name_btree.specs.Fault.{HasCause}
+use Rattle.name_btree.specs.Remove.{BreaksBelow, IsAround, IsTrimmed, IsTrimmedBelow, IsRootLeft}
+use Rattle.name_btree.specs.Trim.{IsUnlike, AreEntries, IsOpened, IsMended, IsLeft, used_by}
+use Rattle.name_btree.proofs.AboveLaws.{ok_left, err_left, ok_on, mended_left, mended_freed, mended_sheets, room_left}
 use Rattle.name_btree.proofs.ChangeLaws.{without_leaf}
 use Rattle.name_btree.proofs.DraftLaws.{drafted_length}
 use Rattle.name_btree.proofs.MendLaws.{draft_kept}
+use Rattle.name_btree.proofs.MendedLaws.{trimmed_above, breaks_above}
 use Rattle.name_btree.proofs.RemoveLaws.{misfit_below, leaf_most, leaf_left, leaf_trimmed}
 use Rattle.name_btree.proofs.ReplaceLaws.{few_in_leaf}
+use Rattle.name_btree.proofs.RootLaws.{mended_root, cause_more}
+use Rattle.name_btree.proofs.UnlikeLaws.{unlike_above}
 use Rattle.name_btree.proofs.TrimLaws.{page_ways}
 use Rattle.name_btree.proofs.removing.+remove_below.Goals as goal
 
@@ -146,7 +154,85 @@ returns-in_ok-trimmed-in-Interior-clause-left g t c =
     (λ left m. mended_left step draft new (length old.images) child ways.0 ways.1 c.ways_before-i.result below left o m) c.trim_above.ensures.mended
 
 pub returns-in_ok-trimmed-in-Interior-clause-trimmed : goal.returns-in_ok-trimmed-in-Interior-clause-trimmed
-returns-in_ok-trimmed-in-Interior-clause-trimmed g t c = ?
+returns-in_ok-trimmed-in-Interior-clause-trimmed g t c =
+    let old = g.T.Pages.step c.args.t.now in
+    let between = g.T.Pages.step c.child_node.new.t in
+    let step = g.T.Pages.step c.trim_above.new.t in
+    let key = c.args.key.now in
+    let draft = c.args.draft.now in
+    let mid = c.remove_below.new.draft in
+    let new = c.trim_above.new.draft in
+    let child = c.args.child.now in
+    let ways = c.in-Interior.ways in
+    let i = c.ways_before-i.result in
+    let below = c.in_ok-trimmed-in-Interior.trimmed in
+    let below_child = c.child_at-below.result in
+    let pages : List (List ℕ) = drafted draft.sheets.items old.images in
+    let at : page_at pages child.page ≡ Some (Interior ways.0 ways.1) = c.in_ok-entries.ensures.node ∙ ap (λ (n : Node). Some (content_of n)) c.in-Interior.is in
+    let fit = sym (ap (λ (n : Node). content_fits child.low child.high (Some (content_of n))) c.in-Interior.is) ∙ c.in_ok-entries.ensures.fits in
+    let has = page_ways child.page (length pages) ways.0 ways.1 (at_is_page pages child.page (Interior ways.0 ways.1) at) in
+    let opened : IsOpened (length pages) child ways.0 ways.1 = record { ways = has.ways; within = fit; least = has.least; most = has.most } in
+    let same1 = c.child_node.ensures.images in
+    let same3 = c.trim_above.ensures.images ∙ c.remove_below.ensures.images ∙ same1 in
+    let before = subst (λ (k : Key). AllByRecursion (λ s. is_before (UpTo k) s.key ≡ true) (take i ways.1)) c.copied.ensures c.ways_before-i.ensures.before in
+    let behind = subst (λ (k : Key). AllByRecursion (λ s. is_before (UpTo k) s.key ≡ false) (drop i ways.1)) c.copied.ensures (c.ways_before-i.ensures.behind has.ways.ascend) in
+    let count : length between.images ≡ length pages = ap (λ (x : List (List ℕ)). length x) same1 ∙ sym (drafted_length draft.sheets.items old.images) in
+    let small = subst (λ (n : ℕ). IsLeft n below_child below) count c.in_ok-trimmed-in-Interior.ensures.left in
+    ok_left c.trim_above.result (IsMended step mid new child ways.0 ways.1 i below) (IsTrimmedBelow key pages (drafted new.sheets.items old.images) draft.freed.items new.freed.items c.args.levels child)
+    (λ left m. trimmed_above step old.images between.images same3 same1 key draft mid new c.args.levels child ways.0 ways.1 i below_child below left at opened c.ways_before-i.ensures.within before behind c.child_at-below.ensures small
+    c.in_ok-trimmed-in-Interior.ensures.trimmed m) c.trim_above.ensures.mended
+
+pub returns-in_err-trimmed-in-Interior-clause-fault : goal.returns-in_err-trimmed-in-Interior-clause-fault
+returns-in_err-trimmed-in-Interior-clause-fault g t c =
+    let old = g.T.Pages.step c.args.t.now in
+    let between = g.T.Pages.step c.child_node.new.t in
+    let draft = c.args.draft.now in
+    let child = c.args.child.now in
+    let ways = c.in-Interior.ways in
+    let i = c.ways_before-i.result in
+    let pages : List (List ℕ) = drafted draft.sheets.items old.images in
+    let at : page_at pages child.page ≡ Some (Interior ways.0 ways.1) = c.in_ok-entries.ensures.node ∙ ap (λ (n : Node). Some (content_of n)) c.in-Interior.is in
+    let has = page_ways child.page (length pages) ways.0 ways.1 (at_is_page pages child.page (Interior ways.0 ways.1) at) in
+    let before = subst (λ (k : Key). AllByRecursion (λ s. is_before (UpTo k) s.key ≡ true) (take i ways.1)) c.copied.ensures c.ways_before-i.ensures.before in
+    let behind = subst (λ (k : Key). AllByRecursion (λ s. is_before (UpTo k) s.key ≡ false) (drop i ways.1)) c.copied.ensures (c.ways_before-i.ensures.behind has.ways.ascend) in
+    let p = err_from_is_err_and c.from_residual-in_err-trimmed-in-Interior.result c.from_residual-in_err-trimmed-in-Interior.ensures.1 in
+    rw (p.1, p.2) (breaks_above (g.T.Pages.step c.remove_below.new.t).refusal old.images between.images c.child_node.ensures.images c.args.key.now draft c.args.levels child ways.0 ways.1 i c.child_at-below.result c.in_err-trimmed-in-Interior.field-0.0
+    at c.ways_before-i.ensures.within before behind c.child_at-below.ensures c.in_err-trimmed-in-Interior.ensures.fault)
 
 pub returns-in_ok-trimmed-in-Interior-clause-fault : goal.returns-in_ok-trimmed-in-Interior-clause-fault
-returns-in_ok-trimmed-in-Interior-clause-fault g t c = ?
+returns-in_ok-trimmed-in-Interior-clause-fault g t c =
+    let old = g.T.Pages.step c.args.t.now in
+    let between = g.T.Pages.step c.child_node.new.t in
+    let given = (g.T.Pages.step c.trim_above.new.t).refusal in
+    let key = c.args.key.now in
+    let draft = c.args.draft.now in
+    let mid = c.remove_below.new.draft in
+    let child = c.args.child.now in
+    let ways = c.in-Interior.ways in
+    let i = c.ways_before-i.result in
+    let below = c.in_ok-trimmed-in-Interior.trimmed in
+    let below_child = c.child_at-below.result in
+    let images2 = (g.T.Pages.step c.remove_below.new.t).images in
+    let pages : List (List ℕ) = drafted draft.sheets.items old.images in
+    let at : page_at pages child.page ≡ Some (Interior ways.0 ways.1) = c.in_ok-entries.ensures.node ∙ ap (λ (n : Node). Some (content_of n)) c.in-Interior.is in
+    let fit = sym (ap (λ (n : Node). content_fits child.low child.high (Some (content_of n))) c.in-Interior.is) ∙ c.in_ok-entries.ensures.fits in
+    let has = page_ways child.page (length pages) ways.0 ways.1 (at_is_page pages child.page (Interior ways.0 ways.1) at) in
+    let opened : IsOpened (length pages) child ways.0 ways.1 = record { ways = has.ways; within = fit; least = has.least; most = has.most } in
+    let before = subst (λ (k : Key). AllByRecursion (λ s. is_before (UpTo k) s.key ≡ true) (take i ways.1)) c.copied.ensures c.ways_before-i.ensures.before in
+    let behind = subst (λ (k : Key). AllByRecursion (λ s. is_before (UpTo k) s.key ≡ false) (drop i ways.1)) c.copied.ensures (c.ways_before-i.ensures.behind has.ways.ascend) in
+    let A : ℕ → Type 0 = IsUnlike (drafted mid.sheets.items images2) child ways.0 ways.1 i below_child below in
+    let B : ℕ → Type 0 = BreaksBelow key pages c.args.levels child in
+    err_left c.trim_above.result (HasCause given A) (HasCause given B)
+    (λ fault h. cause_more given A B (unlike_above old.images between.images images2 c.child_node.ensures.images c.remove_below.ensures.images key draft mid c.args.levels (length pages) child ways.0 ways.1 i below_child below
+    at opened c.ways_before-i.ensures.within before behind c.child_at-below.ensures c.in_ok-trimmed-in-Interior.ensures.trimmed) fault h) c.trim_above.ensures.fault
+
+pub returns-in_ok-trimmed-in-Interior-clause-root : goal.returns-in_ok-trimmed-in-Interior-clause-root
+returns-in_ok-trimmed-in-Interior-clause-root g t c =
+    let step = g.T.Pages.step c.trim_above.new.t in
+    let mid = c.remove_below.new.draft in
+    let new = c.trim_above.new.draft in
+    let child = c.args.child.now in
+    let ways = c.in-Interior.ways in
+    let below = c.in_ok-trimmed-in-Interior.trimmed in
+    ok_left c.trim_above.result (IsMended step mid new child ways.0 ways.1 c.ways_before-i.result below) (IsRootLeft child.page)
+    (λ left m. mended_root step mid new child ways.0 ways.1 c.ways_before-i.result below left m) c.trim_above.ensures.mended

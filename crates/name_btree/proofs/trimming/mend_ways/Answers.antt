@@ -12,7 +12,7 @@ use Rattle.name_node.specs.Node.{content_of}
 use Rattle.name_node.proofs.CountLaws.{few_separators}
 use Rattle.name_page.specs.Pages.{is_spare}
 use Rattle.name_btree.specs.Draft.{drafted}
-use Rattle.name_btree.specs.Trim.{MayHave, AreWays, AreWaysMended, ways_at}
+use Rattle.name_btree.specs.Trim.{MayHave, AreWays, AreWaysMended, ways_at, is_behind, right_at}
 use Rattle.name_btree.proofs.DraftLaws.{drafted_length}
 use Rattle.name_btree.proofs.MendLaws.{draft_kept, page_kept, left_page, right_page, ways_found, ways_count}
 use Rattle.name_btree.proofs.PairLaws.{sides_are, same_of}
@@ -112,6 +112,7 @@ returns-in-Some-clause-mended g c =
       second = others.0;
       others = others.1;
       has = ap (λ (x : List (List ℕ)). page_at (drafted draft.sheets.items x) c.child_at-neighbour.result.page) c.child_node.ensures.images ∙ at;
+      behind = ap (λ (s : Separator). is_behind s.key (right_at c.args.i few others.1)) (sym same) ∙ c.in-Some.ensures.behind;
       mended = subst (λ (n : ℕ). AreWaysMended new draft c.put_interiors.new.draft above.page ways.0 ways.1 pair n (ways_at c.args.i is.between.key c.args.first few others.0 others.1) c.put_interiors.result)
           c.in-Some.ensures.first
           (subst (λ (xs : List Separator). AreWaysMended new draft c.put_interiors.new.draft above.page ways.0 ways.1 pair c.in-Some.joined.first xs c.put_interiors.result) is_list c.put_interiors.ensures.put);
