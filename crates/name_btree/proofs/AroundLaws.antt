@@ -117,11 +117,11 @@ child_around key pages level above first xs i child around at within ends begins
       high = parts.1;
       apart = counts_differ (f child) (λ p. omega (arith, few p, most p, count_cons p above.page (flat_map f cs)));
       inner = λ there. absurd (
-        let here : 1 ≤ count_of 0 (flat_map f cs) = omega (arith, there_counts 0 (f child) there, few 0) in
-        let whole : 1 ≤ count_of 0 (above.page ∷ flat_map f cs) = omega (arith, here, count_cons 0 above.page (flat_map f cs)) in
-        let zero_is : above.page ≡ 0 = around.inner (ap (λ (ps : List ℕ). contains ps 0) split ∙ counts_here 0 (above.page ∷ flat_map f cs) whole) in
-        omega (arith, most 0, here, count_cons 0 above.page (flat_map f cs), one_if (above.page == 0) (grind arith))
-      );
+          let here : 1 ≤ count_of 0 (flat_map f cs) = omega (arith, there_counts 0 (f child) there, few 0) in
+          let whole : 1 ≤ count_of 0 (above.page ∷ flat_map f cs) = omega (arith, here, count_cons 0 above.page (flat_map f cs)) in
+          let zero_is : above.page ≡ 0 = around.inner (ap (λ (ps : List ℕ). contains ps 0) split ∙ counts_here 0 (above.page ∷ flat_map f cs) whole) in
+          omega (arith, most 0, here, count_cons 0 above.page (flat_map f cs), one_if (above.page == 0) (grind arith))
+          );
     }
   where
     counts_here : (p : ℕ) (ps : List ℕ) → 1 ≤ count_of p ps → contains ps p ≡ true

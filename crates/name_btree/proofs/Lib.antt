@@ -24,6 +24,7 @@ mod ReplaceLaws
 pub mod RootLaws
 pub mod ResultLaws
 mod SetLaws
+pub mod TableLaws
 pub mod TopLaws
 pub mod TrimLaws
 pub mod UnlikeLaws

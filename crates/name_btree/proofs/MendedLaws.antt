@@ -145,7 +145,7 @@ whole_mended step key pages new old0 went level p above first xs i child around 
     let stands1 = subst (λ (c : Child). StandsAt key (children first above.low above.high xs) ls (c ∷ []) rs) (sym same) stands0 in
     let stands = subst (λ (x : Option Content). StandsAt key (children_of above.low above.high x) ls (child ∷ []) rs) (sym at) stands1 in
     let stay2 : Stay pages after (above.page ∷ forest_pages level pages (child ∷ [])) = λ q out.
-        stay q (counts_out q (f child) (omega (arith, out_counts q (above.page ∷ forest_pages level pages (child ∷ [])) out, count_cons q above.page (forest_pages level pages (child ∷ [])), count_append q (f child) [], count_nothing q))) in
+    stay q (counts_out q (f child) (omega (arith, out_counts q (above.page ∷ forest_pages level pages (child ∷ [])) out, count_cons q above.page (forest_pages level pages (child ∷ [])), count_append q (f child) [], count_nothing q))) in
     let r = raised key pages after went level above ls (child ∷ []) (child ∷ []) rs first xs around stands stands1.children_are o.within stay2 becomes in
     let out : contains (f child) above.page ≡ false = counts_out above.page (f child) (omega (
       arith,
@@ -205,7 +205,7 @@ way_mended step key pages mid new old0 went l above first xs i child lead few le
     let apart = are_apart key pages (suc l) above first xs pair is ls rs around stands.children_are in
     let once = counted_once key pages l above first xs pair is.between i child neighbour sides around ls rs stands.children_are in
     let out : contains (pages_below (suc l) pages child) neighbour.page ≡ false = counts_out neighbour.page (pages_below (suc l) pages child)
-        (omega (arith, once neighbour.page, one_same neighbour.page neighbour.page refl, count_cons neighbour.page child.page (forest_pages l pages (children_of child.low child.high (page_at pages child.page))))) in
+    (omega (arith, once neighbour.page, one_same neighbour.page neighbour.page refl, count_cons neighbour.page child.page (forest_pages l pages (children_of child.low child.high (page_at pages child.page))))) in
     let has : page_at pages neighbour.page ≡ Some (grammar.Interior m.second m.others) = sym (stay neighbour.page out) ∙ m.has in
     let subs = subst (IsInterior (IsSubtree (suc l) pages) above) at around.subtree in
     let sub = subst (IsInterior (IsSubtree l pages) neighbour) has (all_at (IsSubtree (suc l) pages) cs _ neighbour m.there subs.1) in

@@ -92,10 +92,11 @@ shrunk step key pages mid new old0 height l first list tree up none went freed b
     let b3 = subst (λ (n : ℕ). Becomes (without key) pages between [] went n (inner pages (top ∷ [])) (c ∷ [])) low b2 in
     let apart = subst (λ (n : ℕ). all_differ (pages_below n pages top) ≡ true) up tree.apart in
     let top_once : count_of 0 (forest_pages l pages old) ≤ 0 = omega (arith, differ_counts (pages_below (suc l) pages top) apart 0, count_cons 0 0 (forest_pages l pages old), one_same 0 0 refl) in
-    let some : first ≡ 0 → ⊥ = λ e. absurd (omega (arith, top_once, b1.pages_are 0, count_nothing 0, head_counts 0 l between c, one_same first 0 e, count_append 0 (pages_below l between c) [])) in
-    (first ∷ went,
-    trees_shrink (without key) pages between after went height first tree (omega (arith, up)) b3 (taken.now.content ∙ sym taken.was) (stays_but mid.sheets.items new.sheets.items step 0 taken.content taken.now),
-    λ q. ap (λ (ps : List ℕ). contains ps q) taken.freed ∙ freed_has first old0 mid.freed.items went some freed q)
+    let some : first ≡ 0 → ⊥ = λ e. absurd (omega (arith, top_once, b1.pages_are 0, count_nothing 0, head_counts 0 l between c, one_same first 0 e, count_append 0 (pages_below l between c) [])) in (
+      first ∷ went,
+      trees_shrink (without key) pages between after went height first tree (omega (arith, up)) b3 (taken.now.content ∙ sym taken.was) (stays_but mid.sheets.items new.sheets.items step 0 taken.content taken.now),
+      λ q. ap (λ (ps : List ℕ). contains ps q) taken.freed ∙ freed_has first old0 mid.freed.items went some freed q,
+    )
 
 abbrev pub only_of : Trimmed → Option ℕ
 only_of Whole = None

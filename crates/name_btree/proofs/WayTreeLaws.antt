@@ -111,8 +111,8 @@ child_shifts : (key : Key) (pages between after : List (List ℕ)) (went : List 
     → Becomes (without key) pages between [] went l (below_of l pages child) new → Becomes (without key) pages after [] went l (below_of l pages child) new
 child_shifts key pages between after went l above child neighbour new once others b =
     let keep : Keep between after (forest_pages l between new) = λ q there.
-        let some : 1 ≤ count_of q (forest_pages l pages (below_of l pages child)) = omega (arith, there_counts q (forest_pages l between new) there, b.pages_are q, count_nothing q) in
-        others q (λ e. absurd (omega (arith, once q, some, one_same child.page q (sym e)))) (λ e. absurd (omega (arith, once q, some, one_same neighbour.page q (sym e)))) (λ e. absurd (omega (arith, once q, some, one_same above q (sym e)))) in
+    let some : 1 ≤ count_of q (forest_pages l pages (below_of l pages child)) = omega (arith, there_counts q (forest_pages l between new) there, b.pages_are q, count_nothing q) in
+    others q (λ e. absurd (omega (arith, once q, some, one_same child.page q (sym e)))) (λ e. absurd (omega (arith, once q, some, one_same neighbour.page q (sym e)))) (λ e. absurd (omega (arith, once q, some, one_same above q (sym e)))) in
     let same = kept_all between after l new keep b.subtrees in
     record {
       subtrees = same.subtrees;
