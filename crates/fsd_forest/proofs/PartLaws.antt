@@ -43,12 +43,12 @@ ascend_from : (ks ls : List Key) (k : Key) → are_ascending (ks ++ k ∷ ls) �
 ascend_from [] ls k asc = asc
 ascend_from (a ∷ ks) ls k asc = ascend_from ks ls k (ascend_tail a (ks ++ k ∷ ls) asc)
 
-record Parted (low high : Option Key) (ks ls : List Key) (k : Key) : Type 0 where
-  left : keys_fit low (Some k) ks ≡ true
-  right : keys_fit (Some k) high ls ≡ true
-  inside : (not_below low k && below high k) ≡ true
+pub record Parted (low high : Option Key) (ks ls : List Key) (k : Key) : Type 0 where
+  pub left : keys_fit low (Some k) ks ≡ true
+  pub right : keys_fit (Some k) high ls ≡ true
+  pub inside : (not_below low k && below high k) ≡ true
 
-keys_parted : (low high : Option Key) (ks ls : List Key) (k : Key) → are_ascending (ks ++ k ∷ ls) ≡ true → keys_fit low high (ks ++ k ∷ ls) ≡ true → Parted low high ks ls k
+pub keys_parted : (low high : Option Key) (ks ls : List Key) (k : Key) → are_ascending (ks ++ k ∷ ls) ≡ true → keys_fit low high (ks ++ k ∷ ls) ≡ true → Parted low high ks ls k
 keys_parted low high ks ls k asc fit =
     let halves = and_parts (keys_fit low high ks) (keys_fit low high (k ∷ ls)) (sym (fit_append low high ks (k ∷ ls)) ∙ fit) in
     let second = and_parts (not_below low k && below high k) (keys_fit low high ls) halves.1 in

@@ -235,13 +235,6 @@ drafted_more step old new s x is a reached used read =
 
 -- ---- a page that is taken
 
-less_spare : (spares : List Bool) (page q : ℕ) → get_or spares q false ≡ false → get_or (slice_set spares page false) q false ≡ false
-less_spare [] page q h = h
-less_spare (x ∷ spares) zero zero h = refl
-less_spare (x ∷ spares) zero (suc q) h = h
-less_spare (x ∷ spares) (suc page) zero h = h
-less_spare (x ∷ spares) (suc page) (suc q) h = less_spare spares page q h
-
 pub taken_used : (spares : List Bool) (page : ℕ) → get_or (slice_set spares page false) page false ≡ false
 taken_used [] page = refl
 taken_used (x ∷ spares) zero = refl
@@ -249,12 +242,6 @@ taken_used (x ∷ spares) (suc page) = taken_used spares page
 
 pub taken_kept : (step : Step) (page q : ℕ) → IsReached step q → IsReached (with_taken page step) q
 taken_kept step page q h = (h.0, or_more (is_one_of step.reached q) (is_one_of step.changed q) (is_one_of (with_one step.changed page) q) (one_kept step.changed page q) h.1)
-
-pub taken_sheets : (step : Step) (page : ℕ) (sheets : List Sheet) → AreSheets step sheets → AreSheets (with_taken page step) sheets
-taken_sheets step page [] a = tt
-taken_sheets step page (s ∷ sheets) a =
-    let first : IsSheet (with_taken page step) s = record { reached = taken_kept step page s.page a.0.reached; used = less_spare step.spares page s.page a.0.used; accepted = a.0.accepted } in
-    (first, taken_sheets step page sheets a.1)
 
 pub taken_changes : (step : Step) (page : ℕ) → changes step ≤ changes (with_taken page step) + 1
 taken_changes step page = omega (arith, one_count step.changed page)

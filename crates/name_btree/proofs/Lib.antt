@@ -1,15 +1,20 @@
 pub mod AboveLaws
-mod ChangeLaws
 pub mod AroundLaws
+mod BranchLaws
+mod ChangeLaws
 pub mod CommitLaws
 pub mod DescentLaws
 mod DraftLaws
 pub mod FindLaws
+mod GrowLaws
 pub mod HighestLaws
+mod InsertLaws
 mod KeepLaws
 pub mod LastLaws
-mod LevelLaws
+mod LeafGrowthLaws
 pub mod LeafTreeLaws
+mod LevelLaws
+mod MapLaws
 pub mod MarkLaws
 pub mod MendLaws
 pub mod MendTreeLaws
@@ -17,16 +22,21 @@ pub mod MendedLaws
 pub mod NextLaws
 pub mod PairLaws
 mod PathLaws
-mod ReachLaws
 pub mod PutTreeLaws
+mod ReachLaws
 pub mod RemoveLaws
 mod ReplaceLaws
-pub mod RootLaws
 pub mod ResultLaws
+pub mod RootLaws
 mod SetLaws
+mod SpareLaws
+mod StepLaws
 pub mod TableLaws
+mod TakeLaws
 pub mod TopLaws
+mod TreeGrowthLaws
 pub mod TrimLaws
 pub mod UnlikeLaws
 pub mod WalkLaws
 pub mod WayTreeLaws
+mod WaysGrowthLaws

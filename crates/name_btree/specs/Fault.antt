@@ -1,11 +1,11 @@
 -- Why a call of the table fails.
-use Rattle.std.specs.Prelude.{◌≡◌, ℕ, ◌<◌, false, List, Option, Some}
+use Rattle.std.specs.Prelude.{◌≡◌, ℕ, ◌<◌, ◌⊎◌, false, List, Option, Some}
 use Rattle.fsd_bytes.specs.declared.refusal.Refusal.{Refusal}
 use Rattle.fsd_table.specs.declared.child.Child.{Child}
 use Rattle.fsd_table.specs.Pages.{page_at, content_fits}
 use Rattle.fsd_table.specs.Table.{max_height, top}
 use Rattle.fsd_table.specs.Tree.{IsSubtree, IsTree}
-use Rattle.name_page.specs.Pages.{IsReachRefusal}
+use Rattle.name_page.specs.Pages.{IsReachRefusal, IsSpareRefusal}
 use Rattle.name_btree.specs.Descent.{IsAbove}
 use Rattle.name_btree.specs.declared.fault.TreeFault.{TreeFault}
 use Rattle.name_btree.specs.declared.fault.TreeFault.TheVariants.{Pages, Broken}
@@ -14,6 +14,11 @@ use Rattle.name_btree.specs.declared.fault.TreeFault.TheVariants.{Pages, Broken}
 abbrev pub HasCause : Option Refusal → (ℕ → Type 0) → TreeFault → Type 0
 HasCause given Breaks (Pages refusal) = (given ≡ Some refusal) × IsReachRefusal refusal
 HasCause given Breaks (Broken page) = Breaks page
+
+-- the same, or the pages had not so many spare
+abbrev pub HasSpareCause : Option Refusal → (free : ℕ) → (ℕ → Type 0) → TreeFault → Type 0
+HasSpareCause given free Breaks (Pages refusal) = (given ≡ Some refusal) × (IsReachRefusal refusal ⊎ IsSpareRefusal free refusal)
+HasSpareCause given free Breaks (Broken page) = Breaks page
 
 -- no page breaks anything
 abbrev pub Never : ℕ → Type 0

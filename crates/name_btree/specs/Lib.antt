@@ -2,6 +2,7 @@ pub mod Change
 pub mod Descent
 pub mod Draft
 pub mod Fault
+pub mod Grown
 pub mod Level
 pub mod Map
 pub mod Remove

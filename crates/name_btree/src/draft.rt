@@ -8,6 +8,7 @@ ghost use Rattle.fsd_table.specs.Pages.{page_at, content_fits};
 ghost use Rattle.name_btree.specs.declared.draft.Sheet.{Sheet};
 ghost use Rattle.name_btree.specs.Draft.{IsDraft, with_freed, drafted, committed, freed, last_sheet, AreSheets, MayGo, IsDrafted};
 ghost use Rattle.name_btree.specs.Fault.{HasCause, IsMisfit, Never};
+ghost use Rattle.name_btree.specs.Grown.{Takes};
 ghost use Rattle.name_btree.specs.Still.{IsStill};
 ghost use Rattle.name_node.specs.Node.{content_of};
 ghost use Rattle.name_page.specs.Pages.{reaches, changes, is_spare, with_page, IsReached, MayChange};
@@ -88,14 +89,8 @@ fn free_pages<T: Pages>(t: &mut T, pages: &[u32])
 pub(crate) fn take_page<T: Pages>(t: &mut T) -> u32
     requires promised { 0 < (T.step t.old).promised }
     requires more { 0 < changes (T.step t.old) }
-    ensures images { (T.step t.new).images ≡ (T.step t.old).images }
-    ensures promised { (T.step t.new).promised ≡ (T.step t.old).promised - 1 }
-    ensures spare { is_spare (T.step t.old).spares result ≡ true }
-    ensures used { is_spare (T.step t.new).spares result ≡ false }
-    ensures reached { IsReached (T.step t.new) result }
-    ensures kept { (q : ℕ) → IsReached (T.step t.old) q → IsReached (T.step t.new) q }
-    ensures sheets { (sheets : List Sheet) → AreSheets (T.step t.old) sheets → AreSheets (T.step t.new) sheets }
-    ensures changes { changes (T.step t.old) ≤ changes (T.step t.new) + 1 }
+    ensures takes { Takes (T.step t.old) (T.step t.new) (result ∷ []) }
+    ensures reached { (T.step t.new).reached ≡ (T.step t.old).reached }
 {
     t.take()
 }

@@ -1,5 +1,10 @@
 //! What is put into a page, which is parted where it is too much for one.
-ghost use Rattle.std.specs.Prelude.{◌≡◌};
+ghost use Rattle.std.specs.Prelude.{◌≡◌, ◌+◌, ◌<◌, ◌≤◌, length, true, false};
+ghost use Rattle.std.specs.List.{AllByRecursion};
+ghost use Rattle.fsd_formats.specs.NamePage.{FitsEntry, FitsSeparator};
+ghost use Rattle.name_btree.specs.Draft.{drafted, AreSheets};
+ghost use Rattle.name_btree.specs.Grown.{Takes, most_parted, front_came, FitsTwoLeaves, FitsTwoInteriors, IsGrown, AreLeavesOf, AreInteriorsOf};
+ghost use Rattle.name_page.specs.Pages.{changes, is_spare, IsReached};
 
 use crate::draft::{Draft, take_page};
 use fsd_formats::Separator;
@@ -14,7 +19,19 @@ pub(crate) enum Grown {
 }
 
 // Where the front of a page that is parted goes: page 0 keeps its place above both parts.
-fn front_page<T: Pages>(t: &mut T, page: u32) -> u32 {
+fn front_page<T: Pages>(t: &mut T, page: u32) -> u32
+    requires promised { most_parted page ≤ (T.step t.old).promised }
+    requires more { most_parted page ≤ changes (T.step t.old) }
+    requires reached { IsReached (T.step t.old) page }
+    requires used { is_spare (T.step t.old).spares page ≡ false }
+    ensures takes { Takes (T.step t.old) (T.step t.new) (front_came page result) }
+    ensures promised { 0 < (T.step t.new).promised }
+    ensures more { 0 < changes (T.step t.new) }
+    ensures reached { (T.step t.new).reached ≡ (T.step t.old).reached }
+    ensures own { IsReached (T.step t.new) result }
+    ensures used { is_spare (T.step t.new).spares result ≡ false }
+    ensures place { (page ≡ 0 → ⊥) → result ≡ page }
+{
     if page == 0 { take_page(t) } else { page }
 }
 
@@ -24,7 +41,20 @@ pub(crate) fn grow_leaf<T: Pages>(
     draft: &mut Draft,
     page: u32,
     entries: &EntryList,
-) -> Grown {
+) -> Grown
+    requires promised { most_parted page ≤ (T.step t.old).promised }
+    requires more { most_parted page ≤ changes (T.step t.old) }
+    requires room { length draft.old.sheets.items + 2 ≤ 40 }
+    requires sheets { AreSheets (T.step t.old) draft.old.sheets.items }
+    requires reached { IsReached (T.step t.old) page }
+    requires used { is_spare (T.step t.old).spares page ≡ false }
+    requires entries { FitsTwoLeaves page entries.now.items }
+    requires fits { AllByRecursion FitsEntry entries.now.items }
+    ensures grown { IsGrown (T.step t.old) (T.step t.new) draft.old.sheets.items draft.new.sheets.items page result }
+    ensures leaves { AreLeavesOf (drafted draft.new.sheets.items (T.step t.new).images) page entries.now.items result }
+    ensures freed { draft.new.freed.items ≡ draft.old.freed.items }
+    ensures reached { (T.step t.new).reached ≡ (T.step t.old).reached }
+{
     let entries = entries.as_slice();
     if used(entries) <= 488 {
         draft.put_leaf(t, page, entries);
@@ -49,7 +79,20 @@ pub(crate) fn grow_ways<T: Pages>(
     page: u32,
     first: u32,
     separators: &SeparatorList,
-) -> Grown {
+) -> Grown
+    requires promised { most_parted page ≤ (T.step t.old).promised }
+    requires more { most_parted page ≤ changes (T.step t.old) }
+    requires room { length draft.old.sheets.items + 2 ≤ 40 }
+    requires sheets { AreSheets (T.step t.old) draft.old.sheets.items }
+    requires reached { IsReached (T.step t.old) page }
+    requires used { is_spare (T.step t.old).spares page ≡ false }
+    requires separators { FitsTwoInteriors (length (T.step t.old).images) page first separators.now.items }
+    requires fits { AllByRecursion FitsSeparator separators.now.items }
+    ensures grown { IsGrown (T.step t.old) (T.step t.new) draft.old.sheets.items draft.new.sheets.items page result }
+    ensures interiors { AreInteriorsOf (drafted draft.new.sheets.items (T.step t.new).images) page first separators.now.items result }
+    ensures freed { draft.new.freed.items ≡ draft.old.freed.items }
+    ensures reached { (T.step t.new).reached ≡ (T.step t.old).reached }
+{
     let separators = separators.as_slice();
     if separators.len() <= 9 {
         draft.put_ways(t, page, first, separators);

@@ -1,5 +1,19 @@
 //! Putting entries in.
-ghost use Rattle.std.specs.Prelude.{◌≡◌};
+ghost use Rattle.std.specs.Prelude.{◌≡◌, ◌+◌, ◌*◌, ◌<◌, ◌≤◌, ℕ, ◌↔◌, IsTrue, IfOk, IfErr, OnOk, OnErr, Err, Some, None, [], length, take, drop, true, false};
+ghost use Rattle.fsd_bytes.specs.declared.refusal.Refusal.TheVariants.{NameTableFull};
+ghost use Rattle.fsd_formats.specs.NamePage.{Leaf, Interior, is_page, is_entry, FitsEntry};
+ghost use Rattle.fsd_forest.specs.Parts.{is_inside};
+ghost use Rattle.fsd_forest.specs.Ways.{child_between};
+ghost use Rattle.fsd_table.specs.Pages.{page_at, keys_fit, entry_keys};
+ghost use Rattle.fsd_table.specs.Tree.{IsTree, table_of};
+ghost use Rattle.name_btree.specs.Draft.{drafted, AreSheets, IsDraft, images_of};
+ghost use Rattle.name_btree.specs.Fault.{HasCause, HasSpareCause, BreaksTree};
+ghost use Rattle.name_btree.specs.Grown.{most_parted, most_taken, IsGrown, IsAboveGrown, IsSound, IsDivided, Grows, Inserts, BreaksGrowth, BreaksNew};
+ghost use Rattle.name_btree.specs.Map.{IsTable, HasTable, LeavesTree, without_all};
+ghost use Rattle.name_btree.specs.Still.{IsStill};
+ghost use Rattle.name_node.specs.Edits.{with_entry};
+ghost use Rattle.name_node.specs.Lookups.{entry_with};
+ghost use Rattle.name_page.specs.Pages.{reaches, changes, free_count, is_spare, IsReached};
 
 use crate::draft::Draft;
 use crate::fault::TreeFault;
@@ -11,33 +25,88 @@ use arrayvec::ArrayVec;
 use fsd_bytes::Key;
 use fsd_formats::Entry;
 use fsd_table::Child;
-use name_node::{Cut, Entries, Node, entries_with, ways_before, ways_with};
+use name_node::{Cut, Entries, Node, Ways, entries_with, ways_before, ways_with};
 use name_page::Pages;
 
 /// Puts an entry in, whose key no entry has, and takes those with two keys at most out. It takes 7 pages at most.
-pub fn insert<T: Pages>(
-    t: &mut T,
-    entry: &Entry,
-    gone: &ArrayVec<Key, 2>,
-) -> Result<(), TreeFault> {
+pub fn insert<T: Pages>(t: &mut T, entry: &Entry, gone: &ArrayVec<Key, 2>) -> Result<(), TreeFault>
+    requires more { 80 ≤ reaches (T.step t.old) }
+    requires changes { 40 ≤ changes (T.step t.old) }
+    requires entry { IsTrue (is_entry entry.now) }
+    requires fits { FitsEntry entry.now }
+    requires new { (height : ℕ) → IsTree (T.step t.old).images height → entry_with entry.now.key (without_all gone.now.items (table_of (T.step t.old).images height)) ≡ None }
+    ensures images { OnErr result ((T.step t.new).images ≡ (T.step t.old).images) }
+    ensures spares { OnErr result ((T.step t.new).spares ≡ (T.step t.old).spares) }
+    ensures step { (T.step t.new).most_reached ≡ (T.step t.old).most_reached }
+    ensures most { (T.step t.new).most_changed ≡ (T.step t.old).most_changed }
+    ensures reaches { reaches (T.step t.old) ≤ reaches (T.step t.new) + 30 }
+    ensures changed { OnErr result ((T.step t.new).changed ≡ (T.step t.old).changed) }
+    ensures changes { changes (T.step t.old) ≤ changes (T.step t.new) + 36 }
+    ensures taken { free_count (T.step t.old) ≤ free_count (T.step t.new) + 7 }
+    ensures inserted { OnOk result ((height : ℕ) → IsTable (T.step t.old) height → HasTable (T.step t.new) (with_entry entry.now (without_all gone.now.items (table_of (T.step t.old).images height)))) }
+    ensures full { let free = free_count (T.step t.old) in (result ≡ Err (TreeFault.Pages (NameTableFull free))) ↔ (free < 8) }
+    ensures fault { IfErr result (HasSpareCause (T.step t.new).refusal (free_count (T.step t.old)) (BreaksTree (T.step t.old).images)) }
+{
     if let Err(refusal) = t.spare(8) {
         return Err(TreeFault::Pages(refusal));
     }
     let mut draft = Draft::new();
-    for key in gone.as_slice() {
-        remove_in(t, &mut draft, key)?;
-    }
+    remove_all(t, &mut draft, gone.as_slice())?;
     insert_in(t, &mut draft, entry)?;
     draft.commit(t);
     Ok(())
 }
 
-// Puts an entry into the drafted pages.
-fn insert_in<T: Pages>(t: &mut T, draft: &mut Draft, entry: &Entry) -> Result<(), TreeFault> {
-    if let Grown::Parted(left, separator) = insert_below(t, draft, &top(), entry, 5)? {
-        draft.put_ways(t, 0, left, &[separator]);
+// Takes the entries with some keys out of the pages.
+fn remove_all<T: Pages>(t: &mut T, draft: &mut Draft, gone: &[Key]) -> Result<(), TreeFault>
+    requires more { 24 ≤ reaches (T.step t.old) }
+    requires few { length gone.now ≤ 2 }
+    requires sheets { draft.old.sheets.items ≡ [] }
+    requires freed { draft.old.freed.items ≡ [] }
+    ensures images { (T.step t.new).images ≡ (T.step t.old).images }
+    ensures spares { (T.step t.new).spares ≡ (T.step t.old).spares }
+    ensures step { (T.step t.new).most_reached ≡ (T.step t.old).most_reached }
+    ensures reaches { reaches (T.step t.old) ≤ reaches (T.step t.new) + 24 }
+    ensures still { IsStill (T.step t.old) (T.step t.new) }
+    ensures draft { OnOk result (IsDraft (T.step t.new) draft.new) }
+    ensures room { OnOk result (length draft.new.sheets.items ≤ 16) }
+    ensures left { OnOk result (LeavesTree (T.step t.old).images draft.new gone.now) }
+    ensures fault { IfErr result (HasCause (T.step t.new).refusal (BreaksTree (T.step t.old).images)) }
+{
+    for key in gone {
+        remove_in(t, draft, key)?;
     }
     Ok(())
+}
+
+// Puts an entry into the drafted pages.
+fn insert_in<T: Pages>(t: &mut T, draft: &mut Draft, entry: &Entry) -> Result<(), TreeFault>
+    requires more { 6 ≤ reaches (T.step t.old) }
+    requires promised { 7 ≤ (T.step t.old).promised }
+    requires changes { 7 ≤ changes (T.step t.old) }
+    requires room { length draft.old.sheets.items ≤ 26 }
+    requires draft { IsDraft (T.step t.old) draft.old }
+    requires entry { is_entry entry.now ≡ true }
+    requires fits { FitsEntry entry.now }
+    ensures images { (T.step t.new).images ≡ (T.step t.old).images }
+    ensures step { (T.step t.new).most_reached ≡ (T.step t.old).most_reached }
+    ensures most { (T.step t.new).most_changed ≡ (T.step t.old).most_changed }
+    ensures reaches { reaches (T.step t.old) ≤ reaches (T.step t.new) + 6 }
+    ensures spares { OnErr result ((T.step t.new).spares ≡ (T.step t.old).spares) }
+    ensures changed { OnErr result ((T.step t.new).changed ≡ (T.step t.old).changed) }
+    ensures draft { OnOk result (IsDraft (T.step t.new) draft.new) }
+    ensures room { OnOk result (length draft.new.sheets.items ≤ length draft.old.sheets.items + 13) }
+    ensures freed { OnOk result (draft.new.freed.items ≡ draft.old.freed.items) }
+    ensures inserted { OnOk result (Inserts entry.now (T.step t.old) (T.step t.new) (images_of draft.old (T.step t.old)) (images_of draft.new (T.step t.new))) }
+    ensures fault { IfErr result (HasCause (T.step t.new).refusal (BreaksNew entry.now (images_of draft.old (T.step t.old)))) }
+{
+    match insert_below(t, draft, &top(), entry, 5)? {
+        Grown::Whole => Ok(()),
+        Grown::Parted(left, separator) => {
+            draft.put_ways(t, 0, left, &[separator]);
+            Ok(())
+        }
+    }
 }
 
 // Puts an entry in below a child, so many levels at most above the leaves.
@@ -47,21 +116,76 @@ fn insert_below<T: Pages>(
     child: &Child,
     entry: &Entry,
     levels: u32,
-) -> Result<Grown, TreeFault> {
+) -> Result<Grown, TreeFault>
+    requires more { levels < reaches (T.step t.old) }
+    requires levels { levels ≤ 5 }
+    requires promised { most_taken child.now.page levels ≤ (T.step t.old).promised }
+    requires changes { most_taken child.now.page levels ≤ changes (T.step t.old) }
+    requires room { length draft.old.sheets.items + 2 * levels + 2 ≤ 40 }
+    requires sheets { AreSheets (T.step t.old) draft.old.sheets.items }
+    requires inside { is_inside child.now entry.now.key ≡ true }
+    requires entry { is_entry entry.now ≡ true }
+    requires fits { FitsEntry entry.now }
+    ensures images { (T.step t.new).images ≡ (T.step t.old).images }
+    ensures step { (T.step t.new).most_reached ≡ (T.step t.old).most_reached }
+    ensures most { (T.step t.new).most_changed ≡ (T.step t.old).most_changed }
+    ensures reaches { reaches (T.step t.old) ≤ reaches (T.step t.new) + levels + 1 }
+    ensures spares { OnErr result ((T.step t.new).spares ≡ (T.step t.old).spares) }
+    ensures changed { OnErr result ((T.step t.new).changed ≡ (T.step t.old).changed) }
+    ensures room { OnOk result (length draft.new.sheets.items ≤ length draft.old.sheets.items + 2 * levels + 2) }
+    ensures sheets { OnOk result (AreSheets (T.step t.new) draft.new.sheets.items) }
+    ensures freed { OnOk result (draft.new.freed.items ≡ draft.old.freed.items) }
+    ensures reached { OnOk result (IsReached (T.step t.new) child.now.page) }
+    ensures used { OnOk result (is_spare (T.step t.new).spares child.now.page ≡ false) }
+    ensures grown { IfOk result (Grows entry.now (T.step t.old) (T.step t.new) (drafted draft.old.sheets.items (T.step t.old).images) (drafted draft.new.sheets.items (T.step t.new).images) levels child.now) }
+    ensures fault { IfErr result (HasCause (T.step t.new).refusal (BreaksGrowth entry.now (drafted draft.old.sheets.items (T.step t.old).images) levels child.now)) }
+{
     match draft.child_node(t, child)? {
-        Node::Leaf(entries) => insert_here(t, draft, child.page, &entries, entry),
+        Node::Leaf(entries) => insert_here(t, draft, child, &entries, entry),
         Node::Interior(ways) if levels > 0 => {
             let i = ways_before(&ways, &Cut::UpTo(entry.key.copied()));
             let below = child_at(&ways, i, child);
-            match insert_below(t, draft, &below, entry, levels - 1)? {
-                Grown::Whole => Ok(Grown::Whole),
-                Grown::Parted(_, separator) => {
-                    let separators = ways_with(&ways, i, separator);
-                    Ok(grow_ways(t, draft, child.page, ways.first(), &separators))
-                }
+            // Page 0 stands below no other, and may take two pages where it is parted.
+            if below.page == 0 {
+                return Err(TreeFault::Broken(below.page));
             }
+            let grown = insert_below(t, draft, &below, entry, levels - 1)?;
+            Ok(grow_above(t, draft, child, &ways, i, grown))
         }
         _ => Err(TreeFault::Broken(child.page)),
+    }
+}
+
+// What becomes of a page, once its child `i` has grown.
+fn grow_above<T: Pages>(
+    t: &mut T,
+    draft: &mut Draft,
+    above: &Child,
+    ways: &Ways,
+    i: u32,
+    below: Grown,
+) -> Grown
+    requires promised { most_parted above.now.page ≤ (T.step t.old).promised }
+    requires more { most_parted above.now.page ≤ changes (T.step t.old) }
+    requires room { length draft.old.sheets.items + 2 ≤ 40 }
+    requires sheets { AreSheets (T.step t.old) draft.old.sheets.items }
+    requires reached { IsReached (T.step t.old) above.now.page }
+    requires used { is_spare (T.step t.old).spares above.now.page ≡ false }
+    requires ways { is_page above.now.page (length (T.step t.old).images) (Interior ways.now.0 ways.now.1) ≡ true }
+    requires place { i ≤ length ways.now.1 }
+    requires sound { IsSound (T.step t.old) below }
+    requires divided { IsDivided (child_between ways.now.0 above.now.low above.now.high (take i ways.now.1) (drop i ways.now.1)) below }
+    ensures grown { IsGrown (T.step t.old) (T.step t.new) draft.old.sheets.items draft.new.sheets.items above.now.page result }
+    ensures above { IsAboveGrown (drafted draft.old.sheets.items (T.step t.old).images) (drafted draft.new.sheets.items (T.step t.new).images) above.now.page ways.now.0 ways.now.1 i below result }
+    ensures freed { draft.new.freed.items ≡ draft.old.freed.items }
+    ensures reached { (T.step t.new).reached ≡ (T.step t.old).reached }
+{
+    match below {
+        Grown::Whole => Grown::Whole,
+        Grown::Parted(_, separator) => {
+            let separators = ways_with(ways, i, separator);
+            grow_ways(t, draft, above.page, ways.first(), &separators)
+        }
     }
 }
 
@@ -69,12 +193,31 @@ fn insert_below<T: Pages>(
 fn insert_here<T: Pages>(
     t: &mut T,
     draft: &mut Draft,
-    page: u32,
+    child: &Child,
     entries: &Entries,
     entry: &Entry,
-) -> Result<Grown, TreeFault> {
+) -> Result<Grown, TreeFault>
+    requires promised { most_parted child.now.page ≤ (T.step t.old).promised }
+    requires more { most_parted child.now.page ≤ changes (T.step t.old) }
+    requires room { length draft.old.sheets.items + 2 ≤ 40 }
+    requires sheets { AreSheets (T.step t.old) draft.old.sheets.items }
+    requires reached { IsReached (T.step t.old) child.now.page }
+    requires used { is_spare (T.step t.old).spares child.now.page ≡ false }
+    requires leaf { page_at (drafted draft.old.sheets.items (T.step t.old).images) child.now.page ≡ Some (Leaf entries.now) }
+    requires keys { keys_fit child.now.low child.now.high (entry_keys entries.now) ≡ true }
+    requires inside { is_inside child.now entry.now.key ≡ true }
+    requires entry { is_entry entry.now ≡ true }
+    requires fits { FitsEntry entry.now }
+    ensures failed { OnErr result (T.step t.new ≡ T.step t.old) }
+    ensures grown { IfOk result (IsGrown (T.step t.old) (T.step t.new) draft.old.sheets.items draft.new.sheets.items child.now.page) }
+    ensures grows { IfOk result (Grows entry.now (T.step t.old) (T.step t.new) (drafted draft.old.sheets.items (T.step t.old).images) (drafted draft.new.sheets.items (T.step t.new).images) 0 child.now) }
+    ensures freed { draft.new.freed.items ≡ draft.old.freed.items }
+    ensures reached { (T.step t.new).reached ≡ (T.step t.old).reached }
+    ensures fault { IfErr result (HasCause (T.step t.new).refusal (BreaksGrowth entry.now (drafted draft.old.sheets.items (T.step t.old).images) 0 child.now)) }
+{
     if entry_in(entries, &entry.key).is_some() {
-        return Err(TreeFault::Broken(page));
+        return Err(TreeFault::Broken(child.page));
     }
-    Ok(grow_leaf(t, draft, page, &entries_with(entries, entry)))
+    let list = entries_with(entries, entry);
+    Ok(grow_leaf(t, draft, child.page, &list))
 }

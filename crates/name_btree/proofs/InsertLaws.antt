@@ -1,0 +1,185 @@
+-- An entry that is put in below a child.
+use Rattle.std.proofs.Common.{◌≡◌, ℕ, zero, suc, ◌+◌, ◌≤◌, Bool, true, false, cond, not, ◌||◌, List, [], ◌∷◌, ◌++◌, length, take, drop, refl, sym, ap, subst, ◌∙◌, arith, Some, None, Option}
+use Rattle.std.specs.Prelude.{◌==◌, slice_get, find, IfOk, IfErr, Result, Ok, Err}
+use Rattle.std.specs.List.{flat_map, AllByRecursion}
+use Rattle.std.specs.Ordering.{is_gt}
+use Rattle.std.proofs.lemmas.Bool.{and_parts}
+use Rattle.run_table.specs.Space.{contains}
+use Rattle.fsd_bytes.specs.declared.key.Key.{Key}
+use Rattle.fsd_bytes.specs.declared.refusal.Refusal.{Refusal}
+use Rattle.fsd_bytes.specs.Keys.{key_cmp}
+use Rattle.fsd_formats.specs.declared.entry.Entry.{Entry}
+use Rattle.fsd_formats.specs.declared.page.Separator.{Separator}
+use Rattle.fsd_formats.specs.NamePage.{Content, Leaf, Interior, are_ascending}
+use Rattle.fsd_table.specs.declared.child.Child.{Child}
+use Rattle.fsd_table.specs.Pages.{page_at, children, children_of, not_below, below, separator_keys}
+use Rattle.fsd_table.specs.Tree.{entries_below, pages_below, IsInterior, IsSubtree}
+use Rattle.fsd_table.proofs.BoundLaws.{all_weaker}
+use Rattle.fsd_table.proofs.PageLaws.{at_is_page, interior_ascends}
+use Rattle.fsd_forest.specs.Parts.{is_inside}
+use Rattle.fsd_forest.specs.Ways.{IsUpTo, IsBehind}
+use Rattle.fsd_forest.proofs.WayLaws as ways
+use Rattle.name_page.specs.Pages.{Step, is_spare}
+use Rattle.name_node.specs.declared.cut.Cut.TheVariants.{UpTo}
+use Rattle.name_node.specs.Cut.{is_before}
+use Rattle.name_node.specs.Lookups.{entry_with}
+use Rattle.name_node.proofs.CutLaws.{greater}
+use Rattle.name_btree.specs.declared.draft.Sheet.{Sheet}
+use Rattle.name_btree.specs.declared.fault.TreeFault.{TreeFault}
+use Rattle.name_btree.specs.declared.fault.TreeFault.TheVariants.{Pages, Broken}
+use Rattle.name_btree.specs.declared.growing.Grown.{Grown}
+use Rattle.name_btree.specs.Draft.{drafted}
+use Rattle.name_btree.specs.Fault.{HasCause, IsMisfit}
+use Rattle.name_btree.specs.Grown.{Takes, most_taken, IsBranch, AreUsed, BranchBecomes, Grows, BreaksGrowth}
+use Rattle.name_btree.proofs.BranchLaws.{StandAround, middle_child, left_children, right_children, is_below, branch_below}
+use Rattle.name_btree.proofs.DescentLaws.{misfit}
+use Rattle.name_btree.proofs.ReachLaws.{same_itself}
+use Rattle.name_btree.proofs.StepLaws.{leaf_never}
+use Rattle.name_btree.proofs.TakeLaws.{takes_then}
+
+-- ---- the child around a key
+
+pub record IsMiddle (key : Key) (above d : Child) (first : ℕ) (separators : List Separator) (i : ℕ) : Type 0 where
+  pub around : StandAround key separators i
+  pub is : d ≡ middle_child above first separators i
+
+unnot_true : (b : Bool) → not b ≡ true → b ≡ false
+unnot_true true e = absurd cc
+unnot_true false e = refl
+
+unnot_false : (b : Bool) → not b ≡ false → b ≡ true
+unnot_false true e = refl
+unnot_false false e = absurd cc
+
+pub middle_is : (key k : Key) (pages : List (List ℕ)) (above d : Child) (first : ℕ) (separators : List Separator) (i : ℕ) → page_at pages above.page ≡ Some (Interior first separators) → k ≡ key → i ≤ length separators
+    → AllByRecursion (λ s. is_before (UpTo k) s.key ≡ true) (take i separators) → (are_ascending (separator_keys separators) ≡ true → AllByRecursion (λ s. is_before (UpTo k) s.key ≡ false) (drop i separators))
+    → slice_get (children first above.low above.high separators) i ≡ Some d → IsMiddle key above d first separators i
+middle_is key k pages above d first separators i at same within before behind there =
+    let order = interior_ascends above.page (length pages) first separators (at_is_page pages above.page (Interior first separators) at) in
+    let upto = all_weaker (λ s. is_before (UpTo k) s.key ≡ true) (IsUpTo k) (take i separators) (λ s h. sym (greater s.key k) ∙ unnot_true (is_gt (key_cmp s.key k)) h) before in
+    let later = all_weaker (λ s. is_before (UpTo k) s.key ≡ false) (IsBehind k) (drop i separators) (λ s h. sym (greater s.key k) ∙ unnot_false (is_gt (key_cmp s.key k)) h) (behind order) in
+    let both : Some d ≡ Some (middle_child above first separators i) = sym there ∙ ways.child_at first above.low above.high separators i within in
+    record {
+      around = subst (λ (x : Key). StandAround x separators i) same (upto, later);
+      is = cc;
+    }
+
+pub inside_middle : (key : Key) (above d : Child) (first : ℕ) (separators : List Separator) (i : ℕ) → IsMiddle key above d first separators i → is_inside above key ≡ true → is_inside d key ≡ true
+inside_middle key above d first separators i m inside =
+    let both = and_parts (not_below above.low key) (below above.high key) inside in
+    ap (λ (x : Child). is_inside x key) m.is ∙ ways.key_inside key first above.low above.high (take i separators) (drop i separators) both.0 both.1 m.around.0 m.around.1
+
+pub least_taken : (page levels : ℕ) → suc levels ≤ most_taken page levels
+least_taken page levels = by (page == 0)
+  where
+    by : (b : Bool) → suc levels ≤ cond b 2 1 + levels
+    by true = omega arith
+    by false = omega arith
+
+-- ---- faults
+
+pub fault_misfit : (given : Option Refusal) (fault : TreeFault) (e : Entry) (pages : List (List ℕ)) (levels : ℕ) (c : Child) → HasCause given (IsMisfit pages c) fault → HasCause given (BreaksGrowth e pages levels c) fault
+fault_misfit given (Pages refusal) e pages levels c h = h
+fault_misfit given (Broken page) e pages levels c h = λ level low branch none. misfit level pages c h.1 branch.subtree
+
+find_parts : (test : Entry → Bool) (xs ys : List Entry) → find test (xs ++ ys) ≡ None → (find test xs ≡ None) × (find test ys ≡ None)
+find_parts test [] ys e = (refl, e)
+find_parts test (x ∷ xs) ys e = by (test x) e (λ later. find_parts test xs ys later)
+  where
+    by : (b : Bool) → cond b (Some x) (find test (xs ++ ys)) ≡ None → (find test (xs ++ ys) ≡ None → (find test xs ≡ None) × (find test ys ≡ None)) → (cond b (Some x) (find test xs) ≡ None) × (find test ys ≡ None)
+    by true e later = absurd cc
+    by false e later = later e
+
+none_below : (key : Key) (pages : List (List ℕ)) (level : ℕ) (c : Child) (first : ℕ) (separators : List Separator) (i : ℕ) → page_at pages c.page ≡ Some (Interior first separators) → StandAround key separators i → IsSubtree (suc level) pages c
+    → entry_with key (entries_below (suc level) pages c) ≡ None → entry_with key (entries_below level pages (middle_child c first separators i)) ≡ None
+none_below key pages level c first separators i at around sub none =
+    let g : Child → List Entry = entries_below level pages in
+    let ls : List Entry = flat_map g (left_children c first separators i) in
+    let ms : List Entry = g (middle_child c first separators i) in
+    let rs : List Entry = flat_map g (right_children c separators i) in
+    let below = is_below key pages level c first separators i at around sub in
+    let all : entry_with key (ls ++ (ms ++ rs)) ≡ None = ap (entry_with key) (sym below.entries_are) ∙ none in
+    (find_parts _ ms rs (find_parts _ ls (ms ++ rs) all).1).0
+
+pub fault_below : (given : Option Refusal) (fault : TreeFault) (e : Entry) (pages : List (List ℕ)) (levels : ℕ) (c : Child) (first : ℕ) (separators : List Separator) (i : ℕ) → page_at pages c.page ≡ Some (Interior first separators)
+    → StandAround e.key separators i → HasCause given (BreaksGrowth e pages levels (middle_child c first separators i)) fault → HasCause given (BreaksGrowth e pages (suc levels) c) fault
+fault_below given (Pages refusal) e pages levels c first separators i at around h = h
+fault_below given (Broken page) e pages levels c first separators i at around h = λ level low branch none. by level low branch none
+  where
+    by : (level : ℕ) → level ≤ suc levels → IsBranch pages level c → entry_with e.key (entries_below level pages c) ≡ None → ⊥
+    by zero low branch none = leaf_never pages c (page_at pages c.page) first separators at branch.subtree
+    by (suc level) low branch none =
+        h level (omega arith) (branch_below e.key pages level c first separators i at around branch).0 (none_below e.key pages level c first separators i at around branch.subtree none)
+
+itself_below : (level : ℕ) (pages : List (List ℕ)) (c : Child) → contains (pages_below level pages c) c.page ≡ true
+itself_below zero pages c = ap (λ (b : Bool). b || false) (same_itself c.page)
+itself_below (suc level) pages c = ap (λ (b : Bool). b || contains (flat_map (pages_below level pages) (children_of c.low c.high (page_at pages c.page))) c.page) (same_itself c.page)
+
+-- page 0 stands below no other
+pub zero_below : (e : Entry) (pages : List (List ℕ)) (levels : ℕ) (c : Child) (first : ℕ) (separators : List Separator) (i page : ℕ) → page_at pages c.page ≡ Some (Interior first separators) → StandAround e.key separators i
+    → (middle_child c first separators i).page ≡ 0 → BreaksGrowth e pages levels c page
+zero_below e pages levels c first separators i page at around is = λ level low branch none. by level branch
+  where
+    by : (level : ℕ) → IsBranch pages level c → ⊥
+    by zero branch = leaf_never pages c (page_at pages c.page) first separators at branch.subtree
+    by (suc level) branch =
+        (branch_below e.key pages level c first separators i at around branch).1.1
+        (subst (λ (n : ℕ). contains (pages_below level pages (middle_child c first separators i)) n ≡ true) is (itself_below level pages (middle_child c first separators i)))
+
+-- ---- a leaf is on the lowest level
+
+interior_never : (P : Child → Type 0) (c : Child) (x : Option Content) (entries : List Entry) → x ≡ Some (Leaf entries) → IsInterior P c x → ⊥
+interior_never P c x entries at h = subst (IsInterior P c) at h
+
+pub leaf_grows : (e : Entry) (old new : Step) (pages after : List (List ℕ)) (levels : ℕ) (c : Child) (g : Grown) (entries : List Entry) → page_at pages c.page ≡ Some (Leaf entries) → Grows e old new pages after 0 c g → Grows e old new pages after levels c g
+leaf_grows e old new pages after levels c g entries at grows = record {
+  came = grows.came;
+  few = omega (arith, grows.few);
+  takes = grows.takes;
+  sound = grows.sound;
+  place = grows.place;
+  divided = grows.divided;
+  full = grows.full;
+  becomes = λ level low branch used. by level branch used;
+}
+  where
+    by : (level : ℕ) → IsBranch pages level c → AreUsed old (pages_below level pages c) → BranchBecomes e pages after grows.came level c g
+    by zero branch used = grows.becomes 0 (omega arith) branch used
+    by (suc level) branch used = absurd (interior_never (IsSubtree level pages) c (page_at pages c.page) entries at branch.subtree)
+
+pub leaf_fault : (given : Option Refusal) (fault : TreeFault) (e : Entry) (pages : List (List ℕ)) (levels : ℕ) (c : Child) (entries : List Entry) → page_at pages c.page ≡ Some (Leaf entries) → HasCause given (BreaksGrowth e pages 0 c) fault
+    → HasCause given (BreaksGrowth e pages levels c) fault
+leaf_fault given (Pages refusal) e pages levels c entries at h = h
+leaf_fault given (Broken page) e pages levels c entries at h = λ level low branch none. by level branch none
+  where
+    by : (level : ℕ) → IsBranch pages level c → entry_with e.key (entries_below level pages c) ≡ None → ⊥
+    by zero branch none = h 0 (omega arith) branch none
+    by (suc level) branch none = interior_never (IsSubtree level pages) c (page_at pages c.page) entries at branch.subtree
+
+-- ---- results
+
+pub ok_grows : (r : Result Grown TreeFault) (P Q : Grown → Type 0) → ((g : Grown) → P g → Q g) → IfOk r P → IfOk r Q
+ok_grows (Ok g) P Q f h = f g h
+ok_grows (Err fault) P Q f h = h
+
+pub err_grows : (r : Result Grown TreeFault) (P Q : TreeFault → Type 0) → ((fault : TreeFault) → P fault → Q fault) → IfErr r P → IfErr r Q
+err_grows (Ok g) P Q f h = h
+err_grows (Err fault) P Q f h = f fault h
+
+-- ---- a step that looked before
+
+pub grows_looked : (e : Entry) (first old new : Step) (sheets : List Sheet) (after : List (List ℕ)) (levels : ℕ) (c : Child) (g : Grown) → Takes first old [] → old.spares ≡ first.spares → Grows e old new (drafted sheets old.images) after levels c g
+    → Grows e first new (drafted sheets first.images) after levels c g
+grows_looked e first old new sheets after levels c g takes spares h =
+    let grows : Grows e old new (drafted sheets first.images) after levels c g = subst (λ (im : List (List ℕ)). Grows e old new (drafted sheets im) after levels c g) takes.images h in
+    let Used : List Bool → ℕ → Type 0 = λ (s : List Bool) (p : ℕ). is_spare s p ≡ false in
+    record {
+      came = grows.came;
+      few = grows.few;
+      takes = takes_then first old new [] grows.came takes grows.takes;
+      sound = grows.sound;
+      place = grows.place;
+      divided = grows.divided;
+      full = grows.full;
+      becomes = λ level low branch used. grows.becomes level low branch (λ p there. subst (λ (s : List Bool). Used s p) (sym spares) (used p there));
+    }

@@ -1,0 +1,74 @@
+use Rattle.std.proofs.Common.{◌≡◌, ◌∙◌, ap, subst, List, length, take, drop, ◌&&◌, ◌<◌, ◌^◌, arith}
+use Rattle.fsd_formats.specs.declared.page.Separator.{Separator}
+use Rattle.std.specs.Prelude.{nat_lt}
+use Rattle.std.specs.List.{list_all}
+use Rattle.fsd_bytes.specs.Keys.{is_key}
+use Rattle.fsd_formats.specs.NamePage.{Interior, is_page, are_ascending}
+use Rattle.fsd_table.specs.Pages.{separator_keys}
+use Rattle.name_page.specs.Pages.{is_spare}
+use Rattle.name_btree.specs.Draft.{IsDrafted}
+use Rattle.name_btree.proofs.TakeLaws.{sheets_over, taken_itself}
+use Rattle.name_btree.proofs.GrowLaws.{IsParted, HasInteriors, ways_parted, rest_of}
+use Rattle.name_btree.proofs.growing.grow_ways.Given as given
+use Rattle.name_btree.proofs.growing.grow_ways.Goals as goal
+
+pub put_ways-requires-2-clause-sheets : goal.put_ways-requires-2-clause-sheets
+put_ways-requires-2-clause-sheets g c =
+    let step = g.T.Pages.step c.args.t.now in
+    let between = g.T.Pages.step c.front_page-left.new.t in
+    let last = g.T.Pages.step c.take_page-right.new.t in
+    let sheets = c.args.draft.now.sheets.items in
+    sheets_over between last _ sheets c.take_page-right.ensures.takes (sheets_over step between _ sheets c.front_page-left.ensures.takes c.requires.sheets)
+
+pub put_ways-requires-3-clause-used : goal.put_ways-requires-3-clause-used
+put_ways-requires-3-clause-used g c =
+    let last = g.T.Pages.step c.take_page-right.new.t in
+    let right = c.take_page-right.result in
+    c.take_page-right.ensures.takes.taken.spares right ∙ taken_itself (is_spare (g.T.Pages.step c.front_page-left.new.t).spares right) right
+
+pub put_ways-requires-3-clause-accepted : goal.put_ways-requires-3-clause-accepted
+put_ways-requires-3-clause-accepted g c =
+    let step = g.T.Pages.step c.args.t.now in
+    let last = g.T.Pages.step c.take_page-right.new.t in
+    let right = c.take_page-right.result in
+    let some = c.as_slice-separators.result.now in
+    let middle = c.middle-middle.result in
+    let images : length last.images ≡ length step.images = ap length (c.take_page-right.ensures.takes.images ∙ c.front_page-left.ensures.takes.images) in
+    let fits = c.requires.separators in
+    let each = ap (list_all (λ s. is_key s.key && nat_lt s.child (length step.images))) c.as_slice-separators.ensures.value ∙ fits.each in
+    let order = ap (λ (zs : List Separator). are_ascending (separator_keys zs)) c.as_slice-separators.ensures.value ∙ fits.order in
+    let is = (c.middle-middle.ensures.interiors (length step.images) c.args.first each order fits.low right).1 in
+    (λ i. is_page right (images i) (Interior middle.child (rest_of some 5 i))) ∙ is
+
+parted : (g : given.Over) (c : goal.After-put_ways-3 g) → HasInteriors (g.T.Pages.step c.args.t.now) (g.T.Pages.step c.take_page-right.new.t) c.args.draft.now.sheets.items c.put_ways-3.new.self.sheets.items c.args.page c.args.first
+    c.args.separators.now.items c.front_page-left.result (record { key = c.middle-middle.result.key; child = c.take_page-right.result })
+parted g c =
+    let step = g.T.Pages.step c.args.t.now in
+    let between = g.T.Pages.step c.front_page-left.new.t in
+    let last = g.T.Pages.step c.take_page-right.new.t in
+    let left = c.front_page-left.result in
+    let right = c.take_page-right.result in
+    let some = c.as_slice-separators.result.now in
+    let middle = c.middle-middle.result in
+    let s0 = c.args.draft.now.sheets.items in
+    let s1 = c.put_ways-2.new.self.sheets.items in
+    let s2 = c.put_ways-3.new.self.sheets.items in
+    let is : IsParted step between last s0 s1 s2 c.args.page left right (Interior c.args.first (take 4 some)) (Interior middle.child (drop 5 some)) = record {
+      front_takes = c.front_page-left.ensures.takes;
+      takes = c.take_page-right.ensures.takes;
+      own = c.front_page-left.ensures.own;
+      used = c.front_page-left.ensures.used;
+      place = c.front_page-left.ensures.place;
+      front = c.put_ways-2.ensures.sheets;
+      behind = subst (λ (zs : List Separator). IsDrafted last s1 s2 right (Interior middle.child zs)) (rest_of some 5) c.put_ways-3.ensures.sheets;
+    } in
+    let small : right < 2 ^ 32 = omega arith in
+    let ten : length some ≡ 10 = omega (arith, c.requires.separators.most, ap length c.as_slice-separators.ensures.value) in
+    ways_parted step between last s0 s1 s2 c.args.page left right c.args.first (length step.images) c.args.separators.now.items some middle
+    c.as_slice-separators.ensures.value ten c.middle-middle.ensures.there is c.requires.separators.each c.requires.fits small
+
+pub returns-clause-grown : goal.returns-clause-grown
+returns-clause-grown g c = (parted g c).grown
+
+pub returns-clause-interiors : goal.returns-clause-interiors
+returns-clause-interiors g c = (parted g c).interiors
