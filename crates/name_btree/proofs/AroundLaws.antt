@@ -1,22 +1,20 @@
 -- A page above a key's child and its neighbour.
-use Rattle.std.proofs.Common.{◌≡◌, ◌≢◌, ℕ, zero, suc, ◌+◌, ◌-◌, ◌<◌, ◌≤◌, Bool, true, false, ◌||◌, not, ◌&&◌, List, [], ◌∷◌, ◌++◌, length, take, drop, Option, Some, refl, sym, ap, subst, ◌∙◌, arith, take-append-drop}
+use Rattle.std.proofs.Common.{◌≡◌, ℕ, zero, suc, ◌+◌, ◌-◌, ◌≤◌, Bool, true, false, not, ◌&&◌, List, [], ◌∷◌, ◌++◌, length, take, drop, Option, Some, refl, sym, ap, subst, ◌∙◌, arith}
 use Rattle.std.specs.Prelude.{◌==◌, slice_get, ⊤}
 use Rattle.std.specs.List.{flat_map, AllByRecursion}
-use Rattle.std.proofs.lemmas.Bool.{and_parts, and_from}
+use Rattle.std.proofs.lemmas.Bool.{and_parts}
 use Rattle.std.proofs.lemmas.List.{append-nil}
-use Rattle.std.proofs.lemmas.List.Concat.{flat_map-append}
 use Rattle.run_table.specs.Space.{contains, all_differ}
 use Rattle.fsd_bytes.specs.declared.key.Key.{Key}
-use Rattle.fsd_bytes.specs.Keys.{key_cmp, key_lt}
-use Rattle.fsd_formats.specs.declared.entry.Entry.{Entry}
+use Rattle.fsd_bytes.specs.Keys.{key_lt}
 use Rattle.fsd_formats.specs.declared.page.Separator.{Separator}
 use Rattle.fsd_formats.specs.NamePage.{Content, Interior}
 use Rattle.fsd_table.specs.declared.child.Child.{Child}
 use Rattle.fsd_table.specs.Pages.{page_at, children, children_of, keys_fit, not_below, below, separator_keys}
 use Rattle.fsd_table.specs.Tree.{pages_below, IsInterior, IsSubtree}
-use Rattle.fsd_table.proofs.BoundLaws.{all_append, all_weaker}
-use Rattle.fsd_forest.specs.Forest.{forest_pages, count_of, Stay, Keep, IsLocal, Becomes, IsAbove}
-use Rattle.fsd_forest.specs.Ways.{StandsAt, IsUpTo, IsBehind, children_before, child_between, child_behind, children_from, end_of}
+use Rattle.fsd_table.proofs.BoundLaws.{all_weaker}
+use Rattle.fsd_forest.specs.Forest.{forest_pages, count_of, Stay, Keep, IsLocal, Becomes}
+use Rattle.fsd_forest.specs.Ways.{StandsAt, IsUpTo, IsBehind, children_before, child_between, children_from}
 use Rattle.fsd_forest.proofs.LowLaws.{subtrees_of}
 use Rattle.fsd_forest.proofs.CountLaws.{count_cons, count_append, there_counts, counts_there, differ_counts, counts_differ, one_if}
 use Rattle.fsd_forest.proofs.ForestLaws.{widens}
@@ -25,7 +23,7 @@ use Rattle.fsd_forest.proofs.WayLaws.{children_between, children_end, children_b
 use Rattle.name_node.specs.declared.cut.Cut.TheVariants.{UpTo}
 use Rattle.name_node.specs.Cut.{is_before}
 use Rattle.name_node.specs.Edits.{without, is_on}
-use Rattle.name_node.specs.declared.entries.Side.TheVariants.{Lesser, Greater}
+use Rattle.name_node.specs.declared.entries.Side.TheVariants.{Greater}
 use Rattle.name_node.proofs.CutLaws.{greater}
 use Rattle.name_node.proofs.PutLaws.{all_split}
 use Rattle.name_node.proofs.SideLaws.{without_part}

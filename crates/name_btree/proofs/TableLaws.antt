@@ -1,10 +1,9 @@
 -- The table once a tree without a key is written.
-use Rattle.std.proofs.Common.{◌≡◌, ℕ, zero, suc, ◌+◌, ◌-◌, ◌<◌, ◌≤◌, Bool, true, false, ◌||◌, not, List, [], ◌∷◌, ◌++◌, length, get_or, refl, sym, ap, subst, ◌∙◌, arith}
+use Rattle.std.proofs.Common.{◌≡◌, ℕ, zero, suc, ◌+◌, ◌<◌, ◌≤◌, Bool, true, false, ◌||◌, not, List, [], ◌∷◌, length, get_or, refl, sym, ap, subst, ◌∙◌, arith}
 use Rattle.std.specs.Prelude.{◌==◌, slice_set}
 use Rattle.std.proofs.lemmas.Bool.{eqb-true}
-use Rattle.run_table.specs.Space.{contains, all_differ}
+use Rattle.run_table.specs.Space.{contains}
 use Rattle.fsd_bytes.specs.declared.key.Key.{Key}
-use Rattle.fsd_formats.specs.declared.entry.Entry.{Entry}
 use Rattle.fsd_table.specs.Tree.{pages_of, table_of, IsTree}
 use Rattle.fsd_forest.specs.Forest.{count_of, Disjoint, TreeBecomes}
 use Rattle.fsd_forest.proofs.CountLaws.{count_nothing, there_counts, out_counts, counts_there, counts_out, differ_counts}

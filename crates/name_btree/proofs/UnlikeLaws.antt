@@ -1,11 +1,9 @@
 -- In a tree a child of too little has a neighbour that it is joined with.
-use Rattle.std.proofs.Common.{◌≡◌, ◌≢◌, ◌⊎◌, inl, inr, ℕ, zero, suc, ◌+◌, ◌-◌, ◌<◌, ◌≤◌, Bool, true, false, cond, ◌||◌, not, ◌&&◌, List, [], ◌∷◌, ◌++◌, length, take, drop, Option, Some, None, refl, sym, ap, subst, ◌∙◌, arith}
+use Rattle.std.proofs.Common.{◌≡◌, ℕ, zero, suc, ◌+◌, ◌-◌, ◌<◌, ◌≤◌, Bool, true, false, cond, List, [], ◌∷◌, ◌++◌, length, take, drop, Option, Some, None, refl, sym, ap, subst, ◌∙◌, arith}
 use Rattle.std.specs.Prelude.{◌==◌, slice_get}
 use Rattle.std.specs.List.{flat_map, AllByRecursion}
 use Rattle.run_table.specs.Space.{contains}
 use Rattle.fsd_bytes.specs.declared.key.Key.{Key}
-use Rattle.fsd_bytes.specs.declared.refusal.Refusal.{Refusal}
-use Rattle.fsd_bytes.specs.Keys.{key_lt}
 use Rattle.fsd_formats.specs.declared.entry.Entry.{Entry}
 use Rattle.fsd_formats.specs.declared.page.Separator.{Separator}
 use Rattle.fsd_formats.specs.NamePage.{Content, least_used, least_separators}
@@ -16,10 +14,9 @@ use Rattle.fsd_table.specs.Tree.{pages_below, entries_below, IsLeaf, IsInterior,
 use Rattle.fsd_table.proofs.BoundLaws.{Fits, entries_between}
 use Rattle.fsd_table.proofs.KeyLaws.{le_lt}
 use Rattle.fsd_table.proofs.PageLaws.{at_is_page}
-use Rattle.fsd_forest.specs.Forest.{count_of, forest_pages, Stay, Becomes}
+use Rattle.fsd_forest.specs.Forest.{count_of, forest_pages}
 use Rattle.fsd_forest.specs.Ways.{StandsAt, IsUpTo, IsBehind, children_before, child_behind, children_from}
 use Rattle.fsd_forest.proofs.CountLaws.{count_cons, count_append, count_nothing, counts_there, counts_out, differ_counts, one_where}
-use Rattle.name_node.specs.Edits.{without}
 use Rattle.name_node.proofs.ListLaws.{children_count}
 use Rattle.name_btree.specs.declared.trimming.Pair.{Pair}
 use Rattle.name_btree.specs.declared.trimming.Trimmed.{Trimmed}
@@ -29,10 +26,10 @@ use Rattle.name_btree.specs.declared.draft.Draft.{Draft}
 use Rattle.name_btree.specs.Draft.{drafted}
 use Rattle.name_node.specs.declared.cut.Cut.TheVariants.{UpTo}
 use Rattle.name_node.specs.Cut.{is_before}
-use Rattle.name_btree.specs.Trim.{IsPair, IsOpened, used_by, beside, right_at, is_behind, IsUnlike}
+use Rattle.name_btree.specs.Trim.{IsPair, IsOpened, beside, right_at, is_behind, IsUnlike}
 use Rattle.name_btree.proofs.AroundLaws.{pair_stands, count_one, child_around, up_to, past}
 use Rattle.name_btree.proofs.LeafTreeLaws.{one_same, head_counts}
-use Rattle.name_btree.proofs.PairLaws.{some_at, left_child, right_child, AreSides, AtLeft, AtRight, sides_are, same_of}
+use Rattle.name_btree.proofs.PairLaws.{some_at, left_child, right_child, AreSides, AtLeft, AtRight, sides_are}
 use Rattle.name_btree.proofs.TrimLaws.{least_at, leaf_least}
 use Rattle.name_btree.proofs.WalkLaws.{all_at}
 use Rattle.name_btree.proofs.WayTreeLaws.{counted_once}

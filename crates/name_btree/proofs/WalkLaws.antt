@@ -20,7 +20,7 @@ use Rattle.name_btree.specs.declared.fault.TreeFault.TheVariants.{Pages, Broken}
 use Rattle.name_btree.specs.Descent.{end_of}
 use Rattle.name_btree.specs.Fault.{HasCause, IsMisfit}
 use Rattle.name_btree.specs.Walk.{is_marked, can_mark, marked, IsWalked, AreWalked, BreaksWalk, BreakWalk}
-use Rattle.name_node.proofs.ListLaws.{children_count, drop_at}
+use Rattle.name_node.proofs.ListLaws.{drop_at}
 use Rattle.name_btree.proofs.DescentLaws.{misfit}
 use Rattle.name_btree.proofs.MarkLaws.{marked_append, can_append}
 

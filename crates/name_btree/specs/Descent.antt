@@ -1,5 +1,5 @@
 -- The way to the leaf at a place between keys, and what stands left and right of it.
-use Rattle.std.specs.Prelude.{◌≡◌, ℕ, ◌<◌, Bool, true, false, List, [], ◌∷◌, ◌++◌, Option, Some, None, if◌then◌else◌}
+use Rattle.std.specs.Prelude.{◌≡◌, ℕ, ◌<◌, Bool, false, List, [], ◌∷◌, ◌++◌, Option, Some, None, if◌then◌else◌}
 use Rattle.std.specs.List.{AllByRecursion}
 use Rattle.fsd_bytes.specs.declared.key.Key.{Key}
 use Rattle.name_node.specs.Cut.{IsLesser}

@@ -1,4 +1,4 @@
-use Rattle.std.proofs.Common.{◌≡◌, ◌∙◌, ◌+◌, ◌≤◌, true, sym, ap, subst, length, List, ℕ, arith}
+use Rattle.std.proofs.Common.{◌≡◌, ◌∙◌, ◌+◌, ◌≤◌, sym, ap, subst, length, ℕ, arith}
 use Rattle.name_page.specs.Pages.{Step, reaches, changes, is_spare}
 use Rattle.name_btree.proofs.CommitLaws.{commit_most_reached, commit_most_changed, commit_reaches, commit_changes, freed_spare}
 use Rattle.name_btree.proofs.DraftLaws.{committed_spares}
