@@ -1,15 +1,13 @@
 -- What is left of a page above a child that was mended.
-use Rattle.std.proofs.Common.{◌≡◌, ◌≢◌, ◌⊎◌, inl, inr, ℕ, ◌+◌, ◌-◌, ◌<◌, ◌≤◌, Bool, true, false, cond, List, [], ◌∷◌, ◌++◌, length, take, drop, Option, ◌&&◌, Some, refl, sym, ap, subst, ◌∙◌, arith, length-append}
+use Rattle.std.proofs.Common.{◌≡◌, ◌≢◌, inl, inr, ℕ, ◌+◌, ◌<◌, ◌≤◌, Bool, true, false, cond, List, [], ◌∷◌, ◌++◌, length, take, drop, Option, ◌&&◌, refl, sym, ap, subst, ◌∙◌, arith, length-append}
 use Rattle.std.specs.Prelude.{◌==◌, Result, Ok, Err, IfOk, IfErr, OnOk}
 use Rattle.std.proofs.lemmas.Bool.{and_parts, and_from}
 use Rattle.fsd_bytes.specs.declared.key.Key.{Key}
-use Rattle.fsd_bytes.specs.declared.refusal.Refusal.{Refusal}
-use Rattle.fsd_formats.specs.declared.entry.Entry.{Entry}
 use Rattle.fsd_formats.specs.declared.page.Separator.{Separator}
 use Rattle.fsd_formats.specs.NamePage.{Content, least_separators}
 use Rattle.fsd_table.specs.declared.child.Child.{Child}
 use Rattle.fsd_table.specs.Pages.{keys_fit, not_below, below, separator_keys}
-use Rattle.name_page.specs.Pages.{Step, with_one, is_one_of}
+use Rattle.name_page.specs.Pages.{Step, is_one_of}
 use Rattle.name_btree.specs.declared.draft.Draft.{Draft}
 use Rattle.name_btree.specs.declared.draft.Sheet.{Sheet}
 use Rattle.name_btree.specs.declared.fault.TreeFault.{TreeFault}
@@ -17,7 +15,7 @@ use Rattle.name_btree.specs.declared.trimming.Pair.{Pair}
 use Rattle.name_btree.specs.declared.trimming.Trimmed.{Trimmed}
 use Rattle.name_btree.specs.declared.trimming.Trimmed.TheVariants.{Whole, Leaf, Interior}
 use Rattle.name_btree.specs.Draft.{with_freed}
-use Rattle.name_btree.specs.Trim.{AreWays, IsOpened, IsPair, IsLeft, IsLeafPut, AreWaysPut, AreEntries, used_by, separators_joined, AreJoined, AreShared, AreParted, WaysAreParted, AreLeavesMended, AreWaysMended, IsMended, sheets_below}
+use Rattle.name_btree.specs.Trim.{AreWays, IsOpened, IsPair, IsLeft, AreWaysPut, separators_joined, AreJoined, AreShared, IsMended, sheets_below}
 use Rattle.name_btree.proofs.PairLaws.{parts_at}
 use Rattle.name_btree.proofs.TrimLaws.{joined_ways, separator_keys_append, fit_append}
 

@@ -1,22 +1,20 @@
 -- A page above a key's child and its neighbour.
-use Rattle.std.proofs.Common.{◌≡◌, ◌≢◌, ℕ, zero, suc, ◌+◌, ◌-◌, ◌<◌, ◌≤◌, Bool, true, false, ◌||◌, not, ◌&&◌, List, [], ◌∷◌, ◌++◌, length, take, drop, Option, Some, refl, sym, ap, subst, ◌∙◌, arith, take-append-drop}
+use Rattle.std.proofs.Common.{◌≡◌, ℕ, zero, suc, ◌+◌, ◌-◌, ◌≤◌, Bool, true, false, not, ◌&&◌, List, [], ◌∷◌, ◌++◌, length, take, drop, Option, Some, refl, sym, ap, subst, ◌∙◌, arith}
 use Rattle.std.specs.Prelude.{◌==◌, slice_get, ⊤}
 use Rattle.std.specs.List.{flat_map, AllByRecursion}
-use Rattle.std.proofs.lemmas.Bool.{and_parts, and_from}
+use Rattle.std.proofs.lemmas.Bool.{and_parts}
 use Rattle.std.proofs.lemmas.List.{append-nil}
-use Rattle.std.proofs.lemmas.List.Concat.{flat_map-append}
 use Rattle.run_table.specs.Space.{contains, all_differ}
 use Rattle.fsd_bytes.specs.declared.key.Key.{Key}
-use Rattle.fsd_bytes.specs.Keys.{key_cmp, key_lt}
-use Rattle.fsd_formats.specs.declared.entry.Entry.{Entry}
+use Rattle.fsd_bytes.specs.Keys.{key_lt}
 use Rattle.fsd_formats.specs.declared.page.Separator.{Separator}
 use Rattle.fsd_formats.specs.NamePage.{Content, Interior}
 use Rattle.fsd_table.specs.declared.child.Child.{Child}
 use Rattle.fsd_table.specs.Pages.{page_at, children, children_of, keys_fit, not_below, below, separator_keys}
 use Rattle.fsd_table.specs.Tree.{pages_below, IsInterior, IsSubtree}
-use Rattle.fsd_table.proofs.BoundLaws.{all_append, all_weaker}
-use Rattle.fsd_forest.specs.Forest.{forest_pages, count_of, Stay, Keep, IsLocal, Becomes, IsAbove}
-use Rattle.fsd_forest.specs.Ways.{StandsAt, IsUpTo, IsBehind, children_before, child_between, child_behind, children_from, end_of}
+use Rattle.fsd_table.proofs.BoundLaws.{all_weaker}
+use Rattle.fsd_forest.specs.Forest.{forest_pages, count_of, Stay, Keep, IsLocal, Becomes}
+use Rattle.fsd_forest.specs.Ways.{StandsAt, IsUpTo, IsBehind, children_before, child_between, children_from}
 use Rattle.fsd_forest.proofs.LowLaws.{subtrees_of}
 use Rattle.fsd_forest.proofs.CountLaws.{count_cons, count_append, there_counts, counts_there, differ_counts, counts_differ, one_if}
 use Rattle.fsd_forest.proofs.ForestLaws.{widens}
@@ -25,7 +23,7 @@ use Rattle.fsd_forest.proofs.WayLaws.{children_between, children_end, children_b
 use Rattle.name_node.specs.declared.cut.Cut.TheVariants.{UpTo}
 use Rattle.name_node.specs.Cut.{is_before}
 use Rattle.name_node.specs.Edits.{without, is_on}
-use Rattle.name_node.specs.declared.entries.Side.TheVariants.{Lesser, Greater}
+use Rattle.name_node.specs.declared.entries.Side.TheVariants.{Greater}
 use Rattle.name_node.proofs.CutLaws.{greater}
 use Rattle.name_node.proofs.PutLaws.{all_split}
 use Rattle.name_node.proofs.SideLaws.{without_part}
@@ -117,11 +115,11 @@ child_around key pages level above first xs i child around at within ends begins
       high = parts.1;
       apart = counts_differ (f child) (λ p. omega (arith, few p, most p, count_cons p above.page (flat_map f cs)));
       inner = λ there. absurd (
-        let here : 1 ≤ count_of 0 (flat_map f cs) = omega (arith, there_counts 0 (f child) there, few 0) in
-        let whole : 1 ≤ count_of 0 (above.page ∷ flat_map f cs) = omega (arith, here, count_cons 0 above.page (flat_map f cs)) in
-        let zero_is : above.page ≡ 0 = around.inner (ap (λ (ps : List ℕ). contains ps 0) split ∙ counts_here 0 (above.page ∷ flat_map f cs) whole) in
-        omega (arith, most 0, here, count_cons 0 above.page (flat_map f cs), one_if (above.page == 0) (grind arith))
-      );
+          let here : 1 ≤ count_of 0 (flat_map f cs) = omega (arith, there_counts 0 (f child) there, few 0) in
+          let whole : 1 ≤ count_of 0 (above.page ∷ flat_map f cs) = omega (arith, here, count_cons 0 above.page (flat_map f cs)) in
+          let zero_is : above.page ≡ 0 = around.inner (ap (λ (ps : List ℕ). contains ps 0) split ∙ counts_here 0 (above.page ∷ flat_map f cs) whole) in
+          omega (arith, most 0, here, count_cons 0 above.page (flat_map f cs), one_if (above.page == 0) (grind arith))
+          );
     }
   where
     counts_here : (p : ℕ) (ps : List ℕ) → 1 ≤ count_of p ps → contains ps p ≡ true

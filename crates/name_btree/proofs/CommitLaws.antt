@@ -1,5 +1,5 @@
 -- What a step knows once a draft is written.
-use Rattle.std.proofs.Common.{◌≡◌, ℕ, zero, suc, ◌+◌, ◌-◌, ◌≤◌, Bool, true, false, List, [], ◌∷◌, cond, ◌++◌, length-append, length, get_or, refl, sym, ap, ◌∙◌, arith}
+use Rattle.std.proofs.Common.{◌≡◌, ℕ, zero, suc, ◌+◌, ◌≤◌, Bool, true, false, List, [], ◌∷◌, cond, ◌++◌, length-append, length, get_or, refl, ap, ◌∙◌, arith}
 use Rattle.std.specs.Prelude.{slice_set}
 use Rattle.name_page.specs.Pages.{Step, reaches, changes, is_spare, with_page, with_spare, with_one, is_one_of}
 use Rattle.name_btree.specs.declared.draft.Sheet.{Sheet}

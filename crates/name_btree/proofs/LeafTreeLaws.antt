@@ -1,23 +1,22 @@
 -- What becomes of a page above two leaves that are mended.
-use Rattle.std.proofs.Common.{◌≡◌, ◌≢◌, ◌⊎◌, inl, inr, ℕ, zero, suc, ◌+◌, ◌-◌, ◌<◌, ◌≤◌, Bool, true, false, cond, ◌||◌, not, ◌&&◌, List, [], ◌∷◌, ◌++◌, length, take, drop, Option, Some, refl, sym, ap, subst, ◌∙◌, arith}
-use Rattle.std.specs.Prelude.{◌==◌, slice_get}
-use Rattle.std.specs.List.{flat_map, AllByRecursion}
+use Rattle.std.proofs.Common.{◌≡◌, ℕ, zero, suc, ◌+◌, ◌≤◌, Bool, true, false, cond, ◌||◌, List, [], ◌∷◌, ◌++◌, Option, Some, refl, sym, ap, subst, ◌∙◌, arith}
+use Rattle.std.specs.Prelude.{◌==◌}
+use Rattle.std.specs.List.{flat_map}
 use Rattle.std.proofs.lemmas.Bool.{ne_eqb, eqb-true}
 use Rattle.std.proofs.lemmas.List.Folds.{list_any-append}
 use Rattle.std.proofs.lemmas.List.{append-nil}
-use Rattle.run_table.specs.Space.{contains, all_differ}
+use Rattle.run_table.specs.Space.{contains}
 use Rattle.fsd_bytes.specs.declared.key.Key.{Key}
 use Rattle.fsd_formats.specs.declared.entry.Entry.{Entry}
 use Rattle.fsd_formats.specs.declared.page.Separator.{Separator}
 use Rattle.fsd_formats.specs.NamePage.{Content, are_ascending}
 use Rattle.fsd_formats.specs.NamePage as grammar
 use Rattle.fsd_table.specs.declared.child.Child.{Child}
-use Rattle.fsd_table.specs.Pages.{page_at, children, children_of, keys_fit, entry_keys, entries_of}
-use Rattle.fsd_table.specs.Tree.{pages_below, IsLeaf, IsSubtree}
+use Rattle.fsd_table.specs.Pages.{page_at, children_of, entry_keys, entries_of}
+use Rattle.fsd_table.specs.Tree.{pages_below, IsLeaf}
 use Rattle.fsd_forest.specs.Forest.{heads, count_of, forest_pages, Exchange, Stay, Becomes}
 use Rattle.fsd_forest.specs.Parts.{left_part, right_part}
-use Rattle.fsd_forest.specs.Ways.{StandsAt, child_between, child_behind, end_of}
-use Rattle.fsd_forest.proofs.CountLaws.{count_cons, count_append, count_nothing, there_counts, counts_there, differ_counts, out_counts, counts_out, one_if, one_where}
+use Rattle.fsd_forest.proofs.CountLaws.{count_cons, count_append, count_nothing, counts_there, differ_counts, out_counts, counts_out, one_if, one_where}
 use Rattle.fsd_forest.proofs.ForestLaws.{leaves_become, count_three}
 use Rattle.fsd_forest.proofs.PartLaws.{leaves_part}
 use Rattle.name_node.specs.Edits.{without}

@@ -35,6 +35,7 @@ pub mod RootLaws
 mod SetLaws
 mod SpareLaws
 mod StepLaws
+pub mod TableLaws
 mod TakeLaws
 pub mod TopLaws
 mod TreeGrowthLaws

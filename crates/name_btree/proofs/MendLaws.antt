@@ -1,15 +1,15 @@
 -- What a child and its neighbour have, in order.
-use Rattle.std.proofs.Common.{◌≡◌, ◌≢◌, ℕ, ◌+◌, ◌-◌, ◌<◌, ◌≤◌, Bool, true, false, cond, not, ◌&&◌, List, [], ◌∷◌, ◌++◌, length, take, drop, Option, Some, refl, sym, ap, subst, ◌∙◌, arith, length-append}
+use Rattle.std.proofs.Common.{◌≡◌, ℕ, ◌+◌, ◌<◌, ◌≤◌, Bool, true, false, cond, not, ◌&&◌, List, [], ◌∷◌, ◌++◌, length, take, drop, Option, Some, refl, sym, ap, subst, ◌∙◌, arith, length-append}
 use Rattle.std.specs.Prelude.{◌==◌, slice_get}
-use Rattle.std.specs.List.{list_all, AllByRecursion}
+use Rattle.std.specs.List.{AllByRecursion}
 use Rattle.std.proofs.lemmas.Bool.{and_parts, and_from}
 use Rattle.fsd_bytes.specs.declared.key.Key.{Key}
 use Rattle.fsd_bytes.specs.Keys.{is_key, key_lt}
 use Rattle.fsd_formats.specs.declared.entry.Entry.{Entry}
 use Rattle.fsd_formats.specs.declared.page.Separator.{Separator}
-use Rattle.fsd_formats.specs.NamePage.{Interior, is_page, is_entry, are_ascending, least_used, FitsEntry, FitsSeparator}
+use Rattle.fsd_formats.specs.NamePage.{Interior, is_page, are_ascending}
 use Rattle.fsd_table.specs.declared.child.Child.{Child}
-use Rattle.fsd_table.specs.Pages.{children, keys_fit, not_below, below, entry_keys, separator_keys}
+use Rattle.fsd_table.specs.Pages.{keys_fit, not_below, below, entry_keys, separator_keys}
 use Rattle.fsd_table.proofs.KeyLaws.{not_below_more, below_less}
 use Rattle.fsd_forest.specs.Ways.{child_behind, end_of}
 use Rattle.name_page.specs.Pages.{Step, is_spare, IsReached}
@@ -18,9 +18,8 @@ use Rattle.name_btree.specs.declared.trimming.Pair.{Pair}
 use Rattle.name_btree.specs.Draft.{MayGo, IsDraft}
 use Rattle.name_btree.specs.Trim.{used_by, AreEntries, AreWays, MayHave, IsOpened, AreFewEntries, AreFewWays, IsPair, pair_fits, entries_at, ways_at, first_at, right_at, is_behind}
 use Rattle.name_btree.proofs.DraftLaws.{sheets_kept}
-use Rattle.name_node.proofs.PutLaws.{all_split}
-use Rattle.name_btree.proofs.PairLaws.{parts_at, left_child, right_child, AreSides, AtLeft, AtRight, low_same, high_is, key_inside, same_of}
-use Rattle.name_btree.proofs.TrimLaws.{separator_keys_append, entry_keys_append, fit_append, used_append, PageEntries, least_at, entries_touch, PageWays, page_ways, ways_touch, good_at, least_ways_at}
+use Rattle.name_btree.proofs.PairLaws.{parts_at, left_child, AreSides, AtLeft, AtRight, low_same, high_is, key_inside, same_of}
+use Rattle.name_btree.proofs.TrimLaws.{separator_keys_append, entry_keys_append, fit_append, used_append, PageEntries, least_at, entries_touch, page_ways, ways_touch, good_at}
 
 -- ---- steps that only look
 

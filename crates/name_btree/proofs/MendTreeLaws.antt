@@ -1,24 +1,17 @@
 -- What becomes of the page above a child that is mended.
-use Rattle.std.proofs.Common.{◌≡◌, ◌≢◌, ◌⊎◌, inl, inr, ℕ, zero, suc, ◌+◌, ◌-◌, ◌<◌, ◌≤◌, Bool, true, false, cond, ◌||◌, not, ◌&&◌, List, [], ◌∷◌, ◌++◌, length, take, drop, Option, Some, refl, sym, ap, subst, ◌∙◌, arith}
-use Rattle.std.specs.Prelude.{◌==◌, slice_get}
-use Rattle.std.specs.List.{flat_map, AllByRecursion}
+use Rattle.std.proofs.Common.{◌≡◌, ℕ, suc, ◌+◌, Bool, true, ◌||◌, ◌&&◌, List, [], ◌∷◌, ◌++◌, take, drop, Option, Some, sym, ap, subst, ◌∙◌}
 use Rattle.std.proofs.lemmas.Bool.{and_parts, and_from}
 use Rattle.run_table.specs.Space.{contains}
 use Rattle.fsd_bytes.specs.declared.key.Key.{Key}
-use Rattle.fsd_bytes.specs.Keys.{key_lt}
-use Rattle.fsd_formats.specs.declared.entry.Entry.{Entry}
 use Rattle.fsd_formats.specs.declared.page.Separator.{Separator}
 use Rattle.fsd_formats.specs.NamePage.{Content, are_ascending}
-use Rattle.fsd_formats.specs.NamePage as grammar
 use Rattle.fsd_table.specs.declared.child.Child.{Child}
-use Rattle.fsd_table.specs.Pages.{page_at, children, children_of, keys_fit, not_below, below, entry_keys, separator_keys, entries_of}
-use Rattle.fsd_table.specs.Tree.{pages_below, IsLeaf, IsInterior, IsSubtree}
+use Rattle.fsd_table.specs.Pages.{page_at, children, children_of, keys_fit, not_below, below, separator_keys}
 use Rattle.fsd_table.proofs.BoundLaws.{ascend_tail, later_fit}
 use Rattle.fsd_table.proofs.KeyLaws.{not_below_more, below_less}
-use Rattle.fsd_table.proofs.PageLaws.{at_is_page, leaf_ascends}
-use Rattle.fsd_forest.specs.Forest.{count_of, forest_pages, Stay, Becomes}
+use Rattle.fsd_forest.specs.Forest.{forest_pages, Stay, Becomes}
 use Rattle.fsd_forest.specs.Parts.{left_part, right_part}
-use Rattle.fsd_forest.specs.Ways.{StandsAt, IsUpTo, IsBehind, children_before, child_between, child_behind, children_from, end_of}
+use Rattle.fsd_forest.specs.Ways.{StandsAt, children_before, child_behind, children_from, end_of}
 use Rattle.fsd_forest.proofs.WayLaws.{children_beside, children_between}
 use Rattle.name_node.specs.Edits.{without}
 use Rattle.name_page.specs.Pages.{Step}
@@ -29,15 +22,13 @@ use Rattle.name_btree.specs.declared.trimming.Trimmed.{Trimmed}
 use Rattle.name_btree.specs.declared.trimming.Trimmed.TheVariants.{Whole, Leaf, Interior}
 use Rattle.name_btree.specs.Draft.{drafted}
 use Rattle.name_btree.specs.Remove.{IsAround, IsTrimmed, LeftBecomes}
-use Rattle.name_btree.specs.Trim.{IsPair, IsOpened, AreFewEntries, pair_fits, entries_at, separators_joined, separators_shared, AreJoined, AreShared, AreWaysPut, LeafIsMended}
+use Rattle.name_btree.specs.Trim.{IsPair, IsOpened, pair_fits, separators_joined, separators_shared, AreJoined, AreShared, AreWaysPut}
 use Rattle.name_btree.proofs.AboveLaws.{joined_fit}
-use Rattle.name_btree.proofs.AroundLaws.{Raised, raised, pair_stands}
-use Rattle.name_btree.proofs.LeafTreeLaws.{leaves_joined, leaves_shared, are_apart, pair_stays, stays_above, freed_has}
-use Rattle.name_btree.proofs.MendLaws.{fits_both, pair_inside}
-use Rattle.name_btree.proofs.PairLaws.{parts_at, left_child, right_child, AreSides, AtLeft, AtRight, sides_are, low_same, high_is}
-use Rattle.name_btree.proofs.PutTreeLaws.{pair_child, joined_child, shared_child, joined_has, shared_has, entries_edited}
-use Rattle.name_btree.proofs.TrimLaws.{keys_front, keys_touch, entry_keys_append, separator_keys_append, fit_append}
-use Rattle.name_btree.proofs.WalkLaws.{all_at}
+use Rattle.name_btree.proofs.AroundLaws.{Raised, raised}
+use Rattle.name_btree.proofs.LeafTreeLaws.{stays_above, freed_has}
+use Rattle.name_btree.proofs.PairLaws.{parts_at, left_child, right_child}
+use Rattle.name_btree.proofs.PutTreeLaws.{pair_child, joined_child, shared_child}
+use Rattle.name_btree.proofs.TrimLaws.{keys_front, separator_keys_append, fit_append}
 
 -- ---- a key of the pair stands between the keys of the page above
 

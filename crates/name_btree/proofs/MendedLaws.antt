@@ -1,9 +1,8 @@
 -- A tree without a key, one level up.
-use Rattle.std.proofs.Common.{◌≡◌, ◌≢◌, ◌⊎◌, inl, inr, ℕ, zero, suc, ◌+◌, ◌-◌, ◌<◌, ◌≤◌, Bool, true, false, cond, ◌||◌, not, ◌&&◌, List, [], ◌∷◌, ◌++◌, length, take, drop, Option, Some, refl, sym, ap, subst, ◌∙◌, arith}
+use Rattle.std.proofs.Common.{◌≡◌, inl, inr, ℕ, zero, suc, ◌+◌, ◌-◌, ◌≤◌, Bool, true, false, cond, ◌||◌, ◌&&◌, List, [], ◌∷◌, ◌++◌, length, take, drop, Option, Some, refl, sym, ap, subst, ◌∙◌, arith}
 use Rattle.std.specs.Prelude.{◌==◌, slice_get}
-use Rattle.std.specs.List.{flat_map, AllByRecursion}
+use Rattle.std.specs.List.{AllByRecursion}
 use Rattle.std.proofs.lemmas.Bool.{and_parts, and_from}
-use Rattle.std.proofs.lemmas.List.{append-nil}
 use Rattle.run_table.specs.Space.{contains}
 use Rattle.fsd_bytes.specs.declared.key.Key.{Key}
 use Rattle.fsd_formats.specs.declared.entry.Entry.{Entry}
@@ -31,7 +30,7 @@ use Rattle.name_btree.specs.Fault.{HasCause}
 use Rattle.fsd_bytes.specs.declared.refusal.Refusal.{Refusal}
 use Rattle.name_node.specs.declared.cut.Cut.TheVariants.{UpTo}
 use Rattle.name_node.specs.Cut.{is_before}
-use Rattle.name_btree.specs.Remove.{IsAround, IsTrimmed, IsTrimmedBelow, BreaksBelow, LeftBecomes}
+use Rattle.name_btree.specs.Remove.{IsAround, IsTrimmed, IsTrimmedBelow, BreaksBelow}
 use Rattle.name_btree.specs.Trim.{IsPair, IsOpened, IsLeft, AreFewEntries, AreFewWays, pair_fits, entries_at, ways_at, first_at, LeafIsMended, WayIsMended, IsMended}
 use Rattle.name_btree.proofs.AroundLaws.{raised, pair_stands, child_around, up_to, past}
 use Rattle.name_btree.proofs.LeafTreeLaws.{leaves_joined, leaves_shared, are_apart, pair_stays, stays_above, below_counts}
@@ -145,7 +144,7 @@ whole_mended step key pages new old0 went level p above first xs i child around 
     let stands1 = subst (λ (c : Child). StandsAt key (children first above.low above.high xs) ls (c ∷ []) rs) (sym same) stands0 in
     let stands = subst (λ (x : Option Content). StandsAt key (children_of above.low above.high x) ls (child ∷ []) rs) (sym at) stands1 in
     let stay2 : Stay pages after (above.page ∷ forest_pages level pages (child ∷ [])) = λ q out.
-        stay q (counts_out q (f child) (omega (arith, out_counts q (above.page ∷ forest_pages level pages (child ∷ [])) out, count_cons q above.page (forest_pages level pages (child ∷ [])), count_append q (f child) [], count_nothing q))) in
+    stay q (counts_out q (f child) (omega (arith, out_counts q (above.page ∷ forest_pages level pages (child ∷ [])) out, count_cons q above.page (forest_pages level pages (child ∷ [])), count_append q (f child) [], count_nothing q))) in
     let r = raised key pages after went level above ls (child ∷ []) (child ∷ []) rs first xs around stands stands1.children_are o.within stay2 becomes in
     let out : contains (f child) above.page ≡ false = counts_out above.page (f child) (omega (
       arith,
@@ -205,7 +204,7 @@ way_mended step key pages mid new old0 went l above first xs i child lead few le
     let apart = are_apart key pages (suc l) above first xs pair is ls rs around stands.children_are in
     let once = counted_once key pages l above first xs pair is.between i child neighbour sides around ls rs stands.children_are in
     let out : contains (pages_below (suc l) pages child) neighbour.page ≡ false = counts_out neighbour.page (pages_below (suc l) pages child)
-        (omega (arith, once neighbour.page, one_same neighbour.page neighbour.page refl, count_cons neighbour.page child.page (forest_pages l pages (children_of child.low child.high (page_at pages child.page))))) in
+    (omega (arith, once neighbour.page, one_same neighbour.page neighbour.page refl, count_cons neighbour.page child.page (forest_pages l pages (children_of child.low child.high (page_at pages child.page))))) in
     let has : page_at pages neighbour.page ≡ Some (grammar.Interior m.second m.others) = sym (stay neighbour.page out) ∙ m.has in
     let subs = subst (IsInterior (IsSubtree (suc l) pages) above) at around.subtree in
     let sub = subst (IsInterior (IsSubtree l pages) neighbour) has (all_at (IsSubtree (suc l) pages) cs _ neighbour m.there subs.1) in

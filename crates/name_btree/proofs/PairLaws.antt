@@ -1,23 +1,20 @@
 -- Two children side by side, and the separators beside the one between them.
-use Rattle.std.proofs.Common.{◌≡◌, ◌⊎◌, inl, inr, ℕ, zero, suc, ◌+◌, ◌-◌, ◌<◌, ◌≤◌, Bool, true, false, not, ◌&&◌, List, [], ◌∷◌, ◌++◌, length, get_or, take, drop, Option, Some, refl, sym, ap, subst, ◌∙◌, cond, arith, length-append, take-append-drop, length-take, length-drop}
-use Rattle.std.specs.Prelude.{◌==◌, nat_lt, slice_get}
-use Rattle.std.specs.List.{list_all, AllByRecursion}
+use Rattle.std.proofs.Common.{◌≡◌, ℕ, zero, suc, ◌+◌, ◌-◌, ◌<◌, Bool, true, false, ◌&&◌, List, [], ◌∷◌, ◌++◌, length, get_or, take, drop, Option, Some, refl, sym, ap, ◌∙◌, cond, arith, take-append-drop}
+use Rattle.std.specs.Prelude.{◌==◌, slice_get}
 use Rattle.std.proofs.lemmas.Bool.{and_parts, and_from}
-use Rattle.std.proofs.lemmas.List.Folds.{list_all-append}
 use Rattle.fsd_bytes.specs.declared.key.Key.{Key}
-use Rattle.fsd_bytes.specs.Keys.{is_key, key_lt}
+use Rattle.fsd_bytes.specs.Keys.{key_lt}
 use Rattle.fsd_formats.specs.declared.page.Separator.{Separator}
-use Rattle.fsd_formats.specs.NamePage.{are_ascending, FitsSeparator}
+use Rattle.fsd_formats.specs.NamePage.{are_ascending}
 use Rattle.fsd_table.specs.declared.child.Child.{Child}
 use Rattle.fsd_table.specs.Pages.{children, keys_fit, not_below, below, separator_keys}
-use Rattle.fsd_table.proofs.BoundLaws.{all_append, ascend_tail, ascend_skip, later_fit}
+use Rattle.fsd_table.proofs.BoundLaws.{ascend_tail, ascend_skip, later_fit}
 use Rattle.fsd_table.proofs.KeyLaws.{le_lt}
 use Rattle.name_btree.specs.declared.trimming.Pair.{Pair}
 use Rattle.fsd_forest.specs.Ways.{child_behind, end_of}
-use Rattle.name_btree.specs.Trim.{IsPair, beside, pair_fits, IsBetween, separators_joined, separators_shared}
+use Rattle.name_btree.specs.Trim.{IsPair, beside}
 use Rattle.name_btree.proofs.WalkLaws.{child_later}
 use Rattle.name_node.proofs.ListLaws.{drop_at}
-use Rattle.name_node.proofs.PutLaws.{all_split}
 
 -- ---- the children at places
 

@@ -1,8 +1,8 @@
 -- What the pages have once two pages are joined or parted, and what becomes of two leaves.
-use Rattle.std.proofs.Common.{◌≡◌, ◌≢◌, ℕ, zero, suc, ◌+◌, ◌-◌, ◌<◌, ◌≤◌, Bool, true, false, cond, ◌||◌, not, ◌&&◌, List, [], ◌∷◌, ◌++◌, length, take, drop, Option, Some, refl, sym, ap, subst, ◌∙◌, arith}
-use Rattle.std.specs.Prelude.{◌==◌, slice_get}
+use Rattle.std.proofs.Common.{◌≡◌, ℕ, zero, suc, ◌+◌, ◌-◌, ◌<◌, Bool, true, false, cond, not, ◌&&◌, List, [], ◌∷◌, ◌++◌, take, drop, Option, Some, refl, sym, ap, subst, ◌∙◌, arith}
+use Rattle.std.specs.Prelude.{slice_get}
 use Rattle.std.specs.List.{flat_map, AllByRecursion}
-use Rattle.std.proofs.lemmas.Bool.{and_parts, and_from}
+use Rattle.std.proofs.lemmas.Bool.{and_parts}
 use Rattle.std.proofs.lemmas.List.{append-nil}
 use Rattle.fsd_bytes.specs.declared.key.Key.{Key}
 use Rattle.fsd_bytes.specs.Keys.{key_lt}
@@ -11,16 +11,10 @@ use Rattle.fsd_formats.specs.declared.page.Separator.{Separator}
 use Rattle.fsd_formats.specs.NamePage.{Content, are_ascending}
 use Rattle.fsd_formats.specs.NamePage as grammar
 use Rattle.fsd_table.specs.declared.child.Child.{Child}
-use Rattle.fsd_table.specs.Pages.{page_at, keys_fit, not_below, below, entry_keys, separator_keys, entries_of}
-use Rattle.fsd_table.specs.Tree.{IsLeaf}
-use Rattle.fsd_table.proofs.BoundLaws.{ascend_tail, later_fit}
-use Rattle.fsd_table.proofs.KeyLaws.{lt_le, not_below_more, below_less}
-use Rattle.fsd_forest.specs.Forest.{heads, count_of, Exchange, Becomes}
-use Rattle.fsd_forest.specs.Parts.{left_part, right_part}
+use Rattle.fsd_table.specs.Pages.{page_at, keys_fit, not_below, below, entry_keys, entries_of}
+use Rattle.fsd_table.proofs.KeyLaws.{lt_le}
+use Rattle.fsd_forest.specs.Parts.{left_part}
 use Rattle.fsd_forest.specs.Ways.{IsUpTo, IsBehind, child_between, child_behind, end_of}
-use Rattle.fsd_forest.proofs.CountLaws.{count_cons}
-use Rattle.fsd_forest.proofs.ForestLaws.{leaves_become}
-use Rattle.fsd_forest.proofs.PartLaws.{leaves_part}
 use Rattle.name_node.specs.Edits.{without}
 use Rattle.name_page.specs.Pages.{Step}
 use Rattle.name_btree.specs.declared.draft.Draft.{Draft}
@@ -28,7 +22,7 @@ use Rattle.name_btree.specs.declared.trimming.Pair.{Pair}
 use Rattle.name_btree.specs.declared.trimming.Trimmed.{Trimmed}
 use Rattle.name_btree.specs.declared.trimming.Trimmed.TheVariants.{Whole, Leaf, Interior}
 use Rattle.name_btree.specs.Draft.{drafted}
-use Rattle.name_btree.specs.Trim.{IsPair, pair_fits, entries_at, separators_joined, separators_shared, AreJoined, AreShared, AreWaysPut}
+use Rattle.name_btree.specs.Trim.{IsPair, entries_at, separators_shared, AreJoined, AreShared}
 use Rattle.name_btree.proofs.AroundLaws.{is_local}
 use Rattle.name_btree.proofs.PairLaws.{left_child, right_child, AreSides, AtLeft, AtRight, low_same, high_is}
 

@@ -1,11 +1,10 @@
 -- What is left of page 0, and a tree without a key.
-use Rattle.std.proofs.Common.{◌≡◌, ◌≢◌, ◌⊎◌, inl, inr, ℕ, zero, suc, ◌+◌, ◌-◌, ◌<◌, ◌≤◌, Bool, true, false, ◌||◌, List, [], ◌∷◌, ◌++◌, length, Option, Some, None, refl, sym, ap, subst, ◌∙◌, arith}
+use Rattle.std.proofs.Common.{◌≡◌, inl, inr, ℕ, zero, suc, ◌-◌, ◌<◌, ◌≤◌, true, ◌||◌, List, [], ◌∷◌, ◌++◌, length, Option, Some, None, refl, sym, ap, subst, ◌∙◌, arith}
 use Rattle.std.specs.Prelude.{◌==◌, Result, Ok, Err, OnOk, IfErr}
 use Rattle.std.specs.List.{flat_map, AllByRecursion}
 use Rattle.std.proofs.lemmas.List.{append-nil}
 use Rattle.run_table.specs.Space.{contains, all_differ}
 use Rattle.fsd_bytes.specs.declared.key.Key.{Key}
-use Rattle.fsd_formats.specs.declared.entry.Entry.{Entry}
 use Rattle.fsd_formats.specs.declared.page.Separator.{Separator}
 use Rattle.fsd_formats.specs.NamePage.{Content, least_separators}
 use Rattle.fsd_formats.specs.NamePage as grammar
@@ -13,7 +12,7 @@ use Rattle.fsd_table.specs.declared.child.Child.{Child}
 use Rattle.fsd_table.specs.Pages.{page_at, children, children_of}
 use Rattle.fsd_table.specs.Table.{top}
 use Rattle.fsd_table.specs.Tree.{pages_of, pages_below, IsTree, IsSubtree, IsLeaf, IsInterior}
-use Rattle.fsd_forest.specs.Forest.{inner, count_of, forest_pages, Stay, Becomes, TreeBecomes}
+use Rattle.fsd_forest.specs.Forest.{inner, count_of, forest_pages, Becomes, TreeBecomes}
 use Rattle.fsd_forest.proofs.CountLaws.{count_cons, count_append, count_nothing, differ_counts, one_if, one_where}
 use Rattle.fsd_forest.proofs.TreeLaws.{trees_become}
 use Rattle.fsd_forest.proofs.ShrinkLaws.{trees_shrink}
@@ -27,9 +26,9 @@ use Rattle.name_btree.specs.declared.fault.TreeFault.TheVariants.{Pages, Broken}
 use Rattle.name_btree.specs.Fault.{HasCause}
 use Rattle.name_btree.specs.declared.trimming.Trimmed.{Trimmed}
 use Rattle.name_btree.specs.declared.trimming.Trimmed.TheVariants.{Whole, Leaf, Interior}
-use Rattle.name_btree.specs.Draft.{drafted, with_freed}
+use Rattle.name_btree.specs.Draft.{drafted}
 use Rattle.name_btree.specs.Remove.{IsAround, IsTrimmed, IsTrimmedBelow, IsRootLeft}
-use Rattle.name_btree.specs.Trim.{AreWaysPut, AreJoined, AreShared, IsMended, IsTakenOver, sheets_below}
+use Rattle.name_btree.specs.Trim.{AreWaysPut, IsMended, IsTakenOver, sheets_below}
 use Rattle.name_btree.proofs.LeafTreeLaws.{freed_has}
 use Rattle.name_btree.proofs.RemoveLaws.{stays_but}
 
@@ -92,10 +91,11 @@ shrunk step key pages mid new old0 height l first list tree up none went freed b
     let b3 = subst (λ (n : ℕ). Becomes (without key) pages between [] went n (inner pages (top ∷ [])) (c ∷ [])) low b2 in
     let apart = subst (λ (n : ℕ). all_differ (pages_below n pages top) ≡ true) up tree.apart in
     let top_once : count_of 0 (forest_pages l pages old) ≤ 0 = omega (arith, differ_counts (pages_below (suc l) pages top) apart 0, count_cons 0 0 (forest_pages l pages old), one_same 0 0 refl) in
-    let some : first ≡ 0 → ⊥ = λ e. absurd (omega (arith, top_once, b1.pages_are 0, count_nothing 0, head_counts 0 l between c, one_same first 0 e, count_append 0 (pages_below l between c) [])) in
-    (first ∷ went,
-    trees_shrink (without key) pages between after went height first tree (omega (arith, up)) b3 (taken.now.content ∙ sym taken.was) (stays_but mid.sheets.items new.sheets.items step 0 taken.content taken.now),
-    λ q. ap (λ (ps : List ℕ). contains ps q) taken.freed ∙ freed_has first old0 mid.freed.items went some freed q)
+    let some : first ≡ 0 → ⊥ = λ e. absurd (omega (arith, top_once, b1.pages_are 0, count_nothing 0, head_counts 0 l between c, one_same first 0 e, count_append 0 (pages_below l between c) [])) in (
+      first ∷ went,
+      trees_shrink (without key) pages between after went height first tree (omega (arith, up)) b3 (taken.now.content ∙ sym taken.was) (stays_but mid.sheets.items new.sheets.items step 0 taken.content taken.now),
+      λ q. ap (λ (ps : List ℕ). contains ps q) taken.freed ∙ freed_has first old0 mid.freed.items went some freed q,
+    )
 
 abbrev pub only_of : Trimmed → Option ℕ
 only_of Whole = None

@@ -1,5 +1,5 @@
 -- What pages may have that are joined, parted or left with less.
-use Rattle.std.proofs.Common.{◌≡◌, ℕ, zero, suc, ◌+◌, ◌<◌, ◌≤◌, Bool, true, false, cond, not, ◌&&◌, List, [], ◌∷◌, ◌++◌, length, take, drop, Option, Some, refl, sym, ap, subst, ◌∙◌, ◌-◌, arith, length-append, take-append-drop, length-take, length-drop}
+use Rattle.std.proofs.Common.{◌≡◌, ℕ, suc, ◌+◌, ◌<◌, ◌≤◌, Bool, true, false, cond, not, ◌&&◌, List, [], ◌∷◌, ◌++◌, length, take, drop, Option, Some, refl, sym, ap, subst, ◌∙◌, ◌-◌, arith, length-append, take-append-drop, length-take, length-drop}
 use Rattle.std.specs.Prelude.{◌==◌, nat_lt, nat_le, slice_get}
 use Rattle.std.specs.List.{flat_map, list_all, AllByRecursion}
 use Rattle.std.proofs.lemmas.Bool.{and_parts, and_from, le-leb, lt-ltb, leb-true, ltb-true, eqb-true}
@@ -11,16 +11,15 @@ use Rattle.fsd_bytes.specs.Keys.{is_key, key_lt}
 use Rattle.fsd_bytes.specs.Names.{is_between}
 use Rattle.fsd_formats.specs.declared.entry.Entry.{Entry}
 use Rattle.fsd_formats.specs.declared.page.Separator.{Separator}
-use Rattle.fsd_formats.specs.NamePage.{Leaf, Interior, is_page, is_entry, are_ascending, entry_bytes, least_used, least_separators, room, FitsEntry, FitsSeparator}
+use Rattle.fsd_formats.specs.NamePage.{Leaf, Interior, is_page, is_entry, are_ascending, entry_bytes, least_used, least_separators, room, FitsEntry}
 use Rattle.fsd_table.specs.declared.child.Child.{Child}
 use Rattle.fsd_table.specs.Pages.{keys_fit, not_below, below, entry_keys, separator_keys}
 use Rattle.fsd_table.proofs.BoundLaws.{all_append, ascend_tail}
-use Rattle.fsd_table.proofs.KeyLaws.{lt_lt, le_lt, lt_le, le_le, lt_is_le}
+use Rattle.fsd_table.proofs.KeyLaws.{lt_lt, lt_le}
 use Rattle.fsd_forest.specs.Ways.{child_behind, end_of}
 use Rattle.name_btree.specs.declared.trimming.Pair.{Pair}
 use Rattle.name_btree.specs.Trim.{used_by, AreEntries, AreWays, IsOpened, IsPair, pair_fits, IsBetween, separators_joined, separators_shared, is_behind}
-use Rattle.name_btree.proofs.PairLaws.{parts_at, low_same, key_inside, ascend_without, ascend_with}
-use Rattle.name_node.proofs.PutLaws.{all_split}
+use Rattle.name_btree.proofs.PairLaws.{parts_at, ascend_without, ascend_with}
 
 -- ---- keys
 

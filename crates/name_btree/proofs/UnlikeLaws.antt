@@ -1,11 +1,9 @@
 -- In a tree a child of too little has a neighbour that it is joined with.
-use Rattle.std.proofs.Common.{◌≡◌, ◌≢◌, ◌⊎◌, inl, inr, ℕ, zero, suc, ◌+◌, ◌-◌, ◌<◌, ◌≤◌, Bool, true, false, cond, ◌||◌, not, ◌&&◌, List, [], ◌∷◌, ◌++◌, length, take, drop, Option, Some, None, refl, sym, ap, subst, ◌∙◌, arith}
+use Rattle.std.proofs.Common.{◌≡◌, ℕ, zero, suc, ◌+◌, ◌-◌, ◌<◌, ◌≤◌, Bool, true, false, cond, List, [], ◌∷◌, ◌++◌, length, take, drop, Option, Some, None, refl, sym, ap, subst, ◌∙◌, arith}
 use Rattle.std.specs.Prelude.{◌==◌, slice_get}
 use Rattle.std.specs.List.{flat_map, AllByRecursion}
 use Rattle.run_table.specs.Space.{contains}
 use Rattle.fsd_bytes.specs.declared.key.Key.{Key}
-use Rattle.fsd_bytes.specs.declared.refusal.Refusal.{Refusal}
-use Rattle.fsd_bytes.specs.Keys.{key_lt}
 use Rattle.fsd_formats.specs.declared.entry.Entry.{Entry}
 use Rattle.fsd_formats.specs.declared.page.Separator.{Separator}
 use Rattle.fsd_formats.specs.NamePage.{Content, least_used, least_separators}
@@ -16,10 +14,9 @@ use Rattle.fsd_table.specs.Tree.{pages_below, entries_below, IsLeaf, IsInterior,
 use Rattle.fsd_table.proofs.BoundLaws.{Fits, entries_between}
 use Rattle.fsd_table.proofs.KeyLaws.{le_lt}
 use Rattle.fsd_table.proofs.PageLaws.{at_is_page}
-use Rattle.fsd_forest.specs.Forest.{count_of, forest_pages, Stay, Becomes}
+use Rattle.fsd_forest.specs.Forest.{count_of, forest_pages}
 use Rattle.fsd_forest.specs.Ways.{StandsAt, IsUpTo, IsBehind, children_before, child_behind, children_from}
 use Rattle.fsd_forest.proofs.CountLaws.{count_cons, count_append, count_nothing, counts_there, counts_out, differ_counts, one_where}
-use Rattle.name_node.specs.Edits.{without}
 use Rattle.name_node.proofs.ListLaws.{children_count}
 use Rattle.name_btree.specs.declared.trimming.Pair.{Pair}
 use Rattle.name_btree.specs.declared.trimming.Trimmed.{Trimmed}
@@ -29,11 +26,10 @@ use Rattle.name_btree.specs.declared.draft.Draft.{Draft}
 use Rattle.name_btree.specs.Draft.{drafted}
 use Rattle.name_node.specs.declared.cut.Cut.TheVariants.{UpTo}
 use Rattle.name_node.specs.Cut.{is_before}
-use Rattle.name_btree.specs.Trim.{IsPair, IsOpened, used_by, beside, right_at, is_behind, IsUnlike}
+use Rattle.name_btree.specs.Trim.{IsPair, IsOpened, beside, right_at, is_behind, IsUnlike}
 use Rattle.name_btree.proofs.AroundLaws.{pair_stands, count_one, child_around, up_to, past}
 use Rattle.name_btree.proofs.LeafTreeLaws.{one_same, head_counts}
-use Rattle.name_btree.proofs.PairLaws.{some_at, left_child, right_child, AreSides, AtLeft, AtRight, sides_are, same_of}
-
+use Rattle.name_btree.proofs.PairLaws.{some_at, left_child, right_child, AreSides, AtLeft, AtRight, sides_are}
 use Rattle.name_btree.proofs.TrimLaws.{least_at, leaf_least}
 use Rattle.name_btree.proofs.WalkLaws.{all_at}
 use Rattle.name_btree.proofs.WayTreeLaws.{counted_once}
@@ -175,12 +171,12 @@ unlike_breaks key pages between old0 new0 (suc l) p above first xs i child (Inte
     let stands = subst (λ (x : Option Content). StandsAt key (children_of above.low above.high x) ls old rs) (sym at) stands0 in
     let once = counted_once key pages l above first xs n.pair is.between i child c sides around ls rs stands.children_are c.page in
     let out : contains (pages_below (suc l) pages child) c.page ≡ false = counts_out c.page (pages_below (suc l) pages child)
-        (omega (arith, once, one_same c.page c.page refl, count_cons c.page child.page (forest_pages l pages (children_of child.low child.high (page_at pages child.page))))) in
+    (omega (arith, once, one_same c.page c.page refl, count_cons c.page child.page (forest_pages l pages (children_of child.low child.high (page_at pages child.page))))) in
     let has : page_at between c.page ≡ Some (grammar.Interior w.second w.others) = t.stay c.page out ∙ w.is in
     let low_others : count_of 0 (forest_pages l pages (children w.second c.low c.high w.others)) ≤ 0 =
-        omega (arith, none, count_cons 0 c.page (forest_pages l pages (children_of c.low c.high (page_at pages c.page))), ap (λ (x : Option Content). count_of 0 (forest_pages l pages (children_of c.low c.high x))) w.is) in
+    omega (arith, none, count_cons 0 c.page (forest_pages l pages (children_of c.low c.high (page_at pages c.page))), ap (λ (x : Option Content). count_of 0 (forest_pages l pages (children_of c.low c.high x))) w.is) in
     let low_few : count_of 0 (forest_pages l between (children lead child.low child.high list.items)) ≤ 0 =
-        omega (arith, none_child, count_cons 0 child.page (forest_pages l pages (children_of child.low child.high (page_at pages child.page))), t.becomes.pages_are 0, count_nothing 0) in
+    omega (arith, none_child, count_cons 0 child.page (forest_pages l pages (children_of child.low child.high (page_at pages child.page))), t.becomes.pages_are 0, count_nothing 0) in
     u c n.there (λ e. absurd (omega (arith, none, head_counts 0 (suc l) pages c, one_same c.page 0 e))) w.second w.others has w.fit is.between (ap (slice_get xs) (sym n.place) ∙ is.there)
     (behind sides w.second w.others w.subs low_others t.becomes.subtrees low_few)
   where

@@ -1,10 +1,9 @@
 -- What becomes of the children of two interior pages that are mended.
-use Rattle.std.proofs.Common.{◌≡◌, ◌≢◌, ℕ, zero, suc, ◌+◌, ◌-◌, ◌<◌, ◌≤◌, Bool, true, false, cond, not, ◌&&◌, List, [], ◌∷◌, ◌++◌, length, take, drop, Option, Some, refl, sym, ap, subst, ◌∙◌, arith}
-use Rattle.std.specs.Prelude.{◌==◌, slice_get, ⊤}
-use Rattle.std.specs.List.{flat_map, AllByRecursion}
-use Rattle.std.proofs.lemmas.Bool.{and_parts, and_from}
+use Rattle.std.proofs.Common.{◌≡◌, ℕ, suc, ◌+◌, ◌-◌, ◌≤◌, Bool, true, false, cond, not, ◌&&◌, List, [], ◌∷◌, ◌++◌, take, drop, Option, Some, refl, sym, ap, subst, ◌∙◌, arith}
+use Rattle.std.specs.Prelude.{◌==◌, ⊤}
+use Rattle.std.specs.List.{AllByRecursion}
+use Rattle.std.proofs.lemmas.Bool.{and_parts}
 use Rattle.std.proofs.lemmas.List.{append-nil}
-use Rattle.run_table.specs.Space.{contains, all_differ}
 use Rattle.fsd_bytes.specs.declared.key.Key.{Key}
 use Rattle.fsd_bytes.specs.Keys.{key_lt}
 use Rattle.fsd_formats.specs.declared.page.Separator.{Separator}
@@ -14,13 +13,12 @@ use Rattle.fsd_table.specs.Pages.{page_at, children, children_of, keys_fit, not_
 use Rattle.fsd_table.specs.Tree.{pages_below, IsInterior, IsSubtree}
 use Rattle.fsd_table.proofs.BoundLaws.{all_append}
 use Rattle.fsd_table.proofs.KeyLaws.{lt_le, lt_is_le}
-use Rattle.fsd_forest.specs.Forest.{heads, inner, count_of, forest_pages, Exchange, Stay, Keep, Becomes, IsAbove, EndsUpTo, BeginsBehind}
+use Rattle.fsd_forest.specs.Forest.{inner, count_of, forest_pages, Stay, Keep, Becomes, EndsUpTo, BeginsBehind}
 use Rattle.fsd_forest.specs.Parts.{left_part, right_part}
-use Rattle.fsd_forest.specs.Ways.{IsUpTo, IsBehind, children_before, child_behind, children_from, end_of}
+use Rattle.fsd_forest.specs.Ways.{IsUpTo, IsBehind, children_before}
 use Rattle.fsd_forest.proofs.CountLaws.{count_cons, count_append, count_nothing, there_counts, differ_counts, counts_out, one_if, one_where}
 use Rattle.fsd_forest.proofs.ForestLaws.{widens}
 use Rattle.fsd_forest.proofs.KeepLaws.{kept_all}
-use Rattle.fsd_forest.proofs.LowLaws.{subtrees_of}
 use Rattle.fsd_forest.proofs.PartLaws.{children_part, interiors_part}
 use Rattle.fsd_forest.proofs.RiseLaws.{rises}
 use Rattle.fsd_forest.proofs.WayLaws.{children_end, children_begin}
@@ -111,8 +109,8 @@ child_shifts : (key : Key) (pages between after : List (List ℕ)) (went : List 
     → Becomes (without key) pages between [] went l (below_of l pages child) new → Becomes (without key) pages after [] went l (below_of l pages child) new
 child_shifts key pages between after went l above child neighbour new once others b =
     let keep : Keep between after (forest_pages l between new) = λ q there.
-        let some : 1 ≤ count_of q (forest_pages l pages (below_of l pages child)) = omega (arith, there_counts q (forest_pages l between new) there, b.pages_are q, count_nothing q) in
-        others q (λ e. absurd (omega (arith, once q, some, one_same child.page q (sym e)))) (λ e. absurd (omega (arith, once q, some, one_same neighbour.page q (sym e)))) (λ e. absurd (omega (arith, once q, some, one_same above q (sym e)))) in
+    let some : 1 ≤ count_of q (forest_pages l pages (below_of l pages child)) = omega (arith, there_counts q (forest_pages l between new) there, b.pages_are q, count_nothing q) in
+    others q (λ e. absurd (omega (arith, once q, some, one_same child.page q (sym e)))) (λ e. absurd (omega (arith, once q, some, one_same neighbour.page q (sym e)))) (λ e. absurd (omega (arith, once q, some, one_same above q (sym e)))) in
     let same = kept_all between after l new keep b.subtrees in
     record {
       subtrees = same.subtrees;

@@ -1,5 +1,5 @@
 -- Changes of leaves, and of the trees that they stand in.
-use Rattle.std.specs.Prelude.{◌≡◌, ◌<◌, ℕ, Bool, true, false, List, [], ◌∷◌, ◌++◌, length, Option, Some, None, slice_set, ⊤}
+use Rattle.std.specs.Prelude.{◌≡◌, ◌<◌, ℕ, Bool, true, false, List, [], ◌∷◌, ◌++◌, length, Option, Some, slice_set}
 use Rattle.std.specs.List.{flat_map, AllByRecursion}
 use Rattle.run_table.specs.Space.{contains, all_differ}
 use Rattle.fsd_bytes.specs.declared.key.Key.{Key}

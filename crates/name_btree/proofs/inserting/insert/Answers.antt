@@ -1,7 +1,7 @@
-use Rattle.std.proofs.Common.{◌≡◌, ◌∙◌, ◌+◌, ◌≤◌, ℕ, List, length, sym, ap, subst, arith}
+use Rattle.std.proofs.Common.{◌∙◌, ℕ, List, length, ap, subst, arith}
 use Rattle.std.specs.Prelude.{count_by}
 use Rattle.fsd_bytes.specs.declared.key.Key.{Key}
-use Rattle.name_page.specs.Pages.{Step, reaches, changes, free_count, with_promise}
+use Rattle.name_page.specs.Pages.{Step, reaches, changes, free_count}
 use Rattle.name_btree.specs.Map.{LeavesTree}
 use Rattle.name_btree.proofs.CommitLaws.{commit_most_reached, commit_most_changed, commit_reaches, commit_changes}
 use Rattle.name_btree.proofs.SpareLaws.{commit_free, inserted_table}

@@ -1,26 +1,22 @@
-use Rattle.std.proofs.Common.{◌≡◌, ◌≢◌, ◌∙◌, ◌+◌, ◌*◌, ◌-◌, ◌<◌, ◌≤◌, Bool, true, false, take, drop, sym, ap, subst, length, ℕ, List, Some, arith, rules}
+use Rattle.std.proofs.Common.{◌≡◌, ◌∙◌, ◌+◌, ◌*◌, ◌-◌, ◌≤◌, true, false, take, drop, sym, ap, subst, length, ℕ, List, Some, arith, rules}
 use Rattle.std.specs.List.{AllByRecursion}
 use Rattle.fsd_bytes.specs.declared.key.Key.{Key}
 use Rattle.name_node.specs.declared.cut.Cut.TheVariants.{UpTo}
 use Rattle.name_node.specs.Cut.{is_before}
-use Rattle.std.specs.Prelude.{IfOk, IfErr}
 use Rattle.std.proofs.lemmas.Result.{err_from_is_err_and}
 use Rattle.fsd_formats.specs.declared.entry.Entry.{Entry}
-use Rattle.fsd_formats.specs.NamePage.{Leaf, Interior, is_page}
+use Rattle.fsd_formats.specs.NamePage.{Leaf, Interior}
 use Rattle.fsd_table.specs.Pages.{page_at, content_fits, keys_fit, entry_keys}
 use Rattle.fsd_table.proofs.PageLaws.{at_is_page}
 use Rattle.name_node.specs.declared.node.Node.{Node}
 use Rattle.name_node.specs.Node.{content_of}
-use Rattle.name_node.specs.Edits.{without}
 use Rattle.name_node.proofs.SideLaws.{without_used, without_fits}
 use Rattle.name_page.specs.Pages.{reaches}
-use Rattle.name_btree.specs.declared.trimming.Trimmed.{Trimmed}
-use Rattle.name_btree.specs.declared.trimming.Trimmed.TheVariants.{Whole}
-use Rattle.name_btree.specs.Draft.{drafted, IsDraft}
+use Rattle.name_btree.specs.Draft.{drafted}
 use Rattle.name_btree.specs.Fault.{HasCause}
 use Rattle.name_btree.specs.Remove.{BreaksBelow, IsAround, IsTrimmed, IsTrimmedBelow, IsRootLeft}
 use Rattle.name_btree.specs.Trim.{IsUnlike, AreEntries, IsOpened, IsMended, IsLeft, used_by}
-use Rattle.name_btree.proofs.AboveLaws.{ok_left, err_left, ok_on, mended_left, mended_freed, mended_sheets, room_left}
+use Rattle.name_btree.proofs.AboveLaws.{ok_left, err_left, ok_on, mended_left, mended_freed, room_left}
 use Rattle.name_btree.proofs.ChangeLaws.{without_leaf}
 use Rattle.name_btree.proofs.DraftLaws.{drafted_length}
 use Rattle.name_btree.proofs.MendLaws.{draft_kept}

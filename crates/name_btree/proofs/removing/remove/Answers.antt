@@ -1,8 +1,12 @@
-use Rattle.std.proofs.Common.{◌≡◌, ◌∙◌, ◌+◌, ◌≤◌, true, sym, ap, subst, length, List, ℕ, arith}
+use Rattle.std.proofs.Common.{◌≡◌, ◌∙◌, ◌+◌, ◌≤◌, sym, ap, subst, length, ℕ, arith}
 use Rattle.name_page.specs.Pages.{Step, reaches, changes, is_spare}
 use Rattle.name_btree.proofs.CommitLaws.{commit_most_reached, commit_most_changed, commit_reaches, commit_changes, freed_spare}
 use Rattle.name_btree.proofs.DraftLaws.{committed_spares}
 use Rattle.name_btree.specs.Draft.{committed, freed}
+use Rattle.fsd_table.specs.Tree.{table_of}
+use Rattle.name_node.specs.Edits.{without}
+use Rattle.name_btree.specs.Map.{HasTable}
+use Rattle.name_btree.proofs.TableLaws.{table_without}
 use Rattle.name_btree.proofs.removing.remove.Goals as goal
 
 pub returns-clause-step : goal.returns-clause-step
@@ -39,4 +43,10 @@ returns-clause-taken g c = λ page h.
     ∙ freed_spare d.freed.items (committed d.sheets.items between) page (ap (λ x. is_spare x page) (committed_spares d.sheets.items between ∙ c.remove_in.ensures.spares) ∙ h)
 
 pub returns-clause-removed : goal.returns-clause-removed
-returns-clause-removed g c = ?
+returns-clause-removed g c = λ height table.
+    let old = g.T.Pages.step c.args.t.now in
+    let between = g.T.Pages.step c.remove_in.new.t in
+    let d = c.remove_in.new.draft in
+    subst (λ (s : Step). HasTable s (without c.args.key.now (table_of old.images height))) (sym c.commit.ensures.step)
+    (table_without old between c.args.key.now c.new-draft.result d c.new-draft.ensures.sheets c.new-draft.ensures.freed c.remove_in.ensures.images c.remove_in.ensures.spares (g.met.T.Pages.flags c.args.t.now)
+    c.in_ok-remove_in.ensures.removed height table)

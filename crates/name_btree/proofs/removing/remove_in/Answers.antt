@@ -1,4 +1,4 @@
-use Rattle.std.proofs.Common.{◌≡◌, ◌∙◌, ◌+◌, ◌≤◌, ◌||◌, [], sym, ap, subst, length, List, ℕ, Some, Option, arith}
+use Rattle.std.proofs.Common.{◌≡◌, ◌∙◌, ◌+◌, ◌≤◌, ◌||◌, [], sym, ap, subst, length, List, ℕ, Some, arith}
 use Rattle.run_table.specs.Space.{contains}
 use Rattle.fsd_forest.specs.Forest.{TreeBecomes}
 use Rattle.name_node.specs.Edits.{without}
@@ -6,8 +6,7 @@ use Rattle.fsd_formats.specs.NamePage as grammar
 use Rattle.fsd_table.specs.declared.child.Child.{Child}
 use Rattle.fsd_table.specs.Pages.{page_at}
 use Rattle.fsd_table.specs.Table.{top}
-use Rattle.name_btree.specs.declared.trimming.Trimmed.{Trimmed}
-use Rattle.name_btree.specs.Draft.{drafted, images_of, RemovesFrom}
+use Rattle.name_btree.specs.Draft.{drafted, RemovesFrom}
 use Rattle.name_btree.specs.Fault.{HasCause, BreaksTree}
 use Rattle.name_btree.specs.Remove.{IsTrimmedBelow, IsRootLeft}
 use Rattle.name_btree.specs.Trim.{IsTakenOver}

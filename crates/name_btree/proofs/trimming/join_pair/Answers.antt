@@ -1,5 +1,4 @@
-use Rattle.std.proofs.Common.{◌≡◌, ◌∙◌, sym, ap, subst, length, ℕ, List}
-use Rattle.fsd_formats.specs.declared.page.Separator.{Separator}
+use Rattle.std.proofs.Common.{sym, subst, length, ℕ}
 use Rattle.name_btree.specs.Trim.{AreWays}
 use Rattle.name_btree.proofs.TrimLaws.{joined_ways}
 use Rattle.name_btree.proofs.trimming.join_pair.Goals as goal

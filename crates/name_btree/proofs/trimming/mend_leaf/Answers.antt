@@ -1,5 +1,5 @@
 use Rattle.std.proofs.Common.{◌≡◌, ◌∙◌, sym, ap, subst, length, ℕ, Bool, List, Some, rules}
-use Rattle.std.specs.Prelude.{slice_get, Option}
+use Rattle.std.specs.Prelude.{slice_get}
 use Rattle.std.specs.List.{AllByRecursion}
 use Rattle.fsd_formats.specs.declared.entry.Entry.{Entry}
 use Rattle.fsd_formats.specs.NamePage.{Leaf, FitsEntry}
@@ -10,7 +10,7 @@ use Rattle.name_node.specs.declared.node.Node.{Node}
 use Rattle.name_node.specs.Node.{content_of}
 use Rattle.name_page.specs.Pages.{is_spare}
 use Rattle.name_btree.specs.Draft.{drafted}
-use Rattle.name_btree.specs.Trim.{AreEntries, used_by, MayHave, entries_at}
+use Rattle.name_btree.specs.Trim.{MayHave, entries_at}
 use Rattle.name_btree.proofs.MendLaws.{draft_kept, page_kept, left_page, right_page, leaves_at, AreBothLeaves}
 use Rattle.name_btree.proofs.PairLaws.{sides_are}
 use Rattle.name_btree.proofs.ReplaceLaws.{few_in_leaf}

@@ -1,6 +1,5 @@
-use Rattle.std.proofs.Common.{◌≡◌, ◌∙◌, ◌<◌, ◌≤◌, sym, ap, subst, length, ℕ, List, Some, arith}
+use Rattle.std.proofs.Common.{◌≡◌, ◌∙◌, ◌<◌, sym, ap, subst, length, ℕ, List, Some, arith}
 use Rattle.std.specs.Prelude.{slice_get}
-use Rattle.fsd_bytes.specs.declared.key.Key.{Key}
 use Rattle.fsd_formats.specs.declared.page.Separator.{Separator}
 use Rattle.fsd_formats.specs.NamePage.{Interior, is_page}
 use Rattle.name_btree.specs.Trim.{IsBetween}

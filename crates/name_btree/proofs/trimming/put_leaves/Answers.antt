@@ -1,6 +1,5 @@
-use Rattle.std.proofs.Common.{◌≡◌, ◌∙◌, ◌+◌, ◌<◌, sym, ap, subst, length, get_or, drop, ℕ, List, Some, arith}
+use Rattle.std.proofs.Common.{◌≡◌, ◌∙◌, sym, ap, subst, get_or, Some}
 use Rattle.std.specs.Prelude.{slice_get}
-use Rattle.fsd_bytes.specs.declared.key.Key.{Key}
 use Rattle.fsd_formats.specs.declared.entry.Entry.{Entry}
 use Rattle.name_btree.specs.Trim.{IsBetween}
 use Rattle.name_btree.proofs.PairLaws.{at_place, head_of}

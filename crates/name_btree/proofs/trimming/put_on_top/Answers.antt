@@ -1,4 +1,4 @@
-use Rattle.std.proofs.Common.{◌≡◌, ◌∙◌, ap, Some}
+use Rattle.std.proofs.Common.{◌∙◌, ap, Some}
 use Rattle.name_node.specs.declared.node.Node.{Node}
 use Rattle.name_node.specs.Node.{content_of}
 use Rattle.name_btree.proofs.ReplaceLaws.{few_in_leaf}

@@ -1,4 +1,4 @@
-use Rattle.std.proofs.Common.{◌≡◌, ◌∙◌, ap, length, ℕ, true, List}
+use Rattle.std.proofs.Common.{◌∙◌, ap, length, ℕ, List}
 use Rattle.fsd_formats.specs.declared.page.Separator.{Separator}
 use Rattle.fsd_formats.specs.NamePage.{Interior, is_page}
 use Rattle.name_btree.proofs.TrimLaws.{shared_page}

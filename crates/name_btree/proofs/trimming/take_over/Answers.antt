@@ -1,4 +1,4 @@
-use Rattle.std.proofs.Common.{◌≡◌, ◌∙◌, sym, ap, subst, length, ℕ, List, Some, true, rules}
+use Rattle.std.proofs.Common.{◌≡◌, ◌∙◌, sym, ap, subst, length, ℕ, List, true, rules}
 use Rattle.fsd_formats.specs.NamePage.{is_page}
 use Rattle.fsd_table.proofs.PageLaws.{at_is_page}
 use Rattle.name_node.specs.Node.{content_of}
