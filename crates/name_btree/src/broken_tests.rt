@@ -78,6 +78,7 @@ fn broken_tables_are_not_changed(rt: HostRuntime) -> Result<(), Fail> {
         (1, 3, b'a', 1, TreeFault::Broken(3)),
     ] {
         let mut t = table(rt.alloc(), left, right)?;
+        t.rest();
         let before = format!(in rt.alloc(); "{t:?}")?;
         assert_eq!(rt; remove(&mut t, &key(last, version)), Err(fault));
         t.rest();
