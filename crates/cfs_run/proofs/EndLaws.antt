@@ -29,10 +29,11 @@ use Rattle.cfs_run.specs.declared.request.Request.{Request}
 use Rattle.cfs_run.specs.declared.request.Request.TheVariants.{Outside, BadField, Format, Put, Get}
 use Rattle.cfs_run.specs.declared.input.TheConstants.{MOST_INPUT}
 use Rattle.cfs_run.specs.Text.{fault_text, memory_text, text}
-use Rattle.cfs_run.specs.Answer.{CausesFault, Finishes, UttersOne, answer_status, answer_text, fault_status}
-use Rattle.cfs_run.specs.Ends.{CausesAnswer, GetSaysPart, GetsPart, IsAnswerTo, PutAnswersFor, RefusesLast, RepliesAs, RunLeaves, RunReplies, is_one_of, turn_statuses}
+use Rattle.cfs_run.specs.Answer.{CausesFault, Finishes, UsesOutput, UttersOne, answer_status, answer_text, fault_status}
+use Rattle.cfs_run.specs.Input.{UsesCounts}
+use Rattle.cfs_run.specs.Ends.{CausesAnswer, GetSaysPart, GetsPart, IsAnswerTo, NoneRose, RefusesLast, RunLeaves, is_one_of}
 use Rattle.cfs_run.specs.Mounting.{IfMounts, OpensDisk}
-use Rattle.cfs_run.specs.Leaves.{Begins, HasEpoch, IsLastEpoch, Left, LeavesRun, Replies, SaysFault, Turn, line_turn, reply_turn, turn_of}
+use Rattle.cfs_run.specs.Leaves.{Begins, HasEpoch, IsLastEpoch, IsReplied, IsRepliedOrMemory, Left, LeavesRun, SaysFault, Turn, is_turn_status, line_turn, reply_turn, turn_of}
 use Rattle.cfs_run.specs.Working.{Carried, Carries, IsAnswered, IsFailure, Quiet, QuietSince}
 use Rattle.cfs_run.proofs.GetLaws.{nothing_changes, read_plain}
 use Rattle.cfs_run.proofs.RunLaws.{part_said}
@@ -99,10 +100,10 @@ not_refused status plain (inr nine) = let is : is_one_of plain_statuses 9 ≡ tr
 
 -- ---- faults
 
-no_turn_status : (status : ℕ) → is_one_of turn_statuses status ≡ false → (result : ℕ) → result ≡ status → IsTrue (is_one_of turn_statuses result) → ⊥
-no_turn_status status neither result e which = let is : is_one_of turn_statuses status ≡ true = ap (is_one_of turn_statuses) (sym e) ∙ which in cc
+no_turn_status : (status : ℕ) → is_turn_status status ≡ false → (result : ℕ) → result ≡ status → IsTrue (is_turn_status result) → ⊥
+no_turn_status status neither result e which = let is : is_turn_status status ≡ true = ap is_turn_status (sym e) ∙ which in cc
 
-failure_is_no_turn : (i : Image) (fault : Fault) → IsFailure i fault → (result : ℕ) → result ≡ fault_status fault → IsTrue (is_one_of turn_statuses result) → ⊥
+failure_is_no_turn : (i : Image) (fault : Fault) → IsFailure i fault → (result : ℕ) → result ≡ fault_status fault → IsTrue (is_turn_status result) → ⊥
 failure_is_no_turn i (Ends.Device s) failure result e which = no_turn_status 4 refl result e which
 failure_is_no_turn i Ends.Memory failure result e which = no_turn_status 7 refl result e which
 failure_is_no_turn i Ends.Input failure result e which = no_turn_status 5 refl result e which
@@ -239,12 +240,8 @@ module _ (request : Request) (input : List ℕ) (l : Layout) (windows : List Wea
     pub run_exit : Left l windows h f n turn at last
     run_exit = left_uttered last exit_uttered
 
-    reply_of : IsAnswered turn answer → QuietSince l windows h n turn.changes (length turn.changes) at between → result ≡ answer_status answer → Says (answer_text answer) between last → Replies request input l windows h f at last result
+    reply_of : IsAnswered turn answer → QuietSince l windows h n turn.changes (length turn.changes) at between → result ≡ answer_status answer → Says (answer_text answer) between last → IsReplied l windows h n turn at last result
     reply_of answers since e says = record {
-      count = n;
-      prefix = carries.prefix;
-      volume = carries.volume;
-      starts = carries.starts;
       ends = e ∙ answers.status;
       said = says.said ∙ ap (λ (s : List ℕ). s ++ answer_text answer) quiet ∙ ap (λ (b : List ℕ). at.said ++ b) answers.text;
       run = since.run;
@@ -252,7 +249,7 @@ module _ (request : Request) (input : List ℕ) (l : Layout) (windows : List Wea
       sound = subst (λ (i : Image). IsSound l (windows ++ since.run ∷ []) (take n h ++ turn.changes) (n + length turn.changes) i) (sym (same last says.image)) since.sound;
     }
 
-    pub run_replies : IsTrue (is_one_of turn_statuses result) → Replies request input l windows h f at last result
+    pub run_replies : IsTrue (is_turn_status result) → IsReplied l windows h n turn at last result
     run_replies which = elim said [
       | inl whole ↦ elim whole [
         | inl all ↦ elim carries.ends [
@@ -284,7 +281,7 @@ module _ (request : Request) (input : List ℕ) (l : Layout) (windows : List Wea
 
     module _ (old : Report) (cause : CausesAnswer answer old mid) (has : HasEpoch at.image) where
       pub run_answers_turn : (Rose old.disk_faults mid.disk_faults → ⊥) → (Rose old.input_faults mid.input_faults → ⊥) → (Rose mid.output_faults new.output_faults → ⊥)
-          → Replies request input l windows h f at last result ⊎ ((result ≡ 7) × (last.said ≡ at.said ++ memory_text))
+          → IsRepliedOrMemory l windows h n turn at last result
       run_answers_turn no_disk no_input no_output = elim said [
         | inl whole ↦ elim whole [
           | inl all ↦ elim carries.ends [
@@ -329,13 +326,26 @@ module _ (key : Key) (input : List ℕ) (l : Layout) (windows : List WeakRun) (h
     ]
   ]
 
--- ---- the moments of the whole run
+-- ---- the whole run
+
+-- no fault of the whole run is one of a part of it
+pub record NoneOutside (old mid new : Report) : Type 0 where
+  pub disk : NoneRose old new → Rose old.disk_faults mid.disk_faults → ⊥
+  pub input : NoneRose old new → Rose old.input_faults mid.input_faults → ⊥
+  pub output : NoneRose old new → Rose mid.output_faults new.output_faults → ⊥
+
+pub none_outside : (old mid new : Report) → UsesCounts old mid → UsesOutput mid new → NoneOutside old mid new
+none_outside old mid new uses says = record {
+  disk = λ none rose. none.disk (subst (λ (k : ℕ). Rose old.disk_faults k) (sym says.disk) rose);
+  input = λ none rose. none.input (subst (λ (k : ℕ). Rose old.input_faults k) (sym says.input) rose);
+  output = λ none rose. none.output (subst (λ (k : ℕ). Rose k new.output_faults) uses.output rose);
+}
 
 module _ {D : Type 0} (moment : D → ℕ) (left_since : D → ℕ → Moment → Type 0) (request : Request) (input : List ℕ) (l : Layout) (windows : List WeakRun) (h : List Change) (f : ℕ) (a b c : D) (at between last : Moment) (answer : Answer)
     (carries : Carries request input l windows h f (LeavesOnly moment left_since a b) at between answer) (quiet : between.said ≡ at.said) (calm : IsCalm between.windows) where
-  pub run_leaves : {H : Type 0} (honest : H) (mid new : Report) (result : ℕ) → Finishes H (answer_text answer) (answer_status answer) mid new between last result → LeavesOnly moment left_since b c (UttersOne (answer_text answer) between)
-      → LeavesRun request input l windows h f (LeavesOnly moment left_since a c) at last
-  run_leaves honest mid new result said utters =
+  pub run_leaves : {H : Type 0} (honest : H) (old mid new : Report) (result : ℕ) → Finishes H (answer_text answer) (answer_status answer) mid new between last result → LeavesOnly moment left_since b c (UttersOne (answer_text answer) between)
+      → CausesAnswer answer old mid → NoneOutside old mid new → LeavesRun request input (NoneRose old new) l windows h f (LeavesOnly moment left_since a c) at last result
+  run_leaves honest old mid new result said utters cause outside =
       let Before = LeavesOnly moment left_since a b in
       let P = Left l windows h f carries.count (turn_of request carries.volume at.image input) at in
       record {
@@ -347,6 +357,8 @@ module _ {D : Type 0} (moment : D → ℕ) (left_since : D → ℕ → Moment �
             (leaves_more moment left_since a b (Quiet l windows h f carries.count (turn_of request carries.volume at.image input).changes at) P (left_quiet request input l windows h f Before at between answer carries quiet calm) carries.moments)
             (leaves_more moment left_since b c (UttersOne (answer_text answer) between) P (left_uttered request input l windows h f Before at between answer carries quiet calm) utters);
         exit = run_exit request input l windows h f Before at between answer carries quiet calm honest mid new last result said;
+        replied = run_replies request input l windows h f Before at between answer carries quiet calm honest mid new last result said;
+        answered = λ none has. run_answers_turn request input l windows h f Before at between answer carries quiet calm honest mid new last result said old cause has (outside.disk none) (outside.input none) (outside.output none);
       }
 
 -- ---- by the request
@@ -369,27 +381,16 @@ module _ {D : Type 0} (moment : D → ℕ) (left_since : D → ℕ → Moment �
       by (Put name) given = λ calm calm_last l windows h f planned ends sound. let still = same_calm between.windows last.windows same_windows calm_last in from still l windows h f (given calm still l windows h f planned ends sound)
       by (Get key) given = λ calm calm_last l windows h f planned ends sound. let still = same_calm between.windows last.windows same_windows calm_last in from still l windows h f (given calm still l windows h f planned ends sound)
 
-  pub leaves_run : (c : D) (mid new : Report) (result : ℕ) → Finishes H (answer_text answer) (answer_status answer) mid new between last result → LeavesOnly moment left_since b c (UttersOne (answer_text answer) between)
-      → RunLeaves request input (LeavesOnly moment left_since a c) at last
-  leaves_run c mid new result said utters =
-      on_sound (λ l windows h f. LeavesRun request input l windows h f (LeavesOnly moment left_since a c) at last)
-      (λ still l windows h f carries. run_leaves moment left_since request input l windows h f a b c at between last answer carries quiet still honest mid new result said utters)
-
-  pub replies_run : (mid new : Report) (result : ℕ) → Finishes H (answer_text answer) (answer_status answer) mid new between last result → IsTrue (is_one_of turn_statuses result) → RunReplies request input at last result
-  replies_run mid new result said which =
-      on_sound (λ l windows h f. Replies request input l windows h f at last result)
-      (λ still l windows h f carries. run_replies request input l windows h f (LeavesOnly moment left_since a b) at between answer carries quiet still honest mid new last result said which)
+  pub leaves_run : (c : D) (old mid new : Report) (result : ℕ) → Finishes H (answer_text answer) (answer_status answer) mid new between last result → LeavesOnly moment left_since b c (UttersOne (answer_text answer) between)
+      → CausesAnswer answer old mid → NoneOutside old mid new → RunLeaves request input (NoneRose old new) (LeavesOnly moment left_since a c) at last result
+  leaves_run c old mid new result said utters cause outside =
+      on_sound (λ l windows h f. LeavesRun request input (NoneRose old new) l windows h f (LeavesOnly moment left_since a c) at last result)
+      (λ still l windows h f carries. run_leaves moment left_since request input l windows h f a b c at between last answer carries quiet still honest old mid new result said utters cause outside)
 
   pub refuses_run : (mid new : Report) (result : ℕ) → Finishes H (answer_text answer) (answer_status answer) mid new between last result → (result ≡ 3) ⊎ (result ≡ 9) → RefusesLast request at last result
   refuses_run mid new result said which =
       on_sound (λ l windows h f. (result ≡ 9) × IsLastEpoch at.image)
       (λ still l windows h f carries. run_refuses request input l windows h f (LeavesOnly moment left_since a b) at between answer carries quiet still honest mid new last result said which)
-
-  pub heard_turn : (old mid new : Report) (result : ℕ) → Finishes H (answer_text answer) (answer_status answer) mid new between last result → CausesAnswer answer old mid → (Rose old.disk_faults mid.disk_faults → ⊥)
-      → (Rose old.input_faults mid.input_faults → ⊥) → (Rose mid.output_faults new.output_faults → ⊥) → IfMounts request (OpensDisk at last (λ l windows h f. RepliesAs request input l windows h f at last result))
-  heard_turn old mid new result said cause no_disk no_input no_output =
-      on_sound (λ l windows h f. RepliesAs request input l windows h f at last result)
-      (λ still l windows h f carries has. run_answers_turn request input l windows h f (LeavesOnly moment left_since a b) at between answer carries quiet still honest mid new last result said old cause has no_disk no_input no_output)
 
   pub gets_part : (old mid new : Report) (result : ℕ) → Finishes H (answer_text answer) (answer_status answer) mid new between last result → CausesAnswer answer old mid → IsAnswerTo request answer → new.fault_place ≡ mid.fault_place
       → GetsPart request new.fault_place at last
@@ -403,10 +404,3 @@ module _ {D : Type 0} (moment : D → ℕ) (left_since : D → ℕ → Moment �
       by (Get key) given is = λ calm calm_last l windows h f planned ends sound has.
           let still = same_calm between.windows last.windows same_windows calm_last in
           get_part key input l windows h f (LeavesOnly moment left_since a b) at between last answer (given calm still l windows h f planned ends sound) quiet honest old mid new result said cause is has place
-
-pub put_heard : (request : Request) (input : List ℕ) (at last : Moment) (result : ℕ) → IfMounts request (OpensDisk at last (λ l windows h f. RepliesAs request input l windows h f at last result)) → PutAnswersFor request input at last result
-put_heard Outside input at last result heard = tt
-put_heard (BadField cause) input at last result heard = tt
-put_heard (Format n t p) input at last result heard = tt
-put_heard (Put name) input at last result heard = heard
-put_heard (Get key) input at last result heard = tt

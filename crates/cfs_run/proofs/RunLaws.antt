@@ -22,7 +22,7 @@ use Rattle.cfs_run.specs.Text.{fault_text, memory_text, text}
 use Rattle.cfs_run.specs.Answer.{CausesLine, Finishes, UsesOutput, answer_status, answer_text, status_of}
 use Rattle.cfs_run.specs.Input.{UsesCounts}
 use Rattle.cfs_run.specs.Formatting.{HoldsVolume, IsDeviceLine, IsFormatLine, MakesVolume, VolumeMade, format_line, plan_asks}
-use Rattle.cfs_run.specs.Ends.{Answers, RepliesAs, CausesAnswer, EndsAs, Holds, IsAnswerTo, IsUntouched, Leaves, NoneRose, LeavesInput, MaySay, PlanLeaves, SaysPart, Takes, TakesFor, IsGetLine, IsPutLine, asks_of, complete_statuses, fault_statuses, is_one_of, plan_statuses}
+use Rattle.cfs_run.specs.Ends.{Answers, CausesAnswer, EndsAs, Holds, IsAnswerTo, IsUntouched, Leaves, NoneRose, LeavesInput, MaySay, PlanLeaves, SaysPart, Takes, TakesFor, IsGetLine, IsPutLine, asks_of, complete_statuses, fault_statuses, is_one_of, plan_statuses}
 use Rattle.cfs_run.proofs.FormatEnds.{formatted_sound}
 
 -- a run: what was answered, and how that was said
@@ -275,16 +275,16 @@ plan_heard H (Err why) line mid new at between after result same no_fault made n
 
 request_heard : (H : Type 0) (request : Request) (answer : Answer) (mid new : Report) (at between after : Moment) (result : ℕ) → IsAnswerTo request answer → (answer_status answer ≡ 4 → ⊥)
     → Leaves request answer at between → (Rose mid.output_faults new.output_faults → ⊥) → H → Finishes H (answer_text answer) (answer_status answer) mid new between after result
-    → (input : List ℕ) → IfMounts request (OpensDisk at after (λ l windows history f. RepliesAs request input l windows history f at after result)) → Answers request input at after result
-request_heard H (Format n t p) (Said.Line line) mid new at between after result is no_fault made never h said input mounts =
+    → Answers request at after result
+request_heard H (Format n t p) (Said.Line line) mid new at between after result is no_fault made never h said =
     plan_heard H (plan n t p) line mid new at between after result is (λ device. no_fault (device_status line device)) made never h said
-request_heard H (Format n t p) (Said.Bytes bytes) mid new at between after result is no_fault made never h said input mounts = absurd is
-request_heard H Outside (Said.Line line) mid new at between after result is no_fault made never h said input mounts = heard_as H line Lines.Usage mid new at between after result is (ap (λ (m : Moment). m.said) made) never h said
-request_heard H Outside (Said.Bytes bytes) mid new at between after result is no_fault made never h said input mounts = absurd is
-request_heard H (BadField cause) (Said.Line line) mid new at between after result is no_fault made never h said input mounts = heard_as H line (Lines.BadField cause) mid new at between after result is (ap (λ (m : Moment). m.said) made) never h said
-request_heard H (BadField cause) (Said.Bytes bytes) mid new at between after result is no_fault made never h said input mounts = absurd is
-request_heard H (Put name) answer mid new at between after result is no_fault made never h said input mounts = tt
-request_heard H (Get key) answer mid new at between after result is no_fault made never h said input mounts = mounts
+request_heard H (Format n t p) (Said.Bytes bytes) mid new at between after result is no_fault made never h said = absurd is
+request_heard H Outside (Said.Line line) mid new at between after result is no_fault made never h said = heard_as H line Lines.Usage mid new at between after result is (ap (λ (m : Moment). m.said) made) never h said
+request_heard H Outside (Said.Bytes bytes) mid new at between after result is no_fault made never h said = absurd is
+request_heard H (BadField cause) (Said.Line line) mid new at between after result is no_fault made never h said = heard_as H line (Lines.BadField cause) mid new at between after result is (ap (λ (m : Moment). m.said) made) never h said
+request_heard H (BadField cause) (Said.Bytes bytes) mid new at between after result is no_fault made never h said = absurd is
+request_heard H (Put name) answer mid new at between after result is no_fault made never h said = tt
+request_heard H (Get key) answer mid new at between after result is no_fault made never h said = tt
 
 -- ---- what may be said at all
 
@@ -480,8 +480,8 @@ module _ (H : Type 0) (request : Request) (answer : Answer) (old mid new : Repor
   still : H → IsUntouched between after
   still h = said_untouched H (answer_text answer) (answer_status answer) mid new between after result h ran.said
 
-  pub run_answers : H → NoneRose old new → (input : List ℕ) → IfMounts request (OpensDisk at after (λ l windows history f. RepliesAs request input l windows history f at after result)) → Answers request input at after result
-  run_answers h none input mounts = request_heard H request answer mid new at between after result ran.answers (no_device none) (ran.leaves h) (no_output none) h ran.said input mounts
+  pub run_answers : H → NoneRose old new → Answers request at after result
+  run_answers h none = request_heard H request answer mid new at between after result ran.answers (no_device none) (ran.leaves h) (no_output none) h ran.said
 
   pub run_said : H → SaysPart request new.fault_place at.said after.said
   run_said h = elim (part_said H (answer_text answer) (answer_status answer) mid new at between after result (ran.quiet h) h ran.said) [

@@ -26,7 +26,7 @@ use Rattle.fsd_bytes.specs.declared.key.Key.{Key}
 use Rattle.cfs_run.specs.declared.input.TheConstants.{MOST_INPUT}
 use Rattle.mount_recover.specs.declared.fault.MountFault.{MountFault}
 use Rattle.mount_recover.specs.Lost.{AreCopiesOn, LostIn}
-use Rattle.cfs_run.specs.Leaves.{HasEpoch, IsLastEpoch, LeavesRun, Replies, Starts, get_turn}
+use Rattle.cfs_run.specs.Leaves.{HasEpoch, IsLastEpoch, LeavesRun, Starts, get_turn}
 use Rattle.cfs_run.specs.Mounting.{IfMount, IfMounts, IsMountFault, OpensDisk, fault_of, mount_asks}
 use Rattle.cfs_run.specs.Text.{fault_text, memory_text, text}
 use Rattle.cfs_run.specs.Answer.{CausesLine, answer_status, fault_status, status_of}
@@ -172,23 +172,13 @@ abbrev pub EndsAs : Line → List ℕ → List ℕ → ℕ → Type 0
 EndsAs line before after result =
     ((result ≡ status_of line) × (after ≡ before ++ text line)) ⊎ ((result ≡ 7) × (after ≡ before ++ memory_text))
 
--- a turn is said with its status, or that memory was refused
-abbrev pub RepliesAs : Request → (input : List ℕ) → Layout → List WeakRun → List Change → ℕ → (old new : Moment) → (result : ℕ) → Type 0
-RepliesAs request input l windows h f old new result =
-    HasEpoch old.image → Replies request input l windows h f old new result ⊎ ((result ≡ 7) × (new.said ≡ old.said ++ memory_text))
-
--- so it is of a put, from a sound disk whose anchor has an epoch left
-abbrev pub PutAnswersFor : Request → List ℕ → Moment → Moment → ℕ → Type 0
-PutAnswersFor (Put name) input old new result = OpensDisk old new (λ l windows h f. RepliesAs (Put name) input l windows h f old new result)
-PutAnswersFor request input old new result = ⊤
-
--- where nothing fails; a put is told apart, by PutAnswersFor
-abbrev pub Answers : Request → (input : List ℕ) → Moment → Moment → ℕ → Type 0
-Answers Outside input old new result = EndsAs Says.Usage old.said new.said result
-Answers (BadField cause) input old new result = EndsAs (Says.BadField cause) old.said new.said result
-Answers (Format n t p) input old new result = EndsAs (format_line (plan n t p)) old.said new.said result
-Answers (Put name) input old new result = ⊤
-Answers (Get key) input old new result = OpensDisk old new (λ l windows h f. RepliesAs (Get key) input l windows h f old new result)
+-- where nothing fails, of a request that mounts nothing
+abbrev pub Answers : Request → Moment → Moment → ℕ → Type 0
+Answers Outside old new result = EndsAs Says.Usage old.said new.said result
+Answers (BadField cause) old new result = EndsAs (Says.BadField cause) old.said new.said result
+Answers (Format n t p) old new result = EndsAs (format_line (plan n t p)) old.said new.said result
+Answers (Put name) old new result = ⊤
+Answers (Get key) old new result = ⊤
 
 -- the texts that may be said but for that of refused memory; the place is that of the disk's last fault
 abbrev pub MaySay : Request → (place : ℕ) → List ℕ → Type 0
@@ -312,16 +302,9 @@ pub record IsUntouched (old new : Moment) : Type 0 where
 
 -- ---- a run that mounts a sound disk
 
--- each moment of the run and its end
-abbrev pub RunLeaves : Request → (input : List ℕ) → (Only : (Moment → Type 0) → Type 0) → (old new : Moment) → Type 0
-RunLeaves request input Only old new = IfMounts request (OpensDisk old new (λ l windows h f. LeavesRun request input l windows h f Only old new))
-
--- the statuses of a turn
-abbrev pub turn_statuses : List ℕ
-turn_statuses = 0 ∷ 1 ∷ 8 ∷ []
-
-abbrev pub RunReplies : Request → (input : List ℕ) → (old new : Moment) → (result : ℕ) → Type 0
-RunReplies request input old new result = IfMounts request (OpensDisk old new (λ l windows h f. Replies request input l windows h f old new result))
+-- so a run leaves every sound disk, where nothing wears
+abbrev pub RunLeaves : Request → (input : List ℕ) → (NoneFailed : Type 0) → (Only : (Moment → Type 0) → Type 0) → (old new : Moment) → (result : ℕ) → Type 0
+RunLeaves request input NoneFailed Only old new result = IfMounts request (OpensDisk old new (λ l windows h f. LeavesRun request input NoneFailed l windows h f Only old new result))
 
 -- it is refused for its last epoch alone
 abbrev pub RefusesLast : Request → (old new : Moment) → (result : ℕ) → Type 0

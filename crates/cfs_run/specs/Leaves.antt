@@ -1,5 +1,6 @@
 -- What a run that mounts its image answers and changes, and what a stop at any moment of it leaves.
-use Rattle.std.specs.Prelude.{◌≡◌, ◌⊎◌, ◌<◌, ℕ, ◌+◌, List, [], ◌∷◌, ◌++◌, length, take, nat_lt, Option, Some, None, IfSome, if◌then◌else◌}
+use Rattle.std.specs.Prelude.{◌≡◌, ◌⊎◌, ◌<◌, ℕ, ◌+◌, Bool, ◌==◌, List, [], ◌∷◌, ◌++◌, length, take, nat_lt, Option, Some, None, IfSome, IsTrue, if◌then◌else◌}
+use Rattle.std.specs.List.{list_any}
 use Rattle.std.specs.FinMap.{find}
 use Rattle.volume_layout.specs.declared.layout.Layout.{Layout}
 use Rattle.sector_disk.specs.declared.sector.Sector.{Sector}
@@ -30,7 +31,7 @@ use Rattle.cfs_run.specs.declared.line.Line.TheVariants as Says
 use Rattle.cfs_run.specs.declared.request.Request.{Request}
 use Rattle.cfs_run.specs.declared.request.Request.TheVariants.{Put, Get}
 use Rattle.cfs_run.specs.declared.input.TheConstants.{MOST_INPUT}
-use Rattle.cfs_run.specs.Text.{fault_text, text}
+use Rattle.cfs_run.specs.Text.{fault_text, memory_text, text}
 use Rattle.cfs_run.specs.Answer.{status_of}
 
 -- ---- the volume that a run begins with
@@ -143,17 +144,7 @@ pub record LeftSince (l : Layout) (windows : List WeakRun) (h : List Change) (n 
 abbrev pub Left : Layout → List WeakRun → List Change → (f n : ℕ) → Turn → (old left : Moment) → Type 0
 Left l windows h f n turn old left = LeftBefore l windows h f old left ⊎ LeftSince l windows h n turn old left
 
--- The run found the first n changes of the image's, every forced one among them, and began with the volume of these; each
--- moment of it and its exit leave what is said above.
-pub record LeavesRun (request : Request) (input : List ℕ) (l : Layout) (windows : List WeakRun) (h : List Change) (f : ℕ) (Only : (Moment → Type 0) → Type 0) (old new : Moment) : Type 0 where
-  pub count : ℕ
-  pub prefix : IsPrefixOf h f count
-  pub volume : Volume
-  pub starts : Starts l windows h count volume old.image
-  pub moments : Only (Left l windows h f count (turn_of request volume old.image input) old)
-  pub exit : Left l windows h f count (turn_of request volume old.image input) old new
-
--- ---- what a run ends with
+-- ---- how a run ends
 
 -- there is an epoch behind the one of the image's anchor
 abbrev pub HasEpoch : Image → Type 0
@@ -166,14 +157,32 @@ pub record IsLastEpoch (i : Image) : Type 0 where
   pub last : anchor.epoch ≡ last_epoch
 
 -- The whole text of the turn is said, its status is given, and all its changes are forced.
-pub record Replies (request : Request) (input : List ℕ) (l : Layout) (windows : List WeakRun) (h : List Change) (f : ℕ) (old new : Moment) (result : ℕ) : Type 0 where
+pub record IsReplied (l : Layout) (windows : List WeakRun) (h : List Change) (n : ℕ) (turn : Turn) (old new : Moment) (result : ℕ) : Type 0 where
+  pub ends : result ≡ turn.status
+  pub said : new.said ≡ old.said ++ turn.said
+  pub run : WeakRun
+  pub settled : new.windows ≡ record { present = Some run; next = None }
+  pub sound : IsSound l (windows ++ run ∷ []) (take n h ++ turn.changes) (n + length turn.changes) new.image
+
+-- So it is, or it is said that memory was refused.
+abbrev pub IsRepliedOrMemory : Layout → List WeakRun → List Change → (n : ℕ) → Turn → (old new : Moment) → (result : ℕ) → Type 0
+IsRepliedOrMemory l windows h n turn old new result = IsReplied l windows h n turn old new result ⊎ ((result ≡ 7) × (new.said ≡ old.said ++ memory_text))
+
+-- the statuses of a turn
+abbrev pub is_turn_status : ℕ → Bool
+is_turn_status status = list_any (λ s. s == status) (0 ∷ 1 ∷ 8 ∷ [])
+
+-- ---- the whole run
+
+-- The run found the first n changes of the image's, every forced one among them, and began with the volume of these. Each
+-- moment of it and its exit leave what is said above. A status of a turn is that of this volume's, which is said; where
+-- nothing failed and the image has an epoch left, so it ends, or memory was refused.
+pub record LeavesRun (request : Request) (input : List ℕ) (NoneFailed : Type 0) (l : Layout) (windows : List WeakRun) (h : List Change) (f : ℕ) (Only : (Moment → Type 0) → Type 0) (old new : Moment) (result : ℕ) : Type 0 where
   pub count : ℕ
   pub prefix : IsPrefixOf h f count
   pub volume : Volume
   pub starts : Starts l windows h count volume old.image
-  pub ends : result ≡ (turn_of request volume old.image input).status
-  pub said : new.said ≡ old.said ++ (turn_of request volume old.image input).said
-  pub run : WeakRun
-  pub settled : new.windows ≡ record { present = Some run; next = None }
-  pub sound : let changes = (turn_of request volume old.image input).changes in
-      IsSound l (windows ++ run ∷ []) (take count h ++ changes) (count + length changes) new.image
+  pub moments : Only (Left l windows h f count (turn_of request volume old.image input) old)
+  pub exit : Left l windows h f count (turn_of request volume old.image input) old new
+  pub replied : IsTrue (is_turn_status result) → IsReplied l windows h count (turn_of request volume old.image input) old new result
+  pub answered : NoneFailed → HasEpoch old.image → IsRepliedOrMemory l windows h count (turn_of request volume old.image input) old new result

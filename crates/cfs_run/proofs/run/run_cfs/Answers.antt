@@ -8,7 +8,7 @@ use Rattle.cfs_run.specs.Words.{request_of}
 use Rattle.cfs_run.specs.Ends.{DamagedAnswer, IfMountAnswer, LeavesInput, WhereMounted}
 use Rattle.cfs_run.specs.Mounting.{IfMounts}
 use Rattle.cfs_run.proofs.DamageEnds.{run_damaged}
-use Rattle.cfs_run.proofs.EndLaws.{gets_part, heard_turn, leaves_run, put_heard, refuses_run, replies_run}
+use Rattle.cfs_run.proofs.EndLaws.{gets_part, leaves_run, none_outside, refuses_run}
 use Rattle.cfs_run.proofs.MountEnds.{tells_for, tells_lost, other, run_mounted, unlike}
 use Rattle.cfs_run.proofs.RunLaws.{Ran, said_untouched, run_input, run_takes, run_answers, run_completes, run_fault_said, run_holds, run_said, run_says, run_status, run_untouched}
 use Rattle.cfs_run.proofs.run.run_cfs.Goals as goal
@@ -39,15 +39,7 @@ returns-clause-complete g c =
 
 pub returns-clause-answers : goal.returns-clause-answers
 returns-clause-answers g c h none =
-    let M = g.M.Machine in
-    let h1 = c.finish.ensures.trust.honest h in
-    let at = M.now c.args.m.now in
-    let between = M.now c.carry_out-answer.new.m in
-    let after = M.now c.finish.new.m in
-    let windows = (said_untouched (M.honest c.finish.new.m) _ _ _ _ _ _ _ h c.finish.ensures.said).windows in
-    let request = request_of (map (string_bytes {Z = Global}) c.args.words.now) in
-    let input = (M.ledger c.args.m.now).input in
-    let ran : Ran (M.honest c.finish.new.m) request c.carry_out-answer.result (M.report c.args.m.now) (M.report c.carry_out-answer.new.m) (M.report c.finish.new.m) at between after c.finish.result = record {
+    run_answers (g.M.Machine.honest c.finish.new.m) _ c.carry_out-answer.result _ _ _ (g.M.Machine.now c.args.m.now) _ _ _ (record {
       answers = c.carry_out-answer.ensures.answer;
       cause = c.carry_out-answer.ensures.cause;
       uses = c.carry_out-answer.ensures.uses;
@@ -55,15 +47,7 @@ returns-clause-answers g c h none =
       said = c.finish.ensures.said;
       quiet = λ h2. c.carry_out-answer.ensures.quiet (c.finish.ensures.trust.honest h2);
       leaves = λ h2. c.carry_out-answer.ensures.leaves (c.finish.ensures.trust.honest h2);
-    } in
-    let no_disk = λ (rose : Rose (M.report c.args.m.now).disk_faults (M.report c.carry_out-answer.new.m).disk_faults). none.disk (subst (λ (k : ℕ). Rose (M.report c.args.m.now).disk_faults k) (sym c.finish.ensures.uses.disk) rose) in
-    let no_input = λ (rose : Rose (M.report c.args.m.now).input_faults (M.report c.carry_out-answer.new.m).input_faults).
-    none.input (subst (λ (k : ℕ). Rose (M.report c.args.m.now).input_faults k) (sym c.finish.ensures.uses.input) rose) in
-    let no_output = λ (rose : Rose (M.report c.carry_out-answer.new.m).output_faults (M.report c.finish.new.m).output_faults).
-    none.output (subst (λ (k : ℕ). Rose k (M.report c.finish.new.m).output_faults) c.carry_out-answer.ensures.uses.output rose) in
-    run_answers (M.honest c.finish.new.m) request c.carry_out-answer.result _ _ _ at between after c.finish.result ran h none input
-    (heard_turn M.moment M.left_since request input c.args.m.now c.carry_out-answer.new.m at between after c.carry_out-answer.result (c.carry_out-answer.ensures.carries h1) (c.carry_out-answer.ensures.quiet h1) windows h
-    (M.report c.args.m.now) (M.report c.carry_out-answer.new.m) (M.report c.finish.new.m) c.finish.result c.finish.ensures.said c.carry_out-answer.ensures.cause no_disk no_input no_output)
+    }) h none
 
 pub returns-clause-image : goal.returns-clause-image
 returns-clause-image g c =
@@ -150,25 +134,6 @@ returns-clause-taken g c h =
       quiet = λ h. c.carry_out-answer.ensures.quiet (c.finish.ensures.trust.honest h);
       leaves = λ h. c.carry_out-answer.ensures.leaves (c.finish.ensures.trust.honest h);
     }) _ _ (c.carry_out-answer.ensures.takes (c.finish.ensures.trust.tells h)))
-
-pub returns-clause-stored : goal.returns-clause-stored
-returns-clause-stored g c h none =
-    let M = g.M.Machine in
-    let h1 = c.finish.ensures.trust.honest h in
-    let at = M.now c.args.m.now in
-    let between = M.now c.carry_out-answer.new.m in
-    let after = M.now c.finish.new.m in
-    let windows = (said_untouched (M.honest c.finish.new.m) _ _ _ _ _ _ _ h c.finish.ensures.said).windows in
-    let request = request_of (map (string_bytes {Z = Global}) c.args.words.now) in
-    let input = (M.ledger c.args.m.now).input in
-    let no_disk = λ (rose : Rose (M.report c.args.m.now).disk_faults (M.report c.carry_out-answer.new.m).disk_faults). none.disk (subst (λ (k : ℕ). Rose (M.report c.args.m.now).disk_faults k) (sym c.finish.ensures.uses.disk) rose) in
-    let no_input = λ (rose : Rose (M.report c.args.m.now).input_faults (M.report c.carry_out-answer.new.m).input_faults).
-    none.input (subst (λ (k : ℕ). Rose (M.report c.args.m.now).input_faults k) (sym c.finish.ensures.uses.input) rose) in
-    let no_output = λ (rose : Rose (M.report c.carry_out-answer.new.m).output_faults (M.report c.finish.new.m).output_faults).
-    none.output (subst (λ (k : ℕ). Rose k (M.report c.finish.new.m).output_faults) c.carry_out-answer.ensures.uses.output rose) in
-    put_heard request input at after c.finish.result
-    (heard_turn M.moment M.left_since request input c.args.m.now c.carry_out-answer.new.m at between after c.carry_out-answer.result (c.carry_out-answer.ensures.carries h1) (c.carry_out-answer.ensures.quiet h1) windows h
-    (M.report c.args.m.now) (M.report c.carry_out-answer.new.m) (M.report c.finish.new.m) c.finish.result c.finish.ensures.said c.carry_out-answer.ensures.cause no_disk no_input no_output)
 
 pub returns-clause-unmounted : goal.returns-clause-unmounted
 returns-clause-unmounted g c which h calm last =
@@ -268,20 +233,8 @@ returns-clause-leaves g c h =
     let request = request_of (map (string_bytes {Z = Global}) c.args.words.now) in
     let input = (M.ledger c.args.m.now).input in
     leaves_run M.moment M.left_since request input c.args.m.now c.carry_out-answer.new.m at between after c.carry_out-answer.result (c.carry_out-answer.ensures.carries h1) (c.carry_out-answer.ensures.quiet h1) windows h c.finish.new.m
-    (M.report c.carry_out-answer.new.m) (M.report c.finish.new.m) c.finish.result c.finish.ensures.said (c.finish.ensures.any_moment h)
-
-pub returns-clause-replied : goal.returns-clause-replied
-returns-clause-replied g c which h =
-    let M = g.M.Machine in
-    let h1 = c.finish.ensures.trust.honest h in
-    let at = M.now c.args.m.now in
-    let between = M.now c.carry_out-answer.new.m in
-    let after = M.now c.finish.new.m in
-    let windows = (said_untouched (M.honest c.finish.new.m) _ _ _ _ _ _ _ h c.finish.ensures.said).windows in
-    let request = request_of (map (string_bytes {Z = Global}) c.args.words.now) in
-    let input = (M.ledger c.args.m.now).input in
-    replies_run M.moment M.left_since request input c.args.m.now c.carry_out-answer.new.m at between after c.carry_out-answer.result (c.carry_out-answer.ensures.carries h1) (c.carry_out-answer.ensures.quiet h1) windows h
-    (M.report c.carry_out-answer.new.m) (M.report c.finish.new.m) c.finish.result c.finish.ensures.said which
+    (M.report c.args.m.now) (M.report c.carry_out-answer.new.m) (M.report c.finish.new.m) c.finish.result c.finish.ensures.said (c.finish.ensures.any_moment h) c.carry_out-answer.ensures.cause
+    (none_outside (M.report c.args.m.now) (M.report c.carry_out-answer.new.m) (M.report c.finish.new.m) c.carry_out-answer.ensures.uses c.finish.ensures.uses)
 
 pub returns-clause-safe : goal.returns-clause-safe
 returns-clause-safe g c which h =
