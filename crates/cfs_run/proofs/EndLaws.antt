@@ -31,9 +31,9 @@ use Rattle.cfs_run.specs.declared.input.TheConstants.{MOST_INPUT}
 use Rattle.cfs_run.specs.Text.{fault_text, memory_text, text}
 use Rattle.cfs_run.specs.Answer.{CausesFault, Finishes, UsesOutput, UttersOne, answer_status, answer_text, fault_status}
 use Rattle.cfs_run.specs.Input.{UsesCounts}
-use Rattle.cfs_run.specs.Ends.{CausesAnswer, GetSaysPart, GetsPart, IsAnswerTo, NoneRose, RefusesLast, RunLeaves, is_one_of}
+use Rattle.cfs_run.specs.Ends.{CausesAnswer, IsAnswerTo, RefusesLast, RunLeaves, is_one_of}
 use Rattle.cfs_run.specs.Mounting.{IfMounts, OpensDisk}
-use Rattle.cfs_run.specs.Leaves.{Begins, HasEpoch, IsLastEpoch, IsReplied, IsRepliedOrMemory, Left, LeavesRun, SaysFault, Turn, is_turn_status, line_turn, reply_turn, turn_of}
+use Rattle.cfs_run.specs.Leaves.{Begins, HasEpoch, IsLastEpoch, IsOutsideText, IsReplied, IsRepliedOrMemory, Left, LeavesRun, NoneRose, SaysFault, SaysSome, Turn, is_turn_status, line_turn, reply_turn, turn_of}
 use Rattle.cfs_run.specs.Working.{Carried, Carries, IsAnswered, IsFailure, Quiet, QuietSince}
 use Rattle.cfs_run.proofs.GetLaws.{nothing_changes, read_plain}
 use Rattle.cfs_run.proofs.RunLaws.{part_said}
@@ -143,18 +143,41 @@ failure_forgets i (Ends.Lost a b) old mid has failure cause no_disk no_input = a
 failure_forgets i Ends.NoAnchor old mid has failure cause no_disk no_input = absurd failure
 failure_forgets i (Ends.Unsound s) old mid has failure cause no_disk no_input = absurd failure
 
--- the text of a fault of a get
-failure_text : (key : Key) (i : Image) (fault : Fault) (old mid : Report) → HasEpoch i → IsFailure i fault → CausesFault fault old mid → IsAnswerTo (Get key) (Said.Line (Lines.Ended fault))
-    → (fault_text fault ≡ fault_text (Ends.Device mid.fault_place)) ⊎ (fault_text fault ≡ memory_text)
-failure_text key i (Ends.Device s) old mid has failure cause is = inl (ap (λ (place : ℕ). fault_text (Ends.Device place)) cause.told)
-failure_text key i Ends.Memory old mid has failure cause is = inr refl
-failure_text key i Ends.Input old mid has failure cause is = absurd is
-failure_text key i Ends.WornOut old mid has failure cause is = absurd (last_or_not i has failure)
-failure_text key i Ends.InputTooLong old mid has failure cause is = absurd failure
-failure_text key i Ends.NotVolume old mid has failure cause is = absurd failure
-failure_text key i (Ends.Lost a b) old mid has failure cause is = absurd failure
-failure_text key i Ends.NoAnchor old mid has failure cause is = absurd failure
-failure_text key i (Ends.Unsound s) old mid has failure cause is = absurd failure
+-- ---- the text of a fault from outside
+
+device_outside : (request : Request) (place : ℕ) → IsOutsideText request place (fault_text (Ends.Device place))
+device_outside Outside place = inl refl
+device_outside (BadField cause) place = inl refl
+device_outside (Format n t p) place = inl refl
+device_outside (Put name) place = inl refl
+device_outside (Get key) place = inl refl
+
+memory_outside : (request : Request) (place : ℕ) → IsOutsideText request place memory_text
+memory_outside Outside place = inr (inl refl)
+memory_outside (BadField cause) place = inr (inl refl)
+memory_outside (Format n t p) place = inr (inl refl)
+memory_outside (Put name) place = inr (inl refl)
+memory_outside (Get key) place = inr refl
+
+input_outside : (request : Request) (place : ℕ) → IsAnswerTo request (Said.Line (Lines.Ended Ends.Input)) → IsOutsideText request place (fault_text Ends.Input)
+input_outside Outside place is = inr (inr refl)
+input_outside (BadField cause) place is = inr (inr refl)
+input_outside (Format n t p) place is = inr (inr refl)
+input_outside (Put name) place is = inr (inr refl)
+input_outside (Get key) place is = absurd is
+
+failure_outside : (request : Request) (i : Image) (fault : Fault) (old mid : Report) (place : ℕ) → place ≡ mid.fault_place → HasEpoch i → IsFailure i fault → CausesFault fault old mid → IsAnswerTo request (Said.Line (Lines.Ended fault))
+    → IsOutsideText request place (fault_text fault)
+failure_outside request i (Ends.Device s) old mid place same has failure cause is =
+    subst (λ (at : ℕ). IsOutsideText request place (fault_text (Ends.Device at))) (same ∙ sym cause.told) (device_outside request place)
+failure_outside request i Ends.Memory old mid place same has failure cause is = memory_outside request place
+failure_outside request i Ends.Input old mid place same has failure cause is = input_outside request place is
+failure_outside request i Ends.WornOut old mid place same has failure cause is = absurd (last_or_not i has failure)
+failure_outside request i Ends.InputTooLong old mid place same has failure cause is = absurd failure
+failure_outside request i Ends.NotVolume old mid place same has failure cause is = absurd failure
+failure_outside request i (Ends.Lost a b) old mid place same has failure cause is = absurd failure
+failure_outside request i Ends.NoAnchor old mid place same has failure cause is = absurd failure
+failure_outside request i (Ends.Unsound s) old mid place same has failure cause is = absurd failure
 
 -- ---- the answer, and how it is said
 
@@ -296,56 +319,44 @@ module _ (request : Request) (input : List ℕ) (l : Layout) (windows : List Wea
         | inr memory ↦ elim memory [ inl all ↦ inr (all.ends, (all.said honest).said ∙ ap (λ (s : List ℕ). s ++ memory_text) quiet) | inr some ↦ absurd (no_output some.rose) ]
       ]
 
--- the text of a get
-module _ (key : Key) (input : List ℕ) (l : Layout) (windows : List WeakRun) (h : List Change) (f : ℕ) (Only : (Moment → Type 0) → Type 0) (at between last : Moment) (answer : Answer)
-    (carries : Carries (Get key) input l windows h f Only at between answer) (quiet : between.said ≡ at.said) where
-  pub get_part : {H : Type 0} (honest : H) (old mid new : Report) (result : ℕ) → Finishes H (answer_text answer) (answer_status answer) mid new between last result → CausesAnswer answer old mid → IsAnswerTo (Get key) answer → HasEpoch at.image
-      → new.fault_place ≡ mid.fault_place → GetSaysPart key new.fault_place l windows h f at last
-  get_part {H} honest old mid new result said cause is has place = elim (part_said H (answer_text answer) (answer_status answer) mid new at between last result quiet honest said) [
-    | inl part ↦ record { bytes = memory_text; may = inr (inr refl); heard = part.0; said = part.1 }
-    | inr part ↦ elim carries.ends [
-      | inl answered ↦ record {
-        bytes = answer_text answer;
-        may = inl (record { count = carries.count; prefix = carries.prefix; volume = carries.volume; starts = carries.starts; is = answered.0.text });
-        heard = part.0;
-        said = part.1;
-      }
-      | inr failed ↦
-          let fault = failed.0.fault in
-          let given = subst (λ (a : Answer). CausesAnswer a old mid) failed.0.is cause in
-          let one = failure_text key at.image fault old mid has failed.0.allowed given (subst (λ (a : Answer). IsAnswerTo (Get key) a) failed.0.is is) in
-          record {
-            bytes = answer_text answer;
-            may = inr (elim one [
-              | inl device ↦ inl (ap answer_text failed.0.is ∙ device ∙ ap (λ (p : ℕ). fault_text (Ends.Device p)) (sym place))
-              | inr memory ↦ inr (ap answer_text failed.0.is ∙ memory)
-            ]);
-            heard = part.0;
-            said = part.1;
-          }
-    ]
-  ]
+      pub run_says_some : IsAnswerTo request answer → new.fault_place ≡ mid.fault_place → SaysSome request new.fault_place turn at last
+      run_says_some is place = elim (part_said H (answer_text answer) (answer_status answer) mid new at between last result quiet honest said) [
+        | inl part ↦ record { bytes = memory_text; may = inr (memory_outside request new.fault_place); heard = part.0; said = part.1 }
+        | inr part ↦ record { bytes = answer_text answer; may = text_of_end is place; heard = part.0; said = part.1 }
+      ]
+        where
+          text_of_end : IsAnswerTo request answer → new.fault_place ≡ mid.fault_place → (answer_text answer ≡ turn.said) ⊎ IsOutsideText request new.fault_place (answer_text answer)
+          text_of_end is place = elim carries.ends [
+            | inl answered ↦ inl answered.0.text
+            | inr failed ↦
+                let given = subst (λ (a : Answer). CausesAnswer a old mid) failed.0.is cause in
+                let asked = subst (λ (a : Answer). IsAnswerTo request a) failed.0.is is in
+                let one = failure_outside request at.image failed.0.fault old mid new.fault_place place has failed.0.allowed given asked in
+                inr (subst (λ (a : Answer). IsOutsideText request new.fault_place (answer_text a)) (sym failed.0.is) one)
+          ]
 
 -- ---- the whole run
 
--- no fault of the whole run is one of a part of it
-pub record NoneOutside (old mid new : Report) : Type 0 where
+-- what is counted in the whole run, and in its parts
+pub record FailsInParts (old mid new : Report) : Type 0 where
   pub disk : NoneRose old new → Rose old.disk_faults mid.disk_faults → ⊥
   pub input : NoneRose old new → Rose old.input_faults mid.input_faults → ⊥
   pub output : NoneRose old new → Rose mid.output_faults new.output_faults → ⊥
+  pub place : new.fault_place ≡ mid.fault_place
 
-pub none_outside : (old mid new : Report) → UsesCounts old mid → UsesOutput mid new → NoneOutside old mid new
-none_outside old mid new uses says = record {
+pub fails_in_parts : (old mid new : Report) → UsesCounts old mid → UsesOutput mid new → FailsInParts old mid new
+fails_in_parts old mid new uses says = record {
   disk = λ none rose. none.disk (subst (λ (k : ℕ). Rose old.disk_faults k) (sym says.disk) rose);
   input = λ none rose. none.input (subst (λ (k : ℕ). Rose old.input_faults k) (sym says.input) rose);
   output = λ none rose. none.output (subst (λ (k : ℕ). Rose k new.output_faults) uses.output rose);
+  place = says.place;
 }
 
 module _ {D : Type 0} (moment : D → ℕ) (left_since : D → ℕ → Moment → Type 0) (request : Request) (input : List ℕ) (l : Layout) (windows : List WeakRun) (h : List Change) (f : ℕ) (a b c : D) (at between last : Moment) (answer : Answer)
     (carries : Carries request input l windows h f (LeavesOnly moment left_since a b) at between answer) (quiet : between.said ≡ at.said) (calm : IsCalm between.windows) where
   pub run_leaves : {H : Type 0} (honest : H) (old mid new : Report) (result : ℕ) → Finishes H (answer_text answer) (answer_status answer) mid new between last result → LeavesOnly moment left_since b c (UttersOne (answer_text answer) between)
-      → CausesAnswer answer old mid → NoneOutside old mid new → LeavesRun request input (NoneRose old new) l windows h f (LeavesOnly moment left_since a c) at last result
-  run_leaves honest old mid new result said utters cause outside =
+      → IsAnswerTo request answer → CausesAnswer answer old mid → FailsInParts old mid new → LeavesRun request input l windows h f (LeavesOnly moment left_since a c) old new at last result
+  run_leaves honest old mid new result said utters is cause parts =
       let Before = LeavesOnly moment left_since a b in
       let P = Left l windows h f carries.count (turn_of request carries.volume at.image input) at in
       record {
@@ -358,7 +369,8 @@ module _ {D : Type 0} (moment : D → ℕ) (left_since : D → ℕ → Moment �
             (leaves_more moment left_since b c (UttersOne (answer_text answer) between) P (left_uttered request input l windows h f Before at between answer carries quiet calm) utters);
         exit = run_exit request input l windows h f Before at between answer carries quiet calm honest mid new last result said;
         replied = run_replies request input l windows h f Before at between answer carries quiet calm honest mid new last result said;
-        answered = λ none has. run_answers_turn request input l windows h f Before at between answer carries quiet calm honest mid new last result said old cause has (outside.disk none) (outside.input none) (outside.output none);
+        says = λ has. run_says_some request input l windows h f Before at between answer carries quiet calm honest mid new last result said old cause has is parts.place;
+        answered = λ none has. run_answers_turn request input l windows h f Before at between answer carries quiet calm honest mid new last result said old cause has (parts.disk none) (parts.input none) (parts.output none);
       }
 
 -- ---- by the request
@@ -382,25 +394,12 @@ module _ {D : Type 0} (moment : D → ℕ) (left_since : D → ℕ → Moment �
       by (Get key) given = λ calm calm_last l windows h f planned ends sound. let still = same_calm between.windows last.windows same_windows calm_last in from still l windows h f (given calm still l windows h f planned ends sound)
 
   pub leaves_run : (c : D) (old mid new : Report) (result : ℕ) → Finishes H (answer_text answer) (answer_status answer) mid new between last result → LeavesOnly moment left_since b c (UttersOne (answer_text answer) between)
-      → CausesAnswer answer old mid → NoneOutside old mid new → RunLeaves request input (NoneRose old new) (LeavesOnly moment left_since a c) at last result
-  leaves_run c old mid new result said utters cause outside =
-      on_sound (λ l windows h f. LeavesRun request input (NoneRose old new) l windows h f (LeavesOnly moment left_since a c) at last result)
-      (λ still l windows h f carries. run_leaves moment left_since request input l windows h f a b c at between last answer carries quiet still honest old mid new result said utters cause outside)
+      → IsAnswerTo request answer → CausesAnswer answer old mid → FailsInParts old mid new → RunLeaves request input (LeavesOnly moment left_since a c) old new at last result
+  leaves_run c old mid new result said utters is cause parts =
+      on_sound (λ l windows h f. LeavesRun request input l windows h f (LeavesOnly moment left_since a c) old new at last result)
+      (λ still l windows h f carries. run_leaves moment left_since request input l windows h f a b c at between last answer carries quiet still honest old mid new result said utters is cause parts)
 
   pub refuses_run : (mid new : Report) (result : ℕ) → Finishes H (answer_text answer) (answer_status answer) mid new between last result → (result ≡ 3) ⊎ (result ≡ 9) → RefusesLast request at last result
   refuses_run mid new result said which =
       on_sound (λ l windows h f. (result ≡ 9) × IsLastEpoch at.image)
       (λ still l windows h f carries. run_refuses request input l windows h f (LeavesOnly moment left_since a b) at between answer carries quiet still honest mid new last result said which)
-
-  pub gets_part : (old mid new : Report) (result : ℕ) → Finishes H (answer_text answer) (answer_status answer) mid new between last result → CausesAnswer answer old mid → IsAnswerTo request answer → new.fault_place ≡ mid.fault_place
-      → GetsPart request new.fault_place at last
-  gets_part old mid new result said cause is place = by request carried is
-    where
-      by : (r : Request) → Carried r input (LeavesOnly moment left_since a b) at between answer → IsAnswerTo r answer → GetsPart r new.fault_place at last
-      by Outside given is = tt
-      by (BadField cause) given is = tt
-      by (Format n t p) given is = tt
-      by (Put name) given is = tt
-      by (Get key) given is = λ calm calm_last l windows h f planned ends sound has.
-          let still = same_calm between.windows last.windows same_windows calm_last in
-          get_part key input l windows h f (LeavesOnly moment left_since a b) at between last answer (given calm still l windows h f planned ends sound) quiet honest old mid new result said cause is has place

@@ -17,12 +17,12 @@ use Rattle.cfs_run.specs.declared.request.Request.{Request}
 use Rattle.cfs_run.specs.declared.request.Request.TheVariants.{Outside, BadField, Format, Put, Get}
 use Rattle.fsd_bytes.specs.declared.key.Key.{Key}
 use Rattle.cfs_run.specs.declared.input.TheConstants.{MOST_INPUT}
-use Rattle.cfs_run.specs.Mounting.{IfMounts, OpensDisk}
 use Rattle.cfs_run.specs.Text.{fault_text, memory_text, text}
 use Rattle.cfs_run.specs.Answer.{CausesLine, Finishes, UsesOutput, answer_status, answer_text, status_of}
 use Rattle.cfs_run.specs.Input.{UsesCounts}
 use Rattle.cfs_run.specs.Formatting.{HoldsVolume, IsDeviceLine, IsFormatLine, MakesVolume, VolumeMade, format_line, plan_asks}
-use Rattle.cfs_run.specs.Ends.{Answers, CausesAnswer, EndsAs, Holds, IsAnswerTo, IsUntouched, Leaves, NoneRose, LeavesInput, MaySay, PlanLeaves, SaysPart, Takes, TakesFor, IsGetLine, IsPutLine, asks_of, complete_statuses, fault_statuses, is_one_of, plan_statuses}
+use Rattle.cfs_run.specs.Ends.{Answers, CausesAnswer, EndsAs, Holds, IsAnswerTo, IsUntouched, Leaves, LeavesInput, MaySay, PlanLeaves, SaysPart, Takes, TakesFor, IsGetLine, IsPutLine, asks_of, complete_statuses, fault_statuses, is_one_of, plan_statuses}
+use Rattle.cfs_run.specs.Leaves.{NoneRose}
 use Rattle.cfs_run.proofs.FormatEnds.{formatted_sound}
 
 -- a run: what was answered, and how that was said

@@ -1,19 +1,15 @@
 -- How a run ends, by what its words ask for.
 use Rattle.std.specs.Prelude.{◌≡◌, ◌⊎◌, ◌<◌, ◌≤◌, ⊤, ℕ, Bool, ◌==◌, List, [], ◌∷◌, ◌++◌, length, take, Some, IsTrue, Result, Ok, Err}
 use Rattle.std.specs.List.{list_any}
-use Rattle.sector_disk.specs.declared.sector.WeakRun.{WeakRun}
 use Rattle.sector_disk.specs.Image.{IsWorn, open_damage}
-use Rattle.sector_disk.specs.Machine.{Asked, Moment, Report, Rose}
+use Rattle.sector_disk.specs.Machine.{Asked, Moment, Report}
 use Rattle.volume_layout.specs.declared.layout.Layout.{Layout}
 use Rattle.volume_layout.specs.declared.fault.LayoutFault.{LayoutFault}
 use Rattle.volume_layout.specs.Layout.{plan}
 use Rattle.fsd_files.specs.Disk.{Image}
-use Rattle.fsd_files.specs.Files.{Change}
-use Rattle.fsd_files.specs.Volume.{Volume}
 use Rattle.fsd_files.specs.Answers.{entry_of}
 use Rattle.fsd_files.specs.Kept.{FirstDamaged, range_sectors}
 use Rattle.fsd_formats.specs.declared.entry.Entry.{Entry}
-use Rattle.fsd_sound.specs.Sound.{IsPrefixOf}
 use Rattle.fsd_volume.specs.Mount.{IsAccepted, MountRefused, table_on}
 use Rattle.cfs_run.specs.declared.line.Line.{Line}
 use Rattle.cfs_run.specs.declared.line.Line.TheVariants as Says
@@ -26,7 +22,7 @@ use Rattle.fsd_bytes.specs.declared.key.Key.{Key}
 use Rattle.cfs_run.specs.declared.input.TheConstants.{MOST_INPUT}
 use Rattle.mount_recover.specs.declared.fault.MountFault.{MountFault}
 use Rattle.mount_recover.specs.Lost.{AreCopiesOn, LostIn}
-use Rattle.cfs_run.specs.Leaves.{HasEpoch, IsLastEpoch, LeavesRun, Starts, get_turn}
+use Rattle.cfs_run.specs.Leaves.{IsLastEpoch, LeavesRun}
 use Rattle.cfs_run.specs.Mounting.{IfMount, IfMounts, IsMountFault, OpensDisk, fault_of, mount_asks}
 use Rattle.cfs_run.specs.Text.{fault_text, memory_text, text}
 use Rattle.cfs_run.specs.Answer.{CausesLine, answer_status, fault_status, status_of}
@@ -159,12 +155,6 @@ fault_statuses (Get key) = 4 ∷ 6 ∷ []
 abbrev pub is_one_of : List ℕ → ℕ → Bool
 is_one_of statuses status = list_any (λ s. s == status) statuses
 
--- No fault was counted.
-pub record NoneRose (old new : Report) : Type 0 where
-  pub disk : Rose old.disk_faults new.disk_faults → ⊥
-  pub input : Rose old.input_faults new.input_faults → ⊥
-  pub output : Rose old.output_faults new.output_faults → ⊥
-
 -- ---- what is said
 
 -- the line is said and its status given, or both are those of refused memory
@@ -194,26 +184,6 @@ pub record SaysPart (request : Request) (place : ℕ) (before after : List ℕ) 
   pub may : MaySay request place bytes ⊎ (bytes ≡ memory_text)
   pub heard : ℕ
   pub said : after ≡ before ++ take heard bytes
-
--- The bytes are those of a get's turn, over the volume that a mount of the image gives.
-pub record IsGetText (key : Key) (l : Layout) (windows : List WeakRun) (h : List Change) (f : ℕ) (i : Image) (bytes : List ℕ) : Type 0 where
-  pub count : ℕ
-  pub prefix : IsPrefixOf h f count
-  pub volume : Volume
-  pub starts : Starts l windows h count volume i
-  pub is : bytes ≡ (get_turn volume i key).said
-
--- Some first bytes of such a text are said, or of a fault of the disk at this place, or of refused memory.
-pub record GetSaysPart (key : Key) (place : ℕ) (l : Layout) (windows : List WeakRun) (h : List Change) (f : ℕ) (old new : Moment) : Type 0 where
-  pub bytes : List ℕ
-  pub may : IsGetText key l windows h f old.image bytes ⊎ ((bytes ≡ fault_text (Ends.Device place)) ⊎ (bytes ≡ memory_text))
-  pub heard : ℕ
-  pub said : new.said ≡ old.said ++ take heard bytes
-
--- so it is of every sound disk whose anchor has an epoch left, where nothing wears
-abbrev pub GetsPart : Request → (place : ℕ) → Moment → Moment → Type 0
-GetsPart (Get key) place old new = OpensDisk old new (λ l windows h f. HasEpoch old.image → GetSaysPart key place l windows h f old new)
-GetsPart request place old new = ⊤
 
 -- the statuses that come only once the volume is mounted
 abbrev pub mounted_statuses : List ℕ
@@ -303,8 +273,8 @@ pub record IsUntouched (old new : Moment) : Type 0 where
 -- ---- a run that mounts a sound disk
 
 -- so a run leaves every sound disk, where nothing wears
-abbrev pub RunLeaves : Request → (input : List ℕ) → (NoneFailed : Type 0) → (Only : (Moment → Type 0) → Type 0) → (old new : Moment) → (result : ℕ) → Type 0
-RunLeaves request input NoneFailed Only old new result = IfMounts request (OpensDisk old new (λ l windows h f. LeavesRun request input NoneFailed l windows h f Only old new result))
+abbrev pub RunLeaves : Request → (input : List ℕ) → (Only : (Moment → Type 0) → Type 0) → (before after : Report) → (old new : Moment) → (result : ℕ) → Type 0
+RunLeaves request input Only before after old new result = IfMounts request (OpensDisk old new (λ l windows h f. LeavesRun request input l windows h f Only before after old new result))
 
 -- it is refused for its last epoch alone
 abbrev pub RefusesLast : Request → (old new : Moment) → (result : ℕ) → Type 0

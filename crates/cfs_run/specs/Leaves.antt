@@ -7,7 +7,7 @@ use Rattle.sector_disk.specs.declared.sector.Sector.{Sector}
 use Rattle.sector_disk.specs.declared.sector.Sector.TheVariants.{Whole, Damaged}
 use Rattle.sector_disk.specs.declared.sector.WeakRun.{WeakRun}
 use Rattle.sector_disk.specs.Image.{sector_at}
-use Rattle.sector_disk.specs.Machine.{Moment}
+use Rattle.sector_disk.specs.Machine.{Moment, Report, Rose}
 use Rattle.fsd_bytes.specs.declared.key.Key.{Key}
 use Rattle.fsd_bytes.specs.declared.refusal.Refusal.TheVariants.{NoSuch}
 use Rattle.fsd_bytes.specs.Keys.{key_cmp}
@@ -168,6 +168,24 @@ pub record IsReplied (l : Layout) (windows : List WeakRun) (h : List Change) (n 
 abbrev pub IsRepliedOrMemory : Layout → List WeakRun → List Change → (n : ℕ) → Turn → (old new : Moment) → (result : ℕ) → Type 0
 IsRepliedOrMemory l windows h n turn old new result = IsReplied l windows h n turn old new result ⊎ ((result ≡ 7) × (new.said ≡ old.said ++ memory_text))
 
+-- the line of a fault of the disk, at this place, of memory, or of the input, of which a get takes none
+abbrev pub IsOutsideText : Request → (place : ℕ) → List ℕ → Type 0
+IsOutsideText (Get key) place bytes = (bytes ≡ fault_text (Ends.Device place)) ⊎ (bytes ≡ memory_text)
+IsOutsideText request place bytes = (bytes ≡ fault_text (Ends.Device place)) ⊎ ((bytes ≡ memory_text) ⊎ (bytes ≡ fault_text Ends.Input))
+
+-- Some first bytes of the turn's text are said, or of such a line.
+pub record SaysSome (request : Request) (place : ℕ) (turn : Turn) (old new : Moment) : Type 0 where
+  pub bytes : List ℕ
+  pub may : (bytes ≡ turn.said) ⊎ IsOutsideText request place bytes
+  pub heard : ℕ
+  pub said : new.said ≡ old.said ++ take heard bytes
+
+-- No fault was counted.
+pub record NoneRose (old new : Report) : Type 0 where
+  pub disk : Rose old.disk_faults new.disk_faults → ⊥
+  pub input : Rose old.input_faults new.input_faults → ⊥
+  pub output : Rose old.output_faults new.output_faults → ⊥
+
 -- the statuses of a turn
 abbrev pub is_turn_status : ℕ → Bool
 is_turn_status status = list_any (λ s. s == status) (0 ∷ 1 ∷ 8 ∷ [])
@@ -175,9 +193,9 @@ is_turn_status status = list_any (λ s. s == status) (0 ∷ 1 ∷ 8 ∷ [])
 -- ---- the whole run
 
 -- The run found the first n changes of the image's, every forced one among them, and began with the volume of these. Each
--- moment of it and its exit leave what is said above. A status of a turn is that of this volume's, which is said; where
--- nothing failed and the image has an epoch left, so it ends, or memory was refused.
-pub record LeavesRun (request : Request) (input : List ℕ) (NoneFailed : Type 0) (l : Layout) (windows : List WeakRun) (h : List Change) (f : ℕ) (Only : (Moment → Type 0) → Type 0) (old new : Moment) (result : ℕ) : Type 0 where
+-- moment of it and its exit leave what is said above. What it says is the volume's turn, whole where the status is one of a
+-- turn, or the line of a fault from outside. Where no fault was counted, it ends with the turn, or memory was refused.
+pub record LeavesRun (request : Request) (input : List ℕ) (l : Layout) (windows : List WeakRun) (h : List Change) (f : ℕ) (Only : (Moment → Type 0) → Type 0) (before after : Report) (old new : Moment) (result : ℕ) : Type 0 where
   pub count : ℕ
   pub prefix : IsPrefixOf h f count
   pub volume : Volume
@@ -185,4 +203,5 @@ pub record LeavesRun (request : Request) (input : List ℕ) (NoneFailed : Type 0
   pub moments : Only (Left l windows h f count (turn_of request volume old.image input) old)
   pub exit : Left l windows h f count (turn_of request volume old.image input) old new
   pub replied : IsTrue (is_turn_status result) → IsReplied l windows h count (turn_of request volume old.image input) old new result
-  pub answered : NoneFailed → HasEpoch old.image → IsRepliedOrMemory l windows h count (turn_of request volume old.image input) old new result
+  pub says : HasEpoch old.image → SaysSome request after.fault_place (turn_of request volume old.image input) old new
+  pub answered : NoneRose before after → HasEpoch old.image → IsRepliedOrMemory l windows h count (turn_of request volume old.image input) old new result

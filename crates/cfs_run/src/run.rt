@@ -10,7 +10,8 @@ ghost use Rattle.cfs_run.specs.Text.{fault_text};
 ghost use Rattle.cfs_run.specs.declared.input.TheConstants.{MOST_INPUT};
 ghost use Rattle.cfs_run.specs.Words.{path_of, request_of};
 ghost use Rattle.cfs_run.specs.Input.{UsesCounts};
-ghost use Rattle.cfs_run.specs.Ends.{Answers, AsksAtMost, AsksFor, CausesAnswer, DamagedAnswer, DamagedFor, GetsPart, Holds, IfMountAnswer, IsAnswerTo, IsUntouched, Leaves, LeavesInput, NoneRose, NotMounted, RefusesLast, RunLeaves, SaysPart, Takes, TellsLost, WhereMounted, asks_of, complete_statuses, fault_statuses, is_one_of, mounted_statuses};
+ghost use Rattle.cfs_run.specs.Ends.{Answers, AsksAtMost, AsksFor, CausesAnswer, DamagedAnswer, DamagedFor, Holds, IfMountAnswer, IsAnswerTo, IsUntouched, Leaves, LeavesInput, NotMounted, RefusesLast, RunLeaves, SaysPart, Takes, TellsLost, WhereMounted, asks_of, complete_statuses, fault_statuses, is_one_of, mounted_statuses};
+ghost use Rattle.cfs_run.specs.Leaves.{NoneRose};
 ghost use Rattle.cfs_run.specs.Mounting.{IfMounts};
 ghost use Rattle.cfs_run.specs.Working.{Carried};
 
@@ -55,8 +56,6 @@ pub fn run_cfs<M: Machine>(alloc: Global, words: &[String], m: &mut M) -> u8
 
     // What is said: some first bytes of one of the texts that the words allow, all of them but at status 6.
     ensures said { M.honest m.new → SaysPart (request_of (map string_bytes words.now)) (M.report m.new).fault_place (M.now m.old).said (M.now m.new).said }
-    // Of a get: where nothing wears, some first bytes of what a sound disk has of the version, unless the disk or memory fails.
-    ensures gives { M.honest m.new → GetsPart (request_of (map string_bytes words.now)) (M.report m.new).fault_place (M.now m.old) (M.now m.new) }
     ensures fault_said { result ≡ 4 → M.honest m.new → (M.now m.new).said ≡ (M.now m.old).said ++ fault_text (Ends.Device (M.report m.new).fault_place) }
     ensures answers { M.honest m.new → NoneRose (M.report m.old) (M.report m.new)
         → Answers (request_of (map string_bytes words.now)) (M.now m.old) (M.now m.new) result }
@@ -65,8 +64,8 @@ pub fn run_cfs<M: Machine>(alloc: Global, words: &[String], m: &mut M) -> u8
     // volume that they give. A stop at any moment, also of the mount, leaves a disk that tells the changes of before in order, at
     // least the forced ones, and the turn's own, which are forced once its text is said. So does the end. A turn's status says
     // that its text was said whole; where nothing fails and an epoch is left, so it ends, or memory was refused.
-    ensures leaves { M.honest m.new → RunLeaves (request_of (map string_bytes words.now)) (M.ledger m.old).input (NoneRose (M.report m.old) (M.report m.new))
-        (LeavesOnly M.moment M.left_since m.old m.new) (M.now m.old) (M.now m.new) result }
+    ensures leaves { M.honest m.new → RunLeaves (request_of (map string_bytes words.now)) (M.ledger m.old).input
+        (LeavesOnly M.moment M.left_since m.old m.new) (M.report m.old) (M.report m.new) (M.now m.old) (M.now m.new) result }
     ensures safe { (result ≡ 3) ⊎ (result ≡ 9) → M.honest m.new → RefusesLast (request_of (map string_bytes words.now)) (M.now m.old) (M.now m.new) result }
 
     // What the image holds.

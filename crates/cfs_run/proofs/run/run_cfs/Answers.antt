@@ -1,6 +1,6 @@
 use Rattle.std.proofs.Common.{Global, ℕ, arith, map, refl, subst, sym}
 use Rattle.std.specs.String.{string_bytes}
-use Rattle.sector_disk.specs.Machine.{Ledger, Rose}
+use Rattle.sector_disk.specs.Machine.{Ledger}
 use Rattle.sector_disk.proofs.Calm.{same_calm}
 use Rattle.mount_recover.specs.Lost.{AreCopiesOn, LostIn}
 use Rattle.fsd_volume.specs.Mount.{IsMountable, MountRefused}
@@ -8,7 +8,7 @@ use Rattle.cfs_run.specs.Words.{request_of}
 use Rattle.cfs_run.specs.Ends.{DamagedAnswer, IfMountAnswer, LeavesInput, WhereMounted}
 use Rattle.cfs_run.specs.Mounting.{IfMounts}
 use Rattle.cfs_run.proofs.DamageEnds.{run_damaged}
-use Rattle.cfs_run.proofs.EndLaws.{gets_part, leaves_run, none_outside, refuses_run}
+use Rattle.cfs_run.proofs.EndLaws.{fails_in_parts, leaves_run, refuses_run}
 use Rattle.cfs_run.proofs.MountEnds.{tells_for, tells_lost, other, run_mounted, unlike}
 use Rattle.cfs_run.proofs.RunLaws.{Ran, said_untouched, run_input, run_takes, run_answers, run_completes, run_fault_said, run_holds, run_said, run_says, run_status, run_untouched}
 use Rattle.cfs_run.proofs.run.run_cfs.Goals as goal
@@ -84,19 +84,6 @@ returns-clause-said g c =
       quiet = λ h. c.carry_out-answer.ensures.quiet (c.finish.ensures.trust.honest h);
       leaves = λ h. c.carry_out-answer.ensures.leaves (c.finish.ensures.trust.honest h);
     })
-
-pub returns-clause-gives : goal.returns-clause-gives
-returns-clause-gives g c h =
-    let M = g.M.Machine in
-    let h1 = c.finish.ensures.trust.honest h in
-    let at = M.now c.args.m.now in
-    let between = M.now c.carry_out-answer.new.m in
-    let after = M.now c.finish.new.m in
-    let windows = (said_untouched (M.honest c.finish.new.m) _ _ _ _ _ _ _ h c.finish.ensures.said).windows in
-    let request = request_of (map (string_bytes {Z = Global}) c.args.words.now) in
-    let input = (M.ledger c.args.m.now).input in
-    gets_part M.moment M.left_since request input c.args.m.now c.carry_out-answer.new.m at between after c.carry_out-answer.result (c.carry_out-answer.ensures.carries h1) (c.carry_out-answer.ensures.quiet h1) windows h
-    (M.report c.args.m.now) (M.report c.carry_out-answer.new.m) (M.report c.finish.new.m) c.finish.result c.finish.ensures.said c.carry_out-answer.ensures.cause c.carry_out-answer.ensures.answer c.finish.ensures.uses.place
 
 pub returns-clause-fault_said : goal.returns-clause-fault_said
 returns-clause-fault_said g c =
@@ -233,8 +220,8 @@ returns-clause-leaves g c h =
     let request = request_of (map (string_bytes {Z = Global}) c.args.words.now) in
     let input = (M.ledger c.args.m.now).input in
     leaves_run M.moment M.left_since request input c.args.m.now c.carry_out-answer.new.m at between after c.carry_out-answer.result (c.carry_out-answer.ensures.carries h1) (c.carry_out-answer.ensures.quiet h1) windows h c.finish.new.m
-    (M.report c.args.m.now) (M.report c.carry_out-answer.new.m) (M.report c.finish.new.m) c.finish.result c.finish.ensures.said (c.finish.ensures.any_moment h) c.carry_out-answer.ensures.cause
-    (none_outside (M.report c.args.m.now) (M.report c.carry_out-answer.new.m) (M.report c.finish.new.m) c.carry_out-answer.ensures.uses c.finish.ensures.uses)
+    (M.report c.args.m.now) (M.report c.carry_out-answer.new.m) (M.report c.finish.new.m) c.finish.result c.finish.ensures.said (c.finish.ensures.any_moment h)
+    c.carry_out-answer.ensures.answer c.carry_out-answer.ensures.cause (fails_in_parts (M.report c.args.m.now) (M.report c.carry_out-answer.new.m) (M.report c.finish.new.m) c.carry_out-answer.ensures.uses c.finish.ensures.uses)
 
 pub returns-clause-safe : goal.returns-clause-safe
 returns-clause-safe g c which h =
