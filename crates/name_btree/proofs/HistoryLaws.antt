@@ -1,6 +1,5 @@
 -- The table under a list of changes.
-use Rattle.std.proofs.Common.{◌≡◌, ℕ, ◌<◌, not, Bool, List, [], ◌∷◌, length, map, refl, sym, ap, subst, ◌∙◌, length-set}
-use Rattle.std.specs.Prelude.{slice_set}
+use Rattle.std.proofs.Common.{◌≡◌, ℕ, ◌<◌, not, Bool, List, [], ◌∷◌, length, map, sym, ap, subst, ◌∙◌, length-set}
 use Rattle.run_table.specs.Space.{contains}
 use Rattle.fsd_formats.specs.declared.entry.Entry.{Entry}
 use Rattle.fsd_table.specs.Tree.{table_of, pages_of, IsTree}

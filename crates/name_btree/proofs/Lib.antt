@@ -32,6 +32,7 @@ pub mod RemoveLaws
 mod ReplaceLaws
 pub mod ResultLaws
 pub mod RootLaws
+mod SearchLaws
 mod SetLaws
 mod SpareLaws
 mod StepLaws

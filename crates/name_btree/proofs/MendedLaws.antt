@@ -30,7 +30,7 @@ use Rattle.name_btree.specs.Fault.{HasCause}
 use Rattle.fsd_bytes.specs.declared.refusal.Refusal.{Refusal}
 use Rattle.name_node.specs.declared.cut.Cut.TheVariants.{UpTo}
 use Rattle.name_node.specs.Cut.{is_before}
-use Rattle.name_btree.specs.Remove.{IsAround, IsTrimmed, IsTrimmedBelow, BreaksBelow}
+use Rattle.name_btree.specs.Remove.{IsAround, IsTrimmed, IsTrimmedBelow, BreaksAround}
 use Rattle.name_btree.specs.Trim.{IsPair, IsOpened, IsLeft, AreFewEntries, AreFewWays, pair_fits, entries_at, ways_at, first_at, LeafIsMended, WayIsMended, IsMended}
 use Rattle.name_btree.proofs.AroundLaws.{raised, pair_stands, child_around, up_to, past}
 use Rattle.name_btree.proofs.LeafTreeLaws.{leaves_joined, leaves_shared, are_apart, pair_stays, stays_above, below_counts}
@@ -279,11 +279,11 @@ trimmed_above step images0 images1 same3 same1 key draft mid new levels above fi
 pub breaks_above : (given : Option Refusal) (images0 images1 : List (List ℕ)) → images1 ≡ images0 → (key : Key) (draft : Draft) (levels : ℕ) (above : Child) (first : ℕ) (xs : List Separator) (i : ℕ) (child : Child) (fault : TreeFault)
     → page_at (drafted draft.sheets.items images0) above.page ≡ Some (grammar.Interior first xs) → i ≤ length xs
     → AllByRecursion (λ s. is_before (UpTo key) s.key ≡ true) (take i xs) → AllByRecursion (λ s. is_before (UpTo key) s.key ≡ false) (drop i xs) → slice_get (children first above.low above.high xs) i ≡ Some child
-    → HasCause given (BreaksBelow key (drafted draft.sheets.items images1) (levels - 1) child) fault → HasCause given (BreaksBelow key (drafted draft.sheets.items images0) levels above) fault
+    → HasCause given (BreaksAround key (drafted draft.sheets.items images1) (levels - 1) child) fault → HasCause given (BreaksAround key (drafted draft.sheets.items images0) levels above) fault
 breaks_above given images0 images1 same key draft levels above first xs i child (Pages refusal) at within before behind child_is h = h
 breaks_above given images0 images1 same key draft levels above first xs i child (Broken page) at within before behind child_is h = by
   where
-    by : BreaksBelow key (drafted draft.sheets.items images0) levels above page
+    by : BreaksAround key (drafted draft.sheets.items images0) levels above page
     by zero most around = subst (IsLeaf above) at around.subtree
     by (suc l) most around =
         let inner_around = child_around key (drafted draft.sheets.items images0) l above first xs i child around at within (up_to key (take i xs) before) (past key (drop i xs) behind) child_is in

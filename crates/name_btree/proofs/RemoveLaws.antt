@@ -27,13 +27,13 @@ use Rattle.name_btree.specs.declared.trimming.Trimmed.{Trimmed}
 use Rattle.name_btree.specs.declared.trimming.Trimmed.TheVariants.{Whole, Leaf, Interior}
 use Rattle.name_btree.specs.Draft.{drafted, IsDrafted}
 use Rattle.name_btree.specs.Fault.{HasCause, IsMisfit}
-use Rattle.name_btree.specs.Remove.{IsAround, IsTrimmed, BreaksBelow}
+use Rattle.name_btree.specs.Remove.{IsAround, IsTrimmed, BreaksAround}
 use Rattle.name_btree.specs.Trim.{used_by, AreEntries, IsLeafPut, IsLeft}
 use Rattle.name_btree.proofs.DescentLaws.{misfit}
 
 -- ---- faults
 
-pub misfit_below : (given : Option Refusal) (key : Key) (pages : List (List ℕ)) (levels : ℕ) (c : Child) (fault : TreeFault) → HasCause given (IsMisfit pages c) fault → HasCause given (BreaksBelow key pages levels c) fault
+pub misfit_below : (given : Option Refusal) (key : Key) (pages : List (List ℕ)) (levels : ℕ) (c : Child) (fault : TreeFault) → HasCause given (IsMisfit pages c) fault → HasCause given (BreaksAround key pages levels c) fault
 misfit_below given key pages levels c (Pages refusal) h = h
 misfit_below given key pages levels c (Broken page) h = λ level most around. misfit level pages c h.1 around.subtree
 

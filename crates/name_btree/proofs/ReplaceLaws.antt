@@ -1,16 +1,15 @@
 -- A leaf in which an entry is replaced, and the tree that it stands in.
-use Rattle.std.proofs.Common.{◌≡◌, inl, ℕ, ◌+◌, ◌*◌, ◌≤◌, true, ◌&&◌, List, [], ◌∷◌, length, map, Option, Some, ap, ◌∙◌, arith, length-append}
+use Rattle.std.proofs.Common.{◌≡◌, ℕ, ◌+◌, ◌*◌, ◌≤◌, true, ◌&&◌, List, [], ◌∷◌, length, map, Some, ap, ◌∙◌, arith, length-append}
 use Rattle.std.specs.Prelude.{◌==◌, nat_le}
 use Rattle.std.specs.List.{flat_map, list_all}
 use Rattle.std.proofs.lemmas.Bool.{and_parts, and_from}
 use Rattle.run_table.specs.RunTable.{are_runs, total, max_runs}
 use Rattle.fsd_bytes.specs.Keys.{is_key}
 use Rattle.fsd_bytes.specs.Names.{is_between, is_name, is_name_byte, max_name_len}
-use Rattle.fsd_bytes.specs.declared.refusal.Refusal.{Refusal}
 use Rattle.fsd_formats.specs.declared.entry.Entry.{Entry}
 use Rattle.fsd_formats.specs.NamePage.{Leaf, is_page, is_entry, entry_bytes, are_ascending, room, least_used, max_keep, max_length, sectors_for}
 use Rattle.fsd_table.specs.Pages.{page_at, entry_keys}
-use Rattle.fsd_table.specs.Table.{top, BreaksTable}
+use Rattle.fsd_table.specs.Table.{top}
 use Rattle.fsd_table.specs.Tree.{IsTree, table_of}
 use Rattle.fsd_table.proofs.PageLaws.{at_is_page}
 use Rattle.name_page.proofs.LeafLaws.{between}
@@ -20,10 +19,7 @@ use Rattle.name_btree.specs.declared.descent.Found.{Found}
 use Rattle.name_node.specs.Cut.{is_before}
 use Rattle.name_btree.specs.Descent.{IsPlace}
 use Rattle.name_node.specs.Edits.{put}
-use Rattle.name_btree.specs.declared.fault.TreeFault.{TreeFault}
-use Rattle.name_btree.specs.declared.fault.TreeFault.TheVariants.{Pages, Broken}
-use Rattle.name_btree.specs.Fault.{HasCause}
-use Rattle.name_btree.specs.Replace.{HasAsLong, BreaksOrLacks}
+use Rattle.name_btree.specs.Replace.{HasAsLong}
 use Rattle.name_btree.proofs.FindLaws.{entry_found}
 use Rattle.name_node.proofs.PutLaws.{put_keys, put_all, put_size}
 
@@ -84,7 +80,3 @@ pub not_in_tree : (pages : List (List ℕ)) (e : Entry) (found : Found) → IsPl
 not_in_tree pages e found place none present height t =
     let long = present height t in
     none (long.0, entry_found e.key pages found place height t ∙ long.1, long.2)
-
-pub breaks_first : (given : Option Refusal) (fault : TreeFault) (pages : List (List ℕ)) (e : Entry) → HasCause given (BreaksTable pages) fault → HasCause given (BreaksOrLacks pages e) fault
-breaks_first given (Pages refusal) pages e h = h
-breaks_first given (Broken page) pages e h = inl h

@@ -21,7 +21,7 @@ use Rattle.name_node.proofs.ListLaws.{children_count}
 use Rattle.name_btree.specs.declared.trimming.Pair.{Pair}
 use Rattle.name_btree.specs.declared.trimming.Trimmed.{Trimmed}
 use Rattle.name_btree.specs.declared.trimming.Trimmed.TheVariants.{Whole, Leaf, Interior}
-use Rattle.name_btree.specs.Remove.{IsAround, IsTrimmed, IsTrimmedBelow, BreaksBelow}
+use Rattle.name_btree.specs.Remove.{IsAround, IsTrimmed, IsTrimmedBelow, BreaksAround}
 use Rattle.name_btree.specs.declared.draft.Draft.{Draft}
 use Rattle.name_btree.specs.Draft.{drafted}
 use Rattle.name_node.specs.declared.cut.Cut.TheVariants.{UpTo}
@@ -197,7 +197,7 @@ pub unlike_above : (images0 images1 images2 : List (List ℕ)) → images1 ≡ i
     → page_at (drafted draft.sheets.items images0) above.page ≡ Some (grammar.Interior first xs) → IsOpened p above first xs → i ≤ length xs
     → AllByRecursion (λ s. is_before (UpTo key) s.key ≡ true) (take i xs) → AllByRecursion (λ s. is_before (UpTo key) s.key ≡ false) (drop i xs) → slice_get (children first above.low above.high xs) i ≡ Some child
     → IsTrimmedBelow key (drafted draft.sheets.items images1) (drafted mid.sheets.items images1) draft.freed.items mid.freed.items (levels - 1) child below
-    → (page : ℕ) → IsUnlike (drafted mid.sheets.items images2) above first xs i child below page → BreaksBelow key (drafted draft.sheets.items images0) levels above page
+    → (page : ℕ) → IsUnlike (drafted mid.sheets.items images2) above first xs i child below page → BreaksAround key (drafted draft.sheets.items images0) levels above page
 unlike_above images0 images1 images2 same1 same2 key draft mid levels p above first xs i child below at o within before behind child_is t page u zero most around = subst (IsLeaf above) at around.subtree
 unlike_above images0 images1 images2 same1 same2 key draft mid levels p above first xs i child below at o within before behind child_is t page u (suc l) most around =
     let ends = up_to key (take i xs) before in

@@ -1,10 +1,10 @@
 -- Why a call of the table fails.
-use Rattle.std.specs.Prelude.{◌≡◌, ℕ, ◌+◌, ◌<◌, ◌⊎◌, false, List, Option, Some}
+use Rattle.std.specs.Prelude.{◌≡◌, ℕ, ◌+◌, ◌⊎◌, false, List, Option, Some}
 use Rattle.fsd_bytes.specs.declared.refusal.Refusal.{Refusal}
 use Rattle.fsd_table.specs.declared.child.Child.{Child}
 use Rattle.fsd_table.specs.Pages.{page_at, content_fits}
-use Rattle.fsd_table.specs.Table.{max_height, IsVisited, BreaksTable}
-use Rattle.fsd_table.specs.Tree.{IsSubtree, IsTree}
+use Rattle.fsd_table.specs.Table.{IsVisited, BreaksTable}
+use Rattle.fsd_table.specs.Tree.{IsTree}
 use Rattle.name_page.specs.Pages.{IsReachRefusal, IsSpareRefusal}
 use Rattle.name_btree.specs.Descent.{IsNeighbour}
 use Rattle.name_btree.specs.declared.descent.Neighbour.{Neighbour}
@@ -29,13 +29,13 @@ Never page = ⊥
 abbrev pub IsMisfit : List (List ℕ) → Child → ℕ → Type 0
 IsMisfit pages c page = (page ≡ c.page) × (content_fits c.low c.high (page_at pages c.page) ≡ false)
 
--- the child leads to no subtree
-abbrev pub BreaksSubtree : List (List ℕ) → Child → ℕ → Type 0
-BreaksSubtree pages c page = (level : ℕ) → level < max_height → IsSubtree level pages c → ⊥
-
 -- the pages are no tree
+abbrev pub IsNoTree : List (List ℕ) → Type 0
+IsNoTree pages = (height : ℕ) → IsTree pages height → ⊥
+
+-- so they are, whichever page was met
 abbrev pub BreaksTree : List (List ℕ) → ℕ → Type 0
-BreaksTree pages page = (height : ℕ) → IsTree pages height → ⊥
+BreaksTree pages page = IsNoTree pages
 
 -- where a path reaches the child below so many pages, this page breaks the table
 abbrev pub BreaksBelow : List (List ℕ) → (above : ℕ) → Child → ℕ → Type 0

@@ -41,8 +41,8 @@ abbrev pub IsTrimmedBelow : Key → (pages after : List (List ℕ)) → (old new
 IsTrimmedBelow key pages after old new levels c left = (level : ℕ) → level ≤ levels → IsAround key pages level c → IsTrimmed key pages after old new level c left
 
 -- there is none
-abbrev pub BreaksBelow : Key → List (List ℕ) → ℕ → Child → ℕ → Type 0
-BreaksBelow key pages levels c page = (level : ℕ) → level ≤ levels → IsAround key pages level c → ⊥
+abbrev pub BreaksAround : Key → List (List ℕ) → ℕ → Child → ℕ → Type 0
+BreaksAround key pages levels c page = (level : ℕ) → level ≤ levels → IsAround key pages level c → ⊥
 
 -- of page 0 no leaf is left, and no separator
 abbrev pub IsRootLeft : ℕ → Trimmed → Type 0

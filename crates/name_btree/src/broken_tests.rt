@@ -6,7 +6,7 @@ ghost use Rattle.name_node.specs.Lookups.{entry_with};
 ghost use Rattle.name_page.specs.Pages.{reaches};
 
 use crate::tests::{entry, key, leaf, separator};
-use crate::{TreeFault, find, insert, remove};
+use crate::{TreeFault, find, insert, remove, replace_same_size};
 use arrayvec::ArrayVec;
 use fsd_bytes::{Key, Refusal};
 use name_page::{Entry, Pages, VecPages, write_interior};
@@ -54,26 +54,42 @@ fn may_put(t: &mut VecPages, key: &Key) -> Result<bool, TreeFault>
     }
 }
 
-// Puts an entry in and takes another out, if it may.
-fn put(t: &mut VecPages, entry: &Entry, gone: Key) -> Result<(), TreeFault>
+// Puts an entry in and takes others out, if it may.
+fn put(t: &mut VecPages, entry: &Entry, gone: &ArrayVec<Key, 2>) -> Result<(), TreeFault>
     requires entry { is_entry entry.now ≡ true }
     requires fits { FitsEntry entry.now }
 {
-    let mut keys = ArrayVec::new();
-    keys.push(gone);
     t.rest();
     if !may_put(t, &entry.key)? {
         return Ok(());
     }
     t.rest();
-    insert(t, entry, &keys)
+    insert(t, entry, gone)
 }
 
+// Puts an entry in place of another, where the look-up of its key meets a page that breaks the table.
+fn replace(t: &mut VecPages, entry: &Entry) -> Result<(), TreeFault>
+    requires entry { is_entry entry.now ≡ true }
+    requires fits { FitsEntry entry.now }
+{
+    t.rest();
+    match find(t, &entry.key) {
+        Ok(_) => Ok(()),
+        Err(TreeFault::Broken(_)) => {
+            t.rest();
+            replace_same_size(t, entry)
+        }
+        Err(fault) => Err(fault),
+    }
+}
+
+// A child that is page 0 again; two leaves in each other's place, of which a walk meets page 2 first; a child past the table's
+// end; and an interior page beside a leaf.
 #[test]
 fn broken_tables_are_not_changed(rt: HostRuntime) -> Result<(), Fail> {
     for (left, right, last, version, fault) in [
         (1, 0, b'q', 3, TreeFault::Broken(0)),
-        (2, 1, b'q', 3, TreeFault::Broken(1)),
+        (2, 1, b'q', 3, TreeFault::Broken(2)),
         (1, 16, b'q', 3, TreeFault::Pages(Refusal::Unsound(100))),
         (1, 3, b'a', 1, TreeFault::Broken(3)),
     ] {
@@ -84,10 +100,29 @@ fn broken_tables_are_not_changed(rt: HostRuntime) -> Result<(), Fail> {
         t.rest();
         assert_eq!(rt; format!(in rt.alloc(); "{t:?}")?, before);
         if let Some(entry) = entry(key(last, 9), 2) {
-            assert_eq!(rt; put(&mut t, &entry, key(last, version)), Err(fault));
+            let mut gone = ArrayVec::new();
+            gone.push(key(last, version));
+            assert_eq!(rt; put(&mut t, &entry, &gone), Err(fault));
         }
         t.rest();
         assert_eq!(rt; format!(in rt.alloc(); "{t:?}")?, before);
+    }
+    Ok(())
+}
+
+// Of the interior page beside a leaf nothing is seen where an entry only comes or is replaced.
+#[test]
+fn the_page_that_breaks_the_table_is_named(rt: HostRuntime) -> Result<(), Fail> {
+    for (left, right, fault) in [
+        (1, 0, TreeFault::Broken(0)),
+        (2, 1, TreeFault::Broken(2)),
+        (1, 16, TreeFault::Pages(Refusal::Unsound(100))),
+    ] {
+        let mut t = table(rt.alloc(), left, right)?;
+        if let Some(entry) = entry(key(b'q', 3), 2) {
+            assert_eq!(rt; put(&mut t, &entry, &ArrayVec::new()), Err(fault));
+            assert_eq!(rt; replace(&mut t, &entry), Err(fault));
+        }
     }
     Ok(())
 }

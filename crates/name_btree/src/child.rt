@@ -2,7 +2,7 @@
 ghost use Rattle.std.specs.Prelude.{◌≡◌, ◌+◌, ◌<◌, ◌≤◌, ℕ, IfOk, IfErr, OnOk, Some, length, false, true};
 ghost use Rattle.fsd_table.specs.Pages.{page_at, content_fits};
 ghost use Rattle.name_node.specs.Node.{content_of};
-ghost use Rattle.name_btree.specs.Still.{IsStill};
+ghost use Rattle.name_btree.specs.Still.{IsStill, HasRefusal};
 ghost use Rattle.name_btree.specs.Fault.{HasCause, IsMisfit, Never};
 ghost use Rattle.name_page.specs.Pages.{reaches, is_spare, IsReached};
 
@@ -25,6 +25,7 @@ pub(crate) fn node_at<T: Pages>(t: &mut T, page: u32) -> Result<Node, TreeFault>
     ensures used { OnOk result (is_spare (T.step t.old).spares page ≡ false) }
     ensures node { IfOk result (λ node. page_at (T.step t.old).images page ≡ Some (content_of node)) }
     ensures fault { IfErr result (HasCause (T.step t.new).refusal Never) }
+    ensures refused { IfErr result (HasRefusal (T.step t.old) (T.step t.new)) }
 {
     match t.reach(page) {
         Ok(()) => Ok(node_in(t.look(page))),
@@ -45,6 +46,7 @@ pub(crate) fn child_node<T: Pages>(t: &mut T, child: &Child) -> Result<Node, Tre
     ensures node { IfOk result (λ node. page_at (T.step t.old).images child.now.page ≡ Some (content_of node)) }
     ensures fits { IfOk result (λ node. content_fits child.now.low child.now.high (Some (content_of node)) ≡ true) }
     ensures fault { IfErr result (HasCause (T.step t.new).refusal (IsMisfit (T.step t.old).images child.now)) }
+    ensures refused { IfErr result (HasRefusal (T.step t.old) (T.step t.new)) }
 {
     if child.page >= t.count() {
         return Err(TreeFault::Broken(child.page));

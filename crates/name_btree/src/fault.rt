@@ -8,7 +8,7 @@ pub enum TreeFault {
     /// The pages refused one.
     #[error("{0}")]
     Pages(Refusal),
-    /// This page breaks the order or the shape of the table, or lacks the entry that was to be replaced.
+    /// This page breaks the order or the shape of the table.
     #[error("name page {0} breaks the table")]
     Broken(u32),
 }

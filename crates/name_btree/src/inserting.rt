@@ -5,12 +5,13 @@ ghost use Rattle.fsd_formats.specs.NamePage.{Leaf, Interior, is_page, is_entry, 
 ghost use Rattle.fsd_forest.specs.Parts.{is_inside};
 ghost use Rattle.fsd_forest.specs.Ways.{child_between};
 ghost use Rattle.fsd_table.specs.Pages.{page_at, keys_fit, entry_keys};
+ghost use Rattle.fsd_table.specs.Table.{BreaksTable};
 ghost use Rattle.fsd_table.specs.Tree.{IsTree, table_of};
 ghost use Rattle.name_btree.specs.Draft.{drafted, AreSheets, IsDraft, images_of};
 ghost use Rattle.name_btree.specs.Fault.{HasCause, HasSpareCause, BreaksTree};
 ghost use Rattle.name_btree.specs.Grown.{most_parted, most_taken, IsGrown, IsAboveGrown, IsSound, IsDivided, Grows, Inserts, BreaksGrowth, BreaksNew};
 ghost use Rattle.name_btree.specs.Map.{IsTable, HasTable, LeavesTree, without_all};
-ghost use Rattle.name_btree.specs.Still.{IsStill};
+ghost use Rattle.name_btree.specs.Still.{IsStill, LeavesStep};
 ghost use Rattle.name_node.specs.Edits.{with_entry};
 ghost use Rattle.name_node.specs.Lookups.{entry_with};
 ghost use Rattle.name_page.specs.Pages.{reaches, changes, free_count, is_spare, IsReached};
@@ -20,6 +21,7 @@ use crate::fault::TreeFault;
 use crate::growing::{Grown, grow_leaf, grow_ways};
 use crate::lookup::{entry_in, top};
 use crate::removing::remove_in;
+use crate::searching::fault_of;
 use crate::walking::child_at;
 use arrayvec::ArrayVec;
 use fsd_bytes::Key;
@@ -28,7 +30,8 @@ use fsd_table::Child;
 use name_node::{Cut, Entries, Node, Ways, entries_with, ways_before, ways_with};
 use name_page::Pages;
 
-/// Puts an entry in, whose key no entry has, and takes those with two keys at most out. It takes 7 pages at most.
+/// Puts an entry in, whose key no entry has, and takes those with two keys at most out. It takes 7 pages at most. Where it
+/// answers Broken it has walked all pages up to that one, and the step has ended.
 pub fn insert<T: Pages>(t: &mut T, entry: &Entry, gone: &ArrayVec<Key, 2>) -> Result<(), TreeFault>
     requires more { 80 ≤ reaches (T.step t.old) }
     requires changes { 40 ≤ changes (T.step t.old) }
@@ -40,19 +43,23 @@ pub fn insert<T: Pages>(t: &mut T, entry: &Entry, gone: &ArrayVec<Key, 2>) -> Re
     ensures step { (T.step t.new).most_reached ≡ (T.step t.old).most_reached }
     ensures most { (T.step t.new).most_changed ≡ (T.step t.old).most_changed }
     ensures reaches { reaches (T.step t.old) ≤ reaches (T.step t.new) + 30 }
-    ensures changed { OnErr result ((T.step t.new).changed ≡ (T.step t.old).changed) }
+    ensures left { IfErr result (LeavesStep (T.step t.old) (T.step t.new)) }
     ensures changes { changes (T.step t.old) ≤ changes (T.step t.new) + 36 }
     ensures taken { free_count (T.step t.old) ≤ free_count (T.step t.new) + 7 }
     ensures inserted { OnOk result ((height : ℕ) → IsTable (T.step t.old) height → HasTable (T.step t.new) (with_entry entry.now (without_all gone.now.items (table_of (T.step t.old).images height)))) }
     ensures full { let free = free_count (T.step t.old) in (result ≡ Err (TreeFault.Pages (NameTableFull free))) ↔ (free < 8) }
-    ensures fault { IfErr result (HasSpareCause (T.step t.new).refusal (free_count (T.step t.old)) (BreaksTree (T.step t.old).images)) }
+    ensures fault { IfErr result (HasSpareCause (T.step t.new).refusal (free_count (T.step t.old)) (BreaksTable (T.step t.old).images)) }
 {
     if let Err(refusal) = t.spare(8) {
         return Err(TreeFault::Pages(refusal));
     }
     let mut draft = Draft::new();
-    remove_all(t, &mut draft, gone.as_slice())?;
-    insert_in(t, &mut draft, entry)?;
+    if let Err(fault) = remove_all(t, &mut draft, gone.as_slice()) {
+        return Err(fault_of(t, fault));
+    }
+    if let Err(fault) = insert_in(t, &mut draft, entry) {
+        return Err(fault_of(t, fault));
+    }
     draft.commit(t);
     Ok(())
 }

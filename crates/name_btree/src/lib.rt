@@ -16,6 +16,7 @@ mod laws;
 mod lookup;
 mod removing;
 mod replacing;
+mod searching;
 mod trimming;
 mod walking;
 mod writing;

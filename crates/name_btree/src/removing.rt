@@ -1,11 +1,12 @@
 //! Taking entries out.
 ghost use Rattle.std.specs.Prelude.{◌≡◌, ◌+◌, ◌*◌, ◌≤◌, ℕ, OnOk, OnErr, IfOk, IfErr, length, true};
+ghost use Rattle.fsd_table.specs.Table.{BreaksTable};
 ghost use Rattle.fsd_table.specs.Tree.{table_of};
 ghost use Rattle.name_btree.specs.Draft.{IsDraft, RemovesFrom, images_of};
 ghost use Rattle.name_btree.specs.Fault.{HasCause, BreaksTree};
 ghost use Rattle.name_btree.specs.Map.{IsTable, HasTable};
-ghost use Rattle.name_btree.specs.Remove.{IsTrimmedBelow, BreaksBelow, IsRootLeft};
-ghost use Rattle.name_btree.specs.Still.{IsStill};
+ghost use Rattle.name_btree.specs.Remove.{IsTrimmedBelow, BreaksAround, IsRootLeft};
+ghost use Rattle.name_btree.specs.Still.{IsStill, LeavesStep};
 ghost use Rattle.name_btree.specs.Trim.{MayHave, IsLeft, sheets_below};
 ghost use Rattle.name_node.specs.Edits.{without};
 ghost use Rattle.name_page.specs.Pages.{reaches, changes, is_spare, IsReached};
@@ -13,6 +14,7 @@ ghost use Rattle.name_page.specs.Pages.{reaches, changes, is_spare, IsReached};
 use crate::draft::Draft;
 use crate::fault::TreeFault;
 use crate::lookup::top;
+use crate::searching::fault_of;
 use crate::trimming::{Trimmed, take_over, trim_above, trim_leaf};
 use crate::walking::child_at;
 use fsd_bytes::Key;
@@ -20,7 +22,8 @@ use fsd_table::Child;
 use name_node::{Cut, Node, entries_without, ways_before};
 use name_page::Pages;
 
-/// Takes the entry with a key out. Where no entry has the key, the table stays. It takes no page.
+/// Takes the entry with a key out. Where no entry has the key, the table stays. It takes no page. Where it answers Broken it
+/// has walked all pages up to that one, and the step has ended.
 pub fn remove<T: Pages>(t: &mut T, key: &Key) -> Result<(), TreeFault>
     requires more { 80 ≤ reaches (T.step t.old) }
     requires changes { 40 ≤ changes (T.step t.old) }
@@ -29,14 +32,16 @@ pub fn remove<T: Pages>(t: &mut T, key: &Key) -> Result<(), TreeFault>
     ensures step { (T.step t.new).most_reached ≡ (T.step t.old).most_reached }
     ensures most { (T.step t.new).most_changed ≡ (T.step t.old).most_changed }
     ensures reaches { reaches (T.step t.old) ≤ reaches (T.step t.new) + 12 }
-    ensures changed { OnErr result ((T.step t.new).changed ≡ (T.step t.old).changed) }
+    ensures left { IfErr result (LeavesStep (T.step t.old) (T.step t.new)) }
     ensures changes { changes (T.step t.old) ≤ changes (T.step t.new) + 8 }
     ensures taken { (page : ℕ) → is_spare (T.step t.old).spares page ≡ true → is_spare (T.step t.new).spares page ≡ true }
     ensures removed { OnOk result ((height : ℕ) → IsTable (T.step t.old) height → HasTable (T.step t.new) (without key.now (table_of (T.step t.old).images height))) }
-    ensures fault { IfErr result (HasCause (T.step t.new).refusal (BreaksTree (T.step t.old).images)) }
+    ensures fault { IfErr result (HasCause (T.step t.new).refusal (BreaksTable (T.step t.old).images)) }
 {
     let mut draft = Draft::new();
-    remove_in(t, &mut draft, key)?;
+    if let Err(fault) = remove_in(t, &mut draft, key) {
+        return Err(fault_of(t, fault));
+    }
     draft.commit(t);
     Ok(())
 }
@@ -91,7 +96,7 @@ fn remove_below<T: Pages>(
     ensures left { IfOk result (IsLeft (length (T.step t.old).images) child.now) }
     ensures root { IfOk result (IsRootLeft child.now.page) }
     ensures trimmed { IfOk result (IsTrimmedBelow key.now (images_of draft.old (T.step t.old)) (images_of draft.new (T.step t.old)) draft.old.freed.items draft.new.freed.items levels child.now) }
-    ensures fault { IfErr result (HasCause (T.step t.new).refusal (BreaksBelow key.now (images_of draft.old (T.step t.old)) levels child.now)) }
+    ensures fault { IfErr result (HasCause (T.step t.new).refusal (BreaksAround key.now (images_of draft.old (T.step t.old)) levels child.now)) }
 {
     match draft.child_node(t, child)? {
         Node::Leaf(entries) => {

@@ -1,16 +1,19 @@
 //! Replacing an entry.
 ghost use Rattle.std.specs.Prelude.{◌≡◌, ◌≤◌, ◌+◌, ℕ, IsTrue, IfErr, OnErr, OnOk, true, false, map};
 ghost use Rattle.fsd_formats.specs.NamePage.{is_entry, FitsEntry};
+ghost use Rattle.fsd_table.specs.Table.{BreaksTable};
 ghost use Rattle.fsd_table.specs.Tree.{IsTree, table_of};
 ghost use Rattle.name_btree.specs.Change.{IsEdited};
 ghost use Rattle.name_btree.specs.Fault.{HasCause};
 ghost use Rattle.name_node.specs.Edits.{put};
-ghost use Rattle.name_btree.specs.Replace.{HasAsLong, BreaksOrLacks};
+ghost use Rattle.name_btree.specs.Replace.{HasAsLong};
+ghost use Rattle.name_btree.specs.Still.{LeavesStep};
 ghost use Rattle.name_page.specs.Pages.{reaches, changes};
 
 use crate::descent::leaf_below;
 use crate::fault::TreeFault;
 use crate::lookup::{entry_in, top};
+use crate::searching::fault_of;
 use crate::writing::put_leaf;
 use fsd_formats::Entry;
 use name_node::{Cut, Entries, put_among};
@@ -27,7 +30,8 @@ fn has_as_long(entries: &Entries, entry: &Entry) -> bool
     }
 }
 
-/// Puts an entry in place of the one with its key, which takes as many bytes.
+/// Puts an entry in place of the one with its key, which takes as many bytes. Where it answers Broken it has walked all pages
+/// up to that one, and the step has ended.
 pub fn replace_same_size<T: Pages>(t: &mut T, entry: &Entry) -> Result<(), TreeFault>
     requires more { 80 ≤ reaches (T.step t.old) }
     requires changes { 40 ≤ changes (T.step t.old) }
@@ -39,13 +43,16 @@ pub fn replace_same_size<T: Pages>(t: &mut T, entry: &Entry) -> Result<(), TreeF
     ensures step { (T.step t.new).most_reached ≡ (T.step t.old).most_reached }
     ensures reaches { reaches (T.step t.old) ≤ reaches (T.step t.new) + 6 }
     ensures most { (T.step t.new).most_changed ≡ (T.step t.old).most_changed }
-    ensures changed { OnErr result ((T.step t.new).changed ≡ (T.step t.old).changed) }
+    ensures left { IfErr result (LeavesStep (T.step t.old) (T.step t.new)) }
     ensures replaced { OnOk result (IsEdited (T.step t.old) (T.step t.new) (map (put entry.now))) }
-    ensures fault { IfErr result (HasCause (T.step t.new).refusal (BreaksOrLacks (T.step t.old).images entry.now)) }
+    ensures fault { IfErr result (HasCause (T.step t.new).refusal (BreaksTable (T.step t.old).images)) }
 {
-    let found = leaf_below(t, top(), 0, &Cut::UpTo(entry.key.copied()))?;
+    let found = match leaf_below(t, top(), 0, &Cut::UpTo(entry.key.copied())) {
+        Ok(found) => found,
+        Err(fault) => return Err(fault_of(t, fault)),
+    };
     if !has_as_long(&found.entries, entry) {
-        return Err(TreeFault::Broken(found.page));
+        return Err(fault_of(t, TreeFault::Broken(found.page)));
     }
     let list = put_among(&found.entries, entry);
     put_leaf(t, found.page, list.as_slice());

@@ -3,7 +3,9 @@ ghost use Rattle.std.specs.Prelude.{◌≡◌, ◌<◌, ◌≤◌, IfOk, IfErr, 
 ghost use Rattle.fsd_table.specs.Pages.{children};
 ghost use Rattle.fsd_table.specs.Table.{BreaksTable};
 ghost use Rattle.name_btree.specs.Fault.{HasCause};
+ghost use Rattle.name_btree.specs.Still.{HasRefusal};
 ghost use Rattle.name_btree.specs.Walk.{AreMarksOf, is_marked, IsWalked, AreWalked, BreaksWalk, IsTopLevel, IsCounted};
+ghost use Rattle.name_page.specs.Pages.{rested};
 
 use crate::child::child_node;
 use crate::descent::{copied, end_of};
@@ -56,6 +58,7 @@ pub(crate) fn top_level<T: Pages>(t: &mut T) -> Result<u32, TreeFault>
     ensures most { (T.step t.new).most_changed ≡ (T.step t.old).most_changed }
     ensures level { IfOk result (IsTopLevel (T.step t.old).images) }
     ensures fault { IfErr result (HasCause (T.step t.new).refusal (BreaksTable (T.step t.old).images)) }
+    ensures refused { IfErr result (HasRefusal (rested (T.step t.new)) (T.step t.new)) }
 {
     let mut child = top();
     for level in 0..6u32 {
@@ -85,6 +88,7 @@ fn walk_below<T: Pages>(
     ensures most { (T.step t.new).most_changed ≡ (T.step t.old).most_changed }
     ensures walked { IfOk result (IsWalked level (T.step t.old).images child.now reached.old reached.new) }
     ensures fault { IfErr result (HasCause (T.step t.new).refusal (BreaksWalk level (T.step t.old).images (child.now ∷ []) reached.old)) }
+    ensures refused { IfErr result (HasRefusal (rested (T.step t.new)) (T.step t.new)) }
 {
     if !is_new(reached, child.page) {
         return Err(TreeFault::Broken(child.page));
@@ -114,6 +118,7 @@ fn walk_children<T: Pages>(
     ensures most { (T.step t.new).most_changed ≡ (T.step t.old).most_changed }
     ensures walked { IfOk result (AreWalked level (T.step t.old).images (children ways.now.0 above.now.low above.now.high ways.now.1) reached.old reached.new) }
     ensures fault { IfErr result (HasCause (T.step t.new).refusal (BreaksWalk level (T.step t.old).images (children ways.now.0 above.now.low above.now.high ways.now.1) reached.old)) }
+    ensures refused { IfErr result (HasRefusal (rested (T.step t.new)) (T.step t.new)) }
 {
     let mut count = 0;
     for i in 0..ways.len() + 1 {
@@ -135,6 +140,7 @@ pub fn walk<T: Pages>(t: &mut T, reached: &mut [bool]) -> Result<u32, TreeFault>
     ensures most { (T.step t.new).most_changed ≡ (T.step t.old).most_changed }
     ensures counted { IfOk result (IsCounted (T.step t.old).images reached.new) }
     ensures fault { IfErr result (HasCause (T.step t.new).refusal (BreaksTable (T.step t.old).images)) }
+    ensures refused { IfErr result (HasRefusal (rested (T.step t.new)) (T.step t.new)) }
 {
     let level = top_level(t)?;
     walk_below(t, &top(), level, reached)

@@ -1,4 +1,4 @@
-use Rattle.std.proofs.Common.{◌≡◌, subst, List, ℕ}
+use Rattle.std.proofs.Common.{subst, List, ℕ}
 use Rattle.fsd_table.specs.Table.{BreaksTable}
 use Rattle.fsd_table.proofs.BreakLaws.{tree_unbroken}
 use Rattle.name_btree.specs.declared.fault.TreeFault.{TreeFault}

@@ -34,7 +34,7 @@ returns-clause-changes g c =
     let cleared = g.T.Pages.step c.remove_all.new.t in
     let last = g.T.Pages.step c.insert_in.new.t in
     let d = c.insert_in.new.draft in
-    let inserted = c.in_ok-insert_in.ensures.inserted in
+    let inserted = c.in_default-insert_in.ensures.inserted in
     let still = c.remove_all.ensures.still in
     let written = ap changes c.commit.ensures.step in
     let promised = ap changes c.in_default.ensures.step in
@@ -47,15 +47,15 @@ returns-clause-changes g c =
       still.most_changed,
       inserted.takes.changes,
       inserted.few,
-      c.in_ok-insert_in.ensures.room,
-      c.in_ok-remove_all.ensures.room,
+      c.in_default-insert_in.ensures.room,
+      c.in_default-remove_all.ensures.room,
     )
 
 pub returns-clause-taken : goal.returns-clause-taken
 returns-clause-taken g c =
     let last = g.T.Pages.step c.insert_in.new.t in
     let d = c.insert_in.new.draft in
-    let inserted = c.in_ok-insert_in.ensures.inserted in
+    let inserted = c.in_default-insert_in.ensures.inserted in
     let written = ap free_count c.commit.ensures.step in
     let promised = ap free_count c.in_default.ensures.step in
     let same = ap (count_by (λ spare. spare)) c.remove_all.ensures.spares in
@@ -71,6 +71,6 @@ returns-clause-inserted g c =
     let d = c.remove_all.new.draft in
     let images = c.remove_all.ensures.images ∙ ap (λ (s : Step). s.images) c.in_default.ensures.step in
     let spares = c.remove_all.ensures.spares ∙ ap (λ (s : Step). s.spares) c.in_default.ensures.step in
-    let by_images = subst (λ (im : List (List ℕ)). LeavesTree im d c.as_slice.result.now) (ap (λ (s : Step). s.images) c.in_default.ensures.step) c.in_ok-remove_all.ensures.left in
+    let by_images = subst (λ (im : List (List ℕ)). LeavesTree im d c.as_slice.result.now) (ap (λ (s : Step). s.images) c.in_default.ensures.step) c.in_default-remove_all.ensures.left in
     let left = subst (λ (ks : List Key). LeavesTree step.images d ks) c.as_slice.ensures.value by_images in
-    inserted_table step cleared last new d c.insert_in.new.draft c.args.entry.now keys images spares left c.in_ok-insert_in.ensures.inserted c.in_ok-insert_in.ensures.freed c.commit.ensures.step c.commit.ensures.images (g.met.T.Pages.flags c.insert_in.new.t)
+    inserted_table step cleared last new d c.insert_in.new.draft c.args.entry.now keys images spares left c.in_default-insert_in.ensures.inserted c.in_default-insert_in.ensures.freed c.commit.ensures.step c.commit.ensures.images (g.met.T.Pages.flags c.insert_in.new.t)

@@ -14,7 +14,7 @@ use Rattle.name_node.proofs.SideLaws.{without_used, without_fits}
 use Rattle.name_page.specs.Pages.{reaches}
 use Rattle.name_btree.specs.Draft.{drafted}
 use Rattle.name_btree.specs.Fault.{HasCause}
-use Rattle.name_btree.specs.Remove.{BreaksBelow, IsAround, IsTrimmed, IsTrimmedBelow, IsRootLeft}
+use Rattle.name_btree.specs.Remove.{BreaksAround, IsAround, IsTrimmed, IsTrimmedBelow, IsRootLeft}
 use Rattle.name_btree.specs.Trim.{IsUnlike, AreEntries, IsOpened, IsMended, IsLeft, used_by}
 use Rattle.name_btree.proofs.AboveLaws.{ok_left, err_left, ok_on, mended_left, mended_freed, room_left}
 use Rattle.name_btree.proofs.ChangeLaws.{without_leaf}
@@ -217,7 +217,7 @@ returns-in_ok-trimmed-in-Interior-clause-fault g t c =
     let before = subst (λ (k : Key). AllByRecursion (λ s. is_before (UpTo k) s.key ≡ true) (take i ways.1)) c.copied.ensures c.ways_before-i.ensures.before in
     let behind = subst (λ (k : Key). AllByRecursion (λ s. is_before (UpTo k) s.key ≡ false) (drop i ways.1)) c.copied.ensures (c.ways_before-i.ensures.behind has.ways.ascend) in
     let A : ℕ → Type 0 = IsUnlike (drafted mid.sheets.items images2) child ways.0 ways.1 i below_child below in
-    let B : ℕ → Type 0 = BreaksBelow key pages c.args.levels child in
+    let B : ℕ → Type 0 = BreaksAround key pages c.args.levels child in
     err_left c.trim_above.result (HasCause given A) (HasCause given B)
     (λ fault h. cause_more given A B (unlike_above old.images between.images images2 c.child_node.ensures.images c.remove_below.ensures.images key draft mid c.args.levels (length pages) child ways.0 ways.1 i below_child below
     at opened c.ways_before-i.ensures.within before behind c.child_at-below.ensures c.in_ok-trimmed-in-Interior.ensures.trimmed) fault h) c.trim_above.ensures.fault

@@ -32,7 +32,7 @@ returns-clause-changes g c =
     let d = c.remove_in.new.draft in
     let same : changes (g.T.Pages.step c.commit.new.t) ≡ changes (freed d.freed.items (committed d.sheets.items between)) = ap changes c.commit.ensures.step in
     let still : changes between ≡ changes old = omega (arith, c.remove_in.ensures.changes.most_changed, ap length c.remove_in.ensures.changes.changed) in
-    let few : length d.sheets.items ≤ 8 = omega (arith, c.in_ok-remove_in.ensures.sheets, ap length c.new-draft.ensures.sheets) in
+    let few : length d.sheets.items ≤ 8 = omega (arith, c.in_default.ensures.sheets, ap length c.new-draft.ensures.sheets) in
     omega (arith, same, still, few, commit_changes d.freed.items d.sheets.items between)
 
 pub returns-clause-taken : goal.returns-clause-taken
@@ -49,4 +49,4 @@ returns-clause-removed g c = λ height table.
     let d = c.remove_in.new.draft in
     subst (λ (s : Step). HasTable s (without c.args.key.now (table_of old.images height))) (sym c.commit.ensures.step)
     (table_without old between c.args.key.now c.new-draft.result d c.new-draft.ensures.sheets c.new-draft.ensures.freed c.remove_in.ensures.images c.remove_in.ensures.spares (g.met.T.Pages.flags c.args.t.now)
-    c.in_ok-remove_in.ensures.removed height table)
+    c.in_default.ensures.removed height table)
