@@ -83,13 +83,14 @@ fn replace(t: &mut VecPages, entry: &Entry) -> Result<(), TreeFault>
     }
 }
 
-// A child that is page 0 again; two leaves in each other's place, of which a walk meets page 2 first; a child past the table's
-// end; and an interior page beside a leaf.
+// A child that is page 0 again; two leaves in each other's place, of which a walk meets page 2 first; a leaf out of order behind a
+// spare page, which refuses the walk; a child past the table's end, so that page 0 is refused; and an interior page beside a leaf.
 #[test]
 fn broken_tables_are_not_changed(rt: HostRuntime) -> Result<(), Fail> {
     for (left, right, last, version, fault) in [
         (1, 0, b'q', 3, TreeFault::Broken(0)),
         (2, 1, b'q', 3, TreeFault::Broken(2)),
+        (4, 1, b'q', 3, TreeFault::Pages(Refusal::Unsound(104))),
         (1, 16, b'q', 3, TreeFault::Pages(Refusal::Unsound(100))),
         (1, 3, b'a', 1, TreeFault::Broken(3)),
     ] {
@@ -110,12 +111,13 @@ fn broken_tables_are_not_changed(rt: HostRuntime) -> Result<(), Fail> {
     Ok(())
 }
 
-// Of the interior page beside a leaf nothing is seen where an entry only comes or is replaced.
+// The interior page beside a leaf is not met where an entry only comes, or is replaced.
 #[test]
 fn the_page_that_breaks_the_table_is_named(rt: HostRuntime) -> Result<(), Fail> {
     for (left, right, fault) in [
         (1, 0, TreeFault::Broken(0)),
         (2, 1, TreeFault::Broken(2)),
+        (4, 1, TreeFault::Pages(Refusal::Unsound(104))),
         (1, 16, TreeFault::Pages(Refusal::Unsound(100))),
     ] {
         let mut t = table(rt.alloc(), left, right)?;
