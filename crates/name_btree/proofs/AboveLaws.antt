@@ -15,7 +15,7 @@ use Rattle.name_btree.specs.declared.trimming.Pair.{Pair}
 use Rattle.name_btree.specs.declared.trimming.Trimmed.{Trimmed}
 use Rattle.name_btree.specs.declared.trimming.Trimmed.TheVariants.{Whole, Leaf, Interior}
 use Rattle.name_btree.specs.Draft.{with_freed}
-use Rattle.name_btree.specs.Trim.{AreWays, IsOpened, IsPair, IsLeft, AreWaysPut, separators_joined, AreJoined, AreShared, IsMended, sheets_below}
+use Rattle.name_btree.specs.Trim.{AreWays, IsOpened, IsPair, IsLeft, AreWaysPut, separators_joined, AreJoined, IsMended, sheets_below}
 use Rattle.name_btree.proofs.PairLaws.{parts_at}
 use Rattle.name_btree.proofs.TrimLaws.{joined_ways, separator_keys_append, fit_append}
 
@@ -73,11 +73,6 @@ put_left step old new p first above separators (Interior f list) w fit h = recor
   fits = h.4;
 }
 
-put_sheets : (step : Step) (old new : List Sheet) (page first : ℕ) (separators : List Separator) (left : Trimmed) → AreWaysPut step old new page first separators left → (n levels : ℕ) → length old ≤ n + (levels + 1) → length new ≤ n + sheets_below (levels + 1) left
-put_sheets step old new page first separators Whole h n levels most = omega (arith, h.one, most)
-put_sheets step old new page first separators (Leaf list) h n levels most = absurd h
-put_sheets step old new page first separators (Interior f list) h n levels most = omega (arith, ap length h.0, most)
-
 whole_left : (p : ℕ) (above : Child) (left : Trimmed) → left ≡ Whole → IsLeft p above left
 whole_left p above left e = subst (IsLeft p above) (sym e) tt
 
@@ -109,28 +104,6 @@ mended_freed step old new above first xs i (Leaf list) left m = elim m.mended [
 mended_freed step old new above first xs i (Interior lead list) left m = elim m.mended [
   | inl j ↦ joined_freed step old new above.page first xs m.pair _ left j
   | inr s ↦ omega (arith, ap length s.shared.freed)
-]
-
-joined_sheets : (step : Step) (old new : Draft) (page first : ℕ) (xs : List Separator) (pair : Pair) (x : Content) (left : Trimmed) → AreJoined step old new page first xs pair x left → (n levels : ℕ) → length old.sheets.items ≤ n + levels → length new.sheets.items ≤ n + sheets_below (levels + 1) left
-joined_sheets step old new page first xs pair x left j n levels most = put_sheets step j.middle new.sheets.items page first (separators_joined xs pair) left j.above n levels (omega (arith, j.one.one, most))
-
-shared_sheets : (step : Step) (old new : Draft) (page first : ℕ) (xs : List Separator) (pair : Pair) (x y : Content) (key : Key) (left : Trimmed) → AreShared step old new page first xs pair x y key left → (n levels : ℕ) → length old.sheets.items ≤ n + levels → length new.sheets.items ≤ n + sheets_below (levels + 1) left
-shared_sheets step old new page first xs pair x y key left s n levels most =
-    let count : length new.sheets.items ≤ n + (levels + 1 + 2) = omega (arith, s.one.one, s.other.one, s.above.one, most) in
-    subst (λ (t : Trimmed). length new.sheets.items ≤ n + sheets_below (levels + 1) t) (sym s.whole) count
-
-pub mended_sheets : (step : Step) (old new : Draft) (above : Child) (first : ℕ) (xs : List Separator) (i : ℕ) (below left : Trimmed) (n levels : ℕ) → length old.sheets.items ≤ n + sheets_below levels below → IsMended step old new above first xs i below left
-    → length new.sheets.items ≤ n + sheets_below (levels + 1) left
-mended_sheets step old new above first xs i Whole left n levels most m =
-    let count : length new.sheets.items ≤ n + (levels + 1 + 2) = omega (arith, ap (λ (d : Draft). length d.sheets.items) m.1, most) in
-    subst (λ (t : Trimmed). length new.sheets.items ≤ n + sheets_below (levels + 1) t) (sym m.0) count
-mended_sheets step old new above first xs i (Leaf list) left n levels most m = elim m.mended [
-  | inl j ↦ joined_sheets step old new above.page first xs m.pair _ left j n levels most
-  | inr s ↦ shared_sheets step old new above.page first xs m.pair _ _ _ left s.shared n levels most
-]
-mended_sheets step old new above first xs i (Interior lead list) left n levels most m = elim m.mended [
-  | inl j ↦ joined_sheets step old new above.page first xs m.pair _ left j n levels most
-  | inr s ↦ shared_sheets step old new above.page first xs m.pair _ _ _ left s.shared n levels most
 ]
 
 -- room for what is mended

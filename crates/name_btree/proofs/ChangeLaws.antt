@@ -1,27 +1,24 @@
 -- A tree of which one leaf is changed.
-use Rattle.std.proofs.Common.{◌≡◌, ◌⊎◌, inl, inr, ℕ, zero, suc, ◌-◌, ◌≤◌, ◌<◌, Bool, true, false, ◌||◌, List, [], ◌∷◌, ◌++◌, length, map, Option, Some, refl, sym, ap, subst, ◌∙◌, arith}
+use Rattle.std.proofs.Common.{◌≡◌, ℕ, zero, suc, ◌-◌, Bool, true, false, ◌||◌, List, [], ◌∷◌, ◌++◌, length, map, Option, Some, refl, sym, ap, subst, ◌∙◌}
 use Rattle.std.specs.Prelude.{◌==◌, slice_set}
 use Rattle.std.specs.List.{flat_map, list_all, AllByRecursion}
-use Rattle.std.proofs.lemmas.Bool.{or_parts, cases_lt}
-use Rattle.run_table.specs.Space.{contains}
+use Rattle.std.proofs.lemmas.Bool.{or_parts}
 use Rattle.fsd_bytes.specs.declared.key.Key.{Key}
 use Rattle.fsd_bytes.specs.Keys.{same_key}
-use Rattle.fsd_bytes.specs.Names.{is_between}
 use Rattle.fsd_formats.specs.declared.entry.Entry.{Entry}
-use Rattle.fsd_formats.specs.NamePage.{Leaf, is_entry, entry_bytes, are_ascending, room, least_used}
+use Rattle.fsd_formats.specs.NamePage.{Leaf, is_entry, are_ascending}
 use Rattle.fsd_table.specs.declared.child.Child.{Child}
-use Rattle.fsd_table.specs.Pages.{page_at, children_of, entries_of, keys_fit, entry_keys}
+use Rattle.fsd_table.specs.Pages.{page_at, children_of, keys_fit, entry_keys}
 use Rattle.fsd_table.specs.Table.{top}
-use Rattle.fsd_table.specs.Tree.{entries_below, pages_below, IsTree, table_of}
+use Rattle.fsd_table.specs.Tree.{pages_below, IsTree}
 use Rattle.fsd_table.proofs.BoundLaws.{Ascend, all_weaker}
 use Rattle.fsd_table.proofs.PageLaws.{at_is_page}
-use Rattle.name_page.proofs.LeafLaws.{between, is_between_from}
 use Rattle.name_page.specs.Pages.{Step, is_spare, with_one}
 use Rattle.name_node.specs.declared.cut.Cut.TheVariants.{UpTo}
 use Rattle.name_node.specs.Cut.{is_before}
-use Rattle.name_node.specs.Edits.{is_on, without, with_entry}
+use Rattle.name_node.specs.Edits.{is_on, without}
 use Rattle.name_node.specs.Cut.{AtLow, AtHigh}
-use Rattle.name_btree.specs.Change.{Stay, IsLeafAt, HasEdit, IsEdited, IsRefused}
+use Rattle.name_btree.specs.Change.{Stay, IsLeafAt, HasEdit, IsEdited}
 use Rattle.name_node.specs.Cut.{IsLesser}
 use Rattle.name_node.specs.Edits.{put}
 use Rattle.name_btree.specs.Replace.{IsWritten}
@@ -30,8 +27,8 @@ use Rattle.name_node.specs.declared.entries.Side.TheVariants.{Lesser, Greater}
 use Rattle.name_node.proofs.CutLaws.{greater}
 use Rattle.name_node.proofs.PutLaws.{Others, lt_unequal, gt_unequal, put_keys, put_beside}
 use Rattle.name_btree.proofs.ReachLaws.{equal, same_itself}
-use Rattle.name_btree.proofs.ReplaceLaws.{LeafParts, leaf_parts}
-use Rattle.name_node.proofs.SideLaws.{without_ascends, with_ascends, without_part, with_part, without_all, with_all, without_fits, with_fits, all_lesser, all_greater, without_used}
+use Rattle.name_btree.proofs.ReplaceLaws.{leaf_parts}
+use Rattle.name_node.proofs.SideLaws.{without_ascends, without_all, all_lesser, all_greater}
 
 -- ---- the same pages are reached
 
@@ -97,20 +94,6 @@ edited before first still new page entries items edit images changed used was w 
         let none = (or_parts (page == q) false out).0 in
         cc
 
-pub edited_without : (key : Key) (first still new : Step) (page : ℕ) (entries items : List Entry) → still.images ≡ first.images → still.changed ≡ first.changed → is_spare first.spares page ≡ false
-    → page_at first.images page ≡ Some (Leaf entries) → items ≡ without key entries → IsWritten still new page (Leaf items) → IsLeafAt (is_before (UpTo key)) first.images top page entries
-    → IsEdited first new (without key)
-edited_without key first still new page entries items images changed used was is w at =
-    edited (is_before (UpTo key)) first still new page entries (without key entries) (without key) images changed used was (subst (λ (xs : List Entry). IsWritten still new page (Leaf xs)) is w) at
-    (λ low high a b fit. without_fits key low high entries fit) (λ left right a b. without_part key left entries right (all_lesser key left a) (all_greater key right b))
-
-pub edited_with : (e : Entry) (first still new : Step) (page : ℕ) (entries items : List Entry) → still.images ≡ first.images → still.changed ≡ first.changed → is_spare first.spares page ≡ false
-    → page_at first.images page ≡ Some (Leaf entries) → items ≡ with_entry e entries → IsWritten still new page (Leaf items) → IsLeafAt (is_before (UpTo e.key)) first.images top page entries
-    → IsEdited first new (with_entry e)
-edited_with e first still new page entries items images changed used was is w at =
-    edited (is_before (UpTo e.key)) first still new page entries (with_entry e entries) (with_entry e) images changed used was (subst (λ (xs : List Entry). IsWritten still new page (Leaf xs)) is w) at
-    (λ low high a b fit. with_fits e low high entries a b fit) (λ left right a b. with_part e left entries right (all_lesser e.key left a) (all_greater e.key right b))
-
 others_lesser : (key : Key) (xs : List Entry) → AllByRecursion (IsLesser (is_before (UpTo key))) xs → Others key xs
 others_lesser key xs a = all_weaker (λ e. is_on Lesser key e ≡ true) (λ e. same_key e.key key ≡ false) xs (λ e h. lt_unequal e.key key h) (all_lesser key xs a)
 
@@ -131,71 +114,3 @@ pub without_leaf : (pages : List (List ℕ)) (page : ℕ) (key : Key) (entries i
 without_leaf pages page key entries items at is =
     let parts = leaf_parts page (length pages) entries (at_is_page pages page (Leaf entries) at) in
     (ap (list_all is_entry) is ∙ without_all is_entry key entries parts.each, subst Ascend (sym is) (without_ascends key entries parts.order))
-
-pub with_leaf : (pages : List (List ℕ)) (page : ℕ) (e : Entry) (entries items : List Entry) → page_at pages page ≡ Some (Leaf entries) → is_entry e ≡ true → items ≡ with_entry e entries
-    → (list_all is_entry items ≡ true) × (are_ascending (entry_keys items) ≡ true)
-with_leaf pages page e entries items at new is =
-    let parts = leaf_parts page (length pages) entries (at_is_page pages page (Leaf entries) at) in
-    (ap (list_all is_entry) is ∙ with_all is_entry e entries new parts.each, subst Ascend (sym is) (with_ascends e entries parts.order))
-
--- the leaf of a table of one page
-one_leaf : (before : Key → Bool) (pages : List (List ℕ)) (page height : ℕ) (old : List Entry) → height ≡ 1 → IsLeafAt before pages top page old → page_at pages page ≡ Some (Leaf old) → IsTree pages height
-    → (page ≡ 0) × (table_of pages height ≡ old)
-one_leaf before pages page height old one at was t =
-    let a = at (height - 1) (low_height pages height t) t.subtree (tt, tt) t.apart in
-    let zeroth : height - 1 ≡ 0 = omega arith in
-    let has : ((0 == page) || false) ≡ true = subst (λ (n : ℕ). contains (pages_below n pages top) page ≡ true) zeroth a.has in
-    let here = first_page page has in
-    (here, ap (λ (n : ℕ). entries_below n pages top) zeroth ∙ ap (λ (p : ℕ). entries_of (page_at pages p)) (sym here) ∙ ap entries_of was)
-  where
-    first_page : (page : ℕ) → ((0 == page) || false) ≡ true → page ≡ 0
-    first_page page e = by (0 == page) refl e
-      where
-        by : (b : Bool) → (0 == page) ≡ b → (b || false) ≡ true → page ≡ 0
-        by true is h = sym (equal 0 page is)
-        by false is h = absurd cc
-
--- page 0 refuses too many bytes alone
-over : (page n : ℕ) → is_between (least_used page) room n ≡ false → page ≡ 0 → room < n
-over page n out first =
-    let at_first : is_between (least_used 0) room n ≡ false = ap (λ (p : ℕ). is_between (least_used p) room n) (sym first) ∙ out in
-    by (cases_lt room n) at_first
-  where
-    by : (room < n) ⊎ (n ≤ room) → is_between (least_used 0) room n ≡ false → room < n
-    by (inl more) e = more
-    by (inr less) e = absurd (let inside = is_between_from 0 room n (omega arith) less in cc)
-
-pub full_leaf : (before : Key → Bool) (pages : List (List ℕ)) (page height : ℕ) (old items : List Entry) (edit : List Entry → List Entry) → height ≡ 1 → IsLeafAt before pages top page old
-    → page_at pages page ≡ Some (Leaf old) → IsTree pages height → items ≡ edit old → is_between (least_used page) room (length (flat_map entry_bytes items)) ≡ false → room < length (flat_map entry_bytes (edit (table_of pages height)))
-full_leaf before pages page height old items edit one at was t is full =
-    let o = one_leaf before pages page height old one at was t in
-    subst (λ (xs : List Entry). room < length (flat_map entry_bytes xs)) (is ∙ ap edit (sym o.1)) (over page (length (flat_map entry_bytes items)) full o.0)
-
--- of a table of one page each entry may go
-pub enough_left : (pages : List (List ℕ)) (page height : ℕ) (key : Key) (entries items : List Entry) → IsLeafAt (is_before (UpTo key)) pages top page entries → page_at pages page ≡ Some (Leaf entries)
-    → IsTree pages height → items ≡ without key entries → is_between (least_used page) room (length (flat_map entry_bytes items)) ≡ false → 1 < height
-enough_left pages page height key entries items at was t is full = by (cases_lt 1 height)
-  where
-    parts : LeafParts page entries
-    parts = leaf_parts page (length pages) entries (at_is_page pages page (Leaf entries) was)
-
-    few : length (flat_map entry_bytes items) ≤ room
-    few = omega (arith, ap (λ (xs : List Entry). length (flat_map entry_bytes xs)) is, without_used key entries, (between (least_used page) room (length (flat_map entry_bytes entries)) parts.used).1)
-
-    by : (1 < height) ⊎ (height ≤ 1) → 1 < height
-    by (inl more) = more
-    by (inr less) =
-        let least = t.least in
-        let one : height ≡ 1 = omega arith in
-        let more = over page (length (flat_map entry_bytes items)) full (one_leaf (is_before (UpTo key)) pages page height entries one at was t).0 in
-        absurd (omega (arith, more, few))
-
-pub refused : (pages : List (List ℕ)) (key : Key) (page : ℕ) (entries items : List Entry) (edit : List Entry → List Entry) → page_at pages page ≡ Some (Leaf entries)
-    → IsLeafAt (is_before (UpTo key)) pages top page entries → items ≡ edit entries → is_between (least_used page) room (length (flat_map entry_bytes items)) ≡ false → IsRefused pages key edit
-refused pages key page entries items edit leaf at is out = record {
-  page = page;
-  entries = entries;
-  leaf = leaf;
-  at = at;
-  bytes = ap (λ (xs : List Entry). is_between (least_used page) room (length (flat_map entry_bytes xs))) (sym is) ∙ out;
-}

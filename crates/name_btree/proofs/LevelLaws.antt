@@ -14,10 +14,8 @@ use Rattle.fsd_table.specs.Pages.{children_of}
 use Rattle.fsd_table.specs.Tree.{entries_below, pages_below, IsInterior, IsSubtree}
 use Rattle.fsd_table.proofs.BoundLaws.{all_append, all_weaker, Fits, entries_between}
 use Rattle.name_btree.specs.Change.{Within, Stay, Changed}
-use Rattle.name_node.specs.Cut.{is_before}
 use Rattle.name_node.specs.Cut.{IsLesser}
-use Rattle.name_btree.specs.Level.{children_before, child_behind, HasOthers, AreChanged, EndsBefore, BeginsBehind, Disjoint, ChangesGoUp, ChildrenBeside, ChildrenBetween}
-use Rattle.name_node.proofs.CutLaws.{cuts_monotone}
+use Rattle.name_btree.specs.Level.{HasOthers, AreChanged, EndsBefore, BeginsBehind, Disjoint}
 use Rattle.name_node.proofs.CutLaws.{IsMonotone, behind}
 use Rattle.name_btree.proofs.KeepLaws.{Keep, kept_all, disjoint_back, disjoint_append, disjoint_less, apart_from}
 use Rattle.name_node.proofs.PutLaws.{all_split}
@@ -159,19 +157,3 @@ goes_up before mono pages after fresh old new level c left cs ds right sub apart
       lesser = all_append (IsLesser before) ws e.left (entries_lesser before g left ends (each left (λ x t. entries_between level pages x t) outer_subs.0)) e.lesser;
       greater = all_append (λ e. before e.key ≡ false) e.right zs e.greater (entries_greater before mono g right begins (each right (λ x t. entries_between level pages x t) inner_subs.1));
     }
-
-pub changes_up : ChangesGoUp
-changes_up cut pages after fresh old new level c left cs ds right sub apart out o ends begins stay e =
-    goes_up (is_before cut) (cuts_monotone cut) pages after fresh old new level c left cs ds right sub apart out o ends begins stay e
-
--- ---- children by their separators
-
-pub children_beside : ChildrenBeside
-children_beside first low high [] [] = refl
-children_beside first low high [] (s ∷ behind) = refl
-children_beside first low high (a ∷ before) behind = ap (λ (cs : List Child). record { page = first; low = low; high = Some a.key } ∷ cs) (children_beside a.child (Some a.key) high before behind)
-
-pub children_between : ChildrenBetween
-children_between first low high before s behind =
-    children_beside first low high before (s ∷ behind)
-    ∙ ap (λ (cs : List Child). children_before first low before ++ (child_behind first low before (Some s.key) ∷ cs)) (children_beside s.child (Some s.key) high [] behind)

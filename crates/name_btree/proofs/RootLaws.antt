@@ -28,7 +28,7 @@ use Rattle.name_btree.specs.declared.trimming.Trimmed.{Trimmed}
 use Rattle.name_btree.specs.declared.trimming.Trimmed.TheVariants.{Whole, Leaf, Interior}
 use Rattle.name_btree.specs.Draft.{drafted}
 use Rattle.name_btree.specs.Remove.{IsAround, IsTrimmed, IsTrimmedBelow, IsRootLeft}
-use Rattle.name_btree.specs.Trim.{AreWaysPut, IsMended, IsTakenOver, sheets_below}
+use Rattle.name_btree.specs.Trim.{AreWaysPut, IsMended, IsTakenOver}
 use Rattle.name_btree.proofs.LeafTreeLaws.{freed_has}
 use Rattle.name_btree.proofs.RemoveLaws.{stays_but}
 
@@ -49,11 +49,6 @@ mended_root step old new above first xs i (Interior lead list) left m = elim m.m
   | inl j ↦ put_root step j.middle new.sheets.items above.page first _ left j.above
   | inr s ↦ subst (IsRootLeft above.page) (sym s.shared.whole) tt
 ]
-
-pub few_sheets : (left : Trimmed) → sheets_below 5 left ≤ 7
-few_sheets Whole = omega arith
-few_sheets (Leaf list) = omega arith
-few_sheets (Interior first list) = omega arith
 
 -- ---- a tree
 

@@ -1,18 +1,16 @@
 -- Changes of leaves, and of the trees that they stand in.
-use Rattle.std.specs.Prelude.{◌≡◌, ◌<◌, ℕ, Bool, true, false, List, [], ◌∷◌, ◌++◌, length, Option, Some, slice_set}
-use Rattle.std.specs.List.{flat_map, AllByRecursion}
+use Rattle.std.specs.Prelude.{◌≡◌, ◌<◌, ℕ, Bool, true, false, List, [], ◌∷◌, ◌++◌, Option, Some, slice_set}
+use Rattle.std.specs.List.{AllByRecursion}
 use Rattle.run_table.specs.Space.{contains, all_differ}
 use Rattle.fsd_bytes.specs.declared.key.Key.{Key}
-use Rattle.fsd_bytes.specs.Names.{is_between}
 use Rattle.fsd_formats.specs.declared.entry.Entry.{Entry}
-use Rattle.fsd_formats.specs.NamePage.{Leaf, entry_bytes, least_used, room}
+use Rattle.fsd_formats.specs.NamePage.{Leaf}
 use Rattle.fsd_table.specs.declared.child.Child.{Child}
 use Rattle.fsd_table.specs.Pages.{page_at, keys_fit, entry_keys}
-use Rattle.fsd_table.specs.Table.{max_height, top}
+use Rattle.fsd_table.specs.Table.{max_height}
 use Rattle.fsd_table.specs.Tree.{entries_below, pages_below, table_of, pages_of, IsSubtree, IsTree}
 use Rattle.name_page.specs.Pages.{Step, is_spare, with_one}
-use Rattle.name_node.specs.declared.cut.Cut.TheVariants.{UpTo}
-use Rattle.name_node.specs.Cut.{is_before, IsLesser, AtLow, AtHigh}
+use Rattle.name_node.specs.Cut.{IsLesser, AtLow, AtHigh}
 
 -- ---- pages
 
@@ -74,11 +72,3 @@ pub record IsEdited (old new : Step) (edit : List Entry → List Entry) : Type 0
   pub changed : new.changed ≡ with_one old.changed page
   pub used : is_spare old.spares page ≡ false
   pub table : (height : ℕ) → IsTree old.images height → HasEdit old.images new.images height page edit
-
--- the leaf at a key, which so edited would have too many bytes or too few
-pub record IsRefused (pages : List (List ℕ)) (key : Key) (edit : List Entry → List Entry) : Type 0 where
-  pub page : ℕ
-  pub entries : List Entry
-  pub leaf : page_at pages page ≡ Some (Leaf entries)
-  pub at : IsLeafAt (is_before (UpTo key)) pages top page entries
-  pub bytes : is_between (least_used page) room (length (flat_map entry_bytes (edit entries))) ≡ false

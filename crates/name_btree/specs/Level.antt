@@ -1,5 +1,5 @@
 -- Changes of one level: other children in the place of some that stand side by side.
-use Rattle.std.specs.Prelude.{◌≡◌, ℕ, suc, true, false, List, [], ◌∷◌, ◌++◌, Option, Some, Bool}
+use Rattle.std.specs.Prelude.{◌≡◌, ℕ, true, false, List, ◌++◌, Some, Bool}
 use Rattle.std.specs.List.{flat_map, AllByRecursion}
 use Rattle.run_table.specs.Space.{contains, all_differ}
 use Rattle.fsd_bytes.specs.declared.key.Key.{Key}
@@ -9,28 +9,8 @@ use Rattle.fsd_formats.specs.NamePage.{Interior}
 use Rattle.fsd_table.specs.declared.child.Child.{Child}
 use Rattle.fsd_table.specs.Pages.{page_at, children, keys_fit, separator_keys}
 use Rattle.fsd_table.specs.Tree.{entries_below, pages_below, IsSubtree}
-use Rattle.name_node.specs.Cut.{is_before}
-use Rattle.name_node.specs.declared.cut.Cut.{Cut}
-use Rattle.name_btree.specs.Change.{Within, Stay, Changed}
+use Rattle.name_btree.specs.Change.{Within}
 use Rattle.name_node.specs.Cut.{IsLesser}
-use Rattle.name_btree.specs.Descent.{end_of}
-
--- ---- children by their separators
-
--- the children before the last of some separators
-abbrev pub children_before : ℕ → Option Key → List Separator → List Child
-children_before first low [] = []
-children_before first low (s ∷ separators) = record { page = first; low = low; high = Some s.key } ∷ children_before s.child (Some s.key) separators
-
--- the child behind them, up to a key
-abbrev pub child_behind : ℕ → Option Key → List Separator → Option Key → Child
-child_behind first low [] high = record { page = first; low = low; high = high }
-child_behind first low (s ∷ separators) high = child_behind s.child (Some s.key) separators high
-
--- the children from the first of some separators on
-abbrev pub children_from : Option Key → List Separator → List Child
-children_from high [] = []
-children_from high (s ∷ separators) = children s.child (Some s.key) high separators
 
 -- ---- the page above
 
@@ -70,27 +50,3 @@ BeginsBehind before x = (k : Key) × (x.low ≡ Some k) × (before k ≡ false)
 -- no page is in both
 abbrev pub Disjoint : List ℕ → List ℕ → Type 0
 Disjoint xs ys = (p : ℕ) → contains xs p ≡ true → contains ys p ≡ false
-
--- ---- the laws
-
--- where children around a place are changed, so is what stands below the page above them
-abbrev pub ChangesGoUp : Type 0
-ChangesGoUp =
-    (cut : Cut) (pages after : List (List ℕ)) (fresh : List ℕ) (old new : List Entry) (level : ℕ) (c : Child) (left cs ds right : List Child)
-    → IsSubtree (suc level) pages c → all_differ (pages_below (suc level) pages c) ≡ true → Disjoint (pages_below (suc level) pages c) fresh
-    → HasOthers pages after c left cs ds right → AllByRecursion (EndsBefore (is_before cut)) left → AllByRecursion (BeginsBehind (is_before cut)) right
-    → Stay pages after (c.page ∷ (flat_map (pages_below level pages) cs ++ fresh))
-    → AreChanged (is_before cut) pages after fresh old new level cs ds → Changed (is_before cut) pages after fresh old new (suc level) c
-
--- the children of a page, by those of its separators that stand before a child and behind it
-abbrev pub ChildrenBeside : Type 0
-ChildrenBeside =
-    (first : ℕ) (low high : Option Key) (before behind : List Separator)
-    → children first low high (before ++ behind) ≡ children_before first low before ++ (child_behind first low before (end_of high behind) ∷ [] ++ children_from high behind)
-
--- two children side by side, and the separator between them
-abbrev pub ChildrenBetween : Type 0
-ChildrenBetween =
-    (first : ℕ) (low high : Option Key) (before : List Separator) (s : Separator) (behind : List Separator)
-    → children first low high (before ++ s ∷ behind)
-    ≡ children_before first low before ++ ((child_behind first low before (Some s.key) ∷ record { page = s.child; low = Some s.key; high = end_of high behind } ∷ []) ++ children_from high behind)

@@ -80,11 +80,6 @@ abbrev pub sheets_below : ℕ → Trimmed → ℕ
 sheets_below levels Whole = levels + 2
 sheets_below levels other = levels
 
--- how many sheets more, where a child was left over
-abbrev pub sheets_above : Trimmed → ℕ
-sheets_above Whole = 3
-sheets_above other = 1
-
 -- ---- two children side by side
 
 -- the first and the second, and the separator between them
