@@ -43,23 +43,14 @@ use Rattle.group_commit.specs.Force.{StandsOver, KeepsData, Commits, Committed}
 use Rattle.group_commit.proofs.ImageLaws.{IsRecordOf, length-stamped, stamped_other}
 use Rattle.group_commit.proofs.PlaceLaws.{LiesBefore, log_lies, untouched, record_untouched, on_tape}
 use Rattle.group_commit.proofs.AllLaidLaws.{length-slices, slice_at, front_same, copies_same, all_laid_more, is_laid_more, is_laid, rows_stand, good_rows}
-use Rattle.group_commit.proofs.ShownLaws.{GivesEach, gives_each, each_given, last_image-append, none_before, image_in_at, image_in_not}
+use Rattle.group_commit.proofs.StandsLaws as lower
+use Rattle.group_commit.proofs.ShownLaws.{GivesEach, each_given, last_image-append, none_before, image_in_at, image_in_not}
 
 -- ---- anchors that are all the log's own
 
 own_to : (o new : Option Anchor) (P Q : Anchor → Type 0) (a : Anchor) → new ≡ o → IfSome o (λ b. b ≡ a) → IfSome o P → (P a → Q a) → IfSome new Q
 own_to None new P Q a e own p to = subst (λ (x : Option Anchor). IfSome x Q) (sym e) tt
 own_to (Some b) new P Q a e own p to = subst (λ (x : Option Anchor). IfSome x Q) (sym e) (subst Q (sym own) (to (subst P own p)))
-
-newer_own : (a : Anchor) (o p : Option Anchor) → IfSome o (λ b. b ≡ a) → IfSome p (λ b. b ≡ a) → (x : Anchor) → newer_of o p ≡ Some x → x ≡ a
-newer_own a None None own own2 x e = absurd (cc)
-newer_own a None (Some c) own own2 x e = let same : c ≡ x = cc in sym same ∙ own2
-newer_own a (Some b) None own own2 x e = let same : b ≡ x = cc in sym same ∙ own
-newer_own a (Some b) (Some c) own own2 x e = by_test (is_newer c b) e
-  where
-    by_test : (t : Bool) → Some (cond t c b) ≡ Some x → x ≡ a
-    by_test true e = let same : c ≡ x = cc in sym same ∙ own2
-    by_test false e = let same : b ≡ x = cc in sym same ∙ own
 
 same_suffix : (xs ys : List Placed) → xs ≡ ys → IsSuffix xs ys
 same_suffix xs ys e = ([], sym e)
@@ -295,7 +286,7 @@ module _ (log : LogValue) (s : ResidentValue) (images : List ℕ) (records : Lis
     -- ---- by what the scan finds
 
     was_scanned : records_by l old.image a ≡ records
-    was_scanned = ap (λ (w : Walked). w.records) m.over.own.log.scanned
+    was_scanned = lower.scanned l a log.head records disk s.pages s.dirty windows old.image m.over
 
     abbrev SameHomes : Image → List Placed → Type 0
     SameHomes j found = (page : ℕ) → page < l.pages → last_image page found ≡ None → (x y : List ℕ) → sector_at j (home_a l page) ≡ Whole x → sector_at j (home_b l page) ≡ Whole y → x ≡ y
@@ -421,31 +412,14 @@ module _ (log : LogValue) (s : ResidentValue) (images : List ℕ) (records : Lis
 
     -- ---- the pages that are shown
 
-    shown_some : (o : Option Anchor) → ShowsOne (disk ∷ []) (option_and_then (shown_by l old.image) o) → IfSome o (λ b. b ≡ a) → (o ≡ Some a) × (shown_by l old.image a ≡ Some disk)
-    shown_some None one mine = absurd one
-    shown_some (Some b) one mine = (ap (λ (x : Anchor). Some x) mine, ap (shown_by l old.image) (sym mine) ∙ by_pages (shown_by l old.image b) one)
-      where
-        by_pages : (o : Option (List (List ℕ))) → ShowsOne (disk ∷ []) o → o ≡ Some disk
-        by_pages None one = absurd one
-        by_pages (Some pages) one = ap (λ (x : List (List ℕ)). Some x) (only one)
-          where
-            only : (k : ℕ) × (k < 1) × (get_or (disk ∷ []) k pages ≡ pages) → pages ≡ disk
-            only one = let first : one.0 ≡ 0 = omega (arith, one.1) in sym one.2 ∙ ap (λ (k : ℕ). get_or (disk ∷ []) k pages) first
-
-    owned : (o : Option Anchor) → ((x : Anchor) → o ≡ Some x → x ≡ a) → IfSome o (λ b. b ≡ a)
-    owned None each = tt
-    owned (Some b) each = each b refl
-
-    was_shown : (anchor_of old.image ≡ Some a) × (shown_by l old.image a ≡ Some disk)
-    was_shown =
-        shown_some (anchor_of old.image) (m.over.shows.shows old.image (record { size = refl; each = λ t. inl refl }))
-        (owned (anchor_of old.image) (newer_own a (anchor_at old.image 8) (anchor_at old.image 12) m.over.own.own.0 m.over.own.own.1))
-
     was_gives : GivesEach (newest l old.image records) 0 l.pages disk
-    was_gives = gives_each (newest l old.image records) 0 l.pages disk (ap (λ (q : List Placed). each_of (newest l old.image q) (all_pages l)) (sym was_scanned) ∙ was_shown.1)
+    was_gives = lower.gives_disk l a log.head records disk s.pages s.dirty windows old.image m.over
 
     page_was : (k : ℕ) → k < l.pages → newest l old.image records k ≡ Some (image_at disk k)
-    page_was k lt = ap (newest l old.image records) (let e : k ≡ 0 + k = omega arith in e) ∙ was_gives.each k lt
+    page_was = lower.page_shown l a log.head records disk s.pages s.dirty windows old.image m.over
+
+    was_shown : (anchor_of old.image ≡ Some a) × (shown_by l old.image a ≡ Some disk)
+    was_shown = lower.is_shown l a log.head records disk s.pages s.dirty windows old.image m.over
 
     gives_disk : GivesEach (newest l i records) 0 l.pages disk
     gives_disk = record { size = was_gives.size; each = λ k lt. ap (option_or (last_image (0 + k) records)) (home_same (0 + k)) ∙ was_gives.each k lt }

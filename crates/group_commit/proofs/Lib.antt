@@ -1,8 +1,10 @@
 pub mod AllLaidLaws
 pub mod CommitLaws
 pub mod ImageLaws
+pub mod NewestLaws
 pub mod PlaceLaws
 pub mod ShownLaws
 pub mod StampLaws
 pub mod StampedPages
+pub mod StandsLaws
 pub mod WaitLaws

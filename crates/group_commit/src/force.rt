@@ -37,6 +37,7 @@ ghost use Rattle.fsd_sound.specs.Sound.{EndIn};
 ghost use Rattle.log_thirds.specs.Append.{stamp_now, log_with};
 ghost use Rattle.group_commit.specs.Resident.{AreImages, stamped};
 ghost use Rattle.group_commit.specs.Force.{HasRoomFor, sectors_written, stamped_by, log_forced, StandsOver, Commits, Committed, ForceCause};
+ghost use Rattle.group_commit.specs.Newest.{KnowsImages};
 
 // Stamps these pages and writes their record.
 fn write_pages<M: Machine>(
@@ -71,6 +72,10 @@ fn write_pages<M: Machine>(
         M.honest m.new → IsCalm (M.now m.old).windows → EndIn (M.now m.old).windows windows →
         StandsOver log.old records disk (record { pages = pages.old; dirty = dirty.now }) windows (M.now m.old).image →
         Committed log.new (record { pages = pages.new; dirty = [] }) windows (M.now m.new).image) }
+    ensures knows { OnOk result ((windows : List WeakRun) (records : List Placed) (disk : List (List ℕ)) →
+        M.honest m.new → IsCalm (M.now m.old).windows →
+        StandsOver log.old records disk (record { pages = pages.old; dirty = dirty.now }) windows (M.now m.old).image →
+        KnowsImages log.old (M.now m.old).image → KnowsImages log.new (M.now m.new).image) }
 {
     stamp_pages(pages, dirty, log.epoch(), log.next_number());
     lay_images(pages, dirty, room);
@@ -120,6 +125,12 @@ impl Group {
             M.honest m.new → IsCalm (M.now m.old).windows → EndIn (M.now m.old).windows windows →
             StandsOver log.old records disk pages.old windows (M.now m.old).image →
             Committed log.new pages.new windows (M.now m.new).image) }
+
+        // And the log knows where each page's last image lies, as it did before.
+        ensures knows { OnOk result ((windows : List WeakRun) (records : List Placed) (disk : List (List ℕ)) →
+            M.honest m.new → IsCalm (M.now m.old).windows →
+            StandsOver log.old records disk pages.old windows (M.now m.old).image →
+            KnowsImages log.old (M.now m.old).image → KnowsImages log.new (M.now m.new).image) }
     {
         let count = pages.dirty.len();
         if count == 0 {

@@ -2,10 +2,14 @@
 #![tactic(auto)]
 
 mod force;
+mod laws;
 mod laying;
+mod newest;
 mod resident;
 
 pub use force::{ForceFault, Forced, Group};
+pub use laws::pages_are_newest;
+pub use newest::Newest;
 pub use resident::Resident;
 
 #[cfg(test)]

@@ -4,12 +4,13 @@ use Rattle.fsd_formats.specs.Record.{Stamp, are_pages}
 use Rattle.fsd_log.specs.Borne.{FitsStamp}
 use Rattle.sector_disk.proofs.Moments.{leaves_more}
 use Rattle.log_thirds.specs.LogValue.{LogValue}
-use Rattle.log_thirds.specs.Append.{stamp_now, next_record, log_with, IsLogIn}
+use Rattle.log_thirds.specs.Append.{stamp_now, next_record, log_with, IsIndexed, IsLogIn}
 use Rattle.log_thirds.proofs.MomentLaws.{all_small, are_few}
 use Rattle.group_commit.specs.Resident.{ResidentValue, stamped}
 use Rattle.group_commit.specs.Force.{Committed}
 use Rattle.group_commit.proofs.ImageLaws.{record_laid}
 use Rattle.group_commit.proofs.CommitLaws.{calm_moment, may_commit, commits, committed}
+use Rattle.group_commit.proofs.StandsLaws.{scanned, knows_log}
 use Rattle.group_commit.proofs.force.write_pages.Goals as goal
 
 pub append-requires-clause-stamped : goal.append-requires-clause-stamped
@@ -84,3 +85,11 @@ returns-clause-done g c windows records disk h1 calm ends over =
     let done = committed log s images records disk windows old may (M.now c.append.new.m) (c.in_ok-append.ensures.stands h1) is_log in
     subst (λ (x : LogValue). Committed x (record { pages = c.stamp_pages.new.pages; dirty = [] }) windows (M.now c.append.new.m).image) (sym past)
     (subst (λ (p : List (List ℕ)). Committed (log_with log c.args.dirty.now) (record { pages = p; dirty = [] }) windows (M.now c.append.new.m).image) (sym stamped_as) (record { records = done.records; stands = done.stands }))
+
+pub returns-clause-knows : goal.returns-clause-knows
+returns-clause-knows g c windows records disk h calm over known =
+    let old = g.M.Machine.now c.args.m.now in
+    let log = c.args.log.now in
+    let indexed : IsIndexed c.args.log.now records =
+    subst (IsIndexed c.args.log.now) (scanned log.layout log.anchor log.head records disk c.args.pages.now c.args.dirty.now windows old.image over) known in
+    knows_log c.append.new.self _ (g.M.Machine.now c.append.new.m) (c.in_ok-append.ensures.done records h (calm_moment old calm) over.own.log) (c.in_ok-append.ensures.indexed records indexed)

@@ -1,0 +1,45 @@
+-- Which image of a page is the newest, and where its two copies lie.
+use Rattle.std.specs.Prelude.{◌≡◌, ◌⊎◌, ℕ, List, Option, None, slice_index_or}
+use Rattle.volume_layout.specs.declared.layout.Layout.{Layout}
+use Rattle.volume_layout.specs.Layout.{home_a, home_b}
+use Rattle.sector_disk.specs.declared.sector.Sector.TheVariants.{Whole}
+use Rattle.sector_disk.specs.Image.{sector_at}
+use Rattle.fsd_log.specs.Images.{last_image}
+use Rattle.fsd_log.specs.Scan.{Placed}
+use Rattle.fsd_files.specs.Disk.{Image}
+use Rattle.fsd_sound.specs.Shown.{newest, records_by}
+use Rattle.log_thirds.specs.Append.{IsIndexed}
+use Rattle.log_thirds.specs.Images.{AreLogged, StandsAt}
+use Rattle.log_thirds.specs.LogValue.{LogValue}
+
+-- the page's last image in the log that the log's anchor begins on this disk, else that at home
+abbrev pub newest_by : LogValue → Image → (page : ℕ) → Option (List ℕ)
+newest_by log i page = newest log.layout i (records_by log.layout i log.anchor) page
+
+-- the log knows where each page's last image lies there
+abbrev pub KnowsImages : LogValue → Image → Type 0
+KnowsImages log i = IsIndexed log (records_by log.layout i log.anchor)
+
+-- ---- the two copies of a page
+
+-- no record of the log has the page
+abbrev pub IsUnlogged : LogValue → (page : ℕ) → Type 0
+IsUnlogged log page = (records : List Placed) → IsIndexed log records → last_image page records ≡ None
+
+-- The sectors are the two homes of a page.
+pub record AreHomes (l : Layout) (page a b : ℕ) : Type 0 where
+  pub first : a ≡ home_a l page
+  pub second : b ≡ home_b l page
+
+-- the sectors are the page's own and its copy in the log; or its two homes, where it is not logged
+abbrev pub AreCopies : LogValue → (page a b : ℕ) → Type 0
+AreCopies log page a b = AreLogged log page a b ⊎ (IsUnlogged log page × AreHomes log.layout page a b)
+
+-- ---- what stands in one of them
+
+abbrev pub StandsAtHome : Layout → (page : ℕ) → Image → List ℕ → Type 0
+StandsAtHome l page i bytes = (sector_at i (home_a l page) ≡ Whole bytes) ⊎ (sector_at i (home_b l page) ≡ Whole bytes)
+
+-- the bytes stand whole in one of the two copies
+abbrev pub StandsInCopy : LogValue → (page : ℕ) → Image → List ℕ → Type 0
+StandsInCopy log page i bytes = StandsAt (slice_index_or log.slots page None) i bytes ⊎ (IsUnlogged log page × StandsAtHome log.layout page i bytes)
