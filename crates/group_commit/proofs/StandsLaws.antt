@@ -1,6 +1,6 @@
 -- Which pages a disk shows below those in memory.
 use Rattle.std.proofs.Common.{◌≡◌, ℕ, ◌+◌, ◌<◌, Bool, true, false, cond, List, [], ◌∷◌, get_or, Option, Some, None, refl, sym, ap, subst, ◌∙◌, arith, inl}
-use Rattle.std.specs.Prelude.{IfSome, IsFalse, option_and_then}
+use Rattle.std.specs.Prelude.{◌↔◌, IfSome, IsFalse, option_and_then}
 use Rattle.volume_layout.specs.declared.layout.Layout.{Layout}
 use Rattle.run_table.specs.Space.{contains}
 use Rattle.fsd_formats.specs.declared.anchor.Anchor.{Anchor}
@@ -66,10 +66,14 @@ module _ (l : Layout) (a : Anchor) (head : Head) (records : List Placed) (disk p
   pub page_in_memory : (k : ℕ) → k < l.pages → IsFalse (contains dirty k) → newest l i (records_by l i a) k ≡ Some (image_at pages k)
   page_in_memory k lt out = page_newest k lt ∙ ap (λ (x : List ℕ). Some x) (over.clean.each k out)
 
--- a log that is indexed by its records knows where their images lie
-pub knows_images : (log : LogValue) (head : Head) (records : List Placed) (disk pages : List (List ℕ)) (dirty : List ℕ) (windows : List WeakRun) (i : Image) → StandsOver log.layout log.anchor head records disk pages dirty windows i → IsIndexed log records → KnowsImages log i
-knows_images log head records disk pages dirty windows i over indexed = subst (IsIndexed log) (sym (scanned log.layout log.anchor head records disk pages dirty windows i over)) indexed
+-- what a log knows of the images on the disk is what it knows of its records
+pub knows_images : (log : LogValue) (head : Head) (records : List Placed) (disk pages : List (List ℕ)) (dirty : List ℕ) (windows : List WeakRun) (i : Image) → StandsOver log.layout log.anchor head records disk pages dirty windows i → KnowsImages log i ↔ IsIndexed log records
+knows_images log head records disk pages dirty windows i over =
+    let same = scanned log.layout log.anchor head records disk pages dirty windows i over in (
+      (λ known. subst (IsIndexed log) same known),
+      (λ indexed. subst (IsIndexed log) (sym same) indexed),
+    )
 
--- so it does of the log that stands at a moment
+-- so it is of the log that stands at a moment
 pub knows_log : (log : LogValue) (records : List Placed) (at : Moment) → IsLogIn log records at → IsIndexed log records → KnowsImages log at.image
 knows_log log records at stands indexed = subst (IsIndexed log) (sym (ap (λ (w : Walked). w.records) stands.scanned)) indexed

@@ -22,7 +22,7 @@ KnowsImages log i = IsIndexed log (records_by log.layout i log.anchor)
 
 -- ---- the two copies of a page
 
--- no record of the log has the page
+-- the log knows of no record that has the page
 abbrev pub IsUnlogged : LogValue → (page : ℕ) → Type 0
 IsUnlogged log page = (records : List Placed) → IsIndexed log records → last_image page records ≡ None
 

@@ -1,5 +1,5 @@
-//! Laws over the definitions: the function does nothing, its contract is the law.
-ghost use Rattle.std.specs.Prelude.{◌≡◌, ◌<◌, ℕ, List, Some, IsFalse};
+//! A law over the definitions: the function does nothing, its contract is the law.
+ghost use Rattle.std.specs.Prelude.{◌≡◌, ◌<◌, ◌↔◌, ℕ, List, Some, IsFalse};
 ghost use Rattle.run_table.specs.Space.{contains};
 ghost use Rattle.sector_disk.specs.declared.sector.WeakRun.{WeakRun};
 ghost use Rattle.fsd_log.specs.Scan.{Placed};
@@ -11,11 +11,12 @@ ghost use Rattle.group_commit.specs.Force.{StandsOver};
 ghost use Rattle.group_commit.specs.Newest.{newest_by, KnowsImages};
 ghost use Rattle.group_commit.specs.Resident.{ResidentValue};
 
-/// Below the pages in memory the newest image of each page is the one that the disk shows; of a page that does not wait it is
-/// the one in memory. So each page has one, and a log that knows where the records have them knows it on this disk.
+/// On the disk below the pages in memory each page has a newest image, which is the one that the disk shows; of a page that
+/// does not wait it is the one in memory. So no page is lost where nothing wears. And a log knows that disk's images exactly
+/// where it is indexed by the disk's records.
 pub fn pages_are_newest()
     ensures knows { (log : LogValue) (records : List Placed) (disk : List (List ℕ)) (s : ResidentValue) (windows : List WeakRun) (i : Image) →
-        StandsOver log records disk s windows i → IsIndexed log records → KnowsImages log i }
+        StandsOver log records disk s windows i → KnowsImages log i ↔ IsIndexed log records }
     ensures shown { (log : LogValue) (records : List Placed) (disk : List (List ℕ)) (s : ResidentValue) (windows : List WeakRun) (i : Image) (page : ℕ) →
         StandsOver log records disk s windows i → page < log.layout.pages → newest_by log i page ≡ Some (image_at disk page) }
     ensures in_memory { (log : LogValue) (records : List Placed) (disk : List (List ℕ)) (s : ResidentValue) (windows : List WeakRun) (i : Image) (page : ℕ) →

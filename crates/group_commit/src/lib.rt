@@ -1,4 +1,5 @@
 //! The force: one record of the log commits all pages of the name table that were changed since the last.
+//! Of each page the newest image is read from the log, or from home.
 #![tactic(auto)]
 
 mod force;

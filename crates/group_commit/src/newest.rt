@@ -13,8 +13,7 @@ use std::marker::Model;
 use twin_home::read_home;
 use volume_layout::Layout;
 
-/// The pages of a name table on its disk: each comes from its last image in the log, and one that the log does not have from
-/// home.
+/// The pages of a name table, each from its last image in the log, and from home where the log has none.
 #[derive(Drop)]
 pub struct Newest<'a> {
     log: &'a Log,

@@ -29,12 +29,7 @@ pub trait PageSource {
     ghost stands: { Self → (page : ℕ) → List Sector → List ℕ → Type 0 };
 
     /// Reads a page. Where the call fails nothing is said of `buf`.
-    fn load<M: Machine>(
-        &self,
-        m: &mut M,
-        page: u32,
-        buf: &mut [u8; 512],
-    ) -> Result<(), LoadFault>
+    fn load<M: Machine>(&self, m: &mut M, page: u32, buf: &mut [u8; 512]) -> Result<(), LoadFault>
         requires page { page < pages self.now }
         requires sectors { sectors self.now ≤ (M.report m.old).sectors }
 

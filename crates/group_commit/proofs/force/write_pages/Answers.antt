@@ -10,7 +10,7 @@ use Rattle.group_commit.specs.Resident.{ResidentValue, stamped}
 use Rattle.group_commit.specs.Force.{Committed}
 use Rattle.group_commit.proofs.ImageLaws.{record_laid}
 use Rattle.group_commit.proofs.CommitLaws.{calm_moment, may_commit, commits, committed}
-use Rattle.group_commit.proofs.StandsLaws.{scanned, knows_log}
+use Rattle.group_commit.proofs.StandsLaws.{knows_images, knows_log}
 use Rattle.group_commit.proofs.force.write_pages.Goals as goal
 
 pub append-requires-clause-stamped : goal.append-requires-clause-stamped
@@ -90,6 +90,5 @@ pub returns-clause-knows : goal.returns-clause-knows
 returns-clause-knows g c windows records disk h calm over known =
     let old = g.M.Machine.now c.args.m.now in
     let log = c.args.log.now in
-    let indexed : IsIndexed c.args.log.now records =
-    subst (IsIndexed c.args.log.now) (scanned log.layout log.anchor log.head records disk c.args.pages.now c.args.dirty.now windows old.image over) known in
+    let indexed : IsIndexed c.args.log.now records = (knows_images log log.head records disk c.args.pages.now c.args.dirty.now windows old.image over).0 known in
     knows_log c.append.new.self _ (g.M.Machine.now c.append.new.m) (c.in_ok-append.ensures.done records h (calm_moment old calm) over.own.log) (c.in_ok-append.ensures.indexed records indexed)

@@ -2,7 +2,7 @@ use Rattle.group_commit.proofs.StandsLaws.{knows_images, page_newest, page_in_me
 use Rattle.group_commit.proofs.laws.pages_are_newest.Goals as goal
 
 pub returns-clause-knows : goal.returns-clause-knows
-returns-clause-knows c = λ log records disk s windows i over indexed. knows_images log log.head records disk s.pages s.dirty windows i over indexed
+returns-clause-knows c = λ log records disk s windows i over. knows_images log log.head records disk s.pages s.dirty windows i over
 
 pub returns-clause-shown : goal.returns-clause-shown
 returns-clause-shown c = λ log records disk s windows i page over within. page_newest log.layout log.anchor log.head records disk s.pages s.dirty windows i over page within
