@@ -19,8 +19,8 @@ use Rattle.fsd_volume.specs.Opening.{OpensNotFor, UnreadFor}
 
 pub none_at_home : (l : Layout) (i : Image) (a b : ℕ) (lost : AreLost (AreHomes l) i a b) → home_of l i lost.copies.page ≡ None
 none_at_home l i a b lost =
-    let first : sector_at i (home_a l lost.copies.page) ≡ Damaged = ap (sector_at i) (sym lost.copies.first) ∙ lost.first in
-    let second : sector_at i (home_b l lost.copies.page) ≡ Damaged = ap (sector_at i) (sym lost.copies.second) ∙ lost.second in
+    let first : sector_at i (home_a l lost.copies.page) ≡ Damaged = ap (sector_at i) (sym lost.copies.homes.first) ∙ lost.first in
+    let second : sector_at i (home_b l lost.copies.page) ≡ Damaged = ap (sector_at i) (sym lost.copies.homes.second) ∙ lost.second in
     λ x. either_copy (bytes_of (first x)) (bytes_of (second x))
 
 pub unread_lost : (l : Layout) (i : Image) (fault : MountFault) → UnreadFor l i fault → LostIn (AreHomes l) i fault

@@ -34,7 +34,7 @@ module _ (sectors : ℕ) (i j : Image) (l : Layout) (log : LogValue) (settled : 
   shows_page page lt = by_anchor page ∙ sym (shown page lt)
 
   pub unread_refused : (fault : MountFault) → UnreadFor l j fault → MountRefused sectors i fault
-  unread_refused (Lost a b) un = (l, accepted, record { page = un.copies.page; within = un.copies.within; first = un.copies.first; second = un.copies.second; none = shows_page un.copies.page un.copies.within ∙ none_at_home l j a b un })
+  unread_refused (Lost a b) un = (l, accepted, record { page = un.copies.page; within = un.copies.within; first = un.copies.homes.first; second = un.copies.homes.second; none = shows_page un.copies.page un.copies.within ∙ none_at_home l j a b un })
   unread_refused (Device s) un = tt
   unread_refused Memory un = tt
   unread_refused NotVolume un = absurd un

@@ -8,7 +8,7 @@ use Rattle.sector_disk.specs.declared.sector.Sector.{Sector}
 use Rattle.sector_disk.specs.declared.sector.Sector.TheVariants.{Whole, Damaged}
 use Rattle.sector_disk.specs.declared.machine.LoadFault.{LoadFault}
 use Rattle.sector_disk.specs.declared.machine.LoadFault.TheVariants.{Device, Lost}
-use Rattle.sector_disk.specs.Damage.{LostCause}
+use Rattle.sector_disk.specs.Damage.{IsDevice, LostCause}
 use Rattle.sector_disk.specs.Image.{IsCalm, IsWorn, open_damage, sector_at}
 use Rattle.sector_disk.specs.Machine.{Moment, Wears}
 use Rattle.sector_disk.proofs.Calm.{calm_worn}
@@ -16,12 +16,10 @@ use Rattle.sector_disk.proofs.Damage.{cause_as}
 use Rattle.sector_disk.proofs.Wear.{worn_whole}
 use Rattle.fsd_log.specs.Images.{last_image}
 use Rattle.fsd_files.specs.Disk.{Image, bytes_of, either_copy}
-use Rattle.fsd_sound.specs.Homes.{home_of}
+use Rattle.fsd_sound.specs.Homes.{AreHomesOf, home_of}
 use Rattle.fsd_sound.specs.Shown.{records_by}
-use Rattle.log_thirds.specs.Images.{IsDevice as IsLogDevice}
 use Rattle.log_thirds.specs.LogValue.{LogValue}
-use Rattle.page_cache.specs.Source.{IsDevice}
-use Rattle.group_commit.specs.Newest.{AreCopies, AreHomes, IsUnlogged, KnowsImages, StandsAtHome, StandsInCopy, newest_by}
+use Rattle.group_commit.specs.Newest.{AreCopies, IsUnlogged, KnowsImages, StandsAtHome, StandsInCopy, newest_by}
 
 -- ---- at home
 
@@ -49,14 +47,10 @@ none_some : {A : Type 0} (o : Option A) → o ≡ None → IsSome o → ⊥
 none_some None is some = absurd (cc some)
 none_some (Some x) is some = absurd (cc is)
 
-pub lost_home : (l : Layout) (page : ℕ) (i : Image) (fault : LoadFault) → LostCause (AreHomes l page) i fault → IsSome (home_of l i page) → IsDevice fault
+pub lost_home : (l : Layout) (page : ℕ) (i : Image) (fault : LoadFault) → LostCause (AreHomesOf l page) i fault → IsSome (home_of l i page) → IsDevice fault
 lost_home l page i (Device s) lost some = tt
 lost_home l page i (Lost a b) lost some =
     absurd (none_some (home_of l i page) (no_home l page i (ap (sector_at i) (sym lost.copies.first) ∙ lost.first) (ap (sector_at i) (sym lost.copies.second) ∙ lost.second)) some)
-
-pub device_of : (fault : LoadFault) → IsLogDevice fault → IsDevice fault
-device_of (Device s) is = tt
-device_of (Lost a b) is = absurd is
 
 -- ---- of the log
 
@@ -74,8 +68,8 @@ module _ (log : LogValue) (old : Moment) (page : ℕ) where
           let at_end : StandsAtHome log.layout page new.image bytes = home_stands log.layout page new.image bytes (subst (λ (k : Layout). home_of k new.image page ≡ Some bytes) same is) in
           inr (none, stood_at_home (open_damage old.windows) log.layout page old.image mid.image bytes first.image (stood_at_home (open_damage mid.windows) log.layout page mid.image new.image bytes second.image at_end))
 
-      pub copies_lost : (fault : LoadFault) → LostCause (AreHomes l page) new.image fault → LostCause (AreCopies log page) new.image fault
-      copies_lost fault lost = cause_as (AreHomes l page) (AreCopies log page) new.image fault (λ a b homes. inr (none, subst (λ (k : Layout). AreHomes k page a b) same homes)) lost
+      pub copies_lost : (fault : LoadFault) → LostCause (AreHomesOf l page) new.image fault → LostCause (AreCopies log page) new.image fault
+      copies_lost fault lost = cause_as (AreHomesOf l page) (AreCopies log page) new.image fault (λ a b homes. inr (none, subst (λ (k : Layout). AreHomesOf k page a b) same homes)) lost
 
       module _ (calm : IsCalm old.windows) (knows : KnowsImages log old.image) where
         calm_end : new.image ≡ old.image
@@ -87,5 +81,5 @@ module _ (log : LogValue) (old : Moment) (page : ℕ) where
         pub home_newest : (bytes : List ℕ) → home_of l new.image page ≡ Some bytes → newest_by log old.image page ≡ Some bytes
         home_newest bytes is = newest_end ∙ is
 
-        pub home_lost : (fault : LoadFault) → LostCause (AreHomes l page) new.image fault → IsSome (newest_by log old.image page) → IsDevice fault
+        pub home_lost : (fault : LoadFault) → LostCause (AreHomesOf l page) new.image fault → IsSome (newest_by log old.image page) → IsDevice fault
         home_lost fault lost some = lost_home l page new.image fault lost (subst IsSome newest_end some)

@@ -7,6 +7,7 @@ use Rattle.sector_disk.specs.Image.{sector_at}
 use Rattle.fsd_log.specs.Images.{last_image}
 use Rattle.fsd_log.specs.Scan.{Placed}
 use Rattle.fsd_files.specs.Disk.{Image}
+use Rattle.fsd_sound.specs.Homes.{AreHomesOf}
 use Rattle.fsd_sound.specs.Shown.{newest, records_by}
 use Rattle.log_thirds.specs.Append.{IsIndexed}
 use Rattle.log_thirds.specs.Images.{AreLogged, StandsAt}
@@ -26,14 +27,9 @@ KnowsImages log i = IsIndexed log (records_by log.layout i log.anchor)
 abbrev pub IsUnlogged : LogValue → (page : ℕ) → Type 0
 IsUnlogged log page = (records : List Placed) → IsIndexed log records → last_image page records ≡ None
 
--- The sectors are the two homes of a page.
-pub record AreHomes (l : Layout) (page a b : ℕ) : Type 0 where
-  pub first : a ≡ home_a l page
-  pub second : b ≡ home_b l page
-
 -- the sectors are the page's own and its copy in the log; or its two homes, where it is not logged
 abbrev pub AreCopies : LogValue → (page a b : ℕ) → Type 0
-AreCopies log page a b = AreLogged log page a b ⊎ (IsUnlogged log page × AreHomes log.layout page a b)
+AreCopies log page a b = AreLogged log page a b ⊎ (IsUnlogged log page × AreHomesOf log.layout page a b)
 
 -- ---- what stands in one of them
 

@@ -3,8 +3,7 @@ ghost use Rattle.std.specs.Prelude.{◌≡◌, ◌<◌, ◌≤◌, Some, IfErr, 
 ghost use Rattle.sector_disk.specs.Damage.{LostCause};
 ghost use Rattle.sector_disk.specs.Machine.{UsesDisk, Trusts, Wears, LeavesOnly};
 ghost use Rattle.page_cache.specs.Source.{LoadCause};
-ghost use Rattle.fsd_sound.specs.Homes.{home_of};
-ghost use Rattle.group_commit.specs.Newest.{AreHomes};
+ghost use Rattle.fsd_sound.specs.Homes.{home_of, AreHomesOf};
 
 use log_thirds::Log;
 use page_cache::PageSource;
@@ -61,7 +60,7 @@ fn load_home<M: Machine>(
     ensures worn { M.honest m.new → Wears (M.now m.old) (M.now m.new) }
     ensures any_moment { M.honest m.new → LeavesOnly M.moment M.left_since m.old m.new (Wears (M.now m.old)) }
     ensures shown { OnOk result (M.honest m.new → home_of l.now (M.now m.new).image page ≡ Some buf.new) }
-    ensures lost { IfErr result (λ fault. M.honest m.new → LostCause (AreHomes l.now page) (M.now m.new).image fault) }
+    ensures lost { IfErr result (λ fault. M.honest m.new → LostCause (AreHomesOf l.now page) (M.now m.new).image fault) }
 {
     match read_home(m, l, page, buf) {
         Ok(Seen::Whole) => Ok(()),

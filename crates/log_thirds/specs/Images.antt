@@ -1,5 +1,5 @@
 -- What a page's slot gives of its last image.
-use Rattle.std.specs.Prelude.{◌≡◌, ◌⊎◌, ℕ, Bool, List, Option, Some, None, IfSome, slice_index_or, ⊤}
+use Rattle.std.specs.Prelude.{◌≡◌, ◌⊎◌, ℕ, Bool, List, Option, Some, None, IfSome, slice_index_or}
 use Rattle.std.specs.Option.{option_or}
 use Rattle.sector_disk.specs.declared.sector.Sector.{Sector}
 use Rattle.sector_disk.specs.declared.sector.Sector.TheVariants.{Whole}
@@ -61,7 +61,3 @@ pub record StandsAt (slot : Option Slot) (image : List Sector) (bytes : List ℕ
   pub b : ℕ
   pub lies : LiesAt slot a b
   pub stands : (sector_at image a ≡ Whole bytes) ⊎ (sector_at image b ≡ Whole bytes)
-
-abbrev pub IsDevice : LoadFault → Type 0
-IsDevice (Device place) = ⊤
-IsDevice (Lost a b) = ⊥

@@ -24,7 +24,8 @@ use Rattle.fsd_sound.proofs.LogPlaces.{scan_records}
 use Rattle.log_thirds.specs.declared.slots.Slot.{Slot}
 use Rattle.log_thirds.specs.Append.{IsCalm as IsCalmNow, IsIndexed}
 use Rattle.log_thirds.specs.Disk.{bytes_in, reads}
-use Rattle.log_thirds.specs.Images.{GivesSlot, GivesLast, IsDevice}
+use Rattle.sector_disk.specs.Damage.{IsDevice}
+use Rattle.log_thirds.specs.Images.{GivesSlot, GivesLast}
 use Rattle.log_thirds.specs.LogValue.{LogValue}
 use Rattle.log_thirds.specs.Slots.{slot_of}
 use Rattle.mount_recover.specs.declared.fault.MountFault.{MountFault}

@@ -1,12 +1,12 @@
 -- What a mount loses: a page both of whose copies are damaged.
 use Rattle.std.specs.Prelude.{◌≡◌, ◌⊎◌, ◌<◌, ⊤, ℕ, Some}
 use Rattle.volume_layout.specs.declared.layout.Layout.{Layout}
-use Rattle.volume_layout.specs.Layout.{home_a, home_b}
 use Rattle.fsd_formats.specs.declared.anchor.Anchor.{Anchor}
 use Rattle.sector_disk.specs.Damage.{AreLost}
 use Rattle.sector_disk.specs.Image.{IsCalm}
 use Rattle.sector_disk.specs.Machine.{Moment}
 use Rattle.fsd_files.specs.Disk.{Image}
+use Rattle.fsd_sound.specs.Homes.{AreHomesOf}
 use Rattle.fsd_sound.specs.Roots.{root_at, root_of}
 use Rattle.fsd_sound.specs.Shown.{records_by}
 use Rattle.log_thirds.specs.Images.{AreLogged, LiesAt}
@@ -47,12 +47,11 @@ pub record AreLoggedOn (sectors : ℕ) (old : Moment) (a b : ℕ) : Type 0 where
 
 -- ---- at home
 
--- The sectors are the two homes of a page.
+-- The sectors are the two homes of some page.
 pub record AreHomes (l : Layout) (a b : ℕ) : Type 0 where
   pub page : ℕ
   pub within : page < l.pages
-  pub first : a ≡ home_a l page
-  pub second : b ≡ home_b l page
+  pub homes : AreHomesOf l page a b
 
 -- So they are by a root of the image; where nothing wears, by the one that it tells.
 pub record AreHomesOn (sectors : ℕ) (old : Moment) (a b : ℕ) : Type 0 where

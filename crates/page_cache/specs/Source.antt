@@ -8,8 +8,3 @@ use Rattle.sector_disk.specs.Machine.{Report, DeviceFault}
 abbrev pub LoadCause : Report → Report → LoadFault → Type 0
 LoadCause old new (Device place) = DeviceFault old new place
 LoadCause old new (Lost a b) = ⊤
-
--- nothing is lost
-abbrev pub IsDevice : LoadFault → Type 0
-IsDevice (Device place) = ⊤
-IsDevice (Lost a b) = ⊥

@@ -1,10 +1,10 @@
 //! Where pages come from.
 ghost use Rattle.std.specs.Prelude.{◌≡◌, ◌<◌, ◌≤◌, ℕ, List, Option, Some, IsSome, IfErr, OnOk};
 ghost use Rattle.sector_disk.specs.declared.sector.Sector.{Sector};
-ghost use Rattle.sector_disk.specs.Damage.{LostCause};
+ghost use Rattle.sector_disk.specs.Damage.{IsDevice, LostCause};
 ghost use Rattle.sector_disk.specs.Image.{IsCalm};
 ghost use Rattle.sector_disk.specs.Machine.{UsesDisk, Trusts, Wears, LeavesOnly};
-ghost use Rattle.page_cache.specs.Source.{LoadCause, IsDevice};
+ghost use Rattle.page_cache.specs.Source.{LoadCause};
 
 use sector_disk::{LoadFault, Machine};
 

@@ -12,6 +12,11 @@ pub record AreLost (AreCopies : ℕ → ℕ → Type 0) (image : List Sector) (a
   pub first : sector_at image a ≡ Damaged
   pub second : sector_at image b ≡ Damaged
 
+-- nothing is lost
+abbrev pub IsDevice : LoadFault → Type 0
+IsDevice (Device place) = ⊤
+IsDevice (Lost a b) = ⊥
+
 -- so they are where the fault tells that they are
 abbrev pub LostCause : (ℕ → ℕ → Type 0) → List Sector → LoadFault → Type 0
 LostCause AreCopies image (Device place) = ⊤

@@ -2,10 +2,10 @@ use Rattle.std.proofs.Common.{◌≡◌, Bool, Ok, Some, refl, sym, ap, subst, �
 use Rattle.std.proofs.lemmas.Result.{err_from_is_err_and, on_ok_weaker, IfErr-weaker}
 use Rattle.fsd_sound.specs.Shown.{records_by}
 use Rattle.log_thirds.specs.LogValue.{LogValue}
-use Rattle.page_cache.specs.Source.{IsDevice}
+use Rattle.sector_disk.specs.Damage.{IsDevice}
 use Rattle.group_commit.specs.Newest.{IsUnlogged, KnowsImages, newest_by}
 use Rattle.group_commit.proofs.CommitLaws.{calm_moment}
-use Rattle.group_commit.proofs.NewestLaws.{logged_newest, device_of, copy_stands, copies_lost, home_newest, home_lost}
+use Rattle.group_commit.proofs.NewestLaws.{logged_newest, copy_stands, copies_lost, home_newest, home_lost}
 use Rattle.group_commit.proofs.newest.NewestPageSource.load.Given as given
 use Rattle.group_commit.proofs.newest.NewestPageSource.load.Goals as goal
 
@@ -16,7 +16,7 @@ returns-in_err-image_of-clause-never_lost g c =
     let old = g.M.Machine.now c.args.m.now in
     let log : LogValue = c.self.inside.log.now in
     let known : KnowsImages c.self.inside.log.now old.image = subst (λ (x : LogValue). KnowsImages x old.image) (sym c.self.view_is) knows in
-    subst IsDevice (sym told.2) (device_of c.in_err-image_of.field-0.0 (c.in_err-image_of.ensures.never_lost (records_by log.layout old.image log.anchor) h (calm_moment old calm) known refl)))
+    subst IsDevice (sym told.2) (c.in_err-image_of.ensures.never_lost (records_by log.layout old.image log.anchor) h (calm_moment old calm) known refl))
 
 pub returns-then-branch-clause-newest : goal.returns-then-branch-clause-newest
 returns-then-branch-clause-newest g c h calm knows =
