@@ -7,6 +7,7 @@ use Rattle.std.proofs.lemmas.List.{append-nil}
 use Rattle.run_table.specs.Space.{contains, all_differ}
 use Rattle.fsd_bytes.specs.declared.key.Key.{Key}
 use Rattle.fsd_bytes.specs.Keys.{key_lt}
+use Rattle.fsd_formats.specs.declared.entry.Entry.{Entry}
 use Rattle.fsd_formats.specs.declared.page.Separator.{Separator}
 use Rattle.fsd_formats.specs.NamePage.{Content, Interior}
 use Rattle.fsd_table.specs.declared.child.Child.{Child}
@@ -25,7 +26,7 @@ use Rattle.name_node.specs.Cut.{is_before}
 use Rattle.name_node.specs.Edits.{without, is_on}
 use Rattle.name_node.specs.declared.entries.Side.TheVariants.{Greater}
 use Rattle.name_node.proofs.CutLaws.{greater}
-use Rattle.name_node.proofs.PutLaws.{all_split}
+use Rattle.fsd_forest.proofs.PartLaws.{all_split}
 use Rattle.name_node.proofs.SideLaws.{without_part}
 use Rattle.name_btree.specs.declared.trimming.Pair.{Pair}
 use Rattle.name_btree.specs.Remove.{IsAround}
@@ -128,29 +129,29 @@ child_around key pages level above first xs i child around at within ends begins
 -- ---- one level up
 
 -- what others make of the page above, in the place of the pair
-pub record Raised (key : Key) (pages after : List (List ℕ)) (went : List ℕ) (level : ℕ) (above : Child) (first : ℕ) (separators : List Separator) : Type 0 where
-  pub inner : Becomes (without key) pages after [] went level (children_of above.low above.high (page_at pages above.page)) (children first above.low above.high separators)
-  pub whole : page_at after above.page ≡ Some (Interior first separators) → Becomes (without key) pages after [] went (suc level) (above ∷ []) (above ∷ [])
+pub record Raised (edit : List Entry → List Entry) (pages after : List (List ℕ)) (went : List ℕ) (level : ℕ) (above : Child) (first : ℕ) (separators : List Separator) : Type 0 where
+  pub inner : Becomes edit pages after [] went level (children_of above.low above.high (page_at pages above.page)) (children first above.low above.high separators)
+  pub whole : page_at after above.page ≡ Some (Interior first separators) → Becomes edit pages after [] went (suc level) (above ∷ []) (above ∷ [])
 
 pub all_top : (cs : List Child) → AllByRecursion (λ (d : Child). ⊤) cs
 all_top [] = tt
 all_top (c ∷ cs) = (tt, all_top cs)
 
-pub raised : (key : Key) (pages after : List (List ℕ)) (went : List ℕ) (level : ℕ) (above : Child) (left old new right : List Child) (first : ℕ) (separators : List Separator) → IsAround key pages (suc level) above
+pub raised : (key : Key) (edit : List Entry → List Entry) (pages after : List (List ℕ)) (went : List ℕ) (level : ℕ) (above : Child) (left old new right : List Child) (first : ℕ) (separators : List Separator) → IsLocal key edit → IsAround key pages (suc level) above
     → StandsAt key (children_of above.low above.high (page_at pages above.page)) left old right → children first above.low above.high separators ≡ left ++ (new ++ right) → keys_fit above.low above.high (separator_keys separators) ≡ true
-    → Stay pages after (above.page ∷ forest_pages level pages old) → Becomes (without key) pages after [] went level old new → Raised key pages after went level above first separators
-raised key pages after went level above left old new right first separators around stands are fit stay becomes =
+    → Stay pages after (above.page ∷ forest_pages level pages old) → Becomes edit pages after [] went level old new → Raised edit pages after went level above first separators
+raised key edit pages after went level above left old new right first separators local around stands are fit stay becomes =
     let apart : all_differ (pages_below (suc level) pages above ++ []) ≡ true = ap all_differ (append-nil (pages_below (suc level) pages above)) ∙ around.apart in
     let stay2 : Stay pages after (above.page ∷ (forest_pages level pages old ++ [])) = subst (λ (ps : List ℕ). Stay pages after (above.page ∷ ps)) (sym (append-nil (forest_pages level pages old))) stay in
     let keep : Keep pages after (forest_pages level pages (left ++ right)) = page_sides_stay pages after [] level above left old right stands.children_are apart stay2 in
     let subs = subst (AllByRecursion (IsSubtree level pages)) stands.children_are (subtrees_of (IsSubtree level pages) above (page_at pages above.page) around.subtree) in
     let outer = all_split (IsSubtree level pages) left (old ++ right) subs in
     let last = all_split (IsSubtree level pages) old right outer.1 in
-    let wide = widens key (without key) pages after [] went level left old new right (is_local key) outer.0 last.1 stands.ends stands.begins keep becomes in
+    let wide = widens key edit pages after [] went level left old new right local outer.0 last.1 stands.ends stands.begins keep becomes in
     record {
-      inner = subst (λ (cs : List Child). Becomes (without key) pages after [] went level cs (children first above.low above.high separators)) (sym stands.children_are)
-          (subst (Becomes (without key) pages after [] went level (left ++ (old ++ right))) (sym are) wide);
+      inner = subst (λ (cs : List Child). Becomes edit pages after [] went level cs (children first above.low above.high separators)) (sym stands.children_are)
+          (subst (Becomes edit pages after [] went level (left ++ (old ++ right))) (sym are) wide);
       whole = λ now.
-          page_steps_up key (without key) pages after [] went level above left old new right (is_local key) around.subtree stands
+          page_steps_up key edit pages after [] went level above left old new right local around.subtree stands
           (ap (children_of above.low above.high) now ∙ are) (subst (IsInterior (λ (d : Child). ⊤) above) (sym now) (fit, all_top (children first above.low above.high separators))) keep becomes;
     }

@@ -2,8 +2,10 @@
 use Rattle.std.proofs.Common.{◌≡◌, ℕ, suc, ◌+◌, Bool, true, false, cond, ◌&&◌, List, [], ◌∷◌, ◌++◌, take, drop, refl, sym, ap, subst, ◌∙◌, arith, Some, Option, take-append-drop, ◌||◌}
 use Rattle.std.specs.Prelude.{◌==◌, ⊤}
 use Rattle.std.specs.List.{flat_map, AllByRecursion}
-use Rattle.std.proofs.lemmas.Bool.{and_parts}
+use Rattle.std.proofs.lemmas.Bool.{and_parts, false_from_ne_true, eqb-true, eq-eqb}
 use Rattle.std.proofs.lemmas.List.Concat.{flat_map-append}
+use Rattle.name_btree.proofs.ApartLaws.{apart_from, apart_parts}
+use Rattle.fsd_forest.proofs.KeepLaws.{in_left, in_right}
 use Rattle.run_table.specs.Space.{contains, all_differ}
 use Rattle.fsd_bytes.specs.declared.key.Key.{Key}
 use Rattle.fsd_bytes.specs.Keys.{key_lt}
@@ -14,10 +16,10 @@ use Rattle.fsd_table.specs.declared.child.Child.{Child}
 use Rattle.fsd_table.specs.Pages.{page_at, children, children_of, not_below, below, keys_fit, separator_keys}
 use Rattle.fsd_table.specs.Tree.{entries_below, pages_below, IsInterior, IsSubtree}
 use Rattle.fsd_table.proofs.BoundLaws.{all_weaker}
-use Rattle.fsd_forest.specs.Forest.{inner, count_of, forest_pages, IsLocal, Becomes, IsAbove}
+use Rattle.fsd_forest.specs.Forest.{inner, count_of, forest_pages, IsLocal, Becomes, IsAbove, Disjoint}
 use Rattle.fsd_forest.specs.Parts.{left_part, right_part}
 use Rattle.fsd_forest.specs.Ways.{children_before, children_from, child_between, StandsAt, IsUpTo, IsBehind}
-use Rattle.fsd_forest.proofs.PartLaws.{children_part, keys_parted}
+use Rattle.fsd_forest.proofs.PartLaws.{children_part, keys_parted, all_split}
 use Rattle.fsd_forest.proofs.TreeLaws.{alone}
 use Rattle.fsd_forest.proofs.WayLaws.{children_around, children_parted}
 use Rattle.name_page.specs.Pages.{Step, is_spare}
@@ -25,17 +27,12 @@ use Rattle.name_node.specs.declared.entries.Side.TheVariants.{Lesser, Greater}
 use Rattle.name_node.specs.Edits.{is_on, with_entry}
 use Rattle.name_node.specs.Lookups.{is_after}
 use Rattle.name_node.proofs.CutLaws.{greater}
-use Rattle.name_node.proofs.PutLaws.{all_split}
 use Rattle.name_node.proofs.SideLaws.{with_part}
 use Rattle.name_btree.specs.declared.growing.Grown.{Grown}
 use Rattle.name_btree.specs.declared.growing.Grown.TheVariants.{Whole, Parted}
 use Rattle.name_btree.specs.Draft.{IsTaken}
 use Rattle.name_btree.specs.Grown.{went_of, parts_of, AreInteriorsOf, IsInPlace, IsAboveGrown, IsDivided, IsBranch, AreUsed}
-use Rattle.name_btree.specs.Level.{Disjoint}
-use Rattle.name_btree.specs.Change.{Within}
-use Rattle.name_btree.proofs.KeepLaws.{apart_from, false_by}
 use Rattle.name_btree.proofs.LeafGrowthLaws.{behind_low}
-use Rattle.name_btree.proofs.ReachLaws.{apart_parts, equal, in_left, in_right, same_itself}
 use Rattle.name_btree.proofs.TakeLaws.{each_in}
 use Rattle.name_btree.proofs.WaysGrowthLaws.{between_ascends, between_fits}
 
@@ -95,6 +92,9 @@ is_below key pages level c first separators i at around sub =
       subtree = (all_split (IsSubtree level pages) left (d ∷ right) subs).1.0;
     }
 
+abbrev pub Within : List ℕ → List ℕ → Type 0
+Within xs ys = (p : ℕ) → contains xs p ≡ true → contains ys p ≡ true
+
 -- the pages below the child are among the others, but the page above is none of them
 among_below : (above : ℕ) (ls ms rs : List ℕ) → Within ms (above ∷ (ls ++ (ms ++ rs)))
 among_below above ls ms rs p h = in_right (above ∷ []) (ls ++ (ms ++ rs)) p (in_right ls (ms ++ rs) p (in_left ms rs p h))
@@ -118,7 +118,7 @@ branch_below key pages level c first separators i at around branch =
     (record { subtree = b.subtree; apart = inner.first; inner = λ h. absurd (out h) }, (within, out))
   where
     first_there : (p : ℕ) → contains (p ∷ []) p ≡ true
-    first_there p = ap (λ (b : Bool). b || false) (same_itself p)
+    first_there p = ap (λ (b : Bool). b || false) (eq-eqb p p refl)
 
 -- ---- the page above
 
@@ -217,12 +217,12 @@ went_nothing page Whole apart = refl
 went_nothing page (Parted left s) apart = by (page == 0) refl
   where
     by : (b : Bool) → (page == 0) ≡ b → cond {A = List ℕ} b (0 ∷ []) [] ≡ []
-    by true is = absurd (apart (equal page 0 is))
+    by true is = absurd (apart (eqb-true page 0 is))
     by false is = refl
 
 used_apart : (old new : Step) (pages came : List ℕ) → AreUsed old pages → IsTaken old new came → Disjoint pages came
 used_apart old new pages came used taken p h =
-    false_by (contains came p) (λ there. let spare = each_in (λ q. is_spare old.spares q ≡ true) came p taken.spare there in let no_spare = used p h in absurd cc)
+    false_from_ne_true (contains came p) (λ there. let spare = each_in (λ q. is_spare old.spares q ≡ true) came p taken.spare there in let no_spare = used p h in absurd cc)
 
 pub taken_apart : (old new : Step) (pages came : List ℕ) → all_differ pages ≡ true → AreUsed old pages → IsTaken old new came → all_differ (pages ++ came) ≡ true
 taken_apart old new pages came apart used taken = apart_from pages came apart taken.apart (used_apart old new pages came used taken)

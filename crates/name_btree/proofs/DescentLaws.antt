@@ -5,6 +5,7 @@ use Rattle.name_node.proofs.ListLaws.{drop_at}
 use Rattle.std.specs.List.{flat_map, AllByRecursion}
 use Rattle.std.proofs.lemmas.Bool.{and_parts}
 use Rattle.std.proofs.lemmas.List.{append-nil}
+use Rattle.fsd_forest.specs.Ways.{end_of}
 use Rattle.fsd_bytes.specs.declared.key.Key.{Key}
 use Rattle.fsd_formats.specs.declared.entry.Entry.{Entry}
 use Rattle.fsd_formats.specs.declared.page.Separator.{Separator}
@@ -19,7 +20,7 @@ use Rattle.name_btree.specs.declared.descent.Way.{Way}
 use Rattle.name_btree.specs.declared.descent.Neighbour.{Neighbour}
 use Rattle.name_node.specs.Cut.{IsLesser}
 use Rattle.name_node.proofs.CutLaws.{IsMonotone, behind}
-use Rattle.name_btree.specs.Descent.{end_of, way_to, IsAbove, IsNext, IsPrevious, IsAt}
+use Rattle.name_btree.specs.Descent.{way_to, IsAbove, IsNext, IsPrevious, IsAt}
 
 -- ---- one page
 

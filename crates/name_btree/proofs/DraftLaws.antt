@@ -3,8 +3,10 @@ use Rattle.std.proofs.Common.{◌≡◌, ℕ, zero, suc, ◌+◌, ◌<◌, ◌�
 use Rattle.std.specs.Prelude.{◌==◌, IsSome, slice_set}
 use Rattle.std.specs.List.{AllByRecursion}
 use Rattle.std.specs.Option.{option_or}
-use Rattle.std.proofs.lemmas.Bool.{or_left, or_parts}
+use Rattle.std.proofs.lemmas.Bool.{or_left, or_parts, eqb-true, eq-eqb}
 use Rattle.std.proofs.lemmas.List.{take_more}
+use Rattle.name_btree.proofs.ApartLaws.{apart_parts}
+use Rattle.fsd_forest.proofs.KeepLaws.{in_left}
 use Rattle.run_table.specs.Space.{contains, all_differ}
 use Rattle.fsd_formats.specs.NamePage.{Content, read_page}
 use Rattle.fsd_table.specs.Pages.{page_at}
@@ -14,7 +16,6 @@ use Rattle.name_page.specs.Reading.{content_in}
 use Rattle.name_page.proofs.ContentLaws.{content_is}
 use Rattle.name_btree.specs.declared.draft.Sheet.{Sheet}
 use Rattle.name_btree.specs.Draft.{drafted, committed, freed, last_sheet, IsSheet, AreSheets, MayGo, IsDrafted}
-use Rattle.name_btree.proofs.ReachLaws.{equal, same_itself, in_left, apart_parts}
 use Rattle.name_btree.proofs.SetLaws.{set_at, at_other}
 
 -- ---- lists
@@ -40,7 +41,7 @@ none_before pages i low apart =
   where
     by : (b : Bool) → contains (take i pages) (get_or pages i 0) ≡ b → (contains (take i pages) (get_or pages i 0) ≡ true → contains (get_or pages i 0 ∷ []) (get_or pages i 0) ≡ false) → b ≡ false
     by false is out = refl
-    by true is out = absurd (let no = out is in let yes = or_left (get_or pages i 0 == get_or pages i 0) false (same_itself (get_or pages i 0)) in cc)
+    by true is out = absurd (let no = out is in let yes = or_left (get_or pages i 0 == get_or pages i 0) false (eq-eqb (get_or pages i 0) (get_or pages i 0) refl) in cc)
 
 -- ---- pages that stay reached
 
@@ -115,7 +116,7 @@ pub freed_used : (pages : List ℕ) (step : Step) (q : ℕ) → contains pages q
 freed_used [] step q none used = used
 freed_used (p ∷ pages) step q none used =
     let parts = or_parts (p == q) (contains pages q) none in
-    freed_used pages (with_spare p step) q parts.1 (get_or-set_other step.spares p q true false (λ e. let yes = same_itself q in let no : (q == q) ≡ false = ap (λ (n : ℕ). n == q) e ∙ parts.0 in cc) ∙ used)
+    freed_used pages (with_spare p step) q parts.1 (get_or-set_other step.spares p q true false (λ e. let yes = eq-eqb q q refl in let no : (q == q) ≡ false = ap (λ (n : ℕ). n == q) e ∙ parts.0 in cc) ∙ used)
 
 -- pages that were written may go
 pub may_go : (sheets : List Sheet) (step : Step) (pages : List ℕ) → AllByRecursion (MayGo step) pages → AllByRecursion (MayGo (committed sheets step)) pages
@@ -152,9 +153,9 @@ drafted_at (s ∷ sheets) pages page low =
   where
     here : (b : Bool) → (s.page == page) ≡ b → page_at (slice_set pages s.page s.image) page ≡ by_sheet page pages (cond b (Some s.image) None)
     here true is =
-        let same : s.page ≡ page = equal s.page page is in
+        let same : s.page ≡ page = eqb-true s.page page is in
         ap (λ (n : ℕ). page_at (slice_set pages n s.image) page) same ∙ set_at pages page s.image low
-    here false is = at_other pages s.page page s.image (λ e. let yes = same_itself page in let no : (page == page) ≡ false = ap (λ (n : ℕ). n == page) e ∙ is in cc)
+    here false is = at_other pages s.page page s.image (λ e. let yes = eq-eqb page page refl in let no : (page == page) ≡ false = ap (λ (n : ℕ). n == page) e ∙ is in cc)
 
     by : (o : Option (List ℕ)) → by_sheet page (slice_set pages s.page s.image) o ≡ by_sheet page pages (option_or o (cond (s.page == page) (Some s.image) None))
     by (Some bytes) = ap (λ (n : ℕ). read_page page n bytes) (length-set pages s.page s.image)
@@ -167,7 +168,7 @@ sheet_is step (s ∷ sheets) page bytes a e = by (last_sheet page sheets) refl (
     here : (b : Bool) → (s.page == page) ≡ b → cond b (Some s.image) None ≡ Some bytes → IsSheet step (record { page = page; image = bytes })
     here false is h = absurd cc
     here true is h =
-        let p : s.page ≡ page = equal s.page page is in
+        let p : s.page ≡ page = eqb-true s.page page is in
         let i : s.image ≡ bytes = cc in
         let one : s ≡ record { page = page; image = bytes } = λ j. record { page = p j; image = i j } in
         subst (IsSheet step) one a.0

@@ -2,9 +2,12 @@
 use Rattle.std.proofs.Common.{◌≡◌, ℕ, zero, suc, ◌-◌, ◌<◌, ◌≤◌, ◌^◌, Bool, true, false, cond, ◌&&◌, ◌||◌, List, [], ◌∷◌, ◌++◌, length, take, drop, refl, sym, ap, subst, ◌∙◌, arith, Some, take-append-drop}
 use Rattle.std.specs.Prelude.{◌==◌, slice_get, slice_index_or, nat_lt, nat_le}
 use Rattle.std.specs.List.{list_all, AllByRecursion}
-use Rattle.std.proofs.lemmas.Bool.{and_parts, or_parts}
+use Rattle.std.proofs.lemmas.Bool.{and_parts, or_parts, false_from_ne_true, eqb-true, eq-eqb}
 use Rattle.std.proofs.lemmas.List.{length-drop}
 use Rattle.std.proofs.lemmas.List.Folds.{list_any-append, list_all-append}
+use Rattle.fsd_forest.proofs.PartLaws.{all_split}
+use Rattle.fsd_forest.specs.Forest.{Disjoint}
+use Rattle.name_btree.proofs.ApartLaws.{apart_from}
 use Rattle.run_table.specs.Space.{contains, all_differ}
 use Rattle.run_table.specs.RunTable.{are_runs, total}
 use Rattle.fsd_bytes.specs.declared.key.Key.{Key}
@@ -18,21 +21,17 @@ use Rattle.fsd_table.proofs.BoundLaws.{all_append}
 use Rattle.name_page.specs.Pages.{Step, is_spare, IsReached}
 use Rattle.name_page.proofs.LeafLaws.{between}
 use Rattle.name_node.proofs.ListLaws.{drop_at}
-use Rattle.name_node.proofs.PutLaws.{all_split}
 use Rattle.name_btree.specs.declared.draft.Draft.{Draft}
 use Rattle.name_btree.specs.declared.draft.Sheet.{Sheet}
 use Rattle.name_btree.specs.declared.growing.Grown.TheVariants.{Parted}
 use Rattle.name_btree.specs.Draft.{drafted, IsDraft, IsDrafted, MayGo}
 use Rattle.name_btree.specs.Grown.{Takes, front_came, IsGrown, ArePartsOf, AreWaysOf}
-use Rattle.name_btree.specs.Level.{Disjoint}
-use Rattle.name_btree.proofs.KeepLaws.{apart_from, false_by}
-use Rattle.name_btree.proofs.ReachLaws.{equal, same_itself}
 use Rattle.name_btree.proofs.TakeLaws.{takes_then}
 
 -- ---- a page that is to be spare
 
 pub differs : (p q : ℕ) → (p == q) ≡ false → p ≡ q → ⊥
-differs p q apart e = let yes = same_itself q in let never : (q == q) ≡ false = ap (λ (n : ℕ). n == q) (sym e) ∙ apart in cc
+differs p q apart e = let yes = eq-eqb q q refl in let never : (q == q) ≡ false = ap (λ (n : ℕ). n == q) (sym e) ∙ apart in cc
 
 pub draft_frees : (step : Step) (d new : Draft) (page : ℕ) → new.sheets.items ≡ d.sheets.items → new.freed.items ≡ d.freed.items ++ page ∷ [] → IsDraft step d → MayGo step page → contains d.freed.items page ≡ false → IsDraft step new
 draft_frees step d new page sheets freed is goes none = record {
@@ -42,10 +41,10 @@ draft_frees step d new page sheets freed is goes none = record {
 }
   where
     apart : Disjoint d.freed.items (page ∷ [])
-    apart p h = false_by (contains (page ∷ []) p) (λ i. by (page == p) refl i)
+    apart p h = false_from_ne_true (contains (page ∷ []) p) (λ i. by (page == p) refl i)
       where
         by : (b : Bool) → (page == p) ≡ b → (b || false) ≡ true → ⊥
-        by true same e = let there : contains d.freed.items page ≡ true = subst (λ (n : ℕ). contains d.freed.items n ≡ true) (sym (equal page p same)) h in absurd cc
+        by true same e = let there : contains d.freed.items page ≡ true = subst (λ (n : ℕ). contains d.freed.items n ≡ true) (sym (eqb-true page p same)) h in absurd cc
         by false same e = absurd cc
 
 -- ---- one page, or two

@@ -1,13 +1,11 @@
 -- The table under a list of changes.
-use Rattle.std.proofs.Common.{◌≡◌, ℕ, ◌<◌, not, Bool, List, [], ◌∷◌, length, map, sym, ap, subst, ◌∙◌, length-set}
+use Rattle.std.proofs.Common.{◌≡◌, ℕ, ◌<◌, not, Bool, List, [], ◌∷◌, length, sym, ap, subst, ◌∙◌}
 use Rattle.run_table.specs.Space.{contains}
 use Rattle.fsd_formats.specs.declared.entry.Entry.{Entry}
 use Rattle.fsd_table.specs.Tree.{table_of, pages_of, IsTree}
 use Rattle.name_page.specs.Pages.{Step, is_spare}
-use Rattle.name_node.specs.Edits.{put}
-use Rattle.name_btree.specs.Change.{IsEdited}
 use Rattle.name_btree.specs.Map.{IsTable, HasTable}
-use Rattle.name_btree.specs.Runs.{Change, Replace, IsSame, Makes, Runs, after, step}
+use Rattle.name_btree.specs.Runs.{Change, IsSame, Runs, after, step}
 
 -- a table stays one where the pages stay
 still_table : (old new : Step) (height : ℕ) → IsSame old new → IsTable old height → IsTable new height
@@ -32,18 +30,3 @@ tables_run old new (c ∷ changes) height t run =
     let made : HasTable next (step (table_of before.images height) c) = run.3 height (still_table old before height same t) in
     let rest : HasTable new (after (table_of next.images made.height) changes) = tables_run next new changes made.height made.is run.4 in
     subst (λ (xs : List Entry). HasTable new (after xs changes)) (made.table_is ∙ ap (λ (xs : List Entry). step xs c) (still_entries old before height same)) rest
-
--- an entry in place of another is one of them
-pub replacing_makes : (old new : Step) (entry : Entry) → new.spares ≡ old.spares → IsEdited old new (map (put entry)) → Makes old (Replace entry) new
-replacing_makes old new entry spares e height t =
-    let h = e.table height t.tree in
-    let size : length new.images ≡ length old.images = ap length e.images ∙ length-set old.images e.page e.bytes in
-    record {
-      height = height;
-      is = record {
-        tree = h.tree;
-        spare = λ page low.
-            ap (λ (s : List Bool). is_spare s page) spares ∙ t.spare page (subst (λ (n : ℕ). page < n) size low) ∙ ap (λ (ps : List ℕ). not (contains ps page)) (sym h.reached);
-      };
-      table_is = h.table;
-    }

@@ -3,7 +3,7 @@ use Rattle.std.proofs.Common.{◌≡◌, ℕ, zero, suc, ◌+◌, ◌≤◌, Boo
 use Rattle.std.specs.Prelude.{◌==◌, slice_get, find, IfOk, IfErr, Result, Ok, Err}
 use Rattle.std.specs.List.{flat_map, AllByRecursion}
 use Rattle.std.specs.Ordering.{is_gt}
-use Rattle.std.proofs.lemmas.Bool.{and_parts}
+use Rattle.std.proofs.lemmas.Bool.{and_parts, eq-eqb}
 use Rattle.run_table.specs.Space.{contains}
 use Rattle.fsd_bytes.specs.declared.key.Key.{Key}
 use Rattle.fsd_bytes.specs.declared.refusal.Refusal.{Refusal}
@@ -33,7 +33,6 @@ use Rattle.name_btree.specs.Fault.{HasCause, IsMisfit}
 use Rattle.name_btree.specs.Grown.{Takes, most_taken, IsBranch, AreUsed, BranchBecomes, Grows, BreaksGrowth}
 use Rattle.name_btree.proofs.BranchLaws.{StandAround, middle_child, left_children, right_children, is_below, branch_below}
 use Rattle.name_btree.proofs.DescentLaws.{misfit}
-use Rattle.name_btree.proofs.ReachLaws.{same_itself}
 use Rattle.name_btree.proofs.StepLaws.{leaf_never}
 use Rattle.name_btree.proofs.TakeLaws.{takes_then}
 
@@ -112,8 +111,8 @@ fault_below given (Broken page) e pages levels c first separators i at around h 
         h level (omega arith) (branch_below e.key pages level c first separators i at around branch).0 (none_below e.key pages level c first separators i at around branch.subtree none)
 
 itself_below : (level : ℕ) (pages : List (List ℕ)) (c : Child) → contains (pages_below level pages c) c.page ≡ true
-itself_below zero pages c = ap (λ (b : Bool). b || false) (same_itself c.page)
-itself_below (suc level) pages c = ap (λ (b : Bool). b || contains (flat_map (pages_below level pages) (children_of c.low c.high (page_at pages c.page))) c.page) (same_itself c.page)
+itself_below zero pages c = ap (λ (b : Bool). b || false) (eq-eqb c.page c.page refl)
+itself_below (suc level) pages c = ap (λ (b : Bool). b || contains (flat_map (pages_below level pages) (children_of c.low c.high (page_at pages c.page))) c.page) (eq-eqb c.page c.page refl)
 
 -- page 0 stands below no other
 pub zero_below : (e : Entry) (pages : List (List ℕ)) (levels : ℕ) (c : Child) (first : ℕ) (separators : List Separator) (i page : ℕ) → page_at pages c.page ≡ Some (Interior first separators) → StandAround e.key separators i

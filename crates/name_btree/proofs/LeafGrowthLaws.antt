@@ -6,7 +6,7 @@ use Rattle.std.specs.Option.{is_some}
 use Rattle.std.specs.Ordering.{is_gt, is_lt, is_eq}
 use Rattle.std.specs.declared.cmp.Ordering.{Ordering}
 use Rattle.std.specs.declared.cmp.Ordering.TheVariants as orders
-use Rattle.std.proofs.lemmas.Bool.{and_parts}
+use Rattle.std.proofs.lemmas.Bool.{and_parts, eqb-true}
 use Rattle.std.proofs.lemmas.List.Concat.{flat_map-append}
 use Rattle.run_table.specs.RunTable.{are_runs, total, max_runs}
 use Rattle.fsd_bytes.specs.declared.key.Key.{Key}
@@ -39,7 +39,6 @@ use Rattle.name_btree.specs.declared.growing.Grown.{Grown}
 use Rattle.name_btree.specs.declared.growing.Grown.TheVariants.{Whole, Parted}
 use Rattle.name_btree.specs.Draft.{drafted}
 use Rattle.name_btree.specs.Grown.{came_of, went_of, parts_of, most_parted, FitsTwoLeaves, IsGrown, IsInPlace, AreLeavesOf, IsDivided, IsFull, BranchBecomes, Grows}
-use Rattle.name_btree.proofs.ReachLaws.{equal}
 use Rattle.name_btree.proofs.ReplaceLaws.{leaf_parts}
 
 pub none_if : (o : Option Entry) → is_some o ≡ false → o ≡ None
@@ -144,7 +143,7 @@ heads_exchange c (Parted left s) place p = by (c.page == 0) refl
   where
     by : (b : Bool) → (c.page == 0) ≡ b → count_of p (left ∷ s.child ∷ []) + count_of p (cond b (0 ∷ []) []) ≡ count_of p (c.page ∷ []) + count_of p (cond b (left ∷ []) [] ++ s.child ∷ [])
     by true is =
-        let zero_is : count_of p (c.page ∷ []) ≡ count_of p (0 ∷ []) = ap (λ (n : ℕ). count_of p (n ∷ [])) (equal c.page 0 is) in
+        let zero_is : count_of p (c.page ∷ []) ≡ count_of p (0 ∷ []) = ap (λ (n : ℕ). count_of p (n ∷ [])) (eqb-true c.page 0 is) in
         omega (arith, zero_is)
     by false is =
         let left_is : left ≡ c.page = place (λ e. let never : (0 == 0) ≡ false = ap (λ (n : ℕ). n == 0) (sym e) ∙ is in cc) in

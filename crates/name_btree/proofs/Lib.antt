@@ -1,5 +1,6 @@
 pub mod AboveLaws
 mod AbsentLaws
+mod ApartLaws
 pub mod AroundLaws
 mod BranchLaws
 mod ChangeLaws
@@ -12,11 +13,9 @@ mod GrowLaws
 pub mod HighestLaws
 mod HistoryLaws
 mod InsertLaws
-mod KeepLaws
 pub mod LastLaws
 mod LeafGrowthLaws
 pub mod LeafTreeLaws
-mod LevelLaws
 mod MapLaws
 pub mod MarkLaws
 pub mod MendLaws
@@ -27,7 +26,7 @@ mod OnesLaws
 pub mod PairLaws
 mod PathLaws
 pub mod PutTreeLaws
-mod ReachLaws
+pub mod RaiseLaws
 pub mod RemoveLaws
 mod ReplaceLaws
 pub mod ResultLaws

@@ -3,6 +3,7 @@ use Rattle.std.proofs.Common.{◌≡◌, ℕ, ◌+◌, ◌*◌, ◌≤◌, Bool,
 use Rattle.std.specs.Prelude.{◌==◌}
 use Rattle.std.specs.List.{AllByRecursion}
 use Rattle.std.proofs.lemmas.List.Folds.{list_any-append}
+use Rattle.std.proofs.lemmas.Bool.{false_from_ne_true}
 use Rattle.run_table.specs.Space.{contains, all_differ}
 use Rattle.fsd_bytes.specs.declared.key.Key.{Key}
 use Rattle.fsd_bytes.specs.declared.refusal.Refusal.{Refusal}
@@ -20,7 +21,6 @@ use Rattle.name_btree.specs.Draft.{drafted, IsDraft, RemovesFrom, images_of}
 use Rattle.name_btree.specs.Fault.{HasCause, BreaksTree}
 use Rattle.name_btree.specs.Map.{without_all, HasLeft, LeavesTree}
 use Rattle.name_btree.specs.Still.{IsStill}
-use Rattle.name_btree.proofs.KeepLaws.{false_by}
 
 -- ---- entries that are taken out
 
@@ -66,7 +66,7 @@ without_more (k ∷ keys) key table = without_more keys key (without k table)
 -- a page that went is in no tree that is left
 gone_apart : (images : List (List ℕ)) (d : Draft) (keys : List Key) (height : ℕ) → IsTree images height → (h : HasLeft images d keys height) → Disjoint (pages_of (drafted d.sheets.items images) h.height_after) d.freed.items
 gone_apart images d keys height tree h p there =
-    h.freed p ∙ false_by (contains h.went p) (λ went. absurd (omega (
+    h.freed p ∙ false_from_ne_true (contains h.went p) (λ went. absurd (omega (
       arith,
       there_counts p (pages_of (drafted d.sheets.items images) h.height_after) there,
       there_counts p h.went went,

@@ -24,7 +24,7 @@ use Rattle.name_btree.specs.Draft.{drafted}
 use Rattle.name_btree.specs.Remove.{IsAround, IsTrimmed, LeftBecomes}
 use Rattle.name_btree.specs.Trim.{IsPair, IsOpened, pair_fits, separators_joined, separators_shared, AreJoined, AreShared, AreWaysPut}
 use Rattle.name_btree.proofs.AboveLaws.{joined_fit}
-use Rattle.name_btree.proofs.AroundLaws.{Raised, raised}
+use Rattle.name_btree.proofs.AroundLaws.{is_local, Raised, raised}
 use Rattle.name_btree.proofs.LeafTreeLaws.{stays_above, freed_has}
 use Rattle.name_btree.proofs.PairLaws.{parts_at, left_child, right_child}
 use Rattle.name_btree.proofs.PutTreeLaws.{pair_child, joined_child, shared_child}
@@ -69,7 +69,7 @@ shared_fit p first above xs pair is o k fit =
 -- ---- the page above
 
 left_becomes : (step : Step) (key : Key) (pages : List (List ℕ)) (mid : List Sheet) (new : Draft) (went : List ℕ) (level : ℕ) (above : Child) (first : ℕ) (separators : List Separator) (left : Trimmed)
-    → Raised key pages (drafted new.sheets.items step.images) went level above first separators → AreWaysPut step mid new.sheets.items above.page first separators left
+    → Raised (without key) pages (drafted new.sheets.items step.images) went level above first separators → AreWaysPut step mid new.sheets.items above.page first separators left
     → LeftBecomes (without key) pages (drafted new.sheets.items step.images) went (suc level) above left
 left_becomes step key pages mid new went level above first separators Whole r h = r.whole h.content
 left_becomes step key pages mid new went level above first separators (Leaf list) r h = absurd h
@@ -94,7 +94,7 @@ joined_trimmed step key pages mid new old0 went level p above first xs pair is x
     let old : List Child = left_child above first xs pair is.between ∷ right_child above xs pair is.between ∷ [] in
     let are : children first above.low above.high (front ++ back) ≡ ls ++ ((pair_child above first xs pair ∷ []) ++ rs) =
     children_beside first above.low above.high front back ∙ ap (λ (c : Child). ls ++ ((c ∷ []) ++ rs)) (joined_child above first xs pair is) in
-    let r = raised key pages after (pair.right ∷ went) level above ls old (pair_child above first xs pair ∷ []) rs first (separators_joined xs pair) around stands are (joined_fit p first above xs pair is o) stay becomes in
+    let r = raised key (without key) pages after (pair.right ∷ went) level above ls old (pair_child above first xs pair ∷ []) rs first (separators_joined xs pair) (is_local key) around stands are (joined_fit p first above xs pair is o) stay becomes in
     record {
       went = pair.right ∷ went;
       freed = λ q. ap (λ (ps : List ℕ). contains ps q) j.freed ∙ freed_has pair.right old0 mid.freed.items went some freed q;
@@ -121,7 +121,7 @@ shared_trimmed step key pages mid new old0 went level p above first xs pair is x
     let next : List Child = left_part pair.left c k ∷ right_part pair.right c k ∷ [] in
     let are : children first above.low above.high (front ++ record { key = k; child = pair.right } ∷ back) ≡ ls ++ (next ++ rs) =
     children_between first above.low above.high front (record { key = k; child = pair.right }) back ∙ ap (λ (d : Child). ls ++ ((d ∷ right_part pair.right c k ∷ []) ++ rs)) (shared_child above first xs pair k is) in
-    let r = raised key pages after went level above ls old next rs first (separators_shared xs pair k) around stands are (shared_fit p first above xs pair is o k fit) stay becomes in
+    let r = raised key (without key) pages after went level above ls old next rs first (separators_shared xs pair k) (is_local key) around stands are (shared_fit p first above xs pair is o k fit) stay becomes in
     record {
       went = went;
       freed = λ q. ap (λ (ps : List ℕ). contains ps q) s.freed ∙ freed q;

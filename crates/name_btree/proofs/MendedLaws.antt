@@ -14,9 +14,8 @@ use Rattle.fsd_table.specs.Pages.{page_at, children, children_of, keys_fit, not_
 use Rattle.fsd_table.specs.Tree.{pages_below, IsLeaf, IsInterior, IsSubtree}
 use Rattle.fsd_table.proofs.PageLaws.{at_is_page, leaf_ascends}
 use Rattle.fsd_forest.specs.Forest.{inner, count_of, forest_pages, Stay, Becomes}
-use Rattle.fsd_forest.specs.Ways.{StandsAt, IsUpTo, IsBehind, children_before, child_between, child_behind, children_from, end_of}
-use Rattle.fsd_forest.proofs.CountLaws.{count_cons, count_append, count_nothing, counts_out, out_counts, differ_counts, one_if, one_where}
-use Rattle.fsd_forest.proofs.WayLaws.{children_around, child_at}
+use Rattle.fsd_forest.specs.Ways.{StandsAt, IsUpTo, IsBehind, children_before, child_behind, children_from, end_of}
+use Rattle.fsd_forest.proofs.CountLaws.{count_cons, count_append, count_nothing, counts_out, one_if, one_where}
 use Rattle.name_node.specs.Edits.{without}
 use Rattle.name_page.specs.Pages.{Step}
 use Rattle.name_btree.specs.declared.draft.Draft.{Draft}
@@ -32,12 +31,13 @@ use Rattle.name_node.specs.declared.cut.Cut.TheVariants.{UpTo}
 use Rattle.name_node.specs.Cut.{is_before}
 use Rattle.name_btree.specs.Remove.{IsAround, IsTrimmed, IsTrimmedBelow, BreaksAround}
 use Rattle.name_btree.specs.Trim.{IsPair, IsOpened, IsLeft, AreFewEntries, AreFewWays, pair_fits, entries_at, ways_at, first_at, LeafIsMended, WayIsMended, IsMended}
-use Rattle.name_btree.proofs.AroundLaws.{raised, pair_stands, child_around, up_to, past}
-use Rattle.name_btree.proofs.LeafTreeLaws.{leaves_joined, leaves_shared, are_apart, pair_stays, stays_above, below_counts}
+use Rattle.name_btree.proofs.AroundLaws.{is_local, pair_stands, child_around, up_to, past}
+use Rattle.name_btree.proofs.LeafTreeLaws.{leaves_joined, leaves_shared, are_apart, pair_stays}
 use Rattle.name_btree.proofs.MendLaws.{fits_both, pair_inside, left_page, right_page, ways_are_at}
 use Rattle.name_btree.proofs.MendTreeLaws.{joined_trimmed, shared_trimmed}
-use Rattle.name_btree.proofs.PairLaws.{left_child, right_child, AreSides, AtLeft, AtRight, sides_are, low_same, high_is, same_of}
+use Rattle.name_btree.proofs.PairLaws.{left_child, right_child, AreSides, AtLeft, AtRight, sides_are, low_same, high_is}
 use Rattle.name_btree.proofs.PutTreeLaws.{pair_child, joined_has, shared_has, entries_edited}
+use Rattle.name_btree.proofs.RaiseLaws.{child_edited}
 use Rattle.name_btree.proofs.TrimLaws.{keys_touch, entry_keys_append, separator_keys_append, fit_append, page_ways, good_at}
 use Rattle.name_btree.proofs.WalkLaws.{all_at}
 use Rattle.name_btree.proofs.WayTreeLaws.{counted_once, ways_become, ways_joined, ways_shared, Others}
@@ -128,38 +128,16 @@ leaf_mended step key pages mid new old0 above first xs i child few left around a
 one_same : (a b : ℕ) → a ≡ b → one_where (a == b) ≡ 1
 one_same a b e = one_if (a == b) (grind arith)
 
-pub whole_mended : (step : Step) (key : Key) (pages : List (List ℕ)) (new : Draft) (old0 went : List ℕ) (level p : ℕ) (above : Child) (first : ℕ) (xs : List Separator) (i : ℕ) (child : Child)
-    → IsAround key pages (suc level) above → page_at pages above.page ≡ Some (grammar.Interior first xs) → IsOpened p above first xs → i ≤ length xs
+pub whole_mended : (step : Step) (key : Key) (pages : List (List ℕ)) (new : Draft) (old0 went : List ℕ) (level : ℕ) (above : Child) (first : ℕ) (xs : List Separator) (i : ℕ) (child : Child)
+    → IsAround key pages (suc level) above → page_at pages above.page ≡ Some (grammar.Interior first xs) → i ≤ length xs
     → AllByRecursion (IsUpTo key) (take i xs) → AllByRecursion (IsBehind key) (drop i xs) → slice_get (children first above.low above.high xs) i ≡ Some child
     → ((q : ℕ) → contains new.freed.items q ≡ (contains old0 q || contains went q)) → Stay pages (drafted new.sheets.items step.images) (pages_below level pages child)
     → Becomes (without key) pages (drafted new.sheets.items step.images) [] went level (child ∷ []) (child ∷ [])
     → IsTrimmed key pages (drafted new.sheets.items step.images) old0 new.freed.items (suc level) above Whole
-whole_mended step key pages new old0 went level p above first xs i child around at o within ends begins child_is freed stay becomes =
+whole_mended step key pages new old0 went level above first xs i child around at within ends begins child_is freed stay becomes =
     let after : List (List ℕ) = drafted new.sheets.items step.images in
-    let f : Child → List ℕ = pages_below level pages in
-    let ls : List Child = children_before first above.low (take i xs) in
-    let rs : List Child = children_from above.high (drop i xs) in
-    let same : child ≡ child_between first above.low above.high (take i xs) (drop i xs) = same_of child _ (sym child_is ∙ child_at first above.low above.high xs i within) in
-    let stands0 = children_around key first above.low above.high xs i ends begins in
-    let stands1 = subst (λ (c : Child). StandsAt key (children first above.low above.high xs) ls (c ∷ []) rs) (sym same) stands0 in
-    let stands = subst (λ (x : Option Content). StandsAt key (children_of above.low above.high x) ls (child ∷ []) rs) (sym at) stands1 in
-    let stay2 : Stay pages after (above.page ∷ forest_pages level pages (child ∷ [])) = λ q out.
-    stay q (counts_out q (f child) (omega (arith, out_counts q (above.page ∷ forest_pages level pages (child ∷ [])) out, count_cons q above.page (forest_pages level pages (child ∷ [])), count_append q (f child) [], count_nothing q))) in
-    let r = raised key pages after went level above ls (child ∷ []) (child ∷ []) rs first xs around stands stands1.children_are o.within stay2 becomes in
-    let out : contains (f child) above.page ≡ false = counts_out above.page (f child) (omega (
-      arith,
-      below_counts above.page level pages above ls (child ∷ []) rs stands.children_are,
-      differ_counts (pages_below (suc level) pages above) around.apart above.page,
-      one_same above.page above.page refl,
-      count_append above.page (f child) [],
-      count_nothing above.page,
-    )) in
-    record {
-      went = went;
-      freed = freed;
-      stay = stays_above pages after level above ls (child ∷ []) rs stands.children_are stay2;
-      becomes = r.whole (stay above.page out ∙ at);
-    }
+    let e = child_edited key (without key) pages after went level above first xs i child (is_local key) around at within ends begins child_is (record { becomes = becomes; stay = stay }) in
+    record { went = went; freed = freed; stay = e.stay; becomes = e.becomes }
 
 -- ---- interior pages
 
@@ -245,7 +223,7 @@ pub mended_trimmed : (step : Step) (key : Key) (pages : List (List ℕ)) (mid ne
     → IsTrimmed key pages (drafted new.sheets.items step.images) old0 new.freed.items (suc level) above left
 mended_trimmed step key pages mid new old0 level above first xs i child Whole left around at o within ends begins child_is small t m =
     let P : Draft → Trimmed → Type 0 = λ d x. IsTrimmed key pages (drafted d.sheets.items step.images) old0 d.freed.items (suc level) above x in
-    subst (P new) (sym m.0) (subst (λ (d : Draft). P d Whole) (sym m.1) (whole_mended step key pages mid old0 t.went level (length pages) above first xs i child around at o within ends begins child_is t.freed t.stay t.becomes))
+    subst (P new) (sym m.0) (subst (λ (d : Draft). P d Whole) (sym m.1) (whole_mended step key pages mid old0 t.went level above first xs i child around at within ends begins child_is t.freed t.stay t.becomes))
 mended_trimmed step key pages mid new old0 zero above first xs i child (Leaf list) left around at o within ends begins child_is small t m =
     let freed : (q : ℕ) → contains mid.freed.items q ≡ (contains old0 q || contains [] q) = λ q. t.freed q ∙ ap (λ (ps : List ℕ). contains old0 q || contains ps q) t.becomes.0 in
     leaf_mended step key pages mid new old0 above first xs i child list.items left around at o ends begins child_is small freed t.becomes.1 t.becomes.2 m

@@ -1,5 +1,5 @@
 -- A leaf without a key, and faults below a child.
-use Rattle.std.proofs.Common.{◌≡◌, ℕ, zero, suc, ◌<◌, ◌≤◌, Bool, true, false, ◌||◌, ◌&&◌, List, [], ◌∷◌, Option, Some, refl, sym, ap, subst, ◌∙◌, arith}
+use Rattle.std.proofs.Common.{length, ◌≡◌, ℕ, zero, suc, ◌<◌, ◌≤◌, Bool, true, false, ◌||◌, ◌&&◌, List, [], ◌∷◌, Option, Some, refl, sym, ap, subst, ◌∙◌, arith}
 use Rattle.std.specs.Prelude.{◌==◌, nat_le}
 use Rattle.std.specs.List.{list_all}
 use Rattle.std.proofs.lemmas.Bool.{and_parts, leb-true, or_left}
@@ -14,10 +14,12 @@ use Rattle.fsd_formats.specs.NamePage as grammar
 use Rattle.fsd_table.specs.declared.child.Child.{Child}
 use Rattle.fsd_table.specs.Pages.{page_at, keys_fit, entry_keys, entries_of}
 use Rattle.fsd_table.specs.Tree.{IsLeaf, IsInterior, IsSubtree}
+use Rattle.fsd_table.proofs.BoundLaws.{Ascend}
+use Rattle.fsd_table.proofs.PageLaws.{at_is_page}
 use Rattle.fsd_forest.specs.Forest.{Stay, Becomes}
 use Rattle.fsd_forest.proofs.ForestLaws.{leaves_become}
 use Rattle.name_node.specs.Edits.{without}
-use Rattle.name_node.proofs.SideLaws.{without_fits}
+use Rattle.name_node.proofs.SideLaws.{without_fits, without_ascends, without_all}
 use Rattle.name_page.specs.Pages.{Step}
 use Rattle.name_btree.specs.declared.draft.Draft.{Draft}
 use Rattle.name_btree.specs.declared.draft.Sheet.{Sheet}
@@ -30,6 +32,7 @@ use Rattle.name_btree.specs.Fault.{HasCause, IsMisfit}
 use Rattle.name_btree.specs.Remove.{IsAround, IsTrimmed, BreaksAround}
 use Rattle.name_btree.specs.Trim.{used_by, AreEntries, IsLeafPut, IsLeft}
 use Rattle.name_btree.proofs.DescentLaws.{misfit}
+use Rattle.name_btree.proofs.ReplaceLaws.{leaf_parts}
 
 -- ---- faults
 
@@ -67,11 +70,11 @@ one_page page q e same = let there = or_left (page == q) false (by page q (sym s
 pub stays_but : (old new : List Sheet) (step : Step) (page : ℕ) (x : Content) → IsDrafted step old new page x → Stay (drafted old step.images) (drafted new step.images) (page ∷ [])
 stays_but old new step page x d q out = d.others q (one_page page q out)
 
-leaf_becomes : (key : Key) (pages after : List (List ℕ)) (c : Child) (entries items : List Entry) → page_at pages c.page ≡ Some (grammar.Leaf entries) → page_at after c.page ≡ Some (grammar.Leaf items) → items ≡ without key entries
-    → keys_fit c.low c.high (entry_keys items) ≡ true → Becomes (without key) pages after [] [] zero (c ∷ []) (c ∷ [])
-leaf_becomes key pages after c entries items was now is fit =
-    leaves_become (without key) pages after [] [] (c ∷ []) (c ∷ []) (subst (IsLeaf c) (sym now) fit, tt) (λ p. refl)
-    (append-nil (entries_of (page_at after c.page)) ∙ ap entries_of now ∙ is ∙ ap (without key) (sym (append-nil (entries_of (page_at pages c.page)) ∙ ap entries_of was)))
+pub leaf_becomes : (edit : List Entry → List Entry) (pages after : List (List ℕ)) (c : Child) (entries items : List Entry) → page_at pages c.page ≡ Some (grammar.Leaf entries) → page_at after c.page ≡ Some (grammar.Leaf items) → items ≡ edit entries
+    → keys_fit c.low c.high (entry_keys items) ≡ true → Becomes edit pages after [] [] zero (c ∷ []) (c ∷ [])
+leaf_becomes edit pages after c entries items was now is fit =
+    leaves_become edit pages after [] [] (c ∷ []) (c ∷ []) (subst (IsLeaf c) (sym now) fit, tt) (λ p. refl)
+    (append-nil (entries_of (page_at after c.page)) ∙ ap entries_of now ∙ is ∙ ap edit (sym (append-nil (entries_of (page_at pages c.page)) ∙ ap entries_of was)))
 
 pub leaf_trimmed : (step : Step) (key : Key) (old new : Draft) (level : ℕ) (c : Child) (entries items : List Entry) (left : Trimmed) → page_at (drafted old.sheets.items step.images) c.page ≡ Some (grammar.Leaf entries)
     → items ≡ without key entries → keys_fit c.low c.high (entry_keys entries) ≡ true → new.freed.items ≡ old.freed.items → IsLeafPut step old.sheets.items new.sheets.items c.page items left
@@ -84,7 +87,7 @@ leaf_trimmed step key old new zero c entries items Whole at is fit freed put aro
       went = [];
       freed = λ q. ap (λ (ps : List ℕ). contains ps q) freed ∙ or_false (contains old.freed.items q);
       stay = stays_but old.sheets.items new.sheets.items step c.page (grammar.Leaf items) put;
-      becomes = leaf_becomes key (drafted old.sheets.items step.images) (drafted new.sheets.items step.images) c entries items at put.content is fits;
+      becomes = leaf_becomes (without key) (drafted old.sheets.items step.images) (drafted new.sheets.items step.images) c entries items at put.content is fits;
     }
 leaf_trimmed step key old new zero c entries items (Leaf list) at is fit freed put around =
     let same : (q : ℕ) → page_at (drafted new.sheets.items step.images) q ≡ page_at (drafted old.sheets.items step.images) q = λ q. ap (λ (s : List Sheet). page_at (drafted s step.images) q) put.0 in
@@ -95,3 +98,9 @@ leaf_trimmed step key old new zero c entries items (Leaf list) at is fit freed p
       becomes = (refl, put.1 ∙ is ∙ ap (without key) (sym (ap entries_of at)), λ q out. same q);
     }
 leaf_trimmed step key old new zero c entries items (Interior first list) at is fit freed put around = absurd put
+
+pub without_leaf : (pages : List (List ℕ)) (page : ℕ) (key : Key) (entries items : List Entry) → page_at pages page ≡ Some (grammar.Leaf entries) → items ≡ without key entries
+    → (list_all is_entry items ≡ true) × (are_ascending (entry_keys items) ≡ true)
+without_leaf pages page key entries items at is =
+    let parts = leaf_parts page (length pages) entries (at_is_page pages page (grammar.Leaf entries) at) in
+    (ap (list_all is_entry) is ∙ without_all is_entry key entries parts.each, subst Ascend (sym is) (without_ascends key entries parts.order))

@@ -52,7 +52,7 @@ mended_root step old new above first xs i (Interior lead list) left m = elim m.m
 
 -- ---- a tree
 
-tree_around : (key : Key) (pages : List (List ℕ)) (height : ℕ) → IsTree pages height → IsAround key pages (height - 1) top
+pub tree_around : (key : Key) (pages : List (List ℕ)) (height : ℕ) → IsTree pages height → IsAround key pages (height - 1) top
 tree_around key pages height tree = record { subtree = tree.subtree; low = refl; high = refl; apart = tree.apart; inner = λ h. refl }
 
 pub whole_tree : (key : Key) (pages after : List (List ℕ)) (old new : List ℕ) → IsTrimmedBelow key pages after old new 5 top Whole → (height : ℕ) → IsTree pages height

@@ -2,6 +2,7 @@
 use Rattle.std.proofs.Common.{◌≡◌, ℕ, ◌+◌, ◌-◌, ◌<◌, ◌≤◌, Bool, true, false, not, ◌&&◌, ◌||◌, List, [], ◌∷◌, ◌++◌, length, get_or, refl, sym, ap, subst, ◌∙◌, arith, length-set, get_or-set_other}
 use Rattle.std.specs.Prelude.{◌==◌, slice_set, count_by}
 use Rattle.std.proofs.lemmas.List.{get_or-set_same}
+use Rattle.std.proofs.lemmas.Bool.{eqb-true, eq-eqb}
 use Rattle.run_table.specs.Space.{contains}
 use Rattle.fsd_bytes.specs.declared.key.Key.{Key}
 use Rattle.fsd_formats.specs.declared.entry.Entry.{Entry}
@@ -19,7 +20,6 @@ use Rattle.name_btree.specs.Grown.{AreUsed, Inserts}
 use Rattle.name_btree.specs.Map.{IsTable, HasTable, without_all, LeavesTree}
 use Rattle.name_btree.proofs.BranchLaws.{taken_apart}
 use Rattle.name_btree.proofs.DraftLaws.{committed_spares, drafted_length}
-use Rattle.name_btree.proofs.ReachLaws.{equal, same_itself}
 use Rattle.name_btree.proofs.TakeLaws.{each_in, one_more}
 
 -- ---- pages that are made spare
@@ -28,8 +28,8 @@ set_spare : (spares : List Bool) (page q : ℕ) → q < length spares → get_or
 set_spare spares page q low = by (page == q) refl
   where
     by : (b : Bool) → (page == q) ≡ b → get_or (slice_set spares page true) q false ≡ (b || get_or spares q false)
-    by true is = ap (λ (n : ℕ). get_or (slice_set spares n true) q false) (equal page q is) ∙ get_or-set_same spares q true false low
-    by false is = get_or-set_other spares page q true false (λ e. let yes = same_itself q in let never : (q == q) ≡ false = ap (λ (n : ℕ). n == q) e ∙ is in cc)
+    by true is = ap (λ (n : ℕ). get_or (slice_set spares n true) q false) (eqb-true page q is) ∙ get_or-set_same spares q true false low
+    by false is = get_or-set_other spares page q true false (λ e. let yes = eq-eqb q q refl in let never : (q == q) ≡ false = ap (λ (n : ℕ). n == q) e ∙ is in cc)
 
 or_swap : (x y z : Bool) → (x || (y || z)) ≡ ((y || x) || z)
 or_swap true true z = refl

@@ -1,6 +1,7 @@
 -- An entry more below a page, where one of its children has grown.
 use Rattle.std.proofs.Common.{◌≡◌, ℕ, zero, suc, ◌+◌, ◌≤◌, Bool, true, false, List, [], ◌∷◌, ◌++◌, length, take, drop, cond, refl, sym, ap, subst, ◌∙◌, arith, Some, Option, length-append, take-append-drop}
 use Rattle.std.specs.Prelude.{◌==◌}
+use Rattle.std.proofs.lemmas.Bool.{eqb-true, eq-eqb}
 use Rattle.run_table.specs.Space.{contains, all_differ}
 use Rattle.fsd_bytes.specs.declared.key.Key.{Key}
 use Rattle.fsd_formats.specs.declared.entry.Entry.{Entry}
@@ -25,7 +26,6 @@ use Rattle.name_btree.specs.Draft.{drafted, IsTaken}
 use Rattle.name_btree.specs.Grown.{came_of, went_of, parts_of, most_taken, IsGrown, IsInPlace, IsAboveGrown, IsDivided, IsFull, IsBranch, AreUsed, BranchBecomes, Grows}
 use Rattle.name_btree.proofs.BranchLaws.{StandAround, middle_child, left_children, right_children, children_are, is_below, branch_below, sides_grown, becomes_by, went_nothing, taken_apart, with_entry_local}
 use Rattle.name_btree.proofs.LeafGrowthLaws.{came_few, heads_exchange}
-use Rattle.name_btree.proofs.ReachLaws.{equal, same_itself}
 use Rattle.name_btree.proofs.TakeLaws.{takes_then}
 
 -- ---- pages that stay
@@ -128,7 +128,7 @@ pub few_above : (page d levels : ℕ) → (d ≡ 0 → ⊥) → most_taken d lev
 few_above page d levels apart = by (d == 0) refl
   where
     by : (b : Bool) → (d == 0) ≡ b → cond b 2 1 + levels ≡ suc levels
-    by true is = absurd (apart (equal d 0 is))
+    by true is = absurd (apart (eqb-true d 0 is))
     by false is = omega arith
 
 divided_above : (key : Key) (pages after : List (List ℕ)) (above : Child) (first : ℕ) (separators : List Separator) (i : ℕ) (g grown : Grown) → StandAround key separators i → are_ascending (separator_keys separators) ≡ true
@@ -176,7 +176,7 @@ branch_grows e pages between after a c came came2 level above first separators i
     }
   where
     none_of : (page : ℕ) (ms came came2 : List ℕ) → Apart page ms came came2 page → contains (ms ++ came) page ≡ false
-    none_of page ms came came2 once = counts_out page (ms ++ came) (omega (arith, once.once, count_append page ms came, count_cons page page [], count_nothing page, one_if (page == page) (same_itself page)))
+    none_of page ms came came2 once = counts_out page (ms ++ came) (omega (arith, once.once, count_append page ms came, count_cons page page [], count_nothing page, one_if (page == page) (eq-eqb page page refl)))
 
     less : (q : ℕ) (ls ms rs whole : List ℕ) → whole ≡ above.page ∷ (ls ++ (ms ++ rs)) → count_of q (above.page ∷ ((ms ++ []) ++ (came ++ came2))) ≤ count_of q (whole ++ (came ++ came2))
     less q ls ms rs whole is = omega (

@@ -4,6 +4,9 @@ use Rattle.std.specs.Prelude.{◌==◌, IsSome, slice_set, count_by}
 use Rattle.std.specs.List.{AllByRecursion}
 use Rattle.std.proofs.lemmas.List.Folds.{list_any-append}
 use Rattle.std.proofs.lemmas.List.Sums.{sum_by-cons}
+use Rattle.std.proofs.lemmas.Bool.{false_from_ne_true, eqb-true, eq-eqb}
+use Rattle.fsd_forest.specs.Forest.{Disjoint}
+use Rattle.name_btree.proofs.ApartLaws.{apart_from}
 use Rattle.run_table.specs.Space.{contains}
 use Rattle.fsd_formats.specs.NamePage.{read_page}
 use Rattle.fsd_table.proofs.BoundLaws.{all_append, all_weaker}
@@ -12,10 +15,7 @@ use Rattle.name_btree.specs.declared.draft.Sheet.{Sheet}
 use Rattle.name_btree.specs.Draft.{IsSheet, AreSheets, MayGo, IsTaken}
 use Rattle.name_btree.specs.Grown.{Takes}
 use Rattle.name_btree.specs.Still.{IsStill}
-use Rattle.name_btree.specs.Level.{Disjoint}
 use Rattle.name_btree.proofs.DraftLaws.{taken_kept, taken_changes, taken_used}
-use Rattle.name_btree.proofs.KeepLaws.{apart_from, false_by}
-use Rattle.name_btree.proofs.ReachLaws.{equal, same_itself}
 
 -- ---- flags
 
@@ -31,9 +31,9 @@ cleared spares page q = by (page == q) refl
     all false = refl
 
     by : (b : Bool) → (page == q) ≡ b → get_or (slice_set spares page false) q false ≡ (get_or spares q false && not (b || false))
-    by true is = ap (λ (n : ℕ). get_or (slice_set spares n false) q false) (equal page q is) ∙ taken_used spares q ∙ none (get_or spares q false)
+    by true is = ap (λ (n : ℕ). get_or (slice_set spares n false) q false) (eqb-true page q is) ∙ taken_used spares q ∙ none (get_or spares q false)
     by false is =
-        get_or-set_other spares page q false false (λ e. let yes = same_itself q in let no : (q == q) ≡ false = ap (λ (n : ℕ). n == q) e ∙ is in cc)
+        get_or-set_other spares page q false false (λ e. let yes = eq-eqb q q refl in let no : (q == q) ≡ false = ap (λ (n : ℕ). n == q) e ∙ is in cc)
         ∙ all (get_or spares q false)
 
 more_cleared : (b x y : Bool) → ((b && not x) && not y) ≡ (b && not (x || y))
@@ -121,13 +121,13 @@ each_in P [] p a h = absurd cc
 each_in P (x ∷ xs) p a h = by (x == p) refl (λ i. each_in P xs p a.1 i) h
   where
     by : (b : Bool) → (x == p) ≡ b → (contains xs p ≡ true → P p) → (b || contains xs p) ≡ true → P p
-    by true is rest h = subst P (equal x p is) a.0
+    by true is rest h = subst P (eqb-true x p is) a.0
     by false is rest h = rest h
 
 -- pages that were taken first are none of those that were taken then
 pub taken_apart : (a b c : Step) (xs ys : List ℕ) → IsTaken a b xs → IsTaken b c ys → Disjoint xs ys
 taken_apart a b c xs ys s t p h =
-    false_by (contains ys p) (λ i. spare_parts (is_spare a.spares p) (contains xs p) (sym (s.spares p) ∙ each_in (λ q. is_spare b.spares q ≡ true) ys p t.spare i) h)
+    false_from_ne_true (contains ys p) (λ i. spare_parts (is_spare a.spares p) (contains xs p) (sym (s.spares p) ∙ each_in (λ q. is_spare b.spares q ≡ true) ys p t.spare i) h)
 
 taken_then : (a b c : Step) (xs ys : List ℕ) → IsTaken a b xs → IsTaken b c ys → IsTaken a c (xs ++ ys)
 taken_then a b c xs ys s t = record {
@@ -158,7 +158,7 @@ takes_then a b c xs ys s t = record {
     more x y z m n k h i e = omega arith
 
 pub taken_itself : (b : Bool) (page : ℕ) → (b && not ((page == page) || false)) ≡ false
-taken_itself b page = ap (λ (x : Bool). b && not (x || false)) (same_itself page) ∙ by b
+taken_itself b page = ap (λ (x : Bool). b && not (x || false)) (eq-eqb page page refl) ∙ by b
   where
     by : (b : Bool) → (b && false) ≡ false
     by true = refl

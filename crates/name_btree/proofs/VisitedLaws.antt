@@ -2,6 +2,7 @@
 use Rattle.std.proofs.Common.{◌≡◌, ℕ, ◌+◌, ◌≤◌, ◌<◌, Bool, true, false, cond, List, [], ◌∷◌, Option, Some, sym, subst, arith}
 use Rattle.std.specs.Prelude.{IfSome}
 use Rattle.std.specs.List.{AllByRecursion}
+use Rattle.fsd_forest.specs.Ways.{end_of}
 use Rattle.fsd_bytes.specs.declared.key.Key.{Key}
 use Rattle.fsd_bytes.specs.declared.refusal.Refusal.{Refusal}
 use Rattle.fsd_formats.specs.declared.page.Separator.{Separator}
@@ -15,7 +16,7 @@ use Rattle.name_btree.specs.declared.descent.Neighbour.{Neighbour}
 use Rattle.name_btree.specs.declared.descent.Found.{Found}
 use Rattle.name_btree.specs.declared.fault.TreeFault.{TreeFault}
 use Rattle.name_btree.specs.declared.fault.TreeFault.TheVariants.{Pages, Broken}
-use Rattle.name_btree.specs.Descent.{end_of, way_to, IsAbove, IsNeighbour, HasNeighbours}
+use Rattle.name_btree.specs.Descent.{way_to, IsAbove, IsNeighbour, HasNeighbours}
 use Rattle.name_btree.specs.Fault.{HasCause, IsMisfit, BreaksBelow, BreaksBeside}
 
 -- ---- one page

@@ -6,6 +6,7 @@ use Rattle.std.proofs.lemmas.Bool.{and_from}
 use Rattle.std.proofs.lemmas.List.{append-nil, take_more, take-append-drop}
 use Rattle.std.proofs.lemmas.List.Concat.{flat_map-append}
 use Rattle.std.proofs.lemmas.Option.{slice_get_within, get_or_from_slice_get}
+use Rattle.fsd_forest.specs.Ways.{end_of}
 use Rattle.fsd_bytes.specs.declared.key.Key.{Key}
 use Rattle.fsd_formats.specs.declared.entry.Entry.{Entry}
 use Rattle.fsd_formats.specs.declared.page.Separator.{Separator}
@@ -14,7 +15,6 @@ use Rattle.fsd_table.specs.declared.child.Child.{Child}
 use Rattle.fsd_table.specs.Pages.{page_at, children, children_of, keys_fit, separator_keys}
 use Rattle.fsd_table.specs.Tree.{entries_below, pages_below, IsInterior, IsSubtree}
 use Rattle.fsd_table.proofs.BoundLaws.{all_append}
-use Rattle.name_btree.specs.Descent.{end_of}
 use Rattle.name_btree.specs.Walk.{is_marked, can_mark, marked, IsWalked, AreWalked}
 use Rattle.name_node.proofs.ListLaws.{drop_at}
 use Rattle.name_btree.proofs.MarkLaws.{marked_append, can_append}

@@ -10,14 +10,10 @@ use Rattle.fsd_table.specs.declared.child.Child.{Child}
 use Rattle.fsd_table.specs.Pages.{page_at}
 use Rattle.fsd_table.specs.Table.{max_height, IsVisited}
 use Rattle.fsd_table.specs.Tree.{entries_below, IsSubtree}
+use Rattle.fsd_forest.specs.Ways.{end_of}
 use Rattle.name_btree.specs.declared.descent.Way.{Way}
 use Rattle.name_btree.specs.declared.descent.Neighbour.{Neighbour}
 use Rattle.name_btree.specs.declared.descent.Found.{Found}
-
--- where a first child ends
-abbrev pub end_of : Option Key → List Separator → Option Key
-end_of high [] = high
-end_of high (s ∷ separators) = Some s.key
 
 -- behind the last of the separators that stand before the place, with the nearest child on each side, below so many pages
 abbrev pub way_to : (Key → Bool) → (above : ℕ) → Option Neighbour → Option Neighbour → ℕ → Option Key → Option Key → List Separator → Way

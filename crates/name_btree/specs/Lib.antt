@@ -1,9 +1,7 @@
-pub mod Change
 pub mod Descent
 pub mod Draft
 pub mod Fault
 pub mod Grown
-pub mod Level
 pub mod Map
 pub mod Remove
 pub mod Replace

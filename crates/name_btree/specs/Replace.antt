@@ -1,10 +1,17 @@
 -- One entry in place of another with the same key.
-use Rattle.std.specs.Prelude.{◌≡◌, ℕ, List, length, Some}
+use Rattle.std.specs.Prelude.{◌≡◌, ℕ, false, List, [], ◌∷◌, length, Some, slice_set}
+use Rattle.fsd_bytes.specs.declared.key.Key.{Key}
 use Rattle.fsd_formats.specs.declared.entry.Entry.{Entry}
-use Rattle.fsd_formats.specs.NamePage.{Content, entry_bytes}
-use Rattle.fsd_table.specs.Pages.{page_at}
-use Rattle.name_page.specs.Pages.{Step, with_page}
+use Rattle.fsd_formats.specs.NamePage.{Content, Leaf, entry_bytes}
+use Rattle.fsd_table.specs.declared.child.Child.{Child}
+use Rattle.fsd_table.specs.Pages.{page_at, entry_keys}
+use Rattle.fsd_forest.specs.Forest.{Stay, IsLocal, Becomes}
+use Rattle.name_page.specs.Pages.{Step, is_spare, with_one, with_page}
+use Rattle.name_node.specs.declared.cut.Cut.{Cut}
+use Rattle.name_node.specs.declared.cut.Cut.TheVariants.{UpTo}
 use Rattle.name_node.specs.Lookups.{entry_with}
+use Rattle.name_btree.specs.declared.descent.Found.{Found}
+use Rattle.name_btree.specs.Remove.{IsAround}
 
 -- an entry with the key is there, and takes as many bytes
 abbrev pub HasAsLong : Entry → List Entry → Type 0
@@ -16,3 +23,18 @@ pub record IsWritten (old new : Step) (page : ℕ) (x : Content) : Type 0 where
   pub step : new ≡ with_page page bytes old
   pub content : page_at new.images page ≡ Some x
   pub others : (q : ℕ) → (q ≡ page → ⊥) → page_at new.images q ≡ page_at old.images q
+
+-- one page was written, which was not spare
+pub record WritesOne (old new : Step) : Type 0 where
+  pub page : ℕ
+  pub bytes : List ℕ
+  pub images : new.images ≡ slice_set old.images page bytes
+  pub changed : new.changed ≡ with_one old.changed page
+  pub used : is_spare old.spares page ≡ false
+
+-- the leaf at a key: where its entries are edited at the key and keep their keys, and no other page changes, what stands below the start is so edited
+abbrev pub IsLeafAt : Cut → List (List ℕ) → (start : Child) → Found → Type 0
+IsLeafAt cut pages start found =
+    (key : Key) (level : ℕ) → cut ≡ UpTo key → IsAround key pages level start
+    → (edit : List Entry → List Entry) (after : List (List ℕ)) → IsLocal key edit → entry_keys (edit found.entries) ≡ entry_keys found.entries
+    → page_at after found.page ≡ Some (Leaf (edit found.entries)) → Stay pages after (found.page ∷ []) → Becomes edit pages after [] [] level (start ∷ []) (start ∷ [])

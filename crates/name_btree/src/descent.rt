@@ -2,10 +2,11 @@
 ghost use Rattle.std.specs.Prelude.{◌≡◌, ◌+◌, ◌-◌, ◌<◌, ◌≤◌, ℕ, IfOk, IfErr, Some, length, drop, true, false};
 ghost use Rattle.fsd_formats.specs.NamePage.{Leaf};
 ghost use Rattle.fsd_table.specs.Pages.{page_at};
-ghost use Rattle.name_btree.specs.Change.{IsLeafAt};
+ghost use Rattle.fsd_forest.specs.Ways.{end_of};
 ghost use Rattle.name_node.specs.Cut.{is_before};
-ghost use Rattle.name_btree.specs.Descent.{end_of, way_to, IsPlace, HasNeighbours};
+ghost use Rattle.name_btree.specs.Descent.{way_to, IsPlace, HasNeighbours};
 ghost use Rattle.name_btree.specs.Fault.{HasCause, BreaksBelow};
+ghost use Rattle.name_btree.specs.Replace.{IsLeafAt};
 ghost use Rattle.name_page.specs.Pages.{reaches, is_spare, IsReached};
 ghost use Rattle.name_btree.specs.Still.{IsStill};
 
@@ -123,7 +124,7 @@ pub(crate) fn leaf_below<T: Pages>(
     ensures reached { IfOk result (λ found. IsReached (T.step t.new) found.page) }
     ensures used { IfOk result (λ found. is_spare (T.step t.old).spares found.page ≡ false) }
     ensures leaf { IfOk result (λ found. page_at (T.step t.old).images found.page ≡ Some (Leaf found.entries)) }
-    ensures at { IfOk result (λ found. IsLeafAt (is_before cut.now) (T.step t.old).images start found.page found.entries) }
+    ensures at { IfOk result (IsLeafAt cut.now (T.step t.old).images start) }
     ensures place { IfOk result (IsPlace (is_before cut.now) (T.step t.old).images start) }
     ensures beside { IfOk result (HasNeighbours (T.step t.old).images above start) }
     ensures fault { IfErr result (HasCause (T.step t.new).refusal (BreaksBelow (T.step t.old).images above start)) }

@@ -3,10 +3,10 @@ ghost use Rattle.std.specs.Prelude.{◌≡◌, ◌≤◌, ◌+◌, ℕ, IsTrue, 
 ghost use Rattle.fsd_formats.specs.NamePage.{is_entry, FitsEntry};
 ghost use Rattle.fsd_table.specs.Table.{BreaksTable};
 ghost use Rattle.fsd_table.specs.Tree.{IsTree, table_of};
-ghost use Rattle.name_btree.specs.Change.{IsEdited};
 ghost use Rattle.name_btree.specs.Fault.{HasCause};
+ghost use Rattle.name_btree.specs.Map.{IsTable, HasTable};
 ghost use Rattle.name_node.specs.Edits.{put};
-ghost use Rattle.name_btree.specs.Replace.{HasAsLong};
+ghost use Rattle.name_btree.specs.Replace.{HasAsLong, WritesOne};
 ghost use Rattle.name_btree.specs.Still.{LeavesStep};
 ghost use Rattle.name_page.specs.Pages.{reaches, changes};
 
@@ -44,7 +44,8 @@ pub fn replace_same_size<T: Pages>(t: &mut T, entry: &Entry) -> Result<(), TreeF
     ensures reaches { reaches (T.step t.old) ≤ reaches (T.step t.new) + 6 }
     ensures most { (T.step t.new).most_changed ≡ (T.step t.old).most_changed }
     ensures left { IfErr result (LeavesStep (T.step t.old) (T.step t.new)) }
-    ensures replaced { OnOk result (IsEdited (T.step t.old) (T.step t.new) (map (put entry.now))) }
+    ensures written { OnOk result (WritesOne (T.step t.old) (T.step t.new)) }
+    ensures replaced { OnOk result ((height : ℕ) → IsTable (T.step t.old) height → HasTable (T.step t.new) (map (put entry.now) (table_of (T.step t.old).images height))) }
     ensures fault { IfErr result (HasCause (T.step t.new).refusal (BreaksTable (T.step t.old).images)) }
 {
     let found = match leaf_below(t, top(), 0, &Cut::UpTo(entry.key.copied())) {

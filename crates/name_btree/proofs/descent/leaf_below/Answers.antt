@@ -27,7 +27,7 @@ loop-above-init g c =
       step = refl;
       reaches = omega arith;
       changes = record { changed = refl; most_changed = refl; promised = refl };
-      path = subst (λ (n : ℕ). IsPath before pages c.args.start n c.args.start) none (path_begins before pages c.args.start);
+      path = path_begins c.args.cut.now pages c.args.start;
       way = subst (λ (n : ℕ). IsOnWay before pages c.args.start n way) none (way_begins before pages c.args.start);
       visited = λ v. (v, (tt, tt));
     }
@@ -55,7 +55,7 @@ returns-in-Leaf-clause-at g c =
     let pages = (g.T.Pages.step c.args.t.now).images in
     let at : page_at pages c.loop-above.way.child.page ≡ Some (Leaf c.in-Leaf.entries) =
     ap (λ (p : List (List ℕ)). page_at p c.loop-above.way.child.page) (sym c.loop-above.invariant.images) ∙ c.in_ok-child_node.ensures.node ∙ ap (λ (n : Node). Some (content_of n)) c.in-Leaf.is in
-    path_ends (is_before c.args.cut.now) pages c.args.start (c.loop-above.above - c.args.above) c.loop-above.way.child c.in-Leaf.entries at c.loop-above.invariant.path
+    path_ends c.args.cut.now pages c.args.start c.loop-above.way c.in-Leaf.entries at c.loop-above.invariant.path
 
 pub returns-in-Leaf-clause-beside : goal.returns-in-Leaf-clause-beside
 returns-in-Leaf-clause-beside g c = λ v. (c.loop-above.invariant.visited v).1
@@ -87,9 +87,7 @@ loop-above-preserved g c =
         most_changed = c.child_node.ensures.changes.most_changed ∙ c.loop-above.invariant.changes.most_changed;
         promised = c.child_node.ensures.changes.promised ∙ c.loop-above.invariant.changes.promised;
       };
-      path = subst (λ (n : ℕ). IsPath before pages start n new.child) one
-          (subst (λ (x : Way). IsPath before pages start (gone + 1) x.child) is
-          (path_down before (cuts_monotone c.args.cut.now) pages start gone (above + 1) w ways.0 ways.1 at c.loop-above.invariant.path));
+      path = subst (λ (x : Way). IsPath c.args.cut.now pages start x.child) is (path_down c.args.cut.now pages start (above + 1) w ways.0 ways.1 at c.loop-above.invariant.path);
       way = subst (λ (n : ℕ). IsOnWay before pages start n new) one
           (subst (λ (x : Way). IsOnWay before pages start (gone + 1) x) is
           (way_down before (cuts_monotone c.args.cut.now) pages start gone (above + 1) w ways.0 ways.1 at c.loop-above.invariant.way));

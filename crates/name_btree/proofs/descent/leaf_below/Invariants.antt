@@ -17,7 +17,7 @@ invariant-loop-above g l = record {
   step : (g.T.Pages.step l.t).most_reached ≡ (g.T.Pages.step l.fn.t).most_reached;
   reaches : reaches (g.T.Pages.step l.fn.t) ≤ reaches (g.T.Pages.step l.t) + (l.above - l.fn.above);
   changes : IsStill (g.T.Pages.step l.fn.t) (g.T.Pages.step l.t);
-  path : IsPath (is_before l.cut) (g.T.Pages.step l.fn.t).images l.fn.start (l.above - l.fn.above) l.way.child;
+  path : IsPath l.cut (g.T.Pages.step l.fn.t).images l.fn.start l.way.child;
   way : IsOnWay (is_before l.cut) (g.T.Pages.step l.fn.t).images l.fn.start (l.above - l.fn.above) l.way;
   visited : IsVisitedWay (g.T.Pages.step l.fn.t).images l.fn.above l.fn.start l.above l.way;
 }

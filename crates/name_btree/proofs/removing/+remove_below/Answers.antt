@@ -17,11 +17,10 @@ use Rattle.name_btree.specs.Fault.{HasCause}
 use Rattle.name_btree.specs.Remove.{BreaksAround, IsAround, IsTrimmed, IsTrimmedBelow, IsRootLeft}
 use Rattle.name_btree.specs.Trim.{IsUnlike, AreEntries, IsOpened, IsMended, IsLeft, used_by}
 use Rattle.name_btree.proofs.AboveLaws.{ok_left, err_left, ok_on, mended_left, mended_freed, room_left}
-use Rattle.name_btree.proofs.ChangeLaws.{without_leaf}
 use Rattle.name_btree.proofs.DraftLaws.{drafted_length}
 use Rattle.name_btree.proofs.MendLaws.{draft_kept}
 use Rattle.name_btree.proofs.MendedLaws.{trimmed_above, breaks_above}
-use Rattle.name_btree.proofs.RemoveLaws.{misfit_below, leaf_most, leaf_left, leaf_trimmed}
+use Rattle.name_btree.proofs.RemoveLaws.{misfit_below, leaf_most, leaf_left, leaf_trimmed, without_leaf}
 use Rattle.name_btree.proofs.ReplaceLaws.{few_in_leaf}
 use Rattle.name_btree.proofs.RootLaws.{mended_root, cause_more}
 use Rattle.name_btree.proofs.UnlikeLaws.{unlike_above}

@@ -6,9 +6,9 @@ use Rattle.fsd_table.specs.declared.child.Child.{Child}
 use Rattle.name_node.specs.declared.cut.Cut.TheVariants.{UpTo}
 use Rattle.name_node.specs.Cut.{is_before}
 use Rattle.name_btree.specs.Descent.{IsPlace}
-use Rattle.name_btree.specs.Change.{IsLeafAt}
 use Rattle.name_btree.specs.Fault.{HasCause, IsNoTree, BreaksTree}
-use Rattle.name_btree.proofs.ChangeLaws.{edited_put}
+use Rattle.name_btree.specs.Replace.{IsWritten, IsLeafAt}
+use Rattle.name_btree.proofs.ChangeLaws.{writes_one, table_replaced}
 use Rattle.name_btree.proofs.ReplaceLaws.{few_in_leaf, put_is_page, not_in_tree}
 use Rattle.name_btree.proofs.SearchLaws.{broken_tree}
 use Rattle.name_btree.proofs.VisitedLaws.{top_breaks}
@@ -42,12 +42,19 @@ put_leaf-requires-clause-accepted g c =
     ap (λ (xs : List Entry). is_page found.page 0 (Leaf xs)) same
     ∙ put_is_page (g.T.Pages.step c.args.t.now).images found.page c.args.entry.now found.entries c.in-Ok.ensures.leaf c.requires.entry (c.has_as_long.ensures.long c.if-not-has_as_long.false)
 
+pub returns-clause-written : goal.returns-clause-written
+returns-clause-written g c =
+    let found = c.in-Ok.found in
+    writes_one (g.T.Pages.step c.args.t.now) (g.T.Pages.step c.leaf_below.new.t) (g.T.Pages.step c.put_leaf.new.t) found.page c.as_slice.result.now c.in-Ok.ensures.images c.in-Ok.ensures.changes.changed c.in-Ok.ensures.used c.put_leaf.ensures
+
 pub returns-clause-replaced : goal.returns-clause-replaced
 returns-clause-replaced g c =
-    let pages = (g.T.Pages.step c.args.t.now).images in
+    let old = g.T.Pages.step c.args.t.now in
+    let still = g.T.Pages.step c.leaf_below.new.t in
+    let new = g.T.Pages.step c.put_leaf.new.t in
     let found = c.in-Ok.found in
-    let by_key : Key → Type 0 = λ (k : Key). IsLeafAt (is_before (UpTo k)) pages c.top.result found.page found.entries in
-    let by_top : Child → Type 0 = λ (d : Child). IsLeafAt (is_before (UpTo c.args.entry.now.key)) pages d found.page found.entries in
+    let by_key : Key → Type 0 = λ (k : Key). IsLeafAt (UpTo k) old.images c.top.result found in
+    let by_top : Child → Type 0 = λ (d : Child). IsLeafAt (UpTo c.args.entry.now.key) old.images d found in
     let at = subst by_top c.top.ensures (subst by_key c.copied.ensures c.in-Ok.ensures.at) in
-    edited_put c.args.entry.now (g.T.Pages.step c.args.t.now) (g.T.Pages.step c.leaf_below.new.t) (g.T.Pages.step c.put_leaf.new.t) found.page found.entries c.as_slice.result.now
-    c.in-Ok.ensures.images c.in-Ok.ensures.changes.changed c.in-Ok.ensures.used c.in-Ok.ensures.leaf (c.as_slice.ensures.value ∙ c.put_among-list.ensures.put) c.put_leaf.ensures at
+    let put_in = subst (λ (xs : List Entry). IsWritten still new found.page (Leaf xs)) (c.as_slice.ensures.value ∙ c.put_among-list.ensures.put) c.put_leaf.ensures in
+    table_replaced c.args.entry.now old still new found c.in-Ok.ensures.images c.in-Ok.ensures.spares put_in at

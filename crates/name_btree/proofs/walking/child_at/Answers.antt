@@ -1,9 +1,9 @@
 use Rattle.std.proofs.Common.{◌≡◌, ◌∙◌, ◌-◌, sym, ap, subst, ℕ, suc, Some, arith, drop}
 use Rattle.std.specs.Prelude.{slice_get, Option}
+use Rattle.fsd_forest.specs.Ways.{end_of}
 use Rattle.fsd_bytes.specs.declared.key.Key.{Key}
 use Rattle.fsd_table.specs.declared.child.Child.{Child}
 use Rattle.fsd_table.specs.Pages.{children}
-use Rattle.name_btree.specs.Descent.{end_of}
 use Rattle.name_btree.proofs.WalkLaws.{child_first, child_later}
 use Rattle.name_btree.proofs.walking.child_at.Goals as goal
 
