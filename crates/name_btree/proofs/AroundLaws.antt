@@ -2,7 +2,7 @@
 use Rattle.std.proofs.Common.{◌≡◌, ℕ, zero, suc, ◌+◌, ◌-◌, ◌≤◌, Bool, true, false, not, ◌&&◌, List, [], ◌∷◌, ◌++◌, length, take, drop, Option, Some, refl, sym, ap, subst, ◌∙◌, arith}
 use Rattle.std.specs.Prelude.{◌==◌, slice_get, ⊤}
 use Rattle.std.specs.List.{flat_map, AllByRecursion}
-use Rattle.std.proofs.lemmas.Bool.{and_parts}
+use Rattle.std.proofs.lemmas.Bool.{and_parts, not-true}
 use Rattle.std.proofs.lemmas.List.{append-nil}
 use Rattle.run_table.specs.Space.{contains, all_differ}
 use Rattle.fsd_bytes.specs.declared.key.Key.{Key}
@@ -43,11 +43,7 @@ is_local key left some right lesser behind =
 -- ---- separators beside the key
 
 pub up_to : (key : Key) (xs : List Separator) → AllByRecursion (λ s. is_before (UpTo key) s.key ≡ true) xs → AllByRecursion (IsUpTo key) xs
-up_to key xs a = all_weaker (λ s. is_before (UpTo key) s.key ≡ true) (IsUpTo key) xs (λ s h. sym (greater s.key key) ∙ unnot _ h) a
-  where
-    unnot : (b : Bool) → not b ≡ true → b ≡ false
-    unnot true h = absurd cc
-    unnot false h = refl
+up_to key xs a = all_weaker (λ s. is_before (UpTo key) s.key ≡ true) (IsUpTo key) xs (λ s h. sym (greater s.key key) ∙ not-true _ h) a
 
 pub past : (key : Key) (xs : List Separator) → AllByRecursion (λ s. is_before (UpTo key) s.key ≡ false) xs → AllByRecursion (IsBehind key) xs
 past key xs a = all_weaker (λ s. is_before (UpTo key) s.key ≡ false) (IsBehind key) xs (λ s h. sym (greater s.key key) ∙ unnot _ h) a

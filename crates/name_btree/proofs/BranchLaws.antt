@@ -35,6 +35,9 @@ use Rattle.name_btree.specs.Grown.{went_of, parts_of, AreInteriorsOf, IsInPlace,
 use Rattle.name_btree.proofs.LeafGrowthLaws.{behind_low}
 use Rattle.name_btree.proofs.TakeLaws.{each_in}
 use Rattle.name_btree.proofs.WaysGrowthLaws.{between_ascends, between_fits}
+use Rattle.name_btree.proofs.AroundLaws.{all_top}
+use Rattle.name_btree.proofs.TrimLaws.{separator_keys_append}
+use Rattle.std.proofs.lemmas.List.{append-nil}
 
 -- ---- an edit at a key
 
@@ -122,12 +125,8 @@ branch_below key pages level c first separators i at around branch =
 
 -- ---- the page above
 
-all_any : (cs : List Child) → AllByRecursion (λ d. ⊤) cs
-all_any [] = tt
-all_any (c ∷ cs) = (tt, all_any cs)
-
 above_with : (pages : List (List ℕ)) (c : Child) (first : ℕ) (separators : List Separator) → page_at pages c.page ≡ Some (Interior first separators) → keys_fit c.low c.high (separator_keys separators) ≡ true → IsAbove pages c
-above_with pages c first separators at fit = subst (IsInterior (λ d. ⊤) c) (sym at) (fit, all_any (children first c.low c.high separators))
+above_with pages c first separators at fit = subst (IsInterior (λ d. ⊤) c) (sym at) (fit, all_top (children first c.low c.high separators))
 
 pub record IsGrownAbove (after : List (List ℕ)) (c : Child) (g : Grown) (cs : List Child) : Type 0 where
   pub inner_are : inner after (parts_of c g) ≡ cs
@@ -146,7 +145,7 @@ ways_grown after c first separators (Parted left s) is order fit =
     let xs : List Separator = is.x ∷ is.xs in
     let y : Separator = is.y in
     let ys : List Separator = is.ys in
-    let same = keys_append xs (y ∷ ys) in
+    let same = separator_keys_append xs (y ∷ ys) in
     let asc : are_ascending (separator_keys xs ++ y.key ∷ separator_keys ys) ≡ true = ap are_ascending (sym same) ∙ ap (λ (zs : List Separator). are_ascending (separator_keys zs)) (sym is.parts) ∙ order in
     let fits : keys_fit c.low c.high (separator_keys xs ++ y.key ∷ separator_keys ys) ≡ true =
     ap (keys_fit c.low c.high) (sym same) ∙ ap (λ (zs : List Separator). keys_fit c.low c.high (separator_keys zs)) (sym is.parts) ∙ fit in
@@ -160,21 +159,13 @@ ways_grown after c first separators (Parted left s) is order fit =
     let Children : Key → List Child = λ (k : Key). children first c.low (Some k) xs ++ children y.child (Some k) c.high ys in
     record {
       inner_are = (λ i. children_of c.low (Some s.key) (is.front i) ++ (children_of (Some s.key) c.high (is.behind i) ++ []))
-          ∙ ap (λ (cs : List Child). children first c.low (Some s.key) xs ++ cs) (append_nothing (children y.child (Some s.key) c.high ys))
+          ∙ ap (λ (cs : List Child). children first c.low (Some s.key) xs ++ cs) (append-nil (children y.child (Some s.key) c.high ys))
           ∙ ap Children is.key
           ∙ sym (children_part first c.low c.high xs ys y)
           ∙ ap (children first c.low c.high) (sym is.parts);
       above = (above_with after (left_part left c s.key) first xs is.front front_fit, (above_with after (right_part s.child c s.key) y.child ys is.behind behind_fit, tt));
       divided = (subst (λ (k : Key). is_after c.low k ≡ true) key (behind_low c.low is.x.key y.key first_is.0 first_is.1), subst (λ (k : Key). below c.high k ≡ true) key inside.1);
     }
-  where
-    keys_append : (xs ys : List Separator) → separator_keys (xs ++ ys) ≡ separator_keys xs ++ separator_keys ys
-    keys_append [] ys = refl
-    keys_append (x ∷ xs) ys = ap (λ (ks : List Key). x.key ∷ ks) (keys_append xs ys)
-
-    append_nothing : (xs : List Child) → xs ++ [] ≡ xs
-    append_nothing [] = refl
-    append_nothing (x ∷ xs) = ap (λ (ys : List Child). x ∷ ys) (append_nothing xs)
 
 -- the children on both sides are as before, and the grown one has its parts
 pub sides_grown : (key : Key) (pages after : List (List ℕ)) (c : Child) (first : ℕ) (separators : List Separator) (i : ℕ) (g above : Grown) → StandAround key separators i → (g ≡ Whole → page_at pages c.page ≡ Some (Interior first separators))

@@ -1,7 +1,6 @@
 -- A table in which an entry is replaced.
-use Rattle.std.proofs.Common.{◌≡◌, ℕ, ◌-◌, ◌<◌, ◌||◌, not, Bool, true, false, List, [], ◌∷◌, ◌++◌, length, map, refl, sym, ap, subst, ◌∙◌, arith, length-set}
-use Rattle.std.specs.Prelude.{◌==◌, slice_set}
-use Rattle.std.proofs.lemmas.Bool.{or_left, eq-eqb}
+use Rattle.std.proofs.Common.{◌≡◌, ℕ, ◌-◌, ◌<◌, not, Bool, true, false, List, [], ◌∷◌, ◌++◌, length, map, refl, sym, ap, subst, ◌∙◌, arith, length-set}
+use Rattle.std.specs.Prelude.{slice_set}
 use Rattle.std.proofs.lemmas.List.{append-nil}
 use Rattle.run_table.specs.Space.{contains, all_differ}
 use Rattle.fsd_bytes.specs.Keys.{key_lt, same_key}
@@ -14,13 +13,14 @@ use Rattle.fsd_table.proofs.BoundLaws.{all_weaker}
 use Rattle.fsd_forest.specs.Forest.{Exchange, Stay, IsLocal}
 use Rattle.fsd_forest.proofs.CountLaws.{count_nothing, there_counts, counts_there, counts_out, out_counts}
 use Rattle.fsd_forest.proofs.TreeLaws.{trees_become}
-use Rattle.name_page.specs.Pages.{Step, is_spare, with_one}
+use Rattle.name_page.specs.Pages.{Step, is_spare, with_one, IsReached}
 use Rattle.name_node.specs.declared.cut.Cut.TheVariants.{UpTo}
 use Rattle.name_node.specs.Edits.{put}
 use Rattle.name_node.proofs.PutLaws.{lt_unequal, gt_unequal, put_keys, put_beside}
 use Rattle.name_btree.specs.declared.descent.Found.{Found}
 use Rattle.name_btree.specs.Map.{IsTable, HasTable}
 use Rattle.name_btree.specs.Replace.{IsWritten, WritesOne, IsLeafAt}
+use Rattle.name_btree.proofs.RemoveLaws.{one_page}
 use Rattle.name_btree.proofs.RootLaws.{tree_around}
 
 put_local : (e : Entry) → IsLocal e.key (map (put e))
@@ -38,15 +38,13 @@ same_pages old new page e = by (contains old page) refl
 -- ---- one page was written
 
 others_stay : (old still new : Step) (page : ℕ) (entries : List Entry) → still.images ≡ old.images → IsWritten still new page (Leaf entries) → Stay old.images new.images (page ∷ [])
-others_stay old still new page entries images w q out = w.others q (λ e. apart e) ∙ ap (λ (p : List (List ℕ)). page_at p q) images
-  where
-    apart : q ≡ page → ⊥
-    apart e = let there : ((page == q) || false) ≡ true = or_left (page == q) false (eq-eqb page q (sym e)) in cc
+others_stay old still new page entries images w q out = w.others q (one_page page q out) ∙ ap (λ (p : List (List ℕ)). page_at p q) images
 
-pub writes_one : (old still new : Step) (page : ℕ) (entries : List Entry) → still.images ≡ old.images → still.changed ≡ old.changed → is_spare old.spares page ≡ false → IsWritten still new page (Leaf entries) → WritesOne old new
-writes_one old still new page entries images changed used w = record {
+pub writes_one : (old still new : Step) (page : ℕ) (entries : List Entry) → still.images ≡ old.images → still.changed ≡ old.changed → IsReached still page → is_spare old.spares page ≡ false → IsWritten still new page (Leaf entries) → WritesOne old new
+writes_one old still new page entries images changed reached used w = record {
   page = page;
   bytes = w.bytes;
+  there = subst (λ (p : List (List ℕ)). page < length p) images reached.0;
   images = ap (λ (s : Step). s.images) w.step ∙ ap (λ (p : List (List ℕ)). slice_set p page w.bytes) images;
   changed = ap (λ (s : Step). s.changed) w.step ∙ ap (λ (p : List ℕ). with_one p page) changed;
   used = used;

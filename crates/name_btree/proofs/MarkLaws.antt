@@ -1,7 +1,7 @@
 -- Marks, one a page.
 use Rattle.std.proofs.Common.{◌≡◌, ◌≢◌, ℕ, zero, suc, ◌<◌, Bool, true, false, not, ◌&&◌, ◌||◌, List, [], ◌∷◌, ◌++◌, length, Some, refl, ap, subst, ◌∙◌, arith}
 use Rattle.std.specs.Prelude.{slice_set, ◌==◌}
-use Rattle.std.proofs.lemmas.Bool.{and_parts, and_from}
+use Rattle.std.proofs.lemmas.Bool.{and_parts, and_from, not-true}
 use Rattle.std.proofs.lemmas.Bool.Decides.{nat_tests}
 use Rattle.std.proofs.lemmas.List.{get_or-set_other, length-set}
 use Rattle.std.proofs.lemmas.Option.{get_or_from_slice_get, slice_get-get_or}
@@ -13,10 +13,6 @@ equal m n e = grind (arith, nat_tests)
 
 unequal : (m n : ℕ) → (m == n) ≡ false → n ≢ m
 unequal m n e = λ h. grind (arith, nat_tests)
-
-unnot : (b : Bool) → not b ≡ true → b ≡ false
-unnot false e = refl
-unnot true e = absurd cc
 
 or_both : (a b : Bool) → a ≡ false → b ≡ false → (a || b) ≡ false
 or_both false b e h = h
@@ -83,7 +79,7 @@ apart_by : (marks : List Bool) (p q : ℕ) → is_marked marks q ≡ true → no
 apart_by marks p q is new false e = refl
 apart_by marks p q is new true e =
     let here : is_marked marks p ≡ true = ap (is_marked marks) (equal p q e) ∙ is in
-    let none : is_marked marks p ≡ false = unnot (is_marked marks p) new in
+    let none : is_marked marks p ≡ false = not-true (is_marked marks p) new in
     absurd cc
 
 not_again : (marks : List Bool) (pages : List ℕ) (q : ℕ) → is_marked marks q ≡ true → can_mark marks pages ≡ true → contains pages q ≡ false

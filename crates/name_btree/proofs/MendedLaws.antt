@@ -1,6 +1,6 @@
 -- A tree without a key, one level up.
 use Rattle.std.proofs.Common.{◌≡◌, inl, inr, ℕ, zero, suc, ◌+◌, ◌-◌, ◌≤◌, Bool, true, false, cond, ◌||◌, ◌&&◌, List, [], ◌∷◌, ◌++◌, length, take, drop, Option, Some, refl, sym, ap, subst, ◌∙◌, arith}
-use Rattle.std.specs.Prelude.{◌==◌, slice_get}
+use Rattle.std.specs.Prelude.{slice_get}
 use Rattle.std.specs.List.{AllByRecursion}
 use Rattle.std.proofs.lemmas.Bool.{and_parts, and_from}
 use Rattle.run_table.specs.Space.{contains}
@@ -15,7 +15,7 @@ use Rattle.fsd_table.specs.Tree.{pages_below, IsLeaf, IsInterior, IsSubtree}
 use Rattle.fsd_table.proofs.PageLaws.{at_is_page, leaf_ascends}
 use Rattle.fsd_forest.specs.Forest.{inner, count_of, forest_pages, Stay, Becomes}
 use Rattle.fsd_forest.specs.Ways.{StandsAt, IsUpTo, IsBehind, children_before, child_behind, children_from, end_of}
-use Rattle.fsd_forest.proofs.CountLaws.{count_cons, count_append, count_nothing, counts_out, one_if, one_where}
+use Rattle.fsd_forest.proofs.CountLaws.{count_cons, count_append, count_nothing, counts_out}
 use Rattle.name_node.specs.Edits.{without}
 use Rattle.name_page.specs.Pages.{Step}
 use Rattle.name_btree.specs.declared.draft.Draft.{Draft}
@@ -32,7 +32,7 @@ use Rattle.name_node.specs.Cut.{is_before}
 use Rattle.name_btree.specs.Remove.{IsAround, IsTrimmed, IsTrimmedBelow, BreaksAround}
 use Rattle.name_btree.specs.Trim.{IsPair, IsOpened, IsLeft, AreFewEntries, AreFewWays, pair_fits, entries_at, ways_at, first_at, LeafIsMended, WayIsMended, IsMended}
 use Rattle.name_btree.proofs.AroundLaws.{is_local, pair_stands, child_around, up_to, past}
-use Rattle.name_btree.proofs.LeafTreeLaws.{leaves_joined, leaves_shared, are_apart, pair_stays}
+use Rattle.name_btree.proofs.LeafTreeLaws.{leaves_joined, leaves_shared, are_apart, pair_stays, one_same}
 use Rattle.name_btree.proofs.MendLaws.{fits_both, pair_inside, left_page, right_page, ways_are_at}
 use Rattle.name_btree.proofs.MendTreeLaws.{joined_trimmed, shared_trimmed}
 use Rattle.name_btree.proofs.PairLaws.{left_child, right_child, AreSides, AtLeft, AtRight, sides_are, low_same, high_is}
@@ -124,9 +124,6 @@ leaf_mended step key pages mid new old0 above first xs i child few left around a
     ]
 
 -- ---- a child that has all
-
-one_same : (a b : ℕ) → a ≡ b → one_where (a == b) ≡ 1
-one_same a b e = one_if (a == b) (grind arith)
 
 pub whole_mended : (step : Step) (key : Key) (pages : List (List ℕ)) (new : Draft) (old0 went : List ℕ) (level : ℕ) (above : Child) (first : ℕ) (xs : List Separator) (i : ℕ) (child : Child)
     → IsAround key pages (suc level) above → page_at pages above.page ≡ Some (grammar.Interior first xs) → i ≤ length xs

@@ -60,7 +60,7 @@ or_false : (b : Bool) → b ≡ (b || false)
 or_false true = refl
 or_false false = refl
 
-one_page : (page q : ℕ) → contains (page ∷ []) q ≡ false → q ≡ page → ⊥
+pub one_page : (page q : ℕ) → contains (page ∷ []) q ≡ false → q ≡ page → ⊥
 one_page page q e same = let there = or_left (page == q) false (by page q (sym same)) in absurd cc
   where
     by : (a b : ℕ) → a ≡ b → (a == b) ≡ true

@@ -1,7 +1,7 @@
 -- What is left of page 0, and a tree without a key.
 use Rattle.std.proofs.Common.{◌≡◌, inl, inr, ℕ, zero, suc, ◌-◌, ◌<◌, ◌≤◌, true, ◌||◌, List, [], ◌∷◌, ◌++◌, length, Option, Some, None, refl, sym, ap, subst, ◌∙◌, arith}
-use Rattle.std.specs.Prelude.{◌==◌, Result, Ok, Err, OnOk, IfErr}
-use Rattle.std.specs.List.{flat_map, AllByRecursion}
+use Rattle.std.specs.Prelude.{Result, Ok, Err, OnOk, IfErr}
+use Rattle.std.specs.List.{AllByRecursion}
 use Rattle.std.proofs.lemmas.List.{append-nil}
 use Rattle.run_table.specs.Space.{contains, all_differ}
 use Rattle.fsd_bytes.specs.declared.key.Key.{Key}
@@ -13,7 +13,7 @@ use Rattle.fsd_table.specs.Pages.{page_at, children, children_of}
 use Rattle.fsd_table.specs.Table.{top}
 use Rattle.fsd_table.specs.Tree.{pages_of, pages_below, IsTree, IsSubtree, IsLeaf, IsInterior}
 use Rattle.fsd_forest.specs.Forest.{inner, count_of, forest_pages, Becomes, TreeBecomes}
-use Rattle.fsd_forest.proofs.CountLaws.{count_cons, count_append, count_nothing, differ_counts, one_if, one_where}
+use Rattle.fsd_forest.proofs.CountLaws.{count_cons, count_append, count_nothing, differ_counts}
 use Rattle.fsd_forest.proofs.TreeLaws.{trees_become}
 use Rattle.fsd_forest.proofs.ShrinkLaws.{trees_shrink}
 use Rattle.name_node.specs.Edits.{without}
@@ -29,7 +29,7 @@ use Rattle.name_btree.specs.declared.trimming.Trimmed.TheVariants.{Whole, Leaf, 
 use Rattle.name_btree.specs.Draft.{drafted}
 use Rattle.name_btree.specs.Remove.{IsAround, IsTrimmed, IsTrimmedBelow, IsRootLeft}
 use Rattle.name_btree.specs.Trim.{AreWaysPut, IsMended, IsTakenOver}
-use Rattle.name_btree.proofs.LeafTreeLaws.{freed_has}
+use Rattle.name_btree.proofs.LeafTreeLaws.{freed_has, one_same, head_counts}
 use Rattle.name_btree.proofs.RemoveLaws.{stays_but}
 
 -- ---- what is left
@@ -63,13 +63,6 @@ whole_tree key pages after old new t height tree =
     (h.went, trees_become (without key) pages after [] h.went height tree apart h.becomes, h.freed)
 
 -- page 0 has what its only child had
-one_same : (a b : ℕ) → a ≡ b → one_where (a == b) ≡ 1
-one_same a b e = one_if (a == b) (grind arith)
-
-head_counts : (p level : ℕ) (pages : List (List ℕ)) (c : Child) → one_where (c.page == p) ≤ count_of p (pages_below level pages c)
-head_counts p zero pages c = omega (arith, count_cons p c.page [])
-head_counts p (suc level) pages c = omega (arith, count_cons p c.page (flat_map (pages_below level pages) (children_of c.low c.high (page_at pages c.page))))
-
 shrunk : (step : Step) (key : Key) (pages : List (List ℕ)) (mid new : Draft) (old0 : List ℕ) (height l first : ℕ) (list : List Separator) → IsTree pages height → height - 1 ≡ suc l → list ≡ [] → (went : List ℕ)
     → ((q : ℕ) → contains mid.freed.items q ≡ (contains old0 q || contains went q))
     → Becomes (without key) pages (drafted mid.sheets.items step.images) [] went l (children_of None None (page_at pages 0)) (children first None None list)

@@ -2,7 +2,7 @@
 use Rattle.std.proofs.Common.{◌≡◌, ℕ, suc, ◌+◌, ◌-◌, ◌≤◌, Bool, true, false, cond, not, ◌&&◌, List, [], ◌∷◌, ◌++◌, take, drop, Option, Some, refl, sym, ap, subst, ◌∙◌, arith}
 use Rattle.std.specs.Prelude.{◌==◌, ⊤}
 use Rattle.std.specs.List.{AllByRecursion}
-use Rattle.std.proofs.lemmas.Bool.{and_parts}
+use Rattle.std.proofs.lemmas.Bool.{and_parts, not-true}
 use Rattle.std.proofs.lemmas.List.{append-nil}
 use Rattle.fsd_bytes.specs.declared.key.Key.{Key}
 use Rattle.fsd_bytes.specs.Keys.{key_lt}
@@ -16,7 +16,7 @@ use Rattle.fsd_table.proofs.KeyLaws.{lt_le, lt_is_le}
 use Rattle.fsd_forest.specs.Forest.{inner, count_of, forest_pages, Stay, Keep, Becomes, EndsUpTo, BeginsBehind}
 use Rattle.fsd_forest.specs.Parts.{left_part, right_part}
 use Rattle.fsd_forest.specs.Ways.{IsUpTo, IsBehind, children_before}
-use Rattle.fsd_forest.proofs.CountLaws.{count_cons, count_append, count_nothing, there_counts, differ_counts, counts_out, one_if, one_where}
+use Rattle.fsd_forest.proofs.CountLaws.{count_cons, count_append, count_nothing, there_counts, differ_counts, counts_out, one_where}
 use Rattle.fsd_forest.proofs.ForestLaws.{widens}
 use Rattle.fsd_forest.proofs.KeepLaws.{kept_all}
 use Rattle.fsd_forest.proofs.PartLaws.{children_part, interiors_part}
@@ -27,7 +27,7 @@ use Rattle.name_btree.specs.declared.trimming.Pair.{Pair}
 use Rattle.name_btree.specs.Remove.{IsAround}
 use Rattle.name_btree.specs.Trim.{IsPair, pair_fits, first_at, ways_at}
 use Rattle.name_btree.proofs.AroundLaws.{is_local, all_top}
-use Rattle.name_btree.proofs.LeafTreeLaws.{below_counts, joined_heads, shared_heads}
+use Rattle.name_btree.proofs.LeafTreeLaws.{below_counts, joined_heads, shared_heads, one_same}
 use Rattle.name_btree.proofs.PairLaws.{left_child, right_child, AreSides, AtLeft, AtRight, low_same, high_is}
 use Rattle.name_btree.proofs.PutTreeLaws.{pair_child, front_at, back_at}
 
@@ -39,16 +39,12 @@ all_behind key k high (x ∷ xs) h fit =
     let parts = and_parts (not (key_lt x.key k) && below high x.key) (keys_fit (Some k) high (separator_keys xs)) fit in
     (lt_le key k x.key h (and_parts (not (key_lt x.key k)) (below high x.key) parts.0).0, all_behind key k high xs h parts.1)
 
-unnot : (b : Bool) → not b ≡ true → b ≡ false
-unnot true h = absurd cc
-unnot false h = refl
-
 all_before : (key k : Key) (low : Option Key) (xs : List Separator) → key_lt key k ≡ false → keys_fit low (Some k) (separator_keys xs) ≡ true → AllByRecursion (IsUpTo key) xs
 all_before key k low [] h fit = tt
 all_before key k low (x ∷ xs) h fit =
     let parts = and_parts (not_below low x.key && key_lt x.key k) (keys_fit low (Some k) (separator_keys xs)) fit in
     let under = lt_le x.key k key (and_parts (not_below low x.key) (key_lt x.key k) parts.0).1 (ap not h) in
-    (unnot (key_lt key x.key) (lt_is_le x.key key under), all_before key k low xs h parts.1)
+    (not-true (key_lt key x.key) (lt_is_le x.key key under), all_before key k low xs h parts.1)
 
 -- children up to a key are those before a separator of it
 closed : (first : ℕ) (low : Option Key) (xs : List Separator) (s : Separator) → children first low (Some s.key) xs ≡ children_before first low (xs ++ s ∷ [])
@@ -63,9 +59,6 @@ begins_all : (key : Key) (high : Option Key) (s : Separator) (xs : List Separato
 begins_all key high s xs h fit = children_begin key high (s ∷ xs) (h, all_behind key s.key high xs h fit)
 
 -- ---- pages
-
-one_same : (a b : ℕ) → a ≡ b → one_where (a == b) ≡ 1
-one_same a b e = one_if (a == b) (grind arith)
 
 abbrev below_of : (l : ℕ) → List (List ℕ) → Child → List Child
 below_of l pages c = children_of c.low c.high (page_at pages c.page)

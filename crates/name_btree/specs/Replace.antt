@@ -1,5 +1,5 @@
 -- One entry in place of another with the same key.
-use Rattle.std.specs.Prelude.{◌≡◌, ℕ, false, List, [], ◌∷◌, length, Some, slice_set}
+use Rattle.std.specs.Prelude.{◌≡◌, ◌<◌, ℕ, false, List, [], ◌∷◌, length, Some, slice_set}
 use Rattle.fsd_bytes.specs.declared.key.Key.{Key}
 use Rattle.fsd_formats.specs.declared.entry.Entry.{Entry}
 use Rattle.fsd_formats.specs.NamePage.{Content, Leaf, entry_bytes}
@@ -28,6 +28,7 @@ pub record IsWritten (old new : Step) (page : ℕ) (x : Content) : Type 0 where
 pub record WritesOne (old new : Step) : Type 0 where
   pub page : ℕ
   pub bytes : List ℕ
+  pub there : page < length old.images
   pub images : new.images ≡ slice_set old.images page bytes
   pub changed : new.changed ≡ with_one old.changed page
   pub used : is_spare old.spares page ≡ false

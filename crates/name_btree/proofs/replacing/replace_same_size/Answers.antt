@@ -45,7 +45,7 @@ put_leaf-requires-clause-accepted g c =
 pub returns-clause-written : goal.returns-clause-written
 returns-clause-written g c =
     let found = c.in-Ok.found in
-    writes_one (g.T.Pages.step c.args.t.now) (g.T.Pages.step c.leaf_below.new.t) (g.T.Pages.step c.put_leaf.new.t) found.page c.as_slice.result.now c.in-Ok.ensures.images c.in-Ok.ensures.changes.changed c.in-Ok.ensures.used c.put_leaf.ensures
+    writes_one (g.T.Pages.step c.args.t.now) (g.T.Pages.step c.leaf_below.new.t) (g.T.Pages.step c.put_leaf.new.t) found.page c.as_slice.result.now c.in-Ok.ensures.images c.in-Ok.ensures.changes.changed c.in-Ok.ensures.reached c.in-Ok.ensures.used c.put_leaf.ensures
 
 pub returns-clause-replaced : goal.returns-clause-replaced
 returns-clause-replaced g c =
