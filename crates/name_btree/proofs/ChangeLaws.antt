@@ -8,9 +8,9 @@ use Rattle.fsd_formats.specs.declared.entry.Entry.{Entry}
 use Rattle.fsd_formats.specs.NamePage.{Leaf}
 use Rattle.fsd_table.specs.Pages.{page_at}
 use Rattle.fsd_table.specs.Table.{top}
-use Rattle.fsd_table.specs.Tree.{table_of, pages_of}
+use Rattle.fsd_table.specs.Tree.{table_of, pages_of, IsTree}
 use Rattle.fsd_table.proofs.BoundLaws.{all_weaker}
-use Rattle.fsd_forest.specs.Forest.{Exchange, Stay, IsLocal}
+use Rattle.fsd_forest.specs.Forest.{Exchange, Stay, IsLocal, TreeBecomes}
 use Rattle.fsd_forest.proofs.CountLaws.{count_nothing, there_counts, counts_there, counts_out, out_counts}
 use Rattle.fsd_forest.proofs.TreeLaws.{trees_become}
 use Rattle.name_page.specs.Pages.{Step, is_spare, with_one, IsReached}
@@ -52,13 +52,18 @@ writes_one old still new page entries images changed reached used w = record {
 
 -- ---- the table
 
+pub tree_replaced : (e : Entry) (old still new : Step) (found : Found) → still.images ≡ old.images → IsWritten still new found.page (Leaf (map (put e) found.entries)) → IsLeafAt (UpTo e.key) old.images top found
+    → (height : ℕ) → IsTree old.images height → TreeBecomes (map (put e)) old.images new.images [] [] height
+tree_replaced e old still new found images w at height t =
+    let apart : all_differ (pages_of old.images height ++ []) ≡ true = ap all_differ (append-nil (pages_of old.images height)) ∙ t.apart in
+    let stay = others_stay old still new found.page (map (put e) found.entries) images w in
+    let b = at e.key (height - 1) refl (tree_around e.key old.images height t) (map (put e)) new.images (put_local e) (put_keys e found.entries) w.content stay in
+    trees_become (map (put e)) old.images new.images [] [] height t apart b
+
 pub table_replaced : (e : Entry) (old still new : Step) (found : Found) → still.images ≡ old.images → still.spares ≡ old.spares → IsWritten still new found.page (Leaf (map (put e) found.entries)) → IsLeafAt (UpTo e.key) old.images top found
     → (height : ℕ) → IsTable old height → HasTable new (map (put e) (table_of old.images height))
 table_replaced e old still new found images spares w at height t =
-    let apart : all_differ (pages_of old.images height ++ []) ≡ true = ap all_differ (append-nil (pages_of old.images height)) ∙ t.tree.apart in
-    let stay = others_stay old still new found.page (map (put e) found.entries) images w in
-    let b = at e.key (height - 1) refl (tree_around e.key old.images height t.tree) (map (put e)) new.images (put_local e) (put_keys e found.entries) w.content stay in
-    let r = trees_become (map (put e)) old.images new.images [] [] height t.tree apart b in
+    let r = tree_replaced e old still new found images w at height t.tree in
     let same_spares : new.spares ≡ old.spares = ap (λ (s : Step). s.spares) w.step ∙ spares in
     let size : length new.images ≡ length old.images = ap (λ (s : Step). length s.images) w.step ∙ length-set still.images found.page w.bytes ∙ ap length images in
     record {

@@ -8,7 +8,7 @@ use Rattle.name_node.specs.Cut.{is_before}
 use Rattle.name_btree.specs.Descent.{IsPlace}
 use Rattle.name_btree.specs.Fault.{HasCause, IsNoTree, BreaksTree}
 use Rattle.name_btree.specs.Replace.{IsWritten, IsLeafAt}
-use Rattle.name_btree.proofs.ChangeLaws.{writes_one, table_replaced}
+use Rattle.name_btree.proofs.ChangeLaws.{writes_one, tree_replaced, table_replaced}
 use Rattle.name_btree.proofs.ReplaceLaws.{few_in_leaf, put_is_page, not_in_tree}
 use Rattle.name_btree.proofs.SearchLaws.{broken_tree}
 use Rattle.name_btree.proofs.VisitedLaws.{top_breaks}
@@ -46,6 +46,18 @@ pub returns-clause-written : goal.returns-clause-written
 returns-clause-written g c =
     let found = c.in-Ok.found in
     writes_one (g.T.Pages.step c.args.t.now) (g.T.Pages.step c.leaf_below.new.t) (g.T.Pages.step c.put_leaf.new.t) found.page c.as_slice.result.now c.in-Ok.ensures.images c.in-Ok.ensures.changes.changed c.in-Ok.ensures.reached c.in-Ok.ensures.used c.put_leaf.ensures
+
+pub returns-clause-tree : goal.returns-clause-tree
+returns-clause-tree g c =
+    let old = g.T.Pages.step c.args.t.now in
+    let still = g.T.Pages.step c.leaf_below.new.t in
+    let new = g.T.Pages.step c.put_leaf.new.t in
+    let found = c.in-Ok.found in
+    let by_key : Key → Type 0 = λ (k : Key). IsLeafAt (UpTo k) old.images c.top.result found in
+    let by_top : Child → Type 0 = λ (d : Child). IsLeafAt (UpTo c.args.entry.now.key) old.images d found in
+    let at = subst by_top c.top.ensures (subst by_key c.copied.ensures c.in-Ok.ensures.at) in
+    let put_in = subst (λ (xs : List Entry). IsWritten still new found.page (Leaf xs)) (c.as_slice.ensures.value ∙ c.put_among-list.ensures.put) c.put_leaf.ensures in
+    tree_replaced c.args.entry.now old still new found c.in-Ok.ensures.images put_in at
 
 pub returns-clause-replaced : goal.returns-clause-replaced
 returns-clause-replaced g c =
