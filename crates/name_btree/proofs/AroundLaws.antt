@@ -15,12 +15,12 @@ use Rattle.fsd_table.specs.Pages.{page_at, children, children_of, keys_fit, not_
 use Rattle.fsd_table.specs.Tree.{pages_below, IsInterior, IsSubtree}
 use Rattle.fsd_table.proofs.BoundLaws.{all_weaker}
 use Rattle.fsd_forest.specs.Forest.{forest_pages, count_of, Stay, Keep, IsLocal, Becomes}
-use Rattle.fsd_forest.specs.Ways.{StandsAt, IsUpTo, IsBehind, children_before, child_between, children_from}
+use Rattle.fsd_forest.specs.Ways.{StandsAt, IsUpTo, IsBehind, children_before, children_from}
 use Rattle.fsd_forest.proofs.LowLaws.{subtrees_of}
 use Rattle.fsd_forest.proofs.CountLaws.{count_cons, count_append, there_counts, counts_there, differ_counts, counts_differ, one_if}
 use Rattle.fsd_forest.proofs.ForestLaws.{widens}
 use Rattle.fsd_forest.proofs.StepLaws.{page_steps_up, page_sides_stay}
-use Rattle.fsd_forest.proofs.WayLaws.{children_between, children_end, children_begin, child_at, key_inside}
+use Rattle.fsd_forest.proofs.WayLaws.{children_between, children_end, children_begin, key_inside}
 use Rattle.name_node.specs.declared.cut.Cut.TheVariants.{UpTo}
 use Rattle.name_node.specs.Cut.{is_before}
 use Rattle.name_node.specs.Edits.{without, is_on}
@@ -31,7 +31,7 @@ use Rattle.name_node.proofs.SideLaws.{without_part}
 use Rattle.name_btree.specs.declared.trimming.Pair.{Pair}
 use Rattle.name_btree.specs.Remove.{IsAround}
 use Rattle.name_btree.specs.Trim.{IsPair}
-use Rattle.name_btree.proofs.PairLaws.{parts_at, left_child, right_child, same_of}
+use Rattle.name_btree.proofs.PairLaws.{parts_at, left_child, right_child, same_of, child_is_at}
 use Rattle.name_btree.proofs.WalkLaws.{all_at}
 
 -- ---- the edit
@@ -102,7 +102,7 @@ child_around key pages level above first xs i child around at within ends begins
     let apart : all_differ (above.page ∷ flat_map f cs) ≡ true = ap all_differ (sym split) ∙ around.apart in
     let most : (p : ℕ) → count_of p (above.page ∷ flat_map f cs) ≤ 1 = differ_counts (above.page ∷ flat_map f cs) apart in
     let few : (p : ℕ) → count_of p (f child) ≤ count_of p (flat_map f cs) = λ p. count_one p f cs i child is in
-    let child_is : child ≡ child_between first above.low above.high (take i xs) (drop i xs) = same_of child _ (sym is ∙ child_at first above.low above.high xs i within) in
+    let child_is = child_is_at above first xs i child within is in
     let inside = key_inside key first above.low above.high (take i xs) (drop i xs) around.low around.high ends begins in
     let both = subst (λ (c : Child). (not_below c.low key && below c.high key) ≡ true) (sym child_is) inside in
     let parts = and_parts (not_below child.low key) (below child.high key) both in

@@ -18,7 +18,7 @@ use Rattle.fsd_table.specs.Tree.{entries_below, pages_below, IsInterior, IsSubtr
 use Rattle.fsd_table.proofs.BoundLaws.{all_weaker}
 use Rattle.fsd_forest.specs.Forest.{inner, count_of, forest_pages, IsLocal, Becomes, IsAbove, Disjoint}
 use Rattle.fsd_forest.specs.Parts.{left_part, right_part}
-use Rattle.fsd_forest.specs.Ways.{children_before, children_from, child_between, StandsAt, IsUpTo, IsBehind}
+use Rattle.fsd_forest.specs.Ways.{children_before, children_from, StandsAt, IsUpTo, IsBehind}
 use Rattle.fsd_forest.proofs.PartLaws.{children_part, keys_parted, all_split}
 use Rattle.fsd_forest.proofs.TreeLaws.{alone}
 use Rattle.fsd_forest.proofs.WayLaws.{children_around, children_parted}
@@ -32,6 +32,7 @@ use Rattle.name_btree.specs.declared.growing.Grown.{Grown}
 use Rattle.name_btree.specs.declared.growing.Grown.TheVariants.{Whole, Parted}
 use Rattle.name_btree.specs.Draft.{IsTaken}
 use Rattle.name_btree.specs.Grown.{went_of, parts_of, AreInteriorsOf, IsInPlace, IsAboveGrown, IsDivided, IsBranch, AreUsed}
+use Rattle.name_btree.specs.Trim.{child_of}
 use Rattle.name_btree.proofs.LeafGrowthLaws.{behind_low}
 use Rattle.name_btree.proofs.TakeLaws.{each_in}
 use Rattle.name_btree.proofs.WaysGrowthLaws.{between_ascends, between_fits}
@@ -52,9 +53,6 @@ with_entry_local e left some right a b = sym (with_part e left some right (lesse
 
 -- ---- a child of a branch
 
-abbrev pub middle_child : Child → ℕ → List Separator → ℕ → Child
-middle_child c first separators i = child_between first c.low c.high (take i separators) (drop i separators)
-
 abbrev pub left_children : Child → ℕ → List Separator → ℕ → List Child
 left_children c first separators i = children_before first c.low (take i separators)
 
@@ -65,9 +63,9 @@ abbrev pub StandAround : Key → List Separator → ℕ → Type 0
 StandAround key separators i = AllByRecursion (IsUpTo key) (take i separators) × AllByRecursion (IsBehind key) (drop i separators)
 
 pub children_are : (key : Key) (pages : List (List ℕ)) (c : Child) (first : ℕ) (separators : List Separator) (i : ℕ) → page_at pages c.page ≡ Some (Interior first separators) → StandAround key separators i
-    → StandsAt key (children_of c.low c.high (page_at pages c.page)) (left_children c first separators i) (middle_child c first separators i ∷ []) (right_children c separators i)
+    → StandsAt key (children_of c.low c.high (page_at pages c.page)) (left_children c first separators i) (child_of c first separators i ∷ []) (right_children c separators i)
 children_are key pages c first separators i at around =
-    subst (λ (x : Option Content). StandsAt key (children_of c.low c.high x) (left_children c first separators i) (middle_child c first separators i ∷ []) (right_children c separators i)) (sym at)
+    subst (λ (x : Option Content). StandsAt key (children_of c.low c.high x) (left_children c first separators i) (child_of c first separators i ∷ []) (right_children c separators i)) (sym at)
     (children_around key first c.low c.high separators i around.0 around.1)
 
 pub record IsBelow (pages : List (List ℕ)) (level : ℕ) (c d : Child) (left right : List Child) : Type 0 where
@@ -79,10 +77,10 @@ interior_at : (P : Child → Type 0) (c : Child) (x : Option Content) (first : �
 interior_at P c x first separators e h = (subst (IsInterior P c) e h).1
 
 pub is_below : (key : Key) (pages : List (List ℕ)) (level : ℕ) (c : Child) (first : ℕ) (separators : List Separator) (i : ℕ) → page_at pages c.page ≡ Some (Interior first separators) → StandAround key separators i → IsSubtree (suc level) pages c
-    → IsBelow pages level c (middle_child c first separators i) (left_children c first separators i) (right_children c separators i)
+    → IsBelow pages level c (child_of c first separators i) (left_children c first separators i) (right_children c separators i)
 is_below key pages level c first separators i at around sub =
     let left : List Child = left_children c first separators i in
-    let d : Child = middle_child c first separators i in
+    let d : Child = child_of c first separators i in
     let right : List Child = right_children c separators i in
     let s = children_are key pages c first separators i at around in
     let f : Child → List ℕ = pages_below level pages in
@@ -103,9 +101,9 @@ among_below : (above : ℕ) (ls ms rs : List ℕ) → Within ms (above ∷ (ls +
 among_below above ls ms rs p h = in_right (above ∷ []) (ls ++ (ms ++ rs)) p (in_right ls (ms ++ rs) p (in_left ms rs p h))
 
 pub branch_below : (key : Key) (pages : List (List ℕ)) (level : ℕ) (c : Child) (first : ℕ) (separators : List Separator) (i : ℕ) → page_at pages c.page ≡ Some (Interior first separators) → StandAround key separators i → IsBranch pages (suc level) c
-    → IsBranch pages level (middle_child c first separators i) × (Within (pages_below level pages (middle_child c first separators i)) (pages_below (suc level) pages c) × (contains (pages_below level pages (middle_child c first separators i)) 0 ≡ true → ⊥))
+    → IsBranch pages level (child_of c first separators i) × (Within (pages_below level pages (child_of c first separators i)) (pages_below (suc level) pages c) × (contains (pages_below level pages (child_of c first separators i)) 0 ≡ true → ⊥))
 branch_below key pages level c first separators i at around branch =
-    let d : Child = middle_child c first separators i in
+    let d : Child = child_of c first separators i in
     let b = is_below key pages level c first separators i at around branch.subtree in
     let ls : List ℕ = forest_pages level pages (left_children c first separators i) in
     let ms : List ℕ = pages_below level pages d in
@@ -169,14 +167,14 @@ ways_grown after c first separators (Parted left s) is order fit =
 
 -- the children on both sides are as before, and the grown one has its parts
 pub sides_grown : (key : Key) (pages after : List (List ℕ)) (c : Child) (first : ℕ) (separators : List Separator) (i : ℕ) (g above : Grown) → StandAround key separators i → (g ≡ Whole → page_at pages c.page ≡ Some (Interior first separators))
-    → are_ascending (separator_keys separators) ≡ true → keys_fit c.low c.high (separator_keys separators) ≡ true → ((middle_child c first separators i).page ≡ 0 → ⊥) → IsInPlace (middle_child c first separators i).page g
-    → IsDivided (middle_child c first separators i) g → IsAboveGrown pages after c.page first separators i g above
-    → IsGrownAbove after c above (left_children c first separators i ++ (parts_of (middle_child c first separators i) g ++ right_children c separators i))
+    → are_ascending (separator_keys separators) ≡ true → keys_fit c.low c.high (separator_keys separators) ≡ true → ((child_of c first separators i).page ≡ 0 → ⊥) → IsInPlace (child_of c first separators i).page g
+    → IsDivided (child_of c first separators i) g → IsAboveGrown pages after c.page first separators i g above
+    → IsGrownAbove after c above (left_children c first separators i ++ (parts_of (child_of c first separators i) g ++ right_children c separators i))
 sides_grown key pages after c first separators i Whole above around at order fit inner place divided is =
     let now : page_at after c.page ≡ Some (Interior first separators) = ap (λ (ps : List (List ℕ)). page_at ps c.page) is.1 ∙ at refl in
     let whole = ways_grown after c first separators Whole now order fit in
     let all = children_around key first c.low c.high separators i around.0 around.1 in
-    subst (λ (g : Grown). IsGrownAbove after c g (left_children c first separators i ++ (middle_child c first separators i ∷ right_children c separators i))) (sym is.0)
+    subst (λ (g : Grown). IsGrownAbove after c g (left_children c first separators i ++ (child_of c first separators i ∷ right_children c separators i))) (sym is.0)
     (subst (IsGrownAbove after c Whole) all.children_are whole)
 sides_grown key pages after c first separators i (Parted left s) above around at order fit inner place divided is =
     let front : List Separator = take i separators in
@@ -185,7 +183,7 @@ sides_grown key pages after c first separators i (Parted left s) above around at
     let asc = between_ascends first c.low c.high front s behind (ap (λ (xs : List Separator). are_ascending (separator_keys xs)) whole ∙ order) divided.0 divided.1 in
     let fits = between_fits first c.low c.high front s behind (ap (λ (xs : List Separator). keys_fit c.low c.high (separator_keys xs)) whole ∙ fit) divided.0 divided.1 in
     let grown = ways_grown after c first (front ++ s ∷ behind) above is asc fits in
-    let d : Child = middle_child c first separators i in
+    let d : Child = child_of c first separators i in
     let Parts : ℕ → List Child = λ (n : ℕ). children_before first c.low front ++ ((left_part n d s.key ∷ right_part s.child d s.key ∷ []) ++ children_from c.high behind) in
     subst (IsGrownAbove after c above) (children_parted first c.low c.high front s behind ∙ ap Parts (sym (place inner))) grown
 

@@ -31,8 +31,10 @@ use Rattle.name_btree.specs.declared.growing.Grown.{Grown}
 use Rattle.name_btree.specs.Draft.{drafted}
 use Rattle.name_btree.specs.Fault.{HasCause, IsMisfit}
 use Rattle.name_btree.specs.Grown.{Takes, most_taken, IsBranch, AreUsed, BranchBecomes, Grows, BreaksGrowth}
-use Rattle.name_btree.proofs.BranchLaws.{StandAround, middle_child, left_children, right_children, is_below, branch_below}
+use Rattle.name_btree.specs.Trim.{child_of}
+use Rattle.name_btree.proofs.BranchLaws.{StandAround, left_children, right_children, is_below, branch_below}
 use Rattle.name_btree.proofs.DescentLaws.{misfit}
+use Rattle.name_btree.proofs.PairLaws.{child_is_at}
 use Rattle.name_btree.proofs.StepLaws.{leaf_never}
 use Rattle.name_btree.proofs.TakeLaws.{takes_then}
 
@@ -40,7 +42,7 @@ use Rattle.name_btree.proofs.TakeLaws.{takes_then}
 
 pub record IsMiddle (key : Key) (above d : Child) (first : ℕ) (separators : List Separator) (i : ℕ) : Type 0 where
   pub around : StandAround key separators i
-  pub is : d ≡ middle_child above first separators i
+  pub is : d ≡ child_of above first separators i
 
 unnot_true : (b : Bool) → not b ≡ true → b ≡ false
 unnot_true true e = absurd cc
@@ -57,10 +59,9 @@ middle_is key k pages above d first separators i at same within before behind th
     let order = interior_ascends above.page (length pages) first separators (at_is_page pages above.page (Interior first separators) at) in
     let upto = all_weaker (λ s. is_before (UpTo k) s.key ≡ true) (IsUpTo k) (take i separators) (λ s h. sym (greater s.key k) ∙ unnot_true (is_gt (key_cmp s.key k)) h) before in
     let later = all_weaker (λ s. is_before (UpTo k) s.key ≡ false) (IsBehind k) (drop i separators) (λ s h. sym (greater s.key k) ∙ unnot_false (is_gt (key_cmp s.key k)) h) (behind order) in
-    let both : Some d ≡ Some (middle_child above first separators i) = sym there ∙ ways.child_at first above.low above.high separators i within in
     record {
       around = subst (λ (x : Key). StandAround x separators i) same (upto, later);
-      is = cc;
+      is = child_is_at above first separators i d within there;
     }
 
 pub inside_middle : (key : Key) (above d : Child) (first : ℕ) (separators : List Separator) (i : ℕ) → IsMiddle key above d first separators i → is_inside above key ≡ true → is_inside d key ≡ true
@@ -90,18 +91,18 @@ find_parts test (x ∷ xs) ys e = by (test x) e (λ later. find_parts test xs ys
     by false e later = later e
 
 none_below : (key : Key) (pages : List (List ℕ)) (level : ℕ) (c : Child) (first : ℕ) (separators : List Separator) (i : ℕ) → page_at pages c.page ≡ Some (Interior first separators) → StandAround key separators i → IsSubtree (suc level) pages c
-    → entry_with key (entries_below (suc level) pages c) ≡ None → entry_with key (entries_below level pages (middle_child c first separators i)) ≡ None
+    → entry_with key (entries_below (suc level) pages c) ≡ None → entry_with key (entries_below level pages (child_of c first separators i)) ≡ None
 none_below key pages level c first separators i at around sub none =
     let g : Child → List Entry = entries_below level pages in
     let ls : List Entry = flat_map g (left_children c first separators i) in
-    let ms : List Entry = g (middle_child c first separators i) in
+    let ms : List Entry = g (child_of c first separators i) in
     let rs : List Entry = flat_map g (right_children c separators i) in
     let below = is_below key pages level c first separators i at around sub in
     let all : entry_with key (ls ++ (ms ++ rs)) ≡ None = ap (entry_with key) (sym below.entries_are) ∙ none in
     (find_parts _ ms rs (find_parts _ ls (ms ++ rs) all).1).0
 
 pub fault_below : (given : Option Refusal) (fault : TreeFault) (e : Entry) (pages : List (List ℕ)) (levels : ℕ) (c : Child) (first : ℕ) (separators : List Separator) (i : ℕ) → page_at pages c.page ≡ Some (Interior first separators)
-    → StandAround e.key separators i → HasCause given (BreaksGrowth e pages levels (middle_child c first separators i)) fault → HasCause given (BreaksGrowth e pages (suc levels) c) fault
+    → StandAround e.key separators i → HasCause given (BreaksGrowth e pages levels (child_of c first separators i)) fault → HasCause given (BreaksGrowth e pages (suc levels) c) fault
 fault_below given (Pages refusal) e pages levels c first separators i at around h = h
 fault_below given (Broken page) e pages levels c first separators i at around h = λ level low branch none. by level low branch none
   where
@@ -116,14 +117,14 @@ itself_below (suc level) pages c = ap (λ (b : Bool). b || contains (flat_map (p
 
 -- page 0 stands below no other
 pub zero_below : (e : Entry) (pages : List (List ℕ)) (levels : ℕ) (c : Child) (first : ℕ) (separators : List Separator) (i page : ℕ) → page_at pages c.page ≡ Some (Interior first separators) → StandAround e.key separators i
-    → (middle_child c first separators i).page ≡ 0 → BreaksGrowth e pages levels c page
+    → (child_of c first separators i).page ≡ 0 → BreaksGrowth e pages levels c page
 zero_below e pages levels c first separators i page at around is = λ level low branch none. by level branch
   where
     by : (level : ℕ) → IsBranch pages level c → ⊥
     by zero branch = leaf_never pages c (page_at pages c.page) first separators at branch.subtree
     by (suc level) branch =
         (branch_below e.key pages level c first separators i at around branch).1.1
-        (subst (λ (n : ℕ). contains (pages_below level pages (middle_child c first separators i)) n ≡ true) is (itself_below level pages (middle_child c first separators i)))
+        (subst (λ (n : ℕ). contains (pages_below level pages (child_of c first separators i)) n ≡ true) is (itself_below level pages (child_of c first separators i)))
 
 -- ---- a leaf is on the lowest level
 

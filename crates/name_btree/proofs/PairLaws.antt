@@ -1,5 +1,5 @@
 -- Two children side by side, and the separators beside the one between them.
-use Rattle.std.proofs.Common.{◌≡◌, ℕ, zero, suc, ◌+◌, ◌-◌, ◌<◌, Bool, true, false, ◌&&◌, List, [], ◌∷◌, ◌++◌, length, get_or, take, drop, Option, Some, refl, sym, ap, ◌∙◌, cond, arith, take-append-drop}
+use Rattle.std.proofs.Common.{◌≡◌, ℕ, zero, suc, ◌+◌, ◌-◌, ◌<◌, ◌≤◌, Bool, true, false, ◌&&◌, List, [], ◌∷◌, ◌++◌, length, get_or, take, drop, Option, Some, refl, sym, ap, ◌∙◌, cond, arith, take-append-drop}
 use Rattle.std.specs.Prelude.{◌==◌, slice_get}
 use Rattle.std.proofs.lemmas.Bool.{and_parts, and_from}
 use Rattle.fsd_bytes.specs.declared.key.Key.{Key}
@@ -12,7 +12,8 @@ use Rattle.fsd_table.proofs.BoundLaws.{ascend_tail, ascend_skip, later_fit}
 use Rattle.fsd_table.proofs.KeyLaws.{le_lt}
 use Rattle.name_btree.specs.declared.trimming.Pair.{Pair}
 use Rattle.fsd_forest.specs.Ways.{child_behind, end_of}
-use Rattle.name_btree.specs.Trim.{IsPair, beside}
+use Rattle.fsd_forest.proofs.WayLaws.{child_at}
+use Rattle.name_btree.specs.Trim.{IsPair, beside, child_of}
 use Rattle.name_btree.proofs.WalkLaws.{child_later}
 use Rattle.name_node.proofs.ListLaws.{drop_at}
 
@@ -20,6 +21,9 @@ use Rattle.name_node.proofs.ListLaws.{drop_at}
 
 pub same_of : {X : Type 0} (x y : X) → Some x ≡ Some y → x ≡ y
 same_of x y e = cc
+
+pub child_is_at : (above : Child) (first : ℕ) (xs : List Separator) (i : ℕ) (child : Child) → i ≤ length xs → slice_get (children first above.low above.high xs) i ≡ Some child → child ≡ child_of above first xs i
+child_is_at above first xs i child within is = same_of child _ (sym is ∙ child_at first above.low above.high xs i within)
 
 pub some_at : (xs : List Separator) (i : ℕ) → i < length xs → (s : Separator) × (slice_get xs i ≡ Some s)
 some_at [] i h = absurd (omega arith)

@@ -12,13 +12,13 @@ use Rattle.fsd_table.specs.declared.child.Child.{Child}
 use Rattle.fsd_table.specs.Pages.{page_at, children, children_of}
 use Rattle.fsd_table.specs.Tree.{pages_below, IsInterior, IsSubtree}
 use Rattle.fsd_forest.specs.Forest.{forest_pages, Stay, IsLocal, Becomes}
-use Rattle.fsd_forest.specs.Ways.{StandsAt, IsUpTo, IsBehind, children_before, child_between, children_from}
+use Rattle.fsd_forest.specs.Ways.{StandsAt, IsUpTo, IsBehind, children_before, children_from}
 use Rattle.fsd_forest.proofs.CountLaws.{count_cons, count_append, count_nothing, counts_out, out_counts, differ_counts, one_if}
-use Rattle.fsd_forest.proofs.WayLaws.{children_around, child_at}
+use Rattle.fsd_forest.proofs.WayLaws.{children_around}
 use Rattle.name_btree.specs.Remove.{IsAround}
 use Rattle.name_btree.proofs.AroundLaws.{raised}
 use Rattle.name_btree.proofs.LeafTreeLaws.{stays_above, below_counts}
-use Rattle.name_btree.proofs.PairLaws.{same_of}
+use Rattle.name_btree.proofs.PairLaws.{child_is_at}
 
 -- what stands below a child is edited, and all other pages stay
 pub record IsEdited (edit : List Entry → List Entry) (pages after : List (List ℕ)) (went : List ℕ) (level : ℕ) (c : Child) : Type 0 where
@@ -34,7 +34,7 @@ child_edited key edit pages after went level above first xs i child local around
     let ls : List Child = children_before first above.low (take i xs) in
     let rs : List Child = children_from above.high (drop i xs) in
     let fits = (subst (IsInterior (IsSubtree level pages) above) at around.subtree).0 in
-    let same : child ≡ child_between first above.low above.high (take i xs) (drop i xs) = same_of child _ (sym child_is ∙ child_at first above.low above.high xs i within) in
+    let same = child_is_at above first xs i child within child_is in
     let stands0 = children_around key first above.low above.high xs i ends begins in
     let stands1 = subst (λ (c : Child). StandsAt key (children first above.low above.high xs) ls (c ∷ []) rs) (sym same) stands0 in
     let stands = subst (λ (x : Option Content). StandsAt key (children_of above.low above.high x) ls (child ∷ []) rs) (sym at) stands1 in

@@ -24,7 +24,8 @@ use Rattle.name_btree.specs.declared.growing.Grown.{Grown}
 use Rattle.name_btree.specs.declared.growing.Grown.TheVariants.{Whole, Parted}
 use Rattle.name_btree.specs.Draft.{drafted, IsTaken}
 use Rattle.name_btree.specs.Grown.{came_of, went_of, parts_of, most_taken, IsGrown, IsInPlace, IsAboveGrown, IsDivided, IsFull, IsBranch, AreUsed, BranchBecomes, Grows}
-use Rattle.name_btree.proofs.BranchLaws.{StandAround, middle_child, left_children, right_children, children_are, is_below, branch_below, sides_grown, becomes_by, went_nothing, taken_apart, with_entry_local}
+use Rattle.name_btree.specs.Trim.{child_of}
+use Rattle.name_btree.proofs.BranchLaws.{StandAround, left_children, right_children, children_are, is_below, branch_below, sides_grown, becomes_by, went_nothing, taken_apart, with_entry_local}
 use Rattle.name_btree.proofs.LeafGrowthLaws.{came_few, heads_exchange}
 use Rattle.name_btree.proofs.TakeLaws.{takes_then}
 
@@ -132,7 +133,7 @@ few_above page d levels apart = by (d == 0) refl
     by false is = omega arith
 
 divided_above : (key : Key) (pages after : List (List ℕ)) (above : Child) (first : ℕ) (separators : List Separator) (i : ℕ) (g grown : Grown) → StandAround key separators i → are_ascending (separator_keys separators) ≡ true
-    → keys_fit above.low above.high (separator_keys separators) ≡ true → ((middle_child above first separators i).page ≡ 0 → ⊥) → IsInPlace (middle_child above first separators i).page g → IsDivided (middle_child above first separators i) g
+    → keys_fit above.low above.high (separator_keys separators) ≡ true → ((child_of above first separators i).page ≡ 0 → ⊥) → IsInPlace (child_of above first separators i).page g → IsDivided (child_of above first separators i) g
     → IsAboveGrown pages after above.page first separators i g grown → IsDivided above grown
 divided_above key pages after above first separators i Whole grown around order fit differs place divided up = subst (IsDivided above) (sym up.0) tt
 divided_above key pages after above first separators i (Parted left s) grown around order fit differs place divided up =
@@ -143,12 +144,12 @@ divided_above key pages after above first separators i (Parted left s) grown aro
 -- below a page of a tree
 branch_grows : (e : Entry) (pages between after : List (List ℕ)) (a c : Step) (came came2 : List ℕ) (level : ℕ) (above : Child) (first : ℕ) (separators : List Separator) (i : ℕ) (g grown : Grown)
     → page_at pages above.page ≡ Some (Interior first separators) → are_ascending (separator_keys separators) ≡ true → keys_fit above.low above.high (separator_keys separators) ≡ true → StandAround e.key separators i
-    → ((middle_child above first separators i).page ≡ 0 → ⊥) → IsInPlace (middle_child above first separators i).page g → IsDivided (middle_child above first separators i) g
+    → ((child_of above first separators i).page ≡ 0 → ⊥) → IsInPlace (child_of above first separators i).page g → IsDivided (child_of above first separators i) g
     → IsInPlace above.page grown → came2 ≡ came_of above.page grown → IsTaken a c (came ++ came2) → Stay between after (above.page ∷ came2) → IsAboveGrown between after above.page first separators i g grown
-    → IsBranch pages (suc level) above → AreUsed a (pages_below (suc level) pages above) → BranchBecomes e pages between came level (middle_child above first separators i) g → BranchBecomes e pages after (came ++ came2) (suc level) above grown
+    → IsBranch pages (suc level) above → AreUsed a (pages_below (suc level) pages above) → BranchBecomes e pages between came level (child_of above first separators i) g → BranchBecomes e pages after (came ++ came2) (suc level) above grown
 branch_grows e pages between after a c came came2 level above first separators i g grown at order fit around differs place divided place_above came2_is taken stay2 up branch used b =
     let key : Key = e.key in
-    let d : Child = middle_child above first separators i in
+    let d : Child = child_of above first separators i in
     let left : List Child = left_children above first separators i in
     let right : List Child = right_children above separators i in
     let ls : List ℕ = forest_pages level pages left in
@@ -194,7 +195,7 @@ branch_grows e pages between after a c came came2 level above first separators i
 
 pub above_grows : (e : Entry) (a b c : Step) (s0 s1 s2 : List Sheet) (levels : ℕ) (above : Child) (first : ℕ) (separators : List Separator) (i : ℕ) (g grown : Grown)
     → page_at (drafted s0 a.images) above.page ≡ Some (Interior first separators) → keys_fit above.low above.high (separator_keys separators) ≡ true → StandAround e.key separators i
-    → ((middle_child above first separators i).page ≡ 0 → ⊥) → Grows e a b (drafted s0 a.images) (drafted s1 b.images) levels (middle_child above first separators i) g → IsGrown b c s1 s2 above.page grown
+    → ((child_of above first separators i).page ≡ 0 → ⊥) → Grows e a b (drafted s0 a.images) (drafted s1 b.images) levels (child_of above first separators i) g → IsGrown b c s1 s2 above.page grown
     → IsAboveGrown (drafted s1 b.images) (drafted s2 c.images) above.page first separators i g grown → Grows e a c (drafted s0 a.images) (drafted s2 c.images) (suc levels) above grown
 above_grows e a b c s0 s1 s2 levels above first separators i g grown at fit around differs grows is up =
     let pages : List (List ℕ) = drafted s0 a.images in
@@ -205,7 +206,7 @@ above_grows e a b c s0 s1 s2 levels above first separators i g grown at fit arou
     let order = interior_ascends above.page (length pages) first separators (at_is_page pages above.page (Interior first separators) at) in
     record {
       came = grows.came ++ came2;
-      few = omega (arith, grows.few, few_above above.page (middle_child above first separators i).page levels differs, came_few above.page grown, length-append grows.came came2);
+      few = omega (arith, grows.few, few_above above.page (child_of above first separators i).page levels differs, came_few above.page grown, length-append grows.came came2);
       takes = takes;
       sound = is.sound;
       place = is.place;

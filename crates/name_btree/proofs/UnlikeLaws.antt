@@ -145,7 +145,7 @@ ways_of l pages c (Some (grammar.Interior second others)) h = record { second = 
 pub unlike_breaks : (key : Key) (pages between : List (List ℕ)) (old0 new0 : List ℕ) (level p : ℕ) (above : Child) (first : ℕ) (xs : List Separator) (i : ℕ) (child : Child) (below : Trimmed) (page : ℕ)
     → IsAround key pages (suc level) above → page_at pages above.page ≡ Some (grammar.Interior first xs) → IsOpened p above first xs → i ≤ length xs
     → AllByRecursion (IsUpTo key) (take i xs) → AllByRecursion (IsBehind key) (drop i xs) → slice_get (children first above.low above.high xs) i ≡ Some child
-    → IsTrimmed key pages between old0 new0 level child below → IsUnlike between above first xs i child below page → ⊥
+    → IsTrimmed key pages between old0 new0 level child below → IsUnlike between above first xs i below page → ⊥
 unlike_breaks key pages between old0 new0 level p above first xs i child Whole page around at o within ends begins child_is t u = u
 unlike_breaks key pages between old0 new0 zero p above first xs i child (Leaf list) page around at o within ends begins child_is t u =
     let n = has_neighbour p above first xs i child o within in
@@ -197,7 +197,7 @@ pub unlike_above : (images0 images1 images2 : List (List ℕ)) → images1 ≡ i
     → page_at (drafted draft.sheets.items images0) above.page ≡ Some (grammar.Interior first xs) → IsOpened p above first xs → i ≤ length xs
     → AllByRecursion (λ s. is_before (UpTo key) s.key ≡ true) (take i xs) → AllByRecursion (λ s. is_before (UpTo key) s.key ≡ false) (drop i xs) → slice_get (children first above.low above.high xs) i ≡ Some child
     → IsTrimmedBelow key (drafted draft.sheets.items images1) (drafted mid.sheets.items images1) draft.freed.items mid.freed.items (levels - 1) child below
-    → (page : ℕ) → IsUnlike (drafted mid.sheets.items images2) above first xs i child below page → BreaksAround key (drafted draft.sheets.items images0) levels above page
+    → (page : ℕ) → IsUnlike (drafted mid.sheets.items images2) above first xs i below page → BreaksAround key (drafted draft.sheets.items images0) levels above page
 unlike_above images0 images1 images2 same1 same2 key draft mid levels p above first xs i child below at o within before behind child_is t page u zero most around = subst (IsLeaf above) at around.subtree
 unlike_above images0 images1 images2 same1 same2 key draft mid levels p above first xs i child below at o within before behind child_is t page u (suc l) most around =
     let ends = up_to key (take i xs) before in
@@ -205,5 +205,5 @@ unlike_above images0 images1 images2 same1 same2 key draft mid levels p above fi
     let inner_around = child_around key (drafted draft.sheets.items images0) l above first xs i child around at within ends begins child_is in
     let t1 = t l (omega (arith, most)) (subst (λ (x : List (List ℕ)). IsAround key (drafted draft.sheets.items x) l child) (sym same1) inner_around) in
     let t2 = subst (λ (x : List (List ℕ)). IsTrimmed key (drafted draft.sheets.items x) (drafted mid.sheets.items x) draft.freed.items mid.freed.items l child below) same1 t1 in
-    let u2 = subst (λ (x : List (List ℕ)). IsUnlike (drafted mid.sheets.items x) above first xs i child below page) (same2 ∙ same1) u in
+    let u2 = subst (λ (x : List (List ℕ)). IsUnlike (drafted mid.sheets.items x) above first xs i below page) (same2 ∙ same1) u in
     unlike_breaks key (drafted draft.sheets.items images0) (drafted mid.sheets.items images0) draft.freed.items mid.freed.items l p above first xs i child below page around at o within ends begins child_is t2 u2

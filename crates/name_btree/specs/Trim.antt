@@ -17,7 +17,7 @@ use Rattle.name_btree.specs.declared.trimming.Pair.{Pair}
 use Rattle.name_btree.specs.declared.trimming.Trimmed.{Trimmed}
 use Rattle.name_btree.specs.declared.trimming.Trimmed.TheVariants.{Whole, Leaf, Interior}
 use Rattle.name_btree.specs.Draft.{IsDrafted, images_of, with_freed}
-use Rattle.fsd_forest.specs.Ways.{child_behind, end_of}
+use Rattle.fsd_forest.specs.Ways.{child_behind, child_between, end_of}
 
 -- ---- what a page may have, but for how much
 
@@ -147,6 +147,10 @@ AreWaysMended step old new page first separators pair lead list left =
 
 -- ---- a child and its neighbour
 
+-- child i of a page
+abbrev pub child_of : (above : Child) → (first : ℕ) → List Separator → ℕ → Child
+child_of above first separators i = child_between first above.low above.high (take i separators) (drop i separators)
+
 -- the place of the neighbour of child i
 abbrev pub beside : ℕ → ℕ
 beside i = if i == 0 then 1 else i - 1
@@ -198,8 +202,8 @@ abbrev pub HasNoLeaf : List (List ℕ) → List Child → ℕ → ℕ → Type 0
 HasNoLeaf pages cs i page = (c : Child) → slice_get cs (beside i) ≡ Some c → IsLeaf c (page_at pages c.page) → c.page ≢ 0 → ⊥
 
 -- the neighbour has no ways or is page 0, or the ways of both don't ascend
-abbrev pub HasNoWays : List (List ℕ) → (above : Child) → (first : ℕ) → List Separator → ℕ → (child : Child) → (few : List Separator) → ℕ → Type 0
-HasNoWays pages above first separators i child few page =
+abbrev pub HasNoWays : List (List ℕ) → (above : Child) → (first : ℕ) → List Separator → ℕ → (few : List Separator) → ℕ → Type 0
+HasNoWays pages above first separators i few page =
     (c : Child) → slice_get (children first above.low above.high separators) (beside i) ≡ Some c → c.page ≢ 0
     → (second : ℕ) (others : List Separator) → page_at pages c.page ≡ Some (grammar.Interior second others) → keys_fit c.low c.high (separator_keys others) ≡ true
     → (s : Separator) → slice_get separators (i - 1) ≡ Some s → is_behind s.key (right_at i few others) ≡ true → ⊥
@@ -218,7 +222,7 @@ IsMended step old new above first separators i (Leaf list) left = LeafIsMended s
 IsMended step old new above first separators i (Interior lead list) left = WayIsMended step old new above first separators i lead list.items left
 
 -- the neighbour is nothing that it may be joined with
-abbrev pub IsUnlike : List (List ℕ) → (above : Child) → (first : ℕ) → List Separator → ℕ → (child : Child) → Trimmed → ℕ → Type 0
-IsUnlike pages above first separators i child Whole page = ⊥
-IsUnlike pages above first separators i child (Leaf list) page = HasNoLeaf pages (children first above.low above.high separators) i page
-IsUnlike pages above first separators i child (Interior lead list) page = HasNoWays pages above first separators i child list.items page
+abbrev pub IsUnlike : List (List ℕ) → (above : Child) → (first : ℕ) → List Separator → ℕ → Trimmed → ℕ → Type 0
+IsUnlike pages above first separators i Whole page = ⊥
+IsUnlike pages above first separators i (Leaf list) page = HasNoLeaf pages (children first above.low above.high separators) i page
+IsUnlike pages above first separators i (Interior lead list) page = HasNoWays pages above first separators i list.items page

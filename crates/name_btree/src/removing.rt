@@ -107,7 +107,7 @@ fn remove_below<T: Pages>(
             let i = ways_before(&ways, &Cut::UpTo(key.copied()));
             let below = child_at(&ways, i, child);
             let trimmed = remove_below(t, draft, &below, key, levels - 1)?;
-            trim_above(t, draft, child, &ways, i, &below, trimmed)
+            trim_above(t, draft, child, &ways, i, trimmed)
         }
         _ => Err(TreeFault::Broken(child.page)),
     }

@@ -1,5 +1,5 @@
 //! What is left in a page, which joins a neighbour or shares with it where it is too little for one.
-ghost use Rattle.std.specs.Prelude.{◌≡◌, ◌≢◌, ◌+◌, ◌-◌, ◌==◌, ◌<◌, ◌≤◌, ℕ, List, ◌∷◌, ◌++◌, OnOk, IfOk, IfErr, IfSome, Some, None, length, slice_get, true, false, if◌then◌else◌};
+ghost use Rattle.std.specs.Prelude.{◌≡◌, ◌≢◌, ◌+◌, ◌-◌, ◌==◌, ◌<◌, ◌≤◌, ℕ, List, ◌∷◌, ◌++◌, OnOk, IfOk, IfErr, IfSome, Some, None, length, true, false, if◌then◌else◌};
 ghost use Rattle.std.specs.List.{AllByRecursion};
 ghost use Rattle.fsd_bytes.specs.Keys.{is_key};
 ghost use Rattle.fsd_formats.specs.NamePage.{is_page, FitsEntry, FitsSeparator};
@@ -10,7 +10,7 @@ ghost use Rattle.name_btree.specs.Draft.{IsDraft, IsDrafted, images_of, with_fre
 ghost use Rattle.name_btree.specs.Fault.{HasCause};
 ghost use Rattle.name_btree.specs.Remove.{IsRootLeft};
 ghost use Rattle.name_btree.specs.Still.{IsStill};
-ghost use Rattle.name_btree.specs.Trim.{used_by, AreEntries, AreWays, MayHave, IsOpened, AreFewEntries, AreFewWays, IsLeafPut, AreWaysPut, IsPair, pair_fits, IsBetween, separators_joined, separators_shared, AreLeavesMended, AreWaysMended, entries_at, ways_at, first_at, right_at, is_behind, LeafIsMended, WayIsMended, HasNoLeaf, HasNoWays, IsLeft, IsMended, IsUnlike, IsTakenOver};
+ghost use Rattle.name_btree.specs.Trim.{used_by, child_of, AreEntries, AreWays, MayHave, IsOpened, AreFewEntries, AreFewWays, IsLeafPut, AreWaysPut, IsPair, pair_fits, IsBetween, separators_joined, separators_shared, AreLeavesMended, AreWaysMended, entries_at, ways_at, first_at, right_at, is_behind, LeafIsMended, WayIsMended, HasNoLeaf, HasNoWays, IsLeft, IsMended, IsUnlike, IsTakenOver};
 ghost use Rattle.name_node.specs.declared.node.Node.TheVariants.{Free};
 ghost use Rattle.name_node.specs.Node.{content_of};
 ghost use Rattle.name_page.specs.Pages.{reaches, IsReached};
@@ -41,6 +41,13 @@ pub(crate) struct Pair {
     place: u32,
     left: u32,
     right: u32,
+}
+
+// The first child and the separators of two pages side by side.
+#[derive(Drop)]
+struct JoinedWays {
+    first: u32,
+    list: WideList,
 }
 
 /// The page is to be a leaf of these entries, if they are enough.
@@ -212,8 +219,7 @@ fn put_interiors<T: Pages>(
     above: &Child,
     ways: &Ways,
     pair: Pair,
-    first: u32,
-    list: &[Separator],
+    joined: &JoinedWays,
     cut: usize,
 ) -> Trimmed
     requires room { length draft.old.sheets.items ≤ 37 }
@@ -224,25 +230,26 @@ fn put_interiors<T: Pages>(
     requires right { MayHave (T.step t.now) pair.right }
     requires ways { IsOpened (length (T.step t.now).images) above.now ways.now.0 ways.now.1 }
     requires pair { IsPair above.now ways.now.0 ways.now.1 pair }
-    requires list { AreWays (length (T.step t.now).images) first list.now }
-    requires fits { AllByRecursion FitsSeparator list.now }
-    requires least { 4 ≤ length list.now }
-    requires front { 8 < length list.now → 4 ≤ cut }
-    requires short { 8 < length list.now → cut ≤ 9 }
-    requires behind { 8 < length list.now → cut + 5 ≤ length list.now }
-    requires most { 8 < length list.now → length list.now ≤ cut + 10 }
-    requires within { pair_fits above.now ways.now.0 ways.now.1 pair (separator_keys list.now) ≡ true }
+    requires list { AreWays (length (T.step t.now).images) joined.now.first joined.now.list.items }
+    requires fits { AllByRecursion FitsSeparator joined.now.list.items }
+    requires least { 4 ≤ length joined.now.list.items }
+    requires front { 8 < length joined.now.list.items → 4 ≤ cut }
+    requires short { 8 < length joined.now.list.items → cut ≤ 9 }
+    requires behind { 8 < length joined.now.list.items → cut + 5 ≤ length joined.now.list.items }
+    requires most { 8 < length joined.now.list.items → length joined.now.list.items ≤ cut + 10 }
+    requires within { pair_fits above.now ways.now.0 ways.now.1 pair (separator_keys joined.now.list.items) ≡ true }
     ensures draft { IsDraft (T.step t.now) draft.new }
-    ensures put { AreWaysMended (T.step t.now) draft.old draft.new above.now.page ways.now.0 ways.now.1 pair first list.now result }
+    ensures put { AreWaysMended (T.step t.now) draft.old draft.new above.now.page ways.now.0 ways.now.1 pair joined.now.first joined.now.list.items result }
 {
+    let list = joined.list.as_slice();
     if list.len() <= 8 {
-        draft.put_ways(t, pair.left, first, list);
+        draft.put_ways(t, pair.left, joined.first, list);
         return join_pair(t, draft, above, ways, pair);
     }
     let (front, _) = list.split_at(cut);
     let (_, behind) = list.split_at(cut + 1);
     let middle = &list[cut];
-    draft.put_ways(t, pair.left, first, front);
+    draft.put_ways(t, pair.left, joined.first, front);
     draft.put_ways(t, pair.right, middle.child, behind);
     share_pair(t, draft, above, ways, pair, middle.key.copied())
 }
@@ -268,7 +275,6 @@ pub(crate) fn mend_leaf<T: Pages>(
     above: &Child,
     ways: &Ways,
     i: u32,
-    child: &Child,
     few: &EntryList,
 ) -> Result<Trimmed, TreeFault>
     requires more { 0 < reaches (T.step t.old) }
@@ -278,9 +284,8 @@ pub(crate) fn mend_leaf<T: Pages>(
     requires page { MayHave (T.step t.old) above.now.page }
     requires ways { IsOpened (length (T.step t.old).images) above.now ways.now.0 ways.now.1 }
     requires within { i ≤ length ways.now.1 }
-    requires child { slice_get (children ways.now.0 above.now.low above.now.high ways.now.1) i ≡ Some child.now }
-    requires below { MayHave (T.step t.old) child.now.page }
-    requires few { AreFewEntries child.now few.now.items }
+    requires below { MayHave (T.step t.old) (child_of above.now ways.now.0 ways.now.1 i).page }
+    requires few { AreFewEntries (child_of above.now ways.now.0 ways.now.1 i) few.now.items }
     ensures images { (T.step t.new).images ≡ (T.step t.old).images }
     ensures spares { (T.step t.new).spares ≡ (T.step t.old).spares }
     ensures step { (T.step t.new).most_reached ≡ (T.step t.old).most_reached }
@@ -300,13 +305,6 @@ pub(crate) fn mend_leaf<T: Pages>(
         }
         _ => Err(TreeFault::Broken(neighbour.page)),
     }
-}
-
-// The first child and the separators of two pages side by side.
-#[derive(Drop)]
-struct JoinedWays {
-    first: u32,
-    list: WideList,
 }
 
 // Whether the first of the separators, if there is one, stands behind a key.
@@ -396,7 +394,6 @@ pub(crate) fn mend_ways<T: Pages>(
     above: &Child,
     ways: &Ways,
     i: u32,
-    child: &Child,
     first: u32,
     few: &SeparatorList,
 ) -> Result<Trimmed, TreeFault>
@@ -407,9 +404,8 @@ pub(crate) fn mend_ways<T: Pages>(
     requires page { MayHave (T.step t.old) above.now.page }
     requires ways { IsOpened (length (T.step t.old).images) above.now ways.now.0 ways.now.1 }
     requires within { i ≤ length ways.now.1 }
-    requires child { slice_get (children ways.now.0 above.now.low above.now.high ways.now.1) i ≡ Some child.now }
-    requires below { MayHave (T.step t.old) child.now.page }
-    requires few { AreFewWays (length (T.step t.old).images) child.now first few.now.items }
+    requires below { MayHave (T.step t.old) (child_of above.now ways.now.0 ways.now.1 i).page }
+    requires few { AreFewWays (length (T.step t.old).images) (child_of above.now ways.now.0 ways.now.1 i) first few.now.items }
     ensures images { (T.step t.new).images ≡ (T.step t.old).images }
     ensures spares { (T.step t.new).spares ≡ (T.step t.old).spares }
     ensures step { (T.step t.new).most_reached ≡ (T.step t.old).most_reached }
@@ -418,7 +414,7 @@ pub(crate) fn mend_ways<T: Pages>(
     ensures kept { (q : ℕ) → IsReached (T.step t.old) q → IsReached (T.step t.new) q }
     ensures draft { OnOk result (IsDraft (T.step t.new) draft.new) }
     ensures mended { IfOk result (WayIsMended (T.step t.new) draft.old draft.new above.now ways.now.0 ways.now.1 i first few.now.items) }
-    ensures fault { IfErr result (HasCause (T.step t.new).refusal (HasNoWays (images_of draft.old (T.step t.old)) above.now ways.now.0 ways.now.1 i child.now few.now.items)) }
+    ensures fault { IfErr result (HasCause (T.step t.new).refusal (HasNoWays (images_of draft.old (T.step t.old)) above.now ways.now.0 ways.now.1 i few.now.items)) }
 {
     let neighbour = child_at(ways, neighbour_of(i), above);
     let pair = pair_with(ways, i, above);
@@ -427,9 +423,8 @@ pub(crate) fn mend_ways<T: Pages>(
             let Some(joined) = ways_joined(i, ways.get(pair.place).key, first, few, &others) else {
                 return Err(TreeFault::Broken(pair.right));
             };
-            let list = joined.list.as_slice();
-            let cut = ways_cut(i, list);
-            Ok(put_interiors(t, draft, above, ways, pair, joined.first, list, cut))
+            let cut = ways_cut(i, joined.list.as_slice());
+            Ok(put_interiors(t, draft, above, ways, pair, &joined, cut))
         }
         _ => Err(TreeFault::Broken(neighbour.page)),
     }
@@ -442,7 +437,6 @@ pub(crate) fn trim_above<T: Pages>(
     above: &Child,
     ways: &Ways,
     i: u32,
-    child: &Child,
     below: Trimmed,
 ) -> Result<Trimmed, TreeFault>
     requires more { 0 < reaches (T.step t.old) }
@@ -452,9 +446,8 @@ pub(crate) fn trim_above<T: Pages>(
     requires page { MayHave (T.step t.old) above.now.page }
     requires ways { IsOpened (length (T.step t.old).images) above.now ways.now.0 ways.now.1 }
     requires within { i ≤ length ways.now.1 }
-    requires child { slice_get (children ways.now.0 above.now.low above.now.high ways.now.1) i ≡ Some child.now }
-    requires below { MayHave (T.step t.old) child.now.page }
-    requires left { IsLeft (length (T.step t.old).images) child.now below }
+    requires below { MayHave (T.step t.old) (child_of above.now ways.now.0 ways.now.1 i).page }
+    requires left { IsLeft (length (T.step t.old).images) (child_of above.now ways.now.0 ways.now.1 i) below }
     ensures images { (T.step t.new).images ≡ (T.step t.old).images }
     ensures spares { (T.step t.new).spares ≡ (T.step t.old).spares }
     ensures step { (T.step t.new).most_reached ≡ (T.step t.old).most_reached }
@@ -463,12 +456,12 @@ pub(crate) fn trim_above<T: Pages>(
     ensures kept { (q : ℕ) → IsReached (T.step t.old) q → IsReached (T.step t.new) q }
     ensures draft { OnOk result (IsDraft (T.step t.new) draft.new) }
     ensures mended { IfOk result (IsMended (T.step t.new) draft.old draft.new above.now ways.now.0 ways.now.1 i below) }
-    ensures fault { IfErr result (HasCause (T.step t.new).refusal (IsUnlike (images_of draft.old (T.step t.old)) above.now ways.now.0 ways.now.1 i child.now below)) }
+    ensures fault { IfErr result (HasCause (T.step t.new).refusal (IsUnlike (images_of draft.old (T.step t.old)) above.now ways.now.0 ways.now.1 i below)) }
 {
     match below {
         Trimmed::Whole => Ok(Trimmed::Whole),
-        Trimmed::Leaf(few) => mend_leaf(t, draft, above, ways, i, child, &few),
-        Trimmed::Interior(first, few) => mend_ways(t, draft, above, ways, i, child, first, &few),
+        Trimmed::Leaf(few) => mend_leaf(t, draft, above, ways, i, &few),
+        Trimmed::Interior(first, few) => mend_ways(t, draft, above, ways, i, first, &few),
     }
 }
 

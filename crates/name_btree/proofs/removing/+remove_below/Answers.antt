@@ -6,6 +6,7 @@ use Rattle.name_node.specs.Cut.{is_before}
 use Rattle.std.proofs.lemmas.Result.{err_from_is_err_and}
 use Rattle.fsd_formats.specs.declared.entry.Entry.{Entry}
 use Rattle.fsd_formats.specs.NamePage.{Leaf, Interior}
+use Rattle.fsd_table.specs.declared.child.Child.{Child}
 use Rattle.fsd_table.specs.Pages.{page_at, content_fits, keys_fit, entry_keys}
 use Rattle.fsd_table.proofs.PageLaws.{at_is_page}
 use Rattle.name_node.specs.declared.node.Node.{Node}
@@ -15,11 +16,12 @@ use Rattle.name_page.specs.Pages.{reaches}
 use Rattle.name_btree.specs.Draft.{drafted}
 use Rattle.name_btree.specs.Fault.{HasCause}
 use Rattle.name_btree.specs.Remove.{BreaksAround, IsAround, IsTrimmed, IsTrimmedBelow, IsRootLeft}
-use Rattle.name_btree.specs.Trim.{IsUnlike, AreEntries, IsOpened, IsMended, IsLeft, used_by}
+use Rattle.name_btree.specs.Trim.{IsUnlike, AreEntries, IsOpened, IsMended, IsLeft, MayHave, used_by}
 use Rattle.name_btree.proofs.AboveLaws.{ok_left, err_left, ok_on, mended_left, mended_freed, room_left}
 use Rattle.name_btree.proofs.DraftLaws.{drafted_length}
 use Rattle.name_btree.proofs.MendLaws.{draft_kept}
 use Rattle.name_btree.proofs.MendedLaws.{trimmed_above, breaks_above}
+use Rattle.name_btree.proofs.PairLaws.{child_is_at}
 use Rattle.name_btree.proofs.RemoveLaws.{misfit_below, leaf_most, leaf_left, leaf_trimmed, without_leaf}
 use Rattle.name_btree.proofs.ReplaceLaws.{few_in_leaf}
 use Rattle.name_btree.proofs.RootLaws.{mended_root, cause_more}
@@ -75,6 +77,20 @@ trim_above-requires-clause-room g t c some =
     let n : ℕ = length c.args.draft.now.sheets.items in
     let levels : ℕ = c.args.levels - 1 in
     room_left c.in_ok-trimmed-in-Interior.trimmed n (length c.remove_below.new.draft.sheets.items) levels c.in_ok-trimmed-in-Interior.ensures.sheets (omega arith) some
+
+pub trim_above-requires-clause-below : goal.trim_above-requires-clause-below
+trim_above-requires-clause-below g t c =
+    let ways = c.in-Interior.ways in
+    subst (λ (d : Child). MayHave (g.T.Pages.step c.remove_below.new.t) d.page)
+    (child_is_at c.args.child.now ways.0 ways.1 c.ways_before-i.result c.child_at-below.result c.ways_before-i.ensures.within c.child_at-below.ensures) c.in_ok-trimmed-in-Interior.ensures.page
+
+pub trim_above-requires-clause-left : goal.trim_above-requires-clause-left
+trim_above-requires-clause-left g t c =
+    let ways = c.in-Interior.ways in
+    let below = c.in_ok-trimmed-in-Interior.trimmed in
+    let same = child_is_at c.args.child.now ways.0 ways.1 c.ways_before-i.result c.child_at-below.result c.ways_before-i.ensures.within c.child_at-below.ensures in
+    let left = subst (λ (x : List (List ℕ)). IsLeft (length x) c.child_at-below.result below) (sym c.remove_below.ensures.images) c.in_ok-trimmed-in-Interior.ensures.left in
+    subst (λ (d : Child). IsLeft (length (g.T.Pages.step c.remove_below.new.t).images) d below) same left
 
 pub trim_above-requires-clause-ways : goal.trim_above-requires-clause-ways
 trim_above-requires-clause-ways g t c =
@@ -215,7 +231,7 @@ returns-in_ok-trimmed-in-Interior-clause-fault g t c =
     let opened : IsOpened (length pages) child ways.0 ways.1 = record { ways = has.ways; within = fit; least = has.least; most = has.most } in
     let before = subst (λ (k : Key). AllByRecursion (λ s. is_before (UpTo k) s.key ≡ true) (take i ways.1)) c.copied.ensures c.ways_before-i.ensures.before in
     let behind = subst (λ (k : Key). AllByRecursion (λ s. is_before (UpTo k) s.key ≡ false) (drop i ways.1)) c.copied.ensures (c.ways_before-i.ensures.behind has.ways.ascend) in
-    let A : ℕ → Type 0 = IsUnlike (drafted mid.sheets.items images2) child ways.0 ways.1 i below_child below in
+    let A : ℕ → Type 0 = IsUnlike (drafted mid.sheets.items images2) child ways.0 ways.1 i below in
     let B : ℕ → Type 0 = BreaksAround key pages c.args.levels child in
     err_left c.trim_above.result (HasCause given A) (HasCause given B)
     (λ fault h. cause_more given A B (unlike_above old.images between.images images2 c.child_node.ensures.images c.remove_below.ensures.images key draft mid c.args.levels (length pages) child ways.0 ways.1 i below_child below

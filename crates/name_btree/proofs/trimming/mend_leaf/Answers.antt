@@ -6,11 +6,12 @@ use Rattle.fsd_formats.specs.NamePage.{Leaf, FitsEntry}
 use Rattle.fsd_table.specs.declared.child.Child.{Child}
 use Rattle.fsd_table.specs.Pages.{page_at, children, content_fits}
 use Rattle.fsd_table.proofs.PageLaws.{at_is_page}
+use Rattle.fsd_forest.proofs.WayLaws.{child_at}
 use Rattle.name_node.specs.declared.node.Node.{Node}
 use Rattle.name_node.specs.Node.{content_of}
 use Rattle.name_page.specs.Pages.{is_spare}
 use Rattle.name_btree.specs.Draft.{drafted}
-use Rattle.name_btree.specs.Trim.{MayHave, entries_at}
+use Rattle.name_btree.specs.Trim.{MayHave, child_of, entries_at}
 use Rattle.name_btree.proofs.MendLaws.{draft_kept, page_kept, left_page, right_page, leaves_at, AreBothLeaves}
 use Rattle.name_btree.proofs.PairLaws.{sides_are}
 use Rattle.name_btree.proofs.ReplaceLaws.{few_in_leaf}
@@ -32,14 +33,14 @@ put_leaves-requires g c =
     let ways = c.args.ways.now in
     let pair = c.pair_with-pair.result in
     let is = c.pair_with-pair.ensures.pair in
-    let child = c.args.child.now in
+    let child = child_of above ways.0 ways.1 c.args.i in
     let neighbour = c.child_at-neighbour.result in
     let others = c.in-Leaf.others in
     let few = c.args.few.now.items in
     let cs : List Child = children ways.0 above.low above.high ways.1 in
     let pages : List (List ℕ) = drafted c.args.draft.now.sheets.items old.images in
     let at : page_at pages neighbour.page ≡ Some (Leaf others) = c.in_ok-others.ensures.node ∙ ap (λ (n : Node). Some (content_of n)) c.in-Leaf.is in
-    let sides = sides_are above ways.0 ways.1 pair is c.args.i child neighbour c.pair_with-pair.ensures.place c.requires.child (ap (slice_get cs) (sym c.neighbour_of.ensures) ∙ c.child_at-neighbour.ensures) in
+    let sides = sides_are above ways.0 ways.1 pair is c.args.i child neighbour c.pair_with-pair.ensures.place (child_at ways.0 above.low above.high ways.1 c.args.i c.requires.within) (ap (slice_get cs) (sym c.neighbour_of.ensures) ∙ c.child_at-neighbour.ensures) in
     let fits = subst (AllByRecursion FitsEntry) c.listed.ensures.entries c.listed.ensures.fits in
     let has = page_entries neighbour.page (length pages) others (at_is_page pages neighbour.page (Leaf others) at) fits in
     let within = sym (ap (λ (n : Node). content_fits neighbour.low neighbour.high (Some (content_of n))) c.in-Leaf.is) ∙ c.in_ok-others.ensures.fits in

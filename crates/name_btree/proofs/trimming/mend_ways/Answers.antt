@@ -1,17 +1,17 @@
 use Rattle.std.proofs.Common.{◌≡◌, ◌∙◌, ◌≤◌, Bool, true, sym, ap, subst, length, ℕ, List, Some, arith, rules}
 use Rattle.std.specs.Prelude.{slice_get}
-use Rattle.std.specs.List.{AllByRecursion}
 use Rattle.fsd_formats.specs.declared.page.Separator.{Separator}
-use Rattle.fsd_formats.specs.NamePage.{Interior, is_page, FitsSeparator}
+use Rattle.fsd_formats.specs.NamePage.{Interior, is_page}
 use Rattle.fsd_table.specs.declared.child.Child.{Child}
 use Rattle.fsd_table.specs.Pages.{page_at, children, content_fits}
 use Rattle.fsd_table.proofs.PageLaws.{at_is_page}
+use Rattle.fsd_forest.proofs.WayLaws.{child_at}
 use Rattle.name_node.specs.declared.node.Node.{Node}
 use Rattle.name_node.specs.Node.{content_of}
 use Rattle.name_node.proofs.CountLaws.{few_separators}
 use Rattle.name_page.specs.Pages.{is_spare}
 use Rattle.name_btree.specs.Draft.{drafted}
-use Rattle.name_btree.specs.Trim.{MayHave, AreWays, AreWaysMended, ways_at, is_behind, right_at}
+use Rattle.name_btree.specs.Trim.{MayHave, AreWays, child_of, AreWaysMended, ways_at, is_behind, right_at}
 use Rattle.name_btree.proofs.DraftLaws.{drafted_length}
 use Rattle.name_btree.proofs.MendLaws.{draft_kept, page_kept, left_page, right_page, ways_found, ways_count}
 use Rattle.name_btree.proofs.PairLaws.{sides_are, same_of}
@@ -34,7 +34,7 @@ ways_cut-cut-requires g c =
     let few = c.args.few.now.items in
     let at : page_at pages neighbour.page ≡ Some (Interior others.0 others.1) = c.in_ok-others.ensures.node ∙ ap (λ (n : Node). Some (content_of n)) c.in-Interior.is in
     let least : 4 ≤ length others.1 = least_of_page neighbour.page (length pages) others.0 others.1 c.if-neighbour-ne0.true (at_is_page pages neighbour.page (Interior others.0 others.1) at) in
-    let is : c.as_slice-list.result.now ≡ ways_at c.args.i c.get.result.key c.args.first few others.0 others.1 = c.as_slice-list.ensures.value ∙ c.in-Some.ensures.list in
+    let is : c.as_slice.result.now ≡ ways_at c.args.i c.get.result.key c.args.first few others.0 others.1 = c.as_slice.ensures.value ∙ c.in-Some.ensures.list in
     omega (arith, ap length is, ways_count c.args.i c.get.result.key c.args.first few others.0 others.1, least)
 
 pub put_interiors-requires : goal.put_interiors-requires
@@ -46,24 +46,22 @@ put_interiors-requires g c =
     let ways = c.args.ways.now in
     let pair = c.pair_with-pair.result in
     let is = c.pair_with-pair.ensures.pair in
-    let child = c.args.child.now in
+    let child = child_of above ways.0 ways.1 c.args.i in
     let neighbour = c.child_at-neighbour.result in
     let others = c.in-Interior.others in
     let few = c.args.few.now.items in
-    let list : List Separator = c.as_slice-list.result.now in
+    let list : List Separator = c.in-Some.joined.list.items in
     let cs : List Child = children ways.0 above.low above.high ways.1 in
     let sheets = c.args.draft.now.sheets.items in
     let pages : List (List ℕ) = drafted sheets old.images in
     let at : page_at pages neighbour.page ≡ Some (Interior others.0 others.1) = c.in_ok-others.ensures.node ∙ ap (λ (n : Node). Some (content_of n)) c.in-Interior.is in
     let page = subst (λ (n : ℕ). is_page neighbour.page n (Interior others.0 others.1) ≡ true) (drafted_length sheets old.images) (at_is_page pages neighbour.page (Interior others.0 others.1) at) in
-    let sides = sides_are above ways.0 ways.1 pair is c.args.i child neighbour c.pair_with-pair.ensures.place c.requires.child (ap (slice_get cs) (sym c.neighbour_of.ensures) ∙ c.child_at-neighbour.ensures) in
+    let sides = sides_are above ways.0 ways.1 pair is c.args.i child neighbour c.pair_with-pair.ensures.place (child_at ways.0 above.low above.high ways.1 c.args.i c.requires.within) (ap (slice_get cs) (sym c.neighbour_of.ensures) ∙ c.child_at-neighbour.ensures) in
     let within = sym (ap (λ (n : Node). content_fits neighbour.low neighbour.high (Some (content_of n))) c.in-Interior.is) ∙ c.in_ok-others.ensures.fits in
-    let is_list : list ≡ ways_at c.args.i c.get.result.key c.args.first few others.0 others.1 = c.as_slice-list.ensures.value ∙ c.in-Some.ensures.list in
-    let fits = subst (AllByRecursion FitsSeparator) (sym c.as_slice-list.ensures.value) c.in-Some.ensures.fits in
     let both = ways_found p ways.0 above ways.1 pair is c.requires.ways c.args.i child neighbour sides c.args.first few others.0 others.1 c.requires.few page within
-    c.get.result c.get.ensures.there c.in-Some.ensures.behind c.in-Some.joined.first list c.in-Some.ensures.first is_list in
+    c.get.result c.get.ensures.there c.in-Some.ensures.behind c.in-Some.joined.first list c.in-Some.ensures.first c.in-Some.ensures.list in
     let count : 5 ≤ length list =
-    omega (arith, ap length is_list, ways_count c.args.i c.get.result.key c.args.first few others.0 others.1, least_of_page neighbour.page p others.0 others.1 c.if-neighbour-ne0.true page) in
+    omega (arith, ap length c.in-Some.ensures.list, ways_count c.args.i c.get.result.key c.args.first few others.0 others.1, least_of_page neighbour.page p others.0 others.1 c.if-neighbour-ne0.true page) in
     let kept = c.child_node.ensures.kept in
     let spares = c.child_node.ensures.spares in
     let child_may = page_kept old new child.page kept spares c.requires.below in
@@ -78,7 +76,7 @@ put_interiors-requires g c =
       ways = search rules;
       pair = search rules;
       list = subst (λ (n : ℕ). AreWays n c.in-Some.joined.first list) (ap (λ (x : List (List ℕ)). length x) (sym c.child_node.ensures.images)) both.are;
-      fits = fits;
+      fits = search rules;
       least = omega (arith, count);
       front = search rules;
       short = search rules;
@@ -100,8 +98,7 @@ returns-in-Some-clause-mended g c =
     let draft = c.args.draft.now in
     let at = c.in_ok-others.ensures.node ∙ ap (λ (n : Node). Some (content_of n)) c.in-Interior.is in
     let same = same_of c.get.result is.between (sym c.get.ensures.there ∙ is.there) in
-    let is_list : c.as_slice-list.result.now ≡ ways_at c.args.i is.between.key c.args.first few others.0 others.1 =
-    c.as_slice-list.ensures.value ∙ c.in-Some.ensures.list ∙ ap (λ (s : Separator). ways_at c.args.i s.key c.args.first few others.0 others.1) same in
+    let is_list : c.in-Some.joined.list.items ≡ ways_at c.args.i is.between.key c.args.first few others.0 others.1 = c.in-Some.ensures.list ∙ ap (λ (s : Separator). ways_at c.args.i s.key c.args.first few others.0 others.1) same in
     record {
       pair = pair;
       place = c.pair_with-pair.ensures.place;
