@@ -10,16 +10,15 @@ use Rattle.fsd_table.specs.Pages.{page_at}
 use Rattle.fsd_table.specs.Table.{top}
 use Rattle.fsd_table.specs.Tree.{table_of, pages_of, IsTree}
 use Rattle.fsd_table.proofs.BoundLaws.{all_weaker}
-use Rattle.fsd_forest.specs.Forest.{Exchange, Stay, IsLocal, TreeBecomes}
-use Rattle.fsd_forest.proofs.CountLaws.{count_nothing, there_counts, counts_there, counts_out, out_counts}
-use Rattle.fsd_forest.proofs.TreeLaws.{trees_become}
+use Rattle.fsd_forest.specs.Forest.{count_of, Exchange, Stay, IsLocal}
+use Rattle.fsd_forest.proofs.CountLaws.{count_nothing, there_counts, counts_there, counts_out, out_counts, exchange_differ}
 use Rattle.name_page.specs.Pages.{Step, is_spare, with_one, IsReached}
 use Rattle.name_node.specs.declared.cut.Cut.TheVariants.{UpTo}
 use Rattle.name_node.specs.Edits.{put}
 use Rattle.name_node.proofs.PutLaws.{lt_unequal, gt_unequal, put_keys, put_beside}
 use Rattle.name_btree.specs.declared.descent.Found.{Found}
 use Rattle.name_btree.specs.Map.{IsTable, HasTable}
-use Rattle.name_btree.specs.Replace.{IsWritten, WritesOne, IsLeafAt}
+use Rattle.name_btree.specs.Replace.{HasEdit, IsWritten, WritesOne, IsLeafAt}
 use Rattle.name_btree.proofs.RemoveLaws.{one_page}
 use Rattle.name_btree.proofs.RootLaws.{tree_around}
 
@@ -53,12 +52,19 @@ writes_one old still new page entries images changed reached used w = record {
 -- ---- the table
 
 pub tree_replaced : (e : Entry) (old still new : Step) (found : Found) → still.images ≡ old.images → IsWritten still new found.page (Leaf (map (put e) found.entries)) → IsLeafAt (UpTo e.key) old.images top found
-    → (height : ℕ) → IsTree old.images height → TreeBecomes (map (put e)) old.images new.images [] [] height
+    → (height : ℕ) → IsTree old.images height → HasEdit (map (put e)) old.images new.images height
 tree_replaced e old still new found images w at height t =
     let apart : all_differ (pages_of old.images height ++ []) ≡ true = ap all_differ (append-nil (pages_of old.images height)) ∙ t.apart in
     let stay = others_stay old still new found.page (map (put e) found.entries) images w in
     let b = at e.key (height - 1) refl (tree_around e.key old.images height t) (map (put e)) new.images (put_local e) (put_keys e found.entries) w.content stay in
-    trees_become (map (put e)) old.images new.images [] [] height t apart b
+    let was : List ℕ = pages_of old.images height in
+    let now : List ℕ = pages_of new.images height in
+    let pages_are : Exchange was now [] [] = λ p. omega (arith, b.pages_are p, ap (count_of p) (append-nil was), ap (count_of p) (append-nil now)) in
+    record {
+      tree = record { least = t.least; most = t.most; subtree = b.subtrees.0; apart = exchange_differ was now [] [] pages_are apart };
+      table = sym (append-nil (table_of new.images height)) ∙ b.entries ∙ ap (map (put e)) (append-nil (table_of old.images height));
+      pages_are = pages_are;
+    }
 
 pub table_replaced : (e : Entry) (old still new : Step) (found : Found) → still.images ≡ old.images → still.spares ≡ old.spares → IsWritten still new found.page (Leaf (map (put e) found.entries)) → IsLeafAt (UpTo e.key) old.images top found
     → (height : ℕ) → IsTable old height → HasTable new (map (put e) (table_of old.images height))
@@ -67,12 +73,12 @@ table_replaced e old still new found images spares w at height t =
     let same_spares : new.spares ≡ old.spares = ap (λ (s : Step). s.spares) w.step ∙ spares in
     let size : length new.images ≡ length old.images = ap (λ (s : Step). length s.images) w.step ∙ length-set still.images found.page w.bytes ∙ ap length images in
     record {
-      height = r.height_after;
+      height = height;
       is = record {
         tree = r.tree;
         spare = λ page low.
             ap (λ (s : List Bool). is_spare s page) same_spares ∙ t.spare page (subst (λ (n : ℕ). page < n) size low)
-            ∙ ap not (same_pages (pages_of old.images height) (pages_of new.images r.height_after) page r.pages_are);
+            ∙ ap not (same_pages (pages_of old.images height) (pages_of new.images height) page r.pages_are);
       };
       table_is = r.table;
     }

@@ -5,7 +5,8 @@ use Rattle.fsd_formats.specs.declared.entry.Entry.{Entry}
 use Rattle.fsd_formats.specs.NamePage.{Content, Leaf, entry_bytes}
 use Rattle.fsd_table.specs.declared.child.Child.{Child}
 use Rattle.fsd_table.specs.Pages.{page_at, entry_keys}
-use Rattle.fsd_forest.specs.Forest.{Stay, IsLocal, Becomes}
+use Rattle.fsd_table.specs.Tree.{table_of, pages_of, IsTree}
+use Rattle.fsd_forest.specs.Forest.{Exchange, Stay, IsLocal, Becomes}
 use Rattle.name_page.specs.Pages.{Step, is_spare, with_one, with_page}
 use Rattle.name_node.specs.declared.cut.Cut.{Cut}
 use Rattle.name_node.specs.declared.cut.Cut.TheVariants.{UpTo}
@@ -39,3 +40,9 @@ IsLeafAt cut pages start found =
     (key : Key) (level : ℕ) → cut ≡ UpTo key → IsAround key pages level start
     → (edit : List Entry → List Entry) (after : List (List ℕ)) → IsLocal key edit → entry_keys (edit found.entries) ≡ entry_keys found.entries
     → page_at after found.page ≡ Some (Leaf (edit found.entries)) → Stay pages after (found.page ∷ []) → Becomes edit pages after [] [] level (start ∷ []) (start ∷ [])
+
+-- a tree of the same height and the same pages, with an edited table
+pub record HasEdit (edit : List Entry → List Entry) (pages after : List (List ℕ)) (height : ℕ) : Type 0 where
+  pub tree : IsTree after height
+  pub table : table_of after height ≡ edit (table_of pages height)
+  pub pages_are : Exchange (pages_of pages height) (pages_of after height) [] []

@@ -1,13 +1,12 @@
 //! Replacing an entry.
-ghost use Rattle.std.specs.Prelude.{◌≡◌, ◌≤◌, ◌+◌, ℕ, IsTrue, IfErr, OnErr, OnOk, [], true, false, map};
+ghost use Rattle.std.specs.Prelude.{◌≡◌, ◌≤◌, ◌+◌, ℕ, IsTrue, IfErr, OnErr, OnOk, true, false, map};
 ghost use Rattle.fsd_formats.specs.NamePage.{is_entry, FitsEntry};
 ghost use Rattle.fsd_table.specs.Table.{BreaksTable};
 ghost use Rattle.fsd_table.specs.Tree.{IsTree, table_of};
-ghost use Rattle.fsd_forest.specs.Forest.{TreeBecomes};
 ghost use Rattle.name_btree.specs.Fault.{HasCause};
 ghost use Rattle.name_btree.specs.Map.{IsTable, HasTable};
 ghost use Rattle.name_node.specs.Edits.{put};
-ghost use Rattle.name_btree.specs.Replace.{HasAsLong, WritesOne};
+ghost use Rattle.name_btree.specs.Replace.{HasAsLong, HasEdit, WritesOne};
 ghost use Rattle.name_btree.specs.Still.{LeavesStep};
 ghost use Rattle.name_page.specs.Pages.{reaches, changes};
 
@@ -46,8 +45,8 @@ pub fn replace_same_size<T: Pages>(t: &mut T, entry: &Entry) -> Result<(), TreeF
     ensures most { (T.step t.new).most_changed ≡ (T.step t.old).most_changed }
     ensures left { IfErr result (LeavesStep (T.step t.old) (T.step t.new)) }
     ensures written { OnOk result (WritesOne (T.step t.old) (T.step t.new)) }
-    // Of each tree, also beside pages that are not spare, comes one of the same pages.
-    ensures tree { OnOk result ((height : ℕ) → IsTree (T.step t.old).images height → TreeBecomes (map (put entry.now)) (T.step t.old).images (T.step t.new).images [] [] height) }
+    // Of each tree, also beside pages that are not spare, comes one of the same height and pages.
+    ensures tree { OnOk result ((height : ℕ) → IsTree (T.step t.old).images height → HasEdit (map (put entry.now)) (T.step t.old).images (T.step t.new).images height) }
     ensures replaced { OnOk result ((height : ℕ) → IsTable (T.step t.old) height → HasTable (T.step t.new) (map (put entry.now) (table_of (T.step t.old).images height))) }
     ensures fault { IfErr result (HasCause (T.step t.new).refusal (BreaksTable (T.step t.old).images)) }
 {
