@@ -3,13 +3,13 @@ ghost use Rattle.std.specs.Prelude.{◌<◌};
 
 use run_table::Runs;
 
-pub const FROM: u32 = 100;
+pub(crate) const FROM: u32 = 100;
 
-pub const TO: u32 = 196;
+pub(crate) const TO: u32 = 196;
 
 /// What a sector waits for.
 #[derive(Clone, Copy, Debug, PartialEq, Eq)]
-pub enum Wait {
+pub(crate) enum Wait {
     Nothing,
     Force,
     Readers,
@@ -18,21 +18,21 @@ pub enum Wait {
 
 /// How often each call was made, and each other outcome came.
 #[derive(Clone, Copy, Debug, Default)]
-pub struct Made {
-    pub freed: u32,
-    pub held: u32,
-    pub full: u32,
-    pub unheld: u32,
-    pub given: u32,
-    pub begun: u32,
-    pub ended: u32,
-    pub committed: u32,
-    pub refused: u32,
+pub(crate) struct Made {
+    pub(crate) freed: u32,
+    pub(crate) held: u32,
+    pub(crate) full: u32,
+    pub(crate) unheld: u32,
+    pub(crate) given: u32,
+    pub(crate) begun: u32,
+    pub(crate) ended: u32,
+    pub(crate) committed: u32,
+    pub(crate) refused: u32,
 }
 
 impl Made {
     /// The least of these numbers.
-    pub fn least(&self) -> u32 {
+    pub(crate) fn least(&self) -> u32 {
         let readers = self.held.min(self.full).min(self.unheld).min(self.given);
         let creations = self.begun.min(self.ended);
         let frees = self.freed.min(self.committed).min(self.refused);
@@ -42,15 +42,15 @@ impl Made {
 
 /// The plain program.
 #[derive(Drop)]
-pub struct Plain {
-    pub sectors: [Wait; 96],
-    pub held: [Option<Runs>; 8],
-    pub made: Made,
+pub(crate) struct Plain {
+    pub(crate) sectors: [Wait; 96],
+    pub(crate) held: [Option<Runs>; 8],
+    pub(crate) made: Made,
 }
 
 impl Plain {
     /// Whether the runs' sectors all have this state, each named once.
-    pub fn are_all(&self, runs: &Runs, wait: Wait) -> bool {
+    pub(crate) fn are_all(&self, runs: &Runs, wait: Wait) -> bool {
         let mut left = named(runs);
         for s in FROM..TO {
             if has(runs, s) && self.sectors[(s - FROM) as usize] == wait {
@@ -60,7 +60,7 @@ impl Plain {
         left == 0
     }
 
-    pub fn put(&mut self, runs: &Runs, wait: Wait) {
+    pub(crate) fn put(&mut self, runs: &Runs, wait: Wait) {
         for s in FROM..TO {
             if has(runs, s) {
                 self.sectors[(s - FROM) as usize] = wait;
@@ -68,7 +68,7 @@ impl Plain {
         }
     }
 
-    pub fn count(&self, wait: Wait) -> u32 {
+    pub(crate) fn count(&self, wait: Wait) -> u32 {
         self.sectors.iter().filter(|here| **here == wait).count() as u32
     }
 
@@ -94,7 +94,7 @@ impl Plain {
         false
     }
 
-    pub fn agrees(&self, runs: &Runs) -> bool {
+    pub(crate) fn agrees(&self, runs: &Runs) -> bool {
         for slot in &self.held {
             if let Some(other) = slot {
                 if other != runs && share(other, runs) {
@@ -105,12 +105,12 @@ impl Plain {
         true
     }
 
-    pub fn is_full(&self) -> bool {
+    pub(crate) fn is_full(&self) -> bool {
         self.held.iter().all(|slot| slot.is_some())
     }
 
     /// The lowest slot that holds nothing takes the runs.
-    pub fn hold(&mut self, runs: &Runs) -> Option<u32> {
+    pub(crate) fn hold(&mut self, runs: &Runs) -> Option<u32> {
         for (i, slot) in self.held.iter_mut().enumerate() {
             if slot.is_none() {
                 *slot = Some(runs.copied());
@@ -120,7 +120,7 @@ impl Plain {
         None
     }
 
-    pub fn unhold(&mut self, slot: u32) -> Option<Runs>
+    pub(crate) fn unhold(&mut self, slot: u32) -> Option<Runs>
         requires { slot < 8 }
     {
         let runs = self.held[slot as usize].take()?;
@@ -140,7 +140,7 @@ impl Plain {
     }
 
     /// The lowest run of those that wait for the force alone waits no more.
-    pub fn committed(&mut self) -> Option<(u32, u32)> {
+    pub(crate) fn committed(&mut self) -> Option<(u32, u32)> {
         self.keep_held();
         let mut start = None;
         for s in FROM..TO {
