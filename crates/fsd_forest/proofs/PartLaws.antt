@@ -23,13 +23,13 @@ all_split P (x ∷ xs) ys a = let rest = all_split P xs ys a.1 in ((a.0, rest.0)
 
 -- ---- keys
 
-first_under : (a : Key) (ks ls : List Key) (k : Key) → are_ascending (a ∷ (ks ++ k ∷ ls)) ≡ true → key_lt a k ≡ true
+pub first_under : (a : Key) (ks ls : List Key) (k : Key) → are_ascending (a ∷ (ks ++ k ∷ ls)) ≡ true → key_lt a k ≡ true
 first_under a [] ls k asc = (and_parts (key_lt a k) (are_ascending (k ∷ ls)) asc).0
 first_under a (b ∷ ks) ls k asc =
     let parts = and_parts (key_lt a b) (are_ascending (b ∷ (ks ++ k ∷ ls))) asc in
     lt_lt a b k parts.0 (first_under b ks ls k parts.1)
 
-fit_append : (low high : Option Key) (ks ls : List Key) → keys_fit low high (ks ++ ls) ≡ (keys_fit low high ks && keys_fit low high ls)
+pub fit_append : (low high : Option Key) (ks ls : List Key) → keys_fit low high (ks ++ ls) ≡ (keys_fit low high ks && keys_fit low high ls)
 fit_append low high ks ls = list_all-append (λ k. not_below low k && below high k) ks ls
 
 left_fits : (low high : Option Key) (ks ls : List Key) (k : Key) → are_ascending (ks ++ k ∷ ls) ≡ true → keys_fit low high ks ≡ true → keys_fit low (Some k) ks ≡ true
@@ -58,28 +58,28 @@ keys_parted low high ks ls k asc fit =
       inside = second.0;
     }
 
-left_wider : (low high : Option Key) (k : Key) (ks : List Key) → below high k ≡ true → keys_fit low (Some k) ks ≡ true → keys_fit low high ks ≡ true
+pub left_wider : (low high : Option Key) (k : Key) (ks : List Key) → below high k ≡ true → keys_fit low (Some k) ks ≡ true → keys_fit low high ks ≡ true
 left_wider low high k [] in_high fit = refl
 left_wider low high k (a ∷ ks) in_high fit =
     let parts = and_parts (not_below low a && key_lt a k) (keys_fit low (Some k) ks) fit in
     let both = and_parts (not_below low a) (key_lt a k) parts.0 in
     and_from (not_below low a && below high a) (keys_fit low high ks) (and_from (not_below low a) (below high a) both.0 (below_less high k a in_high both.1)) (left_wider low high k ks in_high parts.1)
 
-right_wider : (low high : Option Key) (k : Key) (ks : List Key) → not_below low k ≡ true → keys_fit (Some k) high ks ≡ true → keys_fit low high ks ≡ true
+pub right_wider : (low high : Option Key) (k : Key) (ks : List Key) → not_below low k ≡ true → keys_fit (Some k) high ks ≡ true → keys_fit low high ks ≡ true
 right_wider low high k [] in_low fit = refl
 right_wider low high k (a ∷ ks) in_low fit =
     let parts = and_parts (not (key_lt a k) && below high a) (keys_fit (Some k) high ks) fit in
     let both = and_parts (not (key_lt a k)) (below high a) parts.0 in
     and_from (not_below low a && below high a) (keys_fit low high ks) (and_from (not_below low a) (below high a) (not_below_more low k a in_low both.0) both.1) (right_wider low high k ks in_low parts.1)
 
-keys_joined : (low high : Option Key) (ks ls : List Key) (k : Key) → (not_below low k && below high k) ≡ true → keys_fit low (Some k) ks ≡ true → keys_fit (Some k) high ls ≡ true → keys_fit low high (ks ++ ls) ≡ true
+pub keys_joined : (low high : Option Key) (ks ls : List Key) (k : Key) → (not_below low k && below high k) ≡ true → keys_fit low (Some k) ks ≡ true → keys_fit (Some k) high ls ≡ true → keys_fit low high (ks ++ ls) ≡ true
 keys_joined low high ks ls k inside left right =
     let both = and_parts (not_below low k) (below high k) inside in
     fit_append low high ks ls ∙ and_from (keys_fit low high ks) (keys_fit low high ls) (left_wider low high k ks both.1 left) (right_wider low high k ls both.0 right)
 
 -- ---- leaves
 
-entry_keys_append : (xs ys : List Entry) → entry_keys (xs ++ ys) ≡ entry_keys xs ++ entry_keys ys
+pub entry_keys_append : (xs ys : List Entry) → entry_keys (xs ++ ys) ≡ entry_keys xs ++ entry_keys ys
 entry_keys_append [] ys = refl
 entry_keys_append (x ∷ xs) ys = ap (λ (ks : List Key). x.key ∷ ks) (entry_keys_append xs ys)
 
@@ -95,7 +95,7 @@ leaves_join c page other k xs ys inside left right = ap (keys_fit c.low c.high) 
 
 -- ---- interior pages
 
-separator_keys_append : (xs ys : List Separator) → separator_keys (xs ++ ys) ≡ separator_keys xs ++ separator_keys ys
+pub separator_keys_append : (xs ys : List Separator) → separator_keys (xs ++ ys) ≡ separator_keys xs ++ separator_keys ys
 separator_keys_append [] ys = refl
 separator_keys_append (x ∷ xs) ys = ap (λ (ks : List Key). x.key ∷ ks) (separator_keys_append xs ys)
 

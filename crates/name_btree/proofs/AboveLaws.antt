@@ -17,7 +17,8 @@ use Rattle.name_btree.specs.declared.trimming.Trimmed.TheVariants.{Whole, Leaf, 
 use Rattle.name_btree.specs.Draft.{with_freed}
 use Rattle.name_btree.specs.Trim.{AreWays, IsOpened, IsPair, IsLeft, AreWaysPut, separators_joined, AreJoined, IsMended, sheets_below}
 use Rattle.name_btree.proofs.PairLaws.{parts_at}
-use Rattle.name_btree.proofs.TrimLaws.{joined_ways, separator_keys_append, fit_append}
+use Rattle.name_btree.proofs.TrimLaws.{joined_ways}
+use Rattle.fsd_forest.proofs.PartLaws.{fit_append, separator_keys_append}
 
 -- ---- results
 

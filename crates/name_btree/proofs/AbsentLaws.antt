@@ -40,7 +40,7 @@ without_all_none key (gone ∷ keys) table none = without_all_none key keys (wit
 
 -- ---- a key that is not found
 
-absent : (o : Option Entry) → is_some o ≡ false → o ≡ None
+pub absent : (o : Option Entry) → is_some o ≡ false → o ≡ None
 absent None h = refl
 absent (Some e) h = absurd cc
 

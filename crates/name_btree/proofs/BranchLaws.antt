@@ -19,7 +19,7 @@ use Rattle.fsd_table.proofs.BoundLaws.{all_weaker}
 use Rattle.fsd_forest.specs.Forest.{inner, count_of, forest_pages, IsLocal, Becomes, IsAbove, Disjoint}
 use Rattle.fsd_forest.specs.Parts.{left_part, right_part}
 use Rattle.fsd_forest.specs.Ways.{children_before, children_from, StandsAt, IsUpTo, IsBehind}
-use Rattle.fsd_forest.proofs.PartLaws.{children_part, keys_parted, all_split}
+use Rattle.fsd_forest.proofs.PartLaws.{children_part, keys_parted, all_split, separator_keys_append}
 use Rattle.fsd_forest.proofs.TreeLaws.{alone}
 use Rattle.fsd_forest.proofs.WayLaws.{children_around, children_parted}
 use Rattle.name_page.specs.Pages.{Step, is_spare}
@@ -37,7 +37,6 @@ use Rattle.name_btree.proofs.LeafGrowthLaws.{behind_low}
 use Rattle.name_btree.proofs.TakeLaws.{each_in}
 use Rattle.name_btree.proofs.WaysGrowthLaws.{between_ascends, between_fits}
 use Rattle.name_btree.proofs.AroundLaws.{all_top}
-use Rattle.name_btree.proofs.TrimLaws.{separator_keys_append}
 use Rattle.std.proofs.lemmas.List.{append-nil}
 
 -- ---- an edit at a key

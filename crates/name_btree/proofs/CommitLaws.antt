@@ -1,18 +1,12 @@
 -- What a step knows once a draft is written.
-use Rattle.std.proofs.Common.{◌≡◌, ℕ, zero, suc, ◌+◌, ◌≤◌, Bool, true, false, List, [], ◌∷◌, cond, ◌++◌, length-append, length, get_or, refl, ap, ◌∙◌, arith}
+use Rattle.std.proofs.Common.{◌≡◌, ℕ, zero, suc, ◌+◌, ◌≤◌, Bool, true, false, List, [], ◌∷◌, length, get_or, refl, ap, ◌∙◌, arith}
 use Rattle.std.specs.Prelude.{slice_set}
-use Rattle.name_page.specs.Pages.{Step, reaches, changes, is_spare, with_page, with_spare, with_one, is_one_of}
+use Rattle.name_page.specs.Pages.{Step, reaches, changes, is_spare, with_page, with_spare}
 use Rattle.name_btree.specs.declared.draft.Sheet.{Sheet}
 use Rattle.name_btree.specs.Draft.{committed, freed}
+use Rattle.name_btree.proofs.DraftLaws.{committed_count}
 
 -- ---- what is written
-
-one_more : (pages : List ℕ) (page : ℕ) → length (with_one pages page) ≤ length pages + 1
-one_more pages page = by (is_one_of pages page)
-  where
-    by : (b : Bool) → length (cond b pages (pages ++ page ∷ [])) ≤ length pages + 1
-    by true = omega arith
-    by false = omega (arith, length-append pages (page ∷ []))
 
 -- what the writes leave as it was
 record Leaves (old new : Step) : Type 0 where
@@ -25,10 +19,6 @@ committed_leaves [] step = record { most_reached = refl; most_changed = refl; re
 committed_leaves (s ∷ sheets) step =
     let rest = committed_leaves sheets (with_page s.page s.image step) in
     record { most_reached = rest.most_reached; most_changed = rest.most_changed; reached = rest.reached }
-
-committed_changed : (sheets : List Sheet) (step : Step) → length (committed sheets step).changed ≤ length step.changed + length sheets
-committed_changed [] step = omega arith
-committed_changed (s ∷ sheets) step = omega (arith, committed_changed sheets (with_page s.page s.image step), one_more step.changed s.page)
 
 -- ---- what is made spare
 
@@ -69,4 +59,4 @@ commit_reaches pages sheets step =
 
 pub commit_changes : (pages : List ℕ) (sheets : List Sheet) (step : Step) → changes step ≤ changes (freed pages (committed sheets step)) + length sheets
 commit_changes pages sheets step =
-    omega (arith, commit_most_changed pages sheets step, ap length (freed_changed pages (committed sheets step)), committed_changed sheets step)
+    omega (arith, commit_most_changed pages sheets step, ap length (freed_changed pages (committed sheets step)), committed_count sheets step)

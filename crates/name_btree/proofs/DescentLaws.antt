@@ -20,7 +20,7 @@ use Rattle.name_btree.specs.declared.descent.Way.{Way}
 use Rattle.name_btree.specs.declared.descent.Neighbour.{Neighbour}
 use Rattle.name_node.specs.Cut.{IsLesser}
 use Rattle.name_node.proofs.CutLaws.{IsMonotone, behind}
-use Rattle.name_btree.specs.Descent.{way_to, IsAbove, IsNext, IsPrevious, IsAt}
+use Rattle.name_btree.specs.Descent.{way_to, HasChildren, IsNext, IsPrevious, IsAt}
 
 -- ---- one page
 
@@ -118,7 +118,7 @@ pub record OnWay (before : Key → Bool) (pages : List (List ℕ)) (start : Chil
   pub levels : level + i ≡ level0
   pub subtree : IsSubtree level pages w.child
   pub at : IsAt before pages start (entries_below level0 pages start) (entries_below level pages w.child) w.previous w.next
-  pub from : (w.child ≡ start) ⊎ IsAbove pages start
+  pub from : (w.child ≡ start) ⊎ HasChildren pages start
 
 -- so many levels down from a subtree
 abbrev pub IsOnWay : (Key → Bool) → List (List ℕ) → Child → ℕ → Way → Type 0
@@ -141,13 +141,13 @@ way_begins before pages start level0 low sub = record {
   from = inl refl;
 }
 
-start_above : (pages : List (List ℕ)) (start c : Child) (first : ℕ) (separators : List Separator) → page_at pages c.page ≡ Some (Interior first separators) → (c ≡ start) ⊎ IsAbove pages start → IsAbove pages start
+start_above : (pages : List (List ℕ)) (start c : Child) (first : ℕ) (separators : List Separator) → page_at pages c.page ≡ Some (Interior first separators) → (c ≡ start) ⊎ HasChildren pages start → HasChildren pages start
 start_above pages start c first separators at (inl e) = (first, separators, ap (λ (d : Child). page_at pages d.page) (sym e) ∙ at)
 start_above pages start c first separators at (inr a) = a
 
 down_by : (before : Key → Bool) → IsMonotone before → (pages : List (List ℕ)) (start : Child) (level0 i above : ℕ) (w : Way) (first : ℕ) (separators : List Separator)
     → page_at pages w.child.page ≡ Some (Interior first separators) → level0 < max_height → (level : ℕ) → level + i ≡ level0 → IsSubtree level pages w.child
-    → IsAt before pages start (entries_below level0 pages start) (entries_below level pages w.child) w.previous w.next → (w.child ≡ start) ⊎ IsAbove pages start
+    → IsAt before pages start (entries_below level0 pages start) (entries_below level pages w.child) w.previous w.next → (w.child ≡ start) ⊎ HasChildren pages start
     → OnWay before pages start level0 (i + 1) (way_to before above w.previous w.next first w.child.low w.child.high separators)
 down_by before mono pages start level0 i above w first separators at low zero levels sub is from = absurd (subst (IsLeaf w.child) at sub)
 down_by before mono pages start level0 i above w first separators at low (suc level) levels sub is from =

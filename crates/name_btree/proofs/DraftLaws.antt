@@ -90,7 +90,7 @@ committed_most : (sheets : List Sheet) (step : Step) → (committed sheets step)
 committed_most [] step = refl
 committed_most (s ∷ sheets) step = committed_most sheets (with_page s.page s.image step)
 
-committed_count : (sheets : List Sheet) (step : Step) → length (committed sheets step).changed ≤ length step.changed + length sheets
+pub committed_count : (sheets : List Sheet) (step : Step) → length (committed sheets step).changed ≤ length step.changed + length sheets
 committed_count [] step = omega arith
 committed_count (s ∷ sheets) step = omega (arith, committed_count sheets (with_page s.page s.image step), one_count step.changed s.page)
 

@@ -2,7 +2,6 @@
 use Rattle.std.proofs.Common.{◌≡◌, ℕ, zero, suc, ◌+◌, ◌*◌, ◌≤◌, Bool, true, false, cond, not, ◌&&◌, List, [], ◌∷◌, ◌++◌, length, refl, sym, ap, subst, ◌∙◌, arith, Some, None, Option, length-append}
 use Rattle.std.specs.Prelude.{◌==◌, nat_le}
 use Rattle.std.specs.List.{flat_map, list_all, AllByRecursion}
-use Rattle.std.specs.Option.{is_some}
 use Rattle.std.specs.Ordering.{is_gt, is_lt, is_eq}
 use Rattle.std.specs.declared.cmp.Ordering.{Ordering}
 use Rattle.std.specs.declared.cmp.Ordering.TheVariants as orders
@@ -40,10 +39,6 @@ use Rattle.name_btree.specs.declared.growing.Grown.TheVariants.{Whole, Parted}
 use Rattle.name_btree.specs.Draft.{drafted}
 use Rattle.name_btree.specs.Grown.{came_of, went_of, parts_of, most_parted, FitsTwoLeaves, IsGrown, IsInPlace, AreLeavesOf, IsDivided, IsFull, BranchBecomes, Grows}
 use Rattle.name_btree.proofs.ReplaceLaws.{leaf_parts}
-
-pub none_if : (o : Option Entry) → is_some o ≡ false → o ≡ None
-none_if None e = refl
-none_if (Some x) e = absurd cc
 
 -- ---- how many bytes
 

@@ -1,16 +1,15 @@
 -- What a child and its neighbour have, in order.
-use Rattle.std.proofs.Common.{◌≡◌, ℕ, ◌+◌, ◌<◌, ◌≤◌, Bool, true, false, cond, not, ◌&&◌, List, [], ◌∷◌, ◌++◌, length, take, drop, Option, Some, refl, sym, ap, subst, ◌∙◌, arith, length-append}
+use Rattle.std.proofs.Common.{◌≡◌, ℕ, ◌+◌, ◌<◌, ◌≤◌, Bool, true, false, cond, ◌&&◌, List, [], ◌∷◌, ◌++◌, length, take, drop, Option, Some, sym, ap, subst, ◌∙◌, arith, length-append}
 use Rattle.std.specs.Prelude.{◌==◌, slice_get}
 use Rattle.std.specs.List.{AllByRecursion}
 use Rattle.std.proofs.lemmas.Bool.{and_parts, and_from}
 use Rattle.fsd_bytes.specs.declared.key.Key.{Key}
-use Rattle.fsd_bytes.specs.Keys.{is_key, key_lt}
+use Rattle.fsd_bytes.specs.Keys.{is_key}
 use Rattle.fsd_formats.specs.declared.entry.Entry.{Entry}
 use Rattle.fsd_formats.specs.declared.page.Separator.{Separator}
 use Rattle.fsd_formats.specs.NamePage.{Interior, is_page, are_ascending}
 use Rattle.fsd_table.specs.declared.child.Child.{Child}
 use Rattle.fsd_table.specs.Pages.{keys_fit, not_below, below, entry_keys, separator_keys}
-use Rattle.fsd_table.proofs.KeyLaws.{not_below_more, below_less}
 use Rattle.fsd_forest.specs.Ways.{child_behind, end_of}
 use Rattle.name_page.specs.Pages.{Step, is_spare, IsReached}
 use Rattle.name_btree.specs.declared.draft.Draft.{Draft}
@@ -19,7 +18,9 @@ use Rattle.name_btree.specs.Draft.{MayGo, IsDraft}
 use Rattle.name_btree.specs.Trim.{used_by, AreEntries, AreWays, MayHave, IsOpened, AreFewEntries, AreFewWays, IsPair, pair_fits, entries_at, ways_at, first_at, right_at, is_behind}
 use Rattle.name_btree.proofs.DraftLaws.{sheets_kept}
 use Rattle.name_btree.proofs.PairLaws.{parts_at, left_child, AreSides, AtLeft, AtRight, low_same, high_is, key_inside, same_of}
-use Rattle.name_btree.proofs.TrimLaws.{separator_keys_append, entry_keys_append, fit_append, used_append, PageEntries, least_at, entries_touch, page_ways, ways_touch, good_at}
+use Rattle.name_node.proofs.CutPageLaws.{used_apart}
+use Rattle.name_btree.proofs.TrimLaws.{PageEntries, least_at, entries_touch, page_ways, ways_touch, good_at}
+use Rattle.fsd_forest.proofs.PartLaws.{entry_keys_append, fit_append, keys_joined, left_wider, right_wider, separator_keys_append}
 
 -- ---- steps that only look
 
@@ -51,25 +52,6 @@ right_page P above first xs pair is i child neighbour (AtRight e a b) p q = subs
 
 -- ---- keys below one, and keys from it on
 
-fits_left : (low high : Option Key) (k : Key) (ks : List Key) → below high k ≡ true → keys_fit low (Some k) ks ≡ true → keys_fit low high ks ≡ true
-fits_left low high k [] in_high fit = refl
-fits_left low high k (a ∷ ks) in_high fit =
-    let parts = and_parts (not_below low a && key_lt a k) (keys_fit low (Some k) ks) fit in
-    let both = and_parts (not_below low a) (key_lt a k) parts.0 in
-    and_from (not_below low a && below high a) (keys_fit low high ks) (and_from (not_below low a) (below high a) both.0 (below_less high k a in_high both.1)) (fits_left low high k ks in_high parts.1)
-
-fits_right : (low high : Option Key) (k : Key) (ks : List Key) → not_below low k ≡ true → keys_fit (Some k) high ks ≡ true → keys_fit low high ks ≡ true
-fits_right low high k [] in_low fit = refl
-fits_right low high k (a ∷ ks) in_low fit =
-    let parts = and_parts (not (key_lt a k) && below high a) (keys_fit (Some k) high ks) fit in
-    let both = and_parts (not (key_lt a k)) (below high a) parts.0 in
-    and_from (not_below low a && below high a) (keys_fit low high ks) (and_from (not_below low a) (below high a) (not_below_more low k a in_low both.0) both.1) (fits_right low high k ks in_low parts.1)
-
-pub fits_both : (low high : Option Key) (ks ls : List Key) (k : Key) → (not_below low k && below high k) ≡ true → keys_fit low (Some k) ks ≡ true → keys_fit (Some k) high ls ≡ true → keys_fit low high (ks ++ ls) ≡ true
-fits_both low high ks ls k inside left right =
-    let both = and_parts (not_below low k) (below high k) inside in
-    fit_append low high ks ls ∙ and_from (keys_fit low high ks) (keys_fit low high ls) (fits_left low high k ks both.1 left) (fits_right low high k ls both.0 right)
-
 -- the key between the pair stands between the pair's
 pub pair_inside : (p first : ℕ) (above : Child) (xs : List Separator) (pair : Pair) (is : IsPair above first xs pair) → IsOpened p above first xs
     → (not_below (child_behind first above.low (take pair.place xs) above.high).low is.between.key && below (end_of above.high (drop (pair.place + 1) xs)) is.between.key) ≡ true
@@ -95,12 +77,12 @@ both_leaves p first above xs pair is o ls rs a b under over least most =
     let highest : Option Key = end_of above.high (drop (pair.place + 1) xs) in
     let low_is = low_same first above.low (Some is.between.key) above.high front in
     let under2 : keys_fit lowest (Some is.between.key) (entry_keys ls) ≡ true = subst (λ (low : Option Key). keys_fit low (Some is.between.key) (entry_keys ls) ≡ true) low_is under in
-    let sum = used_append ls rs in
+    let sum = used_apart ls rs in
     record {
       are = entries_touch lowest highest ls is.between.key rs a b under2 over;
       least = omega (arith, sum, least);
       most = omega (arith, sum, most);
-      within = ap (keys_fit lowest highest) (entry_keys_append ls rs) ∙ fits_both lowest highest (entry_keys ls) (entry_keys rs) is.between.key (pair_inside p first above xs pair is o) under2 over;
+      within = ap (keys_fit lowest highest) (entry_keys_append ls rs) ∙ keys_joined lowest highest (entry_keys ls) (entry_keys rs) is.between.key (pair_inside p first above xs pair is o) under2 over;
     }
 
 pub leaves_at : (p first : ℕ) (above : Child) (xs : List Separator) (pair : Pair) (is : IsPair above first xs pair) → IsOpened p above first xs → (i : ℕ) (child neighbour : Child) → AreSides above first xs pair is.between i child neighbour
@@ -154,8 +136,8 @@ both_ways p first above xs pair is o lead second ls rs a b under over good behin
     record {
       are = ways_touch p lead second lowest highest ls k rs a b good under2 behind;
       within = ap (keys_fit lowest highest) (separator_keys_append ls (s ∷ rs)) ∙ fit_append lowest highest (separator_keys ls) (separator_keys (s ∷ rs))
-          ∙ and_from (keys_fit lowest highest (separator_keys ls)) (keys_fit lowest highest (separator_keys (s ∷ rs))) (fits_left lowest highest k (separator_keys ls) both.1 under2)
-          (and_from (not_below lowest k && below highest k) (keys_fit lowest highest (separator_keys rs)) inside (fits_right lowest highest k (separator_keys rs) both.0 over));
+          ∙ and_from (keys_fit lowest highest (separator_keys ls)) (keys_fit lowest highest (separator_keys (s ∷ rs))) (left_wider lowest highest k (separator_keys ls) both.1 under2)
+          (and_from (not_below lowest k && below highest k) (keys_fit lowest highest (separator_keys rs)) inside (right_wider lowest highest k (separator_keys rs) both.0 over));
     }
 
 pub ways_are_at : (p first : ℕ) (above : Child) (xs : List Separator) (pair : Pair) (is : IsPair above first xs pair) → IsOpened p above first xs → (i : ℕ) (child neighbour : Child) → AreSides above first xs pair is.between i child neighbour

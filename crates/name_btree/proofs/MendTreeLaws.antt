@@ -28,7 +28,8 @@ use Rattle.name_btree.proofs.AroundLaws.{is_local, Raised, raised}
 use Rattle.name_btree.proofs.LeafTreeLaws.{stays_above, freed_has}
 use Rattle.name_btree.proofs.PairLaws.{parts_at, left_child, right_child}
 use Rattle.name_btree.proofs.PutTreeLaws.{pair_child, joined_child, shared_child}
-use Rattle.name_btree.proofs.TrimLaws.{keys_front, separator_keys_append, fit_append}
+use Rattle.fsd_forest.proofs.PartLaws.{fit_append, separator_keys_append}
+use Rattle.name_node.proofs.CutPageLaws.{keys_front}
 
 -- ---- a key of the pair stands between the keys of the page above
 

@@ -33,14 +33,15 @@ use Rattle.name_btree.specs.Remove.{IsAround, IsTrimmed, IsTrimmedBelow, BreaksA
 use Rattle.name_btree.specs.Trim.{IsPair, IsOpened, IsLeft, AreFewEntries, AreFewWays, pair_fits, entries_at, ways_at, first_at, LeafIsMended, WayIsMended, IsMended}
 use Rattle.name_btree.proofs.AroundLaws.{is_local, pair_stands, child_around, up_to, past}
 use Rattle.name_btree.proofs.LeafTreeLaws.{leaves_joined, leaves_shared, are_apart, pair_stays, one_same}
-use Rattle.name_btree.proofs.MendLaws.{fits_both, pair_inside, left_page, right_page, ways_are_at}
+use Rattle.name_btree.proofs.MendLaws.{pair_inside, left_page, right_page, ways_are_at}
 use Rattle.name_btree.proofs.MendTreeLaws.{joined_trimmed, shared_trimmed}
 use Rattle.name_btree.proofs.PairLaws.{left_child, right_child, AreSides, AtLeft, AtRight, sides_are, low_same, high_is}
 use Rattle.name_btree.proofs.PutTreeLaws.{pair_child, joined_has, shared_has, entries_edited}
 use Rattle.name_btree.proofs.RaiseLaws.{child_edited}
-use Rattle.name_btree.proofs.TrimLaws.{keys_touch, entry_keys_append, separator_keys_append, fit_append, page_ways, good_at}
+use Rattle.name_btree.proofs.TrimLaws.{keys_touch, page_ways, good_at}
 use Rattle.name_btree.proofs.WalkLaws.{all_at}
 use Rattle.name_btree.proofs.WayTreeLaws.{counted_once, ways_become, ways_joined, ways_shared, Others}
+use Rattle.fsd_forest.proofs.PartLaws.{entry_keys_append, fit_append, keys_joined, separator_keys_append}
 
 -- ---- keys of both leaves
 
@@ -60,7 +61,7 @@ both_keys p first above xs pair is o ls rs a b under over =
     let under2 = subst (λ (high : Option Key). keys_fit lowest high (entry_keys ls) ≡ true) (high_is first above.low (Some k) (take pair.place xs)) under1 in
     record {
       ascend = ap are_ascending (entry_keys_append ls rs) ∙ keys_touch lowest highest (entry_keys ls) k (entry_keys rs) a under2 b over;
-      within = ap (keys_fit lowest highest) (entry_keys_append ls rs) ∙ fits_both lowest highest (entry_keys ls) (entry_keys rs) k (pair_inside p first above xs pair is o) under2 over;
+      within = ap (keys_fit lowest highest) (entry_keys_append ls rs) ∙ keys_joined lowest highest (entry_keys ls) (entry_keys rs) k (pair_inside p first above xs pair is o) under2 over;
     }
 
 leaf_keys : (p first : ℕ) (above : Child) (xs : List Separator) (pair : Pair) (is : IsPair above first xs pair) → IsOpened p above first xs → (i : ℕ) (child neighbour : Child) → AreSides above first xs pair is.between i child neighbour

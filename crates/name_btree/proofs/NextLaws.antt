@@ -29,7 +29,7 @@ use Rattle.name_btree.specs.declared.descent.Found.{Found}
 use Rattle.name_btree.specs.declared.descent.Neighbour.{Neighbour}
 use Rattle.name_node.specs.Cut.{is_before, after_cut}
 use Rattle.name_node.specs.Cut.{IsLesser}
-use Rattle.name_btree.specs.Descent.{IsAbove, IsAt, IsPlace, BeginsWith, EndsWith}
+use Rattle.name_btree.specs.Descent.{HasChildren, IsAt, IsPlace, BeginsWith, EndsWith}
 use Rattle.name_node.specs.Lookups.{entry_after, is_after}
 use Rattle.name_node.proofs.CutLaws.{cuts_monotone, greater}
 use Rattle.name_node.proofs.CutLaws.{IsMonotone}
@@ -56,7 +56,7 @@ some_entries page p entries other e none =
     not_zero page h = grind (arith, nat_tests)
 
 -- the root is no leaf where other pages stand below it
-pub leaf_has_entries : (pages : List (List ℕ)) (page : ℕ) (entries : List Entry) → page_at pages page ≡ Some (Leaf entries) → IsAbove pages top → entries ≡ [] → ⊥
+pub leaf_has_entries : (pages : List (List ℕ)) (page : ℕ) (entries : List Entry) → page_at pages page ≡ Some (Leaf entries) → HasChildren pages top → entries ≡ [] → ⊥
 leaf_has_entries pages page entries at up none = some_entries page (length pages) entries (λ z. two_kinds entries up.0 up.1 (sym (ap (page_at pages) (sym z) ∙ at) ∙ up.2)) (at_is_page pages page (Leaf entries) at) none
   where
     two_kinds : (entries : List Entry) (first : ℕ) (xs : List Separator) → Some (Leaf entries) ≡ Some (Interior first xs) → ⊥

@@ -1,9 +1,8 @@
 -- What pages may have that are joined, parted or left with less.
 use Rattle.std.proofs.Common.{◌≡◌, ℕ, suc, ◌+◌, ◌<◌, ◌≤◌, Bool, true, false, cond, not, ◌&&◌, List, [], ◌∷◌, ◌++◌, length, take, drop, Option, Some, refl, sym, ap, subst, ◌∙◌, ◌-◌, arith, length-append, take-append-drop, length-take, length-drop}
 use Rattle.std.specs.Prelude.{◌==◌, nat_lt, nat_le, slice_get}
-use Rattle.std.specs.List.{flat_map, list_all, AllByRecursion}
+use Rattle.std.specs.List.{list_all, AllByRecursion}
 use Rattle.std.proofs.lemmas.Bool.{and_parts, and_from, le-leb, lt-ltb, leb-true, ltb-true, eqb-true}
-use Rattle.std.proofs.lemmas.Grind.{flat_map-append}
 use Rattle.std.proofs.lemmas.List.Folds.{list_all-append}
 use Rattle.std.proofs.lemmas.Option.{slice_get_within}
 use Rattle.fsd_bytes.specs.declared.key.Key.{Key}
@@ -11,42 +10,19 @@ use Rattle.fsd_bytes.specs.Keys.{is_key, key_lt}
 use Rattle.fsd_bytes.specs.Names.{is_between}
 use Rattle.fsd_formats.specs.declared.entry.Entry.{Entry}
 use Rattle.fsd_formats.specs.declared.page.Separator.{Separator}
-use Rattle.fsd_formats.specs.NamePage.{Leaf, Interior, is_page, is_entry, are_ascending, entry_bytes, least_used, least_separators, room, FitsEntry}
+use Rattle.fsd_formats.specs.NamePage.{Leaf, Interior, is_page, is_entry, are_ascending, least_used, least_separators, room, FitsEntry}
 use Rattle.fsd_table.specs.declared.child.Child.{Child}
 use Rattle.fsd_table.specs.Pages.{keys_fit, not_below, below, entry_keys, separator_keys}
 use Rattle.fsd_table.proofs.BoundLaws.{all_append, ascend_tail}
-use Rattle.fsd_table.proofs.KeyLaws.{lt_lt, lt_le}
+use Rattle.fsd_table.proofs.KeyLaws.{lt_le}
 use Rattle.fsd_forest.specs.Ways.{child_behind, end_of}
 use Rattle.name_btree.specs.declared.trimming.Pair.{Pair}
 use Rattle.name_btree.specs.Trim.{used_by, AreEntries, AreWays, IsOpened, IsPair, pair_fits, IsBetween, separators_joined, separators_shared, is_behind}
 use Rattle.name_btree.proofs.PairLaws.{parts_at, ascend_without, ascend_with}
+use Rattle.fsd_forest.proofs.PartLaws.{entry_keys_append, first_under, fit_append, separator_keys_append}
+use Rattle.name_node.proofs.CutPageLaws.{keys_behind, keys_front, least_ways}
 
 -- ---- keys
-
-pub separator_keys_append : (xs ys : List Separator) → separator_keys (xs ++ ys) ≡ separator_keys xs ++ separator_keys ys
-separator_keys_append [] ys = refl
-separator_keys_append (x ∷ xs) ys = ap (λ (ks : List Key). x.key ∷ ks) (separator_keys_append xs ys)
-
-pub entry_keys_append : (xs ys : List Entry) → entry_keys (xs ++ ys) ≡ entry_keys xs ++ entry_keys ys
-entry_keys_append [] ys = refl
-entry_keys_append (x ∷ xs) ys = ap (λ (ks : List Key). x.key ∷ ks) (entry_keys_append xs ys)
-
-pub keys_front : (xs ys : List Key) → are_ascending (xs ++ ys) ≡ true → are_ascending xs ≡ true
-keys_front [] ys e = refl
-keys_front (x ∷ []) ys e = refl
-keys_front (x ∷ y ∷ xs) ys e =
-    let parts = and_parts (key_lt x y) (are_ascending (y ∷ (xs ++ ys))) e in
-    and_from (key_lt x y) (are_ascending (y ∷ xs)) parts.0 (keys_front (y ∷ xs) ys parts.1)
-
-pub keys_behind : (xs ys : List Key) → are_ascending (xs ++ ys) ≡ true → are_ascending ys ≡ true
-keys_behind [] ys e = e
-keys_behind (x ∷ xs) ys e = keys_behind xs ys (ascend_tail x (xs ++ ys) e)
-
-pub first_under : (a : Key) (ks ls : List Key) (k : Key) → are_ascending (a ∷ (ks ++ k ∷ ls)) ≡ true → key_lt a k ≡ true
-first_under a [] ls k asc = (and_parts (key_lt a k) (are_ascending (k ∷ ls)) asc).0
-first_under a (b ∷ ks) ls k asc =
-    let parts = and_parts (key_lt a b) (are_ascending (b ∷ (ks ++ k ∷ ls))) asc in
-    lt_lt a b k parts.0 (first_under b ks ls k parts.1)
 
 -- keys below one, that one, and keys from it on
 pub keys_meet : (low high : Option Key) (ks : List Key) (k : Key) (ls : List Key) → are_ascending ks ≡ true → keys_fit low (Some k) ks ≡ true → are_ascending (k ∷ ls) ≡ true → are_ascending (ks ++ k ∷ ls) ≡ true
@@ -71,9 +47,6 @@ keys_touch low high (x ∷ y ∷ ks) k ls a fit b over =
     let parts = and_parts (key_lt x y) (are_ascending (y ∷ ks)) a in
     let fits = and_parts (not_below low x && key_lt x k) (keys_fit low (Some k) (y ∷ ks)) fit in
     and_from (key_lt x y) (are_ascending (y ∷ (ks ++ ls))) parts.0 (keys_touch low high (y ∷ ks) k ls parts.1 fits.1 b over)
-
-pub fit_append : (low high : Option Key) (ks ls : List Key) → keys_fit low high (ks ++ ls) ≡ (keys_fit low high ks && keys_fit low high ls)
-fit_append low high ks ls = list_all-append (λ k. not_below low k && below high k) ks ls
 
 -- ---- ways
 
@@ -149,13 +122,6 @@ page_ways page p first xs e =
     }
 
 -- any page may have four or more
-pub least_four : (page n : ℕ) → 4 ≤ n → least_separators page ≤ n
-least_four page n h = by (page == 0)
-  where
-    by : (b : Bool) → cond b 1 4 ≤ n
-    by true = omega arith
-    by false = h
-
 -- ---- the ways of the page above a pair
 
 split_count : {X : Type 0} (xs : List X) (i : ℕ) (x y : X) → slice_get xs i ≡ Some x → length (take i xs ++ y ∷ drop (i + 1) xs) ≡ length xs
@@ -193,13 +159,13 @@ pub front_page : (page p first : ℕ) (list : List Separator) (cut : ℕ) → Ar
 front_page page p first list cut w least most within =
     let count : length (take cut list) ≡ cut = length-take cut list ∙ omega arith in
     ways_page page p first (take cut list) (ways_front p first (take cut list) (drop cut list) (subst (AreWays p first) (sym (take-append-drop cut list)) w))
-    (least_four page (length (take cut list)) (omega (arith, count, least))) (omega (arith, count, most))
+    (least_ways page (length (take cut list)) (omega (arith, count, least))) (omega (arith, count, most))
 
 pub behind_page : (page p first : ℕ) (list : List Separator) (cut : ℕ) (s : Separator) → AreWays p first list → slice_get list cut ≡ Some s → cut + 5 ≤ length list → length list ≤ cut + 10 → is_page page p (Interior s.child (drop (cut + 1) list)) ≡ true
 behind_page page p first list cut s w at least most =
     let count : length (drop (cut + 1) list) ≡ length list - (cut + 1) = length-drop (cut + 1) list in
     ways_page page p s.child (drop (cut + 1) list) (ways_behind p first (take cut list) s (drop (cut + 1) list) (subst (AreWays p first) (parts_at list cut s at) w))
-    (least_four page (length (drop (cut + 1) list)) (omega (arith, count, least))) (omega (arith, count, most))
+    (least_ways page (length (drop (cut + 1) list)) (omega (arith, count, least))) (omega (arith, count, most))
 
 -- a key among others that fit the pair, behind the first
 pub between_keys : (above : Child) (first : ℕ) (xs : List Separator) (pair : Pair) (ks : List Key) (k : Key) (ls : List Key) → 0 < length ks → are_ascending (ks ++ k ∷ ls) ≡ true → pair_fits above first xs pair (ks ++ k ∷ ls) ≡ true → IsBetween above first xs pair k
@@ -213,9 +179,6 @@ between_keys above first xs pair (a ∷ ks) k ls some asc fit =
     (and_from (not_below lowest k && below highest k) true two.0 refl, a, and_from (not_below lowest a && below highest a) true one.0 refl, first_under a ks ls k asc)
 
 -- ---- leaves
-
-pub used_append : (xs ys : List Entry) → used_by (xs ++ ys) ≡ used_by xs + used_by ys
-used_append xs ys = ap length (flat_map-append entry_bytes xs ys) ∙ length-append (flat_map entry_bytes xs) (flat_map entry_bytes ys)
 
 pub record PageEntries (page : ℕ) (xs : List Entry) : Type 0 where
   pub are : AreEntries xs

@@ -16,7 +16,7 @@ use Rattle.name_btree.specs.declared.descent.Neighbour.{Neighbour}
 use Rattle.name_btree.specs.declared.descent.Found.{Found}
 use Rattle.name_btree.specs.declared.fault.TreeFault.{TreeFault}
 use Rattle.name_btree.specs.declared.fault.TreeFault.TheVariants.{Pages, Broken}
-use Rattle.name_btree.specs.Descent.{way_to, IsAbove, IsNeighbour, HasNeighbours}
+use Rattle.name_btree.specs.Descent.{way_to, HasChildren, IsNeighbour, HasNeighbours}
 use Rattle.name_btree.specs.Fault.{HasCause, IsMisfit, BreaksBelow, BreaksBeside}
 
 -- ---- one page
@@ -105,5 +105,5 @@ pub previous_breaks : (given : Option Refusal) (fault : TreeFault) (pages : List
     → HasCause given (BreaksBeside pages n) fault → HasCause given (BreaksTable pages) fault
 previous_breaks given fault pages c found n is beside at h = beside_breaks given fault pages n (subst (λ (o : Option Neighbour). IfSome o (IsNeighbour pages)) at (found_beside pages c found is beside).0) h
 
-pub root_above : (pages : List (List ℕ)) (n : Neighbour) → IsNeighbour pages n → IsAbove pages top
+pub root_above : (pages : List (List ℕ)) (n : Neighbour) → IsNeighbour pages n → HasChildren pages top
 root_above pages n is = above_visited pages (n.above + 1) n.child (omega (arith, is.0)) is.1

@@ -25,20 +25,20 @@ way_to before above previous next first low high (s ∷ separators) =
     else record { child = c; previous = previous; next = Some (record { child = d; above = above }) }
 
 -- an interior page, so that other pages stand below it
-abbrev pub IsAbove : List (List ℕ) → Child → Type 0
-IsAbove pages start = (first : ℕ) × (separators : List Separator) × (page_at pages start.page ≡ Some (Interior first separators))
+abbrev pub HasChildren : List (List ℕ) → Child → Type 0
+HasChildren pages start = (first : ℕ) × (separators : List Separator) × (page_at pages start.page ≡ Some (Interior first separators))
 
 -- the entries right of a place begin with those below the next child
 abbrev pub IsNext : List (List ℕ) → Child → Option Neighbour → List Entry → Type 0
 IsNext pages start None right = right ≡ []
 IsNext pages start (Some n) right =
-    IsAbove pages start × ((level : ℕ) × (level < max_height) × IsSubtree level pages n.child × ((rest : List Entry) × (right ≡ entries_below level pages n.child ++ rest)))
+    HasChildren pages start × ((level : ℕ) × (level < max_height) × IsSubtree level pages n.child × ((rest : List Entry) × (right ≡ entries_below level pages n.child ++ rest)))
 
 -- those left of it end with those below the previous child
 abbrev pub IsPrevious : List (List ℕ) → Child → Option Neighbour → List Entry → Type 0
 IsPrevious pages start None left = left ≡ []
 IsPrevious pages start (Some n) left =
-    IsAbove pages start × ((level : ℕ) × (level < max_height) × IsSubtree level pages n.child × ((rest : List Entry) × (left ≡ rest ++ entries_below level pages n.child)))
+    HasChildren pages start × ((level : ℕ) × (level < max_height) × IsSubtree level pages n.child × ((rest : List Entry) × (left ≡ rest ++ entries_below level pages n.child)))
 
 -- some entries among those below a child, as they stand at a place between keys
 pub record IsAt (before : Key → Bool) (pages : List (List ℕ)) (start : Child) (whole some : List Entry) (previous next : Option Neighbour) : Type 0 where

@@ -8,7 +8,7 @@ use Rattle.fsd_table.specs.declared.child.Child.{Child}
 use Rattle.fsd_table.specs.Pages.{page_at}
 use Rattle.fsd_table.specs.Table.{Visit, max_height, visits, visits_below, IsVisited, BreaksTable}
 use Rattle.fsd_table.specs.Tree.{entries_below, pages_below, table_of, pages_of, IsSubtree, IsTree}
-use Rattle.name_btree.specs.Descent.{IsAbove}
+use Rattle.name_btree.specs.Descent.{HasChildren}
 
 -- ---- marks, one a page
 
@@ -49,7 +49,7 @@ pub record AreWalked (level : ℕ) (pages : List (List ℕ)) (cs : List Child) (
 -- on each level below, some page so deep: a leaf on level 0, and an interior page on a higher one
 abbrev pub HasKinds : List (List ℕ) → (depth level : ℕ) → Type 0
 HasKinds pages depth zero = (c : Child) × IsVisited pages depth c × ((entries : List Entry) × (page_at pages c.page ≡ Some (Leaf entries)))
-HasKinds pages depth (suc level) = ((c : Child) × IsVisited pages depth c × IsAbove pages c) × HasKinds pages (depth + 1) level
+HasKinds pages depth (suc level) = ((c : Child) × IsVisited pages depth c × HasChildren pages c) × HasKinds pages (depth + 1) level
 
 -- the level of page 0, down the first children
 abbrev pub IsTopLevel : List (List ℕ) → ℕ → Type 0

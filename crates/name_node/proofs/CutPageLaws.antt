@@ -17,14 +17,14 @@ use Rattle.name_node.specs.Parting.{AreLeaves, AreInteriors}
 
 -- ---- keys in two parts
 
-keys_front : (xs ys : List Key) → are_ascending (xs ++ ys) ≡ true → are_ascending xs ≡ true
+pub keys_front : (xs ys : List Key) → are_ascending (xs ++ ys) ≡ true → are_ascending xs ≡ true
 keys_front [] ys e = refl
 keys_front (x ∷ []) ys e = refl
 keys_front (x ∷ y ∷ xs) ys e =
     let parts = and_parts (key_lt x y) (are_ascending (y ∷ (xs ++ ys))) e in
     and_from (key_lt x y) (are_ascending (y ∷ xs)) parts.0 (keys_front (y ∷ xs) ys parts.1)
 
-keys_behind : (xs ys : List Key) → are_ascending (xs ++ ys) ≡ true → are_ascending ys ≡ true
+pub keys_behind : (xs ys : List Key) → are_ascending (xs ++ ys) ≡ true → are_ascending ys ≡ true
 keys_behind [] ys e = e
 keys_behind (x ∷ xs) ys e = keys_behind xs ys (ascend_tail x (xs ++ ys) e)
 
@@ -56,7 +56,7 @@ a_leaf page xs all asc least most =
     and_from (list_all is_entry xs && are_ascending (entry_keys xs)) (is_between (least_used page) room (used_by xs)) (and_from (list_all is_entry xs) (are_ascending (entry_keys xs)) all asc)
     (is_within (least_used page) room (used_by xs) (least_of page (used_by xs) least) most)
 
-used_apart : (xs ys : List Entry) → used_by (xs ++ ys) ≡ used_by xs + used_by ys
+pub used_apart : (xs ys : List Entry) → used_by (xs ++ ys) ≡ used_by xs + used_by ys
 used_apart xs ys = ap length (flat_map-append entry_bytes xs ys) ∙ length-append (flat_map entry_bytes xs) (flat_map entry_bytes ys)
 
 leaves_of : (xs ys : List Entry) → list_all is_entry (xs ++ ys) ≡ true → are_ascending (entry_keys (xs ++ ys)) ≡ true → 488 < used_by (xs ++ ys) → used_by (xs ++ ys) ≤ 678 → 190 ≤ used_by xs → used_by xs ≤ 297
@@ -86,7 +86,7 @@ cut_some entries (suc i) h = omega arith
 abbrev all_below : ℕ → List Separator → Bool
 all_below p xs = list_all (λ s. is_key s.key && nat_lt s.child p) xs
 
-least_ways : (page n : ℕ) → 4 ≤ n → least_separators page ≤ n
+pub least_ways : (page n : ℕ) → 4 ≤ n → least_separators page ≤ n
 least_ways page n h = by (page == 0)
   where
     by : (b : Bool) → cond b 1 4 ≤ n

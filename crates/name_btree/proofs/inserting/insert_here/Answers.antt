@@ -1,7 +1,8 @@
 use Rattle.std.proofs.Common.{◌∙◌, sym}
 use Rattle.name_btree.specs.Draft.{drafted}
 use Rattle.name_btree.proofs.ReplaceLaws.{few_in_leaf}
-use Rattle.name_btree.proofs.LeafGrowthLaws.{none_if, with_fits_two, grows_leaf}
+use Rattle.name_btree.proofs.AbsentLaws.{absent}
+use Rattle.name_btree.proofs.LeafGrowthLaws.{with_fits_two, grows_leaf}
 use Rattle.name_btree.proofs.inserting.insert_here.Goals as goal
 
 pub entries_with-list-requires-clause-few : goal.entries_with-list-requires-clause-few
@@ -10,7 +11,7 @@ entries_with-list-requires-clause-few g c = few_in_leaf (drafted c.args.draft.no
 pub grow_leaf-requires-clause-entries : goal.grow_leaf-requires-clause-entries
 grow_leaf-requires-clause-entries g c =
     let pages = drafted c.args.draft.now.sheets.items (g.T.Pages.step c.args.t.now).images in
-    let none = none_if c.entry_in.result (sym c.is_some.ensures ∙ c.if-is_some.false) in
+    let none = absent c.entry_in.result (sym c.is_some.ensures ∙ c.if-is_some.false) in
     with_fits_two pages c.args.child.now.page c.args.entry.now c.args.entries.now c.entries_with-list.result.items c.requires.leaf c.entries_with-list.ensures.entries c.requires.entry (sym c.entry_in.ensures ∙ none)
 
 pub returns-clause-grows : goal.returns-clause-grows
