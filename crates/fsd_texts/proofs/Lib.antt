@@ -1,0 +1,3 @@
+mod GeneratorExamples
+mod ScriptExamples
+mod TextExamples

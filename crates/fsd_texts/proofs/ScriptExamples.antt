@@ -1,0 +1,47 @@
+-- Scripts, and how they end.
+use Rattle.std.proofs.Common.{◌≡◌, ℕ, List, [], ◌∷◌, ◌++◌, map, replicate, refl, Some, None, codes}
+use Rattle.fsd_bytes.specs.Keys.{key_of}
+use Rattle.fsd_texts.specs.declared.bad_line.Cause.{Cause}
+use Rattle.fsd_texts.specs.declared.bad_line.Cause.TheVariants as Causes
+use Rattle.fsd_texts.specs.declared.command.Command.TheVariants as Word
+use Rattle.fsd_texts.specs.declared.end.End.{End}
+use Rattle.fsd_texts.specs.declared.end.End.TheVariants as Ends
+use Rattle.fsd_texts.specs.Script.{script_from, script_in, script_of}
+use Rattle.fsd_texts.specs.Text.{newline}
+
+abbrev ends_at : ℕ → Cause → End
+ends_at ordinal cause = Ends.Bad (record { line = ordinal; cause = cause })
+
+no_input : script_in [] ≡ ([], Ends.Done)
+no_input = refl
+
+cut_short : script_in (codes "put a 3" ++ newline ++ codes "xyz" ++ newline ++ codes "put b 10" ++ newline ++ codes "12")
+    ≡ (Word.Put (codes "a") (codes "xyz") None ∷ [], ends_at 2 Causes.ShortBytes)
+cut_short = refl
+
+each_word : script_in (codes "put a 0" ++ newline ++ newline ++ codes "put a 1 7" ++ newline ++ newline ++ newline ++ codes "delete a!1" ++ newline ++ codes "keep a 1000" ++ newline ++ codes "get a!4294967295" ++ newline
+    ++ codes "force" ++ newline ++ codes "tick" ++ newline ++ codes "stat" ++ newline)
+    ≡ (
+      Word.Put (codes "a") [] None ∷ Word.Put (codes "a") newline (Some 7) ∷ Word.Delete (key_of (codes "a") 1) ∷ Word.Keep (codes "a") 1000 ∷ Word.Get (key_of (codes "a") 4294967295)
+          ∷ Word.Force ∷ Word.Tick ∷ Word.Stat ∷ [],
+      Ends.Done,
+    )
+each_word = refl
+
+-- what a script of one line ends with
+lines : map (λ (bytes : List ℕ). (script_of (bytes ++ newline)).1)
+    (replicate 129 97 ∷ [] ∷ replicate 128 97 ∷ codes " stat" ∷ codes "Stat" ∷ codes "scrub" ∷ codes "stat " ∷ codes "put a" ∷ codes "put a 1 2 3" ∷ codes "put  3" ∷ codes "put a! 01" ∷ codes "put a 4294967296" ∷ codes "put a 1 01"
+    ∷ codes "keep a -1" ∷ codes "keep a " ∷ codes "delete a!0" ∷ codes "get a" ∷ codes "list a*b" ∷ codes "put a 1" ∷ [])
+    ≡ map (ends_at 1) (Causes.LongLine ∷ Causes.EmptyLine ∷ Causes.UnknownWord ∷ Causes.UnknownWord ∷ Causes.UnknownWord ∷ Causes.UnknownWord ∷ Causes.WordCount ∷ Causes.WordCount ∷ Causes.WordCount ∷ Causes.BadName ∷ Causes.BadName
+    ∷ Causes.BadNumber ∷ Causes.BadNumber ∷ Causes.BadNumber ∷ Causes.BadNumber ∷ Causes.BadKey ∷ Causes.BadKey ∷ Causes.BadPattern ∷ Causes.ShortBytes ∷ [])
+lines = refl
+
+-- the same where the input ends inside it, or behind it
+inputs : map (λ (bytes : List ℕ). (script_of bytes).1) (replicate 129 97 ∷ replicate 128 97 ∷ codes "xyz" ∷ (codes "put a 1" ++ newline ++ codes "x") ∷ (codes "put a 1" ++ newline ++ codes "xy") ∷ [])
+    ≡ map (ends_at 1) (Causes.LongLine ∷ Causes.NoNewline ∷ Causes.NoNewline ∷ Causes.ShortBytes ∷ Causes.NoNewlineAfterBytes ∷ [])
+inputs = refl
+
+-- with room for five bytes
+limits : map (λ (bytes : List ℕ). script_from 5 1 bytes) ((codes "stat" ++ newline) ∷ (codes "stat" ++ newline ++ codes "x") ∷ codes "force" ∷ (codes "force" ++ newline) ∷ (codes "nil" ++ newline ++ codes "stat") ∷ [])
+    ≡ (Word.Stat ∷ [], Ends.Done) ∷ (Word.Stat ∷ [], Ends.TooLong) ∷ ([], ends_at 1 Causes.NoNewline) ∷ ([], Ends.TooLong) ∷ ([], ends_at 1 Causes.UnknownWord) ∷ []
+limits = refl

@@ -1,0 +1,14 @@
+//! What one line of a script asks for.
+use crate::command::Command;
+use fsd_bytes::FileName;
+
+/// What a line asks for: a command that stands in it whole, or one that so many bytes follow.
+#[derive(Drop)]
+pub enum Asking {
+    Plainly(Command),
+    Put {
+        name: FileName,
+        length: u32,
+        keep: Option<u32>,
+    },
+}

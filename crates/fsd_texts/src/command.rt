@@ -1,0 +1,25 @@
+//! The commands of a script.
+use crate::bytes::Bytes;
+use fsd_bytes::{FileName, Key, Pattern};
+
+/// What a script may ask.
+#[derive(Debug, Drop)]
+pub enum Command {
+    /// A new version of these bytes.
+    Put {
+        name: FileName,
+        bytes: Bytes,
+        keep: Option<u32>,
+    },
+    Delete(Key),
+    /// The keep of the name's highest version.
+    Keep {
+        name: FileName,
+        keep: u32,
+    },
+    List(Pattern),
+    Get(Key),
+    Force,
+    Tick,
+    Stat,
+}

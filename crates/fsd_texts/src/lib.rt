@@ -1,0 +1,18 @@
+//! Definitions: commands, the grammar of scripts, commands that are made up, and the lines that are said.
+#![tactic(auto)]
+
+mod asking;
+mod bad_line;
+mod bytes;
+mod command;
+mod end;
+mod fault;
+mod line;
+
+pub use asking::Asking;
+pub use bad_line::{BadLine, Cause};
+pub use bytes::Bytes;
+pub use command::Command;
+pub use end::End;
+pub use fault::Fault;
+pub use line::Line;

@@ -1,0 +1,66 @@
+//! The lines that are said.
+use crate::bad_line::BadLine;
+use crate::fault::Fault;
+use fsd_bytes::{Key, Refusal};
+use volume_layout::LayoutFault;
+
+/// A line that a run says.
+#[derive(Debug, Drop)]
+pub enum Line {
+    /// The words are outside the command set.
+    Usage,
+    Bad(BadLine),
+    Formatted {
+        sectors: u32,
+        free: u32,
+    },
+    /// A volume of these numbers can't be.
+    Unplanned(LayoutFault),
+    Made {
+        key: Key,
+        sectors: u32,
+    },
+    Deleted(Key),
+    Kept {
+        key: Key,
+        keep: u32,
+    },
+    /// One version of a list.
+    Version {
+        key: Key,
+        length: u32,
+        sectors: u32,
+        keep: u32,
+    },
+    /// How many versions were listed.
+    Listed(u32),
+    /// So many bytes of the version follow.
+    Bytes {
+        key: Key,
+        length: u32,
+    },
+    Forced,
+    Stat {
+        free: u32,
+        waiting: u32,
+        pages: u32,
+        versions: u32,
+    },
+    /// The first damaged sector of a version.
+    Damaged {
+        key: Key,
+        sector: u32,
+    },
+    /// So many commands were made up, and what came of them.
+    Generated {
+        count: u32,
+        made: u32,
+        deleted: u32,
+        kept: u32,
+        read: u32,
+        bytes: u64,
+        refused: u32,
+    },
+    Refused(Refusal),
+    Ended(Fault),
+}

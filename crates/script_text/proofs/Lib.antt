@@ -1,0 +1,10 @@
+pub mod FieldLaws
+pub mod LeftLaws
+pub mod LineLaws
+pub mod MakerLaws
+pub mod MoreLaws
+pub mod ReaderLaws
+pub mod StepLaws
+pub mod TakeLaws
+pub mod TextLaws
+pub mod WholeLaws

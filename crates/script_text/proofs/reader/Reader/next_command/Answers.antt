@@ -1,0 +1,75 @@
+use Rattle.std.proofs.Common.{◌≡◌, ◌∙◌, sym, ap, subst, refl, true, None}
+use Rattle.std.specs.Prelude.{is_none, is_some}
+use Rattle.script_text.specs.Reading.{Ahead, GoesOn, IsShort, NoneWaits, Reading, script_left}
+use Rattle.script_text.specs.Taking.{Grows}
+use Rattle.script_text.proofs.ReaderLaws.{open_of}
+use Rattle.script_text.proofs.StepLaws.{Answer, answer_ahead, answer_waits, fault_ahead, fault_is, fault_waits, calls_then, falls, gives_next, grows_then, moves_from, moves_still, as_it_was, never_ended, none_of}
+use Rattle.script_text.proofs.reader.Reader.next_command.Goals as goal
+
+pub returns-in-Ok-clause-script : goal.returns-in-Ok-clause-script
+returns-in-Ok-clause-script g c h =
+    let still : c.loop-alloc.self.end ≡ None = sym (ap (λ (r : Reading). r.end) c.self.view_is) ∙ none_of c.self.inside.end c.loop-alloc-test.ensures in
+    sym (c.loop-alloc.invariant.script h)
+    ∙ gives_next c.loop-alloc.self c.front.new.self c.in-Ok.command _ (open_of _ _ _ _ _ c.loop-alloc.self c.self.invariant c.self.view_is still) c.in-Ok.ensures
+
+pub returns-in-Ok-clause-moves : goal.returns-in-Ok-clause-moves
+returns-in-Ok-clause-moves g c h =
+    let still : c.loop-alloc.self.end ≡ None = sym (ap (λ (r : Reading). r.end) c.self.view_is) ∙ none_of c.self.inside.end c.loop-alloc-test.ensures in
+    moves_from _ _ _ _ _ _ (open_of _ _ _ _ _ c.loop-alloc.self c.self.invariant c.self.view_is still) (c.loop-alloc.invariant.grows h) c.in-Ok.ensures
+
+pub returns-in-Err-Memory-clause-moves : goal.returns-in-Err-Memory-clause-moves
+returns-in-Err-Memory-clause-moves g c h =
+    let still : c.loop-alloc.self.end ≡ None = sym (ap (λ (r : Reading). r.end) c.self.view_is) ∙ none_of c.self.inside.end c.loop-alloc-test.ensures in
+    moves_still _ _ _ _ _ _ (c.loop-alloc.invariant.grows h) (as_it_was c.loop-alloc.self c.front.new.self c.in-Err-Memory.field-0 c.in-Err-Memory.ensures) (λ s t e. e still)
+
+pub returns-clause-moves : goal.returns-clause-moves
+returns-clause-moves g c h =
+    let some : is_some c.self-2.inside.end ≡ true = ap (λ (r : Reading). is_some r.end) (c.self-2.view_is ∙ sym c.self.view_is) ∙ c.loop-alloc-test.ensures in
+    moves_still _ _ _ _ _ _ (c.loop-alloc.invariant.grows h) refl (λ s t e. answer_ahead c.self-2.inside.end c.answer.result s t some c.answer.ensures)
+
+pub returns-clause-waits : goal.returns-clause-waits
+returns-clause-waits g c =
+    let some : is_some c.self-2.inside.end ≡ true = ap (λ (r : Reading). is_some r.end) (c.self-2.view_is ∙ sym c.self.view_is) ∙ c.loop-alloc-test.ensures in
+    answer_waits c.self-2.inside.end c.answer.result _ some c.answer.ensures
+
+pub returns-in_err-go_on-in-Err-Bad-clause-moves : goal.returns-in_err-go_on-in-Err-Bad-clause-moves
+returns-in_err-go_on-in-Err-Bad-clause-moves g c h =
+    let M = g.M.Machine in
+    let still : c.loop-alloc.self.end ≡ None = sym (ap (λ (r : Reading). r.end) c.self.view_is) ∙ none_of c.self.inside.end c.loop-alloc-test.ensures in
+    let same : c.front.new.self ≡ c.loop-alloc.self = as_it_was c.loop-alloc.self c.front.new.self c.in-Err-Bad.field-0 c.in-Err-Bad.ensures in
+    let new : Reading = c.go_on.new.self in
+    let step = c.in_err-go_on-in-Err-Bad.ensures in
+    let open_yet : new.end ≡ None = ap (λ (r : Reading). r.end) (step.kept ∙ same) ∙ still in
+    let grows : Grows c.args.self.now new (M.ledger c.args.m.now) (M.ledger c.go_on.new.m) =
+    grows_then c.args.self.now c.loop-alloc.self new _ _ _ still (c.loop-alloc.invariant.grows (step.calls.trust.tells h)) (subst (λ (r : Reading). Grows r new (M.ledger c.loop-alloc.m) (M.ledger c.go_on.new.m)) same (step.grows h)) in
+    moves_still c.from_residual.result c.args.self.now new new _ _ grows refl
+    (λ s t e. subst (λ (r : Answer). Ahead r s t) (fault_is c.from_residual.result c.in_err-go_on-in-Err-Bad.field-0.0 c.from_residual.ensures.1) (fault_ahead c.in_err-go_on-in-Err-Bad.field-0.0 s t (e open_yet)))
+
+pub returns-in_err-go_on-in-Err-Bad-clause-waits : goal.returns-in_err-go_on-in-Err-Bad-clause-waits
+returns-in_err-go_on-in-Err-Bad-clause-waits g c =
+    let step = c.in_err-go_on-in-Err-Bad.ensures in
+    subst (λ (r : Answer). NoneWaits r c.go_on.new.self.waiting) (fault_is c.from_residual.result c.in_err-go_on-in-Err-Bad.field-0.0 c.from_residual.ensures.1)
+    (fault_waits c.in_err-go_on-in-Err-Bad.field-0.0 c.go_on.new.self.waiting (subst (λ (r : Reading). IsShort r.waiting) (sym step.kept) step.short))
+
+pub loop-alloc-smaller : goal.loop-alloc-smaller
+loop-alloc-smaller g c =
+    let still : c.loop-alloc.self.end ≡ None = sym (ap (λ (r : Reading). r.end) c.self.view_is) ∙ none_of c.self.inside.end c.loop-alloc-test.ensures in
+    let same : c.front.new.self ≡ c.loop-alloc.self = as_it_was c.loop-alloc.self c.front.new.self c.in-Err-Bad.field-0 c.in-Err-Bad.ensures in
+    falls c.loop-alloc.self c.go_on.new.self (ap is_none still) (subst (λ (r : Reading). GoesOn r c.go_on.new.self) same c.in_ok-go_on-in-Err-Bad.ensures.on)
+
+pub loop-alloc-preserved : goal.loop-alloc-preserved
+loop-alloc-preserved g c =
+    let M = g.M.Machine in
+    let still : c.loop-alloc.self.end ≡ None = sym (ap (λ (r : Reading). r.end) c.self.view_is) ∙ none_of c.self.inside.end c.loop-alloc-test.ensures in
+    let same : c.front.new.self ≡ c.loop-alloc.self = as_it_was c.loop-alloc.self c.front.new.self c.in-Err-Bad.field-0 c.in-Err-Bad.ensures in
+    let new : Reading = c.go_on.new.self in
+    let so_far = c.loop-alloc.invariant in
+    let step = c.in_ok-go_on-in-Err-Bad.ensures in
+    record {
+      script = λ h. step.script h ∙ ap (λ (r : Reading). script_left r (M.ledger c.loop-alloc.m).input) same ∙ so_far.script (step.calls.trust.tells h);
+      given = step.on.given ∙ ap (λ (r : Reading). r.given) same ∙ so_far.given;
+      again = never_ended c.args.self.now.end c.args.self.now c.loop-alloc.self (new ≡ c.args.self.now) refl so_far.again still;
+      unasked = never_ended c.args.self.now.end c.args.self.now c.loop-alloc.self (c.go_on.new.m ≡ c.args.m.now) refl so_far.again still;
+      grows = λ h. grows_then c.args.self.now c.loop-alloc.self new _ _ _ still (so_far.grows (step.calls.trust.tells h)) (subst (λ (r : Reading). Grows r new (M.ledger c.loop-alloc.m) (M.ledger c.go_on.new.m)) same (step.grows h));
+      calls = calls_then M c.args.m.now c.loop-alloc.m c.go_on.new.m so_far.calls step.calls;
+    }

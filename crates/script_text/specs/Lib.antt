@@ -1,0 +1,5 @@
+pub mod Front
+pub mod Making
+pub mod Reading
+pub mod Saying
+pub mod Taking

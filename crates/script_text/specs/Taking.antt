@@ -1,0 +1,66 @@
+-- What reading a script takes of the input, and what it leaves alone.
+use Rattle.std.specs.Prelude.{◌≡◌, ℕ, ◌+◌, ◌<◌, ◌≤◌, List, [], ◌++◌, length, take, drop, Option, None, Result}
+use Rattle.fsd_texts.specs.declared.command.Command.{Command}
+use Rattle.sector_disk.specs.Machine.{Ledger, LeavesOnly, Report, Rose, Trusts, Wears, took}
+use Rattle.sector_disk.specs.declared.machine.Machine.{Ghosts}
+use Rattle.script_text.specs.declared.fault.ScriptFault.{ScriptFault}
+use Rattle.script_text.specs.declared.fault.ScriptFault.TheVariants.{Input, Memory}
+use Rattle.script_text.specs.Reading.{Ahead, IsShort, Reading, count_with, script_left}
+
+-- calls of the input alone
+pub record UsesInput (old new : Report) : Type 0 where
+  pub sectors : new.sectors ≡ old.sectors
+  pub place : new.fault_place ≡ old.fault_place
+  pub disk : new.disk_faults ≡ old.disk_faults
+  pub input : old.input_faults ≤ new.input_faults
+  pub output : new.output_faults ≡ old.output_faults
+
+-- Of the machine, calls of the input alone: a stop at any moment of them leaves what was there, worn.
+pub record OnlyTakes {D : Type 0} (M : Ghosts D) (old new : D) : Type 0 where
+  pub uses : UsesInput (M.report old) (M.report new)
+  pub trust : Trusts (M.tells old) (M.tells new) (M.honest old) (M.honest new)
+  pub worn : M.honest new → Wears (M.now old) (M.now new)
+  pub any_moment : M.honest new → LeavesOnly M.moment M.left_since old new (Wears (M.now old))
+
+-- a failed input is counted
+abbrev pub CausesScript : ScriptFault → Report → Report → Type 0
+CausesScript Input old new = Rose old.input_faults new.input_faults
+CausesScript other old new = Unit {0}
+
+-- Bytes are not taken only where the input failed, which is counted, or memory was refused.
+abbrev pub CausesTaking : ScriptFault → Report → Report → Type 0
+CausesTaking Input old new = Rose old.input_faults new.input_faults
+CausesTaking Memory old new = Unit {0}
+CausesTaking other old new = ⊥
+
+-- some bytes of the input, none only at its end, stand behind the others
+pub record Comes (old new : List ℕ) (count : ℕ) (before now : Ledger) : Type 0 where
+  pub some : count ≤ length before.input
+  pub left : now ≡ took before count
+  pub bytes : new ≡ old ++ take count before.input
+  pub end : count ≡ 0 → before.input ≡ []
+
+-- a call that takes bytes and gives none
+pub record Grows (old new : Reading) (before now : Ledger) : Type 0 where
+  pub count : ℕ
+  pub some : count ≤ length before.input
+  pub left : now ≡ took before count
+  pub taken : new.taken ≡ old.taken + count
+  pub needed : 0 < count → IsShort old.waiting
+  pub waiting : new.waiting ≡ old.waiting ++ take count before.input
+  pub ahead : new.end ≡ None → (rest : List ℕ) → script_left old (take count before.input ++ rest) ≡ script_left new rest
+
+-- So many bytes are taken off the input's front, none where a command waits whole, and stand behind those that waited. Of all
+-- these, a command that is given takes so many first ones away, and any other answer none. Unless the script has ended, the
+-- answer is the same whatever else would follow the bytes that are taken.
+pub record Moves (result : Result (Option Command) ScriptFault) (old new : Reading) (before now : Ledger) : Type 0 where
+  pub count : ℕ
+  pub some : count ≤ length before.input
+  pub left : now ≡ took before count
+  pub taken : new.taken ≡ old.taken + count
+  pub needed : 0 < count → IsShort old.waiting
+  pub used : ℕ
+  pub within : used ≤ length old.waiting + count
+  pub kept : count_with result ≡ 0 → used ≡ 0
+  pub waiting : new.waiting ≡ drop used (old.waiting ++ take count before.input)
+  pub ahead : (rest : List ℕ) → Ahead result (script_left old (take count before.input ++ rest)) (script_left new rest)

@@ -1,0 +1,48 @@
+//! Why no command is given.
+ghost use Rattle.std.specs.Prelude.{◌≡◌};
+ghost use Rattle.script_text.specs.declared.fault.ScriptFault.TheVariants as Script;
+ghost use Rattle.script_text.specs.declared.fault.BodyFault.TheVariants as Body;
+
+use fsd_texts::{BadLine, Cause};
+use std::alloc::AllocError;
+use thiserror::Error;
+
+/// Why a reader gives no command.
+#[derive(Clone, Copy, Debug, PartialEq, Eq, Error)]
+pub enum ScriptFault {
+    /// What comes next is no command.
+    #[error("{0}")]
+    Bad(BadLine),
+    /// A call of the input failed.
+    #[error("the input failed")]
+    Input,
+    /// A byte past the first 2^24 is needed, and there.
+    #[error("the input is too long")]
+    TooLong,
+    /// Memory was refused.
+    #[error("memory was refused")]
+    Memory,
+}
+
+/// Why bytes begin with no command.
+#[derive(Clone, Copy)]
+pub(crate) enum BodyFault {
+    Bad(Cause),
+    Memory,
+}
+
+impl From<AllocError> for BodyFault {
+    ghost from_gives = { λ _ fault. fault ≡ Body.Memory };
+
+    fn from(_error: AllocError) -> BodyFault {
+        BodyFault::Memory
+    }
+}
+
+impl From<Cause> for BodyFault {
+    ghost from_gives = { λ cause fault. fault ≡ Body.Bad cause };
+
+    fn from(cause: Cause) -> BodyFault {
+        BodyFault::Bad(cause)
+    }
+}

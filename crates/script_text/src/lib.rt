@@ -1,0 +1,20 @@
+//! The text of scripts: commands read from the input, and the lines that are said.
+#![tactic(auto)]
+
+mod command;
+mod fault;
+mod field;
+mod laws;
+mod line;
+mod maker;
+mod reader;
+mod say;
+
+pub use fault::ScriptFault;
+pub use laws::scripts_are_read_whole;
+pub use maker::Maker;
+pub use reader::Reader;
+pub use say::say_line;
+
+#[cfg(test)]
+mod tests;
