@@ -1,11 +1,11 @@
 // The calls of the outside in memory.
-ghost use Rattle.std.specs.Prelude.{◌≡◌, false, true, ◌⊎◌, ◌+◌, ◌-◌, ◌/◌, ◌%◌, ◌^◌, ◌<◌, ◌≤◌, ◌++◌, min, drop, refl, length, IfOk, OnOk, OnErr};
+ghost use Rattle.std.specs.Prelude.{◌≡◌, false, true, ◌⊎◌, ◌+◌, ◌-◌, ◌/◌, ◌%◌, ◌^◌, ◌<◌, ◌≤◌, ◌++◌, min, drop, refl, length, is_ok, IfOk, OnOk, OnErr};
 ghost use Rattle.std.proofs.Common.{inl};
 ghost use Rattle.sector_disk.specs.Image.{sector_at};
-ghost use Rattle.sector_disk.specs.Events.{stood_by, is_stop};
+ghost use Rattle.sector_disk.specs.State.{Calls, Attached, Written, same, healed, closed, given, taken, spoken};
 ghost use Rattle.sector_disk.specs.Machine.{Takes, Wears, Utters, Says, OutputCause, Attaches, GivesAsked, asked_for, Writes, Tears, DiskCause, InputCause, Names, Settles, Shows, Before, took, wrote};
 ghost use Rattle.sector_disk.specs.Past.{only_at_end};
-ghost use Rattle.sector_disk.specs.Memory.{memory_report, memory_now, memory_ledger, memory_sized, memory_small, memory_verdict, FailsExactly, HurtsExactly, HurtExactly, FoundExactly, StopsExactly, StaysStopped, NotesOrNothing, StandsExactly, WriteFailsExactly, MemoryTrusts, MemoryElapses, MemoryReaches, IsHonest, memory_line, given, next_run, moved_on, memory_calls, memory_left, memory_short};
+ghost use Rattle.sector_disk.specs.Memory.{memory_report, memory_now, memory_ledger, memory_sized, memory_small, memory_state, MemoryTrusts, MemoryElapses, MemoryReaches, IsHonest, memory_calls, memory_left, memory_short};
 
 use super::MemoryMachine;
 use crate::event::{Verdict, piece_of, stood_of};
@@ -45,17 +45,12 @@ impl Machine for MemoryMachine {
         ensures sectors { (memory_report self.new).sectors ≡ (memory_report self.old).sectors }
         ensures trust { MemoryTrusts self.old self.new }
         ensures worn { IsHonest self.new → Wears (memory_now self.old) (memory_now self.new) }
-        ensures shown { IfOk result (λ seen. IsHonest self.new → Shows seen (sector_at (memory_now self.new).image sector) buf.new) }
+        ensures shown { IfOk result (λ seen. Shows seen (sector_at (memory_now self.new).image sector) buf.new) }
         ensures kept { result ≡ Ok Seen.Damaged → buf.new ≡ buf.old }
         ensures time { MemoryElapses self.old self.new (Wears (memory_now self.old)) }
         ensures reached { OnOk result (MemoryReaches self.old self.new (Wears (memory_now self.old))) }
         ensures ledger { Unit {0} → memory_ledger self.new ≡ memory_ledger self.old }
-        ensures exact { FailsExactly self.old self.new result }
-        ensures hurts { HurtsExactly false self.old self.new }
-        ensures image { HurtExactly false self.old self.new }
-        ensures stays { StaysStopped self.old self.new result }
-        ensures noted { NotesOrNothing self.old self.new }
-        ensures line { memory_line self.new ≡ memory_line self.old }
+        ensures exact { Calls false same (memory_state self.old) (memory_state self.new) (is_ok result) }
     {
         if self.pass(false).is_err() {
             self.disk_faults = self.disk_faults.saturating_add(1);
@@ -78,19 +73,13 @@ impl Machine for MemoryMachine {
         ensures trust { MemoryTrusts self.old self.new }
         ensures made { IfOk result (λ count. GivesAsked how count) }
         ensures attached { OnOk result (IsHonest self.new → Attaches how (memory_now self.old) (memory_now self.new)) }
-        ensures size { IfOk result (λ count. IsHonest self.new → count ≡ min (length (memory_now self.new).image) (2 ^ 32 - 1)) }
+        ensures size { IfOk result (λ count. count ≡ min (length (memory_now self.new).image) (2 ^ 32 - 1)) }
         ensures failed { OnErr result (IsHonest self.new → Wears (memory_now self.old) (memory_now self.new)) }
         ensures time { MemoryElapses self.old self.new (Before (memory_now self.old) (memory_now self.new)) }
         ensures reached { OnOk result (MemoryReaches self.old self.new (Wears (memory_now self.old))) }
         ensures asked { OnOk result (Unit {0} → memory_ledger self.new ≡ asked_for (memory_ledger self.old) path.now how) }
         ensures asked_err { OnErr result (Unit {0} → (memory_ledger self.new ≡ memory_ledger self.old) ⊎ (memory_ledger self.new ≡ asked_for (memory_ledger self.old) path.now how)) }
-        ensures exact { FailsExactly self.old self.new result }
-        ensures hurts { HurtsExactly false self.old self.new }
-        ensures image { OnOk result (FoundExactly how self.old self.new) }
-        ensures image_err { OnErr result (HurtExactly false self.old self.new) }
-        ensures stays { StaysStopped self.old self.new result }
-        ensures noted { NotesOrNothing self.old self.new }
-        ensures line { memory_line self.new ≡ memory_line self.old }
+        ensures exact { Attached path.now how (memory_state self.old) (memory_state self.new) (is_ok result) }
     {
         match self.open(path, how) {
             Some(count) => Ok(count),
@@ -115,19 +104,14 @@ impl Machine for MemoryMachine {
         ensures reached { OnOk result (MemoryReaches self.old self.new (Tears sector bytes.now (memory_now self.old))) }
         ensures counted { OnOk result (Unit {0} → memory_ledger self.new ≡ wrote (memory_ledger self.old) (length bytes.now / 512)) }
         ensures counted_err { OnErr result (Unit {0} → memory_ledger self.new ≡ memory_ledger self.old) }
-        ensures stands { StandsExactly sector bytes.now (stood_by (memory_verdict self.old sector (length bytes.now / 512)) (length bytes.now / 512)) self.old self.new }
-        ensures stops { StopsExactly (is_stop (memory_verdict self.old sector (length bytes.now / 512))) self.old self.new }
-        ensures exact { WriteFailsExactly (memory_verdict self.old sector (length bytes.now / 512)) self.old self.new result }
-        ensures hurts { HurtsExactly false self.old self.new }
-        ensures stays { StaysStopped self.old self.new result }
-        ensures noted { NotesOrNothing self.old self.new }
-        ensures line { memory_line self.new ≡ memory_line self.old }
+        ensures exact { Written sector bytes.now (memory_state self.old) (memory_state self.new) (is_ok result) }
     {
         let count = bytes.len() / 512;
         let verdict = self.verdict(sector, count);
         let stood = stood_of(verdict, count);
+        let goes = matches!(verdict, Verdict::Goes);
         let stops = matches!(verdict, Verdict::Stops(_));
-        let done = self.put(sector, bytes, stood, verdict == Verdict::Goes, stops);
+        let done = self.put(sector, bytes, stood, goes, stops);
         if !done {
             self.disk_faults = self.disk_faults.saturating_add(1);
             self.fault_place = sector;
@@ -145,14 +129,7 @@ impl Machine for MemoryMachine {
         ensures time { MemoryElapses self.old self.new (Before (memory_now self.old) (memory_now self.new)) }
         ensures reached { OnOk result (MemoryReaches self.old self.new (Wears (memory_now self.old))) }
         ensures ledger { Unit {0} → memory_ledger self.new ≡ memory_ledger self.old }
-        ensures exact { FailsExactly self.old self.new result }
-        ensures hurts { HurtsExactly false self.old self.new }
-        ensures image { HurtExactly false self.old self.new }
-        ensures stays { StaysStopped self.old self.new result }
-        ensures noted { NotesOrNothing self.old self.new }
-        ensures next { OnOk result ((memory_now self.new).windows.next ≡ Some (next_run (memory_line self.old))) }
-        ensures line { OnOk result (memory_line self.new ≡ moved_on (memory_line self.old)) }
-        ensures line_err { OnErr result (memory_line self.new ≡ memory_line self.old) }
+        ensures exact { Calls false healed (memory_state self.old) (memory_state self.new) (is_ok result) }
     {
         if self.pass(false).is_err() {
             self.disk_faults = self.disk_faults.saturating_add(1);
@@ -173,12 +150,7 @@ impl Machine for MemoryMachine {
         ensures time { MemoryElapses self.old self.new (Before (memory_now self.old) (memory_now self.new)) }
         ensures reached { OnOk result (MemoryReaches self.old self.new (Wears (memory_now self.old))) }
         ensures ledger { Unit {0} → memory_ledger self.new ≡ memory_ledger self.old }
-        ensures exact { FailsExactly self.old self.new result }
-        ensures hurts { HurtsExactly true self.old self.new }
-        ensures image { HurtExactly true self.old self.new }
-        ensures stays { StaysStopped self.old self.new result }
-        ensures noted { NotesOrNothing self.old self.new }
-        ensures line { memory_line self.new ≡ memory_line self.old }
+        ensures exact { Calls true closed (memory_state self.old) (memory_state self.new) (is_ok result) }
     {
         if self.pass(true).is_err() {
             self.disk_faults = self.disk_faults.saturating_add(1);
@@ -199,7 +171,7 @@ impl Machine for MemoryMachine {
         requires { 0 < length buf.old }
         ensures cause { InputCause (memory_report self.old) (memory_report self.new) result }
         ensures room { IfOk result (λ count. count ≤ length buf.old) }
-        ensures count { IfOk result (λ count. count ≡ given self.old (length buf.old)) }
+        ensures count { IfOk result (λ count. count ≡ given (memory_state self.old) (length buf.old)) }
         ensures trust { MemoryTrusts self.old self.new }
         ensures worn { IsHonest self.new → Wears (memory_now self.old) (memory_now self.new) }
         ensures time { MemoryElapses self.old self.new (Wears (memory_now self.old)) }
@@ -207,12 +179,7 @@ impl Machine for MemoryMachine {
         ensures taken { IfOk result (λ count. Unit {0} → Takes (memory_ledger self.old).input count buf.new) }
         ensures left { IfOk result (λ count. Unit {0} → memory_ledger self.new ≡ took (memory_ledger self.old) count) }
         ensures left_err { OnErr result (Unit {0} → memory_ledger self.new ≡ memory_ledger self.old) }
-        ensures exact { FailsExactly self.old self.new result }
-        ensures hurts { HurtsExactly false self.old self.new }
-        ensures image { HurtExactly false self.old self.new }
-        ensures stays { StaysStopped self.old self.new result }
-        ensures noted { NotesOrNothing self.old self.new }
-        ensures line { memory_line self.new ≡ memory_line self.old }
+        ensures exact { Calls false (taken (length buf.old)) (memory_state self.old) (memory_state self.new) (is_ok result) }
     {
         if self.pass(false).is_err() {
             self.input_faults = self.input_faults.saturating_add(1);
@@ -229,17 +196,10 @@ impl Machine for MemoryMachine {
         ensures trust { MemoryTrusts self.old self.new }
         ensures said { OnOk result (IsHonest self.new → Says bytes.now (memory_now self.old) (memory_now self.new)) }
         ensures cut { IsHonest self.new → Utters bytes.now (memory_now self.old) (memory_now self.new) }
-        ensures all_said { OnOk result ((memory_now self.new).said ≡ (memory_now self.old).said ++ bytes.now) }
-        ensures unsaid { OnErr result ((memory_now self.new).said ≡ (memory_now self.old).said) }
         ensures time { MemoryElapses self.old self.new (Utters bytes.now (memory_now self.old)) }
         ensures reached { OnOk result (MemoryReaches self.old self.new (Utters bytes.now (memory_now self.old))) }
         ensures ledger { Unit {0} → memory_ledger self.new ≡ memory_ledger self.old }
-        ensures exact { FailsExactly self.old self.new result }
-        ensures hurts { HurtsExactly false self.old self.new }
-        ensures image { HurtExactly false self.old self.new }
-        ensures stays { StaysStopped self.old self.new result }
-        ensures noted { NotesOrNothing self.old self.new }
-        ensures line { memory_line self.new ≡ memory_line self.old }
+        ensures exact { Calls false (spoken bytes.now) (memory_state self.old) (memory_state self.new) (is_ok result) }
     {
         if !self.speak(bytes) {
             self.output_faults = self.output_faults.saturating_add(1);

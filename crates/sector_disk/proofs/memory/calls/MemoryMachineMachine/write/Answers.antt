@@ -1,0 +1,17 @@
+use Rattle.std.proofs.Common.{◌≡◌, ◌/◌, Bool, false, length, subst, rules}
+use Rattle.sector_disk.specs.Events.{stood_by, is_going, is_stop}
+use Rattle.sector_disk.specs.State.{Exactly, put, noted}
+use Rattle.sector_disk.specs.Memory.{memory_state}
+use Rattle.sector_disk.proofs.States.{written_as}
+use Rattle.sector_disk.proofs.memory.calls.MemoryMachineMachine.write.Goals as goal
+
+pub returns-then-not-done-clause-exact : goal.returns-then-not-done-clause-exact
+returns-then-not-done-clause-exact c =
+    let verdict = c.verdict-verdict.result in
+    let some : c.stood_of-stood.result ≡ stood_by verdict (length c.args.bytes.now / 512) = search rules in
+    let goes : c.match-matches.matches ≡ is_going verdict = search rules in
+    let stops : c.match-matches-2.matches ≡ is_stop verdict = search rules in
+    let old = memory_state c.args.self.now in
+    let after = put c.args.sector c.args.bytes.now c.stood_of-stood.result c.match-matches.matches c.match-matches-2.matches (noted false old) in
+    written_as c.args.sector c.args.bytes.now c.stood_of-stood.result c.match-matches.matches c.match-matches-2.matches verdict old (memory_state c.put-done.new.self) false some goes stops c.verdict-verdict.ensures
+    (subst (λ (b : Bool). Exactly c.match-matches.matches after after old (memory_state c.put-done.new.self) b) c.if-not-done.true c.put-done.ensures.exact)

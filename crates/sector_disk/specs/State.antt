@@ -1,0 +1,150 @@
+-- A machine in memory as its events see it, and what each call makes of it.
+use Rattle.std.specs.Prelude.{◌≡◌, ◌⊎◌, ℕ, ◌+◌, ◌-◌, ◌/◌, ◌^◌, ◌==◌, Bool, true, false, not, ◌&&◌, if◌then◌else◌, List, ◌++◌, length, min, replicate, Some, None}
+use Rattle.std.specs.List.{list_any}
+use Rattle.sector_disk.specs.declared.sector.Sector.TheVariants.{Damaged}
+use Rattle.sector_disk.specs.declared.sector.WeakRun.{WeakRun}
+use Rattle.sector_disk.specs.declared.past.Hurt.{Hurt}
+use Rattle.sector_disk.specs.declared.machine.Attach.{Attach}
+use Rattle.sector_disk.specs.declared.machine.Attach.TheVariants.{Old, New}
+use Rattle.sector_disk.specs.declared.event.Event.{Event}
+use Rattle.sector_disk.specs.declared.event.Verdict.{Verdict}
+use Rattle.sector_disk.specs.Image.{stand, settled}
+use Rattle.sector_disk.specs.Windows.{is_short, all_weak, run_at}
+use Rattle.sector_disk.specs.Events.{verdict_of, fails_call, piece_of, stood_by, is_going, is_stop}
+use Rattle.sector_disk.specs.Past.{due, hurt_all}
+use Rattle.sector_disk.specs.Machine.{Moment, Ledger, asked_for, wrote, took}
+
+-- The weak runs, the first present one first, and how many of them healings have named since.
+pub record Line : Type 0 where
+  pub runs : List WeakRun
+  pub named : ℕ
+
+-- the run that the next healing names
+abbrev pub next_run : Line → WeakRun
+next_run line = run_at line.runs (line.named + 1)
+
+-- the line after a healing
+abbrev pub moved_on : Line → Line
+moved_on line = record { runs = line.runs; named = min (line.named + 1) (2 ^ 64 - 1) }
+
+-- the line before any healing
+abbrev pub from_first : List WeakRun → Line
+from_first runs = record { runs = runs; named = 0 }
+
+-- All of a machine but its counts of faults: what is there, what was asked, what is to happen, how many calls were noted,
+-- how many writes have begun at each sector, how many sectors writes have put, whether it has stopped, whether the hurts
+-- lay in the windows and the runs before the last call were short, and how often a growth was refused.
+pub record State : Type 0 where
+  pub now : Moment
+  pub ledger : Ledger
+  pub line : Line
+  pub events : List Event
+  pub calls : ℕ
+  pub begun : ℕ → ℕ
+  pub written : ℕ
+  pub stopped : Bool
+  pub allowed : Bool
+  pub starved : ℕ
+
+-- each hurt so far lay in the windows, and their runs were and are short
+abbrev pub is_honest : State → Bool
+is_honest s = s.allowed && (is_short s.now.windows.present && is_short s.now.windows.next)
+
+-- no event fails the next call, which isn't a write
+abbrev pub call_goes : State → Bool
+call_goes s = not (list_any (λ event. fails_call event s.calls) s.events)
+
+-- what becomes of the next call, which is a write of so many sectors from one on
+abbrev pub write_verdict : ℕ → ℕ → State → Verdict
+write_verdict first count s = verdict_of s.events record { calls = s.calls; written = s.written; first = first; begun = s.begun first; count = count }
+
+-- the hurts that are due before the next call, which is a `settle` or not
+abbrev pub due_next : Bool → State → List Hurt
+due_next settle s = due s.now.image s.calls settle s.events
+
+-- a call is noted, and the hurts before it have come
+abbrev pub noted : Bool → State → State
+noted settle s = record s {
+  now = record { image = hurt_all (due_next settle s) s.now.image; windows = s.now.windows; said = s.now.said };
+  calls = s.calls + 1;
+  allowed = is_honest s && all_weak s.now.windows.present s.now.windows.next (due_next settle s);
+}
+
+-- an attach is asked for
+abbrev pub asked : List ℕ → Attach → State → State
+asked path how s = record s { ledger = asked_for s.ledger path how }
+
+-- and finds or makes its image
+abbrev pub opened : Attach → State → State
+opened Old s = record s { now = record { image = s.now.image; windows = record { present = s.now.windows.present; next = None }; said = s.now.said } }
+opened (New count) s = record s { now = record { image = replicate count Damaged; windows = record { present = None; next = None }; said = s.now.said } }
+
+-- so many sectors of a write stand; it is done, or not, and stops the machine, or not
+abbrev pub put : ℕ → List ℕ → ℕ → Bool → Bool → State → State
+put first bytes stood done stops s = record s {
+  now = record { image = stand s.now.image first bytes stood; windows = s.now.windows; said = s.now.said };
+  ledger = if done then wrote s.ledger (length bytes / 512) else s.ledger;
+  begun = λ sector. s.begun sector + (if first == sector then 1 else 0);
+  written = min (s.written + stood) (2 ^ 64 - 1);
+  stopped = stops;
+}
+
+-- a write, by its verdict
+abbrev pub put_by : Verdict → ℕ → List ℕ → State → State
+put_by verdict first bytes = put first bytes (stood_by verdict (length bytes / 512)) (is_going verdict) (is_stop verdict)
+
+-- the next run is named
+abbrev pub healed : State → State
+healed s = record s {
+  now = record { image = s.now.image; windows = record { present = s.now.windows.present; next = Some (next_run s.line) }; said = s.now.said };
+  line = moved_on s.line;
+}
+
+-- the named run is the present one
+abbrev pub closed : State → State
+closed s = record s { now = record { image = s.now.image; windows = settled s.now.windows.present s.now.windows.next; said = s.now.said } }
+
+-- how many bytes a `take` gives where there is room for so many
+abbrev pub given : State → ℕ → ℕ
+given s room = min (piece_of room s.events) (length s.ledger.input)
+
+-- and they are taken
+abbrev pub taken : ℕ → State → State
+taken room s = record s { ledger = took s.ledger (given s room) }
+
+abbrev pub spoken : List ℕ → State → State
+spoken bytes s = record s { now = record { image = s.now.image; windows = s.now.windows; said = s.now.said ++ bytes } }
+
+abbrev pub same : State → State
+same s = s
+
+-- A call isn't noted: the machine had stopped, or a growth was refused and that is counted. It does nothing else.
+abbrev pub Rests : State → State → Type 0
+Rests old new = ((old.stopped ≡ true) × (new ≡ old))
+    ⊎ ((old.stopped ≡ false) × (new ≡ record old { starved = min (old.starved + 1) (2 ^ 64 - 1) }))
+
+-- A call of a machine that runs is noted, and whether it goes is said by the events.
+pub record Runs (going finished : Bool) (old new noted : State) : Type 0 where
+  pub running : old.stopped ≡ false
+  pub goes : going ≡ finished
+  pub after : new ≡ noted
+
+-- Where a call answers Ok it is noted and done. One that fails rests, or is noted and failed by an event.
+abbrev pub Exactly : Bool → State → State → State → State → Bool → Type 0
+Exactly going done failed old new true = Runs going true old new done
+Exactly going done failed old new false = Rests old new ⊎ Runs going false old new failed
+
+-- so is a call that isn't a write
+abbrev pub Calls : Bool → (State → State) → State → State → Bool → Type 0
+Calls settle does old new ok = Exactly (call_goes old) (does (noted settle old)) (noted settle old) old new ok
+
+-- and an attach, which is asked for also where an event fails it
+abbrev pub Attached : List ℕ → Attach → State → State → Bool → Type 0
+Attached path how old new ok = Exactly (call_goes old) (opened how (asked path how (noted false old))) (asked path how (noted false old)) old new ok
+
+-- and a write, of which some first sectors stand also where an event fails it
+abbrev pub Written : ℕ → List ℕ → State → State → Bool → Type 0
+Written first bytes old new ok =
+    let verdict = write_verdict first (length bytes / 512) old in
+    let after = put_by verdict first bytes (noted false old) in
+    Exactly (is_going verdict) after after old new ok
