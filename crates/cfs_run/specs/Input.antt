@@ -5,14 +5,6 @@ use Rattle.cfs_run.specs.declared.input.InputFault.{InputFault}
 use Rattle.cfs_run.specs.declared.input.InputFault.TheVariants.{Failed, TooLong, Memory}
 use Rattle.cfs_run.specs.declared.input.TheConstants.{MOST_INPUT}
 
--- calls of the input alone
-pub record UsesInput (old new : Report) : Type 0 where
-  pub sectors : new.sectors ≡ old.sectors
-  pub place : new.fault_place ≡ old.fault_place
-  pub disk : new.disk_faults ≡ old.disk_faults
-  pub input : old.input_faults ≤ new.input_faults
-  pub output : new.output_faults ≡ old.output_faults
-
 -- calls of the disk, an attach among them, and of the input: no count falls
 pub record UsesCounts (old new : Report) : Type 0 where
   pub disk : old.disk_faults ≤ new.disk_faults

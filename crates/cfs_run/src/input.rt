@@ -1,7 +1,8 @@
 //! The input, read to its end.
 ghost use Rattle.std.specs.Prelude.{◌≤◌, length, IfOk, IfErr};
 ghost use Rattle.sector_disk.specs.Machine.{LeavesOnly, Trusts, Wears};
-ghost use Rattle.cfs_run.specs.Input.{CausesInput, TakesAll, TakesSome, UsesInput};
+ghost use Rattle.sector_disk.specs.Takes.{UsesInput};
+ghost use Rattle.cfs_run.specs.Input.{CausesInput, TakesAll, TakesSome};
 
 use sector_disk::Machine;
 use std::alloc::Global;

@@ -3,10 +3,7 @@ use Rattle.std.proofs.Common.{subst, ◌≡◌, true, false, cond, ℕ, ◌+◌,
 use Rattle.std.specs.Prelude.{IfSome, is_none, is_some}
 use Rattle.std.specs.Result.{IsErrAnd}
 use Rattle.std.proofs.Math.Seq.{take-add}
-use Rattle.sector_disk.specs.Machine.{Ledger, Wears, took}
-use Rattle.sector_disk.specs.declared.machine.Machine.{Ghosts}
-use Rattle.sector_disk.proofs.Holding.{wears_on}
-use Rattle.sector_disk.proofs.Moments.{leaves_more, then_on}
+use Rattle.sector_disk.specs.Machine.{Ledger, took}
 use Rattle.fsd_texts.specs.declared.command.Command.{Command}
 use Rattle.fsd_texts.specs.declared.end.End.{End}
 use Rattle.fsd_texts.specs.Script.{Script, max_input, script_from}
@@ -16,7 +13,7 @@ use Rattle.fsd_texts.specs.declared.end.End.TheVariants as Ends
 use Rattle.script_text.specs.declared.fault.ScriptFault.{ScriptFault}
 use Rattle.script_text.specs.declared.fault.ScriptFault.TheVariants as Faults
 use Rattle.script_text.specs.Reading.{Ahead, Gives, GivesFirst, GoesOn, IsShort, NoneWaits, Reading, answer_of, room_of, script_left}
-use Rattle.script_text.specs.Taking.{Grows, Moves, OnlyTakes}
+use Rattle.script_text.specs.Taking.{Grows, Moves}
 use Rattle.script_text.proofs.LeftLaws.{after, from_gives}
 use Rattle.script_text.proofs.ReaderLaws.{IsOpen, room_fits, script_open}
 
@@ -137,26 +134,6 @@ falls_by (Some end) is before now still more most within = absurd cc
 
 pub falls : (old new : Reading) → is_none old.end ≡ true → GoesOn old new → cond (is_none new.end) (max_input + 1 - new.taken) 0 < cond (is_none old.end) (max_input + 1 - old.taken) 0
 falls old new still on = falls_by old.end new.end old.taken new.taken still on.more on.most on.within
-
--- ---- calls, one after the other
-
-module _ {D : Type 0} (M : Ghosts D) where
-  pub calls_then : (a b c : D) → OnlyTakes M a b → OnlyTakes M b c → OnlyTakes M a c
-  calls_then a b c first second = record {
-    uses = record {
-      sectors = second.uses.sectors ∙ first.uses.sectors;
-      place = second.uses.place ∙ first.uses.place;
-      disk = second.uses.disk ∙ first.uses.disk;
-      input = omega (arith, first.uses.input, second.uses.input);
-      output = second.uses.output ∙ first.uses.output;
-    };
-    trust = record { tells = λ t. first.trust.tells (second.trust.tells t); honest = λ h. first.trust.honest (second.trust.honest h) };
-    worn = λ h. wears_on (M.now a) (M.now b) (M.now c) (first.worn (second.trust.honest h)) (second.worn h);
-    any_moment = λ h.
-        let worn : Wears (M.now a) (M.now b) = first.worn (second.trust.honest h) in
-        then_on M.moment M.left_since a b c (Wears (M.now a)) (first.any_moment (second.trust.honest h))
-        (leaves_more M.moment M.left_since b c (Wears (M.now b)) (Wears (M.now a)) (λ left wears. wears_on (M.now a) (M.now b) left worn wears) (second.any_moment h));
-  }
 
 -- ---- a reader that had ended takes no step
 

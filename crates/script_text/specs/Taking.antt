@@ -1,26 +1,10 @@
 -- What reading a script takes of the input, and what it leaves alone.
 use Rattle.std.specs.Prelude.{◌≡◌, ℕ, ◌+◌, ◌<◌, ◌≤◌, List, [], ◌++◌, length, take, drop, Option, None, Result}
 use Rattle.fsd_texts.specs.declared.command.Command.{Command}
-use Rattle.sector_disk.specs.Machine.{Ledger, LeavesOnly, Report, Rose, Trusts, Wears, took}
-use Rattle.sector_disk.specs.declared.machine.Machine.{Ghosts}
+use Rattle.sector_disk.specs.Machine.{Ledger, Report, Rose, took}
 use Rattle.script_text.specs.declared.fault.ScriptFault.{ScriptFault}
 use Rattle.script_text.specs.declared.fault.ScriptFault.TheVariants.{Input, Memory}
 use Rattle.script_text.specs.Reading.{Ahead, IsShort, Reading, count_with, script_left}
-
--- calls of the input alone
-pub record UsesInput (old new : Report) : Type 0 where
-  pub sectors : new.sectors ≡ old.sectors
-  pub place : new.fault_place ≡ old.fault_place
-  pub disk : new.disk_faults ≡ old.disk_faults
-  pub input : old.input_faults ≤ new.input_faults
-  pub output : new.output_faults ≡ old.output_faults
-
--- Of the machine, calls of the input alone: a stop at any moment of them leaves what was there, worn.
-pub record OnlyTakes {D : Type 0} (M : Ghosts D) (old new : D) : Type 0 where
-  pub uses : UsesInput (M.report old) (M.report new)
-  pub trust : Trusts (M.tells old) (M.tells new) (M.honest old) (M.honest new)
-  pub worn : M.honest new → Wears (M.now old) (M.now new)
-  pub any_moment : M.honest new → LeavesOnly M.moment M.left_since old new (Wears (M.now old))
 
 -- a failed input is counted
 abbrev pub CausesScript : ScriptFault → Report → Report → Type 0

@@ -1,8 +1,9 @@
 //! Reads the commands of a script from the input.
 ghost use Rattle.std.specs.Prelude.{◌≡◌, ◌<◌, ◌≤◌, ◌+◌, ◌^◌, IfOk, IfErr, IfSome, OnOk, OnErr, Err, None, drop, true, vec_len};
+ghost use Rattle.sector_disk.specs.Takes.{OnlyTakes};
 ghost use Rattle.fsd_texts.specs.Script.{command_at, ends_early, max_input};
 ghost use Rattle.script_text.specs.Reading.{Answers, IsShort, NoneWaits, GivesFirst, GoesOn, answer_of, count_with, end_after, end_by, end_with, fresh, script_left};
-ghost use Rattle.script_text.specs.Taking.{CausesScript, CausesTaking, Comes, Grows, Moves, OnlyTakes};
+ghost use Rattle.script_text.specs.Taking.{CausesScript, CausesTaking, Comes, Grows, Moves};
 
 use crate::command::command_of;
 use crate::fault::{BodyFault, ScriptFault};

@@ -1,6 +1,6 @@
 use Rattle.std.proofs.Common.{◌≤◌, length}
 use Rattle.sector_disk.specs.Machine.{LeavesOnly, Trusts, Wears}
-use Rattle.cfs_run.specs.Input.{UsesInput}
+use Rattle.sector_disk.specs.Takes.{UsesInput}
 use Rattle.cfs_run.specs.declared.input.TheConstants.{MOST_INPUT}
 use Rattle.cfs_run.proofs.InputSoFar.{SoFar}
 use Rattle.cfs_run.proofs.input.read_input.Given as goal

@@ -2,7 +2,8 @@ use Rattle.std.proofs.Common.{◌≡◌, ◌-◌, ◌+◌, cond}
 use Rattle.std.specs.Prelude.{IfSome, is_none}
 use Rattle.fsd_texts.specs.Script.{max_input}
 use Rattle.script_text.specs.Reading.{script_left}
-use Rattle.script_text.specs.Taking.{Grows, OnlyTakes}
+use Rattle.sector_disk.specs.Takes.{OnlyTakes}
+use Rattle.script_text.specs.Taking.{Grows}
 use Rattle.script_text.proofs.reader.Reader.next_command.Given as goal
 
 abbrev pub invariant-loop-alloc : goal.invariant-loop-alloc
