@@ -2,11 +2,12 @@
 ghost use Rattle.std.specs.Prelude.{◌≡◌, ◌*◌, ◌<◌, ◌≤◌, ◌^◌, length};
 ghost use Rattle.sector_disk.specs.Machine.{DeviceFault, UsesDisk, nothing, no_ledger};
 
+use crate::image::ImageFile;
 use crate::slot::{SLOT_BYTES, read_slot, slot_of};
 use sector_disk::{Attach, Failed, Machine, SECTOR_BYTES, Seen};
-use std::fs::{OpenFile, OpenOptions};
+use std::fs::File;
 use std::io;
-use std::io::{Read, Seek, SeekFrom, Write};
+use std::io::Read;
 use std::marker::Model;
 use std::rt::Files;
 
@@ -18,9 +19,9 @@ const SLOTS_AT_ONCE: usize = 8;
 /// Contracts see what it reports and no more. It answers for no content: `healing` and `settle` do nothing, as no run of
 /// sectors is weak by anything that it does.
 #[derive(Drop)]
-pub struct FileMachine<R: Files + Input + Print + Drop> {
+pub struct FileMachine<R: Files<File = File> + Input + Print + Drop> {
     rt: R,
-    file: Option<R::File>,
+    image: Option<ImageFile>,
     sectors: u32,
     fault_place: u32,
     disk_faults: u64,
@@ -29,7 +30,7 @@ pub struct FileMachine<R: Files + Input + Print + Drop> {
     ghost small: { sectors < 2 ^ 32 },
 }
 
-impl<R: Files + Input + Print + Drop> Model for FileMachine<R> {
+impl<R: Files<File = File> + Input + Print + Drop> Model for FileMachine<R> {
     ghost use Rattle.image_file.specs.FileMachine.{Told};
 
     ghost Value = { Told };
@@ -40,14 +41,14 @@ impl<R: Files + Input + Print + Drop> Model for FileMachine<R> {
     } };
 }
 
-impl<R: Files + Input + Print + Drop> FileMachine<R> {
+impl<R: Files<File = File> + Input + Print + Drop> FileMachine<R> {
     /// A machine with no image attached yet, over the files, the input and the output of a runtime.
     pub fn new(rt: R) -> Self
         ensures { result.report ≡ record { sectors = 0; fault_place = 0; disk_faults = 0; input_faults = 0; output_faults = 0 } }
     {
         FileMachine {
             rt,
-            file: None,
+            image: None,
             sectors: 0,
             fault_place: 0,
             disk_faults: 0,
@@ -68,53 +69,24 @@ impl<R: Files + Input + Print + Drop> FileMachine<R> {
     }
 }
 
-// The byte at which a sector's slot begins.
-fn start_of(sector: u32) -> u64
-    ensures { result ≡ 520 * sector }
-{
-    520 * u64::from(sector)
-}
-
-// Opens an image that is there, and tells its number of sectors.
-fn open_old<R: Files>(rt: &R, path: &str) -> io::Result<(R::File, u32)> {
-    let file = OpenOptions::new().read(true).write(true).open(rt, path)?;
-    let sectors = (file.metadata()?.len() / 520).min(u64::from(u32::MAX));
-    Ok((file, sectors as u32))
-}
-
-// Makes an image of so many slots of zeros, in the place of any file that is there.
-fn open_new<R: Files>(rt: &R, path: &str, sectors: u32) -> io::Result<R::File> {
-    let file = OpenOptions::new()
-        .read(true)
-        .write(true)
-        .create(true)
-        .truncate(true)
-        .open(rt, path)?;
-    file.set_len(start_of(sectors))?;
-    file.sync_all()?;
-    Ok(file)
-}
-
-// Reads the slot of a sector.
-fn read_at<F: Read + Seek>(file: &mut F, sector: u32) -> io::Result<Option<[u8; 512]>> {
+// Reads a sector, where its slot is whole.
+fn read_at(image: &ImageFile, sector: u32) -> io::Result<Option<[u8; 512]>> {
     let mut slot = [0; 520];
-    file.seek(SeekFrom::Start(start_of(sector)))?;
-    file.read_exact(&mut slot)?;
+    image.read(sector, &mut slot)?;
     Ok(read_slot(sector, &slot))
 }
 
 // Writes the slots of sectors from one on, and has the system bring them to the disk.
-fn write_at<F: Write + Seek + OpenFile>(file: &mut F, sector: u32, bytes: &[u8]) -> io::Result<()> {
-    file.seek(SeekFrom::Start(start_of(sector)))?;
+fn write_at(image: &ImageFile, sector: u32, bytes: &[u8]) -> io::Result<()> {
     let mut first = sector;
     for some in bytes.chunks(SECTOR_BYTES * SLOTS_AT_ONCE) {
-        first = write_slots(file, first, some)?;
+        first = write_slots(image, first, some)?;
     }
-    file.sync_data()
+    image.sync()
 }
 
 // Writes the slots of a few sectors at once, and tells the sector behind them.
-fn write_slots<F: Write>(file: &mut F, first: u32, bytes: &[u8]) -> io::Result<u32>
+fn write_slots(image: &ImageFile, first: u32, bytes: &[u8]) -> io::Result<u32>
     requires { length bytes.now ≤ 4096 }
 {
     let mut slots = [0; SLOT_BYTES * SLOTS_AT_ONCE];
@@ -128,11 +100,11 @@ fn write_slots<F: Write>(file: &mut F, first: u32, bytes: &[u8]) -> io::Result<u
         slot.copy_from_slice(&slot_of(sector, &whole));
         sector = sector.wrapping_add(1);
     }
-    file.write_all(&slots[..bytes.len() / SECTOR_BYTES * SLOT_BYTES])?;
+    image.write(first, &slots[..bytes.len() / SECTOR_BYTES * SLOT_BYTES])?;
     Ok(sector)
 }
 
-impl<R: Files + Input + Print + Drop> Machine for FileMachine<R> {
+impl<R: Files<File = File> + Input + Print + Drop> Machine for FileMachine<R> {
     ghost report = { λ m. m.report };
 
     ghost tells = { λ _. ⊥ };
@@ -160,16 +132,10 @@ impl<R: Files + Input + Print + Drop> Machine for FileMachine<R> {
     ghost sized = { λ m never. absurd never };
 
     fn attach(&mut self, path: &str, how: Attach) -> Result<u32, Failed> {
-        let opened = match how {
-            Attach::Old => open_old(&self.rt, path),
-            Attach::New(sectors) => match open_new(&self.rt, path, sectors) {
-                Ok(file) => Ok((file, sectors)),
-                Err(e) => Err(e),
-            },
-        };
-        match opened {
-            Ok((file, sectors)) => {
-                self.file = Some(file);
+        self.image = None;
+        match ImageFile::attach(&self.rt, path, how) {
+            Ok((image, sectors)) => {
+                self.image = Some(image);
                 self.sectors = sectors;
                 Ok(sectors)
             }
@@ -178,8 +144,8 @@ impl<R: Files + Input + Print + Drop> Machine for FileMachine<R> {
     }
 
     fn read(&mut self, sector: u32, buf: &mut [u8; 512]) -> Result<Seen, Failed> {
-        if let Some(file) = &mut self.file
-            && let Ok(seen) = read_at(file, sector)
+        if let Some(image) = &self.image
+            && let Ok(seen) = read_at(image, sector)
         {
             return match seen {
                 Some(b) => {
@@ -193,8 +159,8 @@ impl<R: Files + Input + Print + Drop> Machine for FileMachine<R> {
     }
 
     fn write(&mut self, sector: u32, bytes: &[u8]) -> Result<(), Failed> {
-        if let Some(file) = &mut self.file
-            && let Ok(()) = write_at(file, sector, bytes)
+        if let Some(image) = &self.image
+            && let Ok(()) = write_at(image, sector, bytes)
         {
             return Ok(());
         }

@@ -6,17 +6,28 @@
 //! another sector. An image has as many sectors as its file has whole slots, and what follows the last one is not looked
 //! at.
 //!
+//! **One run at a time.** An attach locks its file for this opening alone, without waiting, before it reads or changes a
+//! byte; where another opening has it locked, the attach fails. The lock lasts until the machine attaches again or is
+//! dropped. A file system that has no such lock can keep no image.
+//!
+//! **Never standard input, output or error.** An attach first sees that these three are open. One that was closed is on
+//! the null device from then on, opened so that a read of it or a write to it still fails. That the image's file is none
+//! of them is proved of the number that it was opened under.
+//!
 //! **What is trusted.** `FileMachine` meets the contract of `Machine` and tells nothing of content: no contract can say
 //! what a file, a disk or a terminal gives or takes. That slots are spelled and read as they should be is proved; these
-//! are taken on trust, and tried on a real file by a test:
-//! - each slot is sought, read and written in its own place;
+//! are taken on trust, and tried on a real file by the tests:
+//! - each slot is read and written in its own place;
+//! - a lock keeps other runs of the program away, and nothing else writes the file, the program's own output included;
 //! - what the system has synced is on the disk, and a new file is found again under its name;
 //! - a write that fails or is stopped has put some first slots of it, and no more of them are damaged, a torn one among
 //!   them, than the open windows allow;
+//! - a file that is opened gets a number that is free, and one that stays open keeps it;
 //! - the input's bytes come and the console's go in order.
 #![tactic(auto)]
 
 mod file_machine;
+mod image;
 mod slot;
 
 pub use file_machine::FileMachine;

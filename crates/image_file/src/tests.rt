@@ -6,6 +6,8 @@ use std::test::Fail;
 
 const IMAGE: &str = "image_file_test";
 
+const SHARED: &str = "image_file_test_shared";
+
 #[test]
 fn a_slot_ends_with_its_sector_and_check(rt: HostRuntime) {
     let mut letter = [0; 512];
@@ -41,6 +43,7 @@ fn a_real_file_keeps_its_sectors(rt: HostRuntime) -> Result<(), Fail> {
     m.settle()?;
     m.say(b"")?;
     let _piece = m.take(&mut [0; 8]);
+    drop(m);
 
     // One byte of sector 2 is changed in the file.
     let mut file = fs::read(&rt, IMAGE)?;
@@ -70,10 +73,34 @@ fn a_real_file_keeps_its_sectors(rt: HostRuntime) -> Result<(), Fail> {
         }
     }
 
+    let mut m = FileMachine::new(&rt);
     for (length, sectors) in [(0, 0), (519, 0), (520, 1), (521, 1), (1039, 1), (1040, 2)] {
         fs::write(&rt, IMAGE, vec![in alloc; 0u8; length]?)?;
         assert_eq!(rt; m.attach(IMAGE, Attach::Old), Ok(sectors));
     }
     fs::remove_file(&rt, IMAGE)?;
+    Ok(())
+}
+
+#[test]
+fn one_machine_at_a_time_has_an_image(rt: HostRuntime) -> Result<(), Fail> {
+    let mut first = FileMachine::new(&rt);
+    let mut second = FileMachine::new(&rt);
+    let sectors = first.attach(SHARED, Attach::New(4))?;
+    assert!(rt; sectors > 1);
+    first.write(1, &[5; 512])?;
+    for how in [Attach::Old, Attach::New(9)] {
+        assert_eq!(rt; second.attach(SHARED, how), Err(Failed { place: 0 }));
+    }
+    assert_eq!(rt; first.attach(SHARED, Attach::Old), Ok(4));
+    assert_eq!(rt; fs::read(&rt, SHARED)?.len(), 4 * SLOT_BYTES);
+
+    drop(first);
+    let sectors = second.attach(SHARED, Attach::Old)?;
+    assert!(rt; sectors > 1);
+    let mut buf = [0; 512];
+    assert_eq!(rt; second.read(1, &mut buf), Ok(Seen::Whole));
+    assert_eq!(rt; buf, [5; 512]);
+    fs::remove_file(&rt, SHARED)?;
     Ok(())
 }

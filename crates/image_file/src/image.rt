@@ -1,0 +1,113 @@
+// The file of an image: found or made, locked, and never one of the standard three.
+ghost use Rattle.std.specs.Prelude.{◌≡◌, ◌*◌, ◌/◌, ◌^◌, ◌-◌, min, pos, ◌<ℤ◌, IfOk};
+ghost use Rattle.sector_disk.specs.Machine.{GivesAsked};
+ghost use Rattle.std.specs.Fd.{file_raw_fd};
+
+use crate::slot::SLOT_BYTES;
+use sector_disk::Attach;
+use std::fs::{File, OpenOptions};
+use std::io;
+use std::io::ErrorKind;
+use std::os::fd::{AsRawFd, IntoRawFd};
+use std::os::unix::fs::FileExt;
+use std::rt::Files;
+
+const NULL_DEVICE: &str = "/dev/null";
+
+/// The open file of an image. It is locked for this opening alone, until it is dropped.
+#[derive(Drop)]
+pub(crate) struct ImageFile {
+    file: File,
+    // It is not standard input, output or error.
+    ghost apart: { pos 2 <ℤ file_raw_fd file },
+}
+
+/// The byte at which a sector's slot begins.
+pub(crate) fn start_of(sector: u32) -> u64
+    ensures { result ≡ 520 * sector }
+{
+    SLOT_BYTES as u64 * u64::from(sector)
+}
+
+// How many whole slots so many bytes have, told as 2^32 - 1 where they are more.
+fn slots_in(bytes: u64) -> u32
+    ensures { result ≡ min (bytes / 520) (2 ^ 32 - 1) }
+{
+    u32::try_from(bytes / SLOT_BYTES as u64).unwrap_or(u32::MAX)
+}
+
+impl ImageFile {
+    /// Finds the image at a path, or makes one of slots of zeros in the place of any file that is there, and tells its
+    /// number of sectors. A file that another opening has locked is not read or changed.
+    pub(crate) fn attach<R: Files<File = File>>(
+        rt: &R,
+        path: &str,
+        how: Attach,
+    ) -> io::Result<(ImageFile, u32)>
+        ensures made { IfOk result (λ found. GivesAsked how found.1) }
+    {
+        open_standard(rt)?;
+        match how {
+            Attach::Old => {
+                let image = ImageFile::open(rt, path, false)?;
+                let sectors = slots_in(image.file.metadata()?.len());
+                Ok((image, sectors))
+            }
+            Attach::New(sectors) => {
+                let image = ImageFile::open(rt, path, true)?;
+                image.file.set_len(0)?;
+                image.file.set_len(start_of(sectors))?;
+                image.file.sync_all()?;
+                Ok((image, sectors))
+            }
+        }
+    }
+
+    // Opens and locks a file as it is. Where none is there, it may be made, an empty one.
+    fn open<R: Files<File = File>>(rt: &R, path: &str, makes: bool) -> io::Result<ImageFile> {
+        let file = OpenOptions::new()
+            .read(true)
+            .write(true)
+            .create(makes)
+            .open(rt, path)?;
+        if file.as_raw_fd() <= 2 {
+            return Err(ErrorKind::Unsupported.into());
+        }
+        file.try_lock()?;
+        Ok(ImageFile { file })
+    }
+
+    /// Reads the slot of a sector.
+    pub(crate) fn read(&self, sector: u32, slot: &mut [u8; SLOT_BYTES]) -> io::Result<()> {
+        self.file.read_exact_at(slot, start_of(sector))
+    }
+
+    /// Writes slots from that of a sector on.
+    pub(crate) fn write(&self, sector: u32, slots: &[u8]) -> io::Result<()> {
+        self.file.write_all_at(slots, start_of(sector))
+    }
+
+    /// Has the system bring what was written to the disk.
+    pub(crate) fn sync(&self) -> io::Result<()> {
+        self.file.sync_data()
+    }
+}
+
+// Sees that standard input, output and error are open, so that no file that is opened is one of them. One that was
+// closed is on the null device from then on, the input for writing and the others for reading: so a read of it, or a
+// write to it, fails as it did.
+fn open_standard<R: Files<File = File>>(rt: &R) -> io::Result<()> {
+    for _ in 0..3 {
+        let lowest = File::open(rt, NULL_DEVICE)?.as_raw_fd();
+        if lowest > 2 {
+            return Ok(());
+        }
+        let is_input = lowest == 0;
+        let device = OpenOptions::new()
+            .read(!is_input)
+            .write(is_input)
+            .open(rt, NULL_DEVICE)?;
+        let _ = device.into_raw_fd();
+    }
+    Ok(())
+}
