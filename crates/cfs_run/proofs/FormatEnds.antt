@@ -11,7 +11,8 @@ use Rattle.fsd_files.specs.Disk.{Image}
 use Rattle.fsd_sound.specs.Format.{IsFormattedIn}
 use Rattle.fsd_sound.specs.Sound.{IsSound}
 use Rattle.fsd_sound.proofs.FormatSoundLaws.{format_is_sound}
-use Rattle.fsd_sound.proofs.SoundLaws.{sound_still, windows_are_narrow}
+use Rattle.fsd_sound.proofs.SoundLaws.{sound_still}
+use Rattle.fsd_sound.proofs.WindowLaws.{windows_are_narrow}
 use Rattle.fsd_volume.specs.Formatting.{Formats, IsNew}
 use Rattle.cfs_run.specs.Formatting.{MakesVolume}
 

@@ -175,12 +175,13 @@ module _ (count sectors : ℕ) (old at : Moment) (found : Finds old at) (same : 
       in_record = logged.in_record;
       calm = λ calm. subst (λ (n : ℕ). AreLastOf n old.image a b) (sym same) (subst (λ (i : List Sector). AreLastOf count i a b) (calm_worn old.windows old.image at.image calm found.image) (logged.calm (calm_at calm)));
     })
-    | inr homes ↦ inr (record {
+    | inr (inl homes) ↦ inr (inl (record {
       layout = homes.layout;
       root = root_at_first homes.layout homes.root;
       homes = homes.homes;
       calm = λ calm. subst (λ (n : ℕ). root_of n old.image ≡ Some homes.layout) (sym same) (subst (λ (i : List Sector). root_of count i ≡ Some homes.layout) (calm_worn old.windows old.image at.image calm found.image) (homes.calm (calm_at calm)));
-    })
+    }))
+    | inr (inr roots) ↦ inr (inr roots)
   ]
     where
       root_at_first : (l : Layout) → HasRoot count at.image l → HasRoot sectors old.image l

@@ -25,6 +25,7 @@ use Rattle.cfs_run.specs.declared.line.Line.TheVariants as Lines
 use Rattle.cfs_run.specs.declared.request.Request.{Request}
 use Rattle.cfs_run.specs.Leaves.{Starts, Turn, turn_of}
 use Rattle.cfs_run.specs.Working.{Carries, IsFailure, IsOutside, Opens, Quiet, QuietSince, Stays, Works}
+use Rattle.fsd_sound.proofs.WindowLaws.{last_snoc}
 
 -- ---- more changes, and fewer that are forced
 
@@ -113,12 +114,8 @@ starts l windows h f n i state t is layout first = record {
 
 -- ---- the window that a mount settles is the last one
 
-last_run : (o : Option WeakRun) (windows : List WeakRun) (run : WeakRun) → last_or o (windows ++ run ∷ []) ≡ Some run
-last_run o [] run = refl
-last_run o (w ∷ windows) run = last_run (Some w) windows run
-
 pub ends_now : (now : Windows) (windows : List WeakRun) (run : WeakRun) → now ≡ record { present = Some run; next = None } → EndIn now (windows ++ run ∷ [])
-ends_now now windows run is = subst (λ (w : Windows). EndIn w (windows ++ run ∷ [])) (sym is) (record { last = last_run None windows run; some = refl })
+ends_now now windows run is = subst (λ (w : Windows). EndIn w (windows ++ run ∷ [])) (sym is) (record { last = last_snoc None windows run; some = refl })
 
 -- ---- the mount and then the command
 

@@ -7,7 +7,7 @@ use Rattle.fsd_formats.specs.declared.anchor.Anchor.{Anchor}
 use Rattle.fsd_formats.specs.Anchors.{is_anchor, anchor_bytes, read_anchor}
 use Rattle.fsd_log.specs.Scan.{anchor_in}
 
-read_third : (bytes : List ℕ) (a : Anchor) → read_anchor bytes ≡ Some a → a.third ≤ 2
+pub read_third : (bytes : List ℕ) (a : Anchor) → read_anchor bytes ≡ Some a → a.third ≤ 2
 read_third bytes a is =
     let read : Anchor = record { epoch = u32_at 4 bytes; third = u8_at 8 bytes; first = u32_at 12 bytes } in
     let given = given_if (is_anchor read && same_bytes (anchor_bytes read) bytes) read a is in

@@ -196,7 +196,7 @@ module _ (stamp : Stamp) (fits : FitsStamp stamp) (old new : Reader) (less : Rea
 
 -- ---- the images
 
-length-copies : (stamp : Stamp) (at : Reader) (a c : ℕ) (pages : List ℕ) (cs : List Bool) → page_copies stamp at a c pages ≡ Some cs → length cs ≡ length pages
+pub length-copies : (stamp : Stamp) (at : Reader) (a c : ℕ) (pages : List ℕ) (cs : List Bool) → page_copies stamp at a c pages ≡ Some cs → length cs ≡ length pages
 length-copies stamp at a c [] cs e = ap (unwrap_len) (sym e)
   where
     unwrap_len : Option (List Bool) → ℕ

@@ -1,7 +1,9 @@
 pub mod AnchorLaws
+pub mod ApartLaws
 pub mod AppendLaws
 pub mod BorneLaws
 pub mod EmptyLaws
+pub mod FreshLaws
 pub mod GoodLaws
 pub mod HereLaws
 pub mod JudgedLaws
@@ -9,6 +11,8 @@ pub mod LaidLaws
 pub mod OutlastLaws
 pub mod PlaceLaws
 pub mod PlainLaws
+pub mod RecordFacts
+pub mod RobustLaws
 pub mod TornLaws
 pub mod WalkLaws
 pub mod WornLaws

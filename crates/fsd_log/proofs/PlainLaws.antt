@@ -28,7 +28,7 @@ serve_same test (Some b) c = by_test (test b) (passes test c) (copy_same test c)
     by_test false true e = e
     by_test false false e = e
 
-at_either : (at : Reader) (a c : ℕ) (d : Bool) → (if d then at c else at a) ≡ at (if d then c else a)
+pub at_either : (at : Reader) (a c : ℕ) (d : Bool) → (if d then at c else at a) ≡ at (if d then c else a)
 at_either at a c true = refl
 at_either at a c false = refl
 

@@ -22,7 +22,7 @@ pub record ReadsLaid (stamp : Stamp) (pages images : List ℕ) (at : Reader) : T
   pub first : (j : ℕ) → j < length pages → AsLaid stamp (slice_of images j) (at (3 + j))
   pub copy : (j : ℕ) → j < length pages → AsLaid stamp (slice_of images j) (at (4 + length pages + j))
 
-serves_which : (test : List ℕ → Bool) (a c : Option (List ℕ)) (d : Bool) → serving test a c ≡ Some d → passes test (if d then c else a) ≡ true
+pub serves_which : (test : List ℕ → Bool) (a c : Option (List ℕ)) (d : Bool) → serving test a c ≡ Some d → passes test (if d then c else a) ≡ true
 serves_which test a c d e = by_tests (passes test a) (passes test c) refl refl d e
   where
     by_tests : (x y : Bool) → passes test a ≡ x → passes test c ≡ y → (z : Bool) → (if x then Some false else (if y then Some true else None)) ≡ Some z → passes test (if z then c else a) ≡ true

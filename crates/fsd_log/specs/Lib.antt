@@ -1,4 +1,5 @@
 pub mod Borne
+pub mod Copies
 pub mod Good
 pub mod Images
 pub mod Judged

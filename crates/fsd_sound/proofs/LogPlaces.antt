@@ -7,11 +7,11 @@ use Rattle.std.proofs.lemmas.List.{length-append}
 use Rattle.volume_layout.specs.declared.layout.Layout.{Layout}
 use Rattle.volume_layout.specs.Layout.{InLog}
 use Rattle.fsd_formats.specs.declared.anchor.Anchor.{Anchor}
-use Rattle.fsd_formats.specs.Record.{Stamp, bears, record_len, end_bytes}
+use Rattle.fsd_formats.specs.Record.{Stamp, record_len, end_bytes}
 use Rattle.sector_disk.specs.Image.{sector_at}
-use Rattle.fsd_log.specs.Judged.{Reader, serving, page_copies, Serving, judged, images_of, Logged, logged_of, record_in}
+use Rattle.fsd_log.specs.Judged.{Reader, Serving, judged, images_of, Logged, logged_of, record_in}
 use Rattle.fsd_log.specs.Scan.{IsEnd, IsIn, Head, Placed, room_at, window, scan, start, place_of, tape}
-use Rattle.fsd_log.proofs.JudgedLaws.{is_judged, mapped_some}
+use Rattle.fsd_log.proofs.JudgedLaws.{is_judged, length-copies}
 use Rattle.fsd_files.specs.Disk.{Image, Sectors, Has, bytes_of, bytes_at}
 use Rattle.fsd_sound.specs.Laid.{AllStand, HasFront, HasCopies, GoodCopies, IsLaid, stamp_of}
 use Rattle.fsd_sound.specs.Shown.{scan_by, records_by}
@@ -56,15 +56,6 @@ same_scan l i j same a le = ap (λ (t : Reader). scan l a.epoch t a.first) (same
 length-images : (at : Reader) (k c : ℕ) (cs : List Bool) → length (images_of at k c cs) ≡ length cs
 length-images at k c [] = refl
 length-images at k c (x ∷ cs) = ap suc (length-images at (k + 1) (c + 1) cs)
-
-length-copies : (stamp : Stamp) (at : Reader) (k c : ℕ) (pages : List ℕ) (cs : List Bool) → page_copies stamp at k c pages ≡ Some cs → length cs ≡ length pages
-length-copies stamp at k c [] cs e = ap length (sym (none_left e))
-  where
-    none_left : Some [] ≡ Some cs → [] ≡ cs
-    none_left e = cc
-length-copies stamp at k c (page ∷ pages) cs e =
-    let made = mapped_some (serving (bears page stamp) (at k) (at c)) (page_copies stamp at (k + 1) (c + 1) pages) (λ x more. x ∷ more) cs e in
-    ap length (sym made.3) ∙ ap suc (length-copies stamp at (k + 1) (c + 1) pages made.1 made.2)
 
 pub record_images : (p : ℕ) (stamp : Stamp) (room : ℕ) (at : Reader) (r : Logged) → record_in p stamp room at ≡ Some r → length r.images ≡ length r.pages
 unfolding record_in

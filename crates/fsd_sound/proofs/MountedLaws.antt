@@ -16,13 +16,14 @@ use Rattle.fsd_files.specs.Disk.{Image, Sectors, in_runs, bytes_at}
 use Rattle.fsd_files.specs.Files.{Files, Change, after}
 use Rattle.fsd_files.specs.Kept.{Describes}
 use Rattle.fsd_files.specs.Volume.{Volume, plans_of, is_in, in_version, is_free, waits, forced}
-use Rattle.fsd_files.proofs.KeptLaws.{kept_on}
+use Rattle.fsd_files.proofs.KeptLaws.{kept_on, kept_worn}
 use Rattle.fsd_sound.specs.Laid.{HasOwnLog, AllLaid}
 use Rattle.fsd_sound.specs.Shown.{told_in}
 use Rattle.fsd_sound.specs.Sound.{ShowsPages, IsSound, Tells, weak_of}
 use Rattle.fsd_sound.specs.Mounted.{AgreeOutside, Mounted, StandsOver, HasForced, IsMounted, SameTaken, SameData, ChangesTo, with_forced, IsFresh}
 use Rattle.fsd_sound.proofs.LogPlaces.{IsRecord, same_tape, front_same, copies_same, in_record, goes_records, scan_goes, start_in}
-use Rattle.fsd_sound.proofs.FrontLaws.{SameFront, front_log, front_shows, each_same}
+use Rattle.fsd_sound.proofs.AlikeLaws.{each_same}
+use Rattle.fsd_sound.proofs.FrontLaws.{SameFront, log_front, front_log, front_shows}
 use Rattle.fsd_sound.proofs.SoundLaws.{sound_from_pages}
 
 -- ---- the log of its own
@@ -41,7 +42,7 @@ module _ (l : Layout) (a : Anchor) (weak : Sectors) (i j : Image) (same : SameFr
       subst (λ (w : Rattle.fsd_log.specs.Scan.Walked). AllByRecursion (IsRecord l a.third) w.records) own.log.scanned
       (goes_records l a.epoch a.third low (tape l a.third (bytes_at i)) (start_is) _ _ (start_in l a.first) (scan_goes l a.epoch a.first (tape l a.third (bytes_at i)))) in
       record {
-        own = each_same l i j same _ _ (λ b low is. is) own.own;
+        own = each_same l i j (log_front l i j same) _ _ (λ b low is. is) own.own;
         log = subst (λ t. IsLog l a.epoch a.first t records head) (sym (same_tape l i j (front_log l i j same) a.third low)) own.log;
         laid = all_laid_same records are own.laid;
       }
@@ -158,15 +159,15 @@ all_data l (x ∷ xs) s all there =
 data_behind : (l : Layout) (s : ℕ) → IsTrue (is_data l s) → map_start l ≤ s
 data_behind l s is = let ge : data_start l ≤ s = leb-true (data_start l) s (and_parts (nat_le (data_start l) s) (nat_lt s l.sectors) is).0 in omega (arith, ge)
 
-pub describes_data : (l : Layout) (hurt : Sectors) (files : Files) (entries : List Entry) (i j : Image) → SameData l i j → Describes l hurt i files entries → Describes l hurt j files entries
+pub describes_data : (l : Layout) (hurt : Sectors) (files : Files) (entries : List Entry) (i j : Image) → SameData l hurt i j → Describes l hurt i files entries → Describes l hurt j files entries
 describes_data l hurt files entries i j same d = record {
   lists = d.lists;
   apart = d.apart;
-  kept = kept_on hurt i j files entries (λ s at. same s (data_behind l s (all_data l (flat_map sectors_of (plans_of entries)) s (and_parts (all_differ (flat_map sectors_of (plans_of entries))) _ d.apart).1 at))) d.kept;
+  kept = kept_worn hurt i j files entries (λ s at. same s (data_behind l s (all_data l (flat_map sectors_of (plans_of entries)) s (and_parts (all_differ (flat_map sectors_of (plans_of entries))) _ d.apart).1 at))) d.kept;
 }
 
 -- while the disk shows what was forced or what is in memory, it is sound
-pub force_sound : (m : Mounted) (windows : List WeakRun) (h : List Change) (f : ℕ) (i j : Image) (now : List (List ℕ)) → (is : IsMounted m windows h f i) → SameData m.volume.layout i j
+pub force_sound : (m : Mounted) (windows : List WeakRun) (h : List Change) (f : ℕ) (i j : Image) (now : List (List ℕ)) → (is : IsMounted m windows h f i) → SameData m.volume.layout (in_runs windows) i j
     → told_in m.volume.layout now ≡ Some m.volume.entries → ShowsPages m.volume.layout windows (is.disk ∷ now ∷ []) j → IsSound m.volume.layout windows h f j
 force_sound m windows h f i j now is same told shows =
     let l = m.volume.layout in
@@ -182,7 +183,7 @@ force_sound m windows h f i j now is same told shows =
     (tells_forced m.volume windows h f j is.disk le forced)
     (tells_all m.volume windows h f j now le is.files told (describes_data l (in_runs windows) m.volume.files m.volume.entries i j same is.described)) two)
 
-pub force_mounted : (m : Mounted) (windows : List WeakRun) (h : List Change) (f : ℕ) (i j : Image) (now : List (List ℕ)) (head : Head) (records : List Placed) → IsMounted m windows h f i → SameData m.volume.layout i j
+pub force_mounted : (m : Mounted) (windows : List WeakRun) (h : List Change) (f : ℕ) (i j : Image) (now : List (List ℕ)) (head : Head) (records : List Placed) → IsMounted m windows h f i → SameData m.volume.layout (in_runs windows) i j
     → told_in m.volume.layout now ≡ Some m.volume.entries → StandsOver m.volume.layout m.anchor head records now now [] windows j → IsMounted (with_forced m now head) windows h (length h) j
 force_mounted m windows h f i j now head records is same told over =
     let all : take (length h) h ≡ h = take_all (length h) h (omega arith) in

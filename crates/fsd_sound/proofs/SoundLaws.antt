@@ -1,8 +1,8 @@
 -- What is sound stays so however its weak run wears; and what shows pages that tell the changes is sound.
-use Rattle.std.proofs.Common.{◌≡◌, ◌⊎◌, ℕ, ◌+◌, ◌<◌, ◌≤◌, Bool, true, false, List, [], ◌∷◌, length, take, Option, Some, None, refl, sym, ap, subst, ◌∙◌, inl, inr, arith}
-use Rattle.std.specs.Prelude.{IsTrue, IfSome, nat_le, nat_lt, slice_index_or, option_and_then, Contains}
+use Rattle.std.proofs.Common.{◌≡◌, ◌⊎◌, ℕ, ◌<◌, ◌≤◌, Bool, List, [], ◌∷◌, length, take, Option, Some, None, refl, sym, ap, subst, ◌∙◌, inl, inr, arith}
+use Rattle.std.specs.Prelude.{IsTrue, IfSome, slice_index_or, option_and_then, Contains}
 use Rattle.std.specs.List.{list_any, last_or}
-use Rattle.std.proofs.lemmas.Bool.{and_parts, or_left, or_right, leb-true, ltb-true}
+use Rattle.std.proofs.lemmas.Bool.{or_left, or_right}
 use Rattle.volume_layout.specs.declared.layout.Layout.{Layout}
 use Rattle.fsd_formats.specs.declared.anchor.Anchor.{Anchor}
 use Rattle.fsd_formats.specs.Anchors.{read_anchor}
@@ -17,30 +17,17 @@ use Rattle.fsd_formats.specs.declared.entry.Entry.{Entry}
 use Rattle.fsd_sound.specs.Anchors.{EachAnchor}
 use Rattle.fsd_sound.specs.Shown.{shown, told_in}
 use Rattle.fsd_sound.specs.Sound.{IfWhole, HasRoots, HasAnchors, Tells, weak_of, IsReadable, IsSound, ShowsOne, ShowsPages, is_twin}
+use Rattle.fsd_sound.specs.Windows.{IsNarrow}
 use Rattle.sector_disk.proofs.Wear.{worn_trans, worn_whole}
 use Rattle.fsd_files.proofs.WearLaws.{kept_still}
+use Rattle.fsd_sound.proofs.SectorFacts.{whole_or_damaged}
 
 -- ---- roots
-
--- no two sectors so far apart are weak at once
-abbrev pub IsNarrow : Sectors → Type 0
-IsNarrow weak = (s t : ℕ) → s + 4 ≤ t → IsTrue (weak s) → IsTrue (weak t) → ⊥
-
-run_is_narrow : (r : WeakRun) → r.count ≤ 3 → IsNarrow (in_run r)
-run_is_narrow r short s t far a b =
-    let low : r.first ≤ s = leb-true r.first s (and_parts (nat_le r.first s) (nat_lt s (r.first + r.count)) a).0 in
-    let high : t < r.first + r.count = ltb-true t (r.first + r.count) (and_parts (nat_le r.first t) (nat_lt t (r.first + r.count)) b).1 in
-    omega arith
 
 -- a sector that was Whole is so still, or it lies in a weak place
 still_or_weak : (b : Bool) (x y : Sector) (bytes : List ℕ) → SectorWorn b x y → x ≡ Whole bytes → (y ≡ Whole bytes) ⊎ IsTrue b
 still_or_weak b x y bytes (inl e) w = inl (e ∙ w)
 still_or_weak b x y bytes (inr d) w = inr d.0
-
--- a sector is Whole or Damaged
-whole_or_damaged : (x : Sector) → ((bytes : List ℕ) × (x ≡ Whole bytes)) ⊎ (x ≡ Damaged)
-whole_or_damaged (Whole bytes) = inl (bytes, refl)
-whole_or_damaged Damaged = inr refl
 
 module _ (l : Layout) (weak : Sectors) (narrow : IsNarrow weak) (i j : Image) (w : IsWorn weak i j) where
   -- the other root serves where this one is weak
@@ -178,9 +165,3 @@ sound_from_pages l windows h f choices i shows each = record {
   tells = λ j w. shown_tells l (in_runs windows) j h f choices (shown l j) (shows.shows j w)
       (λ pages c. tells_still l (weak_of windows) (in_runs windows) i j h f (told_in l pages) (weak_within_hurt windows) w (each pages c));
 }
-
--- windows of runs of three or fewer
-pub windows_are_narrow : (windows : List WeakRun) (o : Option WeakRun) → last_or None windows ≡ o → IfSome o (λ r. r.count ≤ 3) → IsNarrow (weak_of windows)
-windows_are_narrow windows None e short s t far a b = absurd (let f : false ≡ true = subst (λ (o : Option WeakRun). IsTrue (in_window o None s)) e a in cc)
-windows_are_narrow windows (Some r) e short s t far a b =
-    run_is_narrow r short s t far (subst (λ (o : Option WeakRun). IsTrue (in_window o None s)) e a) (subst (λ (o : Option WeakRun). IsTrue (in_window o None t)) e b)

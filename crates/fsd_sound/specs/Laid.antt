@@ -1,5 +1,5 @@
 -- Records of the log as they were laid on the disk.
-use Rattle.std.specs.Prelude.{◌≡◌, ℕ, ◌+◌, List, [], ◌∷◌, ◌++◌, length, IsTrue, ⊤}
+use Rattle.std.specs.Prelude.{◌≡◌, ◌≤◌, ℕ, ◌+◌, List, [], ◌∷◌, ◌++◌, length, IsTrue, ⊤}
 use Rattle.std.specs.List.{AllByRecursion}
 use Rattle.volume_layout.specs.declared.layout.Layout.{Layout}
 use Rattle.fsd_formats.specs.declared.anchor.Anchor.{Anchor}
@@ -49,6 +49,12 @@ module _ (l : Layout) (a : Anchor) (weak : Sectors) (i : Image) where
   -- every record as it was laid
   abbrev pub AllLaid : List Placed → Type 0
   AllLaid records = AllByRecursion (λ r. HasFront r × HasCopies r) records
+
+-- The bytes stand in the one sector and in the other, but where one is weak and damaged, and the two lie apart.
+pub record StandsTwice (weak : Sectors) (i : Image) (bytes : List ℕ) (place copy : ℕ) : Type 0 where
+  pub first : Has weak i bytes place
+  pub second : Has weak i bytes copy
+  pub apart : place + 2 ≤ copy
 
 -- The log of a mounted volume: each anchor that stands is its own, by it the log is these records and the head behind them,
 -- and they stand as they were laid.

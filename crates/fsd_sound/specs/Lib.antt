@@ -1,8 +1,13 @@
 pub mod Anchors
+pub mod Begun
+pub mod Choices
 pub mod Format
 pub mod Homes
 pub mod Laid
+pub mod Logged
 pub mod Mounted
 pub mod Roots
 pub mod Shown
 pub mod Sound
+pub mod Stands
+pub mod Windows

@@ -8,7 +8,7 @@ use Rattle.sector_disk.specs.Image.{sector_at}
 use Rattle.fsd_formats.specs.declared.anchor.Anchor.{Anchor}
 use Rattle.fsd_formats.specs.declared.entry.Entry.{Entry}
 use Rattle.fsd_log.specs.Scan.{Placed, Head}
-use Rattle.fsd_files.specs.Disk.{Image, in_runs}
+use Rattle.fsd_files.specs.Disk.{Image, Sectors, SectorWorn, in_runs}
 use Rattle.fsd_files.specs.Files.{Change, after}
 use Rattle.fsd_files.specs.Kept.{Describes}
 use Rattle.fsd_files.specs.Volume.{Volume, plans_of, is_in, is_free, forced as with_none_unforced}
@@ -67,9 +67,9 @@ pub record IsMounted (m : Mounted) (windows : List WeakRun) (h : List Change) (f
 abbrev pub SameTaken : Volume → Image → Image → Type 0
 SameTaken v i j = (s : ℕ) → IsFalse (is_free v s) → sector_at j s ≡ sector_at i s
 
--- the images agree behind the map's start
-abbrev pub SameData : Layout → Image → Image → Type 0
-SameData l i j = (s : ℕ) → map_start l ≤ s → sector_at j s ≡ sector_at i s
+-- the images agree behind the map's start, but for wear
+abbrev pub SameData : Layout → Sectors → Image → Image → Type 0
+SameData l hurt i j = (s : ℕ) → map_start l ≤ s → SectorWorn (hurt s) (sector_at i s) (sector_at j s)
 
 -- Of two volumes the later has one more change, which waits.
 pub record Changes (old new : Volume) : Type 0 where

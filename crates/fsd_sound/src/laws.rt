@@ -1,7 +1,8 @@
 //! Laws over the definitions: the functions do nothing, the contract of each is a law.
-ghost use Rattle.std.specs.Prelude.{◌≡◌, ◌≤◌, ℕ, List, [], ◌∷◌, ◌++◌, length, Some, None, IfSome, Contains};
+ghost use Rattle.std.specs.Prelude.{◌≡◌, ◌≤◌, ◌^◌, ℕ, List, [], ◌∷◌, ◌++◌, length, Some, None, IfSome, Contains};
 ghost use Rattle.std.specs.List.{last_or};
 ghost use Rattle.volume_layout.specs.declared.layout.Layout.{Layout};
+ghost use Rattle.volume_layout.specs.Layout.{map_start};
 ghost use Rattle.sector_disk.specs.declared.sector.WeakRun.{WeakRun};
 ghost use Rattle.sector_disk.specs.Image.{Windows, open_damage, IsWorn};
 ghost use Rattle.fsd_files.specs.Disk.{Image, in_runs};
@@ -11,6 +12,8 @@ ghost use Rattle.fsd_log.specs.Scan.{Placed, Head};
 ghost use Rattle.fsd_sound.specs.Mounted.{Mounted, StandsOver, IsMounted, SameTaken, SameData, ChangesTo, IsFresh, with_forced};
 ghost use Rattle.fsd_sound.specs.Shown.{told_in};
 ghost use Rattle.fsd_sound.specs.Sound.{EndIn, weak_of, IsSound, IsStill, ShowsPages, Tells, TellsPrefix};
+ghost use Rattle.fsd_sound.specs.Choices.{TellsChoices};
+ghost use Rattle.fsd_sound.specs.Windows.{IsApart};
 
 /// A formatted disk is sound, with no changes, in a window whose weak run has at most three sectors, also as its own window
 /// has worn it.
@@ -46,9 +49,20 @@ pub fn sound_from_pages()
         IsSound l windows h f i }
 {}
 
+/// However its weak run wears, a sound disk shows one of some page lists, each of which tells a prefix of the changes.
+pub fn sound_disks_show_pages()
+    ensures { (l : Layout) (windows : List WeakRun) (h : List Change) (f : ℕ) (i : Image) → map_start l ≤ l.sectors → IsSound l windows h f i → TellsChoices l windows h f i }
+{}
+
 /// The disk below a mounted volume is sound, for all its changes and those that were forced.
 pub fn mounted_volumes_are_sound()
     ensures { (m : Mounted) (windows : List WeakRun) (h : List Change) (f : ℕ) (i : Image) → IsMounted m windows h f i → IsSound m.volume.layout windows h f i }
+{}
+
+/// A mounted volume stays mounted however a narrow run wears.
+pub fn mounted_volumes_wear()
+    ensures { (m : Mounted) (windows : List WeakRun) (h : List Change) (f : ℕ) (i j : Image) → m.volume.layout.pages ≤ 2 ^ 32 → IsApart (weak_of windows) → IsWorn (weak_of windows) i j →
+        IsMounted m windows h f i → IsMounted m windows h f j }
 {}
 
 /// What is written to free sectors leaves a volume mounted.
@@ -66,9 +80,9 @@ pub fn changes_wait_for_a_force()
 /// While the disk shows what was forced before or what is in memory now, it is sound; and once it shows that, all changes
 /// are forced.
 pub fn forces_commit_all_changes()
-    ensures during { (m : Mounted) (windows : List WeakRun) (h : List Change) (f : ℕ) (i j : Image) (now : List (List ℕ)) → (is : IsMounted m windows h f i) → SameData m.volume.layout i j →
+    ensures during { (m : Mounted) (windows : List WeakRun) (h : List Change) (f : ℕ) (i j : Image) (now : List (List ℕ)) → (is : IsMounted m windows h f i) → SameData m.volume.layout (in_runs windows) i j →
         told_in m.volume.layout now ≡ Some m.volume.entries → ShowsPages m.volume.layout windows (is.disk ∷ now ∷ []) j → IsSound m.volume.layout windows h f j }
-    ensures done { (m : Mounted) (windows : List WeakRun) (h : List Change) (f : ℕ) (i j : Image) (now : List (List ℕ)) (head : Head) (records : List Placed) → IsMounted m windows h f i → SameData m.volume.layout i j →
+    ensures done { (m : Mounted) (windows : List WeakRun) (h : List Change) (f : ℕ) (i j : Image) (now : List (List ℕ)) (head : Head) (records : List Placed) → IsMounted m windows h f i → SameData m.volume.layout (in_runs windows) i j →
         told_in m.volume.layout now ≡ Some m.volume.entries → StandsOver m.volume.layout m.anchor head records now now [] windows j → IsMounted (with_forced m now head) windows h (length h) j }
 {}
 

@@ -1,10 +1,22 @@
 //! Definitions: what stands on the disk of a volume.
 #![tactic(auto)]
 
+mod home_laws;
 mod laws;
+mod log_laws;
+mod mount_laws;
 
+pub use home_laws::{
+    homes_may_be_mended, logged_homes_may_be_written, roots_may_be_mended, shown_pages_stand,
+};
 pub use laws::{
     changes_wait_for_a_force, forces_commit_all_changes, formatted_disks_are_sound,
     free_sectors_may_be_written, fresh_mounts_hold, mounted_volumes_are_sound,
-    open_windows_wear_soundly, sound_disks_wear, sound_from_pages, still_disks_tell_a_prefix,
+    mounted_volumes_wear, open_windows_wear_soundly, sound_disks_show_pages, sound_disks_wear,
+    sound_from_pages, still_disks_tell_a_prefix,
 };
+pub use log_laws::{
+    completed_pages_are_logged, completing_may_be_stopped, copies_may_be_laid,
+    laid_images_are_given, own_logs_wear,
+};
+pub use mount_laws::{anchors_may_be_renewed, begun_disks_show, mounts_settle};

@@ -1,14 +1,14 @@
 -- What a force makes of a volume and its disk.
-use Rattle.std.proofs.Common.{◌≡◌, inl, inr, ℕ, ◌<◌, ◌≤◌, ◌^◌, List, [], ◌∷◌, length, Some, refl, sym, ap, subst, ◌∙◌, arith}
+use Rattle.std.proofs.Common.{◌≡◌, inl, inr, None, ℕ, ◌<◌, ◌≤◌, ◌^◌, List, [], ◌∷◌, length, Some, refl, sym, ap, subst, ◌∙◌, arith}
 use Rattle.std.specs.Prelude.{slice_set}
+use Rattle.std.specs.List.{last_or}
 use Rattle.std.proofs.lemmas.List.{length-set}
 use Rattle.volume_layout.specs.declared.layout.Layout.{Layout}
 use Rattle.volume_layout.specs.Layout.{map_start}
 use Rattle.sector_set.specs.Area.{Area}
 use Rattle.sector_disk.specs.declared.sector.WeakRun.{WeakRun}
-use Rattle.sector_disk.specs.Image.{IsCalm, sector_at}
+use Rattle.sector_disk.specs.Image.{sector_at}
 use Rattle.sector_disk.specs.Machine.{Moment}
-use Rattle.sector_disk.proofs.Calm.{calm_nowhere}
 use Rattle.fsd_formats.specs.declared.anchor.Anchor.{Anchor}
 use Rattle.fsd_formats.specs.declared.entry.Entry.{Entry}
 use Rattle.fsd_formats.specs.Record.{Stamp}
@@ -17,12 +17,14 @@ use Rattle.log_thirds.specs.Append.{stamp_now}
 use Rattle.group_commit.specs.Resident.{ResidentValue, stamped, with_stamp}
 use Rattle.group_commit.specs.Force.{KeepsData, StandsOver, Commits, Committed, stamped_by, log_forced}
 use Rattle.group_commit.proofs.CommitLaws.{idle_committed}
-use Rattle.fsd_files.specs.Disk.{Image}
+use Rattle.fsd_files.specs.Disk.{Image, in_runs}
 use Rattle.fsd_files.specs.Files.{Change}
 use Rattle.fsd_files.specs.Volume.{Volume, forced}
 use Rattle.fsd_sound.specs.Mounted.{IsMounted as StandsOnDisk, StandsOver as Over, SameData, image_at}
 use Rattle.fsd_sound.specs.Shown.{told_in}
-use Rattle.fsd_sound.specs.Sound.{IsSound, ShowsPages}
+use Rattle.fsd_sound.specs.Sound.{EndIn, IsSound, ShowsPages}
+use Rattle.fsd_sound.proofs.SoundLaws.{weak_within_hurt}
+use Rattle.fsd_sound.proofs.WindowLaws.{fewer}
 use Rattle.fsd_sound.proofs.MountedLaws.{mounted_sound, force_sound, force_mounted}
 use Rattle.fsd_volume.specs.Forcing.{Forces, stamped_state, forced_state}
 use Rattle.fsd_volume.specs.State.{State, IsKept, IsSpelled, IsMounted, StandsFor, mounted_of}
@@ -96,17 +98,17 @@ module _ (s : State) (free : Area) (kept : IsKept s free) (epoch : s.serial.epoc
     pub over_log : StandsOver s.log mounted.on_disk.records mounted.on_disk.disk s.table windows i
     over_log = subst (λ (l : Layout). Over l s.log.anchor s.log.head mounted.on_disk.records mounted.on_disk.disk s.table.pages s.table.dirty windows i) layout_is mounted.on_disk.over
 
-    same_data : (old left : Moment) → old.image ≡ i → IsCalm old.windows → KeepsData s.log.layout old left → SameData v.layout i left.image
-    same_data old left at calm keeps = λ t from.
+    same_data : (old left : Moment) → old.image ≡ i → EndIn old.windows windows → KeepsData s.log.layout old left → SameData v.layout (in_runs windows) i left.image
+    same_data old left at ends keeps = λ t from.
         elim (keeps t (subst (λ (l : Layout). map_start l ≤ t) layout_is from)) [
-          | inl same ↦ same ∙ ap (λ (x : Image). sector_at x t) at
-          | inr hurt ↦ absurd (calm_nowhere old.windows.present old.windows.next t calm.present calm.next hurt.0)
+          | inl same ↦ inl (same ∙ ap (λ (x : Image). sector_at x t) at)
+          | inr hurt ↦ inr (weak_within_hurt windows t (fewer (last_or None windows) old.windows.present old.windows.next ends.last ends.some t hurt.0), hurt.1)
         ]
 
-    pub forces_at : (old left : Moment) → old.image ≡ i → IsCalm old.windows → Commits s.log.layout windows mounted.on_disk.disk now old left → Forces s.layout windows h f old left
-    forces_at old left at calm commits = record {
+    pub forces_at : (old left : Moment) → old.image ≡ i → EndIn old.windows windows → Commits s.log.layout windows mounted.on_disk.disk now old left → Forces s.layout windows h f old left
+    forces_at old left at ends commits = record {
       sound = subst (λ (l : Layout). IsSound l windows h f left.image) mounted.stands.layout
-          (force_sound (mounted_of s v) windows h f i left.image now mounted.on_disk (same_data old left at calm commits.kept) told_volume
+          (force_sound (mounted_of s v) windows h f i left.image now mounted.on_disk (same_data old left at ends commits.kept) told_volume
           (subst (λ (l : Layout). ShowsPages l windows (mounted.on_disk.disk ∷ now ∷ []) left.image) (sym layout_is) commits.shows));
       kept = subst (λ (l : Layout). KeepsData l old left) kept.log commits.kept;
       windows = commits.windows;
@@ -125,7 +127,7 @@ module _ (s : State) (free : Area) (kept : IsKept s free) (epoch : s.serial.epoc
       reached = mounted.stands.reached;
     }
 
-    pub all_forced : (j : Image) → SameData v.layout i j → Committed (log_forced s.log s.table.dirty) (record { pages = now; dirty = [] }) windows j → IsMounted (forced_state s) (forced v) windows h (length h) j
+    pub all_forced : (j : Image) → SameData v.layout (in_runs windows) i j → Committed (log_forced s.log s.table.dirty) (record { pages = now; dirty = [] }) windows j → IsMounted (forced_state s) (forced v) windows h (length h) j
     all_forced j same committed =
         let log = log_forced s.log s.table.dirty in
         let over = subst (λ (a : Anchor). Over v.layout a log.head committed.records now now [] windows j) (log_anchor s.log s.table.dirty)
@@ -136,12 +138,12 @@ module _ (s : State) (free : Area) (kept : IsKept s free) (epoch : s.serial.epoc
           on_disk = subst (λ (a : Anchor). StandsOnDisk (record { volume = forced v; pages = now; dirty = []; anchor = a; head = log.head }) windows h (length h) j) (sym (log_anchor s.log s.table.dirty)) done;
         }
 
-    pub forced_at : (old left : Moment) (log : LogValue) (table : ResidentValue) → old.image ≡ i → IsCalm old.windows → Commits s.log.layout windows mounted.on_disk.disk now old left
+    pub forced_at : (old left : Moment) (log : LogValue) (table : ResidentValue) → old.image ≡ i → EndIn old.windows windows → Commits s.log.layout windows mounted.on_disk.disk now old left
         → log ≡ log_forced s.log s.table.dirty → table ≡ record { pages = now; dirty = [] } → Committed log table windows left.image → IsMounted (record s { log = log; table = table }) (forced v) windows h (length h) left.image
-    forced_at old left log table at calm commits log_is table_is committed =
+    forced_at old left log table at ends commits log_is table_is committed =
         let then : forced_state s ≡ record s { log = log; table = table } = λ k. record s { log = sym log_is k; table = sym table_is k } in
         subst (λ (x : State). IsMounted x (forced v) windows h (length h) left.image) then
-        (all_forced left.image (same_data old left at calm commits.kept)
+        (all_forced left.image (same_data old left at ends commits.kept)
         (subst (λ (t : ResidentValue). Committed (log_forced s.log s.table.dirty) t windows left.image) table_is (subst (λ (l : LogValue). Committed l table windows left.image) log_is committed)))
 
 -- ---- nothing waits
@@ -166,4 +168,4 @@ idle_mounted s free kept epoch none v windows h f i mounted =
     let is = idle_state s none in
     let committed = idle_committed s.log s.table mounted.on_disk.records mounted.on_disk.disk windows i none (over_log s free kept epoch v windows h f i mounted) in
     subst (λ (x : State). IsMounted x (forced v) windows h (length h) i) (sym is)
-    (all_forced s free kept epoch v windows h f i mounted i (λ t from. refl) (subst (λ (x : State). Committed x.log x.table windows i) is committed))
+    (all_forced s free kept epoch v windows h f i mounted i (λ t from. inl refl) (subst (λ (x : State). Committed x.log x.table windows i) is committed))

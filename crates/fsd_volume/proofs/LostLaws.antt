@@ -12,7 +12,7 @@ use Rattle.fsd_sound.specs.Homes.{home_of}
 use Rattle.fsd_sound.specs.Roots.{root_of}
 use Rattle.mount_recover.specs.declared.fault.MountFault.{MountFault}
 use Rattle.mount_recover.specs.declared.fault.MountFault.TheVariants.{NotVolume, Device, Memory, Lost, NoAnchor, Unsound, WornOut}
-use Rattle.mount_recover.specs.Lost.{AreCopiesOn, AreHomes, AreLoggedOn, HasRoot, LostIn}
+use Rattle.mount_recover.specs.Lost.{AreCopiesOn, AreHomes, HasRoot, LostIn}
 use Rattle.fsd_volume.specs.Opening.{OpensNotFor, UnreadFor}
 
 -- ---- a page at home
@@ -35,20 +35,10 @@ unread_lost l i WornOut un = tt
 -- ---- what a mount says of it
 
 module _ (sectors : ℕ) (old : Moment) (image : Image) where
-  -- it was lost in the log
-  pub logged_lost : (fault : MountFault) → LostIn (AreLoggedOn sectors old) image fault → LostIn (AreCopiesOn sectors old) image fault
-  logged_lost (Lost a b) lost = lost_as (AreLoggedOn sectors old) a b (AreCopiesOn sectors old) image (λ logged. inl logged) lost
-  logged_lost NotVolume lost = tt
-  logged_lost (Device s) lost = tt
-  logged_lost Memory lost = tt
-  logged_lost NoAnchor lost = tt
-  logged_lost (Unsound s) lost = tt
-  logged_lost WornOut lost = tt
-
   -- it was lost at home
   module _ (l : Layout) (root : HasRoot sectors old.image l) (told : IsCalm old.windows → root_of sectors old.image ≡ Some l) where
     pub home_lost : (fault : MountFault) → LostIn (AreHomes l) image fault → LostIn (AreCopiesOn sectors old) image fault
-    home_lost (Lost a b) lost = lost_as (AreHomes l) a b (AreCopiesOn sectors old) image (λ homes. inr (record { layout = l; root = root; homes = homes; calm = told })) lost
+    home_lost (Lost a b) lost = lost_as (AreHomes l) a b (AreCopiesOn sectors old) image (λ homes. inr (inl (record { layout = l; root = root; homes = homes; calm = told }))) lost
     home_lost NotVolume lost = tt
     home_lost (Device s) lost = tt
     home_lost Memory lost = tt

@@ -1,28 +1,30 @@
 -- What a mount of a sound disk ends with, where nothing wears.
-use Rattle.std.proofs.Common.{◌≡◌, ℕ, suc, ◌<◌, ◌≤◌, Bool, true, false, cond, List, [], ◌∷◌, ◌++◌, length, take, Option, Some, None, refl, sym, ap, subst, ◌∙◌, arith}
-use Rattle.std.specs.Prelude.{Result, Ok, Err, IfOk, IfErr, IsErrAnd, option_map, option_and_then, slice_get}
+use Rattle.std.proofs.Common.{◌≡◌, inl, inr, ℕ, ◌<◌, ◌≤◌, Bool, true, false, cond, List, [], ◌∷◌, ◌++◌, length, take, Option, Some, None, refl, sym, ap, subst, ◌∙◌, arith}
+use Rattle.std.specs.Prelude.{Result, Ok, Err, IsSome, IfOk, IfErr, IsErrAnd, option_and_then, slice_get}
 use Rattle.std.proofs.lemmas.List.{ext_get_or}
 use Rattle.std.proofs.lemmas.List.FromFn.{length-range_with_len}
 use Rattle.volume_layout.specs.declared.layout.Layout.{Layout}
-use Rattle.volume_layout.specs.Layout.{home_b}
+use Rattle.volume_layout.specs.Layout.{home_a, home_b}
 use Rattle.volume_layout.proofs.RegionLaws.{regions_apart}
 use Rattle.volume_layout.proofs.RootLaws.{planned_bounds}
 use Rattle.sector_disk.specs.declared.sector.Sector.{Sector}
 use Rattle.sector_disk.specs.declared.sector.WeakRun.{WeakRun}
+use Rattle.sector_disk.specs.declared.sector.Sector.TheVariants.{Whole}
+use Rattle.sector_disk.specs.Image.{Windows, IsCalm, sector_at}
 use Rattle.sector_disk.specs.Machine.{Moment}
 use Rattle.sector_disk.proofs.Wear.{worn_refl}
 use Rattle.fsd_formats.specs.declared.anchor.Anchor.{Anchor}
 use Rattle.fsd_formats.specs.declared.entry.Entry.{Entry}
 use Rattle.fsd_formats.specs.NamePage.{Content, Free, Leaf, Interior, read_page}
 use Rattle.fsd_log.specs.Scan.{Head}
-use Rattle.fsd_files.specs.Disk.{Image, in_runs, bytes_of, bytes_at, either_copy}
+use Rattle.fsd_files.specs.Disk.{Image, Has, in_runs, bytes_of, bytes_at, either_copy}
 use Rattle.fsd_files.specs.Files.{Files, Change, after}
 use Rattle.fsd_files.specs.Kept.{Describes}
 use Rattle.fsd_sound.specs.Anchors.{anchor_of, fresh_anchor}
 use Rattle.fsd_sound.specs.Homes.{home_of}
 use Rattle.fsd_sound.specs.Laid.{HasOwnLog}
 use Rattle.fsd_sound.specs.Mounted.{image_at, IsFresh, IsMounted as StandsOnDisk}
-use Rattle.fsd_sound.specs.Shown.{each_of, all_pages, shown, shown_by, told_in, entries_of}
+use Rattle.fsd_sound.specs.Shown.{all_pages, shown, shown_by, told_in, entries_of}
 use Rattle.fsd_sound.specs.Sound.{weak_of, ShowsOne, ShowsPages}
 use Rattle.fsd_sound.proofs.MountedLaws.{one_of, fresh_mounted}
 use Rattle.log_thirds.specs.LogValue.{LogValue}
@@ -36,19 +38,12 @@ use Rattle.fsd_volume.specs.Mount.{IsSoundAt, Mounts, MountLeaves, MountEnds, vo
 use Rattle.fsd_volume.specs.Opening.{AreAtHome, UnreadFor, Opens, OpensNotFor}
 use Rattle.fsd_volume.specs.Table.{table_in, leaf_of, if_apart, sectors_apart}
 use Rattle.fsd_volume.proofs.LostLaws.{none_at_home}
-use Rattle.fsd_volume.proofs.MountMoments.{told_now, pages_now, count_now, entries_told, described_after, chosen_now, took_so_many}
+use Rattle.fsd_volume.proofs.MountMoments.{ends_still, told_now, pages_now, count_now, entries_told, described_after, chosen_now, took_so_many}
 use Rattle.fsd_volume.proofs.TableLaws.{table_is}
+use Rattle.fsd_sound.proofs.EachLaws.{each_size}
+use Rattle.fsd_sound.proofs.WindowLaws.{last_snoc}
 
 -- ---- how many pages are shown
-
-each_size : {A B : Type 0} (f : A → Option B) (xs : List A) (ys : List B) → each_of f xs ≡ Some ys → length ys ≡ length xs
-each_size f [] ys e = let is : [] ≡ ys = cc in ap length (sym is)
-each_size {A} {B} f (x ∷ xs) ys e = by (f x) (each_of f xs) (each_size f xs) e
-  where
-    by : (o : Option B) (rest : Option (List B)) → ((zs : List B) → rest ≡ Some zs → length zs ≡ length xs) → option_and_then (λ y. option_map (λ zs. y ∷ zs) rest) o ≡ Some ys → length ys ≡ suc (length xs)
-    by None rest size e = absurd cc
-    by (Some y) None size e = absurd cc
-    by (Some y) (Some zs) size e = let same : y ∷ zs ≡ ys = cc in ap length (sym same) ∙ ap suc (size zs refl)
 
 shown_size : (l : Layout) (i : Image) (pages : List (List ℕ)) → shown l i ≡ Some pages → length pages ≡ l.pages
 shown_size l i pages e = by (anchor_of i) e
@@ -121,12 +116,21 @@ module _ (sectors : ℕ) (l : Layout) (windows : List WeakRun) (h : List Change)
   told_table : table_in l (image_at shown_pages 0) ≡ Some told
   told_table = table_is l (image_at shown_pages 0) told (sym (told_leaf l shown_pages some_page) ∙ (told_now sectors l windows h f old begun).told) (told_now sectors l windows h f old begun).described.apart
 
-  module _ (log : LogValue) (mid : Moment) (fresh : IsFreshLog l log) (done : IsReplayed l windows (shown_pages ∷ []) log.anchor.epoch mid) (behind : SameBehind l old.image mid.image) where
+  module _ (log : LogValue) (mid : Moment) (fresh : IsFreshLog l log) (done : IsReplayed l windows (shown_pages ∷ []) log.anchor.epoch mid) (calm : IsCalm mid.windows) (behind : SameBehind l old.image mid.image) where
     abbrev windows_now : List WeakRun
     windows_now = windows ++ done.after.run ∷ []
 
+    -- the run that was named is empty
+    is_whole : (s : ℕ) (bytes : List ℕ) → Has (weak_of windows_now) mid.image bytes s → sector_at mid.image s ≡ Whole bytes
+    is_whole s bytes (inl is) = is
+    is_whole s bytes (inr hurt) = absurd (ends_still mid.windows windows_now calm (record {
+      last = last_snoc None windows done.after.run ∙ sym (ap (λ (w : Windows). w.present) done.after.settled);
+      some = subst (λ (w : Windows). IsSome w.present) (sym done.after.settled) refl;
+    }) s hurt.0)
+
     home_now : StandAtHome l shown_pages mid.image
-    home_now = subst (λ (ps : List (List ℕ)). StandAtHome l ps mid.image) (chosen_now sectors l windows h f old begun done.after.pages done.after.chosen) done.home
+    home_now = subst (λ (ps : List (List ℕ)). StandAtHome l ps mid.image) (chosen_now sectors l windows h f old begun done.after.pages done.after.chosen)
+        (λ page lt. let is = done.home page lt in (is_whole (home_a l page) (image_at done.after.pages page) is.0, is_whole (home_b l page) (image_at done.after.pages page) is.1))
 
     -- no page is damaged at both homes
     pub unread_now : (fault : MountFault) → UnreadFor l mid.image fault → IsExcuse fault

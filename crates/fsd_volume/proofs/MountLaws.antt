@@ -1,11 +1,14 @@
 -- What a mount finds of an image, and why it is refused.
-use Rattle.std.proofs.Common.{◌≡◌, ℕ, ◌^◌, ◌<◌, List, Option, Some, Ok, Err, refl, sym, ap, subst, ◌∙◌, arith}
+use Rattle.std.proofs.Common.{◌≡◌, ⊎_elim, ℕ, ◌+◌, ◌^◌, ◌<◌, List, Option, Some, Ok, Err, refl, sym, ap, subst, ◌∙◌, arith}
 use Rattle.std.specs.Prelude.{Result, IfOk, IfErr, IsSome, option_and_then, is_some}
+use Rattle.std.proofs.lemmas.Bool.{or_cases}
 use Rattle.volume_layout.specs.declared.layout.Layout.{Layout}
 use Rattle.volume_layout.specs.Layout.{plan}
 use Rattle.volume_layout.proofs.RootLaws.{planned_bounds}
 use Rattle.fsd_formats.specs.declared.anchor.Anchor.{Anchor}
+use Rattle.sector_disk.specs.Image.{IsCalm, open_damage}
 use Rattle.sector_disk.specs.Machine.{Moment}
+use Rattle.sector_disk.proofs.Calm.{calm_nowhere, calm_worn}
 use Rattle.fsd_files.specs.Disk.{Image}
 use Rattle.fsd_sound.specs.Homes.{home_of}
 use Rattle.fsd_sound.specs.Mounted.{image_at}
@@ -13,9 +16,9 @@ use Rattle.fsd_sound.specs.Shown.{newest, records_by}
 use Rattle.log_thirds.specs.LogValue.{LogValue}
 use Rattle.mount_recover.specs.declared.fault.MountFault.{MountFault}
 use Rattle.mount_recover.specs.declared.fault.MountFault.TheVariants.{NotVolume, Device, Memory, Lost, NoAnchor, Unsound, WornOut}
-use Rattle.mount_recover.specs.Recover.{IsSettled, LosesNothing, RefusedFor}
-use Rattle.mount_recover.specs.Replay.{SameBehind}
-use Rattle.mount_recover.specs.Replaying.{StandAsShown}
+use Rattle.mount_recover.specs.Recover.{IsSettled, IsSettledIn, IsRefusedFor, RefusedFor}
+use Rattle.mount_recover.specs.Lost.{LosesShown, StandAsShown}
+use Rattle.mount_recover.specs.Replay.{KeepsMap, SameBehind}
 use Rattle.fsd_volume.specs.State.{State}
 use Rattle.fsd_volume.specs.Mount.{shown_page, table_on, IsAccepted, IsFoundOn, MountRefused}
 use Rattle.fsd_volume.specs.Opening.{AreAtHome, UnreadFor, Opens, OpensNotFor}
@@ -73,16 +76,43 @@ module _ (sectors : ℕ) (i j : Image) (l : Layout) (log : LogValue) (settled : 
 
 -- ---- what is refused before
 
-pub recover_refused : (sectors : ℕ) (i : Image) (fault : MountFault) → RefusedFor sectors i fault → LosesNothing fault → MountRefused sectors i fault
+pub recover_refused : (sectors : ℕ) (i : Image) (fault : MountFault) → RefusedFor sectors i fault → LosesShown sectors i fault → MountRefused sectors i fault
 recover_refused sectors i (Lost a b) refused keeps =
     let epoch = refused.epoch in
-    (refused.layout, record { anchor = refused.anchor; found = refused.found; fits = omega (arith, epoch) }, absurd keeps)
+    let layout : Some refused.layout ≡ Some keeps.layout = sym refused.found.root ∙ keeps.found.root in
+    let anchor : Some refused.anchor ≡ Some keeps.anchor = sym refused.found.anchor ∙ keeps.found.anchor in
+    let one : refused.anchor ≡ keeps.anchor = cc anchor in
+    let fits : keeps.anchor.epoch + 1 < 2 ^ 32 = omega (arith, epoch, ap (λ (a : Anchor). a.epoch) one) in (
+      keeps.layout,
+      record { anchor = keeps.anchor; found = keeps.found; fits = fits },
+      record {
+        page = keeps.page;
+        within = keeps.within;
+        first = keeps.homes.first;
+        second = keeps.homes.second;
+        none = ap (option_and_then (λ (a : Anchor). newest keeps.layout i (records_by keeps.layout i a) keeps.page)) keeps.found.anchor ∙ keeps.none;
+      },
+    )
 recover_refused sectors i NotVolume refused keeps = refused
 recover_refused sectors i NoAnchor refused keeps = refused
 recover_refused sectors i WornOut refused keeps = refused
 recover_refused sectors i (Unsound s) refused keeps = absurd refused
 recover_refused sectors i (Device s) refused keeps = tt
 recover_refused sectors i Memory refused keeps = tt
+
+-- ---- where nothing wears, what was seen is the image
+
+pub settled_in : (sectors : ℕ) (l : Layout) (log : LogValue) (old : Moment) → IsCalm old.windows → IsSettledIn sectors l log old → IsSettled sectors old.image l log
+settled_in sectors l log old calm is = subst (λ (i : Image). IsSettled sectors i l log) (calm_worn old.windows old.image is.seen calm is.from) is.settled
+
+pub refused_for : (sectors : ℕ) (fault : MountFault) (old : Moment) → IsCalm old.windows → IsRefusedFor sectors fault old → RefusedFor sectors old.image fault
+refused_for sectors fault old calm is = subst (λ (i : Image). RefusedFor sectors i fault) (calm_worn old.windows old.image is.seen calm is.from) is.why
+
+pub map_still : (l : Layout) (old new : Moment) → IsCalm old.windows → IsCalm new.windows → KeepsMap l old new → SameBehind l old.image new.image
+map_still l old new calm calm_new kept s from = ⊎_elim (λ is. is)
+    (λ hurt. absurd (⊎_elim (λ a. calm_nowhere old.windows.present old.windows.next s calm.present calm.next a) (λ b. calm_nowhere new.windows.present new.windows.next s calm_new.present calm_new.next b)
+    (or_cases (open_damage old.windows s) (open_damage new.windows s) hurt.0)))
+    (kept s from)
 
 -- ---- what an answer owes
 

@@ -87,7 +87,7 @@ module _ (sectors : ℕ) (l : Layout) (windows : List WeakRun) (h : List Change)
   first_now = record { prefix = told_now.prefix; entries = told_now.entries; tells = entries_told; described = told_now.described }
 
   pub mountable_now : ShowsVolume sectors l windows (pages_now ∷ []) old
-  mountable_now = record { planned = start.planned; fits = start.fits; calm = start.calm; ends = start.ends; shows = told_now.shows }
+  mountable_now = record { planned = start.planned; fits = start.fits; ends = start.ends; shows = told_now.shows }
 
   tells_found : (j : Image) → SameBehind l old.image j → Tells l (in_runs windows) j h f (told_in l pages_now)
   tells_found j same =
@@ -130,11 +130,14 @@ module _ (sectors : ℕ) (l : Layout) (windows : List WeakRun) (h : List Change)
             (subst (λ ps. Tells l (in_runs (windows ++ after_it.run ∷ [])) left.image (take count_now h) count_now (told_in l ps)) (sym same_pages) (tells_settled after_it.run left.image same)) one);
       }
 
+  behind_still : (left : Moment) → Replays l windows (pages_now ∷ []) old left → SameBehind l old.image left.image
+  behind_still left replays s from = ⊎_elim (λ is. is) (λ hurt. absurd (ends_still old.windows windows start.calm start.ends s hurt.0)) (replays.behind s from)
+
   -- a moment of the replay is one of the mount
   pub leaves_at : (left : Moment) → Replays l windows (pages_now ∷ []) old left → MountLeaves l windows h f count_now old left
   leaves_at left replays = record {
-    stage = ⊎_elim (λ before. inl (leaves_found left replays.behind before)) (λ after_it. inr (leaves_settled left replays.behind after_it)) replays.stage;
-    behind = replays.behind;
+    stage = ⊎_elim (λ before. inl (leaves_found left (behind_still left replays) before)) (λ after_it. inr (leaves_settled left (behind_still left replays) after_it)) replays.stage;
+    behind = behind_still left replays;
     said = replays.said;
   }
 

@@ -1,7 +1,6 @@
 //! The force of a volume, and its end.
 ghost use Rattle.std.specs.Prelude.{◌≡◌, ◌≤◌, ◌+◌, ℕ, List, [], length, OnOk, OnErr, IfOk, IfErr};
 ghost use Rattle.sector_disk.specs.declared.sector.WeakRun.{WeakRun};
-ghost use Rattle.sector_disk.specs.Image.{IsCalm};
 ghost use Rattle.sector_disk.specs.Machine.{UsesDisk, Trusts, OnlyWrites, LeavesOnly};
 ghost use Rattle.fsd_files.specs.Files.{Change};
 ghost use Rattle.fsd_files.specs.Volume.{Volume as Mounted, forced};
@@ -38,15 +37,15 @@ impl Volume {
 
         // A stop at any moment leaves a disk that tells a prefix of the changes, with those that were forced before. So does
         // a fault of the disk.
-        ensures any_moment { M.honest m.new → IsCalm (M.now m.old).windows → (v : Mounted) (windows : List WeakRun) (h : List Change) (f : ℕ) →
+        ensures any_moment { M.honest m.new → (v : Mounted) (windows : List WeakRun) (h : List Change) (f : ℕ) →
             EndIn (M.now m.old).windows windows → IsMounted self.old v windows h f (M.now m.old).image →
             LeavesOnly M.moment M.left_since m.old m.new (Forces self.old.layout windows h f (M.now m.old)) }
-        ensures failed { OnErr result (M.honest m.new → IsCalm (M.now m.old).windows → (v : Mounted) (windows : List WeakRun) (h : List Change) (f : ℕ) →
+        ensures failed { OnErr result (M.honest m.new → (v : Mounted) (windows : List WeakRun) (h : List Change) (f : ℕ) →
             EndIn (M.now m.old).windows windows → IsMounted self.old v windows h f (M.now m.old).image →
             Forces self.old.layout windows h f (M.now m.old) (M.now m.new)) }
 
         // All changes are forced then.
-        ensures done { OnOk result (M.honest m.new → IsCalm (M.now m.old).windows → (v : Mounted) (windows : List WeakRun) (h : List Change) (f : ℕ) →
+        ensures done { OnOk result (M.honest m.new → (v : Mounted) (windows : List WeakRun) (h : List Change) (f : ℕ) →
             EndIn (M.now m.old).windows windows → IsMounted self.old v windows h f (M.now m.old).image →
             IsMounted self.new (forced v) windows h (length h) (M.now m.new).image) }
     {
@@ -73,15 +72,15 @@ impl Volume {
         ensures idle { self.table.dirty ≡ [] → m.new ≡ m.old }
         ensures counted { OnOk result (M.tells m.new → (M.ledger m.new).written ≡ (M.ledger m.old).written + force_len self.table.dirty) }
 
-        ensures any_moment { M.honest m.new → IsCalm (M.now m.old).windows → (v : Mounted) (windows : List WeakRun) (h : List Change) (f : ℕ) →
+        ensures any_moment { M.honest m.new → (v : Mounted) (windows : List WeakRun) (h : List Change) (f : ℕ) →
             EndIn (M.now m.old).windows windows → IsMounted self v windows h f (M.now m.old).image →
             LeavesOnly M.moment M.left_since m.old m.new (Forces self.layout windows h f (M.now m.old)) }
-        ensures failed { OnErr result (M.honest m.new → IsCalm (M.now m.old).windows → (v : Mounted) (windows : List WeakRun) (h : List Change) (f : ℕ) →
+        ensures failed { OnErr result (M.honest m.new → (v : Mounted) (windows : List WeakRun) (h : List Change) (f : ℕ) →
             EndIn (M.now m.old).windows windows → IsMounted self v windows h f (M.now m.old).image →
             Forces self.layout windows h f (M.now m.old) (M.now m.new)) }
 
         // The disk tells all changes then.
-        ensures done { OnOk result (M.honest m.new → IsCalm (M.now m.old).windows → (v : Mounted) (windows : List WeakRun) (h : List Change) (f : ℕ) →
+        ensures done { OnOk result (M.honest m.new → (v : Mounted) (windows : List WeakRun) (h : List Change) (f : ℕ) →
             EndIn (M.now m.old).windows windows → IsMounted self v windows h f (M.now m.old).image →
             IsSound self.layout windows h (length h) (M.now m.new).image) }
     {

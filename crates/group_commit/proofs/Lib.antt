@@ -8,3 +8,4 @@ pub mod StampLaws
 pub mod StampedPages
 pub mod StandsLaws
 pub mod WaitLaws
+pub mod ForceLaws

@@ -1,3 +1,4 @@
 pub mod Force
 pub mod Newest
 pub mod Resident
+pub mod Forces

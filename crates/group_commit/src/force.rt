@@ -29,7 +29,6 @@ pub struct Group;
 
 ghost use Rattle.std.specs.Prelude.{◌≡◌, ◌<◌, ◌≤◌, ◌^◌, ◌-◌, ◌+◌, ◌*◌, ℕ, List, [], length, IsTrue, IfOk, IfErr, OnOk, OnErr};
 ghost use Rattle.sector_disk.specs.declared.sector.WeakRun.{WeakRun};
-ghost use Rattle.sector_disk.specs.Image.{IsCalm};
 ghost use Rattle.sector_disk.specs.Machine.{DeviceFault, UsesDisk, Trusts, OnlyWrites, LeavesOnly, wrote};
 ghost use Rattle.fsd_formats.specs.Record.{are_pages};
 ghost use Rattle.fsd_log.specs.Scan.{Placed, HasRoom};
@@ -65,15 +64,15 @@ fn write_pages<M: Machine>(
     ensures past { OnOk result (log.new ≡ log_with log.old dirty.now) }
     ensures kept { OnErr result (log.new ≡ log.old) }
     ensures any_moment { (windows : List WeakRun) (records : List Placed) (disk : List (List ℕ)) →
-        M.honest m.new → IsCalm (M.now m.old).windows → EndIn (M.now m.old).windows windows →
+        M.honest m.new → EndIn (M.now m.old).windows windows →
         StandsOver log.old records disk (record { pages = pages.old; dirty = dirty.now }) windows (M.now m.old).image →
         LeavesOnly M.moment M.left_since m.old m.new (Commits log.old.layout windows disk (stamped (stamp_now log.old) dirty.now pages.old) (M.now m.old)) }
     ensures done { OnOk result ((windows : List WeakRun) (records : List Placed) (disk : List (List ℕ)) →
-        M.honest m.new → IsCalm (M.now m.old).windows → EndIn (M.now m.old).windows windows →
+        M.honest m.new → EndIn (M.now m.old).windows windows →
         StandsOver log.old records disk (record { pages = pages.old; dirty = dirty.now }) windows (M.now m.old).image →
         Committed log.new (record { pages = pages.new; dirty = [] }) windows (M.now m.new).image) }
     ensures knows { OnOk result ((windows : List WeakRun) (records : List Placed) (disk : List (List ℕ)) →
-        M.honest m.new → IsCalm (M.now m.old).windows →
+        M.honest m.new → EndIn (M.now m.old).windows windows →
         StandsOver log.old records disk (record { pages = pages.old; dirty = dirty.now }) windows (M.now m.old).image →
         KnowsImages log.old (M.now m.old).image → KnowsImages log.new (M.now m.new).image) }
 {
@@ -116,19 +115,19 @@ impl Group {
 
         // At each moment the disk shows the pages as they were or as they are now.
         ensures any_moment { (windows : List WeakRun) (records : List Placed) (disk : List (List ℕ)) →
-            M.honest m.new → IsCalm (M.now m.old).windows → EndIn (M.now m.old).windows windows →
+            M.honest m.new → EndIn (M.now m.old).windows windows →
             StandsOver log.old records disk pages.old windows (M.now m.old).image →
             LeavesOnly M.moment M.left_since m.old m.new (Commits log.old.layout windows disk (stamped_by log.old pages.old) (M.now m.old)) }
 
         // At the end it shows them as they are now.
         ensures done { OnOk result ((windows : List WeakRun) (records : List Placed) (disk : List (List ℕ)) →
-            M.honest m.new → IsCalm (M.now m.old).windows → EndIn (M.now m.old).windows windows →
+            M.honest m.new → EndIn (M.now m.old).windows windows →
             StandsOver log.old records disk pages.old windows (M.now m.old).image →
             Committed log.new pages.new windows (M.now m.new).image) }
 
         // And the log knows where each page's last image lies, as it did before.
         ensures knows { OnOk result ((windows : List WeakRun) (records : List Placed) (disk : List (List ℕ)) →
-            M.honest m.new → IsCalm (M.now m.old).windows →
+            M.honest m.new → EndIn (M.now m.old).windows windows →
             StandsOver log.old records disk pages.old windows (M.now m.old).image →
             KnowsImages log.old (M.now m.old).image → KnowsImages log.new (M.now m.new).image) }
     {

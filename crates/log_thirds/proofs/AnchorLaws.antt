@@ -1,23 +1,12 @@
 -- Anchors that are read.
-use Rattle.std.proofs.Common.{◌≡◌, ℕ, ◌≤◌, true, ◌&&◌, List, Option, Some, None, nat_le, sym, ap, ◌∙◌, subst}
+use Rattle.std.proofs.Common.{◌≡◌, ℕ, ◌≤◌, true, List, Option, Some, None, sym, ap, ◌∙◌, subst}
 use Rattle.std.specs.Prelude.{IfSome, if◌then◌else◌, Bool, false}
-use Rattle.std.proofs.lemmas.Bool.{and_parts, leb-true}
-use Rattle.fsd_bytes.specs.Bytes.{same_bytes, u8_at, u32_at}
-use Rattle.fsd_bytes.proofs.SameLaws.{given_if}
 use Rattle.fsd_formats.specs.declared.anchor.Anchor.{Anchor}
-use Rattle.fsd_formats.specs.Anchors.{is_anchor, anchor_bytes, read_anchor}
+use Rattle.fsd_formats.specs.Anchors.{read_anchor}
 use Rattle.sector_disk.specs.Machine.{Moment}
 use Rattle.fsd_log.specs.Scan.{anchor_in, is_newer, newer_of}
 use Rattle.log_thirds.specs.Reading.{ReadWorn, SeesCopy}
-
-read_third : (bytes : List ℕ) (a : Anchor) → read_anchor bytes ≡ Some a → a.third ≤ 2
-read_third bytes a is =
-    let read : Anchor = record { epoch = u32_at 4 bytes; third = u8_at 8 bytes; first = u32_at 12 bytes } in
-    let given = given_if (is_anchor read && same_bytes (anchor_bytes read) bytes) read a is in
-    let outer = and_parts (is_anchor read) (same_bytes (anchor_bytes read) bytes) given.0 in
-    let inner = and_parts (nat_le 1 read.epoch && nat_le read.third 2) (nat_le 1 read.first) outer.0 in
-    let le : read.third ≤ 2 = leb-true read.third 2 (and_parts (nat_le 1 read.epoch) (nat_le read.third 2) inner.0).1 in
-    subst (λ (x : Anchor). x.third ≤ 2) given.1 le
+use Rattle.fsd_log.proofs.AnchorLaws.{read_third}
 
 pub third_read : (bytes : List ℕ) (o : Option Anchor) → o ≡ read_anchor bytes → IfSome o (λ a. a.third ≤ 2)
 third_read bytes None is = tt

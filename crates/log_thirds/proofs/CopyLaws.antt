@@ -11,7 +11,7 @@ use Rattle.fsd_log.specs.Judged.{Reader, Serving, passes, serving, page_copies, 
 use Rattle.fsd_log.specs.Laid.{slices_from, slices}
 use Rattle.fsd_log.specs.Scan.{Placed}
 use Rattle.fsd_log.proofs.HereLaws.{not_below}
-use Rattle.fsd_log.proofs.JudgedLaws.{is_judged, mapped_some, if_some, serving_with}
+use Rattle.fsd_log.proofs.JudgedLaws.{length-copies, is_judged, if_some, serving_with}
 use Rattle.fsd_log.proofs.LaidLaws.{slice_within, slice_behind, slice_all}
 use Rattle.log_thirds.specs.Copies.{served_at, AreServed, Copies, AreCopies, AreCopiesOf, AreLastCopies}
 
@@ -105,14 +105,8 @@ module _ (whole : List Bool) (bytes : List ℕ) where
           (elim (is_judged p stamp (length whole) (read_of whole bytes) s is).by [ inl by ↦ end_serving false by.good | inr by ↦ end_serving true by.1.good ]) in
           record { long = are.long; end = at ∙ sym (same_is (end_bytes stamp (length s.pages)) _ ends.1) }
 
-length_flags : (stamp : Stamp) (at : Reader) (k c : ℕ) (pages : List ℕ) (cs : List Bool) → page_copies stamp at k c pages ≡ Some cs → length cs ≡ length pages
-length_flags stamp at k c [] cs e = let none : cs ≡ [] = cc e in ap length none
-length_flags stamp at k c (page ∷ pages) cs e =
-    let made = mapped_some (serving (bears page stamp) (at k) (at c)) (page_copies stamp at (k + 1) (c + 1) pages) (λ x more. x ∷ more) cs e in
-    ap length (sym made.3) ∙ ap suc (length_flags stamp at (k + 1) (c + 1) pages made.1 made.2)
-
 pub length_copies : (p : ℕ) (stamp : Stamp) (room : ℕ) (at : Reader) (s : Serving) → judged p stamp room at ≡ Some s → length s.page_copy ≡ length s.pages
-length_copies p stamp room at s is = length_flags stamp at 3 (4 + length s.pages) s.pages s.page_copy (is_judged p stamp room at s is).copies
+length_copies p stamp room at s is = length-copies stamp at 3 (4 + length s.pages) s.pages s.page_copy (is_judged p stamp room at s is).copies
 
 -- ---- a record more
 

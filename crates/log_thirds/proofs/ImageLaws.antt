@@ -13,11 +13,10 @@ use Rattle.fsd_log.specs.Scan.{IsEnd, IsIn, Head, Placed, start, scan, place_of,
 use Rattle.fsd_log.proofs.JudgedLaws.{is_judged, record_room}
 use Rattle.fsd_log.proofs.PlainLaws.{images_same}
 use Rattle.log_thirds.specs.declared.slots.Slot.{Slot}
-use Rattle.sector_disk.specs.declared.sector.Sector.{Sector}
-use Rattle.sector_disk.specs.declared.sector.Sector.TheVariants.{Whole, Damaged}
+use Rattle.sector_disk.specs.declared.sector.Sector.TheVariants.{Whole}
 use Rattle.sector_disk.specs.Image.{sector_at}
 use Rattle.sector_disk.specs.Machine.{Moment}
-use Rattle.log_thirds.specs.Disk.{bytes_in, reads}
+use Rattle.log_thirds.specs.Disk.{reads}
 use Rattle.log_thirds.specs.LogValue.{LogValue}
 use Rattle.log_thirds.specs.Append.{IsCalm, IsIndexed, scan_of}
 use Rattle.log_thirds.specs.Images.{GivesSlot, LiesAt, SeesSlot, StandsAt, best_copy}
@@ -27,6 +26,7 @@ use Rattle.fsd_log.proofs.HereLaws.{here_some}
 use Rattle.fsd_log.proofs.PlaceLaws.{InThird, place_add, end_most}
 use Rattle.fsd_log.proofs.WalkLaws.{IsFound, Goes, found_goes_on, goes_of_walk}
 use Rattle.log_thirds.proofs.ScanLaws.{found_number}
+use Rattle.log_thirds.proofs.SeenLaws.{whole_of}
 
 -- ---- in one record
 
@@ -241,12 +241,8 @@ given_is test first copy image is = elim (one_of_two (option_or (either_copy tes
   ]
 ]
 
-whole_there : (s : Sector) (bytes : List ℕ) → bytes_in s ≡ Some bytes → s ≡ Whole bytes
-whole_there (Whole b) bytes is = let same : b ≡ bytes = cc is in ap (λ (x : List ℕ). Whole x) same
-whole_there Damaged bytes is = absurd (cc is)
-
 read_there : (old : Moment) (place : ℕ) (o : Option (List ℕ)) (bytes : List ℕ) → ReadWorn old place o → o ≡ Some bytes → sector_at old.image place ≡ Whole bytes
-read_there old place o bytes (inl read) is = whole_there (sector_at old.image place) bytes (sym read ∙ is)
+read_there old place o bytes (inl read) is = whole_of (sector_at old.image place) bytes (sym read ∙ is)
 read_there old place o bytes (inr hurt) is = absurd (none_some bytes (sym hurt.1 ∙ is))
   where
     none_some : (x : List ℕ) → None ≡ Some x → ⊥

@@ -1,35 +1,23 @@
 -- A record that is written behind the last one, on a machine whose sectors don't wear.
-use Rattle.std.proofs.Common.{◌≡◌, ℕ, suc, ◌+◌, ◌-◌, ◌*◌, ◌^◌, ◌<◌, ◌≤◌, Bool, true, false, List, [], ◌∷◌, ◌++◌, length, get_or, nat_le, refl, sym, subst, arith, inl, inr}
-use Rattle.std.specs.Prelude.{◌&&◌, nat_lt}
-use Rattle.std.specs.List.{AllByRecursion, list_all}
-use Rattle.std.proofs.lemmas.Bool.{cond-true, cond-false, le-leb, leb-true, cases_lt, and_parts}
-use Rattle.sector_disk.specs.Image.{stand, open_damage}
-use Rattle.sector_disk.specs.Machine.{Moment, Holds}
-use Rattle.sector_disk.proofs.Wear.{worn_outside}
+use Rattle.std.proofs.Common.{◌≡◌, ℕ, suc, ◌+◌, ◌-◌, ◌*◌, ◌^◌, ◌<◌, ◌≤◌, Bool, true, false, List, [], ◌∷◌, length, get_or, nat_le, refl, sym, subst, arith, inl, inr}
+use Rattle.std.specs.List.{AllByRecursion}
+use Rattle.std.proofs.lemmas.Bool.{cond-true, cond-false, le-leb, leb-true, cases_lt}
 use Rattle.volume_layout.specs.Shape.{Shape}
-use Rattle.fsd_bytes.specs.Names.{is_between}
-use Rattle.fsd_formats.specs.Record.{are_pages, ascending, AreStamped, record_len}
+use Rattle.fsd_formats.specs.Record.{are_pages, AreStamped, record_len}
 use Rattle.fsd_log.specs.Laid.{laid_bytes, slices}
 use Rattle.fsd_log.proofs.LaidLaws.{IsLaidAs, laid_as}
 use Rattle.fsd_log.proofs.TornLaws.{ArePages}
-use Rattle.fsd_log.specs.Scan.{Head, Placed, IsIn, HasRoom, spot_for, place_of, tape}
-use Rattle.log_thirds.specs.Disk.{reads}
+use Rattle.fsd_log.specs.Scan.{Head, IsIn, HasRoom, spot_for, place_of}
 use Rattle.log_thirds.specs.LogValue.{LogValue}
-use Rattle.log_thirds.specs.Append.{StandsInPart, IsCalm, stamp_now, next_record, log_past, IsLogIn, Appends}
+use Rattle.log_thirds.specs.Append.{stamp_now}
 use Rattle.fsd_log.proofs.WalkLaws.{next_end}
-use Rattle.fsd_log.proofs.AppendLaws.{IsSpot, TapeTorn, scan_before, scan_behind, fresh_after}
+use Rattle.fsd_log.proofs.AppendLaws.{IsSpot}
 use Rattle.fsd_log.proofs.PlaceLaws.{InThird, place_inside}
-use Rattle.log_thirds.proofs.TapeLaws.{torn_tape}
+use Rattle.fsd_log.proofs.TornLaws.{are_few}
 
 pub all_small : (xs : List ℕ) → ((i : ℕ) → get_or xs i 0 < 2 ^ 32) → AllByRecursion (λ n. n < 2 ^ 32) xs
 all_small [] each = tt
 all_small (x ∷ xs) each = (each 0, all_small xs (λ i. each (suc i)))
-
-pub are_few : (p : ℕ) (pages : List ℕ) → are_pages p pages ≡ true → length pages ≤ 96
-are_few p pages are =
-    let outer = and_parts (is_between 1 96 (length pages) && ascending pages) (list_all (λ page. nat_lt page p) pages) are in
-    let inner = and_parts (is_between 1 96 (length pages)) (ascending pages) outer.0 in
-    leb-true (length pages) 96 (and_parts (nat_le 1 (length pages)) (nat_le (length pages) 96) inner.0).1
 
 not_at_most : (a b : ℕ) → b < a → nat_le a b ≡ false
 not_at_most a b lt = by_test (nat_le a b) refl
@@ -87,33 +75,3 @@ module _ (log : LogValue) (pages images : List ℕ) (long : ℕ) (may : MayAppen
 
   pub are : ArePages log.layout.pages pages
   are = record { accepted = may.accepted; small = may.small; few = few }
-
-  module _ (old left : Moment) (same_long : length old.image ≡ long) (calm : IsCalm old) (records : List Placed) (is_log : IsLogIn log records old) where
-    torn_at : (stood : ℕ) → stood ≤ record_len (length pages) → Holds old (stand old.image (place_of log.layout log.anchor.third (spot_for log.layout (length pages) log.head).at) (laid_bytes (stamp_now log) pages images) stood) left
-        → TapeTorn (laid_bytes (stamp_now log) pages images) (spot_for log.layout (length pages) log.head).at stood (tape log.layout log.anchor.third (reads old.image)) (tape log.layout log.anchor.third (reads left.image))
-    torn_at stood within holds =
-        torn_tape log.layout log.anchor.third (spot_for log.layout (length pages) log.head).at (record_len (length pages)) (spot_for log.layout (length pages) log.head).end in_third old.image left.image (laid_bytes (stamp_now log) pages images) stood within
-        (omega (arith, write_inside, may.sized))
-        (λ s. worn_outside (open_damage old.windows) _ left.image s holds.worn (calm s))
-
-    pub appends_at : StandsInPart (place_of log.layout log.anchor.third (spot_for log.layout (length pages) log.head).at) (laid_bytes (stamp_now log) pages images) (record_len (length pages)) old left → Appends log records pages images old left
-    appends_at part =
-        let torn = torn_at part.stood part.within part.holds in
-        record {
-          part = part;
-          absent = λ before. scan_before log.layout log.anchor.epoch log.anchor.first may.epoch (omega (arith, may.least)) (tape log.layout log.anchor.third (reads old.image)) (tape log.layout log.anchor.third (reads left.image)) records log.head is_log may.number
-              pages images (laid_bytes (stamp_now log) pages images) are laid (spot_for log.layout (length pages) log.head) spots.0 part.stood part.within torn before;
-          there = λ past. scan_behind log.layout log.anchor.epoch log.anchor.first may.epoch (omega (arith, may.least)) (tape log.layout log.anchor.third (reads old.image)) (tape log.layout log.anchor.third (reads left.image)) records log.head is_log may.number
-              pages images (laid_bytes (stamp_now log) pages images) are laid (spot_for log.layout (length pages) log.head) spots.0 part.stood part.within torn past;
-        }
-
-    pub appended_at : Holds old (stand old.image (place_of log.layout log.anchor.third (spot_for log.layout (length pages) log.head).at) (laid_bytes (stamp_now log) pages images) (record_len (length pages))) left
-        → IsLogIn (log_past log (length pages)) (records ++ next_record log pages images ∷ []) left
-    appended_at holds =
-        let torn = torn_at (record_len (length pages)) (omega arith) holds in
-        record {
-          scanned = scan_behind log.layout log.anchor.epoch log.anchor.first may.epoch (omega (arith, may.least)) (tape log.layout log.anchor.third (reads old.image)) (tape log.layout log.anchor.third (reads left.image)) records log.head is_log may.number
-              pages images (laid_bytes (stamp_now log) pages images) are laid (spot_for log.layout (length pages) log.head) spots.0 (record_len (length pages)) (omega arith) torn (omega arith);
-          fresh = λ w m from. fresh_after log.layout log.anchor.epoch log.anchor.first may.epoch (omega (arith, may.least)) (tape log.layout log.anchor.third (reads old.image)) (tape log.layout log.anchor.third (reads left.image)) records log.head is_log may.number
-              pages images (laid_bytes (stamp_now log) pages images) are laid (spot_for log.layout (length pages) log.head) spots.0 (record_len (length pages)) (omega arith) torn w m from;
-        }

@@ -4,15 +4,16 @@ use Rattle.std.specs.Prelude.{IsTrue, if◌then◌else◌}
 use Rattle.std.proofs.lemmas.Bool.{cases_lt}
 use Rattle.std.proofs.lemmas.List.{length-append, get_or_append_left}
 use Rattle.std.proofs.Math.Seq.{get_or-append_seam}
-use Rattle.sector_disk.specs.Image.{IsWorn, Windows, open_damage}
+use Rattle.sector_disk.specs.declared.sector.Sector.TheVariants.{Damaged}
+use Rattle.sector_disk.specs.Image.{sector_at, IsWorn, Windows, open_damage}
 use Rattle.sector_disk.specs.Machine.{Report, Moment, Wears, UsesDisk, LeavesOnly}
 use Rattle.sector_disk.proofs.Moments.{then_on, leaves_more}
-use Rattle.sector_disk.proofs.Wear.{worn_refl, worn_trans}
+use Rattle.sector_disk.proofs.Wear.{worn_refl, worn_trans, worn_damaged}
 use Rattle.fsd_log.specs.Judged.{slice_of}
 use Rattle.log_record.specs.Found.{read_of}
 use Rattle.fsd_log.proofs.LaidLaws.{slice_within, slice_behind, slice_all}
 use Rattle.log_thirds.specs.Disk.{bytes_in}
-use Rattle.log_thirds.specs.Reading.{ReadCause, ReadInto, ReadWorn, ReadRun}
+use Rattle.log_thirds.specs.Reading.{ReadCause, ReadInto, ReadWorn, Sees, ReadRun, LosesRun}
 use Rattle.log_thirds.specs.declared.reading.ReadFault.{ReadFault}
 use Rattle.log_thirds.specs.declared.reading.ReadFault.TheVariants.{Device, Memory}
 
@@ -46,9 +47,9 @@ module _ (whole whole1 : List Bool) (bytes bytes1 : List ℕ) (shows : Option (L
       let slice : slice_of (bytes ++ into.sector) k ≡ into.sector = slice_behind bytes into.sector k 0 k long (omega arith) ∙ slice_all into.sector into.long in
       (λ i. if get_or (into.noted i) k false then Some (slice_of (into.taken i) k) else None) ∙ (λ i. if flag i then Some (slice i) else None)
 
-pub run_more : (honest honest1 : Type 0) (old mid : Moment) (place k : ℕ) (whole whole1 : List Bool) (bytes bytes1 : List ℕ) → (honest1 → honest) → (honest1 → Wears old mid)
-    → ReadRun honest old place k whole bytes → ReadInto whole whole1 bytes bytes1 (λ o. honest1 → ReadWorn mid (place + k) o) → ReadRun honest1 old place (k + 1) whole1 bytes1
-run_more honest honest1 old mid place k whole whole1 bytes bytes1 back wears run into = record {
+pub run_more : (honest honest1 : Type 0) (old mid new : Moment) (place k : ℕ) (whole whole1 : List Bool) (bytes bytes1 : List ℕ) → (honest1 → honest) → (honest1 → Wears old mid)
+    → ReadRun honest old place k whole bytes → ReadInto whole whole1 bytes bytes1 (λ o. honest1 → Sees mid new (place + k) o) → ReadRun honest1 old place (k + 1) whole1 bytes1
+run_more honest honest1 old mid new place k whole whole1 bytes bytes1 back wears run into = record {
   many = ap length into.noted ∙ omega (arith, run.many, length-append whole (into.flag ∷ []));
   long = ap length into.taken ∙ omega (arith, run.long, into.long, length-append bytes into.sector);
   shown = λ h j lt. elim (cases_lt j k) [
@@ -56,9 +57,25 @@ run_more honest honest1 old mid place k whole whole1 bytes bytes1 back wears run
     | inr from ↦
         let at : k ≡ j = omega arith in
         subst (λ (n : ℕ). ReadWorn old (place + n) (read_of whole1 bytes1 n)) at
-        (subst (ReadWorn old (place + k)) (sym (read_last whole whole1 bytes bytes1 _ into k run.many run.long)) (read_back old mid (place + k) _ (wears h) (into.shown h)))
+        (subst (ReadWorn old (place + k)) (sym (read_last whole whole1 bytes bytes1 _ into k run.many run.long)) (read_back old mid (place + k) _ (wears h) (into.shown h).0))
   ];
 }
+
+-- and where nothing is read, the sector is damaged at the end
+pub run_loses : (honest honest1 : Type 0) (mid new : Moment) (place k : ℕ) (whole whole1 : List Bool) (bytes bytes1 : List ℕ) → (honest1 → honest) → (honest1 → Wears mid new) → length whole ≡ k → length bytes ≡ 512 * k
+    → LosesRun honest mid place k whole bytes → ReadInto whole whole1 bytes bytes1 (λ o. honest1 → Sees mid new (place + k) o) → LosesRun honest1 new place (k + 1) whole1 bytes1
+run_loses honest honest1 mid new place k whole whole1 bytes bytes1 back wears many long run into = record {
+  hurt = λ h j lt none. elim (cases_lt j k) [
+    | inl below ↦ worn_damaged (open_damage mid.windows) mid.image new.image (place + j) (wears h).image (run.hurt (back h) j below (sym (read_before whole whole1 bytes bytes1 _ into k many long j below) ∙ none))
+    | inr from ↦
+        let at : k ≡ j = omega arith in
+        subst (λ (n : ℕ). sector_at new.image (place + n) ≡ Damaged) at
+        ((into.shown h).1 (sym (read_last whole whole1 bytes bytes1 _ into k many long) ∙ ap (read_of whole1 bytes1) at ∙ none))
+  ];
+}
+
+pub loses_none : (honest : Type 0) (new : Moment) (place : ℕ) → LosesRun honest new place 0 [] []
+loses_none honest new place = record { hurt = λ h k lt. absurd (omega arith) }
 
 pub run_none : (honest : Type 0) (old : Moment) (place : ℕ) → ReadRun honest old place 0 [] []
 run_none honest old place = record { many = refl; long = refl; shown = λ h k lt. absurd (omega arith) }

@@ -204,15 +204,3 @@ tape_around l first next disk is = record {
     | inr past ↦ inl (cond-false (nat_lt w (3 * l.third)) (disk (place_of l next w)) None (not_below w (3 * l.third) past))
   ];
 }
-
--- ---- a new epoch
-
-pub empty_log : (l : Shape) (epoch first : ℕ) (fits : epoch < 2 ^ 32) (small : first < 2 ^ 32) (disk : Reader) → ((w m : ℕ) → Foreign (stamp_of epoch m) (disk w)) → IsLog l epoch first disk [] (start l first)
-unfolding scan
-empty_log l epoch first fits small disk foreign =
-    let none : (at end : ℕ) → record_here l epoch disk first at end ≡ None = λ at end. here_none l epoch disk first at end (foreign_absent l.pages (stamp_of epoch first) (record { epoch = fits; number = small }) (room_at at end) (window disk at (room_at at end))
-    (window_foreign (stamp_of epoch first) disk at (room_at at end) (λ k inside. foreign (at + k) first))) in
-    record {
-      scanned = walk_of_goes (3 * l.third) l epoch disk (start l first) [] (start l first) (record { before = omega arith; from = omega arith; ends = inl refl }) (omega arith) refl (none_next l epoch disk (start l first) (none 0 l.third) (none l.third (l.third + l.third)));
-      fresh = λ w m from. foreign w m;
-    }

@@ -1,16 +1,14 @@
 -- A record that is written behind the last one, on a machine whose weak run wears.
-use Rattle.std.proofs.Common.{◌≡◌, ℕ, ◌+◌, ◌-◌, ◌*◌, ◌<◌, ◌≤◌, Bool, true, List, [], ◌∷◌, ◌++◌, length, None, nat_le, nat_lt, refl, sym, ap, subst, ◌∙◌, arith, inl, inr, ◌⊎◌, ⊎_elim}
-use Rattle.std.specs.Prelude.{IsTrue, ◌&&◌}
-use Rattle.std.specs.List.{list_all}
-use Rattle.std.proofs.lemmas.Bool.{cond-true, cond-false, lt-ltb, leb-true, cases_lt, and_parts}
+use Rattle.std.proofs.Common.{◌≡◌, ℕ, ◌+◌, ◌-◌, ◌*◌, ◌<◌, ◌≤◌, Bool, List, [], ◌∷◌, ◌++◌, length, None, nat_lt, refl, sym, ap, subst, ◌∙◌, arith, inl, inr, ◌⊎◌, ⊎_elim}
+use Rattle.std.specs.Prelude.{IsTrue}
+use Rattle.std.proofs.lemmas.Bool.{cond-true, cond-false, lt-ltb, cases_lt}
 use Rattle.sector_disk.specs.declared.sector.Sector.{Sector}
 use Rattle.sector_disk.specs.declared.sector.Sector.TheVariants.{Damaged}
 use Rattle.sector_disk.specs.Image.{IsWorn, Windows, sector_at, lay, stand, open_damage}
 use Rattle.sector_disk.specs.Machine.{Moment, Holds}
 use Rattle.sector_disk.proofs.Wear.{length-lay, lay_in, lay_other, length-stand, stand_in, stand_other, worn_trans}
 use Rattle.volume_layout.specs.Shape.{Shape}
-use Rattle.fsd_bytes.specs.Names.{is_between}
-use Rattle.fsd_formats.specs.Record.{are_pages, ascending, record_len}
+use Rattle.fsd_formats.specs.Record.{record_len}
 use Rattle.fsd_log.specs.Judged.{Reader}
 use Rattle.fsd_log.specs.Laid.{laid_bytes}
 use Rattle.fsd_log.specs.Scan.{Head, Placed, IsLog, spot_for, place_of, tape}
@@ -21,6 +19,7 @@ use Rattle.fsd_log.proofs.PlaceLaws.{InThird, place_add, place_cases, below_numb
 use Rattle.fsd_log.proofs.HereLaws.{not_below}
 use Rattle.log_thirds.proofs.MomentLaws.{MayAppend, write_inside, laid, are, spots, in_third}
 use Rattle.log_thirds.proofs.WornAppendLaws.{TapeWorn, worn_before, worn_either, worn_whole_there, fresh_after}
+use Rattle.fsd_log.proofs.TornLaws.{are_some}
 
 -- the image that is left, with the old sectors where the write stands
 module _ (may : ℕ → Bool) (old left : List Sector) (place : ℕ) (bytes : List ℕ) (stood : ℕ) (room : place + stood ≤ length old) (worn : IsWorn may (stand old place bytes stood) left) where
@@ -84,12 +83,6 @@ module _ (l : Shape) (first at n end : ℕ) (is : InThird l first at n end) (may
     above = λ w ge. other w (λ inside. above_numbers l.third (first * l.third) at stood (place_of l first at) w (place_of l first w) ge inside (place_cases l first at) (place_cases l first w));
   }
 
-pub some_pages : (p : ℕ) (pages : List ℕ) → are_pages p pages ≡ true → 1 ≤ length pages
-some_pages p pages are =
-    let outer = and_parts (is_between 1 96 (length pages) && ascending pages) (list_all (λ page. nat_lt page p) pages) are in
-    let inner = and_parts (is_between 1 96 (length pages)) (ascending pages) outer.0 in
-    leb-true 1 (length pages) (and_parts (nat_le 1 (length pages)) (nat_le (length pages) 96) inner.0).0
-
 -- ---- on a machine
 
 module _ (log : LogValue) (pages images : List ℕ) (long : ℕ) (may : MayAppend log pages images long) (old : Moment) (same_long : length old.image ≡ long) (records : List Placed) (is_log : IsLogWorn log records old) where
@@ -132,7 +125,7 @@ module _ (log : LogValue) (pages images : List ℕ) (long : ℕ) (may : MayAppen
           let pa : place_of log.layout log.anchor.third ((spot_for log.layout (length pages) log.head).at + k) ≡ place + k = place_add log.layout log.anchor.third (spot_for log.layout (length pages) log.head).at (record_len (length pages)) (spot_for log.layout (length pages) log.head).end k (in_third log pages images long may) (omega arith) in
           let pb : place_of log.layout log.anchor.third ((spot_for log.layout (length pages) log.head).at + (k + d)) ≡ (place + k) + d = place_add log.layout log.anchor.third (spot_for log.layout (length pages) log.head).at (record_len (length pages)) (spot_for log.layout (length pages) log.head).end (k + d) (in_third log pages images long may) lt ∙ omega arith in
           narrow (place + k) d (subst (λ (s : ℕ). IsTrue (open_damage old.windows s)) pa a) (subst (λ (s : ℕ). IsTrue (open_damage old.windows s)) pb b) apart)
-          (some_pages log.layout.pages pages may.accepted);
+          (are_some log.layout.pages pages may.accepted);
       fresh = λ w m from. fresh_after log.layout log.anchor.epoch log.anchor.first may.epoch (omega (arith, may.least)) (tape log.layout log.anchor.third (reads below)) (tape log.layout log.anchor.third (reads left)) records log.head log_below may.number
           pages images (laid_bytes (stamp_now log) pages images) (are log pages images long may) (laid log pages images long may) (spot_for log.layout (length pages) log.head) (spots log pages images long may).0 (λ w. open_damage old.windows (place_of log.layout log.anchor.third w)) stood within torn w m from;
     }

@@ -62,12 +62,6 @@ FitsTwo log = HasRoom log.layout 96 log.head × HasRoom log.layout 96 (head_past
 abbrev pub scan_of : LogValue → Moment → Walked
 scan_of log at = scan log.layout log.anchor.epoch (tape log.layout log.anchor.third (reads at.image)) log.anchor.first
 
--- Some first sectors of the record stand. Up to its end the scan is the old one, and from its end on the one with the record.
-pub record Appends (log : LogValue) (records : List Placed) (pages images : List ℕ) (old left : Moment) : Type 0 where
-  pub part : StandsInPart (place_of log.layout log.anchor.third (spot_for log.layout (length pages) log.head).at) (laid_bytes (stamp_now log) pages images) (record_len (length pages)) old left
-  pub absent : part.stood ≤ 3 + length pages → scan_of log left ≡ record { records = records; head = log.head }
-  pub there : 3 + length pages < part.stood → scan_of log left ≡ record { records = records ++ next_record log pages images ∷ []; head = head_past log (length pages) }
-
 -- the log stands so at a moment
 abbrev pub IsLogIn : LogValue → List Placed → Moment → Type 0
 IsLogIn log records at = IsLog log.layout log.anchor.epoch log.anchor.first (tape log.layout log.anchor.third (reads at.image)) records log.head

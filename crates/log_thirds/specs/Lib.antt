@@ -7,3 +7,4 @@ pub mod LogValue
 pub mod Moves
 pub mod Reading
 pub mod Slots
+pub mod Seen

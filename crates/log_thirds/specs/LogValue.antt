@@ -33,3 +33,4 @@ pub record FitsLayout (log : LogValue) : Type 0 where
   pub third : log.anchor.third ≤ 2
   pub is_in : IsIn log.layout log.head
   pub epoch : log.anchor.epoch < 2 ^ 32
+  pub pages : log.layout.pages < 2 ^ 32

@@ -1,6 +1,7 @@
 -- Reading sectors one after another, while the disk wears.
 use Rattle.std.specs.Prelude.{◌≡◌, ◌⊎◌, ◌<◌, ◌≤◌, ℕ, ◌+◌, ◌-◌, ◌*◌, ◌^◌, Bool, List, [], ◌∷◌, ◌++◌, length, Option, Some, None, IsTrue, if◌then◌else◌}
-use Rattle.sector_disk.specs.Image.{open_damage}
+use Rattle.sector_disk.specs.declared.sector.Sector.TheVariants.{Damaged}
+use Rattle.sector_disk.specs.Image.{sector_at, open_damage}
 use Rattle.sector_disk.specs.Machine.{Report, Moment, DeviceFault}
 use Rattle.volume_layout.specs.Shape.{Shape}
 use Rattle.log_record.specs.Found.{read_of}
@@ -45,6 +46,14 @@ pub record ReadInto (whole whole1 : List Bool) (bytes bytes1 : List ℕ) (shows 
 -- what is read of a sector: what stood there, or nothing where it may have worn
 abbrev pub ReadWorn : Moment → ℕ → Option (List ℕ) → Type 0
 ReadWorn old place o = (o ≡ reads old.image place) ⊎ (IsTrue (open_damage old.windows place) × (o ≡ None))
+
+-- what is read of a sector, at a moment up to the new one: where it is nothing, the sector is damaged then
+abbrev pub Sees : (old new : Moment) → ℕ → Option (List ℕ) → Type 0
+Sees old new place o = ReadWorn old place o × (o ≡ None → sector_at new.image place ≡ Damaged)
+
+-- where nothing is read of a sector, it is damaged at the end
+pub record LosesRun (honest : Type 0) (new : Moment) (place count : ℕ) (whole : List Bool) (bytes : List ℕ) : Type 0 where
+  pub hurt : honest → (k : ℕ) → k < count → read_of whole bytes k ≡ None → sector_at new.image (place + k) ≡ Damaged
 
 -- so many sectors are read from a place on
 pub record ReadRun (honest : Type 0) (old : Moment) (place count : ℕ) (whole : List Bool) (bytes : List ℕ) : Type 0 where

@@ -1,6 +1,8 @@
 //! Which anchor the disk gives.
-ghost use Rattle.std.specs.Prelude.{◌≡◌, ◌<◌, ◌≤◌, Some, None, IfSome, IfErr, IfOk, OnOk, OnErr};
-ghost use Rattle.sector_disk.specs.Image.{stand};
+ghost use Rattle.std.specs.Prelude.{◌≡◌, ◌<◌, ◌≤◌, List, Some, None, IfSome, IfErr, IfOk, OnOk, OnErr};
+ghost use Rattle.sector_disk.specs.declared.sector.Sector.{Sector};
+ghost use Rattle.sector_disk.specs.Image.{stand, IsWorn, open_damage};
+ghost use Rattle.log_thirds.specs.Seen.{AnchorsOn, ReadsAnchor};
 ghost use Rattle.sector_disk.specs.Machine.{Moment, DeviceFault, UsesDisk, Trusts, Wears, LeavesOnly, Holds, OnlyWrites, wrote};
 ghost use Rattle.fsd_formats.specs.Anchors.{anchor_bytes};
 ghost use Rattle.fsd_log.specs.Scan.{is_newer, newer_of};
@@ -42,6 +44,7 @@ fn read_copy<M: Machine>(m: &mut M, place: u32) -> Result<Option<Anchor>, ReadFa
     ensures any_moment { M.honest m.new → LeavesOnly M.moment M.left_since m.old m.new (Wears (M.now m.old)) }
     ensures third { IfOk result (λ o. IfSome o (λ a. a.third ≤ 2)) }
     ensures sees { IfOk result (λ o. M.honest m.new → SeesCopy (M.now m.old) place o) }
+    ensures seen { IfOk result (λ o. M.honest m.new → ReadsAnchor (M.now m.old) (M.now m.new) place o) }
 {
     match read_sector(m, place) {
         Ok(Some(sector)) => Ok(read_anchor(&sector)),
@@ -61,6 +64,7 @@ pub(crate) fn find_anchor<M: Machine>(m: &mut M) -> Result<Option<Anchor>, ReadF
     ensures any_moment { M.honest m.new → LeavesOnly M.moment M.left_since m.old m.new (Wears (M.now m.old)) }
     ensures third { IfOk result (λ o. IfSome o (λ a. a.third ≤ 2)) }
     ensures sees { IfOk result (λ o. M.honest m.new → SeesAnchor (M.now m.old) o) }
+    ensures seen { IfOk result (λ o. (j : List Sector) → M.honest m.new → IsWorn (open_damage (M.now m.old).windows) j (M.now m.old).image → AnchorsOn (open_damage (M.now m.old).windows) j (M.now m.new).image o) }
 {
     let first = read_copy(m, 8)?;
     let copy = read_copy(m, 12)?;

@@ -1,10 +1,12 @@
 //! Looking for the next record.
-ghost use Rattle.std.specs.Prelude.{◌≡◌, ◌≤◌, ◌<◌, ◌↔◌, ◌+◌, ◌-◌, ◌*◌, min, ℕ, length, IfErr, IfOk, IfSome, OnOk, IsTrue, option_map};
+ghost use Rattle.std.specs.Prelude.{◌≡◌, ◌≤◌, ◌<◌, ◌↔◌, ◌+◌, ◌-◌, ◌*◌, min, ℕ, List, length, IfErr, IfOk, IfSome, OnOk, IsTrue, option_map};
 ghost use Rattle.sector_disk.specs.Machine.{Moment, UsesDisk, Trusts, Wears, LeavesOnly};
 ghost use Rattle.fsd_log.specs.Scan.{Head, HasRoom, IsIn, IsEnd, place_of, tape, room_at, last_number, record_here, entered, next};
 ghost use Rattle.log_thirds.specs.Copies.{AreCopies};
 ghost use Rattle.log_thirds.specs.Disk.{reads};
-ghost use Rattle.log_thirds.specs.Append.{IsCalm};
+ghost use Rattle.log_thirds.specs.Seen.{SeesOn};
+ghost use Rattle.sector_disk.specs.declared.sector.Sector.{Sector};
+ghost use Rattle.sector_disk.specs.Image.{IsWorn, open_damage};
 ghost use Rattle.log_thirds.specs.Reading.{ReadCause, StepsOn, taken_in, stepped_in, stepped_of};
 
 use crate::copies::copies_in;
@@ -98,8 +100,9 @@ fn find<M: Machine>(
     ensures counted { IfOk result (λ o. IfSome o (λ t. t.found.n ≡ length t.found.pages.items)) }
     ensures numbered { IfOk result (λ o. IfSome o (λ _. number < last_number)) }
     ensures copied { IfOk result (λ o. IfSome o (λ t. AreCopies (record { epoch = anchor.now.epoch; number = number }) (length t.found.pages.items) t.copies.items)) }
-    ensures found { IfOk result (λ o. M.honest m.new → IsCalm (M.now m.old)
-        → option_map (taken_in number) o ≡ (record_here layout.now anchor.now.epoch (tape layout.now anchor.now.third (reads (M.now m.old).image)) number at end)) }
+    ensures seen { IfOk result (λ o. (j : List Sector) → M.honest m.new → IsWorn (open_damage (M.now m.old).windows) j (M.now m.old).image
+        → SeesOn layout.now anchor.now.third at (open_damage (M.now m.old).windows) j (M.now m.new).image
+        (λ i. option_map (taken_in number) o ≡ (record_here layout.now anchor.now.epoch (tape layout.now anchor.now.third (reads i)) number at end))) }
 {
     if number == LAST_NUMBER {
         return Ok(None);
@@ -149,9 +152,10 @@ fn enter<M: Machine>(
     ensures goes { IfOk result (λ o. IfSome o (StepsOn layout.now at)) }
     ensures numbered { IfOk result (λ o. IfSome o (λ _. number < last_number)) }
     ensures copied { IfOk result (λ o. IfSome o (λ s. AreCopies (record { epoch = anchor.now.epoch; number = number }) (length s.taken.found.pages.items) s.taken.copies.items)) }
-    ensures found { IfOk result (λ o. M.honest m.new → IsCalm (M.now m.old)
-        → option_map (stepped_in number) o ≡ option_map stepped_of
-        (entered layout.now anchor.now.epoch (tape layout.now anchor.now.third (reads (M.now m.old).image)) (record { number = number; at = at; end = end }))) }
+    ensures seen { IfOk result (λ o. (j : List Sector) → M.honest m.new → IsWorn (open_damage (M.now m.old).windows) j (M.now m.old).image
+        → SeesOn layout.now anchor.now.third end (open_damage (M.now m.old).windows) j (M.now m.new).image
+        (λ i. option_map (stepped_in number) o ≡ option_map stepped_of
+        (entered layout.now anchor.now.epoch (tape layout.now anchor.now.third (reads i)) (record { number = number; at = at; end = end })))) }
 {
     let third = layout.third();
     if at == 0 || end >= 3 * third {
@@ -195,9 +199,10 @@ pub(crate) fn next<M: Machine>(
     ensures goes { IfOk result (λ o. IfSome o (StepsOn layout.now at)) }
     ensures numbered { IfOk result (λ o. IfSome o (λ _. number < last_number)) }
     ensures copied { IfOk result (λ o. IfSome o (λ s. AreCopies (record { epoch = anchor.now.epoch; number = number }) (length s.taken.found.pages.items) s.taken.copies.items)) }
-    ensures found { IfOk result (λ o. M.honest m.new → IsCalm (M.now m.old)
-        → option_map (stepped_in number) o ≡ option_map stepped_of
-        (next layout.now anchor.now.epoch (tape layout.now anchor.now.third (reads (M.now m.old).image)) (record { number = number; at = at; end = end }))) }
+    ensures seen { IfOk result (λ o. (j : List Sector) → M.honest m.new → IsWorn (open_damage (M.now m.old).windows) j (M.now m.old).image
+        → SeesOn layout.now anchor.now.third at (open_damage (M.now m.old).windows) j (M.now m.new).image
+        (λ i. option_map (stepped_in number) o ≡ option_map stepped_of
+        (next layout.now anchor.now.epoch (tape layout.now anchor.now.third (reads i)) (record { number = number; at = at; end = end })))) }
 {
     match find(alloc, m, layout, anchor, number, at, end) {
         Ok(Some(taken)) => Ok(Some(Step {

@@ -59,7 +59,9 @@ impl Model for Log {
 impl Log {
     ghost use Rattle.std.specs.Prelude.{◌≡◌, ◌≤◌, ◌<◌, ◌+◌, ◌-◌, ◌*◌, ◌^◌, ◌↔◌, ◌++◌, ◌∷◌, [], List, ℕ, length, Some, None, Ok, Err, true, false, if◌then◌else◌, slice_index_or, IsTrue, IfErr, IfOk, IfSome, IfNone, OnOk, OnErr};
     ghost use Rattle.sector_disk.specs.Damage.{IsDevice, LostCause};
-    ghost use Rattle.sector_disk.specs.Image.{stand};
+    ghost use Rattle.sector_disk.specs.declared.sector.Sector.{Sector};
+    ghost use Rattle.sector_disk.specs.Image.{stand, IsWorn, open_damage};
+    ghost use Rattle.log_thirds.specs.Seen.{ScansOn, LogOn};
     ghost use Rattle.sector_disk.specs.Machine.{DeviceFault, UsesDisk, Trusts, LeavesOnly, Holds, Wears, OnlyWrites, wrote};
     ghost use Rattle.fsd_formats.specs.Record.{are_pages, AreStamped};
     ghost use Rattle.fsd_log.specs.Laid.{laid_bytes, slices};
@@ -68,7 +70,7 @@ impl Log {
     ghost use Rattle.log_thirds.specs.Images.{ImageCause, AreLogged, StandsAt, GivesLast};
     ghost use Rattle.fsd_log.specs.Images.{last_image};
     ghost use Rattle.log_thirds.specs.Copies.{copies_count, IsLast};
-    ghost use Rattle.log_thirds.specs.Append.{IsCalm, IsLogIn, Appends, IsNarrow, IsLogWorn, AppendsWorn, stamp_now, next_record, log_with, scan_of, GoesAt, FitsTwo, IsIndexed, KnowsLast, StandsInPart, IsLeastOfThird, NoneOfThird};
+    ghost use Rattle.log_thirds.specs.Append.{IsCalm, IsNarrow, IsLogWorn, AppendsWorn, stamp_now, next_record, log_with, scan_of, GoesAt, FitsTwo, IsIndexed, KnowsLast, StandsInPart, IsLeastOfThird, NoneOfThird};
     ghost use Rattle.log_thirds.specs.Anchoring.{AnchorsIn, with_anchors, next_epoch, in_next_epoch};
     ghost use Rattle.log_thirds.specs.Reading.{ReadCause, LogCause, SeesAnchor, SeesLastEpoch};
 
@@ -89,9 +91,7 @@ impl Log {
         ensures any_moment { M.honest m.new → LeavesOnly M.moment M.left_since m.old m.new (Wears (M.now m.old)) }
         ensures layout { IfOk result (λ log. log.layout ≡ layout.now) }
         ensures anchor { IfOk result (λ log. log.anchor ≡ anchor.now) }
-        ensures found { IfOk result (λ log. M.honest m.new → IsCalm (M.now m.old) → (scan_of log (M.now m.old)).head ≡ log.head) }
-        ensures indexed { IfOk result (λ log. M.honest m.new → IsCalm (M.now m.old) → IsIndexed log (scan_of log (M.now m.old)).records) }
-        ensures last { IfOk result (λ log. M.honest m.new → IsCalm (M.now m.old) → KnowsLast log (scan_of log (M.now m.old)).records) }
+        ensures seen { IfOk result (λ log. (j : List Sector) → M.honest m.new → IsWorn (open_damage (M.now m.old).windows) j (M.now m.old).image → ScansOn log (open_damage (M.now m.old).windows) j (M.now m.new).image) }
     {
         let third = layout.third();
         let _sectors = layout.sectors();
@@ -161,9 +161,7 @@ impl Log {
         ensures layout { IfOk result (λ log. log.layout ≡ layout.now) }
         ensures anchor { IfOk result (λ log. M.honest m.new → SeesAnchor (M.now m.old) (Some log.anchor)) }
         ensures epoch { IfOk result (λ log. log.anchor.epoch < 2 ^ 32 - 1) }
-        ensures found { IfOk result (λ log. M.honest m.new → IsCalm (M.now m.old) → (scan_of log (M.now m.old)).head ≡ log.head) }
-        ensures indexed { IfOk result (λ log. M.honest m.new → IsCalm (M.now m.old) → IsIndexed log (scan_of log (M.now m.old)).records) }
-        ensures last { IfOk result (λ log. M.honest m.new → IsCalm (M.now m.old) → KnowsLast log (scan_of log (M.now m.old)).records) }
+        ensures seen { IfOk result (λ log. (j : List Sector) → M.honest m.new → IsWorn (open_damage (M.now m.old).windows) j (M.now m.old).image → LogOn log (open_damage (M.now m.old).windows) j (M.now m.new).image) }
     {
         let _sectors = layout.sectors();
         let anchor = match find_anchor(m) {
@@ -363,10 +361,6 @@ impl Log {
         ensures counted_err { OnErr result (M.tells m.new → M.ledger m.new ≡ M.ledger m.old) }
         ensures quiet { M.honest m.new → (M.now m.new).said ≡ (M.now m.old).said }
         ensures windows { M.honest m.new → (M.now m.new).windows ≡ (M.now m.old).windows }
-        ensures any_moment { (records : List Placed) → M.honest m.new → IsCalm (M.now m.old) → IsLogIn self.old records (M.now m.old)
-            → LeavesOnly M.moment M.left_since m.old m.new (Appends self.old records pages.now images.now (M.now m.old)) }
-        ensures done { OnOk result ((records : List Placed) → M.honest m.new → IsCalm (M.now m.old) → IsLogIn self.old records (M.now m.old)
-            → IsLogIn self.new (records ++ next_record self.old pages.now images.now ∷ []) (M.now m.new)) }
         ensures worn_moment { (records : List Placed) → M.honest m.new → IsLogWorn self.old records (M.now m.old)
             → LeavesOnly M.moment M.left_since m.old m.new (AppendsWorn self.old records pages.now images.now (M.now m.old)) }
         ensures worn_done { OnOk result ((records : List Placed) → M.honest m.new → IsNarrow (M.now m.old) → IsLogWorn self.old records (M.now m.old)

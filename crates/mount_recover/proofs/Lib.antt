@@ -1,20 +1,12 @@
-mod AnchorFacts
-mod AroundLaws
-mod BeginLaws
-mod CalmShows
+mod AgainLaws
+mod BeginningLaws
+mod CalmLaws
 mod CompletingLaws
-mod CompletingScan
-mod EpochLaws
-mod HomedLaws
-mod FindingLaws
+mod FaultLaws
 mod GivenLaws
-pub mod HomeLaws
-mod HomingLaws
-mod HomingSteps
+mod KeepsLaws
+mod MendingLaws
 mod MountLaws
-mod KeptLaws
+mod SeenLaws
+mod SlotLaws
 pub mod LostLaws
-mod RecordFacts
-mod ReplayLaws
-mod StageLaws
-mod WritingLaws

@@ -1,141 +1,297 @@
--- The calls of a mount, one after another, where nothing wears.
-use Rattle.std.proofs.Common.{◌≡◌, ⊎_elim, inl, inr, ℕ, ◌≤◌, List, Option, Some, None, refl, sym, ap, subst, ◌∙◌, arith}
-use Rattle.std.specs.Prelude.{IfSome, Result, Ok, Err, IfErr, IsErrAnd}
+-- The calls of a mount, one after another.
+use Rattle.std.proofs.Common.{◌≡◌, inl, inr, ⊎_elim, ℕ, ◌+◌, ◌*◌, ◌<◌, ◌≤◌, Bool, true, false, ◌||◌, List, [], ◌∷◌, ◌++◌, length, Option, Some, None, Ok, refl, sym, ap, subst, ◌∙◌, arith}
+use Rattle.std.specs.Prelude.{IsTrue, IsSome, option_and_then, nat_le}
+use Rattle.std.specs.List.{AllByRecursion}
+use Rattle.std.proofs.lemmas.Bool.{cond-true, le-leb, and_parts}
 use Rattle.volume_layout.specs.declared.layout.Layout.{Layout}
-use Rattle.volume_layout.specs.Layout.{home_a, home_b, map_start}
+use Rattle.volume_layout.specs.Layout.{plan, map_start}
+use Rattle.volume_layout.specs.Root.{root_bytes, read_root}
+use Rattle.volume_layout.proofs.RootLaws.{planned_root_is_read}
 use Rattle.fsd_formats.specs.declared.anchor.Anchor.{Anchor}
-use Rattle.fsd_formats.specs.Anchors.{anchor_bytes}
+use Rattle.fsd_formats.specs.Record.{record_len, end_bytes}
+use Rattle.sector_disk.specs.declared.sector.Sector.{Sector}
+use Rattle.sector_disk.specs.declared.sector.Sector.TheVariants.{Whole, Damaged}
 use Rattle.sector_disk.specs.declared.sector.WeakRun.{WeakRun}
-use Rattle.sector_disk.specs.Image.{Windows, IsEmpty, IsCalm, sector_at, with_sector, settled}
+use Rattle.sector_disk.specs.Image.{Windows, sector_at, IsWorn, IsCalm, AreShort, open_damage, settled, in_run, weak as in_window}
 use Rattle.sector_disk.specs.Machine.{Moment, Wears}
-use Rattle.sector_disk.proofs.Calm.{calm_wears}
-use Rattle.fsd_files.specs.Disk.{Image, bytes_of, either_copy}
-use Rattle.fsd_sound.specs.Anchors.{anchor_of, fresh_anchor}
-use Rattle.fsd_sound.specs.Homes.{home_of}
-use Rattle.fsd_sound.specs.Sound.{EndIn, ShowsPages}
+use Rattle.sector_disk.proofs.Calm.{calm_worn}
+use Rattle.sector_disk.proofs.Damage.{lost_as}
+use Rattle.sector_disk.proofs.Wear.{worn_trans}
+use Rattle.fsd_log.specs.Scan.{Placed, place_of}
+use Rattle.fsd_log.proofs.PlaceLaws.{place_inside, place_from}
+use Rattle.fsd_files.specs.Disk.{Image, Sectors, SectorWorn, bytes_of, either_copy}
+use Rattle.fsd_sound.specs.Anchors.{anchor_of}
+use Rattle.fsd_sound.specs.Laid.{AllStand}
+use Rattle.fsd_sound.specs.Roots.{counted_root, root_at, root_of}
+use Rattle.fsd_sound.specs.Shown.{records_by, shown_by}
+use Rattle.fsd_sound.specs.Sound.{EndIn, ShowsOne, ShowsPages, weak_of}
+use Rattle.fsd_sound.proofs.LogPlaces.{IsRecord, scan_records}
+use Rattle.fsd_sound.proofs.SoundLaws.{shows_still}
+use Rattle.fsd_sound.proofs.WindowLaws.{open_is_weak}
+use Rattle.log_thirds.specs.Images.{LiesAt}
 use Rattle.log_thirds.specs.LogValue.{LogValue}
+use Rattle.log_thirds.specs.Slots.{AreSlots, LieInRecord, slot_of}
+use Rattle.log_thirds.proofs.ImageLaws.{logged_by}
+use Rattle.fsd_sound.specs.Windows.{IsNarrow, IsApart}
 use Rattle.mount_recover.specs.declared.fault.MountFault.{MountFault}
 use Rattle.mount_recover.specs.declared.fault.MountFault.TheVariants.{NotVolume, Device, Memory, Lost, NoAnchor, Unsound, WornOut}
-use Rattle.mount_recover.specs.Recover.{with_anchors, ShowsVolume, LosesNothing}
-use Rattle.mount_recover.specs.Replay.{SameBehind, Replays, IsHealed}
-use Rattle.mount_recover.specs.Finding.{NotFoundFor, IsExcuse}
-use Rattle.mount_recover.specs.Replaying.{StandAsShown, IsLogOf}
-use Rattle.mount_recover.proofs.HomedLaws.{with_other}
+use Rattle.mount_recover.specs.Finding.{IsFound, NotFoundFor, IsNotFound, FindCause, IsExcuse}
+use Rattle.mount_recover.specs.Lost.{AreOfLog, AreHomes, AreLoggedOn, AreHomesOn, AreCopiesOn, HasRoot, LostIn}
+use Rattle.mount_recover.specs.Mending.{MendCause, AreOfAll, KeepsData, Keeps, IsSeen, Completed, Stays, Settled, Begins}
+use Rattle.mount_recover.specs.Recover.{last_epoch, IsRefusedFor, ShowsVolume}
+use Rattle.mount_recover.specs.Replay.{HasLastCopies, KeepsMap, IsCompletedFrom, Replays}
+use Rattle.fsd_sound.proofs.WindowLaws.{short_apart}
+use Rattle.mount_recover.proofs.CompletingLaws.{last_by, low_third}
+use Rattle.mount_recover.proofs.KeepsLaws.{sector_on}
+use Rattle.mount_recover.proofs.MendingLaws.{stays_show}
+use Rattle.fsd_log.proofs.RobustLaws.{length_more}
+use Rattle.fsd_files.proofs.KeptLaws.{has_on}
 
--- ---- what is found
+-- ---- the root of an image that shows pages
 
--- the machine once the volume is found
-pub record Reached (l : Layout) (windows : List WeakRun) (choices : List (List (List ℕ))) (old one : Moment) (log : LogValue) : Type 0 where
-  pub as_old : one ≡ old
-  pub layout : log.layout ≡ l
-  pub calm : IsCalm one.windows
-  pub ends : EndIn one.windows windows
-  pub shows : ShowsPages log.layout windows choices one.image
-  pub log_of : IsLogOf log one.image
+root_stands : (l : Layout) (sectors : ℕ) (i : Image) (s : ℕ) → plan l.sectors l.third l.pages ≡ Ok l → l.sectors ≤ sectors → sector_at i s ≡ Whole (root_bytes l) → root_at sectors i s ≡ Some l
+root_stands l sectors i s planned room stands =
+    ap (λ (x : Sector). option_and_then (counted_root sectors) (option_and_then read_root (bytes_of x))) stands
+    ∙ ap (option_and_then (counted_root sectors)) (planned_root_is_read l planned)
+    ∙ cond-true (nat_le l.sectors sectors) (Some l) None (le-leb l.sectors sectors room)
 
-module _ (sectors : ℕ) (l : Layout) (windows : List WeakRun) (choices : List (List (List ℕ))) (old : Moment) (start : ShowsVolume sectors l windows choices old) where
-  pub replays_still : Replays l windows choices old old
-  replays_still = record { stage = inl (record { present = refl; shows = start.shows }); behind = λ s from. refl; said = refl }
+root_shown : (l : Layout) (sectors : ℕ) (windows : List WeakRun) (choices : List (List (List ℕ))) (i : Image) → plan l.sectors l.third l.pages ≡ Ok l → l.sectors ≤ sectors → ShowsPages l windows choices i → root_of sectors i ≡ Some l
+root_shown l sectors windows choices i planned room shows = by_sector (sector_at i 0) refl
+  where
+    by_sector : (s : Sector) → sector_at i 0 ≡ s → root_of sectors i ≡ Some l
+    by_sector Damaged is =
+        let none : root_at sectors i 0 ≡ None = ap (λ (x : Sector). option_and_then (counted_root sectors) (option_and_then read_root (bytes_of x))) is in
+        let second : sector_at i 4 ≡ Whole (root_bytes l) = ⊎_elim (λ first. absurd (cc (first, is))) (λ there. there) shows.readable.roots.some in
+        ap (λ (r : Option Layout). either_copy r (root_at sectors i 4)) none ∙ root_stands l sectors i 4 planned room second
+    by_sector (Whole bytes) is =
+        let stands : sector_at i 0 ≡ Whole (root_bytes l) = is ∙ ap (λ (b : List ℕ). Whole b) (shows.readable.roots.first bytes is) in
+        ap (λ (r : Option Layout). either_copy r (root_at sectors i 4)) (root_stands l sectors i 0 planned room stands)
 
-  pub replays_wears : (left : Moment) → Wears old left → Replays l windows choices old left
-  replays_wears left worn = subst (Replays l windows choices old) (sym (calm_wears old left start.calm worn)) replays_still
+some_same : (x y : Layout) → Some x ≡ Some y → x ≡ y
+some_same x y e = cc
 
-  pub reached : (one : Moment) (log : LogValue) (found : Layout) → Wears old one → found ≡ l → log.layout ≡ found → IsLogOf log old.image → Reached l windows choices old one log
-  reached one log found worn same layout log_of =
-      let as_old : one ≡ old = calm_wears old one start.calm worn in
+-- ---- the last record's copies stay
+
+all_on : (l : Layout) (a : Anchor) (weak : Sectors) (i j : Image) (s : ℕ) (xs : List (List ℕ)) → ((p : ℕ) → s ≤ p → p < s + length xs → SectorWorn (weak p) (sector_at i p) (sector_at j p)) → AllStand l a weak i s xs → AllStand l a weak j s xs
+all_on l a weak i j s [] on all = tt
+all_on l a weak i j s (x ∷ xs) on all = (
+  has_on weak i j x s (on s (omega arith) (omega arith)) all.0,
+  all_on l a weak i j (s + 1) xs (λ p from to. on p (omega (arith, from)) (omega (arith, to))) all.1,
+)
+
+last_on : (l : Layout) (a : Anchor) (weak : Sectors) (records : List Placed) (i j : Image) → AllByRecursion (IsRecord l a.third) records → ((s : ℕ) → 16 ≤ s → s < 16 + 3 * l.third → SectorWorn (weak s) (sector_at i s) (sector_at j s))
+    → HasLastCopies l a weak records i → HasLastCopies l a weak records j
+last_on l a weak records i j are on last front r is =
+    let at = last_by (IsRecord l a.third) front r (subst (AllByRecursion (IsRecord l a.third)) is are) in
+    let inside = place_inside l a.third r.at (record_len (length r.entry.pages)) at.end at.inside (omega arith) in
+    all_on l a weak i j (place_of l a.third r.at + (4 + length r.entry.pages)) (r.entry.images ++ end_bytes (record { epoch = a.epoch; number = r.entry.number }) (length r.entry.pages) ∷ []) (λ p from to. on p (omega (arith, from, place_from l a.third r.at)) (omega (arith, to, inside, at.images, length_more r.entry.images (end_bytes (record { epoch = a.epoch; number = r.entry.number }) (length r.entry.pages))))) (last front r is)
+
+-- ---- from an image that shows pages
+
+module _ (sectors : ℕ) (l : Layout) (windows : List WeakRun) (choices : List (List (List ℕ))) (old : Moment) (start : ShowsVolume sectors l windows choices old) (short : AreShort old.windows) where
+  apart : IsApart (weak_of windows)
+  apart = short_apart old.windows windows short start.ends
+
+  narrow : IsNarrow (weak_of windows)
+  narrow s t far a b = apart s t (omega (arith, far)) a b
+
+  weaker : (i j : Image) → IsWorn (open_damage old.windows) i j → IsWorn (weak_of windows) i j
+  weaker i j w = open_is_weak old.windows windows i j start.ends w
+
+  shows_worn : (j : Image) → IsWorn (open_damage old.windows) old.image j → ShowsPages l windows choices j
+  shows_worn j w = shows_still l windows narrow choices old.image j (weaker old.image j w) start.shows
+
+  pub wears_replays : (left : Moment) → Wears old left → Replays l windows choices old left
+  wears_replays left wears =
+      let worn = weaker old.image left.image wears.image in
       record {
-        as_old = as_old;
-        layout = layout ∙ same;
-        calm = subst (λ (m : Moment). IsCalm m.windows) (sym as_old) start.calm;
-        ends = subst (λ (m : Moment). EndIn m.windows windows) (sym as_old) start.ends;
-        shows = subst (λ (m : Moment). ShowsPages log.layout windows choices m.image) (sym as_old) (subst (λ (k : Layout). ShowsPages k windows choices old.image) (sym (layout ∙ same)) start.shows);
-        log_of = subst (λ (m : Moment). IsLogOf log m.image) (sym as_old) log_of;
+        stage = inl (record { present = ap (λ (w : Windows). w.present) wears.windows; shows = shows_worn left.image wears.image });
+        order = inl (λ s from. worn.each s);
+        behind = λ s from. worn.each s;
+        said = wears.said;
       }
 
-module _ (l : Layout) (windows : List WeakRun) (choices : List (List (List ℕ))) (old one : Moment) (log : LogValue) (r : Reached l windows choices old one log) where
-  pub replays_from : (left : Moment) → Replays log.layout windows choices one left → Replays l windows choices old left
-  replays_from left now = subst (λ (m : Moment). Replays l windows choices m left) r.as_old (subst (λ (k : Layout). Replays k windows choices one left) r.layout now)
+  pub not_found_excused : (fault : MountFault) → IsNotFound sectors fault old → IsExcuse fault
+  not_found_excused fault refused = by_fault fault refused.why
+    where
+      shows : ShowsPages l windows choices refused.seen
+      shows = shows_worn refused.seen refused.from
 
-  -- ---- what is healed
+      by_fault : (f : MountFault) → NotFoundFor sectors refused.seen f → IsExcuse f
+      by_fault NotVolume none = let some : root_of sectors refused.seen ≡ Some l = root_shown l sectors windows choices refused.seen start.planned start.fits shows in absurd (cc (some, none))
+      by_fault NoAnchor none =
+          subst (λ (o : Option Anchor). ShowsOne choices (option_and_then (shown_by l refused.seen) o)) none.1 (start.shows.shows refused.seen (weaker old.image refused.seen refused.from))
+      by_fault WornOut why = tt
+      by_fault (Device s) why = tt
+      by_fault Memory why = tt
+      by_fault (Lost a b) why = why
+      by_fault (Unsound s) why = why
 
-  module _ (two : Moment) (present : two.windows.present ≡ one.windows.present) where
-    pub healed_two : IsHealed log.layout windows choices log.anchor two → IsHealed l windows choices log.anchor two
-    healed_two healed = subst (λ (k : Layout). IsHealed k windows choices log.anchor two) r.layout healed
+  module _ (one : Moment) (wears : Wears old one) (found : Layout) (log : LogValue) (is : IsFound sectors found log old one) where
+    pub found_same : found ≡ l
+    found_same = some_same found l (sym is.root ∙ root_shown l sectors windows choices is.seen start.planned start.fits (shows_worn is.seen is.from))
 
-    -- a moment of the new epoch's beginning is one of the mount
-    pub replays_on : Replays l windows choices old two → (left : Moment) → Replays l windows choices two left → Replays l windows choices old left
-    replays_on through left now = record {
-      stage = ⊎_elim (λ before. inl (record { present = before.present ∙ present ∙ ap (λ (m : Moment). m.windows.present) r.as_old; shows = before.shows })) (λ after. inr after) now.stage;
-      behind = λ s from. now.behind s from ∙ through.behind s from;
-      said = now.said ∙ through.said;
+  -- the log that was found, of the layout that is shown
+  module _ (one : Moment) (wears : Wears old one) (log : LogValue) (is : IsFound sectors l log old one) where
+    pub is_seen : IsSeen l windows choices log one
+    is_seen = record {
+      image = is.seen;
+      apart = apart;
+      ends = subst (λ (w : Windows). EndIn w windows) (sym wears.windows) start.ends;
+      worn = subst (λ (w : Windows). IsWorn (open_damage w) is.seen one.image) (sym wears.windows) is.to;
+      shows = shows_worn is.seen is.from;
+      knows = is.knows;
     }
+
+    first_worn : (s : ℕ) → SectorWorn (weak_of windows s) (sector_at old.image s) (sector_at one.image s)
+    first_worn s = (weaker old.image one.image wears.image).each s
+
+    from_one : (s : ℕ) (x : Sector) → SectorWorn (weak_of windows s) (sector_at one.image s) x → SectorWorn (weak_of windows s) (sector_at old.image s) x
+    from_one s x later = sector_on (weak_of windows s) (sector_at old.image s) (sector_at one.image s) x (first_worn s) later
+
+    pub replays_from : (left : Moment) → Replays l windows choices one left → Replays l windows choices old left
+    replays_from left now = record {
+      stage = ⊎_elim (λ before. inl (record { present = before.present ∙ ap (λ (w : Windows). w.present) wears.windows; shows = before.shows })) (λ after. inr after) now.stage;
+      order = ⊎_elim (λ kept. inl (λ s from. from_one s (sector_at left.image s) (kept s from)))
+          (λ done. inr (record { seen = done.seen; worn = worn_trans (weak_of windows) old.image one.image done.seen (weaker old.image one.image wears.image) done.worn; anchor = done.anchor; taken = done.taken; last = done.last })) now.order;
+      behind = λ s from. from_one s (sector_at left.image s) (now.behind s from);
+      said = now.said ∙ wears.said;
+    }
+
+    -- ---- once the last record is completed
+
+    seen_is : is_seen.image ≡ is.seen
+    unfolding is_seen
+    seen_is = refl
+
+    module _ (two : Moment) (done : Completed l windows choices log one is_seen two) where
+      in_order : (left : Moment) → ((s : ℕ) → 16 ≤ s → s < 16 + 3 * l.third → SectorWorn (weak_of windows s) (sector_at two.image s) (sector_at left.image s)) → IsCompletedFrom l (weak_of windows) old.image left.image
+      in_order left on = record {
+        seen = is.seen;
+        worn = weaker old.image is.seen is.from;
+        anchor = log.anchor;
+        taken = is.knows.taken;
+        last = last_on l log.anchor (weak_of windows) (records_by l is.seen log.anchor) two.image left.image (scan_records l is.seen log.anchor (low_third l is.seen log.anchor is.knows.taken)) on
+            (subst (λ (i : Image). HasLastCopies l log.anchor (weak_of windows) (records_by l i log.anchor) two.image) seen_is done.last);
+      }
+
+      data_two : (left : Moment) → ((s : ℕ) → map_start l ≤ s → SectorWorn (weak_of windows s) (sector_at two.image s) (sector_at left.image s)) → (s : ℕ) → map_start l ≤ s → SectorWorn (weak_of windows s) (sector_at old.image s) (sector_at left.image s)
+      data_two left on s from = from_one s (sector_at left.image s) (sector_on (weak_of windows s) (sector_at one.image s) (sector_at two.image s) (sector_at left.image s) (done.kept s (omega (arith, from))) (on s from))
+
+      pub stays_replays : (left : Moment) → Stays l windows choices two left → Replays l windows choices old left
+      stays_replays left at =
+          let worn : IsWorn (weak_of windows) at.image left.image = open_is_weak two.windows windows at.image left.image done.is.ends at.holds.worn in
+          record {
+            stage = inl (record {
+              present = ap (λ (w : Windows). w.present) at.holds.windows ∙ done.present ∙ ap (λ (w : Windows). w.present) wears.windows;
+              shows = stays_show l windows choices log two done.is left at;
+            });
+            order = inr (in_order left (λ s from inside. sector_on (weak_of windows s) (sector_at two.image s) (sector_at at.image s) (sector_at left.image s) (inl (at.log s from inside)) (worn.each s)));
+            behind = data_two left (λ s from. sector_on (weak_of windows s) (sector_at two.image s) (sector_at at.image s) (sector_at left.image s) (inl (at.behind s from)) (worn.each s));
+            said = at.holds.said ∙ done.said ∙ wears.said;
+          }
+
+      settled_replays : (left : Moment) → Settled l windows choices two left → Replays l windows choices old left
+      settled_replays left at = record { stage = inr at.after; order = inr (in_order left at.log); behind = data_two left at.behind; said = at.said ∙ done.said ∙ wears.said }
+
+      pub begins_replays : (left : Moment) → Begins l windows choices two left → Replays l windows choices old left
+      begins_replays left (inl at) = stays_replays left at
+      begins_replays left (inr at) = settled_replays left at
+
+-- ---- what is lost
+
+-- what is refused before the log is read is not lost
+pub none_found : (AreCopies : ℕ → ℕ → Type 0) (image : Image) (old new : Rattle.sector_disk.specs.Machine.Report) (fault : MountFault) → FindCause old new fault → LostIn AreCopies image fault
+none_found AreCopies image old new NotVolume cause = tt
+none_found AreCopies image old new (Device s) cause = tt
+none_found AreCopies image old new Memory cause = tt
+none_found AreCopies image old new (Lost a b) cause = absurd cause
+none_found AreCopies image old new NoAnchor cause = tt
+none_found AreCopies image old new (Unsound s) cause = tt
+none_found AreCopies image old new WornOut cause = tt
+
+module _ (sectors : ℕ) (l : Layout) (log : LogValue) (old one : Moment) (same : log.layout ≡ l) (root : HasRoot sectors old.image l) (is : IsFound sectors l log old one) where
+  as_old : IsCalm old.windows → is.seen ≡ old.image
+  as_old calm = calm_worn old.windows old.image is.seen calm is.from
+
+  logged_on : (a b : ℕ) → AreOfLog log a b → AreLoggedOn sectors old a b
+  logged_on a b of = record {
+    layout = l;
+    root = root;
+    in_record = subst (λ (k : Layout). LieInRecord k a b) same of.logged.in_record;
+    calm = λ calm. record {
+      layout = l;
+      anchor = log.anchor;
+      found = record { root = ap (root_of sectors) (sym (as_old calm)) ∙ is.root; anchor = ap anchor_of (sym (as_old calm)) ∙ is.knows.taken };
+      page = of.page;
+      within = subst (λ (k : Layout). of.page < k.pages) same of.within;
+      lies = subst (λ (i : Image). LiesAt (slot_of l log.anchor.third of.page (records_by l i log.anchor)) a b) (as_old calm)
+          (subst (λ (k : Layout). LiesAt (slot_of k log.anchor.third of.page (records_by l is.seen log.anchor)) a b) same
+          (logged_by log (records_by l is.seen log.anchor) of.page a b (subst (λ (k : Layout). AreSlots k log.anchor.third (records_by l is.seen log.anchor) log.slots) (sym same) is.knows.slots) of.logged.lies));
+    };
+  }
+
+  homes_on : (a b : ℕ) → AreHomes l a b → AreHomesOn sectors old a b
+  homes_on a b homes = record { layout = l; root = root; homes = homes; calm = λ calm. ap (root_of sectors) (sym (as_old calm)) ∙ is.root }
+
+  twins_on : (a b : ℕ) → AreOfAll l log a b → AreCopiesOn sectors old a b
+  twins_on a b (inl (inl of)) = inl (logged_on a b of)
+  twins_on a b (inl (inr homes)) = inr (inl (homes_on a b homes))
+  twins_on a b (inr roots) = inr (inr roots)
+
+  pub lost_on : (image : Image) (fault : MountFault) → LostIn (AreOfAll l log) image fault → LostIn (AreCopiesOn sectors old) image fault
+  lost_on image (Lost a b) lost = lost_as (AreOfAll l log) a b (AreCopiesOn sectors old) image (twins_on a b) lost
+  lost_on image NotVolume lost = tt
+  lost_on image (Device s) lost = tt
+  lost_on image Memory lost = tt
+  lost_on image NoAnchor lost = tt
+  lost_on image (Unsound s) lost = tt
+  lost_on image WornOut lost = tt
+
+-- ---- why it is refused
+
+pub mend_refused : (sectors : ℕ) (l : Layout) (log : LogValue) (old one : Moment) (a b : Rattle.sector_disk.specs.Machine.Report) → log.anchor.epoch < last_epoch → IsFound sectors l log old one → (fault : MountFault) → MendCause a b fault → IsRefusedFor sectors fault old
+mend_refused sectors l log old one a b fits is (Lost x y) cause = record { seen = is.seen; from = is.from; why = record { layout = l; anchor = log.anchor; found = record { root = is.root; anchor = is.knows.taken }; epoch = fits } }
+mend_refused sectors l log old one a b fits is (Device s) cause = record { seen = is.seen; from = is.from; why = tt }
+mend_refused sectors l log old one a b fits is Memory cause = record { seen = is.seen; from = is.from; why = tt }
+mend_refused sectors l log old one a b fits is NotVolume cause = absurd cause
+mend_refused sectors l log old one a b fits is NoAnchor cause = absurd cause
+mend_refused sectors l log old one a b fits is (Unsound s) cause = absurd cause
+mend_refused sectors l log old one a b fits is WornOut cause = absurd cause
 
 -- ---- the map and the data
 
-pub stays_behind : (l k : Layout) (epoch : ℕ) (old one two new : Moment) → one ≡ old → k ≡ l → SameBehind k one.image two.image → new.image ≡ with_anchors epoch two.image → SameBehind l old.image new.image
-stays_behind l k epoch old one two new as_old same kept renewed s from =
-    ap (λ (i : Image). sector_at i s) renewed
-    ∙ with_other (with_sector two.image 8 (anchor_bytes (fresh_anchor epoch))) 12 s (anchor_bytes (fresh_anchor epoch)) (λ e. omega arith)
-    ∙ with_other two.image 8 s (anchor_bytes (fresh_anchor epoch)) (λ e. omega arith)
-    ∙ kept s (subst (λ (x : Layout). map_start x ≤ s) (sym same) from)
-    ∙ ap (λ (m : Moment). sector_at m.image s) as_old
+or_first : (a b : Bool) → IsTrue a → IsTrue (a || b)
+or_first true b e = refl
+or_first false b e = absurd (cc e)
 
--- ---- the next run
+or_second : (a b : Bool) → IsTrue b → IsTrue (a || b)
+or_second true b e = refl
+or_second false b e = e
 
--- the windows are calm once a run is named, where that is empty
-pub calm_on : (one two : Moment) → IsCalm one.windows → two.windows.present ≡ one.windows.present → IfSome two.windows.next IsEmpty → IsCalm two.windows
-calm_on one two calm present next = record { present = subst (λ (o : Option WeakRun). IfSome o IsEmpty) (sym present) calm.present; next = next }
+worn_more_at : (b c : Bool) (x y : Sector) → (IsTrue b → IsTrue c) → SectorWorn b x y → SectorWorn c x y
+worn_more_at b c x y more (inl same) = inl same
+worn_more_at b c x y more (inr hurt) = inr (more hurt.0, hurt.1)
 
-settled_empty : (present next : Option WeakRun) → IfSome (settled present next).present IsEmpty → IfSome next IsEmpty
-settled_empty present None h = tt
-settled_empty present (Some run) h = h
+-- what both windows may wear, the named one may, once it is settled
+open_settled : (present next : Option WeakRun) → IsSome next → (s : ℕ) → IsTrue (in_window present next s) → IsTrue (open_damage (settled present next) s)
+open_settled present None some s hurt = absurd (cc some)
+open_settled None (Some run) some s hurt = hurt
+open_settled (Some w) (Some run) some s hurt = (and_parts (in_run w s) (in_run run s) hurt).1
 
--- a run that was settled is empty where the windows are calm behind it
-pub next_settled : (old new : Windows) → new ≡ settled old.present old.next → IsCalm new → IfSome old.next IsEmpty
-next_settled old new is calm = settled_empty old.present old.next (subst (λ (w : Windows). IfSome w.present IsEmpty) is calm.present)
-
-pub next_kept : (old new : Windows) → new ≡ old → IsCalm new → IfSome old.next IsEmpty
-next_kept old new is calm = subst (λ (w : Windows). IfSome w.next IsEmpty) is calm.next
-
--- ---- a fault that is handed up
-
-pub handed_up : {T : Type 0} (P : MountFault → Type 0) (r : Result T MountFault) (fault : MountFault) → IsErrAnd r (λ told. told ≡ fault) → P fault → IfErr r P
-handed_up P (Ok x) fault is holds = tt
-handed_up P (Err told) fault is holds = subst P (sym is) holds
-
--- ---- the pages
-
-pub one_anchor : (i : Image) (a b : Anchor) → anchor_of i ≡ Some a → anchor_of i ≡ Some b → b ≡ a
-one_anchor i a b first second = let both : Some b ≡ Some a = sym second ∙ first in cc
-
-home_renewed : (l : Layout) (epoch page : ℕ) (i : Image) → home_of l (with_anchors epoch i) page ≡ home_of l i page
-home_renewed l epoch page i = λ x. either_copy (bytes_of (at (home_a l page) (omega arith) x)) (bytes_of (at (home_b l page) (omega arith) x))
-  where
-    at : (s : ℕ) → 16 ≤ s → sector_at (with_anchors epoch i) s ≡ sector_at i s
-    at s from = with_other (with_sector i 8 (anchor_bytes (fresh_anchor epoch))) 12 s (anchor_bytes (fresh_anchor epoch)) (λ e. omega arith) ∙ with_other i 8 s (anchor_bytes (fresh_anchor epoch)) (λ e. omega arith)
-
-pub shown_on : (l k : Layout) (a b : Anchor) (epoch : ℕ) (old one two new : Moment) → k ≡ l → b ≡ a → one ≡ old → StandAsShown k b one.image two.image → new.image ≡ with_anchors epoch two.image → StandAsShown l a old.image new.image
-shown_on l k a b epoch old one two new layout anchor same shown renewed page lt =
-    let now : StandAsShown l a old.image two.image =
-    subst (λ (m : Moment). StandAsShown l a m.image two.image) same (subst (λ (c : Anchor). StandAsShown l c one.image two.image) anchor (subst (λ (x : Layout). StandAsShown x b one.image two.image) layout shown)) in
-    ap (λ (i : Image). home_of l i page) renewed ∙ home_renewed l epoch page two.image ∙ now page lt
-
--- ---- faults that lose nothing
-
-pub not_found_keeps : (sectors : ℕ) (i : Image) (fault : MountFault) → NotFoundFor sectors i fault → LosesNothing fault
-not_found_keeps sectors i NotVolume h = tt
-not_found_keeps sectors i NoAnchor h = tt
-not_found_keeps sectors i WornOut h = tt
-not_found_keeps sectors i (Device s) h = tt
-not_found_keeps sectors i Memory h = tt
-not_found_keeps sectors i (Lost a b) h = h
-not_found_keeps sectors i (Unsound s) h = tt
-
-pub excuse_keeps : (fault : MountFault) → IsExcuse fault → LosesNothing fault
-excuse_keeps NotVolume h = tt
-excuse_keeps NoAnchor h = tt
-excuse_keeps WornOut h = tt
-excuse_keeps (Device s) h = tt
-excuse_keeps Memory h = tt
-excuse_keeps (Lost a b) h = h
-excuse_keeps (Unsound s) h = tt
+pub map_kept : (l : Layout) (old one two three new : Moment) → Wears old one → KeepsData l one two → Keeps l two three → KeepsData l three new → IsSome two.windows.next → new.windows ≡ settled three.windows.present three.windows.next → KeepsMap l old new
+map_kept l old one two three new wears first second third some is s from =
+    let both : Bool = open_damage old.windows s || open_damage new.windows s in
+    let in_new : IsTrue (open_damage three.windows s) → IsTrue (open_damage new.windows s) =
+    λ hurt. subst (λ (w : Windows). IsTrue (open_damage w s)) (sym is) (open_settled three.windows.present three.windows.next (subst (λ (w : Windows). IsSome w.next) (sym second.windows) some) s hurt) in
+    let to_one : SectorWorn (open_damage old.windows s || open_damage new.windows s) (sector_at old.image s) (sector_at one.image s) =
+    worn_more_at (open_damage old.windows s) both (sector_at old.image s) (sector_at one.image s) (or_first (open_damage old.windows s) (open_damage new.windows s)) (wears.image.each s) in
+    let to_two : SectorWorn (open_damage old.windows s || open_damage new.windows s) (sector_at one.image s) (sector_at two.image s) =
+    worn_more_at (open_damage one.windows s) both (sector_at one.image s) (sector_at two.image s) (λ hurt. or_first (open_damage old.windows s) (open_damage new.windows s) (subst (λ (w : Windows). IsTrue (open_damage w s)) wears.windows hurt)) (first s from) in
+    let to_three : SectorWorn (open_damage old.windows s || open_damage new.windows s) (sector_at two.image s) (sector_at three.image s) =
+    worn_more_at (open_damage two.windows s) both (sector_at two.image s) (sector_at three.image s)
+    (λ hurt. or_second (open_damage old.windows s) (open_damage new.windows s) (in_new (subst (λ (w : Windows). IsTrue (open_damage w s)) (sym second.windows) hurt))) (second.map s from) in
+    let to_new : SectorWorn (open_damage old.windows s || open_damage new.windows s) (sector_at three.image s) (sector_at new.image s) =
+    worn_more_at (open_damage three.windows s) both (sector_at three.image s) (sector_at new.image s) (λ hurt. or_second (open_damage old.windows s) (open_damage new.windows s) (in_new hurt)) (third s from) in
+    sector_on both (sector_at old.image s) (sector_at three.image s) (sector_at new.image s)
+    (sector_on both (sector_at old.image s) (sector_at two.image s) (sector_at three.image s) (sector_on both (sector_at old.image s) (sector_at one.image s) (sector_at two.image s) to_one to_two) to_three) to_new

@@ -1,6 +1,8 @@
 -- What a mount finds before it writes.
-use Rattle.std.specs.Prelude.{◌≡◌, ⊤, ℕ, None, IsSome}
-use Rattle.sector_disk.specs.Machine.{Report, DeviceFault}
+use Rattle.std.specs.Prelude.{◌≡◌, ⊤, ℕ, Some, None, IsSome}
+use Rattle.volume_layout.specs.declared.layout.Layout.{Layout}
+use Rattle.sector_disk.specs.Image.{IsWorn, open_damage}
+use Rattle.sector_disk.specs.Machine.{Report, Moment, DeviceFault}
 use Rattle.fsd_files.specs.Disk.{Image}
 use Rattle.fsd_sound.specs.Roots.{root_of}
 use Rattle.fsd_sound.specs.Anchors.{anchor_of}
@@ -8,6 +10,8 @@ use Rattle.log_thirds.specs.declared.fault.LogFault.{LogFault}
 use Rattle.log_thirds.specs.declared.fault.LogFault.TheVariants as log
 use Rattle.mount_recover.specs.declared.fault.MountFault.{MountFault}
 use Rattle.mount_recover.specs.declared.fault.MountFault.TheVariants.{NotVolume, Device, Memory, Lost, NoAnchor, Unsound, WornOut}
+use Rattle.log_thirds.specs.LogValue.{LogValue}
+use Rattle.mount_recover.specs.Mending.{KnowsLog}
 use Rattle.mount_recover.specs.Recover.{IsWornOut}
 
 abbrev pub mount_fault_of : LogFault → MountFault
@@ -35,6 +39,20 @@ NotFoundFor sectors i (Device s) = ⊤
 NotFoundFor sectors i Memory = ⊤
 NotFoundFor sectors i (Lost a b) = ⊥
 NotFoundFor sectors i (Unsound s) = ⊥
+
+-- An image was seen, which the old one may be worn to and that may be worn to the new one: it has this root, and this log.
+pub record IsFound (sectors : ℕ) (l : Layout) (log : LogValue) (old new : Moment) : Type 0 where
+  pub seen : Image
+  pub from : IsWorn (open_damage old.windows) old.image seen
+  pub to : IsWorn (open_damage old.windows) seen new.image
+  pub root : root_of sectors seen ≡ Some l
+  pub knows : KnowsLog l log seen
+
+-- An image was seen, which the old one may be worn to, and of which the refusal tells.
+pub record IsNotFound (sectors : ℕ) (fault : MountFault) (old : Moment) : Type 0 where
+  pub seen : Image
+  pub from : IsWorn (open_damage old.windows) old.image seen
+  pub why : NotFoundFor sectors seen fault
 
 -- the only refusals of an image that can be mounted
 abbrev pub IsExcuse : MountFault → Type 0

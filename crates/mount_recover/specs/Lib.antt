@@ -2,4 +2,5 @@ pub mod Finding
 pub mod Lost
 pub mod Recover
 pub mod Replay
-pub mod Replaying
+pub mod Mending
+pub mod Showing

@@ -1,14 +1,14 @@
 -- What a mount loses: a page both of whose copies are damaged.
-use Rattle.std.specs.Prelude.{◌≡◌, ◌⊎◌, ◌<◌, ⊤, ℕ, Some}
+use Rattle.std.specs.Prelude.{◌≡◌, ◌⊎◌, ◌<◌, ⊤, ℕ, Some, None}
 use Rattle.volume_layout.specs.declared.layout.Layout.{Layout}
 use Rattle.fsd_formats.specs.declared.anchor.Anchor.{Anchor}
 use Rattle.sector_disk.specs.Damage.{AreLost}
 use Rattle.sector_disk.specs.Image.{IsCalm}
 use Rattle.sector_disk.specs.Machine.{Moment}
 use Rattle.fsd_files.specs.Disk.{Image}
-use Rattle.fsd_sound.specs.Homes.{AreHomesOf}
+use Rattle.fsd_sound.specs.Homes.{AreHomesOf, home_of}
 use Rattle.fsd_sound.specs.Roots.{root_at, root_of}
-use Rattle.fsd_sound.specs.Shown.{records_by}
+use Rattle.fsd_sound.specs.Shown.{records_by, newest}
 use Rattle.log_thirds.specs.Images.{AreLogged, LiesAt}
 use Rattle.log_thirds.specs.LogValue.{LogValue}
 use Rattle.log_thirds.specs.Slots.{LieInRecord, slot_of}
@@ -62,9 +62,28 @@ pub record AreHomesOn (sectors : ℕ) (old : Moment) (a b : ℕ) : Type 0 where
 
 -- ---- either
 
--- the sectors are the two copies of one page of the image, in its log or at home
+-- the sectors are the two copies of one page of the image, in its log or at home, or of the root
 abbrev pub AreCopiesOn : ℕ → Moment → ℕ → ℕ → Type 0
-AreCopiesOn sectors old a b = AreLoggedOn sectors old a b ⊎ AreHomesOn sectors old a b
+AreCopiesOn sectors old a b = AreLoggedOn sectors old a b ⊎ (AreHomesOn sectors old a b ⊎ ((a ≡ 0) × (b ≡ 4)))
+
+-- The sectors are the two homes of a page that the image does not show.
+pub record AreNotShown (sectors : ℕ) (i : Image) (a b : ℕ) : Type 0 where
+  pub layout : Layout
+  pub anchor : Anchor
+  pub found : IsVolume sectors i layout anchor
+  pub page : ℕ
+  pub within : page < layout.pages
+  pub homes : AreHomesOf layout page a b
+  pub none : newest layout i (records_by layout i anchor) page ≡ None
+
+-- nothing is lost that the image shows
+abbrev pub LosesShown : ℕ → Image → MountFault → Type 0
+LosesShown sectors i (Lost a b) = AreNotShown sectors i a b
+LosesShown sectors i fault = ⊤
+
+-- each page stands at home of the image j as the image i showed it
+abbrev pub StandAsShown : Layout → Anchor → Image → Image → Type 0
+StandAsShown l a i j = (page : ℕ) → page < l.pages → home_of l j page ≡ newest l i (records_by l i a) page
 
 -- the two copies that the fault tells as lost are damaged in the image
 abbrev pub LostIn : (ℕ → ℕ → Type 0) → Image → MountFault → Type 0

@@ -3,9 +3,8 @@ use Rattle.std.specs.Prelude.{◌≡◌, ⊤, ℕ, ◌+◌, ◌-◌, ◌^◌, �
 use Rattle.volume_layout.specs.declared.layout.Layout.{Layout}
 use Rattle.volume_layout.specs.Layout.{plan}
 use Rattle.fsd_formats.specs.declared.anchor.Anchor.{Anchor}
-use Rattle.fsd_formats.specs.Anchors.{anchor_bytes}
 use Rattle.sector_disk.specs.declared.sector.WeakRun.{WeakRun}
-use Rattle.sector_disk.specs.Image.{with_sector, IsCalm}
+use Rattle.sector_disk.specs.Image.{IsWorn, open_damage}
 use Rattle.sector_disk.specs.Machine.{Report, Moment, DeviceFault, Wears}
 use Rattle.fsd_log.specs.Scan.{start}
 use Rattle.fsd_files.specs.Disk.{Image}
@@ -63,10 +62,17 @@ RefusedFor sectors i (Device s) = ⊤
 RefusedFor sectors i Memory = ⊤
 RefusedFor sectors i (Unsound s) = ⊥
 
--- no page is lost
-abbrev pub LosesNothing : MountFault → Type 0
-LosesNothing (Lost a b) = ⊥
-LosesNothing fault = ⊤
+-- An image was seen, which the old one may be worn to: what is settled is its root, and the epoch behind its anchor's.
+pub record IsSettledIn (sectors : ℕ) (l : Layout) (log : LogValue) (old : Moment) : Type 0 where
+  pub seen : Image
+  pub from : IsWorn (open_damage old.windows) old.image seen
+  pub settled : IsSettled sectors seen l log
+
+-- An image was seen, which the old one may be worn to, and of which the refusal tells.
+pub record IsRefusedFor (sectors : ℕ) (fault : MountFault) (old : Moment) : Type 0 where
+  pub seen : Image
+  pub from : IsWorn (open_damage old.windows) old.image seen
+  pub why : RefusedFor sectors seen fault
 
 -- what is refused before anything is written stays as it was
 abbrev pub LeavesAll : MountFault → Moment → Moment → Type 0
@@ -80,16 +86,9 @@ HasFault old new (Device s) = DeviceFault old new s
 HasFault old new (Unsound s) = ⊥
 HasFault old new fault = ⊤
 
--- The moment's image shows pages of a volume with this layout, and nothing wears.
+-- The moment's image shows pages of a volume with this layout, however the present run wears.
 pub record ShowsVolume (sectors : ℕ) (l : Layout) (windows : List WeakRun) (choices : List (List (List ℕ))) (now : Moment) : Type 0 where
   pub planned : plan l.sectors l.third l.pages ≡ Ok l
   pub fits : l.sectors ≤ sectors
-  pub calm : IsCalm now.windows
   pub ends : EndIn now.windows windows
   pub shows : ShowsPages l windows choices now.image
-
--- the image with both anchors naming this epoch, in which nothing was logged
-abbrev pub with_anchors : ℕ → Image → Image
-with_anchors epoch i =
-    let bytes = anchor_bytes (fresh_anchor epoch) in
-    with_sector (with_sector i 8 bytes) 12 bytes

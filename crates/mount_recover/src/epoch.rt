@@ -1,19 +1,20 @@
-// The beginning of a new epoch, when every page that the log has is at home.
-ghost use Rattle.std.specs.Prelude.{◌≡◌, ◌+◌, ◌-◌, ◌<◌, ◌≤◌, ◌^◌, ℕ, List, IfErr, OnOk, OnErr};
+// The beginning of a new epoch, when all that stands twice is mended.
+ghost use Rattle.std.specs.Prelude.{◌≡◌, ◌+◌, ◌-◌, ◌<◌, ◌≤◌, ◌^◌, ℕ, List, Ok, IsSome, IfErr, OnOk, OnErr};
 ghost use Rattle.volume_layout.specs.declared.layout.Layout.{Layout as Plan};
+ghost use Rattle.volume_layout.specs.Layout.{plan};
 ghost use Rattle.sector_disk.specs.declared.sector.WeakRun.{WeakRun as Run};
-ghost use Rattle.sector_disk.specs.Image.{IsCalm, settled};
-ghost use Rattle.sector_disk.specs.Machine.{DeviceFault, UsesDisk, Trusts, OnlyWrites, LeavesOnly};
+ghost use Rattle.sector_disk.specs.Image.{settled};
+ghost use Rattle.sector_disk.specs.Machine.{Moment as At, DeviceFault, UsesDisk, Trusts, OnlyWrites, LeavesOnly};
 ghost use Rattle.log_thirds.specs.Anchoring.{in_next_epoch};
-ghost use Rattle.mount_recover.specs.Recover.{with_anchors};
-ghost use Rattle.mount_recover.specs.Replay.{Replays, IsHealed, IsReplayed};
+ghost use Rattle.mount_recover.specs.Mending.{IsCompleted, IsMended, Begins, KeepsFrom};
+ghost use Rattle.mount_recover.specs.Replay.{IsReplayed};
 
 use log_thirds::Log;
 use sector_disk::{Failed, Machine};
 
-/// Writes the anchors of the next epoch, and settles. It is called once the next window's run is named and each page that
-/// the log has stands at both homes. Where the disk fails the image shows the same pages.
-pub fn begin_epoch<M: Machine>(m: &mut M, log: &mut Log) -> Result<(), Failed>
+/// Writes the anchors of the next epoch, and settles. It is called once the next window's run is named and all that stands
+/// twice is whole. Where the disk fails the image shows the same pages.
+pub(crate) fn begin_epoch<M: Machine>(m: &mut M, log: &mut Log) -> Result<(), Failed>
     requires epoch { log.old.anchor.epoch < 2 ^ 32 - 1 }
     requires sectors { log.old.layout.sectors ≤ (M.report m.old).sectors }
 
@@ -26,15 +27,17 @@ pub fn begin_epoch<M: Machine>(m: &mut M, log: &mut Log) -> Result<(), Failed>
     ensures windows_err { OnErr result (M.honest m.new → (M.now m.new).windows ≡ (M.now m.old).windows) }
     ensures past { OnOk result (log.new ≡ in_next_epoch log.old) }
 
-    // Where nothing wears, the image shows the same pages at each moment.
-    ensures any_moment { (l : Plan) (windows : List Run) (choices : List (List (List ℕ))) → M.honest m.new → IsCalm (M.now m.old).windows →
-        IsHealed l windows choices log.old.anchor (M.now m.old) → LeavesOnly M.moment M.left_since m.old m.new (Replays l windows choices (M.now m.old)) }
+    ensures body { OnOk result (M.honest m.new → KeepsFrom 16 (M.now m.old) (M.now m.new)) }
+
+    // The image shows the same pages at each moment.
+    ensures any_moment { (l : Plan) (windows : List Run) (choices : List (List (List ℕ))) (first : At) (c : IsCompleted l windows choices log.old first) → M.honest m.new →
+        plan l.sectors l.third l.pages ≡ Ok l → IsSome first.windows.next → IsMended l windows choices log.old first c (M.now m.old) →
+        LeavesOnly M.moment M.left_since m.old m.new (Begins l windows choices first) }
 
     // At the end the epoch is the next one, its log is empty, and the pages stand at home.
-    ensures done { OnOk result ((l : Plan) (windows : List Run) (choices : List (List (List ℕ))) → M.honest m.new → IsCalm (M.now m.old).windows →
-        IsHealed l windows choices log.old.anchor (M.now m.old) → IsReplayed l windows choices (log.old.anchor.epoch + 1) (M.now m.new)) }
-    ensures renewed { OnOk result (M.honest m.new → IsCalm (M.now m.old).windows →
-        (M.now m.new).image ≡ with_anchors (log.old.anchor.epoch + 1) (M.now m.old).image) }
+    ensures done { OnOk result ((l : Plan) (windows : List Run) (choices : List (List (List ℕ))) (first : At) (c : IsCompleted l windows choices log.old first) → M.honest m.new →
+        plan l.sectors l.third l.pages ≡ Ok l → IsSome first.windows.next → IsMended l windows choices log.old first c (M.now m.old) →
+        IsReplayed l windows choices (log.old.anchor.epoch + 1) (M.now m.new)) }
 {
     log.new_epoch(m)?;
     m.settle()?;

@@ -40,7 +40,7 @@ impl From<Failed> for MountFault {
 
 impl From<LoadFault> for MountFault {
     ghost use Rattle.std.specs.Prelude.{◌≡◌};
-    ghost use Rattle.mount_recover.specs.Replaying.{load_fault_of};
+    ghost use Rattle.mount_recover.specs.Mending.{load_fault_of};
 
     ghost from_gives = { λ load fault. fault ≡ load_fault_of load };
 

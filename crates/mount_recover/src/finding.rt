@@ -1,16 +1,9 @@
 // What a mount finds before it writes: the root, and the log behind the newer anchor.
-ghost use Rattle.std.specs.Prelude.{◌≡◌, ◌-◌, ◌<◌, ◌≤◌, ◌^◌, ℕ, List, Ok, IfOk, IfErr};
-ghost use Rattle.volume_layout.specs.declared.layout.Layout.{Layout as Plan};
+ghost use Rattle.std.specs.Prelude.{◌≡◌, ◌-◌, ◌<◌, ◌≤◌, ◌^◌, Ok, IfOk, IfErr};
 ghost use Rattle.volume_layout.specs.Layout.{plan};
-ghost use Rattle.sector_disk.specs.declared.sector.WeakRun.{WeakRun as Run};
-ghost use Rattle.sector_disk.specs.Image.{IsCalm};
 ghost use Rattle.sector_disk.specs.Machine.{UsesDisk, Trusts, Wears, LeavesOnly};
-ghost use Rattle.fsd_sound.specs.Shown.{records_by};
-ghost use Rattle.fsd_sound.specs.Sound.{EndIn, ShowsPages};
-ghost use Rattle.log_thirds.specs.Append.{IsIndexed, KnowsLast};
 ghost use Rattle.mount_recover.specs.Lost.{HasRoot};
-ghost use Rattle.mount_recover.specs.Recover.{IsVolume};
-ghost use Rattle.mount_recover.specs.Finding.{mount_fault_of, FindCause, NotFoundFor, IsExcuse};
+ghost use Rattle.mount_recover.specs.Finding.{mount_fault_of, FindCause, IsFound, IsNotFound};
 
 use crate::fault::MountFault;
 use crate::root::find_root;
@@ -21,7 +14,7 @@ use volume_layout::Layout;
 
 /// A volume that was found, and its log.
 #[derive(Drop)]
-pub struct Found {
+pub(crate) struct Found {
     pub layout: Layout,
     pub log: Log,
 }
@@ -38,7 +31,11 @@ fn mount_fault(fault: LogFault) -> MountFault
 }
 
 /// Finds the volume of an image with so many sectors, and its log. It writes nothing.
-pub fn find_volume<M: Machine>(alloc: Global, m: &mut M, sectors: u32) -> Result<Found, MountFault>
+pub(crate) fn find_volume<M: Machine>(
+    alloc: Global,
+    m: &mut M,
+    sectors: u32,
+) -> Result<Found, MountFault>
     requires { sectors ≡ (M.report m.old).sectors }
 
     ensures fault { IfErr result (FindCause (M.report m.old) (M.report m.new)) }
@@ -55,19 +52,9 @@ pub fn find_volume<M: Machine>(alloc: Global, m: &mut M, sectors: u32) -> Result
     // The layout is that of a root of the image, also where sectors wear.
     ensures root { IfOk result (λ found. M.honest m.new → HasRoot sectors (M.now m.old).image found.layout) }
 
-    // Of an image that does not wear, each answer but a fault of the disk and want of memory says what the image is.
-    ensures found { IfOk result (λ found. M.honest m.new → IsCalm (M.now m.old).windows → IsVolume sectors (M.now m.old).image found.layout found.log.anchor) }
-    ensures indexed { IfOk result (λ found. M.honest m.new → IsCalm (M.now m.old).windows →
-        IsIndexed found.log (records_by found.layout (M.now m.old).image found.log.anchor)) }
-    ensures last { IfOk result (λ found. M.honest m.new → IsCalm (M.now m.old).windows →
-        KnowsLast found.log (records_by found.layout (M.now m.old).image found.log.anchor)) }
-    ensures refused { IfErr result (λ fault. M.honest m.new → IsCalm (M.now m.old).windows → NotFoundFor sectors (M.now m.old).image fault) }
-
-    // An image that shows the pages of a volume is refused for nothing else but its last epoch.
-    ensures safe { IfErr result (λ fault. (l : Plan) (windows : List Run) (choices : List (List (List ℕ))) → plan l.sectors l.third l.pages ≡ Ok l → l.sectors ≤ sectors →
-        M.honest m.new → IsCalm (M.now m.old).windows → EndIn (M.now m.old).windows windows → ShowsPages l windows choices (M.now m.old).image → IsExcuse fault) }
-    ensures same { IfOk result (λ found. (l : Plan) (windows : List Run) (choices : List (List (List ℕ))) → plan l.sectors l.third l.pages ≡ Ok l → l.sectors ≤ sectors →
-        M.honest m.new → IsCalm (M.now m.old).windows → EndIn (M.now m.old).windows windows → ShowsPages l windows choices (M.now m.old).image → found.layout ≡ l) }
+    // Also where sectors wear, each answer but a fault of the disk and want of memory says what the image was, as it was seen.
+    ensures seen { IfOk result (λ found. M.honest m.new → IsFound sectors found.layout found.log (M.now m.old) (M.now m.new)) }
+    ensures refused { IfErr result (λ fault. M.honest m.new → IsNotFound sectors fault (M.now m.old)) }
 {
     match find_root(m, sectors) {
         Ok(Some(layout)) => match Log::scan(alloc, m, &layout) {

@@ -1,21 +1,16 @@
 //! The mount of a volume up to its name table: the root, the log brought home, and the anchors of a new epoch.
 #![tactic(auto)]
 
+mod completing;
 mod epoch;
 mod fault;
 mod finding;
-mod laws;
+mod mending;
 mod mounting;
-mod replay;
-mod replaying;
 mod root;
 
-pub use epoch::begin_epoch;
 pub use fault::MountFault;
-pub use finding::{Found, find_volume};
-pub use laws::{completing_shows_the_same, homing_shows_the_same, new_anchors_show_the_same};
 pub use mounting::{Settled, recover};
-pub use replay::home_page;
 
 #[cfg(test)]
 mod tests {
@@ -79,21 +74,28 @@ mod tests {
             Err(MountFault::WornOut)
         );
         assert_eq!(rt; m.write(8, &anchor(1)), Ok(()));
+        assert_eq!(rt;
+            epoch_of(recover(alloc, &mut m, sectors)),
+            Err(MountFault::Lost { a: 784, b: 852 })
+        );
+        m.write(784, &[0; 32768])?;
+        m.write(852, &[0; 32768])?;
         assert_eq!(rt; epoch_of(recover(alloc, &mut m, sectors)), Ok(2));
+        assert_eq!(rt; m.image().get(0).copied(), Some(Sector::Whole(root())));
         assert_eq!(rt; m.image().get(8).copied(), Some(Sector::Whole(anchor(2))));
         assert_eq!(rt; m.image().get(12).copied(), Some(Sector::Whole(anchor(2))));
         assert_eq!(rt; epoch_of(recover(alloc, &mut m, sectors)), Ok(3));
         Ok(())
     }
 
+    // Page 0 is in one record at the start of the log, whose page copy and end copy are old, and its home at 784 is damaged.
     #[test]
     fn logged_pages_are_brought_home(rt: HostRuntime) -> Result<(), Fail> {
         let alloc = rt.alloc();
-        let layout = Layout::plan(2048, 256, 64)?;
-        let mut page = beginning(b"CNPG\0\0\0\0\0\0\0\0\0\0\0\x05\0\0\0\x02");
+        let mut page = beginning(b"CNPG\0\0\0\0\0\0\0\0\0\0\0\0\0\0\0\x02");
         page[23] = 1;
         let mut record = [0; 3584];
-        lay(2, 1, &[5], &page, &mut record);
+        lay(2, 1, &[0], &page, &mut record);
         let mut m = machine(alloc)?;
         let sectors = m.attach("v", Attach::Old)?;
         assert!(rt; sectors == 2048);
@@ -101,15 +103,35 @@ mod tests {
         m.write(8, &anchor(2))?;
         m.write(16, &record)?;
         m.write(21, &[0; 1024])?;
+        m.write(785, &[0; 32256])?;
+        m.write(852, &[0; 32768])?;
         let settled = recover(alloc, &mut m, sectors)?;
-        assert_eq!(rt; settled.layout, layout);
         assert_eq!(rt; (settled.log.epoch(), settled.log.next_number()), (3, 1));
-        let home = layout.home_a(5) as usize;
-        let copy = layout.home_b(5) as usize;
-        assert_eq!(rt; m.image().get(home).copied(), Some(Sector::Whole(page)));
-        assert_eq!(rt; m.image().get(copy).copied(), Some(Sector::Whole(page)));
-        assert_eq!(rt; m.image().get(home + 1).copied(), Some(Sector::Damaged));
+        assert_eq!(rt; m.image().get(784).copied(), Some(Sector::Whole(page)));
+        assert_eq!(rt; m.image().get(852).copied(), Some(Sector::Whole(page)));
         assert_eq!(rt; m.image().get(21).copied(), Some(Sector::Whole(page)));
+        assert_eq!(rt; m.image().get(783).copied(), Some(Sector::Damaged));
+        Ok(())
+    }
+
+    // There is no record, and 783 and 784 are damaged.
+    #[test]
+    fn damaged_homes_are_written(rt: HostRuntime) -> Result<(), Fail> {
+        let alloc = rt.alloc();
+        let page = beginning(b"CNPG\0\0\0\0\0\0\0\0\0\0\0\0\0\0\0\x02");
+        let mut m = machine(alloc)?;
+        let sectors = m.attach("v", Attach::Old)?;
+        assert!(rt; sectors == 2048);
+        m.write(4, &root())?;
+        m.write(12, &anchor(2))?;
+        m.write(785, &[0; 32256])?;
+        m.write(852, &page)?;
+        m.write(853, &[0; 32256])?;
+        let settled = recover(alloc, &mut m, sectors)?;
+        assert_eq!(rt; settled.log.epoch(), 3);
+        assert_eq!(rt; m.image().get(784).copied(), Some(Sector::Whole(page)));
+        assert_eq!(rt; m.image().get(783).copied(), Some(Sector::Damaged));
+        assert_eq!(rt; m.image().get(0).copied(), Some(Sector::Whole(root())));
         Ok(())
     }
 }

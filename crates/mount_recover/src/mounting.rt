@@ -7,16 +7,16 @@ ghost use Rattle.sector_disk.specs.Image.{IsCalm};
 ghost use Rattle.sector_disk.specs.Machine.{UsesDisk, Trusts, OnlyWrites, LeavesOnly};
 ghost use Rattle.fsd_formats.specs.declared.anchor.Anchor.{Anchor as Named};
 ghost use Rattle.fsd_sound.specs.Anchors.{anchor_of};
-ghost use Rattle.mount_recover.specs.Lost.{AreLoggedOn, HasRoot, LostIn};
-ghost use Rattle.mount_recover.specs.Recover.{IsSettled, IsFreshLog, RefusedFor, LosesNothing, LeavesAll, HasFault, ShowsVolume};
-ghost use Rattle.mount_recover.specs.Replaying.{StandAsShown};
+ghost use Rattle.mount_recover.specs.Lost.{AreCopiesOn, HasRoot, LostIn, LosesShown, StandAsShown};
+ghost use Rattle.mount_recover.specs.Recover.{IsSettledIn, IsFreshLog, IsRefusedFor, LeavesAll, HasFault, ShowsVolume};
 ghost use Rattle.mount_recover.specs.Finding.{IsExcuse};
-ghost use Rattle.mount_recover.specs.Replay.{SameBehind, Replays, IsReplayed};
+ghost use Rattle.mount_recover.specs.Replay.{KeepsMap, Replays, IsReplayed};
 
+use crate::completing::complete;
 use crate::epoch::begin_epoch;
 use crate::fault::MountFault;
 use crate::finding::{Found, find_volume};
-use crate::replaying::replay_log;
+use crate::mending::mend;
 use log_thirds::Log;
 use sector_disk::Machine;
 use std::alloc::Global;
@@ -30,8 +30,8 @@ pub struct Settled {
 }
 
 /// Finds the volume of an image with so many sectors, brings every page that its log has home, and begins its next epoch
-/// (Hagmann 1987). Needs room for the log and its table of the pages. A volume on which nothing wears shows the same pages
-/// also where the disk fails, so it can be called again.
+/// (Hagmann 1987). What stands twice and is damaged is written from its twin. Needs room for the log and its table of the
+/// pages. The volume shows the same pages also where the disk fails, so it can be called again.
 pub fn recover<M: Machine>(alloc: Global, m: &mut M, sectors: u32) -> Result<Settled, MountFault>
     requires { sectors ≡ (M.report m.old).sectors }
 
@@ -45,40 +45,41 @@ pub fn recover<M: Machine>(alloc: Global, m: &mut M, sectors: u32) -> Result<Set
     ensures planned { IfOk result (λ settled. plan settled.layout.sectors settled.layout.third settled.layout.pages ≡ Ok settled.layout) }
     ensures log { IfOk result (λ settled. IsFreshLog settled.layout settled.log) }
 
-    // Of an image that does not wear, each answer but a fault of the disk and want of memory says what the image is.
-    ensures found { IfOk result (λ settled. M.honest m.new → IsCalm (M.now m.old).windows → IsSettled sectors (M.now m.old).image settled.layout settled.log) }
-    ensures refused { IfErr result (λ fault. M.honest m.new → IsCalm (M.now m.old).windows → RefusedFor sectors (M.now m.old).image fault) }
+    // Each answer but a fault of the disk and want of memory says what the image was, as it was seen.
+    ensures found { IfOk result (λ settled. M.honest m.new → IsSettledIn sectors settled.layout settled.log (M.now m.old)) }
+    ensures refused { IfErr result (λ fault. M.honest m.new → IsRefusedFor sectors fault (M.now m.old)) }
     ensures unchanged { IfErr result (λ fault. M.honest m.new → LeavesAll fault (M.now m.old) (M.now m.new)) }
-    ensures behind { IfOk result (λ settled. M.honest m.new → IsCalm (M.now m.old).windows → IsCalm (M.now m.new).windows →
-        SameBehind settled.layout (M.now m.old).image (M.now m.new).image) }
+    ensures behind { IfOk result (λ settled. M.honest m.new → KeepsMap settled.layout (M.now m.old) (M.now m.new)) }
 
-    // A page is lost only where its sector and its copy in a record of the log read damaged: in the last one that has it, where
-    // nothing wore before.
-    ensures lost { IfErr result (λ fault. M.honest m.new → LostIn (AreLoggedOn sectors (M.now m.old)) (M.now m.new).image fault) }
+    // What is lost stood twice, and both read damaged: a page in the log or at home, or the root.
+    ensures lost { IfErr result (λ fault. M.honest m.new → LostIn (AreCopiesOn sectors (M.now m.old)) (M.now m.new).image fault) }
 
     // The layout is that of a root of the image, also where sectors wear.
     ensures root { IfOk result (λ settled. M.honest m.new → HasRoot sectors (M.now m.old).image settled.layout) }
 
     ensures epoch { IfOk result (λ settled. settled.log.anchor.epoch < 2 ^ 32) }
 
-    // Where nothing wears, each page stands at home then as the image showed it, and none is lost, whatever the image shows.
+    // Where nothing wears, each page stands at home then as the image showed it, and none is lost that it shows, whatever the
+    // image shows.
     ensures shown { IfOk result (λ settled. (a : Named) → M.honest m.new → IsCalm (M.now m.old).windows → IsCalm (M.now m.new).windows → anchor_of (M.now m.old).image ≡ Some a →
         StandAsShown settled.layout a (M.now m.old).image (M.now m.new).image) }
-    ensures all_shown { IfErr result (λ fault. M.honest m.new → IsCalm (M.now m.old).windows → IsCalm (M.now m.new).windows → LosesNothing fault) }
+    ensures all_shown { IfErr result (λ fault. M.honest m.new → IsCalm (M.now m.old).windows → IsCalm (M.now m.new).windows → LosesShown sectors (M.now m.old).image fault) }
 
-    // An image that shows the pages of a volume shows them at each moment, also at the exit. At Ok the log is empty and the
-    // pages stand at home; else it is refused for nothing but the disk, memory and the last epoch.
+    // An image that shows the pages of a volume shows them at each moment, also at the exit, and the last record has its
+    // copies before anything is written behind the log. At Ok the log is empty and the pages stand at home; else it is
+    // refused for nothing but the disk, memory and the last epoch.
     ensures any_moment { (l : Plan) (windows : List Run) (choices : List (List (List ℕ))) → M.honest m.new → ShowsVolume sectors l windows choices (M.now m.old) →
-        IsCalm (M.now m.new).windows → LeavesOnly M.moment M.left_since m.old m.new (Replays l windows choices (M.now m.old)) }
+        LeavesOnly M.moment M.left_since m.old m.new (Replays l windows choices (M.now m.old)) }
     ensures exit { (l : Plan) (windows : List Run) (choices : List (List (List ℕ))) → M.honest m.new → ShowsVolume sectors l windows choices (M.now m.old) →
-        IsCalm (M.now m.new).windows → Replays l windows choices (M.now m.old) (M.now m.new) }
+        Replays l windows choices (M.now m.old) (M.now m.new) }
     ensures same { IfOk result (λ settled. (l : Plan) (windows : List Run) (choices : List (List (List ℕ))) → M.honest m.new → ShowsVolume sectors l windows choices (M.now m.old) → settled.layout ≡ l) }
     ensures done { IfOk result (λ settled. (l : Plan) (windows : List Run) (choices : List (List (List ℕ))) → M.honest m.new → ShowsVolume sectors l windows choices (M.now m.old) →
-        IsCalm (M.now m.new).windows → IsReplayed l windows choices settled.log.anchor.epoch (M.now m.new)) }
+        IsReplayed l windows choices settled.log.anchor.epoch (M.now m.new)) }
     ensures excuses { IfErr result (λ fault. (l : Plan) (windows : List Run) (choices : List (List (List ℕ))) → M.honest m.new → ShowsVolume sectors l windows choices (M.now m.old) → IsExcuse fault) }
 {
     let Found { layout, mut log } = find_volume(alloc, m, sectors)?;
-    replay_log(m, &layout, &log)?;
+    complete(m, &log)?;
+    mend(m, &layout, &log)?;
     begin_epoch(m, &mut log)?;
     Ok(Settled { layout, log })
 }

@@ -2,7 +2,6 @@
 ghost use Rattle.std.specs.Prelude.{◌≡◌, ◌<◌, ◌≤◌, Ok, IfOk, IfErr, IfSome};
 ghost use Rattle.volume_layout.specs.Layout.{plan};
 ghost use Rattle.sector_disk.specs.Machine.{DeviceFault, UsesDisk, Trusts, Wears, LeavesOnly};
-ghost use Rattle.sector_disk.specs.Image.{IsCalm};
 ghost use Rattle.fsd_sound.specs.Roots.{root_at, root_of};
 ghost use Rattle.mount_recover.specs.Lost.{HasRoot};
 
@@ -53,7 +52,7 @@ pub fn find_root<M: Machine>(m: &mut M, sectors: u32) -> Result<Option<Layout>, 
     ensures ledger { M.tells m.new → M.ledger m.new ≡ M.ledger m.old }
     ensures worn { M.honest m.new → Wears (M.now m.old) (M.now m.new) }
     ensures any_moment { M.honest m.new → LeavesOnly M.moment M.left_since m.old m.new (Wears (M.now m.old)) }
-    ensures found { IfOk result (λ found. M.honest m.new → IsCalm (M.now m.old).windows → found ≡ root_of sectors (M.now m.old).image) }
+    ensures found { IfOk result (λ found. M.honest m.new → found ≡ root_of sectors (M.now m.new).image) }
     ensures stands { IfOk result (λ found. IfSome found (λ l. M.honest m.new → HasRoot sectors (M.now m.old).image l)) }
     ensures fits { IfOk result (λ found. IfSome found (λ l. l.sectors ≤ sectors)) }
     ensures planned { IfOk result (λ found. IfSome found (λ l. plan l.sectors l.third l.pages ≡ Ok l)) }

@@ -1,8 +1,10 @@
 //! The two home copies of each name page: one whole copy is enough to read the page.
 #![tactic(auto)]
 
+mod heal;
 mod home;
 
+pub use heal::{heal_anchor, heal_page, heal_root};
 pub use home::{read_home, write_a, write_b, write_home};
 
 #[cfg(test)]

@@ -32,15 +32,14 @@ returns-in-Ok-force-clause-works g c h calm fresh v windows history f ends mount
     let moments = c.put.ensures.any_moment h1 calm v windows history f ends mounted in
     let on = c.in-Ok.ensures.stands h1 calm v windows history f ends mounted in
     let same = c.put.ensures.windows h1 in
-    let still = same_calm mid.windows old.windows (sym same) calm in
     let within = subst (λ (w : Windows). EndIn w windows) (sym same) ends in
     let forces = subst (λ (l : Layout). LeavesOnly M.moment M.left_since c.put.new.m c.force.new.m (Forces l windows (history ++ change) f mid)) c.put.ensures.layout
-    (c.force.ensures.any_moment h still on.after windows (history ++ change) f within on.mounted) in
+    (c.force.ensures.any_moment h on.after windows (history ++ change) f within on.mounted) in
     let layout = ap (λ (s : State). s.layout) c.in-Ok-force.ensures.state ∙ c.put.ensures.layout in
     let count = (keeps v c.args.name.now c.args.bytes.now None).count c.in-Ok.key on.says.0.0 on.says.0.1 in
     made_works M.moment M.left_since c.args.volume v c.args.name.now c.args.bytes.now windows history f c.args.m.now c.put.new.m old mid moments
     (g.met.M.Machine.counts_now c.put.new.m (M.moment c.args.m.now) h1 moments.later) c.in-Ok.key on.says.0.0 on.says.0.1 c.force.new.m (M.now c.force.new.m) forces (1 + c.div_ceil.result) c.force.new.self _
-    (count ∙ sym (ap (λ (n : ℕ). 1 + n) c.div_ceil.ensures)) mounted layout (c.in-Ok-force.ensures.done h still on.after windows (history ++ change) f within on.mounted) (c.force.ensures.windows h) (c.force.ensures.quiet h)
+    (count ∙ sym (ap (λ (n : ℕ). 1 + n) c.div_ceil.ensures)) mounted layout (c.in-Ok-force.ensures.done h on.after windows (history ++ change) f within on.mounted) (c.force.ensures.windows h) (c.force.ensures.quiet h)
 
 pub returns-clause-works : goal.returns-clause-works
 returns-clause-works g c h calm fresh v windows history f ends mounted =
@@ -52,11 +51,10 @@ returns-clause-works g c h calm fresh v windows history f ends mounted =
     let moments = c.put.ensures.any_moment h1 calm v windows history f ends mounted in
     let on = c.in-Ok.ensures.stands h1 calm v windows history f ends mounted in
     let same = c.put.ensures.windows h1 in
-    let still = same_calm mid.windows old.windows (sym same) calm in
     let within = subst (λ (w : Windows). EndIn w windows) (sym same) ends in
     let forces = subst (λ (l : Layout). LeavesOnly M.moment M.left_since c.put.new.m c.force.new.m (Forces l windows (history ++ change) f mid)) c.put.ensures.layout
-    (c.force.ensures.any_moment h still on.after windows (history ++ change) f within on.mounted) in
-    let left = subst (λ (l : Layout). Forces l windows (history ++ change) f mid (M.now c.force.new.m)) c.put.ensures.layout (c.in-Err-force.ensures.failed h still on.after windows (history ++ change) f within on.mounted) in
+    (c.force.ensures.any_moment h on.after windows (history ++ change) f within on.mounted) in
+    let left = subst (λ (l : Layout). Forces l windows (history ++ change) f mid (M.now c.force.new.m)) c.put.ensures.layout (c.in-Err-force.ensures.failed h on.after windows (history ++ change) f within on.mounted) in
     unforced_works M.moment M.left_since c.args.volume v c.args.name.now c.args.bytes.now windows history f c.args.m.now c.put.new.m old mid moments
     (g.met.M.Machine.counts_now c.put.new.m (M.moment c.args.m.now) h1 moments.later) c.in-Ok.key on.says.0.0 on.says.0.1 c.force.new.m (M.now c.force.new.m) forces c.in-Err-force.why (M.report c.force.new.m).fault_place
     c.line_of-in-Err-force.result c.in-Err-force.ensures.fault.told c.line_of-in-Err-force.ensures left

@@ -1,7 +1,8 @@
 use Rattle.std.proofs.Common.{refl, [], ◌∷◌}
 use Rattle.std.specs.List.{last_or}
 use Rattle.std.specs.Prelude.{None}
-use Rattle.fsd_sound.proofs.SoundLaws.{sound_still, windows_are_narrow}
+use Rattle.fsd_sound.proofs.SoundLaws.{sound_still}
+use Rattle.fsd_sound.proofs.WindowLaws.{windows_are_narrow}
 use Rattle.fsd_sound.proofs.FormatSoundLaws.{format_is_sound}
 use Rattle.fsd_sound.proofs.laws.formatted_disks_are_sound.Goals as goal
 

@@ -1,4 +1,6 @@
 use Rattle.log_thirds.proofs.AnchorLaws.{third_read, copy_seen}
+use Rattle.std.proofs.Common.{ap, sym, ◌∙◌}
+use Rattle.fsd_log.specs.Scan.{anchor_in}
 use Rattle.log_thirds.proofs.anchors.read_copy.Goals as goal
 
 pub returns-in-Ok-Some-clause-third : goal.returns-in-Ok-Some-clause-third
@@ -11,3 +13,6 @@ returns-in-Ok-Some-clause-sees g c h =
 
 pub returns-in-Ok-Some-clause-any_moment : goal.returns-in-Ok-Some-clause-any_moment
 returns-in-Ok-Some-clause-any_moment g c h = c.read_sector.ensures.any_moment h
+
+pub returns-in-Ok-Some-clause-seen : goal.returns-in-Ok-Some-clause-seen
+returns-in-Ok-Some-clause-seen g c h = record { bytes = c.in-Ok-Some.field-0; read = c.in-Ok-Some.ensures.sees h; is = c.read_anchor.ensures.read ∙ ap anchor_in (sym c.in-Ok-Some.field-0-is) }

@@ -6,6 +6,8 @@ use Rattle.fsd_log.proofs.WalkLaws.{next_end}
 use Rattle.log_thirds.specs.declared.find.Taken.{Taken}
 use Rattle.log_thirds.specs.Reading.{taken_in}
 use Rattle.log_thirds.proofs.FindLaws.{goes_to, there_found, not_there}
+use Rattle.sector_disk.specs.Image.{open_damage}
+use Rattle.log_thirds.proofs.SeenLaws.{sees_more}
 use Rattle.log_thirds.proofs.find.enter.Goals as goal
 
 pub returns-in-Ok-Some-clause-goes : goal.returns-in-Ok-Some-clause-goes
@@ -21,24 +23,30 @@ returns-in-Ok-Some-clause-goes g c =
       in_third = omega (arith, value);
     }
 
-pub returns-in-Ok-Some-clause-found : goal.returns-in-Ok-Some-clause-found
-returns-in-Ok-Some-clause-found g c h calm =
+pub returns-in-Ok-Some-clause-seen : goal.returns-in-Ok-Some-clause-seen
+returns-in-Ok-Some-clause-seen g c j h jw =
     let M = g.M.Machine in
-    let entry = taken_in c.args.number c.in-Ok-Some.taken in
     let value = c.third-third.ensures.value in
-    let disk = tape c.args.layout.now c.args.anchor.now.third (reads (M.now c.args.m.now).image) in
+    let l = c.args.layout.now in let third = c.args.anchor.now.third in let epoch = c.args.anchor.now.epoch in
     let head : Head = record { number = c.args.number; at = c.args.at; end = c.args.end } in
     let some : 0 < c.args.at = omega (arith, c.if-at-eq0.false) in
     let counted = subst (λ (o : Option Taken). IfSome o (λ t. t.found.n ≡ length t.found.pages.items)) c.in-Ok-Some.field-0-is c.in-Ok-Some.ensures.counted in
-    let there = ap (option_map (taken_in c.args.number)) (sym c.in-Ok-Some.field-0-is) ∙ c.in-Ok-Some.ensures.found h calm ∙ ap (λ (t : ℕ). (record_here c.args.layout.now c.args.anchor.now.epoch disk c.args.number c.args.end (c.args.end + t))) value in
-    (λ i. Some (record { from = c.args.end; entry = taken_in c.args.number c.in-Ok-Some.taken; at = c.args.end + (2 * counted i + 5); end = c.args.end + value i })) ∙ there_found c.args.layout.now c.args.anchor.now.epoch disk head (taken_in c.args.number c.in-Ok-Some.taken) some (omega (arith, value, c.if-end-third.false)) there
+    sees_more l third c.args.end (open_damage (M.now c.args.m.now).windows) j (M.now c.find.new.m).image _ _
+    (λ i found.
+    let there = ap (option_map (taken_in c.args.number)) (sym c.in-Ok-Some.field-0-is) ∙ found ∙ ap (λ (t : ℕ). (record_here l epoch (tape l third (reads i)) c.args.number c.args.end (c.args.end + t))) value in
+    (λ k. Some (record { from = c.args.end; entry = taken_in c.args.number c.in-Ok-Some.taken; at = c.args.end + (2 * counted k + 5); end = c.args.end + value k }))
+    ∙ there_found l epoch (tape l third (reads i)) head (taken_in c.args.number c.in-Ok-Some.taken) some (omega (arith, value, c.if-end-third.false)) there)
+    (c.in-Ok-Some.ensures.seen j h jw)
 
-pub returns-in-Ok-None-clause-found : goal.returns-in-Ok-None-clause-found
-returns-in-Ok-None-clause-found g c h calm =
+pub returns-in-Ok-None-clause-seen : goal.returns-in-Ok-None-clause-seen
+returns-in-Ok-None-clause-seen g c j h jw =
     let M = g.M.Machine in
     let value = c.third-third.ensures.value in
-    let disk = tape c.args.layout.now c.args.anchor.now.third (reads (M.now c.args.m.now).image) in
+    let l = c.args.layout.now in let third = c.args.anchor.now.third in let epoch = c.args.anchor.now.epoch in
     let head : Head = record { number = c.args.number; at = c.args.at; end = c.args.end } in
     let some : 0 < c.args.at = omega (arith, c.if-at-eq0.false) in
-    let there = ap (option_map (taken_in c.args.number)) (sym c.in-Ok-None.field-0-is) ∙ c.in-Ok-None.ensures.found h calm ∙ ap (λ (t : ℕ). (record_here c.args.layout.now c.args.anchor.now.epoch disk c.args.number c.args.end (c.args.end + t))) value in
-    not_there c.args.layout.now c.args.anchor.now.epoch disk head some (omega (arith, value, c.if-end-third.false)) there
+    sees_more l third c.args.end (open_damage (M.now c.args.m.now).windows) j (M.now c.find.new.m).image _ _
+    (λ i found.
+    let there = ap (option_map (taken_in c.args.number)) (sym c.in-Ok-None.field-0-is) ∙ found ∙ ap (λ (t : ℕ). (record_here l epoch (tape l third (reads i)) c.args.number c.args.end (c.args.end + t))) value in
+    not_there l epoch (tape l third (reads i)) head some (omega (arith, value, c.if-end-third.false)) there)
+    (c.in-Ok-None.ensures.seen j h jw)

@@ -8,7 +8,11 @@ use Rattle.log_thirds.specs.Reading.{ReadRun}
 use Rattle.log_thirds.specs.Copies.{AreServed}
 use Rattle.log_thirds.proofs.CopyLaws.{length_copies, images_served, end_served}
 use Rattle.fsd_log.proofs.HereLaws.{here_looks, here_last}
-use Rattle.log_thirds.proofs.FindLaws.{run_inside, judged_there, judged_room}
+use Rattle.log_thirds.proofs.FindLaws.{run_inside, judged_room}
+use Rattle.sector_disk.proofs.Wear.{worn_refl}
+use Rattle.sector_disk.specs.Image.{sector_at, open_damage}
+use Rattle.log_thirds.specs.Reading.{LosesRun}
+use Rattle.log_thirds.proofs.SeenLaws.{seen, seen_from, seen_to, seen_below, seen_front, judged_seen}
 use Rattle.log_thirds.proofs.find.find.Goals as goal
 
 pub read_run-requires : goal.read_run-requires
@@ -40,34 +44,62 @@ returns-in-Ok-copies_in-clause-copied g c =
     let served = subst (λ (b : List ℕ). AreServed (serving_in c.in-Good.found) b (length c.in-Good.found.pages.items + 1) c.in-Ok-copies_in.copies.items) (c.as_slice-in-Good.ensures.value ∙ sym c.as_slice-in-Ok.ensures.value) c.in-Ok-copies_in.ensures in
     end_served c.as_slice.result.now c.as_slice-in-Ok.result.now c.pages.result stamp (serving_in c.in-Good.found) (sym c.in-Good.ensures.judged) c.in-Ok-copies_in.copies.items served
 
-pub returns-in-Ok-copies_in-clause-found : goal.returns-in-Ok-copies_in-clause-found
-returns-in-Ok-copies_in-clause-found g c h calm =
+pub returns-in-Ok-copies_in-clause-seen : goal.returns-in-Ok-copies_in-clause-seen
+returns-in-Ok-copies_in-clause-seen g c j h jw =
     let M = g.M.Machine in
     let old = M.now c.args.m.now in
+    let new = M.now c.read_run.new.m in
+    let l = c.args.layout.now in let third = c.args.anchor.now.third in
     let stamp : Stamp = record { epoch = c.args.anchor.now.epoch; number = c.args.number } in
     let run = subst (λ (b : List ℕ). ReadRun (M.honest c.read_run.new.m) (M.now c.args.m.now) c.place_of-place.result c.room_at-count.result c.as_slice.result.now b) (sym c.as_slice-in-Ok.ensures.value)
     (subst (λ (w : List Bool). ReadRun (M.honest c.read_run.new.m) (M.now c.args.m.now) c.place_of-place.result c.room_at-count.result w c.in-Ok.reading.bytes.items) (sym c.as_slice.ensures.value) c.in-Ok.ensures.read) in
+    let lost = subst (λ (b : List ℕ). LosesRun (M.honest c.read_run.new.m) (M.now c.read_run.new.m) c.place_of-place.result c.room_at-count.result c.as_slice.result.now b) (sym c.as_slice-in-Ok.ensures.value)
+    (subst (λ (w : List Bool). LosesRun (M.honest c.read_run.new.m) (M.now c.read_run.new.m) c.place_of-place.result c.room_at-count.result w c.in-Ok.reading.bytes.items) (sym c.as_slice.ensures.value) c.in-Ok.ensures.lost) in
+    let image = seen l third c.args.at c.args.end c.requires.first c.requires.before c.requires.from c.requires.ends old new (c.read_run.ensures.worn h) (M.honest c.read_run.new.m) h c.place_of-place.result c.room_at-count.result c.place_of-place.ensures c.room_at-count.ensures c.as_slice.result.now c.as_slice-in-Ok.result.now run lost j jw in
     let served = subst (λ (b : List ℕ). AreServed (serving_in c.in-Good.found) b (length c.in-Good.found.pages.items + 1) c.in-Ok-copies_in.copies.items) (c.as_slice-in-Good.ensures.value ∙ sym c.as_slice-in-Ok.ensures.value) c.in-Ok-copies_in.ensures in
-    (λ i. Some (record { number = c.args.number; pages = c.in-Good.found.pages.items; images = sym (images_served c.as_slice.result.now c.as_slice-in-Ok.result.now c.pages.result stamp (serving_in c.in-Good.found) (sym c.in-Good.ensures.judged) c.in-Ok-copies_in.copies.items served) i }))
-    ∙ judged_there c.args.layout.now c.args.anchor.now.third c.args.at c.args.end c.requires.first c.requires.before c.requires.from c.requires.ends (M.now c.args.m.now) calm (M.honest c.read_run.new.m) h
-    c.place_of-place.result c.room_at-count.result c.place_of-place.ensures c.room_at-count.ensures c.as_slice.result.now c.as_slice-in-Ok.result.now run
-    c.pages.result stamp (Some (serving_in c.in-Good.found)) c.in-Good.ensures.judged
-    ∙ ap (λ (p : ℕ). (record_in p stamp (room_at c.args.at c.args.end) (window (tape c.args.layout.now c.args.anchor.now.third (reads (M.now c.args.m.now).image)) c.args.at (room_at c.args.at c.args.end)))) c.pages.ensures.value
-    ∙ (sym (here_looks c.args.layout.now c.args.anchor.now.epoch (tape c.args.layout.now c.args.anchor.now.third (reads (M.now c.args.m.now).image)) c.args.number c.args.at c.args.end (omega (arith, c.if-number-eq-LAST_NUMBER.false))))
+    record {
+      image = image;
+      from = seen_from l third c.args.at c.args.end c.requires.first c.requires.before c.requires.from c.requires.ends old new (c.read_run.ensures.worn h) (M.honest c.read_run.new.m) h c.place_of-place.result c.room_at-count.result c.place_of-place.ensures c.room_at-count.ensures c.as_slice.result.now c.as_slice-in-Ok.result.now run lost j jw;
+      to = seen_to l third c.args.at c.args.end c.requires.first c.requires.before c.requires.from c.requires.ends old new (c.read_run.ensures.worn h) (M.honest c.read_run.new.m) h c.place_of-place.result c.room_at-count.result c.place_of-place.ensures c.room_at-count.ensures c.as_slice.result.now c.as_slice-in-Ok.result.now run lost j jw;
+      below = seen_below l third c.args.at c.args.end c.requires.first c.requires.before c.requires.from c.requires.ends old new (c.read_run.ensures.worn h) (M.honest c.read_run.new.m) h c.place_of-place.result c.room_at-count.result c.place_of-place.ensures c.room_at-count.ensures c.as_slice.result.now c.as_slice-in-Ok.result.now run lost j jw;
+      front = seen_front l third c.args.at c.args.end c.requires.first c.requires.before c.requires.from c.requires.ends old new (c.read_run.ensures.worn h) (M.honest c.read_run.new.m) h c.place_of-place.result c.room_at-count.result c.place_of-place.ensures c.room_at-count.ensures c.as_slice.result.now c.as_slice-in-Ok.result.now run lost j jw;
+      is = (λ i. Some (record { number = c.args.number; pages = c.in-Good.found.pages.items; images = sym (images_served c.as_slice.result.now c.as_slice-in-Ok.result.now c.pages.result stamp (serving_in c.in-Good.found) (sym c.in-Good.ensures.judged) c.in-Ok-copies_in.copies.items served) i }))
+          ∙ judged_seen l third c.args.at c.args.end c.requires.first c.requires.before c.requires.from c.requires.ends old new (c.read_run.ensures.worn h) (M.honest c.read_run.new.m) h c.place_of-place.result c.room_at-count.result c.place_of-place.ensures c.room_at-count.ensures c.as_slice.result.now c.as_slice-in-Ok.result.now run lost j jw c.pages.result stamp (Some (serving_in c.in-Good.found)) c.in-Good.ensures.judged
+          ∙ ap (λ (p : ℕ). (record_in p stamp (room_at c.args.at c.args.end) (window (tape l third (reads image)) c.args.at (room_at c.args.at c.args.end)))) c.pages.ensures.value
+          ∙ (sym (here_looks l c.args.anchor.now.epoch (tape l third (reads image)) c.args.number c.args.at c.args.end (omega (arith, c.if-number-eq-LAST_NUMBER.false))));
+    }
 
-pub returns-in-Ok-clause-found : goal.returns-in-Ok-clause-found
-returns-in-Ok-clause-found g c h calm =
+pub returns-in-Ok-clause-seen : goal.returns-in-Ok-clause-seen
+returns-in-Ok-clause-seen g c j h jw =
     let M = g.M.Machine in
+    let old = M.now c.args.m.now in
+    let new = M.now c.read_run.new.m in
+    let l = c.args.layout.now in let third = c.args.anchor.now.third in
     let stamp : Stamp = record { epoch = c.args.anchor.now.epoch; number = c.args.number } in
     let run = subst (λ (b : List ℕ). ReadRun (M.honest c.read_run.new.m) (M.now c.args.m.now) c.place_of-place.result c.room_at-count.result c.as_slice.result.now b) (sym c.as_slice-in-Ok.ensures.value)
     (subst (λ (w : List Bool). ReadRun (M.honest c.read_run.new.m) (M.now c.args.m.now) c.place_of-place.result c.room_at-count.result w c.in-Ok.reading.bytes.items) (sym c.as_slice.ensures.value) c.in-Ok.ensures.read) in
-    judged_there c.args.layout.now c.args.anchor.now.third c.args.at c.args.end c.requires.first c.requires.before c.requires.from c.requires.ends (M.now c.args.m.now) calm (M.honest c.read_run.new.m) h
-    c.place_of-place.result c.room_at-count.result c.place_of-place.ensures c.room_at-count.ensures c.as_slice.result.now c.as_slice-in-Ok.result.now run
-    c.pages.result stamp None c.in-NotThere.ensures.judged
-    ∙ ap (λ (p : ℕ). (record_in p stamp (room_at c.args.at c.args.end) (window (tape c.args.layout.now c.args.anchor.now.third (reads (M.now c.args.m.now).image)) c.args.at (room_at c.args.at c.args.end)))) c.pages.ensures.value
-    ∙ (sym (here_looks c.args.layout.now c.args.anchor.now.epoch (tape c.args.layout.now c.args.anchor.now.third (reads (M.now c.args.m.now).image)) c.args.number c.args.at c.args.end (omega (arith, c.if-number-eq-LAST_NUMBER.false))))
+    let lost = subst (λ (b : List ℕ). LosesRun (M.honest c.read_run.new.m) (M.now c.read_run.new.m) c.place_of-place.result c.room_at-count.result c.as_slice.result.now b) (sym c.as_slice-in-Ok.ensures.value)
+    (subst (λ (w : List Bool). LosesRun (M.honest c.read_run.new.m) (M.now c.read_run.new.m) c.place_of-place.result c.room_at-count.result w c.in-Ok.reading.bytes.items) (sym c.as_slice.ensures.value) c.in-Ok.ensures.lost) in
+    let image = seen l third c.args.at c.args.end c.requires.first c.requires.before c.requires.from c.requires.ends old new (c.read_run.ensures.worn h) (M.honest c.read_run.new.m) h c.place_of-place.result c.room_at-count.result c.place_of-place.ensures c.room_at-count.ensures c.as_slice.result.now c.as_slice-in-Ok.result.now run lost j jw in
+    record {
+      image = image;
+      from = seen_from l third c.args.at c.args.end c.requires.first c.requires.before c.requires.from c.requires.ends old new (c.read_run.ensures.worn h) (M.honest c.read_run.new.m) h c.place_of-place.result c.room_at-count.result c.place_of-place.ensures c.room_at-count.ensures c.as_slice.result.now c.as_slice-in-Ok.result.now run lost j jw;
+      to = seen_to l third c.args.at c.args.end c.requires.first c.requires.before c.requires.from c.requires.ends old new (c.read_run.ensures.worn h) (M.honest c.read_run.new.m) h c.place_of-place.result c.room_at-count.result c.place_of-place.ensures c.room_at-count.ensures c.as_slice.result.now c.as_slice-in-Ok.result.now run lost j jw;
+      below = seen_below l third c.args.at c.args.end c.requires.first c.requires.before c.requires.from c.requires.ends old new (c.read_run.ensures.worn h) (M.honest c.read_run.new.m) h c.place_of-place.result c.room_at-count.result c.place_of-place.ensures c.room_at-count.ensures c.as_slice.result.now c.as_slice-in-Ok.result.now run lost j jw;
+      front = seen_front l third c.args.at c.args.end c.requires.first c.requires.before c.requires.from c.requires.ends old new (c.read_run.ensures.worn h) (M.honest c.read_run.new.m) h c.place_of-place.result c.room_at-count.result c.place_of-place.ensures c.room_at-count.ensures c.as_slice.result.now c.as_slice-in-Ok.result.now run lost j jw;
+      is = judged_seen l third c.args.at c.args.end c.requires.first c.requires.before c.requires.from c.requires.ends old new (c.read_run.ensures.worn h) (M.honest c.read_run.new.m) h c.place_of-place.result c.room_at-count.result c.place_of-place.ensures c.room_at-count.ensures c.as_slice.result.now c.as_slice-in-Ok.result.now run lost j jw c.pages.result stamp None c.in-NotThere.ensures.judged
+          ∙ ap (λ (p : ℕ). (record_in p stamp (room_at c.args.at c.args.end) (window (tape l third (reads image)) c.args.at (room_at c.args.at c.args.end)))) c.pages.ensures.value
+          ∙ (sym (here_looks l c.args.anchor.now.epoch (tape l third (reads image)) c.args.number c.args.at c.args.end (omega (arith, c.if-number-eq-LAST_NUMBER.false))));
+    }
 
-pub returns-then-number-eq-LAST_NUMBER-clause-found : goal.returns-then-number-eq-LAST_NUMBER-clause-found
-returns-then-number-eq-LAST_NUMBER-clause-found g c h calm =
+pub returns-then-number-eq-LAST_NUMBER-clause-seen : goal.returns-then-number-eq-LAST_NUMBER-clause-seen
+returns-then-number-eq-LAST_NUMBER-clause-seen g c j h jw =
     let M = g.M.Machine in
-    (sym (here_last c.args.layout.now c.args.anchor.now.epoch (tape c.args.layout.now c.args.anchor.now.third (reads (M.now c.args.m.now).image)) c.args.number c.args.at c.args.end (omega (arith, c.if-number-eq-LAST_NUMBER.true))))
+    record {
+      image = j;
+      from = worn_refl (open_damage (M.now c.args.m.now).windows) j;
+      to = jw;
+      below = λ w lt. λ i. tape c.args.layout.now c.args.anchor.now.third (reads j) w;
+      front = λ s lt. λ i. sector_at j s;
+      is = (sym (here_last c.args.layout.now c.args.anchor.now.epoch (tape c.args.layout.now c.args.anchor.now.third (reads j)) c.args.number c.args.at c.args.end (omega (arith, c.if-number-eq-LAST_NUMBER.true))));
+    }

@@ -1,13 +1,14 @@
 use Rattle.std.proofs.Common.{◌≡◌, ◌+◌, ◌*◌, ◌≤◌, length, Some, arith, subst, ap, ◌∙◌, sym, refl, Option}
 use Rattle.std.specs.Prelude.{option_map, IfSome}
-use Rattle.fsd_log.specs.Judged.{Reader}
-use Rattle.fsd_log.specs.Scan.{Head, tape, entered, next}
+use Rattle.fsd_log.specs.Scan.{Head, tape, entered}
 use Rattle.log_thirds.specs.Disk.{reads}
-use Rattle.log_thirds.specs.Append.{IsCalm}
 use Rattle.log_thirds.specs.declared.find.Taken.{Taken}
 use Rattle.log_thirds.specs.Reading.{taken_in, stepped_in, stepped_of}
 use Rattle.log_thirds.proofs.ReadingLaws.{reads_on}
-use Rattle.log_thirds.proofs.FindLaws.{goes_to, here_found, not_here, reads_same, calm_on, if_ok}
+use Rattle.log_thirds.proofs.FindLaws.{goes_to, here_found, not_here, if_ok}
+use Rattle.sector_disk.specs.Image.{Windows, IsWorn, open_damage}
+use Rattle.log_thirds.specs.Seen.{SeesOn}
+use Rattle.log_thirds.proofs.SeenLaws.{sees_more, sees_on, here_below}
 use Rattle.log_thirds.proofs.find.next.Goals as goal
 
 pub returns-in-Ok-Some-clause-goes : goal.returns-in-Ok-Some-clause-goes
@@ -21,38 +22,40 @@ returns-in-Ok-Some-clause-goes g c =
       in_third = c.requires.from;
     }
 
-pub returns-in-Ok-Some-clause-found : goal.returns-in-Ok-Some-clause-found
-returns-in-Ok-Some-clause-found g c h calm =
-    let M = g.M.Machine in
-    let entry = taken_in c.args.number c.in-Ok-Some.taken in
-    let disk = tape c.args.layout.now c.args.anchor.now.third (reads (M.now c.args.m.now).image) in
-    let head : Head = record { number = c.args.number; at = c.args.at; end = c.args.end } in
-    let counted = subst (λ (o : Option Taken). IfSome o (λ t. t.found.n ≡ length t.found.pages.items)) c.in-Ok-Some.field-0-is c.in-Ok-Some.ensures.counted in
-    (λ i. Some (record { from = c.args.at; entry = taken_in c.args.number c.in-Ok-Some.taken; at = c.args.at + (2 * counted i + 5); end = c.args.end }))
-    ∙ here_found c.args.layout.now c.args.anchor.now.epoch disk head (taken_in c.args.number c.in-Ok-Some.taken) (ap (option_map (taken_in c.args.number)) (sym c.in-Ok-Some.field-0-is) ∙ c.in-Ok-Some.ensures.found h calm)
-
 pub returns-in-Ok-None-clause-any_moment : goal.returns-in-Ok-None-clause-any_moment
 returns-in-Ok-None-clause-any_moment g c h =
     let M = g.M.Machine in
     let h1 = c.enter.ensures.trust.honest h in
     reads_on M.moment M.left_since c.args.m.now c.find.new.m c.enter.new.m (M.now c.args.m.now) (M.now c.find.new.m) (c.find.ensures.worn h1) (c.find.ensures.any_moment h1) (c.enter.ensures.any_moment h)
 
-pub returns-in-Ok-None-clause-found : goal.returns-in-Ok-None-clause-found
-returns-in-Ok-None-clause-found g c =
+pub returns-in-Ok-Some-clause-seen : goal.returns-in-Ok-Some-clause-seen
+returns-in-Ok-Some-clause-seen g c j h jw =
+    let M = g.M.Machine in
+    let l = c.args.layout.now in let third = c.args.anchor.now.third in let epoch = c.args.anchor.now.epoch in
+    let head : Head = record { number = c.args.number; at = c.args.at; end = c.args.end } in
+    let counted = subst (λ (o : Option Taken). IfSome o (λ t. t.found.n ≡ length t.found.pages.items)) c.in-Ok-Some.field-0-is c.in-Ok-Some.ensures.counted in
+    sees_more l third c.args.at (open_damage (M.now c.args.m.now).windows) j (M.now c.find.new.m).image _ _
+    (λ i found.
+    (λ k. Some (record { from = c.args.at; entry = taken_in c.args.number c.in-Ok-Some.taken; at = c.args.at + (2 * counted k + 5); end = c.args.end }))
+    ∙ here_found l epoch (tape l third (reads i)) head (taken_in c.args.number c.in-Ok-Some.taken) (ap (option_map (taken_in c.args.number)) (sym c.in-Ok-Some.field-0-is) ∙ found))
+    (c.in-Ok-Some.ensures.seen j h jw)
+
+pub returns-in-Ok-None-clause-seen : goal.returns-in-Ok-None-clause-seen
+returns-in-Ok-None-clause-seen g c =
     let M = g.M.Machine in
     let old = M.now c.args.m.now in
     let mid = M.now c.find.new.m in
-    let layout = c.args.layout.now in
-    let anchor = c.args.anchor.now in
+    let l = c.args.layout.now in let third = c.args.anchor.now.third in let epoch = c.args.anchor.now.epoch in
     let head : Head = record { number = c.args.number; at = c.args.at; end = c.args.end } in
-    if_ok c.enter.result
-    (λ o. M.honest c.enter.new.m → IsCalm (M.now c.find.new.m) → option_map (stepped_in c.args.number) o ≡ option_map stepped_of (entered c.args.layout.now c.args.anchor.now.epoch (tape c.args.layout.now c.args.anchor.now.third (reads (M.now c.find.new.m).image)) (record { number = c.args.number; at = c.args.at; end = c.args.end })))
-    (λ o. M.honest c.enter.new.m → IsCalm (M.now c.args.m.now) → option_map (stepped_in c.args.number) o ≡ option_map stepped_of (next c.args.layout.now c.args.anchor.now.epoch (tape c.args.layout.now c.args.anchor.now.third (reads (M.now c.args.m.now).image)) (record { number = c.args.number; at = c.args.at; end = c.args.end })))
-    (λ o later h calm.
+    if_ok c.enter.result _ _
+    (λ o later j h jw.
     let h1 = c.enter.ensures.trust.honest h in
-    let worn = c.find.ensures.worn h1 in
-    not_here c.args.layout.now c.args.anchor.now.epoch (tape c.args.layout.now c.args.anchor.now.third (reads (M.now c.args.m.now).image)) (record { number = c.args.number; at = c.args.at; end = c.args.end }) (option_map (stepped_in c.args.number) o)
-    (ap (option_map (taken_in c.args.number)) (sym c.in-Ok-None.field-0-is) ∙ c.in-Ok-None.ensures.found h1 calm)
-    (later h (calm_on (M.now c.args.m.now) (M.now c.find.new.m) calm worn)
-    ∙ ap (λ (d : Reader). option_map stepped_of (entered c.args.layout.now c.args.anchor.now.epoch (tape c.args.layout.now c.args.anchor.now.third d) (record { number = c.args.number; at = c.args.at; end = c.args.end }))) (reads_same (M.now c.args.m.now) (M.now c.find.new.m) calm worn)))
-    c.enter.ensures.found
+    let same = (c.find.ensures.worn h1).windows in
+    let first = c.in-Ok-None.ensures.seen j h1 jw in
+    let to_mid = subst (λ (w : Windows). IsWorn (open_damage w) first.image mid.image) (sym same) first.to in
+    let second = subst (λ (w : Windows). SeesOn l third c.args.end (open_damage w) first.image (M.now c.enter.new.m).image (λ i. option_map (stepped_in c.args.number) o ≡ option_map stepped_of (entered l epoch (tape l third (reads i)) (record { number = c.args.number; at = c.args.at; end = c.args.end })))) same (later first.image h to_mid) in
+    sees_on l third c.args.at c.args.end (open_damage old.windows) j mid.image (M.now c.enter.new.m).image _ _ _ c.requires.before first second
+    (λ i k worn below found step.
+    not_here l epoch (tape l third (reads k)) (record { number = c.args.number; at = c.args.at; end = c.args.end }) (option_map (stepped_in c.args.number) o)
+    (ap (option_map (taken_in c.args.number)) (sym c.in-Ok-None.field-0-is) ∙ found ∙ sym (here_below l epoch (tape l third (reads i)) (tape l third (reads k)) c.args.number c.args.at c.args.end c.requires.before below)) step))
+    c.enter.ensures.seen

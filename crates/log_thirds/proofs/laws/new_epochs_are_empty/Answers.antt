@@ -1,6 +1,6 @@
 use Rattle.std.proofs.Common.{arith}
 use Rattle.fsd_log.specs.Scan.{tape}
-use Rattle.log_thirds.proofs.ShiftLaws.{empty_log}
+use Rattle.fsd_log.proofs.FreshLaws.{empty_log}
 use Rattle.log_thirds.proofs.laws.new_epochs_are_empty.Goals as goal
 
 pub returns : goal.returns

@@ -7,7 +7,7 @@ use Rattle.fsd_volume.specs.State.{mounted_of}
 use Rattle.fsd_volume.proofs.volume.Volume.close.Goals as goal
 
 pub returns-in-Ok-clause-done : goal.returns-in-Ok-clause-done
-returns-in-Ok-clause-done g c honest calm v windows h f ends mounted =
+returns-in-Ok-clause-done g c honest v windows h f ends mounted =
     let image = (g.M.Machine.now c.force.new.m).image in
-    let after = c.in-Ok.ensures.done honest calm v windows h f ends mounted in
+    let after = c.in-Ok.ensures.done honest v windows h f ends mounted in
     subst (λ (l : Layout). IsSound l windows h (length h) image) mounted.stands.layout (mounted_sound (mounted_of c.force.new.self (forced v)) windows h (length h) image after.on_disk)

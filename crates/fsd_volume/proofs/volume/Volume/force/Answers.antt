@@ -16,13 +16,13 @@ on_err (Ok x) a = tt
 on_err (Err e) a = a
 
 pub returns-then-is_empty-clause-any_moment : goal.returns-then-is_empty-clause-any_moment
-returns-then-is_empty-clause-any_moment g c honest calm v windows h f ends mounted =
+returns-then-is_empty-clause-any_moment g c honest v windows h f ends mounted =
     let M = g.M.Machine in
     started M.moment M.left_since c.args.m.now (M.now c.args.m.now) (Forces c.args.self.now.layout windows h f (M.now c.args.m.now)) (λ l left. g.met.M.Machine.only_now c.args.m.now l honest left)
     (idle_forces c.args.self.now v windows h f (M.now c.args.m.now) mounted)
 
 pub returns-then-is_empty-clause-done : goal.returns-then-is_empty-clause-done
-returns-then-is_empty-clause-done g c honest calm v windows h f ends mounted =
+returns-then-is_empty-clause-done g c honest v windows h f ends mounted =
     let M = g.M.Machine in
     let state : State = record { layout = c.self.inside.layout; entries = c.self.inside.entries.items; serial = c.self.inside.serial; log = c.self.inside.log; table = c.self.inside.pages } in
     let old = M.now c.args.m.now in
@@ -43,46 +43,46 @@ invariant_of-self g c =
     ]
 
 pub returns-clause-any_moment : goal.returns-clause-any_moment
-returns-clause-any_moment g c honest calm v windows h f ends mounted =
+returns-clause-any_moment g c honest v windows h f ends mounted =
     let M = g.M.Machine in
     let state : State = record { layout = c.self.inside.layout; entries = c.self.inside.entries.items; serial = c.self.inside.serial; log = c.self.inside.log; table = c.self.inside.pages } in
     let old = M.now c.args.m.now in
     let epoch : c.self.inside.serial.epoch < 2 ^ 32 = search rules in
     let here = subst (λ (s : State). IsMounted s v windows h f old.image) (sym c.self.view_is) mounted in
     let over = over_log state c.self.inside.map c.self.invariant epoch v windows h f old.image here in
-    let moments = c.force.ensures.any_moment windows here.on_disk.records here.on_disk.disk honest calm ends over in
+    let moments = c.force.ensures.any_moment windows here.on_disk.records here.on_disk.disk honest ends over in
     subst (λ (s : State). LeavesOnly M.moment M.left_since c.args.m.now c.force.new.m (Forces s.layout windows h f old)) c.self.view_is
     (leaves_more M.moment M.left_since c.args.m.now c.force.new.m _ (Forces state.layout windows h f old)
-    (λ left commits. forces_at state c.self.inside.map c.self.invariant epoch v windows h f old.image here old left refl calm commits) moments)
+    (λ left commits. forces_at state c.self.inside.map c.self.invariant epoch v windows h f old.image here old left refl ends commits) moments)
 
 pub returns-clause-failed : goal.returns-clause-failed
-returns-clause-failed g c = on_err c.match-force.result (λ honest calm v windows h f ends mounted.
+returns-clause-failed g c = on_err c.match-force.result (λ honest v windows h f ends mounted.
     let M = g.M.Machine in
     let state : State = record { layout = c.self.inside.layout; entries = c.self.inside.entries.items; serial = c.self.inside.serial; log = c.self.inside.log; table = c.self.inside.pages } in
     let old = M.now c.args.m.now in
     let epoch : c.self.inside.serial.epoch < 2 ^ 32 = search rules in
     let here = subst (λ (s : State). IsMounted s v windows h f old.image) (sym c.self.view_is) mounted in
     let over = over_log state c.self.inside.map c.self.invariant epoch v windows h f old.image here in
-    let moments = c.force.ensures.any_moment windows here.on_disk.records here.on_disk.disk honest calm ends over in
+    let moments = c.force.ensures.any_moment windows here.on_disk.records here.on_disk.disk honest ends over in
     let left = M.now c.force.new.m in
     let commits = moments.each left (g.met.M.Machine.counts_now c.force.new.m (M.moment c.args.m.now) honest moments.later) in
-    subst (λ (s : State). Forces s.layout windows h f old left) c.self.view_is (forces_at state c.self.inside.map c.self.invariant epoch v windows h f old.image here old left refl calm commits))
+    subst (λ (s : State). Forces s.layout windows h f old left) c.self.view_is (forces_at state c.self.inside.map c.self.invariant epoch v windows h f old.image here old left refl ends commits))
 
 pub returns-clause-done : goal.returns-clause-done
 returns-clause-done g c =
     elim c.match-force.branch [
-      | in-Ok w ↦ rw w.result-is (λ honest calm v windows h f ends mounted.
+      | in-Ok w ↦ rw w.result-is (λ honest v windows h f ends mounted.
           let M = g.M.Machine in
           let state : State = record { layout = c.self.inside.layout; entries = c.self.inside.entries.items; serial = c.self.inside.serial; log = c.self.inside.log; table = c.self.inside.pages } in
           let old = M.now c.args.m.now in
           let epoch : c.self.inside.serial.epoch < 2 ^ 32 = search rules in
           let here = subst (λ (s : State). IsMounted s v windows h f old.image) (sym c.self.view_is) mounted in
           let over = over_log state c.self.inside.map c.self.invariant epoch v windows h f old.image here in
-          let moments = c.force.ensures.any_moment windows here.on_disk.records here.on_disk.disk honest calm ends over in
+          let moments = c.force.ensures.any_moment windows here.on_disk.records here.on_disk.disk honest ends over in
           let left = M.now c.force.new.m in
           let commits = moments.each left (g.met.M.Machine.counts_now c.force.new.m (M.moment c.args.m.now) honest moments.later) in
-          let done = w.in-Ok.ensures.done windows here.on_disk.records here.on_disk.disk honest calm ends over in
-          forced_at state c.self.inside.map c.self.invariant epoch v windows h f old.image here old left c.force.new.log c.force.new.pages refl calm commits w.in-Ok.ensures.log w.in-Ok.ensures.state done)
+          let done = w.in-Ok.ensures.done windows here.on_disk.records here.on_disk.disk honest ends over in
+          forced_at state c.self.inside.map c.self.invariant epoch v windows h f old.image here old left c.force.new.log c.force.new.pages refl ends commits w.in-Ok.ensures.log w.in-Ok.ensures.state done)
       | in-Err-Device w ↦ rw w.result-is tt
       | in-Err-Lost w ↦ rw w.result-is tt
     ]

@@ -7,24 +7,24 @@ use Rattle.group_commit.proofs.CommitLaws.{idle_commits, idle_committed}
 use Rattle.group_commit.proofs.force.Group.force.Goals as goal
 
 pub returns-then-count-eq0-clause-any_moment : goal.returns-then-count-eq0-clause-any_moment
-returns-then-count-eq0-clause-any_moment g c windows records disk h calm ends over =
+returns-then-count-eq0-clause-any_moment g c windows records disk h ends over =
     let M = g.M.Machine in
     let at = c.args.m.now in
     started M.moment M.left_since at (M.now at) _ (λ left now. g.met.M.Machine.only_now at left h now)
     (idle_commits c.args.log.now c.args.pages.now records disk (stamped_by c.args.log.now c.args.pages.now) windows (M.now at) over)
 
 pub returns-then-count-eq0-clause-done : goal.returns-then-count-eq0-clause-done
-returns-then-count-eq0-clause-done g c windows records disk h calm ends over =
+returns-then-count-eq0-clause-done g c windows records disk h ends over =
     let viewed : c.pages.inside.dirty.items ≡ c.args.pages.now.dirty = ap (λ (s : ResidentValue). s.dirty) c.pages.view_is in
     let none : length c.pages.inside.dirty.items ≡ 0 = omega (arith, c.len-count.ensures.value, c.if-count-eq0.true) in
     idle_committed c.args.log.now c.args.pages.now records disk windows (g.M.Machine.now c.args.m.now).image (sym viewed ∙ nil_from_length c.pages.inside.dirty.items none) over
 
 pub returns-in-Ok-clause-done : goal.returns-in-Ok-clause-done
-returns-in-Ok-clause-done g c windows records disk h calm ends over =
+returns-in-Ok-clause-done g c windows records disk h ends over =
     let image = (g.M.Machine.now c.write_pages.new.m).image in
     let log = c.write_pages.new.log in
     let pages = c.write_pages.new.pages in
-    let done = c.in-Ok.ensures.done windows records disk h calm ends (search rules) in
+    let done = c.in-Ok.ensures.done windows records disk h ends (search rules) in
     let long : length pages ≡ c.pages.inside.pages.len = search rules in
     subst (λ (p : List (List ℕ)). Committed log (record { pages = p; dirty = c.clear.new.self.items }) windows image) (sym (with_items_is c.pages.inside.pages pages long))
     (subst (λ (d : List ℕ). Committed log (record { pages = pages; dirty = d }) windows image) (sym c.clear.ensures) done)

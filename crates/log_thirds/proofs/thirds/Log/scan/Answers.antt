@@ -1,8 +1,8 @@
-use Rattle.std.proofs.Common.{subst}
-use Rattle.fsd_log.specs.Judged.{Reader}
-use Rattle.fsd_log.specs.Scan.{scan, tape}
-use Rattle.log_thirds.specs.Append.{IsIndexed}
-use Rattle.log_thirds.proofs.FindLaws.{reads_same, calm_on}
+use Rattle.std.proofs.Common.{Option, Some, subst, ap, sym, ◌∙◌}
+use Rattle.fsd_formats.specs.declared.anchor.Anchor.{Anchor}
+use Rattle.sector_disk.specs.Image.{Windows, IsWorn, open_damage}
+use Rattle.log_thirds.specs.Seen.{AnchorsOn, ScansOn}
+use Rattle.log_thirds.proofs.SeeOneLaws.{log_seen}
 use Rattle.log_thirds.proofs.ReadingLaws.{reads_on}
 use Rattle.log_thirds.proofs.thirds.Log.scan.Goals as goal
 
@@ -12,10 +12,21 @@ returns-in-Ok-clause-any_moment g c h =
     let h1 = c.scan_by.ensures.trust.honest h in
     reads_on M.moment M.left_since c.args.m.now c.find_anchor.new.m c.scan_by.new.m (M.now c.args.m.now) (M.now c.find_anchor.new.m) (c.find_anchor.ensures.worn h1) (c.find_anchor.ensures.any_moment h1) (c.scan_by.ensures.any_moment h)
 
-pub returns-in-Ok-clause-indexed : goal.returns-in-Ok-clause-indexed
-returns-in-Ok-clause-indexed g c h calm =
+pub returns-in-Ok-clause-seen : goal.returns-in-Ok-clause-seen
+returns-in-Ok-clause-seen g c j h jw =
     let M = g.M.Machine in
-    let log = c.in-Ok.log in
-    let worn = c.find_anchor.ensures.worn (c.scan_by.ensures.trust.honest h) in
-    subst (λ (d : Reader). IsIndexed c.in-Ok.log (scan c.in-Ok.log.layout c.in-Ok.log.anchor.epoch (tape c.in-Ok.log.layout c.in-Ok.log.anchor.third d) c.in-Ok.log.anchor.first).records) (reads_same (M.now c.args.m.now) (M.now c.find_anchor.new.m) calm worn)
-    (c.in-Ok.ensures.indexed h (calm_on (M.now c.args.m.now) (M.now c.find_anchor.new.m) calm worn))
+    let old = M.now c.args.m.now in
+    let mid = M.now c.find_anchor.new.m in
+    let h1 = c.scan_by.ensures.trust.honest h in
+    let same = (c.find_anchor.ensures.worn h1).windows in
+    let found = c.in-Ok-Some.ensures.seen j h1 jw in
+    let first = subst (λ (o : Option Anchor). AnchorsOn (open_damage old.windows) j mid.image o) (c.in-Ok-Some.field-0-is ∙ ap (λ (a : Anchor). Some a) (sym c.in-Ok.ensures.anchor)) found in
+    let to_mid = subst (λ (w : Windows). IsWorn (open_damage w) first.image mid.image) (sym same) first.to in
+    let scans = subst (λ (w : Windows). ScansOn c.in-Ok.log (open_damage w) first.image (M.now c.scan_by.new.m).image) same (c.in-Ok.ensures.seen first.image h to_mid) in
+    log_seen c.in-Ok.log (open_damage old.windows) j mid.image (M.now c.scan_by.new.m).image first scans
+
+pub returns-in-Err-scan_by-clause-any_moment : goal.returns-in-Err-scan_by-clause-any_moment
+returns-in-Err-scan_by-clause-any_moment g c h =
+    let M = g.M.Machine in
+    let h1 = c.scan_by.ensures.trust.honest h in
+    reads_on M.moment M.left_since c.args.m.now c.find_anchor.new.m c.scan_by.new.m (M.now c.args.m.now) (M.now c.find_anchor.new.m) (c.find_anchor.ensures.worn h1) (c.find_anchor.ensures.any_moment h1) (c.scan_by.ensures.any_moment h)

@@ -4,7 +4,6 @@ use Rattle.std.proofs.lemmas.List.{length-replicate, with_items_is}
 use Rattle.std.specs.Vec.{with_items}
 use Rattle.sector_disk.proofs.Moments.{started}
 use Rattle.sector_disk.proofs.Holding.{trusts_on}
-use Rattle.fsd_log.specs.Judged.{Reader}
 use Rattle.log_thirds.specs.declared.find.Step.{Step}
 use Rattle.log_thirds.specs.declared.slots.Slot.{Slot}
 use Rattle.fsd_log.specs.Scan.{Head, tape, next, last_number}
@@ -13,11 +12,16 @@ use Rattle.log_thirds.specs.Slots.{noted, slots_with, LieInRecords, SlotsInside}
 use Rattle.log_thirds.specs.Reading.{StepsOn, stepped_in, stepped_of}
 use Rattle.fsd_log.proofs.WalkLaws.{ends_inside}
 use Rattle.log_thirds.proofs.ReadingLaws.{wears_here, wears_on, uses_on, reads_on, fault_on}
-use Rattle.log_thirds.proofs.FindLaws.{reads_same, calm_on, place_most}
+use Rattle.log_thirds.proofs.FindLaws.{place_most}
 use Rattle.log_thirds.proofs.SlotLaws.{length-noted, none_inside, none_lie, record_inside, record_lies}
 use Rattle.log_thirds.specs.Copies.{FitsDisk, AreCopies}
 use Rattle.fsd_log.proofs.PlaceLaws.{place_inside}
-use Rattle.log_thirds.proofs.ScanLaws.{Reaches, reaches_start, reaches_on, reaches_end}
+use Rattle.log_thirds.proofs.ScanLaws.{Reaches, EndsThere, reaches_start, reaches_on, reaches_end}
+use Rattle.sector_disk.specs.declared.sector.Sector.{Sector}
+use Rattle.sector_disk.specs.Image.{Windows, IsWorn, open_damage}
+use Rattle.sector_disk.proofs.Wear.{worn_refl}
+use Rattle.log_thirds.specs.Seen.{SeesOn}
+use Rattle.log_thirds.proofs.SeenLaws.{sees_on, reaches_keeps, tape_worn}
 use Rattle.log_thirds.proofs.thirds.Log.scan_by.Goals as goal
 
 pub loop-from-init : goal.loop-from-init
@@ -26,6 +30,9 @@ loop-from-init g c =
     let value = c.third-third.ensures.value in
     let same : ◌≡◌ {A = Head} (record { number = c.args.anchor.now.first; at = 0; end = c.args.layout.now.third }) (record { number = c.args.anchor.now.first; at = 0; end = c.third-third.result }) = λ i. record { number = c.args.anchor.now.first; at = 0; end = sym value i } in
     let table : c.in-Ok-no_slots.slots.items ≡ replicate {A = Option Slot} c.pages.result None = c.in-Ok-no_slots.ensures in
+    let start_on : (i : List Sector) → Reaches c.args.layout.now c.args.anchor.now.epoch c.args.anchor.now.first c.args.anchor.now.third (tape c.args.layout.now c.args.anchor.now.third (reads i)) (record { number = c.args.anchor.now.first; at = 0; end = c.third-third.result }) c.in-Ok-no_slots.slots.items (record { place = 0; bytes = c.new-copies.result.items }) = λ i. subst (λ (b : List ℕ). Reaches c.args.layout.now c.args.anchor.now.epoch c.args.anchor.now.first c.args.anchor.now.third (tape c.args.layout.now c.args.anchor.now.third (reads i)) (record { number = c.args.anchor.now.first; at = 0; end = c.third-third.result }) c.in-Ok-no_slots.slots.items (record { place = 0; bytes = b })) (sym c.new-copies.ensures.items) (subst (λ (s : List (Option Slot)). Reaches c.args.layout.now c.args.anchor.now.epoch c.args.anchor.now.first c.args.anchor.now.third (tape c.args.layout.now c.args.anchor.now.third (reads i)) (record { number = c.args.anchor.now.first; at = 0; end = c.third-third.result }) s (record { place = 0; bytes = [] })) (sym table)
+    (subst (λ (x : Head). Reaches c.args.layout.now c.args.anchor.now.epoch c.args.anchor.now.first c.args.anchor.now.third (tape c.args.layout.now c.args.anchor.now.third (reads i)) x (replicate c.pages.result None) (record { place = 0; bytes = [] })) same
+    (reaches_start c.args.layout.now c.args.anchor.now.epoch c.args.anchor.now.first c.args.anchor.now.third (tape c.args.layout.now c.args.anchor.now.third (reads i)) c.pages.result 0))) in
     record {
       is_in = record { before = omega arith; from = omega (arith, value); ends = inl value };
       uses = record { sectors = refl; disk = omega arith; input = refl; output = refl };
@@ -37,9 +44,7 @@ loop-from-init g c =
       on_disk = subst (SlotsInside c.args.layout.now.sectors) (sym table) (none_inside c.args.layout.now.sectors c.pages.result);
       in_records = subst (LieInRecords c.args.layout.now) (sym table) (none_lie c.args.layout.now c.pages.result);
       fits = subst (λ (b : List ℕ). FitsDisk c.args.layout.now.sectors (record { place = 0; bytes = b })) (sym c.new-copies.ensures.items) (record { whole = refl; inside = omega arith });
-      reaches = λ h calm. subst (λ (b : List ℕ). Reaches c.args.layout.now c.args.anchor.now.epoch c.args.anchor.now.first c.args.anchor.now.third (tape c.args.layout.now c.args.anchor.now.third (reads (M.now c.args.m.now).image)) (record { number = c.args.anchor.now.first; at = 0; end = c.third-third.result }) c.in-Ok-no_slots.slots.items (record { place = 0; bytes = b })) (sym c.new-copies.ensures.items) (subst (λ (s : List (Option Slot)). Reaches c.args.layout.now c.args.anchor.now.epoch c.args.anchor.now.first c.args.anchor.now.third (tape c.args.layout.now c.args.anchor.now.third (reads (M.now c.args.m.now).image)) (record { number = c.args.anchor.now.first; at = 0; end = c.third-third.result }) s (record { place = 0; bytes = [] })) (sym table)
-          (subst (λ (x : Head). Reaches c.args.layout.now c.args.anchor.now.epoch c.args.anchor.now.first c.args.anchor.now.third (tape c.args.layout.now c.args.anchor.now.third (reads (M.now c.args.m.now).image)) x (replicate c.pages.result None) (record { place = 0; bytes = [] })) same
-          (reaches_start c.args.layout.now c.args.anchor.now.epoch c.args.anchor.now.first c.args.anchor.now.third (tape c.args.layout.now c.args.anchor.now.third (reads (M.now c.args.m.now).image)) c.pages.result 0)));
+      seen = λ j h jw. record { image = j; from = worn_refl (open_damage (M.now c.args.m.now).windows) j; to = jw; below = λ w lt. refl; front = λ s lt. refl; is = start_on j };
     }
 
 pub place_of-place-requires-clause-at : goal.place_of-place-requires-clause-at
@@ -152,47 +157,21 @@ loop-from-preserved g c =
           c.sectors-sectors.ensures.value,
         );
       };
-      reaches = λ h calm.
-          let wears = so_far.worn (back h) in
-          subst (λ (s : List (Option Slot)). Reaches c.args.layout.now c.args.anchor.now.epoch c.args.anchor.now.first c.args.anchor.now.third (tape c.args.layout.now c.args.anchor.now.third (reads (M.now c.args.m.now).image)) (record { number = c.loop-from.number + 1; at = c.in-Ok-Some.field-0-0.past.at; end = c.in-Ok-Some.field-0-0.past.end }) s (record { place = c.place_of-place.result + (4 + c.len.result); bytes = c.in-Ok-Some.field-0-0.taken.copies.items })) (sym (kept ∙ table))
-          (reaches_on c.args.layout.now c.args.anchor.now.epoch c.args.anchor.now.first c.args.anchor.now.third (tape c.args.layout.now c.args.anchor.now.third (reads (M.now c.args.m.now).image)) (record { number = c.loop-from.number; at = c.loop-from.at; end = c.loop-from.end }) c.loop-from.slots.items (stepped_in c.loop-from.number c.in-Ok-Some.field-0-0) (record { place = c.loop-from.copies_at; bytes = c.loop-from.copies.items }) (record { place = c.place_of-place.result + (4 + c.len.result); bytes = c.in-Ok-Some.field-0-0.taken.copies.items })
-          (so_far.reaches (back h) calm) (record { place = λ i. c.place_of-place.ensures i + (4 + c.len.ensures.value i); copies = copied; images = refl })
-          (ap (option_map (stepped_in c.loop-from.number)) (sym c.in-Ok-Some.field-0-is) ∙ c.in-Ok-Some.ensures.found h (calm_on (M.now c.args.m.now) (M.now c.loop-from.m) calm wears)
-          ∙ ap (λ (d : Reader). option_map stepped_of (next c.args.layout.now c.args.anchor.now.epoch (tape c.args.layout.now c.args.anchor.now.third d) (record { number = c.loop-from.number; at = c.loop-from.at; end = c.loop-from.end }))) (reads_same (M.now c.args.m.now) (M.now c.loop-from.m) calm wears)));
+      seen = λ j h jw.
+          let same = (so_far.worn (back h)).windows in
+          let first = so_far.seen j (back h) jw in
+          let to_mid = subst (λ (w : Windows). IsWorn (open_damage w) first.image (M.now c.loop-from.m).image) (sym same) first.to in
+          let second = subst (λ (w : Windows). SeesOn c.args.layout.now c.args.anchor.now.third c.loop-from.at (open_damage w) first.image (M.now c.next.new.m).image
+          (λ i. option_map (stepped_in c.loop-from.number) c.in-Ok-Some.field-0 ≡ option_map stepped_of (next c.args.layout.now c.args.anchor.now.epoch (tape c.args.layout.now c.args.anchor.now.third (reads i)) (record { number = c.loop-from.number; at = c.loop-from.at; end = c.loop-from.end })))) same (c.in-Ok-Some.ensures.seen first.image h to_mid) in
+          sees_on c.args.layout.now c.args.anchor.now.third 0 c.loop-from.at (open_damage (M.now c.args.m.now).windows) j (M.now c.loop-from.m).image (M.now c.next.new.m).image _ _ _ (omega arith) first second
+          (λ i k worn below before step.
+          subst (λ (s : List (Option Slot)). Reaches c.args.layout.now c.args.anchor.now.epoch c.args.anchor.now.first c.args.anchor.now.third (tape c.args.layout.now c.args.anchor.now.third (reads k)) (record { number = c.loop-from.number + 1; at = c.in-Ok-Some.field-0-0.past.at; end = c.in-Ok-Some.field-0-0.past.end }) s (record { place = c.place_of-place.result + (4 + c.len.result); bytes = c.in-Ok-Some.field-0-0.taken.copies.items })) (sym (kept ∙ table))
+          (reaches_on c.args.layout.now c.args.anchor.now.epoch c.args.anchor.now.first c.args.anchor.now.third (tape c.args.layout.now c.args.anchor.now.third (reads k)) (record { number = c.loop-from.number; at = c.loop-from.at; end = c.loop-from.end }) c.loop-from.slots.items (stepped_in c.loop-from.number c.in-Ok-Some.field-0-0) (record { place = c.loop-from.copies_at; bytes = c.loop-from.copies.items }) (record { place = c.place_of-place.result + (4 + c.len.result); bytes = c.in-Ok-Some.field-0-0.taken.copies.items })
+          (reaches_keeps c.args.layout.now c.args.anchor.now.epoch c.args.anchor.now.first c.args.anchor.now.third (omega (arith, c.fits-anchor.0.1)) (tape c.args.layout.now c.args.anchor.now.third (reads i)) (tape c.args.layout.now c.args.anchor.now.third (reads k)) (record { number = c.loop-from.number; at = c.loop-from.at; end = c.loop-from.end }) c.loop-from.slots.items (record { place = c.loop-from.copies_at; bytes = c.loop-from.copies.items }) (omega (arith, c.loop-from.auto.number-fits))
+          (tape_worn c.args.layout.now c.args.anchor.now.third (open_damage (M.now c.args.m.now).windows) i k worn) below before)
+          (record { place = λ i. c.place_of-place.ensures i + (4 + c.len.ensures.value i); copies = copied; images = refl })
+          (ap (option_map (stepped_in c.loop-from.number)) (sym c.in-Ok-Some.field-0-is) ∙ step)));
     }
-
-pub returns-in-Ok-None-clause-found : goal.returns-in-Ok-None-clause-found
-returns-in-Ok-None-clause-found g c h calm =
-    let M = g.M.Machine in
-    let so_far = c.loop-from.invariant in
-    let h1 = c.next.ensures.trust.honest h in
-    let wears = so_far.worn h1 in
-    (reaches_end c.args.layout.now c.args.anchor.now.epoch c.args.anchor.now.first c.args.anchor.now.third (tape c.args.layout.now c.args.anchor.now.third (reads (M.now c.args.m.now).image)) (record { number = c.loop-from.number; at = c.loop-from.at; end = c.loop-from.end }) c.loop-from.slots.items (record { place = c.loop-from.copies_at; bytes = c.loop-from.copies.items })
-    (so_far.reaches h1 calm)
-    (ap (option_map (stepped_in c.loop-from.number)) (sym c.in-Ok-None.field-0-is) ∙ c.in-Ok-None.ensures.found h (calm_on (M.now c.args.m.now) (M.now c.loop-from.m) calm wears)
-    ∙ ap (λ (d : Reader). option_map stepped_of (next c.args.layout.now c.args.anchor.now.epoch (tape c.args.layout.now c.args.anchor.now.third d) (record { number = c.loop-from.number; at = c.loop-from.at; end = c.loop-from.end }))) (reads_same (M.now c.args.m.now) (M.now c.loop-from.m) calm wears))).head
-
-pub returns-in-Ok-None-clause-indexed : goal.returns-in-Ok-None-clause-indexed
-returns-in-Ok-None-clause-indexed g c h calm =
-    let M = g.M.Machine in
-    let so_far = c.loop-from.invariant in
-    let h1 = c.next.ensures.trust.honest h in
-    let wears = so_far.worn h1 in
-    (reaches_end c.args.layout.now c.args.anchor.now.epoch c.args.anchor.now.first c.args.anchor.now.third (tape c.args.layout.now c.args.anchor.now.third (reads (M.now c.args.m.now).image)) (record { number = c.loop-from.number; at = c.loop-from.at; end = c.loop-from.end }) c.loop-from.slots.items (record { place = c.loop-from.copies_at; bytes = c.loop-from.copies.items })
-    (so_far.reaches h1 calm)
-    (ap (option_map (stepped_in c.loop-from.number)) (sym c.in-Ok-None.field-0-is) ∙ c.in-Ok-None.ensures.found h (calm_on (M.now c.args.m.now) (M.now c.loop-from.m) calm wears)
-    ∙ ap (λ (d : Reader). option_map stepped_of (next c.args.layout.now c.args.anchor.now.epoch (tape c.args.layout.now c.args.anchor.now.third d) (record { number = c.loop-from.number; at = c.loop-from.at; end = c.loop-from.end }))) (reads_same (M.now c.args.m.now) (M.now c.loop-from.m) calm wears))).are
-
-pub returns-in-Ok-None-clause-last : goal.returns-in-Ok-None-clause-last
-returns-in-Ok-None-clause-last g c h calm =
-    let M = g.M.Machine in
-    let so_far = c.loop-from.invariant in
-    let h1 = c.next.ensures.trust.honest h in
-    let wears = so_far.worn h1 in
-    (reaches_end c.args.layout.now c.args.anchor.now.epoch c.args.anchor.now.first c.args.anchor.now.third (tape c.args.layout.now c.args.anchor.now.third (reads (M.now c.args.m.now).image)) (record { number = c.loop-from.number; at = c.loop-from.at; end = c.loop-from.end }) c.loop-from.slots.items (record { place = c.loop-from.copies_at; bytes = c.loop-from.copies.items })
-    (so_far.reaches h1 calm)
-    (ap (option_map (stepped_in c.loop-from.number)) (sym c.in-Ok-None.field-0-is) ∙ c.in-Ok-None.ensures.found h (calm_on (M.now c.args.m.now) (M.now c.loop-from.m) calm wears)
-    ∙ ap (λ (d : Reader). option_map stepped_of (next c.args.layout.now c.args.anchor.now.epoch (tape c.args.layout.now c.args.anchor.now.third d) (record { number = c.loop-from.number; at = c.loop-from.at; end = c.loop-from.end }))) (reads_same (M.now c.args.m.now) (M.now c.loop-from.m) calm wears))).last
 
 pub returns-in-Ok-None-clause-trust : goal.returns-in-Ok-None-clause-trust
 returns-in-Ok-None-clause-trust g c = trusts_on c.loop-from.invariant.trust c.next.ensures.trust
@@ -232,3 +211,22 @@ returns-in-Ok-None-clause-ledger g c t = c.next.ensures.ledger t ∙ c.loop-from
 
 pub returns-in-Err-next-clause-ledger : goal.returns-in-Err-next-clause-ledger
 returns-in-Err-next-clause-ledger g c t = c.next.ensures.ledger t ∙ c.loop-from.invariant.ledger (c.next.ensures.trust.tells t)
+
+pub returns-in-Ok-None-clause-seen : goal.returns-in-Ok-None-clause-seen
+returns-in-Ok-None-clause-seen g c j h jw =
+    let M = g.M.Machine in
+    let so_far = c.loop-from.invariant in
+    let back = c.next.ensures.trust.honest in
+    let same = (so_far.worn (back h)).windows in
+    let first = so_far.seen j (back h) jw in
+    let to_mid = subst (λ (w : Windows). IsWorn (open_damage w) first.image (M.now c.loop-from.m).image) (sym same) first.to in
+    let second = subst (λ (w : Windows). SeesOn c.args.layout.now c.args.anchor.now.third c.loop-from.at (open_damage w) first.image (M.now c.next.new.m).image
+    (λ i. option_map (stepped_in c.loop-from.number) c.in-Ok-None.field-0 ≡ option_map stepped_of (next c.args.layout.now c.args.anchor.now.epoch (tape c.args.layout.now c.args.anchor.now.third (reads i)) (record { number = c.loop-from.number; at = c.loop-from.at; end = c.loop-from.end })))) same (c.in-Ok-None.ensures.seen first.image h to_mid) in
+    let ends = sees_on c.args.layout.now c.args.anchor.now.third 0 c.loop-from.at (open_damage (M.now c.args.m.now).windows) j (M.now c.loop-from.m).image (M.now c.next.new.m).image _ _
+    (λ k. EndsThere c.args.layout.now c.args.anchor.now.epoch c.args.anchor.now.first c.args.anchor.now.third (tape c.args.layout.now c.args.anchor.now.third (reads k)) (record { number = c.loop-from.number; at = c.loop-from.at; end = c.loop-from.end }) c.loop-from.slots.items (record { place = c.loop-from.copies_at; bytes = c.loop-from.copies.items })) (omega arith) first second
+    (λ i k worn below before step.
+    reaches_end c.args.layout.now c.args.anchor.now.epoch c.args.anchor.now.first c.args.anchor.now.third (tape c.args.layout.now c.args.anchor.now.third (reads k)) (record { number = c.loop-from.number; at = c.loop-from.at; end = c.loop-from.end }) c.loop-from.slots.items (record { place = c.loop-from.copies_at; bytes = c.loop-from.copies.items })
+    (reaches_keeps c.args.layout.now c.args.anchor.now.epoch c.args.anchor.now.first c.args.anchor.now.third (omega (arith, c.fits-anchor.0.1)) (tape c.args.layout.now c.args.anchor.now.third (reads i)) (tape c.args.layout.now c.args.anchor.now.third (reads k)) (record { number = c.loop-from.number; at = c.loop-from.at; end = c.loop-from.end }) c.loop-from.slots.items (record { place = c.loop-from.copies_at; bytes = c.loop-from.copies.items }) (omega (arith, c.loop-from.auto.number-fits))
+    (tape_worn c.args.layout.now c.args.anchor.now.third (open_damage (M.now c.args.m.now).windows) i k worn) below before)
+    (ap (option_map (stepped_in c.loop-from.number)) (sym c.in-Ok-None.field-0-is) ∙ step)) in
+    record { image = ends.image; from = ends.from; to = ends.to; front = ends.front; scanned = record { head = ends.is.head; indexed = ends.is.are; last = ends.is.last } }

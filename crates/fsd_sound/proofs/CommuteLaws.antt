@@ -1,0 +1,93 @@
+-- Wear and a write of one sector change places.
+use Rattle.std.proofs.Common.{◌≡◌, ◌≢◌, ◌⊎◌, inl, inr, ⊎_elim, ℕ, ◌<◌, List, length, set, sym, ap, subst, ◌∙◌, arith}
+use Rattle.std.specs.Prelude.{IsTrue}
+use Rattle.std.proofs.lemmas.Bool.{cases_lt}
+use Rattle.std.proofs.lemmas.List.{length-set, get_or-set_same, get_or-set_other, ext_get_or}
+use Rattle.volume_layout.specs.declared.layout.Layout.{Layout}
+use Rattle.sector_disk.specs.declared.sector.WeakRun.{WeakRun}
+use Rattle.sector_disk.specs.declared.sector.Sector.TheVariants.{Whole, Damaged}
+use Rattle.sector_disk.specs.Image.{sector_at, with_sector, IsWorn, AllWorn}
+use Rattle.fsd_files.specs.Disk.{Image, Sectors}
+use Rattle.sector_disk.proofs.Wear.{worn_refl}
+use Rattle.fsd_sound.specs.Sound.{ShowsPages, weak_of}
+use Rattle.fsd_sound.proofs.SoundLaws.{shows_still}
+use Rattle.fsd_sound.specs.Stands.{Stands, IsOver}
+use Rattle.fsd_sound.specs.Windows.{IsNarrow}
+
+pub same_or : (a b : ℕ) → (a ≡ b) ⊎ (a ≢ b)
+same_or a b = elim (cases_lt a b) [
+  | inl lt ↦ inr (λ e. omega arith)
+  | inr ge ↦ elim (cases_lt b a) [ inl lt ↦ inr (λ e. omega arith) | inr le ↦ inl (omega arith) ]
+]
+
+pub with_same : (i : Image) (s : ℕ) (bytes : List ℕ) → s < length i → sector_at (with_sector i s bytes) s ≡ Whole bytes
+with_same i s bytes lt = get_or-set_same i s (Whole bytes) Damaged lt
+
+pub with_other : (i : Image) (s place : ℕ) (bytes : List ℕ) → place ≢ s → sector_at (with_sector i s bytes) place ≡ sector_at i place
+with_other i s place bytes other = get_or-set_other i s place (Whole bytes) Damaged other
+
+module _ (may : Sectors) (c j : Image) (s : ℕ) (bytes : List ℕ) (room : s < length c) (w : IsWorn may (with_sector c s bytes) j) where
+  long : length j ≡ length c
+  long = w.size ∙ length-set c s (Whole bytes)
+
+  -- where the sector is worn again, the image is a worn one of the old
+  hurt_again : IsTrue (may s) → sector_at j s ≡ Damaged → IsWorn may c j
+  hurt_again weak hurt = record {
+    size = long;
+    each = λ p. ⊎_elim
+        (λ here. inr (subst (λ (n : ℕ). IsTrue (may n)) (sym here) weak, ap (sector_at j) here ∙ hurt))
+        (λ other. ⊎_elim (λ same. inl (same ∙ with_other c s p bytes other)) (λ worn. inr worn) (w.each p)) (same_or p s);
+  }
+
+  -- else it is that sector over a worn one
+  stands_over : sector_at j s ≡ Whole bytes → IsOver may c s bytes j
+  stands_over stands = record {
+    under = under;
+    worn = record { size = length-set j s (sector_at c s) ∙ long; each = λ p. ⊎_elim (at_place p) (λ other. elsewhere p other (w.each p)) (same_or p s) };
+    there = back;
+    is = ext_get_or Damaged j (with_sector under s bytes) (sym (length-set under s (Whole bytes) ∙ length-set j s (sector_at c s)))
+        (λ p lt. ⊎_elim
+        (λ here. ap (sector_at j) here ∙ stands ∙ sym (ap (sector_at (with_sector under s bytes)) here ∙ with_same under s bytes (omega (arith, length-set j s (sector_at c s), long, room))))
+        (λ other. sym (with_other under s p bytes other ∙ get_or-set_other j s p (sector_at c s) Damaged other)) (same_or p s));
+  }
+    where
+      under : Image
+      under = set j s (sector_at c s)
+
+      back : sector_at (set j s (sector_at c s)) s ≡ sector_at c s
+      back = get_or-set_same j s (sector_at c s) Damaged (omega (arith, long, room))
+
+      at_place : (p : ℕ) → p ≡ s → (sector_at (set j s (sector_at c s)) p ≡ sector_at c p) ⊎ (IsTrue (may p) × (sector_at (set j s (sector_at c s)) p ≡ Damaged))
+      at_place p here = inl (ap (sector_at (set j s (sector_at c s))) here ∙ back ∙ ap (sector_at c) (sym here))
+
+      elsewhere : (p : ℕ) → p ≢ s → (sector_at j p ≡ sector_at (with_sector c s bytes) p) ⊎ (IsTrue (may p) × (sector_at j p ≡ Damaged))
+          → (sector_at (set j s (sector_at c s)) p ≡ sector_at c p) ⊎ (IsTrue (may p) × (sector_at (set j s (sector_at c s)) p ≡ Damaged))
+      elsewhere p other (inl same) = inl (get_or-set_other j s p (sector_at c s) Damaged other ∙ same ∙ with_other c s p bytes other)
+      elsewhere p other (inr worn) = inr (worn.0, get_or-set_other j s p (sector_at c s) Damaged other ∙ worn.1)
+
+  -- an image worn from one with a sector written is worn from the old one, or has that sector over a worn one
+  pub worn_or_over : IsWorn may c j ⊎ IsOver may c s bytes j
+  worn_or_over = ⊎_elim (λ same. inr (stands_over (same ∙ with_same c s bytes room))) (λ hurt. inl (hurt_again hurt.0 hurt.1)) (w.each s)
+
+-- what holds however a sector wears holds with one more sector, if it does of each image with it
+pub all_over : (may : Sectors) (P : Image → Type 0) (c : Image) (s : ℕ) (bytes : List ℕ) → s < length c → AllWorn may P c
+    → ((i : Image) → IsWorn may c i → sector_at i s ≡ sector_at c s → P i → P (with_sector i s bytes)) → AllWorn may P (with_sector c s bytes)
+all_over may P c s bytes room all step = λ j w. ⊎_elim
+    (λ worn. all j worn)
+    (λ over. subst P (sym over.is) (step over.under over.worn over.there (all over.under over.worn)))
+    (worn_or_over may c j s bytes room w)
+
+-- ---- what is shown
+
+pub shows_all : (l : Layout) (windows : List WeakRun) → IsNarrow (weak_of windows) → (choices : List (List (List ℕ))) (c : Image) → ShowsPages l windows choices c → AllWorn (weak_of windows) (Stands l (weak_of windows) choices) c
+shows_all l windows narrow choices c shows = λ j w.
+    let at = shows_still l windows narrow choices c j w shows in
+    record { roots = at.readable.roots; anchors = at.readable.anchors; log = shows.readable.log j w; homes = shows.readable.homes j w; shows = shows.shows j w }
+
+pub all_shows : (l : Layout) (windows : List WeakRun) (choices : List (List (List ℕ))) (c : Image) → AllWorn (weak_of windows) (Stands l (weak_of windows) choices) c → ShowsPages l windows choices c
+all_shows l windows choices c all =
+    let here = all c (worn_refl (weak_of windows) c) in
+    record {
+      readable = record { roots = here.roots; anchors = here.anchors; log = λ j w. (all j w).log; homes = λ j w. (all j w).homes };
+      shows = λ j w. (all j w).shows;
+    }

@@ -1,0 +1,300 @@
+-- A mount's end: the anchors of the next epoch are written, and it settles.
+use Rattle.std.proofs.Common.{◌≡◌, ◌⊎◌, inl, inr, ⊎_elim, ℕ, zero, suc, ◌+◌, ◌*◌, ◌^◌, ◌<◌, ◌≤◌, Bool, true, false, cond, List, [], ◌∷◌, ◌++◌, length, get_or, Option, Some, None, refl, sym, ap, subst, ◌∙◌, arith}
+use Rattle.std.specs.Prelude.{IsSome, IfSome, option_and_then}
+use Rattle.std.proofs.lemmas.List.{length-set}
+use Rattle.std.proofs.lemmas.Bool.Decides.{nat_tests}
+use Rattle.std.proofs.lemmas.List.FromFn.{length-range_with_len}
+use Rattle.volume_layout.specs.declared.layout.Layout.{Layout}
+use Rattle.volume_layout.specs.Layout.{home_a, home_b}
+use Rattle.volume_layout.proofs.RootLaws.{planned_bounds}
+use Rattle.fsd_formats.specs.declared.anchor.Anchor.{Anchor}
+use Rattle.fsd_formats.specs.Anchors.{anchor_bytes, read_anchor}
+use Rattle.fsd_formats.specs.Record.{Stamp}
+use Rattle.sector_disk.specs.declared.sector.Sector.{Sector}
+use Rattle.sector_disk.specs.declared.sector.Sector.TheVariants.{Whole}
+use Rattle.sector_disk.specs.declared.sector.WeakRun.{WeakRun}
+use Rattle.sector_disk.specs.Image.{Windows, sector_at, with_sector, stand, IsWorn, AreShort, open_damage}
+use Rattle.sector_disk.specs.Machine.{Moment, Holds, Wears, Before, Settles}
+use Rattle.sector_disk.proofs.Calm.{stand_one}
+use Rattle.sector_disk.proofs.Holding.{holds_wears}
+use Rattle.sector_disk.proofs.Wear.{worn_trans, worn_more, stand_other}
+use Rattle.fsd_log.specs.Scan.{is_newer, newer_of, start}
+use Rattle.fsd_files.specs.Disk.{Image, SectorWorn, bytes_of}
+use Rattle.fsd_sound.specs.Anchors.{anchor_at, EachAnchor, fresh_anchor}
+use Rattle.fsd_sound.specs.Shown.{newest, records_by, all_pages, shown_by}
+use Rattle.fsd_sound.specs.Sound.{EachStamp, ShowsPages, weak_of}
+use Rattle.fsd_sound.proofs.WindowLaws.{open_is_weak}
+use Rattle.log_thirds.specs.Anchoring.{AnchorsIn}
+use Rattle.log_thirds.specs.LogValue.{LogValue}
+use Rattle.fsd_sound.specs.Begun.{IsHomed, IsBegun, IsMountedIn, AreOlder}
+use Rattle.fsd_sound.specs.Windows.{IsNarrow, IsApart}
+use Rattle.fsd_sound.proofs.BegunLaws.{begun_own}
+use Rattle.fsd_sound.proofs.CommuteLaws.{with_same, with_other}
+use Rattle.fsd_sound.proofs.FreshLaws.{anchor_stands}
+use Rattle.fsd_sound.proofs.LaidLaws.{has_worn, own_worn}
+use Rattle.fsd_sound.proofs.RenewLaws.{renewed_shows}
+use Rattle.fsd_sound.proofs.SettleLaws.{open_in_next, settles}
+use Rattle.mount_recover.specs.Mending.{KeepsFrom, IsCompleted, IsMended, Stays, Settled, Begins}
+use Rattle.mount_recover.specs.Replay.{IsReplayed}
+use Rattle.mount_recover.proofs.KeepsLaws.{sector_on}
+use Rattle.mount_recover.proofs.MendingLaws.{narrow, over_two}
+use Rattle.fsd_sound.proofs.AnchorFacts.{newer_one}
+use Rattle.fsd_sound.proofs.EachLaws.{each_size}
+use Rattle.fsd_sound.proofs.SectorFacts.{whole_before}
+use Rattle.fsd_sound.proofs.WindowLaws.{next_apart}
+
+-- ---- runs
+
+some_run : (o : Option WeakRun) → IsSome o → (run : WeakRun) × (o ≡ Some run)
+some_run None some = absurd (cc some)
+some_run (Some run) some = (run, refl)
+
+-- ---- anchors and pages
+
+-- the newer of two has the greatest epoch
+newer_most : (x y : Option Anchor) (t : Anchor) → newer_of x y ≡ Some t → IfSome x (λ a. a.epoch ≤ t.epoch) × IfSome y (λ a. a.epoch ≤ t.epoch)
+newer_most None None t is = (tt, tt)
+newer_most None (Some b) t is = let same : b ≡ t = cc is in (tt, omega (arith, ap (λ (a : Anchor). a.epoch) same))
+newer_most (Some a) None t is = let same : a ≡ t = cc is in (omega (arith, ap (λ (x : Anchor). x.epoch) same), tt)
+newer_most (Some a) (Some b) t is = by_test (is_newer b a) refl (taken (cond (is_newer b a) b a) is)
+  where
+    taken : (x : Anchor) → Some x ≡ Some t → x ≡ t
+    taken x e = cc
+
+    by_test : (x : Bool) → is_newer b a ≡ x → cond (is_newer b a) b a ≡ t → (a.epoch ≤ t.epoch) × (b.epoch ≤ t.epoch)
+    by_test true test e =
+        let same : b ≡ t = ap (λ (x : Bool). cond x b a) (sym test) ∙ e in
+        let le : a.epoch ≤ b.epoch = newer_from test in
+        (omega (arith, le, ap (λ (x : Anchor). x.epoch) same), omega (arith, ap (λ (x : Anchor). x.epoch) same))
+      where
+        newer_from : is_newer b a ≡ true → a.epoch ≤ b.epoch
+        newer_from is = grind (arith, nat_tests)
+    by_test false test e =
+        let same : a ≡ t = ap (λ (x : Bool). cond x b a) (sym test) ∙ e in
+        let le : b.epoch ≤ a.epoch = older_from test in
+        (omega (arith, ap (λ (x : Anchor). x.epoch) same), omega (arith, le, ap (λ (x : Anchor). x.epoch) same))
+      where
+        older_from : is_newer b a ≡ false → b.epoch ≤ a.epoch
+        older_from is = grind (arith, nat_tests)
+
+if_more : (o : Option Anchor) (P Q : Anchor → Type 0) → ((a : Anchor) → P a → Q a) → IfSome o P → IfSome o Q
+if_more None P Q more p = tt
+if_more (Some a) P Q more p = more a p
+
+-- wear brings no anchor
+worn_anchor : (b : Bool) (x y : Sector) (P : Anchor → Type 0) → SectorWorn b x y → IfSome (option_and_then read_anchor (bytes_of x)) P → IfSome (option_and_then read_anchor (bytes_of y)) P
+worn_anchor b x y P (inl same) p = subst (λ (s : Sector). IfSome (option_and_then read_anchor (bytes_of s)) P) (sym same) p
+worn_anchor b x y P (inr hurt) p = subst (λ (s : Sector). IfSome (option_and_then read_anchor (bytes_of s)) P) (sym hurt.1) tt
+
+-- ---- an anchor more
+
+module _ (l : Layout) (epoch : ℕ) (pages : List (List ℕ)) (i : Image) (s : ℕ) (place : (s ≡ 8) ⊎ (s ≡ 12)) (room : s < length i) (homed : IsHomed l epoch pages i) where
+  not_here : (p : ℕ) → (p < 8) ⊎ (16 ≤ p) → sector_at (with_sector i s (anchor_bytes (fresh_anchor epoch))) p ≡ sector_at i p
+  not_here p (inl low) = with_other i s p (anchor_bytes (fresh_anchor epoch)) (λ e. ⊎_elim (λ is. omega (arith, e, is, low)) (λ is. omega (arith, e, is, low)) place)
+  not_here p (inr high) = with_other i s p (anchor_bytes (fresh_anchor epoch)) (λ e. ⊎_elim (λ is. omega (arith, e, is, high)) (λ is. omega (arith, e, is, high)) place)
+
+  homed_on : IsHomed l epoch pages (with_sector i s (anchor_bytes (fresh_anchor epoch)))
+  homed_on = record {
+    planned = homed.planned;
+    long = omega (arith, homed.long, length-set i s (Whole (anchor_bytes (fresh_anchor epoch))));
+    root = not_here 0 (inl (omega arith)) ∙ homed.root;
+    root_copy = not_here 4 (inl (omega arith)) ∙ homed.root_copy;
+    first = homed.first;
+    last = homed.last;
+    stamps = λ p inside bytes is. homed.stamps p inside bytes (sym (not_here p (inr (let from = inside.0 in omega (arith, from)))) ∙ is);
+    size = homed.size;
+    home = λ page lt. let is = homed.home page lt in (not_here (home_a l page) (inr (omega arith)) ∙ is.0, not_here (home_b l page) (inr (omega arith)) ∙ is.1);
+  }
+
+  older_on : AreOlder epoch i → AreOlder epoch (with_sector i s (anchor_bytes (fresh_anchor epoch)))
+  older_on older = (at_place 8 older.0, at_place 12 older.1)
+    where
+      at_place : (p : ℕ) → IfSome (anchor_at i p) (λ a. (a.epoch < epoch) ⊎ (a ≡ fresh_anchor epoch)) → IfSome (anchor_at (with_sector i s (anchor_bytes (fresh_anchor epoch))) p) (λ a. (a.epoch < epoch) ⊎ (a ≡ fresh_anchor epoch))
+      at_place p old = ⊎_elim
+          (λ here. subst (λ (o : Option Anchor). IfSome o (λ a. (a.epoch < epoch) ⊎ (a ≡ fresh_anchor epoch)))
+          (sym (anchor_stands epoch (with_sector i s (anchor_bytes (fresh_anchor epoch))) p homed.first homed.last (ap (sector_at (with_sector i s (anchor_bytes (fresh_anchor epoch)))) here ∙ with_same i s (anchor_bytes (fresh_anchor epoch)) room))) (inr refl))
+          (λ other. subst (λ (x : Sector). IfSome (option_and_then read_anchor (bytes_of x)) (λ a. (a.epoch < epoch) ⊎ (a ≡ fresh_anchor epoch))) (sym (with_other i s p (anchor_bytes (fresh_anchor epoch)) other)) old)
+          (Rattle.fsd_sound.proofs.CommuteLaws.same_or p s)
+
+pub data_renewed : (epoch : ℕ) (now mid new : Moment) → Holds now (stand (stand now.image 8 (anchor_bytes (fresh_anchor epoch)) 1) 12 (anchor_bytes (fresh_anchor epoch)) 1) mid → Settles mid new → KeepsFrom 16 now new
+data_renewed epoch now mid new holds done s from =
+    let bytes : List ℕ = anchor_bytes (fresh_anchor epoch) in
+    let last : IsWorn (open_damage now.windows) mid.image new.image = subst (λ (w : Windows). IsWorn (open_damage w) mid.image new.image) holds.windows done.image in
+    sector_on (open_damage now.windows s) (sector_at now.image s) (sector_at (stand (stand now.image 8 bytes 1) 12 bytes 1) s) (sector_at new.image s)
+    (inl (stand_other (stand now.image 8 bytes 1) 12 bytes 1 s (inr (omega (arith, from))) ∙ stand_other now.image 8 bytes 1 s (inr (omega (arith, from)))))
+    ((worn_trans (open_damage now.windows) _ mid.image new.image holds.worn last).each s)
+
+-- ---- the end
+
+module _ (l : Layout) (windows : List WeakRun) (choices : List (List (List ℕ))) (log : LogValue) (first : Moment) (c : IsCompleted l windows choices log first) (now : Moment) (at : IsMended l windows choices log first c now) (fits : log.anchor.epoch + 1 < 2 ^ 32) where
+  abbrev epoch : ℕ
+  epoch = log.anchor.epoch + 1
+
+  abbrev bytes : List ℕ
+  bytes = anchor_bytes (fresh_anchor (log.anchor.epoch + 1))
+
+  bytes_long : length (anchor_bytes (fresh_anchor (log.anchor.epoch + 1))) ≡ 512
+  bytes_long = refl
+
+  room : 16 + 3 * l.third ≤ length at.image
+  room = let bounds = planned_bounds l c.planned in omega (arith, bounds.third_least, bounds.sectors_least, at.shows.readable.roots.fits)
+
+  from_clean : (s : ℕ) → 8 ≤ s → s < 16 + 3 * l.third → SectorWorn (weak_of windows s) (sector_at c.clean s) (sector_at at.image s)
+  from_clean s from inside = subst (λ (x : Sector). SectorWorn (weak_of windows s) (sector_at c.clean s) x) (sym (at.body s from inside)) (c.worn.each s)
+
+  stamps_now : EachStamp l at.image (λ stamp. stamp.epoch < log.anchor.epoch + 1)
+  stamps_now s inside bytes is =
+      let by : EachStamp l c.clean (λ stamp. stamp.epoch ≤ log.anchor.epoch) =
+      subst (λ (o : Option Anchor). IfSome o (λ a. EachStamp l c.clean (λ stamp. stamp.epoch ≤ a.epoch))) c.taken
+      (newer_one (λ a. EachStamp l c.clean (λ stamp. stamp.epoch ≤ a.epoch)) (anchor_at c.clean 8) (anchor_at c.clean 12) c.shows.readable.anchors.epochs.0 c.shows.readable.anchors.epochs.1) in
+      let from = inside.0 in
+      let to = inside.1 in
+      stamp_more _ (by s inside bytes (whole_before (weak_of windows s) (sector_at c.clean s) (sector_at at.image s) bytes (from_clean s (omega (arith, from)) (omega (arith, to))) is))
+    where
+      stamp_more : (o : Option Stamp) → IfSome o (λ stamp. stamp.epoch ≤ log.anchor.epoch) → IfSome o (λ stamp. stamp.epoch < log.anchor.epoch + 1)
+      stamp_more None p = tt
+      stamp_more (Some stamp) p = omega (arith, p)
+
+  older : AreOlder (log.anchor.epoch + 1) at.image
+  older = (at_place 8 (omega arith) (omega arith) most.0, at_place 12 (omega arith) (omega arith) most.1)
+    where
+      most : EachAnchor c.clean (λ a. a.epoch ≤ log.anchor.epoch)
+      most = newer_most (anchor_at c.clean 8) (anchor_at c.clean 12) log.anchor c.taken
+
+      at_place : (p : ℕ) → 8 ≤ p → p < 16 → IfSome (anchor_at c.clean p) (λ a. a.epoch ≤ log.anchor.epoch) → IfSome (anchor_at at.image p) (λ a. (a.epoch < log.anchor.epoch + 1) ⊎ (a ≡ fresh_anchor (log.anchor.epoch + 1)))
+      at_place p from low old = if_more (anchor_at at.image p) (λ a. a.epoch ≤ log.anchor.epoch) (λ a. (a.epoch < log.anchor.epoch + 1) ⊎ (a ≡ fresh_anchor (log.anchor.epoch + 1))) (λ a le. inl (omega (arith, le)))
+          (worn_anchor (weak_of windows p) (sector_at c.clean p) (sector_at at.image p) (λ a. a.epoch ≤ log.anchor.epoch) (from_clean p from (omega (arith, low))) old)
+
+  homed : IsHomed l (log.anchor.epoch + 1) c.pages at.image
+  homed = record {
+    planned = c.planned;
+    long = at.shows.readable.roots.fits;
+    root = at.root;
+    root_copy = at.root_copy;
+    first = omega arith;
+    last = fits;
+    stamps = stamps_now;
+    size = each_size (newest l c.clean (records_by l c.clean log.anchor)) (all_pages l) c.pages (sym (ap (option_and_then (shown_by l c.clean)) c.taken) ∙ c.shown) ∙ length-range_with_len 0 l.pages;
+    home = at.done;
+  }
+
+  abbrev one : Image
+  one = with_sector at.image 8 (anchor_bytes (fresh_anchor (log.anchor.epoch + 1)))
+
+  abbrev two : Image
+  two = with_sector (with_sector at.image 8 (anchor_bytes (fresh_anchor (log.anchor.epoch + 1)))) 12 (anchor_bytes (fresh_anchor (log.anchor.epoch + 1)))
+
+  homed_one : IsHomed l (log.anchor.epoch + 1) c.pages one
+  homed_one = homed_on l (log.anchor.epoch + 1) c.pages at.image 8 (inl refl) (omega (arith, room)) homed
+
+  room_one : 12 < length one
+  room_one = omega (arith, room, length-set at.image 8 (Whole (anchor_bytes (fresh_anchor (log.anchor.epoch + 1)))))
+
+  begun : IsBegun l (log.anchor.epoch + 1) c.pages two
+  begun = record {
+    homed = homed_on l (log.anchor.epoch + 1) c.pages one 12 (inr refl) room_one homed_one;
+    anchor = with_other one 12 8 (anchor_bytes (fresh_anchor (log.anchor.epoch + 1))) (λ e. omega arith) ∙ with_same at.image 8 (anchor_bytes (fresh_anchor (log.anchor.epoch + 1))) (omega (arith, room));
+    anchor_copy = with_same one 12 (anchor_bytes (fresh_anchor (log.anchor.epoch + 1))) room_one;
+  }
+
+  shows_one : ShowsPages l windows choices one
+  shows_one = renewed_shows l windows (narrow l windows choices log first c) choices (log.anchor.epoch + 1) c.pages 8 12 at.image (inl (refl, refl)) (omega (arith, room)) homed older c.chosen at.shows
+
+  shows_two : ShowsPages l windows choices two
+  shows_two = renewed_shows l windows (narrow l windows choices log first c) choices (log.anchor.epoch + 1) c.pages 12 8 one (inr (refl, refl)) room_one homed_one
+      (older_on l (log.anchor.epoch + 1) c.pages at.image 8 (inl refl) (omega (arith, room)) homed older) c.chosen shows_one
+
+  behind_two : (s : ℕ) → 16 ≤ s → sector_at two s ≡ sector_at at.image s
+  behind_two s from = with_other one 12 s (anchor_bytes (fresh_anchor (log.anchor.epoch + 1))) (λ e. omega (arith, e, from)) ∙ with_other at.image 8 s (anchor_bytes (fresh_anchor (log.anchor.epoch + 1))) (λ e. omega (arith, e, from))
+
+  record Renewed (e : Image) : Type 0 where
+    shows : ShowsPages l windows choices e
+    same : (s : ℕ) → 16 ≤ s → sector_at e s ≡ sector_at at.image s
+
+  stands_two : stand (stand at.image 8 bytes 1) 12 bytes 1 ≡ two
+  stands_two = ap (λ (i : Image). stand i 12 bytes 1) (stand_one at.image 8 bytes bytes_long) ∙ stand_one one 12 bytes bytes_long
+
+  renewed : (j k : ℕ) → k ≤ j → j ≤ 1 → Renewed (stand (stand at.image 8 bytes j) 12 bytes k)
+  renewed zero zero le once = record { shows = at.shows; same = λ s from. refl }
+  renewed zero (suc k) le once = absurd (omega (arith, le))
+  renewed (suc zero) zero le once = subst Renewed (sym (stand_one at.image 8 bytes bytes_long)) (record { shows = shows_one; same = λ s from. with_other at.image 8 s bytes (λ e. omega (arith, e, from)) })
+  renewed (suc zero) (suc zero) le once = subst Renewed (sym stands_two) (record { shows = shows_two; same = behind_two })
+  renewed (suc zero) (suc (suc k)) le once = absurd (omega (arith, le))
+  renewed (suc (suc j)) k le once = absurd (omega (arith, once))
+
+  pub anchors_stay : (left : Moment) → AnchorsIn (fresh_anchor (log.anchor.epoch + 1)) now left → Stays l windows choices first left
+  anchors_stay left anchors =
+      let is = renewed anchors.first anchors.copy anchors.in_order anchors.once in
+      record {
+        image = stand (stand at.image 8 bytes anchors.first) 12 bytes anchors.copy;
+        holds = over_two first now left at.image 8 12 bytes anchors.first anchors.copy at.holds anchors.holds;
+        shows = is.shows;
+        log = λ s from inside. is.same s from ∙ at.body s (omega (arith, from)) inside;
+        behind = λ s from. is.same s (omega (arith, from)) ∙ at.behind s from;
+      }
+
+  -- ---- once both stand
+
+  module _ (mid : Moment) (written : Holds now (stand (stand now.image 8 (anchor_bytes (fresh_anchor (log.anchor.epoch + 1))) 1) 12 (anchor_bytes (fresh_anchor (log.anchor.epoch + 1))) 1) mid) where
+    holds_mid : Holds first two mid
+    holds_mid = subst (λ (i : Image). Holds first i mid) stands_two (over_two first now mid at.image 8 12 bytes 1 1 at.holds written)
+
+    pub stays_on : (left : Moment) → Wears mid left → Stays l windows choices first left
+    stays_on left wears = record {
+      image = two;
+      holds = holds_wears first two mid left holds_mid wears;
+      shows = shows_two;
+      log = λ s from inside. behind_two s from ∙ at.body s (omega (arith, from)) inside;
+      behind = λ s from. behind_two s (omega (arith, from)) ∙ at.behind s from;
+    }
+
+    module _ (short : AreShort now.windows) (some : IsSome first.windows.next) (new : Moment) (done : Settles mid new) where
+      named : (run : WeakRun) × (first.windows.next ≡ Some run)
+      named = some_run first.windows.next some
+
+      apart_next : IsApart (weak_of (windows ++ named.0 ∷ []))
+      apart_next = next_apart first.windows windows named.0 (subst AreShort at.holds.windows short) named.1
+
+      narrow_next : IsNarrow (weak_of (windows ++ named.0 ∷ []))
+      narrow_next s t far a b = apart_next s t (omega (arith, far)) a b
+
+      mounted : IsMountedIn l windows named.0 c.pages new
+      mounted = settles l windows named.0 (log.anchor.epoch + 1) c.pages first mid new two narrow_next named.1 begun holds_mid done
+
+      worn_new : IsWorn (open_damage first.windows) two new.image
+      worn_new = worn_trans (open_damage first.windows) two mid.image new.image holds_mid.worn (subst (λ (w : Windows). IsWorn (open_damage w) mid.image new.image) holds_mid.windows done.image)
+
+      worn_next : IsWorn (weak_of (windows ++ named.0 ∷ [])) two new.image
+      worn_next = worn_more (open_damage first.windows) (weak_of (windows ++ named.0 ∷ [])) two new.image (open_in_next first.windows windows named.0 named.1) worn_new
+
+      worn_last : IsWorn (weak_of windows) two new.image
+      worn_last = open_is_weak first.windows windows two new.image c.ends worn_new
+
+      pub settled_so : Settled l windows choices first new
+      settled_so = record {
+        after = record { run = named.0; settled = mounted.settled; pages = c.pages; chosen = c.chosen; shows = mounted.shows };
+        log = λ s from inside. sector_on (weak_of windows s) (sector_at first.image s) (sector_at two s) (sector_at new.image s) (inl (behind_two s from ∙ at.body s (omega (arith, from)) inside)) (worn_last.each s);
+        behind = λ s from. sector_on (weak_of windows s) (sector_at first.image s) (sector_at two s) (sector_at new.image s) (inl (behind_two s (omega (arith, from)) ∙ at.behind s from)) (worn_last.each s);
+        said = done.said ∙ holds_mid.said;
+      }
+
+      pub replayed : IsReplayed l windows choices (log.anchor.epoch + 1) new
+      replayed =
+          let bounds = planned_bounds l c.planned in
+          record {
+            after = record { run = named.0; settled = mounted.settled; pages = c.pages; chosen = c.chosen; shows = mounted.shows };
+            log = own_worn l (omega (arith, bounds.pages_most)) (fresh_anchor (log.anchor.epoch + 1)) fits (omega arith) (weak_of (windows ++ named.0 ∷ [])) apart_next two new.image worn_next [] (start l 1)
+                (begun_own l (log.anchor.epoch + 1) c.pages two begun (windows ++ named.0 ∷ []));
+            home = λ page lt. let is = begun.homed.home page lt in (
+              has_worn (weak_of (windows ++ named.0 ∷ [])) two new.image (get_or c.pages page []) (home_a l page) worn_next (inl is.0),
+              has_worn (weak_of (windows ++ named.0 ∷ [])) two new.image (get_or c.pages page []) (home_b l page) worn_next (inl is.1),
+            );
+          }
+
+      pub begins_before : (left : Moment) → Before mid new left → Begins l windows choices first left
+      begins_before left (inl wears) = inl (stays_on left wears)
+      begins_before left (inr is) = inr (subst (Settled l windows choices first) (sym is) settled_so)
+
+    pub begins_failed : (new left : Moment) → Wears mid new → Before mid new left → Begins l windows choices first left
+    begins_failed new left failed (inl wears) = inl (stays_on left wears)
+    begins_failed new left failed (inr is) = inl (subst (Stays l windows choices first) (sym is) (stays_on new failed))

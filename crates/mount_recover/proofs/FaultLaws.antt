@@ -1,0 +1,91 @@
+-- What a mount tells as a fault.
+use Rattle.std.proofs.Common.{◌≡◌, ℕ, List, Result, Ok, Err, refl, sym, ap, subst, ◌∙◌, arith}
+use Rattle.std.specs.Prelude.{IfErr, IsErrAnd, OnOk}
+use Rattle.volume_layout.specs.declared.layout.Layout.{Layout}
+use Rattle.volume_layout.specs.Layout.{home_a, home_b}
+use Rattle.sector_disk.specs.declared.machine.LoadFault.{LoadFault}
+use Rattle.sector_disk.specs.declared.machine.LoadFault.TheVariants as load
+use Rattle.sector_disk.specs.declared.sector.Sector.TheVariants.{Damaged}
+use Rattle.sector_disk.specs.declared.sector.WeakRun.{WeakRun}
+use Rattle.sector_disk.specs.Damage.{AreLost, LostCause, IsDevice}
+use Rattle.sector_disk.specs.Image.{sector_at}
+use Rattle.sector_disk.specs.Machine.{Report, Ledger, UsesDisk, OnlyWrites}
+use Rattle.fsd_files.specs.Disk.{Image}
+use Rattle.fsd_sound.specs.Sound.{ShowsPages, weak_of}
+use Rattle.fsd_sound.specs.Windows.{IsNarrow}
+use Rattle.fsd_sound.proofs.TwinLaws.{twin_a, twin_b}
+use Rattle.mount_recover.specs.declared.fault.MountFault.{MountFault}
+use Rattle.mount_recover.specs.declared.fault.MountFault.TheVariants.{NotVolume, Device, Memory, Lost, NoAnchor, Unsound, WornOut}
+use Rattle.mount_recover.specs.Finding.{IsExcuse}
+use Rattle.mount_recover.specs.Lost.{AreHomes, LostIn}
+use Rattle.mount_recover.specs.Mending.{load_fault_of, MendCause, AreRoots}
+
+pub if_err_more : {T : Type 0} (r : Result T MountFault) (P Q : MountFault → Type 0) → ((fault : MountFault) → P fault → Q fault) → IfErr r P → IfErr r Q
+if_err_more (Ok x) P Q more p = tt
+if_err_more (Err e) P Q more p = more e p
+
+pub if_err_both : {T : Type 0} (r : Result T MountFault) (P Q R : MountFault → Type 0) → ((fault : MountFault) → P fault → Q fault → R fault) → IfErr r P → IfErr r Q → IfErr r R
+if_err_both (Ok x) P Q R more p q = tt
+if_err_both (Err e) P Q R more p q = more e p q
+
+-- what is so is so at Ok
+pub ok_as : {T E : Type 0} (P : Type 0) (r : Result T E) → P → OnOk r P
+ok_as P (Ok x) p = p
+ok_as P (Err e) p = tt
+
+pub load_excused : (fault : LoadFault) → IsDevice fault → IsExcuse (load_fault_of fault)
+load_excused (load.Device s) device = tt
+load_excused (load.Lost a b) device = absurd device
+
+-- what was read is not lost
+pub load_not_lost : (AreCopies : ℕ → ℕ → Type 0) (image : Image) (fault : LoadFault) (told : MountFault) → told ≡ load_fault_of fault → ((a b : ℕ) → AreLost AreCopies image a b → ⊥) → LostCause AreCopies image fault → IsExcuse told
+load_not_lost AreCopies image (load.Device s) told is none lost = subst IsExcuse (sym is) tt
+load_not_lost AreCopies image (load.Lost a b) told is none lost = absurd (none a b lost)
+
+pub loaded : (AreCopies : ℕ → ℕ → Type 0) (image : Image) (fault : LoadFault) → LostCause AreCopies image fault → LostIn AreCopies image (load_fault_of fault)
+loaded AreCopies image (load.Device s) lost = tt
+loaded AreCopies image (load.Lost a b) lost = lost
+
+-- where none of these can be lost
+pub cause_excused : (AreCopies : ℕ → ℕ → Type 0) (image : Image) (old new : Report) (fault : MountFault) → ((a b : ℕ) → AreLost AreCopies image a b → ⊥) → MendCause old new fault → LostIn AreCopies image fault → IsExcuse fault
+cause_excused AreCopies image old new (Device s) none cause lost = tt
+cause_excused AreCopies image old new (Lost a b) none cause lost = none a b lost
+cause_excused AreCopies image old new NotVolume none cause lost = absurd cause
+cause_excused AreCopies image old new Memory none cause lost = tt
+cause_excused AreCopies image old new NoAnchor none cause lost = absurd cause
+cause_excused AreCopies image old new (Unsound s) none cause lost = absurd cause
+cause_excused AreCopies image old new WornOut none cause lost = tt
+
+module _ (l : Layout) (windows : List WeakRun) (narrow : IsNarrow (weak_of windows)) (choices : List (List (List ℕ))) (i : Image) (shows : ShowsPages l windows choices i) where
+  -- of a page one home is whole
+  pub homes_serve : (a b : ℕ) → AreLost (AreHomes l) i a b → ⊥
+  homes_serve a b lost =
+      let first : sector_at i (home_a l lost.copies.page) ≡ Damaged = ap (sector_at i) (sym lost.copies.homes.first) ∙ lost.first in
+      let second : sector_at i (home_b l lost.copies.page) ≡ Damaged = ap (sector_at i) (sym lost.copies.homes.second) ∙ lost.second in
+      narrow (home_a l lost.copies.page) (home_b l lost.copies.page) (omega arith)
+      (shows.readable.roots.twins (home_a l lost.copies.page) (twin_a l lost.copies.page lost.copies.within) first)
+      (shows.readable.roots.twins (home_b l lost.copies.page) (twin_b l lost.copies.page lost.copies.within) second)
+
+  -- and one root
+  pub roots_serve : (a b : ℕ) → AreLost AreRoots i a b → ⊥
+  roots_serve a b lost =
+      let first : sector_at i 0 ≡ Damaged = ap (sector_at i) (sym lost.copies.0) ∙ lost.first in
+      let second : sector_at i 4 ≡ Damaged = ap (sector_at i) (sym lost.copies.1) ∙ lost.second in
+      narrow 0 4 (omega arith) (shows.readable.roots.twins 0 refl first) (shows.readable.roots.twins 4 refl second)
+
+-- ---- a fault that is handed up
+
+pub handed_up : {T : Type 0} (P : MountFault → Type 0) (r : Result T MountFault) (fault : MountFault) → IsErrAnd r (λ told. told ≡ fault) → P fault → IfErr r P
+handed_up P (Ok x) fault is holds = tt
+handed_up P (Err told) fault is holds = subst P (sym is) holds
+
+-- ---- calls one behind another
+
+pub uses_none : (a : Report) → UsesDisk a a
+uses_none a = record { sectors = refl; disk = omega arith; input = refl; output = refl }
+
+pub writes_none : (a : Ledger) → OnlyWrites a a
+writes_none a = record { input = refl; attaches = refl }
+
+pub writes_on : (a b c : Ledger) → OnlyWrites a b → OnlyWrites b c → OnlyWrites a c
+writes_on a b c first second = record { input = second.input ∙ first.input; attaches = second.attaches ∙ first.attaches }

@@ -1,0 +1,158 @@
+-- The steps of a mount, where sectors wear.
+use Rattle.std.specs.Prelude.{◌≡◌, ◌⊎◌, ⊤, ℕ, ◌+◌, ◌*◌, ◌<◌, ◌≤◌, List, [], get_or, Some, None, Ok, Contains}
+use Rattle.volume_layout.specs.declared.layout.Layout.{Layout}
+use Rattle.volume_layout.specs.Layout.{plan, home_a, home_b, map_start}
+use Rattle.volume_layout.specs.Root.{root_bytes}
+use Rattle.sector_disk.specs.declared.sector.Sector.TheVariants.{Whole}
+use Rattle.sector_disk.specs.declared.sector.WeakRun.{WeakRun}
+use Rattle.sector_disk.specs.Image.{sector_at, IsWorn, open_damage}
+use Rattle.sector_disk.specs.Machine.{Moment, Holds, Report, DeviceFault}
+use Rattle.sector_disk.specs.declared.machine.LoadFault.{LoadFault}
+use Rattle.sector_disk.specs.declared.machine.LoadFault.TheVariants as load
+use Rattle.fsd_log.specs.Images.{last_image}
+use Rattle.fsd_files.specs.Disk.{Image, SectorWorn}
+use Rattle.fsd_sound.specs.Anchors.{anchor_of}
+use Rattle.fsd_sound.specs.Laid.{AllLaid}
+use Rattle.fsd_sound.specs.Shown.{records_by, shown}
+use Rattle.fsd_sound.specs.Sound.{weak_of, EndIn, ShowsPages}
+use Rattle.log_thirds.specs.Copies.{AreLastCopies}
+use Rattle.log_thirds.specs.LogValue.{LogValue}
+use Rattle.log_thirds.specs.Slots.{AreSlots}
+use Rattle.mount_recover.specs.declared.fault.MountFault.{MountFault}
+use Rattle.mount_recover.specs.declared.fault.MountFault.TheVariants.{NotVolume, Device, Memory, Lost, NoAnchor, Unsound, WornOut}
+use Rattle.mount_recover.specs.Lost.{AreOfLog, AreHomes}
+use Rattle.mount_recover.specs.Replay.{HasLastCopies, KeepsBehindLog, IsAfter}
+use Rattle.fsd_sound.specs.Logged.{IsLogged}
+use Rattle.fsd_sound.specs.Windows.{IsApart}
+
+-- ---- faults
+
+abbrev pub load_fault_of : LoadFault → MountFault
+load_fault_of (load.Device s) = Device s
+load_fault_of (load.Lost a b) = Lost a b
+
+-- the disk failed, where it is said to, or what stands twice is lost
+abbrev pub MendCause : Report → Report → MountFault → Type 0
+MendCause old new (Device s) = DeviceFault old new s
+MendCause old new (Lost a b) = ⊤
+MendCause old new NotVolume = ⊥
+MendCause old new Memory = ⊥
+MendCause old new NoAnchor = ⊥
+MendCause old new (Unsound s) = ⊥
+MendCause old new WornOut = ⊥
+
+-- the two copies of a page, in the log or at home
+abbrev pub AreOfVolume : Layout → LogValue → ℕ → ℕ → Type 0
+AreOfVolume l log a b = AreOfLog log a b ⊎ AreHomes l a b
+
+-- the two roots
+abbrev pub AreRoots : ℕ → ℕ → Type 0
+AreRoots a b = (a ≡ 0) × (b ≡ 4)
+
+abbrev pub AreOfAll : Layout → LogValue → ℕ → ℕ → Type 0
+AreOfAll l log a b = AreOfVolume l log a b ⊎ AreRoots a b
+
+-- ---- what any image keeps
+
+-- the sectors from a place on stay, but for wear
+abbrev pub KeepsFrom : (start : ℕ) → Moment → Moment → Type 0
+KeepsFrom start old new = (s : ℕ) → start ≤ s → SectorWorn (open_damage old.windows s) (sector_at old.image s) (sector_at new.image s)
+
+-- the map and the data stay, but for wear
+abbrev pub KeepsData : Layout → Moment → Moment → Type 0
+KeepsData l old new = (s : ℕ) → map_start l ≤ s → SectorWorn (open_damage old.windows s) (sector_at old.image s) (sector_at new.image s)
+
+-- The windows, what was said, the map and the data stay, but for wear.
+pub record Keeps (l : Layout) (old new : Moment) : Type 0 where
+  pub windows : new.windows ≡ old.windows
+  pub said : new.said ≡ old.said
+  pub map : KeepsData l old new
+
+-- ---- up to `healing`
+
+-- The log is the image's, as a scan of it gives.
+pub record KnowsLog (l : Layout) (log : LogValue) (i : Image) : Type 0 where
+  pub taken : anchor_of i ≡ Some log.anchor
+  pub slots : AreSlots l log.anchor.third (records_by l i log.anchor) log.slots
+  pub last : AreLastCopies l log.anchor.epoch log.anchor.third (records_by l i log.anchor) log.copies
+
+-- An image was seen that the disk is worn from: it shows the pages, and the log is its log.
+pub record IsSeen (l : Layout) (windows : List WeakRun) (choices : List (List (List ℕ))) (log : LogValue) (now : Moment) : Type 0 where
+  pub image : Image
+  pub apart : IsApart (weak_of windows)
+  pub ends : EndIn now.windows windows
+  pub worn : IsWorn (open_damage now.windows) image now.image
+  pub shows : ShowsPages l windows choices image
+  pub knows : KnowsLog l log image
+
+-- ---- from `healing` on
+
+-- The disk is worn from an image that shows the pages and has every record of its log whole.
+pub record IsCompleted (l : Layout) (windows : List WeakRun) (choices : List (List (List ℕ))) (log : LogValue) (now : Moment) : Type 0 where
+  pub clean : Image
+  pub planned : plan l.sectors l.third l.pages ≡ Ok l
+  pub apart : IsApart (weak_of windows)
+  pub ends : EndIn now.windows windows
+  pub worn : IsWorn (weak_of windows) clean now.image
+  pub shows : ShowsPages l windows choices clean
+  pub taken : anchor_of clean ≡ Some log.anchor
+  pub low : log.anchor.third ≤ 2
+  pub slots : AreSlots l log.anchor.third (records_by l clean log.anchor) log.slots
+  pub laid : AllLaid l log.anchor (weak_of windows) clean (records_by l clean log.anchor)
+  pub logged : (page : ℕ) → (last_image page (records_by l clean log.anchor) ≡ None → ⊥) → IsLogged l (weak_of windows) page clean
+  pub pages : List (List ℕ)
+  pub shown : shown l clean ≡ Some pages
+  pub chosen : Contains choices pages
+
+-- So it is, and the last record of the log that was seen has its copies, however the run wears from then on; nothing behind the
+-- log was written.
+pub record Completed (l : Layout) (windows : List WeakRun) (choices : List (List (List ℕ))) (log : LogValue) (old : Moment) (seen : IsSeen l windows choices log old) (new : Moment) : Type 0 where
+  pub is : IsCompleted l windows choices log new
+  pub last : HasLastCopies l log.anchor (weak_of windows) (records_by l seen.image log.anchor) new.image
+  pub kept : KeepsBehindLog l (weak_of windows) old.image new.image
+  pub present : new.windows.present ≡ old.windows.present
+  pub said : new.said ≡ old.said
+
+-- both homes of the page are whole, with these bytes
+abbrev pub IsAtHome : Layout → Image → (page : ℕ) → List ℕ → Type 0
+IsAtHome l i page bytes = (sector_at i (home_a l page) ≡ Whole bytes) × (sector_at i (home_b l page) ≡ Whole bytes)
+
+-- Of the disk as `healing` left it the first pages are mended, so many of them; the moment is worn from that.
+pub record IsMending (l : Layout) (windows : List WeakRun) (choices : List (List (List ℕ))) (log : LogValue) (first : Moment) (c : IsCompleted l windows choices log first) (n : ℕ) (now : Moment) : Type 0 where
+  pub image : Image
+  pub holds : Holds first image now
+  pub shows : ShowsPages l windows choices image
+  pub logged : (page : ℕ) → (last_image page (records_by l c.clean log.anchor) ≡ None → ⊥) → IsLogged l (weak_of windows) page image
+  pub done : (page : ℕ) → page < n → IsAtHome l image page (get_or c.pages page [])
+  pub front : (s : ℕ) → s < 16 + 3 * l.third → sector_at image s ≡ sector_at first.image s
+  pub left : (page : ℕ) → n ≤ page → page < l.pages → (sector_at image (home_a l page) ≡ sector_at first.image (home_a l page)) × (sector_at image (home_b l page) ≡ sector_at first.image (home_b l page))
+  pub behind : (s : ℕ) → map_start l ≤ s → sector_at image s ≡ sector_at first.image s
+
+-- All pages are mended, and both roots.
+pub record IsMended (l : Layout) (windows : List WeakRun) (choices : List (List (List ℕ))) (log : LogValue) (first : Moment) (c : IsCompleted l windows choices log first) (now : Moment) : Type 0 where
+  pub image : Image
+  pub holds : Holds first image now
+  pub shows : ShowsPages l windows choices image
+  pub done : (page : ℕ) → page < l.pages → IsAtHome l image page (get_or c.pages page [])
+  pub root : sector_at image 0 ≡ Whole (root_bytes l)
+  pub root_copy : sector_at image 4 ≡ Whole (root_bytes l)
+  pub body : (s : ℕ) → 8 ≤ s → s < 16 + 3 * l.third → sector_at image s ≡ sector_at first.image s
+  pub behind : (s : ℕ) → map_start l ≤ s → sector_at image s ≡ sector_at first.image s
+
+-- A moment from `healing` on: it is worn from an image that shows the pages, and has the log, the map and the data as they were.
+pub record Stays (l : Layout) (windows : List WeakRun) (choices : List (List (List ℕ))) (first left : Moment) : Type 0 where
+  pub image : Image
+  pub holds : Holds first image left
+  pub shows : ShowsPages l windows choices image
+  pub log : (s : ℕ) → 16 ≤ s → s < 16 + 3 * l.third → sector_at image s ≡ sector_at first.image s
+  pub behind : (s : ℕ) → map_start l ≤ s → sector_at image s ≡ sector_at first.image s
+
+-- So it is, or the mount has settled.
+pub record Settled (l : Layout) (windows : List WeakRun) (choices : List (List (List ℕ))) (first left : Moment) : Type 0 where
+  pub after : IsAfter l windows choices left
+  pub log : (s : ℕ) → 16 ≤ s → s < 16 + 3 * l.third → SectorWorn (weak_of windows s) (sector_at first.image s) (sector_at left.image s)
+  pub behind : (s : ℕ) → map_start l ≤ s → SectorWorn (weak_of windows s) (sector_at first.image s) (sector_at left.image s)
+  pub said : left.said ≡ first.said
+
+abbrev pub Begins : Layout → List WeakRun → List (List (List ℕ)) → (first left : Moment) → Type 0
+Begins l windows choices first left = Stays l windows choices first left ⊎ Settled l windows choices first left

@@ -1,0 +1,44 @@
+// A mount up to `healing`: the last record is completed before anything is written behind the log.
+ghost use Rattle.std.specs.Prelude.{◌≡◌, ◌≤◌, ℕ, List, Ok, IsSome, IfErr, OnOk, OnErr};
+ghost use Rattle.volume_layout.specs.Layout.{plan};
+ghost use Rattle.volume_layout.specs.declared.layout.Layout.{Layout as Plan};
+ghost use Rattle.sector_disk.specs.declared.sector.WeakRun.{WeakRun as Run};
+ghost use Rattle.sector_disk.specs.Machine.{DeviceFault, UsesDisk, Trusts, OnlyWrites, LeavesOnly};
+ghost use Rattle.fsd_files.specs.Disk.{Image};
+ghost use Rattle.mount_recover.specs.Mending.{IsSeen, KnowsLog, KeepsData, Completed};
+ghost use Rattle.mount_recover.specs.Replay.{Replays};
+ghost use Rattle.mount_recover.specs.Showing.{IsLaidAgain};
+ghost use Rattle.log_thirds.specs.Append.{IsCalm as IsCalmNow};
+
+use log_thirds::Log;
+use sector_disk::{Failed, Machine};
+
+/// Writes the last record's copies again, and names the next window's run.
+pub(crate) fn complete<M: Machine>(m: &mut M, log: &Log) -> Result<(), Failed>
+    requires sectors { log.now.layout.sectors ≤ (M.report m.old).sectors }
+
+    ensures fault { IfErr result (λ failed. DeviceFault (M.report m.old) (M.report m.new) failed.place) }
+    ensures uses { UsesDisk (M.report m.old) (M.report m.new) }
+    ensures trust { Trusts (M.tells m.old) (M.tells m.new) (M.honest m.old) (M.honest m.new) }
+    ensures ledger { M.tells m.new → OnlyWrites (M.ledger m.old) (M.ledger m.new) }
+    ensures quiet { M.honest m.new → (M.now m.new).said ≡ (M.now m.old).said }
+    ensures present { M.honest m.new → (M.now m.new).windows.present ≡ (M.now m.old).windows.present }
+    ensures named { OnOk result (M.honest m.new → IsSome (M.now m.new).windows.next) }
+
+    ensures map { (l : Plan) (j : Image) → M.honest m.new → plan l.sectors l.third l.pages ≡ Ok l → log.now.layout ≡ l → KnowsLog l log.now j → KeepsData l (M.now m.old) (M.now m.new) }
+
+    // Over an image that was seen, and shows the pages of a volume, they are shown at each moment. At the end each record of
+    // the log is whole.
+    ensures any_moment { (l : Plan) (windows : List Run) (choices : List (List (List ℕ))) → M.honest m.new → plan l.sectors l.third l.pages ≡ Ok l → log.now.layout ≡ l →
+        IsSeen l windows choices log.now (M.now m.old) → LeavesOnly M.moment M.left_since m.old m.new (Replays l windows choices (M.now m.old)) }
+    ensures done { OnOk result ((l : Plan) (windows : List Run) (choices : List (List (List ℕ))) → M.honest m.new → plan l.sectors l.third l.pages ≡ Ok l → log.now.layout ≡ l →
+        (seen : IsSeen l windows choices log.now (M.now m.old)) → Completed l windows choices log.now (M.now m.old) seen (M.now m.new)) }
+
+    // Of any image on which nothing wears.
+    ensures given { OnOk result ((l : Plan) → M.honest m.new → IsCalmNow (M.now m.old) → plan l.sectors l.third l.pages ≡ Ok l → log.now.layout ≡ l → KnowsLog l log.now (M.now m.old).image →
+        IsLaidAgain l log.now (M.now m.old).image (M.now m.new).image) }
+{
+    log.complete_last(m)?;
+    m.healing()?;
+    Ok(())
+}

@@ -1,0 +1,208 @@
+// A mount from `healing` on: the pages that the log has are written home, and of all else that stands twice what is damaged is
+// written from its twin.
+ghost use Rattle.std.specs.Prelude.{◌≡◌, ◌+◌, ◌<◌, ◌≤◌, ℕ, List, Ok, Some, None, IfErr, OnOk};
+ghost use Rattle.volume_layout.specs.Layout.{plan};
+ghost use Rattle.sector_disk.specs.declared.sector.WeakRun.{WeakRun as Run};
+ghost use Rattle.sector_disk.specs.Machine.{Moment as At, DeviceFault, UsesDisk, Trusts, OnlyWrites, LeavesOnly};
+ghost use Rattle.fsd_log.specs.Images.{last_image};
+ghost use Rattle.fsd_log.specs.Scan.{Placed};
+ghost use Rattle.fsd_files.specs.Disk.{Image};
+ghost use Rattle.fsd_sound.specs.Homes.{home_of};
+ghost use Rattle.fsd_sound.specs.Shown.{records_by};
+ghost use Rattle.log_thirds.specs.Append.{IsCalm as IsCalmNow};
+ghost use Rattle.log_thirds.specs.LogValue.{LogValue};
+ghost use Rattle.mount_recover.specs.Finding.{IsExcuse};
+ghost use Rattle.mount_recover.specs.Lost.{AreHomes, LostIn};
+ghost use Rattle.mount_recover.specs.Mending.{load_fault_of, MendCause, AreOfVolume, AreOfAll, AreRoots, IsCompleted, IsMending, IsMended, Stays, Keeps, KeepsFrom};
+ghost use Rattle.mount_recover.specs.Showing.{GivesPages, ChangesHome, HasNoRoot, IsShowing, LosesNone, LosesHome, shows_of};
+
+use crate::fault::MountFault;
+use log_thirds::Log;
+use sector_disk::{LoadFault, Machine};
+use twin_home::{heal_page, heal_root, write_home};
+use volume_layout::Layout;
+
+fn load_fault(fault: LoadFault) -> MountFault
+    ensures { result ≡ load_fault_of fault }
+{
+    match fault {
+        LoadFault::Device(place) => MountFault::Device(place),
+        LoadFault::Lost { a, b } => MountFault::Lost { a, b },
+    }
+}
+
+// Writes a page home from its last image in the log, when the pages before it are mended.
+fn home_logged<M: Machine>(
+    m: &mut M,
+    l: &Layout,
+    page: u32,
+    b: &[u8; 512],
+) -> Result<(), MountFault>
+    requires planned { plan l.now.sectors l.now.third l.now.pages ≡ Ok l.now }
+    requires page { page < l.now.pages }
+    requires room { l.now.sectors ≤ (M.report m.old).sectors }
+
+    ensures fault { IfErr result (MendCause (M.report m.old) (M.report m.new)) }
+    ensures uses { UsesDisk (M.report m.old) (M.report m.new) }
+    ensures trust { Trusts (M.tells m.old) (M.tells m.new) (M.honest m.old) (M.honest m.new) }
+    ensures ledger { M.tells m.new → OnlyWrites (M.ledger m.old) (M.ledger m.new) }
+    ensures keeps { M.honest m.new → Keeps l.now (M.now m.old) (M.now m.new) }
+    ensures any_moment { (windows : List Run) (choices : List (List (List ℕ))) (log : LogValue) (first : At) (c : IsCompleted l.now windows choices log first) → M.honest m.new →
+        (last_image page (records_by l.now c.clean log.anchor) ≡ None → ⊥) → IsMending l.now windows choices log first c page (M.now m.old) →
+        LeavesOnly M.moment M.left_since m.old m.new (Stays l.now windows choices first) }
+    ensures done { OnOk result ((windows : List Run) (choices : List (List (List ℕ))) (log : LogValue) (first : At) (c : IsCompleted l.now windows choices log first) → M.honest m.new →
+        last_image page (records_by l.now c.clean log.anchor) ≡ Some b.now → IsMending l.now windows choices log first c page (M.now m.old) →
+        IsMending l.now windows choices log first c (page + 1) (M.now m.new)) }
+    ensures never_lost { IfErr result IsExcuse }
+    ensures shown { OnOk result (M.honest m.new → IsCalmNow (M.now m.old) → ChangesHome l.now page (M.now m.old).image (M.now m.new).image (Some b.now)) }
+{
+    match write_home(m, l, page, b) {
+        Ok(()) => Ok(()),
+        Err(failed) => Err(MountFault::Device(failed.place)),
+    }
+}
+
+// Writes the one of a page's homes that is damaged from the other, when the pages before it are mended.
+fn heal_home<M: Machine>(m: &mut M, l: &Layout, page: u32) -> Result<(), MountFault>
+    requires planned { plan l.now.sectors l.now.third l.now.pages ≡ Ok l.now }
+    requires page { page < l.now.pages }
+    requires room { l.now.sectors ≤ (M.report m.old).sectors }
+
+    ensures fault { IfErr result (MendCause (M.report m.old) (M.report m.new)) }
+    ensures uses { UsesDisk (M.report m.old) (M.report m.new) }
+    ensures trust { Trusts (M.tells m.old) (M.tells m.new) (M.honest m.old) (M.honest m.new) }
+    ensures ledger { M.tells m.new → OnlyWrites (M.ledger m.old) (M.ledger m.new) }
+    ensures keeps { M.honest m.new → Keeps l.now (M.now m.old) (M.now m.new) }
+    ensures any_moment { (windows : List Run) (choices : List (List (List ℕ))) (log : LogValue) (first : At) (c : IsCompleted l.now windows choices log first) → M.honest m.new →
+        IsMending l.now windows choices log first c page (M.now m.old) →
+        LeavesOnly M.moment M.left_since m.old m.new (Stays l.now windows choices first) }
+    ensures exit { (windows : List Run) (choices : List (List (List ℕ))) (log : LogValue) (first : At) (c : IsCompleted l.now windows choices log first) → M.honest m.new →
+        IsMending l.now windows choices log first c page (M.now m.old) → Stays l.now windows choices first (M.now m.new) }
+    ensures done { OnOk result ((windows : List Run) (choices : List (List (List ℕ))) (log : LogValue) (first : At) (c : IsCompleted l.now windows choices log first) → M.honest m.new →
+        last_image page (records_by l.now c.clean log.anchor) ≡ None → IsMending l.now windows choices log first c page (M.now m.old) →
+        IsMending l.now windows choices log first c (page + 1) (M.now m.new)) }
+    ensures lost { IfErr result (λ fault. M.honest m.new → LostIn (AreHomes l.now) (M.now m.new).image fault) }
+    ensures shown { OnOk result (M.honest m.new → IsCalmNow (M.now m.old) → ChangesHome l.now page (M.now m.old).image (M.now m.new).image (home_of l.now (M.now m.old).image page)) }
+    ensures not_shown { IfErr result (λ fault. M.honest m.new → IsCalmNow (M.now m.old) → LosesHome l.now page (M.now m.old).image fault) }
+{
+    match heal_page(m, l, page) {
+        Ok(_) => Ok(()),
+        Err(fault) => Err(load_fault(fault)),
+    }
+}
+
+// Writes a page home from the log, or where the log does not have it, the one of its homes that is damaged from the other.
+fn mend_page<M: Machine>(m: &mut M, l: &Layout, log: &Log, page: u32) -> Result<(), MountFault>
+    requires layout { log.now.layout ≡ l.now }
+    requires planned { plan l.now.sectors l.now.third l.now.pages ≡ Ok l.now }
+    requires page { page < l.now.pages }
+    requires room { l.now.sectors ≤ (M.report m.old).sectors }
+
+    ensures fault { IfErr result (MendCause (M.report m.old) (M.report m.new)) }
+    ensures uses { UsesDisk (M.report m.old) (M.report m.new) }
+    ensures trust { Trusts (M.tells m.old) (M.tells m.new) (M.honest m.old) (M.honest m.new) }
+    ensures ledger { M.tells m.new → OnlyWrites (M.ledger m.old) (M.ledger m.new) }
+    ensures keeps { M.honest m.new → Keeps l.now (M.now m.old) (M.now m.new) }
+    ensures any_moment { (windows : List Run) (choices : List (List (List ℕ))) (first : At) (c : IsCompleted l.now windows choices log.now first) → M.honest m.new →
+        IsMending l.now windows choices log.now first c page (M.now m.old) →
+        LeavesOnly M.moment M.left_since m.old m.new (Stays l.now windows choices first) }
+    ensures done { OnOk result ((windows : List Run) (choices : List (List (List ℕ))) (first : At) (c : IsCompleted l.now windows choices log.now first) → M.honest m.new →
+        IsMending l.now windows choices log.now first c page (M.now m.old) →
+        IsMending l.now windows choices log.now first c (page + 1) (M.now m.new)) }
+    ensures never_lost { IfErr result (λ fault. (windows : List Run) (choices : List (List (List ℕ))) (first : At) (c : IsCompleted l.now windows choices log.now first) → M.honest m.new →
+        IsMending l.now windows choices log.now first c page (M.now m.old) → IsExcuse fault) }
+    ensures lost { IfErr result (λ fault. M.honest m.new → LostIn (AreOfVolume l.now log.now) (M.now m.new).image fault) }
+    ensures shown { OnOk result ((records : List Placed) (first : Image) → M.honest m.new → IsCalmNow (M.now m.old) → GivesPages log.now records first → IsShowing l.now records first page (M.now m.old).image →
+        IsShowing l.now records first (page + 1) (M.now m.new).image) }
+    ensures not_shown { IfErr result (λ fault. (records : List Placed) (first : Image) → M.honest m.new → IsCalmNow (M.now m.old) → GivesPages log.now records first → IsShowing l.now records first page (M.now m.old).image →
+        LosesNone l.now records first fault) }
+{
+    let mut image = [0; 512];
+    match log.image_of(m, page, &mut image) {
+        Ok(true) => home_logged(m, l, page, &image),
+        Ok(false) => heal_home(m, l, page),
+        Err(fault) => Err(load_fault(fault)),
+    }
+}
+
+// Mends each page, in ascending order.
+fn mend_pages<M: Machine>(m: &mut M, l: &Layout, log: &Log) -> Result<(), MountFault>
+    requires layout { log.now.layout ≡ l.now }
+    requires planned { plan l.now.sectors l.now.third l.now.pages ≡ Ok l.now }
+    requires room { l.now.sectors ≤ (M.report m.old).sectors }
+
+    ensures fault { IfErr result (MendCause (M.report m.old) (M.report m.new)) }
+    ensures uses { UsesDisk (M.report m.old) (M.report m.new) }
+    ensures trust { Trusts (M.tells m.old) (M.tells m.new) (M.honest m.old) (M.honest m.new) }
+    ensures ledger { M.tells m.new → OnlyWrites (M.ledger m.old) (M.ledger m.new) }
+    ensures keeps { M.honest m.new → Keeps l.now (M.now m.old) (M.now m.new) }
+    ensures any_moment { (windows : List Run) (choices : List (List (List ℕ))) (c : IsCompleted l.now windows choices log.now (M.now m.old)) → M.honest m.new →
+        LeavesOnly M.moment M.left_since m.old m.new (Stays l.now windows choices (M.now m.old)) }
+    ensures done { OnOk result ((windows : List Run) (choices : List (List (List ℕ))) (c : IsCompleted l.now windows choices log.now (M.now m.old)) → M.honest m.new →
+        IsMending l.now windows choices log.now (M.now m.old) c l.now.pages (M.now m.new)) }
+    ensures never_lost { IfErr result (λ fault. (windows : List Run) (choices : List (List (List ℕ))) (c : IsCompleted l.now windows choices log.now (M.now m.old)) → M.honest m.new → IsExcuse fault) }
+    ensures lost { IfErr result (λ fault. M.honest m.new → LostIn (AreOfVolume l.now log.now) (M.now m.new).image fault) }
+    ensures shown { OnOk result ((records : List Placed) → M.honest m.new → IsCalmNow (M.now m.old) → GivesPages log.now records (M.now m.old).image → IsShowing l.now records (M.now m.old).image l.now.pages (M.now m.new).image) }
+    ensures not_shown { IfErr result (λ fault. (records : List Placed) → M.honest m.new → IsCalmNow (M.now m.old) → GivesPages log.now records (M.now m.old).image → LosesNone l.now records (M.now m.old).image fault) }
+{
+    for page in 0..l.pages() {
+        mend_page(m, l, log, page)?;
+    }
+    Ok(())
+}
+
+// Writes each root that is damaged or differs, when the pages are mended.
+fn mend_roots<M: Machine>(m: &mut M, l: &Layout) -> Result<(), MountFault>
+    requires planned { plan l.now.sectors l.now.third l.now.pages ≡ Ok l.now }
+    requires room { l.now.sectors ≤ (M.report m.old).sectors }
+
+    ensures fault { IfErr result (MendCause (M.report m.old) (M.report m.new)) }
+    ensures uses { UsesDisk (M.report m.old) (M.report m.new) }
+    ensures trust { Trusts (M.tells m.old) (M.tells m.new) (M.honest m.old) (M.honest m.new) }
+    ensures ledger { M.tells m.new → OnlyWrites (M.ledger m.old) (M.ledger m.new) }
+    ensures keeps { M.honest m.new → Keeps l.now (M.now m.old) (M.now m.new) }
+    ensures any_moment { (windows : List Run) (choices : List (List (List ℕ))) (log : LogValue) (first : At) (c : IsCompleted l.now windows choices log first) → M.honest m.new →
+        IsMending l.now windows choices log first c l.now.pages (M.now m.old) →
+        LeavesOnly M.moment M.left_since m.old m.new (Stays l.now windows choices first) }
+    ensures done { OnOk result ((windows : List Run) (choices : List (List (List ℕ))) (log : LogValue) (first : At) (c : IsCompleted l.now windows choices log first) → M.honest m.new →
+        IsMending l.now windows choices log first c l.now.pages (M.now m.old) →
+        IsMended l.now windows choices log first c (M.now m.new)) }
+    ensures never_lost { IfErr result (λ fault. (windows : List Run) (choices : List (List (List ℕ))) (log : LogValue) (first : At) (c : IsCompleted l.now windows choices log first) → M.honest m.new →
+        IsMending l.now windows choices log first c l.now.pages (M.now m.old) → IsExcuse fault) }
+    ensures lost { IfErr result (λ fault. M.honest m.new → LostIn AreRoots (M.now m.new).image fault) }
+    ensures body { M.honest m.new → KeepsFrom 8 (M.now m.old) (M.now m.new) }
+    ensures not_shown { IfErr result (λ fault. M.honest m.new → IsCalmNow (M.now m.old) → (HasNoRoot (M.now m.old).image → ⊥) → IsExcuse fault) }
+{
+    match heal_root(m, l) {
+        Ok(_) => Ok(()),
+        Err(fault) => Err(load_fault(fault)),
+    }
+}
+
+/// Mends the pages, and then the roots.
+pub(crate) fn mend<M: Machine>(m: &mut M, l: &Layout, log: &Log) -> Result<(), MountFault>
+    requires layout { log.now.layout ≡ l.now }
+    requires planned { plan l.now.sectors l.now.third l.now.pages ≡ Ok l.now }
+    requires room { l.now.sectors ≤ (M.report m.old).sectors }
+
+    ensures fault { IfErr result (MendCause (M.report m.old) (M.report m.new)) }
+    ensures uses { UsesDisk (M.report m.old) (M.report m.new) }
+    ensures trust { Trusts (M.tells m.old) (M.tells m.new) (M.honest m.old) (M.honest m.new) }
+    ensures ledger { M.tells m.new → OnlyWrites (M.ledger m.old) (M.ledger m.new) }
+    ensures keeps { M.honest m.new → Keeps l.now (M.now m.old) (M.now m.new) }
+    ensures any_moment { (windows : List Run) (choices : List (List (List ℕ))) (c : IsCompleted l.now windows choices log.now (M.now m.old)) → M.honest m.new →
+        LeavesOnly M.moment M.left_since m.old m.new (Stays l.now windows choices (M.now m.old)) }
+    ensures done { OnOk result ((windows : List Run) (choices : List (List (List ℕ))) (c : IsCompleted l.now windows choices log.now (M.now m.old)) → M.honest m.new →
+        IsMended l.now windows choices log.now (M.now m.old) c (M.now m.new)) }
+    ensures never_lost { IfErr result (λ fault. (windows : List Run) (choices : List (List (List ℕ))) (c : IsCompleted l.now windows choices log.now (M.now m.old)) → M.honest m.new → IsExcuse fault) }
+    ensures lost { IfErr result (λ fault. M.honest m.new → LostIn (AreOfAll l.now log.now) (M.now m.new).image fault) }
+
+    // Of any image on which nothing wears: each page stands at home then as the image showed it.
+    ensures shown { OnOk result ((records : List Placed) → M.honest m.new → IsCalmNow (M.now m.old) → GivesPages log.now records (M.now m.old).image →
+        (page : ℕ) → page < l.now.pages → home_of l.now (M.now m.new).image page ≡ shows_of l.now records (M.now m.old).image page) }
+    ensures not_shown { IfErr result (λ fault. (records : List Placed) → M.honest m.new → IsCalmNow (M.now m.old) → GivesPages log.now records (M.now m.old).image → (HasNoRoot (M.now m.old).image → ⊥) →
+        LosesNone l.now records (M.now m.old).image fault) }
+{
+    mend_pages(m, l, log)?;
+    mend_roots(m, l)
+}

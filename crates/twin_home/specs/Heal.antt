@@ -1,0 +1,76 @@
+-- What healing one of two copies from the other leaves.
+use Rattle.std.specs.Prelude.{◌≡◌, ◌⊎◌, ℕ, ◌+◌, ◌≤◌, List, length, Option, Some, None, IsTrue}
+use Rattle.sector_disk.specs.declared.sector.Sector.TheVariants.{Whole, Damaged}
+use Rattle.sector_disk.specs.declared.machine.LoadFault.{LoadFault}
+use Rattle.sector_disk.specs.declared.machine.LoadFault.TheVariants.{Device, Lost}
+use Rattle.sector_disk.specs.Image.{sector_at, stand, open_damage}
+use Rattle.sector_disk.specs.Machine.{Report, Moment, Holds, DeviceFault}
+use Rattle.twin_home.specs.Home.{WritesPart}
+
+-- a sector that reads damaged in a call: it was so, or an open window may have worn it
+abbrev pub MayReadDamaged : Moment → ℕ → Type 0
+MayReadDamaged old place = (sector_at old.image place ≡ Damaged) ⊎ IsTrue (open_damage old.windows place)
+
+-- what is read of a copy: the bytes that stand there
+abbrev pub ReadsCopy : Moment → ℕ → Option (List ℕ) → Type 0
+ReadsCopy old place (Some bytes) = sector_at old.image place ≡ Whole bytes
+ReadsCopy old place None = MayReadDamaged old place
+
+-- A sector is written with its twin's bytes, or not yet.
+pub record Mends (place twin : ℕ) (old left : Moment) : Type 0 where
+  pub bytes : List ℕ
+  pub long : length bytes ≡ 512
+  pub whole : sector_at old.image twin ≡ Whole bytes
+  pub part : WritesPart place bytes old left
+
+-- One of two copies is written from the other, or neither.
+abbrev pub Heals : (a b : ℕ) → Moment → Moment → Type 0
+Heals a b old left = Holds old old.image left ⊎ (Mends a b old left ⊎ Mends b a old left)
+
+-- A copy that read damaged stands as its twin did.
+pub record Mended (place twin : ℕ) (old new : Moment) : Type 0 where
+  pub hurt : MayReadDamaged old place
+  pub bytes : List ℕ
+  pub long : length bytes ≡ 512
+  pub whole : sector_at old.image twin ≡ Whole bytes
+  pub stands : Holds old (stand old.image place bytes 1) new
+
+-- the sector was whole
+abbrev pub WasWhole : Moment → ℕ → Type 0
+WasWhole old place = (bytes : List ℕ) × (sector_at old.image place ≡ Whole bytes)
+
+-- Both were whole and none is written, or one is.
+abbrev pub Healed : (a b count : ℕ) → Moment → Moment → Type 0
+Healed a b count old new = ((count ≡ 0) × WasWhole old a × WasWhole old b × Holds old old.image new) ⊎ ((count ≡ 1) × (Mended a b old new ⊎ Mended b a old new))
+
+-- a failed call of the disk is told, or the two copies
+abbrev pub HealCause : (a b : ℕ) → Report → Report → LoadFault → Type 0
+HealCause a b old new (Device place) = DeviceFault old new place
+HealCause a b old new (Lost x y) = (x ≡ a) × (y ≡ b)
+
+-- ---- roots
+
+-- A sector reads as these bytes and is not written, or it reads otherwise and is.
+abbrev pub SetsRoot : (place : ℕ) → Option (List ℕ) → List ℕ → (count : ℕ) → Moment → Moment → Type 0
+SetsRoot place read bytes count old new = ((count ≡ 0) × (read ≡ Some bytes) × Holds old old.image new) ⊎ ((count ≡ 1) × (read ≡ Some bytes → ⊥) × Holds old (stand old.image place bytes 1) new)
+
+-- The roots of these bytes stand at the first place, if so many (0 or 1) are written there, and at the second.
+pub record RootsIn (bytes : List ℕ) (old left : Moment) : Type 0 where
+  pub first : ℕ
+  pub second : ℕ
+  pub once : first ≤ 1
+  pub once_more : second ≤ 1
+  pub holds : Holds old (stand (stand old.image 0 bytes first) 4 bytes second) left
+
+-- a root is written exactly where it reads damaged or differs
+abbrev pub NeedsRoot : ℕ → ℕ → List ℕ → Moment → Type 0
+NeedsRoot count place bytes old = ((count ≡ 0) × (sector_at old.image place ≡ Whole bytes)) ⊎ ((count ≡ 1) × (MayReadDamaged old place ⊎ ((other : List ℕ) × (sector_at old.image place ≡ Whole other) × (other ≡ bytes → ⊥))))
+
+-- Each root that reads damaged or differs is written, and no other sector.
+pub record RootsHealed (bytes : List ℕ) (count : ℕ) (old new : Moment) : Type 0 where
+  pub first : ℕ
+  pub second : ℕ
+  pub sum : count ≡ first + second
+  pub needs_first : NeedsRoot first 0 bytes old
+  pub needs_second : NeedsRoot second 4 bytes old
+  pub holds : Holds old (stand (stand old.image 0 bytes first) 4 bytes second) new
