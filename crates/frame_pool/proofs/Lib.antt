@@ -3,4 +3,5 @@ pub mod Pools
 pub mod Rows
 pub mod Sharing
 pub mod Slots
+pub mod Split
 pub mod Two

@@ -6,23 +6,24 @@ use mathlib.Core.Path.{◌≡◌, refl, subst}
 use Prim.Native.Nat.{ℕ, zero, suc, ◌+◌, ◌*◌, ◌<◌, ◌≤◌}
 use native.Mathlib.Omega.{arith}
 use native.Mathlib.Nat.{zero-mul, suc-mul}
-use mathlib.Core.List.{List, [], ◌∷◌, ◌++◌}
+use mathlib.Core.List.{List, [], ◌∷◌, ◌++◌, map}
 use lib.ListN.{length, drop, get_or, replicate}
 use lib.Seq.{drop-cons}
 use seplogic.Ra.Ura.{Ura}
 use base.Fraction.{full_share}
 use mir.Syntax.{Ty, ty_array}
 use mir.Val.{Val, vstruct, vcons, vnil, of_list}
-use base.Logic.{SProp, ent, sep, emp, ex, guard, via, snd∗, id⊢}
+use base.Logic.{SProp, ent, sep, emp, ex, guard, via, snd∗, id⊢, mono_r}
 use base.Fml.{Fml, Lft, fat, froom}
 use types.Logic.{Logic, sem}
 use contract.Monad.{fact, fact_i}
+use types.SemTy.{cells}
 use types.Kit.{Item, Goal, Seq, Step, step, prop, ‵, raw, some, ◌⊛◌, ◌$◌, ◌∵◌, !, qed, by, move, keep, drop as skip, use0, use1, pick, split, check, show, frame, fsplit, fjoin, fpick, fpack, feq_i, feq_l, rewrite, done}
 use denote.RattleType.{RattleType, Valss}
 use denote.Laws.{Typed, Is, shows}
 use denote.Param.{param, layout}
 use denote.Param.Laws.{Laws, param_laws}
-use denote.Memory.{part_at}
+use denote.Memory.{part_at, mem}
 use denote.RawPtr.{Ptr, RawPtr, ptr_val}
 use denote.Shadow.{makes_shadow}
 use denote.Steps.{nothing, peeks}
@@ -149,6 +150,15 @@ module _ (E : El) {M : Type 1} {𝓤 : Ura M} (𝓛 : Logic 𝓤) (b : ℕ) wher
   to_room (suc n) o = qed 𝓛 (‵ (slot (R E) b o None) ∷ ‵ (Row (o + s) (replicate n None)) ∷ []) ∵
       use1 𝓛 (‵ (froom (elτ E) b o)) (𝓛.laws.raw-room (elτ E) b o) $ move ! (1 ∷ []) $
       use1 𝓛 (‵ (froom (ty_array (elτ E) n) b (o + s))) (to_room n (o + s)) $ move ! (1 ∷ []) $ by ! (𝓛.laws.room_cons (elτ E) n b o)
+
+  -- places that all hold a value are the elements of a slice
+  pub to_cells : (xs : List (el_x E)) (o : ℕ) → ent 𝓤 (sem 𝓛 (Row o (map Some xs))) (sem 𝓛 (cells (mem (R E)) xs b o))
+  to_cells [] o = id⊢ 𝓤 (emp 𝓤)
+  to_cells (x ∷ xs) o = mono_r 𝓤 (sem 𝓛 (part_at (R E) full_share x b o)) (to_cells xs (o + s))
+
+  pub of_cells : (xs : List (el_x E)) (o : ℕ) → ent 𝓤 (sem 𝓛 (cells (mem (R E)) xs b o)) (sem 𝓛 (Row o (map Some xs)))
+  of_cells [] o = id⊢ 𝓤 (emp 𝓤)
+  of_cells (x ∷ xs) o = mono_r 𝓤 (sem 𝓛 (part_at (R E) full_share x b o)) (of_cells xs (o + s))
 
   module _ (κ : Lft) where
     abbrev Seen : ℕ → List (Place E) → Fml

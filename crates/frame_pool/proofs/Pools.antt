@@ -1,6 +1,7 @@
 -- A pool is read, and made, by what each place holds.
-use Rattle.std.proofs.Common.{◌≡◌, ℕ, ◌<◌, List, map, length, set, get_or, slice_get, Some, None, sym, ap, ◌∙◌, subst, length-set}
-use Rattle.frame_pool.specs.Places.{somes, IsFilled}
+use Rattle.std.proofs.Common.{◌≡◌, ℕ, ◌<◌, List, map, length, set, get_or, slice_get, Some, None, refl, sym, ap, ◌∙◌, subst, length-set}
+use Rattle.std.specs.List.{refill, length_refill}
+use Rattle.frame_pool.specs.Places.{somes, IsFilled, AreFilled}
 use Rattle.frame_pool.specs.Lends.{with_slots}
 use Rattle.frame_pool.specs.FramePool.{frames_of, IsPool}
 use Rattle.frame_pool.specs.declared.pool.FramePool.TheInside.{Inside}
@@ -24,3 +25,14 @@ module _ (p : Inside) (h : IsPool p) (i : ℕ) where
   pub frame_written : (w : List ℕ) → let q = record p { cells = with_slots p.cells (set p.cells.slots i (Some w)) } in IsPool q × (frames_of q ≡ set (frames_of p) i w)
   frame_written w = pool_of (record p { cells = with_slots p.cells (set p.cells.slots i (Some w)) }) (set (frames_of p) i w) h.at h.deed
       (ap (λ cs. set cs i (Some w)) h.full ∙ set-map_some (frames_of p) i w) (h.counted ∙ sym (length-set (frames_of p) i w))
+
+module _ (p : Inside) (h : IsPool p) where
+  pub all_filled : AreFilled p.cells.slots p.count
+  all_filled = (frames_of p, (h.full, sym h.counted))
+
+  -- all frames are written over
+  pub frames_written : (ws : List (List ℕ)) → let frames = refill p.count (frames_of p) ws in
+      let q = record p { cells = with_slots p.cells (map Some frames) } in IsPool q × (frames_of q ≡ frames)
+  frames_written ws =
+      let frames = refill p.count (frames_of p) ws in
+      pool_of (record p { cells = with_slots p.cells (map Some frames) }) frames h.at h.deed refl (length_refill p.count (frames_of p) ws h.counted)

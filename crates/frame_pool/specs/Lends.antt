@@ -1,6 +1,8 @@
 -- What the places end as, once a `&mut` into them has ended.
-use Rattle.std.specs.Prelude.{ℕ, List, slice_set, Option, Some}
-use Rattle.std.specs.Borrow.{Fml, RattleType, MutBor, Lends}
+use Rattle.std.specs.Prelude.{ℕ, List, map, slice_set, Option, Some}
+use Rattle.std.specs.Borrow.{Fml, RattleType, MutBor, Array, Lends}
+use Rattle.std.specs.List.{refill}
+use Rattle.frame_pool.specs.Places.{somes}
 use Rattle.frame_pool.specs.declared.cells.Cells.{Cells}
 use Rattle.frame_pool.specs.contracts.cells.Cells.{the_row}
 
@@ -10,3 +12,6 @@ module _ {X : Type 0} where
 
 abbrev pub lends_slot : (R : RattleType) → MutBor (Cells R.Denot) → ℕ → MutBor R.Denot → Fml
 lends_slot R c i r = Lends (the_row R) R c r (λ w. with_slots c.now (slice_set c.now.slots i (Some w)))
+
+abbrev pub lends_all : (R : RattleType) → MutBor (Cells R.Denot) → ℕ → MutBor (List R.Denot) → Fml
+lends_all R c len r = Lends (the_row R) (Array R 0) c r (λ ws. with_slots c.now (map Some (refill len (somes c.now.slots) ws)))

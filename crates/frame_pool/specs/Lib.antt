@@ -3,3 +3,4 @@ pub mod FramePoolLends
 pub mod Lends
 pub mod Ownership
 pub mod Places
+pub mod RowLends

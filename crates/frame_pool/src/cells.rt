@@ -4,13 +4,14 @@ ghost use Rattle.std.specs.Borrow.{sem};
 ghost use Rattle.std.specs.Vec.Ownership.{FitsInBlock};
 ghost use base.Fml.{ftrue};
 ghost use denote.RawPtr.{Ptr};
-ghost use Rattle.frame_pool.specs.Places.{IsFilled};
+ghost use Rattle.frame_pool.specs.Places.{IsFilled, AreFilled};
 ghost use Rattle.frame_pool.specs.Ownership.{cells_own, cells_lent, deed_owns};
 
 use crate::pool::Sector;
 use std::alloc::{AllocError, Allocator};
 use std::marker::{Model, PhantomData};
 use std::mem::{align_of, size_of};
+use std::slice;
 
 /// Where the block begins. It owns nothing.
 pub struct Base<T> {
@@ -121,7 +122,7 @@ pub(crate) fn empty(cells: &mut Cells<Sector>, base: Base<Sector>, count: usize)
 }
 
 impl<T> Cells<T> {
-    ghost use Rattle.frame_pool.specs.Lends.{lends_slot};
+    ghost use Rattle.frame_pool.specs.Lends.{lends_slot, lends_all};
 
     /// Fills an empty place.
     pub(crate) fn write(&mut self, base: Base<T>, index: usize, item: T)
@@ -153,5 +154,14 @@ impl<T> Cells<T> {
         ensures value { get_or self.old.slots index None ≡ Some result.now }
     {
         unsafe { &mut *base.ptr.add(index) }
+    }
+
+    /// The values of all `len` places.
+    pub(crate) fn slice_mut(&mut self, base: Base<T>, len: usize) -> &mut [T]
+        requires { (base.ptr ≡ self.old.at) × AreFilled self.old.slots len }
+        ensures* writes_back { sem 𝓛 (lends_all T.row self.entry len result) }
+        ensures value { self.old.slots ≡ map Some result.now }
+    {
+        unsafe { slice::from_raw_parts_mut(base.ptr, len) }
     }
 }

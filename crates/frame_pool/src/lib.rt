@@ -4,4 +4,4 @@
 mod cells;
 mod pool;
 
-pub use pool::{FramePool, Sector};
+pub use pool::{FramePool, Sector, two_of};

@@ -1,6 +1,7 @@
 //! `FramePool`. A clause sees a pool as the list of its frames, each the list of its bytes.
 ghost use Rattle.std.specs.Prelude.{◌≡◌, ◌≢◌, ◌<◌, length, replicate, slice_get, Some, IfOk};
 ghost use Rattle.std.specs.Borrow.{sem};
+ghost use Rattle.frame_pool.specs.RowLends.{LendsTwoOf};
 
 use crate::cells::{Base, Cells, Deed, allocate, deallocate, empty, fill};
 use std::alloc::{AllocError, Global};
@@ -34,7 +35,7 @@ impl Model for FramePool {
 }
 
 impl FramePool {
-    ghost use Rattle.frame_pool.specs.FramePoolLends.{LendsFrame, LendsTwo};
+    ghost use Rattle.frame_pool.specs.FramePoolLends.{LendsFrame, LendsFrames, LendsTwo};
 
     /// A pool of `frames` frames of zeros. It fails for want of memory alone.
     pub fn new(alloc: Global, frames: usize) -> Result<FramePool, AllocError>
@@ -79,6 +80,15 @@ impl FramePool {
         self.cells.get_mut(base, i)
     }
 
+    /// All frames side by side, to write to.
+    pub fn frames_mut(&mut self) -> &mut [Sector]
+        ensures* writes_back { sem 𝓛 (LendsFrames self.entry result) }
+        ensures value { result.now ≡ self.old }
+    {
+        let (base, count) = (self.base, self.count);
+        self.cells.slice_mut(base, count)
+    }
+
     /// Two frames at once, to copy from one to the other.
     pub fn two_mut(&mut self, i: usize, j: usize) -> (&mut Sector, &mut Sector)
         requires first { i < length self.old }
@@ -90,6 +100,24 @@ impl FramePool {
     {
         let start = self.base.ptr;
         unsafe { (&mut *start.add(i), &mut *start.add(j)) }
+    }
+}
+
+/// Two different frames of a row at once.
+pub fn two_of(frames: &mut [Sector], i: usize, j: usize) -> (&mut Sector, &mut Sector)
+    requires first { i < length frames.old }
+    requires second { j < length frames.old }
+    requires apart { i ≢ j }
+    ensures* writes_back { sem 𝓛 (LendsTwoOf frames.entry i j result) }
+    ensures first { slice_get frames.old i ≡ Some result.0.now }
+    ensures second { slice_get frames.old j ≡ Some result.1.now }
+{
+    if i < j {
+        let (front, back) = frames.split_at_mut(j);
+        (&mut front[i], &mut back[0])
+    } else {
+        let (front, back) = frames.split_at_mut(i);
+        (&mut back[0], &mut front[j])
     }
 }
 

@@ -1,6 +1,14 @@
-//! Pages of the name table that are not in memory: where they come from.
+//! Pages of the name table in memory, and where those come from that are not.
 #![tactic(auto)]
 
+mod cache;
+mod fault;
+mod order;
 mod source;
 
+pub use cache::{Cache, Frame};
+pub use fault::CacheFault;
 pub use source::PageSource;
+
+#[cfg(test)]
+mod tests;

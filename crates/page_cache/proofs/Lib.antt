@@ -1,0 +1,8 @@
+pub mod Entries
+pub mod CacheLaws
+pub mod ShownLaws
+pub mod NewestLaws
+pub mod BusyLaws
+pub mod FrameLaws
+pub mod FetchLaws
+mod TestLaws

@@ -1,0 +1,11 @@
+use Rattle.std.proofs.Common.{◌+◌, sym, ap, ◌∙◌, subst, arith}
+use Rattle.page_cache.specs.Cache.{busy}
+use Rattle.page_cache.specs.Tests.{HasFirst}
+use Rattle.page_cache.proofs.TestLaws.{first_enters}
+use Rattle.page_cache.proofs.tests.filled.Goals as goal
+
+pub loop-page-preserved : goal.loop-page-preserved
+loop-page-preserved c =
+    let l = c.loop-page in
+    let e = c.in_ok-frame.ensures.entered (l.invariant.absent l.page (omega arith)) in
+    subst (HasFirst (l.page + 1)) (sym e.1) (first_enters l.page e.0 l.cache l.invariant c.loop-page-test.true (ap busy (sym e.1) ∙ c.fetch.ensures.busy))

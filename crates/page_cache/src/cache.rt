@@ -1,0 +1,264 @@
+//! `Cache`.
+ghost use Rattle.std.specs.Prelude.{◌≡◌};
+
+use crate::fault::CacheFault;
+use crate::order::{slot_of, take_in, touch};
+use crate::source::PageSource;
+use arrayvec::ArrayVec;
+use frame_pool::{FramePool, Sector, two_of};
+use lru::LruCache;
+use sector_disk::Machine;
+use std::alloc::{AllocError, Global};
+use std::marker::Model;
+use std::num::NonZeroUsize;
+
+/// The index of a frame in the pool.
+pub type Frame = usize;
+
+// The frame of a page, and how often the page is pinned.
+#[derive(Clone, Copy)]
+pub struct Slot {
+    pub(crate) frame: usize,
+    pub(crate) pins: u32,
+}
+
+/// Pages in memory, each in a frame of its own.
+#[derive(Drop)]
+pub struct Cache {
+    pool: FramePool,
+    order: LruCache<u32, Slot>,
+    dirty: ArrayVec<u32, 96>,
+}
+
+impl Model for Cache {
+    ghost use Rattle.page_cache.specs.Cache.{CacheValue};
+
+    ghost Value = { CacheValue };
+
+    ghost use Rattle.page_cache.specs.Inside.{value_of, IsInside};
+
+    ghost view = { value_of };
+
+    ghost invariant = { IsInside };
+}
+
+impl Cache {
+    ghost use Rattle.std.specs.Prelude.{◌<◌, ◌≤◌, ◌≢◌, ◌⊎◌, ◌+◌, ◌-◌, ◌^◌, ℕ, List, Option, Ok, Some, None, true, IsTrue, slice_get, IsSome, IfSome, IfOk, IfErr, OnOk, OnErr, length, option_map};
+    ghost use Rattle.std.specs.Borrow.{sem};
+    ghost use Rattle.sector_disk.specs.Image.{IsCalm};
+    ghost use Rattle.sector_disk.specs.Machine.{UsesDisk, Trusts, Wears, LeavesOnly};
+    ghost use Rattle.page_cache.specs.Cache.{held, bytes_of, pins_of, busy, frame_for, is_one_of, IsResident, IsCache, KeepsNewest, no_pages, used, entered, with_pins, with_dirty, cleaned};
+    ghost use Rattle.page_cache.specs.Fetch.{FetchCause, LostCause, IsNotLost};
+    ghost use Rattle.page_cache.specs.Lends.{LendsBytes, LendsFrames};
+
+    /// A cache of so many frames, with no page in memory.
+    pub fn new(alloc: Global, frames: usize) -> Result<Cache, AllocError>
+        requires enough { 192 ≤ frames }
+        requires few { frames ≤ 1024 }
+        ensures ok { IfOk result (λ c. c ≡ no_pages frames) }
+    {
+        let pool = FramePool::new(alloc, frames)?;
+        let order = LruCache::new(alloc, NonZeroUsize::new(frames + 1).unwrap())?;
+        Ok(Cache {
+            pool,
+            order,
+            dirty: ArrayVec::new(),
+        })
+    }
+
+    /// Brings a page into memory, if it is not there, and makes it the most recently used.
+    pub fn fetch<M: Machine, S: PageSource>(
+        &mut self,
+        m: &mut M,
+        page: u32,
+        source: &S,
+    ) -> Result<Frame, CacheFault>
+        requires page { page < S.pages source.now }
+        requires sectors { S.sectors source.now ≤ (M.report m.old).sectors }
+        requires room { busy self.old < self.old.frames }
+
+        // A page in memory is used. Nothing is asked of the disk.
+        ensures hit { IfSome (held self.old page) (λ h. (result ≡ Ok h.frame) × (self.new ≡ used page self.old) × (m.new ≡ m.old)) }
+
+        // Another enters, with what the source gave.
+        ensures frame { held self.old page ≡ None → IfOk result (λ frame. frame ≡ frame_for self.old) }
+        ensures entered { held self.old page ≡ None → OnOk result ((bytes : List ℕ) × (self.new ≡ entered page bytes self.old)) }
+        ensures whole { held self.old page ≡ None → OnOk result (M.honest m.new → IfSome (bytes_of self.new page) (S.stands source.now page (M.now m.old).image)) }
+        ensures given { held self.old page ≡ None → OnOk result (M.honest m.new → IsCalm (M.now m.old).windows → S.knows source.now (M.now m.old).image →
+            S.newest source.now (M.now m.old).image page ≡ bytes_of self.new page) }
+        ensures newest { OnOk result (M.honest m.new → IsCalm (M.now m.old).windows → S.knows source.now (M.now m.old).image →
+            KeepsNewest (S.newest source.now (M.now m.old).image) self.old self.new) }
+
+        ensures fault { IfErr result (FetchCause (M.report m.old) (M.report m.new)) }
+        ensures uses { UsesDisk (M.report m.old) (M.report m.new) }
+        ensures trust { Trusts (M.tells m.old) (M.tells m.new) (M.honest m.old) (M.honest m.new) }
+        ensures ledger { M.tells m.new → M.ledger m.new ≡ M.ledger m.old }
+        ensures worn { M.honest m.new → Wears (M.now m.old) (M.now m.new) }
+        ensures any_moment { M.honest m.new → LeavesOnly M.moment M.left_since m.old m.new (Wears (M.now m.old)) }
+        ensures lost { IfErr result (λ fault. M.honest m.new → LostCause (S.copies source.now page) (M.now m.new).image fault) }
+        ensures never_lost { IfErr result (λ fault. M.honest m.new → IsCalm (M.now m.old).windows → S.knows source.now (M.now m.old).image →
+            IsSome (S.newest source.now (M.now m.old).image page) → IsNotLost fault) }
+        ensures kept { OnErr result (self.new ≡ self.old) }
+        ensures busy { busy self.new ≡ busy self.old }
+        ensures frames { self.new.frames ≡ self.old.frames }
+    {
+        match self.hit(page) {
+            Some(frame) => Ok(frame),
+            None => self.bring(m, page, source),
+        }
+    }
+
+    // Makes a page the most recently used, if it is in memory.
+    fn hit(&mut self, page: u32) -> Option<Frame>
+        ensures frame { result ≡ option_map (λ h. h.frame) (held self.old page) }
+        ensures used { self.new ≡ used page self.old }
+        ensures absent { held self.old page ≡ None → self.new ≡ self.old }
+        ensures newest { (source : ℕ → Option (List ℕ)) → KeepsNewest source self.old self.new }
+        ensures busy { busy self.new ≡ busy self.old }
+    {
+        touch(&mut self.order, page)
+    }
+
+    // Brings a page into memory that is not there.
+    fn bring<M: Machine, S: PageSource>(
+        &mut self,
+        m: &mut M,
+        page: u32,
+        source: &S,
+    ) -> Result<Frame, CacheFault>
+        requires new { held self.old page ≡ None }
+        requires page { page < S.pages source.now }
+        requires sectors { S.sectors source.now ≤ (M.report m.old).sectors }
+        requires room { busy self.old < self.old.frames }
+
+        ensures frame { IfOk result (λ frame. frame ≡ frame_for self.old) }
+        ensures entered { OnOk result ((bytes : List ℕ) × (self.new ≡ entered page bytes self.old)) }
+        ensures whole { OnOk result (M.honest m.new → IfSome (bytes_of self.new page) (S.stands source.now page (M.now m.old).image)) }
+        ensures given { OnOk result (M.honest m.new → IsCalm (M.now m.old).windows → S.knows source.now (M.now m.old).image →
+            S.newest source.now (M.now m.old).image page ≡ bytes_of self.new page) }
+        ensures newest { OnOk result (M.honest m.new → IsCalm (M.now m.old).windows → S.knows source.now (M.now m.old).image →
+            KeepsNewest (S.newest source.now (M.now m.old).image) self.old self.new) }
+
+        ensures fault { IfErr result (FetchCause (M.report m.old) (M.report m.new)) }
+        ensures uses { UsesDisk (M.report m.old) (M.report m.new) }
+        ensures trust { Trusts (M.tells m.old) (M.tells m.new) (M.honest m.old) (M.honest m.new) }
+        ensures ledger { M.tells m.new → M.ledger m.new ≡ M.ledger m.old }
+        ensures worn { M.honest m.new → Wears (M.now m.old) (M.now m.new) }
+        ensures any_moment { M.honest m.new → LeavesOnly M.moment M.left_since m.old m.new (Wears (M.now m.old)) }
+        ensures lost { IfErr result (λ fault. M.honest m.new → LostCause (S.copies source.now page) (M.now m.new).image fault) }
+        ensures never_lost { IfErr result (λ fault. M.honest m.new → IsCalm (M.now m.old).windows → S.knows source.now (M.now m.old).image →
+            IsSome (S.newest source.now (M.now m.old).image page) → IsNotLost fault) }
+        ensures kept { OnErr result (self.new ≡ self.old) }
+        ensures busy { busy self.new ≡ busy self.old }
+        ensures frames { self.new.frames ≡ self.old.frames }
+    {
+        let mut bytes = [0; 512];
+        source.load(m, page, &mut bytes)?;
+        Ok(self.enter(page, &bytes)?)
+    }
+
+    // Gives a page that is not in memory a frame with these bytes.
+    fn enter(&mut self, page: u32, bytes: &[u8; 512]) -> Result<Frame, AllocError>
+        requires new { held self.old page ≡ None }
+        requires room { busy self.old < self.old.frames }
+        ensures frame { IfOk result (λ frame. frame ≡ frame_for self.old) }
+        ensures entered { OnOk result (self.new ≡ entered page bytes.now self.old) }
+        ensures newest { OnOk result ((source : ℕ → Option (List ℕ)) → source page ≡ Some bytes.now → KeepsNewest source self.old self.new) }
+        ensures busy { busy self.new ≡ busy self.old }
+        ensures kept { OnErr result (self.new ≡ self.old) }
+    {
+        let frames = self.pool.len();
+        let frame = take_in(&mut self.order, self.dirty.as_slice(), frames, page)?;
+        *self.pool.get_mut(frame) = *bytes;
+        Ok(frame)
+    }
+
+    /// Keeps a page in memory, until it is unpinned as often as it is pinned.
+    pub fn pin(&mut self, page: u32)
+        requires few { pins_of self.old page < 2 ^ 32 - 1 }
+        requires resident { IsResident self.old page }
+        ensures pins { self.new ≡ with_pins page (pins_of self.old page + 1) self.old }
+        ensures busy { busy self.new ≤ busy self.old + 1 }
+    {
+        let slot = self.order.peek_mut(&page).unwrap();
+        slot.pins += 1;
+    }
+
+    /// Takes back one `pin`.
+    pub fn unpin(&mut self, page: u32)
+        requires pinned { 0 < pins_of self.old page }
+        requires resident { IsResident self.old page }
+        ensures { self.new ≡ with_pins page (pins_of self.old page - 1) self.old }
+    {
+        let slot = self.order.peek_mut(&page).unwrap();
+        slot.pins -= 1;
+    }
+
+    /// The bytes of a page in memory.
+    pub fn bytes(&self, page: u32) -> &[u8; 512]
+        requires { IsResident self.now page }
+        ensures { bytes_of self.now page ≡ Some result.now }
+    {
+        let slot = slot_of(&self.order, page);
+        self.pool.get(slot.frame)
+    }
+
+    /// The bytes of a page in memory, to be changed.
+    pub fn bytes_mut(&mut self, page: u32) -> &mut [u8; 512]
+        requires { IsResident self.old page }
+        ensures* writes_back { sem 𝓛 (LendsBytes self.entry page result) }
+        ensures value { bytes_of self.old page ≡ Some result.now }
+    {
+        let slot = slot_of(&self.order, page);
+        self.pool.get_mut(slot.frame)
+    }
+
+    /// All frames side by side, to be changed. Where a page lies `fetch` has answered.
+    pub fn frames_mut(&mut self) -> &mut [Sector]
+        ensures* writes_back { sem 𝓛 (LendsFrames self.entry result) }
+        ensures count { length result.now ≡ self.old.frames }
+        ensures value { (page : ℕ) → IfSome (held self.old page) (λ h. slice_get result.now h.frame ≡ Some h.bytes) }
+    {
+        self.pool.frames_mut()
+    }
+
+    /// The bytes of two pages in memory at once, to be changed. A caller that needs to know what the cache is afterwards
+    /// takes `two_of` of `frames_mut`.
+    pub fn two_mut(&mut self, p: u32, q: u32) -> (&mut [u8; 512], &mut [u8; 512])
+        requires first { IsResident self.old p }
+        requires second { IsResident self.old q }
+        requires apart { p ≢ q }
+        ensures first { bytes_of self.old p ≡ Some result.0.now }
+        ensures second { bytes_of self.old q ≡ Some result.1.now }
+    {
+        let (i, j) = (slot_of(&self.order, p).frame, slot_of(&self.order, q).frame);
+        two_of(self.frames_mut(), i, j)
+    }
+
+    /// The page differs from what the source has.
+    pub fn dirty(&mut self, page: u32)
+        requires resident { IsResident self.old page }
+        requires room { IsTrue (is_one_of self.old.dirty page) ⊎ (length self.old.dirty < 96) }
+        ensures list { self.new ≡ with_dirty page self.old }
+        ensures busy { busy self.new ≤ busy self.old + 1 }
+    {
+        if !self.dirty.as_slice().contains(&page) {
+            self.dirty.push(page);
+        }
+    }
+
+    /// The pages that are dirty, in the order in which they became so.
+    pub fn dirty_list(&self) -> &ArrayVec<u32, 96>
+        ensures value { result.now.items ≡ self.now.dirty }
+        ensures valid { IsCache self.now }
+    {
+        &self.dirty
+    }
+
+    /// No page is dirty any more. The bytes stay.
+    pub fn cleaned(&mut self)
+        ensures { self.new ≡ cleaned self.old }
+    {
+        self.dirty.clear();
+    }
+}

@@ -1,0 +1,104 @@
+//! The cache over a source in memory.
+ghost use Rattle.std.specs.Prelude.{◌<◌, IfOk, OnSome};
+ghost use Rattle.page_cache.specs.Cache.{IsResident};
+ghost use Rattle.page_cache.specs.Tests.{HasFirst, HasMarks};
+
+use crate::{Cache, CacheFault, Frame, PageSource};
+use sector_disk::{LoadFault, Machine, MemoryMachine};
+use std::alloc::Global;
+use std::test::Fail;
+
+// Pages whose bytes are all the page's number.
+#[derive(Drop)]
+struct Numbered;
+
+impl PageSource for Numbered {
+    ghost use Rattle.std.specs.Prelude.{◌≡◌, ◌%◌, ℕ, List, Some, replicate, ⊤};
+
+    ghost pages = { λ _. 4096 };
+
+    ghost sectors = { λ _. 0 };
+
+    ghost newest = { λ _ image page. Some (replicate 512 (page % 256)) };
+
+    ghost knows = { λ _ _. ⊤ };
+
+    ghost copies = { λ _ _ _ _. ⊤ };
+
+    ghost stands = { λ _ page _ bytes. bytes ≡ replicate 512 (page % 256) };
+
+    fn load<M: Machine>(&self, m: &mut M, page: u32, buf: &mut [u8; 512]) -> Result<(), LoadFault> {
+        *buf = [(page % 256) as u8; 512];
+        Ok(())
+    }
+}
+
+// A cache of 192 frames with the pages 0 to 191, fetched in this order.
+fn filled(alloc: Global, m: &mut MemoryMachine) -> Result<Cache, Fail>
+    ensures { IfOk result (HasFirst 192) }
+{
+    let mut cache = Cache::new(alloc, 192)?;
+    for page in 0..192u32 {
+        let frame = cache.fetch(m, page, &Numbered)?;
+        if frame != page as usize {
+            return Err(Fail::new("the page is in another frame"));
+        }
+    }
+    Ok(cache)
+}
+
+// Makes the pages 0 and 1 dirty, and pins 2.
+fn mark(cache: &mut Cache)
+    requires { HasFirst 192 cache.old }
+    ensures { HasMarks cache.new }
+{
+    cache.dirty(0);
+    cache.dirty(1);
+    cache.dirty(0);
+    cache.pin(2);
+}
+
+// Fetches a page, and keeps those.
+fn fetched(cache: &mut Cache, m: &mut MemoryMachine, page: u32) -> Option<Frame>
+    requires page { page < 4096 }
+    requires marks { HasMarks cache.old }
+    ensures marks { HasMarks cache.new }
+    ensures there { OnSome result (IsResident cache.new page) }
+{
+    let _whole = cache.dirty_list();
+    match cache.fetch(m, page, &Numbered) {
+        Ok(frame) => Some(frame),
+        Err(_) => None,
+    }
+}
+
+#[test]
+fn the_least_recently_used_page_that_may_go_goes(rt: HostRuntime) -> Result<(), Fail> {
+    let alloc = rt.alloc();
+    let mut m = MemoryMachine::new(
+        alloc,
+        Vec::new(alloc),
+        vec![in alloc; 0u32; 1]?,
+        Vec::new(alloc),
+        Vec::new(alloc),
+    )?;
+    let mut cache = filled(alloc, &mut m)?;
+    mark(&mut cache);
+    assert_eq!(rt; cache.dirty_list().as_slice(), [0, 1].as_slice());
+    assert_eq!(rt; fetched(&mut cache, &mut m, 192), Some(3));
+    assert_eq!(rt; cache.bytes(192)[511], 192);
+    assert_eq!(rt; cache.bytes(0)[0], 0);
+    assert_eq!(rt; cache.bytes(1)[0], 1);
+    assert_eq!(rt; cache.bytes(2)[0], 2);
+    // 4 is used again, so 5 goes.
+    assert_eq!(rt; fetched(&mut cache, &mut m, 4), Some(4));
+    assert_eq!(rt; fetched(&mut cache, &mut m, 3), Some(5));
+    cache.unpin(2);
+    cache.cleaned();
+    assert_eq!(rt; cache.dirty_list().len(), 0);
+    cache.bytes_mut(0)[8] = 7;
+    let (one, other) = cache.two_mut(1, 0);
+    other[9] = one[0];
+    assert_eq!(rt; (other[8], other[9]), (7, 1));
+    Ok(())
+}
