@@ -1,5 +1,5 @@
 -- What is left of a page above a child that was mended.
-use Rattle.std.proofs.Common.{◌≡◌, ◌≢◌, inl, inr, ℕ, ◌+◌, ◌<◌, ◌≤◌, Bool, true, false, cond, List, [], ◌∷◌, ◌++◌, length, take, drop, Option, ◌&&◌, refl, sym, ap, subst, ◌∙◌, arith, length-append}
+use Rattle.std.proofs.Common.{◌≡◌, ◌-◌, ◌≢◌, inl, inr, ℕ, ◌+◌, ◌<◌, ◌≤◌, Bool, true, false, cond, List, [], ◌∷◌, ◌++◌, length, take, drop, Option, ◌&&◌, refl, sym, ap, subst, ◌∙◌, arith, length-append}
 use Rattle.std.specs.Prelude.{◌==◌, Result, Ok, Err, IfOk, IfErr, OnOk}
 use Rattle.std.proofs.lemmas.Bool.{and_parts, and_from}
 use Rattle.fsd_bytes.specs.declared.key.Key.{Key}
@@ -112,3 +112,31 @@ pub room_left : (below : Trimmed) (n m levels : ℕ) → m ≤ n + sheets_below 
 room_left Whole n m levels h most some = absurd (some refl)
 room_left (Leaf list) n m levels h most some = omega (arith, h, most)
 room_left (Interior lead list) n m levels h most some = omega (arith, h, most)
+
+-- how many sheets there are then
+put_sheets : (step : Step) (old new : List Sheet) (page first : ℕ) (separators : List Separator) (left : Trimmed) (n levels : ℕ) → AreWaysPut step old new page first separators left → length old ≤ n + levels + 1
+    → length new ≤ n + sheets_below (levels + 1) left
+put_sheets step old new page first separators Whole n levels h low = omega (arith, h.one, low)
+put_sheets step old new page first separators (Leaf list) n levels h low = absurd h
+put_sheets step old new page first separators (Interior f list) n levels h low = omega (arith, ap length h.0, low)
+
+three_sheets : (below left : Trimmed) (n m levels : ℕ) → left ≡ Whole → m ≤ n + levels + 3 → m ≤ n + sheets_below (levels + 1) left
+three_sheets below left n m levels is h = subst (λ (x : Trimmed). m ≤ n + sheets_below (levels + 1) x) (sym is) (omega (arith, h))
+
+more_sheets : (step : Step) (old new : Draft) (above : Child) (first : ℕ) (xs : List Separator) (i : ℕ) (below left : Trimmed) (n levels : ℕ) → length old.sheets.items ≤ n + sheets_below levels below
+    → IsMended step old new above first xs i below left → length new.sheets.items ≤ n + sheets_below (levels + 1) left
+more_sheets step old new above first xs i Whole left n levels h m = three_sheets Whole left n (length new.sheets.items) levels m.0 (omega (arith, h, ap (λ (d : Draft). length d.sheets.items) m.1))
+more_sheets step old new above first xs i (Leaf list) left n levels h m = elim m.mended [
+  | inl j ↦ put_sheets step j.middle new.sheets.items above.page first _ left n levels j.above (omega (arith, h, j.one.one))
+  | inr s ↦ three_sheets (Leaf list) left n (length new.sheets.items) levels s.shared.whole (omega (arith, h, s.shared.one.one, s.shared.other.one, s.shared.above.one))
+]
+more_sheets step old new above first xs i (Interior lead list) left n levels h m = elim m.mended [
+  | inl j ↦ put_sheets step j.middle new.sheets.items above.page first _ left n levels j.above (omega (arith, h, j.one.one))
+  | inr s ↦ three_sheets (Interior lead list) left n (length new.sheets.items) levels s.shared.whole (omega (arith, h, s.shared.one.one, s.shared.other.one, s.shared.above.one))
+]
+
+pub mended_sheets : (step : Step) (old new : Draft) (above : Child) (first : ℕ) (xs : List Separator) (i : ℕ) (below left : Trimmed) (n levels : ℕ) → 0 < levels → length old.sheets.items ≤ n + sheets_below (levels - 1) below
+    → IsMended step old new above first xs i below left → length new.sheets.items ≤ n + sheets_below levels left
+mended_sheets step old new above first xs i below left n levels some h m =
+    let up : (levels - 1) + 1 ≡ levels = omega (arith, some) in
+    subst (λ (l : ℕ). length new.sheets.items ≤ n + sheets_below l left) up (more_sheets step old new above first xs i below left n (levels - 1) h m)

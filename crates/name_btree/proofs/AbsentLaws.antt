@@ -7,9 +7,9 @@ use Rattle.fsd_bytes.specs.declared.key.Key.{Key}
 use Rattle.fsd_bytes.specs.Keys.{same_key}
 use Rattle.fsd_formats.specs.declared.entry.Entry.{Entry}
 use Rattle.fsd_table.specs.Tree.{IsTree, table_of}
-use Rattle.name_node.specs.declared.entries.Side.TheVariants.{Lesser, Greater}
-use Rattle.name_node.specs.Edits.{is_on, beside, without}
-use Rattle.name_node.specs.Lookups.{entry_with}
+use Rattle.name_page.specs.declared.entries.Side.TheVariants.{Lesser, Greater}
+use Rattle.name_page.specs.Edits.{is_on, beside, without}
+use Rattle.name_page.specs.Lookups.{entry_with}
 use Rattle.name_btree.specs.Map.{without_all}
 
 -- ---- what is not found in a list is not found in a part of it

@@ -21,13 +21,13 @@ use Rattle.fsd_forest.proofs.CountLaws.{count_cons, count_append, there_counts, 
 use Rattle.fsd_forest.proofs.ForestLaws.{widens}
 use Rattle.fsd_forest.proofs.StepLaws.{page_steps_up, page_sides_stay}
 use Rattle.fsd_forest.proofs.WayLaws.{children_between, children_end, children_begin, key_inside}
-use Rattle.name_node.specs.declared.cut.Cut.TheVariants.{UpTo}
-use Rattle.name_node.specs.Cut.{is_before}
-use Rattle.name_node.specs.Edits.{without, is_on}
-use Rattle.name_node.specs.declared.entries.Side.TheVariants.{Greater}
-use Rattle.name_node.proofs.CutLaws.{greater}
+use Rattle.name_page.specs.declared.cut.Cut.TheVariants.{UpTo}
+use Rattle.name_page.specs.Cut.{is_before}
+use Rattle.name_page.specs.Edits.{without, is_on}
+use Rattle.name_page.specs.declared.entries.Side.TheVariants.{Greater}
+use Rattle.name_page.proofs.CutLaws.{greater}
 use Rattle.fsd_forest.proofs.PartLaws.{all_split}
-use Rattle.name_node.proofs.SideLaws.{without_part}
+use Rattle.name_page.proofs.SideLaws.{without_part}
 use Rattle.name_btree.specs.declared.trimming.Pair.{Pair}
 use Rattle.name_btree.specs.Remove.{IsAround}
 use Rattle.name_btree.specs.Trim.{IsPair}

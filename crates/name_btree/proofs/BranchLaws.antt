@@ -23,11 +23,11 @@ use Rattle.fsd_forest.proofs.PartLaws.{children_part, keys_parted, all_split, se
 use Rattle.fsd_forest.proofs.TreeLaws.{alone}
 use Rattle.fsd_forest.proofs.WayLaws.{children_around, children_parted}
 use Rattle.name_page.specs.Pages.{Step, is_spare}
-use Rattle.name_node.specs.declared.entries.Side.TheVariants.{Lesser, Greater}
-use Rattle.name_node.specs.Edits.{is_on, with_entry}
-use Rattle.name_node.specs.Lookups.{is_after}
-use Rattle.name_node.proofs.CutLaws.{greater}
-use Rattle.name_node.proofs.SideLaws.{with_part}
+use Rattle.name_page.specs.declared.entries.Side.TheVariants.{Lesser, Greater}
+use Rattle.name_page.specs.Edits.{is_on, with_entry}
+use Rattle.name_page.specs.Lookups.{is_after}
+use Rattle.name_page.proofs.CutLaws.{greater}
+use Rattle.name_page.proofs.SideLaws.{with_part}
 use Rattle.name_btree.specs.declared.growing.Grown.{Grown}
 use Rattle.name_btree.specs.declared.growing.Grown.TheVariants.{Whole, Parted}
 use Rattle.name_btree.specs.Draft.{IsTaken}

@@ -1,6 +1,5 @@
 -- A table in which an entry is replaced.
 use Rattle.std.proofs.Common.{◌≡◌, ℕ, ◌-◌, ◌<◌, not, Bool, true, false, List, [], ◌∷◌, ◌++◌, length, map, refl, sym, ap, subst, ◌∙◌, arith, length-set}
-use Rattle.std.specs.Prelude.{slice_set}
 use Rattle.std.proofs.lemmas.List.{append-nil}
 use Rattle.run_table.specs.Space.{contains, all_differ}
 use Rattle.fsd_bytes.specs.Keys.{key_lt, same_key}
@@ -12,13 +11,13 @@ use Rattle.fsd_table.specs.Tree.{table_of, pages_of, IsTree}
 use Rattle.fsd_table.proofs.BoundLaws.{all_weaker}
 use Rattle.fsd_forest.specs.Forest.{count_of, Exchange, Stay, IsLocal}
 use Rattle.fsd_forest.proofs.CountLaws.{count_nothing, there_counts, counts_there, counts_out, out_counts, exchange_differ}
-use Rattle.name_page.specs.Pages.{Step, is_spare, with_one, IsReached}
-use Rattle.name_node.specs.declared.cut.Cut.TheVariants.{UpTo}
-use Rattle.name_node.specs.Edits.{put}
-use Rattle.name_node.proofs.PutLaws.{lt_unequal, gt_unequal, put_keys, put_beside}
+use Rattle.name_page.specs.Pages.{Step, is_spare}
+use Rattle.name_page.specs.declared.cut.Cut.TheVariants.{UpTo}
+use Rattle.name_page.specs.Edits.{put}
+use Rattle.name_page.proofs.PutLaws.{lt_unequal, gt_unequal, put_keys, put_beside}
 use Rattle.name_btree.specs.declared.descent.Found.{Found}
 use Rattle.name_btree.specs.Map.{IsTable, HasTable}
-use Rattle.name_btree.specs.Replace.{HasEdit, IsWritten, WritesOne, IsLeafAt}
+use Rattle.name_btree.specs.Replace.{HasEdit, IsWritten, IsLeafAt}
 use Rattle.name_btree.proofs.RemoveLaws.{one_page}
 use Rattle.name_btree.proofs.RootLaws.{tree_around}
 
@@ -38,16 +37,6 @@ same_pages old new page e = by (contains old page) refl
 
 others_stay : (old still new : Step) (page : ℕ) (entries : List Entry) → still.images ≡ old.images → IsWritten still new page (Leaf entries) → Stay old.images new.images (page ∷ [])
 others_stay old still new page entries images w q out = w.others q (one_page page q out) ∙ ap (λ (p : List (List ℕ)). page_at p q) images
-
-pub writes_one : (old still new : Step) (page : ℕ) (entries : List Entry) → still.images ≡ old.images → still.changed ≡ old.changed → IsReached still page → is_spare old.spares page ≡ false → IsWritten still new page (Leaf entries) → WritesOne old new
-writes_one old still new page entries images changed reached used w = record {
-  page = page;
-  bytes = w.bytes;
-  there = subst (λ (p : List (List ℕ)). page < length p) images reached.0;
-  images = ap (λ (s : Step). s.images) w.step ∙ ap (λ (p : List (List ℕ)). slice_set p page w.bytes) images;
-  changed = ap (λ (s : Step). s.changed) w.step ∙ ap (λ (p : List ℕ). with_one p page) changed;
-  used = used;
-}
 
 -- ---- the table
 

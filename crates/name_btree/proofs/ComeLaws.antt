@@ -15,11 +15,12 @@ use Rattle.fsd_table.specs.Table.{Visit, visit_of, visits, visits_below, max_hei
 use Rattle.fsd_table.specs.Tree.{pages_below}
 use Rattle.fsd_table.proofs.VisitLaws.{visited_pages}
 use Rattle.fsd_table.proofs.BreakLaws.{visited_between, misfit_breaks, again_breaks, kind_breaks}
-use Rattle.name_node.proofs.NodeLaws.{past_end}
+use Rattle.name_page.proofs.NodeLaws.{past_end}
 use Rattle.name_btree.specs.declared.fault.TreeFault.{TreeFault}
-use Rattle.name_btree.specs.declared.fault.TreeFault.TheVariants.{Pages, Broken}
-use Rattle.name_btree.specs.Fault.{HasCause, IsMisfit}
-use Rattle.name_btree.specs.Walk.{AreMarksOf, is_marked, marked, HasKinds, IsTopLevel, ComesTo, AreWalked, BreaksWalk}
+use Rattle.name_page.specs.declared.pages.Pages.{Ghosts}
+use Rattle.name_btree.specs.Fault.{HasCause, IsMisfit, BarsPage, BarsTable, FailsTable}
+use Rattle.name_btree.proofs.CauseLaws.{cause_map, bars_table}
+use Rattle.name_btree.specs.Walk.{AreMarksOf, is_marked, marked, HasKinds, IsTopLevel, ComesTo, AreWalked, BreaksWalk, BarsWalk, FailsWalk}
 use Rattle.name_btree.proofs.MarkLaws.{marked_at, marks_more, length_marked}
 use Rattle.name_btree.proofs.WalkLaws.{cut_at}
 
@@ -43,11 +44,6 @@ marked_breaks level pages c marks is = λ w. by w (cases_lt c.page (length pages
         let here = marked_at marks (map (λ (v : Visit). v.page) w.before) c.page w.marked (subst (λ (n : ℕ). c.page < n) (sym w.whole) low) in
         again_breaks pages w.levels w.depth c [] w.before w.after (some_levels level w.levels w.enough) w.parts (sym here ∙ so (is_marked marks c.page) is)
     by w (inr past) = misfit_breaks pages w.depth c (comes_visited level pages c marks w) (ap (content_fits c.low c.high) (past_end pages c.page past))
-
-pub fault_here : (given : Option Refusal) (fault : TreeFault) (level : ℕ) (pages : List (List ℕ)) (c : Child) (marks : List Bool)
-    → HasCause given (IsMisfit pages c) fault → HasCause given (BreaksWalk level pages (c ∷ []) marks) fault
-fault_here given (Pages refusal) level pages c marks h = h
-fault_here given (Broken page) level pages c marks h = λ w. subst (BreaksTable pages) (sym h.0) (misfit_breaks pages w.depth c (comes_visited level pages c marks w) h.1)
 
 -- ---- kinds
 
@@ -93,21 +89,16 @@ comes_down level (suc levels) depth pages c marks first xs before after at enoug
       kinds = kinds;
     }
 
-above_breaks : (level : ℕ) (pages : List (List ℕ)) (c : Child) (first : ℕ) (xs : List Separator) (marks : List Bool) (page : ℕ) → page_at pages c.page ≡ Some (Interior first xs)
-    → BreaksWalk level pages (children first c.low c.high xs) (slice_set marks c.page true) page → BreaksWalk (suc level) pages (c ∷ []) marks page
-above_breaks level pages c first xs marks page at breaks = λ w. breaks (comes_down level w.levels w.depth pages c marks first xs w.before w.after at w.enough w.parts w.whole w.marked w.kinds.1)
-
-pub fault_above : (given : Option Refusal) (fault : TreeFault) (level up : ℕ) (pages : List (List ℕ)) (c : Child) (first : ℕ) (xs : List Separator) (marks : List Bool) → suc level ≡ up
-    → page_at pages c.page ≡ Some (Interior first xs)
-    → HasCause given (BreaksWalk level pages (children first c.low c.high xs) (slice_set marks c.page true)) fault → HasCause given (BreaksWalk up pages (c ∷ []) marks) fault
-fault_above given (Pages refusal) level up pages c first xs marks is at h = h
-fault_above given (Broken page) level up pages c first xs marks is at h = subst (λ (l : ℕ). BreaksWalk l pages (c ∷ []) marks page) is (above_breaks level pages c first xs marks page at h)
+pub comes_below : (level up : ℕ) (pages : List (List ℕ)) (c : Child) (first : ℕ) (xs : List Separator) (marks : List Bool) → suc level ≡ up → page_at pages c.page ≡ Some (Interior first xs)
+    → ComesTo pages up (c ∷ []) marks → ComesTo pages level (children first c.low c.high xs) (slice_set marks c.page true)
+comes_below level up pages c first xs marks is at = subst (λ (l : ℕ). ComesTo pages l (c ∷ []) marks → ComesTo pages level (children first c.low c.high xs) (slice_set marks c.page true)) is
+    (λ w. comes_down level w.levels w.depth pages c marks first xs w.before w.after at w.enough w.parts w.whole w.marked w.kinds.1)
 
 -- ---- one child after another
 
-comes_along : (level : ℕ) (pages : List (List ℕ)) (cs : List Child) (i : ℕ) (d : Child) (marks mid : List Bool) (n : ℕ) → slice_get cs i ≡ Some d
-    → AreWalked level pages (take i cs) marks mid n → ComesTo pages level cs marks → ComesTo pages level (d ∷ []) mid
-comes_along level pages cs i d marks mid n at a w =
+pub comes_along : (spares : List Bool) (level : ℕ) (pages : List (List ℕ)) (cs : List Child) (i : ℕ) (d : Child) (marks mid : List Bool) (n : ℕ) → slice_get cs i ≡ Some d
+    → AreWalked spares level pages (take i cs) marks mid n → ComesTo pages level cs marks → ComesTo pages level (d ∷ []) mid
+comes_along spares level pages cs i d marks mid n at a w =
     let f : Child → List Visit = visits_below w.levels pages w.depth in
     let left : List Visit = flat_map f (take i cs) in
     let right : List Visit = flat_map f (drop (i + 1) cs) in
@@ -132,11 +123,6 @@ comes_along level pages cs i d marks mid n at a w =
       kinds = w.kinds;
     }
 
-pub fault_among : (given : Option Refusal) (fault : TreeFault) (level : ℕ) (pages : List (List ℕ)) (cs : List Child) (i : ℕ) (d : Child) (marks mid : List Bool) (n : ℕ) → slice_get cs i ≡ Some d
-    → AreWalked level pages (take i cs) marks mid n → HasCause given (BreaksWalk level pages (d ∷ []) mid) fault → HasCause given (BreaksWalk level pages cs marks) fault
-fault_among given (Pages refusal) level pages cs i d marks mid n at a h = h
-fault_among given (Broken page) level pages cs i d marks mid n at a h = λ w. h (comes_along level pages cs i d marks mid n at a w)
-
 -- ---- the whole
 
 comes_first : (pages : List (List ℕ)) (level : ℕ) (marks : List Bool) → IsTopLevel pages level → length marks ≡ length pages → AreMarksOf [] marks → ComesTo pages level (top ∷ []) marks
@@ -157,7 +143,30 @@ comes_first pages level marks is whole clear =
     low : (n : ℕ) → n < max_height → n < suc max_height
     low n h = omega arith
 
-pub fault_whole : (given : Option Refusal) (fault : TreeFault) (pages : List (List ℕ)) (level : ℕ) (c : Child) (marks : List Bool) → IsTopLevel pages level → c ≡ top → length marks ≡ length pages → AreMarksOf [] marks
-    → HasCause given (BreaksWalk level pages (c ∷ []) marks) fault → HasCause given (BreaksTable pages) fault
-fault_whole given (Pages refusal) pages level c marks is at whole clear h = h
-fault_whole given (Broken page) pages level c marks is at whole clear h = h (subst (λ (d : Child). ComesTo pages level (d ∷ []) marks) (sym at) (comes_first pages level marks is whole clear))
+-- ---- faults
+
+module _ {D : Type 0} (P : Ghosts D) (later : (a b c : D) (refusal : Refusal) → P.outside a b → P.causes b c refusal → P.causes a c refusal) (a b new : D) (before : P.outside a b) (fault : TreeFault) where
+  -- a walk of these children that is among the walk of those
+  pub walk_map : (level level' : ℕ) (cs cs' : List Child) (marks marks' : List Bool) → (P.trusted new → ComesTo (P.step new).images level cs marks → ComesTo (P.step new).images level' cs' marks')
+      → FailsWalk P b new level' cs' marks' fault → FailsWalk P a new level cs marks fault
+  walk_map level level' cs cs' marks marks' comes h =
+      let s = P.step new in
+      cause_map (P.causes b new) (P.causes a new) s (λ page. P.trusted new → BreaksWalk level' s.images cs' marks' page) (λ page. P.trusted new → BreaksWalk level s.images cs marks page)
+      (λ page. P.trusted new → BarsWalk s level' cs' marks' page) (λ page. P.trusted new → BarsWalk s level cs marks page) (λ r x. later a b new r before x) (λ page x t w. x t (comes t w)) (λ page x t w. x t (comes t w)) fault h
+
+  -- the page itself
+  pub walk_here : (level : ℕ) (c : Child) (marks : List Bool) → HasCause (P.causes b new) (P.step new) (IsMisfit (P.step new).images c) (BarsPage (P.step new) c.page) fault → FailsWalk P a new level (c ∷ []) marks fault
+  walk_here level c marks h =
+      let s = P.step new in
+      cause_map (P.causes b new) (P.causes a new) s (IsMisfit s.images c) (λ page. P.trusted new → BreaksWalk level s.images (c ∷ []) marks page)
+      (BarsPage s c.page) (λ page. P.trusted new → BarsWalk s level (c ∷ []) marks page) (λ r x. later a b new r before x)
+      (λ page x t w. subst (BreaksTable s.images) (sym x.0) (misfit_breaks s.images w.depth c (comes_visited level s.images c marks w) x.1))
+      (λ page x t w. bars_table s w.depth c (comes_visited level s.images c marks w) page x) fault h
+
+  pub walk_whole : (level : ℕ) (c : Child) (marks : List Bool) → (P.trusted new → IsTopLevel (P.step new).images level) → c ≡ top → length marks ≡ length (P.step new).images → AreMarksOf [] marks
+      → FailsWalk P b new level (c ∷ []) marks fault → FailsTable P a new fault
+  walk_whole level c marks is at whole clear h =
+      let s = P.step new in
+      let comes : P.trusted new → ComesTo s.images level (c ∷ []) marks = λ t. subst (λ (d : Child). ComesTo s.images level (d ∷ []) marks) (sym at) (comes_first s.images level marks (is t) whole clear) in
+      cause_map (P.causes b new) (P.causes a new) s (λ page. P.trusted new → BreaksWalk level s.images (c ∷ []) marks page) (λ page. P.trusted new → BreaksTable s.images page)
+      (λ page. P.trusted new → BarsWalk s level (c ∷ []) marks page) (λ page. P.trusted new → BarsTable s page) (λ r x. later a b new r before x) (λ page x t. x t (comes t)) (λ page x t. x t (comes t)) fault h

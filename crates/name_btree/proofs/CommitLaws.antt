@@ -3,8 +3,10 @@ use Rattle.std.proofs.Common.{◌≡◌, ℕ, zero, suc, ◌+◌, ◌≤◌, Boo
 use Rattle.std.specs.Prelude.{slice_set}
 use Rattle.name_page.specs.Pages.{Step, reaches, changes, is_spare, with_page, with_spare}
 use Rattle.name_btree.specs.declared.draft.Sheet.{Sheet}
-use Rattle.name_btree.specs.Draft.{committed, freed}
-use Rattle.name_btree.proofs.DraftLaws.{committed_count}
+use Rattle.name_page.specs.declared.pages.Pages.{Ghosts}
+use Rattle.name_page.specs.Looks.{OnlyEdits}
+use Rattle.name_btree.specs.Draft.{committed, freed, drafted}
+use Rattle.name_btree.proofs.DraftLaws.{committed_count, drafted_length}
 
 -- ---- what is written
 
@@ -12,21 +14,22 @@ use Rattle.name_btree.proofs.DraftLaws.{committed_count}
 record Leaves (old new : Step) : Type 0 where
   most_reached : new.most_reached ≡ old.most_reached
   most_changed : new.most_changed ≡ old.most_changed
+  home_a : new.home_a ≡ old.home_a
   reached : new.reached ≡ old.reached
 
 committed_leaves : (sheets : List Sheet) (step : Step) → Leaves step (committed sheets step)
-committed_leaves [] step = record { most_reached = refl; most_changed = refl; reached = refl }
+committed_leaves [] step = record { most_reached = refl; most_changed = refl; home_a = refl; reached = refl }
 committed_leaves (s ∷ sheets) step =
     let rest = committed_leaves sheets (with_page s.page s.image step) in
-    record { most_reached = rest.most_reached; most_changed = rest.most_changed; reached = rest.reached }
+    record { most_reached = rest.most_reached; most_changed = rest.most_changed; home_a = rest.home_a; reached = rest.reached }
 
 -- ---- what is made spare
 
 freed_leaves : (pages : List ℕ) (step : Step) → Leaves step (freed pages step)
-freed_leaves [] step = record { most_reached = refl; most_changed = refl; reached = refl }
+freed_leaves [] step = record { most_reached = refl; most_changed = refl; home_a = refl; reached = refl }
 freed_leaves (p ∷ pages) step =
     let rest = freed_leaves pages (with_spare p step) in
-    record { most_reached = rest.most_reached; most_changed = rest.most_changed; reached = rest.reached }
+    record { most_reached = rest.most_reached; most_changed = rest.most_changed; home_a = rest.home_a; reached = rest.reached }
 
 freed_changed : (pages : List ℕ) (step : Step) → (freed pages step).changed ≡ step.changed
 freed_changed [] step = refl
@@ -50,6 +53,20 @@ commit_most_reached pages sheets step = (freed_leaves pages (committed sheets st
 
 pub commit_most_changed : (pages : List ℕ) (sheets : List Sheet) (step : Step) → (freed pages (committed sheets step)).most_changed ≡ step.most_changed
 commit_most_changed pages sheets step = (freed_leaves pages (committed sheets step)).most_changed ∙ (committed_leaves sheets step).most_changed
+
+pub commit_home : (pages : List ℕ) (sheets : List Sheet) (step : Step) → (freed pages (committed sheets step)).home_a ≡ step.home_a
+commit_home pages sheets step = (freed_leaves pages (committed sheets step)).home_a ∙ (committed_leaves sheets step).home_a
+
+-- a draft that is written
+pub commit_edits : {D : Type 0} (P : Ghosts D) (a b : D) (pages : List ℕ) (sheets : List Sheet) → P.outside a b → (P.trusted b → P.trusted a) → P.step b ≡ freed pages (committed sheets (P.step a)) → (P.step b).images ≡ drafted sheets (P.step a).images → OnlyEdits P a b
+commit_edits P a b pages sheets outside trust is images = record {
+  count = ap length images ∙ drafted_length sheets (P.step a).images;
+  home_a = ap (λ (s : Step). s.home_a) is ∙ commit_home pages sheets (P.step a);
+  most_reached = ap (λ (s : Step). s.most_reached) is ∙ commit_most_reached pages sheets (P.step a);
+  most_changed = ap (λ (s : Step). s.most_changed) is ∙ commit_most_changed pages sheets (P.step a);
+  outside = outside;
+  trust = trust;
+}
 
 pub commit_reaches : (pages : List ℕ) (sheets : List Sheet) (step : Step) → reaches (freed pages (committed sheets step)) ≡ reaches step
 commit_reaches pages sheets step =

@@ -1,7 +1,7 @@
 -- The way down to a leaf.
 use Rattle.std.proofs.Common.{◌≡◌, ◌⊎◌, inl, inr, ℕ, zero, suc, ◌+◌, ◌<◌, Bool, true, false, cond, ◌&&◌, List, [], ◌∷◌, ◌++◌, length, Option, Some, None, refl, sym, ap, subst, ◌∙◌, arith, append_assoc}
 use Rattle.std.specs.Prelude.{slice_get, drop}
-use Rattle.name_node.proofs.ListLaws.{drop_at}
+use Rattle.name_page.proofs.ListLaws.{drop_at}
 use Rattle.std.specs.List.{flat_map, AllByRecursion}
 use Rattle.std.proofs.lemmas.Bool.{and_parts}
 use Rattle.std.proofs.lemmas.List.{append-nil}
@@ -18,8 +18,8 @@ use Rattle.fsd_table.proofs.PageLaws.{at_is_page, interior_ascends}
 use Rattle.fsd_table.proofs.BoundLaws.{all_append, all_weaker, Fits, parts_fit, later_fit, ascend_tail, entries_between}
 use Rattle.name_btree.specs.declared.descent.Way.{Way}
 use Rattle.name_btree.specs.declared.descent.Neighbour.{Neighbour}
-use Rattle.name_node.specs.Cut.{IsLesser}
-use Rattle.name_node.proofs.CutLaws.{IsMonotone, behind}
+use Rattle.name_page.specs.Cut.{IsLesser}
+use Rattle.name_page.proofs.CutLaws.{IsMonotone, behind}
 use Rattle.name_btree.specs.Descent.{way_to, HasChildren, IsNext, IsPrevious, IsAt}
 
 -- ---- one page

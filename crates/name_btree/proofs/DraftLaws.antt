@@ -197,13 +197,13 @@ sheet_has step s is small =
 
 -- ---- drafts over steps
 
-pub sheets_kept : (old new : Step) (sheets : List Sheet) → ((q : ℕ) → IsReached old q → IsReached new q) → new.spares ≡ old.spares → new.images ≡ old.images → AreSheets old sheets → AreSheets new sheets
+pub sheets_kept : (old new : Step) (sheets : List Sheet) → ((q : ℕ) → IsReached old q → IsReached new q) → new.spares ≡ old.spares → length new.images ≡ length old.images → AreSheets old sheets → AreSheets new sheets
 sheets_kept old new [] kept spares images a = tt
 sheets_kept old new (s ∷ sheets) kept spares images a =
     let first : IsSheet new s = record {
       reached = kept s.page a.0.reached;
       used = ap (λ (x : List Bool). is_spare x s.page) spares ∙ a.0.used;
-      accepted = subst (λ (x : List (List ℕ)). IsSome (read_page s.page (length x) s.image)) (sym images) a.0.accepted;
+      accepted = subst (λ (n : ℕ). IsSome (read_page s.page n s.image)) (sym images) a.0.accepted;
     } in
     (first, sheets_kept old new sheets kept spares images a.1)
 
@@ -229,6 +229,14 @@ drafted_more step old new s x is a reached used read =
       sheets = subst (AreSheets step) (sym is) (all_append (IsSheet step) old (s ∷ []) a (sheet, tt));
       content = ap (λ (p : List (List ℕ)). page_at p s.page) after ∙ set_at pages s.page s.image low ∙ ap (λ (n : ℕ). read_page s.page n s.image) (drafted_length old step.images) ∙ read;
       others = λ q differs. ap (λ (p : List (List ℕ)). page_at p q) after ∙ at_other pages s.page q s.image differs;
+      over = λ images same.
+          let under : List (List ℕ) = drafted old images in
+          let within : s.page < length under = subst Low (sym (drafted_length old images ∙ same)) reached.0 in
+          let then : drafted new images ≡ slice_set under s.page s.image = ap (λ (xs : List Sheet). drafted xs images) is ∙ drafted_push old s images in
+          record {
+            content = ap (λ (p : List (List ℕ)). page_at p s.page) then ∙ set_at under s.page s.image within ∙ ap (λ (n : ℕ). read_page s.page n s.image) (drafted_length old images ∙ same) ∙ read;
+            others = λ q differs. ap (λ (p : List (List ℕ)). page_at p q) then ∙ at_other under s.page q s.image differs;
+          };
     }
   where
     is_some : (x : Content) → IsSome (Some x)

@@ -13,14 +13,14 @@ use Rattle.fsd_table.specs.Table.{max_height, top}
 use Rattle.fsd_table.specs.Tree.{IsTree, table_of}
 use Rattle.fsd_table.proofs.BoundLaws.{all_weaker}
 use Rattle.fsd_table.proofs.KeyLaws.{lt_le}
-use Rattle.name_node.specs.declared.cut.Cut.TheVariants.{UpTo}
+use Rattle.name_page.specs.declared.cut.Cut.TheVariants.{UpTo}
 use Rattle.name_btree.specs.declared.descent.Found.{Found}
 use Rattle.name_btree.specs.declared.descent.Neighbour.{Neighbour}
-use Rattle.name_node.specs.Cut.{is_before}
-use Rattle.name_node.specs.Cut.{IsLesser}
+use Rattle.name_page.specs.Cut.{is_before}
+use Rattle.name_page.specs.Cut.{IsLesser}
 use Rattle.name_btree.specs.Descent.{IsAt, IsPlace}
-use Rattle.name_node.specs.Lookups.{entry_with}
-use Rattle.name_node.proofs.CutLaws.{greater}
+use Rattle.name_page.specs.Lookups.{entry_with}
+use Rattle.name_page.proofs.CutLaws.{greater}
 
 -- ---- lists whose ends fail a test
 

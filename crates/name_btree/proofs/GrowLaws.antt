@@ -20,7 +20,7 @@ use Rattle.fsd_table.specs.Pages.{page_at}
 use Rattle.fsd_table.proofs.BoundLaws.{all_append}
 use Rattle.name_page.specs.Pages.{Step, is_spare, IsReached}
 use Rattle.name_page.proofs.LeafLaws.{between}
-use Rattle.name_node.proofs.ListLaws.{drop_at}
+use Rattle.name_page.proofs.ListLaws.{drop_at}
 use Rattle.name_btree.specs.declared.draft.Draft.{Draft}
 use Rattle.name_btree.specs.declared.draft.Sheet.{Sheet}
 use Rattle.name_btree.specs.declared.growing.Grown.TheVariants.{Parted}

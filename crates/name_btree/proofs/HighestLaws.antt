@@ -16,14 +16,14 @@ use Rattle.fsd_table.specs.Pages.{entry_keys}
 use Rattle.fsd_table.specs.Table.{top}
 use Rattle.fsd_table.specs.Tree.{IsTree, table_of}
 use Rattle.fsd_table.proofs.BoundLaws.{all_append, all_weaker, Ascend, ascend_skip, ascend_tail, entries_ascend}
-use Rattle.name_node.specs.declared.cut.Cut.TheVariants.{Named}
+use Rattle.name_page.specs.declared.cut.Cut.TheVariants.{Named}
 use Rattle.name_btree.specs.declared.descent.Found.{Found}
 use Rattle.name_btree.specs.declared.descent.Neighbour.{Neighbour}
-use Rattle.name_node.specs.Cut.{is_before}
-use Rattle.name_node.specs.Cut.{IsLesser}
+use Rattle.name_page.specs.Cut.{is_before}
+use Rattle.name_page.specs.Cut.{IsLesser}
 use Rattle.name_btree.specs.Descent.{IsAt, IsPlace, EndsWith}
-use Rattle.name_node.specs.Lookups.{highest_of, last_that, same_name}
-use Rattle.name_node.proofs.CutLaws.{cuts_monotone, names_follow}
+use Rattle.name_page.specs.Lookups.{highest_of, last_that, same_name}
+use Rattle.name_page.proofs.CutLaws.{cuts_monotone, names_follow}
 use Rattle.name_btree.proofs.FindLaws.{low_height}
 use Rattle.name_btree.proofs.LastLaws.{last_append, last_fail, last_none, last_at}
 use Rattle.name_btree.proofs.NextLaws.{lesser_before}

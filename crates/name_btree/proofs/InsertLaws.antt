@@ -6,7 +6,6 @@ use Rattle.std.specs.Ordering.{is_gt}
 use Rattle.std.proofs.lemmas.Bool.{and_parts, eq-eqb}
 use Rattle.run_table.specs.Space.{contains}
 use Rattle.fsd_bytes.specs.declared.key.Key.{Key}
-use Rattle.fsd_bytes.specs.declared.refusal.Refusal.{Refusal}
 use Rattle.fsd_bytes.specs.Keys.{key_cmp}
 use Rattle.fsd_formats.specs.declared.entry.Entry.{Entry}
 use Rattle.fsd_formats.specs.declared.page.Separator.{Separator}
@@ -20,16 +19,15 @@ use Rattle.fsd_forest.specs.Parts.{is_inside}
 use Rattle.fsd_forest.specs.Ways.{IsUpTo, IsBehind}
 use Rattle.fsd_forest.proofs.WayLaws as ways
 use Rattle.name_page.specs.Pages.{Step, is_spare}
-use Rattle.name_node.specs.declared.cut.Cut.TheVariants.{UpTo}
-use Rattle.name_node.specs.Cut.{is_before}
-use Rattle.name_node.specs.Lookups.{entry_with}
-use Rattle.name_node.proofs.CutLaws.{greater}
+use Rattle.name_page.specs.declared.cut.Cut.TheVariants.{UpTo}
+use Rattle.name_page.specs.Cut.{is_before}
+use Rattle.name_page.specs.Lookups.{entry_with}
+use Rattle.name_page.proofs.CutLaws.{greater}
 use Rattle.name_btree.specs.declared.draft.Sheet.{Sheet}
 use Rattle.name_btree.specs.declared.fault.TreeFault.{TreeFault}
-use Rattle.name_btree.specs.declared.fault.TreeFault.TheVariants.{Pages, Broken}
 use Rattle.name_btree.specs.declared.growing.Grown.{Grown}
 use Rattle.name_btree.specs.Draft.{drafted}
-use Rattle.name_btree.specs.Fault.{HasCause, IsMisfit}
+use Rattle.name_btree.specs.Fault.{IsMisfit}
 use Rattle.name_btree.specs.Grown.{Takes, most_taken, IsBranch, AreUsed, BranchBecomes, Grows, BreaksGrowth}
 use Rattle.name_btree.specs.Trim.{child_of}
 use Rattle.name_btree.proofs.BranchLaws.{StandAround, left_children, right_children, is_below, branch_below}
@@ -78,9 +76,8 @@ least_taken page levels = by (page == 0)
 
 -- ---- faults
 
-pub fault_misfit : (given : Option Refusal) (fault : TreeFault) (e : Entry) (pages : List (List ℕ)) (levels : ℕ) (c : Child) → HasCause given (IsMisfit pages c) fault → HasCause given (BreaksGrowth e pages levels c) fault
-fault_misfit given (Pages refusal) e pages levels c h = h
-fault_misfit given (Broken page) e pages levels c h = λ level low branch none. misfit level pages c h.1 branch.subtree
+pub misfit_growth : (e : Entry) (pages : List (List ℕ)) (levels : ℕ) (c : Child) (page : ℕ) → IsMisfit pages c page → BreaksGrowth e pages levels c page
+misfit_growth e pages levels c page h = λ level low branch none. misfit level pages c h.1 branch.subtree
 
 find_parts : (test : Entry → Bool) (xs ys : List Entry) → find test (xs ++ ys) ≡ None → (find test xs ≡ None) × (find test ys ≡ None)
 find_parts test [] ys e = (refl, e)
@@ -101,15 +98,11 @@ none_below key pages level c first separators i at around sub none =
     let all : entry_with key (ls ++ (ms ++ rs)) ≡ None = ap (entry_with key) (sym below.entries_are) ∙ none in
     (find_parts _ ms rs (find_parts _ ls (ms ++ rs) all).1).0
 
-pub fault_below : (given : Option Refusal) (fault : TreeFault) (e : Entry) (pages : List (List ℕ)) (levels : ℕ) (c : Child) (first : ℕ) (separators : List Separator) (i : ℕ) → page_at pages c.page ≡ Some (Interior first separators)
-    → StandAround e.key separators i → HasCause given (BreaksGrowth e pages levels (child_of c first separators i)) fault → HasCause given (BreaksGrowth e pages (suc levels) c) fault
-fault_below given (Pages refusal) e pages levels c first separators i at around h = h
-fault_below given (Broken page) e pages levels c first separators i at around h = λ level low branch none. by level low branch none
-  where
-    by : (level : ℕ) → level ≤ suc levels → IsBranch pages level c → entry_with e.key (entries_below level pages c) ≡ None → ⊥
-    by zero low branch none = leaf_never pages c (page_at pages c.page) first separators at branch.subtree
-    by (suc level) low branch none =
-        h level (omega arith) (branch_below e.key pages level c first separators i at around branch).0 (none_below e.key pages level c first separators i at around branch.subtree none)
+pub growth_below : (e : Entry) (pages : List (List ℕ)) (levels : ℕ) (c : Child) (first : ℕ) (separators : List Separator) (i page : ℕ) → page_at pages c.page ≡ Some (Interior first separators)
+    → StandAround e.key separators i → BreaksGrowth e pages levels (child_of c first separators i) page → BreaksGrowth e pages (suc levels) c page
+growth_below e pages levels c first separators i page at around h zero low branch none = leaf_never pages c (page_at pages c.page) first separators at branch.subtree
+growth_below e pages levels c first separators i page at around h (suc level) low branch none =
+    h level (omega (arith, low)) (branch_below e.key pages level c first separators i at around branch).0 (none_below e.key pages level c first separators i at around branch.subtree none)
 
 itself_below : (level : ℕ) (pages : List (List ℕ)) (c : Child) → contains (pages_below level pages c) c.page ≡ true
 itself_below zero pages c = ap (λ (b : Bool). b || false) (eq-eqb c.page c.page refl)
@@ -147,14 +140,9 @@ leaf_grows e old new pages after levels c g entries at grows = record {
     by zero branch used = grows.becomes 0 (omega arith) branch used
     by (suc level) branch used = absurd (interior_never (IsSubtree level pages) c (page_at pages c.page) entries at branch.subtree)
 
-pub leaf_fault : (given : Option Refusal) (fault : TreeFault) (e : Entry) (pages : List (List ℕ)) (levels : ℕ) (c : Child) (entries : List Entry) → page_at pages c.page ≡ Some (Leaf entries) → HasCause given (BreaksGrowth e pages 0 c) fault
-    → HasCause given (BreaksGrowth e pages levels c) fault
-leaf_fault given (Pages refusal) e pages levels c entries at h = h
-leaf_fault given (Broken page) e pages levels c entries at h = λ level low branch none. by level branch none
-  where
-    by : (level : ℕ) → IsBranch pages level c → entry_with e.key (entries_below level pages c) ≡ None → ⊥
-    by zero branch none = h 0 (omega arith) branch none
-    by (suc level) branch none = interior_never (IsSubtree level pages) c (page_at pages c.page) entries at branch.subtree
+pub leaf_growth : (e : Entry) (pages : List (List ℕ)) (levels : ℕ) (c : Child) (entries : List Entry) (page : ℕ) → page_at pages c.page ≡ Some (Leaf entries) → BreaksGrowth e pages 0 c page → BreaksGrowth e pages levels c page
+leaf_growth e pages levels c entries page at h zero low branch none = h 0 (omega arith) branch none
+leaf_growth e pages levels c entries page at h (suc level) low branch none = interior_never (IsSubtree level pages) c (page_at pages c.page) entries at branch.subtree
 
 -- ---- results
 

@@ -6,7 +6,7 @@ use Rattle.std.specs.List.{AllByRecursion}
 use Rattle.std.proofs.lemmas.Option.{slice_get_within, get_or_from_slice_get}
 use Rattle.std.proofs.lemmas.List.{take_more}
 use Rattle.fsd_formats.specs.declared.entry.Entry.{Entry}
-use Rattle.name_node.specs.Lookups.{last_that}
+use Rattle.name_page.specs.Lookups.{last_that}
 
 or_none : (o : Option Entry) → o ≡ option_or o None
 or_none None = refl

@@ -26,13 +26,13 @@ use Rattle.fsd_forest.proofs.PartLaws.{leaves_part}
 use Rattle.name_page.specs.Pages.{Step}
 use Rattle.name_page.proofs.LeafLaws.{between}
 use Rattle.name_page.proofs.LengthLaws.{length_entry}
-use Rattle.name_node.specs.declared.cut.Cut.TheVariants.{UpTo}
-use Rattle.name_node.specs.declared.entries.Side.TheVariants.{Lesser, Greater}
-use Rattle.name_node.specs.Cut.{is_before, AtLow, AtHigh}
-use Rattle.name_node.specs.Edits.{beside, with_entry}
-use Rattle.name_node.specs.Lookups.{entry_with, is_after}
-use Rattle.name_node.proofs.CutLaws.{greater}
-use Rattle.name_node.proofs.SideLaws.{with_ascends, with_all, with_fits}
+use Rattle.name_page.specs.declared.cut.Cut.TheVariants.{UpTo}
+use Rattle.name_page.specs.declared.entries.Side.TheVariants.{Lesser, Greater}
+use Rattle.name_page.specs.Cut.{is_before, AtLow, AtHigh}
+use Rattle.name_page.specs.Edits.{beside, with_entry}
+use Rattle.name_page.specs.Lookups.{entry_with, is_after}
+use Rattle.name_page.proofs.CutLaws.{greater}
+use Rattle.name_page.proofs.SideLaws.{with_ascends, with_all, with_fits}
 use Rattle.name_btree.specs.declared.draft.Sheet.{Sheet}
 use Rattle.name_btree.specs.declared.growing.Grown.{Grown}
 use Rattle.name_btree.specs.declared.growing.Grown.TheVariants.{Whole, Parted}

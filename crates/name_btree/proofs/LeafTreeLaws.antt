@@ -19,7 +19,7 @@ use Rattle.fsd_forest.specs.Parts.{left_part, right_part}
 use Rattle.fsd_forest.proofs.CountLaws.{count_cons, count_append, count_nothing, counts_there, differ_counts, out_counts, counts_out, one_if, one_where}
 use Rattle.fsd_forest.proofs.ForestLaws.{leaves_become, count_three}
 use Rattle.fsd_forest.proofs.PartLaws.{leaves_part}
-use Rattle.name_node.specs.Edits.{without}
+use Rattle.name_page.specs.Edits.{without}
 use Rattle.name_btree.specs.declared.trimming.Pair.{Pair}
 use Rattle.name_btree.specs.Draft.{with_freed}
 use Rattle.name_page.specs.Pages.{is_one_of}

@@ -3,6 +3,8 @@ mod AbsentLaws
 mod ApartLaws
 pub mod AroundLaws
 mod BranchLaws
+mod CallLaws
+pub mod CauseLaws
 mod ChangeLaws
 mod ComeLaws
 pub mod CommitLaws
@@ -11,7 +13,6 @@ mod DraftLaws
 pub mod FindLaws
 mod GrowLaws
 pub mod HighestLaws
-mod HistoryLaws
 mod InsertLaws
 pub mod LastLaws
 mod LeafGrowthLaws
@@ -23,6 +24,7 @@ pub mod MendTreeLaws
 pub mod MendedLaws
 pub mod NextLaws
 mod OnesLaws
+pub mod OverLaws
 pub mod PairLaws
 mod PathLaws
 pub mod PutTreeLaws

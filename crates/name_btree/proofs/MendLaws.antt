@@ -18,13 +18,13 @@ use Rattle.name_btree.specs.Draft.{MayGo, IsDraft}
 use Rattle.name_btree.specs.Trim.{used_by, AreEntries, AreWays, MayHave, IsOpened, AreFewEntries, AreFewWays, IsPair, pair_fits, entries_at, ways_at, first_at, right_at, is_behind}
 use Rattle.name_btree.proofs.DraftLaws.{sheets_kept}
 use Rattle.name_btree.proofs.PairLaws.{parts_at, left_child, AreSides, AtLeft, AtRight, low_same, high_is, key_inside, same_of}
-use Rattle.name_node.proofs.CutPageLaws.{used_apart}
+use Rattle.name_page.proofs.CutPageLaws.{used_apart}
 use Rattle.name_btree.proofs.TrimLaws.{PageEntries, least_at, entries_touch, page_ways, ways_touch, good_at}
 use Rattle.fsd_forest.proofs.PartLaws.{entry_keys_append, fit_append, keys_joined, left_wider, right_wider, separator_keys_append}
 
 -- ---- steps that only look
 
-pub draft_kept : (old new : Step) (d : Draft) → ((q : ℕ) → IsReached old q → IsReached new q) → new.spares ≡ old.spares → new.images ≡ old.images → IsDraft old d → IsDraft new d
+pub draft_kept : (old new : Step) (d : Draft) → ((q : ℕ) → IsReached old q → IsReached new q) → new.spares ≡ old.spares → length new.images ≡ length old.images → IsDraft old d → IsDraft new d
 draft_kept old new d kept spares images is = record {
   sheets = sheets_kept old new d.sheets.items kept spares images is.sheets;
   freed = each d.freed.items is.freed;

@@ -13,7 +13,7 @@ use Rattle.fsd_forest.specs.Forest.{forest_pages, Stay, Becomes}
 use Rattle.fsd_forest.specs.Parts.{left_part, right_part}
 use Rattle.fsd_forest.specs.Ways.{StandsAt, children_before, child_behind, children_from, end_of}
 use Rattle.fsd_forest.proofs.WayLaws.{children_beside, children_between}
-use Rattle.name_node.specs.Edits.{without}
+use Rattle.name_page.specs.Edits.{without}
 use Rattle.name_page.specs.Pages.{Step}
 use Rattle.name_btree.specs.declared.draft.Draft.{Draft}
 use Rattle.name_btree.specs.declared.draft.Sheet.{Sheet}
@@ -29,7 +29,7 @@ use Rattle.name_btree.proofs.LeafTreeLaws.{stays_above, freed_has}
 use Rattle.name_btree.proofs.PairLaws.{parts_at, left_child, right_child}
 use Rattle.name_btree.proofs.PutTreeLaws.{pair_child, joined_child, shared_child}
 use Rattle.fsd_forest.proofs.PartLaws.{fit_append, separator_keys_append}
-use Rattle.name_node.proofs.CutPageLaws.{keys_front}
+use Rattle.name_page.proofs.CutPageLaws.{keys_front}
 
 -- ---- a key of the pair stands between the keys of the page above
 

@@ -16,19 +16,15 @@ use Rattle.fsd_table.proofs.PageLaws.{at_is_page, leaf_ascends}
 use Rattle.fsd_forest.specs.Forest.{inner, count_of, forest_pages, Stay, Becomes}
 use Rattle.fsd_forest.specs.Ways.{StandsAt, IsUpTo, IsBehind, children_before, child_behind, children_from, end_of}
 use Rattle.fsd_forest.proofs.CountLaws.{count_cons, count_append, count_nothing, counts_out}
-use Rattle.name_node.specs.Edits.{without}
+use Rattle.name_page.specs.Edits.{without}
 use Rattle.name_page.specs.Pages.{Step}
 use Rattle.name_btree.specs.declared.draft.Draft.{Draft}
 use Rattle.name_btree.specs.declared.trimming.Pair.{Pair}
 use Rattle.name_btree.specs.declared.trimming.Trimmed.{Trimmed}
 use Rattle.name_btree.specs.declared.trimming.Trimmed.TheVariants.{Whole, Leaf, Interior}
 use Rattle.name_btree.specs.Draft.{drafted}
-use Rattle.name_btree.specs.declared.fault.TreeFault.{TreeFault}
-use Rattle.name_btree.specs.declared.fault.TreeFault.TheVariants.{Pages, Broken}
-use Rattle.name_btree.specs.Fault.{HasCause}
-use Rattle.fsd_bytes.specs.declared.refusal.Refusal.{Refusal}
-use Rattle.name_node.specs.declared.cut.Cut.TheVariants.{UpTo}
-use Rattle.name_node.specs.Cut.{is_before}
+use Rattle.name_page.specs.declared.cut.Cut.TheVariants.{UpTo}
+use Rattle.name_page.specs.Cut.{is_before}
 use Rattle.name_btree.specs.Remove.{IsAround, IsTrimmed, IsTrimmedBelow, BreaksAround}
 use Rattle.name_btree.specs.Trim.{IsPair, IsOpened, IsLeft, AreFewEntries, AreFewWays, pair_fits, entries_at, ways_at, first_at, LeafIsMended, WayIsMended, IsMended}
 use Rattle.name_btree.proofs.AroundLaws.{is_local, pair_stands, child_around, up_to, past}
@@ -252,15 +248,10 @@ trimmed_above step images0 images1 same3 same1 key draft mid new levels above fi
     (mended_trimmed step key pages mid new draft.freed.items l above first xs i child below left around at o within ends begins child_is small t3 m)
 
 -- what breaks below a child breaks below the page above it
-pub breaks_above : (given : Option Refusal) (images0 images1 : List (List ℕ)) → images1 ≡ images0 → (key : Key) (draft : Draft) (levels : ℕ) (above : Child) (first : ℕ) (xs : List Separator) (i : ℕ) (child : Child) (fault : TreeFault)
-    → page_at (drafted draft.sheets.items images0) above.page ≡ Some (grammar.Interior first xs) → i ≤ length xs
+pub breaks_above : (images : List (List ℕ)) (key : Key) (draft : Draft) (levels : ℕ) (above : Child) (first : ℕ) (xs : List Separator) (i : ℕ) (child : Child) (page : ℕ)
+    → page_at (drafted draft.sheets.items images) above.page ≡ Some (grammar.Interior first xs) → i ≤ length xs
     → AllByRecursion (λ s. is_before (UpTo key) s.key ≡ true) (take i xs) → AllByRecursion (λ s. is_before (UpTo key) s.key ≡ false) (drop i xs) → slice_get (children first above.low above.high xs) i ≡ Some child
-    → HasCause given (BreaksAround key (drafted draft.sheets.items images1) (levels - 1) child) fault → HasCause given (BreaksAround key (drafted draft.sheets.items images0) levels above) fault
-breaks_above given images0 images1 same key draft levels above first xs i child (Pages refusal) at within before behind child_is h = h
-breaks_above given images0 images1 same key draft levels above first xs i child (Broken page) at within before behind child_is h = by
-  where
-    by : BreaksAround key (drafted draft.sheets.items images0) levels above page
-    by zero most around = subst (IsLeaf above) at around.subtree
-    by (suc l) most around =
-        let inner_around = child_around key (drafted draft.sheets.items images0) l above first xs i child around at within (up_to key (take i xs) before) (past key (drop i xs) behind) child_is in
-        h l (omega (arith, most)) (subst (λ (x : List (List ℕ)). IsAround key (drafted draft.sheets.items x) l child) (sym same) inner_around)
+    → BreaksAround key (drafted draft.sheets.items images) (levels - 1) child page → BreaksAround key (drafted draft.sheets.items images) levels above page
+breaks_above images key draft levels above first xs i child page at within before behind child_is h zero most around = subst (IsLeaf above) at around.subtree
+breaks_above images key draft levels above first xs i child page at within before behind child_is h (suc l) most around =
+    h l (omega (arith, most)) (child_around key (drafted draft.sheets.items images) l above first xs i child around at within (up_to key (take i xs) before) (past key (drop i xs) behind) child_is)

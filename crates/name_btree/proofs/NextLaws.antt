@@ -23,16 +23,16 @@ use Rattle.fsd_table.proofs.BoundLaws.{all_weaker}
 use Rattle.fsd_table.proofs.KeyLaws.{lt_is_le}
 use Rattle.fsd_table.proofs.PageLaws.{at_is_page}
 use Rattle.name_page.proofs.LeafLaws.{between}
-use Rattle.name_node.specs.declared.cut.Cut.{Cut}
-use Rattle.name_node.specs.declared.cut.Cut.TheVariants.{Start, End}
+use Rattle.name_page.specs.declared.cut.Cut.{Cut}
+use Rattle.name_page.specs.declared.cut.Cut.TheVariants.{Start, End}
 use Rattle.name_btree.specs.declared.descent.Found.{Found}
 use Rattle.name_btree.specs.declared.descent.Neighbour.{Neighbour}
-use Rattle.name_node.specs.Cut.{is_before, after_cut}
-use Rattle.name_node.specs.Cut.{IsLesser}
+use Rattle.name_page.specs.Cut.{is_before, after_cut}
+use Rattle.name_page.specs.Cut.{IsLesser}
 use Rattle.name_btree.specs.Descent.{HasChildren, IsAt, IsPlace, BeginsWith, EndsWith}
-use Rattle.name_node.specs.Lookups.{entry_after, is_after}
-use Rattle.name_node.proofs.CutLaws.{cuts_monotone, greater}
-use Rattle.name_node.proofs.CutLaws.{IsMonotone}
+use Rattle.name_page.specs.Lookups.{entry_after, is_after}
+use Rattle.name_page.proofs.CutLaws.{cuts_monotone, greater}
+use Rattle.name_page.proofs.CutLaws.{IsMonotone}
 use Rattle.name_btree.proofs.FindLaws.{find_behind, low_height}
 
 -- what is less than a key before a place is before it too

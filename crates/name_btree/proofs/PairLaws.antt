@@ -15,7 +15,7 @@ use Rattle.fsd_forest.specs.Ways.{child_behind, end_of}
 use Rattle.fsd_forest.proofs.WayLaws.{child_at}
 use Rattle.name_btree.specs.Trim.{IsPair, beside, child_of}
 use Rattle.name_btree.proofs.WalkLaws.{child_later}
-use Rattle.name_node.proofs.ListLaws.{drop_at}
+use Rattle.name_page.proofs.ListLaws.{drop_at}
 
 -- ---- the children at places
 

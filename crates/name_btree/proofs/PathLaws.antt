@@ -17,9 +17,9 @@ use Rattle.fsd_table.proofs.PageLaws.{at_is_page, interior_ascends}
 use Rattle.fsd_forest.specs.Forest.{Stay, IsLocal}
 use Rattle.fsd_forest.specs.Ways.{IsUpTo, IsBehind, child_between, end_of}
 use Rattle.fsd_forest.proofs.WayLaws.{child_at}
-use Rattle.name_node.specs.declared.cut.Cut.{Cut}
-use Rattle.name_node.specs.declared.cut.Cut.TheVariants.{UpTo}
-use Rattle.name_node.specs.Cut.{is_before}
+use Rattle.name_page.specs.declared.cut.Cut.{Cut}
+use Rattle.name_page.specs.declared.cut.Cut.TheVariants.{UpTo}
+use Rattle.name_page.specs.Cut.{is_before}
 use Rattle.name_btree.specs.declared.descent.Way.{Way}
 use Rattle.name_btree.specs.declared.descent.Neighbour.{Neighbour}
 use Rattle.name_btree.specs.Descent.{way_to}

@@ -15,7 +15,7 @@ use Rattle.fsd_table.specs.Pages.{page_at, keys_fit, not_below, below, entry_key
 use Rattle.fsd_table.proofs.KeyLaws.{lt_le}
 use Rattle.fsd_forest.specs.Parts.{left_part}
 use Rattle.fsd_forest.specs.Ways.{IsUpTo, IsBehind, child_between, child_behind, end_of}
-use Rattle.name_node.specs.Edits.{without}
+use Rattle.name_page.specs.Edits.{without}
 use Rattle.name_page.specs.Pages.{Step}
 use Rattle.name_btree.specs.declared.draft.Draft.{Draft}
 use Rattle.name_btree.specs.declared.trimming.Pair.{Pair}

@@ -1,12 +1,11 @@
 -- A leaf without a key, and faults below a child.
-use Rattle.std.proofs.Common.{length, ◌≡◌, ℕ, zero, suc, ◌<◌, ◌≤◌, Bool, true, false, ◌||◌, ◌&&◌, List, [], ◌∷◌, Option, Some, refl, sym, ap, subst, ◌∙◌, arith}
+use Rattle.std.proofs.Common.{length, ◌≡◌, ℕ, zero, suc, ◌<◌, ◌≤◌, Bool, true, false, ◌||◌, ◌&&◌, List, [], ◌∷◌, Some, refl, sym, ap, subst, ◌∙◌, arith}
 use Rattle.std.specs.Prelude.{◌==◌, nat_le}
 use Rattle.std.specs.List.{list_all}
 use Rattle.std.proofs.lemmas.Bool.{and_parts, leb-true, or_left}
 use Rattle.std.proofs.lemmas.List.{append-nil}
 use Rattle.run_table.specs.Space.{contains}
 use Rattle.fsd_bytes.specs.declared.key.Key.{Key}
-use Rattle.fsd_bytes.specs.declared.refusal.Refusal.{Refusal}
 use Rattle.fsd_bytes.specs.Names.{is_between}
 use Rattle.fsd_formats.specs.declared.entry.Entry.{Entry}
 use Rattle.fsd_formats.specs.NamePage.{Content, is_page, is_entry, are_ascending, least_used, room}
@@ -18,17 +17,15 @@ use Rattle.fsd_table.proofs.BoundLaws.{Ascend}
 use Rattle.fsd_table.proofs.PageLaws.{at_is_page}
 use Rattle.fsd_forest.specs.Forest.{Stay, Becomes}
 use Rattle.fsd_forest.proofs.ForestLaws.{leaves_become}
-use Rattle.name_node.specs.Edits.{without}
-use Rattle.name_node.proofs.SideLaws.{without_fits, without_ascends, without_all}
+use Rattle.name_page.specs.Edits.{without}
+use Rattle.name_page.proofs.SideLaws.{without_fits, without_ascends, without_all}
 use Rattle.name_page.specs.Pages.{Step}
 use Rattle.name_btree.specs.declared.draft.Draft.{Draft}
 use Rattle.name_btree.specs.declared.draft.Sheet.{Sheet}
-use Rattle.name_btree.specs.declared.fault.TreeFault.{TreeFault}
-use Rattle.name_btree.specs.declared.fault.TreeFault.TheVariants.{Pages, Broken}
 use Rattle.name_btree.specs.declared.trimming.Trimmed.{Trimmed}
 use Rattle.name_btree.specs.declared.trimming.Trimmed.TheVariants.{Whole, Leaf, Interior}
 use Rattle.name_btree.specs.Draft.{drafted, IsDrafted}
-use Rattle.name_btree.specs.Fault.{HasCause, IsMisfit}
+use Rattle.name_btree.specs.Fault.{IsMisfit}
 use Rattle.name_btree.specs.Remove.{IsAround, IsTrimmed, BreaksAround}
 use Rattle.name_btree.specs.Trim.{used_by, AreEntries, IsLeafPut, IsLeft}
 use Rattle.name_btree.proofs.DescentLaws.{misfit}
@@ -36,9 +33,8 @@ use Rattle.name_btree.proofs.ReplaceLaws.{leaf_parts}
 
 -- ---- faults
 
-pub misfit_below : (given : Option Refusal) (key : Key) (pages : List (List ℕ)) (levels : ℕ) (c : Child) (fault : TreeFault) → HasCause given (IsMisfit pages c) fault → HasCause given (BreaksAround key pages levels c) fault
-misfit_below given key pages levels c (Pages refusal) h = h
-misfit_below given key pages levels c (Broken page) h = λ level most around. misfit level pages c h.1 around.subtree
+pub misfit_below : (key : Key) (sheets : List Sheet) (levels : ℕ) (c : Child) (images : List (List ℕ)) (page : ℕ) → IsMisfit (drafted sheets images) c page → BreaksAround key (drafted sheets images) levels c page
+misfit_below key sheets levels c images page h = λ level most around. misfit level (drafted sheets images) c h.1 around.subtree
 
 -- ---- leaves
 

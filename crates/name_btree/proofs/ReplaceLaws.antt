@@ -14,14 +14,14 @@ use Rattle.fsd_table.specs.Tree.{IsTree, table_of}
 use Rattle.fsd_table.proofs.PageLaws.{at_is_page}
 use Rattle.name_page.proofs.LeafLaws.{between}
 use Rattle.name_page.proofs.LengthLaws.{length_entry}
-use Rattle.name_node.specs.declared.cut.Cut.TheVariants.{UpTo}
+use Rattle.name_page.specs.declared.cut.Cut.TheVariants.{UpTo}
 use Rattle.name_btree.specs.declared.descent.Found.{Found}
-use Rattle.name_node.specs.Cut.{is_before}
+use Rattle.name_page.specs.Cut.{is_before}
 use Rattle.name_btree.specs.Descent.{IsPlace}
-use Rattle.name_node.specs.Edits.{put}
+use Rattle.name_page.specs.Edits.{put}
 use Rattle.name_btree.specs.Replace.{HasAsLong}
 use Rattle.name_btree.proofs.FindLaws.{entry_found}
-use Rattle.name_node.proofs.PutLaws.{put_keys, put_all, put_size}
+use Rattle.name_page.proofs.PutLaws.{put_keys, put_all, put_size}
 
 -- ---- how many entries a leaf has
 

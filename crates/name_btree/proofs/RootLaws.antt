@@ -6,8 +6,7 @@ use Rattle.std.proofs.lemmas.List.{append-nil}
 use Rattle.run_table.specs.Space.{contains, all_differ}
 use Rattle.fsd_bytes.specs.declared.key.Key.{Key}
 use Rattle.fsd_formats.specs.declared.page.Separator.{Separator}
-use Rattle.fsd_formats.specs.NamePage.{Content, least_separators}
-use Rattle.fsd_formats.specs.NamePage as grammar
+use Rattle.fsd_formats.specs.NamePage.{least_separators}
 use Rattle.fsd_table.specs.declared.child.Child.{Child}
 use Rattle.fsd_table.specs.Pages.{page_at, children, children_of}
 use Rattle.fsd_table.specs.Table.{top}
@@ -16,19 +15,17 @@ use Rattle.fsd_forest.specs.Forest.{inner, count_of, forest_pages, Becomes, Tree
 use Rattle.fsd_forest.proofs.CountLaws.{count_cons, count_append, count_nothing, differ_counts}
 use Rattle.fsd_forest.proofs.TreeLaws.{trees_become}
 use Rattle.fsd_forest.proofs.ShrinkLaws.{trees_shrink}
-use Rattle.name_node.specs.Edits.{without}
+use Rattle.name_page.specs.Edits.{without}
 use Rattle.name_page.specs.Pages.{Step}
 use Rattle.name_btree.specs.declared.draft.Draft.{Draft}
 use Rattle.name_btree.specs.declared.draft.Sheet.{Sheet}
-use Rattle.fsd_bytes.specs.declared.refusal.Refusal.{Refusal}
 use Rattle.name_btree.specs.declared.fault.TreeFault.{TreeFault}
-use Rattle.name_btree.specs.declared.fault.TreeFault.TheVariants.{Pages, Broken}
-use Rattle.name_btree.specs.Fault.{HasCause}
 use Rattle.name_btree.specs.declared.trimming.Trimmed.{Trimmed}
 use Rattle.name_btree.specs.declared.trimming.Trimmed.TheVariants.{Whole, Leaf, Interior}
 use Rattle.name_btree.specs.Draft.{drafted}
-use Rattle.name_btree.specs.Remove.{IsAround, IsTrimmed, IsTrimmedBelow, IsRootLeft}
-use Rattle.name_btree.specs.Trim.{AreWaysPut, IsMended, IsTakenOver}
+use Rattle.name_btree.specs.Remove.{IsAround, IsTrimmed, IsTrimmedBelow, BreaksAround, IsRootLeft}
+use Rattle.name_btree.specs.Fault.{IsNoTree}
+use Rattle.name_btree.specs.Trim.{IsFreeOrNone, AreWaysPut, IsMended, IsTakenOver}
 use Rattle.name_btree.proofs.LeafTreeLaws.{freed_has, one_same, head_counts}
 use Rattle.name_btree.proofs.RemoveLaws.{stays_but}
 
@@ -113,11 +110,13 @@ shrunk_tree step key pages mid new old0 first (Interior only list) is root t tak
 
 -- ---- faults
 
-not_free : (l : ℕ) (pages : List (List ℕ)) (c : Child) → page_at pages c.page ≡ Some grammar.Free → IsSubtree l pages c → ⊥
-not_free zero pages c at sub = subst (IsLeaf c) at sub
-not_free (suc l) pages c at sub = subst (IsInterior (IsSubtree l pages) c) at sub
+not_free : (l : ℕ) (pages : List (List ℕ)) (c : Child) → IsFreeOrNone (page_at pages c.page) → IsSubtree l pages c → ⊥
+not_free zero pages c (inl at) sub = subst (IsLeaf c) at sub
+not_free zero pages c (inr at) sub = subst (IsLeaf c) at sub
+not_free (suc l) pages c (inl at) sub = subst (IsInterior (IsSubtree l pages) c) at sub
+not_free (suc l) pages c (inr at) sub = subst (IsInterior (IsSubtree l pages) c) at sub
 
-pub free_breaks : (key : Key) (pages between : List (List ℕ)) (old0 new0 : List ℕ) (first : ℕ) (left : Trimmed) → only_of left ≡ Some first → IsTrimmedBelow key pages between old0 new0 5 top left → page_at between first ≡ Some grammar.Free → (height : ℕ) → IsTree pages height → ⊥
+pub free_breaks : (key : Key) (pages between : List (List ℕ)) (old0 new0 : List ℕ) (first : ℕ) (left : Trimmed) → only_of left ≡ Some first → IsTrimmedBelow key pages between old0 new0 5 top left → IsFreeOrNone (page_at between first) → (height : ℕ) → IsTree pages height → ⊥
 free_breaks key pages between old0 new0 first Whole is t free height tree = absurd cc
 free_breaks key pages between old0 new0 first (Leaf list) is t free height tree = absurd cc
 free_breaks key pages between old0 new0 first (Interior only list) is t free height tree = by (height - 1) (t (height - 1) (omega (arith, tree.most)) (tree_around key pages height tree))
@@ -126,8 +125,8 @@ free_breaks key pages between old0 new0 first (Interior only list) is t free hei
     same a b e = cc
 
     head : (l : ℕ) (ys : List Separator) → AllByRecursion (IsSubtree l between) (children only None None ys) → ⊥
-    head l [] a = not_free l between (record { page = only; low = None; high = None }) (ap (page_at between) (same only first is) ∙ free) a.0
-    head l (y ∷ ys) a = not_free l between (record { page = only; low = None; high = Some y.key }) (ap (page_at between) (same only first is) ∙ free) a.0
+    head l [] a = not_free l between (record { page = only; low = None; high = None }) (subst (λ (p : ℕ). IsFreeOrNone (page_at between p)) (sym (same only first is)) free) a.0
+    head l (y ∷ ys) a = not_free l between (record { page = only; low = None; high = Some y.key }) (subst (λ (p : ℕ). IsFreeOrNone (page_at between p)) (sym (same only first is)) free) a.0
 
     by : (n : ℕ) → IsTrimmed key pages between old0 new0 n top (Interior only list) → ⊥
     by zero h = h.becomes
@@ -141,6 +140,5 @@ pub on_err_more : {X : Type 0} (r : Result X TreeFault) (P Q : TreeFault → Typ
 on_err_more (Ok x) P Q f h = tt
 on_err_more (Err fault) P Q f h = f fault h
 
-pub cause_more : (given : Option Refusal) (A B : ℕ → Type 0) → ((page : ℕ) → A page → B page) → (fault : TreeFault) → HasCause given A fault → HasCause given B fault
-cause_more given A B f (Pages refusal) h = h
-cause_more given A B f (Broken page) h = f page h
+pub around_breaks : (key : Key) (pages : List (List ℕ)) (c : Child) (page : ℕ) → c ≡ top → BreaksAround key pages 5 c page → IsNoTree pages
+around_breaks key pages c page is h = λ height tree. (subst (λ (d : Child). BreaksAround key pages 5 d page) is h) (height - 1) (omega (arith, tree.most)) (tree_around key pages height tree)

@@ -12,7 +12,7 @@ set_here [] page bytes low = absurd (omega arith)
 set_here (x ∷ pages) zero bytes low = refl
 set_here (x ∷ pages) (suc page) bytes low = set_here pages page bytes (omega arith)
 
-set_other : (pages : List (List ℕ)) (page q : ℕ) (bytes : List ℕ) → (q ≡ page → ⊥) → slice_get (slice_set pages page bytes) q ≡ slice_get pages q
+pub set_other : (pages : List (List ℕ)) (page q : ℕ) (bytes : List ℕ) → (q ≡ page → ⊥) → slice_get (slice_set pages page bytes) q ≡ slice_get pages q
 set_other [] page q bytes differs = refl
 set_other (x ∷ pages) zero zero bytes differs = absurd (differs refl)
 set_other (x ∷ pages) zero (suc q) bytes differs = refl

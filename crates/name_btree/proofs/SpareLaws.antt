@@ -12,10 +12,10 @@ use Rattle.fsd_forest.specs.Forest.{count_of}
 use Rattle.fsd_forest.proofs.CountLaws.{count_append, count_nothing, there_counts, counts_there, out_counts, differ_counts}
 use Rattle.fsd_forest.proofs.LowLaws.{all_within}
 use Rattle.name_page.specs.Pages.{Step, free_count, is_spare, with_spare}
-use Rattle.name_node.specs.Edits.{with_entry}
+use Rattle.name_page.specs.Edits.{with_entry}
 use Rattle.name_btree.specs.declared.draft.Draft.{Draft}
 use Rattle.name_btree.specs.declared.draft.Sheet.{Sheet}
-use Rattle.name_btree.specs.Draft.{drafted, committed, freed, images_of}
+use Rattle.name_btree.specs.Draft.{drafted, committed, freed}
 use Rattle.name_btree.specs.Grown.{AreUsed, Inserts}
 use Rattle.name_btree.specs.Map.{IsTable, HasTable, without_all, LeavesTree}
 use Rattle.name_btree.proofs.BranchLaws.{taken_apart}
@@ -87,7 +87,7 @@ within_tree pages height p tree there = each_in (λ q. q < length pages) (pages_
 used_in_table : (step : Step) (height : ℕ) → IsTable step height → AreUsed step (pages_of step.images height)
 used_in_table step height t p there = t.spare p (within_tree step.images height p t.tree there) ∙ ap not there
 
-pub inserted_table : (old cleared last new : Step) (d d2 : Draft) (e : Entry) (keys : List Key) → cleared.images ≡ old.images → cleared.spares ≡ old.spares → LeavesTree old.images d keys → Inserts e cleared last (images_of d cleared) (images_of d2 last)
+pub inserted_table : (old cleared last new : Step) (d d2 : Draft) (e : Entry) (keys : List Key) → cleared.images ≡ old.images → cleared.spares ≡ old.spares → LeavesTree old.images d keys → Inserts e cleared last (drafted d.sheets.items old.images) (drafted d2.sheets.items last.images)
     → d2.freed.items ≡ d.freed.items → new ≡ freed d2.freed.items (committed d2.sheets.items last) → new.images ≡ drafted d2.sheets.items last.images → length last.spares ≡ length last.images
     → (height : ℕ) → IsTable old height → HasTable new (with_entry e (without_all keys (table_of old.images height)))
 inserted_table old cleared last new d d2 e keys images spares left inserts same_freed step images_new flags height table =
@@ -95,7 +95,7 @@ inserted_table old cleared last new d d2 e keys images spares left inserts same_
     let after : List (List ℕ) = drafted d2.sheets.items last.images in
     let whole : List ℕ = pages_of old.images height in
     let h = left height table.tree in
-    let i : Inserts e cleared last middle after = subst (λ (im : List (List ℕ)). Inserts e cleared last (drafted d.sheets.items im) after) images inserts in
+    let i : Inserts e cleared last middle after = inserts in
     let used : AreUsed cleared whole = λ p there. subst (λ (s : List Bool). is_spare s p ≡ false) (sym spares) (used_in_table old height table p there) in
     let used_left : AreUsed cleared (pages_of middle h.height_after) = λ p there. used p (counts_there p whole (omega (arith, h.pages_are p, there_counts p (pages_of middle h.height_after) there, count_nothing p))) in
     let b = i.tree h.height_after h.tree used_left in

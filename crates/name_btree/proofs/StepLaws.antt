@@ -18,7 +18,7 @@ use Rattle.fsd_forest.proofs.ForestLaws.{follows, remains}
 use Rattle.fsd_forest.proofs.StepLaws.{steps_up, page_sides_stay}
 use Rattle.fsd_forest.proofs.TreeLaws.{alone}
 use Rattle.name_page.specs.Pages.{Step}
-use Rattle.name_node.specs.Edits.{with_entry}
+use Rattle.name_page.specs.Edits.{with_entry}
 use Rattle.name_btree.specs.declared.draft.Sheet.{Sheet}
 use Rattle.name_btree.specs.declared.growing.Grown.{Grown}
 use Rattle.name_btree.specs.declared.growing.Grown.TheVariants.{Whole, Parted}

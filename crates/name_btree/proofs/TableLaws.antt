@@ -7,7 +7,7 @@ use Rattle.fsd_bytes.specs.declared.key.Key.{Key}
 use Rattle.fsd_table.specs.Tree.{pages_of, table_of, IsTree}
 use Rattle.fsd_forest.specs.Forest.{count_of, Disjoint, TreeBecomes}
 use Rattle.fsd_forest.proofs.CountLaws.{count_nothing, there_counts, out_counts, counts_there, counts_out, differ_counts}
-use Rattle.name_node.specs.Edits.{without}
+use Rattle.name_page.specs.Edits.{without}
 use Rattle.name_page.specs.Pages.{Step, is_spare, with_spare}
 use Rattle.name_btree.specs.declared.draft.Draft.{Draft}
 use Rattle.name_btree.specs.Draft.{drafted, committed, freed, images_of, RemovesFrom}
@@ -75,7 +75,7 @@ left_over old new went q sum most = by (contains old q) refl (contains went q) r
 -- ---- the table
 
 pub table_without : (old between : Step) (key : Key) (empty d : Draft) → empty.sheets.items ≡ [] → empty.freed.items ≡ [] → between.images ≡ old.images → between.spares ≡ old.spares → length old.spares ≡ length old.images
-    → RemovesFrom old empty d key → (height : ℕ) → IsTable old height → HasTable (freed d.freed.items (committed d.sheets.items between)) (without key (table_of old.images height))
+    → RemovesFrom old.images empty d key → (height : ℕ) → IsTable old height → HasTable (freed d.freed.items (committed d.sheets.items between)) (without key (table_of old.images height))
 table_without old between key empty d no_sheets no_freed same_images same_spares flags removes height table =
     let after : Step = freed d.freed.items (committed d.sheets.items between) in
     let pages_are : images_of empty old ≡ old.images = ap (λ s. drafted s old.images) no_sheets in

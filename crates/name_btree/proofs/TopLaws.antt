@@ -1,5 +1,5 @@
 -- The level of page 0, and the walk below it.
-use Rattle.std.proofs.Common.{◌≡◌, ℕ, zero, suc, ◌+◌, ◌-◌, ◌≤◌, ◌<◌, Bool, List, [], Option, Some, sym, subst, arith, zero-add}
+use Rattle.std.proofs.Common.{◌≡◌, ℕ, zero, suc, ◌+◌, ◌-◌, ◌≤◌, ◌<◌, Bool, List, [], Some, sym, subst, arith, zero-add}
 use Rattle.std.specs.Prelude.{slice_get}
 use Rattle.fsd_bytes.specs.declared.refusal.Refusal.{Refusal}
 use Rattle.fsd_formats.specs.declared.entry.Entry.{Entry}
@@ -11,8 +11,10 @@ use Rattle.fsd_table.specs.Table.{top, max_height, IsVisited, BreaksTable}
 use Rattle.fsd_table.specs.Tree.{pages_below}
 use Rattle.fsd_table.proofs.BreakLaws.{visited_top, visited_children, misfit_breaks, too_deep_breaks}
 use Rattle.name_btree.specs.declared.fault.TreeFault.{TreeFault}
-use Rattle.name_btree.specs.declared.fault.TreeFault.TheVariants.{Pages, Broken}
-use Rattle.name_btree.specs.Fault.{HasCause, IsMisfit}
+use Rattle.name_page.specs.declared.pages.Pages.{Ghosts}
+use Rattle.name_page.specs.Pages.{Step}
+use Rattle.name_btree.specs.Fault.{HasCause, IsMisfit, BarsPage, BarsTable, FailsTable}
+use Rattle.name_btree.proofs.CauseLaws.{cause_map, bars_table}
 use Rattle.name_btree.specs.Walk.{AreMarksOf, HasKinds, IsWalked, IsTopLevel, IsCounted}
 use Rattle.name_btree.proofs.WalkLaws.{all_at}
 use Rattle.name_btree.proofs.MarkLaws.{marks_differ, marks_more}
@@ -51,29 +53,33 @@ down_too_long pages i c long on = too_deep_breaks pages (i + 1) c on.0 (deeper i
     deeper : (n : ℕ) → max_height ≤ n → max_height < n + 1
     deeper n h = omega arith
 
-pub down_breaks : (given : Option Refusal) (fault : TreeFault) (pages : List (List ℕ)) (i : ℕ) (c : Child) → IsDown pages i c → HasCause given (IsMisfit pages c) fault → HasCause given (BreaksTable pages) fault
-down_breaks given (Pages refusal) pages i c on h = h
-down_breaks given (Broken page) pages i c on h = subst (BreaksTable pages) (sym h.0) (misfit_breaks pages (i + 1) c on.0 h.1)
+pub down_breaks : {D : Type 0} (P : Ghosts D) (later : (a b c : D) (refusal : Refusal) → P.outside a b → P.causes b c refusal → P.causes a c refusal) (a b new : D) (fault : TreeFault) (i : ℕ) (c : Child)
+    → P.outside a b → (P.trusted new → IsDown (P.step new).images i c) → HasCause (P.causes b new) (P.step new) (IsMisfit (P.step new).images c) (BarsPage (P.step new) c.page) fault → FailsTable P a new fault
+down_breaks P later a b new fault i c before on h =
+    let s = P.step new in
+    cause_map (P.causes b new) (P.causes a new) s (IsMisfit s.images c) (λ page. P.trusted new → BreaksTable s.images page) (BarsPage s c.page) (λ page. P.trusted new → BarsTable s page) (λ r x. later a b new r before x)
+    (λ page x t. subst (BreaksTable s.images) (sym x.0) (misfit_breaks s.images (i + 1) c (on t).0 x.1)) (λ page x t. bars_table s (i + 1) c (on t).0 page x) fault h
 
 -- ---- the whole
 
-counted_at : (pages : List (List ℕ)) (height : ℕ) (before after : List Bool) (count : ℕ) → 1 ≤ height → height ≤ max_height → AreMarksOf [] before
-    → IsWalked (height - 1) pages top before after count → IsCounted pages after count
-counted_at pages height before after count least most clear w =
-    let reached : List ℕ = pages_below (height - 1) pages top in record {
+counted_at : (s : Step) (height : ℕ) (before after : List Bool) (count : ℕ) → 1 ≤ height → height ≤ max_height → AreMarksOf [] before
+    → IsWalked s.spares (height - 1) s.images top before after count → IsCounted s after count
+counted_at s height before after count least most clear w =
+    let reached : List ℕ = pages_below (height - 1) s.images top in record {
       height = height;
+      used = w.used;
       tree = record { least = least; most = most; subtree = w.subtree; apart = marks_differ before reached w.unmarked };
       marks_are = subst (AreMarksOf reached) (sym w.marks) (marks_more before [] reached clear);
       count_is = w.count_is;
     }
 
-pub counted : (pages : List (List ℕ)) (level : ℕ) (c : Child) (before after : List Bool) (count : ℕ) → IsTopLevel pages level → c ≡ top → AreMarksOf [] before
-    → IsWalked level pages c before after count → IsCounted pages after count
-counted pages level c before after count is at clear w =
+pub counted : (s : Step) (level : ℕ) (c : Child) (before after : List Bool) (count : ℕ) → IsTopLevel s.images level → c ≡ top → AreMarksOf [] before
+    → IsWalked s.spares level s.images c before after count → IsCounted s after count
+counted s level c before after count is at clear w =
     let low : level < max_height = is.0 in
     let same : level ≡ (level + 1) - 1 = omega arith in
-    counted_at pages (level + 1) before after count (omega arith) (higher level low) clear
-    (subst (λ (l : ℕ). IsWalked l pages top before after count) same (subst (λ (d : Child). IsWalked level pages d before after count) at w))
+    counted_at s (level + 1) before after count (omega arith) (higher level low) clear
+    (subst (λ (l : ℕ). IsWalked s.spares l s.images top before after count) same (subst (λ (d : Child). IsWalked s.spares level s.images d before after count) at w))
   where
     higher : (level : ℕ) → level < max_height → level + 1 ≤ max_height
     higher level h = omega arith

@@ -17,12 +17,12 @@ use Rattle.fsd_forest.proofs.ForestLaws.{follows, remains}
 use Rattle.fsd_forest.proofs.LowLaws.{trees_are_low}
 use Rattle.fsd_forest.proofs.TreeLaws.{alone, trees_become, trees_grow}
 use Rattle.name_page.specs.Pages.{Step}
-use Rattle.name_node.specs.Edits.{with_entry}
+use Rattle.name_page.specs.Edits.{with_entry}
 use Rattle.name_btree.specs.declared.draft.Draft.{Draft}
 use Rattle.name_btree.specs.declared.draft.Sheet.{Sheet}
 use Rattle.name_btree.specs.declared.growing.Grown.TheVariants.{Whole, Parted}
 use Rattle.name_btree.specs.Draft.{drafted, AreSheets, IsDraft, IsDrafted}
-use Rattle.name_btree.specs.Grown.{Takes, parts_of, IsFull, IsBranch, Grows, Inserts}
+use Rattle.name_btree.specs.Grown.{Takes, parts_of, IsFull, IsBranch, Grows, Inserts, BreaksGrowth, BreaksNew}
 use Rattle.name_btree.proofs.BranchLaws.{taken_apart, becomes_by}
 use Rattle.name_btree.proofs.GrowLaws.{differs}
 use Rattle.name_btree.proofs.TakeLaws.{goes_over}
@@ -98,3 +98,7 @@ still_draft old new came d after takes is sheets freed = record {
   freed = subst (AllByRecursion _) (sym freed) (goes_over old new came d.freed.items takes is.freed);
   apart = ap all_differ freed ∙ is.apart;
 }
+
+-- what no branch may have, no tree has
+pub growth_new : (e : Entry) (pages : List (List ℕ)) (c : Child) (page : ℕ) → c ≡ top → BreaksGrowth e pages 5 c page → BreaksNew e pages page
+growth_new e pages c page is h = λ height tree none. (subst (λ (d : Child). BreaksGrowth e pages 5 d page) is h) (height - 1) (omega (arith, tree.most)) (branch_of pages height tree) none

@@ -20,7 +20,7 @@ use Rattle.name_btree.specs.declared.trimming.Pair.{Pair}
 use Rattle.name_btree.specs.Trim.{used_by, AreEntries, AreWays, IsOpened, IsPair, pair_fits, IsBetween, separators_joined, separators_shared, is_behind}
 use Rattle.name_btree.proofs.PairLaws.{parts_at, ascend_without, ascend_with}
 use Rattle.fsd_forest.proofs.PartLaws.{entry_keys_append, first_under, fit_append, separator_keys_append}
-use Rattle.name_node.proofs.CutPageLaws.{keys_behind, keys_front, least_ways}
+use Rattle.name_page.proofs.CutPageLaws.{keys_behind, keys_front, least_ways}
 
 -- ---- keys
 

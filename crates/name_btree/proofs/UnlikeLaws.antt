@@ -17,15 +17,15 @@ use Rattle.fsd_table.proofs.PageLaws.{at_is_page}
 use Rattle.fsd_forest.specs.Forest.{count_of, forest_pages}
 use Rattle.fsd_forest.specs.Ways.{StandsAt, IsUpTo, IsBehind, children_before, child_behind, children_from}
 use Rattle.fsd_forest.proofs.CountLaws.{count_cons, count_append, count_nothing, counts_there, counts_out, differ_counts, one_where}
-use Rattle.name_node.proofs.ListLaws.{children_count}
+use Rattle.name_page.proofs.ListLaws.{children_count}
 use Rattle.name_btree.specs.declared.trimming.Pair.{Pair}
 use Rattle.name_btree.specs.declared.trimming.Trimmed.{Trimmed}
 use Rattle.name_btree.specs.declared.trimming.Trimmed.TheVariants.{Whole, Leaf, Interior}
 use Rattle.name_btree.specs.Remove.{IsAround, IsTrimmed, IsTrimmedBelow, BreaksAround}
 use Rattle.name_btree.specs.declared.draft.Draft.{Draft}
 use Rattle.name_btree.specs.Draft.{drafted}
-use Rattle.name_node.specs.declared.cut.Cut.TheVariants.{UpTo}
-use Rattle.name_node.specs.Cut.{is_before}
+use Rattle.name_page.specs.declared.cut.Cut.TheVariants.{UpTo}
+use Rattle.name_page.specs.Cut.{is_before}
 use Rattle.name_btree.specs.Trim.{IsPair, IsOpened, beside, right_at, is_behind, IsUnlike}
 use Rattle.name_btree.proofs.AroundLaws.{pair_stands, count_one, child_around, up_to, past}
 use Rattle.name_btree.proofs.LeafTreeLaws.{one_same, head_counts}

@@ -15,9 +15,10 @@ use Rattle.name_btree.specs.declared.descent.Way.{Way}
 use Rattle.name_btree.specs.declared.descent.Neighbour.{Neighbour}
 use Rattle.name_btree.specs.declared.descent.Found.{Found}
 use Rattle.name_btree.specs.declared.fault.TreeFault.{TreeFault}
-use Rattle.name_btree.specs.declared.fault.TreeFault.TheVariants.{Pages, Broken}
 use Rattle.name_btree.specs.Descent.{way_to, HasChildren, IsNeighbour, HasNeighbours}
-use Rattle.name_btree.specs.Fault.{HasCause, IsMisfit, BreaksBelow, BreaksBeside}
+use Rattle.name_btree.specs.Fault.{HasCause, IsMisfit, BreaksBelow, BreaksBeside, BarsBelow, BarsBeside, BarsTable, BarsPage}
+use Rattle.name_page.specs.Pages.{Step}
+use Rattle.name_btree.proofs.CauseLaws.{cause_map, bars_table}
 
 -- ---- one page
 
@@ -69,10 +70,24 @@ visited_down before pages above0 start above w first separators at low on h =
 
 -- ---- faults
 
-pub misfit_below : (given : Option Refusal) (fault : TreeFault) (pages : List (List ℕ)) (above0 : ℕ) (start : Child) (above : ℕ) (w : Way) → IsVisitedWay pages above0 start above w
-    → HasCause given (IsMisfit pages w.child) fault → HasCause given (BreaksBelow pages above0 start) fault
-misfit_below given (Pages refusal) pages above0 start above w on h = h
-misfit_below given (Broken page) pages above0 start above w on h = λ v. subst (BreaksTable pages) (sym h.0) (misfit_breaks pages (above + 1) w.child (on v).0 h.1)
+module _ (Outer : Refusal → Type 0) (s : Step) where
+  pub misfit_below : (fault : TreeFault) (above0 : ℕ) (start : Child) (above : ℕ) (w : Way) → IsVisitedWay s.images above0 start above w
+      → HasCause Outer s (IsMisfit s.images w.child) (BarsPage s w.child.page) fault → HasCause Outer s (BreaksBelow s.images above0 start) (BarsBelow s above0 start) fault
+  misfit_below fault above0 start above w on h =
+      cause_map Outer Outer s (IsMisfit s.images w.child) (BreaksBelow s.images above0 start) (BarsPage s w.child.page) (BarsBelow s above0 start) (λ refusal x. x)
+      (λ page x v. subst (BreaksTable s.images) (sym x.0) (misfit_breaks s.images (above + 1) w.child (on v).0 x.1)) (λ page x v. bars_table s (above + 1) w.child (on v).0 page x) fault h
+
+  -- below page 0
+  pub top_breaks : (fault : TreeFault) (c : Child) → c ≡ top → HasCause Outer s (BreaksBelow s.images 0 c) (BarsBelow s 0 c) fault → HasCause Outer s (BreaksTable s.images) (BarsTable s) fault
+  top_breaks fault c is h =
+      let v : IsVisited s.images 1 c = subst (IsVisited s.images 1) (sym is) (visited_top s.images) in
+      cause_map Outer Outer s (BreaksBelow s.images 0 c) (BreaksTable s.images) (BarsBelow s 0 c) (BarsTable s) (λ refusal x. x) (λ page x. x v) (λ page x. x v) fault h
+
+  -- below a child beside the way
+  pub neighbour_breaks : (fault : TreeFault) (n : Neighbour) → HasCause Outer s (BreaksBelow s.images n.above n.child) (BarsBelow s n.above n.child) fault
+      → HasCause Outer s (BreaksBeside s.images n) (BarsBeside s n) fault
+  neighbour_breaks fault n h =
+      cause_map Outer Outer s (BreaksBelow s.images n.above n.child) (BreaksBeside s.images n) (BarsBelow s n.above n.child) (BarsBeside s n) (λ refusal x. x) (λ page x is. x is.1) (λ page x is. x is.1) fault h
 
 pub deep_below : (pages : List (List ℕ)) (above0 : ℕ) (start : Child) (above : ℕ) (w : Way) → IsVisitedWay pages above0 start above w → max_height ≤ above → BreaksBelow pages above0 start w.child.page
 deep_below pages above0 start above w on deep v = too_deep_breaks pages (above + 1) w.child (on v).0 (deeper above deep)
@@ -80,30 +95,19 @@ deep_below pages above0 start above w on deep v = too_deep_breaks pages (above +
     deeper : (n : ℕ) → max_height ≤ n → max_height < n + 1
     deeper n h = omega arith
 
--- below page 0
-pub top_breaks : (given : Option Refusal) (fault : TreeFault) (pages : List (List ℕ)) (c : Child) → c ≡ top → HasCause given (BreaksBelow pages 0 c) fault → HasCause given (BreaksTable pages) fault
-top_breaks given (Pages refusal) pages c is h = h
-top_breaks given (Broken page) pages c is h = h (subst (IsVisited pages 1) (sym is) (visited_top pages))
-
--- below a child beside the way
-pub neighbour_breaks : (given : Option Refusal) (fault : TreeFault) (pages : List (List ℕ)) (n : Neighbour) → HasCause given (BreaksBelow pages n.above n.child) fault → HasCause given (BreaksBeside pages n) fault
-neighbour_breaks given (Pages refusal) pages n h = h
-neighbour_breaks given (Broken page) pages n h = λ is. h is.1
-
-beside_breaks : (given : Option Refusal) (fault : TreeFault) (pages : List (List ℕ)) (n : Neighbour) → IsNeighbour pages n → HasCause given (BreaksBeside pages n) fault → HasCause given (BreaksTable pages) fault
-beside_breaks given (Pages refusal) pages n is h = h
-beside_breaks given (Broken page) pages n is h = h is
-
 found_beside : (pages : List (List ℕ)) (c : Child) (found : Found) → c ≡ top → HasNeighbours pages 0 c found → IfSome found.previous (IsNeighbour pages) × IfSome found.next (IsNeighbour pages)
 found_beside pages c found is beside = beside (subst (IsVisited pages 1) (sym is) (visited_top pages))
 
-pub next_breaks : (given : Option Refusal) (fault : TreeFault) (pages : List (List ℕ)) (c : Child) (found : Found) (n : Neighbour) → c ≡ top → HasNeighbours pages 0 c found → found.next ≡ Some n
-    → HasCause given (BreaksBeside pages n) fault → HasCause given (BreaksTable pages) fault
-next_breaks given fault pages c found n is beside at h = beside_breaks given fault pages n (subst (λ (o : Option Neighbour). IfSome o (IsNeighbour pages)) at (found_beside pages c found is beside).1) h
+module _ (Outer Outer' : Refusal → Type 0) (s : Step) (c : Child) (found : Found) (is : c ≡ top) (beside : HasNeighbours s.images 0 c found) (outer : (refusal : Refusal) → Outer refusal → Outer' refusal) (n : Neighbour) (fault : TreeFault)
+    (h : HasCause Outer s (BreaksBeside s.images n) (BarsBeside s n) fault) where
+  beside_breaks : IsNeighbour s.images n → HasCause Outer' s (BreaksTable s.images) (BarsTable s) fault
+  beside_breaks there = cause_map Outer Outer' s (BreaksBeside s.images n) (BreaksTable s.images) (BarsBeside s n) (BarsTable s) outer (λ page x. x there) (λ page x. x there) fault h
 
-pub previous_breaks : (given : Option Refusal) (fault : TreeFault) (pages : List (List ℕ)) (c : Child) (found : Found) (n : Neighbour) → c ≡ top → HasNeighbours pages 0 c found → found.previous ≡ Some n
-    → HasCause given (BreaksBeside pages n) fault → HasCause given (BreaksTable pages) fault
-previous_breaks given fault pages c found n is beside at h = beside_breaks given fault pages n (subst (λ (o : Option Neighbour). IfSome o (IsNeighbour pages)) at (found_beside pages c found is beside).0) h
+  pub next_breaks : found.next ≡ Some n → HasCause Outer' s (BreaksTable s.images) (BarsTable s) fault
+  next_breaks at = beside_breaks (subst (λ (o : Option Neighbour). IfSome o (IsNeighbour s.images)) at (found_beside s.images c found is beside).1)
+
+  pub previous_breaks : found.previous ≡ Some n → HasCause Outer' s (BreaksTable s.images) (BarsTable s) fault
+  previous_breaks at = beside_breaks (subst (λ (o : Option Neighbour). IfSome o (IsNeighbour s.images)) at (found_beside s.images c found is beside).0)
 
 pub root_above : (pages : List (List ℕ)) (n : Neighbour) → IsNeighbour pages n → HasChildren pages top
 root_above pages n is = above_visited pages (n.above + 1) n.child (omega (arith, is.0)) is.1

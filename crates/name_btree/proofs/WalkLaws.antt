@@ -1,5 +1,5 @@
 -- A walk below a child, one child after another.
-use Rattle.std.proofs.Common.{◌≡◌, ℕ, zero, suc, ◌+◌, Bool, true, not, List, [], ◌∷◌, ◌++◌, length, take, drop, Option, Some, refl, sym, ap, subst, ◌∙◌, length-append}
+use Rattle.std.proofs.Common.{◌≡◌, ℕ, zero, suc, ◌+◌, Bool, true, false, not, List, [], ◌∷◌, ◌++◌, length, take, drop, Option, Some, refl, sym, ap, subst, ◌∙◌, length-append}
 use Rattle.std.specs.Prelude.{slice_get, slice_set}
 use Rattle.std.specs.List.{flat_map, AllByRecursion}
 use Rattle.std.proofs.lemmas.Bool.{and_from}
@@ -15,8 +15,9 @@ use Rattle.fsd_table.specs.declared.child.Child.{Child}
 use Rattle.fsd_table.specs.Pages.{page_at, children, children_of, keys_fit, separator_keys}
 use Rattle.fsd_table.specs.Tree.{entries_below, pages_below, IsInterior, IsSubtree}
 use Rattle.fsd_table.proofs.BoundLaws.{all_append}
-use Rattle.name_btree.specs.Walk.{is_marked, can_mark, marked, IsWalked, AreWalked}
-use Rattle.name_node.proofs.ListLaws.{drop_at}
+use Rattle.name_page.specs.Pages.{is_spare}
+use Rattle.name_btree.specs.Walk.{IsUsed, is_marked, can_mark, marked, IsWalked, AreWalked}
+use Rattle.name_page.proofs.ListLaws.{drop_at}
 use Rattle.name_btree.proofs.MarkLaws.{marked_append, can_append}
 
 -- ---- children by their number
@@ -64,14 +65,15 @@ cut_at cs i d e = sym (take-append-drop i cs) ∙ ap (λ (xs : List Child). take
 abbrev Below : ℕ → List (List ℕ) → List Child → List ℕ
 Below level pages cs = flat_map (pages_below level pages) cs
 
-append_one : (level : ℕ) (pages : List (List ℕ)) (xs : List Child) (d : Child) (before mid after : List Bool) (n m : ℕ)
-    → AreWalked level pages xs before mid n → IsWalked level pages d mid after m → AreWalked level pages (xs ++ d ∷ []) before after (n + m)
-append_one level pages xs d before mid after n m a w =
+append_one : (spares : List Bool) (level : ℕ) (pages : List (List ℕ)) (xs : List Child) (d : Child) (before mid after : List Bool) (n m : ℕ)
+    → AreWalked spares level pages xs before mid n → IsWalked spares level pages d mid after m → AreWalked spares level pages (xs ++ d ∷ []) before after (n + m)
+append_one spares level pages xs d before mid after n m a w =
     let f : Child → List ℕ = pages_below level pages in
     let g : Child → List Entry = entries_below level pages in
     let split : flat_map f (xs ++ d ∷ []) ≡ flat_map f xs ++ f d = flat_map-append f xs (d ∷ []) ∙ ap (λ (ys : List ℕ). flat_map f xs ++ ys) (append-nil (f d)) in
     let entries : flat_map g (xs ++ d ∷ []) ≡ flat_map g xs ++ g d = flat_map-append g xs (d ∷ []) ∙ ap (λ (ys : List Entry). flat_map g xs ++ ys) (append-nil (g d)) in
     record {
+      used = subst (AllByRecursion (IsUsed spares)) (sym split) (all_append (IsUsed spares) (flat_map f xs) (f d) a.used w.used);
       subtrees = all_append (IsSubtree level pages) xs (d ∷ []) a.subtrees (w.subtree, tt);
       unmarked = ap (can_mark before) split ∙ can_append before (flat_map f xs) (f d)
           ∙ and_from (can_mark before (flat_map f xs)) (can_mark (marked before (flat_map f xs)) (f d)) a.unmarked (ap (λ (x : List Bool). can_mark x (f d)) (sym a.marks) ∙ w.unmarked);
@@ -79,11 +81,11 @@ append_one level pages xs d before mid after n m a w =
       count_is = ap (λ (k : ℕ). k + m) a.count_is ∙ ap (λ (k : ℕ). length (flat_map g xs) + k) w.count_is ∙ sym (length-append (flat_map g xs) (g d)) ∙ ap (λ (ys : List Entry). length ys) (sym entries);
     }
 
-pub one_more : (level : ℕ) (pages : List (List ℕ)) (cs : List Child) (i : ℕ) (d : Child) (before mid after : List Bool) (n m : ℕ) → slice_get cs i ≡ Some d
-    → AreWalked level pages (take i cs) before mid n → IsWalked level pages d mid after m → AreWalked level pages (take (i + 1) cs) before after (n + m)
-one_more level pages cs i d before mid after n m at a w =
-    let P : List Child → Type 0 = λ (xs : List Child). AreWalked level pages xs before after (n + m) in
-    subst P (sym (take_one cs i d at)) (append_one level pages (take i cs) d before mid after n m a w)
+pub one_more : (spares : List Bool) (level : ℕ) (pages : List (List ℕ)) (cs : List Child) (i : ℕ) (d : Child) (before mid after : List Bool) (n m : ℕ) → slice_get cs i ≡ Some d
+    → AreWalked spares level pages (take i cs) before mid n → IsWalked spares level pages d mid after m → AreWalked spares level pages (take (i + 1) cs) before after (n + m)
+one_more spares level pages cs i d before mid after n m at a w =
+    let P : List Child → Type 0 = λ (xs : List Child). AreWalked spares level pages xs before after (n + m) in
+    subst P (sym (take_one cs i d at)) (append_one spares level pages (take i cs) d before mid after n m a w)
 
 -- ---- the page above
 
@@ -91,21 +93,22 @@ below_is : (level : ℕ) (pages : List (List ℕ)) (c : Child) (first : ℕ) (xs
     → pages_below (suc level) pages c ≡ c.page ∷ Below level pages (children first c.low c.high xs)
 below_is level pages c first xs at = ap (λ (x : Option Content). c.page ∷ flat_map (pages_below level pages) (children_of c.low c.high x)) at
 
-above_at : (level : ℕ) (pages : List (List ℕ)) (c : Child) (first : ℕ) (xs : List Separator) (before after : List Bool) (count : ℕ) → page_at pages c.page ≡ Some (Interior first xs)
+above_at : (spares : List Bool) (level : ℕ) (pages : List (List ℕ)) (c : Child) (first : ℕ) (xs : List Separator) (before after : List Bool) (count : ℕ) → page_at pages c.page ≡ Some (Interior first xs)
     → keys_fit c.low c.high (separator_keys xs) ≡ true → not (is_marked before c.page) ≡ true
-    → AreWalked level pages (children first c.low c.high xs) (slice_set before c.page true) after count → IsWalked (suc level) pages c before after count
-above_at level pages c first xs before after count at fits new a =
+    → is_spare spares c.page ≡ false → AreWalked spares level pages (children first c.low c.high xs) (slice_set before c.page true) after count → IsWalked spares (suc level) pages c before after count
+above_at spares level pages c first xs before after count at fits new here a =
     let cs : List Child = children first c.low c.high xs in
     let is = below_is level pages c first xs at in
     record {
+      used = subst (AllByRecursion (IsUsed spares)) (sym is) (here, a.used);
       subtree = subst (IsInterior (IsSubtree level pages) c) (sym at) (fits, a.subtrees);
       unmarked = ap (can_mark before) is ∙ and_from (not (is_marked before c.page)) (can_mark (slice_set before c.page true) (Below level pages cs)) new a.unmarked;
       marks = a.marks ∙ ap (marked before) (sym is);
       count_is = a.count_is ∙ ap (λ (x : Option Content). length (flat_map (entries_below level pages) (children_of c.low c.high x))) (sym at);
     }
 
-pub above_walked : (level up : ℕ) (pages : List (List ℕ)) (c : Child) (first : ℕ) (xs : List Separator) (before after : List Bool) (count : ℕ) → suc level ≡ up → page_at pages c.page ≡ Some (Interior first xs)
+pub above_walked : (spares : List Bool) (level up : ℕ) (pages : List (List ℕ)) (c : Child) (first : ℕ) (xs : List Separator) (before after : List Bool) (count : ℕ) → suc level ≡ up → page_at pages c.page ≡ Some (Interior first xs)
     → keys_fit c.low c.high (separator_keys xs) ≡ true → not (is_marked before c.page) ≡ true
-    → AreWalked level pages (children first c.low c.high xs) (slice_set before c.page true) after count → IsWalked up pages c before after count
-above_walked level up pages c first xs before after count is at fits new a =
-    subst (λ (l : ℕ). IsWalked l pages c before after count) is (above_at level pages c first xs before after count at fits new a)
+    → is_spare spares c.page ≡ false → AreWalked spares level pages (children first c.low c.high xs) (slice_set before c.page true) after count → IsWalked spares up pages c before after count
+above_walked spares level up pages c first xs before after count is at fits new here a =
+    subst (λ (l : ℕ). IsWalked spares l pages c before after count) is (above_at spares level pages c first xs before after count at fits new here a)

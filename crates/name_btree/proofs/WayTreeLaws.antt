@@ -22,7 +22,7 @@ use Rattle.fsd_forest.proofs.KeepLaws.{kept_all}
 use Rattle.fsd_forest.proofs.PartLaws.{children_part, interiors_part}
 use Rattle.fsd_forest.proofs.RiseLaws.{rises}
 use Rattle.fsd_forest.proofs.WayLaws.{children_end, children_begin}
-use Rattle.name_node.specs.Edits.{without}
+use Rattle.name_page.specs.Edits.{without}
 use Rattle.name_btree.specs.declared.trimming.Pair.{Pair}
 use Rattle.name_btree.specs.Remove.{IsAround}
 use Rattle.name_btree.specs.Trim.{IsPair, pair_fits, first_at, ways_at}

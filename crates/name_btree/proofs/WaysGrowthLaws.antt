@@ -15,7 +15,7 @@ use Rattle.fsd_table.proofs.BoundLaws.{ascend_tail}
 use Rattle.fsd_table.proofs.KeyLaws.{lt_is_le, not_below_more, below_less}
 use Rattle.fsd_forest.specs.Ways.{child_between}
 use Rattle.name_page.proofs.LeafLaws.{between}
-use Rattle.name_node.specs.Lookups.{is_after}
+use Rattle.name_page.specs.Lookups.{is_after}
 use Rattle.name_btree.specs.Grown.{FitsTwoInteriors}
 
 -- ---- order

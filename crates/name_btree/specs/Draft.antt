@@ -8,7 +8,7 @@ use Rattle.fsd_formats.specs.NamePage.{Content, read_page}
 use Rattle.fsd_table.specs.Pages.{page_at}
 use Rattle.fsd_table.specs.Tree.{pages_of, IsTree}
 use Rattle.fsd_forest.specs.Forest.{Disjoint, TreeBecomes}
-use Rattle.name_node.specs.Edits.{without}
+use Rattle.name_page.specs.Edits.{without}
 use Rattle.name_page.specs.Pages.{Step, is_spare, with_one, with_page, with_spare, IsReached}
 use Rattle.name_btree.specs.declared.draft.Draft.{Draft}
 use Rattle.name_btree.specs.declared.draft.Sheet.{Sheet}
@@ -71,15 +71,21 @@ pub record IsTaken (old new : Step) (came : List ℕ) : Type 0 where
   pub apart : all_differ came ≡ true
   pub spares : (page : ℕ) → is_spare new.spares page ≡ (is_spare old.spares page && not (contains came page))
 
+-- the same, whatever the pages are
+pub record IsOver (images : List (List ℕ)) (old new : List Sheet) (page : ℕ) (x : Content) : Type 0 where
+  pub content : page_at (drafted new images) page ≡ Some x
+  pub others : (q : ℕ) → (q ≡ page → ⊥) → page_at (drafted new images) q ≡ page_at (drafted old images) q
+
 -- one sheet more: of the drafted pages this one has other content
 pub record IsDrafted (step : Step) (old new : List Sheet) (page : ℕ) (x : Content) : Type 0 where
   pub one : length new ≡ length old + 1
   pub sheets : AreSheets step new
   pub content : page_at (drafted new step.images) page ≡ Some x
   pub others : (q : ℕ) → (q ≡ page → ⊥) → page_at (drafted new step.images) q ≡ page_at (drafted old step.images) q
+  pub over : (images : List (List ℕ)) → length images ≡ length step.images → IsOver images old new page x
 
 -- a tree without a key; the pages that went are to be spare
-abbrev pub RemovesFrom : Step → (old new : Draft) → Key → Type 0
-RemovesFrom step old new key =
-    (height : ℕ) → IsTree (images_of old step) height → Disjoint (pages_of (images_of old step) height) old.freed.items
-    → (went : List ℕ) × TreeBecomes (without key) (images_of old step) (images_of new step) [] went height × ((page : ℕ) → contains new.freed.items page ≡ (contains old.freed.items page || contains went page))
+abbrev pub RemovesFrom : (images : List (List ℕ)) → (old new : Draft) → Key → Type 0
+RemovesFrom images old new key =
+    (height : ℕ) → IsTree (drafted old.sheets.items images) height → Disjoint (pages_of (drafted old.sheets.items images) height) old.freed.items
+    → (went : List ℕ) × TreeBecomes (without key) (drafted old.sheets.items images) (drafted new.sheets.items images) [] went height × ((page : ℕ) → contains new.freed.items page ≡ (contains old.freed.items page || contains went page))

@@ -1,25 +1,54 @@
 -- Why a call of the table fails.
-use Rattle.std.specs.Prelude.{◌≡◌, ℕ, ◌+◌, ◌⊎◌, false, List, Option, Some}
+use Rattle.std.specs.Prelude.{◌≡◌, ℕ, ◌+◌, ◌⊎◌, Bool, true, false, List, Some, None}
+use Rattle.std.specs.List.{Contains, AllByRecursion}
 use Rattle.fsd_bytes.specs.declared.refusal.Refusal.{Refusal}
+use Rattle.fsd_bytes.specs.declared.refusal.Refusal.TheVariants.{Unsound, NameTableFull}
 use Rattle.fsd_table.specs.declared.child.Child.{Child}
 use Rattle.fsd_table.specs.Pages.{page_at, content_fits}
-use Rattle.fsd_table.specs.Table.{IsVisited, BreaksTable}
-use Rattle.fsd_table.specs.Tree.{IsTree}
-use Rattle.name_page.specs.Pages.{IsReachRefusal, IsSpareRefusal}
+use Rattle.fsd_table.specs.Table.{Visit, visits, IsVisited, BreaksTable}
+use Rattle.fsd_table.specs.Tree.{IsTree, pages_of}
+use Rattle.name_page.specs.Looks.{Agrees}
+use Rattle.name_page.specs.declared.pages.Pages.{Ghosts}
+use Rattle.name_page.specs.Pages.{Step, home_of, is_spare, IsBarred}
 use Rattle.name_btree.specs.Descent.{IsNeighbour}
 use Rattle.name_btree.specs.declared.descent.Neighbour.{Neighbour}
 use Rattle.name_btree.specs.declared.fault.TreeFault.{TreeFault}
 use Rattle.name_btree.specs.declared.fault.TreeFault.TheVariants.{Pages, Broken}
 
--- the pages gave this refusal, or the page breaks something
-abbrev pub HasCause : Option Refusal → (ℕ → Type 0) → TreeFault → Type 0
-HasCause given Breaks (Pages refusal) = (given ≡ Some refusal) × IsReachRefusal refusal
-HasCause given Breaks (Broken page) = Breaks page
+-- the refusal came from outside, or it names a page that may be refused
+abbrev pub IsCaused : (Outer : Refusal → Type 0) → Step → (Bars : ℕ → Type 0) → Refusal → Type 0
+IsCaused Outer s Bars refusal = Outer refusal ⊎ ((page : ℕ) × (refusal ≡ Unsound (home_of s page)) × Bars page)
 
--- the same, or the pages had not so many spare
-abbrev pub HasSpareCause : Option Refusal → (free : ℕ) → (ℕ → Type 0) → TreeFault → Type 0
-HasSpareCause given free Breaks (Pages refusal) = (given ≡ Some refusal) × (IsReachRefusal refusal ⊎ IsSpareRefusal free refusal)
-HasSpareCause given free Breaks (Broken page) = Breaks page
+-- the pages gave this refusal, and it has its cause, or the page breaks something
+abbrev pub HasCause : (Outer : Refusal → Type 0) → Step → (Breaks Bars : ℕ → Type 0) → TreeFault → Type 0
+HasCause Outer s Breaks Bars (Pages refusal) = (s.refusal ≡ Some refusal) × IsCaused Outer s Bars refusal
+HasCause Outer s Breaks Bars (Broken page) = Breaks page
+
+-- a path from page 0 reaches the page
+abbrev pub IsOnWay : List (List ℕ) → ℕ → Type 0
+IsOnWay pages page = (visit : Visit) × Contains (visits pages) visit × (visit.page ≡ page)
+
+-- the page breaks the table, or it is spare and a path reaches it
+abbrev pub BarsTable : Step → ℕ → Type 0
+BarsTable s page = BreaksTable s.images page ⊎ ((is_spare s.spares page ≡ true) × IsOnWay s.images page)
+
+-- why a call of the table fails: where the outside is trusted, the page that it names breaks the table, or is spare
+abbrev pub FailsTable : {D : Type 0} (P : Ghosts D) (old new : D) → TreeFault → Type 0
+FailsTable P old new = HasCause (P.causes old new) (P.step new) (λ page. P.trusted new → BreaksTable (P.step new).images page) (λ page. P.trusted new → BarsTable (P.step new) page)
+
+-- the same of an insert, where so many pages are spare
+abbrev pub FailsSpare : {D : Type 0} (P : Ghosts D) (free : ℕ) (old new : D) → TreeFault → Type 0
+FailsSpare P free old new fault = FailsTable P old new fault ⊎ ((fault ≡ Pages (NameTableFull free)) × ((P.step new).refusal ≡ Some (NameTableFull free)))
+
+-- this page may not be reached
+abbrev pub BarsPage : Step → (page : ℕ) → ℕ → Type 0
+BarsPage s page other = (other ≡ page) × IsBarred s page
+
+-- what was reached shows that a page breaks something; where a page was refused, it does so once the grammar refuses it
+abbrev pub FailsBy : (Outer : Refusal → Type 0) → Step → (Breaks : List (List ℕ) → ℕ → Type 0) → TreeFault → Type 0
+FailsBy Outer s Breaks (Pages refusal) =
+    (s.refusal ≡ Some refusal) × (Outer refusal ⊎ ((page : ℕ) × (refusal ≡ Unsound (home_of s page)) × IsBarred s page × ((images : List (List ℕ)) → Agrees images s → page_at images page ≡ None → Breaks images page)))
+FailsBy Outer s Breaks (Broken page) = (images : List (List ℕ)) → Agrees images s → Breaks images page
 
 -- no page breaks anything
 abbrev pub Never : ℕ → Type 0
@@ -33,9 +62,19 @@ IsMisfit pages c page = (page ≡ c.page) × (content_fits c.low c.high (page_at
 abbrev pub IsNoTree : List (List ℕ) → Type 0
 IsNoTree pages = (height : ℕ) → IsTree pages height → ⊥
 
--- so they are, whichever page was met
-abbrev pub BreaksTree : List (List ℕ) → ℕ → Type 0
-BreaksTree pages page = IsNoTree pages
+-- a tree, none of whose pages is spare
+abbrev pub IsNoUsedTree : Step → Type 0
+IsNoUsedTree s = (height : ℕ) → IsTree s.images height → AllByRecursion (λ page. is_spare s.spares page ≡ false) (pages_of s.images height) → ⊥
+
+-- the pages have the fault, and not the outside
+abbrev pub is_inner : TreeFault → Bool
+is_inner (Pages (Unsound s)) = true
+is_inner (Pages other) = false
+is_inner (Broken page) = true
+
+-- where the outside is trusted, the pages are none, whichever page was met
+abbrev pub FailsTree : {D : Type 0} (P : Ghosts D) (old new : D) → TreeFault → Type 0
+FailsTree P old new = HasCause (P.causes old new) (P.step new) (λ page. P.trusted new → IsNoUsedTree (P.step new)) (λ page. P.trusted new → IsNoUsedTree (P.step new))
 
 -- where a path reaches the child below so many pages, this page breaks the table
 abbrev pub BreaksBelow : List (List ℕ) → (above : ℕ) → Child → ℕ → Type 0
@@ -43,3 +82,9 @@ BreaksBelow pages above c page = IsVisited pages (above + 1) c → BreaksTable p
 
 abbrev pub BreaksBeside : List (List ℕ) → Neighbour → ℕ → Type 0
 BreaksBeside pages n page = IsNeighbour pages n → BreaksTable pages page
+
+abbrev pub BarsBelow : Step → (above : ℕ) → Child → ℕ → Type 0
+BarsBelow s above start page = IsVisited s.images (above + 1) start → BarsTable s page
+
+abbrev pub BarsBeside : Step → Neighbour → ℕ → Type 0
+BarsBeside s n page = IsNeighbour s.images n → BarsTable s page

@@ -11,8 +11,8 @@ use Rattle.fsd_table.specs.Pages.{page_at, below, entry_keys, separator_keys}
 use Rattle.fsd_table.specs.Tree.{entries_below, pages_below, pages_of, table_of, IsSubtree, IsTree}
 use Rattle.fsd_forest.specs.Forest.{Stay, Becomes, TreeBecomes}
 use Rattle.fsd_forest.specs.Parts.{left_part, right_part}
-use Rattle.name_node.specs.Edits.{with_entry}
-use Rattle.name_node.specs.Lookups.{entry_with, is_after}
+use Rattle.name_page.specs.Edits.{with_entry}
+use Rattle.name_page.specs.Lookups.{entry_with, is_after}
 use Rattle.name_page.specs.Pages.{Step, changes, free_count, is_spare, IsReached}
 use Rattle.name_btree.specs.declared.draft.Sheet.{Sheet}
 use Rattle.name_btree.specs.declared.growing.Grown.{Grown}
@@ -32,6 +32,10 @@ pub record Takes (old new : Step) (came : List ℕ) : Type 0 where
   pub taken : IsTaken old new came
   pub reached : (q : ℕ) → IsReached old q → IsReached new q
   pub own : AllByRecursion (IsReached new) came
+
+-- whatever the pages are
+abbrev pub Over : Step → (List (List ℕ) → Type 0) → Type 0
+Over step P = (pages : List (List ℕ)) → length pages ≡ length step.images → P pages
 
 -- ---- a page and its parts
 

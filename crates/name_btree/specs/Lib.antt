@@ -1,3 +1,4 @@
+pub mod Calls
 pub mod Descent
 pub mod Draft
 pub mod Fault
@@ -5,7 +6,6 @@ pub mod Grown
 pub mod Map
 pub mod Remove
 pub mod Replace
-pub mod Runs
 pub mod Still
 pub mod Trim
 pub mod Walk

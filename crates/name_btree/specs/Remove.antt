@@ -8,7 +8,7 @@ use Rattle.fsd_table.specs.declared.child.Child.{Child}
 use Rattle.fsd_table.specs.Pages.{page_at, children, children_of, entries_of, not_below, below}
 use Rattle.fsd_table.specs.Tree.{pages_below, IsSubtree}
 use Rattle.fsd_forest.specs.Forest.{Stay, Becomes}
-use Rattle.name_node.specs.Edits.{without}
+use Rattle.name_page.specs.Edits.{without}
 use Rattle.name_btree.specs.declared.trimming.Trimmed.{Trimmed}
 use Rattle.name_btree.specs.declared.trimming.Trimmed.TheVariants.{Whole, Leaf, Interior}
 

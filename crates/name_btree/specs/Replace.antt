@@ -7,10 +7,11 @@ use Rattle.fsd_table.specs.declared.child.Child.{Child}
 use Rattle.fsd_table.specs.Pages.{page_at, entry_keys}
 use Rattle.fsd_table.specs.Tree.{table_of, pages_of, IsTree}
 use Rattle.fsd_forest.specs.Forest.{Exchange, Stay, IsLocal, Becomes}
+use Rattle.name_page.specs.declared.pages.Pages.{Ghosts}
 use Rattle.name_page.specs.Pages.{Step, is_spare, with_one, with_page}
-use Rattle.name_node.specs.declared.cut.Cut.{Cut}
-use Rattle.name_node.specs.declared.cut.Cut.TheVariants.{UpTo}
-use Rattle.name_node.specs.Lookups.{entry_with}
+use Rattle.name_page.specs.declared.cut.Cut.{Cut}
+use Rattle.name_page.specs.declared.cut.Cut.TheVariants.{UpTo}
+use Rattle.name_page.specs.Lookups.{entry_with}
 use Rattle.name_btree.specs.declared.descent.Found.{Found}
 use Rattle.name_btree.specs.Remove.{IsAround}
 
@@ -26,13 +27,14 @@ pub record IsWritten (old new : Step) (page : ℕ) (x : Content) : Type 0 where
   pub others : (q : ℕ) → (q ≡ page → ⊥) → page_at new.images q ≡ page_at old.images q
 
 -- one page was written, which was not spare
-pub record WritesOne (old new : Step) : Type 0 where
+pub record WritesOne {D : Type 0} (P : Ghosts D) (old new : D) : Type 0 where
   pub page : ℕ
   pub bytes : List ℕ
-  pub there : page < length old.images
-  pub images : new.images ≡ slice_set old.images page bytes
-  pub changed : new.changed ≡ with_one old.changed page
-  pub used : is_spare old.spares page ≡ false
+  pub there : page < length (P.step old).images
+  pub used : is_spare (P.step old).spares page ≡ false
+  pub spares : (P.step new).spares ≡ (P.step old).spares
+  pub changed : (P.step new).changed ≡ with_one (P.step old).changed page
+  pub images : P.trusted new → (P.step new).images ≡ slice_set (P.step old).images page bytes
 
 -- the leaf at a key: where its entries are edited at the key and keep their keys, and no other page changes, what stands below the start is so edited
 abbrev pub IsLeafAt : Cut → List (List ℕ) → (start : Child) → Found → Type 0

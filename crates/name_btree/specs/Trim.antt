@@ -1,5 +1,5 @@
 -- What is left of a page, and what two pages side by side have then.
-use Rattle.std.specs.Prelude.{◌≡◌, ◌≢◌, ◌⊎◌, ℕ, ◌+◌, ◌-◌, ◌==◌, if◌then◌else◌, ◌<◌, ◌≤◌, Bool, true, false, ◌&&◌, nat_lt, List, [], ◌∷◌, ◌++◌, length, take, drop, Some, slice_get, ⊤}
+use Rattle.std.specs.Prelude.{◌≡◌, ◌≢◌, ◌⊎◌, ℕ, ◌+◌, ◌-◌, ◌==◌, if◌then◌else◌, ◌<◌, ◌≤◌, Bool, true, false, ◌&&◌, nat_lt, List, [], ◌∷◌, ◌++◌, length, take, drop, Option, Some, None, slice_get, ⊤}
 use Rattle.std.specs.List.{flat_map, list_all, AllByRecursion}
 use Rattle.fsd_bytes.specs.declared.key.Key.{Key}
 use Rattle.fsd_bytes.specs.Keys.{is_key, key_lt}
@@ -207,6 +207,10 @@ HasNoWays pages above first separators i few page =
     (c : Child) → slice_get (children first above.low above.high separators) (beside i) ≡ Some c → c.page ≢ 0
     → (second : ℕ) (others : List Separator) → page_at pages c.page ≡ Some (grammar.Interior second others) → keys_fit c.low c.high (separator_keys others) ≡ true
     → (s : Separator) → slice_get separators (i - 1) ≡ Some s → is_behind s.key (right_at i few others) ≡ true → ⊥
+
+-- a page without content
+abbrev pub IsFreeOrNone : Option Content → Type 0
+IsFreeOrNone x = (x ≡ Some grammar.Free) ⊎ (x ≡ None)
 
 -- page 0 has what the child has, which goes
 pub record IsTakenOver (step : Step) (old new : Draft) (child : ℕ) : Type 0 where

@@ -1,5 +1,5 @@
 -- What a walk over the pages shows.
-use Rattle.std.specs.Prelude.{◌≡◌, ℕ, zero, suc, ◌+◌, ◌<◌, Bool, true, not, ◌&&◌, List, [], ◌∷◌, ◌++◌, length, map, Some, slice_get, slice_set, slice_index_or}
+use Rattle.std.specs.Prelude.{◌≡◌, ℕ, zero, suc, ◌+◌, ◌<◌, Bool, true, false, not, ◌&&◌, List, [], ◌∷◌, ◌++◌, length, map, Some, slice_get, slice_set, slice_index_or}
 use Rattle.std.specs.List.{flat_map, AllByRecursion}
 use Rattle.run_table.specs.Space.{contains}
 use Rattle.fsd_formats.specs.declared.entry.Entry.{Entry}
@@ -8,7 +8,11 @@ use Rattle.fsd_table.specs.declared.child.Child.{Child}
 use Rattle.fsd_table.specs.Pages.{page_at}
 use Rattle.fsd_table.specs.Table.{Visit, max_height, visits, visits_below, IsVisited, BreaksTable}
 use Rattle.fsd_table.specs.Tree.{entries_below, pages_below, table_of, pages_of, IsSubtree, IsTree}
+use Rattle.name_page.specs.declared.pages.Pages.{Ghosts}
+use Rattle.name_page.specs.Pages.{Step, is_spare}
+use Rattle.name_btree.specs.declared.fault.TreeFault.{TreeFault}
 use Rattle.name_btree.specs.Descent.{HasChildren}
+use Rattle.name_btree.specs.Fault.{HasCause, BarsTable}
 
 -- ---- marks, one a page
 
@@ -31,14 +35,19 @@ marked marks (page ∷ pages) = marked (slice_set marks page true) pages
 
 -- ---- a walk below a child, and below many
 
--- a subtree, whose pages were not marked and then are, and so many entries
-pub record IsWalked (level : ℕ) (pages : List (List ℕ)) (c : Child) (before after : List Bool) (count : ℕ) : Type 0 where
+abbrev pub IsUsed : List Bool → ℕ → Type 0
+IsUsed spares page = is_spare spares page ≡ false
+
+-- a subtree, whose pages were not marked and then are, none of them spare, and so many entries
+pub record IsWalked (spares : List Bool) (level : ℕ) (pages : List (List ℕ)) (c : Child) (before after : List Bool) (count : ℕ) : Type 0 where
+  pub used : AllByRecursion (IsUsed spares) (pages_below level pages c)
   pub subtree : IsSubtree level pages c
   pub unmarked : can_mark before (pages_below level pages c) ≡ true
   pub marks : after ≡ marked before (pages_below level pages c)
   pub count_is : count ≡ length (entries_below level pages c)
 
-pub record AreWalked (level : ℕ) (pages : List (List ℕ)) (cs : List Child) (before after : List Bool) (count : ℕ) : Type 0 where
+pub record AreWalked (spares : List Bool) (level : ℕ) (pages : List (List ℕ)) (cs : List Child) (before after : List Bool) (count : ℕ) : Type 0 where
+  pub used : AllByRecursion (IsUsed spares) (flat_map (pages_below level pages) cs)
   pub subtrees : AllByRecursion (IsSubtree level pages) cs
   pub unmarked : can_mark before (flat_map (pages_below level pages) cs) ≡ true
   pub marks : after ≡ marked before (flat_map (pages_below level pages) cs)
@@ -71,11 +80,20 @@ pub record ComesTo (pages : List (List ℕ)) (level : ℕ) (cs : List Child) (ma
 abbrev pub BreaksWalk : (level : ℕ) → List (List ℕ) → List Child → List Bool → ℕ → Type 0
 BreaksWalk level pages cs marks page = ComesTo pages level cs marks → BreaksTable pages page
 
+abbrev pub BarsWalk : Step → (level : ℕ) → List Child → List Bool → ℕ → Type 0
+BarsWalk s level cs marks page = ComesTo s.images level cs marks → BarsTable s page
+
+-- why the walk over these children fails
+abbrev pub FailsWalk : {D : Type 0} (P : Ghosts D) (old new : D) → (level : ℕ) → List Child → List Bool → TreeFault → Type 0
+FailsWalk P old new level cs marks =
+    HasCause (P.causes old new) (P.step new) (λ page. P.trusted new → BreaksWalk level (P.step new).images cs marks page) (λ page. P.trusted new → BarsWalk (P.step new) level cs marks page)
+
 -- ---- the whole
 
--- a tree, all of whose pages are marked and no others, and so many entries
-pub record IsCounted (pages : List (List ℕ)) (marks : List Bool) (count : ℕ) : Type 0 where
+-- a tree, all of whose pages are marked and no others, none of them spare, and so many entries
+pub record IsCounted (s : Step) (marks : List Bool) (count : ℕ) : Type 0 where
   pub height : ℕ
-  pub tree : IsTree pages height
-  pub marks_are : AreMarksOf (pages_of pages height) marks
-  pub count_is : count ≡ length (table_of pages height)
+  pub used : AllByRecursion (IsUsed s.spares) (pages_of s.images height)
+  pub tree : IsTree s.images height
+  pub marks_are : AreMarksOf (pages_of s.images height) marks
+  pub count_is : count ≡ length (table_of s.images height)

@@ -3,19 +3,18 @@ ghost use Rattle.std.specs.Prelude.{◌≡◌, ◌+◌, ◌-◌, ◌<◌, ◌≤
 ghost use Rattle.fsd_formats.specs.NamePage.{Leaf};
 ghost use Rattle.fsd_table.specs.Pages.{page_at};
 ghost use Rattle.fsd_forest.specs.Ways.{end_of};
-ghost use Rattle.name_node.specs.Cut.{is_before};
+ghost use Rattle.name_page.specs.Cut.{is_before};
 ghost use Rattle.name_btree.specs.Descent.{way_to, IsPlace, HasNeighbours};
-ghost use Rattle.name_btree.specs.Fault.{HasCause, BreaksBelow};
+ghost use Rattle.name_btree.specs.Fault.{HasCause, BreaksBelow, BarsBelow};
 ghost use Rattle.name_btree.specs.Replace.{IsLeafAt};
+ghost use Rattle.name_page.specs.Looks.{OnlyReaches, Shows};
 ghost use Rattle.name_page.specs.Pages.{reaches, is_spare, IsReached};
-ghost use Rattle.name_btree.specs.Still.{IsStill};
 
 use crate::child::child_node;
 use crate::fault::TreeFault;
 use fsd_bytes::Key;
 use fsd_table::Child;
-use name_node::{Cut, Entries, Node, Ways};
-use name_page::Pages;
+use name_page::{Cut, Entries, Node, Pages, Ways};
 
 /// A child beside the way to a leaf, and how many pages stand above it.
 #[derive(Drop)]
@@ -116,18 +115,15 @@ pub(crate) fn leaf_below<T: Pages>(
     cut: &Cut,
 ) -> Result<Found, TreeFault>
     requires { 6 ≤ reaches (T.step t.old) }
-    ensures images { (T.step t.new).images ≡ (T.step t.old).images }
-    ensures spares { (T.step t.new).spares ≡ (T.step t.old).spares }
-    ensures step { (T.step t.new).most_reached ≡ (T.step t.old).most_reached }
+    ensures calls { OnlyReaches T.Pages t.old t.new }
     ensures reaches { reaches (T.step t.old) ≤ reaches (T.step t.new) + 6 }
-    ensures changes { IsStill (T.step t.old) (T.step t.new) }
     ensures reached { IfOk result (λ found. IsReached (T.step t.new) found.page) }
     ensures used { IfOk result (λ found. is_spare (T.step t.old).spares found.page ≡ false) }
-    ensures leaf { IfOk result (λ found. page_at (T.step t.old).images found.page ≡ Some (Leaf found.entries)) }
-    ensures at { IfOk result (IsLeafAt cut.now (T.step t.old).images start) }
-    ensures place { IfOk result (IsPlace (is_before cut.now) (T.step t.old).images start) }
-    ensures beside { IfOk result (HasNeighbours (T.step t.old).images above start) }
-    ensures fault { IfErr result (HasCause (T.step t.new).refusal (BreaksBelow (T.step t.old).images above start)) }
+    ensures leaf { IfOk result (λ found. page_at (T.step t.new).images found.page ≡ Some (Leaf found.entries)) }
+    ensures at { IfOk result (λ found. Shows (T.step t.new) (λ pages. IsLeafAt cut.now pages start found)) }
+    ensures place { IfOk result (λ found. Shows (T.step t.new) (λ pages. IsPlace (is_before cut.now) pages start found)) }
+    ensures beside { IfOk result (λ found. Shows (T.step t.new) (λ pages. HasNeighbours pages above start found)) }
+    ensures fault { IfErr result (HasCause (T.causes t.old t.new) (T.step t.new) (BreaksBelow (T.step t.new).images above start) (BarsBelow (T.step t.new) above start)) }
 {
     let mut way = Way {
         child: start,

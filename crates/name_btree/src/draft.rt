@@ -1,5 +1,5 @@
 //! Pages that are to be written, and such that are to be spare, once nothing can fail any more.
-ghost use Rattle.std.specs.Prelude.{◌≡◌, ◌+◌, ◌-◌, ◌<◌, ◌≤◌, ℕ, List, [], ◌∷◌, ◌++◌, IfOk, IfErr, OnOk, Some, length, true, false};
+ghost use Rattle.std.specs.Prelude.{◌≡◌, ◌+◌, ◌-◌, ◌<◌, ◌≤◌, ℕ, List, [], ◌∷◌, ◌++◌, IfOk, IfErr, OnOk, Some, None, length, true, false};
 ghost use Rattle.std.specs.List.{AllByRecursion, list_all};
 ghost use Rattle.fsd_bytes.specs.Keys.{is_key};
 ghost use Rattle.run_table.specs.Space.{all_differ};
@@ -7,10 +7,11 @@ ghost use Rattle.fsd_formats.specs.NamePage.{Leaf, Interior, is_page, FitsEntry,
 ghost use Rattle.fsd_table.specs.Pages.{page_at, content_fits};
 ghost use Rattle.name_btree.specs.declared.draft.Sheet.{Sheet};
 ghost use Rattle.name_btree.specs.Draft.{IsDraft, with_freed, drafted, committed, freed, last_sheet, AreSheets, MayGo, IsDrafted};
-ghost use Rattle.name_btree.specs.Fault.{HasCause, IsMisfit, Never};
+ghost use Rattle.name_btree.specs.Fault.{FailsBy, IsMisfit};
 ghost use Rattle.name_btree.specs.Grown.{Takes};
-ghost use Rattle.name_btree.specs.Still.{IsStill};
-ghost use Rattle.name_node.specs.Node.{content_of};
+ghost use Rattle.name_page.specs.Node.{content_of};
+ghost use Rattle.name_page.specs.declared.pages.TheConstants.{MOST_CHANGED};
+ghost use Rattle.name_page.specs.Looks.{OnlyReaches, Shows};
 ghost use Rattle.name_page.specs.Pages.{reaches, changes, is_spare, with_page, IsReached, MayChange};
 
 use crate::child::node_at;
@@ -18,8 +19,7 @@ use crate::fault::TreeFault;
 use arrayvec::ArrayVec;
 use fsd_formats::{Entry, Separator};
 use fsd_table::Child;
-use name_node::{Node, node_fits, node_in, write_entries, write_ways};
-use name_page::Pages;
+use name_page::{MOST_CHANGED, Node, Pages, node_fits, node_in, write_entries, write_ways};
 
 /// What a page is to have.
 #[derive(Drop)]
@@ -40,7 +40,7 @@ impl Default for Sheet {
 /// Pages that are to be written one after another, and such that are to be spare then.
 #[derive(Drop)]
 pub(crate) struct Draft {
-    sheets: ArrayVec<Sheet, 40>,
+    sheets: ArrayVec<Sheet, MOST_CHANGED>,
     freed: ArrayVec<u32, 20>,
 }
 
@@ -60,7 +60,8 @@ fn last_sheet(sheets: &[Sheet], page: u32) -> Option<[u8; 512]>
 fn write_sheet<T: Pages>(t: &mut T, sheet: &Sheet)
     requires reached { IsReached (T.step t.old) sheet.now.page }
     requires more { MayChange (T.step t.old) sheet.now.page }
-    ensures { T.step t.new ≡ with_page sheet.now.page sheet.now.image (T.step t.old) }
+    ensures outside { T.outside t.old t.new }
+    ensures step { T.step t.new ≡ with_page sheet.now.page sheet.now.image (T.step t.old) }
 {
     *t.change(sheet.page) = sheet.image;
 }
@@ -68,7 +69,8 @@ fn write_sheet<T: Pages>(t: &mut T, sheet: &Sheet)
 fn write_sheets<T: Pages>(t: &mut T, sheets: &[Sheet])
     requires sheets { AreSheets (T.step t.old) sheets.now }
     requires more { length sheets.now ≤ changes (T.step t.old) }
-    ensures { T.step t.new ≡ committed sheets.now (T.step t.old) }
+    ensures outside { T.outside t.old t.new }
+    ensures step { T.step t.new ≡ committed sheets.now (T.step t.old) }
 {
     for sheet in sheets {
         write_sheet(t, sheet);
@@ -78,7 +80,8 @@ fn write_sheets<T: Pages>(t: &mut T, sheets: &[Sheet])
 fn free_pages<T: Pages>(t: &mut T, pages: &[u32])
     requires pages { AllByRecursion (MayGo (T.step t.old)) pages.now }
     requires apart { all_differ pages.now ≡ true }
-    ensures { T.step t.new ≡ freed pages.now (T.step t.old) }
+    ensures outside { T.outside t.old t.new }
+    ensures step { T.step t.new ≡ freed pages.now (T.step t.old) }
 {
     for page in pages {
         t.give_back(*page);
@@ -89,7 +92,9 @@ fn free_pages<T: Pages>(t: &mut T, pages: &[u32])
 pub(crate) fn take_page<T: Pages>(t: &mut T) -> u32
     requires promised { 0 < (T.step t.old).promised }
     requires more { 0 < changes (T.step t.old) }
+    ensures outside { T.outside t.old t.new }
     ensures takes { Takes (T.step t.old) (T.step t.new) (result ∷ []) }
+    ensures home { (T.step t.new).home_a ≡ (T.step t.old).home_a }
     ensures reached { (T.step t.new).reached ≡ (T.step t.old).reached }
 {
     t.take()
@@ -112,17 +117,13 @@ impl Draft {
         requires more { 0 < reaches (T.step t.old) }
         requires within { page < length (T.step t.old).images }
         requires sheets { AreSheets (T.step t.old) self.now.sheets.items }
-        ensures images { (T.step t.new).images ≡ (T.step t.old).images }
-        ensures spares { (T.step t.new).spares ≡ (T.step t.old).spares }
-        ensures step { (T.step t.new).most_reached ≡ (T.step t.old).most_reached }
+        ensures calls { OnlyReaches T.Pages t.old t.new }
         ensures reaches { reaches (T.step t.old) ≤ reaches (T.step t.new) + 1 }
-        ensures changes { IsStill (T.step t.old) (T.step t.new) }
         ensures reached { OnOk result (IsReached (T.step t.new) page) }
-        ensures kept { (q : ℕ) → IsReached (T.step t.old) q → IsReached (T.step t.new) q }
         ensures sheets { AreSheets (T.step t.new) self.now.sheets.items }
         ensures used { OnOk result (is_spare (T.step t.old).spares page ≡ false) }
-        ensures node { IfOk result (λ node. page_at (drafted self.now.sheets.items (T.step t.old).images) page ≡ Some (content_of node)) }
-        ensures fault { IfErr result (HasCause (T.step t.new).refusal Never) }
+        ensures node { IfOk result (λ node. Shows (T.step t.new) (λ pages. page_at (drafted self.now.sheets.items pages) page ≡ Some (content_of node))) }
+        ensures fault { IfErr result (FailsBy (T.causes t.old t.new) (T.step t.new) (λ pages other. (other ≡ page) × (page_at (drafted self.now.sheets.items pages) page ≡ None))) }
     {
         match last_sheet(self.sheets.as_slice(), page) {
             Some(image) => Ok(node_in(&image)),
@@ -134,18 +135,14 @@ impl Draft {
     pub(crate) fn child_node<T: Pages>(&self, t: &mut T, child: &Child) -> Result<Node, TreeFault>
         requires more { 0 < reaches (T.step t.old) }
         requires sheets { AreSheets (T.step t.old) self.now.sheets.items }
-        ensures images { (T.step t.new).images ≡ (T.step t.old).images }
-        ensures spares { (T.step t.new).spares ≡ (T.step t.old).spares }
-        ensures step { (T.step t.new).most_reached ≡ (T.step t.old).most_reached }
+        ensures calls { OnlyReaches T.Pages t.old t.new }
         ensures reaches { reaches (T.step t.old) ≤ reaches (T.step t.new) + 1 }
-        ensures changes { IsStill (T.step t.old) (T.step t.new) }
         ensures reached { OnOk result (IsReached (T.step t.new) child.now.page) }
-        ensures kept { (q : ℕ) → IsReached (T.step t.old) q → IsReached (T.step t.new) q }
         ensures sheets { AreSheets (T.step t.new) self.now.sheets.items }
         ensures used { OnOk result (is_spare (T.step t.old).spares child.now.page ≡ false) }
-        ensures node { IfOk result (λ node. page_at (drafted self.now.sheets.items (T.step t.old).images) child.now.page ≡ Some (content_of node)) }
+        ensures node { IfOk result (λ node. Shows (T.step t.new) (λ pages. page_at (drafted self.now.sheets.items pages) child.now.page ≡ Some (content_of node))) }
         ensures fits { IfOk result (λ node. content_fits child.now.low child.now.high (Some (content_of node)) ≡ true) }
-        ensures fault { IfErr result (HasCause (T.step t.new).refusal (IsMisfit (drafted self.now.sheets.items (T.step t.old).images) child.now)) }
+        ensures fault { IfErr result (FailsBy (T.causes t.old t.new) (T.step t.new) (λ pages. IsMisfit (drafted self.now.sheets.items pages) child.now)) }
     {
         if child.page >= t.count() {
             return Err(TreeFault::Broken(child.page));
@@ -159,7 +156,7 @@ impl Draft {
 
     /// The page is to be a leaf of these entries.
     pub(crate) fn put_leaf<T: Pages>(&mut self, t: &T, page: u32, entries: &[Entry])
-        requires room { length self.old.sheets.items < 40 }
+        requires room { length self.old.sheets.items < MOST_CHANGED }
         requires sheets { AreSheets (T.step t.now) self.old.sheets.items }
         requires reached { IsReached (T.step t.now) page }
         requires used { is_spare (T.step t.now).spares page ≡ false }
@@ -181,7 +178,7 @@ impl Draft {
         first: u32,
         separators: &[Separator],
     )
-        requires room { length self.old.sheets.items < 40 }
+        requires room { length self.old.sheets.items < MOST_CHANGED }
         requires sheets { AreSheets (T.step t.now) self.old.sheets.items }
         requires reached { IsReached (T.step t.now) page }
         requires used { is_spare (T.step t.now).spares page ≡ false }
@@ -216,6 +213,7 @@ impl Draft {
         requires more { length self.now.sheets.items ≤ changes (T.step t.old) }
         requires freed { AllByRecursion (MayGo (T.step t.old)) self.now.freed.items }
         requires apart { all_differ self.now.freed.items ≡ true }
+        ensures outside { T.outside t.old t.new }
         ensures step { T.step t.new ≡ freed self.now.freed.items (committed self.now.sheets.items (T.step t.old)) }
         ensures images { (T.step t.new).images ≡ drafted self.now.sheets.items (T.step t.old).images }
     {

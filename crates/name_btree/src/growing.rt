@@ -3,13 +3,13 @@ ghost use Rattle.std.specs.Prelude.{◌≡◌, ◌+◌, ◌<◌, ◌≤◌, leng
 ghost use Rattle.std.specs.List.{AllByRecursion};
 ghost use Rattle.fsd_formats.specs.NamePage.{FitsEntry, FitsSeparator};
 ghost use Rattle.name_btree.specs.Draft.{drafted, AreSheets};
-ghost use Rattle.name_btree.specs.Grown.{Takes, most_parted, front_came, FitsTwoLeaves, FitsTwoInteriors, IsGrown, AreLeavesOf, AreInteriorsOf};
-ghost use Rattle.name_page.specs.Pages.{changes, is_spare, IsReached};
+ghost use Rattle.name_btree.specs.Grown.{Takes, Over, most_parted, front_came, FitsTwoLeaves, FitsTwoInteriors, IsGrown, AreLeavesOf, AreInteriorsOf};
+ghost use Rattle.name_page.specs.declared.pages.TheConstants.{MOST_CHANGED};
+ghost use Rattle.name_page.specs.Pages.{changes, is_spare, with_images, IsReached};
 
 use crate::draft::{Draft, take_page};
 use fsd_formats::Separator;
-use name_node::{EntryList, SeparatorList, leaf_cut, middle, used};
-use name_page::Pages;
+use name_page::{EntryList, Pages, SeparatorList, leaf_cut, middle, used};
 
 /// What became of a page: it has all, or there are two with a separator between them.
 #[derive(Drop)]
@@ -24,9 +24,12 @@ fn front_page<T: Pages>(t: &mut T, page: u32) -> u32
     requires more { most_parted page ≤ changes (T.step t.old) }
     requires reached { IsReached (T.step t.old) page }
     requires used { is_spare (T.step t.old).spares page ≡ false }
+    ensures outside { T.outside t.old t.new }
     ensures takes { Takes (T.step t.old) (T.step t.new) (front_came page result) }
     ensures promised { 0 < (T.step t.new).promised }
     ensures more { 0 < changes (T.step t.new) }
+    ensures images { (T.step t.new).images ≡ (T.step t.old).images }
+    ensures home { (T.step t.new).home_a ≡ (T.step t.old).home_a }
     ensures reached { (T.step t.new).reached ≡ (T.step t.old).reached }
     ensures own { IsReached (T.step t.new) result }
     ensures used { is_spare (T.step t.new).spares result ≡ false }
@@ -44,15 +47,18 @@ pub(crate) fn grow_leaf<T: Pages>(
 ) -> Grown
     requires promised { most_parted page ≤ (T.step t.old).promised }
     requires more { most_parted page ≤ changes (T.step t.old) }
-    requires room { length draft.old.sheets.items + 2 ≤ 40 }
+    requires room { length draft.old.sheets.items + 2 ≤ MOST_CHANGED }
     requires sheets { AreSheets (T.step t.old) draft.old.sheets.items }
     requires reached { IsReached (T.step t.old) page }
     requires used { is_spare (T.step t.old).spares page ≡ false }
     requires entries { FitsTwoLeaves page entries.now.items }
     requires fits { AllByRecursion FitsEntry entries.now.items }
-    ensures grown { IsGrown (T.step t.old) (T.step t.new) draft.old.sheets.items draft.new.sheets.items page result }
-    ensures leaves { AreLeavesOf (drafted draft.new.sheets.items (T.step t.new).images) page entries.now.items result }
+    ensures outside { T.outside t.old t.new }
+    ensures grown { Over (T.step t.old) (λ pages. IsGrown (with_images pages (T.step t.old)) (with_images pages (T.step t.new)) draft.old.sheets.items draft.new.sheets.items page result) }
+    ensures leaves { Over (T.step t.old) (λ pages. AreLeavesOf (drafted draft.new.sheets.items pages) page entries.now.items result) }
     ensures freed { draft.new.freed.items ≡ draft.old.freed.items }
+    ensures images { (T.step t.new).images ≡ (T.step t.old).images }
+    ensures home { (T.step t.new).home_a ≡ (T.step t.old).home_a }
     ensures reached { (T.step t.new).reached ≡ (T.step t.old).reached }
 {
     let entries = entries.as_slice();
@@ -82,15 +88,18 @@ pub(crate) fn grow_ways<T: Pages>(
 ) -> Grown
     requires promised { most_parted page ≤ (T.step t.old).promised }
     requires more { most_parted page ≤ changes (T.step t.old) }
-    requires room { length draft.old.sheets.items + 2 ≤ 40 }
+    requires room { length draft.old.sheets.items + 2 ≤ MOST_CHANGED }
     requires sheets { AreSheets (T.step t.old) draft.old.sheets.items }
     requires reached { IsReached (T.step t.old) page }
     requires used { is_spare (T.step t.old).spares page ≡ false }
     requires separators { FitsTwoInteriors (length (T.step t.old).images) page first separators.now.items }
     requires fits { AllByRecursion FitsSeparator separators.now.items }
-    ensures grown { IsGrown (T.step t.old) (T.step t.new) draft.old.sheets.items draft.new.sheets.items page result }
-    ensures interiors { AreInteriorsOf (drafted draft.new.sheets.items (T.step t.new).images) page first separators.now.items result }
+    ensures outside { T.outside t.old t.new }
+    ensures grown { Over (T.step t.old) (λ pages. IsGrown (with_images pages (T.step t.old)) (with_images pages (T.step t.new)) draft.old.sheets.items draft.new.sheets.items page result) }
+    ensures interiors { Over (T.step t.old) (λ pages. AreInteriorsOf (drafted draft.new.sheets.items pages) page first separators.now.items result) }
     ensures freed { draft.new.freed.items ≡ draft.old.freed.items }
+    ensures images { (T.step t.new).images ≡ (T.step t.old).images }
+    ensures home { (T.step t.new).home_a ≡ (T.step t.old).home_a }
     ensures reached { (T.step t.new).reached ≡ (T.step t.old).reached }
 {
     let separators = separators.as_slice();

@@ -5,16 +5,17 @@ ghost use Rattle.fsd_formats.specs.NamePage.{Leaf, Interior, is_page, is_entry, 
 ghost use Rattle.fsd_forest.specs.Parts.{is_inside};
 ghost use Rattle.fsd_forest.specs.Ways.{child_between};
 ghost use Rattle.fsd_table.specs.Pages.{page_at, keys_fit, entry_keys};
-ghost use Rattle.fsd_table.specs.Table.{BreaksTable};
 ghost use Rattle.fsd_table.specs.Tree.{IsTree, table_of};
-ghost use Rattle.name_btree.specs.Draft.{drafted, AreSheets, IsDraft, images_of};
-ghost use Rattle.name_btree.specs.Fault.{HasCause, HasSpareCause, BreaksTree};
-ghost use Rattle.name_btree.specs.Grown.{most_parted, most_taken, IsGrown, IsAboveGrown, IsSound, IsDivided, Grows, Inserts, BreaksGrowth, BreaksNew};
+ghost use Rattle.name_btree.specs.Draft.{drafted, AreSheets, IsDraft};
+ghost use Rattle.name_btree.specs.Fault.{FailsBy, FailsSpare, IsNoTree};
+ghost use Rattle.name_btree.specs.Grown.{Over, most_parted, most_taken, IsGrown, IsAboveGrown, IsSound, IsDivided, Grows, Inserts, BreaksGrowth, BreaksNew};
 ghost use Rattle.name_btree.specs.Map.{IsTable, HasTable, LeavesTree, without_all};
-ghost use Rattle.name_btree.specs.Still.{IsStill, LeavesStep};
-ghost use Rattle.name_node.specs.Edits.{with_entry};
-ghost use Rattle.name_node.specs.Lookups.{entry_with};
-ghost use Rattle.name_page.specs.Pages.{reaches, changes, free_count, is_spare, IsReached};
+ghost use Rattle.name_btree.specs.Still.{LeavesStep};
+ghost use Rattle.name_page.specs.Edits.{with_entry};
+ghost use Rattle.name_page.specs.Lookups.{entry_with};
+ghost use Rattle.name_page.specs.declared.pages.TheConstants.{MOST_CHANGED, MOST_REACHED};
+ghost use Rattle.name_page.specs.Looks.{OnlyReaches, OnlyTakes, OnlyEdits, OnlyWalks, Shows};
+ghost use Rattle.name_page.specs.Pages.{with_images, reaches, changes, free_count, is_spare, IsReached};
 
 use crate::draft::Draft;
 use crate::fault::TreeFault;
@@ -27,28 +28,25 @@ use arrayvec::ArrayVec;
 use fsd_bytes::Key;
 use fsd_formats::Entry;
 use fsd_table::Child;
-use name_node::{Cut, Entries, Node, Ways, entries_with, ways_before, ways_with};
-use name_page::Pages;
+use name_page::{Cut, Entries, Node, Pages, Ways, entries_with, ways_before, ways_with};
 
 /// Puts an entry in, whose key no entry has, and takes those with two keys at most out. It takes 7 pages at most. Where it
 /// answers Broken it has walked all pages up to that one, and the step has ended.
 pub fn insert<T: Pages>(t: &mut T, entry: &Entry, gone: &ArrayVec<Key, 2>) -> Result<(), TreeFault>
-    requires more { 80 ≤ reaches (T.step t.old) }
-    requires changes { 40 ≤ changes (T.step t.old) }
+    requires more { MOST_REACHED ≤ reaches (T.step t.old) }
+    requires changes { MOST_CHANGED ≤ changes (T.step t.old) }
     requires entry { IsTrue (is_entry entry.now) }
     requires fits { FitsEntry entry.now }
-    requires new { (height : ℕ) → IsTree (T.step t.old).images height → entry_with entry.now.key (without_all gone.now.items (table_of (T.step t.old).images height)) ≡ None }
-    ensures images { OnErr result ((T.step t.new).images ≡ (T.step t.old).images) }
-    ensures spares { OnErr result ((T.step t.new).spares ≡ (T.step t.old).spares) }
-    ensures step { (T.step t.new).most_reached ≡ (T.step t.old).most_reached }
-    ensures most { (T.step t.new).most_changed ≡ (T.step t.old).most_changed }
+    requires new { T.trusted t.old → (height : ℕ) → IsTree (T.step t.old).images height → entry_with entry.now.key (without_all gone.now.items (table_of (T.step t.old).images height)) ≡ None }
+    ensures calls { OnlyEdits T.Pages t.old t.new }
+    ensures kept { OnErr result (OnlyWalks T.Pages t.old t.new) }
     ensures reaches { reaches (T.step t.old) ≤ reaches (T.step t.new) + 30 }
-    ensures left { IfErr result (LeavesStep (T.step t.old) (T.step t.new)) }
+    ensures left { IfErr result (LeavesStep T.Pages t.old t.new) }
     ensures changes { changes (T.step t.old) ≤ changes (T.step t.new) + 36 }
     ensures taken { free_count (T.step t.old) ≤ free_count (T.step t.new) + 7 }
-    ensures inserted { OnOk result ((height : ℕ) → IsTable (T.step t.old) height → HasTable (T.step t.new) (with_entry entry.now (without_all gone.now.items (table_of (T.step t.old).images height)))) }
+    ensures inserted { OnOk result (T.trusted t.new → (height : ℕ) → IsTable (T.step t.old) height → HasTable (T.step t.new) (with_entry entry.now (without_all gone.now.items (table_of (T.step t.old).images height)))) }
     ensures full { let free = free_count (T.step t.old) in (result ≡ Err (TreeFault.Pages (NameTableFull free))) ↔ (free < 8) }
-    ensures fault { IfErr result (HasSpareCause (T.step t.new).refusal (free_count (T.step t.old)) (BreaksTable (T.step t.old).images)) }
+    ensures fault { IfErr result (FailsSpare T.Pages (free_count (T.step t.old)) t.old t.new) }
 {
     if let Err(refusal) = t.spare(8) {
         return Err(TreeFault::Pages(refusal));
@@ -70,15 +68,12 @@ fn remove_all<T: Pages>(t: &mut T, draft: &mut Draft, gone: &[Key]) -> Result<()
     requires few { length gone.now ≤ 2 }
     requires sheets { draft.old.sheets.items ≡ [] }
     requires freed { draft.old.freed.items ≡ [] }
-    ensures images { (T.step t.new).images ≡ (T.step t.old).images }
-    ensures spares { (T.step t.new).spares ≡ (T.step t.old).spares }
-    ensures step { (T.step t.new).most_reached ≡ (T.step t.old).most_reached }
+    ensures calls { OnlyReaches T.Pages t.old t.new }
     ensures reaches { reaches (T.step t.old) ≤ reaches (T.step t.new) + 24 }
-    ensures still { IsStill (T.step t.old) (T.step t.new) }
     ensures draft { OnOk result (IsDraft (T.step t.new) draft.new) }
     ensures room { OnOk result (length draft.new.sheets.items ≤ 16) }
-    ensures left { OnOk result (LeavesTree (T.step t.old).images draft.new gone.now) }
-    ensures fault { IfErr result (HasCause (T.step t.new).refusal (BreaksTree (T.step t.old).images)) }
+    ensures left { OnOk result (Shows (T.step t.new) (λ pages. LeavesTree pages draft.new gone.now)) }
+    ensures fault { IfErr result (FailsBy (T.causes t.old t.new) (T.step t.new) (λ pages page. IsNoTree pages)) }
 {
     for key in gone {
         remove_in(t, draft, key)?;
@@ -95,17 +90,14 @@ fn insert_in<T: Pages>(t: &mut T, draft: &mut Draft, entry: &Entry) -> Result<()
     requires draft { IsDraft (T.step t.old) draft.old }
     requires entry { is_entry entry.now ≡ true }
     requires fits { FitsEntry entry.now }
-    ensures images { (T.step t.new).images ≡ (T.step t.old).images }
-    ensures step { (T.step t.new).most_reached ≡ (T.step t.old).most_reached }
-    ensures most { (T.step t.new).most_changed ≡ (T.step t.old).most_changed }
+    ensures calls { OnlyTakes T.Pages t.old t.new }
+    ensures failed { OnErr result (OnlyReaches T.Pages t.old t.new) }
     ensures reaches { reaches (T.step t.old) ≤ reaches (T.step t.new) + 6 }
-    ensures spares { OnErr result ((T.step t.new).spares ≡ (T.step t.old).spares) }
-    ensures changed { OnErr result ((T.step t.new).changed ≡ (T.step t.old).changed) }
     ensures draft { OnOk result (IsDraft (T.step t.new) draft.new) }
     ensures room { OnOk result (length draft.new.sheets.items ≤ length draft.old.sheets.items + 13) }
     ensures freed { OnOk result (draft.new.freed.items ≡ draft.old.freed.items) }
-    ensures inserted { OnOk result (Inserts entry.now (T.step t.old) (T.step t.new) (images_of draft.old (T.step t.old)) (images_of draft.new (T.step t.new))) }
-    ensures fault { IfErr result (HasCause (T.step t.new).refusal (BreaksNew entry.now (images_of draft.old (T.step t.old)))) }
+    ensures inserted { OnOk result (Shows (T.step t.new) (λ pages. Inserts entry.now (with_images pages (T.step t.old)) (with_images pages (T.step t.new)) (drafted draft.old.sheets.items pages) (drafted draft.new.sheets.items pages))) }
+    ensures fault { IfErr result (FailsBy (T.causes t.old t.new) (T.step t.new) (λ pages. BreaksNew entry.now (drafted draft.old.sheets.items pages))) }
 {
     match insert_below(t, draft, &top(), entry, 5)? {
         Grown::Whole => Ok(()),
@@ -128,24 +120,21 @@ fn insert_below<T: Pages>(
     requires levels { levels ≤ 5 }
     requires promised { most_taken child.now.page levels ≤ (T.step t.old).promised }
     requires changes { most_taken child.now.page levels ≤ changes (T.step t.old) }
-    requires room { length draft.old.sheets.items + 2 * levels + 2 ≤ 40 }
+    requires room { length draft.old.sheets.items + 2 * levels + 2 ≤ MOST_CHANGED }
     requires sheets { AreSheets (T.step t.old) draft.old.sheets.items }
     requires inside { is_inside child.now entry.now.key ≡ true }
     requires entry { is_entry entry.now ≡ true }
     requires fits { FitsEntry entry.now }
-    ensures images { (T.step t.new).images ≡ (T.step t.old).images }
-    ensures step { (T.step t.new).most_reached ≡ (T.step t.old).most_reached }
-    ensures most { (T.step t.new).most_changed ≡ (T.step t.old).most_changed }
+    ensures calls { OnlyTakes T.Pages t.old t.new }
+    ensures failed { OnErr result (OnlyReaches T.Pages t.old t.new) }
     ensures reaches { reaches (T.step t.old) ≤ reaches (T.step t.new) + levels + 1 }
-    ensures spares { OnErr result ((T.step t.new).spares ≡ (T.step t.old).spares) }
-    ensures changed { OnErr result ((T.step t.new).changed ≡ (T.step t.old).changed) }
     ensures room { OnOk result (length draft.new.sheets.items ≤ length draft.old.sheets.items + 2 * levels + 2) }
     ensures sheets { OnOk result (AreSheets (T.step t.new) draft.new.sheets.items) }
     ensures freed { OnOk result (draft.new.freed.items ≡ draft.old.freed.items) }
     ensures reached { OnOk result (IsReached (T.step t.new) child.now.page) }
     ensures used { OnOk result (is_spare (T.step t.new).spares child.now.page ≡ false) }
-    ensures grown { IfOk result (Grows entry.now (T.step t.old) (T.step t.new) (drafted draft.old.sheets.items (T.step t.old).images) (drafted draft.new.sheets.items (T.step t.new).images) levels child.now) }
-    ensures fault { IfErr result (HasCause (T.step t.new).refusal (BreaksGrowth entry.now (drafted draft.old.sheets.items (T.step t.old).images) levels child.now)) }
+    ensures grown { IfOk result (λ grown. Shows (T.step t.new) (λ pages. Grows entry.now (with_images pages (T.step t.old)) (with_images pages (T.step t.new)) (drafted draft.old.sheets.items pages) (drafted draft.new.sheets.items pages) levels child.now grown)) }
+    ensures fault { IfErr result (FailsBy (T.causes t.old t.new) (T.step t.new) (λ pages. BreaksGrowth entry.now (drafted draft.old.sheets.items pages) levels child.now)) }
 {
     match draft.child_node(t, child)? {
         Node::Leaf(entries) => insert_here(t, draft, child, &entries, entry),
@@ -174,7 +163,7 @@ fn grow_above<T: Pages>(
 ) -> Grown
     requires promised { most_parted above.now.page ≤ (T.step t.old).promised }
     requires more { most_parted above.now.page ≤ changes (T.step t.old) }
-    requires room { length draft.old.sheets.items + 2 ≤ 40 }
+    requires room { length draft.old.sheets.items + 2 ≤ MOST_CHANGED }
     requires sheets { AreSheets (T.step t.old) draft.old.sheets.items }
     requires reached { IsReached (T.step t.old) above.now.page }
     requires used { is_spare (T.step t.old).spares above.now.page ≡ false }
@@ -182,8 +171,9 @@ fn grow_above<T: Pages>(
     requires place { i ≤ length ways.now.1 }
     requires sound { IsSound (T.step t.old) below }
     requires divided { IsDivided (child_between ways.now.0 above.now.low above.now.high (take i ways.now.1) (drop i ways.now.1)) below }
-    ensures grown { IsGrown (T.step t.old) (T.step t.new) draft.old.sheets.items draft.new.sheets.items above.now.page result }
-    ensures above { IsAboveGrown (drafted draft.old.sheets.items (T.step t.old).images) (drafted draft.new.sheets.items (T.step t.new).images) above.now.page ways.now.0 ways.now.1 i below result }
+    ensures calls { OnlyTakes T.Pages t.old t.new }
+    ensures grown { Over (T.step t.old) (λ pages. IsGrown (with_images pages (T.step t.old)) (with_images pages (T.step t.new)) draft.old.sheets.items draft.new.sheets.items above.now.page result) }
+    ensures above { Over (T.step t.old) (λ pages. IsAboveGrown (drafted draft.old.sheets.items pages) (drafted draft.new.sheets.items pages) above.now.page ways.now.0 ways.now.1 i below result) }
     ensures freed { draft.new.freed.items ≡ draft.old.freed.items }
     ensures reached { (T.step t.new).reached ≡ (T.step t.old).reached }
 {
@@ -206,21 +196,22 @@ fn insert_here<T: Pages>(
 ) -> Result<Grown, TreeFault>
     requires promised { most_parted child.now.page ≤ (T.step t.old).promised }
     requires more { most_parted child.now.page ≤ changes (T.step t.old) }
-    requires room { length draft.old.sheets.items + 2 ≤ 40 }
+    requires room { length draft.old.sheets.items + 2 ≤ MOST_CHANGED }
     requires sheets { AreSheets (T.step t.old) draft.old.sheets.items }
     requires reached { IsReached (T.step t.old) child.now.page }
     requires used { is_spare (T.step t.old).spares child.now.page ≡ false }
-    requires leaf { page_at (drafted draft.old.sheets.items (T.step t.old).images) child.now.page ≡ Some (Leaf entries.now) }
+    requires leaf { Shows (T.step t.old) (λ pages. page_at (drafted draft.old.sheets.items pages) child.now.page ≡ Some (Leaf entries.now)) }
     requires keys { keys_fit child.now.low child.now.high (entry_keys entries.now) ≡ true }
     requires inside { is_inside child.now entry.now.key ≡ true }
     requires entry { is_entry entry.now ≡ true }
     requires fits { FitsEntry entry.now }
-    ensures failed { OnErr result (T.step t.new ≡ T.step t.old) }
-    ensures grown { IfOk result (IsGrown (T.step t.old) (T.step t.new) draft.old.sheets.items draft.new.sheets.items child.now.page) }
-    ensures grows { IfOk result (Grows entry.now (T.step t.old) (T.step t.new) (drafted draft.old.sheets.items (T.step t.old).images) (drafted draft.new.sheets.items (T.step t.new).images) 0 child.now) }
+    ensures failed { OnErr result (t.new ≡ t.old) }
+    ensures calls { OnlyTakes T.Pages t.old t.new }
+    ensures grown { IfOk result (λ grown. Over (T.step t.old) (λ pages. IsGrown (with_images pages (T.step t.old)) (with_images pages (T.step t.new)) draft.old.sheets.items draft.new.sheets.items child.now.page grown)) }
+    ensures grows { IfOk result (λ grown. Shows (T.step t.old) (λ pages. Grows entry.now (with_images pages (T.step t.old)) (with_images pages (T.step t.new)) (drafted draft.old.sheets.items pages) (drafted draft.new.sheets.items pages) 0 child.now grown)) }
     ensures freed { draft.new.freed.items ≡ draft.old.freed.items }
     ensures reached { (T.step t.new).reached ≡ (T.step t.old).reached }
-    ensures fault { IfErr result (HasCause (T.step t.new).refusal (BreaksGrowth entry.now (drafted draft.old.sheets.items (T.step t.old).images) 0 child.now)) }
+    ensures fault { IfErr result (λ fault. (page : ℕ) × (fault ≡ TreeFault.Broken page) × Shows (T.step t.old) (λ pages. BreaksGrowth entry.now (drafted draft.old.sheets.items pages) 0 child.now page)) }
 {
     if entry_in(entries, &entry.key).is_some() {
         return Err(TreeFault::Broken(child.page));

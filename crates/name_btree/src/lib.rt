@@ -4,15 +4,16 @@
 ghost use Rattle.std.specs.Prelude.{◌≡◌, ◌≤◌, IfSome, IfOk, IsTrue, true};
 ghost use Rattle.fsd_bytes.specs.Keys.{is_key};
 ghost use Rattle.fsd_formats.specs.NamePage.{is_entry, FitsEntry};
+ghost use Rattle.name_page.specs.declared.pages.TheConstants.{MOST_CHANGED, MOST_REACHED};
 ghost use Rattle.name_page.specs.Pages.{reaches};
 
+mod calls;
 mod child;
 mod descent;
 mod draft;
 mod fault;
 mod growing;
 mod inserting;
-mod laws;
 mod lookup;
 mod removing;
 mod replacing;
@@ -21,9 +22,9 @@ mod trimming;
 mod walking;
 mod writing;
 
+pub use calls::{Call, run};
 pub use fault::TreeFault;
 pub use inserting::insert;
-pub use laws::tables_are_maps;
 pub use lookup::{find, highest, next_after};
 pub use removing::remove;
 pub use replacing::replace_same_size;
@@ -110,7 +111,7 @@ mod tests {
 
     // A root and two leaves. The keys of the right child are from b!9 on.
     fn table(alloc: Global, left: u32, right: u32) -> Result<VecPages, AllocError>
-        ensures { IfOk result (λ t. (reaches (⟦<VecPages as Pages>⟧.step t) ≡ 80) × ((⟦<VecPages as Pages>⟧.step t).most_changed ≡ 40)) }
+        ensures { IfOk result (λ t. (reaches (⟦<VecPages as Pages>⟧.step t) ≡ MOST_REACHED) × ((⟦<VecPages as Pages>⟧.step t).most_changed ≡ MOST_CHANGED)) }
     {
         let mut root = [0; 512];
         write_interior(0, left, &[separator(b'b', 9, right)], &mut root);
@@ -170,8 +171,8 @@ mod tests {
 
     // Puts an entry in place of the one with its key, if there is one as long.
     fn replace<T: Pages>(t: &mut T, entry: &Entry) -> Result<bool, TreeFault>
-        requires reached { 80 ≤ (T.step t.old).most_reached }
-        requires changed { 40 ≤ (T.step t.old).most_changed }
+        requires reached { MOST_REACHED ≤ (T.step t.old).most_reached }
+        requires changed { MOST_CHANGED ≤ (T.step t.old).most_changed }
         requires entry { is_entry entry.now ≡ true }
         requires fits { FitsEntry entry.now }
     {

@@ -3,11 +3,12 @@ ghost use Rattle.std.specs.Prelude.{◌≡◌, ◌+◌, ◌<◌, ◌≤◌, ℕ,
 ghost use Rattle.std.specs.Option.{option_copied};
 ghost use Rattle.fsd_table.specs.Table.{top, BreaksTable};
 ghost use Rattle.fsd_table.specs.Tree.{IsTree, table_of};
-ghost use Rattle.name_node.specs.Cut.{after_cut, is_before};
+ghost use Rattle.name_page.specs.Cut.{after_cut, is_before};
 ghost use Rattle.name_btree.specs.Descent.{BeginsWith, EndsWith};
-ghost use Rattle.name_btree.specs.Fault.{HasCause, BreaksBeside};
-ghost use Rattle.name_node.specs.Lookups.{entry_with, entry_after, highest_of, last_that, same_name};
-ghost use Rattle.name_btree.specs.Still.{IsStill};
+ghost use Rattle.name_btree.specs.Fault.{HasCause, BreaksBeside, BarsBeside, BarsTable};
+ghost use Rattle.name_page.specs.Lookups.{entry_with, entry_after, highest_of, last_that, same_name};
+ghost use Rattle.name_page.specs.declared.pages.TheConstants.{MOST_REACHED};
+ghost use Rattle.name_page.specs.Looks.{OnlyReaches, Shows};
 ghost use Rattle.name_page.specs.Pages.{reaches};
 
 use crate::descent::{Neighbour, leaf_below};
@@ -15,8 +16,7 @@ use crate::fault::TreeFault;
 use fsd_bytes::{FileName, Key};
 use fsd_formats::Entry;
 use fsd_table::Child;
-use name_node::{Cut, Entries};
-use name_page::Pages;
+use name_page::{Cut, Entries, Pages};
 
 // Page 0, below which all pages stand.
 pub(crate) fn top() -> Child
@@ -43,14 +43,11 @@ pub(crate) fn entry_in(entries: &Entries, key: &Key) -> Option<Entry>
 
 /// The entry with this key.
 pub fn find<T: Pages>(t: &mut T, key: &Key) -> Result<Option<Entry>, TreeFault>
-    requires { 80 ≤ reaches (T.step t.old) }
-    ensures images { (T.step t.new).images ≡ (T.step t.old).images }
-    ensures spares { (T.step t.new).spares ≡ (T.step t.old).spares }
-    ensures step { (T.step t.new).most_reached ≡ (T.step t.old).most_reached }
+    requires { MOST_REACHED ≤ reaches (T.step t.old) }
+    ensures calls { OnlyReaches T.Pages t.old t.new }
     ensures reaches { reaches (T.step t.old) ≤ reaches (T.step t.new) + 6 }
-    ensures changes { IsStill (T.step t.old) (T.step t.new) }
-    ensures found { IfOk result (λ found. (height : ℕ) → IsTree (T.step t.old).images height → found ≡ entry_with key.now (table_of (T.step t.old).images height)) }
-    ensures fault { IfErr result (HasCause (T.step t.new).refusal (BreaksTable (T.step t.old).images)) }
+    ensures found { IfOk result (λ found. T.trusted t.new → (height : ℕ) → IsTree (T.step t.old).images height → found ≡ entry_with key.now (table_of (T.step t.old).images height)) }
+    ensures fault { IfErr result (HasCause (T.causes t.old t.new) (T.step t.new) (BreaksTable (T.step t.new).images) (BarsTable (T.step t.new))) }
 {
     let found = leaf_below(t, top(), 0, &Cut::UpTo(key.copied()))?;
     Ok(entry_in(&found.entries, key))
@@ -96,13 +93,10 @@ fn named(entry: Entry, name: &FileName) -> Option<Entry>
 // The first entry below a child beside the way.
 fn first_below<T: Pages>(t: &mut T, next: Neighbour) -> Result<Entry, TreeFault>
     requires { 6 ≤ reaches (T.step t.old) }
-    ensures images { (T.step t.new).images ≡ (T.step t.old).images }
-    ensures spares { (T.step t.new).spares ≡ (T.step t.old).spares }
-    ensures step { (T.step t.new).most_reached ≡ (T.step t.old).most_reached }
+    ensures calls { OnlyReaches T.Pages t.old t.new }
     ensures reaches { reaches (T.step t.old) ≤ reaches (T.step t.new) + 6 }
-    ensures changes { IsStill (T.step t.old) (T.step t.new) }
-    ensures first { IfOk result (BeginsWith (T.step t.old).images next.child) }
-    ensures fault { IfErr result (HasCause (T.step t.new).refusal (BreaksBeside (T.step t.old).images next)) }
+    ensures first { IfOk result (λ first. Shows (T.step t.new) (λ pages. BeginsWith pages next.child first)) }
+    ensures fault { IfErr result (HasCause (T.causes t.old t.new) (T.step t.new) (BreaksBeside (T.step t.new).images next) (BarsBeside (T.step t.new) next)) }
 {
     let found = leaf_below(t, next.child, next.above, &Cut::Start)?;
     if found.entries.len() == 0 {
@@ -114,13 +108,10 @@ fn first_below<T: Pages>(t: &mut T, next: Neighbour) -> Result<Entry, TreeFault>
 // The last entry below a child beside the way.
 fn last_below<T: Pages>(t: &mut T, previous: Neighbour) -> Result<Entry, TreeFault>
     requires { 6 ≤ reaches (T.step t.old) }
-    ensures images { (T.step t.new).images ≡ (T.step t.old).images }
-    ensures spares { (T.step t.new).spares ≡ (T.step t.old).spares }
-    ensures step { (T.step t.new).most_reached ≡ (T.step t.old).most_reached }
+    ensures calls { OnlyReaches T.Pages t.old t.new }
     ensures reaches { reaches (T.step t.old) ≤ reaches (T.step t.new) + 6 }
-    ensures changes { IsStill (T.step t.old) (T.step t.new) }
-    ensures last { IfOk result (EndsWith (T.step t.old).images previous.child) }
-    ensures fault { IfErr result (HasCause (T.step t.new).refusal (BreaksBeside (T.step t.old).images previous)) }
+    ensures last { IfOk result (λ last. Shows (T.step t.new) (λ pages. EndsWith pages previous.child last)) }
+    ensures fault { IfErr result (HasCause (T.causes t.old t.new) (T.step t.new) (BreaksBeside (T.step t.new).images previous) (BarsBeside (T.step t.new) previous)) }
 {
     let found = leaf_below(t, previous.child, previous.above, &Cut::End)?;
     let count = found.entries.len();
@@ -142,15 +133,12 @@ fn cut_after(after: Option<&Key>) -> Cut
 
 /// The entry with the least later key. Any key is later than none.
 pub fn next_after<T: Pages>(t: &mut T, after: Option<&Key>) -> Result<Option<Entry>, TreeFault>
-    requires { 80 ≤ reaches (T.step t.old) }
-    ensures images { (T.step t.new).images ≡ (T.step t.old).images }
-    ensures spares { (T.step t.new).spares ≡ (T.step t.old).spares }
-    ensures step { (T.step t.new).most_reached ≡ (T.step t.old).most_reached }
+    requires { MOST_REACHED ≤ reaches (T.step t.old) }
+    ensures calls { OnlyReaches T.Pages t.old t.new }
     ensures reaches { reaches (T.step t.old) ≤ reaches (T.step t.new) + 12 }
-    ensures changes { IsStill (T.step t.old) (T.step t.new) }
-    ensures found { IfOk result (λ found. (height : ℕ) → IsTree (T.step t.old).images height
+    ensures found { IfOk result (λ found. T.trusted t.new → (height : ℕ) → IsTree (T.step t.old).images height
         → found ≡ entry_after (option_copied after.entry) (table_of (T.step t.old).images height)) }
-    ensures fault { IfErr result (HasCause (T.step t.new).refusal (BreaksTable (T.step t.old).images)) }
+    ensures fault { IfErr result (HasCause (T.causes t.old t.new) (T.step t.new) (BreaksTable (T.step t.new).images) (BarsTable (T.step t.new))) }
 {
     let cut = cut_after(after);
     let found = leaf_below(t, top(), 0, &cut)?;
@@ -165,14 +153,11 @@ pub fn next_after<T: Pages>(t: &mut T, after: Option<&Key>) -> Result<Option<Ent
 
 /// The entry with the highest version of a name.
 pub fn highest<T: Pages>(t: &mut T, name: &FileName) -> Result<Option<Entry>, TreeFault>
-    requires { 80 ≤ reaches (T.step t.old) }
-    ensures images { (T.step t.new).images ≡ (T.step t.old).images }
-    ensures spares { (T.step t.new).spares ≡ (T.step t.old).spares }
-    ensures step { (T.step t.new).most_reached ≡ (T.step t.old).most_reached }
+    requires { MOST_REACHED ≤ reaches (T.step t.old) }
+    ensures calls { OnlyReaches T.Pages t.old t.new }
     ensures reaches { reaches (T.step t.old) ≤ reaches (T.step t.new) + 12 }
-    ensures changes { IsStill (T.step t.old) (T.step t.new) }
-    ensures found { IfOk result (λ found. (height : ℕ) → IsTree (T.step t.old).images height → found ≡ highest_of name.now (table_of (T.step t.old).images height)) }
-    ensures fault { IfErr result (HasCause (T.step t.new).refusal (BreaksTable (T.step t.old).images)) }
+    ensures found { IfOk result (λ found. T.trusted t.new → (height : ℕ) → IsTree (T.step t.old).images height → found ≡ highest_of name.now (table_of (T.step t.old).images height)) }
+    ensures fault { IfErr result (HasCause (T.causes t.old t.new) (T.step t.new) (BreaksTable (T.step t.new).images) (BarsTable (T.step t.new))) }
 {
     let cut = Cut::Named(name.copied());
     let found = leaf_below(t, top(), 0, &cut)?;

@@ -1,14 +1,15 @@
 //! Taking entries out.
 ghost use Rattle.std.specs.Prelude.{◌≡◌, ◌+◌, ◌*◌, ◌≤◌, ℕ, OnOk, OnErr, IfOk, IfErr, length, true};
-ghost use Rattle.fsd_table.specs.Table.{BreaksTable};
 ghost use Rattle.fsd_table.specs.Tree.{table_of};
-ghost use Rattle.name_btree.specs.Draft.{IsDraft, RemovesFrom, images_of};
-ghost use Rattle.name_btree.specs.Fault.{HasCause, BreaksTree};
+ghost use Rattle.name_btree.specs.Draft.{drafted, IsDraft, RemovesFrom};
+ghost use Rattle.name_btree.specs.Fault.{FailsBy, FailsTable, IsNoTree};
 ghost use Rattle.name_btree.specs.Map.{IsTable, HasTable};
 ghost use Rattle.name_btree.specs.Remove.{IsTrimmedBelow, BreaksAround, IsRootLeft};
-ghost use Rattle.name_btree.specs.Still.{IsStill, LeavesStep};
+ghost use Rattle.name_btree.specs.Still.{LeavesStep};
 ghost use Rattle.name_btree.specs.Trim.{MayHave, IsLeft, sheets_below};
-ghost use Rattle.name_node.specs.Edits.{without};
+ghost use Rattle.name_page.specs.Edits.{without};
+ghost use Rattle.name_page.specs.declared.pages.TheConstants.{MOST_CHANGED, MOST_REACHED};
+ghost use Rattle.name_page.specs.Looks.{OnlyReaches, OnlyEdits, OnlyWalks, Shows};
 ghost use Rattle.name_page.specs.Pages.{reaches, changes, is_spare, IsReached};
 
 use crate::draft::Draft;
@@ -19,24 +20,21 @@ use crate::trimming::{Trimmed, take_over, trim_above, trim_leaf};
 use crate::walking::child_at;
 use fsd_bytes::Key;
 use fsd_table::Child;
-use name_node::{Cut, Node, entries_without, ways_before};
-use name_page::Pages;
+use name_page::{Cut, Node, Pages, entries_without, ways_before};
 
 /// Takes the entry with a key out. Where no entry has the key, the table stays. It takes no page. Where it answers Broken it
 /// has walked all pages up to that one, and the step has ended.
 pub fn remove<T: Pages>(t: &mut T, key: &Key) -> Result<(), TreeFault>
-    requires more { 80 ≤ reaches (T.step t.old) }
-    requires changes { 40 ≤ changes (T.step t.old) }
-    ensures images { OnErr result ((T.step t.new).images ≡ (T.step t.old).images) }
-    ensures spares { OnErr result ((T.step t.new).spares ≡ (T.step t.old).spares) }
-    ensures step { (T.step t.new).most_reached ≡ (T.step t.old).most_reached }
-    ensures most { (T.step t.new).most_changed ≡ (T.step t.old).most_changed }
+    requires more { MOST_REACHED ≤ reaches (T.step t.old) }
+    requires changes { MOST_CHANGED ≤ changes (T.step t.old) }
+    ensures calls { OnlyEdits T.Pages t.old t.new }
+    ensures kept { OnErr result (OnlyWalks T.Pages t.old t.new) }
     ensures reaches { reaches (T.step t.old) ≤ reaches (T.step t.new) + 12 }
-    ensures left { IfErr result (LeavesStep (T.step t.old) (T.step t.new)) }
+    ensures left { IfErr result (LeavesStep T.Pages t.old t.new) }
     ensures changes { changes (T.step t.old) ≤ changes (T.step t.new) + 8 }
     ensures taken { (page : ℕ) → is_spare (T.step t.old).spares page ≡ true → is_spare (T.step t.new).spares page ≡ true }
-    ensures removed { OnOk result ((height : ℕ) → IsTable (T.step t.old) height → HasTable (T.step t.new) (without key.now (table_of (T.step t.old).images height))) }
-    ensures fault { IfErr result (HasCause (T.step t.new).refusal (BreaksTable (T.step t.old).images)) }
+    ensures removed { OnOk result (T.trusted t.new → (height : ℕ) → IsTable (T.step t.old) height → HasTable (T.step t.new) (without key.now (table_of (T.step t.old).images height))) }
+    ensures fault { IfErr result (FailsTable T.Pages t.old t.new) }
 {
     let mut draft = Draft::new();
     if let Err(fault) = remove_in(t, &mut draft, key) {
@@ -52,16 +50,13 @@ pub(crate) fn remove_in<T: Pages>(t: &mut T, draft: &mut Draft, key: &Key) -> Re
     requires draft { IsDraft (T.step t.old) draft.old }
     requires room { length draft.old.sheets.items ≤ 32 }
     requires free { length draft.old.freed.items ≤ 14 }
-    ensures images { (T.step t.new).images ≡ (T.step t.old).images }
-    ensures spares { (T.step t.new).spares ≡ (T.step t.old).spares }
-    ensures step { (T.step t.new).most_reached ≡ (T.step t.old).most_reached }
+    ensures calls { OnlyReaches T.Pages t.old t.new }
     ensures reaches { reaches (T.step t.old) ≤ reaches (T.step t.new) + 12 }
-    ensures changes { IsStill (T.step t.old) (T.step t.new) }
     ensures draft { OnOk result (IsDraft (T.step t.new) draft.new) }
     ensures sheets { OnOk result (length draft.new.sheets.items ≤ length draft.old.sheets.items + 8) }
     ensures freed { OnOk result (length draft.new.freed.items ≤ length draft.old.freed.items + 6) }
-    ensures removed { OnOk result (RemovesFrom (T.step t.old) draft.old draft.new key.now) }
-    ensures fault { IfErr result (HasCause (T.step t.new).refusal (BreaksTree (images_of draft.old (T.step t.old)))) }
+    ensures removed { OnOk result (Shows (T.step t.new) (λ pages. RemovesFrom pages draft.old draft.new key.now)) }
+    ensures fault { IfErr result (FailsBy (T.causes t.old t.new) (T.step t.new) (λ pages page. IsNoTree (drafted draft.old.sheets.items pages))) }
 {
     match remove_below(t, draft, &top(), key, 5)? {
         Trimmed::Whole => Ok(()),
@@ -83,20 +78,16 @@ fn remove_below<T: Pages>(
     requires draft { IsDraft (T.step t.old) draft.old }
     requires room { length draft.old.sheets.items + levels ≤ 38 }
     requires free { length draft.old.freed.items + levels ≤ 20 }
-    ensures images { (T.step t.new).images ≡ (T.step t.old).images }
-    ensures spares { (T.step t.new).spares ≡ (T.step t.old).spares }
-    ensures step { (T.step t.new).most_reached ≡ (T.step t.old).most_reached }
+    ensures calls { OnlyReaches T.Pages t.old t.new }
     ensures reaches { reaches (T.step t.old) ≤ reaches (T.step t.new) + (2 * levels + 1) }
-    ensures changes { IsStill (T.step t.old) (T.step t.new) }
-    ensures kept { (q : ℕ) → IsReached (T.step t.old) q → IsReached (T.step t.new) q }
     ensures draft { OnOk result (IsDraft (T.step t.new) draft.new) }
     ensures sheets { IfOk result (λ left. length draft.new.sheets.items ≤ length draft.old.sheets.items + sheets_below levels left) }
     ensures freed { OnOk result (length draft.new.freed.items ≤ length draft.old.freed.items + levels) }
     ensures page { OnOk result (MayHave (T.step t.new) child.now.page) }
     ensures left { IfOk result (IsLeft (length (T.step t.old).images) child.now) }
     ensures root { IfOk result (IsRootLeft child.now.page) }
-    ensures trimmed { IfOk result (IsTrimmedBelow key.now (images_of draft.old (T.step t.old)) (images_of draft.new (T.step t.old)) draft.old.freed.items draft.new.freed.items levels child.now) }
-    ensures fault { IfErr result (HasCause (T.step t.new).refusal (BreaksAround key.now (images_of draft.old (T.step t.old)) levels child.now)) }
+    ensures trimmed { IfOk result (λ left. Shows (T.step t.new) (λ pages. IsTrimmedBelow key.now (drafted draft.old.sheets.items pages) (drafted draft.new.sheets.items pages) draft.old.freed.items draft.new.freed.items levels child.now left)) }
+    ensures fault { IfErr result (FailsBy (T.causes t.old t.new) (T.step t.new) (λ pages. BreaksAround key.now (drafted draft.old.sheets.items pages) levels child.now)) }
 {
     match draft.child_node(t, child)? {
         Node::Leaf(entries) => {

@@ -1,13 +1,14 @@
 //! Replacing an entry.
 ghost use Rattle.std.specs.Prelude.{◌≡◌, ◌≤◌, ◌+◌, ℕ, IsTrue, IfErr, OnErr, OnOk, true, false, map};
 ghost use Rattle.fsd_formats.specs.NamePage.{is_entry, FitsEntry};
-ghost use Rattle.fsd_table.specs.Table.{BreaksTable};
 ghost use Rattle.fsd_table.specs.Tree.{IsTree, table_of};
-ghost use Rattle.name_btree.specs.Fault.{HasCause};
+ghost use Rattle.name_btree.specs.Fault.{FailsTable};
 ghost use Rattle.name_btree.specs.Map.{IsTable, HasTable};
-ghost use Rattle.name_node.specs.Edits.{put};
+ghost use Rattle.name_page.specs.Edits.{put};
 ghost use Rattle.name_btree.specs.Replace.{HasAsLong, HasEdit, WritesOne};
 ghost use Rattle.name_btree.specs.Still.{LeavesStep};
+ghost use Rattle.name_page.specs.declared.pages.TheConstants.{MOST_CHANGED, MOST_REACHED};
+ghost use Rattle.name_page.specs.Looks.{OnlyEdits, OnlyWalks};
 ghost use Rattle.name_page.specs.Pages.{reaches, changes};
 
 use crate::descent::leaf_below;
@@ -16,8 +17,7 @@ use crate::lookup::{entry_in, top};
 use crate::searching::fault_of;
 use crate::writing::put_leaf;
 use fsd_formats::Entry;
-use name_node::{Cut, Entries, put_among};
-use name_page::{Pages, entry_len};
+use name_page::{Cut, Entries, Pages, entry_len, put_among};
 
 // Whether an entry with the key is there, and takes as many bytes.
 fn has_as_long(entries: &Entries, entry: &Entry) -> bool
@@ -33,22 +33,20 @@ fn has_as_long(entries: &Entries, entry: &Entry) -> bool
 /// Puts an entry in place of the one with its key, which takes as many bytes. Where it answers Broken it has walked all pages
 /// up to that one, and the step has ended.
 pub fn replace_same_size<T: Pages>(t: &mut T, entry: &Entry) -> Result<(), TreeFault>
-    requires more { 80 ≤ reaches (T.step t.old) }
-    requires changes { 40 ≤ changes (T.step t.old) }
+    requires more { MOST_REACHED ≤ reaches (T.step t.old) }
+    requires changes { MOST_CHANGED ≤ changes (T.step t.old) }
     requires entry { IsTrue (is_entry entry.now) }
     requires fits { FitsEntry entry.now }
-    requires present { (height : ℕ) → IsTree (T.step t.old).images height → HasAsLong entry.now (table_of (T.step t.old).images height) }
-    ensures images { OnErr result ((T.step t.new).images ≡ (T.step t.old).images) }
-    ensures spares { (T.step t.new).spares ≡ (T.step t.old).spares }
-    ensures step { (T.step t.new).most_reached ≡ (T.step t.old).most_reached }
+    requires present { T.trusted t.old → (height : ℕ) → IsTree (T.step t.old).images height → HasAsLong entry.now (table_of (T.step t.old).images height) }
+    ensures calls { OnlyEdits T.Pages t.old t.new }
+    ensures kept { OnErr result (OnlyWalks T.Pages t.old t.new) }
+    ensures written { OnOk result (WritesOne T.Pages t.old t.new) }
     ensures reaches { reaches (T.step t.old) ≤ reaches (T.step t.new) + 6 }
-    ensures most { (T.step t.new).most_changed ≡ (T.step t.old).most_changed }
-    ensures left { IfErr result (LeavesStep (T.step t.old) (T.step t.new)) }
-    ensures written { OnOk result (WritesOne (T.step t.old) (T.step t.new)) }
+    ensures left { IfErr result (LeavesStep T.Pages t.old t.new) }
     // Of each tree, also beside pages that are not spare, comes one of the same height and pages.
-    ensures tree { OnOk result ((height : ℕ) → IsTree (T.step t.old).images height → HasEdit (map (put entry.now)) (T.step t.old).images (T.step t.new).images height) }
-    ensures replaced { OnOk result ((height : ℕ) → IsTable (T.step t.old) height → HasTable (T.step t.new) (map (put entry.now) (table_of (T.step t.old).images height))) }
-    ensures fault { IfErr result (HasCause (T.step t.new).refusal (BreaksTable (T.step t.old).images)) }
+    ensures tree { OnOk result (T.trusted t.new → (height : ℕ) → IsTree (T.step t.old).images height → HasEdit (map (put entry.now)) (T.step t.old).images (T.step t.new).images height) }
+    ensures replaced { OnOk result (T.trusted t.new → (height : ℕ) → IsTable (T.step t.old) height → HasTable (T.step t.new) (map (put entry.now) (table_of (T.step t.old).images height))) }
+    ensures fault { IfErr result (FailsTable T.Pages t.old t.new) }
 {
     let found = match leaf_below(t, top(), 0, &Cut::UpTo(entry.key.copied())) {
         Ok(found) => found,

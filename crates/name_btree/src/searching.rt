@@ -1,52 +1,57 @@
 //! The search for the page that breaks a table.
 ghost use Rattle.std.specs.Prelude.{◌≡◌, ◌<◌, ◌≤◌};
-ghost use Rattle.fsd_table.specs.Table.{BreaksTable};
-ghost use Rattle.name_btree.specs.Fault.{HasCause, IsNoTree, BreaksTree};
+ghost use Rattle.name_btree.specs.Fault.{FailsTable, FailsTree, IsNoUsedTree, is_inner};
 ghost use Rattle.name_btree.specs.Still.{EndsStep, LeavesStep};
+ghost use Rattle.name_page.specs.Looks.{OnlyWalks};
 ghost use Rattle.name_page.specs.Pages.{reaches, changes};
 
 use crate::fault::TreeFault;
 use crate::walking::walk;
+use fsd_bytes::Refusal;
 use name_page::Pages;
 
-// Walks over the pages of what is no tree, up to one that breaks the table. The step ends.
+// Walks over the pages of what is no tree, up to one that breaks the table or is spare. The step ends. Where no walk meets
+// one, the pages were other ones before, and page 0 is named.
 fn search<T: Pages>(t: &mut T) -> TreeFault
     requires more { 0 < (T.step t.old).most_reached }
-    requires broken { IsNoTree (T.step t.old).images }
-    ensures images { (T.step t.new).images ≡ (T.step t.old).images }
-    ensures spares { (T.step t.new).spares ≡ (T.step t.old).spares }
-    ensures step { (T.step t.new).most_reached ≡ (T.step t.old).most_reached }
-    ensures most { (T.step t.new).most_changed ≡ (T.step t.old).most_changed }
+    ensures calls { OnlyWalks T.Pages t.old t.new }
     ensures ended { EndsStep (T.step t.new) result }
-    ensures cause { HasCause (T.step t.new).refusal (BreaksTable (T.step t.old).images) result }
+    ensures cause { (T.trusted t.old → IsNoUsedTree (T.step t.old)) → FailsTable T.Pages t.old t.new result }
 {
     let mut reached = [false; 4096];
     let pages = t.count() as usize;
     match walk(t, &mut reached[..pages]) {
-        Ok(_) => unreachable!(),
         Err(TreeFault::Pages(refusal)) => TreeFault::Pages(refusal),
         Err(TreeFault::Broken(page)) => {
             t.rest();
             TreeFault::Broken(page)
         }
+        Ok(_) => {
+            t.rest();
+            TreeFault::Broken(0)
+        }
     }
 }
 
-/// Why a call fails. Where it has met what no tree has, a page that breaks the table is searched for and named.
+// Whether the pages have a fault, and not the outside.
+fn is_inner(fault: TreeFault) -> bool
+    ensures { result ≡ is_inner fault }
+{
+    matches!(
+        fault,
+        TreeFault::Broken(_) | TreeFault::Pages(Refusal::Unsound(_))
+    )
+}
+
+/// Why a call fails. Where it has met what no tree has, or a page that is spare, a page that breaks the table or is spare is
+/// searched for and named.
 pub(crate) fn fault_of<T: Pages>(t: &mut T, fault: TreeFault) -> TreeFault
     requires more { 0 < (T.step t.old).most_reached }
-    requires cause { HasCause (T.step t.old).refusal (BreaksTree (T.step t.old).images) fault }
-    ensures images { (T.step t.new).images ≡ (T.step t.old).images }
-    ensures spares { (T.step t.new).spares ≡ (T.step t.old).spares }
-    ensures step { (T.step t.new).most_reached ≡ (T.step t.old).most_reached }
-    ensures most { (T.step t.new).most_changed ≡ (T.step t.old).most_changed }
+    ensures calls { OnlyWalks T.Pages t.old t.new }
     ensures reaches { reaches (T.step t.old) ≤ reaches (T.step t.new) }
     ensures changes { changes (T.step t.old) ≤ changes (T.step t.new) }
-    ensures left { LeavesStep (T.step t.old) (T.step t.new) result }
-    ensures cause { HasCause (T.step t.new).refusal (BreaksTable (T.step t.old).images) result }
+    ensures left { (first : T) → FailsTree T.Pages first t.old fault → LeavesStep T.Pages t.old t.new result }
+    ensures cause { (first : T) → T.outside first t.old → FailsTree T.Pages first t.old fault → FailsTable T.Pages first t.new result }
 {
-    match fault {
-        TreeFault::Pages(refusal) => TreeFault::Pages(refusal),
-        TreeFault::Broken(_) => search(t),
-    }
+    if is_inner(fault) { search(t) } else { fault }
 }

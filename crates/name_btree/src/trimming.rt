@@ -6,14 +6,15 @@ ghost use Rattle.fsd_formats.specs.NamePage.{is_page, FitsEntry, FitsSeparator};
 ghost use Rattle.fsd_formats.specs.NamePage as grammar;
 ghost use Rattle.fsd_table.specs.Pages.{page_at, children, entry_keys, separator_keys};
 ghost use Rattle.name_btree.specs.declared.trimming.Trimmed.TheVariants.{Whole};
-ghost use Rattle.name_btree.specs.Draft.{IsDraft, IsDrafted, images_of, with_freed};
-ghost use Rattle.name_btree.specs.Fault.{HasCause};
+ghost use Rattle.name_btree.specs.Draft.{drafted, IsDraft, IsDrafted, with_freed};
+ghost use Rattle.name_btree.specs.Fault.{FailsBy};
 ghost use Rattle.name_btree.specs.Remove.{IsRootLeft};
-ghost use Rattle.name_btree.specs.Still.{IsStill};
-ghost use Rattle.name_btree.specs.Trim.{used_by, child_of, AreEntries, AreWays, MayHave, IsOpened, AreFewEntries, AreFewWays, IsLeafPut, AreWaysPut, IsPair, pair_fits, IsBetween, separators_joined, separators_shared, AreLeavesMended, AreWaysMended, entries_at, ways_at, first_at, right_at, is_behind, LeafIsMended, WayIsMended, HasNoLeaf, HasNoWays, IsLeft, IsMended, IsUnlike, IsTakenOver};
-ghost use Rattle.name_node.specs.declared.node.Node.TheVariants.{Free};
-ghost use Rattle.name_node.specs.Node.{content_of};
-ghost use Rattle.name_page.specs.Pages.{reaches, IsReached};
+ghost use Rattle.name_btree.specs.Trim.{IsFreeOrNone, used_by, child_of, AreEntries, AreWays, MayHave, IsOpened, AreFewEntries, AreFewWays, IsLeafPut, AreWaysPut, IsPair, pair_fits, IsBetween, separators_joined, separators_shared, AreLeavesMended, AreWaysMended, entries_at, ways_at, first_at, right_at, is_behind, LeafIsMended, WayIsMended, HasNoLeaf, HasNoWays, IsLeft, IsMended, IsUnlike, IsTakenOver};
+ghost use Rattle.name_page.specs.declared.node.Node.TheVariants.{Free};
+ghost use Rattle.name_page.specs.Node.{content_of};
+ghost use Rattle.name_page.specs.declared.pages.TheConstants.{MOST_CHANGED};
+ghost use Rattle.name_page.specs.Looks.{OnlyReaches, Shows};
+ghost use Rattle.name_page.specs.Pages.{reaches, with_images, IsReached};
 
 use crate::draft::Draft;
 use crate::fault::TreeFault;
@@ -21,11 +22,10 @@ use crate::walking::child_at;
 use fsd_bytes::Key;
 use fsd_formats::{Entry, Separator};
 use fsd_table::Child;
-use name_node::{
-    Entries, EntryList, JoinedList, Node, SeparatorList, Ways, WideList, joined, joined_ways,
-    leaf_cut, listed, listed_ways, used, ways_replaced, ways_without,
+use name_page::{
+    Entries, EntryList, JoinedList, Node, Pages, SeparatorList, Ways, WideList, joined,
+    joined_ways, leaf_cut, listed, listed_ways, used, ways_replaced, ways_without,
 };
-use name_page::Pages;
 
 /// What is left of a page: it has all of it, or it is too little for a page.
 #[derive(Drop)]
@@ -57,7 +57,7 @@ pub(crate) fn trim_leaf<T: Pages>(
     page: u32,
     entries: EntryList,
 ) -> Trimmed
-    requires room { length draft.old.sheets.items < 40 }
+    requires room { length draft.old.sheets.items < MOST_CHANGED }
     requires draft { IsDraft (T.step t.now) draft.old }
     requires page { MayHave (T.step t.now) page }
     requires entries { AreEntries entries.items }
@@ -82,7 +82,7 @@ fn trim_ways<T: Pages>(
     first: u32,
     separators: SeparatorList,
 ) -> Trimmed
-    requires room { length draft.old.sheets.items < 40 }
+    requires room { length draft.old.sheets.items < MOST_CHANGED }
     requires draft { IsDraft (T.step t.now) draft.old }
     requires page { MayHave (T.step t.now) page }
     requires ways { AreWays (length (T.step t.now).images) first separators.items }
@@ -124,7 +124,7 @@ fn pair_with(ways: &Ways, i: u32, above: &Child) -> Pair
 
 // The second of a pair goes, and the separator between them.
 fn join_pair<T: Pages>(t: &T, draft: &mut Draft, above: &Child, ways: &Ways, pair: Pair) -> Trimmed
-    requires room { length draft.old.sheets.items < 40 }
+    requires room { length draft.old.sheets.items < MOST_CHANGED }
     requires freed { length draft.old.freed.items < 20 }
     requires draft { IsDraft (T.step t.now) draft.old }
     requires page { MayHave (T.step t.now) above.now.page }
@@ -154,7 +154,7 @@ fn share_pair<T: Pages>(
     pair: Pair,
     key: Key,
 ) -> Trimmed
-    requires room { length draft.old.sheets.items < 40 }
+    requires room { length draft.old.sheets.items < MOST_CHANGED }
     requires draft { IsDraft (T.step t.now) draft.old }
     requires page { MayHave (T.step t.now) above.now.page }
     requires right { IsReached (T.step t.now) pair.right }
@@ -286,15 +286,11 @@ pub(crate) fn mend_leaf<T: Pages>(
     requires within { i ≤ length ways.now.1 }
     requires below { MayHave (T.step t.old) (child_of above.now ways.now.0 ways.now.1 i).page }
     requires few { AreFewEntries (child_of above.now ways.now.0 ways.now.1 i) few.now.items }
-    ensures images { (T.step t.new).images ≡ (T.step t.old).images }
-    ensures spares { (T.step t.new).spares ≡ (T.step t.old).spares }
-    ensures step { (T.step t.new).most_reached ≡ (T.step t.old).most_reached }
+    ensures calls { OnlyReaches T.Pages t.old t.new }
     ensures reaches { reaches (T.step t.old) ≤ reaches (T.step t.new) + 1 }
-    ensures changes { IsStill (T.step t.old) (T.step t.new) }
-    ensures kept { (q : ℕ) → IsReached (T.step t.old) q → IsReached (T.step t.new) q }
     ensures draft { OnOk result (IsDraft (T.step t.new) draft.new) }
-    ensures mended { IfOk result (LeafIsMended (T.step t.new) draft.old draft.new above.now ways.now.0 ways.now.1 i few.now.items) }
-    ensures fault { IfErr result (HasCause (T.step t.new).refusal (HasNoLeaf (images_of draft.old (T.step t.old)) (children ways.now.0 above.now.low above.now.high ways.now.1) i)) }
+    ensures mended { IfOk result (λ left. Shows (T.step t.new) (λ pages. LeafIsMended (with_images pages (T.step t.new)) draft.old draft.new above.now ways.now.0 ways.now.1 i few.now.items left)) }
+    ensures fault { IfErr result (FailsBy (T.causes t.old t.new) (T.step t.new) (λ pages. HasNoLeaf (drafted draft.old.sheets.items pages) (children ways.now.0 above.now.low above.now.high ways.now.1) i)) }
 {
     let neighbour = child_at(ways, neighbour_of(i), above);
     match draft.child_node(t, &neighbour)? {
@@ -406,15 +402,11 @@ pub(crate) fn mend_ways<T: Pages>(
     requires within { i ≤ length ways.now.1 }
     requires below { MayHave (T.step t.old) (child_of above.now ways.now.0 ways.now.1 i).page }
     requires few { AreFewWays (length (T.step t.old).images) (child_of above.now ways.now.0 ways.now.1 i) first few.now.items }
-    ensures images { (T.step t.new).images ≡ (T.step t.old).images }
-    ensures spares { (T.step t.new).spares ≡ (T.step t.old).spares }
-    ensures step { (T.step t.new).most_reached ≡ (T.step t.old).most_reached }
+    ensures calls { OnlyReaches T.Pages t.old t.new }
     ensures reaches { reaches (T.step t.old) ≤ reaches (T.step t.new) + 1 }
-    ensures changes { IsStill (T.step t.old) (T.step t.new) }
-    ensures kept { (q : ℕ) → IsReached (T.step t.old) q → IsReached (T.step t.new) q }
     ensures draft { OnOk result (IsDraft (T.step t.new) draft.new) }
-    ensures mended { IfOk result (WayIsMended (T.step t.new) draft.old draft.new above.now ways.now.0 ways.now.1 i first few.now.items) }
-    ensures fault { IfErr result (HasCause (T.step t.new).refusal (HasNoWays (images_of draft.old (T.step t.old)) above.now ways.now.0 ways.now.1 i few.now.items)) }
+    ensures mended { IfOk result (λ left. Shows (T.step t.new) (λ pages. WayIsMended (with_images pages (T.step t.new)) draft.old draft.new above.now ways.now.0 ways.now.1 i first few.now.items left)) }
+    ensures fault { IfErr result (FailsBy (T.causes t.old t.new) (T.step t.new) (λ pages. HasNoWays (drafted draft.old.sheets.items pages) above.now ways.now.0 ways.now.1 i few.now.items)) }
 {
     let neighbour = child_at(ways, neighbour_of(i), above);
     let pair = pair_with(ways, i, above);
@@ -448,15 +440,11 @@ pub(crate) fn trim_above<T: Pages>(
     requires within { i ≤ length ways.now.1 }
     requires below { MayHave (T.step t.old) (child_of above.now ways.now.0 ways.now.1 i).page }
     requires left { IsLeft (length (T.step t.old).images) (child_of above.now ways.now.0 ways.now.1 i) below }
-    ensures images { (T.step t.new).images ≡ (T.step t.old).images }
-    ensures spares { (T.step t.new).spares ≡ (T.step t.old).spares }
-    ensures step { (T.step t.new).most_reached ≡ (T.step t.old).most_reached }
+    ensures calls { OnlyReaches T.Pages t.old t.new }
     ensures reaches { reaches (T.step t.old) ≤ reaches (T.step t.new) + 1 }
-    ensures changes { IsStill (T.step t.old) (T.step t.new) }
-    ensures kept { (q : ℕ) → IsReached (T.step t.old) q → IsReached (T.step t.new) q }
     ensures draft { OnOk result (IsDraft (T.step t.new) draft.new) }
-    ensures mended { IfOk result (IsMended (T.step t.new) draft.old draft.new above.now ways.now.0 ways.now.1 i below) }
-    ensures fault { IfErr result (HasCause (T.step t.new).refusal (IsUnlike (images_of draft.old (T.step t.old)) above.now ways.now.0 ways.now.1 i below)) }
+    ensures mended { IfOk result (λ left. Shows (T.step t.new) (λ pages. IsMended (with_images pages (T.step t.new)) draft.old draft.new above.now ways.now.0 ways.now.1 i below left)) }
+    ensures fault { IfErr result (FailsBy (T.causes t.old t.new) (T.step t.new) (λ pages. IsUnlike (drafted draft.old.sheets.items pages) above.now ways.now.0 ways.now.1 i below)) }
 {
     match below {
         Trimmed::Whole => Ok(Trimmed::Whole),
@@ -467,7 +455,7 @@ pub(crate) fn trim_above<T: Pages>(
 
 // Page 0 has what another page has.
 fn put_on_top<T: Pages>(t: &T, draft: &mut Draft, node: &Node)
-    requires room { length draft.old.sheets.items < 40 }
+    requires room { length draft.old.sheets.items < MOST_CHANGED }
     requires draft { IsDraft (T.step t.now) draft.old }
     requires top { MayHave (T.step t.now) 0 }
     requires some { node.now ≢ Free }
@@ -489,19 +477,16 @@ fn put_on_top<T: Pages>(t: &T, draft: &mut Draft, node: &Node)
 /// Page 0 takes over what its only child has.
 pub(crate) fn take_over<T: Pages>(t: &mut T, draft: &mut Draft, child: u32) -> Result<(), TreeFault>
     requires more { 0 < reaches (T.step t.old) }
-    requires room { length draft.old.sheets.items < 40 }
+    requires room { length draft.old.sheets.items < MOST_CHANGED }
     requires free { length draft.old.freed.items < 20 }
     requires draft { IsDraft (T.step t.old) draft.old }
     requires top { MayHave (T.step t.old) 0 }
     requires within { child < length (T.step t.old).images }
-    ensures images { (T.step t.new).images ≡ (T.step t.old).images }
-    ensures spares { (T.step t.new).spares ≡ (T.step t.old).spares }
-    ensures step { (T.step t.new).most_reached ≡ (T.step t.old).most_reached }
+    ensures calls { OnlyReaches T.Pages t.old t.new }
     ensures reaches { reaches (T.step t.old) ≤ reaches (T.step t.new) + 1 }
-    ensures changes { IsStill (T.step t.old) (T.step t.new) }
     ensures draft { OnOk result (IsDraft (T.step t.new) draft.new) }
-    ensures taken { OnOk result (IsTakenOver (T.step t.new) draft.old draft.new child) }
-    ensures fault { IfErr result (HasCause (T.step t.new).refusal (λ page. page_at (images_of draft.old (T.step t.old)) child ≡ Some grammar.Free)) }
+    ensures taken { OnOk result (Shows (T.step t.new) (λ pages. IsTakenOver (with_images pages (T.step t.new)) draft.old draft.new child)) }
+    ensures fault { IfErr result (FailsBy (T.causes t.old t.new) (T.step t.new) (λ pages page. IsFreeOrNone (page_at (drafted draft.old.sheets.items pages) child))) }
 {
     let node = draft.node_at(t, child)?;
     if let Node::Free = node {

@@ -1,10 +1,10 @@
 //! The walk over all pages that page 0 leads to.
 ghost use Rattle.std.specs.Prelude.{◌≡◌, ◌<◌, ◌≤◌, IfOk, IfErr, [], ◌∷◌, Some, true, length, not, slice_get, slice_set, if◌then◌else◌};
 ghost use Rattle.fsd_table.specs.Pages.{children};
-ghost use Rattle.fsd_table.specs.Table.{BreaksTable};
-ghost use Rattle.name_btree.specs.Fault.{HasCause};
+ghost use Rattle.name_btree.specs.Fault.{FailsTable};
 ghost use Rattle.name_btree.specs.Still.{HasRefusal};
-ghost use Rattle.name_btree.specs.Walk.{AreMarksOf, is_marked, IsWalked, AreWalked, BreaksWalk, IsTopLevel, IsCounted};
+ghost use Rattle.name_btree.specs.Walk.{AreMarksOf, is_marked, IsWalked, AreWalked, FailsWalk, IsTopLevel, IsCounted};
+ghost use Rattle.name_page.specs.Looks.{OnlyWalks};
 ghost use Rattle.name_page.specs.Pages.{rested};
 
 use crate::child::child_node;
@@ -12,8 +12,7 @@ use crate::descent::{copied, end_of};
 use crate::fault::TreeFault;
 use crate::lookup::top;
 use fsd_table::Child;
-use name_node::{Node, Ways};
-use name_page::Pages;
+use name_page::{Node, Pages, Ways};
 
 // Child `i` of an interior page, counted from 0.
 pub(crate) fn child_at(ways: &Ways, i: u32, above: &Child) -> Child
@@ -52,12 +51,10 @@ fn is_new(reached: &mut [bool], page: u32) -> bool
 // The level of page 0, down the first children.
 pub(crate) fn top_level<T: Pages>(t: &mut T) -> Result<u32, TreeFault>
     requires { 0 < (T.step t.old).most_reached }
-    ensures images { (T.step t.new).images ≡ (T.step t.old).images }
-    ensures spares { (T.step t.new).spares ≡ (T.step t.old).spares }
-    ensures step { (T.step t.new).most_reached ≡ (T.step t.old).most_reached }
-    ensures most { (T.step t.new).most_changed ≡ (T.step t.old).most_changed }
-    ensures level { IfOk result (IsTopLevel (T.step t.old).images) }
-    ensures fault { IfErr result (HasCause (T.step t.new).refusal (BreaksTable (T.step t.old).images)) }
+    ensures calls { OnlyWalks T.Pages t.old t.new }
+    ensures low { IfOk result (λ level. level ≤ 5) }
+    ensures level { IfOk result (λ level. T.trusted t.new → IsTopLevel (T.step t.old).images level) }
+    ensures fault { IfErr result (FailsTable T.Pages t.old t.new) }
     ensures refused { IfErr result (HasRefusal (rested (T.step t.new)) (T.step t.new)) }
 {
     let mut child = top();
@@ -82,12 +79,9 @@ fn walk_below<T: Pages>(
 ) -> Result<u32, TreeFault>
     requires more { 0 < (T.step t.old).most_reached }
     requires level { level ≤ 5 }
-    ensures images { (T.step t.new).images ≡ (T.step t.old).images }
-    ensures spares { (T.step t.new).spares ≡ (T.step t.old).spares }
-    ensures step { (T.step t.new).most_reached ≡ (T.step t.old).most_reached }
-    ensures most { (T.step t.new).most_changed ≡ (T.step t.old).most_changed }
-    ensures walked { IfOk result (IsWalked level (T.step t.old).images child.now reached.old reached.new) }
-    ensures fault { IfErr result (HasCause (T.step t.new).refusal (BreaksWalk level (T.step t.old).images (child.now ∷ []) reached.old)) }
+    ensures calls { OnlyWalks T.Pages t.old t.new }
+    ensures walked { IfOk result (λ count. T.trusted t.new → IsWalked (T.step t.old).spares level (T.step t.old).images child.now reached.old reached.new count) }
+    ensures fault { IfErr result (FailsWalk T.Pages t.old t.new level (child.now ∷ []) reached.old) }
     ensures refused { IfErr result (HasRefusal (rested (T.step t.new)) (T.step t.new)) }
 {
     if !is_new(reached, child.page) {
@@ -112,18 +106,17 @@ fn walk_children<T: Pages>(
     requires more { 0 < (T.step t.old).most_reached }
     requires level { level ≤ 4 }
     requires few { length ways.now.1 ≤ 9 }
-    ensures images { (T.step t.new).images ≡ (T.step t.old).images }
-    ensures spares { (T.step t.new).spares ≡ (T.step t.old).spares }
-    ensures step { (T.step t.new).most_reached ≡ (T.step t.old).most_reached }
-    ensures most { (T.step t.new).most_changed ≡ (T.step t.old).most_changed }
-    ensures walked { IfOk result (AreWalked level (T.step t.old).images (children ways.now.0 above.now.low above.now.high ways.now.1) reached.old reached.new) }
-    ensures fault { IfErr result (HasCause (T.step t.new).refusal (BreaksWalk level (T.step t.old).images (children ways.now.0 above.now.low above.now.high ways.now.1) reached.old)) }
+    ensures calls { OnlyWalks T.Pages t.old t.new }
+    ensures walked { IfOk result (λ count. T.trusted t.new → AreWalked (T.step t.old).spares level (T.step t.old).images (children ways.now.0 above.now.low above.now.high ways.now.1) reached.old reached.new count) }
+    ensures fault { IfErr result (FailsWalk T.Pages t.old t.new level (children ways.now.0 above.now.low above.now.high ways.now.1) reached.old) }
     ensures refused { IfErr result (HasRefusal (rested (T.step t.new)) (T.step t.new)) }
 {
-    let mut count = 0;
+    let mut count = 0u32;
     for i in 0..ways.len() + 1 {
         let child = child_at(ways, i, above);
-        count += walk_below(t, &child, level, reached)?;
+        let more = walk_below(t, &child, level, reached)?;
+        // Pages of a tree have far fewer entries; others may be other ones each time that they are reached.
+        count = count.saturating_add(more);
     }
     Ok(count)
 }
@@ -134,12 +127,9 @@ pub fn walk<T: Pages>(t: &mut T, reached: &mut [bool]) -> Result<u32, TreeFault>
     requires more { 0 < (T.step t.old).most_reached }
     requires whole { length reached.old ≡ length (T.step t.old).images }
     requires clear { AreMarksOf [] reached.old }
-    ensures images { (T.step t.new).images ≡ (T.step t.old).images }
-    ensures spares { (T.step t.new).spares ≡ (T.step t.old).spares }
-    ensures step { (T.step t.new).most_reached ≡ (T.step t.old).most_reached }
-    ensures most { (T.step t.new).most_changed ≡ (T.step t.old).most_changed }
-    ensures counted { IfOk result (IsCounted (T.step t.old).images reached.new) }
-    ensures fault { IfErr result (HasCause (T.step t.new).refusal (BreaksTable (T.step t.old).images)) }
+    ensures calls { OnlyWalks T.Pages t.old t.new }
+    ensures counted { IfOk result (λ count. T.trusted t.new → IsCounted (T.step t.old) reached.new count) }
+    ensures fault { IfErr result (FailsTable T.Pages t.old t.new) }
     ensures refused { IfErr result (HasRefusal (rested (T.step t.new)) (T.step t.new)) }
 {
     let level = top_level(t)?;

@@ -1,6 +1,12 @@
+pub mod Cut
+pub mod Edits
 pub mod Fault
 pub mod Lends
+pub mod Looks
+pub mod Lookups
+pub mod Node
 pub mod Pages
+pub mod Parting
 pub mod Reading
 pub mod Spelling
 pub mod VecPages

@@ -1,27 +1,12 @@
 -- The pages of a name table, as the tree sees them, and what a step over them has done.
-use Rattle.std.specs.Prelude.{◌≡◌, ◌<◌, ℕ, ◌+◌, ◌-◌, ◌%◌, ◌^◌, Bool, true, false, ◌==◌, ◌||◌, if◌then◌else◌, IsTrue, List, [], ◌∷◌, ◌++◌, Option, Some, None, length, count_by, slice_set, slice_index_or, ⊤}
+use Rattle.std.specs.Prelude.{◌≡◌, ◌⊎◌, ◌<◌, ℕ, ◌+◌, ◌-◌, ◌%◌, ◌^◌, Bool, true, false, ◌==◌, ◌||◌, if◌then◌else◌, IsTrue, slice_get, List, [], ◌∷◌, ◌++◌, Option, Some, None, length, count_by, slice_set, slice_index_or}
 use Rattle.std.specs.List.{list_any}
 use Rattle.fsd_bytes.specs.declared.refusal.Refusal.{Refusal}
 use Rattle.fsd_bytes.specs.declared.refusal.Refusal.TheVariants.{Device, Lost, Unsound, Memory, NameTableFull}
+use Rattle.fsd_table.specs.Pages.{page_at}
 
 abbrev pub is_spare : List Bool → ℕ → Bool
 is_spare spare page = slice_index_or spare page false
-
--- the refusals of a page that is reached
-abbrev pub IsReachRefusal : Refusal → Type 0
-IsReachRefusal (Device s) = ⊤
-IsReachRefusal (Lost a b) = ⊤
-IsReachRefusal (Unsound s) = ⊤
-IsReachRefusal Memory = ⊤
-IsReachRefusal other = ⊥
-
--- the refusals of spare pages, with so many free
-abbrev pub IsSpareRefusal : ℕ → Refusal → Type 0
-IsSpareRefusal free (Device s) = ⊤
-IsSpareRefusal free (Lost a b) = ⊤
-IsSpareRefusal free (NameTableFull told) = told ≡ free
-IsSpareRefusal free Memory = ⊤
-IsSpareRefusal free other = ⊥
 
 -- ---- a step
 
@@ -68,10 +53,31 @@ IsReached s page = (page < length s.images) × IsTrue (is_one_of s.reached page 
 abbrev pub MayChange : Step → ℕ → Type 0
 MayChange s page = is_one_of s.changed page ≡ false → 0 < changes s
 
+-- ---- why pages are refused
+
+-- what has its cause outside: the disk, or want of memory
+abbrev pub IsOuter : Refusal → Type 0
+IsOuter refusal = ((s : ℕ) × (refusal ≡ Device s)) ⊎ (((a b : ℕ) × (refusal ≡ Lost a b)) ⊎ (refusal ≡ Memory))
+
+-- the page is spare, or the grammar refuses what it has
+abbrev pub IsBarred : Step → ℕ → Type 0
+IsBarred s page = (is_spare s.spares page ≡ true) ⊎ (page_at s.images page ≡ None)
+
+-- the refusals of a page that is reached, where those with this cause come from outside
+abbrev pub IsReachRefusal : (Refusal → Type 0) → Step → ℕ → Refusal → Type 0
+IsReachRefusal Outer s page refusal = Outer refusal ⊎ ((refusal ≡ Unsound (home_of s page)) × IsBarred s page)
+
+-- the refusals of so many spare pages
+abbrev pub IsSpareRefusal : (Refusal → Type 0) → (free n : ℕ) → Refusal → Type 0
+IsSpareRefusal Outer free n refusal = Outer refusal ⊎ ((refusal ≡ NameTableFull free) × (free < n))
+
 -- ---- what the calls make of a step
 
 abbrev pub with_one : List ℕ → ℕ → List ℕ
 with_one pages page = if is_one_of pages page then pages else pages ++ page ∷ []
+
+abbrev pub with_images : List (List ℕ) → Step → Step
+with_images images s = record s { images = images }
 
 abbrev pub with_refusal : Refusal → Step → Step
 with_refusal refusal s = record s { refusal = Some refusal }
@@ -93,3 +99,10 @@ with_spare page s = record s { spares = slice_set s.spares page true }
 
 abbrev pub rested : Step → Step
 rested s = first_step s.images s.spares s.home_a s.most_reached s.most_changed
+
+-- ---- what stays
+
+-- as many pages, and those that were reached are as they were
+pub record Keeps (s : Step) (images : List (List ℕ)) : Type 0 where
+  pub count : length images ≡ length s.images
+  pub reached : (page : ℕ) → IsReached s page → slice_get images page ≡ slice_get s.images page

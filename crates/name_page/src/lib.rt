@@ -1,25 +1,44 @@
-//! Pages of the name table as sectors: how they are spelled and read.
+//! Pages of the name table: how they are spelled and read, what they have as values, and steps over them.
 #![tactic(auto)]
 
 ghost use Rattle.std.specs.Prelude.{◌≡◌, ◌<◌, ◌≤◌, IfOk, IfSome, true, length, slice_set};
 ghost use Rattle.name_page.specs.Pages.{reaches, changes};
 ghost use Rattle.fsd_formats.specs.NamePage.{is_entry};
 
+mod cut;
+mod entries;
 mod fault;
+mod fits;
 mod laws;
 mod marks;
+mod node;
 mod pages;
+mod parting;
 mod reading;
 mod vec_pages;
+mod ways;
 mod writing;
 
+pub use cut::Cut;
+pub use entries::{
+    EntryList, JoinedList, Side, entries_with, entries_without, joined, listed, put_among, used,
+};
 pub use fault::{PageFault, read_page};
+pub use fits::node_fits;
 pub use fsd_formats::{Entry, Page, PageKind, Separator};
 pub use laws::pages_are_read;
-pub use pages::Pages;
+pub use node::{Entries, Node, Ways, node_in};
+pub use pages::{MOST_CHANGED, MOST_REACHED, Pages};
+pub use parting::{leaf_cut, middle};
 pub use reading::{first_child, leaf_entry, separator};
 pub use vec_pages::VecPages;
-pub use writing::{entry_len, stamp_page, write_free, write_interior, write_leaf};
+pub use ways::{
+    SeparatorList, WideList, joined_ways, listed_ways, ways_before, ways_replaced, ways_with,
+    ways_without,
+};
+pub use writing::{
+    entry_len, stamp_page, write_entries, write_free, write_interior, write_leaf, write_ways,
+};
 
 #[cfg(test)]
 mod tests {
@@ -86,7 +105,7 @@ mod tests {
         requires within { 0 < length (T.step t.old).images }
         requires reaches { 0 < reaches (T.step t.old) }
         requires changes { 0 < changes (T.step t.old) }
-        ensures { IfOk result (λ page. (T.step t.new).images ≡ slice_set (T.step t.old).images page bytes.now) }
+        ensures { IfOk result (λ page. T.trusted t.new → (T.step t.new).images ≡ slice_set (T.step t.old).images page bytes.now) }
     {
         t.reach(0)?;
         t.spare(1)?;
@@ -99,7 +118,7 @@ mod tests {
 
     // A table of three pages: an empty leaf, and two that are spare.
     fn table(alloc: Global) -> Result<VecPages, AllocError>
-        ensures { IfOk result (λ t. (length (⟦<VecPages as Pages>⟧.step t).images ≡ 3) × (reaches (⟦<VecPages as Pages>⟧.step t) ≡ 80) × (changes (⟦<VecPages as Pages>⟧.step t) ≡ 40)) }
+        ensures { IfOk result (λ t. (length (⟦<VecPages as Pages>⟧.step t).images ≡ 3) × (reaches (⟦<VecPages as Pages>⟧.step t) ≡ MOST_REACHED) × (changes (⟦<VecPages as Pages>⟧.step t) ≡ MOST_CHANGED)) }
     {
         let mut first = [0; 512];
         write_leaf(0, &[], &mut first);

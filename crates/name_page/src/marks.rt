@@ -2,6 +2,7 @@
 ghost use Rattle.std.specs.Prelude.{◌≡◌, ◌<◌, Some, false, length, count_by, position};
 ghost use Rattle.name_page.specs.Pages.{is_one_of, with_one};
 
+use crate::pages::MOST_CHANGED;
 use arrayvec::ArrayVec;
 
 // How many are true.
@@ -26,8 +27,8 @@ fn find_true(flags: &[bool]) -> Option<usize>
 }
 
 // Appends a page that is not there yet.
-pub(crate) fn put_one(pages: &mut ArrayVec<u32, 40>, page: u32)
-    requires { is_one_of pages.old.items page ≡ false → length pages.old.items < 40 }
+pub(crate) fn put_one(pages: &mut ArrayVec<u32, MOST_CHANGED>, page: u32)
+    requires { is_one_of pages.old.items page ≡ false → length pages.old.items < MOST_CHANGED }
     ensures { pages.new.items ≡ with_one pages.old.items page }
 {
     if !pages.as_slice().contains(&page) {

@@ -1,20 +1,39 @@
 //! The pages of a name table, which are reached and changed in steps.
 ghost use Rattle.std.specs.Prelude.{◌≡◌, ◌≢◌, ◌↔◌, ◌<◌, ◌≤◌, ℕ, List, Some, Err, true, false, IsSome, OnOk, IfErr, slice_get, length};
 ghost use Rattle.std.specs.Borrow.{sem};
+ghost use Rattle.fsd_bytes.specs.declared.refusal.Refusal.{Refusal};
 ghost use Rattle.fsd_table.specs.Pages.{page_at};
 ghost use Rattle.name_page.specs.Lends.{LendsPage};
-ghost use Rattle.name_page.specs.Pages.{is_spare, free_count, home_of, reaches, changes, Step, IsReached, IsReachRefusal, IsSpareRefusal, MayChange, with_refusal, with_reached, with_promise, with_page, with_taken, with_spare, rested};
+ghost use Rattle.name_page.specs.Pages.{is_spare, free_count, home_of, reaches, changes, Step, IsReached, IsOuter, IsReachRefusal, IsSpareRefusal, Keeps, MayChange, with_images, with_refusal, with_reached, with_promise, with_page, with_taken, with_spare, rested};
 
 use fsd_bytes::Refusal;
 
+/// How many pages a call of the table may reach in its step.
+pub const MOST_REACHED: usize = 80;
+
+/// How many pages a call of the table may change in its step.
+pub const MOST_CHANGED: usize = 40;
+
 /// Pages of a name table. Work over them goes in steps: a step first reaches the pages that it needs, and the spare ones
 /// that it may take, which may be refused; after that the other calls cannot fail.
+///
+/// What a step has reached stays as it was seen. Of the other pages the images are what the outside would give, so they
+/// stay only where it is trusted.
 pub trait Pages {
     /// The pages, and what this step has done with them.
     ghost step: { Self → Step };
 
     /// The pages with the bytes of one of them written.
     ghost written: { Self → ℕ → List ℕ → Self };
+
+    /// The outside gave pages as it is to, so far.
+    ghost trusted: { Self → Type 0 };
+
+    /// What has happened outside, between an old state and a new one.
+    ghost outside: { Self → Self → Type 0 };
+
+    /// What has happened outside, between an old state and a new one, is the cause of a refusal.
+    ghost causes: { Self → Self → Refusal → Type 0 };
 
     /// The number of pages of the table.
     fn count(&self) -> u32
@@ -24,19 +43,26 @@ pub trait Pages {
     fn reach(&mut self, page: u32) -> Result<(), Refusal>
         requires more { 0 < reaches (step self.old) }
         requires within { page < length (step self.old).images }
-        ensures step { OnOk result (step self.new ≡ with_reached page (step self.old)) }
+        ensures outside { outside self.old self.new }
+        ensures kept { Keeps (step self.old) (step self.new).images }
+        ensures stays { trusted self.new → (step self.new).images ≡ (step self.old).images }
+        ensures step { OnOk result (step self.new ≡ with_reached page (with_images (step self.new).images (step self.old))) }
         ensures reached { OnOk result (IsReached (step self.new) page) }
-        ensures accepted { OnOk result (IsSome (page_at (step self.old).images page)) }
+        ensures accepted { OnOk result (IsSome (page_at (step self.new).images page)) }
         ensures used { OnOk result (is_spare (step self.old).spares page ≡ false) }
         ensures spare { is_spare (step self.old).spares page ≡ true → result ≡ Err (Refusal.Unsound (home_of (step self.old) page)) }
-        ensures unsound { (sector : ℕ) → result ≡ Err (Refusal.Unsound sector) → sector ≡ home_of (step self.old) page }
-        ensures refused { IfErr result (λ refusal. (step self.new ≡ with_refusal refusal (step self.old)) × IsReachRefusal refusal) };
+        ensures refused { IfErr result (λ refusal. step self.new ≡ with_refusal refusal (with_images (step self.new).images (step self.old))) }
+        ensures cause { IfErr result (IsReachRefusal (causes self.old self.new) (step self.new) page) };
 
     /// Promises so many pages that may be taken, in place of what was promised before.
     fn spare(&mut self, n: u32) -> Result<(), Refusal>
-        ensures step { OnOk result (step self.new ≡ with_promise n (step self.old)) }
+        ensures outside { outside self.old self.new }
+        ensures kept { Keeps (step self.old) (step self.new).images }
+        ensures stays { trusted self.new → (step self.new).images ≡ (step self.old).images }
+        ensures step { OnOk result (step self.new ≡ with_promise n (with_images (step self.new).images (step self.old))) }
         ensures full { let free = free_count (step self.old) in (result ≡ Err (Refusal.NameTableFull free)) ↔ (free < n) }
-        ensures refused { IfErr result (λ refusal. (step self.new ≡ with_refusal refusal (step self.old)) × IsSpareRefusal (free_count (step self.old)) refusal) };
+        ensures refused { IfErr result (λ refusal. step self.new ≡ with_refusal refusal (with_images (step self.new).images (step self.old))) }
+        ensures cause { IfErr result (IsSpareRefusal (causes self.old self.new) (free_count (step self.old)) n) };
 
     /// The bytes of a page that was reached.
     fn look(&self, page: u32) -> &[u8; 512]
@@ -54,6 +80,7 @@ pub trait Pages {
     fn take(&mut self) -> u32
         requires promised { 0 < (step self.old).promised }
         requires more { 0 < changes (step self.old) }
+        ensures outside { outside self.old self.new }
         ensures spare { is_spare (step self.old).spares result ≡ true }
         ensures step { step self.new ≡ with_taken result (step self.old) }
         ensures reached { IsReached (step self.new) result };
@@ -63,14 +90,34 @@ pub trait Pages {
         requires reached { IsReached (step self.old) page }
         requires used { is_spare (step self.old).spares page ≡ false }
         requires root { page ≢ 0 }
-        ensures { step self.new ≡ with_spare page (step self.old) };
+        ensures outside { outside self.old self.new }
+        ensures step { step self.new ≡ with_spare page (step self.old) };
 
     /// Ends the step. The next one may reach and change as many pages again.
     fn rest(&mut self)
-        ensures { step self.new ≡ rested (step self.old) };
+        ensures outside { outside self.old self.new }
+        ensures step { step self.new ≡ rested (step self.old) };
 
     /// What the step knows once the bytes that were lent have come back.
     ghost changed: { (s : Self) (page : ℕ) (bytes : List ℕ) → step (written s page bytes) ≡ with_page page bytes (step s) };
+
+    /// Where bytes are written nothing is called.
+    ghost quiet: { (s : Self) (page : ℕ) (bytes : List ℕ) → outside s (written s page bytes) };
+
+    /// Where nothing is called nothing happens.
+    ghost still: { (s : Self) → outside s s };
+
+    /// What happens one after the other happens in all.
+    ghost then: { (a b c : Self) → outside a b → outside b c → outside a c };
+
+    /// Trust that is lost does not come back.
+    ghost trust: { (a b : Self) → outside a b → trusted b → trusted a };
+
+    /// What happened before takes no cause away.
+    ghost later: { (a b c : Self) (refusal : Refusal) → outside a b → causes b c refusal → causes a c refusal };
+
+    /// Only the disk and want of memory refuse from outside.
+    ghost outer: { (a b : Self) (refusal : Refusal) → causes a b refusal → IsOuter refusal };
 
     /// A table has at most 4096 pages.
     ghost small: { (s : Self) → length (step s).images ≤ 4096 };

@@ -4,18 +4,18 @@ ghost use Rattle.name_page.specs.Pages.{first_step};
 
 use crate::fault::read_page;
 use crate::marks::{count_true, first_true, put_one};
-use crate::pages::Pages;
+use crate::pages::{MOST_CHANGED, MOST_REACHED, Pages};
 use arrayvec::ArrayVec;
 use fsd_bytes::Refusal;
 
-/// All pages of a name table. None of them is ever missing. A step may reach 80 of them and change 40.
+/// All pages of a name table. None of them is ever missing. A step may reach [`MOST_REACHED`] of them and change [`MOST_CHANGED`].
 #[derive(Debug, Drop)]
 pub struct VecPages {
     pages: Vec<[u8; 512]>,
     spare: Vec<bool>,
     home_a: u32,
-    reached: ArrayVec<u32, 80>,
-    changed: ArrayVec<u32, 40>,
+    reached: ArrayVec<u32, MOST_REACHED>,
+    changed: ArrayVec<u32, MOST_CHANGED>,
     promised: u32,
     refusal: Option<Refusal>,
     ghost small: { length pages.items ≤ 4096 },
@@ -28,7 +28,7 @@ impl VecPages {
     pub fn new(pages: Vec<[u8; 512]>, spare: Vec<bool>, home_a: u32) -> VecPages
         requires small { length pages.items ≤ 4096 }
         requires flags { length spare.items ≡ length pages.items }
-        ensures { ⟦<VecPages as Pages>⟧.step result ≡ first_step pages.items spare.items home_a 80 40 }
+        ensures { ⟦<VecPages as Pages>⟧.step result ≡ first_step pages.items spare.items home_a MOST_REACHED MOST_CHANGED }
     {
         VecPages {
             pages,
@@ -51,14 +51,33 @@ impl VecPages {
 }
 
 impl Pages for VecPages {
-    ghost use Rattle.std.specs.Prelude.{refl};
+    ghost use Rattle.std.specs.Prelude.{refl, ⊤};
     ghost use Rattle.name_page.specs.VecPages.{written};
+    ghost use Rattle.name_page.specs.declared.pages.TheConstants.{MOST_CHANGED, MOST_REACHED};
 
-    ghost step = { λ s. record { images = s.pages.items; spares = s.spare.items; home_a = s.home_a; reached = s.reached.items; changed = s.changed.items; promised = s.promised; refusal = s.refusal; most_reached = 80; most_changed = 40 } };
+    ghost step = { λ s. record { images = s.pages.items; spares = s.spare.items; home_a = s.home_a; reached = s.reached.items; changed = s.changed.items; promised = s.promised; refusal = s.refusal; most_reached = MOST_REACHED; most_changed = MOST_CHANGED } };
 
     ghost written = { written };
 
+    ghost trusted = { λ s. ⊤ };
+
+    ghost outside = { λ a b. ⊤ };
+
+    ghost causes = { λ a b refusal. ⊥ };
+
     ghost changed = { λ s page bytes. refl };
+
+    ghost quiet = { λ s page bytes. tt };
+
+    ghost still = { λ s. tt };
+
+    ghost then = { λ a b c x y. tt };
+
+    ghost trust = { λ a b x y. tt };
+
+    ghost later = { λ a b c refusal x cause. cause };
+
+    ghost outer = { λ a b refusal cause. absurd cause };
 
     ghost small = { λ s. s.small };
 

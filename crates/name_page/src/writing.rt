@@ -1,10 +1,10 @@
 //! Writing pages.
-ghost use Rattle.std.specs.Prelude.{◌≡◌, ◌≤◌, ◌<◌, ◌+◌, ◌*◌, ◌^◌, ◌++◌, IsTrue, length, replicate, All, slice_index};
-ghost use Rattle.std.specs.List.{flat_map, list_all};
+ghost use Rattle.std.specs.Prelude.{◌≡◌, ◌≤◌, ◌<◌, ◌+◌, ◌*◌, ◌^◌, ◌++◌, ℕ, true, IsTrue, Some, length, replicate, All, slice_index};
+ghost use Rattle.std.specs.List.{AllByRecursion, flat_map, list_all};
 ghost use Rattle.fsd_bytes.specs.Bytes.{u32, with_bytes};
 ghost use Rattle.fsd_bytes.specs.Keys.{is_key};
 ghost use Rattle.run_table.specs.RunTable.{run_bytes, are_runs};
-ghost use Rattle.fsd_formats.specs.NamePage.{Free, Leaf, Interior, separator_bytes, entry_bytes, is_entry, page_bytes, stamp_at, room};
+ghost use Rattle.fsd_formats.specs.NamePage.{Free, Leaf, Interior, separator_bytes, entry_bytes, is_entry, is_page, page_bytes, read_page, stamp_at, room, FitsEntry, FitsSeparator};
 ghost use Rattle.fsd_formats.specs.Record.{stamp_bytes};
 ghost use Rattle.name_page.specs.Spelling.{head, numbers};
 
@@ -168,4 +168,23 @@ fn runs_text(runs: &Runs) -> ArrayVec<u8, 48>
     text.try_extend_from_slice(&bytes[..6 * runs.as_slice().len()])
         .unwrap();
     text
+}
+
+/// Writes a leaf that reads as these entries.
+pub fn write_entries(page: u32, entries: &[Entry], out: &mut [u8; 512])
+    requires accepted { is_page page 0 (Leaf entries.now) ≡ true }
+    requires fits { AllByRecursion FitsEntry entries.now }
+    ensures { (p : ℕ) → read_page page p out.new ≡ Some (Leaf entries.now) }
+{
+    write_leaf(page, entries, out);
+}
+
+/// Writes an interior page that reads as these ways, in a table of as many pages as they need.
+pub fn write_ways(page: u32, first: u32, separators: &[Separator], out: &mut [u8; 512])
+    requires keys { list_all (λ s. is_key s.key) separators.now ≡ true }
+    requires few { length separators.now ≤ 9 }
+    requires fits { AllByRecursion FitsSeparator separators.now }
+    ensures { (p : ℕ) → is_page page p (Interior first separators.now) ≡ true → read_page page p out.new ≡ Some (Interior first separators.now) }
+{
+    write_interior(page, first, separators, out);
 }

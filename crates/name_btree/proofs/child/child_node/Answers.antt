@@ -1,6 +1,6 @@
 use Rattle.std.proofs.Common.{◌≤◌, length, ap, refl, arith}
 use Rattle.fsd_table.specs.Pages.{content_fits}
-use Rattle.name_node.proofs.NodeLaws.{past_end}
+use Rattle.name_page.proofs.NodeLaws.{past_end}
 use Rattle.name_btree.proofs.child.child_node.Goals as goal
 
 pub returns-then-child-count-clause-fault : goal.returns-then-child-count-clause-fault

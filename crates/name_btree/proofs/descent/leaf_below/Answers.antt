@@ -1,68 +1,85 @@
-use Rattle.std.proofs.Common.{◌≡◌, ◌∙◌, ◌+◌, ◌-◌, refl, sym, ap, subst, List, ℕ, Some, None, arith}
+use Rattle.std.proofs.Common.{◌≡◌, ◌∙◌, ◌+◌, ◌-◌, sym, ap, subst, Bool, false, List, ℕ, Some, None, arith}
 use Rattle.std.proofs.lemmas.Result.{err_from_is_err_and}
 use Rattle.fsd_formats.specs.NamePage.{Leaf, Interior}
 use Rattle.fsd_table.specs.Pages.{page_at}
-use Rattle.name_node.specs.declared.node.Node.{Node}
+use Rattle.name_page.specs.declared.node.Node.{Node}
 use Rattle.name_btree.specs.declared.descent.Way.{Way}
-use Rattle.name_node.specs.Node.{content_of}
-use Rattle.name_node.specs.Cut.{is_before}
-use Rattle.name_btree.specs.Fault.{HasCause, IsMisfit}
-use Rattle.name_node.proofs.CutLaws.{cuts_monotone}
+use Rattle.name_page.specs.Node.{content_of}
+use Rattle.name_page.specs.Cut.{is_before}
+use Rattle.name_btree.specs.Fault.{IsMisfit, BarsPage}
+use Rattle.name_page.proofs.LookLaws.{reaches_still, reaches_then, agrees_before, agrees_now, agrees_at}
+use Rattle.name_page.specs.Looks.{Agrees, Shows}
+use Rattle.name_page.specs.Pages.{is_spare}
+use Rattle.name_page.proofs.CutLaws.{cuts_monotone}
 use Rattle.name_btree.proofs.DescentLaws.{IsOnWay, way_begins, way_down, way_ends}
 use Rattle.name_btree.proofs.PathLaws.{IsPath, path_begins, path_down, path_ends}
+use Rattle.name_btree.proofs.CauseLaws.{cause_map}
 use Rattle.name_btree.proofs.VisitedLaws.{IsVisitedWay, visited_down, misfit_below, deep_below}
 use Rattle.name_btree.proofs.descent.leaf_below.Goals as goal
 
 pub loop-above-init : goal.loop-above-init
 loop-above-init g c =
-    let pages = (g.T.Pages.step c.args.t.now).images in
     let before = is_before c.args.cut.now in
     let none : 0 ≡ c.args.above - c.args.above = omega arith in
     let way : Way = record { child = c.args.start; previous = None; next = None } in
     record {
       least = omega arith;
       most = omega arith;
-      images = refl;
-      spares = refl;
-      step = refl;
+      calls = reaches_still g.T.Pages c.args.t.now (g.met.T.Pages.still c.args.t.now);
       reaches = omega arith;
-      changes = record { changed = refl; most_changed = refl; promised = refl };
-      path = path_begins c.args.cut.now pages c.args.start;
-      way = subst (λ (n : ℕ). IsOnWay before pages c.args.start n way) none (way_begins before pages c.args.start);
-      visited = λ v. (v, (tt, tt));
+      path = λ pages is. path_begins c.args.cut.now pages c.args.start;
+      way = λ pages is. subst (λ (n : ℕ). IsOnWay before pages c.args.start n way) none (way_begins before pages c.args.start);
+      visited = λ pages is v. (v, (tt, tt));
     }
 
 pub returns-in_err-child_node-clause-fault : goal.returns-in_err-child_node-clause-fault
 returns-in_err-child_node-clause-fault g c =
-    let pages = (g.T.Pages.step c.args.t.now).images in
-    let given = (g.T.Pages.step c.child_node.new.t).refusal in
+    let new = c.child_node.new.t in
+    let s = g.T.Pages.step new in
     let fault = c.in_err-child_node.field-0.0 in
-    let P : List (List ℕ) → Type 0 = λ (x : List (List ℕ)). HasCause given (IsMisfit x c.loop-above.way.child) fault in
-    let h = subst P c.loop-above.invariant.images c.in_err-child_node.ensures.fault in
+    let on = c.loop-above.invariant.visited s.images (agrees_before (g.T.Pages.step c.loop-above.t) s s.images c.in_err-child_node.ensures.calls.looks (agrees_now s)) in
+    let Before = g.T.Pages.causes c.loop-above.t new in
+    let After = g.T.Pages.causes c.args.t.now new in
+    let Br = IsMisfit s.images c.loop-above.way.child in
+    let Ba = BarsPage s c.loop-above.way.child.page in
+    let h = cause_map Before After s Br Br Ba Ba (λ r x. g.met.T.Pages.later c.args.t.now c.loop-above.t new r c.loop-above.invariant.calls.outside x) (λ p x. x) (λ p x. x) fault c.in_err-child_node.ensures.fault in
     let p = err_from_is_err_and c.from_residual.result c.from_residual.ensures.1 in
-    rw (p.1, p.2) (misfit_below given fault pages c.args.above c.args.start c.loop-above.above c.loop-above.way c.loop-above.invariant.visited h)
+    rw (p.1, p.2) (misfit_below After s fault c.args.above c.args.start c.loop-above.above c.loop-above.way on h)
+
+pub returns-in_err-child_node-clause-calls : goal.returns-in_err-child_node-clause-calls
+returns-in_err-child_node-clause-calls g c = reaches_then g.T.Pages g.met.T.Pages.then c.args.t.now c.loop-above.t c.child_node.new.t c.loop-above.invariant.calls c.in_err-child_node.ensures.calls
+
+pub returns-in-Leaf-clause-calls : goal.returns-in-Leaf-clause-calls
+returns-in-Leaf-clause-calls g c = reaches_then g.T.Pages g.met.T.Pages.then c.args.t.now c.loop-above.t c.child_node.new.t c.loop-above.invariant.calls c.in_ok-child_node.ensures.calls
 
 pub returns-in-Leaf-clause-place : goal.returns-in-Leaf-clause-place
-returns-in-Leaf-clause-place g c =
-    let pages = (g.T.Pages.step c.args.t.now).images in
+returns-in-Leaf-clause-place g c = λ pages is.
+    let s = g.T.Pages.step c.child_node.new.t in
     let page : ℕ = c.loop-above.way.child.page in
+    let used : is_spare s.spares page ≡ false = ap (λ (x : List Bool). is_spare x page) c.in_ok-child_node.ensures.calls.looks.spares ∙ c.in_ok-child_node.ensures.used in
+    let before = agrees_before (g.T.Pages.step c.loop-above.t) s pages c.in_ok-child_node.ensures.calls.looks is in
     let at : page_at pages page ≡ Some (Leaf c.in-Leaf.entries) =
-    ap (λ (p : List (List ℕ)). page_at p page) (sym c.loop-above.invariant.images) ∙ c.in_ok-child_node.ensures.node ∙ ap (λ (n : Node). Some (content_of n)) c.in-Leaf.is in
-    way_ends (is_before c.args.cut.now) pages c.args.start (c.loop-above.above - c.args.above) c.loop-above.way c.in-Leaf.entries at c.loop-above.invariant.way
+    agrees_at s pages page c.in_ok-child_node.ensures.reached used is ∙ c.in_ok-child_node.ensures.node ∙ ap (λ (n : Node). Some (content_of n)) c.in-Leaf.is in
+    way_ends (is_before c.args.cut.now) pages c.args.start (c.loop-above.above - c.args.above) c.loop-above.way c.in-Leaf.entries at (c.loop-above.invariant.way pages before)
 
 pub returns-in-Leaf-clause-at : goal.returns-in-Leaf-clause-at
-returns-in-Leaf-clause-at g c =
-    let pages = (g.T.Pages.step c.args.t.now).images in
-    let at : page_at pages c.loop-above.way.child.page ≡ Some (Leaf c.in-Leaf.entries) =
-    ap (λ (p : List (List ℕ)). page_at p c.loop-above.way.child.page) (sym c.loop-above.invariant.images) ∙ c.in_ok-child_node.ensures.node ∙ ap (λ (n : Node). Some (content_of n)) c.in-Leaf.is in
-    path_ends c.args.cut.now pages c.args.start c.loop-above.way c.in-Leaf.entries at c.loop-above.invariant.path
+returns-in-Leaf-clause-at g c = λ pages is.
+    let s = g.T.Pages.step c.child_node.new.t in
+    let page : ℕ = c.loop-above.way.child.page in
+    let used : is_spare s.spares page ≡ false = ap (λ (x : List Bool). is_spare x page) c.in_ok-child_node.ensures.calls.looks.spares ∙ c.in_ok-child_node.ensures.used in
+    let before = agrees_before (g.T.Pages.step c.loop-above.t) s pages c.in_ok-child_node.ensures.calls.looks is in
+    let at : page_at pages page ≡ Some (Leaf c.in-Leaf.entries) =
+    agrees_at s pages page c.in_ok-child_node.ensures.reached used is ∙ c.in_ok-child_node.ensures.node ∙ ap (λ (n : Node). Some (content_of n)) c.in-Leaf.is in
+    path_ends c.args.cut.now pages c.args.start c.loop-above.way c.in-Leaf.entries at (c.loop-above.invariant.path pages before)
 
 pub returns-in-Leaf-clause-beside : goal.returns-in-Leaf-clause-beside
-returns-in-Leaf-clause-beside g c = λ v. (c.loop-above.invariant.visited v).1
+returns-in-Leaf-clause-beside g c = λ pages is v.
+    let before = agrees_before (g.T.Pages.step c.loop-above.t) (g.T.Pages.step c.child_node.new.t) pages c.in_ok-child_node.ensures.calls.looks is in
+    (c.loop-above.invariant.visited pages before v).1
 
 pub loop-above-preserved : goal.loop-above-preserved
 loop-above-preserved g c =
-    let pages = (g.T.Pages.step c.args.t.now).images in
+    let s = g.T.Pages.step c.child_node.new.t in
     let before = is_before c.args.cut.now in
     let start = c.args.start in
     let w = c.loop-above.way in
@@ -71,32 +88,29 @@ loop-above-preserved g c =
     let least = c.loop-above.invariant.least in
     let one : gone + 1 ≡ (above + 1) - c.args.above = omega arith in
     let ways = c.in-Interior.ways in
-    let at : page_at pages w.child.page ≡ Some (Interior ways.0 ways.1) =
-    ap (λ (p : List (List ℕ)). page_at p w.child.page) (sym c.loop-above.invariant.images) ∙ c.in_ok-child_node.ensures.node ∙ ap (λ (n : Node). Some (content_of n)) c.in-Interior.is in
+    let used : is_spare s.spares w.child.page ≡ false = ap (λ (x : List Bool). is_spare x w.child.page) c.in_ok-child_node.ensures.calls.looks.spares ∙ c.in_ok-child_node.ensures.used in
+    let at : Shows s (λ pages. page_at pages w.child.page ≡ Some (Interior ways.0 ways.1)) =
+    λ pages is. agrees_at s pages w.child.page c.in_ok-child_node.ensures.reached used is ∙ c.in_ok-child_node.ensures.node ∙ ap (λ (n : Node). Some (content_of n)) c.in-Interior.is in
+    let old : (pages : List (List ℕ)) → Agrees pages s → Agrees pages (g.T.Pages.step c.loop-above.t) = λ pages is. agrees_before (g.T.Pages.step c.loop-above.t) s pages c.in_ok-child_node.ensures.calls.looks is in
     let new : Way = c.way_to-way.result in
     let is = sym c.way_to-way.ensures in
     record {
       least = omega arith;
       most = omega (arith, c.loop-above-test.true);
-      images = c.child_node.ensures.images ∙ c.loop-above.invariant.images;
-      spares = c.child_node.ensures.spares ∙ c.loop-above.invariant.spares;
-      step = c.child_node.ensures.step ∙ c.loop-above.invariant.step;
+      calls = reaches_then g.T.Pages g.met.T.Pages.then c.args.t.now c.loop-above.t c.child_node.new.t c.loop-above.invariant.calls c.in_ok-child_node.ensures.calls;
       reaches = omega (arith, c.child_node.ensures.reaches, c.loop-above.invariant.reaches);
-      changes = record {
-        changed = c.child_node.ensures.changes.changed ∙ c.loop-above.invariant.changes.changed;
-        most_changed = c.child_node.ensures.changes.most_changed ∙ c.loop-above.invariant.changes.most_changed;
-        promised = c.child_node.ensures.changes.promised ∙ c.loop-above.invariant.changes.promised;
-      };
-      path = subst (λ (x : Way). IsPath c.args.cut.now pages start x.child) is (path_down c.args.cut.now pages start (above + 1) w ways.0 ways.1 at c.loop-above.invariant.path);
-      way = subst (λ (n : ℕ). IsOnWay before pages start n new) one
+      path = λ pages seen. subst (λ (x : Way). IsPath c.args.cut.now pages start x.child) is (path_down c.args.cut.now pages start (above + 1) w ways.0 ways.1 (at pages seen) (c.loop-above.invariant.path pages (old pages seen)));
+      way = λ pages seen. subst (λ (n : ℕ). IsOnWay before pages start n new) one
           (subst (λ (x : Way). IsOnWay before pages start (gone + 1) x) is
-          (way_down before (cuts_monotone c.args.cut.now) pages start gone (above + 1) w ways.0 ways.1 at c.loop-above.invariant.way));
-      visited = subst (λ (x : Way). IsVisitedWay pages c.args.above start (above + 1) x) is
-          (visited_down before pages c.args.above start above w ways.0 ways.1 at c.loop-above-test.true c.loop-above.invariant.visited);
+          (way_down before (cuts_monotone c.args.cut.now) pages start gone (above + 1) w ways.0 ways.1 (at pages seen) (c.loop-above.invariant.way pages (old pages seen))));
+      visited = λ pages seen. subst (λ (x : Way). IsVisitedWay pages c.args.above start (above + 1) x) is
+          (visited_down before pages c.args.above start above w ways.0 ways.1 (at pages seen) c.loop-above-test.true (c.loop-above.invariant.visited pages (old pages seen)));
     }
 
 pub returns-clause-fault : goal.returns-clause-fault
-returns-clause-fault g c = deep_below (g.T.Pages.step c.args.t.now).images c.args.above c.args.start c.loop-above.above c.loop-above.way c.loop-above.invariant.visited c.loop-above-test.false
+returns-clause-fault g c =
+    let s = g.T.Pages.step c.loop-above.t in
+    deep_below s.images c.args.above c.args.start c.loop-above.above c.loop-above.way (c.loop-above.invariant.visited s.images (agrees_now s)) c.loop-above-test.false
 
 pub returns-clause-reaches : goal.returns-clause-reaches
 returns-clause-reaches g c = omega (arith, c.loop-above.invariant.reaches, c.loop-above.invariant.most)

@@ -1,7 +1,7 @@
 use Rattle.std.proofs.Common.{◌≡◌, ◌∙◌, ◌+◌, sym, ap, true, false, Option, Some, drop}
 use Rattle.fsd_bytes.specs.declared.key.Key.{Key}
 use Rattle.name_btree.specs.declared.descent.Way.{Way}
-use Rattle.name_node.specs.Cut.{is_before}
+use Rattle.name_page.specs.Cut.{is_before}
 use Rattle.name_btree.specs.Descent.{way_to}
 use Rattle.name_btree.proofs.DescentLaws.{way_stops, way_goes}
 use Rattle.name_btree.proofs.descent.way_to.Goals as goal

@@ -1,5 +1,5 @@
 use Rattle.std.proofs.Common.{◌≡◌, drop}
-use Rattle.name_node.specs.Cut.{is_before}
+use Rattle.name_page.specs.Cut.{is_before}
 use Rattle.name_btree.specs.Descent.{way_to}
 use Rattle.name_btree.proofs.descent.way_to.Given as goal
 

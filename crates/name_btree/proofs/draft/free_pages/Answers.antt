@@ -1,4 +1,4 @@
-use Rattle.std.proofs.Common.{◌≡◌, ◌∙◌, ℕ, sym, ap, subst, false, get_or, take, arith}
+use Rattle.std.proofs.Common.{◌≡◌, ◌∙◌, ℕ, refl, sym, ap, subst, false, get_or, take, arith}
 use Rattle.std.proofs.lemmas.List.{take_more}
 use Rattle.name_page.specs.Pages.{Step, with_spare, is_spare, IsReached}
 use Rattle.name_btree.specs.Draft.{freed, MayGo}
@@ -12,7 +12,7 @@ give_back-requires-clause-reached g c =
     let pages = c.args.pages.now in
     let p : ℕ = get_or pages i 0 in
     let may : MayGo step p = each_or (MayGo step) pages i 0 (omega arith) c.requires.pages in
-    subst (λ (x : Step). IsReached x p) (sym c.loop-page.invariant) (reached_freed (take i pages) step p may.reached)
+    subst (λ (x : Step). IsReached x p) (sym c.loop-page.invariant.step) (reached_freed (take i pages) step p may.reached)
 
 pub give_back-requires-clause-used : goal.give_back-requires-clause-used
 give_back-requires-clause-used g c =
@@ -21,7 +21,7 @@ give_back-requires-clause-used g c =
     let pages = c.args.pages.now in
     let p : ℕ = get_or pages i 0 in
     let may : MayGo step p = each_or (MayGo step) pages i 0 (omega arith) c.requires.pages in
-    subst (λ (x : Step). is_spare x.spares p ≡ false) (sym c.loop-page.invariant) (freed_used (take i pages) step p (none_before pages i (omega arith) c.requires.apart) may.used)
+    subst (λ (x : Step). is_spare x.spares p ≡ false) (sym c.loop-page.invariant.step) (freed_used (take i pages) step p (none_before pages i (omega arith) c.requires.apart) may.used)
 
 pub give_back-requires-clause-root : goal.give_back-requires-clause-root
 give_back-requires-clause-root g c =
@@ -38,4 +38,10 @@ loop-page-preserved g c =
     let pages = c.args.pages.now in
     let p : ℕ = get_or pages i 0 in
     let more = ap (λ xs. freed xs step) (take_more pages i 0 (omega arith)) ∙ freed_push (take i pages) p step in
-    c.give_back.ensures ∙ ap (with_spare p) c.loop-page.invariant ∙ sym more
+    record {
+      outside = g.met.T.Pages.then c.args.t.now c.loop-page.t c.give_back.new.self c.loop-page.invariant.outside c.give_back.ensures.outside;
+      step = c.give_back.ensures.step ∙ ap (with_spare p) c.loop-page.invariant.step ∙ sym more;
+    }
+
+pub loop-page-init : goal.loop-page-init
+loop-page-init g c = record { outside = g.met.T.Pages.still c.args.t.now; step = refl }

@@ -1,5 +1,7 @@
-use Rattle.std.proofs.Common.{◌<◌, ◌^◌, arith}
+use Rattle.std.proofs.Common.{◌≡◌, ◌∙◌, ◌<◌, ◌^◌, sym, ap, length, List, ℕ, arith}
 use Rattle.fsd_formats.specs.NamePage.{Leaf}
+use Rattle.name_page.specs.Pages.{with_images}
+use Rattle.name_btree.proofs.OverLaws.{drafted_over, takes_over, reached_over}
 use Rattle.name_btree.proofs.TakeLaws.{sheets_over}
 use Rattle.name_btree.proofs.GrowLaws.{IsParted, HasLeaves, leaves_parted}
 use Rattle.name_btree.proofs.growing.grow_leaf.Given as given
@@ -13,12 +15,18 @@ put_leaf-requires-2-clause-sheets g c =
     let sheets = c.args.draft.now.sheets.items in
     sheets_over between last _ sheets c.take_page-right.ensures.takes (sheets_over step between _ sheets c.front_page-left.ensures.takes c.requires.sheets)
 
-parted : (g : given.Over) (c : goal.After-copied g) → HasLeaves (g.T.Pages.step c.args.t.now) (g.T.Pages.step c.take_page-right.new.t) c.args.draft.now.sheets.items c.put_leaf-3.new.self.sheets.items c.args.page c.args.entries.now.items
+parted : (g : given.Over) (c : goal.After-copied g) (pages : List (List ℕ)) → length pages ≡ length (g.T.Pages.step c.args.t.now).images
+    → HasLeaves (with_images pages (g.T.Pages.step c.args.t.now)) (with_images pages (g.T.Pages.step c.take_page-right.new.t)) c.args.draft.now.sheets.items c.put_leaf-3.new.self.sheets.items c.args.page c.args.entries.now.items
     c.front_page-left.result (record { key = c.copied.result; child = c.take_page-right.result })
-parted g c =
-    let step = g.T.Pages.step c.args.t.now in
-    let between = g.T.Pages.step c.front_page-left.new.t in
-    let last = g.T.Pages.step c.take_page-right.new.t in
+parted g c pages same =
+    let step0 = g.T.Pages.step c.args.t.now in
+    let between0 = g.T.Pages.step c.front_page-left.new.t in
+    let last0 = g.T.Pages.step c.take_page-right.new.t in
+    let same1 : length pages ≡ length between0.images = same ∙ sym (ap length c.front_page-left.ensures.takes.images) in
+    let same2 : length pages ≡ length last0.images = same1 ∙ sym (ap length c.take_page-right.ensures.takes.images) in
+    let step = with_images pages step0 in
+    let between = with_images pages between0 in
+    let last = with_images pages last0 in
     let left = c.front_page-left.result in
     let right = c.take_page-right.result in
     let front = c.split_at.result.0.now in
@@ -27,20 +35,20 @@ parted g c =
     let s1 = c.put_leaf-2.new.self.sheets.items in
     let s2 = c.put_leaf-3.new.self.sheets.items in
     let is : IsParted step between last s0 s1 s2 c.args.page left right (Leaf front) (Leaf behind) = record {
-      front_takes = c.front_page-left.ensures.takes;
-      takes = c.take_page-right.ensures.takes;
-      own = c.front_page-left.ensures.own;
+      front_takes = takes_over pages step0 between0 _ same c.front_page-left.ensures.takes;
+      takes = takes_over pages between0 last0 _ same1 c.take_page-right.ensures.takes;
+      own = reached_over pages between0 left same1 c.front_page-left.ensures.own;
       used = c.front_page-left.ensures.used;
       place = c.front_page-left.ensures.place;
-      front = c.put_leaf-2.ensures.sheets;
-      behind = c.put_leaf-3.ensures.sheets;
+      front = drafted_over last0 pages same2 s0 s1 left (Leaf front) c.put_leaf-2.ensures.sheets;
+      behind = drafted_over last0 pages same2 s1 s2 right (Leaf behind) c.put_leaf-3.ensures.sheets;
     } in
     let small : right < 2 ^ 32 = omega arith in
     leaves_parted step between last s0 s1 s2 c.args.page left right c.leaf_cut.result c.args.entries.now.items c.as_slice-entries.result.now front behind c.copied.result c.index-behind-0.result
     c.as_slice-entries.ensures.value c.split_at.ensures.front c.split_at.ensures.back c.leaf_cut.ensures.front c.leaf_cut.ensures.behind is c.copied.ensures c.requires.entries.each c.requires.fits small
 
 pub returns-clause-grown : goal.returns-clause-grown
-returns-clause-grown g c = (parted g c).grown
+returns-clause-grown g c = λ pages same. (parted g c pages same).grown
 
 pub returns-clause-leaves : goal.returns-clause-leaves
-returns-clause-leaves g c = (parted g c).leaves
+returns-clause-leaves g c = λ pages same. (parted g c pages same).leaves

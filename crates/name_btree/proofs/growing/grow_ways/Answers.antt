@@ -1,4 +1,4 @@
-use Rattle.std.proofs.Common.{◌≡◌, ◌∙◌, ap, subst, List, length, take, drop, ◌&&◌, ◌<◌, ◌^◌, arith}
+use Rattle.std.proofs.Common.{◌≡◌, ◌∙◌, sym, ap, subst, ℕ, List, length, take, drop, ◌&&◌, ◌<◌, ◌^◌, arith}
 use Rattle.fsd_formats.specs.declared.page.Separator.{Separator}
 use Rattle.std.specs.Prelude.{nat_lt}
 use Rattle.std.specs.List.{list_all}
@@ -7,6 +7,8 @@ use Rattle.fsd_formats.specs.NamePage.{Interior, is_page, are_ascending}
 use Rattle.fsd_table.specs.Pages.{separator_keys}
 use Rattle.name_page.specs.Pages.{is_spare}
 use Rattle.name_btree.specs.Draft.{IsDrafted}
+use Rattle.name_page.specs.Pages.{with_images}
+use Rattle.name_btree.proofs.OverLaws.{drafted_over, takes_over, reached_over}
 use Rattle.name_btree.proofs.TakeLaws.{sheets_over, taken_itself}
 use Rattle.name_btree.proofs.GrowLaws.{IsParted, HasInteriors, ways_parted, rest_of}
 use Rattle.name_btree.proofs.growing.grow_ways.Given as given
@@ -40,12 +42,18 @@ put_ways-requires-3-clause-accepted g c =
     let is = (c.middle-middle.ensures.interiors (length step.images) c.args.first each order fits.low right).1 in
     (λ i. is_page right (images i) (Interior middle.child (rest_of some 5 i))) ∙ is
 
-parted : (g : given.Over) (c : goal.After-put_ways-3 g) → HasInteriors (g.T.Pages.step c.args.t.now) (g.T.Pages.step c.take_page-right.new.t) c.args.draft.now.sheets.items c.put_ways-3.new.self.sheets.items c.args.page c.args.first
+parted : (g : given.Over) (c : goal.After-put_ways-3 g) (pages : List (List ℕ)) → length pages ≡ length (g.T.Pages.step c.args.t.now).images
+    → HasInteriors (with_images pages (g.T.Pages.step c.args.t.now)) (with_images pages (g.T.Pages.step c.take_page-right.new.t)) c.args.draft.now.sheets.items c.put_ways-3.new.self.sheets.items c.args.page c.args.first
     c.args.separators.now.items c.front_page-left.result (record { key = c.middle-middle.result.key; child = c.take_page-right.result })
-parted g c =
-    let step = g.T.Pages.step c.args.t.now in
-    let between = g.T.Pages.step c.front_page-left.new.t in
-    let last = g.T.Pages.step c.take_page-right.new.t in
+parted g c pages same =
+    let step0 = g.T.Pages.step c.args.t.now in
+    let between0 = g.T.Pages.step c.front_page-left.new.t in
+    let last0 = g.T.Pages.step c.take_page-right.new.t in
+    let same1 : length pages ≡ length between0.images = same ∙ sym (ap length c.front_page-left.ensures.takes.images) in
+    let same2 : length pages ≡ length last0.images = same1 ∙ sym (ap length c.take_page-right.ensures.takes.images) in
+    let step = with_images pages step0 in
+    let between = with_images pages between0 in
+    let last = with_images pages last0 in
     let left = c.front_page-left.result in
     let right = c.take_page-right.result in
     let some = c.as_slice-separators.result.now in
@@ -54,21 +62,24 @@ parted g c =
     let s1 = c.put_ways-2.new.self.sheets.items in
     let s2 = c.put_ways-3.new.self.sheets.items in
     let is : IsParted step between last s0 s1 s2 c.args.page left right (Interior c.args.first (take 4 some)) (Interior middle.child (drop 5 some)) = record {
-      front_takes = c.front_page-left.ensures.takes;
-      takes = c.take_page-right.ensures.takes;
-      own = c.front_page-left.ensures.own;
+      front_takes = takes_over pages step0 between0 _ same c.front_page-left.ensures.takes;
+      takes = takes_over pages between0 last0 _ same1 c.take_page-right.ensures.takes;
+      own = reached_over pages between0 left same1 c.front_page-left.ensures.own;
       used = c.front_page-left.ensures.used;
       place = c.front_page-left.ensures.place;
-      front = c.put_ways-2.ensures.sheets;
-      behind = subst (λ (zs : List Separator). IsDrafted last s1 s2 right (Interior middle.child zs)) (rest_of some 5) c.put_ways-3.ensures.sheets;
+      front = drafted_over last0 pages same2 s0 s1 left (Interior c.args.first (take 4 some)) c.put_ways-2.ensures.sheets;
+      behind = drafted_over last0 pages same2 s1 s2 right (Interior middle.child (drop 5 some)) (subst (λ (zs : List Separator). IsDrafted last0 s1 s2 right (Interior middle.child zs)) (rest_of some 5) c.put_ways-3.ensures.sheets);
     } in
     let small : right < 2 ^ 32 = omega arith in
     let ten : length some ≡ 10 = omega (arith, c.requires.separators.most, ap length c.as_slice-separators.ensures.value) in
-    ways_parted step between last s0 s1 s2 c.args.page left right c.args.first (length step.images) c.args.separators.now.items some middle
+    ways_parted step between last s0 s1 s2 c.args.page left right c.args.first (length step0.images) c.args.separators.now.items some middle
     c.as_slice-separators.ensures.value ten c.middle-middle.ensures.there is c.requires.separators.each c.requires.fits small
 
 pub returns-clause-grown : goal.returns-clause-grown
-returns-clause-grown g c = (parted g c).grown
+returns-clause-grown g c = λ pages same. (parted g c pages same).grown
 
 pub returns-clause-interiors : goal.returns-clause-interiors
-returns-clause-interiors g c = (parted g c).interiors
+returns-clause-interiors g c = λ pages same. (parted g c pages same).interiors
+
+pub returns-clause-outside : goal.returns-clause-outside
+returns-clause-outside g c = g.met.T.Pages.then c.args.t.now c.front_page-left.new.t c.take_page-right.new.t c.front_page-left.ensures.outside c.take_page-right.ensures.outside

@@ -1,103 +1,143 @@
-use Rattle.std.proofs.Common.{◌≡◌, ◌∙◌, ◌-◌, ◌≤◌, ℕ, suc, List, Some, length, true, sym, ap, subst, arith, rules}
-use Rattle.std.specs.Prelude.{IfErr}
+use Rattle.std.proofs.Common.{◌≡◌, ◌∙◌, ◌-◌, ◌≤◌, ℕ, Bool, suc, List, Some, length, true, refl, sym, ap, subst, arith, rules}
 use Rattle.std.proofs.lemmas.Result.{err_from_is_err_and}
 use Rattle.fsd_formats.specs.NamePage.{Leaf, Interior, is_page}
 use Rattle.fsd_forest.specs.Parts.{is_inside}
 use Rattle.fsd_table.specs.declared.child.Child.{Child}
 use Rattle.fsd_table.specs.Pages.{page_at, content_fits, keys_fit, separator_keys}
 use Rattle.fsd_table.proofs.PageLaws.{at_is_page}
-use Rattle.name_page.specs.Pages.{changes}
-use Rattle.name_node.specs.declared.node.Node.{Node}
-use Rattle.name_node.specs.Node.{content_of}
+use Rattle.name_page.specs.Pages.{with_images, is_spare, changes}
+use Rattle.name_page.specs.Looks.{Shows, OnlyReaches}
+use Rattle.name_page.proofs.LookLaws.{reaches_then, reaches_takes, takes_takes, agrees_now, agrees_before}
+use Rattle.name_page.specs.declared.node.Node.{Node}
+use Rattle.name_page.specs.Node.{content_of}
+use Rattle.name_btree.specs.declared.fault.TreeFault.TheVariants.{Broken}
 use Rattle.name_btree.specs.Draft.{drafted}
-use Rattle.name_btree.specs.Fault.{HasCause}
+use Rattle.name_btree.specs.Fault.{FailsBy, IsMisfit}
 use Rattle.name_btree.specs.Grown.{most_taken, IsDivided, Grows, BreaksGrowth}
+use Rattle.name_btree.proofs.CauseLaws.{fails_by_map, broken_by, on_err_same}
 use Rattle.name_btree.proofs.DraftLaws.{drafted_length}
 use Rattle.name_btree.proofs.StepLaws.{above_grows, few_above}
-use Rattle.name_btree.proofs.TakeLaws.{takes_none}
-use Rattle.name_btree.proofs.InsertLaws.{middle_is, inside_middle, least_taken, fault_misfit, fault_below, zero_below, leaf_grows, leaf_fault, ok_grows, err_grows, grows_looked}
+use Rattle.name_btree.proofs.OverLaws.{takes_looked, reached_over}
+use Rattle.name_btree.proofs.TakeLaws.{used_over}
+use Rattle.name_btree.proofs.InsertLaws.{middle_is, inside_middle, least_taken, misfit_growth, growth_below, zero_below, leaf_grows, leaf_growth, ok_grows, err_grows, grows_looked}
 use Rattle.name_btree.proofs.inserting.+insert_below.Goals as goal
 
 pub returns-in_err-entries-clause-fault : goal.returns-in_err-entries-clause-fault
 returns-in_err-entries-clause-fault g t c =
-    let pages = drafted c.args.draft.now.sheets.items (g.T.Pages.step c.args.t.now).images in
-    let given = (g.T.Pages.step c.child_node.new.t).refusal in
+    let sheets = c.args.draft.now.sheets.items in
+    let child = c.args.child.now in
+    let new = c.child_node.new.t in
+    let Outer = g.T.Pages.causes c.args.t.now new in
     let p = err_from_is_err_and c.from_residual.result c.from_residual.ensures.1 in
-    rw (p.1, p.2) (fault_misfit given c.in_err-entries.field-0.0 c.args.entry.now pages c.args.levels c.args.child.now c.in_err-entries.ensures.fault)
+    rw (p.1, p.2) (fails_by_map Outer Outer (g.T.Pages.step new) (λ pages. IsMisfit (drafted sheets pages) child) (λ pages. BreaksGrowth c.args.entry.now (drafted sheets pages) c.args.levels child) (λ r x. x)
+    (λ images page is h. misfit_growth c.args.entry.now (drafted sheets images) c.args.levels child page h) c.in_err-entries.field-0.0 c.in_err-entries.ensures.fault)
 
 pub returns-then-below-eq0-clause-fault : goal.returns-then-below-eq0-clause-fault
-returns-then-below-eq0-clause-fault g t c =
-    let pages = drafted c.args.draft.now.sheets.items (g.T.Pages.step c.args.t.now).images in
+returns-then-below-eq0-clause-fault g t c = λ images agrees.
+    let sheets = c.args.draft.now.sheets.items in
     let child = c.args.child.now in
+    let e = c.args.entry.now in
     let ways = c.in-Interior.ways in
-    let key = c.args.entry.now.key in
     let i = c.ways_before-i.result in
-    let at : page_at pages child.page ≡ Some (Interior ways.0 ways.1) = c.in_ok-entries.ensures.node ∙ ap (λ (n : Node). Some (content_of n)) c.in-Interior.is in
-    let m = middle_is key c.copied.result pages child c.child_at-below.result ways.0 ways.1 i at c.copied.ensures c.ways_before-i.ensures.within c.ways_before-i.ensures.before c.ways_before-i.ensures.behind c.child_at-below.ensures in
-    zero_below c.args.entry.now pages c.args.levels child ways.0 ways.1 i 0 at m.around (ap (λ (d : Child). d.page) (sym m.is) ∙ c.if-below-eq0.true)
+    let pages = drafted sheets images in
+    let at : page_at pages child.page ≡ Some (Interior ways.0 ways.1) = c.in_ok-entries.ensures.node images agrees ∙ ap (λ (n : Node). Some (content_of n)) c.in-Interior.is in
+    let m = middle_is e.key c.copied.result pages child c.child_at-below.result ways.0 ways.1 i at c.copied.ensures c.ways_before-i.ensures.within c.ways_before-i.ensures.before c.ways_before-i.ensures.behind c.child_at-below.ensures in
+    zero_below e pages c.args.levels child ways.0 ways.1 i 0 at m.around (ap (λ (d : Child). d.page) (sym m.is) ∙ c.if-below-eq0.true)
 
 pub insert_below-requires : goal.insert_below-requires
 insert_below-requires g t c κs within =
     let step = g.T.Pages.step c.args.t.now in
     let looked = g.T.Pages.step c.child_node.new.t in
-    let pages = drafted c.args.draft.now.sheets.items step.images in
+    let sheets = c.args.draft.now.sheets.items in
+    let pages = drafted sheets looked.images in
     let child = c.args.child.now in
-    let ways = c.in-Interior.ways in
-    let key = c.args.entry.now.key in
-    let i = c.ways_before-i.result in
-    let d = c.child_at-below.result in
+    let e = c.args.entry.now in
     let levels = c.args.levels in
-    let at : page_at pages child.page ≡ Some (Interior ways.0 ways.1) = c.in_ok-entries.ensures.node ∙ ap (λ (n : Node). Some (content_of n)) c.in-Interior.is in
-    let m = middle_is key c.copied.result pages child d ways.0 ways.1 i at c.copied.ensures c.ways_before-i.ensures.within c.ways_before-i.ensures.before c.ways_before-i.ensures.behind c.child_at-below.ensures in
-    let inside : is_inside d key ≡ true = inside_middle key child d ways.0 ways.1 i m c.requires.inside in
-    let takes = takes_none step looked c.child_node.ensures.images c.child_node.ensures.spares c.child_node.ensures.step c.child_node.ensures.changes c.child_node.ensures.kept in
+    let ways = c.in-Interior.ways in
+    let i = c.ways_before-i.result in
+    let at : page_at pages child.page ≡ Some (Interior ways.0 ways.1) = c.in_ok-entries.ensures.node looked.images (agrees_now looked) ∙ ap (λ (n : Node). Some (content_of n)) c.in-Interior.is in
+    let m = middle_is e.key c.copied.result pages child c.child_at-below.result ways.0 ways.1 i at c.copied.ensures c.ways_before-i.ensures.within c.ways_before-i.ensures.before c.ways_before-i.ensures.behind c.child_at-below.ensures in
+    let d = c.child_at-below.result in
+    let inside : is_inside d e.key ≡ true = inside_middle e.key child d ways.0 ways.1 i m c.requires.inside in
+    let takes = takes_looked step.images step looked refl c.child_node.ensures.calls.looks in
     let few = few_above child.page d.page (levels - 1) c.if-below-eq0.false in
     let promised : most_taken d.page (levels - 1) ≤ looked.promised = omega (arith, few, least_taken child.page levels, takes.promised, c.requires.promised, c.if-levels-gt0.true) in
     let more : most_taken d.page (levels - 1) ≤ changes looked = omega (arith, few, least_taken child.page levels, takes.changes, c.requires.changes, c.if-levels-gt0.true) in
     search (rules, inside, promised, more)
 
+pub returns-in_err-grown-in-Interior-clause-failed : goal.returns-in_err-grown-in-Interior-clause-failed
+returns-in_err-grown-in-Interior-clause-failed g t c =
+    let p = err_from_is_err_and c.from_residual-in_err-grown-in-Interior.result c.from_residual-in_err-grown-in-Interior.ensures.1 in
+    rw p.1 (reaches_then g.T.Pages g.met.T.Pages.then c.args.t.now c.child_node.new.t c.insert_below.new.t c.in_ok-entries.ensures.calls c.in_err-grown-in-Interior.ensures.failed)
+
+pub returns-in_err-grown-in-Interior-clause-calls : goal.returns-in_err-grown-in-Interior-clause-calls
+returns-in_err-grown-in-Interior-clause-calls g t c =
+    reaches_takes g.T.Pages c.args.t.now c.insert_below.new.t (reaches_then g.T.Pages g.met.T.Pages.then c.args.t.now c.child_node.new.t c.insert_below.new.t c.in_ok-entries.ensures.calls c.in_err-grown-in-Interior.ensures.failed)
+
 pub returns-in_err-grown-in-Interior-clause-fault : goal.returns-in_err-grown-in-Interior-clause-fault
 returns-in_err-grown-in-Interior-clause-fault g t c =
-    let pages = drafted c.args.draft.now.sheets.items (g.T.Pages.step c.args.t.now).images in
-    let given = (g.T.Pages.step c.insert_below.new.t).refusal in
+    let G = g.T.Pages in
+    let looked = G.step c.child_node.new.t in
+    let new = c.insert_below.new.t in
+    let sheets = c.args.draft.now.sheets.items in
     let child = c.args.child.now in
-    let ways = c.in-Interior.ways in
+    let below = c.child_at-below.result in
     let e = c.args.entry.now in
+    let ways = c.in-Interior.ways in
     let i = c.ways_before-i.result in
     let levels = c.args.levels in
-    let fault = c.in_err-grown-in-Interior.field-0.0 in
-    let at : page_at pages child.page ≡ Some (Interior ways.0 ways.1) = c.in_ok-entries.ensures.node ∙ ap (λ (n : Node). Some (content_of n)) c.in-Interior.is in
-    let m = middle_is e.key c.copied.result pages child c.child_at-below.result ways.0 ways.1 i at c.copied.ensures c.ways_before-i.ensures.within c.ways_before-i.ensures.before c.ways_before-i.ensures.behind c.child_at-below.ensures in
-    let P : List (List ℕ) → Type 0 = λ (im : List (List ℕ)). HasCause given (BreaksGrowth e (drafted c.args.draft.now.sheets.items im) (levels - 1) c.child_at-below.result) fault in
-    let Q : Child → Type 0 = λ (d : Child). HasCause given (BreaksGrowth e pages (levels - 1) d) fault in
-    let h = subst Q m.is (subst P c.child_node.ensures.images c.in_err-grown-in-Interior.ensures.fault) in
+    let calls = c.in_err-grown-in-Interior.ensures.failed in
     let up : suc (levels - 1) ≡ levels = omega (arith, c.if-levels-gt0.true) in
-    let all = subst (λ (n : ℕ). HasCause given (BreaksGrowth e pages n child) fault) up (fault_below given fault e pages (levels - 1) child ways.0 ways.1 i at m.around h) in
     let p = err_from_is_err_and c.from_residual-in_err-grown-in-Interior.result c.from_residual-in_err-grown-in-Interior.ensures.1 in
-    rw (p.1, p.2) all
+    rw (p.1, p.2) (fails_by_map (G.causes c.child_node.new.t new) (G.causes c.args.t.now new) (G.step new) (λ pages. BreaksGrowth e (drafted sheets pages) (levels - 1) below) (λ pages. BreaksGrowth e (drafted sheets pages) levels child)
+    (λ r x. g.met.T.Pages.later c.args.t.now c.child_node.new.t new r c.in_ok-entries.ensures.calls.outside x)
+    (λ images page agrees h.
+    let before = agrees_before looked (G.step new) images calls.looks agrees in
+    let pages = drafted sheets images in
+    let at : page_at pages child.page ≡ Some (Interior ways.0 ways.1) = c.in_ok-entries.ensures.node images before ∙ ap (λ (n : Node). Some (content_of n)) c.in-Interior.is in
+    let m = middle_is e.key c.copied.result pages child c.child_at-below.result ways.0 ways.1 i at c.copied.ensures c.ways_before-i.ensures.within c.ways_before-i.ensures.before c.ways_before-i.ensures.behind c.child_at-below.ensures in
+    let here = subst (λ (d : Child). BreaksGrowth e pages (levels - 1) d page) m.is h in
+    subst (λ (n : ℕ). BreaksGrowth e pages n child page) up (growth_below e pages (levels - 1) child ways.0 ways.1 i page at m.around here)) c.in_err-grown-in-Interior.field-0.0 c.in_err-grown-in-Interior.ensures.fault)
 
 pub grow_above-requires-clause-ways : goal.grow_above-requires-clause-ways
 grow_above-requires-clause-ways g t c =
     let step = g.T.Pages.step c.args.t.now in
+    let looked = g.T.Pages.step c.child_node.new.t in
     let sheets = c.args.draft.now.sheets.items in
-    let pages = drafted sheets step.images in
+    let pages = drafted sheets looked.images in
     let child = c.args.child.now in
+    let e = c.args.entry.now in
+    let levels = c.args.levels in
     let ways = c.in-Interior.ways in
-    let at : page_at pages child.page ≡ Some (Interior ways.0 ways.1) = c.in_ok-entries.ensures.node ∙ ap (λ (n : Node). Some (content_of n)) c.in-Interior.is in
+    let i = c.ways_before-i.result in
+    let at : page_at pages child.page ≡ Some (Interior ways.0 ways.1) = c.in_ok-entries.ensures.node looked.images (agrees_now looked) ∙ ap (λ (n : Node). Some (content_of n)) c.in-Interior.is in
     let is = at_is_page pages child.page (Interior ways.0 ways.1) at in
-    let count : length pages ≡ length (g.T.Pages.step c.insert_below.new.t).images = drafted_length sheets step.images ∙ ap length (sym c.child_node.ensures.images) ∙ ap length (sym c.insert_below.ensures.images) in
+    let count : length pages ≡ length (g.T.Pages.step c.insert_below.new.t).images = drafted_length sheets looked.images ∙ sym c.in_ok-grown-in-Interior.ensures.calls.edits.count in
     subst (λ (n : ℕ). is_page child.page n (Interior ways.0 ways.1) ≡ true) count is
 
 pub grow_above-requires-clause-divided : goal.grow_above-requires-clause-divided
 grow_above-requires-clause-divided g t c =
-    let pages = drafted c.args.draft.now.sheets.items (g.T.Pages.step c.args.t.now).images in
+    let step = g.T.Pages.step c.args.t.now in
+    let looked = g.T.Pages.step c.child_node.new.t in
+    let sheets = c.args.draft.now.sheets.items in
+    let pages = drafted sheets looked.images in
     let child = c.args.child.now in
+    let e = c.args.entry.now in
+    let levels = c.args.levels in
     let ways = c.in-Interior.ways in
-    let key = c.args.entry.now.key in
     let i = c.ways_before-i.result in
-    let at : page_at pages child.page ≡ Some (Interior ways.0 ways.1) = c.in_ok-entries.ensures.node ∙ ap (λ (n : Node). Some (content_of n)) c.in-Interior.is in
-    let m = middle_is key c.copied.result pages child c.child_at-below.result ways.0 ways.1 i at c.copied.ensures c.ways_before-i.ensures.within c.ways_before-i.ensures.before c.ways_before-i.ensures.behind c.child_at-below.ensures in
-    subst (λ (d : Child). IsDivided d c.in_ok-grown-in-Interior.grown) m.is c.in_ok-grown-in-Interior.ensures.grown.divided
+    let at : page_at pages child.page ≡ Some (Interior ways.0 ways.1) = c.in_ok-entries.ensures.node looked.images (agrees_now looked) ∙ ap (λ (n : Node). Some (content_of n)) c.in-Interior.is in
+    let m = middle_is e.key c.copied.result pages child c.child_at-below.result ways.0 ways.1 i at c.copied.ensures c.ways_before-i.ensures.within c.ways_before-i.ensures.before c.ways_before-i.ensures.behind c.child_at-below.ensures in
+    let between = g.T.Pages.step c.insert_below.new.t in
+    subst (λ (d : Child). IsDivided d c.in_ok-grown-in-Interior.grown) m.is (c.in_ok-grown-in-Interior.ensures.grown between.images (agrees_now between)).divided
+
+pub returns-in-Leaf-clause-calls : goal.returns-in-Leaf-clause-calls
+returns-in-Leaf-clause-calls g t c =
+    takes_takes g.T.Pages g.met.T.Pages.then c.args.t.now c.child_node.new.t c.insert_here.new.t (reaches_takes g.T.Pages c.args.t.now c.child_node.new.t c.in_ok-entries.ensures.calls) c.insert_here.ensures.calls
+
+pub returns-in-Leaf-clause-failed : goal.returns-in-Leaf-clause-failed
+returns-in-Leaf-clause-failed g t c =
+    on_err_same c.insert_here.result (OnlyReaches g.T.Pages c.args.t.now) c.child_node.new.t c.insert_here.new.t c.in_ok-entries.ensures.calls c.insert_here.ensures.failed
 
 pub returns-in-Leaf-clause-grown : goal.returns-in-Leaf-clause-grown
 returns-in-Leaf-clause-grown g t c =
@@ -105,53 +145,96 @@ returns-in-Leaf-clause-grown g t c =
     let looked = g.T.Pages.step c.child_node.new.t in
     let last = g.T.Pages.step c.insert_here.new.t in
     let sheets = c.args.draft.now.sheets.items in
-    let pages = drafted sheets step.images in
-    let after = drafted c.insert_here.new.draft.sheets.items last.images in
+    let s1 = c.insert_here.new.draft.sheets.items in
     let child = c.args.child.now in
     let e = c.args.entry.now in
-    let at : page_at pages child.page ≡ Some (Leaf c.in-Leaf.entries) = c.in_ok-entries.ensures.node ∙ ap (λ (n : Node). Some (content_of n)) c.in-Leaf.is in
-    let takes = takes_none step looked c.child_node.ensures.images c.child_node.ensures.spares c.child_node.ensures.step c.child_node.ensures.changes c.child_node.ensures.kept in
-    ok_grows c.insert_here.result (Grows e looked last (drafted sheets looked.images) after 0 child) (Grows e step last pages after c.args.levels child)
-    (λ grown h. leaf_grows e step last pages after c.args.levels child grown c.in-Leaf.entries at (grows_looked e step looked last sheets after 0 child grown takes c.child_node.ensures.spares h)) c.insert_here.ensures.grows
+    let looks = c.in_ok-entries.ensures.calls.looks in
+    ok_grows c.insert_here.result (λ grown. Shows looked (λ pages. Grows e (with_images pages looked) (with_images pages last) (drafted sheets pages) (drafted s1 pages) 0 child grown))
+    (λ grown. Shows last (λ pages. Grows e (with_images pages step) (with_images pages last) (drafted sheets pages) (drafted s1 pages) c.args.levels child grown))
+    (λ grown h images agrees.
+    let before = c.insert_here.ensures.calls.agrees images agrees in
+    let at : page_at (drafted sheets images) child.page ≡ Some (Leaf c.in-Leaf.entries) = c.in_ok-entries.ensures.node images before ∙ ap (λ (n : Node). Some (content_of n)) c.in-Leaf.is in
+    let takes = takes_looked images step looked (before.count ∙ looks.count) looks in
+    leaf_grows e (with_images images step) (with_images images last) (drafted sheets images) (drafted s1 images) c.args.levels child grown c.in-Leaf.entries at
+    (grows_looked e (with_images images step) (with_images images looked) (with_images images last) sheets (drafted s1 images) 0 child grown takes looks.spares (h images before))) c.insert_here.ensures.grows
 
 pub returns-in-Leaf-clause-fault : goal.returns-in-Leaf-clause-fault
 returns-in-Leaf-clause-fault g t c =
-    let step = g.T.Pages.step c.args.t.now in
+    let G = g.T.Pages in
     let sheets = c.args.draft.now.sheets.items in
-    let pages = drafted sheets step.images in
     let child = c.args.child.now in
     let e = c.args.entry.now in
-    let r = c.insert_here.result in
-    let given = (g.T.Pages.step c.insert_here.new.t).refusal in
-    let at : page_at pages child.page ≡ Some (Leaf c.in-Leaf.entries) = c.in_ok-entries.ensures.node ∙ ap (λ (n : Node). Some (content_of n)) c.in-Leaf.is in
-    let P : List (List ℕ) → Type 0 = λ (im : List (List ℕ)). IfErr r (HasCause given (BreaksGrowth e (drafted sheets im) 0 child)) in
-    err_grows r (HasCause given (BreaksGrowth e pages 0 child)) (HasCause given (BreaksGrowth e pages c.args.levels child))
-    (λ fault h. leaf_fault given fault e pages c.args.levels child c.in-Leaf.entries at h) (subst P c.child_node.ensures.images c.insert_here.ensures.fault)
+    let looked = G.step c.child_node.new.t in
+    let last = G.step c.insert_here.new.t in
+    let Outer = G.causes c.args.t.now c.insert_here.new.t in
+    let B : List (List ℕ) → ℕ → Type 0 = λ (pages : List (List ℕ)). BreaksGrowth e (drafted sheets pages) c.args.levels child in
+    err_grows c.insert_here.result (λ fault. (page : ℕ) × (fault ≡ Broken page) × Shows looked (λ pages. BreaksGrowth e (drafted sheets pages) 0 child page)) (FailsBy Outer last B)
+    (λ fault h. broken_by Outer last B fault h.0 h.1 (λ images agrees.
+    let before = c.insert_here.ensures.calls.agrees images agrees in
+    let at : page_at (drafted sheets images) child.page ≡ Some (Leaf c.in-Leaf.entries) = c.in_ok-entries.ensures.node images before ∙ ap (λ (n : Node). Some (content_of n)) c.in-Leaf.is in
+    leaf_growth e (drafted sheets images) c.args.levels child c.in-Leaf.entries h.0 at (h.2 images before))) c.insert_here.ensures.fault
+
+pub returns-in_ok-grown-in-Interior-clause-calls : goal.returns-in_ok-grown-in-Interior-clause-calls
+returns-in_ok-grown-in-Interior-clause-calls g t c =
+    let G = g.T.Pages in
+    let law = g.met.T.Pages.then in
+    takes_takes G law c.args.t.now c.child_node.new.t c.grow_above.new.t (reaches_takes G c.args.t.now c.child_node.new.t c.in_ok-entries.ensures.calls)
+    (takes_takes G law c.child_node.new.t c.insert_below.new.t c.grow_above.new.t c.in_ok-grown-in-Interior.ensures.calls c.grow_above.ensures.calls)
 
 pub returns-in_ok-grown-in-Interior-clause-grown : goal.returns-in_ok-grown-in-Interior-clause-grown
-returns-in_ok-grown-in-Interior-clause-grown g t c =
-    let step = g.T.Pages.step c.args.t.now in
-    let looked = g.T.Pages.step c.child_node.new.t in
-    let between = g.T.Pages.step c.insert_below.new.t in
-    let last = g.T.Pages.step c.grow_above.new.t in
+returns-in_ok-grown-in-Interior-clause-grown g t c = λ images agrees.
+    let step0 = g.T.Pages.step c.args.t.now in
+    let looked0 = g.T.Pages.step c.child_node.new.t in
+    let between0 = g.T.Pages.step c.insert_below.new.t in
+    let last0 = g.T.Pages.step c.grow_above.new.t in
+    let agrees2 = c.grow_above.ensures.calls.agrees images agrees in
+    let before = c.in_ok-grown-in-Interior.ensures.calls.agrees images agrees2 in
+    let looks = c.in_ok-entries.ensures.calls.looks in
+    let step = with_images images step0 in
+    let looked = with_images images looked0 in
+    let between = with_images images between0 in
+    let last = with_images images last0 in
     let sheets = c.args.draft.now.sheets.items in
     let s1 = c.insert_below.new.draft.sheets.items in
     let s2 = c.grow_above.new.draft.sheets.items in
-    let pages = drafted sheets step.images in
     let child = c.args.child.now in
     let ways = c.in-Interior.ways in
     let e = c.args.entry.now in
     let i = c.ways_before-i.result in
     let levels = c.args.levels in
     let grown = c.in_ok-grown-in-Interior.grown in
-    let at : page_at pages child.page ≡ Some (Interior ways.0 ways.1) = c.in_ok-entries.ensures.node ∙ ap (λ (n : Node). Some (content_of n)) c.in-Interior.is in
+    let pages = drafted sheets images in
+    let at : page_at pages child.page ≡ Some (Interior ways.0 ways.1) = c.in_ok-entries.ensures.node images before ∙ ap (λ (n : Node). Some (content_of n)) c.in-Interior.is in
     let m = middle_is e.key c.copied.result pages child c.child_at-below.result ways.0 ways.1 i at c.copied.ensures c.ways_before-i.ensures.within c.ways_before-i.ensures.before c.ways_before-i.ensures.behind c.child_at-below.ensures in
     let fits : keys_fit child.low child.high (separator_keys ways.1) ≡ true =
     sym (ap (λ (n : Node). content_fits child.low child.high (Some (content_of n))) c.in-Interior.is) ∙ c.in_ok-entries.ensures.fits in
-    let takes = takes_none step looked c.child_node.ensures.images c.child_node.ensures.spares c.child_node.ensures.step c.child_node.ensures.changes c.child_node.ensures.kept in
-    let lower = grows_looked e step looked between sheets (drafted s1 between.images) (levels - 1) c.child_at-below.result grown takes c.child_node.ensures.spares c.in_ok-grown-in-Interior.ensures.grown in
-    let middle = subst (λ (d : Child). Grows e step between pages (drafted s1 between.images) (levels - 1) d grown) m.is lower in
+    let takes = takes_looked images step0 looked0 (before.count ∙ looks.count) looks in
+    let lower = grows_looked e step looked between sheets (drafted s1 images) (levels - 1) c.child_at-below.result grown takes looks.spares (c.in_ok-grown-in-Interior.ensures.grown images agrees2) in
+    let middle = subst (λ (d : Child). Grows e step between pages (drafted s1 images) (levels - 1) d grown) m.is lower in
     let differs = subst (λ (d : Child). d.page ≡ 0 → ⊥) m.is c.if-below-eq0.false in
     let up : suc (levels - 1) ≡ levels = omega (arith, c.if-levels-gt0.true) in
-    subst (λ (n : ℕ). Grows e step last pages (drafted s2 last.images) n child c.grow_above.result) up
-    (above_grows e step between last sheets s1 s2 (levels - 1) child ways.0 ways.1 i grown c.grow_above.result at fits m.around differs middle c.grow_above.ensures.grown c.grow_above.ensures.above)
+    subst (λ (n : ℕ). Grows e step last pages (drafted s2 images) n child c.grow_above.result) up
+    (above_grows e step between last sheets s1 s2 (levels - 1) child ways.0 ways.1 i grown c.grow_above.result at fits m.around differs middle (c.grow_above.ensures.grown images agrees2.count) (c.grow_above.ensures.above images agrees2.count))
+
+pub returns-in_ok-grown-in-Interior-clause-reached : goal.returns-in_ok-grown-in-Interior-clause-reached
+returns-in_ok-grown-in-Interior-clause-reached g t c =
+    let looked = g.T.Pages.step c.child_node.new.t in
+    let last = g.T.Pages.step c.grow_above.new.t in
+    let page : ℕ = c.args.child.now.page in
+    let agrees2 = c.grow_above.ensures.calls.agrees last.images (agrees_now last) in
+    let before = c.in_ok-grown-in-Interior.ensures.calls.agrees last.images agrees2 in
+    let lower = (c.in_ok-grown-in-Interior.ensures.grown last.images agrees2).takes in
+    let upper = (c.grow_above.ensures.grown last.images agrees2.count).takes in
+    upper.reached page (lower.reached page (reached_over last.images looked page before.count c.in_ok-entries.ensures.reached))
+
+pub returns-in_ok-grown-in-Interior-clause-used : goal.returns-in_ok-grown-in-Interior-clause-used
+returns-in_ok-grown-in-Interior-clause-used g t c =
+    let last = g.T.Pages.step c.grow_above.new.t in
+    let looked = with_images last.images (g.T.Pages.step c.child_node.new.t) in
+    let between = with_images last.images (g.T.Pages.step c.insert_below.new.t) in
+    let page : ℕ = c.args.child.now.page in
+    let agrees2 = c.grow_above.ensures.calls.agrees last.images (agrees_now last) in
+    let lower = (c.in_ok-grown-in-Interior.ensures.grown last.images agrees2).takes in
+    let upper = (c.grow_above.ensures.grown last.images agrees2.count).takes in
+    let here = ap (λ (x : List Bool). is_spare x page) c.in_ok-entries.ensures.calls.looks.spares ∙ c.in_ok-entries.ensures.used in
+    used_over between last _ page upper (used_over looked between _ page lower here)

@@ -1,25 +1,23 @@
-use Rattle.std.proofs.Common.{◌∙◌, ℕ, List, length, ap, subst, arith}
+use Rattle.std.proofs.Common.{◌≡◌, ◌∙◌, inl, ℕ, List, None, length, ap, subst, arith}
 use Rattle.std.specs.Prelude.{count_by}
 use Rattle.fsd_bytes.specs.declared.key.Key.{Key}
-use Rattle.name_page.specs.Pages.{Step, reaches, changes, free_count}
-use Rattle.name_btree.specs.Map.{LeavesTree}
-use Rattle.name_btree.proofs.CommitLaws.{commit_most_reached, commit_most_changed, commit_reaches, commit_changes}
+use Rattle.name_page.specs.Pages.{Step, with_images, reaches, changes, free_count}
+use Rattle.fsd_bytes.specs.declared.refusal.Refusal.TheVariants.{NameTableFull}
+use Rattle.fsd_formats.specs.declared.entry.Entry.{Entry}
+use Rattle.fsd_table.specs.Tree.{IsTree, table_of}
+use Rattle.name_page.specs.Lookups.{entry_with}
+use Rattle.name_page.specs.Looks.{OnlyWalks}
+use Rattle.name_page.proofs.LookLaws.{reaches_walks, spare_walks, walks_then, walks_edits, edits_then, agrees_now, agrees_before}
+use Rattle.name_btree.specs.declared.fault.TreeFault.TheVariants.{Pages}
+use Rattle.name_btree.specs.Fault.{FailsTree, FailsTable, IsNoTree}
+use Rattle.name_btree.proofs.CauseLaws.{fails_by_map, same_err}
+use Rattle.name_btree.proofs.SearchLaws.{shown_tree, shown_with, leaves_walks, not_full}
+use Rattle.name_btree.specs.Draft.{drafted}
+use Rattle.name_btree.specs.Grown.{Inserts, BreaksNew}
+use Rattle.name_btree.specs.Map.{LeavesTree, HasLeft, without_all}
+use Rattle.name_btree.proofs.CommitLaws.{commit_reaches, commit_changes, commit_edits}
 use Rattle.name_btree.proofs.SpareLaws.{commit_free, inserted_table}
 use Rattle.name_btree.proofs.inserting.insert.Goals as goal
-
-pub returns-clause-step : goal.returns-clause-step
-returns-clause-step g c =
-    let last = g.T.Pages.step c.insert_in.new.t in
-    let d = c.insert_in.new.draft in
-    ap (λ (s : Step). s.most_reached) c.commit.ensures.step ∙ commit_most_reached d.freed.items d.sheets.items last
-    ∙ c.insert_in.ensures.step ∙ c.remove_all.ensures.step ∙ ap (λ (s : Step). s.most_reached) c.in_default.ensures.step
-
-pub returns-clause-most : goal.returns-clause-most
-returns-clause-most g c =
-    let last = g.T.Pages.step c.insert_in.new.t in
-    let d = c.insert_in.new.draft in
-    ap (λ (s : Step). s.most_changed) c.commit.ensures.step ∙ commit_most_changed d.freed.items d.sheets.items last
-    ∙ c.insert_in.ensures.most ∙ c.remove_all.ensures.still.most_changed ∙ ap (λ (s : Step). s.most_changed) c.in_default.ensures.step
 
 pub returns-clause-reaches : goal.returns-clause-reaches
 returns-clause-reaches g c =
@@ -34,8 +32,8 @@ returns-clause-changes g c =
     let cleared = g.T.Pages.step c.remove_all.new.t in
     let last = g.T.Pages.step c.insert_in.new.t in
     let d = c.insert_in.new.draft in
-    let inserted = c.in_default-insert_in.ensures.inserted in
-    let still = c.remove_all.ensures.still in
+    let inserted = c.in_default-insert_in.ensures.inserted last.images (agrees_now last) in
+    let still = c.remove_all.ensures.calls.looks in
     let written = ap changes c.commit.ensures.step in
     let promised = ap changes c.in_default.ensures.step in
     omega (
@@ -55,22 +53,274 @@ pub returns-clause-taken : goal.returns-clause-taken
 returns-clause-taken g c =
     let last = g.T.Pages.step c.insert_in.new.t in
     let d = c.insert_in.new.draft in
-    let inserted = c.in_default-insert_in.ensures.inserted in
+    let inserted = c.in_default-insert_in.ensures.inserted last.images (agrees_now last) in
     let written = ap free_count c.commit.ensures.step in
     let promised = ap free_count c.in_default.ensures.step in
-    let same = ap (count_by (λ spare. spare)) c.remove_all.ensures.spares in
+    let same = ap (count_by (λ spare. spare)) c.remove_all.ensures.calls.looks.spares in
     omega (arith, written, commit_free d.freed.items d.sheets.items last, promised, same, inserted.takes.free, inserted.few)
 
 pub returns-clause-inserted : goal.returns-clause-inserted
-returns-clause-inserted g c =
-    let step = g.T.Pages.step c.args.t.now in
-    let cleared = g.T.Pages.step c.remove_all.new.t in
-    let last = g.T.Pages.step c.insert_in.new.t in
-    let new = g.T.Pages.step c.commit.new.t in
+returns-clause-inserted g c = λ trusted.
+    let G = g.T.Pages in
+    let law = g.met.T.Pages in
+    let step = G.step c.args.t.now in
+    let s1 = c.spare.new.self in
+    let s2 = c.remove_all.new.t in
+    let s3 = c.insert_in.new.t in
+    let new = c.commit.new.t in
+    let cleared = G.step s2 in
+    let last = G.step s3 in
     let keys = c.args.gone.now.items in
     let d = c.remove_all.new.draft in
-    let images = c.remove_all.ensures.images ∙ ap (λ (s : Step). s.images) c.in_default.ensures.step in
-    let spares = c.remove_all.ensures.spares ∙ ap (λ (s : Step). s.spares) c.in_default.ensures.step in
-    let by_images = subst (λ (im : List (List ℕ)). LeavesTree im d c.as_slice.result.now) (ap (λ (s : Step). s.images) c.in_default.ensures.step) c.in_default-remove_all.ensures.left in
+    let t3 = law.trust s3 new c.commit.ensures.outside trusted in
+    let takes = c.in_default-insert_in.ensures.calls in
+    let t2 = takes.edits.trust t3 in
+    let calls = c.in_default-remove_all.ensures.calls in
+    let t1 = calls.trust t2 in
+    let images = calls.stays t2 ∙ c.in_default.ensures.stays t1 in
+    let spares = calls.looks.spares ∙ ap (λ (s : Step). s.spares) c.in_default.ensures.step in
+    let agrees2 = takes.agrees last.images (agrees_now last) in
+    let all = takes.stays t3 ∙ images in
+    let by_images = subst (λ (im : List (List ℕ)). LeavesTree im d c.as_slice.result.now) all (c.in_default-remove_all.ensures.left last.images agrees2) in
     let left = subst (λ (ks : List Key). LeavesTree step.images d ks) c.as_slice.ensures.value by_images in
-    inserted_table step cleared last new d c.insert_in.new.draft c.args.entry.now keys images spares left c.in_default-insert_in.ensures.inserted c.in_default-insert_in.ensures.freed c.commit.ensures.step c.commit.ensures.images (g.met.T.Pages.flags c.insert_in.new.t)
+    let inserts0 = c.in_default-insert_in.ensures.inserted last.images (agrees_now last) in
+    let e = c.args.entry.now in
+    let d2 = c.insert_in.new.draft in
+    let inserts1 = subst (λ (im : List (List ℕ)). Inserts e (with_images im cleared) last (drafted d.sheets.items im) (drafted d2.sheets.items last.images)) (takes.stays t3) inserts0 in
+    let inserts2 = subst (λ (im : List (List ℕ)). Inserts e cleared last (drafted d.sheets.items im) (drafted d2.sheets.items last.images)) images inserts1 in
+    inserted_table step cleared last (G.step new) d d2 e keys images spares left inserts2 c.in_default-insert_in.ensures.freed c.commit.ensures.step c.commit.ensures.images (law.flags s3)
+
+pub returns-clause-calls : goal.returns-clause-calls
+returns-clause-calls g c =
+    let G = g.T.Pages in
+    let law = g.met.T.Pages in
+    let old = c.args.t.now in
+    let s1 = c.spare.new.self in
+    let s2 = c.remove_all.new.t in
+    let sp = c.in_default.ensures in
+    let first : OnlyWalks G old s1 = spare_walks G old s1 8 sp.outside (law.trust old s1 sp.outside) sp.kept sp.stays sp.step in
+    let w2 : OnlyWalks G old s2 = walks_then G law.then old s1 s2 first (reaches_walks G s1 s2 c.in_default-remove_all.ensures.calls) in
+    let s3 = c.insert_in.new.t in
+    let new = c.commit.new.t in
+    let d = c.insert_in.new.draft in
+    edits_then G law.then old s2 new (walks_edits G old s2 w2) (edits_then G law.then s2 s3 new c.in_default-insert_in.ensures.calls.edits
+    (commit_edits G s3 new d.freed.items d.sheets.items c.commit.ensures.outside (law.trust s3 new c.commit.ensures.outside) c.commit.ensures.step c.commit.ensures.images))
+
+pub returns-in-Err-remove_all-clause-left : goal.returns-in-Err-remove_all-clause-left
+returns-in-Err-remove_all-clause-left g c =
+    let G = g.T.Pages in
+    let law = g.met.T.Pages in
+    let old = c.args.t.now in
+    let s1 = c.spare.new.self in
+    let s2 = c.remove_all.new.t in
+    let sp = c.in_default.ensures in
+    let first : OnlyWalks G old s1 = spare_walks G old s1 8 sp.outside (law.trust old s1 sp.outside) sp.kept sp.stays sp.step in
+    let w2 : OnlyWalks G old s2 = walks_then G law.then old s1 s2 first (reaches_walks G s1 s2 c.in-Err-remove_all.ensures.calls) in
+    let changed : (G.step s2).changed ≡ (G.step old).changed = c.in-Err-remove_all.ensures.calls.looks.changed ∙ ap (λ (s : Step). s.changed) sp.step in
+    let fault = c.in-Err-remove_all.fault in
+    let s = G.step s2 in
+    let mine = fails_by_map (G.causes s1 s2) (G.causes old s2) s (λ pages page. IsNoTree pages) (λ pages page. IsNoTree pages) (λ r x. law.later old s1 s2 r sp.outside x) (λ images page is h. h) fault c.in-Err-remove_all.ensures.fault in
+    let fails : FailsTree G old s2 fault = shown_tree G (G.causes old s2) s2 fault mine in
+    let f = c.fault_of in
+    let new = f.new.t in
+    leaves_walks G old s2 new f.ensures.calls.trust f.result w2 changed (f.ensures.left old fails)
+
+pub returns-in-Err-remove_all-clause-fault : goal.returns-in-Err-remove_all-clause-fault
+returns-in-Err-remove_all-clause-fault g c =
+    let G = g.T.Pages in
+    let law = g.met.T.Pages in
+    let old = c.args.t.now in
+    let s1 = c.spare.new.self in
+    let s2 = c.remove_all.new.t in
+    let sp = c.in_default.ensures in
+    let first : OnlyWalks G old s1 = spare_walks G old s1 8 sp.outside (law.trust old s1 sp.outside) sp.kept sp.stays sp.step in
+    let w2 : OnlyWalks G old s2 = walks_then G law.then old s1 s2 first (reaches_walks G s1 s2 c.in-Err-remove_all.ensures.calls) in
+    let changed : (G.step s2).changed ≡ (G.step old).changed = c.in-Err-remove_all.ensures.calls.looks.changed ∙ ap (λ (s : Step). s.changed) sp.step in
+    let fault = c.in-Err-remove_all.fault in
+    let s = G.step s2 in
+    let mine = fails_by_map (G.causes s1 s2) (G.causes old s2) s (λ pages page. IsNoTree pages) (λ pages page. IsNoTree pages) (λ r x. law.later old s1 s2 r sp.outside x) (λ images page is h. h) fault c.in-Err-remove_all.ensures.fault in
+    let fails : FailsTree G old s2 fault = shown_tree G (G.causes old s2) s2 fault mine in
+    let f = c.fault_of in
+    let new = f.new.t in
+    inl (f.ensures.cause old w2.outside fails)
+
+pub returns-in-Err-remove_all-clause-full : goal.returns-in-Err-remove_all-clause-full
+returns-in-Err-remove_all-clause-full g c =
+    let G = g.T.Pages in
+    let law = g.met.T.Pages in
+    let old = c.args.t.now in
+    let s1 = c.spare.new.self in
+    let s2 = c.remove_all.new.t in
+    let sp = c.in_default.ensures in
+    let first : OnlyWalks G old s1 = spare_walks G old s1 8 sp.outside (law.trust old s1 sp.outside) sp.kept sp.stays sp.step in
+    let w2 : OnlyWalks G old s2 = walks_then G law.then old s1 s2 first (reaches_walks G s1 s2 c.in-Err-remove_all.ensures.calls) in
+    let changed : (G.step s2).changed ≡ (G.step old).changed = c.in-Err-remove_all.ensures.calls.looks.changed ∙ ap (λ (s : Step). s.changed) sp.step in
+    let fault = c.in-Err-remove_all.fault in
+    let s = G.step s2 in
+    let mine = fails_by_map (G.causes s1 s2) (G.causes old s2) s (λ pages page. IsNoTree pages) (λ pages page. IsNoTree pages) (λ r x. law.later old s1 s2 r sp.outside x) (λ images page is h. h) fault c.in-Err-remove_all.ensures.fault in
+    let fails : FailsTree G old s2 fault = shown_tree G (G.causes old s2) s2 fault mine in
+    let f = c.fault_of in
+    let new = f.new.t in
+    let table = f.ensures.cause old w2.outside fails in
+    (λ is. absurd (not_full G law.outer old new (free_count (G.step old)) (subst (FailsTable G old new) (same_err f.result (Pages (NameTableFull (free_count (G.step old)))) is) table)), λ few. absurd (let h = c.in_default.is in let no = sp.full.1 few in cc))
+
+pub returns-in-Err-insert_in-clause-kept : goal.returns-in-Err-insert_in-clause-kept
+returns-in-Err-insert_in-clause-kept g c =
+    let G = g.T.Pages in
+    let law = g.met.T.Pages in
+    let old = c.args.t.now in
+    let s1 = c.spare.new.self in
+    let s2 = c.remove_all.new.t in
+    let sp = c.in_default.ensures in
+    let first : OnlyWalks G old s1 = spare_walks G old s1 8 sp.outside (law.trust old s1 sp.outside) sp.kept sp.stays sp.step in
+    let w2 : OnlyWalks G old s2 = walks_then G law.then old s1 s2 first (reaches_walks G s1 s2 c.in_default-remove_all.ensures.calls) in
+    let s3 = c.insert_in.new.t in
+    let calls = c.in-Err-insert_in.ensures.failed in
+    let w3 : OnlyWalks G old s3 = walks_then G law.then old s2 s3 w2 (reaches_walks G s2 s3 calls) in
+    let changed : (G.step s3).changed ≡ (G.step old).changed = calls.looks.changed ∙ c.in_default-remove_all.ensures.calls.looks.changed ∙ ap (λ (s : Step). s.changed) sp.step in
+    let fault = c.in-Err-insert_in.fault in
+    let s = G.step s3 in
+    let e = c.args.entry.now in
+    let keys = c.args.gone.now.items in
+    let d = c.remove_all.new.draft in
+    let Q : List Entry → Type 0 = λ (table : List Entry). entry_with e.key (without_all keys table) ≡ None in
+    let mine = fails_by_map (G.causes s2 s3) (G.causes old s3) s (λ pages. BreaksNew e (drafted d.sheets.items pages)) (λ images page. (height : ℕ) → IsTree images height → Q (table_of images height) → ⊥) (λ r x. law.later old s2 s3 r w2.outside x)
+    (λ images page agrees h height tree none.
+    let before = agrees_before (G.step s2) s images calls.looks agrees in
+    let left0 = c.in_default-remove_all.ensures.left images before height tree in
+    let left = subst (λ (ks : List Key). HasLeft images d ks height) c.as_slice.ensures.value left0 in
+    h left.height_after left.tree (ap (entry_with e.key) left.table ∙ none)) fault c.in-Err-insert_in.ensures.fault in
+    let fails : FailsTree G old s3 fault = shown_with G (G.causes old s3) s3 Q fault mine
+    (λ t height tree. let now = subst (λ (p : List (List ℕ)). IsTree p height) (w3.stays t) tree in ap (λ (p : List (List ℕ)). entry_with e.key (without_all keys (table_of p height))) (w3.stays t) ∙ c.requires.new (w3.trust t) height now) in
+    let f = c.fault_of-in-Err-insert_in in
+    let new = f.new.t in
+    walks_then G law.then old s3 new w3 f.ensures.calls
+
+pub returns-in-Err-insert_in-clause-calls : goal.returns-in-Err-insert_in-clause-calls
+returns-in-Err-insert_in-clause-calls g c =
+    let G = g.T.Pages in
+    let law = g.met.T.Pages in
+    let old = c.args.t.now in
+    let s1 = c.spare.new.self in
+    let s2 = c.remove_all.new.t in
+    let sp = c.in_default.ensures in
+    let first : OnlyWalks G old s1 = spare_walks G old s1 8 sp.outside (law.trust old s1 sp.outside) sp.kept sp.stays sp.step in
+    let w2 : OnlyWalks G old s2 = walks_then G law.then old s1 s2 first (reaches_walks G s1 s2 c.in_default-remove_all.ensures.calls) in
+    let s3 = c.insert_in.new.t in
+    let calls = c.in-Err-insert_in.ensures.failed in
+    let w3 : OnlyWalks G old s3 = walks_then G law.then old s2 s3 w2 (reaches_walks G s2 s3 calls) in
+    let changed : (G.step s3).changed ≡ (G.step old).changed = calls.looks.changed ∙ c.in_default-remove_all.ensures.calls.looks.changed ∙ ap (λ (s : Step). s.changed) sp.step in
+    let fault = c.in-Err-insert_in.fault in
+    let s = G.step s3 in
+    let e = c.args.entry.now in
+    let keys = c.args.gone.now.items in
+    let d = c.remove_all.new.draft in
+    let Q : List Entry → Type 0 = λ (table : List Entry). entry_with e.key (without_all keys table) ≡ None in
+    let mine = fails_by_map (G.causes s2 s3) (G.causes old s3) s (λ pages. BreaksNew e (drafted d.sheets.items pages)) (λ images page. (height : ℕ) → IsTree images height → Q (table_of images height) → ⊥) (λ r x. law.later old s2 s3 r w2.outside x)
+    (λ images page agrees h height tree none.
+    let before = agrees_before (G.step s2) s images calls.looks agrees in
+    let left0 = c.in_default-remove_all.ensures.left images before height tree in
+    let left = subst (λ (ks : List Key). HasLeft images d ks height) c.as_slice.ensures.value left0 in
+    h left.height_after left.tree (ap (entry_with e.key) left.table ∙ none)) fault c.in-Err-insert_in.ensures.fault in
+    let fails : FailsTree G old s3 fault = shown_with G (G.causes old s3) s3 Q fault mine
+    (λ t height tree. let now = subst (λ (p : List (List ℕ)). IsTree p height) (w3.stays t) tree in ap (λ (p : List (List ℕ)). entry_with e.key (without_all keys (table_of p height))) (w3.stays t) ∙ c.requires.new (w3.trust t) height now) in
+    let f = c.fault_of-in-Err-insert_in in
+    let new = f.new.t in
+    walks_edits G old new (walks_then G law.then old s3 new w3 f.ensures.calls)
+
+pub returns-in-Err-insert_in-clause-left : goal.returns-in-Err-insert_in-clause-left
+returns-in-Err-insert_in-clause-left g c =
+    let G = g.T.Pages in
+    let law = g.met.T.Pages in
+    let old = c.args.t.now in
+    let s1 = c.spare.new.self in
+    let s2 = c.remove_all.new.t in
+    let sp = c.in_default.ensures in
+    let first : OnlyWalks G old s1 = spare_walks G old s1 8 sp.outside (law.trust old s1 sp.outside) sp.kept sp.stays sp.step in
+    let w2 : OnlyWalks G old s2 = walks_then G law.then old s1 s2 first (reaches_walks G s1 s2 c.in_default-remove_all.ensures.calls) in
+    let s3 = c.insert_in.new.t in
+    let calls = c.in-Err-insert_in.ensures.failed in
+    let w3 : OnlyWalks G old s3 = walks_then G law.then old s2 s3 w2 (reaches_walks G s2 s3 calls) in
+    let changed : (G.step s3).changed ≡ (G.step old).changed = calls.looks.changed ∙ c.in_default-remove_all.ensures.calls.looks.changed ∙ ap (λ (s : Step). s.changed) sp.step in
+    let fault = c.in-Err-insert_in.fault in
+    let s = G.step s3 in
+    let e = c.args.entry.now in
+    let keys = c.args.gone.now.items in
+    let d = c.remove_all.new.draft in
+    let Q : List Entry → Type 0 = λ (table : List Entry). entry_with e.key (without_all keys table) ≡ None in
+    let mine = fails_by_map (G.causes s2 s3) (G.causes old s3) s (λ pages. BreaksNew e (drafted d.sheets.items pages)) (λ images page. (height : ℕ) → IsTree images height → Q (table_of images height) → ⊥) (λ r x. law.later old s2 s3 r w2.outside x)
+    (λ images page agrees h height tree none.
+    let before = agrees_before (G.step s2) s images calls.looks agrees in
+    let left0 = c.in_default-remove_all.ensures.left images before height tree in
+    let left = subst (λ (ks : List Key). HasLeft images d ks height) c.as_slice.ensures.value left0 in
+    h left.height_after left.tree (ap (entry_with e.key) left.table ∙ none)) fault c.in-Err-insert_in.ensures.fault in
+    let fails : FailsTree G old s3 fault = shown_with G (G.causes old s3) s3 Q fault mine
+    (λ t height tree. let now = subst (λ (p : List (List ℕ)). IsTree p height) (w3.stays t) tree in ap (λ (p : List (List ℕ)). entry_with e.key (without_all keys (table_of p height))) (w3.stays t) ∙ c.requires.new (w3.trust t) height now) in
+    let f = c.fault_of-in-Err-insert_in in
+    let new = f.new.t in
+    leaves_walks G old s3 new f.ensures.calls.trust f.result w3 changed (f.ensures.left old fails)
+
+pub returns-in-Err-insert_in-clause-fault : goal.returns-in-Err-insert_in-clause-fault
+returns-in-Err-insert_in-clause-fault g c =
+    let G = g.T.Pages in
+    let law = g.met.T.Pages in
+    let old = c.args.t.now in
+    let s1 = c.spare.new.self in
+    let s2 = c.remove_all.new.t in
+    let sp = c.in_default.ensures in
+    let first : OnlyWalks G old s1 = spare_walks G old s1 8 sp.outside (law.trust old s1 sp.outside) sp.kept sp.stays sp.step in
+    let w2 : OnlyWalks G old s2 = walks_then G law.then old s1 s2 first (reaches_walks G s1 s2 c.in_default-remove_all.ensures.calls) in
+    let s3 = c.insert_in.new.t in
+    let calls = c.in-Err-insert_in.ensures.failed in
+    let w3 : OnlyWalks G old s3 = walks_then G law.then old s2 s3 w2 (reaches_walks G s2 s3 calls) in
+    let changed : (G.step s3).changed ≡ (G.step old).changed = calls.looks.changed ∙ c.in_default-remove_all.ensures.calls.looks.changed ∙ ap (λ (s : Step). s.changed) sp.step in
+    let fault = c.in-Err-insert_in.fault in
+    let s = G.step s3 in
+    let e = c.args.entry.now in
+    let keys = c.args.gone.now.items in
+    let d = c.remove_all.new.draft in
+    let Q : List Entry → Type 0 = λ (table : List Entry). entry_with e.key (without_all keys table) ≡ None in
+    let mine = fails_by_map (G.causes s2 s3) (G.causes old s3) s (λ pages. BreaksNew e (drafted d.sheets.items pages)) (λ images page. (height : ℕ) → IsTree images height → Q (table_of images height) → ⊥) (λ r x. law.later old s2 s3 r w2.outside x)
+    (λ images page agrees h height tree none.
+    let before = agrees_before (G.step s2) s images calls.looks agrees in
+    let left0 = c.in_default-remove_all.ensures.left images before height tree in
+    let left = subst (λ (ks : List Key). HasLeft images d ks height) c.as_slice.ensures.value left0 in
+    h left.height_after left.tree (ap (entry_with e.key) left.table ∙ none)) fault c.in-Err-insert_in.ensures.fault in
+    let fails : FailsTree G old s3 fault = shown_with G (G.causes old s3) s3 Q fault mine
+    (λ t height tree. let now = subst (λ (p : List (List ℕ)). IsTree p height) (w3.stays t) tree in ap (λ (p : List (List ℕ)). entry_with e.key (without_all keys (table_of p height))) (w3.stays t) ∙ c.requires.new (w3.trust t) height now) in
+    let f = c.fault_of-in-Err-insert_in in
+    let new = f.new.t in
+    inl (f.ensures.cause old w3.outside fails)
+
+pub returns-in-Err-insert_in-clause-full : goal.returns-in-Err-insert_in-clause-full
+returns-in-Err-insert_in-clause-full g c =
+    let G = g.T.Pages in
+    let law = g.met.T.Pages in
+    let old = c.args.t.now in
+    let s1 = c.spare.new.self in
+    let s2 = c.remove_all.new.t in
+    let sp = c.in_default.ensures in
+    let first : OnlyWalks G old s1 = spare_walks G old s1 8 sp.outside (law.trust old s1 sp.outside) sp.kept sp.stays sp.step in
+    let w2 : OnlyWalks G old s2 = walks_then G law.then old s1 s2 first (reaches_walks G s1 s2 c.in_default-remove_all.ensures.calls) in
+    let s3 = c.insert_in.new.t in
+    let calls = c.in-Err-insert_in.ensures.failed in
+    let w3 : OnlyWalks G old s3 = walks_then G law.then old s2 s3 w2 (reaches_walks G s2 s3 calls) in
+    let changed : (G.step s3).changed ≡ (G.step old).changed = calls.looks.changed ∙ c.in_default-remove_all.ensures.calls.looks.changed ∙ ap (λ (s : Step). s.changed) sp.step in
+    let fault = c.in-Err-insert_in.fault in
+    let s = G.step s3 in
+    let e = c.args.entry.now in
+    let keys = c.args.gone.now.items in
+    let d = c.remove_all.new.draft in
+    let Q : List Entry → Type 0 = λ (table : List Entry). entry_with e.key (without_all keys table) ≡ None in
+    let mine = fails_by_map (G.causes s2 s3) (G.causes old s3) s (λ pages. BreaksNew e (drafted d.sheets.items pages)) (λ images page. (height : ℕ) → IsTree images height → Q (table_of images height) → ⊥) (λ r x. law.later old s2 s3 r w2.outside x)
+    (λ images page agrees h height tree none.
+    let before = agrees_before (G.step s2) s images calls.looks agrees in
+    let left0 = c.in_default-remove_all.ensures.left images before height tree in
+    let left = subst (λ (ks : List Key). HasLeft images d ks height) c.as_slice.ensures.value left0 in
+    h left.height_after left.tree (ap (entry_with e.key) left.table ∙ none)) fault c.in-Err-insert_in.ensures.fault in
+    let fails : FailsTree G old s3 fault = shown_with G (G.causes old s3) s3 Q fault mine
+    (λ t height tree. let now = subst (λ (p : List (List ℕ)). IsTree p height) (w3.stays t) tree in ap (λ (p : List (List ℕ)). entry_with e.key (without_all keys (table_of p height))) (w3.stays t) ∙ c.requires.new (w3.trust t) height now) in
+    let f = c.fault_of-in-Err-insert_in in
+    let new = f.new.t in
+    let table = f.ensures.cause old w3.outside fails in
+    (λ is. absurd (not_full G law.outer old new (free_count (G.step old)) (subst (FailsTable G old new) (same_err f.result (Pages (NameTableFull (free_count (G.step old)))) is) table)), λ few. absurd (let h = c.in_default.is in let no = sp.full.1 few in cc))

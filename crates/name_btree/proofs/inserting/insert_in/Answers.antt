@@ -1,41 +1,65 @@
 use Rattle.std.proofs.Common.{◌∙◌, ◌≤◌, length, subst, arith}
+use Rattle.std.proofs.lemmas.Result.{err_from_is_err_and}
 use Rattle.fsd_table.specs.Table.{top}
 use Rattle.fsd_table.specs.declared.child.Child.{Child}
+use Rattle.name_page.specs.Pages.{with_images}
+use Rattle.name_page.proofs.LookLaws.{agrees_now}
 use Rattle.name_btree.specs.Draft.{drafted}
-use Rattle.name_btree.specs.Grown.{Grows}
+use Rattle.name_btree.specs.Grown.{Grows, BreaksGrowth, BreaksNew}
+use Rattle.name_btree.proofs.CauseLaws.{fails_by_map}
 use Rattle.name_btree.proofs.DraftLaws.{drafted_length}
-use Rattle.name_btree.proofs.TreeGrowthLaws.{inserts_whole, inserts_parted, still_draft}
+use Rattle.name_btree.proofs.OverLaws.{draft_over, drafted_over}
+use Rattle.name_btree.proofs.TreeGrowthLaws.{inserts_whole, inserts_parted, still_draft, growth_new}
 use Rattle.name_btree.proofs.inserting.insert_in.Goals as goal
 
+pub returns-in_err-insert_below-clause-fault : goal.returns-in_err-insert_below-clause-fault
+returns-in_err-insert_below-clause-fault g c =
+    let new = c.insert_below.new.t in
+    let sheets = c.args.draft.now.sheets.items in
+    let e = c.args.entry.now in
+    let Outer = g.T.Pages.causes c.args.t.now new in
+    let p = err_from_is_err_and c.from_residual.result c.from_residual.ensures.1 in
+    rw (p.1, p.2) (fails_by_map Outer Outer (g.T.Pages.step new) (λ pages. BreaksGrowth e (drafted sheets pages) 5 c.top.result) (λ pages. BreaksNew e (drafted sheets pages)) (λ r x. x)
+    (λ images page is h. growth_new e (drafted sheets images) c.top.result page c.top.ensures h) c.in_err-insert_below.field-0.0 c.in_err-insert_below.ensures.fault)
+
 pub returns-in-Whole-clause-inserted : goal.returns-in-Whole-clause-inserted
-returns-in-Whole-clause-inserted g c =
-    let step = g.T.Pages.step c.args.t.now in
-    let last = g.T.Pages.step c.insert_below.new.t in
-    let pages = drafted c.args.draft.now.sheets.items step.images in
-    let after = drafted c.insert_below.new.draft.sheets.items last.images in
+returns-in-Whole-clause-inserted g c = λ images agrees.
+    let step = with_images images (g.T.Pages.step c.args.t.now) in
+    let last = with_images images (g.T.Pages.step c.insert_below.new.t) in
+    let pages = drafted c.args.draft.now.sheets.items images in
+    let after = drafted c.insert_below.new.draft.sheets.items images in
     let e = c.args.entry.now in
     let grown = c.in_ok-insert_below.field-0 in
-    let at_top = subst (λ (d : Child). Grows e step last pages after 5 d grown) c.top.ensures c.in_ok-insert_below.ensures.grown in
+    let at_top = subst (λ (d : Child). Grows e step last pages after 5 d grown) c.top.ensures (c.in_ok-insert_below.ensures.grown images agrees) in
     inserts_whole e step last pages after (subst (Grows e step last pages after 5 top) c.in-Whole.is at_top)
+
+pub returns-in-Whole-clause-draft : goal.returns-in-Whole-clause-draft
+returns-in-Whole-clause-draft g c =
+    let step = g.T.Pages.step c.args.t.now in
+    let last = g.T.Pages.step c.insert_below.new.t in
+    let grows = c.in_ok-insert_below.ensures.grown last.images (agrees_now last) in
+    still_draft (with_images last.images step) last grows.came c.args.draft.now c.insert_below.new.draft grows.takes (draft_over last.images step c.args.draft.now c.in_ok-insert_below.ensures.calls.edits.count c.requires.draft) c.in_ok-insert_below.ensures.sheets c.in_ok-insert_below.ensures.freed
 
 pub returns-in-Parted-clause-draft : goal.returns-in-Parted-clause-draft
 returns-in-Parted-clause-draft g c =
     let step = g.T.Pages.step c.args.t.now in
     let last = g.T.Pages.step c.insert_below.new.t in
-    let grows = c.in_ok-insert_below.ensures.grown in
-    still_draft step last grows.came c.args.draft.now c.put_ways.new.self grows.takes c.requires.draft c.put_ways.ensures.sheets.sheets (c.put_ways.ensures.freed ∙ c.in_ok-insert_below.ensures.freed)
+    let grows = c.in_ok-insert_below.ensures.grown last.images (agrees_now last) in
+    still_draft (with_images last.images step) last grows.came c.args.draft.now c.put_ways.new.self grows.takes (draft_over last.images step c.args.draft.now c.in_ok-insert_below.ensures.calls.edits.count c.requires.draft) c.put_ways.ensures.sheets.sheets
+    (c.put_ways.ensures.freed ∙ c.in_ok-insert_below.ensures.freed)
 
 pub returns-in-Parted-clause-inserted : goal.returns-in-Parted-clause-inserted
-returns-in-Parted-clause-inserted g c =
-    let step = g.T.Pages.step c.args.t.now in
-    let last = g.T.Pages.step c.insert_below.new.t in
+returns-in-Parted-clause-inserted g c = λ images agrees.
+    let last0 = g.T.Pages.step c.insert_below.new.t in
+    let step = with_images images (g.T.Pages.step c.args.t.now) in
+    let last = with_images images last0 in
     let old = c.args.draft.now.sheets.items in
     let between = c.insert_below.new.draft.sheets.items in
-    let pages = drafted old step.images in
-    let after = drafted between last.images in
+    let pages = drafted old images in
+    let after = drafted between images in
     let e = c.args.entry.now in
     let grown = c.in_ok-insert_below.field-0 in
-    let at_top = subst (λ (d : Child). Grows e step last pages after 5 d grown) c.top.ensures c.in_ok-insert_below.ensures.grown in
+    let at_top = subst (λ (d : Child). Grows e step last pages after 5 d grown) c.top.ensures (c.in_ok-insert_below.ensures.grown images agrees) in
     let parted = subst (Grows e step last pages after 5 top) c.in-Parted.is at_top in
-    let small : length pages ≤ 4096 = omega (arith, drafted_length old step.images, g.met.T.Pages.small c.args.t.now) in
-    inserts_parted e step last pages between c.put_ways.new.self.sheets.items c.in-Parted.left c.in-Parted.separator small parted c.put_ways.ensures.sheets
+    let small : length pages ≤ 4096 = omega (arith, drafted_length old images, agrees.count, g.met.T.Pages.small c.insert_below.new.t) in
+    inserts_parted e step last pages between c.put_ways.new.self.sheets.items c.in-Parted.left c.in-Parted.separator small parted (drafted_over last0 images agrees.count between c.put_ways.new.self.sheets.items 0 _ c.put_ways.ensures.sheets)

@@ -1,6 +1,6 @@
 use Rattle.std.proofs.Common.{◌≡◌, ◌∙◌, sym, true, false}
 use Rattle.fsd_bytes.specs.Keys.{same_key}
-use Rattle.name_node.proofs.ListLaws.{find_more}
+use Rattle.name_page.proofs.ListLaws.{find_more}
 use Rattle.name_btree.proofs.lookup.entry_in.Goals as goal
 
 pub returns-then-is_eq : goal.returns-then-is_eq

@@ -1,5 +1,5 @@
 use Rattle.std.proofs.Common.{◌≡◌, drop}
-use Rattle.name_node.specs.Lookups.{entry_with}
+use Rattle.name_page.specs.Lookups.{entry_with}
 use Rattle.name_btree.proofs.lookup.entry_in.Given as goal
 
 -- none before has the key

@@ -1,6 +1,6 @@
 use Rattle.std.proofs.Common.{◌≡◌, ◌∙◌, sym, ap, true, false, not}
-use Rattle.name_node.specs.Cut.{is_before}
-use Rattle.name_node.proofs.ListLaws.{find_more}
+use Rattle.name_page.specs.Cut.{is_before}
+use Rattle.name_page.proofs.ListLaws.{find_more}
 use Rattle.name_btree.proofs.lookup.first_behind.Goals as goal
 
 pub returns-then-not-is_before : goal.returns-then-not-is_before

@@ -1,6 +1,6 @@
 use Rattle.std.proofs.Common.{◌≡◌, drop, not}
 use Rattle.std.specs.Prelude.{find}
-use Rattle.name_node.specs.Cut.{is_before}
+use Rattle.name_page.specs.Cut.{is_before}
 use Rattle.name_btree.proofs.lookup.first_behind.Given as goal
 
 -- none of those before is behind the place

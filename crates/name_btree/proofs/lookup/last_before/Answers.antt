@@ -1,5 +1,5 @@
 use Rattle.std.proofs.Common.{◌≡◌, ◌<◌, ◌∙◌, sym, true, false, arith}
-use Rattle.name_node.specs.Cut.{is_before}
+use Rattle.name_page.specs.Cut.{is_before}
 use Rattle.name_btree.proofs.LastLaws.{last_more}
 use Rattle.name_btree.proofs.lookup.last_before.Goals as goal
 

@@ -1,6 +1,6 @@
 use Rattle.std.proofs.Common.{◌≡◌, take}
-use Rattle.name_node.specs.Cut.{is_before}
-use Rattle.name_node.specs.Lookups.{last_that}
+use Rattle.name_page.specs.Cut.{is_before}
+use Rattle.name_page.specs.Lookups.{last_that}
 use Rattle.name_btree.proofs.lookup.last_before.Given as goal
 
 -- none of those behind is before the place

@@ -1,23 +1,18 @@
-use Rattle.std.proofs.Common.{◌≡◌, ◌∙◌, ◌+◌, ◌≤◌, sym, ap, subst, length, ℕ, arith}
+use Rattle.std.proofs.Common.{◌≡◌, ◌∙◌, ◌+◌, ◌≤◌, sym, ap, subst, length, List, ℕ, arith}
 use Rattle.name_page.specs.Pages.{Step, reaches, changes, is_spare}
-use Rattle.name_btree.proofs.CommitLaws.{commit_most_reached, commit_most_changed, commit_reaches, commit_changes, freed_spare}
+use Rattle.name_btree.proofs.CommitLaws.{commit_edits, commit_reaches, commit_changes, freed_spare}
 use Rattle.name_btree.proofs.DraftLaws.{committed_spares}
-use Rattle.name_btree.specs.Draft.{committed, freed}
+use Rattle.name_page.proofs.LookLaws.{reaches_walks, walks_then, walks_edits, edits_then, shows_trusted}
+use Rattle.name_btree.specs.Draft.{drafted, committed, freed, RemovesFrom}
 use Rattle.fsd_table.specs.Tree.{table_of}
-use Rattle.name_node.specs.Edits.{without}
+use Rattle.name_page.specs.Edits.{without}
 use Rattle.name_btree.specs.Map.{HasTable}
+use Rattle.name_btree.specs.declared.draft.Sheet.{Sheet}
+use Rattle.name_btree.specs.Fault.{FailsTree, IsNoTree}
+use Rattle.name_btree.proofs.CauseLaws.{fails_by_map}
+use Rattle.name_btree.proofs.SearchLaws.{shown_tree, leaves_since}
 use Rattle.name_btree.proofs.TableLaws.{table_without}
 use Rattle.name_btree.proofs.removing.remove.Goals as goal
-
-pub returns-clause-step : goal.returns-clause-step
-returns-clause-step g c =
-    let d = c.remove_in.new.draft in
-    ap (λ (s : Step). s.most_reached) c.commit.ensures.step ∙ commit_most_reached d.freed.items d.sheets.items (g.T.Pages.step c.remove_in.new.t) ∙ c.remove_in.ensures.step
-
-pub returns-clause-most : goal.returns-clause-most
-returns-clause-most g c =
-    let d = c.remove_in.new.draft in
-    ap (λ (s : Step). s.most_changed) c.commit.ensures.step ∙ commit_most_changed d.freed.items d.sheets.items (g.T.Pages.step c.remove_in.new.t) ∙ c.remove_in.ensures.changes.most_changed
 
 pub returns-clause-reaches : goal.returns-clause-reaches
 returns-clause-reaches g c =
@@ -31,7 +26,7 @@ returns-clause-changes g c =
     let between = g.T.Pages.step c.remove_in.new.t in
     let d = c.remove_in.new.draft in
     let same : changes (g.T.Pages.step c.commit.new.t) ≡ changes (freed d.freed.items (committed d.sheets.items between)) = ap changes c.commit.ensures.step in
-    let still : changes between ≡ changes old = omega (arith, c.remove_in.ensures.changes.most_changed, ap length c.remove_in.ensures.changes.changed) in
+    let still : changes between ≡ changes old = omega (arith, c.remove_in.ensures.calls.looks.most_changed, ap length c.remove_in.ensures.calls.looks.changed) in
     let few : length d.sheets.items ≤ 8 = omega (arith, c.in_default.ensures.sheets, ap length c.new-draft.ensures.sheets) in
     omega (arith, same, still, few, commit_changes d.freed.items d.sheets.items between)
 
@@ -40,13 +35,63 @@ returns-clause-taken g c = λ page h.
     let d = c.remove_in.new.draft in
     let between = g.T.Pages.step c.remove_in.new.t in
     ap (λ (s : Step). is_spare s.spares page) c.commit.ensures.step
-    ∙ freed_spare d.freed.items (committed d.sheets.items between) page (ap (λ x. is_spare x page) (committed_spares d.sheets.items between ∙ c.remove_in.ensures.spares) ∙ h)
+    ∙ freed_spare d.freed.items (committed d.sheets.items between) page (ap (λ x. is_spare x page) (committed_spares d.sheets.items between ∙ c.remove_in.ensures.calls.looks.spares) ∙ h)
 
 pub returns-clause-removed : goal.returns-clause-removed
-returns-clause-removed g c = λ height table.
-    let old = g.T.Pages.step c.args.t.now in
-    let between = g.T.Pages.step c.remove_in.new.t in
+returns-clause-removed g c = λ trusted height table.
+    let G = g.T.Pages in
+    let old = G.step c.args.t.now in
+    let between = G.step c.remove_in.new.t in
     let d = c.remove_in.new.draft in
+    let calls = c.remove_in.ensures.calls in
+    let t = g.met.T.Pages.trust c.remove_in.new.t c.commit.new.t c.commit.ensures.outside trusted in
+    let removes = shows_trusted G (λ x. RemovesFrom x c.new-draft.result d c.args.key.now) c.args.t.now c.remove_in.new.t calls c.in_default.ensures.removed t in
     subst (λ (s : Step). HasTable s (without c.args.key.now (table_of old.images height))) (sym c.commit.ensures.step)
-    (table_without old between c.args.key.now c.new-draft.result d c.new-draft.ensures.sheets c.new-draft.ensures.freed c.remove_in.ensures.images c.remove_in.ensures.spares (g.met.T.Pages.flags c.args.t.now)
-    c.in_default.ensures.removed height table)
+    (table_without old between c.args.key.now c.new-draft.result d c.new-draft.ensures.sheets c.new-draft.ensures.freed (calls.stays t) calls.looks.spares (g.met.T.Pages.flags c.args.t.now)
+    removes height table)
+
+pub returns-clause-calls : goal.returns-clause-calls
+returns-clause-calls g c =
+    let G = g.T.Pages in
+    let law = g.met.T.Pages in
+    let mid = c.remove_in.new.t in
+    let new = c.commit.new.t in
+    let d = c.remove_in.new.draft in
+    edits_then G law.then c.args.t.now mid new (walks_edits G c.args.t.now mid (reaches_walks G c.args.t.now mid c.remove_in.ensures.calls))
+    (commit_edits G mid new d.freed.items d.sheets.items c.commit.ensures.outside (law.trust mid new c.commit.ensures.outside) c.commit.ensures.step c.commit.ensures.images)
+
+pub returns-in-Err-clause-kept : goal.returns-in-Err-clause-kept
+returns-in-Err-clause-kept g c =
+    let G = g.T.Pages in
+    walks_then G g.met.T.Pages.then c.args.t.now c.remove_in.new.t c.fault_of.new.t (reaches_walks G c.args.t.now c.remove_in.new.t c.in-Err.ensures.calls) c.fault_of.ensures.calls
+
+pub returns-in-Err-clause-calls : goal.returns-in-Err-clause-calls
+returns-in-Err-clause-calls g c =
+    let G = g.T.Pages in
+    walks_edits G c.args.t.now c.fault_of.new.t (walks_then G g.met.T.Pages.then c.args.t.now c.remove_in.new.t c.fault_of.new.t (reaches_walks G c.args.t.now c.remove_in.new.t c.in-Err.ensures.calls) c.fault_of.ensures.calls)
+
+pub returns-in-Err-clause-left : goal.returns-in-Err-clause-left
+returns-in-Err-clause-left g c =
+    let G = g.T.Pages in
+    let old = c.args.t.now in
+    let mid = c.remove_in.new.t in
+    let empty = c.new-draft.result in
+    let fault = c.in-Err.fault in
+    let Outer = G.causes old mid in
+    let bare = fails_by_map Outer Outer (G.step mid) (λ pages page. IsNoTree (drafted empty.sheets.items pages)) (λ pages page. IsNoTree pages) (λ r x. x)
+    (λ images page is h. subst IsNoTree (ap (λ (xs : List Sheet). drafted xs images) c.new-draft.ensures.sheets) h) fault c.in-Err.ensures.fault in
+    let fails : FailsTree G old mid fault = shown_tree G Outer mid fault bare in
+    leaves_since G old mid c.fault_of.new.t c.fault_of.ensures.calls.trust c.fault_of.result c.in-Err.ensures.calls (c.fault_of.ensures.left old fails)
+
+pub returns-in-Err-clause-fault : goal.returns-in-Err-clause-fault
+returns-in-Err-clause-fault g c =
+    let G = g.T.Pages in
+    let old = c.args.t.now in
+    let mid = c.remove_in.new.t in
+    let empty = c.new-draft.result in
+    let fault = c.in-Err.fault in
+    let Outer = G.causes old mid in
+    let bare = fails_by_map Outer Outer (G.step mid) (λ pages page. IsNoTree (drafted empty.sheets.items pages)) (λ pages page. IsNoTree pages) (λ r x. x)
+    (λ images page is h. subst IsNoTree (ap (λ (xs : List Sheet). drafted xs images) c.new-draft.ensures.sheets) h) fault c.in-Err.ensures.fault in
+    let fails : FailsTree G old mid fault = shown_tree G Outer mid fault bare in
+    c.fault_of.ensures.cause old c.in-Err.ensures.calls.outside fails

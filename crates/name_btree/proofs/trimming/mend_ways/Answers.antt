@@ -6,10 +6,12 @@ use Rattle.fsd_table.specs.declared.child.Child.{Child}
 use Rattle.fsd_table.specs.Pages.{page_at, children, content_fits}
 use Rattle.fsd_table.proofs.PageLaws.{at_is_page}
 use Rattle.fsd_forest.proofs.WayLaws.{child_at}
-use Rattle.name_node.specs.declared.node.Node.{Node}
-use Rattle.name_node.specs.Node.{content_of}
-use Rattle.name_node.proofs.CountLaws.{few_separators}
+use Rattle.name_page.specs.declared.node.Node.{Node}
+use Rattle.name_page.specs.Node.{content_of}
+use Rattle.name_page.proofs.CountLaws.{few_separators}
 use Rattle.name_page.specs.Pages.{is_spare}
+use Rattle.name_page.proofs.LookLaws.{agrees_now}
+use Rattle.name_btree.proofs.OverLaws.{interiors_over}
 use Rattle.name_btree.specs.Draft.{drafted}
 use Rattle.name_btree.specs.Trim.{MayHave, AreWays, child_of, AreWaysMended, ways_at, is_behind, right_at}
 use Rattle.name_btree.proofs.DraftLaws.{drafted_length}
@@ -20,19 +22,19 @@ use Rattle.name_btree.proofs.trimming.mend_ways.Goals as goal
 
 pub ways_joined-requires-clause-others : goal.ways_joined-requires-clause-others
 ways_joined-requires-clause-others g c =
-    let pages : List (List ℕ) = drafted c.args.draft.now.sheets.items (g.T.Pages.step c.args.t.now).images in
+    let pages : List (List ℕ) = drafted c.args.draft.now.sheets.items (g.T.Pages.step c.child_node.new.t).images in
     let page : ℕ = c.child_at-neighbour.result.page in
     let others = c.in-Interior.others in
-    let at : page_at pages page ≡ Some (Interior others.0 others.1) = c.in_ok-others.ensures.node ∙ ap (λ (n : Node). Some (content_of n)) c.in-Interior.is in
+    let at : page_at pages page ≡ Some (Interior others.0 others.1) = c.in_ok-others.ensures.node (g.T.Pages.step c.child_node.new.t).images (agrees_now (g.T.Pages.step c.child_node.new.t)) ∙ ap (λ (n : Node). Some (content_of n)) c.in-Interior.is in
     few_separators pages page others.0 others.1 at
 
 pub ways_cut-cut-requires : goal.ways_cut-cut-requires
 ways_cut-cut-requires g c =
-    let pages : List (List ℕ) = drafted c.args.draft.now.sheets.items (g.T.Pages.step c.args.t.now).images in
+    let pages : List (List ℕ) = drafted c.args.draft.now.sheets.items (g.T.Pages.step c.child_node.new.t).images in
     let neighbour = c.child_at-neighbour.result in
     let others = c.in-Interior.others in
     let few = c.args.few.now.items in
-    let at : page_at pages neighbour.page ≡ Some (Interior others.0 others.1) = c.in_ok-others.ensures.node ∙ ap (λ (n : Node). Some (content_of n)) c.in-Interior.is in
+    let at : page_at pages neighbour.page ≡ Some (Interior others.0 others.1) = c.in_ok-others.ensures.node (g.T.Pages.step c.child_node.new.t).images (agrees_now (g.T.Pages.step c.child_node.new.t)) ∙ ap (λ (n : Node). Some (content_of n)) c.in-Interior.is in
     let least : 4 ≤ length others.1 = least_of_page neighbour.page (length pages) others.0 others.1 c.if-neighbour-ne0.true (at_is_page pages neighbour.page (Interior others.0 others.1) at) in
     let is : c.as_slice.result.now ≡ ways_at c.args.i c.get.result.key c.args.first few others.0 others.1 = c.as_slice.ensures.value ∙ c.in-Some.ensures.list in
     omega (arith, ap length is, ways_count c.args.i c.get.result.key c.args.first few others.0 others.1, least)
@@ -53,29 +55,29 @@ put_interiors-requires g c =
     let list : List Separator = c.in-Some.joined.list.items in
     let cs : List Child = children ways.0 above.low above.high ways.1 in
     let sheets = c.args.draft.now.sheets.items in
-    let pages : List (List ℕ) = drafted sheets old.images in
-    let at : page_at pages neighbour.page ≡ Some (Interior others.0 others.1) = c.in_ok-others.ensures.node ∙ ap (λ (n : Node). Some (content_of n)) c.in-Interior.is in
-    let page = subst (λ (n : ℕ). is_page neighbour.page n (Interior others.0 others.1) ≡ true) (drafted_length sheets old.images) (at_is_page pages neighbour.page (Interior others.0 others.1) at) in
+    let pages : List (List ℕ) = drafted sheets new.images in
+    let at : page_at pages neighbour.page ≡ Some (Interior others.0 others.1) = c.in_ok-others.ensures.node (g.T.Pages.step c.child_node.new.t).images (agrees_now (g.T.Pages.step c.child_node.new.t)) ∙ ap (λ (n : Node). Some (content_of n)) c.in-Interior.is in
+    let page = subst (λ (n : ℕ). is_page neighbour.page n (Interior others.0 others.1) ≡ true) (drafted_length sheets new.images ∙ c.child_node.ensures.calls.looks.count) (at_is_page pages neighbour.page (Interior others.0 others.1) at) in
     let sides = sides_are above ways.0 ways.1 pair is c.args.i child neighbour c.pair_with-pair.ensures.place (child_at ways.0 above.low above.high ways.1 c.args.i c.requires.within) (ap (slice_get cs) (sym c.neighbour_of.ensures) ∙ c.child_at-neighbour.ensures) in
     let within = sym (ap (λ (n : Node). content_fits neighbour.low neighbour.high (Some (content_of n))) c.in-Interior.is) ∙ c.in_ok-others.ensures.fits in
     let both = ways_found p ways.0 above ways.1 pair is c.requires.ways c.args.i child neighbour sides c.args.first few others.0 others.1 c.requires.few page within
     c.get.result c.get.ensures.there c.in-Some.ensures.behind c.in-Some.joined.first list c.in-Some.ensures.first c.in-Some.ensures.list in
     let count : 5 ≤ length list =
     omega (arith, ap length c.in-Some.ensures.list, ways_count c.args.i c.get.result.key c.args.first few others.0 others.1, least_of_page neighbour.page p others.0 others.1 c.if-neighbour-ne0.true page) in
-    let kept = c.child_node.ensures.kept in
-    let spares = c.child_node.ensures.spares in
+    let kept = c.child_node.ensures.calls.looks.reached in
+    let spares = c.child_node.ensures.calls.looks.spares in
     let child_may = page_kept old new child.page kept spares c.requires.below in
     let other_may : MayHave new neighbour.page = record { reached = c.in_ok-others.ensures.reached; used = ap (λ (x : List Bool). is_spare x neighbour.page) spares ∙ c.in_ok-others.ensures.used } in
     record {
       room = search rules;
       freed = search rules;
-      draft = draft_kept old new c.args.draft.now kept spares c.child_node.ensures.images c.requires.draft;
+      draft = draft_kept old new c.args.draft.now kept spares c.child_node.ensures.calls.looks.count c.requires.draft;
       page = search rules;
       left = left_page (MayHave new) above ways.0 ways.1 pair is c.args.i child neighbour sides child_may other_may;
       right = right_page (MayHave new) above ways.0 ways.1 pair is c.args.i child neighbour sides child_may other_may;
       ways = search rules;
       pair = search rules;
-      list = subst (λ (n : ℕ). AreWays n c.in-Some.joined.first list) (ap (λ (x : List (List ℕ)). length x) (sym c.child_node.ensures.images)) both.are;
+      list = subst (λ (n : ℕ). AreWays n c.in-Some.joined.first list) (sym c.child_node.ensures.calls.looks.count) both.are;
       fits = search rules;
       least = omega (arith, count);
       front = search rules;
@@ -86,7 +88,7 @@ put_interiors-requires g c =
     }
 
 pub returns-in-Some-clause-mended : goal.returns-in-Some-clause-mended
-returns-in-Some-clause-mended g c =
+returns-in-Some-clause-mended g c = λ images agrees.
     let new = g.T.Pages.step c.child_node.new.t in
     let above = c.args.above.now in
     let ways = c.args.ways.now in
@@ -96,9 +98,12 @@ returns-in-Some-clause-mended g c =
     let others = c.in-Interior.others in
     let few = c.args.few.now.items in
     let draft = c.args.draft.now in
-    let at = c.in_ok-others.ensures.node ∙ ap (λ (n : Node). Some (content_of n)) c.in-Interior.is in
+    let at = c.in_ok-others.ensures.node images agrees ∙ ap (λ (n : Node). Some (content_of n)) c.in-Interior.is in
     let same = same_of c.get.result is.between (sym c.get.ensures.there ∙ is.there) in
     let is_list : c.in-Some.joined.list.items ≡ ways_at c.args.i is.between.key c.args.first few others.0 others.1 = c.in-Some.ensures.list ∙ ap (λ (s : Separator). ways_at c.args.i s.key c.args.first few others.0 others.1) same in
+    let put = subst (λ (n : ℕ). AreWaysMended new draft c.put_interiors.new.draft above.page ways.0 ways.1 pair n (ways_at c.args.i is.between.key c.args.first few others.0 others.1) c.put_interiors.result)
+    c.in-Some.ensures.first
+    (subst (λ (xs : List Separator). AreWaysMended new draft c.put_interiors.new.draft above.page ways.0 ways.1 pair c.in-Some.joined.first xs c.put_interiors.result) is_list c.put_interiors.ensures.put) in
     record {
       pair = pair;
       place = c.pair_with-pair.ensures.place;
@@ -107,9 +112,7 @@ returns-in-Some-clause-mended g c =
       there = ap (slice_get cs) (sym c.neighbour_of.ensures) ∙ c.child_at-neighbour.ensures;
       second = others.0;
       others = others.1;
-      has = ap (λ (x : List (List ℕ)). page_at (drafted draft.sheets.items x) c.child_at-neighbour.result.page) c.child_node.ensures.images ∙ at;
+      has = at;
       behind = ap (λ (s : Separator). is_behind s.key (right_at c.args.i few others.1)) (sym same) ∙ c.in-Some.ensures.behind;
-      mended = subst (λ (n : ℕ). AreWaysMended new draft c.put_interiors.new.draft above.page ways.0 ways.1 pair n (ways_at c.args.i is.between.key c.args.first few others.0 others.1) c.put_interiors.result)
-          c.in-Some.ensures.first
-          (subst (λ (xs : List Separator). AreWaysMended new draft c.put_interiors.new.draft above.page ways.0 ways.1 pair c.in-Some.joined.first xs c.put_interiors.result) is_list c.put_interiors.ensures.put);
+      mended = interiors_over new images agrees.count draft c.put_interiors.new.draft above.page ways.0 ways.1 pair c.put_interiors.result _ _ put;
     }

@@ -1,6 +1,6 @@
 use Rattle.std.proofs.Common.{◌∙◌, ap, Some}
-use Rattle.name_node.specs.declared.node.Node.{Node}
-use Rattle.name_node.specs.Node.{content_of}
+use Rattle.name_page.specs.declared.node.Node.{Node}
+use Rattle.name_page.specs.Node.{content_of}
 use Rattle.name_btree.proofs.ReplaceLaws.{few_in_leaf}
 use Rattle.name_btree.proofs.trimming.put_on_top.Goals as goal
 

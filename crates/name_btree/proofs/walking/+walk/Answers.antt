@@ -1,35 +1,39 @@
-use Rattle.std.proofs.Common.{◌≡◌, ◌∙◌, ◌+◌, ◌-◌, ◌<◌, ◌≤◌, Bool, true, false, cond, not, sym, ap, subst, List, [], ◌∷◌, length, take, ℕ, suc, Some, arith, rules}
-use Rattle.std.specs.Prelude.{IfOk, IfErr, slice_set}
+use Rattle.std.proofs.Common.{◌≡◌, ◌∙◌, ◌+◌, ◌-◌, ◌<◌, ◌≤◌, Bool, true, false, cond, not, refl, sym, ap, subst, List, [], ◌∷◌, length, take, ℕ, suc, Some, arith, rules}
+use Rattle.std.specs.Prelude.{slice_set}
 use Rattle.std.proofs.lemmas.Result.{err_from_is_err_and}
 use Rattle.fsd_formats.specs.NamePage.{Interior}
 use Rattle.fsd_table.specs.declared.child.Child.{Child}
 use Rattle.fsd_table.specs.Pages.{page_at, children, content_fits, keys_fit, separator_keys}
-use Rattle.name_page.specs.Pages.{Step}
-use Rattle.name_node.specs.declared.node.Node.{Node}
-use Rattle.name_node.specs.Node.{content_of}
-use Rattle.name_btree.specs.Fault.{HasCause, IsMisfit}
-use Rattle.name_btree.specs.Walk.{is_marked, IsWalked, AreWalked, BreaksWalk}
-use Rattle.name_node.proofs.CountLaws.{few_separators, few_entries, take_short, take_whole}
+use Rattle.name_page.specs.Looks.{OnlyWalks}
+use Rattle.name_page.specs.Pages.{Step, is_spare}
+use Rattle.name_page.proofs.LookLaws.{reaches_still, reaches_walks, rest_reaches, walks_then}
+use Rattle.name_page.specs.declared.node.Node.{Node}
+use Rattle.name_page.specs.Node.{content_of}
+use Rattle.name_btree.specs.Walk.{is_marked, IsWalked, AreWalked, ComesTo, FailsWalk}
+use Rattle.name_page.proofs.CountLaws.{few_separators, few_entries, take_short, take_whole}
 use Rattle.name_btree.proofs.ResultLaws.{ok_more, err_more}
-use Rattle.name_node.proofs.ListLaws.{children_count}
+use Rattle.name_page.proofs.ListLaws.{children_count}
 use Rattle.name_btree.proofs.WalkLaws.{one_more, above_walked}
-use Rattle.name_btree.proofs.ComeLaws.{marked_breaks, leaf_breaks, interior_breaks, fault_here, fault_above, fault_among}
+use Rattle.name_btree.proofs.ComeLaws.{marked_breaks, leaf_breaks, interior_breaks, comes_below, comes_along, walk_map, walk_here}
 use Rattle.name_btree.proofs.walking.+walk.Goals as goal
 use Rattle.name_btree.proofs.walking.+walk.Goals.{walk_below-in_default-via-in-Leaf+else-level-eq0, walk_below-in_default-via-in-Interior+else-level-gt0, walk_below-in_default-via-in_default}
 
 pub walk_below-returns-then-not-is_new-clause-fault : goal.walk_below-returns-then-not-is_new-clause-fault
-walk_below-returns-then-not-is_new-clause-fault g t c =
+walk_below-returns-then-not-is_new-clause-fault g t c = λ trusted.
     let no : c.is_new.result ≡ false = cc in
     marked_breaks c.args.level (g.T.Pages.step c.args.t.now).images c.args.child.now c.args.reached.now (sym c.is_new.ensures.new ∙ no)
 
+pub walk_below-returns-then-not-is_new-clause-calls : goal.walk_below-returns-then-not-is_new-clause-calls
+walk_below-returns-then-not-is_new-clause-calls g t c = reaches_walks g.T.Pages c.args.t.now c.args.t.now (reaches_still g.T.Pages c.args.t.now (g.met.T.Pages.still c.args.t.now))
+
 -- a page of a kind that doesn't belong to the level
 pub walk_below-returns-in_default-clause-fault : goal.walk_below-returns-in_default-clause-fault
-walk_below-returns-in_default-clause-fault g t c =
+walk_below-returns-in_default-clause-fault g t c = λ trusted.
     let child = c.args.child.now in
     let level = c.args.level in
     let marks = c.args.reached.now in
-    let pages = (g.T.Pages.step c.args.t.now).images in
-    let is = ap (λ (s : Step). page_at s.images child.page) (sym c.rest.ensures) ∙ c.in_ok-entries.ensures.node in
+    let pages = (g.T.Pages.step c.child_node.new.t).images in
+    let is = c.in_ok-entries.ensures.node in
     elim c.in_default.branch [
       | walk_below-in_default-via-in-Leaf+else-level-eq0 w ↦
           leaf_breaks level pages child marks w.in-Leaf.entries (is ∙ ap (λ (n : Node). Some (content_of n)) w.in-Leaf.is) (omega (arith, w.if-level-eq0.false))
@@ -41,129 +45,148 @@ walk_below-returns-in_default-clause-fault g t c =
 
 pub walk_below-returns-in_err-entries-clause-fault : goal.walk_below-returns-in_err-entries-clause-fault
 walk_below-returns-in_err-entries-clause-fault g t c =
-    let pages = (g.T.Pages.step c.args.t.now).images in
-    let child = c.args.child.now in
-    let given = (g.T.Pages.step c.child_node.new.t).refusal in
-    let fault = c.in_err-entries.field-0.0 in
-    let same = ap (λ (s : Step). s.images) c.rest.ensures in
-    let P : List (List ℕ) → Type 0 = λ (x : List (List ℕ)). HasCause given (IsMisfit x child) fault in
-    let h = subst P same c.in_err-entries.ensures.fault in
     let p = err_from_is_err_and c.from_residual.result c.from_residual.ensures.1 in
-    rw (p.1, p.2) (fault_here given fault c.args.level pages child c.args.reached.now h)
+    rw (p.1, p.2) (walk_here g.T.Pages g.met.T.Pages.later c.args.t.now c.rest.new.self c.child_node.new.t c.rest.ensures.outside c.in_err-entries.field-0.0 c.args.level c.args.child.now c.args.reached.now c.in_err-entries.ensures.fault)
 
 pub walk_below-walk_children-requires : goal.walk_below-walk_children-requires
 walk_below-walk_children-requires g t c κs within =
     let child = c.args.child.now in
     let ways = c.in-Interior.ways in
-    let pages = (g.T.Pages.step c.args.t.now).images in
-    let at : page_at pages child.page ≡ Some (Interior ways.0 ways.1) =
-    ap (λ (p : List (List ℕ)). page_at p child.page) (sym (ap (λ (s : Step). s.images) c.rest.ensures)) ∙ c.in_ok-entries.ensures.node ∙ ap (λ (n : Node). Some (content_of n)) c.in-Interior.is in
+    let G = g.T.Pages in
+    let law = g.met.T.Pages in
+    let old = c.args.t.now in
+    let mid = c.child_node.new.t in
+    let so : OnlyWalks G old mid = rest_reaches G law.then law.trust old c.rest.new.self mid c.rest.ensures.outside c.rest.ensures.step c.in_ok-entries.ensures.calls in
+    let pages = (G.step mid).images in
+    let at : page_at pages child.page ≡ Some (Interior ways.0 ways.1) = c.in_ok-entries.ensures.node ∙ ap (λ (n : Node). Some (content_of n)) c.in-Interior.is in
     let few : length ways.1 ≤ 9 = few_separators pages child.page ways.0 ways.1 at in
-    let kept = c.child_node.ensures.step ∙ ap (λ (s : Step). s.most_reached) c.rest.ensures in
-    let more : 0 < (g.T.Pages.step c.child_node.new.t).most_reached = subst (λ (n : ℕ). 0 < n) (sym kept) c.requires.more in
+    let more : 0 < (G.step mid).most_reached = subst (λ (n : ℕ). 0 < n) (sym so.most_reached) c.requires.more in
     let low : c.args.level - 1 ≤ 4 = omega arith in
     search (rules, few, more, low)
 
+pub walk_below-returns-in-Interior-clause-calls : goal.walk_below-returns-in-Interior-clause-calls
+walk_below-returns-in-Interior-clause-calls g t c =
+    let G = g.T.Pages in
+    let law = g.met.T.Pages in
+    let old = c.args.t.now in
+    let mid = c.child_node.new.t in
+    let so : OnlyWalks G old mid = rest_reaches G law.then law.trust old c.rest.new.self mid c.rest.ensures.outside c.rest.ensures.step c.in_ok-entries.ensures.calls in
+    walks_then G law.then old mid c.walk_children.new.t so c.walk_children.ensures.calls
+
 pub walk_below-returns-in-Interior-clause-walked : goal.walk_below-returns-in-Interior-clause-walked
 walk_below-returns-in-Interior-clause-walked g t c =
+    let G = g.T.Pages in
+    let law = g.met.T.Pages in
+    let old = c.args.t.now in
+    let mid = c.child_node.new.t in
+    let so : OnlyWalks G old mid = rest_reaches G law.then law.trust old c.rest.new.self mid c.rest.ensures.outside c.rest.ensures.step c.in_ok-entries.ensures.calls in
+    let new = c.walk_children.new.t in
     let child = c.args.child.now in
     let ways = c.in-Interior.ways in
     let before = c.args.reached.now in
     let after = c.walk_children.new.reached in
     let level = c.args.level in
-    let r = c.walk_children.result in
-    let pages = (g.T.Pages.step c.args.t.now).images in
+    let s = G.step old in
     let cs : List Child = children ways.0 child.low child.high ways.1 in
-    let same = ap (λ (s : Step). s.images) c.rest.ensures in
-    let at : page_at pages child.page ≡ Some (Interior ways.0 ways.1) =
-    ap (λ (p : List (List ℕ)). page_at p child.page) (sym same) ∙ c.in_ok-entries.ensures.node ∙ ap (λ (n : Node). Some (content_of n)) c.in-Interior.is in
     let fits : keys_fit child.low child.high (separator_keys ways.1) ≡ true =
     sym (ap (λ (n : Node). content_fits child.low child.high (Some (content_of n))) c.in-Interior.is) ∙ c.in_ok-entries.ensures.fits in
     let yes : c.is_new.result ≡ true = cc in
-    let new : not (is_marked before child.page) ≡ true = sym c.is_new.ensures.new ∙ yes in
+    let unmarked : not (is_marked before child.page) ≡ true = sym c.is_new.ensures.new ∙ yes in
     let marks : c.is_new.new.reached ≡ slice_set before child.page true = c.is_new.ensures.marks ∙ ap (λ (b : Bool). cond b (slice_set before child.page true) before) yes in
-    let P : List (List ℕ) → Type 0 = λ (x : List (List ℕ)). IfOk r (AreWalked (level - 1) x cs c.is_new.new.reached after) in
-    let Q : List Bool → Type 0 = λ (m : List Bool). IfOk r (AreWalked (level - 1) pages cs m after) in
-    let h = subst Q marks (subst P (c.child_node.ensures.images ∙ same) c.walk_children.ensures.walked) in
+    let used : is_spare s.spares child.page ≡ false = ap (λ (x : Step). is_spare x.spares child.page) (sym c.rest.ensures.step) ∙ c.in_ok-entries.ensures.used in
     let up : suc (level - 1) ≡ level = omega arith in
-    ok_more r (AreWalked (level - 1) pages cs (slice_set before child.page true) after) (IsWalked level pages child before after)
-    (λ n w. above_walked (level - 1) level pages child ways.0 ways.1 before after n up at fits new w) h
+    let first = c.walk_children.ensures.calls in
+    ok_more c.walk_children.result (λ n. G.trusted new → AreWalked (G.step mid).spares (level - 1) (G.step mid).images cs c.is_new.new.reached after n) (λ n. G.trusted new → IsWalked s.spares level s.images child before after n)
+    (λ n w trusted.
+    let t = first.trust trusted in
+    let at : page_at s.images child.page ≡ Some (Interior ways.0 ways.1) =
+    ap (λ (p : List (List ℕ)). page_at p child.page) (sym (so.stays t)) ∙ c.in_ok-entries.ensures.node ∙ ap (λ (n : Node). Some (content_of n)) c.in-Interior.is in
+    let a = subst (λ (x : List (List ℕ)). AreWalked (G.step mid).spares (level - 1) x cs c.is_new.new.reached after n) (so.stays t) (w trusted) in
+    let b = subst (λ (x : List Bool). AreWalked x (level - 1) s.images cs c.is_new.new.reached after n) so.spares a in
+    above_walked s.spares (level - 1) level s.images child ways.0 ways.1 before after n up at fits unmarked used (subst (λ (m : List Bool). AreWalked s.spares (level - 1) s.images cs m after n) marks b)) c.walk_children.ensures.walked
 
 pub walk_below-returns-in-Interior-clause-fault : goal.walk_below-returns-in-Interior-clause-fault
 walk_below-returns-in-Interior-clause-fault g t c =
+    let G = g.T.Pages in
+    let law = g.met.T.Pages in
+    let old = c.args.t.now in
+    let mid = c.child_node.new.t in
+    let so : OnlyWalks G old mid = rest_reaches G law.then law.trust old c.rest.new.self mid c.rest.ensures.outside c.rest.ensures.step c.in_ok-entries.ensures.calls in
+    let new = c.walk_children.new.t in
     let child = c.args.child.now in
     let ways = c.in-Interior.ways in
     let before = c.args.reached.now in
     let level = c.args.level in
-    let r = c.walk_children.result in
-    let given = (g.T.Pages.step c.walk_children.new.t).refusal in
-    let pages = (g.T.Pages.step c.args.t.now).images in
     let cs : List Child = children ways.0 child.low child.high ways.1 in
-    let same = ap (λ (s : Step). s.images) c.rest.ensures in
-    let at : page_at pages child.page ≡ Some (Interior ways.0 ways.1) =
-    ap (λ (p : List (List ℕ)). page_at p child.page) (sym same) ∙ c.in_ok-entries.ensures.node ∙ ap (λ (n : Node). Some (content_of n)) c.in-Interior.is in
+    let pages = (G.step new).images in
     let yes : c.is_new.result ≡ true = cc in
     let marks : c.is_new.new.reached ≡ slice_set before child.page true = c.is_new.ensures.marks ∙ ap (λ (b : Bool). cond b (slice_set before child.page true) before) yes in
-    let P : List (List ℕ) → Type 0 = λ (x : List (List ℕ)). IfErr r (HasCause given (BreaksWalk (level - 1) x cs c.is_new.new.reached)) in
-    let Q : List Bool → Type 0 = λ (m : List Bool). IfErr r (HasCause given (BreaksWalk (level - 1) pages cs m)) in
-    let h = subst Q marks (subst P (c.child_node.ensures.images ∙ same) c.walk_children.ensures.fault) in
     let up : suc (level - 1) ≡ level = omega arith in
-    err_more r (HasCause given (BreaksWalk (level - 1) pages cs (slice_set before child.page true))) (HasCause given (BreaksWalk level pages (child ∷ []) before))
-    (λ fault b. fault_above given fault (level - 1) level pages child ways.0 ways.1 before up at b) h
+    let comes : G.trusted new → ComesTo pages level (child ∷ []) before → ComesTo pages (level - 1) cs c.is_new.new.reached = λ trusted w.
+    let at : page_at pages child.page ≡ Some (Interior ways.0 ways.1) =
+    ap (λ (p : List (List ℕ)). page_at p child.page) (c.walk_children.ensures.calls.stays trusted) ∙ c.in_ok-entries.ensures.node ∙ ap (λ (n : Node). Some (content_of n)) c.in-Interior.is in
+    subst (ComesTo pages (level - 1) cs) (sym marks) (comes_below (level - 1) level pages child ways.0 ways.1 before up at w) in
+    err_more c.walk_children.result (FailsWalk G mid new (level - 1) cs c.is_new.new.reached) (FailsWalk G old new level (child ∷ []) before)
+    (λ fault h. walk_map G law.later old mid new so.outside fault level (level - 1) (child ∷ []) cs before c.is_new.new.reached comes h) c.walk_children.ensures.fault
 
-pub walk_children-returns-in_err-count-clause-fault : goal.walk_children-returns-in_err-count-clause-fault
-walk_children-returns-in_err-count-clause-fault g t c =
+pub walk_children-loop-i-init : goal.walk_children-loop-i-init
+walk_children-loop-i-init g t c = record {
+  calls = reaches_walks g.T.Pages c.args.t.now c.args.t.now (reaches_still g.T.Pages c.args.t.now (g.met.T.Pages.still c.args.t.now));
+  walked = λ trusted. record { used = tt; subtrees = tt; unmarked = refl; marks = refl; count_is = refl };
+}
+
+pub walk_children-returns-in_err-more-clause-calls : goal.walk_children-returns-in_err-more-clause-calls
+walk_children-returns-in_err-more-clause-calls g t c = walks_then g.T.Pages g.met.T.Pages.then c.args.t.now c.loop-i.t c.walk_below.new.t c.loop-i.invariant.calls c.in_err-more.ensures.calls
+
+pub walk_children-returns-in_err-more-clause-fault : goal.walk_children-returns-in_err-more-clause-fault
+walk_children-returns-in_err-more-clause-fault g t c =
+    let G = g.T.Pages in
     let ways = c.args.ways.now in
     let above = c.args.above.now in
-    let pages = (g.T.Pages.step c.args.t.now).images in
-    let given = (g.T.Pages.step c.walk_below.new.t).refusal in
-    let fault = c.in_err-count.field-0.0 in
+    let old = c.args.t.now in
+    let new = c.walk_below.new.t in
+    let calls = c.in_err-more.ensures.calls in
+    let all = walks_then G g.met.T.Pages.then old c.loop-i.t new c.loop-i.invariant.calls calls in
+    let s = G.step old in
+    let pages = (G.step new).images in
     let cs : List Child = children ways.0 above.low above.high ways.1 in
     let child = c.child_at-child.result in
-    let P : List (List ℕ) → Type 0 = λ (x : List (List ℕ)). HasCause given (BreaksWalk c.args.level x (child ∷ []) c.loop-i.reached) fault in
-    let h = subst P c.loop-i.invariant.images c.in_err-count.ensures.fault in
+    let comes : G.trusted new → ComesTo pages c.args.level cs c.args.reached.now → ComesTo pages c.args.level (child ∷ []) c.loop-i.reached = λ trusted w.
+    let P : List (List ℕ) → Type 0 = λ (x : List (List ℕ)). AreWalked s.spares c.args.level x (take c.loop-i.i cs) c.args.reached.now c.loop-i.reached c.loop-i.count in
+    comes_along s.spares c.args.level pages cs c.loop-i.i child c.args.reached.now c.loop-i.reached c.loop-i.count c.child_at-child.ensures (subst P (sym (all.stays trusted)) (c.loop-i.invariant.walked (calls.trust trusted))) w in
     let p = err_from_is_err_and c.from_residual.result c.from_residual.ensures.1 in
-    rw (p.1, p.2) (fault_among given fault c.args.level pages cs c.loop-i.i child c.args.reached.now c.loop-i.reached c.loop-i.count c.child_at-child.ensures c.loop-i.invariant.walked h)
-
-pub walk_children-overflow_add-count : goal.walk_children-overflow_add-count
-walk_children-overflow_add-count g t c =
-    let ways = c.args.ways.now in
-    let above = c.args.above.now in
-    let pages = (g.T.Pages.step c.args.t.now).images in
-    let cs : List Child = children ways.0 above.low above.high ways.1 in
-    let child = c.child_at-child.result in
-    let more = c.in_ok-count.field-0 in
-    let P : List (List ℕ) → Type 0 = λ (x : List (List ℕ)). IsWalked c.args.level x child c.loop-i.reached c.walk_below.new.reached more in
-    let w = subst P c.loop-i.invariant.images c.in_ok-count.ensures.walked in
-    let next = one_more c.args.level pages cs c.loop-i.i child c.args.reached.now c.loop-i.reached c.walk_below.new.reached c.loop-i.count more c.child_at-child.ensures c.loop-i.invariant.walked w in
-    let short : length (take (c.loop-i.i + 1) cs) ≤ 10 = omega (arith, take_short (c.loop-i.i + 1) cs, children_count ways.0 above.low above.high ways.1, c.requires.few) in
-    let small = few_entries c.args.level pages (take (c.loop-i.i + 1) cs) c.requires.level short next.subtrees in
-    omega (arith, next.count_is, small)
+    rw (p.1, p.2) (walk_map G g.met.T.Pages.later old c.loop-i.t new c.loop-i.invariant.calls.outside c.in_err-more.field-0.0 c.args.level c.args.level cs (child ∷ []) c.args.reached.now c.loop-i.reached comes c.in_err-more.ensures.fault)
 
 pub walk_children-loop-i-preserved : goal.walk_children-loop-i-preserved
 walk_children-loop-i-preserved g t c =
+    let G = g.T.Pages in
     let ways = c.args.ways.now in
     let above = c.args.above.now in
-    let pages = (g.T.Pages.step c.args.t.now).images in
+    let s = G.step c.args.t.now in
     let cs : List Child = children ways.0 above.low above.high ways.1 in
     let child = c.child_at-child.result in
-    let more = c.in_ok-count.field-0 in
-    let P : List (List ℕ) → Type 0 = λ (x : List (List ℕ)). IsWalked c.args.level x child c.loop-i.reached c.walk_below.new.reached more in
-    let w = subst P c.loop-i.invariant.images c.in_ok-count.ensures.walked in
+    let more = c.in_ok-more.more in
+    let calls = c.in_ok-more.ensures.calls in
     record {
-      images = c.walk_below.ensures.images ∙ c.loop-i.invariant.images;
-      spares = c.walk_below.ensures.spares ∙ c.loop-i.invariant.spares;
-      step = c.walk_below.ensures.step ∙ c.loop-i.invariant.step;
-      most = c.walk_below.ensures.most ∙ c.loop-i.invariant.most;
-      walked = one_more c.args.level pages cs c.loop-i.i child c.args.reached.now c.loop-i.reached c.walk_below.new.reached c.loop-i.count more c.child_at-child.ensures c.loop-i.invariant.walked w;
+      calls = walks_then G g.met.T.Pages.then c.args.t.now c.loop-i.t c.walk_below.new.t c.loop-i.invariant.calls calls;
+      walked = λ trusted.
+          let t = calls.trust trusted in
+          let P : List (List ℕ) → Type 0 = λ (x : List (List ℕ)). IsWalked (G.step c.loop-i.t).spares c.args.level x child c.loop-i.reached c.walk_below.new.reached more in
+          let Q : List Bool → Type 0 = λ (x : List Bool). IsWalked x c.args.level s.images child c.loop-i.reached c.walk_below.new.reached more in
+          let w = subst Q c.loop-i.invariant.calls.spares (subst P (c.loop-i.invariant.calls.stays t) (c.in_ok-more.ensures.walked trusted)) in
+          let next = one_more s.spares c.args.level s.images cs c.loop-i.i child c.args.reached.now c.loop-i.reached c.walk_below.new.reached c.loop-i.count more c.child_at-child.ensures (c.loop-i.invariant.walked t) w in
+          let short : length (take (c.loop-i.i + 1) cs) ≤ 10 = omega (arith, take_short (c.loop-i.i + 1) cs, children_count ways.0 above.low above.high ways.1, c.requires.few) in
+          let small = few_entries c.args.level s.images (take (c.loop-i.i + 1) cs) c.requires.level short next.subtrees in
+          let exact : c.loop-i.count + more ≡ c.saturating_add-count.result = omega (arith, next.count_is, small, c.saturating_add-count.ensures) in
+          subst (λ (n : ℕ). AreWalked s.spares c.args.level s.images (take (c.loop-i.i + 1) cs) c.args.reached.now c.walk_below.new.reached n) exact next;
     }
 
 pub walk_children-returns-clause-walked : goal.walk_children-returns-clause-walked
-walk_children-returns-clause-walked g t c =
+walk_children-returns-clause-walked g t c = λ trusted.
     let ways = c.args.ways.now in
     let above = c.args.above.now in
-    let pages = (g.T.Pages.step c.args.t.now).images in
+    let s = g.T.Pages.step c.args.t.now in
     let cs : List Child = children ways.0 above.low above.high ways.1 in
     let all : length cs ≤ c.loop-i.i = omega (arith, children_count ways.0 above.low above.high ways.1, c.len-i-end.ensures, c.loop-i-test.false) in
-    let P : List Child → Type 0 = λ (xs : List Child). AreWalked c.args.level pages xs c.args.reached.now c.loop-i.reached c.loop-i.count in
-    subst P (take_whole c.loop-i.i cs all) c.loop-i.invariant.walked
+    let P : List Child → Type 0 = λ (xs : List Child). AreWalked s.spares c.args.level s.images xs c.args.reached.now c.loop-i.reached c.loop-i.count in
+    subst P (take_whole c.loop-i.i cs all) (c.loop-i.invariant.walked trusted)

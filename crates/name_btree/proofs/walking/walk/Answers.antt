@@ -1,34 +1,44 @@
-use Rattle.std.proofs.Common.{subst, List, [], ◌∷◌, ℕ}
-use Rattle.std.specs.Prelude.{IfOk, IfErr}
-use Rattle.name_btree.specs.Fault.{HasCause}
-use Rattle.fsd_table.specs.Table.{BreaksTable}
-use Rattle.name_btree.specs.Walk.{IsWalked, BreaksWalk, IsCounted}
+use Rattle.std.proofs.Common.{◌≡◌, ◌∙◌, length, sym, subst, List, [], ◌∷◌, ℕ, Bool}
+use Rattle.name_page.proofs.LookLaws.{walks_then}
+use Rattle.name_btree.specs.Fault.{FailsTable}
+use Rattle.name_btree.specs.Walk.{IsWalked, IsTopLevel, IsCounted, FailsWalk}
 use Rattle.name_btree.proofs.ResultLaws.{ok_more, err_more}
 use Rattle.name_btree.proofs.TopLaws.{counted}
-use Rattle.name_btree.proofs.ComeLaws.{fault_whole}
+use Rattle.name_btree.proofs.ComeLaws.{walk_whole}
 use Rattle.name_btree.proofs.walking.walk.Goals as goal
+
+pub returns-clause-calls : goal.returns-clause-calls
+returns-clause-calls g c = walks_then g.T.Pages g.met.T.Pages.then c.args.t.now c.top_level.new.t c.walk_below.new.t c.in_ok-level.ensures.calls c.walk_below.ensures.calls
 
 pub returns-clause-counted : goal.returns-clause-counted
 returns-clause-counted g c =
-    let pages = (g.T.Pages.step c.args.t.now).images in
+    let G = g.T.Pages in
+    let s = G.step c.args.t.now in
+    let mid = c.top_level.new.t in
     let before = c.args.reached.now in
     let after = c.walk_below.new.reached in
     let level = c.in_ok-level.level in
     let child = c.top.result in
-    let r = c.walk_below.result in
-    let P : List (List ℕ) → Type 0 = λ (x : List (List ℕ)). IfOk r (IsWalked level x child before after) in
-    let h = subst P c.top_level.ensures.images c.walk_below.ensures.walked in
-    ok_more r (IsWalked level pages child before after) (IsCounted pages after) (λ n w. counted pages level child before after n c.in_ok-level.ensures.level c.top.ensures c.requires.clear w) h
+    let first = c.in_ok-level.ensures.calls in
+    ok_more c.walk_below.result (λ n. G.trusted c.walk_below.new.t → IsWalked (G.step mid).spares level (G.step mid).images child before after n) (λ n. G.trusted c.walk_below.new.t → IsCounted s after n)
+    (λ n w trusted.
+    let t = c.walk_below.ensures.calls.trust trusted in
+    let a = subst (λ (x : List (List ℕ)). IsWalked (G.step mid).spares level x child before after n) (first.stays t) (w trusted) in
+    let b = subst (λ (x : List Bool). IsWalked x level s.images child before after n) first.spares a in
+    counted s level child before after n (c.in_ok-level.ensures.level t) c.top.ensures c.requires.clear b) c.walk_below.ensures.walked
 
 pub returns-clause-fault : goal.returns-clause-fault
 returns-clause-fault g c =
-    let pages = (g.T.Pages.step c.args.t.now).images in
+    let G = g.T.Pages in
+    let old = c.args.t.now in
+    let mid = c.top_level.new.t in
+    let new = c.walk_below.new.t in
     let before = c.args.reached.now in
-    let given = (g.T.Pages.step c.walk_below.new.t).refusal in
     let level = c.in_ok-level.level in
     let child = c.top.result in
-    let r = c.walk_below.result in
-    let P : List (List ℕ) → Type 0 = λ (x : List (List ℕ)). IfErr r (HasCause given (BreaksWalk level x (child ∷ []) before)) in
-    let h = subst P c.top_level.ensures.images c.walk_below.ensures.fault in
-    err_more r (HasCause given (BreaksWalk level pages (child ∷ []) before)) (HasCause given (BreaksTable pages))
-    (λ fault b. fault_whole given fault pages level child before c.in_ok-level.ensures.level c.top.ensures c.requires.whole c.requires.clear b) h
+    let all = walks_then G g.met.T.Pages.then old mid new c.in_ok-level.ensures.calls c.walk_below.ensures.calls in
+    let is : G.trusted new → IsTopLevel (G.step new).images level = λ trusted.
+    subst (λ (x : List (List ℕ)). IsTopLevel x level) (sym (all.stays trusted)) (c.in_ok-level.ensures.level (c.walk_below.ensures.calls.trust trusted)) in
+    let whole : length before ≡ length (G.step new).images = c.requires.whole ∙ sym all.count in
+    err_more c.walk_below.result (FailsWalk G mid new level (child ∷ []) before) (FailsTable G old new)
+    (λ fault h. walk_whole G g.met.T.Pages.later old mid new c.in_ok-level.ensures.calls.outside fault level child before is c.top.ensures whole c.requires.clear h) c.walk_below.ensures.fault

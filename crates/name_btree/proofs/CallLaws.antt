@@ -1,0 +1,245 @@
+-- Calls of the table, one after another, are those of a map.
+use Rattle.std.proofs.Common.{◌≡◌, inl, inr, ℕ, ◌+◌, ◌<◌, not, Bool, true, false, List, [], ◌∷◌, ◌++◌, length, take, Option, Some, None, refl, sym, ap, subst, ◌∙◌, arith, append_assoc, length-set, get_or}
+use Rattle.std.specs.Prelude.{◌↔◌, ◌==◌, ◌||◌, ◌-◌, ◌≤◌, Result, Ok, Err, OnOk, OnErr, IfOk, IfErr, count_by, drop, slice_set}
+use Rattle.std.proofs.lemmas.Bool.{eq-eqb}
+use Rattle.std.proofs.lemmas.List.{length-take-le, take_more, take_more_set, take-append-drop}
+use Rattle.std.specs.List.{AllByRecursion}
+use Rattle.run_table.specs.Space.{contains}
+use Rattle.fsd_bytes.specs.declared.refusal.Refusal.{Refusal}
+use Rattle.fsd_bytes.specs.declared.refusal.Refusal.TheVariants.{NameTableFull}
+use Rattle.fsd_formats.specs.declared.entry.Entry.{Entry}
+use Rattle.fsd_table.specs.Table.{Telling, told_in, top, BreaksTable}
+use Rattle.fsd_table.specs.Tree.{table_of, pages_of, IsTree}
+use Rattle.fsd_table.proofs.VisitLaws.{tree_told}
+use Rattle.fsd_forest.proofs.LowLaws.{all_within}
+use Rattle.name_page.specs.declared.pages.Pages.{Ghosts}
+use Rattle.name_page.specs.Looks.{OnlyReaches, OnlyWalks, OnlyEdits}
+use Rattle.name_page.specs.Pages.{Step, free_count, is_spare, rested}
+use Rattle.name_page.proofs.LookLaws.{reaches_still, reaches_walks, rest_walks, walks_edits, edits_then}
+use Rattle.name_btree.specs.declared.calls.Call.{Call}
+use Rattle.name_btree.specs.declared.fault.TreeFault.{TreeFault}
+use Rattle.name_btree.specs.declared.fault.TreeFault.TheVariants.{Pages, Broken}
+use Rattle.name_btree.specs.Calls.{answer_of, made_of, answers_of, after, Allows, AllowsAll, Permits, TakesPages, IsExcused, Carries, Runs, StopsAt, without_answer}
+use Rattle.name_btree.specs.Fault.{IsCaused, HasCause, FailsTable, FailsSpare, BarsTable, IsNoUsedTree}
+use Rattle.name_btree.specs.Map.{IsTable, HasTable}
+use Rattle.name_btree.proofs.CauseLaws.{cause_map}
+use Rattle.name_btree.proofs.GrowLaws.{take_all}
+use Rattle.name_btree.proofs.SearchLaws.{barred_tree}
+use Rattle.name_btree.proofs.TakeLaws.{each_in}
+
+-- ---- a table that stays
+
+-- a table stays one where its pages stay, and the same of them are spare
+pub same_table : (a b : Step) (height : ℕ) → b.images ≡ a.images → b.spares ≡ a.spares → IsTable a height → IsTable b height
+same_table a b height images spares t = record {
+  tree = subst (λ (p : List (List ℕ)). IsTree p height) (sym images) t.tree;
+  spare = λ page low.
+      ap (λ (s : List Bool). is_spare s page) spares
+      ∙ t.spare page (subst (λ (p : List (List ℕ)). page < length p) images low)
+      ∙ ap (λ (p : List (List ℕ)). not (contains (pages_of p height) page)) (sym images);
+}
+
+pub same_entries : (a b : Step) (height : ℕ) → b.images ≡ a.images → table_of b.images height ≡ table_of a.images height
+same_entries a b height images = ap (λ (p : List (List ℕ)). table_of p height) images
+
+-- the pages are one table only
+pub one_table : (pages : List (List ℕ)) (h k : ℕ) → IsTree pages h → IsTree pages k → table_of pages h ≡ table_of pages k
+one_table pages h k a b =
+    let same : told_of (told_in pages) ≡ told_of (told_in pages) = refl in
+    sym (ap told_of (tree_told pages h a)) ∙ ap told_of (tree_told pages k b)
+  where
+    told_of : Option Telling → List Entry
+    told_of (Some t) = t.entries
+    told_of None = []
+
+-- ---- no page of a table is spare
+
+all_from : (P : ℕ → Type 0) (xs : List ℕ) → ((p : ℕ) → contains xs p ≡ true → P p) → AllByRecursion P xs
+all_from P [] h = tt
+all_from P (x ∷ xs) h = (
+  h x (ap (λ (b : Bool). b || contains xs x) (eq-eqb x x refl)),
+  all_from P xs (λ p is. h p (ap (λ (b : Bool). (x == p) || b) is ∙ or_true (x == p))),
+)
+  where
+    or_true : (b : Bool) → (b || true) ≡ true
+    or_true true = refl
+    or_true false = refl
+
+pub table_used : (s : Step) (height : ℕ) → IsTable s height → IsNoUsedTree s → ⊥
+table_used s height t none =
+    none height t.tree (all_from (λ page. is_spare s.spares page ≡ false) (pages_of s.images height) (λ page is.
+    t.spare page (each_in (λ p. p < length s.images) (pages_of s.images height) page (all_within (height - 1) s.images top t.tree.subtree) is) ∙ ap not is))
+
+-- ---- a fault of a table
+
+pub excuse_map : (Outer Outer' : Refusal → Type 0) (s : Step) (call : Call) → ((refusal : Refusal) → Outer refusal → Outer' refusal) → (fault : TreeFault) → IsExcused Outer s call fault → IsExcused Outer' s call fault
+excuse_map Outer Outer' s call more (Broken page) h = h
+excuse_map Outer Outer' s call more (Pages refusal) (inl x) = inl (more refusal x)
+excuse_map Outer Outer' s call more (Pages refusal) (inr x) = inr x
+
+pub excused : {D : Type 0} (P : Ghosts D) (call : Call) (a b : D) (height : ℕ) → P.trusted b → IsTable (P.step b) height → (fault : TreeFault) → FailsTable P a b fault → IsExcused (P.causes a b) (P.step b) call fault
+excused P call a b height t is (Broken page) h = table_used (P.step b) height is (barred_tree (P.step b) page (inl (h t)))
+excused P call a b height t is (Pages refusal) h = by h.1
+  where
+    by : IsCaused (P.causes a b) (P.step b) (λ page. P.trusted b → BarsTable (P.step b) page) refusal → IsExcused (P.causes a b) (P.step b) call (Pages refusal)
+    by (inl x) = inl x
+    by (inr x) = absurd (table_used (P.step b) height is (barred_tree (P.step b) x.0 (x.2 t)))
+
+-- too few pages are spare, or a fault of the table
+pub insert_excused : {D : Type 0} (P : Ghosts D) (call : Call) → TakesPages call → (a b : D) (r : Result (Unit {0}) TreeFault) → OnErr r (OnlyWalks P a b)
+    → (let free = free_count (P.step a) in (r ≡ Err (Pages (NameTableFull free))) ↔ (free < 8)) → IfErr r (FailsSpare P (free_count (P.step a)) a b) → P.trusted b → (height : ℕ) → IsTable (P.step b) height → IfErr r (IsExcused (P.causes a b) (P.step b) call)
+insert_excused P call takes a b (Ok done) walks full h t height is = tt
+insert_excused P call takes a b (Err fault) walks full (inl h) t height is = excused P call a b height t is fault h
+insert_excused P call takes a b (Err fault) walks full (inr h) t height is =
+    let same : free_count (P.step a) ≡ free_count (P.step b) = sym (ap (λ (spares : List Bool). count_by (λ spare. spare) spares) walks.spares) in
+    let few : free_count (P.step a) < 8 = full.0 (ap (λ (f : TreeFault). Err f) h.0) in
+    subst (IsExcused (P.causes a b) (P.step b) call) (sym h.0) (inr (takes, ap NameTableFull same, subst (λ (free : ℕ). free < 8) same few))
+
+pub table_excused : {D : Type 0} (P : Ghosts D) (call : Call) (a b : D) (r : Result (Unit {0}) TreeFault) → IfErr r (FailsTable P a b) → P.trusted b → (height : ℕ) → IsTable (P.step b) height → IfErr r (IsExcused (P.causes a b) (P.step b) call)
+table_excused P call a b (Ok done) h t height is = tt
+table_excused P call a b (Err fault) h t height is = excused P call a b height t is fault h
+
+-- ---- one call, in a step of its own
+
+module _ {D : Type 0} (P : Ghosts D) (trust : (x y : D) → P.outside x y → P.trusted y → P.trusted x) (later : (x y z : D) (refusal : Refusal) → P.outside x y → P.causes y z refusal → P.causes x z refusal) (a mid new : D) (outside : P.outside a mid) (rests : P.step mid ≡ rested (P.step a)) where
+  begun : OnlyWalks P a mid
+  begun = rest_walks P a mid outside (trust a mid outside) rests
+
+  same : P.trusted mid → (height : ℕ) → table_of (P.step mid).images height ≡ table_of (P.step a).images height
+  same t height = same_entries (P.step a) (P.step mid) height (begun.stays t)
+
+  kept : OnlyWalks P mid new → P.trusted new → (height : ℕ) → IsTable (P.step a) height → IsTable (P.step new) height
+  kept w t height is =
+      same_table (P.step mid) (P.step new) height (w.stays t) w.spares (same_table (P.step a) (P.step mid) height (begun.stays (w.trust t)) begun.spares is)
+
+  kept_has : OnlyWalks P mid new → P.trusted new → (height : ℕ) → IsTable (P.step a) height → HasTable (P.step new) (table_of (P.step a).images height)
+  kept_has w t height is = record { height = height; is = kept w t height is; table_is = same_entries (P.step mid) (P.step new) height (w.stays t) ∙ same (w.trust t) height }
+
+  -- a look-up
+  pub looks_up : (call : Call) → ((table : List Entry) → made_of table call ≡ table) → (r : Result (Option Entry) TreeFault) → OnlyReaches P mid new
+      → IfOk r (λ found. P.trusted new → (height : ℕ) → IsTree (P.step mid).images height → found ≡ answer_of (table_of (P.step mid).images height) call)
+      → IfErr r (HasCause (P.causes mid new) (P.step new) (BreaksTable (P.step new).images) (BarsTable (P.step new)))
+      → P.trusted new → (height : ℕ) → IsTable (P.step a) height → Carries (P.causes a new) (table_of (P.step a).images height) call r (P.step new)
+  looks_up call stays (Ok found) x ok err t height is =
+      let w : OnlyWalks P mid new = reaches_walks P mid new x in
+      let tree : IsTree (P.step mid).images height = (same_table (P.step a) (P.step mid) height (begun.stays (w.trust t)) begun.spares is).tree in (
+        ok t height tree ∙ ap (λ (table : List Entry). answer_of table call) (same (w.trust t) height),
+        subst (HasTable (P.step new)) (sym (stays (table_of (P.step a).images height))) (kept_has w t height is),
+      )
+  looks_up call stays (Err fault) x ok err t height is =
+      let w : OnlyWalks P mid new = reaches_walks P mid new x in (
+        excuse_map (P.causes mid new) (P.causes a new) (P.step new) call (λ refusal x. later a mid new refusal outside x) fault (excused P call mid new height t (kept w t height is) fault (cause_map (P.causes mid new) (P.causes mid new) (P.step new) (BreaksTable (P.step new).images) (λ page. P.trusted new → BreaksTable (P.step new).images page)
+            (BarsTable (P.step new)) (λ page. P.trusted new → BarsTable (P.step new) page) (λ refusal x. x) (λ page x trusted. x) (λ page x trusted. x) fault err)),
+        kept_has w t height is,
+      )
+
+  -- a change
+  pub changes_to : (call : Call) → ((table : List Entry) → None ≡ answer_of table call) → (r : Result (Unit {0}) TreeFault) → OnlyEdits P mid new → OnErr r (OnlyWalks P mid new)
+      → OnOk r (P.trusted new → (height : ℕ) → IsTable (P.step mid) height → HasTable (P.step new) (made_of (table_of (P.step mid).images height) call))
+      → (P.trusted new → (height : ℕ) → IsTable (P.step new) height → IfErr r (IsExcused (P.causes mid new) (P.step new) call))
+      → P.trusted new → (height : ℕ) → IsTable (P.step a) height → Carries (P.causes a new) (table_of (P.step a).images height) call (without_answer r) (P.step new)
+  changes_to call answers (Ok done) x err ok excuse t height is =
+      let made = ok t height (same_table (P.step a) (P.step mid) height (begun.stays (x.trust t)) begun.spares is) in (
+        answers (table_of (P.step a).images height),
+        subst (λ (table : List Entry). HasTable (P.step new) (made_of table call)) (same (x.trust t) height) made,
+      )
+  changes_to call answers (Err fault) x err ok excuse t height is = (
+    excuse_map (P.causes mid new) (P.causes a new) (P.step new) call (λ refusal x. later a mid new refusal outside x) fault (excuse t height (kept err t height is)),
+    kept_has err t height is,
+  )
+
+-- ---- one after another
+
+after_more : (table : List Entry) (calls : List Call) (c : Call) → after table (calls ++ c ∷ []) ≡ made_of (after table calls) c
+after_more table [] c = refl
+after_more table (d ∷ calls) c = after_more (made_of table d) calls c
+
+answers_more : (table : List Entry) (calls : List Call) (c : Call) → answers_of table (calls ++ c ∷ []) ≡ answers_of table calls ++ answer_of (after table calls) c ∷ []
+answers_more table [] c = refl
+answers_more table (d ∷ calls) c = ap (λ (xs : List (Option Entry)). answer_of table d ∷ xs) (answers_more (made_of table d) calls c)
+
+allows_at : (table : List Entry) (before : List Call) (c : Call) (behind : List Call) → AllowsAll table (before ++ c ∷ behind) → Allows (after table before) c
+allows_at table [] c behind h = h.0
+allows_at table (d ∷ before) c behind h = allows_at (made_of table d) before c behind h.1
+
+-- so many calls were made
+pub record IsSoFar {D : Type 0} (P : Ghosts D) (old now : D) (calls : List Call) (answers : List (Option Entry)) (i : ℕ) : Type 0 where
+  pub whole : length answers ≡ length calls
+  pub edits : OnlyEdits P old now
+  pub runs : P.trusted now → (height : ℕ) → IsTable (P.step old) height → Runs (table_of (P.step old).images height) (take i calls) (take i answers) (P.step now)
+
+pub none_so_far : {D : Type 0} (P : Ghosts D) (a : D) (calls : List Call) (answers : List (Option Entry)) → P.outside a a → length answers ≡ length calls → IsSoFar P a a calls answers 0
+none_so_far P a calls answers still whole = record {
+  whole = whole;
+  edits = walks_edits P a a (reaches_walks P a a (reaches_still P a still));
+  runs = λ t height is. record { answers_are = refl; makes = record { height = height; is = is; table_is = refl } };
+}
+
+module _ {D : Type 0} (P : Ghosts D) (old now : D) (calls : List Call) (answers : List (Option Entry)) (i : ℕ) (c : Call) (there : i < length calls) (one : get_or calls i c ≡ c) (so : IsSoFar P old now calls answers i) where
+  more : take (i + 1) calls ≡ take i calls ++ c ∷ []
+  more = take_more calls i c there ∙ ap (λ (d : Call). take i calls ++ d ∷ []) one
+
+  parts : calls ≡ take i calls ++ c ∷ drop (i + 1) calls
+  parts = sym (take-append-drop (i + 1) calls) ∙ ap (λ (xs : List Call). xs ++ drop (i + 1) calls) more ∙ append_assoc (take i calls) (c ∷ []) (drop (i + 1) calls)
+
+  -- the next call is allowed
+  pub next_allowed : (P.trusted old → Permits (P.step old) calls) → P.trusted now → (height : ℕ) → IsTree (P.step now).images height → Allows (table_of (P.step now).images height) c
+  next_allowed permits t height tree =
+      let p : Permits (P.step old) calls = permits (so.edits.trust t) in
+      let table = table_of (P.step old).images p.height in
+      let r : Runs table (take i calls) (take i answers) (P.step now) = so.runs t p.height p.is in
+      let allowed : Allows (after table (take i calls)) c = allows_at table (take i calls) c (drop (i + 1) calls) (subst (AllowsAll table) parts p.allows) in
+      subst (λ (xs : List Entry). Allows xs c) (sym (one_table (P.step now).images height r.makes.height tree r.makes.is.tree ∙ r.makes.table_is)) allowed
+
+  module _ (new : D) (law : (a b c : D) → P.outside a b → P.outside b c → P.outside a c) (edits : OnlyEdits P now new) where
+    -- what was carried out, of the table that the calls before made
+    carried : (r : Result (Option Entry) TreeFault) → (P.trusted new → (height : ℕ) → IsTable (P.step now) height → Carries (P.causes now new) (table_of (P.step now).images height) c r (P.step new))
+        → P.trusted new → (height : ℕ) → IsTable (P.step old) height → Carries (P.causes now new) (after (table_of (P.step old).images height) (take i calls)) c r (P.step new)
+    carried r h t height is =
+        let ran = so.runs (edits.trust t) height is in
+        subst (λ (table : List Entry). Carries (P.causes now new) table c r (P.step new)) ran.makes.table_is (h t ran.makes.height ran.makes.is)
+
+    pub one_so_far : (answer : Option Entry) → (P.trusted new → (height : ℕ) → IsTable (P.step now) height → Carries (P.causes now new) (table_of (P.step now).images height) c (Ok answer) (P.step new)) → IsSoFar P old new calls (slice_set answers i answer) (i + 1)
+    one_so_far answer h = record {
+      whole = length-set answers i answer ∙ so.whole;
+      edits = edits_then P law old now new so.edits edits;
+      runs = λ t height is.
+          let table = table_of (P.step old).images height in
+          let did = carried (Ok answer) h t height is in
+          let ran = so.runs (edits.trust t) height is in
+          record {
+            answers_are =
+                take_more_set answers i answer (omega (arith, there, so.whole))
+                ∙ ap (λ (xs : List (Option Entry)). xs ++ answer ∷ []) ran.answers_are
+                ∙ ap (λ (x : Option Entry). answers_of table (take i calls) ++ x ∷ []) did.0
+                ∙ sym (answers_more table (take i calls) c)
+                ∙ ap (answers_of table) (sym more);
+            makes = subst (HasTable (P.step new)) (sym (after_more table (take i calls) c) ∙ ap (after table) (sym more)) did.1;
+          };
+    }
+
+    pub stops_here : (later : (x y z : D) (refusal : Refusal) → P.outside x y → P.causes y z refusal → P.causes x z refusal) (fault : TreeFault)
+        → (P.trusted new → (height : ℕ) → IsTable (P.step now) height → Carries (P.causes now new) (table_of (P.step now).images height) c (Err fault) (P.step new))
+        → P.trusted new → (height : ℕ) → IsTable (P.step old) height → StopsAt (P.causes old new) (table_of (P.step old).images height) calls answers fault (P.step new)
+    stops_here later fault h t height is =
+        let did = carried (Err fault) h t height is in
+        let ran = so.runs (edits.trust t) height is in
+        let long : length (take i calls) ≡ i = length-take-le i calls (omega (arith, there)) in
+        record {
+          before = take i calls;
+          call = c;
+          behind = drop (i + 1) calls;
+          parts = parts;
+          ran = record { answers_are = ap (λ (n : ℕ). take n answers) long ∙ ran.answers_are; makes = did.1 };
+          excuse = excuse_map (P.causes now new) (P.causes old new) (P.step new) c (λ refusal x. later old now new refusal so.edits.outside x) fault did.0;
+        }
+
+-- all calls were made
+pub all_so_far : {D : Type 0} (P : Ghosts D) (old now : D) (calls : List Call) (answers : List (Option Entry)) (i : ℕ) → length calls ≤ i → IsSoFar P old now calls answers i
+    → P.trusted now → (height : ℕ) → IsTable (P.step old) height → Runs (table_of (P.step old).images height) calls answers (P.step now)
+all_so_far P old now calls answers i all so t height is =
+    let table = table_of (P.step old).images height in
+    let r = so.runs t height is in
+    let calls_are : take i calls ≡ calls = take_all calls i all in
+    let answers_are : take i answers ≡ answers = take_all answers i (omega (arith, all, so.whole)) in
+    record { answers_are = sym answers_are ∙ r.answers_are ∙ ap (answers_of table) calls_are; makes = subst (λ (xs : List Call). HasTable (P.step now) (after table xs)) calls_are r.makes }

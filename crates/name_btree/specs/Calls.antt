@@ -1,0 +1,105 @@
+-- A list of calls, beside a map from keys to entries.
+use Rattle.std.specs.Prelude.{◌≡◌, ◌<◌, ◌⊎◌, ℕ, ⊤, List, [], ◌∷◌, ◌++◌, Option, None, Result, Ok, Err, IsTrue, map, take, length}
+use Rattle.fsd_bytes.specs.declared.refusal.Refusal.{Refusal}
+use Rattle.fsd_bytes.specs.declared.refusal.Refusal.TheVariants.{NameTableFull}
+use Rattle.fsd_formats.specs.declared.entry.Entry.{Entry}
+use Rattle.fsd_formats.specs.NamePage.{is_entry, FitsEntry}
+use Rattle.fsd_table.specs.Tree.{table_of}
+use Rattle.name_page.specs.Edits.{put, with_entry, without}
+use Rattle.name_page.specs.Lookups.{entry_with, entry_after, highest_of}
+use Rattle.name_page.specs.Pages.{Step, free_count}
+use Rattle.name_btree.specs.declared.calls.Call.{Call}
+use Rattle.name_btree.specs.declared.calls.Call.TheVariants.{Find, Highest, NextAfter, Insert, Remove, Replace}
+use Rattle.name_btree.specs.declared.fault.TreeFault.{TreeFault}
+use Rattle.name_btree.specs.declared.fault.TreeFault.TheVariants.{Pages, Broken}
+use Rattle.name_btree.specs.Map.{IsTable, HasTable, without_all}
+use Rattle.name_btree.specs.Replace.{HasAsLong}
+
+-- ---- one call
+
+-- what the map answers; a change answers nothing
+abbrev pub answer_of : List Entry → Call → Option Entry
+answer_of table (Find key) = entry_with key table
+answer_of table (Highest name) = highest_of name table
+answer_of table (NextAfter key) = entry_after key table
+answer_of table other = None
+
+-- what becomes of the map
+abbrev pub made_of : List Entry → Call → List Entry
+made_of table (Insert entry gone) = with_entry entry (without_all gone.items table)
+made_of table (Remove key) = without key table
+made_of table (Replace entry) = map (put entry) table
+made_of table other = table
+
+-- the entry that comes may stand in a leaf
+abbrev pub IsFormed : Call → Type 0
+IsFormed (Insert entry gone) = IsTrue (is_entry entry) × FitsEntry entry
+IsFormed (Replace entry) = IsTrue (is_entry entry) × FitsEntry entry
+IsFormed other = ⊤
+
+-- an entry comes with a new key, and one is replaced by one that takes as many bytes
+abbrev pub Allows : List Entry → Call → Type 0
+Allows table (Insert entry gone) = entry_with entry.key (without_all gone.items table) ≡ None
+Allows table (Replace entry) = HasAsLong entry table
+Allows table other = ⊤
+
+-- ---- one after another
+
+abbrev pub answers_of : List Entry → List Call → List (Option Entry)
+answers_of table [] = []
+answers_of table (c ∷ calls) = answer_of table c ∷ answers_of (made_of table c) calls
+
+abbrev pub after : List Entry → List Call → List Entry
+after table [] = table
+after table (c ∷ calls) = after (made_of table c) calls
+
+abbrev pub AllowsAll : List Entry → List Call → Type 0
+AllowsAll table [] = ⊤
+AllowsAll table (c ∷ calls) = Allows table c × AllowsAll (made_of table c) calls
+
+-- ---- over pages
+
+-- the pages are a table that allows the calls
+pub record Permits (s : Step) (calls : List Call) : Type 0 where
+  pub height : ℕ
+  pub is : IsTable s height
+  pub allows : AllowsAll (table_of s.images height) calls
+
+-- only an insert takes pages
+abbrev pub TakesPages : Call → Type 0
+TakesPages (Insert entry gone) = ⊤
+TakesPages other = ⊥
+
+-- the refusal came from outside, or too few pages are spare for an insert
+abbrev pub IsExcused : (Outer : Refusal → Type 0) → Step → Call → TreeFault → Type 0
+IsExcused Outer s call (Pages refusal) = Outer refusal ⊎ (TakesPages call × (refusal ≡ NameTableFull (free_count s)) × (free_count s < 8))
+IsExcused Outer s call (Broken page) = ⊥
+
+-- the map's answer, and the changed table; or an excuse, and the table as it was
+abbrev pub Carries : (Outer : Refusal → Type 0) → List Entry → Call → Result (Option Entry) TreeFault → Step → Type 0
+Carries Outer table call (Ok answer) s = (answer ≡ answer_of table call) × HasTable s (made_of table call)
+Carries Outer table call (Err fault) s = IsExcused Outer s call fault × HasTable s table
+
+-- the map's answers, and the table that the calls make
+pub record Runs (table : List Entry) (calls : List Call) (answers : List (Option Entry)) (s : Step) : Type 0 where
+  pub answers_are : answers ≡ answers_of table calls
+  pub makes : HasTable s (after table calls)
+
+-- one of the calls has an excuse, and those before it were made
+pub record StopsAt (Outer : Refusal → Type 0) (table : List Entry) (calls : List Call) (answers : List (Option Entry)) (fault : TreeFault) (s : Step) : Type 0 where
+  pub before : List Call
+  pub call : Call
+  pub behind : List Call
+  pub parts : calls ≡ before ++ call ∷ behind
+  pub ran : Runs table before (take (length before) answers) s
+  pub excuse : IsExcused Outer s call fault
+
+-- all calls were made, or one of them failed
+abbrev pub RunsTo : (Outer : Refusal → Type 0) → List Entry → List Call → List (Option Entry) → Result (Unit {0}) TreeFault → Step → Type 0
+RunsTo Outer table calls answers (Ok done) s = Runs table calls answers s
+RunsTo Outer table calls answers (Err fault) s = StopsAt Outer table calls answers fault s
+
+-- a change that is done answers nothing
+abbrev pub without_answer : Result (Unit {0}) TreeFault → Result (Option Entry) TreeFault
+without_answer (Ok done) = Ok None
+without_answer (Err fault) = Err fault

@@ -1,0 +1,86 @@
+//! Calls of the table, one after another.
+ghost use Rattle.std.specs.Prelude.{◌≡◌, ◌≤◌, ℕ, length};
+ghost use Rattle.std.specs.List.{AllByRecursion};
+ghost use Rattle.fsd_table.specs.Tree.{IsTree, table_of};
+ghost use Rattle.name_btree.specs.Calls.{Allows, Carries, IsFormed, Permits, RunsTo, without_answer};
+ghost use Rattle.name_btree.specs.Map.{IsTable};
+ghost use Rattle.name_page.specs.declared.pages.TheConstants.{MOST_CHANGED, MOST_REACHED};
+ghost use Rattle.name_page.specs.Looks.{OnlyEdits};
+
+use crate::fault::TreeFault;
+use crate::inserting::insert;
+use crate::lookup::{find, highest, next_after};
+use crate::removing::remove;
+use crate::replacing::replace_same_size;
+use arrayvec::ArrayVec;
+use fsd_bytes::{FileName, Key};
+use fsd_formats::Entry;
+use name_page::Pages;
+
+/// A call of the table.
+#[derive(Drop)]
+pub enum Call {
+    /// The entry with this key.
+    Find(Key),
+    /// The entry with the highest version of this name.
+    Highest(FileName),
+    /// The entry with the least key that is later than this one.
+    NextAfter(Option<Key>),
+    /// This entry comes, and those with these keys go.
+    Insert(Entry, ArrayVec<Key, 2>),
+    /// The entry with this key goes.
+    Remove(Key),
+    /// This entry takes the place of the one with its key.
+    Replace(Entry),
+}
+
+// A change answers no entry.
+fn without_answer(done: Result<(), TreeFault>) -> Result<Option<Entry>, TreeFault>
+    ensures { result ≡ without_answer done }
+{
+    match done {
+        Ok(()) => Ok(None),
+        Err(fault) => Err(fault),
+    }
+}
+
+// Makes one call, in a step of its own.
+fn carry_out<T: Pages>(t: &mut T, call: &Call) -> Result<Option<Entry>, TreeFault>
+    requires reached { MOST_REACHED ≤ (T.step t.old).most_reached }
+    requires changed { MOST_CHANGED ≤ (T.step t.old).most_changed }
+    requires formed { IsFormed call.now }
+    requires allowed { T.trusted t.old → (height : ℕ) → IsTree (T.step t.old).images height → Allows (table_of (T.step t.old).images height) call.now }
+    ensures calls { OnlyEdits T.Pages t.old t.new }
+    ensures carried { T.trusted t.new → (height : ℕ) → IsTable (T.step t.old) height → Carries (T.causes t.old t.new) (table_of (T.step t.old).images height) call.now result (T.step t.new) }
+{
+    t.rest();
+    match call {
+        Call::Find(key) => find(t, key),
+        Call::Highest(name) => highest(t, name),
+        Call::NextAfter(key) => next_after(t, key.as_ref()),
+        Call::Insert(entry, gone) => without_answer(insert(t, entry, gone)),
+        Call::Remove(key) => without_answer(remove(t, key)),
+        Call::Replace(entry) => without_answer(replace_same_size(t, entry)),
+    }
+}
+
+/// Makes calls one after another, up to the first that fails, each in a step of its own. Of a table the answers are the map's,
+/// and only the disk, want of memory and too few spare pages fail. A call that fails leaves the table.
+pub fn run<T: Pages>(
+    t: &mut T,
+    calls: &[Call],
+    answers: &mut [Option<Entry>],
+) -> Result<(), TreeFault>
+    requires whole { length answers.old ≡ length calls.now }
+    requires reached { MOST_REACHED ≤ (T.step t.old).most_reached }
+    requires changed { MOST_CHANGED ≤ (T.step t.old).most_changed }
+    requires formed { AllByRecursion IsFormed calls.now }
+    requires table { T.trusted t.old → Permits (T.step t.old) calls.now }
+    ensures calls { OnlyEdits T.Pages t.old t.new }
+    ensures run { T.trusted t.new → (height : ℕ) → IsTable (T.step t.old) height → RunsTo (T.causes t.old t.new) (table_of (T.step t.old).images height) calls.now answers.new result (T.step t.new) }
+{
+    for (i, call) in calls.iter().enumerate() {
+        answers[i] = carry_out(t, call)?;
+    }
+    Ok(())
+}

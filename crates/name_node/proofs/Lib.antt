@@ -1,9 +1,0 @@
-pub mod CountLaws
-pub mod CutLaws
-pub mod CutPageLaws
-pub mod FitsLaws
-pub mod ListLaws
-pub mod NodeLaws
-pub mod PutLaws
-pub mod SideLaws
-pub mod WaysLaws

@@ -1,0 +1,130 @@
+-- What is too much for one page, in two.
+use Rattle.std.proofs.Common.{◌≡◌, ℕ, zero, suc, ◌+◌, ◌≤◌, ◌<◌, true, Bool, false, cond, ◌&&◌, List, [], ◌∷◌, ◌++◌, length, take, drop, Some, refl, sym, ap, subst, ◌∙◌, arith, length-append, take-append-drop, length-take, length-drop}
+use Rattle.std.specs.Prelude.{◌==◌, nat_le, nat_lt, slice_get}
+use Rattle.std.specs.List.{flat_map, list_all}
+use Rattle.std.proofs.lemmas.Bool.{and_parts, and_from, le-leb}
+use Rattle.std.proofs.lemmas.Grind.{flat_map-append}
+use Rattle.std.proofs.lemmas.List.Folds.{list_all-append}
+use Rattle.fsd_bytes.specs.declared.key.Key.{Key}
+use Rattle.fsd_bytes.specs.Keys.{is_key, key_lt}
+use Rattle.fsd_bytes.specs.Names.{is_between}
+use Rattle.fsd_formats.specs.declared.entry.Entry.{Entry}
+use Rattle.fsd_formats.specs.declared.page.Separator.{Separator}
+use Rattle.fsd_formats.specs.NamePage.{Leaf, Interior, is_page, is_entry, are_ascending, entry_bytes, least_used, least_separators, room}
+use Rattle.fsd_table.specs.Pages.{entry_keys, separator_keys}
+use Rattle.fsd_table.proofs.BoundLaws.{ascend_tail}
+use Rattle.name_page.specs.Parting.{AreLeaves, AreInteriors}
+
+-- ---- keys in two parts
+
+pub keys_front : (xs ys : List Key) → are_ascending (xs ++ ys) ≡ true → are_ascending xs ≡ true
+keys_front [] ys e = refl
+keys_front (x ∷ []) ys e = refl
+keys_front (x ∷ y ∷ xs) ys e =
+    let parts = and_parts (key_lt x y) (are_ascending (y ∷ (xs ++ ys))) e in
+    and_from (key_lt x y) (are_ascending (y ∷ xs)) parts.0 (keys_front (y ∷ xs) ys parts.1)
+
+pub keys_behind : (xs ys : List Key) → are_ascending (xs ++ ys) ≡ true → are_ascending ys ≡ true
+keys_behind [] ys e = e
+keys_behind (x ∷ xs) ys e = keys_behind xs ys (ascend_tail x (xs ++ ys) e)
+
+entries_apart : (xs ys : List Entry) → entry_keys (xs ++ ys) ≡ entry_keys xs ++ entry_keys ys
+entries_apart [] ys = refl
+entries_apart (x ∷ xs) ys = ap (λ (ks : List Key). x.key ∷ ks) (entries_apart xs ys)
+
+separators_apart : (xs ys : List Separator) → separator_keys (xs ++ ys) ≡ separator_keys xs ++ separator_keys ys
+separators_apart [] ys = refl
+separators_apart (x ∷ xs) ys = ap (λ (ks : List Key). x.key ∷ ks) (separators_apart xs ys)
+
+-- ---- leaves
+
+abbrev used_by : List Entry → ℕ
+used_by entries = length (flat_map entry_bytes entries)
+
+is_within : (low high n : ℕ) → low ≤ n → n ≤ high → is_between low high n ≡ true
+is_within low high n a b = and_from (nat_le low n) (nat_le n high) (le-leb low n a) (le-leb n high b)
+
+least_of : (page n : ℕ) → 190 ≤ n → least_used page ≤ n
+least_of page n h = by (page == 0)
+  where
+    by : (b : Bool) → cond b 0 190 ≤ n
+    by true = omega arith
+    by false = h
+
+a_leaf : (page : ℕ) (xs : List Entry) → list_all is_entry xs ≡ true → are_ascending (entry_keys xs) ≡ true → 190 ≤ used_by xs → used_by xs ≤ 488 → is_page page 0 (Leaf xs) ≡ true
+a_leaf page xs all asc least most =
+    and_from (list_all is_entry xs && are_ascending (entry_keys xs)) (is_between (least_used page) room (used_by xs)) (and_from (list_all is_entry xs) (are_ascending (entry_keys xs)) all asc)
+    (is_within (least_used page) room (used_by xs) (least_of page (used_by xs) least) most)
+
+pub used_apart : (xs ys : List Entry) → used_by (xs ++ ys) ≡ used_by xs + used_by ys
+used_apart xs ys = ap length (flat_map-append entry_bytes xs ys) ∙ length-append (flat_map entry_bytes xs) (flat_map entry_bytes ys)
+
+leaves_of : (xs ys : List Entry) → list_all is_entry (xs ++ ys) ≡ true → are_ascending (entry_keys (xs ++ ys)) ≡ true → 488 < used_by (xs ++ ys) → used_by (xs ++ ys) ≤ 678 → 190 ≤ used_by xs → used_by xs ≤ 297
+    → AreLeaves xs ys
+leaves_of xs ys all asc many few least most page =
+    let sum = used_apart xs ys in
+    let each = and_parts (list_all is_entry xs) (list_all is_entry ys) (sym (list_all-append is_entry xs ys) ∙ all) in
+    let keys : are_ascending (entry_keys xs ++ entry_keys ys) ≡ true = ap are_ascending (sym (entries_apart xs ys)) ∙ asc in (
+      a_leaf page xs each.0 (keys_front (entry_keys xs) (entry_keys ys) keys) least (omega (arith, most)),
+      a_leaf page ys each.1 (keys_behind (entry_keys xs) (entry_keys ys) keys) (omega (arith, sum, many, most)) (omega (arith, sum, few, least)),
+    )
+
+pub leaves_at : (entries : List Entry) (i : ℕ) → list_all is_entry entries ≡ true → are_ascending (entry_keys entries) ≡ true → 488 < used_by entries → used_by entries ≤ 678 → 190 ≤ used_by (take i entries)
+    → used_by (take i entries) ≤ 297 → AreLeaves (take i entries) (drop i entries)
+leaves_at entries i all asc many few least most =
+    let whole : entries ≡ take i entries ++ drop i entries = sym (take-append-drop i entries) in
+    leaves_of (take i entries) (drop i entries) (ap (list_all is_entry) (sym whole) ∙ all) (ap (λ (xs : List Entry). are_ascending (entry_keys xs)) (sym whole) ∙ asc)
+    (subst (λ (n : ℕ). 488 < n) (ap used_by whole) many) (subst (λ (n : ℕ). n ≤ 678) (ap used_by whole) few) least most
+
+-- some bytes are those of some entry
+pub cut_some : (entries : List Entry) (i : ℕ) → 190 ≤ used_by (take i entries) → 0 < i
+cut_some entries zero h = absurd (omega (arith, h))
+cut_some entries (suc i) h = omega arith
+
+-- ---- interior pages
+
+abbrev all_below : ℕ → List Separator → Bool
+all_below p xs = list_all (λ s. is_key s.key && nat_lt s.child p) xs
+
+pub least_ways : (page n : ℕ) → 4 ≤ n → least_separators page ≤ n
+least_ways page n h = by (page == 0)
+  where
+    by : (b : Bool) → cond b 1 4 ≤ n
+    by true = omega (arith, h)
+    by false = h
+
+an_interior : (page p first : ℕ) (xs : List Separator) → all_below p xs ≡ true → are_ascending (separator_keys xs) ≡ true → nat_lt first p ≡ true → 4 ≤ length xs → length xs ≤ 9 → is_page page p (Interior first xs) ≡ true
+an_interior page p first xs all asc low least most =
+    and_from (all_below p xs && are_ascending (separator_keys xs) && nat_lt first p) (is_between (least_separators page) 9 (length xs))
+    (and_from (all_below p xs && are_ascending (separator_keys xs)) (nat_lt first p) (and_from (all_below p xs) (are_ascending (separator_keys xs)) all asc) low)
+    (is_within (least_separators page) 9 (length xs) (least_ways page (length xs) least) most)
+
+interiors_of : (p first : ℕ) (xs : List Separator) (s : Separator) (ys : List Separator) → all_below p (xs ++ s ∷ ys) ≡ true → are_ascending (separator_keys (xs ++ s ∷ ys)) ≡ true → first < p → length xs ≡ 4 → length ys ≡ 5
+    → AreInteriors p first xs s.child ys
+interiors_of p first xs s ys all asc low front behind page =
+    let each = and_parts (all_below p xs) (all_below p (s ∷ ys)) (sym (list_all-append (λ s. is_key s.key && nat_lt s.child p) xs (s ∷ ys)) ∙ all) in
+    let later = and_parts (is_key s.key && nat_lt s.child p) (all_below p ys) each.1 in
+    let keys : are_ascending (separator_keys xs ++ separator_keys (s ∷ ys)) ≡ true = ap are_ascending (sym (separators_apart xs (s ∷ ys))) ∙ asc in (
+      an_interior page p first xs each.0 (keys_front (separator_keys xs) (separator_keys (s ∷ ys)) keys) (le-leb (suc first) p (omega arith)) (omega (arith, front)) (omega (arith, front)),
+      an_interior page p s.child ys later.1 (ascend_tail s.key (separator_keys ys) (keys_behind (separator_keys xs) (separator_keys (s ∷ ys)) keys)) (and_parts (is_key s.key) (nat_lt s.child p) later.0).1
+          (omega (arith, behind)) (omega (arith, behind)),
+    )
+
+parts_at : (xs : List Separator) (i : ℕ) (s : Separator) → slice_get xs i ≡ Some s → xs ≡ take i xs ++ s ∷ drop (suc i) xs
+parts_at [] i s e = absurd cc
+parts_at (x ∷ xs) zero s e = let same : x ≡ s = cc in ap (λ (y : Separator). y ∷ xs) same
+parts_at (x ∷ xs) (suc i) s e = ap (λ (ys : List Separator). x ∷ ys) (parts_at xs i s e)
+
+pub interiors_at : (p first : ℕ) (xs : List Separator) (s : Separator) → length xs ≡ 10 → slice_get xs 4 ≡ Some s → all_below p xs ≡ true → are_ascending (separator_keys xs) ≡ true → first < p
+    → AreInteriors p first (take 4 xs) s.child (drop 5 xs)
+interiors_at p first xs s ten at all asc low =
+    let whole = parts_at xs 4 s at in
+    let front : length (take 4 xs) ≡ 4 = length_front xs ten in
+    let behind : length (drop 5 xs) ≡ 5 = length_behind xs ten in
+    interiors_of p first (take 4 xs) s (drop 5 xs) (ap (all_below p) (sym whole) ∙ all) (ap (λ (ys : List Separator). are_ascending (separator_keys ys)) (sym whole) ∙ asc) low front behind
+  where
+    length_front : (xs : List Separator) → length xs ≡ 10 → length (take 4 xs) ≡ 4
+    length_front xs ten = grind (arith, length-take)
+
+    length_behind : (xs : List Separator) → length xs ≡ 10 → length (drop 5 xs) ≡ 5
+    length_behind xs ten = grind (arith, length-drop)

@@ -1,0 +1,60 @@
+-- What a call leaves of the pages that only reaches some.
+use Rattle.std.specs.Prelude.{◌≡◌, ℕ, false, List, length, slice_get}
+use Rattle.name_page.specs.declared.pages.Pages.{Ghosts}
+use Rattle.name_page.specs.Pages.{Step, is_spare, IsReached}
+
+-- a step that has reached pages since, and done nothing else
+pub record Looks (old new : Step) : Type 0 where
+  pub count : length new.images ≡ length old.images
+  pub images : (page : ℕ) → IsReached old page → slice_get new.images page ≡ slice_get old.images page
+  pub reached : (page : ℕ) → IsReached old page → IsReached new page
+  pub spares : new.spares ≡ old.spares
+  pub home_a : new.home_a ≡ old.home_a
+  pub changed : new.changed ≡ old.changed
+  pub promised : new.promised ≡ old.promised
+  pub most_reached : new.most_reached ≡ old.most_reached
+  pub most_changed : new.most_changed ≡ old.most_changed
+
+-- the same of the pages, with what happened outside
+pub record OnlyReaches {D : Type 0} (P : Ghosts D) (old new : D) : Type 0 where
+  pub looks : Looks (P.step old) (P.step new)
+  pub outside : P.outside old new
+  pub trust : P.trusted new → P.trusted old
+  pub stays : P.trusted new → (P.step new).images ≡ (P.step old).images
+
+-- the same where steps have ended in between
+pub record OnlyWalks {D : Type 0} (P : Ghosts D) (old new : D) : Type 0 where
+  pub count : length (P.step new).images ≡ length (P.step old).images
+  pub spares : (P.step new).spares ≡ (P.step old).spares
+  pub home_a : (P.step new).home_a ≡ (P.step old).home_a
+  pub most_reached : (P.step new).most_reached ≡ (P.step old).most_reached
+  pub most_changed : (P.step new).most_changed ≡ (P.step old).most_changed
+  pub outside : P.outside old new
+  pub trust : P.trusted new → P.trusted old
+  pub stays : P.trusted new → (P.step new).images ≡ (P.step old).images
+
+-- what stays where pages were changed too
+pub record OnlyEdits {D : Type 0} (P : Ghosts D) (old new : D) : Type 0 where
+  pub count : length (P.step new).images ≡ length (P.step old).images
+  pub home_a : (P.step new).home_a ≡ (P.step old).home_a
+  pub most_reached : (P.step new).most_reached ≡ (P.step old).most_reached
+  pub most_changed : (P.step new).most_changed ≡ (P.step old).most_changed
+  pub outside : P.outside old new
+  pub trust : P.trusted new → P.trusted old
+
+-- images that have what the step has reached, but for pages that are spare
+pub record Agrees (images : List (List ℕ)) (s : Step) : Type 0 where
+  pub count : length images ≡ length s.images
+  pub reached : (page : ℕ) → IsReached s page → is_spare s.spares page ≡ false → slice_get images page ≡ slice_get s.images page
+
+-- what stays where pages were reached, and then some were taken
+pub record OnlyTakes {D : Type 0} (P : Ghosts D) (old new : D) : Type 0 where
+  pub edits : OnlyEdits P old new
+  pub stays : P.trusted new → (P.step new).images ≡ (P.step old).images
+  pub agrees : (images : List (List ℕ)) → Agrees images (P.step new) → Agrees images (P.step old)
+
+-- ---- what the pages show
+
+-- what the step has reached shows this, whatever the other pages have
+abbrev pub Shows : Step → (List (List ℕ) → Type 0) → Type 0
+Shows s P = (images : List (List ℕ)) → Agrees images s → P images

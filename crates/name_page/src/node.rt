@@ -1,0 +1,119 @@
+//! Pages as values.
+ghost use Rattle.std.specs.Prelude.{◌≡◌, ◌<◌, IsSome, Some, length, slice_get};
+ghost use Rattle.fsd_formats.specs.NamePage.{FitsEntry, FitsSeparator};
+ghost use Rattle.name_page.specs.Reading.{content_in};
+ghost use Rattle.name_page.specs.Node.{content_of};
+
+use crate::reading::{leaf_entry, separator};
+use fsd_bytes::{u8_at, u16_at, u32_at};
+use fsd_formats::{Entry, Separator};
+use std::marker::Model;
+
+/// The entries of a leaf.
+#[derive(Drop)]
+pub struct Entries {
+    image: [u8; 512],
+    count: u32,
+}
+
+impl Model for Entries {
+    ghost use Rattle.std.specs.Prelude.{List, ◌≡◌, length};
+    ghost use Rattle.std.specs.List.{AllByRecursion};
+    ghost use Rattle.fsd_formats.specs.declared.entry.Entry.{Entry};
+    ghost use Rattle.fsd_formats.specs.NamePage.{FitsEntry};
+    ghost use Rattle.name_page.specs.Reading.{entries_in};
+
+    ghost Value = { List Entry };
+
+    ghost view = { λ s. entries_in s.image };
+
+    ghost invariant = { λ s. (s.count ≡ length (entries_in s.image)) × AllByRecursion FitsEntry (entries_in s.image) };
+}
+
+impl Entries {
+    pub fn len(&self) -> u32
+        ensures { result ≡ length self.now }
+    {
+        self.count
+    }
+
+    /// Entry `i`, counted from 0.
+    pub fn get(&self, i: u32) -> Entry
+        requires { i < length self.now }
+        ensures there { slice_get self.now i ≡ Some result }
+        ensures fits { FitsEntry result }
+    {
+        leaf_entry(&self.image, i)
+    }
+}
+
+/// The first child of an interior page, and its separators.
+#[derive(Drop)]
+pub struct Ways {
+    image: [u8; 512],
+    first: u32,
+    count: u32,
+}
+
+impl Model for Ways {
+    ghost use Rattle.std.specs.Prelude.{ℕ, List, ◌≡◌, length};
+    ghost use Rattle.std.specs.List.{AllByRecursion};
+    ghost use Rattle.fsd_formats.specs.declared.page.Separator.{Separator};
+    ghost use Rattle.fsd_formats.specs.NamePage.{FitsSeparator};
+    ghost use Rattle.name_page.specs.Reading.{separators_in};
+
+    ghost Value = { ℕ × List Separator };
+
+    ghost view = { λ s. (s.first, separators_in s.image) };
+
+    ghost invariant = { λ s. (s.count ≡ length (separators_in s.image)) × AllByRecursion FitsSeparator (separators_in s.image) };
+}
+
+impl Ways {
+    pub fn first(&self) -> u32
+        ensures { result ≡ self.now.0 }
+    {
+        self.first
+    }
+
+    /// How many separators there are.
+    pub fn len(&self) -> u32
+        ensures { result ≡ length self.now.1 }
+    {
+        self.count
+    }
+
+    /// Separator `i`, counted from 0.
+    pub fn get(&self, i: u32) -> Separator
+        requires { i < length self.now.1 }
+        ensures there { slice_get self.now.1 i ≡ Some result }
+        ensures fits { FitsSeparator result }
+    {
+        separator(&self.image, i)
+    }
+}
+
+/// What a page has.
+#[derive(Drop)]
+pub enum Node {
+    Free,
+    Leaf(Entries),
+    Interior(Ways),
+}
+
+/// What the bytes of a page have.
+pub fn node_in(b: &[u8; 512]) -> Node
+    requires { IsSome (content_in b.now) }
+    ensures { content_in b.now ≡ Some (content_of result) }
+{
+    let count = u32::from(u16_at(b, 6));
+    match u8_at(b, 4) {
+        0 => Node::Free,
+        1 => Node::Leaf(Entries { image: *b, count }),
+        _ => Node::Interior(Ways {
+            image: *b,
+            first: u32_at(b, 24),
+            count,
+        }),
+    }
+}
