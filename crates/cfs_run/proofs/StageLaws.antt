@@ -1,6 +1,5 @@
 -- The moments of a run that mounts, one part of it after another.
 use Rattle.std.proofs.Common.{◌≡◌, inl, inr, ℕ, ◌+◌, ◌≤◌, List, [], ◌∷◌, ◌++◌, length, take, Option, Some, None, refl, sym, subst, ◌∙◌, arith}
-use Rattle.std.specs.List.{last_or}
 use Rattle.std.specs.Prelude.{Ok, Err}
 use Rattle.std.proofs.lemmas.List.{take-append-le, length-append}
 use Rattle.volume_layout.specs.declared.layout.Layout.{Layout}

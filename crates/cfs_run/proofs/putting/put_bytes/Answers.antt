@@ -2,7 +2,6 @@ use Rattle.std.proofs.Common.{◌+◌, ◌++◌, ◌∷◌, [], ℕ, List, ap, N
 use Rattle.volume_layout.specs.declared.layout.Layout.{Layout}
 use Rattle.sector_disk.specs.Image.{Windows}
 use Rattle.sector_disk.specs.Machine.{LeavesOnly}
-use Rattle.sector_disk.proofs.Calm.{same_calm}
 use Rattle.fsd_files.specs.Files.{Change}
 use Rattle.fsd_sound.specs.Sound.{EndIn}
 use Rattle.fsd_volume.specs.Forcing.{Forces}
