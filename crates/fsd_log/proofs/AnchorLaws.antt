@@ -16,6 +16,24 @@ read_third bytes a is =
     let le : read.third ≤ 2 = leb-true read.third 2 (and_parts (nat_le 1 read.epoch) (nat_le read.third 2) inner.0).1 in
     subst (λ (x : Anchor). x.third ≤ 2) given.1 le
 
+pub read_first : (bytes : List ℕ) (a : Anchor) → read_anchor bytes ≡ Some a → 1 ≤ a.first
+read_first bytes a is =
+    let read : Anchor = record { epoch = u32_at 4 bytes; third = u8_at 8 bytes; first = u32_at 12 bytes } in
+    let given = given_if (is_anchor read && same_bytes (anchor_bytes read) bytes) read a is in
+    let outer = and_parts (is_anchor read) (same_bytes (anchor_bytes read) bytes) given.0 in
+    let inner = and_parts (nat_le 1 read.epoch && nat_le read.third 2) (nat_le 1 read.first) outer.0 in
+    let le : 1 ≤ read.first = leb-true 1 read.first inner.1 in
+    subst (λ (x : Anchor). 1 ≤ x.first) given.1 le
+
+pub read_epoch : (bytes : List ℕ) (a : Anchor) → read_anchor bytes ≡ Some a → 1 ≤ a.epoch
+read_epoch bytes a is =
+    let read : Anchor = record { epoch = u32_at 4 bytes; third = u8_at 8 bytes; first = u32_at 12 bytes } in
+    let given = given_if (is_anchor read && same_bytes (anchor_bytes read) bytes) read a is in
+    let outer = and_parts (is_anchor read) (same_bytes (anchor_bytes read) bytes) given.0 in
+    let inner = and_parts (nat_le 1 read.epoch && nat_le read.third 2) (nat_le 1 read.first) outer.0 in
+    let le : 1 ≤ read.epoch = leb-true 1 read.epoch (and_parts (nat_le 1 read.epoch) (nat_le read.third 2) inner.0).0 in
+    subst (λ (x : Anchor). 1 ≤ x.epoch) given.1 le
+
 pub third_in : (o : Option (List ℕ)) (a : Anchor) → anchor_in o ≡ Some a → a.third ≤ 2
 third_in None a is = absurd cc
 third_in (Some bytes) a is = read_third bytes a is

@@ -22,7 +22,7 @@ use Rattle.fsd_sound.proofs.EachLaws.{all_in_range, each_of_all, items_by_place}
 use Rattle.fsd_sound.proofs.SectorFacts.{same_bytes, whole_before}
 
 -- what is read of either copy, of which wear reaches one at most
-either_reads : (bytes : List ℕ) (b c : Bool) (x y x' y' : Sector) → (IsTrue b → IsTrue c → ⊥) → SectorWorn b x x' → SectorWorn c y y' → x ≡ Whole bytes → y ≡ Whole bytes
+pub either_reads : (bytes : List ℕ) (b c : Bool) (x y x' y' : Sector) → (IsTrue b → IsTrue c → ⊥) → SectorWorn b x x' → SectorWorn c y y' → x ≡ Whole bytes → y ≡ Whole bytes
     → either_copy (bytes_of x') (bytes_of y') ≡ Some bytes
 either_reads bytes b c x y x' y' apart (inl e) v w z = ap (λ (s : Sector). either_copy (bytes_of s) (bytes_of y')) (e ∙ w)
 either_reads bytes b c x y x' y' apart (inr d) (inl f) w z = ap (λ (s : Sector). either_copy (bytes_of s) (bytes_of y')) d.1 ∙ ap bytes_of (f ∙ z)

@@ -17,6 +17,7 @@ pub mod LogPlaces
 pub mod MendLaws
 pub mod MountedLaws
 pub mod MountedWearLaws
+pub mod MoveLaws
 pub mod PagesLaws
 pub mod RehomeLaws
 pub mod RenewLaws

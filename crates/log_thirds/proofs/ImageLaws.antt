@@ -171,10 +171,10 @@ module _ (log : LogValue) (records : List Placed) (at : Moment) (page : ℕ) (on
       let l = log.layout in
       let disk = tape log.layout log.anchor.third (reads at.image) in
       let goes = subst (λ (rs : List Placed). Goes log.layout log.anchor.epoch (tape log.layout log.anchor.third (reads at.image)) (start log.layout log.anchor.first) rs (scan_of log at).head) same (goes_of_walk (3 * l.third) l log.anchor.epoch disk (start l log.anchor.first)) in
-      last_image_read log.layout log.anchor.epoch log.anchor.third page one_of (reads at.image) (start log.layout log.anchor.first) records (scan_of log at).head slot (record { before = omega arith; from = omega arith; ends = inl refl }) goes (sym (are page within) ∙ is)
+      last_image_read log.layout log.anchor.epoch log.anchor.third page one_of (reads at.image) (start log.layout log.anchor.first) records (scan_of log at).head slot (record { before = omega arith; from = omega arith; ends = inl refl }) goes (sym (are.slots page within) ∙ is)
 
 pub image_nowhere : (log : LogValue) (records : List Placed) (page : ℕ) → IsIndexed log records → page < length log.slots → get_or log.slots page None ≡ None → last_image page records ≡ None
-image_nowhere log records page are within is = no_last_image log.layout log.anchor.third page records (sym (are page within) ∙ is)
+image_nowhere log records page are within is = no_last_image log.layout log.anchor.third page records (sym (are.slots page within) ∙ is)
 
 -- ---- as it is read
 
@@ -264,7 +264,7 @@ stands_there old slot page epoch image sees =
 -- a page's two sectors by the table are those by the records
 pub logged_by : (log : LogValue) (records : List Placed) (page a b : ℕ) → IsIndexed log records → LiesAt (get_or log.slots page None) a b → LiesAt (slot_of log.layout log.anchor.third page records) a b
 logged_by log records page a b are lies = elim (cases_lt page (length log.slots)) [
-  | inl within ↦ record { number = lies.number; is = sym (are page within) ∙ lies.is }
+  | inl within ↦ record { number = lies.number; is = sym (are.slots page within) ∙ lies.is }
   | inr past ↦ absurd (none_some (record { place = a; copy = b; number = lies.number }) (sym (get_or_past log.slots page None past) ∙ lies.is))
 ]
   where

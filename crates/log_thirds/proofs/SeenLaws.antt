@@ -15,6 +15,7 @@ use Rattle.fsd_log.specs.Scan.{IsEnd, Head, place_of, tape, room_at, window, rec
 use Rattle.fsd_log.specs.Borne.{Foreign}
 use Rattle.fsd_log.proofs.AppendLaws.{none_foreign}
 use Rattle.fsd_log.proofs.WalkLaws.{stamp_of, goes_keeps}
+use Rattle.log_thirds.specs.declared.firsts.Firsts.{Firsts}
 use Rattle.log_thirds.specs.declared.slots.Slot.{Slot}
 use Rattle.log_thirds.specs.Copies.{Copies}
 use Rattle.log_thirds.proofs.ScanLaws.{Reaches}
@@ -208,13 +209,14 @@ tape_worn l third may i j worn w = elim (cases_lt w (3 * l.third)) [
     off k past = cond-false (nat_lt w (3 * l.third)) (reads k (place_of l third w)) None (not_below w (3 * l.third) past)
 
 -- the records that were found in front of the head are there still
-pub reaches_keeps : (l : Shape) (epoch first third : ℕ) → epoch < 2 ^ 32 → (old new : Reader) (h : Head) (slots : List (Option Slot)) (c : Copies) → h.number ≤ 2 ^ 32 → ((w : ℕ) → (new w ≡ old w) ⊎ (new w ≡ None)) → ((w : ℕ) → w < h.at → new w ≡ old w)
-    → Reaches l epoch first third old h slots c → Reaches l epoch first third new h slots c
-reaches_keeps l epoch first third fits old new h slots c small less below so_far = record {
+pub reaches_keeps : (l : Shape) (epoch first third : ℕ) → epoch < 2 ^ 32 → (old new : Reader) (h : Head) (f : Firsts) (slots : List (Option Slot)) (c : Copies) → h.number ≤ 2 ^ 32 → ((w : ℕ) → (new w ≡ old w) ⊎ (new w ≡ None)) → ((w : ℕ) → w < h.at → new w ≡ old w)
+    → Reaches l epoch first third old h f slots c → Reaches l epoch first third new h f slots c
+reaches_keeps l epoch first third fits old new h f slots c small less below so_far = record {
   records = so_far.records;
   goes = goes_keeps l epoch fits old new (start l first) so_far.records h (record { before = omega arith; from = omega arith; ends = inl refl }) small
       (record { each = λ w m lt. ⊎_elim (λ same. inl same) (λ none. inr (subst (Foreign (stamp_of epoch m)) (sym none) (none_foreign (stamp_of epoch m)))) (less w) }) below so_far.goes;
   are = so_far.are;
+  firsts = so_far.firsts;
   last = so_far.last;
 }
 

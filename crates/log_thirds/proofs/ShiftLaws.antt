@@ -1,6 +1,7 @@
 -- The anchor moves on by a third: the scan from there is the rest of the old one.
 use Rattle.std.proofs.Common.{◌≡◌, ◌⊎◌, inl, inr, ⊎_elim, ℕ, ◌+◌, ◌-◌, ◌*◌, ◌^◌, ◌<◌, ◌≤◌, List, [], ◌∷◌, ◌++◌, length, map, Option, Some, None, nat_lt, refl, sym, ap, subst, ◌∙◌, arith}
 use Rattle.std.specs.Prelude.{if◌then◌else◌}
+use Rattle.std.specs.List.{AllByRecursion}
 use Rattle.std.proofs.lemmas.Bool.{cases_lt, cond-true, cond-false, lt-ltb}
 use Rattle.volume_layout.specs.Shape.{Shape}
 use Rattle.fsd_formats.specs.Record.{record_len}
@@ -67,7 +68,17 @@ module _ (l : Shape) (epoch : ℕ) (old new : Reader) (shifted : IsShifted l old
     pub front : List Placed
     pub rest : List Placed
     pub joined : rs ≡ front ++ rest
+    pub some : h.at ≡ 0 → 0 < length front
+    pub before : AllByRecursion (λ r. r.at < l.third) front
+    pub behind : AllByRecursion (λ r. l.third ≤ r.at) rest
     pub goes : Goes l epoch new (start l (h.number + length front)) (map (back l.third) rest) (head_back l.third end)
+
+  -- what is found lies behind the head
+  goes_behind : (from : ℕ) (h : Head) (rs : List Placed) (end : Head) → IsIn l h → from ≤ h.at → Goes l epoch old h rs end → AllByRecursion (λ r. from ≤ r.at) rs
+  goes_behind from h [] end is_in le goes = tt
+  goes_behind from h (r ∷ rs) end is_in le goes =
+      let one = found_goes_on l epoch old h r goes.0 is_in goes.1 in
+      (omega (arith, le, one.from), goes_behind from goes.0 rs end one.is_in (omega (arith, le, one.from, one.to)) goes.2)
 
   splits_from : (h : Head) (rs : List Placed) (end : Head) → IsIn l h → h.end ≡ l.third → l.third < end.at → Goes l epoch old h rs end → Splits h rs end
   splits_from h [] end is_in first far goes = absurd (omega (arith, ap (λ (x : Head). x.at) goes, is_in.before))
@@ -87,6 +98,9 @@ module _ (l : Shape) (epoch : ℕ) (old new : Reader) (shifted : IsShifted l old
             front = r ∷ rest.front;
             rest = rest.rest;
             joined = ap (λ (x : List Placed). r ∷ x) rest.joined;
+            some = λ at. omega arith;
+            before = (omega (arith, one.to, one.is_in.before, ends, here.in_third, first), rest.before);
+            behind = rest.behind;
             goes = subst (λ (n : ℕ). Goes l epoch new (start l n) (map (back l.third) rest.rest) (head_back l.third end)) count rest.goes;
           }
       by_place (inr there) more =
@@ -106,6 +120,9 @@ module _ (l : Shape) (epoch : ℕ) (old new : Reader) (shifted : IsShifted l old
             front = [];
             rest = r ∷ rs;
             joined = refl;
+            some = λ none. absurd (let entered = there.enters.some in omega (arith, none, entered));
+            before = tt;
+            behind = (omega (arith, at), goes_behind l.third goes.0 rs end one.is_in (omega (arith, at, one.to)) goes.2);
             goes = subst (λ (n : ℕ). Goes l epoch new (start l n) (map (back l.third) (r ∷ rs)) (head_back l.third end)) count
                 (head_back l.third goes.0, step, goes_back goes.0 rs end one.is_in (omega (arith, at, one.to)) goes.2);
           }
@@ -145,6 +162,9 @@ module _ (l : Shape) (epoch first : ℕ) (fits : epoch < 2 ^ 32) (third : 0 < l.
         front = split.front;
         rest = split.rest;
         joined = split.joined;
+        some = split.some refl;
+        before = split.before;
+        behind = split.behind;
         log = record {
           scanned = walk_of_goes (3 * l.third) l epoch new (start l (first + length split.front)) (map (back l.third) split.rest) (head_back l.third h) (record { before = omega arith; from = omega arith; ends = inl refl }) (omega arith) split.goes
               (none_next l epoch new (head_back l.third h) (none_at (h.at - l.third) (h.end - l.third)) (none_at (h.end - l.third) (h.end - l.third + l.third)));
@@ -160,7 +180,7 @@ straight l first w p lt is = cond-true (nat_lt (first * l.third + w) (3 * l.thir
 wrapped : (l : Shape) (first w p : ℕ) → 3 * l.third ≤ first * l.third + w → p ≡ 16 + (first * l.third + w - 3 * l.third) → place_of l first w ≡ p
 wrapped l first w p ge is = cond-false (nat_lt (first * l.third + w) (3 * l.third)) _ _ (not_below _ _ ge) ∙ sym is
 
-place_moved : (l : Shape) (first next w : ℕ) → IsNextThird first next → w < 2 * l.third → place_of l next w ≡ place_of l first (w + l.third)
+pub place_moved : (l : Shape) (first next w : ℕ) → IsNextThird first next → w < 2 * l.third → place_of l next w ≡ place_of l first (w + l.third)
 place_moved l first next w (inl e) lt =
     let a : first * l.third ≡ 0 = ap (λ (f : ℕ). f * l.third) e.0 ∙ omega arith in
     let b : next * l.third ≡ l.third = ap (λ (f : ℕ). f * l.third) e.1 ∙ omega arith in

@@ -14,10 +14,10 @@ module _ (log : LogValue) (records : List Placed) (t first : ℕ) (long : length
   least_of_third (Some page) is = record {
     from = is.from;
     there = omega (arith, is.there, long);
-    lies = subst (λ (o : Option Slot). IsTrue (lies_in (third_start log.layout t) log.layout.third o)) (are page is.there) is.lies;
-    before = λ q ge lt h. let none = is.before q ge lt in let same = are q (omega (arith, lt, is.there)) in absurd (cc (none, same, h));
+    lies = subst (λ (o : Option Slot). IsTrue (lies_in (third_start log.layout t) log.layout.third o)) (are.slots page is.there) is.lies;
+    before = λ q ge lt h. let none = is.before q ge lt in let same = are.slots q (omega (arith, lt, is.there)) in absurd (cc (none, same, h));
   }
 
   pub none_of_third : (o : Option ℕ) → IfNone o (NoneLiesIn log.slots first (third_start log.layout t) log.layout.third) → IfNone o (NoneOfThird log records t first)
-  none_of_third None is = λ q ge lt h. let within : q < length log.slots = omega (arith, lt, long) in let none = is q ge within in let same = are q within in absurd (cc (none, same, h))
+  none_of_third None is = λ q ge lt h. let within : q < length log.slots = omega (arith, lt, long) in let none = is q ge within in let same = are.slots q within in absurd (cc (none, same, h))
   none_of_third (Some page) is = tt

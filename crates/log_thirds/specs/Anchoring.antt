@@ -7,6 +7,7 @@ use Rattle.fsd_formats.specs.declared.anchor.Anchor.{Anchor}
 use Rattle.fsd_formats.specs.Anchors.{anchor_bytes}
 use Rattle.log_thirds.specs.LogValue.{LogValue}
 use Rattle.fsd_log.specs.Scan.{start}
+use Rattle.log_thirds.specs.Firsts.{firsts_of}
 
 -- the image with the anchor at its first place, if so many (0 or 1) stand there, and at its second
 abbrev pub with_anchors : Anchor → List Sector → (first copy : ℕ) → List Sector
@@ -26,4 +27,4 @@ next_epoch log = record { epoch = log.anchor.epoch + 1; third = 0; first = 1 }
 
 -- the empty log of that epoch
 abbrev pub in_next_epoch : LogValue → LogValue
-in_next_epoch log = record { layout = log.layout; anchor = next_epoch log; head = start log.layout 1; slots = replicate (length log.slots) None; copies = record { place = log.copies.place; bytes = [] } }
+in_next_epoch log = record { layout = log.layout; anchor = next_epoch log; head = start log.layout 1; firsts = firsts_of 1; slots = replicate (length log.slots) None; copies = record { place = log.copies.place; bytes = [] } }

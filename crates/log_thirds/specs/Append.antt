@@ -8,6 +8,7 @@ use Rattle.fsd_log.specs.Scan.{Head, Placed, Walked, IsLog, place_of, tape, scan
 use Rattle.log_thirds.specs.Disk.{reads}
 use Rattle.log_thirds.specs.LogValue.{LogValue}
 use Rattle.log_thirds.specs.Copies.{AreLastCopies}
+use Rattle.log_thirds.specs.Firsts.{firsts_with, AreFirsts}
 use Rattle.log_thirds.specs.Slots.{slots_with, AreSlots, slot_of, lies_in}
 use Rattle.volume_layout.specs.Layout.{third_start}
 use Rattle.log_thirds.specs.declared.thirds.Place.{Place}
@@ -34,7 +35,7 @@ abbrev pub head_past : LogValue → (n : ℕ) → Head
 head_past log n = let spot = spot_for log.layout n log.head in record { number = log.head.number + 1; at = spot.at + record_len n; end = spot.end }
 
 abbrev pub log_past : LogValue → (n : ℕ) → LogValue
-log_past log n = record { layout = log.layout; anchor = log.anchor; head = head_past log n; slots = log.slots; copies = log.copies }
+log_past log n = record { layout = log.layout; anchor = log.anchor; head = head_past log n; firsts = log.firsts; slots = log.slots; copies = log.copies }
 
 -- the log with the record of these pages behind the others
 abbrev pub log_with : LogValue → (pages : List ℕ) → LogValue
@@ -42,13 +43,15 @@ log_with log pages = record {
   layout = log.layout;
   anchor = log.anchor;
   head = head_past log (length pages);
+  firsts = firsts_with log.layout.third (spot_for log.layout (length pages) log.head).at log.firsts;
   slots = slots_with log.layout log.anchor.third log.head.number (spot_for log.layout (length pages) log.head).at pages log.slots;
   copies = log.copies;
 }
 
--- the log knows of each page where its last image lies
-abbrev pub IsIndexed : LogValue → List Placed → Type 0
-IsIndexed log records = AreSlots log.layout log.anchor.third records log.slots
+-- The log knows of each page where its last image lies, and which numbers its thirds begin with.
+pub record IsIndexed (log : LogValue) (records : List Placed) : Type 0 where
+  pub slots : AreSlots log.layout log.anchor.third records log.slots
+  pub firsts : AreFirsts log.layout.third log.anchor.first records log.firsts
 
 -- the log has the copies of the last record, or there is none
 abbrev pub KnowsLast : LogValue → List Placed → Type 0

@@ -2,9 +2,11 @@ pub mod Anchoring
 pub mod Append
 pub mod Copies
 pub mod Disk
+pub mod Firsts
 pub mod Images
 pub mod LogValue
 pub mod Moves
+pub mod Moving
 pub mod Reading
 pub mod Slots
 pub mod Seen

@@ -4,6 +4,8 @@ use Rattle.fsd_formats.specs.declared.anchor.Anchor.{Anchor}
 use Rattle.volume_layout.specs.Shape.{Shape}
 use Rattle.fsd_log.specs.Scan.{Head, IsIn}
 use Rattle.log_thirds.specs.declared.slots.Slot.{Slot}
+use Rattle.log_thirds.specs.declared.firsts.Firsts.{Firsts}
+use Rattle.log_thirds.specs.Firsts.{AreNumbers}
 use Rattle.log_thirds.specs.Slots.{LieInRecords, SlotsInside}
 use Rattle.log_thirds.specs.Copies.{Copies, FitsDisk}
 
@@ -11,15 +13,18 @@ pub record LogValue : Type 0 where
   pub layout : Shape
   pub anchor : Anchor
   pub head : Head
+  pub firsts : Firsts
   pub slots : List (Option Slot)
   pub copies : Copies
 
-pub record IsShaped (layout : Shape) (anchor : Anchor) (head : Head) (slots : List (Option Slot)) (copies : Copies) (buffer : List ℕ) : Type 0 where
+pub record IsShaped (layout : Shape) (anchor : Anchor) (head : Head) (firsts : Firsts) (slots : List (Option Slot)) (copies : Copies) (buffer : List ℕ) : Type 0 where
   pub least : 200 ≤ layout.third
   pub most : layout.third ≤ 4096
   pub inside : 16 + 3 * layout.third ≤ layout.sectors
   pub third : anchor.third ≤ 2
+  pub begun : 1 ≤ anchor.epoch
   pub is_in : IsIn layout head
+  pub numbers : AreNumbers head.number firsts
   pub table : length slots ≡ layout.pages
   pub on_disk : SlotsInside layout.sectors slots
   pub in_records : LieInRecords layout slots
@@ -32,5 +37,9 @@ pub record FitsLayout (log : LogValue) : Type 0 where
   pub inside : 16 + 3 * log.layout.third ≤ log.layout.sectors
   pub third : log.anchor.third ≤ 2
   pub is_in : IsIn log.layout log.head
+  pub begun : 1 ≤ log.anchor.epoch
   pub epoch : log.anchor.epoch < 2 ^ 32
+  pub number : log.head.number < 2 ^ 32
+  pub numbers : AreNumbers log.head.number log.firsts
   pub pages : log.layout.pages < 2 ^ 32
+  pub table : length log.slots ≡ log.layout.pages

@@ -1,5 +1,6 @@
 -- The log by an anchor that has moved on by a third.
-use Rattle.std.specs.Prelude.{◌≡◌, ◌⊎◌, ℕ, ◌+◌, ◌-◌, List, ◌++◌, length, map}
+use Rattle.std.specs.Prelude.{◌≡◌, ◌⊎◌, ℕ, ◌+◌, ◌-◌, ◌<◌, ◌≤◌, List, ◌++◌, length, map}
+use Rattle.std.specs.List.{AllByRecursion}
 use Rattle.volume_layout.specs.Shape.{Shape}
 use Rattle.fsd_log.specs.Judged.{Reader}
 use Rattle.fsd_log.specs.Scan.{Head, Placed, IsLog}
@@ -19,4 +20,7 @@ pub record MovesOn (l : Shape) (epoch first : ℕ) (new : Reader) (rs : List Pla
   pub front : List Placed
   pub rest : List Placed
   pub joined : rs ≡ front ++ rest
+  pub some : 0 < length front
+  pub before : AllByRecursion (λ r. r.at < l.third) front
+  pub behind : AllByRecursion (λ r. l.third ≤ r.at) rest
   pub log : IsLog l epoch (first + length front) new (map (back l.third) rest) (head_back l.third h)

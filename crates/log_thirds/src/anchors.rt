@@ -43,6 +43,8 @@ fn read_copy<M: Machine>(m: &mut M, place: u32) -> Result<Option<Anchor>, ReadFa
     ensures worn { M.honest m.new → Wears (M.now m.old) (M.now m.new) }
     ensures any_moment { M.honest m.new → LeavesOnly M.moment M.left_since m.old m.new (Wears (M.now m.old)) }
     ensures third { IfOk result (λ o. IfSome o (λ a. a.third ≤ 2)) }
+    ensures first { IfOk result (λ o. IfSome o (λ a. 1 ≤ a.first)) }
+    ensures epoch { IfOk result (λ o. IfSome o (λ a. 1 ≤ a.epoch)) }
     ensures sees { IfOk result (λ o. M.honest m.new → SeesCopy (M.now m.old) place o) }
     ensures seen { IfOk result (λ o. M.honest m.new → ReadsAnchor (M.now m.old) (M.now m.new) place o) }
 {
@@ -63,6 +65,8 @@ pub(crate) fn find_anchor<M: Machine>(m: &mut M) -> Result<Option<Anchor>, ReadF
     ensures worn { M.honest m.new → Wears (M.now m.old) (M.now m.new) }
     ensures any_moment { M.honest m.new → LeavesOnly M.moment M.left_since m.old m.new (Wears (M.now m.old)) }
     ensures third { IfOk result (λ o. IfSome o (λ a. a.third ≤ 2)) }
+    ensures first { IfOk result (λ o. IfSome o (λ a. 1 ≤ a.first)) }
+    ensures epoch { IfOk result (λ o. IfSome o (λ a. 1 ≤ a.epoch)) }
     ensures sees { IfOk result (λ o. M.honest m.new → SeesAnchor (M.now m.old) o) }
     ensures seen { IfOk result (λ o. (j : List Sector) → M.honest m.new → IsWorn (open_damage (M.now m.old).windows) j (M.now m.old).image → AnchorsOn (open_damage (M.now m.old).windows) j (M.now m.new).image o) }
 {

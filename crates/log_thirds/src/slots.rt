@@ -1,5 +1,6 @@
 //! Where each page's last image lies.
-ghost use Rattle.std.specs.Prelude.{◌≡◌, ◌<◌, ◌+◌, ◌*◌, ◌^◌, Some, None, IfOk, IfSome, IfNone, length, slice_set, replicate};
+ghost use Rattle.std.specs.Prelude.{◌≡◌, ◌<◌, ◌+◌, ◌*◌, ◌^◌, Some, None, IfOk, IfSome, IfNone, length, map, slice_set, replicate};
+ghost use Rattle.log_thirds.specs.Moving.{slot_outside};
 ghost use Rattle.log_thirds.specs.Slots.{noted, lies_in, IsLeastIn, NoneLiesIn};
 
 use std::alloc::{AllocError, Global};
@@ -24,6 +25,18 @@ pub(crate) fn clear(slots: &mut [Option<Slot>])
     ensures { slots.new ≡ replicate (length slots.old) None }
 {
     slots.fill(None);
+}
+
+/// Drops the slots whose images lie in so many sectors from a start on.
+pub(crate) fn drop_in(slots: &mut [Option<Slot>], start: u32, count: u32)
+    requires { start + count < 2 ^ 32 }
+    ensures { slots.new ≡ map (slot_outside start count) slots.old }
+{
+    for slot in slots.iter_mut() {
+        if lies_in(slot, start, count) {
+            *slot = None;
+        }
+    }
 }
 
 // Puts a page's slot, if the table has the page.

@@ -2,9 +2,11 @@
 use crate::anchors::{find_anchor, write_anchor};
 use crate::fault::{LogFault, log_fault};
 use crate::find::{Step, Taken, has_room, next, place_of};
+use crate::firsts::Firsts;
 use crate::images::read_slot;
+use crate::moving::next_third;
 use crate::reading::ReadFault;
-use crate::slots::{Slot, clear, least_in, no_slots, note};
+use crate::slots::{Slot, clear, drop_in, least_in, no_slots, note};
 use crate::write::write_record;
 use fsd_formats::Anchor;
 use sector_disk::{Failed, LoadFault, Machine};
@@ -40,6 +42,7 @@ pub struct Log {
     number: u32,
     at: u32,
     end: u32,
+    firsts: Firsts,
     slots: Vec<Option<Slot>>,
     copies_at: u32,
     copies: Vec<u8>,
@@ -51,9 +54,9 @@ impl Model for Log {
 
     ghost Value = { LogValue };
 
-    ghost view = { λ s. record { layout = s.layout; anchor = s.anchor; head = record { number = s.number; at = s.at; end = s.end }; slots = s.slots.items; copies = record { place = s.copies_at; bytes = s.copies.items } } };
+    ghost view = { λ s. record { layout = s.layout; anchor = s.anchor; head = record { number = s.number; at = s.at; end = s.end }; firsts = s.firsts; slots = s.slots.items; copies = record { place = s.copies_at; bytes = s.copies.items } } };
 
-    ghost invariant = { λ s. IsShaped s.layout s.anchor (record { number = s.number; at = s.at; end = s.end }) s.slots.items (record { place = s.copies_at; bytes = s.copies.items }) s.buffer.items };
+    ghost invariant = { λ s. IsShaped s.layout s.anchor (record { number = s.number; at = s.at; end = s.end }) s.firsts s.slots.items (record { place = s.copies_at; bytes = s.copies.items }) s.buffer.items };
 }
 
 impl Log {
@@ -67,11 +70,14 @@ impl Log {
     ghost use Rattle.fsd_log.specs.Laid.{laid_bytes, slices};
     ghost use Rattle.fsd_log.specs.Scan.{Placed, HasRoom, spot_for, place_of};
     ghost use Rattle.log_thirds.specs.LogValue.{FitsLayout};
+    ghost use Rattle.log_thirds.specs.Slots.{IsLeastIn, NoneLiesIn};
+    ghost use Rattle.volume_layout.specs.Layout.{third_start};
     ghost use Rattle.log_thirds.specs.Images.{ImageCause, AreLogged, StandsAt, GivesLast};
     ghost use Rattle.fsd_log.specs.Images.{last_image};
     ghost use Rattle.log_thirds.specs.Copies.{copies_count, IsLast};
     ghost use Rattle.log_thirds.specs.Append.{IsCalm, IsNarrow, IsLogWorn, AppendsWorn, stamp_now, next_record, log_with, scan_of, GoesAt, FitsTwo, IsIndexed, KnowsLast, StandsInPart, IsLeastOfThird, NoneOfThird};
     ghost use Rattle.log_thirds.specs.Anchoring.{AnchorsIn, with_anchors, next_epoch, in_next_epoch};
+    ghost use Rattle.log_thirds.specs.Moving.{moved_anchor, moved, records_moved, EndsInLastThird, MovesWorn};
     ghost use Rattle.log_thirds.specs.Reading.{ReadCause, LogCause, SeesAnchor, SeesLastEpoch};
 
     // Finds the end of the log that begins with this anchor's first record.
@@ -82,6 +88,8 @@ impl Log {
         anchor: &Anchor,
     ) -> Result<Log, ReadFault>
         requires third { anchor.now.third ≤ 2 }
+        requires first { 1 ≤ anchor.now.first }
+        requires epoch { 1 ≤ anchor.now.epoch }
         requires sectors { layout.now.sectors ≤ (M.report m.old).sectors }
         ensures fault { IfErr result (ReadCause (M.report m.old) (M.report m.new)) }
         ensures uses { UsesDisk (M.report m.old) (M.report m.new) }
@@ -108,6 +116,7 @@ impl Log {
         let mut number = anchor.first;
         let mut at = 0;
         let mut end = third;
+        let mut firsts = Firsts::of(number);
         loop {
             match next(alloc, m, layout, anchor, number, at, end) {
                 Ok(Some(Step { from, taken, past })) => {
@@ -124,6 +133,7 @@ impl Log {
                     );
                     copies_at = place + (4 + found.pages.len() as u32);
                     copies = more;
+                    firsts = firsts.with(third, from);
                     number += 1;
                     at = past.at;
                     end = past.end;
@@ -135,6 +145,7 @@ impl Log {
                         number,
                         at,
                         end,
+                        firsts,
                         slots,
                         copies_at,
                         copies,
@@ -176,6 +187,17 @@ impl Log {
             Ok(log) => Ok(log),
             Err(fault) => Err(log_fault(fault)),
         }
+    }
+
+    /// The layout of the volume.
+    pub fn layout(&self) -> &Layout
+        ensures value { result.now ≡ self.now.layout }
+        ensures shape { FitsLayout self.now }
+    {
+        let _epoch = self.anchor.epoch;
+        let _number = self.number;
+        let _pages = self.layout.pages();
+        &self.layout
     }
 
     /// The epoch of the next record.
@@ -238,6 +260,8 @@ impl Log {
         requires { t < 3 }
         ensures least { (records : List Placed) → IsIndexed self.now records → IfSome result (IsLeastOfThird self.now records t first) }
         ensures none { (records : List Placed) → IsIndexed self.now records → IfNone result (NoneOfThird self.now records t first) }
+        ensures slot { IfSome result (IsLeastIn self.now.slots first (third_start self.now.layout t) self.now.layout.third) }
+        ensures no_slot { IfNone result (NoneLiesIn self.now.slots first (third_start self.now.layout t) self.now.layout.third) }
     {
         let third = self.layout.third();
         let _pages = self.layout.pages();
@@ -274,6 +298,7 @@ impl Log {
             → last_image page records ≡ (if there then Some buf.new else None)) }
         ensures none_lost { IfErr result (λ fault. (records : List Placed) → M.honest m.new → IsCalm (M.now m.old) → IsIndexed self.now records → GivesLast self.now records page (M.now m.old).image → IsDevice fault) }
         ensures nowhere { result ≡ Ok false → (records : List Placed) → IsIndexed self.now records → last_image page records ≡ None }
+        ensures no_slot { result ≡ Ok false → slice_index_or self.now.slots page None ≡ None }
         ensures kept { result ≡ Ok false → buf.new ≡ buf.old }
     {
         match self.slots[page as usize] {
@@ -385,6 +410,7 @@ impl Log {
             self.buffer.as_mut_slice(),
         )?;
         note(self.slots.as_mut_slice(), self.number, place + 3, pages);
+        self.firsts = self.firsts.with(self.layout.third(), at);
         self.number += 1;
         self.at = at + (2 * pages.len() as u32 + 5);
         self.end = end;
@@ -419,9 +445,53 @@ impl Log {
         clear(self.slots.as_mut_slice());
         self.copies.clear();
         self.anchor = anchor;
+        self.firsts = Firsts::of(1);
         self.number = 1;
         self.at = 0;
         self.end = third;
+        Ok(())
+    }
+
+    /// Writes the anchor that names the third behind the first one, to its first place and then to its second; the log is
+    /// then what lies behind the first third, which may be written over. The log's last record lies in its last third. Where
+    /// it fails the log is as it was, and either anchor may stand.
+    pub fn move_anchor<M: Machine>(&mut self, m: &mut M) -> Result<(), Failed>
+        requires ends { EndsInLastThird self.old }
+        requires sectors { self.old.layout.sectors ≤ (M.report m.old).sectors }
+        ensures fault { IfErr result (λ failed. DeviceFault (M.report m.old) (M.report m.new) failed.place) }
+        ensures uses { UsesDisk (M.report m.old) (M.report m.new) }
+        ensures trust { Trusts (M.tells m.old) (M.tells m.new) (M.honest m.old) (M.honest m.new) }
+        ensures ledger { M.tells m.new → OnlyWrites (M.ledger m.old) (M.ledger m.new) }
+        ensures counted { OnOk result (M.tells m.new → M.ledger m.new ≡ wrote (M.ledger m.old) 2) }
+        ensures quiet { M.honest m.new → (M.now m.new).said ≡ (M.now m.old).said }
+        ensures windows { M.honest m.new → (M.now m.new).windows ≡ (M.now m.old).windows }
+        ensures any_moment { M.honest m.new → LeavesOnly M.moment M.left_since m.old m.new (AnchorsIn (moved_anchor self.old) (M.now m.old)) }
+        ensures done { OnOk result (M.honest m.new → Holds (M.now m.old) (with_anchors (moved_anchor self.old) (M.now m.old).image 1 1) (M.now m.new)) }
+        ensures worn_moment { (records : List Placed) → M.honest m.new → IsIndexed self.old records → IsLogWorn self.old records (M.now m.old)
+            → LeavesOnly M.moment M.left_since m.old m.new (MovesWorn self.old records (M.now m.old)) }
+        ensures worn_done { OnOk result ((records : List Placed) → M.honest m.new → IsIndexed self.old records → IsLogWorn self.old records (M.now m.old)
+            → IsLogWorn self.new (records_moved self.old.layout records) (M.now m.new)) }
+        ensures indexed { OnOk result ((records : List Placed) → M.honest m.new → IsIndexed self.old records → IsLogWorn self.old records (M.now m.old)
+            → IsIndexed self.new (records_moved self.old.layout records)) }
+        ensures past { OnOk result (self.new ≡ moved self.old) }
+        ensures kept { OnErr result (self.new ≡ self.old) }
+    {
+        let third = self.layout.third();
+        let start = self.layout.third_start(self.anchor.third);
+        let anchor = Anchor {
+            epoch: self.anchor.epoch,
+            third: next_third(self.anchor.third),
+            first: self.firsts.second,
+        };
+        write_anchor(m, &anchor)?;
+        drop_in(self.slots.as_mut_slice(), start, third);
+        self.firsts = Firsts {
+            second: self.firsts.last,
+            last: self.number,
+        };
+        self.anchor = anchor;
+        self.at -= third;
+        self.end -= third;
         Ok(())
     }
 }

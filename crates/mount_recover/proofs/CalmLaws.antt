@@ -33,7 +33,7 @@ use Rattle.log_thirds.specs.Disk.{bytes_in, reads}
 use Rattle.log_thirds.specs.Images.{GivesSlot, GivesLast}
 use Rattle.log_thirds.specs.LogValue.{LogValue}
 use Rattle.log_thirds.specs.Copies.{copies_count}
-use Rattle.log_thirds.specs.Slots.{AreSlots, slot_of}
+use Rattle.log_thirds.specs.Slots.{slot_of}
 use Rattle.log_thirds.proofs.RunLaws.{calm_runs}
 use Rattle.twin_home.specs.Heal.{MayReadDamaged, Mends, Heals, Healed, RootsIn}
 use Rattle.fsd_sound.proofs.CommuteLaws.{with_same, with_other}
@@ -237,7 +237,7 @@ laid_again l log old mid new same knows still long holds names =
       gives = subst (GivesPages log (records_by l old.image log.anchor)) (sym is)
           (pages_again l log old.image (stand old.image log.copies.place log.copies.bytes (copies_count log.copies)) (records_by l old.image log.anchor) same
           (again_stand l old.image log.anchor log.copies low long knows.last)
-          (gives_pages l log old.image same low (subst (λ (k : Layout). AreSlots k log.anchor.third (records_by l old.image log.anchor) log.slots) (sym same) knows.slots)));
+          (gives_pages l log old.image same low knows.slots));
       rest = λ s out. ap (λ (i : Image). sector_at i s) is ∙ ⊎_elim (λ below. copies_behind l log old.image knows (copies_count log.copies) (omega arith) s below old.image) (λ above. copies_inside l log old.image knows (copies_count log.copies) (omega arith) s above old.image) out;
     }
 

@@ -22,7 +22,7 @@ use Rattle.fsd_sound.specs.Sound.{ShowsOne, ShowsPages, weak_of}
 use Rattle.fsd_sound.proofs.LogPlaces.{IsRecord, scan_records}
 use Rattle.fsd_sound.proofs.SoundLaws.{shows_still}
 use Rattle.fsd_sound.proofs.WindowLaws.{open_is_weak}
-use Rattle.log_thirds.specs.Append.{StandsInPart}
+use Rattle.log_thirds.specs.Append.{IsIndexed, StandsInPart}
 use Rattle.log_thirds.specs.Copies.{copies_count, AreCopiesOf, AreLastCopies}
 use Rattle.log_thirds.specs.LogValue.{LogValue}
 use Rattle.log_thirds.specs.Slots.{AreSlots}
@@ -206,7 +206,7 @@ module _ (l : Layout) (windows : List WeakRun) (choices : List (List (List ℕ))
             shows = at_clean.shows;
             taken = at_clean.taken;
             low = low_third l clean log.anchor at_clean.taken;
-            slots = subst (λ (rs : List Placed). AreSlots l log.anchor.third rs log.slots) (sym at_clean.records) seen.knows.slots;
+            slots = subst (IsIndexed log) (sym at_clean.records) seen.knows.slots;
             laid = all_laid;
             logged = all_logged;
             pages = one.0;

@@ -30,7 +30,7 @@ use Rattle.fsd_sound.proofs.SoundLaws.{shows_still}
 use Rattle.fsd_sound.proofs.WindowLaws.{open_is_weak}
 use Rattle.log_thirds.specs.Images.{LiesAt}
 use Rattle.log_thirds.specs.LogValue.{LogValue}
-use Rattle.log_thirds.specs.Slots.{AreSlots, LieInRecord, slot_of}
+use Rattle.log_thirds.specs.Slots.{LieInRecord, slot_of}
 use Rattle.log_thirds.proofs.ImageLaws.{logged_by}
 use Rattle.fsd_sound.specs.Windows.{IsNarrow, IsApart}
 use Rattle.mount_recover.specs.declared.fault.MountFault.{MountFault}
@@ -227,7 +227,7 @@ module _ (sectors : ℕ) (l : Layout) (log : LogValue) (old one : Moment) (same 
       within = subst (λ (k : Layout). of.page < k.pages) same of.within;
       lies = subst (λ (i : Image). LiesAt (slot_of l log.anchor.third of.page (records_by l i log.anchor)) a b) (as_old calm)
           (subst (λ (k : Layout). LiesAt (slot_of k log.anchor.third of.page (records_by l is.seen log.anchor)) a b) same
-          (logged_by log (records_by l is.seen log.anchor) of.page a b (subst (λ (k : Layout). AreSlots k log.anchor.third (records_by l is.seen log.anchor) log.slots) (sym same) is.knows.slots) of.logged.lies));
+          (logged_by log (records_by l is.seen log.anchor) of.page a b is.knows.slots of.logged.lies));
     };
   }
 

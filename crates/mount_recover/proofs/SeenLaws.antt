@@ -17,6 +17,7 @@ use Rattle.fsd_files.specs.Disk.{Image, bytes_of, bytes_at, either_copy}
 use Rattle.fsd_sound.specs.Anchors.{anchor_of}
 use Rattle.fsd_sound.specs.Roots.{counted_root, root_of}
 use Rattle.fsd_sound.specs.Shown.{records_by}
+use Rattle.log_thirds.specs.Append.{IsIndexed}
 use Rattle.log_thirds.specs.Copies.{AreLastCopies}
 use Rattle.log_thirds.specs.declared.fault.LogFault.{LogFault}
 use Rattle.log_thirds.specs.declared.fault.LogFault.TheVariants as log
@@ -57,7 +58,7 @@ scan_knows l log i same taken of =
     ap (λ (r : Reader). (scan log.layout log.anchor.epoch (tape log.layout log.anchor.third r) log.anchor.first).records) (reads_bytes i) in
     record {
       taken = ap anchor_on (sym (reads_bytes i)) ∙ taken;
-      slots = subst (λ (k : Layout). AreSlots k log.anchor.third (records_by k i log.anchor) log.slots) same (subst (λ (rs : List Placed). AreSlots log.layout log.anchor.third rs log.slots) records of.indexed);
+      slots = subst (λ (k : Layout). IsIndexed log (records_by k i log.anchor)) same (subst (IsIndexed log) records of.indexed);
       last = subst (λ (k : Layout). AreLastCopies k log.anchor.epoch log.anchor.third (records_by k i log.anchor) log.copies) same
           (subst (λ (rs : List Placed). AreLastCopies log.layout log.anchor.epoch log.anchor.third rs log.copies) records of.last);
     }

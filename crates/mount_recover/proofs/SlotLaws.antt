@@ -28,7 +28,7 @@ use Rattle.log_thirds.specs.declared.slots.Slot.{Slot}
 use Rattle.log_thirds.specs.Append.{IsIndexed}
 use Rattle.log_thirds.specs.Images.{AreLogged, LiesAt, StandsAt}
 use Rattle.log_thirds.specs.LogValue.{LogValue}
-use Rattle.log_thirds.specs.Slots.{AreSlots, slot_of}
+use Rattle.log_thirds.specs.Slots.{slot_of}
 use Rattle.log_thirds.proofs.ImageLaws.{logged_by}
 use Rattle.log_thirds.proofs.GivesLaws.{EachImage, Gives, slot_gives as slot_gives_at}
 use Rattle.mount_recover.specs.Mending.{IsCompleted, IsMending}
@@ -49,7 +49,7 @@ module _ (l : Layout) (windows : List WeakRun) (choices : List (List (List ℕ))
   records = records_by l c.clean log.anchor
 
   indexed : IsIndexed log (records_by l c.clean log.anchor)
-  indexed = subst (λ (k : Layout). AreSlots k log.anchor.third (records_by l c.clean log.anchor) log.slots) (sym same) c.slots
+  indexed = c.slots
 
   log_worn : (left : Moment) → Wears now left → (s : ℕ) → s < 16 + 3 * l.third → SectorWorn (weak_of windows s) (sector_at c.clean s) (sector_at left.image s)
   log_worn left wears s inside =

@@ -15,9 +15,9 @@ use Rattle.fsd_sound.specs.Anchors.{anchor_of}
 use Rattle.fsd_sound.specs.Laid.{AllLaid}
 use Rattle.fsd_sound.specs.Shown.{records_by, shown}
 use Rattle.fsd_sound.specs.Sound.{weak_of, EndIn, ShowsPages}
+use Rattle.log_thirds.specs.Append.{IsIndexed}
 use Rattle.log_thirds.specs.Copies.{AreLastCopies}
 use Rattle.log_thirds.specs.LogValue.{LogValue}
-use Rattle.log_thirds.specs.Slots.{AreSlots}
 use Rattle.mount_recover.specs.declared.fault.MountFault.{MountFault}
 use Rattle.mount_recover.specs.declared.fault.MountFault.TheVariants.{NotVolume, Device, Memory, Lost, NoAnchor, Unsound, WornOut}
 use Rattle.mount_recover.specs.Lost.{AreOfLog, AreHomes}
@@ -73,7 +73,7 @@ pub record Keeps (l : Layout) (old new : Moment) : Type 0 where
 -- The log is the image's, as a scan of it gives.
 pub record KnowsLog (l : Layout) (log : LogValue) (i : Image) : Type 0 where
   pub taken : anchor_of i ≡ Some log.anchor
-  pub slots : AreSlots l log.anchor.third (records_by l i log.anchor) log.slots
+  pub slots : IsIndexed log (records_by l i log.anchor)
   pub last : AreLastCopies l log.anchor.epoch log.anchor.third (records_by l i log.anchor) log.copies
 
 -- An image was seen that the disk is worn from: it shows the pages, and the log is its log.
@@ -97,7 +97,7 @@ pub record IsCompleted (l : Layout) (windows : List WeakRun) (choices : List (Li
   pub shows : ShowsPages l windows choices clean
   pub taken : anchor_of clean ≡ Some log.anchor
   pub low : log.anchor.third ≤ 2
-  pub slots : AreSlots l log.anchor.third (records_by l clean log.anchor) log.slots
+  pub slots : IsIndexed log (records_by l clean log.anchor)
   pub laid : AllLaid l log.anchor (weak_of windows) clean (records_by l clean log.anchor)
   pub logged : (page : ℕ) → (last_image page (records_by l clean log.anchor) ≡ None → ⊥) → IsLogged l (weak_of windows) page clean
   pub pages : List (List ℕ)

@@ -1,10 +1,16 @@
-use Rattle.log_thirds.proofs.AnchorLaws.{third_read, copy_seen}
+use Rattle.log_thirds.proofs.AnchorLaws.{third_read, first_read, epoch_read, copy_seen}
 use Rattle.std.proofs.Common.{ap, sym, ◌∙◌}
 use Rattle.fsd_log.specs.Scan.{anchor_in}
 use Rattle.log_thirds.proofs.anchors.read_copy.Goals as goal
 
 pub returns-in-Ok-Some-clause-third : goal.returns-in-Ok-Some-clause-third
 returns-in-Ok-Some-clause-third g c = third_read c.in-Ok-Some.sector c.read_anchor.result c.read_anchor.ensures.read
+
+pub returns-in-Ok-Some-clause-first : goal.returns-in-Ok-Some-clause-first
+returns-in-Ok-Some-clause-first g c = first_read c.in-Ok-Some.sector c.read_anchor.result c.read_anchor.ensures.read
+
+pub returns-in-Ok-Some-clause-epoch : goal.returns-in-Ok-Some-clause-epoch
+returns-in-Ok-Some-clause-epoch g c = epoch_read c.in-Ok-Some.sector c.read_anchor.result c.read_anchor.ensures.read
 
 pub returns-in-Ok-Some-clause-sees : goal.returns-in-Ok-Some-clause-sees
 returns-in-Ok-Some-clause-sees g c h =

@@ -6,8 +6,10 @@ use Rattle.fsd_formats.specs.Record.{Stamp, record_len}
 use Rattle.fsd_log.specs.Laid.{laid_bytes}
 use Rattle.fsd_log.specs.Scan.{IsIn, IsEnd, spot_for, place_of}
 use Rattle.log_thirds.specs.LogValue.{LogValue}
-use Rattle.log_thirds.specs.Append.{StandsInPart, IsLogWorn, stamp_now, next_record, head_past, log_past, log_with, IsIndexed}
+use Rattle.log_thirds.specs.Append.{StandsInPart, IsLogWorn, stamp_now, next_record, log_past, log_with, IsIndexed}
 use Rattle.log_thirds.specs.Slots.{noted, LieInRecords, SlotsInside}
+use Rattle.log_thirds.specs.Firsts.{firsts_with, AreNumbers}
+use Rattle.log_thirds.proofs.FirstsLaws.{firsts_more, numbers_more}
 use Rattle.log_thirds.proofs.SlotLaws.{length-noted, slots_more, record_inside, record_lies}
 use Rattle.std.specs.Vec.{with_items}
 use Rattle.std.proofs.lemmas.List.{with_items_is}
@@ -127,8 +129,8 @@ returns-clause-worn_done g c records h1 narrow is_log =
     (subst (λ (p : ℕ). Holds (M.now old) (stand (M.now old).image p (laid_bytes (stamp_now log) c.args.pages.now c.args.images.now) (record_len (length c.args.pages.now))) (M.now c.write_record.new.m)) place
     (subst (λ (s : Stamp). Holds (M.now old) (stand (M.now old).image c.place-place.result (laid_bytes s c.args.pages.now c.args.images.now) (record_len (length c.args.pages.now))) (M.now c.write_record.new.m)) (sym stamp) (c.in_ok-write_record.ensures.done h1))) in
     let n : ℕ = length c.args.pages.now in
-    let same : ◌≡◌ {A = LogValue} (record { layout = c.self.inside.layout; anchor = c.self.inside.anchor; head = record { number = c.self.inside.number + 1; at = c.spot-at.result.0 + (2 * length c.args.pages.now + 5); end = c.spot-at.result.1 }; slots = c.self.inside.slots.items; copies = record { place = c.self.inside.copies_at; bytes = c.self.inside.copies.items } }) (log_past log (length c.args.pages.now)) =
-    λ i. record { layout = (c.self.view_is i).layout; anchor = (c.self.view_is i).anchor; head = record { number = (c.self.view_is i).head.number + 1; at = c.spot-at.ensures.at i + (2 * length c.args.pages.now + 5); end = c.spot-at.ensures.end i }; slots = (c.self.view_is i).slots; copies = (c.self.view_is i).copies } in
+    let same : ◌≡◌ {A = LogValue} (record { layout = c.self.inside.layout; anchor = c.self.inside.anchor; head = record { number = c.self.inside.number + 1; at = c.spot-at.result.0 + (2 * length c.args.pages.now + 5); end = c.spot-at.result.1 }; firsts = c.self.inside.firsts; slots = c.self.inside.slots.items; copies = record { place = c.self.inside.copies_at; bytes = c.self.inside.copies.items } }) (log_past log (length c.args.pages.now)) =
+    λ i. record { layout = (c.self.view_is i).layout; anchor = (c.self.view_is i).anchor; head = record { number = (c.self.view_is i).head.number + 1; at = c.spot-at.ensures.at i + (2 * length c.args.pages.now + 5); end = c.spot-at.ensures.end i }; firsts = (c.self.view_is i).firsts; slots = (c.self.view_is i).slots; copies = (c.self.view_is i).copies } in
     subst (λ (x : LogValue). IsLogWorn x (records ++ next_record log c.args.pages.now c.args.images.now ∷ []) (M.now c.write_record.new.m)) (sym same) done
 
 pub returns-clause-indexed : goal.returns-clause-indexed
@@ -142,10 +144,15 @@ returns-clause-indexed g c records are =
     let number : c.self.inside.number ≡ log.head.number = ap (λ (x : LogValue). x.head.number) c.self.view_is in
     let table : (with_items c.self.inside.slots c.note.new.slots).items ≡ (log_with log c.args.pages.now).slots =
     kept ∙ c.note.ensures ∙ λ i. noted (number i) (place i + 3) (place i + 3 + length c.args.pages.now + 1) c.args.pages.now (slots i) in
-    let same : ◌≡◌ {A = LogValue} (record { layout = c.self.inside.layout; anchor = c.self.inside.anchor; head = head_past log (length c.args.pages.now); slots = (with_items c.self.inside.slots c.note.new.slots).items; copies = record { place = c.self.inside.copies_at; bytes = c.self.inside.copies.items } }) (log_with log c.args.pages.now) =
-    λ i. record { layout = (c.self.view_is i).layout; anchor = (c.self.view_is i).anchor; head = head_past log (length c.args.pages.now); slots = table i; copies = (c.self.view_is i).copies } in
+    let firsts_is : c.with-self-inside.result ≡ firsts_with log.layout.third (spot_for log.layout (length c.args.pages.now) log.head).at log.firsts =
+    c.with-self-inside.ensures ∙ λ i. firsts_with ((c.third.ensures.value ∙ ap (λ (x : LogValue). x.layout.third) c.self.view_is) i) (c.spot-at.ensures.at i) (c.self.view_is i).firsts in
+    let same : ◌≡◌ {A = LogValue} (record { layout = c.self.inside.layout; anchor = c.self.inside.anchor; head = record { number = c.self.inside.number + 1; at = c.spot-at.result.0 + (2 * length c.args.pages.now + 5); end = c.spot-at.result.1 }; firsts = c.with-self-inside.result; slots = (with_items c.self.inside.slots c.note.new.slots).items; copies = record { place = c.self.inside.copies_at; bytes = c.self.inside.copies.items } }) (log_with log c.args.pages.now) =
+    λ i. record { layout = (c.self.view_is i).layout; anchor = (c.self.view_is i).anchor; head = record { number = (c.self.view_is i).head.number + 1; at = c.spot-at.ensures.at i + (2 * length c.args.pages.now + 5); end = c.spot-at.ensures.end i }; firsts = firsts_is i; slots = table i; copies = (c.self.view_is i).copies } in
     subst (λ (x : LogValue). IsIndexed x (records ++ next_record log c.args.pages.now c.args.images.now ∷ [])) (sym same)
-    (slots_more log.layout log.anchor.third records (next_record log c.args.pages.now c.args.images.now) log.slots are)
+    (record {
+      slots = slots_more log.layout log.anchor.third records (next_record log c.args.pages.now c.args.images.now) log.slots are.slots;
+      firsts = firsts_more log.layout.third log.anchor.first records (next_record log c.args.pages.now c.args.images.now) log.firsts are.firsts;
+    })
 
 pub invariant_of-self-2 : goal.invariant_of-self-2
 invariant_of-self-2 g c =
@@ -176,8 +183,11 @@ invariant_of-self-2 g c =
     let slots : c.as_mut_slice-2.result.now ≡ log.slots = c.as_mut_slice-2.ensures.value ∙ ap (λ (x : LogValue). x.slots) c.self.view_is in
     let on_disk : SlotsInside log.layout.sectors c.as_mut_slice-2.result.now = subst (SlotsInside log.layout.sectors) (sym slots) (subst (λ (x : LogValue). SlotsInside x.layout.sectors x.slots) c.self.view_is was.on_disk) in
     let in_records : LieInRecords log.layout c.as_mut_slice-2.result.now = subst (LieInRecords log.layout) (sym slots) (subst (λ (x : LogValue). LieInRecords x.layout x.slots) c.self.view_is was.in_records) in
+    let numbers : AreNumbers (c.self.inside.number + 1) c.with-self-inside.result = subst (AreNumbers (c.self.inside.number + 1)) (sym c.with-self-inside.ensures) (numbers_more c.third.result c.self.inside.number c.spot-at.result.0 c.self.inside.firsts was.numbers) in
     record {
       least = was.least;
+      begun = was.begun;
+      numbers = numbers;
       most = was.most;
       inside = was.inside;
       third = was.third;

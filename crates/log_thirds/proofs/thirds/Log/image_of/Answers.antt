@@ -107,7 +107,7 @@ returns-in-Ok-Some-clause-given g c records h calm are gives =
     let sees : SeesSlot (M.now c.args.m.now) c.in-Some.slot c.args.page log.anchor.epoch (Some c.in-Ok-Some.image) =
     subst (λ (x : LogValue). SeesSlot (M.now c.args.m.now) c.in-Some.slot c.args.page x.anchor.epoch (Some c.in-Ok-Some.image)) c.self.view_is
     (subst (λ (o : Option (List ℕ)). SeesSlot (M.now c.args.m.now) c.in-Some.slot c.args.page c.self.inside.anchor.epoch o) c.in-Ok-Some.field-0-is (c.in-Ok-Some.ensures.sees h)) in
-    let there : slot_of log.layout log.anchor.third c.args.page records ≡ Some c.in-Some.slot = sym (are c.args.page within) ∙ is in
+    let there : slot_of log.layout log.anchor.third c.args.page records ≡ Some c.in-Some.slot = sym (are.slots c.args.page within) ∙ is in
     let at_slot = subst (λ (o : Option Slot). IfSome o (λ slot. GivesSlot c.args.page log.anchor.epoch (reads (M.now c.args.m.now).image) slot (last_image c.args.page records))) there gives in
     slot_seen (M.now c.args.m.now) c.in-Some.slot c.args.page log.anchor.epoch (Some c.in-Ok-Some.image) (last_image c.args.page records) calm sees at_slot
 
@@ -123,7 +123,7 @@ returns-in-Ok-None-clause-none_lost g c records h calm are gives =
     let sees : SeesSlot (M.now c.args.m.now) c.in-Some.slot c.args.page log.anchor.epoch None =
     subst (λ (x : LogValue). SeesSlot (M.now c.args.m.now) c.in-Some.slot c.args.page x.anchor.epoch None) c.self.view_is
     (subst (λ (o : Option (List ℕ)). SeesSlot (M.now c.args.m.now) c.in-Some.slot c.args.page c.self.inside.anchor.epoch o) c.in-Ok-None.field-0-is (c.in-Ok-None.ensures.sees h)) in
-    let there : slot_of log.layout log.anchor.third c.args.page records ≡ Some c.in-Some.slot = sym (are c.args.page within) ∙ is in
+    let there : slot_of log.layout log.anchor.third c.args.page records ≡ Some c.in-Some.slot = sym (are.slots c.args.page within) ∙ is in
     let at_slot = subst (λ (o : Option Slot). IfSome o (λ slot. GivesSlot c.args.page log.anchor.epoch (reads (M.now c.args.m.now).image) slot (last_image c.args.page records))) there gives in
     absurd (some_none at_slot.image (sym at_slot.is ∙ slot_seen (M.now c.args.m.now) c.in-Some.slot c.args.page log.anchor.epoch None (last_image c.args.page records) calm sees at_slot))
 

@@ -16,7 +16,9 @@ use Rattle.log_thirds.proofs.FindLaws.{place_most}
 use Rattle.log_thirds.proofs.SlotLaws.{length-noted, none_inside, none_lie, record_inside, record_lies}
 use Rattle.log_thirds.specs.Copies.{FitsDisk, AreCopies}
 use Rattle.fsd_log.proofs.PlaceLaws.{place_inside}
-use Rattle.log_thirds.proofs.ScanLaws.{Reaches, EndsThere, reaches_start, reaches_on, reaches_end}
+use Rattle.log_thirds.proofs.ScanLaws.{Reaches, EndsThere, reaches_start, reaches_as, reaches_on, reaches_end}
+use Rattle.log_thirds.specs.Firsts.{AreNumbers, firsts_of, firsts_with}
+use Rattle.log_thirds.proofs.FirstsLaws.{numbers_more}
 use Rattle.sector_disk.specs.declared.sector.Sector.{Sector}
 use Rattle.sector_disk.specs.Image.{Windows, IsWorn, open_damage}
 use Rattle.sector_disk.proofs.Wear.{worn_refl}
@@ -30,8 +32,10 @@ loop-from-init g c =
     let value = c.third-third.ensures.value in
     let same : ◌≡◌ {A = Head} (record { number = c.args.anchor.now.first; at = 0; end = c.args.layout.now.third }) (record { number = c.args.anchor.now.first; at = 0; end = c.third-third.result }) = λ i. record { number = c.args.anchor.now.first; at = 0; end = sym value i } in
     let table : c.in-Ok-no_slots.slots.items ≡ replicate {A = Option Slot} c.pages.result None = c.in-Ok-no_slots.ensures in
-    let start_on : (i : List Sector) → Reaches c.args.layout.now c.args.anchor.now.epoch c.args.anchor.now.first c.args.anchor.now.third (tape c.args.layout.now c.args.anchor.now.third (reads i)) (record { number = c.args.anchor.now.first; at = 0; end = c.third-third.result }) c.in-Ok-no_slots.slots.items (record { place = 0; bytes = c.new-copies.result.items }) = λ i. subst (λ (b : List ℕ). Reaches c.args.layout.now c.args.anchor.now.epoch c.args.anchor.now.first c.args.anchor.now.third (tape c.args.layout.now c.args.anchor.now.third (reads i)) (record { number = c.args.anchor.now.first; at = 0; end = c.third-third.result }) c.in-Ok-no_slots.slots.items (record { place = 0; bytes = b })) (sym c.new-copies.ensures.items) (subst (λ (s : List (Option Slot)). Reaches c.args.layout.now c.args.anchor.now.epoch c.args.anchor.now.first c.args.anchor.now.third (tape c.args.layout.now c.args.anchor.now.third (reads i)) (record { number = c.args.anchor.now.first; at = 0; end = c.third-third.result }) s (record { place = 0; bytes = [] })) (sym table)
-    (subst (λ (x : Head). Reaches c.args.layout.now c.args.anchor.now.epoch c.args.anchor.now.first c.args.anchor.now.third (tape c.args.layout.now c.args.anchor.now.third (reads i)) x (replicate c.pages.result None) (record { place = 0; bytes = [] })) same
+    let start_on : (i : List Sector) → Reaches c.args.layout.now c.args.anchor.now.epoch c.args.anchor.now.first c.args.anchor.now.third (tape c.args.layout.now c.args.anchor.now.third (reads i)) (record { number = c.args.anchor.now.first; at = 0; end = c.third-third.result }) c.of-firsts.result c.in-Ok-no_slots.slots.items (record { place = 0; bytes = c.new-copies.result.items }) =
+    λ i. subst (λ (b : List ℕ). Reaches c.args.layout.now c.args.anchor.now.epoch c.args.anchor.now.first c.args.anchor.now.third (tape c.args.layout.now c.args.anchor.now.third (reads i)) (record { number = c.args.anchor.now.first; at = 0; end = c.third-third.result }) c.of-firsts.result c.in-Ok-no_slots.slots.items (record { place = 0; bytes = b })) (sym c.new-copies.ensures.items)
+    (reaches_as _ _ _ _ _ _ _ _ _ _ _ c.of-firsts.ensures table
+    (subst (λ (x : Head). Reaches c.args.layout.now c.args.anchor.now.epoch c.args.anchor.now.first c.args.anchor.now.third (tape c.args.layout.now c.args.anchor.now.third (reads i)) x (firsts_of c.args.anchor.now.first) (replicate c.pages.result None) (record { place = 0; bytes = [] })) same
     (reaches_start c.args.layout.now c.args.anchor.now.epoch c.args.anchor.now.first c.args.anchor.now.third (tape c.args.layout.now c.args.anchor.now.third (reads i)) c.pages.result 0))) in
     record {
       is_in = record { before = omega arith; from = omega (arith, value); ends = inl value };
@@ -40,6 +44,7 @@ loop-from-init g c =
       ledger = λ t. refl;
       worn = λ h. wears_here (M.now c.args.m.now);
       moments = λ h. started M.moment M.left_since c.args.m.now (M.now c.args.m.now) _ (λ l left. g.met.M.Machine.only_now c.args.m.now l h left) (wears_here (M.now c.args.m.now));
+      numbers = subst (AreNumbers c.args.anchor.now.first) (sym c.of-firsts.ensures) (record { some = c.requires.first; in_order = omega arith; most = omega arith });
       table = ap length table ∙ length-replicate c.pages.result _ ∙ c.pages.ensures.value;
       on_disk = subst (SlotsInside c.args.layout.now.sectors) (sym table) (none_inside c.args.layout.now.sectors c.pages.result);
       in_records = subst (LieInRecords c.args.layout.now) (sym table) (none_lie c.args.layout.now c.pages.result);
@@ -111,6 +116,21 @@ overflow_add-number g c =
     let numbered = subst (λ (o : Option Step). IfSome o (λ _. c.loop-from.number < last_number)) c.in-Ok-Some.field-0-is c.in-Ok-Some.ensures.numbered in
     omega (arith, numbered)
 
+pub with-firsts-requires-clause-second : goal.with-firsts-requires-clause-second
+with-firsts-requires-clause-second g c =
+    let numbered = subst (λ (o : Option Step). IfSome o (λ _. c.loop-from.number < last_number)) c.in-Ok-Some.field-0-is c.in-Ok-Some.ensures.numbered in
+    let numbers = c.loop-from.invariant.numbers in
+    omega (arith, numbered, numbers.in_order, numbers.most)
+
+pub with-firsts-requires-clause-last : goal.with-firsts-requires-clause-last
+with-firsts-requires-clause-last g c =
+    let numbered = subst (λ (o : Option Step). IfSome o (λ _. c.loop-from.number < last_number)) c.in-Ok-Some.field-0-is c.in-Ok-Some.ensures.numbered in
+    let numbers = c.loop-from.invariant.numbers in
+    omega (arith, numbered, numbers.most)
+
+pub with-firsts-requires-clause-third : goal.with-firsts-requires-clause-third
+with-firsts-requires-clause-third g c = omega (arith, c.third-third.ensures.most)
+
 pub loop-from-smaller : goal.loop-from-smaller
 loop-from-smaller g c =
     let gone = subst (λ (o : Option Step). IfSome o (StepsOn c.args.layout.now c.loop-from.at)) c.in-Ok-Some.field-0-is c.in-Ok-Some.ensures.goes in
@@ -128,6 +148,7 @@ loop-from-preserved g c =
     let kept : (with_items c.loop-from.slots c.note.new.slots).items ≡ c.note.new.slots = with_items_is c.loop-from.slots c.note.new.slots (long ∙ c.as_mut_slice.ensures.len) in
     let table : c.note.new.slots ≡ slots_with c.args.layout.now c.args.anchor.now.third c.loop-from.number c.in-Ok-Some.field-0-0.from c.in-Ok-Some.field-0-0.taken.found.pages.items c.loop-from.slots.items =
     c.note.ensures ∙ λ i. noted c.loop-from.number (c.place_of-place.ensures i + 3) (c.place_of-place.ensures i + 3 + length (c.as_slice.ensures.value i) + 1) (c.as_slice.ensures.value i) (c.as_mut_slice.ensures.value i) in
+    let firsts = c.with-firsts.ensures ∙ ap (λ (t : ℕ). firsts_with t c.in-Ok-Some.field-0-0.from c.loop-from.firsts) c.third-third.ensures.value in
     record {
       is_in = record { before = gone.goes.before; from = gone.goes.after; ends = gone.goes.ends };
       uses = uses_on (M.report c.args.m.now) (M.report c.loop-from.m) (M.report c.next.new.m) so_far.uses c.next.ensures.uses;
@@ -135,6 +156,7 @@ loop-from-preserved g c =
       ledger = λ t. c.next.ensures.ledger t ∙ so_far.ledger (c.next.ensures.trust.tells t);
       worn = λ h. wears_on (M.now c.args.m.now) (M.now c.loop-from.m) (M.now c.next.new.m) (so_far.worn (back h)) (c.next.ensures.worn h);
       moments = λ h. reads_on M.moment M.left_since c.args.m.now c.loop-from.m c.next.new.m (M.now c.args.m.now) (M.now c.loop-from.m) (so_far.worn (back h)) (so_far.moments (back h)) (c.next.ensures.any_moment h);
+      numbers = subst (AreNumbers (c.loop-from.number + 1)) (sym c.with-firsts.ensures) (numbers_more c.third-third.result c.loop-from.number c.in-Ok-Some.field-0-0.from c.loop-from.firsts so_far.numbers);
       table = ap length kept ∙ long ∙ ap length c.as_mut_slice.ensures.value ∙ so_far.table;
       on_disk = subst (SlotsInside c.args.layout.now.sectors) (sym (kept ∙ c.note.ensures))
           (record_inside c.args.layout.now c.args.anchor.now.third c.loop-from.number c.in-Ok-Some.field-0-0.from c.in-Ok-Some.field-0-0.past.end c.place_of-place.result c.as_slice.result.now c.as_mut_slice.result.now
@@ -165,9 +187,9 @@ loop-from-preserved g c =
           (λ i. option_map (stepped_in c.loop-from.number) c.in-Ok-Some.field-0 ≡ option_map stepped_of (next c.args.layout.now c.args.anchor.now.epoch (tape c.args.layout.now c.args.anchor.now.third (reads i)) (record { number = c.loop-from.number; at = c.loop-from.at; end = c.loop-from.end })))) same (c.in-Ok-Some.ensures.seen first.image h to_mid) in
           sees_on c.args.layout.now c.args.anchor.now.third 0 c.loop-from.at (open_damage (M.now c.args.m.now).windows) j (M.now c.loop-from.m).image (M.now c.next.new.m).image _ _ _ (omega arith) first second
           (λ i k worn below before step.
-          subst (λ (s : List (Option Slot)). Reaches c.args.layout.now c.args.anchor.now.epoch c.args.anchor.now.first c.args.anchor.now.third (tape c.args.layout.now c.args.anchor.now.third (reads k)) (record { number = c.loop-from.number + 1; at = c.in-Ok-Some.field-0-0.past.at; end = c.in-Ok-Some.field-0-0.past.end }) s (record { place = c.place_of-place.result + (4 + c.len.result); bytes = c.in-Ok-Some.field-0-0.taken.copies.items })) (sym (kept ∙ table))
-          (reaches_on c.args.layout.now c.args.anchor.now.epoch c.args.anchor.now.first c.args.anchor.now.third (tape c.args.layout.now c.args.anchor.now.third (reads k)) (record { number = c.loop-from.number; at = c.loop-from.at; end = c.loop-from.end }) c.loop-from.slots.items (stepped_in c.loop-from.number c.in-Ok-Some.field-0-0) (record { place = c.loop-from.copies_at; bytes = c.loop-from.copies.items }) (record { place = c.place_of-place.result + (4 + c.len.result); bytes = c.in-Ok-Some.field-0-0.taken.copies.items })
-          (reaches_keeps c.args.layout.now c.args.anchor.now.epoch c.args.anchor.now.first c.args.anchor.now.third (omega (arith, c.fits-anchor.0.1)) (tape c.args.layout.now c.args.anchor.now.third (reads i)) (tape c.args.layout.now c.args.anchor.now.third (reads k)) (record { number = c.loop-from.number; at = c.loop-from.at; end = c.loop-from.end }) c.loop-from.slots.items (record { place = c.loop-from.copies_at; bytes = c.loop-from.copies.items }) (omega (arith, c.loop-from.auto.number-fits))
+          reaches_as _ _ _ _ _ _ _ _ _ _ _ firsts (kept ∙ table)
+          (reaches_on c.args.layout.now c.args.anchor.now.epoch c.args.anchor.now.first c.args.anchor.now.third (tape c.args.layout.now c.args.anchor.now.third (reads k)) (record { number = c.loop-from.number; at = c.loop-from.at; end = c.loop-from.end }) c.loop-from.firsts c.loop-from.slots.items (stepped_in c.loop-from.number c.in-Ok-Some.field-0-0) (record { place = c.loop-from.copies_at; bytes = c.loop-from.copies.items }) (record { place = c.place_of-place.result + (4 + c.len.result); bytes = c.in-Ok-Some.field-0-0.taken.copies.items })
+          (reaches_keeps c.args.layout.now c.args.anchor.now.epoch c.args.anchor.now.first c.args.anchor.now.third (omega (arith, c.fits-anchor.0.1)) (tape c.args.layout.now c.args.anchor.now.third (reads i)) (tape c.args.layout.now c.args.anchor.now.third (reads k)) (record { number = c.loop-from.number; at = c.loop-from.at; end = c.loop-from.end }) c.loop-from.firsts c.loop-from.slots.items (record { place = c.loop-from.copies_at; bytes = c.loop-from.copies.items }) (omega (arith, c.loop-from.auto.number-fits))
           (tape_worn c.args.layout.now c.args.anchor.now.third (open_damage (M.now c.args.m.now).windows) i k worn) below before)
           (record { place = λ i. c.place_of-place.ensures i + (4 + c.len.ensures.value i); copies = copied; images = refl })
           (ap (option_map (stepped_in c.loop-from.number)) (sym c.in-Ok-Some.field-0-is) ∙ step)));
@@ -223,10 +245,10 @@ returns-in-Ok-None-clause-seen g c j h jw =
     let second = subst (λ (w : Windows). SeesOn c.args.layout.now c.args.anchor.now.third c.loop-from.at (open_damage w) first.image (M.now c.next.new.m).image
     (λ i. option_map (stepped_in c.loop-from.number) c.in-Ok-None.field-0 ≡ option_map stepped_of (next c.args.layout.now c.args.anchor.now.epoch (tape c.args.layout.now c.args.anchor.now.third (reads i)) (record { number = c.loop-from.number; at = c.loop-from.at; end = c.loop-from.end })))) same (c.in-Ok-None.ensures.seen first.image h to_mid) in
     let ends = sees_on c.args.layout.now c.args.anchor.now.third 0 c.loop-from.at (open_damage (M.now c.args.m.now).windows) j (M.now c.loop-from.m).image (M.now c.next.new.m).image _ _
-    (λ k. EndsThere c.args.layout.now c.args.anchor.now.epoch c.args.anchor.now.first c.args.anchor.now.third (tape c.args.layout.now c.args.anchor.now.third (reads k)) (record { number = c.loop-from.number; at = c.loop-from.at; end = c.loop-from.end }) c.loop-from.slots.items (record { place = c.loop-from.copies_at; bytes = c.loop-from.copies.items })) (omega arith) first second
+    (λ k. EndsThere c.args.layout.now c.args.anchor.now.epoch c.args.anchor.now.first c.args.anchor.now.third (tape c.args.layout.now c.args.anchor.now.third (reads k)) (record { number = c.loop-from.number; at = c.loop-from.at; end = c.loop-from.end }) c.loop-from.firsts c.loop-from.slots.items (record { place = c.loop-from.copies_at; bytes = c.loop-from.copies.items })) (omega arith) first second
     (λ i k worn below before step.
-    reaches_end c.args.layout.now c.args.anchor.now.epoch c.args.anchor.now.first c.args.anchor.now.third (tape c.args.layout.now c.args.anchor.now.third (reads k)) (record { number = c.loop-from.number; at = c.loop-from.at; end = c.loop-from.end }) c.loop-from.slots.items (record { place = c.loop-from.copies_at; bytes = c.loop-from.copies.items })
-    (reaches_keeps c.args.layout.now c.args.anchor.now.epoch c.args.anchor.now.first c.args.anchor.now.third (omega (arith, c.fits-anchor.0.1)) (tape c.args.layout.now c.args.anchor.now.third (reads i)) (tape c.args.layout.now c.args.anchor.now.third (reads k)) (record { number = c.loop-from.number; at = c.loop-from.at; end = c.loop-from.end }) c.loop-from.slots.items (record { place = c.loop-from.copies_at; bytes = c.loop-from.copies.items }) (omega (arith, c.loop-from.auto.number-fits))
+    reaches_end c.args.layout.now c.args.anchor.now.epoch c.args.anchor.now.first c.args.anchor.now.third (tape c.args.layout.now c.args.anchor.now.third (reads k)) (record { number = c.loop-from.number; at = c.loop-from.at; end = c.loop-from.end }) c.loop-from.firsts c.loop-from.slots.items (record { place = c.loop-from.copies_at; bytes = c.loop-from.copies.items })
+    (reaches_keeps c.args.layout.now c.args.anchor.now.epoch c.args.anchor.now.first c.args.anchor.now.third (omega (arith, c.fits-anchor.0.1)) (tape c.args.layout.now c.args.anchor.now.third (reads i)) (tape c.args.layout.now c.args.anchor.now.third (reads k)) (record { number = c.loop-from.number; at = c.loop-from.at; end = c.loop-from.end }) c.loop-from.firsts c.loop-from.slots.items (record { place = c.loop-from.copies_at; bytes = c.loop-from.copies.items }) (omega (arith, c.loop-from.auto.number-fits))
     (tape_worn c.args.layout.now c.args.anchor.now.third (open_damage (M.now c.args.m.now).windows) i k worn) below before)
     (ap (option_map (stepped_in c.loop-from.number)) (sym c.in-Ok-None.field-0-is) ∙ step)) in
-    record { image = ends.image; from = ends.from; to = ends.to; front = ends.front; scanned = record { head = ends.is.head; indexed = ends.is.are; last = ends.is.last } }
+    record { image = ends.image; from = ends.from; to = ends.to; front = ends.front; scanned = record { head = ends.is.head; indexed = record { slots = ends.is.are; firsts = ends.is.firsts }; last = ends.is.last } }
