@@ -18,6 +18,3 @@ pub use input::{InputFault, MOST_INPUT, read_input};
 pub use line::{Line, text_of};
 pub use request::{Cause, Request, image_of, read_words};
 pub use run::run_cfs;
-
-#[cfg(test)]
-mod tests;

@@ -18,6 +18,3 @@ pub use formatting::format;
 pub use group_commit::Forced;
 pub use laws::mounts_are_refused_or_not;
 pub use volume::Volume;
-
-#[cfg(test)]
-mod tests;

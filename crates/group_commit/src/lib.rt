@@ -12,6 +12,3 @@ pub use force::{ForceFault, Forced, Group};
 pub use laws::pages_are_newest;
 pub use newest::Newest;
 pub use resident::Resident;
-
-#[cfg(test)]
-mod tests;

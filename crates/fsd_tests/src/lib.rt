@@ -1,0 +1,19 @@
+//! Tests that cross crates: runs over a machine in memory whose sectors wear, and the volumes, mounts and forces below them.
+#![tactic(auto)]
+
+#[cfg(test)]
+mod forces;
+#[cfg(test)]
+mod homes;
+#[cfg(test)]
+mod machines;
+#[cfg(test)]
+mod mounts;
+#[cfg(test)]
+mod runs;
+#[cfg(test)]
+mod sweeps;
+#[cfg(test)]
+mod volumes;
+#[cfg(test)]
+mod wear;

@@ -1,0 +1,68 @@
+//! What the tests share: machines in memory, and lines that run over them.
+use cfs_run::run_cfs;
+use sector_disk::{Event, MemoryMachine, Sector, WeakRun, When};
+use std::alloc::{AllocError, Global};
+
+/// An event that never comes.
+pub const NEVER: Event = Event::FailCall { call: 0, stand: 0 };
+
+/// The sector is damaged once the run has attached the image, which drops a window that was named and not settled.
+pub fn hurt(sector: u32) -> Event {
+    Event::HurtAt {
+        sector,
+        when: When::Call(2),
+    }
+}
+
+/// The sector is damaged just before the mount settles.
+pub fn hurt_late(sector: u32) -> Event {
+    Event::HurtAt {
+        sector,
+        when: When::Settle,
+    }
+}
+
+/// A machine over this image, on which nothing wears.
+pub fn calm(alloc: Global, image: Vec<Sector>) -> MemoryMachine {
+    let runs = Vec::new(alloc);
+    MemoryMachine::with_runs(alloc, image, runs, Vec::new(alloc), Vec::new(alloc))
+}
+
+/// A machine over this image. The first pair may wear at first, each mount names the next, and the last one stays.
+pub fn weak(alloc: Global, image: &[Sector], pairs: [u32; 3]) -> Result<MemoryMachine, AllocError> {
+    let mut runs = Vec::new(alloc);
+    for first in pairs {
+        runs.push(WeakRun { first, count: 2 })?;
+    }
+    let image = image.to_vec(alloc)?;
+    Ok(MemoryMachine::with_runs(alloc, image, runs, Vec::new(alloc), Vec::new(alloc)))
+}
+
+/// One line over what the machine has, and its status.
+pub fn run(
+    alloc: Global,
+    m: MemoryMachine,
+    events: &[Event],
+    line: &str,
+    input: &[u8],
+) -> Result<(MemoryMachine, u8), AllocError> {
+    let mut m = m.again(events.to_vec(alloc)?, input.to_vec(alloc)?);
+    let words = words_of(alloc, line)?;
+    let status = run_cfs(alloc, words.as_slice(), &mut m);
+    Ok((m, status))
+}
+
+/// An empty volume, as this line formats it.
+pub fn formatted(alloc: Global, line: &str) -> Result<Vec<Sector>, AllocError> {
+    let m = calm(alloc, Vec::new(alloc));
+    let (m, _) = run(alloc, m, &[], line, b"")?;
+    m.image().to_vec(alloc)
+}
+
+fn words_of(alloc: Global, line: &str) -> Result<Vec<String>, AllocError> {
+    let mut words = Vec::new(alloc);
+    for word in line.split(' ') {
+        words.push(String::from_str(alloc, word)?)?;
+    }
+    Ok(words)
+}

@@ -1,0 +1,180 @@
+//! Runs on which nothing wears, each on what the one before has left.
+use crate::machines::{calm, formatted, run};
+use sector_disk::{Event, MemoryMachine, Sector};
+use std::test::Fail;
+
+#[test]
+fn says_each_line(rt: HostRuntime) -> Result<(), Fail> {
+    let cases = [
+        (
+            "cfs format v 2048 256 64",
+            0,
+            2048,
+            "formatted 2048 free 1127\n",
+        ),
+        (
+            "cfs format w 720 200 16",
+            1,
+            2048,
+            "refused too-small 721\n",
+        ),
+        ("cfs format w 721 200 16", 0, 721, "formatted 721 free 64\n"),
+        (
+            "cfs format w 720 4096 4096",
+            1,
+            721,
+            "refused too-small 20574\n",
+        ),
+        ("cfs format w 720 199 16", 1, 721, "refused third 199\n"),
+        ("cfs format w 720 200 4097", 1, 721, "refused pages 4097\n"),
+        (
+            "cfs format w 16777217 200 16",
+            1,
+            721,
+            "refused too-large 16777217\n",
+        ),
+        (
+            "cfs format w 0721 200 16",
+            2,
+            721,
+            "bad line 0: bad number\n",
+        ),
+        (
+            "cfs format w 721 200 4294967296",
+            2,
+            721,
+            "bad line 0: bad number\n",
+        ),
+        ("cfs frob v", 2, 721, "usage: cfs COMMAND IMAGE WORDS\n"),
+        (
+            "cfs format -v 721 200 16",
+            2,
+            721,
+            "usage: cfs COMMAND IMAGE WORDS\n",
+        ),
+        ("cfs put w a b", 2, 721, "usage: cfs COMMAND IMAGE WORDS\n"),
+        ("cfs get w a!0", 2, 721, "bad line 0: bad key\n"),
+        ("cfs put w a*b", 2, 721, "bad line 0: bad name\n"),
+        (
+            "cfs put w 12345678901234567890123456789012345678901",
+            2,
+            721,
+            "bad line 0: bad name\n",
+        ),
+        ("cfs put w ", 2, 721, "bad line 0: bad name\n"),
+        (
+            "cfs put w 1234567890123456789012345678901234567890",
+            0,
+            721,
+            "made 1234567890123456789012345678901234567890!1 1\n",
+        ),
+        ("cfs", 2, 721, "usage: cfs COMMAND IMAGE WORDS\n"),
+    ];
+    let alloc = rt.alloc();
+    let mut m = calm(alloc, Vec::new(alloc));
+    for (line, status, sectors, said) in cases {
+        let (next, ended) = run(alloc, m, &[], line, b"")?;
+        assert_eq!(rt; ended, status, "{line}");
+        assert_eq!(rt; next.said(), said.as_bytes(), "{line}");
+        assert_eq!(rt; next.image().len(), sectors, "{line}");
+        m = next;
+    }
+    Ok(())
+}
+
+#[test]
+fn puts_and_gets(rt: HostRuntime) -> Result<(), Fail> {
+    let alloc = rt.alloc();
+    let sector = [7; 512];
+    let too_long = vec![in alloc; 5u8; 4_193_793]?;
+    let longest = vec![in alloc; 5u8; 4_193_792]?;
+    let cases = [
+        ("cfs get v a!1", b"".as_slice(), 3, "fault not-a-volume\n"),
+        (
+            "cfs format v 2048 256 64",
+            b"".as_slice(),
+            0,
+            "formatted 2048 free 1127\n",
+        ),
+        ("cfs put v a", b"hi".as_slice(), 0, "made a!1 2\n"),
+        ("cfs get v a!1", b"".as_slice(), 0, "hi"),
+        ("cfs get v a!2", b"".as_slice(), 1, "refused no-such\n"),
+        (
+            "cfs put v a",
+            b"hi".as_slice(),
+            1,
+            "refused versions-used\n",
+        ),
+        (
+            "cfs format v 2048 256 64",
+            b"".as_slice(),
+            0,
+            "formatted 2048 free 1127\n",
+        ),
+        ("cfs put v a", b"".as_slice(), 0, "made a!1 1\n"),
+        ("cfs put v b", sector.as_slice(), 0, "made b!1 2\n"),
+        ("cfs get v a!1", b"".as_slice(), 0, ""),
+        (
+            "cfs format v 2048 256 64",
+            b"".as_slice(),
+            0,
+            "formatted 2048 free 1127\n",
+        ),
+        (
+            "cfs put v c",
+            too_long.as_slice(),
+            1,
+            "refused too-long 4193793\n",
+        ),
+        (
+            "cfs put v c",
+            longest.as_slice(),
+            1,
+            "refused no-space 8192 1127\n",
+        ),
+    ];
+    let mut m = calm(alloc, Vec::new(alloc));
+    for (line, input, status, said) in cases {
+        let (next, ended) = run(alloc, m, &[], line, input)?;
+        assert_eq!(rt; ended, status, "{line}");
+        assert_eq!(rt; next.said(), said.as_bytes(), "{line}");
+        m = next;
+    }
+    Ok(())
+}
+
+fn begins(m: &MemoryMachine, sector: usize, word: &[u8]) -> bool {
+    match m.image().get(sector) {
+        Some(Sector::Whole(bytes)) => bytes.starts_with(word),
+        _ => false,
+    }
+}
+
+#[test]
+fn one_record_commits_a_put(rt: HostRuntime) -> Result<(), Fail> {
+    let alloc = rt.alloc();
+    let image = formatted(alloc, "cfs format w 721 200 16")?;
+    // header, blank, header, page, end, page, end
+    let words = ["CLHD", "\0\0\0\0", "CLHD", "CNPG", "CLEN", "CNPG", "CLEN"];
+    let m = calm(alloc, image.to_vec(alloc)?);
+    let (m, status) = run(alloc, m, &[], "cfs put w a", b"x")?;
+    assert_eq!(rt; status, 0);
+    for (k, word) in words.iter().enumerate() {
+        assert!(rt; begins(&m, 16 + k, word.as_bytes()), "{k}");
+    }
+    assert_eq!(rt; m.image().get(23).copied(), Some(Sector::Damaged));
+
+    for (stand, said) in [(4, b"refused no-such\n".as_slice()), (5, b"x".as_slice())] {
+        let stop = Event::StopIn {
+            first: 16,
+            nth: 1,
+            stand,
+        };
+        let m = calm(alloc, image.to_vec(alloc)?);
+        let (m, _) = run(alloc, m, &[stop], "cfs put w a", b"x")?;
+        assert!(rt; m.said().is_empty());
+        let (m, _) = run(alloc, m, &[], "cfs get w a!1", b"")?;
+        assert_eq!(rt; m.said(), said, "{stand}");
+    }
+    Ok(())
+}

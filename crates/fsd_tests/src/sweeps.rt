@@ -1,0 +1,177 @@
+//! A put and two gets of what it made, with a stop at every write of the first two runs, and with damage at every moment that
+//! the windows allow. As `rt test` builds them they take seconds, and minutes as `rt try` does.
+use crate::machines::{NEVER, formatted, hurt, run, weak};
+use sector_disk::{Event, MemoryMachine, Sector, When};
+use std::alloc::{AllocError, Global};
+use std::test::Fail;
+
+const FORMAT: &str = "cfs format w 721 200 16";
+
+const GET: &str = "cfs get w a!1";
+
+// The last run says the byte that was put, or names its sector, which is damaged. Only of a version of which no run has told
+// it may know nothing.
+fn says_version(m: &MemoryMachine, status: u8, told: bool) -> bool {
+    match status {
+        0 => m.said() == b"x".as_slice(),
+        1 => !told && m.said() == b"refused no-such\n".as_slice(),
+        8 => {
+            m.said() == b"damaged a!1 658\n".as_slice()
+                && m.image().get(658) == Some(&Sector::Damaged)
+        }
+        _ => false,
+    }
+}
+
+// No volume is refused, and the disk fails only by a stop, after which nothing is said.
+fn is_mounted(status: u8) -> bool {
+    matches!(status, 0 | 1 | 6 | 8)
+}
+
+// Whether three runs with these events go well, where no more wears than may.
+fn goes_well(alloc: Global, m: MemoryMachine, events: [&[Event]; 3]) -> Result<bool, AllocError> {
+    let [putting, getting, last] = events;
+    let (m, put) = run(alloc, m, putting, "cfs put w a", b"x")?;
+    let (m, get) = run(alloc, m, getting, GET, b"")?;
+    let (m, end) = run(alloc, m, last, GET, b"")?;
+    let told = put == 0 || get == 0 || get == 8;
+    let said = says_version(&m, end, told) && (get != 1 || end == 1);
+    Ok(!m.honest() || is_mounted(put) && is_mounted(get) && said)
+}
+
+// These events, and a stop after so many sectors.
+fn stopping(events: [Event; 4], after: u64) -> [Event; 5] {
+    let [a, b, c, d] = events;
+    [a, b, c, d, Event::Stop { after }]
+}
+
+// After how many sectors the put and the first get stop, where it goes wrong. The put writes 13 sectors at most, and the get 8.
+fn wrong_stops(
+    alloc: Global,
+    image: &[Sector],
+    pair: u32,
+    worn: [Event; 4],
+    early: bool,
+) -> Result<Option<(u64, u64)>, AllocError> {
+    let first = if early { worn } else { [NEVER; 4] };
+    for put in 0..14 {
+        for get in 0..9 {
+            let m = weak(alloc, image, [pair; 3])?;
+            let putting = stopping(first, put);
+            let getting = stopping(worn, get);
+            if !goes_well(alloc, m, [&putting, &getting, &worn])? {
+                return Ok(Some((put, get)));
+            }
+        }
+    }
+    Ok(None)
+}
+
+// One or both sectors of a pair, at one or both of two moments.
+fn damage(pair: u32, sectors: (u32, u32), moments: (When, When)) -> [Event; 4] {
+    let (a, b) = sectors;
+    let (early, late) = moments;
+    let first = pair.saturating_add(a);
+    let second = pair.saturating_add(b);
+    [
+        (first, early),
+        (first, late),
+        (second, early),
+        (second, late),
+    ]
+    .map(|(sector, when)| Event::HurtAt { sector, when })
+}
+
+// The same with each damage of the pair, in the runs behind the put or in all of them.
+fn wrong_at(alloc: Global, image: &[Sector], pair: u32) -> Result<Option<(u64, u64)>, AllocError> {
+    let moments = [
+        (When::Call(1), When::Call(1)),
+        (When::Settle, When::Settle),
+        (When::Call(1), When::Settle),
+    ];
+    for sectors in [(0, 0), (1, 1), (0, 1)] {
+        for when in moments {
+            let worn = damage(pair, sectors, when);
+            let later = wrong_stops(alloc, image, pair, worn, false)?;
+            let always = wrong_stops(alloc, image, pair, worn, true)?;
+            if later.or(always).is_some() {
+                return Ok(later.or(always));
+            }
+        }
+    }
+    Ok(None)
+}
+
+// Roots at 0 and 4, anchors at 8 and 12.
+#[test]
+fn the_front_wears(rt: HostRuntime) -> Result<(), Fail> {
+    let alloc = rt.alloc();
+    let image = formatted(alloc, FORMAT)?;
+    for pair in [0, 3, 4, 7, 8, 11, 12, 15] {
+        assert_eq!(rt; wrong_at(alloc, image.as_slice(), pair)?, None, "{pair}");
+    }
+    Ok(())
+}
+
+// The first record stands at 16..23.
+#[test]
+fn the_log_wears(rt: HostRuntime) -> Result<(), Fail> {
+    let alloc = rt.alloc();
+    let image = formatted(alloc, FORMAT)?;
+    for pair in 16..24 {
+        assert_eq!(rt; wrong_at(alloc, image.as_slice(), pair)?, None, "{pair}");
+    }
+    Ok(())
+}
+
+// Homes stand at 616..632 and 636..652, the leader at 657, the byte at 658.
+#[test]
+fn the_homes_and_the_data_wear(rt: HostRuntime) -> Result<(), Fail> {
+    let alloc = rt.alloc();
+    let image = formatted(alloc, FORMAT)?;
+    for pair in [615, 616, 617, 631, 635, 636, 637, 651, 656, 657, 658] {
+        assert_eq!(rt; wrong_at(alloc, image.as_slice(), pair)?, None, "{pair}");
+    }
+    Ok(())
+}
+
+// Each pair of the disk, between the put and the first get.
+#[test]
+fn any_pair_wears(rt: HostRuntime) -> Result<(), Fail> {
+    let alloc = rt.alloc();
+    let image = formatted(alloc, FORMAT)?;
+    for pair in 0..721 {
+        for (a, b) in [(0, 0), (1, 1), (0, 1)] {
+            let m = weak(alloc, image.as_slice(), [pair; 3])?;
+            let worn = [hurt(pair + a), hurt(pair + b)];
+            assert!(rt; goes_well(alloc, m, [&[], &worn, &[]])?, "{pair} {a} {b}");
+        }
+    }
+    Ok(())
+}
+
+// One pair before the first mount and another one behind it, or so at the second mount.
+#[test]
+fn another_pair_wears_later(rt: HostRuntime) -> Result<(), Fail> {
+    let alloc = rt.alloc();
+    let image = formatted(alloc, FORMAT)?;
+    let image = image.as_slice();
+    let pairs = [
+        0, 4, 8, 12, 15, 16, 18, 19, 20, 21, 615, 616, 635, 636, 657, 658,
+    ];
+    for one in pairs {
+        let worn = [hurt(one), hurt(one.saturating_add(1))];
+        for other in pairs {
+            let later = [hurt(other), hurt(other.saturating_add(1))];
+            for put in 0..14 {
+                let stop = [worn[0], worn[1], Event::Stop { after: put }];
+                let first = weak(alloc, image, [one, other, other])?;
+                let second = weak(alloc, image, [one, one, other])?;
+                let well = goes_well(alloc, first, [&stop, &later, &later])?
+                    && goes_well(alloc, second, [&stop[2..], &worn, &later])?;
+                assert!(rt; well, "{one} {other} {put}");
+            }
+        }
+    }
+    Ok(())
+}

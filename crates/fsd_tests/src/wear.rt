@@ -1,0 +1,142 @@
+//! Runs on which a pair of sectors wears, in a volume whose log begins at 16, whose homes begin at 784 and 852, and whose data
+//! begins at 921.
+use crate::machines::{NEVER, formatted, hurt, hurt_late, run, weak};
+use sector_disk::{Event, Sector};
+use std::test::Fail;
+
+const FORMAT: &str = "cfs format v 2048 256 64";
+
+const CALM: [Event; 2] = [NEVER, NEVER];
+
+#[test]
+fn a_worn_pair_loses_nothing(rt: HostRuntime) -> Result<(), Fail> {
+    let alloc = rt.alloc();
+    let image = formatted(alloc, FORMAT)?;
+    let lines = [
+        ("cfs put v a", b"x".as_slice(), "made a!1 2\n"),
+        ("cfs get v a!1", b"".as_slice(), "x"),
+        ("cfs get v a!1", b"".as_slice(), "x"),
+        ("cfs get v a!1", b"".as_slice(), "x"),
+    ];
+    // The pair of all windows, what happens in the four runs, and a sector that is whole at the end.
+    let rows = [
+        // A page of the record, which stands at 16..23, and the end behind it.
+        (19, [CALM, [hurt(19), hurt(20)], CALM, CALM], 784),
+        // The first home of a page that is in the log, before the mount and before it settles.
+        (784, [CALM, [hurt(784), hurt_late(784)], CALM, CALM], 784),
+        // The same with no record, and the last sector of the log.
+        (783, [CALM, CALM, [hurt(783), hurt(784)], CALM], 784),
+        // A root, and an anchor.
+        (0, [CALM, [hurt(0), NEVER], CALM, CALM], 0),
+        (8, [CALM, [hurt(8), NEVER], CALM, CALM], 8),
+    ];
+    for (pair, events, whole) in rows {
+        let mut m = weak(alloc, image.as_slice(), [pair; 3])?;
+        for (happens, (line, input, said)) in events.iter().zip(lines) {
+            let (next, status) = run(alloc, m, happens, line, input)?;
+            assert_eq!(rt; next.said(), said.as_bytes(), "{pair} {line}");
+            assert!(rt; status == 0 && next.honest(), "{pair} {line}");
+            m = next;
+        }
+        assert!(rt;
+            matches!(m.image().get(whole), Some(Sector::Whole(_))),
+            "{pair}"
+        );
+    }
+    Ok(())
+}
+
+// Behind the end of the record that is cut off, the page is that of the record before.
+#[test]
+fn an_old_copy_serves_no_record(rt: HostRuntime) -> Result<(), Fail> {
+    let alloc = rt.alloc();
+    let image = formatted(alloc, FORMAT)?;
+    let stop = Event::StopIn {
+        first: 16,
+        nth: 1,
+        stand: 5,
+    };
+    let rows = [
+        (NEVER, "cfs put v a", b"x".as_slice(), 0, "made a!1 2\n"),
+        (stop, "cfs put v b", b"y".as_slice(), 6, ""),
+        (
+            hurt(19),
+            "cfs get v b!1",
+            b"".as_slice(),
+            1,
+            "refused no-such\n",
+        ),
+        (NEVER, "cfs get v a!1", b"".as_slice(), 0, "x"),
+    ];
+    let mut m = weak(alloc, image.as_slice(), [19; 3])?;
+    for (event, line, input, status, said) in rows {
+        let (next, ended) = run(alloc, m, &[event], line, input)?;
+        assert_eq!(rt; next.said(), said.as_bytes(), "{line}");
+        assert!(rt; ended == status && next.honest(), "{line}");
+        m = next;
+    }
+    Ok(())
+}
+
+// The first get completes the record and stops between the two homes. What the second one says from there, the third one says
+// from the second home.
+#[test]
+fn a_record_is_completed_before_its_pages_go_home(rt: HostRuntime) -> Result<(), Fail> {
+    let alloc = rt.alloc();
+    let image = formatted(alloc, FORMAT)?;
+    let cut = Event::StopIn {
+        first: 16,
+        nth: 1,
+        stand: 5,
+    };
+    let between = Event::StopIn {
+        first: 852,
+        nth: 1,
+        stand: 0,
+    };
+    let rows = [
+        (cut, "cfs put v a", b"x".as_slice(), 6, ""),
+        (between, "cfs get v a!1", b"".as_slice(), 6, ""),
+        (hurt(19), "cfs get v a!1", b"".as_slice(), 0, "x"),
+        (hurt(784), "cfs get v a!1", b"".as_slice(), 0, "x"),
+    ];
+    let mut m = weak(alloc, image.as_slice(), [19, 19, 784])?;
+    for (event, line, input, status, said) in rows {
+        let (next, ended) = run(alloc, m, &[event], line, input)?;
+        assert_eq!(rt; next.said(), said.as_bytes(), "{status} {said}");
+        assert!(rt; ended == status && next.honest(), "{status} {said}");
+        m = next;
+    }
+    Ok(())
+}
+
+// The leader stands at 921, and three sectors of bytes behind it.
+#[test]
+fn bytes_of_a_version_stand_once(rt: HostRuntime) -> Result<(), Fail> {
+    let alloc = rt.alloc();
+    let image = formatted(alloc, FORMAT)?;
+    let m = weak(alloc, image.as_slice(), [923; 3])?;
+    let (mut m, _) = run(alloc, m, &[], "cfs put v g", &[7; 1200])?;
+    assert_eq!(rt; m.said(), b"made g!1 4\n".as_slice());
+    for event in [hurt(923), NEVER] {
+        let (next, status) = run(alloc, m, &[event], "cfs get v g!1", b"")?;
+        assert_eq!(rt; next.said(), b"damaged g!1 923\n".as_slice());
+        assert!(rt; status == 8 && next.honest());
+        m = next;
+    }
+    Ok(())
+}
+
+// Before it settles, the second home may not wear where the pair of both windows is at the first.
+#[test]
+fn no_other_sector_wears(rt: HostRuntime) -> Result<(), Fail> {
+    let alloc = rt.alloc();
+    let image = formatted(alloc, FORMAT)?;
+    let m = weak(alloc, image.as_slice(), [784; 3])?;
+    let (m, _) = run(alloc, m, &[], "cfs put v a", b"x")?;
+    assert!(rt; m.honest());
+    let events = [hurt(784), hurt_late(852)];
+    let (m, _) = run(alloc, m, &events, "cfs get v a!1", b"")?;
+    assert!(rt; !m.honest());
+    Ok(())
+}
