@@ -23,7 +23,7 @@ calm_moment at calm t = false_of (open_damage at.windows t) (λ h. calm_nowhere 
 agree_same : (x y : List (List ℕ)) → AgreeOutside [] x y → x ≡ y
 agree_same x y agree = ext_get_or [] x y agree.size (λ k lt. agree.each k refl)
 
-shows_more : (disk now : List (List ℕ)) (o : Option (List (List ℕ))) → ShowsOne (disk ∷ []) o → ShowsOne (disk ∷ now ∷ []) o
+pub shows_more : (disk now : List (List ℕ)) (o : Option (List (List ℕ))) → ShowsOne (disk ∷ []) o → ShowsOne (disk ∷ now ∷ []) o
 shows_more disk now None one = absurd one
 shows_more disk now (Some pages) one =
     let first : one.0 ≡ 0 = omega (arith, one.1) in

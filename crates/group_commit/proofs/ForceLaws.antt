@@ -160,7 +160,7 @@ module _ (l : Layout) (a : Anchor) (weak : Sectors) (i : Image) where
   good_copies stamp s (page ∷ pages) (image ∷ images) last many all = ((λ bytes is bears. whole_is bytes image s all.0 is), good_copies stamp (s + 1) pages images last (omega (arith, many)) all.1)
 
   -- records that were laid whole are laid
-  is_laid : (rs : List Placed) → AllByRecursion (λ r. length r.entry.images ≡ length r.entry.pages) rs → AllLaid l a weak i rs → IsLaid l a weak i rs
+  pub is_laid : (rs : List Placed) → AllByRecursion (λ r. length r.entry.images ≡ length r.entry.pages) rs → AllLaid l a weak i rs → IsLaid l a weak i rs
   is_laid [] many all = tt
   is_laid (r ∷ []) many all = (all.0.0, good_copies (record { epoch = a.epoch; number = r.entry.number }) (place_of l a.third r.at + (4 + length r.entry.pages)) r.entry.pages r.entry.images (end_bytes (record { epoch = a.epoch; number = r.entry.number }) (length r.entry.pages)) many.0 all.0.1)
   is_laid (r ∷ q ∷ rs) many all = (all.0.0, all.0.1, is_laid (q ∷ rs) many.1 all.1)

@@ -1,4 +1,6 @@
+pub mod Entering
 pub mod Force
+pub mod Forces
 pub mod Newest
 pub mod Resident
-pub mod Forces
+pub mod Room

@@ -2,12 +2,14 @@
 //! Of each page the newest image is read from the log, or from home.
 #![tactic(auto)]
 
+mod entering;
 mod force;
 mod laws;
 mod laying;
 mod newest;
 mod resident;
 
+pub use entering::make_room;
 pub use force::{ForceFault, Forced, Group};
 pub use laws::pages_are_newest;
 pub use newest::Newest;

@@ -1,0 +1,52 @@
+use Rattle.std.proofs.Common.{◌≡◌, ◌<◌, List, subst, arith}
+use Rattle.sector_disk.proofs.Moments.{leaves_more, then_on}
+use Rattle.log_thirds.specs.Anchoring.{AnchorsIn}
+use Rattle.log_thirds.specs.Append.{IsIndexed, IsLogWorn}
+use Rattle.log_thirds.specs.LogValue.{LogValue}
+use Rattle.log_thirds.specs.Moving.{moved_anchor, records_moved}
+use Rattle.group_commit.specs.Entering.{Shows}
+use Rattle.group_commit.proofs.EnterLaws.{moving_shows, entered}
+use Rattle.group_commit.proofs.HomingLaws.{homing_log}
+use Rattle.group_commit.proofs.entering.enter_third.Goals as goal
+
+pub home_third-requires-clause-low : goal.home_third-requires-clause-low
+home_third-requires-clause-low g c = omega (arith, c.layout-layout.ensures.shape.third, c.requires.first)
+
+pub returns-in-Ok-clause-any_moment : goal.returns-in-Ok-clause-any_moment
+returns-in-Ok-clause-any_moment g c records disk windows h may over =
+    let M = g.M.Machine in
+    let log = c.args.log.now in
+    let old = M.now c.args.m.now in
+    let mid = M.now c.home_third.new.m in
+    let h1 = c.move_anchor.ensures.trust.honest h in
+    let at = c.in_ok-home_third.ensures.done records disk windows h1 may over in
+    then_on M.moment M.left_since c.args.m.now c.home_third.new.m c.move_anchor.new.m (Shows log.layout windows disk old) (c.home_third.ensures.any_moment records disk windows h1 may over)
+    (leaves_more M.moment M.left_since c.home_third.new.m c.move_anchor.new.m (AnchorsIn (moved_anchor log) mid) (Shows log.layout windows disk old)
+    (λ left part. moving_shows log records disk windows old may c.requires.ends mid at left part) (c.move_anchor.ensures.any_moment h))
+
+pub returns-in-Err-clause-any_moment : goal.returns-in-Err-clause-any_moment
+returns-in-Err-clause-any_moment g c records disk windows h may over =
+    let M = g.M.Machine in
+    let log = c.args.log.now in
+    let old = M.now c.args.m.now in
+    let mid = M.now c.home_third.new.m in
+    let h1 = c.move_anchor.ensures.trust.honest h in
+    let at = c.in_ok-home_third.ensures.done records disk windows h1 may over in
+    then_on M.moment M.left_since c.args.m.now c.home_third.new.m c.move_anchor.new.m (Shows log.layout windows disk old) (c.home_third.ensures.any_moment records disk windows h1 may over)
+    (leaves_more M.moment M.left_since c.home_third.new.m c.move_anchor.new.m (AnchorsIn (moved_anchor log) mid) (Shows log.layout windows disk old)
+    (λ left part. moving_shows log records disk windows old may c.requires.ends mid at left part) (c.move_anchor.ensures.any_moment h))
+
+pub returns-in-Ok-clause-done : goal.returns-in-Ok-clause-done
+returns-in-Ok-clause-done g c records disk windows h may over =
+    let M = g.M.Machine in
+    let log = c.args.log.now in
+    let old = M.now c.args.m.now in
+    let mid = M.now c.home_third.new.m in
+    let h1 = c.move_anchor.ensures.trust.honest h in
+    let at = c.in_ok-home_third.ensures.done records disk windows h1 may over in
+    let new = M.now c.move_anchor.new.m in
+    let stands = homing_log log records disk windows old may log.layout.pages mid at in
+    let past = c.in-Ok.ensures.past in
+    let log_worn = subst (λ (x : LogValue). IsLogWorn x (records_moved log.layout records) new) past (c.in-Ok.ensures.worn_done records h at.over.indexed stands) in
+    let indexed = subst (λ (x : LogValue). IsIndexed x (records_moved log.layout records)) past (c.in-Ok.ensures.indexed records h at.over.indexed stands) in
+    entered log records disk windows old may c.requires.ends mid at new (c.in-Ok.ensures.done h) log_worn indexed

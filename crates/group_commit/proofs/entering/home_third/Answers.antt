@@ -1,0 +1,101 @@
+use Rattle.std.proofs.Common.{◌≡◌, ◌+◌, ◌*◌, ◌<◌, ◌≤◌, ℕ, List, length, take, Some, None, refl, sym, ap, subst, ◌∙◌, arith}
+use Rattle.std.specs.Prelude.{count_by, IfSome, IfNone}
+use Rattle.volume_layout.specs.Layout.{third_start}
+use Rattle.sector_disk.specs.Damage.{IsDevice}
+use Rattle.sector_disk.specs.declared.sector.WeakRun.{WeakRun}
+use Rattle.sector_disk.specs.Machine.{wrote}
+use Rattle.sector_disk.proofs.Moments.{started, then_on}
+use Rattle.sector_disk.proofs.Holding.{trusts_on}
+use Rattle.fsd_log.specs.Scan.{Placed}
+use Rattle.log_thirds.specs.Append.{IsLeastOfThird, NoneOfThird}
+use Rattle.log_thirds.specs.Slots.{lies_in, IsLeastIn, NoneLiesIn}
+use Rattle.log_thirds.proofs.ReadingLaws.{uses_on, wears_here}
+use Rattle.group_commit.specs.Entering.{Shows, OwnsLog, IsHoming, MayHome}
+use Rattle.group_commit.proofs.CountLaws.{count_next, count_done, wrote_twice, wrote_none, handed_up}
+use Rattle.group_commit.proofs.HomingLaws.{begin, stays, all_homed}
+use Rattle.group_commit.proofs.entering.home_third.Goals as goal
+
+pub loop-page-init : goal.loop-page-init
+loop-page-init g c =
+    let M = g.M.Machine in
+    let old = M.now c.args.m.now in
+    let log = c.args.log.now in
+    record {
+      inside = omega arith;
+      uses = record { sectors = refl; disk = omega arith; input = refl; output = refl };
+      trust = record { tells = λ t. t; honest = λ h. h };
+      ledger = λ t. record { input = refl; attaches = refl };
+      counted = λ t. wrote_none (M.ledger c.args.m.now) _ refl;
+      quiet = λ h. refl;
+      windows = λ h. refl;
+      homing = λ records disk windows h may over. begin log records disk windows old may over;
+      moments = λ records disk windows h may over.
+          started M.moment M.left_since c.args.m.now old (Shows log.layout windows disk old) (λ left at. g.met.M.Machine.only_now c.args.m.now left h at)
+          (stays log records disk windows old may 0 old (begin log records disk windows old may over) old (wears_here old));
+    }
+
+pub loop-page-preserved : goal.loop-page-preserved
+loop-page-preserved g c =
+    let M = g.M.Machine in
+    let old = M.now c.args.m.now in
+    let log = c.args.log.now in
+    let so_far = c.loop-page.invariant in
+    let back = c.home_page.ensures.trust.honest in
+    let page = c.in-Some.page in
+    let slot = subst (λ (t : ℕ). IsLeastIn log.slots c.loop-page.from (third_start log.layout t) log.layout.third c.in-Some.page) c.requires.first c.in-Some.ensures.slot in
+    let next = count_next log.slots c.loop-page.from (third_start log.layout log.anchor.third) log.layout.third c.in-Some.page slot in
+    let least : (records : List Placed) → Rattle.log_thirds.specs.Append.IsIndexed log records → IsLeastOfThird log records log.anchor.third c.loop-page.from c.in-Some.page =
+    λ records indexed. subst (λ (t : ℕ). IsLeastOfThird log records t c.loop-page.from c.in-Some.page) c.requires.first (c.in-Some.ensures.least records indexed) in
+    record {
+      inside = omega (arith, slot.there, c.layout-layout.ensures.shape.table);
+      uses = uses_on _ _ _ so_far.uses c.home_page.ensures.uses;
+      trust = trusts_on so_far.trust c.home_page.ensures.trust;
+      ledger = λ t. let was = so_far.ledger (c.home_page.ensures.trust.tells t) in let is = c.home_page.ensures.ledger t in record { input = is.input ∙ was.input; attaches = is.attaches ∙ was.attaches };
+      counted = λ t. c.in_ok-home_page-in-Some.ensures.counted t ∙ ap (λ x. wrote x 2) (so_far.counted (c.home_page.ensures.trust.tells t)) ∙ wrote_twice (M.ledger c.args.m.now) _ 2 _ (omega (arith, next));
+      quiet = λ h. c.home_page.ensures.quiet h ∙ so_far.quiet (back h);
+      windows = λ h. c.home_page.ensures.windows h ∙ so_far.windows (back h);
+      homing = λ records disk windows h may over.
+          let is = least records over.indexed in
+          c.in_ok-home_page-in-Some.ensures.done records disk windows old c.loop-page.from h may is.lies is.before (so_far.homing records disk windows (back h) may over);
+      moments = λ records disk windows h may over.
+          let is = least records over.indexed in
+          then_on M.moment M.left_since c.args.m.now c.loop-page.m c.home_page.new.m (Shows log.layout windows disk old) (so_far.moments records disk windows (back h) may over)
+          (c.home_page.ensures.any_moment records disk windows old c.loop-page.from h may is.lies (so_far.homing records disk windows (back h) may over));
+    }
+
+pub returns-in_err-home_page-in-Some-clause-any_moment : goal.returns-in_err-home_page-in-Some-clause-any_moment
+returns-in_err-home_page-in-Some-clause-any_moment g c records disk windows h may over =
+    let M = g.M.Machine in
+    let old = M.now c.args.m.now in
+    let log = c.args.log.now in
+    let so_far = c.loop-page.invariant in
+    let h1 = c.home_page.ensures.trust.honest h in
+    let is = subst (λ (t : ℕ). IsLeastOfThird log records t c.loop-page.from c.in-Some.page) c.requires.first (c.in-Some.ensures.least records over.indexed) in
+    then_on M.moment M.left_since c.args.m.now c.loop-page.m c.home_page.new.m (Shows log.layout windows disk old) (so_far.moments records disk windows h1 may over)
+    (c.home_page.ensures.any_moment records disk windows old c.loop-page.from h may is.lies (so_far.homing records disk windows h1 may over))
+
+pub returns-in_err-home_page-in-Some-clause-never_lost : goal.returns-in_err-home_page-in-Some-clause-never_lost
+returns-in_err-home_page-in-Some-clause-never_lost g c =
+    let M = g.M.Machine in
+    let old = M.now c.args.m.now in
+    let log = c.args.log.now in
+    let so_far = c.loop-page.invariant in
+    handed_up (λ fault. (records : List Placed) (disk : List (List ℕ)) (windows : List WeakRun) → M.honest c.home_page.new.m → MayHome log windows old → OwnsLog log records disk windows old.image → IsDevice fault)
+    c.from_residual.result c.in_err-home_page-in-Some.field-0.0 c.from_residual.ensures.1
+    (λ records disk windows h may over. c.in_err-home_page-in-Some.ensures.never_lost records disk windows old c.loop-page.from h may (so_far.homing records disk windows (c.home_page.ensures.trust.honest h) may over))
+
+pub returns-in-None-clause-counted : goal.returns-in-None-clause-counted
+returns-in-None-clause-counted g c t =
+    let M = g.M.Machine in
+    let log = c.args.log.now in
+    let none = subst (λ (t : ℕ). NoneLiesIn log.slots c.loop-page.from (third_start log.layout t) log.layout.third) c.requires.first c.in-None.ensures.no_slot in
+    c.loop-page.invariant.counted t
+    ∙ ap (λ (n : ℕ). wrote (M.ledger c.args.m.now) (2 * n)) (count_done log.slots c.loop-page.from (third_start log.layout log.anchor.third) log.layout.third (omega (arith, c.loop-page.invariant.inside, c.layout-layout.ensures.shape.table)) none)
+
+pub returns-in-None-clause-done : goal.returns-in-None-clause-done
+returns-in-None-clause-done g c records disk windows h may over =
+    let M = g.M.Machine in
+    let old = M.now c.args.m.now in
+    let log = c.args.log.now in
+    let none = subst (λ (t : ℕ). NoneOfThird log records t c.loop-page.from) c.requires.first (c.in-None.ensures.none records over.indexed) in
+    all_homed log records disk windows old may c.loop-page.from (M.now c.loop-page.m) (c.loop-page.invariant.homing records disk windows h may over) none

@@ -1,0 +1,47 @@
+use Rattle.std.proofs.Common.{◌≡◌, ℕ, List, sym, subst}
+use Rattle.sector_disk.specs.declared.sector.WeakRun.{WeakRun}
+use Rattle.sector_disk.proofs.Moments.{started}
+use Rattle.fsd_log.specs.Scan.{Placed}
+use Rattle.log_thirds.specs.LogValue.{LogValue}
+use Rattle.log_thirds.specs.Moving.{moved, records_moved}
+use Rattle.log_thirds.proofs.ReadingLaws.{wears_here}
+use Rattle.group_commit.specs.Entering.{Shows, OwnsLog, IsEntered, HasRoomNow, MayHome}
+use Rattle.group_commit.specs.Force.{KeepsData}
+use Rattle.group_commit.proofs.HomingLaws.{begin, stays}
+use Rattle.group_commit.proofs.RoomLaws.{on_ok_both}
+use Rattle.group_commit.proofs.entering.make_room.Goals as goal
+
+pub returns-in-FirstThird-clause-done : goal.returns-in-FirstThird-clause-done
+returns-in-FirstThird-clause-done g c =
+    let M = g.M.Machine in
+    let old = M.now c.args.m.now in
+    let new = M.now c.enter_third.new.m in
+    let log = c.args.log.now in
+    on_ok_both (c.enter_third.new.log ≡ moved log)
+    ((records : List Placed) (disk : List (List ℕ)) (windows : List WeakRun) → M.honest c.enter_third.new.m → MayHome log windows old → OwnsLog log records disk windows old.image → IsEntered log records disk windows old new)
+    ((records : List Placed) (disk : List (List ℕ)) (windows : List WeakRun) → M.honest c.enter_third.new.m → MayHome log windows old → OwnsLog log records disk windows old.image → HasRoomNow c.enter_third.new.log disk windows old new)
+    c.enter_third.result
+    (λ past done records disk windows h may over.
+    let is = done records disk windows h may over in
+    record {
+      records = records_moved log.layout records;
+      over = subst (λ (x : LogValue). OwnsLog x (records_moved log.layout records) disk windows new.image) (sym past) is.over;
+      kept = subst (λ (x : LogValue). KeepsData x.layout old new) (sym past) is.kept;
+    })
+    c.enter_third.ensures.past c.enter_third.ensures.done
+
+pub returns-in-Here-clause-any_moment : goal.returns-in-Here-clause-any_moment
+returns-in-Here-clause-any_moment g c records disk windows h may over =
+    let M = g.M.Machine in
+    let old = M.now c.args.m.now in
+    let log = c.args.log.now in
+    started M.moment M.left_since c.args.m.now old (Shows log.layout windows disk old) (λ left at. g.met.M.Machine.only_now c.args.m.now left h at)
+    (stays log records disk windows old may 0 old (begin log records disk windows old may over) old (wears_here old))
+
+pub returns-in-NextThird-clause-any_moment : goal.returns-in-NextThird-clause-any_moment
+returns-in-NextThird-clause-any_moment g c records disk windows h may over =
+    let M = g.M.Machine in
+    let old = M.now c.args.m.now in
+    let log = c.args.log.now in
+    started M.moment M.left_since c.args.m.now old (Shows log.layout windows disk old) (λ left at. g.met.M.Machine.only_now c.args.m.now left h at)
+    (stays log records disk windows old may 0 old (begin log records disk windows old may over) old (wears_here old))

@@ -1,0 +1,75 @@
+-- A force that comes round to the log's first third.
+use Rattle.std.specs.Prelude.{◌≡◌, ⊤, ℕ, ◌+◌, ◌<◌, ◌≤◌, List, [], ◌∷◌, Ok}
+use Rattle.volume_layout.specs.declared.layout.Layout.{Layout}
+use Rattle.volume_layout.specs.Layout.{plan, home_a, home_b, map_start}
+use Rattle.sector_disk.specs.declared.sector.Sector.TheVariants.{Whole}
+use Rattle.sector_disk.specs.declared.sector.WeakRun.{WeakRun}
+use Rattle.sector_disk.specs.Image.{sector_at}
+use Rattle.sector_disk.specs.Damage.{LostCause}
+use Rattle.sector_disk.specs.declared.machine.LoadFault.{LoadFault}
+use Rattle.sector_disk.specs.declared.machine.LoadFault.TheVariants.{Device, Lost}
+use Rattle.sector_disk.specs.Machine.{Moment, Holds, Report, DeviceFault}
+use Rattle.fsd_log.specs.Scan.{Placed}
+use Rattle.fsd_files.specs.Disk.{Image}
+use Rattle.fsd_sound.specs.Laid.{HasOwnLog}
+use Rattle.fsd_sound.specs.Mounted.{image_at}
+use Rattle.fsd_sound.specs.Sound.{EndIn, ShowsPages, weak_of}
+use Rattle.log_thirds.specs.Append.{IsIndexed, LastLiesIn}
+use Rattle.log_thirds.specs.Images.{AreLogged}
+use Rattle.log_thirds.specs.LogValue.{LogValue, FitsLayout}
+use Rattle.log_thirds.specs.Moving.{moved, records_moved}
+use Rattle.group_commit.specs.Force.{KeepsData}
+use Rattle.fsd_sound.specs.Windows.{IsApart}
+
+-- both homes of the page are whole, with these bytes
+abbrev pub IsAtHome : Layout → Image → (page : ℕ) → List ℕ → Type 0
+IsAtHome l i page bytes = (sector_at i (home_a l page) ≡ Whole bytes) × (sector_at i (home_b l page) ≡ Whole bytes)
+
+-- The disk shows these pages, and no data changes.
+pub record Shows (l : Layout) (runs : List WeakRun) (disk : List (List ℕ)) (old left : Moment) : Type 0 where
+  pub shows : ShowsPages l runs (disk ∷ []) left.image
+  pub kept : KeepsData l old left
+  pub windows : left.windows ≡ old.windows
+  pub said : left.said ≡ old.said
+
+-- A log of its own on a disk that shows these pages; it knows where each page's last image lies.
+pub record OwnsLog (log : LogValue) (records : List Placed) (disk : List (List ℕ)) (windows : List WeakRun) (i : Image) : Type 0 where
+  pub shows : ShowsPages log.layout windows (disk ∷ []) i
+  pub own : HasOwnLog log.layout log.anchor records log.head (weak_of windows) i
+  pub indexed : IsIndexed log records
+
+-- Of the pages in front of this number those whose last image lies in the first third stand at home, and nothing else was
+-- written; the moment is worn from that image.
+pub record IsHoming (log : LogValue) (records : List Placed) (disk : List (List ℕ)) (windows : List WeakRun) (old : Moment) (n : ℕ) (now : Moment) : Type 0 where
+  pub image : Image
+  pub holds : Holds old image now
+  pub over : OwnsLog log records disk windows image
+  pub done : (page : ℕ) → page < n → page < log.layout.pages → LastLiesIn log records log.anchor.third page → IsAtHome log.layout image page (image_at disk page)
+  pub behind : (s : ℕ) → map_start log.layout ≤ s → sector_at image s ≡ sector_at old.image s
+
+-- The window's run is narrow.
+pub record MayHome (log : LogValue) (windows : List WeakRun) (old : Moment) : Type 0 where
+  pub planned : plan log.layout.sectors log.layout.third log.layout.pages ≡ Ok log.layout
+  pub shape : FitsLayout log
+  pub apart : IsApart (weak_of windows)
+  pub ends : EndIn old.windows windows
+
+-- At the end of it the disk shows the same pages, and the log is what lies behind the first third.
+pub record IsEntered (log : LogValue) (records : List Placed) (disk : List (List ℕ)) (windows : List WeakRun) (old new : Moment) : Type 0 where
+  pub over : OwnsLog (moved log) (records_moved log.layout records) disk windows new.image
+  pub kept : KeepsData log.layout old new
+
+-- a failed call of the disk is told; a lost image's cause lies on the disk
+abbrev pub HomeCause : Report → Report → LoadFault → Type 0
+HomeCause old new (Device place) = DeviceFault old new place
+HomeCause old new (Lost a b) = ⊤
+
+-- both sectors of a page's last image are damaged
+abbrev pub LosesLogged : LogValue → Image → LoadFault → Type 0
+LosesLogged log i fault = (page : ℕ) × LostCause (AreLogged log page) i fault
+
+-- There is room now, on a disk that shows the same pages.
+pub record HasRoomNow (log : LogValue) (disk : List (List ℕ)) (windows : List WeakRun) (old new : Moment) : Type 0 where
+  pub records : List Placed
+  pub over : OwnsLog log records disk windows new.image
+  pub kept : KeepsData log.layout old new

@@ -1,0 +1,149 @@
+//! Entering the log's first third again: its pages are written home, and then the anchor moves on.
+ghost use Rattle.std.specs.Prelude.{◌≡◌, ◌≢◌, ◌<◌, ◌≤◌, ◌+◌, ◌*◌, ◌^◌, ℕ, List, length, Some, None, slice_index_or, IfErr, OnOk, OnErr};
+ghost use Rattle.sector_disk.specs.Damage.{IsDevice};
+ghost use Rattle.sector_disk.specs.declared.sector.WeakRun.{WeakRun};
+ghost use Rattle.sector_disk.specs.Machine.{Moment, UsesDisk, Trusts, OnlyWrites, LeavesOnly, wrote};
+ghost use Rattle.fsd_log.specs.Images.{last_image};
+ghost use Rattle.fsd_log.specs.Scan.{Placed, HasRoom};
+ghost use Rattle.log_thirds.specs.Append.{LastLiesIn};
+ghost use Rattle.log_thirds.specs.Moving.{moved, records_moved, EndsInLastThird};
+ghost use Rattle.log_thirds.specs.Append.{stamp_now};
+ghost use Rattle.group_commit.specs.Room.{log_before, pages_in_first, sectors_before};
+ghost use Rattle.group_commit.specs.Entering.{HasRoomNow, Shows, OwnsLog, IsHoming, IsEntered, MayHome, HomeCause, LosesLogged};
+
+use log_thirds::{Log, Place};
+use sector_disk::{LoadFault, Machine};
+use twin_home::write_home;
+
+// Writes a page home from its last image in the log.
+fn home_page<M: Machine>(m: &mut M, log: &Log, page: u32) -> Result<(), LoadFault>
+    requires page { page < log.now.layout.pages }
+    requires slot { slice_index_or log.now.slots page None ≢ None }
+    requires sectors { log.now.layout.sectors ≤ (M.report m.old).sectors }
+    ensures fault { IfErr result (HomeCause (M.report m.old) (M.report m.new)) }
+    ensures uses { UsesDisk (M.report m.old) (M.report m.new) }
+    ensures trust { Trusts (M.tells m.old) (M.tells m.new) (M.honest m.old) (M.honest m.new) }
+    ensures ledger { M.tells m.new → OnlyWrites (M.ledger m.old) (M.ledger m.new) }
+    ensures counted { OnOk result (M.tells m.new → M.ledger m.new ≡ wrote (M.ledger m.old) 2) }
+    ensures quiet { M.honest m.new → (M.now m.new).said ≡ (M.now m.old).said }
+    ensures windows { M.honest m.new → (M.now m.new).windows ≡ (M.now m.old).windows }
+    ensures any_moment { (records : List Placed) (disk : List (List ℕ)) (windows : List WeakRun) (old : Moment) (n : ℕ) → M.honest m.new → MayHome log.now windows old →
+        LastLiesIn log.now records log.now.anchor.third page → IsHoming log.now records disk windows old n (M.now m.old) →
+        LeavesOnly M.moment M.left_since m.old m.new (Shows log.now.layout windows disk old) }
+    ensures done { OnOk result ((records : List Placed) (disk : List (List ℕ)) (windows : List WeakRun) (old : Moment) (n : ℕ) → M.honest m.new → MayHome log.now windows old →
+        LastLiesIn log.now records log.now.anchor.third page → ((q : ℕ) → n ≤ q → q < page → LastLiesIn log.now records log.now.anchor.third q → ⊥) →
+        IsHoming log.now records disk windows old n (M.now m.old) → IsHoming log.now records disk windows old (page + 1) (M.now m.new)) }
+    ensures lost { IfErr result (λ fault. M.honest m.new → LosesLogged log.now (M.now m.new).image fault) }
+    ensures never_lost { IfErr result (λ fault. (records : List Placed) (disk : List (List ℕ)) (windows : List WeakRun) (old : Moment) (n : ℕ) → M.honest m.new → MayHome log.now windows old →
+        IsHoming log.now records disk windows old n (M.now m.old) → IsDevice fault) }
+{
+    let mut image = [0; 512];
+    match log.image_of(m, page, &mut image) {
+        Ok(true) => match write_home(m, log.layout(), page, &image) {
+            Ok(()) => Ok(()),
+            Err(failed) => Err(LoadFault::Device(failed.place)),
+        },
+        Ok(false) => Ok(()),
+        Err(fault) => Err(fault),
+    }
+}
+
+// Writes each page home whose last image lies in the log's first third, in ascending order.
+fn home_third<M: Machine>(m: &mut M, log: &Log, third: u32) -> Result<(), LoadFault>
+    requires first { third ≡ log.now.anchor.third }
+    requires low { third < 3 }
+    requires sectors { log.now.layout.sectors ≤ (M.report m.old).sectors }
+    ensures fault { IfErr result (HomeCause (M.report m.old) (M.report m.new)) }
+    ensures uses { UsesDisk (M.report m.old) (M.report m.new) }
+    ensures trust { Trusts (M.tells m.old) (M.tells m.new) (M.honest m.old) (M.honest m.new) }
+    ensures ledger { M.tells m.new → OnlyWrites (M.ledger m.old) (M.ledger m.new) }
+    ensures counted { OnOk result (M.tells m.new → M.ledger m.new ≡ wrote (M.ledger m.old) (2 * pages_in_first log.now)) }
+    ensures quiet { M.honest m.new → (M.now m.new).said ≡ (M.now m.old).said }
+    ensures windows { M.honest m.new → (M.now m.new).windows ≡ (M.now m.old).windows }
+    ensures any_moment { (records : List Placed) (disk : List (List ℕ)) (windows : List WeakRun) → M.honest m.new → MayHome log.now windows (M.now m.old) →
+        OwnsLog log.now records disk windows (M.now m.old).image → LeavesOnly M.moment M.left_since m.old m.new (Shows log.now.layout windows disk (M.now m.old)) }
+    ensures done { OnOk result ((records : List Placed) (disk : List (List ℕ)) (windows : List WeakRun) → M.honest m.new → MayHome log.now windows (M.now m.old) →
+        OwnsLog log.now records disk windows (M.now m.old).image → IsHoming log.now records disk windows (M.now m.old) log.now.layout.pages (M.now m.new)) }
+    ensures lost { IfErr result (λ fault. M.honest m.new → LosesLogged log.now (M.now m.new).image fault) }
+    ensures never_lost { IfErr result (λ fault. (records : List Placed) (disk : List (List ℕ)) (windows : List WeakRun) → M.honest m.new → MayHome log.now windows (M.now m.old) →
+        OwnsLog log.now records disk windows (M.now m.old).image → IsDevice fault) }
+{
+    let _layout = log.layout();
+    let mut from = 0;
+    loop {
+        match log.pages_of_third(third, from) {
+            Some(page) => {
+                home_page(m, log, page)?;
+                from = page + 1;
+            }
+            None => return Ok(()),
+        }
+    }
+}
+
+/// Writes each page home whose last image lies in the log's first third, and then moves the anchor on.
+pub(crate) fn enter_third<M: Machine>(
+    m: &mut M,
+    log: &mut Log,
+    third: u32,
+) -> Result<(), LoadFault>
+    requires first { third ≡ log.old.anchor.third }
+    requires ends { EndsInLastThird log.old }
+    requires sectors { log.old.layout.sectors ≤ (M.report m.old).sectors }
+    ensures fault { IfErr result (HomeCause (M.report m.old) (M.report m.new)) }
+    ensures uses { UsesDisk (M.report m.old) (M.report m.new) }
+    ensures trust { Trusts (M.tells m.old) (M.tells m.new) (M.honest m.old) (M.honest m.new) }
+    ensures ledger { M.tells m.new → OnlyWrites (M.ledger m.old) (M.ledger m.new) }
+    ensures counted { OnOk result (M.tells m.new → M.ledger m.new ≡ wrote (M.ledger m.old) (2 * pages_in_first log.old + 2)) }
+    ensures quiet { M.honest m.new → (M.now m.new).said ≡ (M.now m.old).said }
+    ensures windows { M.honest m.new → (M.now m.new).windows ≡ (M.now m.old).windows }
+    ensures any_moment { (records : List Placed) (disk : List (List ℕ)) (windows : List WeakRun) → M.honest m.new → MayHome log.old windows (M.now m.old) →
+        OwnsLog log.old records disk windows (M.now m.old).image → LeavesOnly M.moment M.left_since m.old m.new (Shows log.old.layout windows disk (M.now m.old)) }
+    ensures done { OnOk result ((records : List Placed) (disk : List (List ℕ)) (windows : List WeakRun) → M.honest m.new → MayHome log.old windows (M.now m.old) →
+        OwnsLog log.old records disk windows (M.now m.old).image → IsEntered log.old records disk windows (M.now m.old) (M.now m.new)) }
+    ensures lost { IfErr result (λ fault. M.honest m.new → LosesLogged log.old (M.now m.new).image fault) }
+    ensures never_lost { IfErr result (λ fault. (records : List Placed) (disk : List (List ℕ)) (windows : List WeakRun) → M.honest m.new → MayHome log.old windows (M.now m.old) →
+        OwnsLog log.old records disk windows (M.now m.old).image → IsDevice fault) }
+    ensures past { OnOk result (log.new ≡ moved log.old) }
+    ensures kept { OnErr result (log.new ≡ log.old) }
+{
+    let _layout = log.layout();
+    home_third(m, log, third)?;
+    match log.move_anchor(m) {
+        Ok(()) => Ok(()),
+        Err(failed) => Err(LoadFault::Device(failed.place)),
+    }
+}
+
+/// Makes room for a record of so many pages: where it would enter the log's first third, the pages of that third are written
+/// home, and the anchor moves on.
+pub fn make_room<M: Machine>(m: &mut M, log: &mut Log, count: u32) -> Result<(), LoadFault>
+    requires few { count ≤ 96 }
+    requires sectors { log.old.layout.sectors ≤ (M.report m.old).sectors }
+    ensures fault { IfErr result (HomeCause (M.report m.old) (M.report m.new)) }
+    ensures uses { UsesDisk (M.report m.old) (M.report m.new) }
+    ensures trust { Trusts (M.tells m.old) (M.tells m.new) (M.honest m.old) (M.honest m.new) }
+    ensures ledger { M.tells m.new → OnlyWrites (M.ledger m.old) (M.ledger m.new) }
+    ensures counted { OnOk result (M.tells m.new → (M.ledger m.new).written ≡ (M.ledger m.old).written + sectors_before log.old count) }
+    ensures quiet { M.honest m.new → (M.now m.new).said ≡ (M.now m.old).said }
+    ensures windows { M.honest m.new → (M.now m.new).windows ≡ (M.now m.old).windows }
+    ensures any_moment { (records : List Placed) (disk : List (List ℕ)) (windows : List WeakRun) → M.honest m.new → MayHome log.old windows (M.now m.old) →
+        OwnsLog log.old records disk windows (M.now m.old).image → LeavesOnly M.moment M.left_since m.old m.new (Shows log.old.layout windows disk (M.now m.old)) }
+    ensures done { OnOk result ((records : List Placed) (disk : List (List ℕ)) (windows : List WeakRun) → M.honest m.new → MayHome log.old windows (M.now m.old) →
+        OwnsLog log.old records disk windows (M.now m.old).image → HasRoomNow log.new disk windows (M.now m.old) (M.now m.new)) }
+    ensures lost { IfErr result (λ fault. M.honest m.new → LosesLogged log.old (M.now m.new).image fault) }
+    ensures never_lost { IfErr result (λ fault. (records : List Placed) (disk : List (List ℕ)) (windows : List WeakRun) → M.honest m.new → MayHome log.old windows (M.now m.old) →
+        OwnsLog log.old records disk windows (M.now m.old).image → IsDevice fault) }
+    ensures past { OnOk result (log.new ≡ log_before log.old count) }
+    ensures room { OnOk result (HasRoom log.new.layout count log.new.head) }
+    ensures layout { log.new.layout ≡ log.old.layout }
+    ensures stamp { stamp_now log.new ≡ stamp_now log.old }
+    ensures kept { OnErr result (log.new ≡ log.old) }
+{
+    let _layout = log.layout();
+    match log.room(count) {
+        Place::FirstThird(third) => enter_third(m, log, third),
+        Place::Here => Ok(()),
+        Place::NextThird => Ok(()),
+    }
+}
