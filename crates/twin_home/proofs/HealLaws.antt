@@ -1,5 +1,5 @@
 -- One of two copies is healed from the other.
-use Rattle.std.proofs.Common.{◌≡◌, inl, inr, ⊎_elim, ℕ, ◌+◌, ◌≤◌, List, length, Option, Some, None, Result, Ok, Err, refl, sym, ap, subst, ◌∙◌, arith}
+use Rattle.std.proofs.Common.{◌≡◌, inl, inr, ⊎_elim, ◌⊎◌, ℕ, ◌+◌, ◌≤◌, List, length, Option, Some, None, Result, Ok, Err, refl, sym, ap, subst, ◌∙◌, arith}
 use Rattle.std.specs.Prelude.{IsTrue, IfOk, OnOk}
 use Rattle.sector_disk.specs.declared.sector.Sector.TheVariants.{Whole}
 use Rattle.sector_disk.specs.Image.{sector_at, stand, Windows, open_damage}
@@ -7,7 +7,7 @@ use Rattle.sector_disk.specs.Machine.{Moment, Wears, Holds}
 use Rattle.sector_disk.proofs.Holding.{holds_now, holds_wears}
 use Rattle.sector_disk.proofs.Wear.{worn_whole}
 use Rattle.twin_home.specs.Home.{WritesPart}
-use Rattle.twin_home.specs.Heal.{MayReadDamaged, ReadsCopy, Mends, Heals, Mended, SetsRoot, RootsIn, NeedsRoot, RootsHealed}
+use Rattle.twin_home.specs.Heal.{MayReadDamaged, ReadsCopy, Mends, Heals, Mended, SetsRoot, RootsIn, NeedsRoot, RootsHealed, WasWhole}
 use Rattle.twin_home.proofs.WriteLaws.{holds_on}
 
 -- a moment that is only worn
@@ -80,9 +80,16 @@ pub reads_before : (old mid : Moment) (place : ℕ) (o : Option (List ℕ)) → 
 reads_before old mid place None wears read = hurt_before old mid place wears read
 reads_before old mid place (Some bytes) wears read = whole_before old mid place bytes wears read
 
-pub both_healed : (bytes : List ℕ) (one two : ℕ) (first second : Option (List ℕ)) (old mid third new : Moment) → Wears old mid → ReadsCopy old 0 first → ReadsCopy old 4 second
+-- one of two roots could be read
+pub was_whole : (old : Moment) (first second : Option (List ℕ)) → ReadsCopy old 0 first → ReadsCopy old 4 second → (first ≡ None → second ≡ None → ⊥) → WasWhole old 0 ⊎ WasWhole old 4
+was_whole old (Some bytes) second reads_0 reads_4 some = inl (bytes, reads_0)
+was_whole old None (Some bytes) reads_0 reads_4 some = inr (bytes, reads_4)
+was_whole old None None reads_0 reads_4 some = absurd (some refl refl)
+
+pub both_healed : (bytes : List ℕ) (one two : ℕ) (first second : Option (List ℕ)) (old mid third new : Moment) → Wears old mid → ReadsCopy old 0 first → ReadsCopy old 4 second → (first ≡ None → second ≡ None → ⊥)
     → SetsRoot 0 first bytes one mid third → SetsRoot 4 second bytes two third new → RootsHealed bytes (one + two) old new
-both_healed bytes one two first second old mid third new wears reads_0 reads_4 set_0 set_4 = record {
+both_healed bytes one two first second old mid third new wears reads_0 reads_4 some set_0 set_4 = record {
+  some = was_whole old first second reads_0 reads_4 some;
   first = one;
   second = two;
   sum = refl;

@@ -66,8 +66,9 @@ pub record RootsIn (bytes : List ℕ) (old left : Moment) : Type 0 where
 abbrev pub NeedsRoot : ℕ → ℕ → List ℕ → Moment → Type 0
 NeedsRoot count place bytes old = ((count ≡ 0) × (sector_at old.image place ≡ Whole bytes)) ⊎ ((count ≡ 1) × (MayReadDamaged old place ⊎ ((other : List ℕ) × (sector_at old.image place ≡ Whole other) × (other ≡ bytes → ⊥))))
 
--- Each root that reads damaged or differs is written, and no other sector.
+-- A root was whole; each that reads damaged or differs is written, and no other sector.
 pub record RootsHealed (bytes : List ℕ) (count : ℕ) (old new : Moment) : Type 0 where
+  pub some : WasWhole old 0 ⊎ WasWhole old 4
   pub first : ℕ
   pub second : ℕ
   pub sum : count ≡ first + second

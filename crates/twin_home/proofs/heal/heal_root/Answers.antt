@@ -1,4 +1,5 @@
-use Rattle.std.proofs.Common.{subst}
+use Rattle.std.proofs.Common.{◌≡◌, subst, ap, rules}
+use Rattle.std.specs.Prelude.{is_none}
 use Rattle.sector_disk.specs.Machine.{Wears, LeavesOnly}
 use Rattle.sector_disk.proofs.Holding.{wears_on}
 use Rattle.sector_disk.proofs.Moments.{then_on, leaves_more}
@@ -6,6 +7,7 @@ use Rattle.volume_layout.specs.Root.{root_bytes}
 use Rattle.twin_home.specs.Home.{WritesPart}
 use Rattle.twin_home.specs.Heal.{SetsRoot, RootsIn}
 use Rattle.twin_home.proofs.HealLaws.{roots_still, roots_first, roots_second, first_holds, reads_before, both_healed}
+use Rattle.twin_home.proofs.heal.heal_root.Goals.{else-is_none-via-then-is_none+else-is_none-2, else-is_none-via-else-is_none}
 use Rattle.twin_home.proofs.heal.heal_root.Goals as goal
 
 pub returns-in_err-second-clause-any_moment : goal.returns-in_err-second-clause-any_moment
@@ -111,4 +113,7 @@ returns-clause-done g c h =
     let set = subst (λ b. SetsRoot 0 c.in_ok-first.first b c.in_ok-one.one m2 m3) c.root_bytes-b.ensures (c.in_ok-one.ensures.done h3) in
     let set_two = subst (λ b. SetsRoot 4 c.in_ok-second.second b c.in_ok-two.two m3 (M.now c.set_root-2.new.m)) c.root_bytes-b.ensures (c.in_ok-two.ensures.done h) in
     both_healed bytes c.in_ok-one.one c.in_ok-two.two c.in_ok-first.first c.in_ok-second.second old m2 m3 (M.now c.set_root-2.new.m) wears (c.in_ok-first.ensures.read h1)
-    (reads_before old m1 4 c.in_ok-second.second first (c.in_ok-second.ensures.read h2)) set set_two
+    (reads_before old m1 4 c.in_ok-second.second first (c.in_ok-second.ensures.read h2)) (λ none_0 none_4. elim c.else-is_none.branch [
+      | else-is_none-via-then-is_none+else-is_none-2 w ↦ (let e : w.is_none-then-is_none.result ≡ is_none c.in_ok-second.second = search rules in cc (w.if-is_none-2.false, e, ap is_none none_4))
+      | else-is_none-via-else-is_none w ↦ (let e : c.is_none.result ≡ is_none c.in_ok-first.first = search rules in cc (w.if-is_none.false, e, ap is_none none_0))
+    ]) set set_two
