@@ -24,7 +24,7 @@ use Rattle.fsd_sound.specs.Anchors.{anchor_at, EachAnchor, fresh_anchor}
 use Rattle.fsd_sound.specs.Shown.{newest, records_by, all_pages, shown_by}
 use Rattle.fsd_sound.specs.Sound.{EachStamp, ShowsPages, weak_of}
 use Rattle.fsd_sound.proofs.WindowLaws.{open_is_weak}
-use Rattle.log_thirds.specs.Anchoring.{AnchorsIn}
+use Rattle.log_thirds.specs.Anchoring.{with_anchors, AnchorsIn}
 use Rattle.log_thirds.specs.LogValue.{LogValue}
 use Rattle.fsd_sound.specs.Begun.{IsHomed, IsBegun, IsMountedIn, AreOlder}
 use Rattle.fsd_sound.specs.Windows.{IsNarrow, IsApart}
@@ -116,13 +116,20 @@ module _ (l : Layout) (epoch : ℕ) (pages : List (List ℕ)) (i : Image) (s : �
           (λ other. subst (λ (x : Sector). IfSome (option_and_then read_anchor (bytes_of x)) (λ a. (a.epoch < epoch) ⊎ (a ≡ fresh_anchor epoch))) (sym (with_other i s p (anchor_bytes (fresh_anchor epoch)) other)) old)
           (Rattle.fsd_sound.proofs.CommuteLaws.same_or p s)
 
-pub data_renewed : (epoch : ℕ) (now mid new : Moment) → Holds now (stand (stand now.image 8 (anchor_bytes (fresh_anchor epoch)) 1) 12 (anchor_bytes (fresh_anchor epoch)) 1) mid → Settles mid new → KeepsFrom 16 now new
-data_renewed epoch now mid new holds done s from =
-    let bytes : List ℕ = anchor_bytes (fresh_anchor epoch) in
-    let last : IsWorn (open_damage now.windows) mid.image new.image = subst (λ (w : Windows). IsWorn (open_damage w) mid.image new.image) holds.windows done.image in
-    sector_on (open_damage now.windows s) (sector_at now.image s) (sector_at (stand (stand now.image 8 bytes 1) 12 bytes 1) s) (sector_at new.image s)
-    (inl (stand_other (stand now.image 8 bytes 1) 12 bytes 1 s (inr (omega (arith, from))) ∙ stand_other now.image 8 bytes 1 s (inr (omega (arith, from)))))
-    ((worn_trans (open_damage now.windows) _ mid.image new.image holds.worn last).each s)
+data_over : (bytes : List ℕ) (now left : Moment) (first copy : ℕ) → first ≤ 1 → copy ≤ 1 → IsWorn (open_damage now.windows) (stand (stand now.image 8 bytes first) 12 bytes copy) left.image → KeepsFrom 16 now left
+data_over bytes now left first copy once once_more worn s from =
+    sector_on (open_damage now.windows s) (sector_at now.image s) (sector_at (stand (stand now.image 8 bytes first) 12 bytes copy) s) (sector_at left.image s)
+    (inl (stand_other (stand now.image 8 bytes first) 12 bytes copy s (inr (omega (arith, from, once_more))) ∙ stand_other now.image 8 bytes first s (inr (omega (arith, from, once)))))
+    (worn.each s)
+
+-- the anchors' writes leave what lies behind them
+pub data_in_part : (anchor : Anchor) (now left : Moment) → AnchorsIn anchor now left → KeepsFrom 16 now left
+data_in_part anchor now left part = data_over (anchor_bytes anchor) now left part.first part.copy part.once (omega (arith, part.in_order, part.once)) part.holds.worn
+
+pub data_renewed : (anchor : Anchor) (now mid new : Moment) → Holds now (with_anchors anchor now.image 1 1) mid → IsWorn (open_damage mid.windows) mid.image new.image → KeepsFrom 16 now new
+data_renewed anchor now mid new holds done =
+    let last : IsWorn (open_damage now.windows) mid.image new.image = subst (λ (w : Windows). IsWorn (open_damage w) mid.image new.image) holds.windows done in
+    data_over (anchor_bytes anchor) now new 1 1 (omega arith) (omega arith) (worn_trans (open_damage now.windows) _ mid.image new.image holds.worn last)
 
 -- ---- the end
 

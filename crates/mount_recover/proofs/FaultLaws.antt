@@ -1,6 +1,6 @@
 -- What a mount tells as a fault.
 use Rattle.std.proofs.Common.{◌≡◌, ℕ, List, Result, Ok, Err, refl, sym, ap, subst, ◌∙◌, arith}
-use Rattle.std.specs.Prelude.{IfErr, IsErrAnd, OnOk}
+use Rattle.std.specs.Prelude.{IfErr, IsErrAnd, OnOk, OnErr}
 use Rattle.volume_layout.specs.declared.layout.Layout.{Layout}
 use Rattle.volume_layout.specs.Layout.{home_a, home_b}
 use Rattle.sector_disk.specs.declared.machine.LoadFault.{LoadFault}
@@ -32,6 +32,11 @@ if_err_both (Err e) P Q R more p q = more e p q
 pub ok_as : {T E : Type 0} (P : Type 0) (r : Result T E) → P → OnOk r P
 ok_as P (Ok x) p = p
 ok_as P (Err e) p = tt
+
+-- and at Err
+pub err_as : {T E : Type 0} (P : Type 0) (r : Result T E) → P → OnErr r P
+err_as P (Ok x) p = tt
+err_as P (Err e) p = p
 
 pub load_excused : (fault : LoadFault) → IsDevice fault → IsExcuse (load_fault_of fault)
 load_excused (load.Device s) device = tt

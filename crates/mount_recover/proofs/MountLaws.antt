@@ -279,19 +279,31 @@ open_settled present None some s hurt = absurd (cc some)
 open_settled None (Some run) some s hurt = hurt
 open_settled (Some w) (Some run) some s hurt = (and_parts (in_run w s) (in_run run s) hurt).1
 
-pub map_kept : (l : Layout) (old one two three new : Moment) → Wears old one → KeepsData l one two → Keeps l two three → KeepsData l three new → IsSome two.windows.next → new.windows ≡ settled three.windows.present three.windows.next → KeepsMap l old new
-map_kept l old one two three new wears first second third some is s from =
+map_through : (l : Layout) (old one two three new : Moment) → Wears old one → KeepsData l one two → Keeps l two three → KeepsData l three new → ((s : ℕ) → IsTrue (open_damage three.windows s) → IsTrue (open_damage new.windows s)) → KeepsMap l old new
+map_through l old one two three new wears first second third in_new s from =
     let both : Bool = open_damage old.windows s || open_damage new.windows s in
-    let in_new : IsTrue (open_damage three.windows s) → IsTrue (open_damage new.windows s) =
-    λ hurt. subst (λ (w : Windows). IsTrue (open_damage w s)) (sym is) (open_settled three.windows.present three.windows.next (subst (λ (w : Windows). IsSome w.next) (sym second.windows) some) s hurt) in
     let to_one : SectorWorn (open_damage old.windows s || open_damage new.windows s) (sector_at old.image s) (sector_at one.image s) =
     worn_more_at (open_damage old.windows s) both (sector_at old.image s) (sector_at one.image s) (or_first (open_damage old.windows s) (open_damage new.windows s)) (wears.image.each s) in
     let to_two : SectorWorn (open_damage old.windows s || open_damage new.windows s) (sector_at one.image s) (sector_at two.image s) =
     worn_more_at (open_damage one.windows s) both (sector_at one.image s) (sector_at two.image s) (λ hurt. or_first (open_damage old.windows s) (open_damage new.windows s) (subst (λ (w : Windows). IsTrue (open_damage w s)) wears.windows hurt)) (first s from) in
     let to_three : SectorWorn (open_damage old.windows s || open_damage new.windows s) (sector_at two.image s) (sector_at three.image s) =
     worn_more_at (open_damage two.windows s) both (sector_at two.image s) (sector_at three.image s)
-    (λ hurt. or_second (open_damage old.windows s) (open_damage new.windows s) (in_new (subst (λ (w : Windows). IsTrue (open_damage w s)) (sym second.windows) hurt))) (second.map s from) in
+    (λ hurt. or_second (open_damage old.windows s) (open_damage new.windows s) (in_new s (subst (λ (w : Windows). IsTrue (open_damage w s)) (sym second.windows) hurt))) (second.map s from) in
     let to_new : SectorWorn (open_damage old.windows s || open_damage new.windows s) (sector_at three.image s) (sector_at new.image s) =
-    worn_more_at (open_damage three.windows s) both (sector_at three.image s) (sector_at new.image s) (λ hurt. or_second (open_damage old.windows s) (open_damage new.windows s) (in_new hurt)) (third s from) in
+    worn_more_at (open_damage three.windows s) both (sector_at three.image s) (sector_at new.image s) (λ hurt. or_second (open_damage old.windows s) (open_damage new.windows s) (in_new s hurt)) (third s from) in
     sector_on both (sector_at old.image s) (sector_at three.image s) (sector_at new.image s)
     (sector_on both (sector_at old.image s) (sector_at two.image s) (sector_at three.image s) (sector_on both (sector_at old.image s) (sector_at one.image s) (sector_at two.image s) to_one to_two) to_three) to_new
+
+pub map_kept : (l : Layout) (old one two three new : Moment) → Wears old one → KeepsData l one two → Keeps l two three → KeepsData l three new → IsSome two.windows.next → new.windows ≡ settled three.windows.present three.windows.next → KeepsMap l old new
+map_kept l old one two three new wears first second third some is =
+    map_through l old one two three new wears first second third
+    (λ s hurt. subst (λ (w : Windows). IsTrue (open_damage w s)) (sym is) (open_settled three.windows.present three.windows.next (subst (λ (w : Windows). IsSome w.next) (sym second.windows) some) s hurt))
+
+-- nothing is written yet
+pub keeps_all : (l : Layout) (now : Moment) → Keeps l now now
+keeps_all l now = record { windows = refl; said = refl; map = λ s from. inl refl }
+
+-- so it is where the windows stayed, too
+pub map_left : (l : Layout) (old one two three new : Moment) → Wears old one → KeepsData l one two → Keeps l two three → KeepsData l three new → new.windows ≡ three.windows → KeepsMap l old new
+map_left l old one two three new wears first second third is =
+    map_through l old one two three new wears first second third (λ s hurt. subst (λ (w : Windows). IsTrue (open_damage w s)) (sym is) hurt)

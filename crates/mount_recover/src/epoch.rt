@@ -27,7 +27,7 @@ pub(crate) fn begin_epoch<M: Machine>(m: &mut M, log: &mut Log) -> Result<(), Fa
     ensures windows_err { OnErr result (M.honest m.new → (M.now m.new).windows ≡ (M.now m.old).windows) }
     ensures past { OnOk result (log.new ≡ in_next_epoch log.old) }
 
-    ensures body { OnOk result (M.honest m.new → KeepsFrom 16 (M.now m.old) (M.now m.new)) }
+    ensures body { M.honest m.new → KeepsFrom 16 (M.now m.old) (M.now m.new) }
 
     // The image shows the same pages at each moment.
     ensures any_moment { (l : Plan) (windows : List Run) (choices : List (List (List ℕ))) (first : At) (c : IsCompleted l windows choices log.old first) → M.honest m.new →

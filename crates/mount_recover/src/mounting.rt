@@ -1,5 +1,5 @@
 // The mount of a volume, up to its name table.
-ghost use Rattle.std.specs.Prelude.{◌≡◌, ◌<◌, ◌≤◌, ◌^◌, ℕ, List, Some, Ok, IfOk, IfErr};
+ghost use Rattle.std.specs.Prelude.{◌≡◌, ◌<◌, ◌≤◌, ◌^◌, ℕ, List, Some, Ok, IfOk, IfErr, OnErr};
 ghost use Rattle.volume_layout.specs.declared.layout.Layout.{Layout as Plan};
 ghost use Rattle.volume_layout.specs.Layout.{plan};
 ghost use Rattle.sector_disk.specs.declared.sector.WeakRun.{WeakRun as Run};
@@ -7,7 +7,7 @@ ghost use Rattle.sector_disk.specs.Image.{IsCalm};
 ghost use Rattle.sector_disk.specs.Machine.{UsesDisk, Trusts, OnlyWrites, LeavesOnly};
 ghost use Rattle.fsd_formats.specs.declared.anchor.Anchor.{Anchor as Named};
 ghost use Rattle.fsd_sound.specs.Anchors.{anchor_of};
-ghost use Rattle.mount_recover.specs.Lost.{AreCopiesOn, HasRoot, LostIn, LosesShown, StandAsShown};
+ghost use Rattle.mount_recover.specs.Lost.{AreCopiesOn, HasRoot, LeavesMap, LostIn, LosesShown, StandAsShown};
 ghost use Rattle.mount_recover.specs.Recover.{IsSettledIn, IsFreshLog, IsRefusedFor, LeavesAll, HasFault, ShowsVolume};
 ghost use Rattle.mount_recover.specs.Finding.{IsExcuse};
 ghost use Rattle.mount_recover.specs.Replay.{KeepsMap, Replays, IsReplayed};
@@ -50,6 +50,7 @@ pub fn recover<M: Machine>(alloc: Global, m: &mut M, sectors: u32) -> Result<Set
     ensures refused { IfErr result (λ fault. M.honest m.new → IsRefusedFor sectors fault (M.now m.old)) }
     ensures unchanged { IfErr result (λ fault. M.honest m.new → LeavesAll fault (M.now m.old) (M.now m.new)) }
     ensures behind { IfOk result (λ settled. M.honest m.new → KeepsMap settled.layout (M.now m.old) (M.now m.new)) }
+    ensures behind_err { OnErr result (M.honest m.new → LeavesMap sectors (M.now m.old) (M.now m.new)) }
 
     // What is lost stood twice, and both read damaged: a page in the log or at home, or the root.
     ensures lost { IfErr result (λ fault. M.honest m.new → LostIn (AreCopiesOn sectors (M.now m.old)) (M.now m.new).image fault) }

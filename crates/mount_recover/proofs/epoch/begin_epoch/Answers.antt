@@ -3,7 +3,7 @@ use Rattle.sector_disk.proofs.Moments.{goes_on, leaves_more}
 use Rattle.fsd_sound.specs.Anchors.{fresh_anchor}
 use Rattle.log_thirds.specs.Anchoring.{AnchorsIn}
 use Rattle.mount_recover.specs.Mending.{Begins}
-use Rattle.mount_recover.proofs.BeginningLaws.{data_renewed, anchors_stay, begins_before, begins_failed, replayed}
+use Rattle.mount_recover.proofs.BeginningLaws.{data_in_part, data_renewed, anchors_stay, begins_before, begins_failed, replayed}
 use Rattle.mount_recover.proofs.epoch.begin_epoch.Goals as goal
 
 pub returns-in_err-new_epoch-clause-any_moment : goal.returns-in_err-new_epoch-clause-any_moment
@@ -43,7 +43,19 @@ returns-clause-done g c l windows choices first is h planned some at =
     let short = g.met.M.Machine.short c.args.m.now (c.new_epoch.ensures.trust.honest h1) in
     replayed l windows choices log first is now at fits mid (c.in_ok-new_epoch.ensures.done h1) short some new (c.in_ok-settle.ensures.settled h)
 
+pub returns-in_err-new_epoch-clause-body : goal.returns-in_err-new_epoch-clause-body
+returns-in_err-new_epoch-clause-body g c h =
+    let M = g.M.Machine in
+    let new = M.now c.new_epoch.new.m in
+    let run = c.new_epoch.ensures.any_moment h in
+    data_in_part (fresh_anchor (c.args.log.now.anchor.epoch + 1)) (M.now c.args.m.now) new (run.each new (g.met.M.Machine.counts_now c.new_epoch.new.m (M.moment c.args.m.now) h run.later))
+
+pub returns-in_err-settle-clause-body : goal.returns-in_err-settle-clause-body
+returns-in_err-settle-clause-body g c h =
+    let M = g.M.Machine in
+    data_renewed (fresh_anchor (c.args.log.now.anchor.epoch + 1)) (M.now c.args.m.now) (M.now c.new_epoch.new.m) (M.now c.settle.new.self) (c.in_ok-new_epoch.ensures.done (c.settle.ensures.trust.honest h)) (c.in_err-settle.ensures.failed h).image
+
 pub returns-clause-body : goal.returns-clause-body
 returns-clause-body g c h =
     let M = g.M.Machine in
-    data_renewed (c.args.log.now.anchor.epoch + 1) (M.now c.args.m.now) (M.now c.new_epoch.new.m) (M.now c.settle.new.self) (c.in_ok-new_epoch.ensures.done (c.settle.ensures.trust.honest h)) (c.in_ok-settle.ensures.settled h)
+    data_renewed (fresh_anchor (c.args.log.now.anchor.epoch + 1)) (M.now c.args.m.now) (M.now c.new_epoch.new.m) (M.now c.settle.new.self) (c.in_ok-new_epoch.ensures.done (c.settle.ensures.trust.honest h)) (c.in_ok-settle.ensures.settled h).image

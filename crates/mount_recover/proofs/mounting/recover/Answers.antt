@@ -1,11 +1,11 @@
-use Rattle.std.proofs.Common.{ℕ, List, arith, sym, ap, subst}
+use Rattle.std.proofs.Common.{inl, inr, ℕ, List, arith, refl, sym, ap, subst}
 use Rattle.volume_layout.specs.declared.layout.Layout.{Layout}
 use Rattle.sector_disk.specs.declared.sector.WeakRun.{WeakRun}
 use Rattle.sector_disk.specs.Machine.{LeavesOnly, Wears}
 use Rattle.sector_disk.proofs.Moments.{leaves_more, then_on}
 use Rattle.log_thirds.specs.LogValue.{LogValue}
 use Rattle.mount_recover.specs.Finding.{IsExcuse}
-use Rattle.mount_recover.specs.Lost.{AreCopiesOn, LostIn, LosesShown}
+use Rattle.mount_recover.specs.Lost.{AreCopiesOn, LeavesMap, LostIn, LosesShown}
 use Rattle.mount_recover.specs.Mending.{Stays, Begins}
 use Rattle.mount_recover.specs.Recover.{IsRefusedFor, ShowsVolume}
 use Rattle.mount_recover.specs.Replay.{Replays, IsReplayed}
@@ -13,8 +13,8 @@ use Rattle.std.specs.Prelude.{IfSome}
 use Rattle.sector_disk.specs.Image.{Windows, IsCalm, IsEmpty}
 use Rattle.fsd_sound.specs.Shown.{records_by}
 use Rattle.mount_recover.proofs.CalmLaws.{calm_now, calm_two, knows_one, loses_shown, next_kept, next_settled, some_root, stand_shown, still_next, still_one}
-use Rattle.mount_recover.proofs.FaultLaws.{handed_up}
-use Rattle.mount_recover.proofs.MountLaws.{wears_replays, not_found_excused, found_same, is_seen, replays_from, stays_replays, begins_replays, lost_on, map_kept, mend_refused}
+use Rattle.mount_recover.proofs.FaultLaws.{err_as, handed_up}
+use Rattle.mount_recover.proofs.MountLaws.{wears_replays, not_found_excused, found_same, is_seen, replays_from, stays_replays, begins_replays, lost_on, keeps_all, map_kept, map_left, mend_refused}
 use Rattle.mount_recover.proofs.mounting.recover.Goals as goal
 
 pub returns-in_err-layout-clause-any_moment : goal.returns-in_err-layout-clause-any_moment
@@ -208,7 +208,7 @@ returns-clause-behind g c h =
     let found = c.in_ok-layout.field-0 in
     let is = c.in_ok-layout.ensures.seen h1 in
     map_kept found.layout (M.now c.args.m.now) (M.now c.find_volume.new.m) (M.now c.complete.new.m) (M.now c.mend.new.m) (M.now c.begin_epoch.new.m) (c.find_volume.ensures.worn h1)
-    (c.complete.ensures.map found.layout is.seen h2 c.in_ok-layout.ensures.planned c.in_ok-layout.ensures.layout is.knows) (c.mend.ensures.keeps h3) (λ s from. c.in_ok-begin_epoch.ensures.body h s (omega (arith, from))) (c.in_ok-complete.ensures.named h2) (c.in_ok-begin_epoch.ensures.windows h)
+    (c.complete.ensures.map found.layout is.seen h2 c.in_ok-layout.ensures.planned c.in_ok-layout.ensures.layout is.knows) (c.mend.ensures.keeps h3) (λ s from. c.begin_epoch.ensures.body h s (omega (arith, from))) (c.in_ok-complete.ensures.named h2) (c.in_ok-begin_epoch.ensures.windows h)
 
 pub returns-in_err-mend-clause-refused : goal.returns-in_err-mend-clause-refused
 returns-in_err-mend-clause-refused g c =
@@ -232,7 +232,7 @@ returns-clause-shown g c a h calm calm_new taken =
     let next = subst (λ (w : Windows). IfSome w.next IsEmpty) keeps.windows (next_settled three.windows (M.now c.begin_epoch.new.m).windows (c.in_ok-begin_epoch.ensures.windows h) calm_new) in
     let still = calm_now two.windows (calm_two c.args.sectors found.layout found.log old one two calm wears is (c.complete.ensures.present h2) next) in
     stand_shown c.args.sectors found.layout found.log old one two calm wears is laid three (M.now c.begin_epoch.new.m) a taken (c.in_ok-mend.ensures.shown (records_by found.layout one.image found.log.anchor) h3 still laid.gives)
-    (still_next two three keeps.windows still) (c.in_ok-begin_epoch.ensures.body h)
+    (still_next two three keeps.windows still) (c.begin_epoch.ensures.body h)
 
 pub returns-in_err-mend-clause-all_shown : goal.returns-in_err-mend-clause-all_shown
 returns-in_err-mend-clause-all_shown g c =
@@ -251,3 +251,47 @@ returns-in_err-mend-clause-all_shown g c =
     let still = calm_now two.windows (calm_two c.args.sectors found.layout found.log old one two calm wears is (c.complete.ensures.present h2) next) in
     loses_shown c.args.sectors found.layout found.log old one two calm wears is laid c.in_err-mend.field-0.0
     (c.in_err-mend.ensures.not_shown (records_by found.layout one.image found.log.anchor) h still laid.gives (some_root c.args.sectors found.layout found.log old one two calm wears is laid)))
+
+pub returns-in_err-layout-clause-behind_err : goal.returns-in_err-layout-clause-behind_err
+returns-in_err-layout-clause-behind_err g c =
+    let M = g.M.Machine in
+    let old = M.now c.args.m.now in
+    err_as (M.honest c.find_volume.new.m → LeavesMap c.args.sectors old (M.now c.find_volume.new.m)) c.from_residual.result
+    (λ h. inl (c.find_volume.ensures.worn h))
+
+pub returns-in_err-complete-clause-behind_err : goal.returns-in_err-complete-clause-behind_err
+returns-in_err-complete-clause-behind_err g c =
+    let M = g.M.Machine in
+    let old = M.now c.args.m.now in
+    err_as (M.honest c.complete.new.m → LeavesMap c.args.sectors old (M.now c.complete.new.m)) c.from_residual-in_err-complete.result
+    (λ h2.
+    let h1 = c.complete.ensures.trust.honest h2 in
+    let found = c.in_ok-layout.field-0 in let one = M.now c.find_volume.new.m in let two = M.now c.complete.new.m in
+    let is = c.in_ok-layout.ensures.seen h1 in
+    let map = c.complete.ensures.map found.layout is.seen h2 c.in_ok-layout.ensures.planned c.in_ok-layout.ensures.layout is.knows in
+    inr (found.layout, c.in_ok-layout.ensures.root h1, map_left found.layout old one two two two (c.find_volume.ensures.worn h1) map (keeps_all found.layout two) (keeps_all found.layout two).map refl))
+
+pub returns-in_err-mend-clause-behind_err : goal.returns-in_err-mend-clause-behind_err
+returns-in_err-mend-clause-behind_err g c =
+    let M = g.M.Machine in
+    let old = M.now c.args.m.now in
+    err_as (M.honest c.mend.new.m → LeavesMap c.args.sectors old (M.now c.mend.new.m)) c.from_residual-in_err-mend.result
+    (λ h3.
+    let h2 = c.mend.ensures.trust.honest h3 in let h1 = c.complete.ensures.trust.honest h2 in
+    let found = c.in_ok-layout.field-0 in let one = M.now c.find_volume.new.m in let two = M.now c.complete.new.m in
+    let is = c.in_ok-layout.ensures.seen h1 in
+    let map = c.complete.ensures.map found.layout is.seen h2 c.in_ok-layout.ensures.planned c.in_ok-layout.ensures.layout is.knows in
+    let three = M.now c.mend.new.m in
+    inr (found.layout, c.in_ok-layout.ensures.root h1, map_left found.layout old one two three three (c.find_volume.ensures.worn h1) map (c.mend.ensures.keeps h3) (keeps_all found.layout three).map refl))
+
+pub returns-in_err-begin_epoch-clause-behind_err : goal.returns-in_err-begin_epoch-clause-behind_err
+returns-in_err-begin_epoch-clause-behind_err g c =
+    let M = g.M.Machine in
+    let old = M.now c.args.m.now in
+    err_as (M.honest c.begin_epoch.new.m → LeavesMap c.args.sectors old (M.now c.begin_epoch.new.m)) c.from_residual-in_err-begin_epoch.result
+    (λ h.
+    let h3 = c.begin_epoch.ensures.trust.honest h in let h2 = c.mend.ensures.trust.honest h3 in let h1 = c.complete.ensures.trust.honest h2 in
+    let found = c.in_ok-layout.field-0 in let one = M.now c.find_volume.new.m in let two = M.now c.complete.new.m in
+    let is = c.in_ok-layout.ensures.seen h1 in
+    let map = c.complete.ensures.map found.layout is.seen h2 c.in_ok-layout.ensures.planned c.in_ok-layout.ensures.layout is.knows in
+    inr (found.layout, c.in_ok-layout.ensures.root h1, map_left found.layout old one two (M.now c.mend.new.m) (M.now c.begin_epoch.new.m) (c.find_volume.ensures.worn h1) map (c.mend.ensures.keeps h3) (λ s from. c.begin_epoch.ensures.body h s (omega (arith, from))) (c.in_err-begin_epoch.ensures.windows_err h)))
