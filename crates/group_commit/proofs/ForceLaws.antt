@@ -7,7 +7,7 @@ use Rattle.std.proofs.lemmas.Bool.{and_parts, leb-true, cases_lt}
 use Rattle.std.proofs.lemmas.Bool.Decides.{nat_tests}
 use Rattle.std.proofs.lemmas.List.{get_or_append_left, get_or_push, length_push}
 use Rattle.volume_layout.specs.declared.layout.Layout.{Layout}
-use Rattle.volume_layout.specs.Layout.{home_a, home_b}
+use Rattle.volume_layout.specs.Layout.{home_a, home_b, InLog}
 use Rattle.volume_layout.specs.Root.{root_bytes}
 use Rattle.run_table.specs.Space.{contains}
 use Rattle.fsd_formats.specs.declared.anchor.Anchor.{Anchor}
@@ -517,12 +517,25 @@ module _ (log : LogValue) (s : ResidentValue) (images : List ℕ) (records : Lis
   in_window : (stood : ℕ) (left : Moment) → Holds old (stand old.image place bytes stood) left → IsWorn hurt (stand old.image place bytes stood) left.image
   in_window stood left holds = open_is_weak old.windows windows (stand old.image place bytes stood) left.image m.ends holds.worn
 
+  -- what lies outside the log is not written
+  apart_from : (t stood : ℕ) → (InLog l t → ⊥) → stood ≤ record_len n → (t < place) ⊎ (place + stood ≤ t)
+  apart_from t stood out within = elim (cases_lt t place) [
+    | inl before ↦ inl before
+    | inr from ↦ inr (elim (cases_lt t (place + stood)) [
+      | inl there ↦ absurd (out (omega (arith, from, place_from l a.third spot.at), omega (arith, there, within, inside)))
+      | inr past ↦ past
+    ])
+  ]
+
   pub commits : (left : Moment) → StandsInPart place bytes (record_len n) old left → Commits l windows disk now old left
   commits left part = record {
     shows = all_shows l windows (disk ∷ now ∷ []) left.image
         (λ j w. stands_either j part.stood part.within (worn_trans hurt (stand old.image place bytes part.stood) left.image j (in_window part.stood left part.holds) w));
     kept = λ t ge. ⊎_elim
         (λ same. inl (same ∙ stand_other old.image place bytes part.stood t (inr (omega (arith, inside, part.within)))))
+        (λ hurt. inr hurt) (part.holds.worn.each t);
+    outside = λ t out. ⊎_elim
+        (λ same. inl (same ∙ stand_other old.image place bytes part.stood t (apart_from t part.stood out part.within)))
         (λ hurt. inr hurt) (part.holds.worn.each t);
     windows = part.holds.windows;
     said = part.holds.said;

@@ -1,7 +1,7 @@
 -- What a force makes of the pages, the log and the disk.
 use Rattle.std.specs.Prelude.{◌≡◌, ℕ, ◌≤◌, ◌<◌, List, [], ◌∷◌, length}
 use Rattle.volume_layout.specs.declared.layout.Layout.{Layout}
-use Rattle.volume_layout.specs.Layout.{map_start}
+use Rattle.volume_layout.specs.Layout.{map_start, InLog}
 use Rattle.sector_disk.specs.declared.sector.WeakRun.{WeakRun}
 use Rattle.sector_disk.specs.Image.{open_damage, sector_at}
 use Rattle.sector_disk.specs.Machine.{Moment, Report, DeviceFault}
@@ -42,10 +42,15 @@ StandsOver log records disk s windows i = Over log.layout log.anchor log.head re
 abbrev pub KeepsData : Layout → Moment → Moment → Type 0
 KeepsData l old left = (s : ℕ) → map_start l ≤ s → SectorWorn (open_damage old.windows s) (sector_at old.image s) (sector_at left.image s)
 
--- At each moment the disk shows the pages as they were or as they are now, and no data changes.
+-- Outside the log all sectors stay but for wear: roots, anchors, homes, map and data.
+abbrev pub KeepsOutsideLog : Layout → Moment → Moment → Type 0
+KeepsOutsideLog l old left = (s : ℕ) → (InLog l s → ⊥) → SectorWorn (open_damage old.windows s) (sector_at old.image s) (sector_at left.image s)
+
+-- At each moment the disk shows the pages as they were or as they are now, and nothing outside the log changes.
 pub record Commits (l : Layout) (runs : List WeakRun) (disk now : List (List ℕ)) (old left : Moment) : Type 0 where
   pub shows : ShowsPages l runs (disk ∷ now ∷ []) left.image
   pub kept : KeepsData l old left
+  pub outside : KeepsOutsideLog l old left
   pub windows : left.windows ≡ old.windows
   pub said : left.said ≡ old.said
 
