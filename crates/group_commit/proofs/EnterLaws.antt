@@ -156,10 +156,11 @@ module _ (log : LogValue) (records : List Placed) (disk : List (List ℕ)) (wind
   suffix : IsSuffix (map (on_disk log.layout (moved_anchor log)) (records_moved log.layout records)) (map (on_disk log.layout log.anchor) records)
   suffix =
       let same : map (on_disk log.layout (moved_anchor log)) (records_moved log.layout records) ≡ map (on_disk log.layout log.anchor) parts.rest =
-      ap (map (on_disk log.layout (moved_anchor log))) behind_is ∙ disk_back parts.rest parts.lie_rest parts.behind in
-      (map (on_disk log.layout log.anchor) parts.front,
-          ap (map (on_disk log.layout log.anchor)) parts.joined ∙ map-append (on_disk log.layout log.anchor) parts.front parts.rest
-          ∙ ap (λ (x : List Placed). map (on_disk log.layout log.anchor) parts.front ++ x) (sym same))
+      ap (map (on_disk log.layout (moved_anchor log))) behind_is ∙ disk_back parts.rest parts.lie_rest parts.behind in (
+        map (on_disk log.layout log.anchor) parts.front,
+        ap (map (on_disk log.layout log.anchor)) parts.joined ∙ map-append (on_disk log.layout log.anchor) parts.front parts.rest
+            ∙ ap (λ (x : List Placed). map (on_disk log.layout log.anchor) parts.front ++ x) (sym same),
+      )
 
   laid_back : (i : Image) (rs : List Placed) → AllByRecursion (LiesOn log.layout log.anchor.third) rs → AllByRecursion (λ r. log.layout.third ≤ r.at) rs → AllLaid log.layout log.anchor (weak_of windows) i rs
       → AllLaid log.layout (moved_anchor log) (weak_of windows) i (map (back log.layout.third) rs)
@@ -167,8 +168,8 @@ module _ (log : LogValue) (records : List Placed) (disk : List (List ℕ)) (wind
   laid_back i (r ∷ rs) lie behind laid =
       let same = on_disk_back r lie.0 behind.0 in (
         (
-            front_alike log.layout log.anchor (moved_anchor log) (weak_of windows) i r (back log.layout.third r) refl same laid.0.0,
-            copies_alike log.layout log.anchor (moved_anchor log) (weak_of windows) i r (back log.layout.third r) refl same laid.0.1
+          front_alike log.layout log.anchor (moved_anchor log) (weak_of windows) i r (back log.layout.third r) refl same laid.0.0,
+          copies_alike log.layout log.anchor (moved_anchor log) (weak_of windows) i r (back log.layout.third r) refl same laid.0.1,
         ),
         laid_back i rs lie.1 behind.1 laid.1,
       )

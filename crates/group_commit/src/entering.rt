@@ -82,11 +82,7 @@ fn home_third<M: Machine>(m: &mut M, log: &Log, third: u32) -> Result<(), LoadFa
 }
 
 /// Writes each page home whose last image lies in the log's first third, and then moves the anchor on.
-pub(crate) fn enter_third<M: Machine>(
-    m: &mut M,
-    log: &mut Log,
-    third: u32,
-) -> Result<(), LoadFault>
+pub(crate) fn enter_third<M: Machine>(m: &mut M, log: &mut Log, third: u32) -> Result<(), LoadFault>
     requires first { third ≡ log.old.anchor.third }
     requires ends { EndsInLastThird log.old }
     requires sectors { log.old.layout.sectors ≤ (M.report m.old).sectors }
