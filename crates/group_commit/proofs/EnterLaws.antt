@@ -1,11 +1,11 @@
 -- Once the pages of the first third stand at home the anchor moves on, and the same pages are shown.
-use Rattle.std.proofs.Common.{◌≡◌, ◌⊎◌, inl, inr, ⊎_elim, ℕ, zero, suc, ◌+◌, ◌-◌, ◌*◌, ◌^◌, ◌<◌, ◌≤◌, Bool, true, false, cond, List, [], ◌∷◌, ◌++◌, length, map, get_or, Option, Some, None, refl, sym, ap, subst, ◌∙◌, arith}
-use Rattle.std.specs.Prelude.{IfSome, IsTrue}
+use Rattle.std.proofs.Common.{◌≡◌, inl, inr, ⊎_elim, ℕ, zero, suc, ◌+◌, ◌<◌, ◌≤◌, Bool, true, false, cond, List, [], ◌∷◌, ◌++◌, length, map, Option, Some, None, refl, sym, ap, subst, ◌∙◌, arith}
+use Rattle.std.specs.Prelude.{IfSome}
 use Rattle.std.specs.List.{AllByRecursion}
 use Rattle.std.specs.Option.{option_or}
 use Rattle.std.proofs.lemmas.List.{length-set, map-append}
 use Rattle.volume_layout.specs.declared.layout.Layout.{Layout}
-use Rattle.volume_layout.specs.Layout.{home_a, home_b, third_start, map_start}
+use Rattle.volume_layout.specs.Layout.{home_a, home_b, third_start}
 use Rattle.volume_layout.proofs.RootLaws.{planned_bounds}
 use Rattle.fsd_formats.specs.declared.anchor.Anchor.{Anchor}
 use Rattle.fsd_formats.specs.Anchors.{anchor_bytes}
@@ -17,8 +17,8 @@ use Rattle.sector_disk.specs.Machine.{Moment, Holds}
 use Rattle.sector_disk.proofs.Calm.{stand_one}
 use Rattle.sector_disk.proofs.Wear.{worn_refl, worn_whole}
 use Rattle.fsd_log.specs.Images.{image_in, last_image}
-use Rattle.fsd_log.specs.Scan.{Head, Placed, Walked, IsLog, newer_of, is_newer, place_of, tape}
-use Rattle.fsd_files.specs.Disk.{Image, Sectors, Has, bytes_at}
+use Rattle.fsd_log.specs.Scan.{Placed, Walked, newer_of, is_newer, place_of}
+use Rattle.fsd_files.specs.Disk.{Image, Sectors, Has}
 use Rattle.fsd_sound.specs.Anchors.{anchor_at, anchor_of, EachAnchor}
 use Rattle.fsd_sound.specs.Homes.{home_of}
 use Rattle.fsd_sound.specs.Laid.{HasOwnLog, AllStand, HasFront, HasCopies, AllLaid}
@@ -31,11 +31,11 @@ use Rattle.log_thirds.specs.declared.slots.Slot.{Slot}
 use Rattle.log_thirds.specs.Anchoring.{AnchorsIn, with_anchors}
 use Rattle.log_thirds.specs.Append.{IsIndexed, IsLogWorn, LastLiesIn}
 use Rattle.log_thirds.specs.LogValue.{LogValue}
-use Rattle.log_thirds.specs.Moves.{back, head_back}
-use Rattle.log_thirds.specs.Moving.{next_third, moved_anchor, moved, later, records_moved, EndsInLastThird}
+use Rattle.log_thirds.specs.Moves.{back}
+use Rattle.log_thirds.specs.Moving.{next_third, moved_anchor, moved, records_moved, EndsInLastThird}
 use Rattle.log_thirds.specs.Slots.{lies_in, slot_of}
 use Rattle.log_thirds.proofs.ImageLaws.{no_last_image}
-use Rattle.log_thirds.proofs.MovingLaws.{MayMove, LiesOn, IsParted, parted, place_back, next_is, next_low, later_first, log_moved, front_slots, slot_of-joined, all_left, all_right}
+use Rattle.log_thirds.proofs.MovingLaws.{MayMove, LiesOn, IsParted, parted, place_back, next_is, next_low, later_first, log_moved, front_slots, slot_of-joined, all_right}
 use Rattle.fsd_sound.specs.Stands.{Stands}
 use Rattle.fsd_sound.proofs.CommuteLaws.{with_same, with_other, worn_or_over, shows_all, all_shows}
 use Rattle.fsd_sound.proofs.CoverLaws.{copies_alike}
@@ -44,7 +44,7 @@ use Rattle.fsd_sound.proofs.HomedLaws.{either_reads}
 use Rattle.fsd_sound.proofs.SectorFacts.{same_bytes}
 use Rattle.fsd_sound.proofs.LaidLaws.{all_laid_worn}
 use Rattle.fsd_sound.proofs.MoveLaws.{IsLater, IsHomedIn, MayMoveOn, anchor_found, moved_stands}
-use Rattle.group_commit.specs.Entering.{Shows, IsAtHome, OwnsLog, IsHoming, IsEntered, MayHome}
+use Rattle.group_commit.specs.Entering.{Shows, IsHoming, IsEntered, MayHome}
 use Rattle.group_commit.proofs.ForceLaws.{is_laid}
 use Rattle.group_commit.proofs.HomingLaws.{over_two, all_laid_same, narrow, weaker, own_later, shows_now}
 use Rattle.group_commit.proofs.StandsLaws.{is_shown, page_shown}

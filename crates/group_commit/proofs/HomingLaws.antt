@@ -21,7 +21,6 @@ use Rattle.sector_disk.proofs.Wear.{worn_trans, stand_worn}
 use Rattle.fsd_log.specs.Images.{last_image}
 use Rattle.fsd_log.specs.Scan.{Head, Placed, Walked, IsLog, start, tape}
 use Rattle.fsd_files.specs.Disk.{Image, Sectors, bytes_at}
-use Rattle.fsd_sound.specs.Anchors.{EachAnchor}
 use Rattle.fsd_sound.specs.Laid.{HasOwnLog, AllLaid}
 use Rattle.fsd_sound.specs.Mounted.{image_at}
 use Rattle.fsd_sound.specs.Shown.{records_by, newest}
@@ -29,7 +28,7 @@ use Rattle.fsd_sound.specs.Sound.{ShowsPages, weak_of}
 use Rattle.fsd_sound.proofs.LogPlaces.{SameLog, IsRecord, same_tape, front_same, copies_same, in_record, goes_records, scan_goes, start_in}
 use Rattle.fsd_sound.proofs.SoundLaws.{shows_still}
 use Rattle.fsd_sound.proofs.WindowLaws.{open_is_weak}
-use Rattle.log_thirds.specs.Append.{IsIndexed, IsLogWorn, LastLiesIn}
+use Rattle.log_thirds.specs.Append.{IsLogWorn, LastLiesIn}
 use Rattle.log_thirds.specs.Images.{AreLogged, LiesAt, StandsAt}
 use Rattle.log_thirds.specs.LogValue.{LogValue}
 use Rattle.log_thirds.specs.Slots.{slot_of}

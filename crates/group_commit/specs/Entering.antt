@@ -1,5 +1,5 @@
 -- A force that comes round to the log's first third.
-use Rattle.std.specs.Prelude.{◌≡◌, ⊤, ℕ, ◌+◌, ◌<◌, ◌≤◌, List, [], ◌∷◌, Ok}
+use Rattle.std.specs.Prelude.{◌≡◌, ⊤, ℕ, ◌<◌, ◌≤◌, List, [], ◌∷◌, Ok}
 use Rattle.volume_layout.specs.declared.layout.Layout.{Layout}
 use Rattle.volume_layout.specs.Layout.{plan, home_a, home_b, map_start}
 use Rattle.sector_disk.specs.declared.sector.Sector.TheVariants.{Whole}

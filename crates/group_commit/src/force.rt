@@ -60,6 +60,7 @@ fn write_pages<M: Machine>(
     ensures quiet { M.honest m.new → (M.now m.new).said ≡ (M.now m.old).said }
     ensures windows { M.honest m.new → (M.now m.new).windows ≡ (M.now m.old).windows }
     ensures counted { OnOk result (M.tells m.new → M.ledger m.new ≡ wrote (M.ledger m.old) (2 * length dirty.now + 5)) }
+    ensures counted_err { OnErr result (M.tells m.new → M.ledger m.new ≡ M.ledger m.old) }
     ensures stamps { pages.new ≡ stamped (stamp_now log.old) dirty.now pages.old }
     ensures past { OnOk result (log.new ≡ log_with log.old dirty.now) }
     ensures kept { OnErr result (log.new ≡ log.old) }
@@ -105,6 +106,7 @@ impl Group {
 
         ensures pages { IfOk result (λ forced. forced.pages ≡ length pages.old.dirty) }
         ensures counted { OnOk result (M.tells m.new → (M.ledger m.new).written ≡ (M.ledger m.old).written + sectors_written pages.old.dirty) }
+        ensures counted_err { OnErr result (M.tells m.new → M.ledger m.new ≡ M.ledger m.old) }
         ensures idle { pages.old.dirty ≡ [] → m.new ≡ m.old }
         ensures state { OnOk result (pages.new ≡ record { pages = stamped_by log.old pages.old; dirty = [] }) }
         ensures state_err { OnErr result (pages.new ≡ record { pages = stamped_by log.old pages.old; dirty = pages.old.dirty }) }

@@ -300,6 +300,7 @@ impl Log {
         ensures nowhere { result ≡ Ok false → (records : List Placed) → IsIndexed self.now records → last_image page records ≡ None }
         ensures no_slot { result ≡ Ok false → slice_index_or self.now.slots page None ≡ None }
         ensures kept { result ≡ Ok false → buf.new ≡ buf.old }
+        ensures kept_err { OnErr result (buf.new ≡ buf.old) }
     {
         match self.slots[page as usize] {
             Some(slot) => match read_slot(m, slot, page, self.anchor.epoch) {

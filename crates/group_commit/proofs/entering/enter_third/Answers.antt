@@ -1,4 +1,4 @@
-use Rattle.std.proofs.Common.{◌≡◌, ◌<◌, List, subst, arith}
+use Rattle.std.proofs.Common.{subst, arith}
 use Rattle.sector_disk.proofs.Moments.{leaves_more, then_on}
 use Rattle.log_thirds.specs.Anchoring.{AnchorsIn}
 use Rattle.log_thirds.specs.Append.{IsIndexed, IsLogWorn}

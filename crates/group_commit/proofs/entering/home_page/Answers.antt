@@ -1,11 +1,11 @@
-use Rattle.std.proofs.Common.{rules, ◌≡◌, ◌+◌, ℕ, List, length, Some, None, Ok, subst}
+use Rattle.std.proofs.Common.{rules, ◌≡◌, length, None, Ok, subst}
 use Rattle.volume_layout.specs.declared.layout.Layout.{Layout}
 use Rattle.sector_disk.specs.Machine.{Wears, Holds}
 use Rattle.sector_disk.proofs.Moments.{leaves_more, then_on}
 use Rattle.fsd_log.specs.Images.{last_image}
 use Rattle.log_thirds.proofs.ReadingLaws.{wears_here}
 use Rattle.twin_home.specs.Home.{HomesIn, with_homes}
-use Rattle.group_commit.specs.Entering.{Shows, IsHoming}
+use Rattle.group_commit.specs.Entering.{Shows}
 use Rattle.group_commit.proofs.HomingLaws.{slot_gives, slot_not_lost, image_is, still, stays, homes_stay, homes_next}
 use Rattle.group_commit.proofs.entering.home_page.Goals as goal
 

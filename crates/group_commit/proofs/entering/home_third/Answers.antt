@@ -1,5 +1,4 @@
-use Rattle.std.proofs.Common.{◌≡◌, ◌+◌, ◌*◌, ◌<◌, ◌≤◌, ℕ, List, length, take, Some, None, refl, sym, ap, subst, ◌∙◌, arith}
-use Rattle.std.specs.Prelude.{count_by, IfSome, IfNone}
+use Rattle.std.proofs.Common.{◌*◌, ℕ, List, refl, ap, subst, ◌∙◌, arith}
 use Rattle.volume_layout.specs.Layout.{third_start}
 use Rattle.sector_disk.specs.Damage.{IsDevice}
 use Rattle.sector_disk.specs.declared.sector.WeakRun.{WeakRun}
@@ -8,9 +7,9 @@ use Rattle.sector_disk.proofs.Moments.{started, then_on}
 use Rattle.sector_disk.proofs.Holding.{trusts_on}
 use Rattle.fsd_log.specs.Scan.{Placed}
 use Rattle.log_thirds.specs.Append.{IsLeastOfThird, NoneOfThird}
-use Rattle.log_thirds.specs.Slots.{lies_in, IsLeastIn, NoneLiesIn}
+use Rattle.log_thirds.specs.Slots.{IsLeastIn, NoneLiesIn}
 use Rattle.log_thirds.proofs.ReadingLaws.{uses_on, wears_here}
-use Rattle.group_commit.specs.Entering.{Shows, OwnsLog, IsHoming, MayHome}
+use Rattle.group_commit.specs.Entering.{Shows, OwnsLog, MayHome}
 use Rattle.group_commit.proofs.CountLaws.{count_next, count_done, wrote_twice, wrote_none, handed_up}
 use Rattle.group_commit.proofs.HomingLaws.{begin, stays, all_homed}
 use Rattle.group_commit.proofs.entering.home_third.Goals as goal

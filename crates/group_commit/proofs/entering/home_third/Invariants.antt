@@ -1,4 +1,4 @@
-use Rattle.std.proofs.Common.{◌≡◌, ◌*◌, ◌-◌, ◌≤◌, ℕ, List, length, take}
+use Rattle.std.proofs.Common.{◌≡◌, ◌*◌, ◌-◌, ◌≤◌, ℕ, List, take}
 use Rattle.std.specs.Prelude.{count_by}
 use Rattle.volume_layout.specs.Layout.{third_start}
 use Rattle.sector_disk.specs.declared.sector.WeakRun.{WeakRun}
