@@ -1,21 +1,22 @@
 -- What reading a script takes of the input, and what it leaves alone.
-use Rattle.std.specs.Prelude.{◌≡◌, ℕ, ◌+◌, ◌<◌, ◌≤◌, List, [], ◌++◌, length, take, drop, Option, None, Result}
+use Rattle.std.specs.Prelude.{◌≡◌, ℕ, ◌+◌, ◌<◌, ◌≤◌, Bool, true, false, List, [], ◌++◌, length, take, drop, Option, None, Result, Ok, Err}
 use Rattle.fsd_texts.specs.declared.command.Command.{Command}
-use Rattle.sector_disk.specs.Machine.{Ledger, Report, Rose, took}
+use Rattle.sector_disk.specs.Machine.{Ledger, took}
 use Rattle.script_text.specs.declared.fault.ScriptFault.{ScriptFault}
 use Rattle.script_text.specs.declared.fault.ScriptFault.TheVariants.{Input, Memory}
 use Rattle.script_text.specs.Reading.{Ahead, IsShort, Reading, count_with, script_left}
 
--- a failed input is counted
-abbrev pub CausesScript : ScriptFault → Report → Report → Type 0
-CausesScript Input old new = Rose old.input_faults new.input_faults
-CausesScript other old new = Unit {0}
+-- whether the input failed
+abbrev pub input_in : {T : Type 0} → Result T ScriptFault → Bool
+input_in (Ok x) = false
+input_in (Err Input) = true
+input_in (Err other) = false
 
--- Bytes are not taken only where the input failed, which is counted, or memory was refused.
-abbrev pub CausesTaking : ScriptFault → Report → Report → Type 0
-CausesTaking Input old new = Rose old.input_faults new.input_faults
-CausesTaking Memory old new = Unit {0}
-CausesTaking other old new = ⊥
+-- Bytes are not taken only where the input failed or memory was refused.
+abbrev pub IsUntaken : ScriptFault → Type 0
+IsUntaken Input = Unit {0}
+IsUntaken Memory = Unit {0}
+IsUntaken other = ⊥
 
 -- some bytes of the input, none only at its end, stand behind the others
 pub record Comes (old new : List ℕ) (count : ℕ) (before now : Ledger) : Type 0 where

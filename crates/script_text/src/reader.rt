@@ -1,9 +1,10 @@
 //! Reads the commands of a script from the input.
-ghost use Rattle.std.specs.Prelude.{◌≡◌, ◌<◌, ◌≤◌, ◌+◌, ◌^◌, IfOk, IfErr, IfSome, OnOk, OnErr, Err, None, drop, true, vec_len};
-ghost use Rattle.sector_disk.specs.Takes.{OnlyTakes};
+ghost use Rattle.std.specs.Prelude.{◌≡◌, ◌<◌, ◌≤◌, ◌+◌, ◌^◌, IfOk, IfErr, IfSome, OnOk, OnErr, Err, None, drop, true, false, vec_len};
+ghost use Rattle.sector_disk.specs.Calls.{LeavesDisk};
+ghost use Rattle.sector_disk.specs.Machine.{Wears};
 ghost use Rattle.fsd_texts.specs.Script.{command_at, ends_early, max_input};
 ghost use Rattle.script_text.specs.Reading.{Answers, IsShort, NoneWaits, GivesFirst, GoesOn, answer_of, count_with, end_after, end_by, end_with, fresh, script_left};
-ghost use Rattle.script_text.specs.Taking.{CausesScript, CausesTaking, Comes, Grows, Moves};
+ghost use Rattle.script_text.specs.Taking.{Comes, Grows, IsUntaken, Moves, input_in};
 
 use crate::command::command_of;
 use crate::fault::{BodyFault, ScriptFault};
@@ -70,8 +71,7 @@ impl Reader {
         ensures most { self.new.taken ≤ max_input + 1 }
         ensures moves { M.tells m.new → Moves result self.old self.new (M.ledger m.old) (M.ledger m.new) }
         ensures waits { NoneWaits result self.new.waiting }
-        ensures cause { IfErr result (λ fault. CausesScript fault (M.report m.old) (M.report m.new)) }
-        ensures calls { OnlyTakes M.Machine m.old m.new }
+        ensures calls { LeavesDisk M.Machine (input_in result) false Wears m.old m.new }
     {
         while self.end.is_none() {
             match self.front(alloc) {
@@ -102,9 +102,9 @@ impl Reader {
         ensures on { OnOk result (GoesOn self.old self.new) }
         ensures kept { OnErr result (self.new ≡ self.old) }
         ensures grows { M.tells m.new → Grows self.old self.new (M.ledger m.old) (M.ledger m.new) }
-        ensures cause { IfErr result (λ fault. CausesTaking fault (M.report m.old) (M.report m.new)) }
+        ensures cause { IfErr result IsUntaken }
         ensures short { OnErr result (IsShort self.old.waiting) }
-        ensures calls { OnlyTakes M.Machine m.old m.new }
+        ensures calls { LeavesDisk M.Machine (input_in result) false Wears m.old m.new }
     {
         if needs_more(cause) {
             self.take_more(m, cause)
@@ -124,8 +124,8 @@ impl Reader {
         ensures on { OnOk result (GoesOn self.old self.new) }
         ensures kept { OnErr result (self.new ≡ self.old) }
         ensures grows { M.tells m.new → Grows self.old self.new (M.ledger m.old) (M.ledger m.new) }
-        ensures cause { IfErr result (λ fault. CausesTaking fault (M.report m.old) (M.report m.new)) }
-        ensures calls { OnlyTakes M.Machine m.old m.new }
+        ensures cause { IfErr result IsUntaken }
+        ensures calls { LeavesDisk M.Machine (input_in result) false Wears m.old m.new }
     {
         let end = self.end_by(cause);
         close_up(&mut self.bytes, self.start);
@@ -189,8 +189,8 @@ fn take_behind<M: Machine>(
     ensures len { IfOk result (λ count. (count ≤ room) × (vec_len bytes.new ≡ vec_len bytes.old + count)) }
     ensures kept { OnErr result (bytes.new.items ≡ bytes.old.items) }
     ensures ledger { OnErr result (M.tells m.new → M.ledger m.new ≡ M.ledger m.old) }
-    ensures cause { IfErr result (λ fault. CausesTaking fault (M.report m.old) (M.report m.new)) }
-    ensures calls { OnlyTakes M.Machine m.old m.new }
+    ensures cause { IfErr result IsUntaken }
+    ensures calls { LeavesDisk M.Machine (input_in result) false Wears m.old m.new }
 {
     let held = bytes.len();
     if bytes.resize(held + room, 0).is_err() {

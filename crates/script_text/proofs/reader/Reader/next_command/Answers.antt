@@ -4,7 +4,7 @@ use Rattle.script_text.specs.Reading.{Ahead, GoesOn, IsShort, NoneWaits, Reading
 use Rattle.script_text.specs.Taking.{Grows}
 use Rattle.script_text.proofs.ReaderLaws.{open_of}
 use Rattle.script_text.proofs.StepLaws.{Answer, answer_ahead, answer_waits, fault_ahead, fault_is, fault_waits, falls, gives_next, grows_then, moves_from, moves_still, as_it_was, never_ended, none_of}
-use Rattle.sector_disk.proofs.TakeLaws.{takes_then}
+use Rattle.sector_disk.proofs.CallLaws.{takes_then}
 use Rattle.script_text.proofs.reader.Reader.next_command.Goals as goal
 
 pub returns-in-Ok-clause-script : goal.returns-in-Ok-clause-script
@@ -72,5 +72,5 @@ loop-alloc-preserved g c =
       again = never_ended c.args.self.now.end c.args.self.now c.loop-alloc.self (new ≡ c.args.self.now) refl so_far.again still;
       unasked = never_ended c.args.self.now.end c.args.self.now c.loop-alloc.self (c.go_on.new.m ≡ c.args.m.now) refl so_far.again still;
       grows = λ h. grows_then c.args.self.now c.loop-alloc.self new _ _ _ still (so_far.grows (step.calls.trust.tells h)) (subst (λ (r : Reading). Grows r new (M.ledger c.loop-alloc.m) (M.ledger c.go_on.new.m)) same (step.grows h));
-      calls = takes_then M c.args.m.now c.loop-alloc.m c.go_on.new.m so_far.calls step.calls;
+      calls = takes_then so_far.calls step.calls;
     }

@@ -1,8 +1,9 @@
-use Rattle.std.proofs.Common.{◌≡◌, ◌-◌, ◌+◌, cond}
+use Rattle.std.proofs.Common.{◌≡◌, ◌-◌, ◌+◌, cond, false}
 use Rattle.std.specs.Prelude.{IfSome, is_none}
 use Rattle.fsd_texts.specs.Script.{max_input}
 use Rattle.script_text.specs.Reading.{script_left}
-use Rattle.sector_disk.specs.Takes.{OnlyTakes}
+use Rattle.sector_disk.specs.Calls.{LeavesDisk}
+use Rattle.sector_disk.specs.Machine.{Wears}
 use Rattle.script_text.specs.Taking.{Grows}
 use Rattle.script_text.proofs.reader.Reader.next_command.Given as goal
 
@@ -15,7 +16,7 @@ invariant-loop-alloc g l =
       again : IfSome l.fn.self.end (λ end. l.self ≡ l.fn.self);
       unasked : IfSome l.fn.self.end (λ end. l.m ≡ l.fn.m);
       grows : M.tells l.m → Grows l.fn.self l.self (M.ledger l.fn.m) (M.ledger l.m);
-      calls : OnlyTakes M l.fn.m l.m;
+      calls : LeavesDisk M false false Wears l.fn.m l.m;
     }
 
 abbrev pub decreases-loop-alloc : goal.decreases-loop-alloc
