@@ -14,8 +14,8 @@ use Rattle.fsd_table.proofs.VisitLaws.{tree_told}
 use Rattle.fsd_forest.proofs.LowLaws.{all_within}
 use Rattle.name_page.specs.declared.pages.Pages.{Ghosts}
 use Rattle.name_page.specs.Looks.{OnlyReaches, OnlyWalks, OnlyEdits}
-use Rattle.name_page.specs.Pages.{Step, free_count, is_spare, rested}
-use Rattle.name_page.proofs.LookLaws.{reaches_still, reaches_walks, rest_walks, walks_edits, edits_then}
+use Rattle.name_page.specs.Pages.{Step, free_count, is_spare, renewed, with_images, with_refusal}
+use Rattle.name_page.proofs.LookLaws.{reaches_still, reaches_walks, walks_edits, edits_then}
 use Rattle.name_btree.specs.declared.calls.Call.{Call}
 use Rattle.name_btree.specs.declared.fault.TreeFault.{TreeFault}
 use Rattle.name_btree.specs.declared.fault.TreeFault.TheVariants.{Pages, Broken}
@@ -101,9 +101,30 @@ table_excused P call a b (Err fault) h t height is = excused P call a b height t
 
 -- ---- one call, in a step of its own
 
-module _ {D : Type 0} (P : Ghosts D) (trust : (x y : D) → P.outside x y → P.trusted y → P.trusted x) (later : (x y z : D) (refusal : Refusal) → P.outside x y → P.causes y z refusal → P.causes x z refusal) (a mid new : D) (outside : P.outside a mid) (rests : P.step mid ≡ rested (P.step a)) where
-  begun : OnlyWalks P a mid
-  begun = rest_walks P a mid outside (trust a mid outside) rests
+-- a step begins, and the pages stay
+pub record Begins {D : Type 0} (P : Ghosts D) (a mid : D) : Type 0 where
+  pub outside : P.outside a mid
+  pub spares : (P.step mid).spares ≡ (P.step a).spares
+  pub stays : P.trusted mid → (P.step mid).images ≡ (P.step a).images
+
+pub begins_renewed : {D : Type 0} (P : Ghosts D) (a mid : D) → P.outside a mid → (P.trusted mid → (P.step mid).images ≡ (P.step a).images) → P.step mid ≡ renewed (with_images (P.step mid).images (P.step a)) → Begins P a mid
+begins_renewed P a mid outside stays is = record { outside = outside; spares = ap (λ (s : Step). s.spares) is; stays = stays }
+
+-- a step that is refused
+pub begins_refused : {D : Type 0} (P : Ghosts D) (a new : D) (call : Call) (refusal : Refusal) → (P.trusted new → (P.step new).images ≡ (P.step a).images) → P.step new ≡ with_refusal refusal (with_images (P.step new).images (P.step a)) → P.causes a new refusal
+    → P.trusted new → (height : ℕ) → IsTable (P.step a) height → Carries (P.causes a new) (table_of (P.step a).images height) call (Err (Pages refusal)) (P.step new)
+begins_refused P a new call refusal stays is cause t height table = (
+  inl cause,
+  record {
+    height = height;
+    is = same_table (P.step a) (P.step new) height (stays t) (ap (λ (s : Step). s.spares) is) table;
+    table_is = same_entries (P.step a) (P.step new) height (stays t);
+  },
+)
+
+module _ {D : Type 0} (P : Ghosts D) (trust : (x y : D) → P.outside x y → P.trusted y → P.trusted x) (later : (x y z : D) (refusal : Refusal) → P.outside x y → P.causes y z refusal → P.causes x z refusal) (a mid new : D) (begun : Begins P a mid) where
+  outside : P.outside a mid
+  outside = begun.outside
 
   same : P.trusted mid → (height : ℕ) → table_of (P.step mid).images height ≡ table_of (P.step a).images height
   same t height = same_entries (P.step a) (P.step mid) height (begun.stays t)

@@ -18,14 +18,13 @@ use Rattle.fsd_table.proofs.BreakLaws.{tree_unbroken}
 use Rattle.fsd_forest.specs.Forest.{Keep}
 use Rattle.fsd_forest.proofs.KeepLaws.{kept_below}
 use Rattle.name_page.specs.declared.pages.Pages.{Ghosts}
-use Rattle.name_page.specs.Looks.{OnlyReaches, OnlyWalks, Agrees}
+use Rattle.name_page.specs.Looks.{Agrees}
 use Rattle.name_page.specs.Pages.{Step, home_of, is_spare, IsOuter, IsBarred}
 use Rattle.name_page.proofs.LookLaws.{agrees_now}
 use Rattle.name_page.proofs.NodeLaws.{past_end}
 use Rattle.name_btree.specs.declared.fault.TreeFault.{TreeFault}
 use Rattle.name_btree.specs.declared.fault.TreeFault.TheVariants.{Pages, Broken}
 use Rattle.name_btree.specs.Fault.{IsCaused, HasCause, FailsBy, BarsTable, FailsTable, FailsTree, IsNoTree, IsNoUsedTree, is_inner}
-use Rattle.name_btree.specs.Still.{LeavesStep}
 use Rattle.name_btree.specs.Walk.{AreMarksOf}
 use Rattle.name_btree.proofs.CauseLaws.{cause_map}
 use Rattle.name_btree.proofs.SetLaws.{set_at, set_other, at_other}
@@ -118,17 +117,6 @@ fails_since P later first old new fault before h =
     cause_map (P.causes old new) (P.causes first new) s (λ page. P.trusted new → BreaksTable s.images page) (λ page. P.trusted new → BreaksTable s.images page) (λ page. P.trusted new → BarsTable s page) (λ page. P.trusted new → BarsTable s page)
     (λ r x. later first old new r before x) (λ page x. x) (λ page x. x) fault h
 
--- what is no tree now was none before
-pub unused_before : (a b : Step) → b.images ≡ a.images → b.spares ≡ a.spares → IsNoUsedTree b → IsNoUsedTree a
-unused_before a b images spares h = λ height t used.
-    let P : List (List ℕ) → Type 0 = λ (p : List (List ℕ)). AllByRecursion (λ page. is_spare a.spares page ≡ false) (pages_of p height) in
-    let Q : List Bool → Type 0 = λ (x : List Bool). AllByRecursion (λ page. is_spare x page ≡ false) (pages_of b.images height) in
-    h height (subst (λ (p : List (List ℕ)). IsTree p height) (sym images) t) (subst Q (sym spares) (subst P (sym images) used))
-
-pub leaves_since : {D : Type 0} (P : Ghosts D) (a b c : D) (trust : P.trusted c → P.trusted b) (fault : TreeFault) → OnlyReaches P a b → LeavesStep P b c fault → LeavesStep P a c fault
-leaves_since P a b c trust fault x (inl h) = inl (h ∙ x.looks.changed)
-leaves_since P a b c trust fault x (inr h) = inr ((λ t. unused_before (P.step a) (P.step b) (x.stays (trust t)) x.looks.spares (h.0 t)), h.1)
-
 -- ---- a page that is refused, as if the grammar refused it
 
 blank : (page p : ℕ) → read_page page p [] ≡ None
@@ -186,10 +174,6 @@ shown_with P Outer new Q (Pages refusal) h is = (h.0, by h.1)
         → IsCaused Outer s (λ page. P.trusted new → IsNoUsedTree s) refusal
     by (inl x) = inl x
     by (inr x) = inr (x.0, x.1, λ t. bars t x.0 x.2 x.3)
-
-pub leaves_walks : {D : Type 0} (P : Ghosts D) (a b c : D) (trust : P.trusted c → P.trusted b) (fault : TreeFault) → OnlyWalks P a b → (P.step b).changed ≡ (P.step a).changed → LeavesStep P b c fault → LeavesStep P a c fault
-leaves_walks P a b c trust fault x changed (inl h) = inl (h ∙ changed)
-leaves_walks P a b c trust fault x changed (inr h) = inr ((λ t. unused_before (P.step a) (P.step b) (x.stays (trust t)) x.spares (h.0 t)), h.1)
 
 -- such a fault is no want of spare pages
 pub not_full : {D : Type 0} (P : Ghosts D) (outer : (a b : D) (refusal : Refusal) → P.causes a b refusal → IsOuter refusal) (a b : D) (n : ℕ) → FailsTable P a b (Pages (NameTableFull n)) → ⊥

@@ -63,7 +63,7 @@ fn put(t: &mut VecPages, entry: &Entry, gone: &ArrayVec<Key, 2>) -> Result<(), T
     if !may_put(t, &entry.key)? {
         return Ok(());
     }
-    t.rest();
+    t.renew();
     insert(t, entry, gone)
 }
 
@@ -76,7 +76,7 @@ fn replace(t: &mut VecPages, entry: &Entry) -> Result<(), TreeFault>
     match find(t, &entry.key) {
         Ok(_) => Ok(()),
         Err(TreeFault::Broken(_)) => {
-            t.rest();
+            t.renew();
             replace_same_size(t, entry)
         }
         Err(fault) => Err(fault),
@@ -95,7 +95,7 @@ fn broken_tables_are_not_changed(rt: HostRuntime) -> Result<(), Fail> {
         (1, 3, b'a', 1, TreeFault::Broken(3)),
     ] {
         let mut t = table(rt.alloc(), left, right)?;
-        t.rest();
+        t.renew();
         let before = format!(in rt.alloc(); "{t:?}")?;
         assert_eq!(rt; remove(&mut t, &key(last, version)), Err(fault));
         t.rest();

@@ -11,11 +11,11 @@ use crate::fault::TreeFault;
 use crate::inserting::insert;
 use crate::lookup::{find, highest, next_after};
 use crate::removing::remove;
+use crate::renewing::RenewedPages;
 use crate::replacing::replace_same_size;
 use arrayvec::ArrayVec;
 use fsd_bytes::{FileName, Key};
 use fsd_formats::Entry;
-use name_page::Pages;
 
 /// A call of the table.
 #[derive(Drop)]
@@ -44,8 +44,8 @@ fn without_answer(done: Result<(), TreeFault>) -> Result<Option<Entry>, TreeFaul
     }
 }
 
-// Makes one call, in a step of its own.
-fn carry_out<T: Pages>(t: &mut T, call: &Call) -> Result<Option<Entry>, TreeFault>
+// Makes one call, in a step of its own, with the whole leave to change.
+fn carry_out<T: RenewedPages>(t: &mut T, call: &Call) -> Result<Option<Entry>, TreeFault>
     requires reached { MOST_REACHED ≤ (T.step t.old).most_reached }
     requires changed { MOST_CHANGED ≤ (T.step t.old).most_changed }
     requires formed { IsFormed call.now }
@@ -53,7 +53,9 @@ fn carry_out<T: Pages>(t: &mut T, call: &Call) -> Result<Option<Entry>, TreeFaul
     ensures calls { OnlyEdits T.Pages t.old t.new }
     ensures carried { T.trusted t.new → (height : ℕ) → IsTable (T.step t.old) height → Carries (T.causes t.old t.new) (table_of (T.step t.old).images height) call.now result (T.step t.new) }
 {
-    t.rest();
+    if let Err(refusal) = t.begin() {
+        return Err(TreeFault::Pages(refusal));
+    }
     match call {
         Call::Find(key) => find(t, key),
         Call::Highest(name) => highest(t, name),
@@ -64,9 +66,10 @@ fn carry_out<T: Pages>(t: &mut T, call: &Call) -> Result<Option<Entry>, TreeFaul
     }
 }
 
-/// Makes calls one after another, up to the first that fails, each in a step of its own. Of a table the answers are the map's,
-/// and only the disk, want of memory and too few spare pages fail. A call that fails leaves the table.
-pub fn run<T: Pages>(
+/// Makes calls one after another, up to the first that fails, each in a step of its own that begins with the whole leave to
+/// change. Of a table the answers are the map's, and only the disk, want of memory and too few spare pages fail. A call that
+/// fails leaves the table.
+pub fn run<T: RenewedPages>(
     t: &mut T,
     calls: &[Call],
     answers: &mut [Option<Entry>],

@@ -10,7 +10,6 @@ ghost use Rattle.name_btree.specs.Draft.{drafted, AreSheets, IsDraft};
 ghost use Rattle.name_btree.specs.Fault.{FailsBy, FailsSpare, IsNoTree};
 ghost use Rattle.name_btree.specs.Grown.{Over, most_parted, most_taken, IsGrown, IsAboveGrown, IsSound, IsDivided, Grows, Inserts, BreaksGrowth, BreaksNew};
 ghost use Rattle.name_btree.specs.Map.{IsTable, HasTable, LeavesTree, without_all};
-ghost use Rattle.name_btree.specs.Still.{LeavesStep};
 ghost use Rattle.name_page.specs.Edits.{with_entry};
 ghost use Rattle.name_page.specs.Lookups.{entry_with};
 ghost use Rattle.name_page.specs.declared.pages.TheConstants.{MOST_CHANGED, MOST_REACHED};
@@ -41,7 +40,6 @@ pub fn insert<T: Pages>(t: &mut T, entry: &Entry, gone: &ArrayVec<Key, 2>) -> Re
     ensures calls { OnlyEdits T.Pages t.old t.new }
     ensures kept { OnErr result (OnlyWalks T.Pages t.old t.new) }
     ensures reaches { reaches (T.step t.old) ≤ reaches (T.step t.new) + 30 }
-    ensures left { IfErr result (LeavesStep T.Pages t.old t.new) }
     ensures changes { changes (T.step t.old) ≤ changes (T.step t.new) + 36 }
     ensures taken { free_count (T.step t.old) ≤ free_count (T.step t.new) + 7 }
     ensures inserted { OnOk result (T.trusted t.new → (height : ℕ) → IsTable (T.step t.old) height → HasTable (T.step t.new) (with_entry entry.now (without_all gone.now.items (table_of (T.step t.old).images height)))) }

@@ -16,6 +16,7 @@ mod growing;
 mod inserting;
 mod lookup;
 mod removing;
+mod renewing;
 mod replacing;
 mod searching;
 mod trimming;
@@ -27,6 +28,7 @@ pub use fault::TreeFault;
 pub use inserting::insert;
 pub use lookup::{find, highest, next_after};
 pub use removing::remove;
+pub use renewing::RenewedPages;
 pub use replacing::replace_same_size;
 pub use walking::walk;
 
@@ -170,9 +172,7 @@ mod tests {
     }
 
     // Puts an entry in place of the one with its key, if there is one as long.
-    fn replace<T: Pages>(t: &mut T, entry: &Entry) -> Result<bool, TreeFault>
-        requires reached { MOST_REACHED ≤ (T.step t.old).most_reached }
-        requires changed { MOST_CHANGED ≤ (T.step t.old).most_changed }
+    fn replace(t: &mut VecPages, entry: &Entry) -> Result<bool, TreeFault>
         requires entry { is_entry entry.now ≡ true }
         requires fits { FitsEntry entry.now }
     {
@@ -180,7 +180,7 @@ mod tests {
         let Some(old) = find(t, &entry.key)? else {
             return Ok(false);
         };
-        t.rest();
+        t.renew();
         if entry_len(&old) != entry_len(entry) {
             return Ok(false);
         }

@@ -161,7 +161,7 @@ fn put(
     if find(t, &entry.key)?.is_some() {
         return Err(Fail::new("an entry has the key"));
     }
-    t.rest();
+    t.renew();
     match insert(t, &entry, gone) {
         Ok(()) => {
             assert!(rt; free >= 8);
@@ -220,7 +220,7 @@ fn take(
     t.rest();
     let stands = find(t, key)?.is_some();
     assert_eq!(rt; stands, map.contains_key(key));
-    t.rest();
+    t.renew();
     remove(t, key)?;
     map.remove(key);
     let changed = changes(&before, &images(t, alloc)?);
@@ -255,7 +255,7 @@ fn replace(
         assert!(rt; !map.contains_key(&entry.key));
         return Ok(());
     };
-    t.rest();
+    t.renew();
     if entry_len(&old) != entry_len(&entry) {
         return Ok(());
     }

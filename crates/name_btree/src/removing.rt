@@ -5,7 +5,6 @@ ghost use Rattle.name_btree.specs.Draft.{drafted, IsDraft, RemovesFrom};
 ghost use Rattle.name_btree.specs.Fault.{FailsBy, FailsTable, IsNoTree};
 ghost use Rattle.name_btree.specs.Map.{IsTable, HasTable};
 ghost use Rattle.name_btree.specs.Remove.{IsTrimmedBelow, BreaksAround, IsRootLeft};
-ghost use Rattle.name_btree.specs.Still.{LeavesStep};
 ghost use Rattle.name_btree.specs.Trim.{MayHave, IsLeft, sheets_below};
 ghost use Rattle.name_page.specs.Edits.{without};
 ghost use Rattle.name_page.specs.declared.pages.TheConstants.{MOST_CHANGED, MOST_REACHED};
@@ -30,7 +29,6 @@ pub fn remove<T: Pages>(t: &mut T, key: &Key) -> Result<(), TreeFault>
     ensures calls { OnlyEdits T.Pages t.old t.new }
     ensures kept { OnErr result (OnlyWalks T.Pages t.old t.new) }
     ensures reaches { reaches (T.step t.old) ≤ reaches (T.step t.new) + 12 }
-    ensures left { IfErr result (LeavesStep T.Pages t.old t.new) }
     ensures changes { changes (T.step t.old) ≤ changes (T.step t.new) + 8 }
     ensures taken { (page : ℕ) → is_spare (T.step t.old).spares page ≡ true → is_spare (T.step t.new).spares page ≡ true }
     ensures removed { OnOk result (T.trusted t.new → (height : ℕ) → IsTable (T.step t.old) height → HasTable (T.step t.new) (without key.now (table_of (T.step t.old).images height))) }

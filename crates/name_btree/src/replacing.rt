@@ -6,7 +6,6 @@ ghost use Rattle.name_btree.specs.Fault.{FailsTable};
 ghost use Rattle.name_btree.specs.Map.{IsTable, HasTable};
 ghost use Rattle.name_page.specs.Edits.{put};
 ghost use Rattle.name_btree.specs.Replace.{HasAsLong, HasEdit, WritesOne};
-ghost use Rattle.name_btree.specs.Still.{LeavesStep};
 ghost use Rattle.name_page.specs.declared.pages.TheConstants.{MOST_CHANGED, MOST_REACHED};
 ghost use Rattle.name_page.specs.Looks.{OnlyEdits, OnlyWalks};
 ghost use Rattle.name_page.specs.Pages.{reaches, changes};
@@ -42,7 +41,6 @@ pub fn replace_same_size<T: Pages>(t: &mut T, entry: &Entry) -> Result<(), TreeF
     ensures kept { OnErr result (OnlyWalks T.Pages t.old t.new) }
     ensures written { OnOk result (WritesOne T.Pages t.old t.new) }
     ensures reaches { reaches (T.step t.old) ≤ reaches (T.step t.new) + 6 }
-    ensures left { IfErr result (LeavesStep T.Pages t.old t.new) }
     // Of each tree, also beside pages that are not spare, comes one of the same height and pages.
     ensures tree { OnOk result (T.trusted t.new → (height : ℕ) → IsTree (T.step t.old).images height → HasEdit (map (put entry.now)) (T.step t.old).images (T.step t.new).images height) }
     ensures replaced { OnOk result (T.trusted t.new → (height : ℕ) → IsTable (T.step t.old) height → HasTable (T.step t.new) (map (put entry.now) (table_of (T.step t.old).images height))) }

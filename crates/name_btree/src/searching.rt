@@ -1,9 +1,8 @@
 //! The search for the page that breaks a table.
 ghost use Rattle.std.specs.Prelude.{◌≡◌, ◌<◌, ◌≤◌};
 ghost use Rattle.name_btree.specs.Fault.{FailsTable, FailsTree, IsNoUsedTree, is_inner};
-ghost use Rattle.name_btree.specs.Still.{EndsStep, LeavesStep};
 ghost use Rattle.name_page.specs.Looks.{OnlyWalks};
-ghost use Rattle.name_page.specs.Pages.{reaches, changes};
+ghost use Rattle.name_page.specs.Pages.{reaches};
 
 use crate::fault::TreeFault;
 use crate::walking::walk;
@@ -15,7 +14,7 @@ use name_page::Pages;
 fn search<T: Pages>(t: &mut T) -> TreeFault
     requires more { 0 < (T.step t.old).most_reached }
     ensures calls { OnlyWalks T.Pages t.old t.new }
-    ensures ended { EndsStep (T.step t.new) result }
+    ensures reaches { reaches (T.step t.old) ≤ reaches (T.step t.new) }
     ensures cause { (T.trusted t.old → IsNoUsedTree (T.step t.old)) → FailsTable T.Pages t.old t.new result }
 {
     let mut reached = [false; 4096];
@@ -49,8 +48,6 @@ pub(crate) fn fault_of<T: Pages>(t: &mut T, fault: TreeFault) -> TreeFault
     requires more { 0 < (T.step t.old).most_reached }
     ensures calls { OnlyWalks T.Pages t.old t.new }
     ensures reaches { reaches (T.step t.old) ≤ reaches (T.step t.new) }
-    ensures changes { changes (T.step t.old) ≤ changes (T.step t.new) }
-    ensures left { (first : T) → FailsTree T.Pages first t.old fault → LeavesStep T.Pages t.old t.new result }
     ensures cause { (first : T) → T.outside first t.old → FailsTree T.Pages first t.old fault → FailsTable T.Pages first t.new result }
 {
     if is_inner(fault) { search(t) } else { fault }

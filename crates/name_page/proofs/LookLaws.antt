@@ -35,13 +35,14 @@ reaches_then P law a b c x y = record {
 }
 
 pub reaches_walks : {D : Type 0} (P : Ghosts D) (a b : D) → OnlyReaches P a b → OnlyWalks P a b
-reaches_walks P a b x = record { count = x.looks.count; spares = x.looks.spares; home_a = x.looks.home_a; most_reached = x.looks.most_reached; most_changed = x.looks.most_changed; outside = x.outside; trust = x.trust; stays = x.stays }
+reaches_walks P a b x = record { count = x.looks.count; spares = x.looks.spares; home_a = x.looks.home_a; changed = x.looks.changed; most_reached = x.looks.most_reached; most_changed = x.looks.most_changed; outside = x.outside; trust = x.trust; stays = x.stays }
 
 pub rest_walks : {D : Type 0} (P : Ghosts D) (a b : D) → P.outside a b → (P.trusted b → P.trusted a) → P.step b ≡ rested (P.step a) → OnlyWalks P a b
 rest_walks P a b outside trust is = record {
   count = ap (λ (s : Step). length s.images) is;
   spares = ap (λ (s : Step). s.spares) is;
   home_a = ap (λ (s : Step). s.home_a) is;
+  changed = ap (λ (s : Step). s.changed) is;
   most_reached = ap (λ (s : Step). s.most_reached) is;
   most_changed = ap (λ (s : Step). s.most_changed) is;
   outside = outside;
@@ -54,6 +55,7 @@ walks_then P law a b c x y = record {
   count = y.count ∙ x.count;
   spares = y.spares ∙ x.spares;
   home_a = y.home_a ∙ x.home_a;
+  changed = y.changed ∙ x.changed;
   most_reached = y.most_reached ∙ x.most_reached;
   most_changed = y.most_changed ∙ x.most_changed;
   outside = law a b c x.outside y.outside;
@@ -129,6 +131,7 @@ spare_walks P a b n outside trust kept stays is = record {
   count = kept.count;
   spares = ap (λ (s : Step). s.spares) is;
   home_a = ap (λ (s : Step). s.home_a) is;
+  changed = ap (λ (s : Step). s.changed) is;
   most_reached = ap (λ (s : Step). s.most_reached) is;
   most_changed = ap (λ (s : Step). s.most_changed) is;
   outside = outside;

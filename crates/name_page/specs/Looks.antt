@@ -27,6 +27,7 @@ pub record OnlyWalks {D : Type 0} (P : Ghosts D) (old new : D) : Type 0 where
   pub count : length (P.step new).images ≡ length (P.step old).images
   pub spares : (P.step new).spares ≡ (P.step old).spares
   pub home_a : (P.step new).home_a ≡ (P.step old).home_a
+  pub changed : (P.step new).changed ≡ (P.step old).changed
   pub most_reached : (P.step new).most_reached ≡ (P.step old).most_reached
   pub most_changed : (P.step new).most_changed ≡ (P.step old).most_changed
   pub outside : P.outside old new

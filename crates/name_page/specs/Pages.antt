@@ -10,7 +10,8 @@ is_spare spare page = slice_index_or spare page false
 
 -- ---- a step
 
--- the bytes of each page, which pages are spare, the first sector of their homes A, and what this step has done with them
+-- The bytes of each page, which pages are spare, the first sector of their homes A; what this step has reached, promised
+-- and refused; and what was changed since leave to change was given last.
 pub record Step : Type 0 where
   pub images : List (List ℕ)
   pub spares : List Bool
@@ -22,7 +23,7 @@ pub record Step : Type 0 where
   pub most_reached : ℕ
   pub most_changed : ℕ
 
--- a step that has done nothing
+-- a step that has done nothing, with the whole leave to change
 abbrev pub first_step : (images : List (List ℕ)) (spares : List Bool) (home_a most_reached most_changed : ℕ) → Step
 first_step images spares home_a most_reached most_changed =
     record { images = images; spares = spares; home_a = home_a; reached = []; changed = []; promised = 0; refusal = None; most_reached = most_reached; most_changed = most_changed }
@@ -45,7 +46,7 @@ changes s = s.most_changed - length s.changed
 abbrev pub is_one_of : List ℕ → ℕ → Bool
 is_one_of pages page = list_any (λ other. other == page) pages
 
--- a page of the table that was reached or changed
+-- a page of the table that this step has reached, or that was changed
 abbrev pub IsReached : Step → ℕ → Type 0
 IsReached s page = (page < length s.images) × IsTrue (is_one_of s.reached page || is_one_of s.changed page)
 
@@ -97,8 +98,13 @@ with_taken page s = record s { spares = slice_set s.spares page false; changed =
 abbrev pub with_spare : ℕ → Step → Step
 with_spare page s = record s { spares = slice_set s.spares page true }
 
+-- what was changed stays changed
 abbrev pub rested : Step → Step
-rested s = first_step s.images s.spares s.home_a s.most_reached s.most_changed
+rested s = record s { reached = []; promised = 0; refusal = None }
+
+-- as many pages may be changed as at first
+abbrev pub renewed : Step → Step
+renewed s = record (rested s) { changed = [] }
 
 -- ---- what stays
 

@@ -11,11 +11,14 @@ use fsd_bytes::Refusal;
 /// How many pages a call of the table may reach in its step.
 pub const MOST_REACHED: usize = 80;
 
-/// How many pages a call of the table may change in its step.
+/// How many pages a call of the table may change.
 pub const MOST_CHANGED: usize = 40;
 
 /// Pages of a name table. Work over them goes in steps: a step first reaches the pages that it needs, and the spare ones
 /// that it may take, which may be refused; after that the other calls cannot fail.
+///
+/// A step begins with the whole leave to reach pages. The leave to change them goes over all steps, and a page that is
+/// changed again takes no more of it. Whoever gives the pages renews it, by a call of its own.
 ///
 /// What a step has reached stays as it was seen. Of the other pages the images are what the outside would give, so they
 /// stay only where it is trusted.
@@ -93,7 +96,7 @@ pub trait Pages {
         ensures outside { outside self.old self.new }
         ensures step { step self.new ≡ with_spare page (step self.old) };
 
-    /// Ends the step. The next one may reach and change as many pages again.
+    /// Ends the step. The next one may reach as many pages again.
     fn rest(&mut self)
         ensures outside { outside self.old self.new }
         ensures step { step self.new ≡ rested (step self.old) };

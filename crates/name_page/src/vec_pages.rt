@@ -1,6 +1,6 @@
 //! Pages of a name table that all stand in memory.
 ghost use Rattle.std.specs.Prelude.{◌≡◌, ◌<◌, ◌≤◌, ◌^◌, Some, false, length, count_by};
-ghost use Rattle.name_page.specs.Pages.{first_step};
+ghost use Rattle.name_page.specs.Pages.{first_step, renewed};
 
 use crate::fault::read_page;
 use crate::marks::{count_true, first_true, put_one};
@@ -8,7 +8,8 @@ use crate::pages::{MOST_CHANGED, MOST_REACHED, Pages};
 use arrayvec::ArrayVec;
 use fsd_bytes::Refusal;
 
-/// All pages of a name table. None of them is ever missing. A step may reach [`MOST_REACHED`] of them and change [`MOST_CHANGED`].
+/// All pages of a name table. None of them is ever missing. A step may reach [`MOST_REACHED`] of them, and [`MOST_CHANGED`] may
+/// be changed until the leave is renewed.
 #[derive(Debug, Drop)]
 pub struct VecPages {
     pages: Vec<[u8; 512]>,
@@ -39,6 +40,14 @@ impl VecPages {
             promised: 0,
             refusal: None,
         }
+    }
+
+    /// Ends the step, and renews the leave to change.
+    pub fn renew(&mut self)
+        ensures { ⟦<VecPages as Pages>⟧.step self.new ≡ renewed (⟦<VecPages as Pages>⟧.step self.old) }
+    {
+        self.rest();
+        self.changed.clear();
     }
 
     fn refuse(&mut self, refusal: Refusal) -> Refusal
@@ -131,7 +140,6 @@ impl Pages for VecPages {
 
     fn rest(&mut self) {
         self.reached.clear();
-        self.changed.clear();
         self.promised = 0;
         self.refusal = None;
     }

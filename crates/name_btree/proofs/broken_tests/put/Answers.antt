@@ -6,6 +6,6 @@ use Rattle.name_btree.proofs.broken_tests.put.Goals as goal
 pub insert-requires-clause-new : goal.insert-requires-clause-new
 insert-requires-clause-new c =
     let before = c.rest.new.self.pages.items in
-    let after = c.rest-2.new.self.pages.items in
-    let same : after ≡ before = ap (λ (s : Step). s.images) c.rest-2.ensures.step ∙ c.in_ok-may_put.ensures.images in
+    let after = c.renew.new.self.pages.items in
+    let same : after ≡ before = ap (λ (s : Step). s.images) c.renew.ensures ∙ c.in_ok-may_put.ensures.images in
     λ trusted. still_new before after c.args.entry.now.key c.args.gone.now.items same (c.in_ok-may_put.ensures.new c.if-not-branch.false)

@@ -11,9 +11,9 @@ use Rattle.name_btree.proofs.broken_tests.replace.Goals as goal
 pub replace_same_size-requires-clause-present : goal.replace_same_size-requires-clause-present
 replace_same_size-requires-clause-present c = λ trusted height tree.
     let found : List (List ℕ) = c.find.new.t.pages.items in
-    let after : List (List ℕ) = c.rest-in-Err-Broken.new.self.pages.items in
+    let after : List (List ℕ) = c.renew.new.self.pages.items in
     let page : ℕ = c.in-Err-Broken.field-0-0 in
-    let same : after ≡ found = ap (λ (s : Step). s.images) c.rest-in-Err-Broken.ensures.step in
+    let same : after ≡ found = ap (λ (s : Step). s.images) c.renew.ensures in
     let s = vec.ghosts.step c.find.new.t in
     let broken : BreaksTable found page = broken_is (vec.ghosts.causes c.rest.new.self c.find.new.t) s (BreaksTable s.images) (BarsTable s) c.in-Err-Broken.field-0 page c.in-Err-Broken.field-0-is c.in-Err-Broken.ensures.fault in
     absurd (tree_unbroken found height page (subst (λ (pages : List (List ℕ)). IsTree pages height) same tree) broken)

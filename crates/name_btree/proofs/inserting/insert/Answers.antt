@@ -11,7 +11,7 @@ use Rattle.name_page.proofs.LookLaws.{reaches_walks, spare_walks, walks_then, wa
 use Rattle.name_btree.specs.declared.fault.TreeFault.TheVariants.{Pages}
 use Rattle.name_btree.specs.Fault.{FailsTree, FailsTable, IsNoTree}
 use Rattle.name_btree.proofs.CauseLaws.{fails_by_map, same_err}
-use Rattle.name_btree.proofs.SearchLaws.{shown_tree, shown_with, leaves_walks, not_full}
+use Rattle.name_btree.proofs.SearchLaws.{shown_tree, shown_with, not_full}
 use Rattle.name_btree.specs.Draft.{drafted}
 use Rattle.name_btree.specs.Grown.{Inserts, BreaksNew}
 use Rattle.name_btree.specs.Map.{LeavesTree, HasLeft, without_all}
@@ -106,25 +106,6 @@ returns-clause-calls g c =
     edits_then G law.then old s2 new (walks_edits G old s2 w2) (edits_then G law.then s2 s3 new c.in_default-insert_in.ensures.calls.edits
     (commit_edits G s3 new d.freed.items d.sheets.items c.commit.ensures.outside (law.trust s3 new c.commit.ensures.outside) c.commit.ensures.step c.commit.ensures.images))
 
-pub returns-in-Err-remove_all-clause-left : goal.returns-in-Err-remove_all-clause-left
-returns-in-Err-remove_all-clause-left g c =
-    let G = g.T.Pages in
-    let law = g.met.T.Pages in
-    let old = c.args.t.now in
-    let s1 = c.spare.new.self in
-    let s2 = c.remove_all.new.t in
-    let sp = c.in_default.ensures in
-    let first : OnlyWalks G old s1 = spare_walks G old s1 8 sp.outside (law.trust old s1 sp.outside) sp.kept sp.stays sp.step in
-    let w2 : OnlyWalks G old s2 = walks_then G law.then old s1 s2 first (reaches_walks G s1 s2 c.in-Err-remove_all.ensures.calls) in
-    let changed : (G.step s2).changed ≡ (G.step old).changed = c.in-Err-remove_all.ensures.calls.looks.changed ∙ ap (λ (s : Step). s.changed) sp.step in
-    let fault = c.in-Err-remove_all.fault in
-    let s = G.step s2 in
-    let mine = fails_by_map (G.causes s1 s2) (G.causes old s2) s (λ pages page. IsNoTree pages) (λ pages page. IsNoTree pages) (λ r x. law.later old s1 s2 r sp.outside x) (λ images page is h. h) fault c.in-Err-remove_all.ensures.fault in
-    let fails : FailsTree G old s2 fault = shown_tree G (G.causes old s2) s2 fault mine in
-    let f = c.fault_of in
-    let new = f.new.t in
-    leaves_walks G old s2 new f.ensures.calls.trust f.result w2 changed (f.ensures.left old fails)
-
 pub returns-in-Err-remove_all-clause-fault : goal.returns-in-Err-remove_all-clause-fault
 returns-in-Err-remove_all-clause-fault g c =
     let G = g.T.Pages in
@@ -135,7 +116,6 @@ returns-in-Err-remove_all-clause-fault g c =
     let sp = c.in_default.ensures in
     let first : OnlyWalks G old s1 = spare_walks G old s1 8 sp.outside (law.trust old s1 sp.outside) sp.kept sp.stays sp.step in
     let w2 : OnlyWalks G old s2 = walks_then G law.then old s1 s2 first (reaches_walks G s1 s2 c.in-Err-remove_all.ensures.calls) in
-    let changed : (G.step s2).changed ≡ (G.step old).changed = c.in-Err-remove_all.ensures.calls.looks.changed ∙ ap (λ (s : Step). s.changed) sp.step in
     let fault = c.in-Err-remove_all.fault in
     let s = G.step s2 in
     let mine = fails_by_map (G.causes s1 s2) (G.causes old s2) s (λ pages page. IsNoTree pages) (λ pages page. IsNoTree pages) (λ r x. law.later old s1 s2 r sp.outside x) (λ images page is h. h) fault c.in-Err-remove_all.ensures.fault in
@@ -154,7 +134,6 @@ returns-in-Err-remove_all-clause-full g c =
     let sp = c.in_default.ensures in
     let first : OnlyWalks G old s1 = spare_walks G old s1 8 sp.outside (law.trust old s1 sp.outside) sp.kept sp.stays sp.step in
     let w2 : OnlyWalks G old s2 = walks_then G law.then old s1 s2 first (reaches_walks G s1 s2 c.in-Err-remove_all.ensures.calls) in
-    let changed : (G.step s2).changed ≡ (G.step old).changed = c.in-Err-remove_all.ensures.calls.looks.changed ∙ ap (λ (s : Step). s.changed) sp.step in
     let fault = c.in-Err-remove_all.fault in
     let s = G.step s2 in
     let mine = fails_by_map (G.causes s1 s2) (G.causes old s2) s (λ pages page. IsNoTree pages) (λ pages page. IsNoTree pages) (λ r x. law.later old s1 s2 r sp.outside x) (λ images page is h. h) fault c.in-Err-remove_all.ensures.fault in
@@ -177,7 +156,6 @@ returns-in-Err-insert_in-clause-kept g c =
     let s3 = c.insert_in.new.t in
     let calls = c.in-Err-insert_in.ensures.failed in
     let w3 : OnlyWalks G old s3 = walks_then G law.then old s2 s3 w2 (reaches_walks G s2 s3 calls) in
-    let changed : (G.step s3).changed ≡ (G.step old).changed = calls.looks.changed ∙ c.in_default-remove_all.ensures.calls.looks.changed ∙ ap (λ (s : Step). s.changed) sp.step in
     let fault = c.in-Err-insert_in.fault in
     let s = G.step s3 in
     let e = c.args.entry.now in
@@ -209,7 +187,6 @@ returns-in-Err-insert_in-clause-calls g c =
     let s3 = c.insert_in.new.t in
     let calls = c.in-Err-insert_in.ensures.failed in
     let w3 : OnlyWalks G old s3 = walks_then G law.then old s2 s3 w2 (reaches_walks G s2 s3 calls) in
-    let changed : (G.step s3).changed ≡ (G.step old).changed = calls.looks.changed ∙ c.in_default-remove_all.ensures.calls.looks.changed ∙ ap (λ (s : Step). s.changed) sp.step in
     let fault = c.in-Err-insert_in.fault in
     let s = G.step s3 in
     let e = c.args.entry.now in
@@ -228,38 +205,6 @@ returns-in-Err-insert_in-clause-calls g c =
     let new = f.new.t in
     walks_edits G old new (walks_then G law.then old s3 new w3 f.ensures.calls)
 
-pub returns-in-Err-insert_in-clause-left : goal.returns-in-Err-insert_in-clause-left
-returns-in-Err-insert_in-clause-left g c =
-    let G = g.T.Pages in
-    let law = g.met.T.Pages in
-    let old = c.args.t.now in
-    let s1 = c.spare.new.self in
-    let s2 = c.remove_all.new.t in
-    let sp = c.in_default.ensures in
-    let first : OnlyWalks G old s1 = spare_walks G old s1 8 sp.outside (law.trust old s1 sp.outside) sp.kept sp.stays sp.step in
-    let w2 : OnlyWalks G old s2 = walks_then G law.then old s1 s2 first (reaches_walks G s1 s2 c.in_default-remove_all.ensures.calls) in
-    let s3 = c.insert_in.new.t in
-    let calls = c.in-Err-insert_in.ensures.failed in
-    let w3 : OnlyWalks G old s3 = walks_then G law.then old s2 s3 w2 (reaches_walks G s2 s3 calls) in
-    let changed : (G.step s3).changed ≡ (G.step old).changed = calls.looks.changed ∙ c.in_default-remove_all.ensures.calls.looks.changed ∙ ap (λ (s : Step). s.changed) sp.step in
-    let fault = c.in-Err-insert_in.fault in
-    let s = G.step s3 in
-    let e = c.args.entry.now in
-    let keys = c.args.gone.now.items in
-    let d = c.remove_all.new.draft in
-    let Q : List Entry → Type 0 = λ (table : List Entry). entry_with e.key (without_all keys table) ≡ None in
-    let mine = fails_by_map (G.causes s2 s3) (G.causes old s3) s (λ pages. BreaksNew e (drafted d.sheets.items pages)) (λ images page. (height : ℕ) → IsTree images height → Q (table_of images height) → ⊥) (λ r x. law.later old s2 s3 r w2.outside x)
-    (λ images page agrees h height tree none.
-    let before = agrees_before (G.step s2) s images calls.looks agrees in
-    let left0 = c.in_default-remove_all.ensures.left images before height tree in
-    let left = subst (λ (ks : List Key). HasLeft images d ks height) c.as_slice.ensures.value left0 in
-    h left.height_after left.tree (ap (entry_with e.key) left.table ∙ none)) fault c.in-Err-insert_in.ensures.fault in
-    let fails : FailsTree G old s3 fault = shown_with G (G.causes old s3) s3 Q fault mine
-    (λ t height tree. let now = subst (λ (p : List (List ℕ)). IsTree p height) (w3.stays t) tree in ap (λ (p : List (List ℕ)). entry_with e.key (without_all keys (table_of p height))) (w3.stays t) ∙ c.requires.new (w3.trust t) height now) in
-    let f = c.fault_of-in-Err-insert_in in
-    let new = f.new.t in
-    leaves_walks G old s3 new f.ensures.calls.trust f.result w3 changed (f.ensures.left old fails)
-
 pub returns-in-Err-insert_in-clause-fault : goal.returns-in-Err-insert_in-clause-fault
 returns-in-Err-insert_in-clause-fault g c =
     let G = g.T.Pages in
@@ -273,7 +218,6 @@ returns-in-Err-insert_in-clause-fault g c =
     let s3 = c.insert_in.new.t in
     let calls = c.in-Err-insert_in.ensures.failed in
     let w3 : OnlyWalks G old s3 = walks_then G law.then old s2 s3 w2 (reaches_walks G s2 s3 calls) in
-    let changed : (G.step s3).changed ≡ (G.step old).changed = calls.looks.changed ∙ c.in_default-remove_all.ensures.calls.looks.changed ∙ ap (λ (s : Step). s.changed) sp.step in
     let fault = c.in-Err-insert_in.fault in
     let s = G.step s3 in
     let e = c.args.entry.now in
@@ -305,7 +249,6 @@ returns-in-Err-insert_in-clause-full g c =
     let s3 = c.insert_in.new.t in
     let calls = c.in-Err-insert_in.ensures.failed in
     let w3 : OnlyWalks G old s3 = walks_then G law.then old s2 s3 w2 (reaches_walks G s2 s3 calls) in
-    let changed : (G.step s3).changed ≡ (G.step old).changed = calls.looks.changed ∙ c.in_default-remove_all.ensures.calls.looks.changed ∙ ap (λ (s : Step). s.changed) sp.step in
     let fault = c.in-Err-insert_in.fault in
     let s = G.step s3 in
     let e = c.args.entry.now in

@@ -6,7 +6,7 @@ use Rattle.name_btree.proofs.map_tests.put.Goals as goal
 pub insert-requires-clause-new : goal.insert-requires-clause-new
 insert-requires-clause-new g c =
     let before = c.rest.new.self.pages.items in
-    let after = c.rest-2.new.self.pages.items in
-    let same : after ≡ before = ap (λ (s : Step). s.images) c.rest-2.ensures.step ∙ c.in_ok-find.ensures.calls.stays tt in
+    let after = c.renew.new.self.pages.items in
+    let same : after ≡ before = ap (λ (s : Step). s.images) c.renew.ensures ∙ c.in_ok-find.ensures.calls.stays tt in
     λ trusted. still_new before after c.args.entry.key c.args.gone.now.items same
     (none_found before c.args.entry.key c.in_ok-find.field-0 (sym c.is_some.ensures ∙ c.if-is_some.false) (c.in_ok-find.ensures.found tt))

@@ -10,7 +10,7 @@ use Rattle.name_btree.specs.Map.{HasTable}
 use Rattle.name_btree.specs.declared.draft.Sheet.{Sheet}
 use Rattle.name_btree.specs.Fault.{FailsTree, IsNoTree}
 use Rattle.name_btree.proofs.CauseLaws.{fails_by_map}
-use Rattle.name_btree.proofs.SearchLaws.{shown_tree, leaves_since}
+use Rattle.name_btree.proofs.SearchLaws.{shown_tree}
 use Rattle.name_btree.proofs.TableLaws.{table_without}
 use Rattle.name_btree.proofs.removing.remove.Goals as goal
 
@@ -69,19 +69,6 @@ pub returns-in-Err-clause-calls : goal.returns-in-Err-clause-calls
 returns-in-Err-clause-calls g c =
     let G = g.T.Pages in
     walks_edits G c.args.t.now c.fault_of.new.t (walks_then G g.met.T.Pages.then c.args.t.now c.remove_in.new.t c.fault_of.new.t (reaches_walks G c.args.t.now c.remove_in.new.t c.in-Err.ensures.calls) c.fault_of.ensures.calls)
-
-pub returns-in-Err-clause-left : goal.returns-in-Err-clause-left
-returns-in-Err-clause-left g c =
-    let G = g.T.Pages in
-    let old = c.args.t.now in
-    let mid = c.remove_in.new.t in
-    let empty = c.new-draft.result in
-    let fault = c.in-Err.fault in
-    let Outer = G.causes old mid in
-    let bare = fails_by_map Outer Outer (G.step mid) (λ pages page. IsNoTree (drafted empty.sheets.items pages)) (λ pages page. IsNoTree pages) (λ r x. x)
-    (λ images page is h. subst IsNoTree (ap (λ (xs : List Sheet). drafted xs images) c.new-draft.ensures.sheets) h) fault c.in-Err.ensures.fault in
-    let fails : FailsTree G old mid fault = shown_tree G Outer mid fault bare in
-    leaves_since G old mid c.fault_of.new.t c.fault_of.ensures.calls.trust c.fault_of.result c.in-Err.ensures.calls (c.fault_of.ensures.left old fails)
 
 pub returns-in-Err-clause-fault : goal.returns-in-Err-clause-fault
 returns-in-Err-clause-fault g c =

@@ -13,7 +13,7 @@ use Rattle.name_btree.specs.Fault.{FailsTree}
 use Rattle.name_btree.specs.Replace.{IsWritten, IsLeafAt}
 use Rattle.name_btree.proofs.ChangeLaws.{tree_replaced, table_replaced}
 use Rattle.name_btree.proofs.ReplaceLaws.{few_in_leaf, put_is_page, not_in_tree}
-use Rattle.name_btree.proofs.SearchLaws.{fails_tree, leaves_since}
+use Rattle.name_btree.proofs.SearchLaws.{fails_tree}
 use Rattle.name_btree.proofs.VisitedLaws.{top_breaks}
 use Rattle.name_btree.proofs.replacing.replace_same_size.Goals as goal
 
@@ -31,16 +31,6 @@ pub returns-in-Err-clause-calls : goal.returns-in-Err-clause-calls
 returns-in-Err-clause-calls g c =
     let G = g.T.Pages in
     walks_edits G c.args.t.now c.fault_of.new.t (walks_then G g.met.T.Pages.then c.args.t.now c.leaf_below.new.t c.fault_of.new.t (reaches_walks G c.args.t.now c.leaf_below.new.t c.in-Err.ensures.calls) c.fault_of.ensures.calls)
-
-pub returns-in-Err-clause-left : goal.returns-in-Err-clause-left
-returns-in-Err-clause-left g c =
-    let G = g.T.Pages in
-    let law = g.met.T.Pages in
-    let old = c.args.t.now in
-    let mid = c.leaf_below.new.t in
-    let fails : FailsTree G old mid c.in-Err.fault =
-    fails_tree G old mid c.in-Err.fault (G.causes old mid) (λ r x. x) (top_breaks (G.causes old mid) (G.step mid) c.in-Err.fault c.top.result c.top.ensures c.in-Err.ensures.fault) in
-    leaves_since G old mid c.fault_of.new.t c.fault_of.ensures.calls.trust c.fault_of.result c.in-Err.ensures.calls (c.fault_of.ensures.left old fails)
 
 pub returns-in-Err-clause-fault : goal.returns-in-Err-clause-fault
 returns-in-Err-clause-fault g c =
@@ -63,26 +53,6 @@ returns-then-not-has_as_long-clause-calls g c =
     let G = g.T.Pages in
     let new = c.fault_of-then-not-has_as_long.new.t in
     walks_edits G c.args.t.now new (walks_then G g.met.T.Pages.then c.args.t.now c.leaf_below.new.t new (reaches_walks G c.args.t.now c.leaf_below.new.t c.in-Ok.ensures.calls) c.fault_of-then-not-has_as_long.ensures.calls)
-
-pub returns-then-not-has_as_long-clause-left : goal.returns-then-not-has_as_long-clause-left
-returns-then-not-has_as_long-clause-left g c =
-    let G = g.T.Pages in
-    let law = g.met.T.Pages in
-    let old = c.args.t.now in
-    let mid = c.leaf_below.new.t in
-    let calls = c.in-Ok.ensures.calls in
-    let found = c.in-Ok.found in
-    let pages = (G.step old).images in
-    let fails : FailsTree G old mid (Broken found.page) = λ trusted.
-    let P : List (List ℕ) → Type 0 = λ (x : List (List ℕ)). IsPlace (is_before (UpTo c.copied.result)) x c.top.result found in
-    let seen : P pages = shows_trusted G P old mid calls c.in-Ok.ensures.place trusted in
-    let by_key : Key → Type 0 = λ (k : Key). IsPlace (is_before (UpTo k)) pages c.top.result found in
-    let by_top : Child → Type 0 = λ (d : Child). IsPlace (is_before (UpTo c.args.entry.now.key)) pages d found in
-    let place = subst by_top c.top.ensures (subst by_key c.copied.ensures seen) in
-    let none = not_in_tree pages c.args.entry.now found place (c.has_as_long.ensures.not c.if-not-has_as_long.true) (c.requires.present (calls.trust trusted)) in
-    λ height t used. none height (subst (λ (p : List (List ℕ)). IsTree p height) (calls.stays trusted) t) in
-    let f = c.fault_of-then-not-has_as_long in
-    leaves_since G old mid f.new.t f.ensures.calls.trust f.result calls (f.ensures.left old fails)
 
 pub returns-then-not-has_as_long-clause-fault : goal.returns-then-not-has_as_long-clause-fault
 returns-then-not-has_as_long-clause-fault g c =

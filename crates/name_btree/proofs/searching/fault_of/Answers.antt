@@ -1,13 +1,8 @@
-use Rattle.std.proofs.Common.{◌≡◌, inr, true, false}
+use Rattle.std.proofs.Common.{◌≡◌, true, false}
 use Rattle.name_page.proofs.LookLaws.{reaches_still, reaches_walks}
 use Rattle.name_btree.specs.Fault.{is_inner}
 use Rattle.name_btree.proofs.SearchLaws.{inner_broken, outer_fails, fails_since}
 use Rattle.name_btree.proofs.searching.fault_of.Goals as goal
-
-pub returns-then-is_inner-clause-left : goal.returns-then-is_inner-clause-left
-returns-then-is_inner-clause-left g c = λ first h.
-    let inner : is_inner c.args.fault ≡ true = cc in
-    inr ((λ trusted. inner_broken g.T.Pages g.met.T.Pages.outer first c.args.t.now c.args.fault h inner (c.search.ensures.calls.trust trusted)), c.search.ensures.ended)
 
 pub returns-then-is_inner-clause-cause : goal.returns-then-is_inner-clause-cause
 returns-then-is_inner-clause-cause g c = λ first before h.
