@@ -338,19 +338,19 @@ module _ (log : LogValue) (records : List Placed) (disk : List (List ℕ)) (wind
   -- some anchors were written
   record Part (e : Image) : Type 0 where
     shows : ShowsPages log.layout windows (disk ∷ []) e
-    same : (s : ℕ) → 16 ≤ s → sector_at e s ≡ sector_at at.image s
+    same : (s : ℕ) → (s ≡ 8 → ⊥) → (s ≡ 12 → ⊥) → sector_at e s ≡ sector_at at.image s
 
   two_is : with_anchors (moved_anchor log) at.image 1 1 ≡ with_sector (with_sector at.image 8 (anchor_bytes (moved_anchor log))) 12 (anchor_bytes (moved_anchor log))
   two_is = ap (λ (i : Image). stand i 12 (anchor_bytes (moved_anchor log)) 1) (stand_one at.image 8 (anchor_bytes (moved_anchor log)) bytes_long) ∙ stand_one (with_sector at.image 8 (anchor_bytes (moved_anchor log))) 12 (anchor_bytes (moved_anchor log)) bytes_long
 
-  same_two : (s : ℕ) → 16 ≤ s → sector_at (with_sector (with_sector at.image 8 (anchor_bytes (moved_anchor log))) 12 (anchor_bytes (moved_anchor log))) s ≡ sector_at at.image s
-  same_two s from = with_other (with_sector at.image 8 (anchor_bytes (moved_anchor log))) 12 s (anchor_bytes (moved_anchor log)) (λ e. omega (arith, e, from)) ∙ with_other at.image 8 s (anchor_bytes (moved_anchor log)) (λ e. omega (arith, e, from))
+  same_two : (s : ℕ) → (s ≡ 8 → ⊥) → (s ≡ 12 → ⊥) → sector_at (with_sector (with_sector at.image 8 (anchor_bytes (moved_anchor log))) 12 (anchor_bytes (moved_anchor log))) s ≡ sector_at at.image s
+  same_two s first second = with_other (with_sector at.image 8 (anchor_bytes (moved_anchor log))) 12 s (anchor_bytes (moved_anchor log)) second ∙ with_other at.image 8 s (anchor_bytes (moved_anchor log)) first
 
   part : (first copy : ℕ) → copy ≤ first → first ≤ 1 → Part (with_anchors (moved_anchor log) at.image first copy)
-  part zero zero le once = record { shows = at.over.shows; same = λ s from. refl }
+  part zero zero le once = record { shows = at.over.shows; same = λ s first second. refl }
   part zero (suc k) le once = absurd (omega (arith, le))
   part (suc zero) zero le once = subst Part (sym (stand_one at.image 8 (anchor_bytes (moved_anchor log)) bytes_long))
-      (record { shows = all_shows log.layout windows (disk ∷ []) (with_sector at.image 8 (anchor_bytes (moved_anchor log))) stands_one; same = λ s from. with_other at.image 8 s (anchor_bytes (moved_anchor log)) (λ e. omega (arith, e, from)) })
+      (record { shows = all_shows log.layout windows (disk ∷ []) (with_sector at.image 8 (anchor_bytes (moved_anchor log))) stands_one; same = λ s first second. with_other at.image 8 s (anchor_bytes (moved_anchor log)) first })
   part (suc zero) (suc zero) le once = subst Part (sym two_is)
       (record { shows = all_shows log.layout windows (disk ∷ []) (with_sector (with_sector at.image 8 (anchor_bytes (moved_anchor log))) 12 (anchor_bytes (moved_anchor log))) stands_two; same = same_two })
   part (suc zero) (suc (suc k)) le once = absurd (omega (arith, le))
@@ -363,7 +363,7 @@ module _ (log : LogValue) (records : List Placed) (disk : List (List ℕ)) (wind
   moving_shows left anchors =
       let is = part anchors.first anchors.copy anchors.in_order anchors.once in
       shows_now log records disk windows old may (with_anchors (moved_anchor log) at.image anchors.first anchors.copy) left (holds_anchors left anchors.first anchors.copy anchors.holds) is.shows
-      (λ s from. is.same s (omega (arith, from)) ∙ at.behind s from)
+      (λ s out. is.same s (λ e. out (inr (inl (inl e)))) (λ e. out (inr (inl (inr e)))) ∙ at.outside s out)
 
   module _ (left : Moment) (holds : Holds now (with_anchors (moved_anchor log) now.image 1 1) left) where
     worn_two : IsWorn (weak_of windows) (with_sector (with_sector at.image 8 (anchor_bytes (moved_anchor log))) 12 (anchor_bytes (moved_anchor log))) left.image
@@ -381,7 +381,7 @@ module _ (log : LogValue) (records : List Placed) (disk : List (List ℕ)) (wind
     )
 
     same_log : SameLog log.layout at.image (with_sector (with_sector at.image 8 (anchor_bytes (moved_anchor log))) 12 (anchor_bytes (moved_anchor log)))
-    same_log s within = same_two s (let from = within.0 in omega (arith, from))
+    same_log s within = let from = within.0 in same_two s (λ e. omega (arith, e, from)) (λ e. omega (arith, e, from))
 
     pub entered : IsLogWorn (moved log) (records_moved log.layout records) left → IsIndexed (moved log) (records_moved log.layout records) → IsEntered log records disk windows old left
     entered log_worn indexed =
@@ -398,5 +398,5 @@ module _ (log : LogValue) (records : List Placed) (disk : List (List ℕ)) (wind
             };
             indexed = indexed;
           };
-          kept = shows.kept;
+          outside = shows.outside;
         }

@@ -44,6 +44,7 @@ use Rattle.group_commit.proofs.GivenLaws.{given_is, never_lost}
 use Rattle.fsd_sound.proofs.LaidLaws.{own_worn}
 use Rattle.fsd_sound.proofs.MendLaws.{logged_shows}
 use Rattle.fsd_sound.proofs.AlikeLaws.{log_same, each_same}
+use Rattle.group_commit.specs.Force.{MayWrite}
 use Rattle.group_commit.specs.Entering.{Shows, IsAtHome, OwnsLog, IsHoming, MayHome}
 
 -- a write of two sectors over what holds
@@ -118,22 +119,22 @@ module _ (log : LogValue) (records : List Placed) (disk : List (List ℕ)) (wind
       cc
 
   pub begin : OwnsLog log records disk windows old.image → IsHoming log records disk windows old 0 old
-  begin over = record { image = old.image; holds = holds_now old; over = over; done = λ page lt. absurd (omega (arith, lt)); behind = λ s le. refl }
+  begin over = record { image = old.image; holds = holds_now old; over = over; done = λ page lt. absurd (omega (arith, lt)); outside = λ s out. refl }
 
-  pub shows_now : (e : Image) (left : Moment) → Holds old e left → ShowsPages log.layout windows (disk ∷ []) e → ((s : ℕ) → Rattle.volume_layout.specs.Layout.map_start log.layout ≤ s → sector_at e s ≡ sector_at old.image s) → Shows log.layout windows disk old left
-  shows_now e left holds shows behind = record {
+  pub shows_now : (e : Image) (left : Moment) → Holds old e left → ShowsPages log.layout windows (disk ∷ []) e → ((s : ℕ) → (MayWrite log.layout s → ⊥) → sector_at e s ≡ sector_at old.image s) → Shows log.layout windows disk old left
+  shows_now e left holds shows outside = record {
     shows = shows_still log.layout windows narrow (disk ∷ []) e left.image (weaker e left.image holds.worn) shows;
-    kept = λ s le. ⊎_elim (λ same. inl (same ∙ behind s le)) (λ hurt. inr hurt) (holds.worn.each s);
+    outside = λ s out. ⊎_elim (λ same. inl (same ∙ outside s out)) (λ hurt. inr hurt) (holds.worn.each s);
     windows = holds.windows;
     said = holds.said;
   }
 
   module _ (n : ℕ) (now : Moment) (at : IsHoming log records disk windows old n now) where
     pub still : (left : Moment) → Wears now left → IsHoming log records disk windows old n left
-    still left wears = record { image = at.image; holds = holds_wears old at.image now left at.holds wears; over = at.over; done = at.done; behind = at.behind }
+    still left wears = record { image = at.image; holds = holds_wears old at.image now left at.holds wears; over = at.over; done = at.done; outside = at.outside }
 
     pub stays : (left : Moment) → Wears now left → Shows log.layout windows disk old left
-    stays left wears = shows_now at.image left (holds_wears old at.image now left at.holds wears) at.over.shows at.behind
+    stays left wears = shows_now at.image left (holds_wears old at.image now left at.holds wears) at.over.shows at.outside
 
     -- none is left
     pub all_homed : ((q : ℕ) → n ≤ q → q < log.layout.pages → LastLiesIn log records log.anchor.third q → ⊥) → IsHoming log records disk windows old log.layout.pages now
@@ -142,7 +143,7 @@ module _ (log : LogValue) (records : List Placed) (disk : List (List ℕ)) (wind
       holds = at.holds;
       over = at.over;
       done = λ page lt within lies. ⊎_elim (λ before. at.done page before within lies) (λ from. absurd (none page from within lies)) (cases_lt page n);
-      behind = at.behind;
+      outside = at.outside;
     }
 
     long : home_b log.layout log.layout.pages ≤ length at.image
@@ -226,14 +227,14 @@ module _ (log : LogValue) (records : List Placed) (disk : List (List ℕ)) (wind
       homed_part (suc zero) (suc (suc k)) le once = absurd (omega (arith, le))
       homed_part (suc (suc j)) k le once = absurd (omega (arith, once))
 
-      part_behind : (e : Image) → Part e → (s : ℕ) → Rattle.volume_layout.specs.Layout.map_start log.layout ≤ s → sector_at e s ≡ sector_at old.image s
-      part_behind e part s from = part.others s (λ is. omega (arith, is, from, lt)) (λ is. omega (arith, is, from, lt)) ∙ at.behind s from
+      part_outside : (e : Image) → Part e → (s : ℕ) → (MayWrite log.layout s → ⊥) → sector_at e s ≡ sector_at old.image s
+      part_outside e part s out = part.others s (λ is. out (inr (inr (page, lt, inl is)))) (λ is. out (inr (inr (page, lt, inr is)))) ∙ at.outside s out
 
       pub homes_stay : (left : Moment) → HomesIn log.layout page bytes now left → Shows log.layout windows disk old left
       homes_stay left homes =
           let part = homed_part homes.first homes.second homes.in_order homes.once in
           shows_now (stand (stand at.image (home_a log.layout page) bytes homes.first) (home_b log.layout page) bytes homes.second) left
-          (over_two old now left at.image (home_a log.layout page) (home_b log.layout page) bytes homes.first homes.second at.holds homes.holds) part.over.shows (part_behind _ part)
+          (over_two old now left at.image (home_a log.layout page) (home_b log.layout page) bytes homes.first homes.second at.holds homes.holds) part.over.shows (part_outside _ part)
 
       -- the pages between have no image in the first third
       pub homes_next : bytes ≡ image_at disk page → ((q : ℕ) → n ≤ q → q < page → LastLiesIn log records log.anchor.third q → ⊥) → (new : Moment)
@@ -261,5 +262,5 @@ module _ (log : LogValue) (records : List Placed) (disk : List (List ℕ)) (wind
                 (λ from. absurd (between q from before lies)) (cases_lt q n))
                 (λ past. let here : q ≡ page = omega (arith, past, le) in subst (λ (k : ℕ). IsAtHome log.layout two k (image_at disk k)) (sym here) home)
                 (cases_lt q page);
-            behind = part_behind (with_sector (with_sector at.image (home_a log.layout page) bytes) (home_b log.layout page) bytes) part_two;
+            outside = part_outside (with_sector (with_sector at.image (home_a log.layout page) bytes) (home_b log.layout page) bytes) part_two;
           }

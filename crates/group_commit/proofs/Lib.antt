@@ -9,6 +9,7 @@ pub mod ImageLaws
 pub mod NewestLaws
 pub mod PlaceLaws
 pub mod RoomLaws
+pub mod RoundLaws
 pub mod ShownLaws
 pub mod StampLaws
 pub mod StampedPages

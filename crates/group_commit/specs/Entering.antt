@@ -1,7 +1,7 @@
 -- A force that comes round to the log's first third.
-use Rattle.std.specs.Prelude.{◌≡◌, ⊤, ℕ, ◌<◌, ◌≤◌, List, [], ◌∷◌, Ok}
+use Rattle.std.specs.Prelude.{◌≡◌, ⊤, false, ℕ, ◌<◌, ◌≤◌, List, [], ◌∷◌, Ok}
 use Rattle.volume_layout.specs.declared.layout.Layout.{Layout}
-use Rattle.volume_layout.specs.Layout.{plan, home_a, home_b, map_start}
+use Rattle.volume_layout.specs.Layout.{plan, home_a, home_b}
 use Rattle.sector_disk.specs.declared.sector.Sector.TheVariants.{Whole}
 use Rattle.sector_disk.specs.declared.sector.WeakRun.{WeakRun}
 use Rattle.sector_disk.specs.Image.{sector_at}
@@ -18,17 +18,18 @@ use Rattle.log_thirds.specs.Append.{IsIndexed, LastLiesIn}
 use Rattle.log_thirds.specs.Images.{AreLogged}
 use Rattle.log_thirds.specs.LogValue.{LogValue, FitsLayout}
 use Rattle.log_thirds.specs.Moving.{moved, records_moved}
-use Rattle.group_commit.specs.Force.{KeepsData}
+use Rattle.group_commit.specs.Force.{MayWrite, KeepsOutside}
+use Rattle.group_commit.specs.Room.{goes_before}
 use Rattle.fsd_sound.specs.Windows.{IsApart}
 
 -- both homes of the page are whole, with these bytes
 abbrev pub IsAtHome : Layout → Image → (page : ℕ) → List ℕ → Type 0
 IsAtHome l i page bytes = (sector_at i (home_a l page) ≡ Whole bytes) × (sector_at i (home_b l page) ≡ Whole bytes)
 
--- The disk shows these pages, and no data changes.
+-- The disk shows these pages, and only log, anchors and homes change.
 pub record Shows (l : Layout) (runs : List WeakRun) (disk : List (List ℕ)) (old left : Moment) : Type 0 where
   pub shows : ShowsPages l runs (disk ∷ []) left.image
-  pub kept : KeepsData l old left
+  pub outside : KeepsOutside l old left
   pub windows : left.windows ≡ old.windows
   pub said : left.said ≡ old.said
 
@@ -45,7 +46,7 @@ pub record IsHoming (log : LogValue) (records : List Placed) (disk : List (List 
   pub holds : Holds old image now
   pub over : OwnsLog log records disk windows image
   pub done : (page : ℕ) → page < n → page < log.layout.pages → LastLiesIn log records log.anchor.third page → IsAtHome log.layout image page (image_at disk page)
-  pub behind : (s : ℕ) → map_start log.layout ≤ s → sector_at image s ≡ sector_at old.image s
+  pub outside : (s : ℕ) → (MayWrite log.layout s → ⊥) → sector_at image s ≡ sector_at old.image s
 
 -- The window's run is narrow.
 pub record MayHome (log : LogValue) (windows : List WeakRun) (old : Moment) : Type 0 where
@@ -57,12 +58,17 @@ pub record MayHome (log : LogValue) (windows : List WeakRun) (old : Moment) : Ty
 -- At the end of it the disk shows the same pages, and the log is what lies behind the first third.
 pub record IsEntered (log : LogValue) (records : List Placed) (disk : List (List ℕ)) (windows : List WeakRun) (old new : Moment) : Type 0 where
   pub over : OwnsLog (moved log) (records_moved log.layout records) disk windows new.image
-  pub kept : KeepsData log.layout old new
+  pub outside : KeepsOutside log.layout old new
 
 -- a failed call of the disk is told; a lost image's cause lies on the disk
 abbrev pub HomeCause : Report → Report → LoadFault → Type 0
 HomeCause old new (Device place) = DeviceFault old new place
 HomeCause old new (Lost a b) = ⊤
+
+-- a failed call of the disk is told; an image is lost only where the record enters the first third
+abbrev pub RecordCause : LogValue → (n : ℕ) → Report → Report → LoadFault → Type 0
+RecordCause log n old new (Device place) = DeviceFault old new place
+RecordCause log n old new (Lost a b) = goes_before log n ≡ false
 
 -- both sectors of a page's last image are damaged
 abbrev pub LosesLogged : LogValue → Image → LoadFault → Type 0
@@ -72,4 +78,4 @@ LosesLogged log i fault = (page : ℕ) × LostCause (AreLogged log page) i fault
 pub record HasRoomNow (log : LogValue) (disk : List (List ℕ)) (windows : List WeakRun) (old new : Moment) : Type 0 where
   pub records : List Placed
   pub over : OwnsLog log records disk windows new.image
-  pub kept : KeepsData log.layout old new
+  pub outside : KeepsOutside log.layout old new

@@ -1,5 +1,5 @@
 //! Entering the log's first third again: its pages are written home, and then the anchor moves on.
-ghost use Rattle.std.specs.Prelude.{◌≡◌, ◌≢◌, ◌<◌, ◌≤◌, ◌+◌, ◌*◌, ◌^◌, ℕ, List, length, Some, None, slice_index_or, IfErr, OnOk, OnErr};
+ghost use Rattle.std.specs.Prelude.{◌≡◌, ◌≢◌, true, false, ◌<◌, ◌≤◌, ◌+◌, ◌*◌, ◌^◌, ℕ, List, length, Some, None, slice_index_or, IfErr, OnOk, OnErr};
 ghost use Rattle.sector_disk.specs.Damage.{IsDevice};
 ghost use Rattle.sector_disk.specs.declared.sector.WeakRun.{WeakRun};
 ghost use Rattle.sector_disk.specs.Machine.{Moment, UsesDisk, Trusts, OnlyWrites, LeavesOnly, wrote};
@@ -8,8 +8,8 @@ ghost use Rattle.fsd_log.specs.Scan.{Placed, HasRoom};
 ghost use Rattle.log_thirds.specs.Append.{LastLiesIn};
 ghost use Rattle.log_thirds.specs.Moving.{moved, records_moved, EndsInLastThird};
 ghost use Rattle.log_thirds.specs.Append.{stamp_now};
-ghost use Rattle.group_commit.specs.Room.{log_before, pages_in_first, sectors_before};
-ghost use Rattle.group_commit.specs.Entering.{HasRoomNow, Shows, OwnsLog, IsHoming, IsEntered, MayHome, HomeCause, LosesLogged};
+ghost use Rattle.group_commit.specs.Room.{goes_before, log_before, pages_in_first, sectors_before};
+ghost use Rattle.group_commit.specs.Entering.{HasRoomNow, Shows, OwnsLog, IsHoming, IsEntered, MayHome, HomeCause, RecordCause, LosesLogged};
 
 use log_thirds::{Log, Place};
 use sector_disk::{LoadFault, Machine};
@@ -112,11 +112,11 @@ pub(crate) fn enter_third<M: Machine>(m: &mut M, log: &mut Log, third: u32) -> R
 }
 
 /// Makes room for a record of so many pages: where it would enter the log's first third, the pages of that third are written
-/// home, and the anchor moves on.
+/// home, and the anchor moves on; else nothing is done.
 pub fn make_room<M: Machine>(m: &mut M, log: &mut Log, count: u32) -> Result<(), LoadFault>
     requires few { count ≤ 96 }
     requires sectors { log.old.layout.sectors ≤ (M.report m.old).sectors }
-    ensures fault { IfErr result (HomeCause (M.report m.old) (M.report m.new)) }
+    ensures fault { IfErr result (RecordCause log.old count (M.report m.old) (M.report m.new)) }
     ensures uses { UsesDisk (M.report m.old) (M.report m.new) }
     ensures trust { Trusts (M.tells m.old) (M.tells m.new) (M.honest m.old) (M.honest m.new) }
     ensures ledger { M.tells m.new → OnlyWrites (M.ledger m.old) (M.ledger m.new) }
@@ -130,6 +130,8 @@ pub fn make_room<M: Machine>(m: &mut M, log: &mut Log, count: u32) -> Result<(),
     ensures lost { IfErr result (λ fault. M.honest m.new → LosesLogged log.old (M.now m.new).image fault) }
     ensures never_lost { IfErr result (λ fault. (records : List Placed) (disk : List (List ℕ)) (windows : List WeakRun) → M.honest m.new → MayHome log.old windows (M.now m.old) →
         OwnsLog log.old records disk windows (M.now m.old).image → IsDevice fault) }
+    ensures idle { goes_before log.old count ≡ true → m.new ≡ m.old }
+    ensures enters { OnErr result (goes_before log.old count ≡ false) }
     ensures past { OnOk result (log.new ≡ log_before log.old count) }
     ensures room { OnOk result (HasRoom log.new.layout count log.new.head) }
     ensures layout { log.new.layout ≡ log.old.layout }

@@ -1,4 +1,5 @@
-use Rattle.std.proofs.Common.{◌≡◌, ℕ, List, sym, subst}
+use Rattle.std.proofs.Common.{◌≡◌, ℕ, List, false, sym, subst}
+use Rattle.std.proofs.lemmas.Result.{IfErr-weaker}
 use Rattle.sector_disk.specs.declared.sector.WeakRun.{WeakRun}
 use Rattle.sector_disk.proofs.Moments.{started}
 use Rattle.fsd_log.specs.Scan.{Placed}
@@ -6,10 +7,21 @@ use Rattle.log_thirds.specs.LogValue.{LogValue}
 use Rattle.log_thirds.specs.Moving.{moved, records_moved}
 use Rattle.log_thirds.proofs.ReadingLaws.{wears_here}
 use Rattle.group_commit.specs.Entering.{Shows, OwnsLog, IsEntered, HasRoomNow, MayHome}
-use Rattle.group_commit.specs.Force.{KeepsData}
+use Rattle.group_commit.specs.Force.{KeepsOutside}
 use Rattle.group_commit.proofs.HomingLaws.{begin, stays}
-use Rattle.group_commit.proofs.RoomLaws.{on_ok_both}
+use Rattle.group_commit.proofs.RoomLaws.{on_ok_both, on_err_any, first_again, record_cause}
+use Rattle.group_commit.specs.Room.{goes_before}
 use Rattle.group_commit.proofs.entering.make_room.Goals as goal
+
+pub returns-in-FirstThird-clause-fault : goal.returns-in-FirstThird-clause-fault
+returns-in-FirstThird-clause-fault g c =
+    let M = g.M.Machine in
+    let enters = first_again c.args.log.now c.args.count c.in-FirstThird.ensures.0.0 c.in-FirstThird.ensures.0.1 in
+    IfErr-weaker c.enter_third.result _ _ (record_cause c.args.log.now c.args.count (M.report c.args.m.now) (M.report c.enter_third.new.m) enters) c.enter_third.ensures.fault
+
+pub returns-in-FirstThird-clause-enters : goal.returns-in-FirstThird-clause-enters
+returns-in-FirstThird-clause-enters g c =
+    on_err_any (goes_before c.args.log.now c.args.count ≡ false) c.enter_third.result (first_again c.args.log.now c.args.count c.in-FirstThird.ensures.0.0 c.in-FirstThird.ensures.0.1)
 
 pub returns-in-FirstThird-clause-done : goal.returns-in-FirstThird-clause-done
 returns-in-FirstThird-clause-done g c =
@@ -26,7 +38,7 @@ returns-in-FirstThird-clause-done g c =
     record {
       records = records_moved log.layout records;
       over = subst (λ (x : LogValue). OwnsLog x (records_moved log.layout records) disk windows new.image) (sym past) is.over;
-      kept = subst (λ (x : LogValue). KeepsData x.layout old new) (sym past) is.kept;
+      outside = subst (λ (x : LogValue). KeepsOutside x.layout old new) (sym past) is.outside;
     })
     c.enter_third.ensures.past c.enter_third.ensures.done
 

@@ -1,152 +1,190 @@
-use Rattle.std.proofs.Common.{◌≡◌, ◌*◌, ◌≤◌, ℕ, true, List, [], length, take, sym, ap, subst, ◌∙◌, arith}
+use Rattle.std.proofs.Common.{◌≡◌, ◌*◌, ◌≤◌, ℕ, true, List, [], length, map, take, sym, ap, subst, ◌∙◌, arith}
 use Rattle.std.proofs.lemmas.List.{length-take-le}
-use Rattle.fsd_formats.specs.Record.{Stamp, are_pages}
+use Rattle.volume_layout.specs.declared.layout.Layout.{Layout}
+use Rattle.fsd_formats.specs.Record.{Stamp, are_pages, AreStamped}
+use Rattle.fsd_log.specs.Laid.{slices}
+use Rattle.fsd_sound.specs.Mounted.{image_at}
+use Rattle.sector_disk.specs.Damage.{IsDevice}
+use Rattle.group_commit.proofs.CountLaws.{handed_up}
 use Rattle.fsd_log.specs.Borne.{FitsStamp}
-use Rattle.sector_disk.proofs.Moments.{leaves_more}
+use Rattle.fsd_log.specs.Scan.{Placed}
+use Rattle.sector_disk.specs.declared.sector.WeakRun.{WeakRun}
+use Rattle.sector_disk.specs.Machine.{LeavesOnly}
+use Rattle.sector_disk.proofs.Moments.{leaves_more, then_on}
+use Rattle.fsd_sound.specs.Sound.{EndIn}
+use Rattle.fsd_sound.proofs.WindowLaws.{short_apart}
 use Rattle.log_thirds.specs.LogValue.{LogValue}
-use Rattle.log_thirds.specs.Append.{stamp_now, log_with, IsIndexed}
+use Rattle.log_thirds.specs.Append.{stamp_now, log_with}
 use Rattle.fsd_log.proofs.TornLaws.{are_few}
 use Rattle.log_thirds.proofs.MomentLaws.{all_small}
-use Rattle.group_commit.specs.Resident.{ResidentValue, stamped}
-use Rattle.group_commit.specs.Force.{Committed}
-use Rattle.group_commit.proofs.ImageLaws.{record_laid}
-use Rattle.fsd_sound.proofs.WindowLaws.{short_apart}
-use Rattle.group_commit.proofs.ForceLaws.{force_here, commits, committed, log_in_window}
 use Rattle.log_thirds.proofs.RunLaws.{narrow_runs}
 use Rattle.sector_disk.specs.Image.{open_damage}
 use Rattle.sector_disk.proofs.Wear.{worn_refl}
-use Rattle.group_commit.proofs.StandsLaws.{knows_images, knows_log}
+use Rattle.group_commit.specs.Entering.{HasRoomNow, MayHome, Shows}
+use Rattle.group_commit.specs.Force.{StandsOver, Commits, Committed}
+use Rattle.group_commit.specs.Newest.{KnowsImages}
+use Rattle.group_commit.specs.Resident.{ResidentValue, stamped}
+use Rattle.group_commit.proofs.ImageLaws.{IsRecordOf, record_laid}
+use Rattle.group_commit.proofs.RoundLaws.{may_home, owns, making, stands, commits_on, ends_then}
+use Rattle.group_commit.proofs.ForceLaws.{MayForceHere, force_here, commits, committed, log_in_window}
+use Rattle.group_commit.proofs.StandsLaws.{knows_log}
+use Rattle.group_commit.proofs.force.write_pages.Given as given
 use Rattle.group_commit.proofs.force.write_pages.Goals as goal
+use Rattle.group_commit.proofs.force.write_pages.Goals.{After-append}
+
+-- ---- where room was made and the record written
+
+home_here : (g : given.Over) (c : After-append g) (windows : List WeakRun) → g.M.Machine.honest c.append.new.m → EndIn (g.M.Machine.now c.args.m.now).windows windows → MayHome c.args.log.now windows (g.M.Machine.now c.args.m.now)
+home_here g c windows h ends =
+    may_home c.args.log.now c.layout-layout.result.now windows (g.M.Machine.now c.args.m.now) c.layout-layout.ensures.value c.pages-pages.ensures.planned c.layout-layout.ensures.shape
+    (g.met.M.Machine.short c.args.m.now (c.make_room.ensures.trust.honest (c.append.ensures.trust.honest h))) ends
+
+abbrev s : (g : given.Over) (c : After-append g) → ResidentValue
+s g c = record { pages = c.args.pages.now; dirty = c.args.dirty.now }
+
+abbrev images : (g : given.Over) (c : After-append g) → List ℕ
+images g c = take (512 * length c.args.dirty.now) c.lay_images.new.room
+
+stamp : (g : given.Over) (c : After-append g) → let read : Stamp = record { epoch = c.epoch.result; number = c.next_number.result } in read ≡ stamp_now c.args.log.now
+stamp g c = λ i. record { epoch = c.epoch.ensures i; number = c.next_number.ensures i }
+
+laid : (g : given.Over) (c : After-append g) → IsRecordOf (stamp_now c.args.log.now) c.args.dirty.now (stamped (stamp_now c.args.log.now) c.args.dirty.now c.args.pages.now) (images g c)
+laid g c =
+    let read : Stamp = record { epoch = c.epoch.result; number = c.next_number.result } in
+    let fits : FitsStamp read = record { epoch = c.epoch.type_inv; number = c.next_number.type_inv } in
+    let are : are_pages (length c.args.pages.now) c.args.dirty.now ≡ true = ap (λ (n : ℕ). are_pages n c.args.dirty.now) c.requires.table ∙ c.requires.accepted in
+    record_laid (stamp_now c.args.log.now) read fits (stamp g c) (s g c) are c.requires.images c.told-pages c.stamp_pages.new.pages (images g c) c.stamp_pages.ensures c.lay_images.ensures
+
+made : (g : given.Over) (c : After-append g) (windows : List WeakRun) (records : List Placed) (disk : List (List ℕ)) → g.M.Machine.honest c.append.new.m → EndIn (g.M.Machine.now c.args.m.now).windows windows
+    → StandsOver c.args.log.now records disk (s g c) windows (g.M.Machine.now c.args.m.now).image → KnowsImages c.args.log.now (g.M.Machine.now c.args.m.now).image
+    → HasRoomNow c.make_room.new.log disk windows (g.M.Machine.now c.args.m.now) (g.M.Machine.now c.make_room.new.m)
+made g c windows records disk h ends over known =
+    c.in_ok-make_room.ensures.done records disk windows (c.append.ensures.trust.honest h) (home_here g c windows h ends) (owns c.args.log.now (s g c) records disk windows (g.M.Machine.now c.args.m.now) over known)
+
+may : (g : given.Over) (c : After-append g) (windows : List WeakRun) (records : List Placed) (disk : List (List ℕ)) (h : g.M.Machine.honest c.append.new.m) (ends : EndIn (g.M.Machine.now c.args.m.now).windows windows)
+    (over : StandsOver c.args.log.now records disk (s g c) windows (g.M.Machine.now c.args.m.now).image) (known : KnowsImages c.args.log.now (g.M.Machine.now c.args.m.now).image)
+    → MayForceHere c.make_room.new.log (s g c) (images g c) (made g c windows records disk h ends over known).records disk windows (g.M.Machine.now c.make_room.new.m)
+may g c windows records disk h ends over known =
+    let M = g.M.Machine in
+    let mid = M.now c.make_room.new.m in
+    let h1 = c.append.ensures.trust.honest h in
+    let log = c.args.log.now in
+    let after = c.make_room.new.log in
+    let few : length c.args.dirty.now ≤ 96 = are_few log.layout.pages c.args.dirty.now c.requires.accepted in
+    let long : length (images g c) ≡ 512 * length c.args.dirty.now = length-take-le (512 * length c.args.dirty.now) c.lay_images.new.room (omega (arith, c.lay_images.auto.room, c.requires.long)) in
+    let then = ends_then log (s g c) records disk windows (M.now c.args.m.now) over after mid (made g c windows records disk h ends over known) c.make_room.ensures.layout c.make_room.ensures.stamp (c.make_room.ensures.windows h1) (c.make_room.ensures.quiet h1) ends in
+    let sized : after.layout.sectors ≤ length mid.image = omega (arith, ap (λ (l : Layout). l.sectors) c.make_room.ensures.layout, c.requires.sectors, c.make_room.ensures.uses.sectors, g.met.M.Machine.sized c.make_room.new.m h1) in
+    force_here after (s g c) (images g c) (made g c windows records disk h ends over known).records disk windows mid (record {
+      shape = c.append.ensures.shape;
+      number = omega (arith, ap (λ (t : Stamp). t.number) c.make_room.ensures.stamp, c.requires.numbered);
+      accepted = ap (λ (l : Layout). are_pages l.pages c.args.dirty.now) c.make_room.ensures.layout ∙ c.requires.accepted;
+      small = all_small c.args.dirty.now (λ k. omega (arith, c.type_inv.dirty k));
+      bytes = long;
+      slices_are = subst (λ (t : Stamp). slices (length c.args.dirty.now) (images g c) ≡ map (image_at (stamped t c.args.dirty.now c.args.pages.now)) c.args.dirty.now) (sym c.make_room.ensures.stamp) (laid g c).slices_are;
+      bear = subst (λ (t : Stamp). AreStamped t c.args.dirty.now (slices (length c.args.dirty.now) (images g c))) (sym c.make_room.ensures.stamp) (laid g c).bear;
+      room = c.in_ok-make_room.ensures.room;
+      sized = sized;
+      table = c.requires.table ∙ ap (λ (l : Layout). l.pages) (sym c.make_room.ensures.layout);
+      few = omega (arith, c.append.ensures.shape.pages);
+      apart = (home_here g c windows h ends).apart;
+      ends = then;
+      over = stands log (s g c) records disk windows (M.now c.args.m.now) over after mid (made g c windows records disk h ends over known) c.make_room.ensures.layout c.make_room.ensures.stamp (c.make_room.ensures.windows h1) (c.make_room.ensures.quiet h1);
+    })
+
+moments : (g : given.Over) (c : After-append g) (windows : List WeakRun) (records : List Placed) (disk : List (List ℕ)) (h : g.M.Machine.honest c.append.new.m) (ends : EndIn (g.M.Machine.now c.args.m.now).windows windows)
+    (over : StandsOver c.args.log.now records disk (s g c) windows (g.M.Machine.now c.args.m.now).image) (known : KnowsImages c.args.log.now (g.M.Machine.now c.args.m.now).image)
+    → LeavesOnly g.M.Machine.moment g.M.Machine.left_since c.args.m.now c.append.new.m (Commits c.args.log.now.layout windows disk (stamped (stamp_now c.args.log.now) c.args.dirty.now c.args.pages.now) (g.M.Machine.now c.args.m.now))
+moments g c windows records disk h ends over known =
+    let M = g.M.Machine in
+    let old = M.now c.args.m.now in
+    let mid = M.now c.make_room.new.m in
+    let log = c.args.log.now in
+    let after = c.make_room.new.log in
+    let h1 = c.append.ensures.trust.honest h in
+    let now = stamped (stamp_now log) c.args.dirty.now c.args.pages.now in
+    let room = made g c windows records disk h ends over known in
+    let is = may g c windows records disk h ends over known in
+    then_on M.moment M.left_since c.args.m.now c.make_room.new.m c.append.new.m (Commits log.layout windows disk now old)
+    (leaves_more M.moment M.left_since c.args.m.now c.make_room.new.m (Shows log.layout windows disk old) (Commits log.layout windows disk now old) (making log (s g c) records disk windows old over now)
+    (c.make_room.ensures.any_moment records disk windows h1 (home_here g c windows h ends) (owns log (s g c) records disk windows old over known)))
+    (leaves_more M.moment M.left_since c.make_room.new.m c.append.new.m _ (Commits log.layout windows disk now old)
+    (λ left app. commits_on log (s g c) records disk windows old over after mid room c.make_room.ensures.layout c.make_room.ensures.stamp (c.make_room.ensures.windows h1) (c.make_room.ensures.quiet h1) left
+    (commits after (s g c) (images g c) room.records disk windows mid is left app.part))
+    (c.append.ensures.worn_moment room.records h (log_in_window after (s g c) room.records disk windows mid is.few c.append.ensures.shape.epoch c.append.ensures.shape.third is.apart is.ends is.over)))
 
 pub append-requires-clause-stamped : goal.append-requires-clause-stamped
 append-requires-clause-stamped g c =
     let log = c.args.log.now in
+    let images : List ℕ = take (512 * length c.args.dirty.now) c.lay_images.new.room in
     let s : ResidentValue = record { pages = c.args.pages.now; dirty = c.args.dirty.now } in
     let read : Stamp = record { epoch = c.epoch.result; number = c.next_number.result } in
     let stamp : read ≡ stamp_now log = λ i. record { epoch = c.epoch.ensures i; number = c.next_number.ensures i } in
     let fits : FitsStamp read = record { epoch = c.epoch.type_inv; number = c.next_number.type_inv } in
     let are : are_pages (length c.args.pages.now) c.args.dirty.now ≡ true = ap (λ (n : ℕ). are_pages n c.args.dirty.now) c.requires.table ∙ c.requires.accepted in
-    (record_laid (stamp_now log) read fits stamp s are c.requires.images c.told-pages c.stamp_pages.new.pages (take (512 * length c.args.dirty.now) c.lay_images.new.room) c.stamp_pages.ensures c.lay_images.ensures).bear
+    subst (λ (t : Stamp). AreStamped t c.args.dirty.now (slices (length c.args.dirty.now) images)) (sym c.make_room.ensures.stamp)
+    (record_laid (stamp_now log) read fits stamp s are c.requires.images c.told-pages c.stamp_pages.new.pages images c.stamp_pages.ensures c.lay_images.ensures).bear
 
-pub returns-in_err-append-clause-any_moment : goal.returns-in_err-append-clause-any_moment
-returns-in_err-append-clause-any_moment g c windows records disk h1 ends over =
+-- ---- where no room was made
+
+pub returns-in_err-make_room-clause-any_moment : goal.returns-in_err-make_room-clause-any_moment
+returns-in_err-make_room-clause-any_moment g c windows records disk h ends over known =
     let M = g.M.Machine in
     let old = M.now c.args.m.now in
     let log = c.args.log.now in
     let s : ResidentValue = record { pages = c.args.pages.now; dirty = c.args.dirty.now } in
-    let images : List ℕ = take (512 * length c.args.dirty.now) c.lay_images.new.room in
-    let read : Stamp = record { epoch = c.epoch.result; number = c.next_number.result } in
-    let stamp : read ≡ stamp_now log = λ i. record { epoch = c.epoch.ensures i; number = c.next_number.ensures i } in
-    let fits : FitsStamp read = record { epoch = c.epoch.type_inv; number = c.next_number.type_inv } in
-    let are : are_pages (length c.args.pages.now) c.args.dirty.now ≡ true = ap (λ (n : ℕ). are_pages n c.args.dirty.now) c.requires.table ∙ c.requires.accepted in
-    let of = record_laid (stamp_now log) read fits stamp s are c.requires.images c.told-pages c.stamp_pages.new.pages images c.stamp_pages.ensures c.lay_images.ensures in
-    let few : length c.args.dirty.now ≤ 96 = are_few log.layout.pages c.args.dirty.now c.requires.accepted in
-    let long : length images ≡ 512 * length c.args.dirty.now = length-take-le (512 * length c.args.dirty.now) c.lay_images.new.room (omega (arith, c.lay_images.auto.room, c.requires.long)) in
-    let apart = short_apart old.windows windows (g.met.M.Machine.short c.args.m.now (c.append.ensures.trust.honest h1)) ends in
-    let sized : log.layout.sectors ≤ length old.image = omega (arith, c.requires.sectors, g.met.M.Machine.sized c.args.m.now (c.append.ensures.trust.honest h1)) in
-    let may = force_here log s images records disk windows old (record {
-      shape = c.append.ensures.shape;
-      number = c.requires.numbered;
-      accepted = c.requires.accepted;
-      small = all_small c.args.dirty.now (λ k. omega (arith, c.type_inv.dirty k));
-      bytes = long;
-      slices_are = of.slices_are;
-      bear = of.bear;
-      room = c.requires.fits;
-      sized = sized;
-      table = c.requires.table;
-      few = omega (arith, c.append.ensures.shape.pages);
-      apart = apart;
-      ends = ends;
-      over = over;
-    }) in
-    leaves_more M.moment M.left_since c.args.m.now c.append.new.m _ _
-    (λ left app. commits log s images records disk windows old may left app.part)
-    (c.append.ensures.worn_moment records h1 (log_in_window log s records disk windows old (omega (arith, c.append.ensures.shape.pages)) c.append.ensures.shape.epoch c.append.ensures.shape.third apart ends over))
+    let now = stamped (stamp_now log) c.args.dirty.now c.args.pages.now in
+    let home = may_home log c.layout-layout.result.now windows old c.layout-layout.ensures.value c.pages-pages.ensures.planned c.layout-layout.ensures.shape (g.met.M.Machine.short c.args.m.now (c.make_room.ensures.trust.honest h)) ends in
+    leaves_more M.moment M.left_since c.args.m.now c.make_room.new.m (Shows log.layout windows disk old) (Commits log.layout windows disk now old) (making log s records disk windows old over now)
+    (c.make_room.ensures.any_moment records disk windows h home (owns log s records disk windows old over known))
 
-pub returns-clause-any_moment : goal.returns-clause-any_moment
-returns-clause-any_moment g c windows records disk h1 ends over =
+pub returns-in_err-make_room-clause-never_lost : goal.returns-in_err-make_room-clause-never_lost
+returns-in_err-make_room-clause-never_lost g c =
     let M = g.M.Machine in
     let old = M.now c.args.m.now in
     let log = c.args.log.now in
     let s : ResidentValue = record { pages = c.args.pages.now; dirty = c.args.dirty.now } in
-    let images : List ℕ = take (512 * length c.args.dirty.now) c.lay_images.new.room in
-    let read : Stamp = record { epoch = c.epoch.result; number = c.next_number.result } in
-    let stamp : read ≡ stamp_now log = λ i. record { epoch = c.epoch.ensures i; number = c.next_number.ensures i } in
-    let fits : FitsStamp read = record { epoch = c.epoch.type_inv; number = c.next_number.type_inv } in
-    let are : are_pages (length c.args.pages.now) c.args.dirty.now ≡ true = ap (λ (n : ℕ). are_pages n c.args.dirty.now) c.requires.table ∙ c.requires.accepted in
-    let of = record_laid (stamp_now log) read fits stamp s are c.requires.images c.told-pages c.stamp_pages.new.pages images c.stamp_pages.ensures c.lay_images.ensures in
-    let few : length c.args.dirty.now ≤ 96 = are_few log.layout.pages c.args.dirty.now c.requires.accepted in
-    let long : length images ≡ 512 * length c.args.dirty.now = length-take-le (512 * length c.args.dirty.now) c.lay_images.new.room (omega (arith, c.lay_images.auto.room, c.requires.long)) in
-    let apart = short_apart old.windows windows (g.met.M.Machine.short c.args.m.now (c.append.ensures.trust.honest h1)) ends in
-    let sized : log.layout.sectors ≤ length old.image = omega (arith, c.requires.sectors, g.met.M.Machine.sized c.args.m.now (c.append.ensures.trust.honest h1)) in
-    let may = force_here log s images records disk windows old (record {
-      shape = c.append.ensures.shape;
-      number = c.requires.numbered;
-      accepted = c.requires.accepted;
-      small = all_small c.args.dirty.now (λ k. omega (arith, c.type_inv.dirty k));
-      bytes = long;
-      slices_are = of.slices_are;
-      bear = of.bear;
-      room = c.requires.fits;
-      sized = sized;
-      table = c.requires.table;
-      few = omega (arith, c.append.ensures.shape.pages);
-      apart = apart;
-      ends = ends;
-      over = over;
-    }) in
-    leaves_more M.moment M.left_since c.args.m.now c.append.new.m _ _
-    (λ left app. commits log s images records disk windows old may left app.part)
-    (c.append.ensures.worn_moment records h1 (log_in_window log s records disk windows old (omega (arith, c.append.ensures.shape.pages)) c.append.ensures.shape.epoch c.append.ensures.shape.third apart ends over))
+    handed_up (λ fault. (windows : List WeakRun) (records : List Placed) (disk : List (List ℕ)) → M.honest c.make_room.new.m → EndIn old.windows windows → StandsOver log records disk s windows old.image → KnowsImages log old.image → IsDevice fault)
+    c.from_residual.result c.in_err-make_room.field-0.0 c.from_residual.ensures.1
+    (λ windows records disk h ends over known. c.in_err-make_room.ensures.never_lost records disk windows h
+    (may_home log c.layout-layout.result.now windows old c.layout-layout.ensures.value c.pages-pages.ensures.planned c.layout-layout.ensures.shape (g.met.M.Machine.short c.args.m.now (c.make_room.ensures.trust.honest h)) ends)
+    (owns log s records disk windows old over known))
 
-pub returns-clause-done : goal.returns-clause-done
-returns-clause-done g c windows records disk h1 ends over =
+pub returns-in-Err-clause-lost : goal.returns-in-Err-clause-lost
+returns-in-Err-clause-lost g c h = (0, tt)
+
+pub returns-in-Err-clause-any_moment : goal.returns-in-Err-clause-any_moment
+returns-in-Err-clause-any_moment g c windows records disk h ends over known = moments g (goal.at.returns-in-Err-clause-any_moment g c).After-append windows records disk h ends over known
+
+pub returns-in-Ok-clause-any_moment : goal.returns-in-Ok-clause-any_moment
+returns-in-Ok-clause-any_moment g c windows records disk h ends over known = moments g (goal.at.returns-in-Ok-clause-any_moment g c).After-append windows records disk h ends over known
+
+pub returns-in-Ok-clause-done : goal.returns-in-Ok-clause-done
+returns-in-Ok-clause-done g c windows records disk h ends over known =
     let M = g.M.Machine in
-    let old = M.now c.args.m.now in
+    let c1 = (goal.at.returns-in-Ok-clause-done g c).After-append in
+    let mid = M.now c.make_room.new.m in
+    let image = (M.now c.append.new.m).image in
     let log = c.args.log.now in
-    let s : ResidentValue = record { pages = c.args.pages.now; dirty = c.args.dirty.now } in
-    let images : List ℕ = take (512 * length c.args.dirty.now) c.lay_images.new.room in
-    let read : Stamp = record { epoch = c.epoch.result; number = c.next_number.result } in
-    let stamp : read ≡ stamp_now log = λ i. record { epoch = c.epoch.ensures i; number = c.next_number.ensures i } in
-    let fits : FitsStamp read = record { epoch = c.epoch.type_inv; number = c.next_number.type_inv } in
-    let are : are_pages (length c.args.pages.now) c.args.dirty.now ≡ true = ap (λ (n : ℕ). are_pages n c.args.dirty.now) c.requires.table ∙ c.requires.accepted in
-    let of = record_laid (stamp_now log) read fits stamp s are c.requires.images c.told-pages c.stamp_pages.new.pages images c.stamp_pages.ensures c.lay_images.ensures in
-    let few : length c.args.dirty.now ≤ 96 = are_few log.layout.pages c.args.dirty.now c.requires.accepted in
-    let long : length images ≡ 512 * length c.args.dirty.now = length-take-le (512 * length c.args.dirty.now) c.lay_images.new.room (omega (arith, c.lay_images.auto.room, c.requires.long)) in
-    let apart = short_apart old.windows windows (g.met.M.Machine.short c.args.m.now (c.append.ensures.trust.honest h1)) ends in
-    let sized : log.layout.sectors ≤ length old.image = omega (arith, c.requires.sectors, g.met.M.Machine.sized c.args.m.now (c.append.ensures.trust.honest h1)) in
-    let may = force_here log s images records disk windows old (record {
-      shape = c.append.ensures.shape;
-      number = c.requires.numbered;
-      accepted = c.requires.accepted;
-      small = all_small c.args.dirty.now (λ k. omega (arith, c.type_inv.dirty k));
-      bytes = long;
-      slices_are = of.slices_are;
-      bear = of.bear;
-      room = c.requires.fits;
-      sized = sized;
-      table = c.requires.table;
-      few = omega (arith, c.append.ensures.shape.pages);
-      apart = apart;
-      ends = ends;
-      over = over;
-    }) in
-    let past : c.append.new.self ≡ log_with log c.args.dirty.now = c.in_ok-append.ensures.past in
-    let stamped_as : c.stamp_pages.new.pages ≡ stamped (stamp_now log) c.args.dirty.now c.args.pages.now = c.stamp_pages.ensures ∙ ap (λ (t : Stamp). stamped t c.args.dirty.now c.args.pages.now) stamp in
-    let done = committed log s images records disk windows old may (M.now c.append.new.m) (c.in_ok-append.ensures.stands h1) in
-    subst (λ (x : LogValue). Committed x (record { pages = c.stamp_pages.new.pages; dirty = [] }) windows (M.now c.append.new.m).image) (sym past)
-    (subst (λ (p : List (List ℕ)). Committed (log_with log c.args.dirty.now) (record { pages = p; dirty = [] }) windows (M.now c.append.new.m).image) (sym stamped_as) (record { records = done.records; stands = done.stands }))
+    let after = c.make_room.new.log in
+    let room = made g c1 windows records disk h ends over known in
+    let is = may g c1 windows records disk h ends over known in
+    let past : c.append.new.self ≡ log_with after c.args.dirty.now = c.in-Ok.ensures.past in
+    let stamped_as : c.stamp_pages.new.pages ≡ stamped (stamp_now after) c.args.dirty.now c.args.pages.now =
+    c.stamp_pages.ensures ∙ ap (λ (t : Stamp). stamped t c.args.dirty.now c.args.pages.now) (stamp g c1 ∙ sym c.make_room.ensures.stamp) in
+    let done = committed after (s g c1) (images g c1) room.records disk windows mid is (M.now c.append.new.m) (c.in-Ok.ensures.stands h) in
+    subst (λ (x : LogValue). Committed x (record { pages = c.stamp_pages.new.pages; dirty = [] }) windows image) (sym past)
+    (subst (λ (p : List (List ℕ)). Committed (log_with after c.args.dirty.now) (record { pages = p; dirty = [] }) windows image) (sym stamped_as) (record { records = done.records; stands = done.stands }))
 
-pub returns-clause-knows : goal.returns-clause-knows
-returns-clause-knows g c windows records disk h ends over known =
+pub returns-in-Ok-clause-knows : goal.returns-in-Ok-clause-knows
+returns-in-Ok-clause-knows g c windows records disk h ends over kept =
     let M = g.M.Machine in
-    let old = M.now c.args.m.now in
+    let c1 = (goal.at.returns-in-Ok-clause-knows g c).After-append in
+    let mid = M.now c.make_room.new.m in
     let new = M.now c.append.new.m in
-    let log = c.args.log.now in
-    let s : ResidentValue = record { pages = c.args.pages.now; dirty = c.args.dirty.now } in
-    let short = g.met.M.Machine.short c.args.m.now (c.append.ensures.trust.honest h) in
-    let indexed : IsIndexed c.args.log.now records = (knows_images log log.head records disk c.args.pages.now c.args.dirty.now windows old.image over).0 known in
-    let before = log_in_window log s records disk windows old (omega (arith, c.append.ensures.shape.pages)) c.append.ensures.shape.epoch c.append.ensures.shape.third (short_apart old.windows windows short ends) ends over in
-    let after = c.in_ok-append.ensures.worn_done records h (λ p d x y far. narrow_runs old.windows.present old.windows.next short.present short.next p d x y far) before in
-    knows_log c.append.new.self _ new (after new.image (worn_refl (open_damage new.windows) new.image)) (c.in_ok-append.ensures.indexed records indexed)
+    let after = c.make_room.new.log in
+    let room = made g c1 windows records disk h ends over kept in
+    let is = may g c1 windows records disk h ends over kept in
+    let short = g.met.M.Machine.short c.make_room.new.m (c.append.ensures.trust.honest h) in
+    let before = log_in_window after (s g c1) room.records disk windows mid is.few c.append.ensures.shape.epoch c.append.ensures.shape.third is.apart is.ends is.over in
+    let then = c.in-Ok.ensures.worn_done room.records h (λ p d x y far. narrow_runs mid.windows.present mid.windows.next short.present short.next p d x y far) before in
+    knows_log c.append.new.self _ new (then new.image (worn_refl (open_damage new.windows) new.image)) (c.in-Ok.ensures.indexed room.records room.over.indexed)
