@@ -20,7 +20,7 @@ use Rattle.fsd_files.proofs.KeptLaws.{kept_on, kept_worn}
 use Rattle.fsd_sound.specs.Laid.{HasOwnLog, AllLaid}
 use Rattle.fsd_sound.specs.Shown.{told_in}
 use Rattle.fsd_sound.specs.Sound.{ShowsPages, IsSound, Tells, weak_of}
-use Rattle.fsd_sound.specs.Mounted.{AgreeOutside, Mounted, StandsOver, HasForced, IsMounted, SameTaken, SameData, ChangesTo, with_forced, IsFresh}
+use Rattle.fsd_sound.specs.Mounted.{AgreeOutside, Mounted, StandsOver, HasForced, IsMounted, SameTaken, SameData, ChangesTo, IsSameEpoch, with_forced, IsFresh}
 use Rattle.fsd_sound.proofs.LogPlaces.{IsRecord, same_tape, front_same, copies_same, in_record, goes_records, scan_goes, start_in}
 use Rattle.fsd_sound.proofs.AlikeLaws.{each_same}
 use Rattle.fsd_sound.proofs.FrontLaws.{SameFront, log_front, front_log, front_shows}
@@ -183,17 +183,17 @@ force_sound m windows h f i j now is same told shows =
     (tells_forced m.volume windows h f j is.disk le forced)
     (tells_all m.volume windows h f j now le is.files told (describes_data l (in_runs windows) m.volume.files m.volume.entries i j same is.described)) two)
 
-pub force_mounted : (m : Mounted) (windows : List WeakRun) (h : List Change) (f : ℕ) (i j : Image) (now : List (List ℕ)) (head : Head) (records : List Placed) → IsMounted m windows h f i → SameData m.volume.layout (in_runs windows) i j
-    → told_in m.volume.layout now ≡ Some m.volume.entries → StandsOver m.volume.layout m.anchor head records now now [] windows j → IsMounted (with_forced m now head) windows h (length h) j
-force_mounted m windows h f i j now head records is same told over =
+pub force_mounted : (m : Mounted) (windows : List WeakRun) (h : List Change) (f : ℕ) (i j : Image) (now : List (List ℕ)) (anchor : Anchor) (head : Head) (records : List Placed) → IsMounted m windows h f i → SameData m.volume.layout (in_runs windows) i j
+    → told_in m.volume.layout now ≡ Some m.volume.entries → IsSameEpoch m.anchor anchor → StandsOver m.volume.layout anchor head records now now [] windows j → IsMounted (with_forced m now anchor head) windows h (length h) j
+force_mounted m windows h f i j now anchor head records is same told later over =
     let all : take (length h) h ≡ h = take_all (length h) h (omega arith) in
     let described = describes_data m.volume.layout (in_runs windows) m.volume.files m.volume.entries i j same is.described in
     record {
       files = is.files;
       described = described;
       count = omega arith;
-      epoch = is.epoch;
-      third = is.third;
+      epoch = is.epoch ∙ sym later.epoch;
+      third = later.third;
       room = is.room;
       in_memory = told;
       disk = now;
@@ -273,3 +273,22 @@ fresh_mounted m windows h i fresh =
         taken = λ s at. version_taken m.volume s at;
       };
     }
+
+-- ---- the records that the log has then
+
+pub still_records : (m : Mounted) (windows : List WeakRun) (h : List Change) (f : ℕ) (i j : Image) (size : length j ≡ length i) (same : SameTaken m.volume i j) (is : IsMounted m windows h f i) → (still_mounted m windows h f i j size same is).records ≡ is.records
+unfolding still_mounted
+still_records m windows h f i j size same is = refl
+
+pub change_records : (m n : Mounted) (windows : List WeakRun) (h : List Change) (f : ℕ) (i : Image) (c : Change) (is : IsMounted m windows h f i) (to : ChangesTo (h ++ c ∷ []) windows i m n) → (change_mounted m n windows h f i c is to).records ≡ is.records
+unfolding change_mounted
+change_records m n windows h f i c is to = refl
+
+pub fresh_records : (m : Mounted) (windows : List WeakRun) (h : List Change) (i : Image) (fresh : IsFresh h windows i m) → (fresh_mounted m windows h i fresh).records ≡ fresh.records
+unfolding fresh_mounted
+fresh_records m windows h i fresh = refl
+
+pub force_records : (m : Mounted) (windows : List WeakRun) (h : List Change) (f : ℕ) (i j : Image) (now : List (List ℕ)) (anchor : Anchor) (head : Head) (records : List Placed) (is : IsMounted m windows h f i) (same : SameData m.volume.layout (in_runs windows) i j)
+    (told : told_in m.volume.layout now ≡ Some m.volume.entries) (later : IsSameEpoch m.anchor anchor) (over : StandsOver m.volume.layout anchor head records now now [] windows j) → (force_mounted m windows h f i j now anchor head records is same told later over).records ≡ records
+unfolding force_mounted
+force_records m windows h f i j now anchor head records is same told later over = refl

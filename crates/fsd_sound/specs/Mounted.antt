@@ -90,8 +90,13 @@ pub record ChangesTo (h : List Change) (windows : List WeakRun) (i : Image) (old
   pub clean : AgreeOutside new.dirty old.pages new.pages
 
 -- the volume behind a force: nothing waits
-abbrev pub with_forced : Mounted → List (List ℕ) → Head → Mounted
-with_forced m now head = record { volume = with_none_unforced m.volume; pages = now; dirty = []; anchor = m.anchor; head = head }
+abbrev pub with_forced : Mounted → List (List ℕ) → Anchor → Head → Mounted
+with_forced m now anchor head = record { volume = with_none_unforced m.volume; pages = now; dirty = []; anchor = anchor; head = head }
+
+-- The anchor that a force leaves is of the same epoch.
+pub record IsSameEpoch (old new : Anchor) : Type 0 where
+  pub epoch : new.epoch ≡ old.epoch
+  pub third : new.third ≤ 2
 
 -- The volume is what the pages in memory tell, and nothing waits.
 pub record IsFresh (h : List Change) (windows : List WeakRun) (i : Image) (m : Mounted) : Type 0 where

@@ -9,7 +9,8 @@ ghost use Rattle.fsd_files.specs.Disk.{Image, in_runs};
 ghost use Rattle.fsd_files.specs.Files.{Change};
 ghost use Rattle.fsd_sound.specs.Format.{IsFormatted, IsFormattedIn};
 ghost use Rattle.fsd_log.specs.Scan.{Placed, Head};
-ghost use Rattle.fsd_sound.specs.Mounted.{Mounted, StandsOver, IsMounted, SameTaken, SameData, ChangesTo, IsFresh, with_forced};
+ghost use Rattle.fsd_formats.specs.declared.anchor.Anchor.{Anchor};
+ghost use Rattle.fsd_sound.specs.Mounted.{Mounted, StandsOver, IsMounted, SameTaken, SameData, ChangesTo, IsFresh, IsSameEpoch, with_forced};
 ghost use Rattle.fsd_sound.specs.Shown.{told_in};
 ghost use Rattle.fsd_sound.specs.Sound.{EndIn, weak_of, IsSound, IsStill, ShowsPages, Tells, TellsPrefix};
 ghost use Rattle.fsd_sound.specs.Choices.{TellsChoices};
@@ -78,12 +79,12 @@ pub fn changes_wait_for_a_force()
 {}
 
 /// While the disk shows what was forced before or what is in memory now, it is sound; and once it shows that, all changes
-/// are forced.
+/// are forced. The anchor of the log may have moved on.
 pub fn forces_commit_all_changes()
     ensures during { (m : Mounted) (windows : List WeakRun) (h : List Change) (f : ℕ) (i j : Image) (now : List (List ℕ)) → (is : IsMounted m windows h f i) → SameData m.volume.layout (in_runs windows) i j →
         told_in m.volume.layout now ≡ Some m.volume.entries → ShowsPages m.volume.layout windows (is.disk ∷ now ∷ []) j → IsSound m.volume.layout windows h f j }
-    ensures done { (m : Mounted) (windows : List WeakRun) (h : List Change) (f : ℕ) (i j : Image) (now : List (List ℕ)) (head : Head) (records : List Placed) → IsMounted m windows h f i → SameData m.volume.layout (in_runs windows) i j →
-        told_in m.volume.layout now ≡ Some m.volume.entries → StandsOver m.volume.layout m.anchor head records now now [] windows j → IsMounted (with_forced m now head) windows h (length h) j }
+    ensures done { (m : Mounted) (windows : List WeakRun) (h : List Change) (f : ℕ) (i j : Image) (now : List (List ℕ)) (anchor : Anchor) (head : Head) (records : List Placed) → IsMounted m windows h f i → SameData m.volume.layout (in_runs windows) i j →
+        told_in m.volume.layout now ≡ Some m.volume.entries → IsSameEpoch m.anchor anchor → StandsOver m.volume.layout anchor head records now now [] windows j → IsMounted (with_forced m now anchor head) windows h (length h) j }
 {}
 
 /// A volume is mounted where the pages that the disk shows tell its files, and its log has no record that it doesn't know.

@@ -23,10 +23,11 @@ use Rattle.fsd_files.specs.Kept.{Describes}
 use Rattle.fsd_sound.specs.Anchors.{anchor_of, fresh_anchor}
 use Rattle.fsd_sound.specs.Homes.{home_of}
 use Rattle.fsd_sound.specs.Laid.{HasOwnLog}
-use Rattle.fsd_sound.specs.Mounted.{image_at, IsFresh, IsMounted as StandsOnDisk}
+use Rattle.fsd_sound.specs.Mounted.{image_at, IsFresh}
 use Rattle.fsd_sound.specs.Shown.{all_pages, shown, shown_by, told_in, entries_of}
 use Rattle.fsd_sound.specs.Sound.{weak_of, ShowsOne, ShowsPages}
-use Rattle.fsd_sound.proofs.MountedLaws.{one_of, fresh_mounted}
+use Rattle.fsd_sound.proofs.MountedLaws.{one_of, fresh_mounted, fresh_records}
+use Rattle.log_thirds.specs.Append.{IsIndexed}
 use Rattle.log_thirds.specs.LogValue.{LogValue}
 use Rattle.mount_recover.specs.declared.fault.MountFault.{MountFault}
 use Rattle.mount_recover.specs.declared.fault.MountFault.TheVariants.{NotVolume, Device, Memory, Lost, NoAnchor, Unsound, WornOut}
@@ -177,7 +178,7 @@ module _ (sectors : ℕ) (l : Layout) (windows : List WeakRun) (h : List Change)
         abbrev state_now : State
         state_now = record { layout = l; entries = state.entries; serial = record { epoch = log.anchor.epoch; count = 1 }; log = log; table = record { pages = pages; dirty = [] } }
 
-        fresh_now : IsFresh (take n h) windows_now mid.image (mounted_of state_now (volume_of state_now files_now))
+        abbrev fresh_now : IsFresh (take n h) windows_now mid.image (mounted_of state_now (volume_of state_now files_now))
         fresh_now = record {
           records = [];
           over = record { shows = shows_now; own = own_now; clean = record { size = refl; each = λ page out. refl } };
@@ -191,10 +192,10 @@ module _ (sectors : ℕ) (l : Layout) (windows : List WeakRun) (h : List Change)
         }
 
         mounted_now : IsMounted state_now (volume_of state_now files_now) windows_now (take n h) n mid.image
-        mounted_now = record {
+        mounted_now = subst (λ (count : ℕ). IsMounted state_now (volume_of state_now files_now) windows_now (take n h) count mid.image) (took_so_many h n (told_now sectors l windows h f old begun).prefix.made) record {
           stands = record { layout = refl; entries = refl; lists = described_now.lists; serial = refl; removed = refl; held = refl; drafts = refl; reached = refl };
-          on_disk = subst (λ (count : ℕ). StandsOnDisk (mounted_of state_now (volume_of state_now files_now)) windows_now (take n h) count mid.image) (took_so_many h n (told_now sectors l windows h f old begun).prefix.made)
-              (fresh_mounted (mounted_of state_now (volume_of state_now files_now)) windows_now (take n h) mid.image fresh_now);
+          on_disk = fresh_mounted (mounted_of state_now (volume_of state_now files_now)) windows_now (take n h) mid.image fresh_now;
+          indexed = subst (IsIndexed log) (sym (fresh_records (mounted_of state_now (volume_of state_now files_now)) windows_now (take n h) mid.image fresh_now)) fresh.indexed;
         }
 
         pub mounts_now : Mounts l windows h n state mid

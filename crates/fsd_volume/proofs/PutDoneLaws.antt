@@ -34,9 +34,10 @@ use Rattle.fsd_files.specs.Answers.{Outcome, refused, entry_put, entry_of, HasLe
 use Rattle.fsd_files.specs.OneLeaf.{has_name, leaf_used, put_in, put_at, put_unless, put_outcome}
 use Rattle.fsd_files.specs.Replies.{Refused, Made}
 use Rattle.fsd_files.specs.Volume.{Volume, drawn, is_free, plans_of, entries_at, entries_without, free_runs}
-use Rattle.fsd_sound.specs.Mounted.{image_at}
+use Rattle.fsd_sound.specs.Mounted.{ChangesTo, image_at}
 use Rattle.fsd_sound.specs.Shown.{told_in}
-use Rattle.fsd_sound.proofs.MountedLaws.{still_mounted, change_mounted}
+use Rattle.fsd_sound.proofs.MountedLaws.{still_mounted, still_records, change_mounted, change_records}
+use Rattle.log_thirds.specs.Append.{IsIndexed}
 use Rattle.fsd_volume.specs.Put.{names, placed, made_by, rewritten, AreNew, Enters, EntersOk, entered, PutSays, Puts, PutsOn}
 use Rattle.fsd_volume.specs.Slices.{with_version, WritesIn}
 use Rattle.fsd_volume.specs.State.{State, StandsFor, IsKept, IsSpelled, IsMounted, StaysMounted, mounted_of, free_space}
@@ -219,6 +220,7 @@ pub mounted_beside : (s : State) (v : Volume) (windows : List WeakRun) (h : List
 mounted_beside s v windows h f i j runs new size same mounted = record {
   stands = mounted.stands;
   on_disk = still_mounted (mounted_of s v) windows h f i j size (λ t taken. same t (λ there. both_ways (is_free v t) taken (new_free s v runs t mounted.stands new there))) mounted.on_disk;
+  indexed = subst (IsIndexed s.log) (sym (still_records (mounted_of s v) windows h f i j size (λ t taken. same t (λ there. both_ways (is_free v t) taken (new_free s v runs t mounted.stands new there))) mounted.on_disk)) mounted.indexed;
 }
 
 -- the next serial is drawn
@@ -240,6 +242,7 @@ mounted_drawn s v windows h f i mounted =
         over = d.over;
         forced = record { entries = d.forced.entries; told = d.forced.told; described = d.forced.described; taken = d.forced.taken };
       };
+      indexed = mounted.indexed;
     }
 
 -- the disk with the version in free sectors: all else stands
@@ -322,28 +325,30 @@ module _ (s : State) (v : Volume) (name bytes : List ℕ) (given : Option ℕ) (
       let new_v : AreNew v.layout (plans_of v.entries) e.runs = subst (λ (l : Layout). AreNew l (plans_of v.entries) e.runs) (sym entering.stands.layout) (subst (λ (es : List Entry). AreNew s.layout (plans_of es) e.runs) (sym entering.stands.entries) may.new) in
       let kept = kept_put hurt j (new_key name v.files) (record { bytes = bytes; keep = new_keep name given v.files }) x v.files v.entries (version_kept i e bytes may.count may.new.differ hurt may.room) refl entering.stands.lists before.on_disk.described.kept in
       let stands_before = before.stands in
+      let changes : ChangesTo (h ++ Change.Put name given bytes ∷ []) windows j (mounted_of (drawn_state s) (drawn v)) (mounted_of made_state made_volume) = record {
+        volume = record {
+          layout = refl;
+          unforced = refl;
+          epoch = refl;
+          fewer = λ t out. free_is made_state made_volume stands t ∙ fewer_by (is_data s.layout t) (contains (flat_map sectors_of (plans_of s.entries)) t) (contains (flat_map sectors_of (plans_of (entry_put e s.entries))) t)
+              (still_there t e s.entries none) (sym (free_is (drawn_state s) (drawn v) stands_before t) ∙ out);
+        };
+        anchor = refl;
+        head = refl;
+        files = ap (λ (fs : Files). step fs (Change.Put name given bytes)) mounted.on_disk.files ∙ sym (after_one_more h (Change.Put name given bytes));
+        described = record {
+          lists = stands.lists;
+          apart = subst (λ (es : List Entry). Apart v.layout (plans_of es)) (sym entries) (apart_put v.layout x v.entries new_v mounted.on_disk.described.apart);
+          kept = subst (λ (fs : Files). Kept j fs made_volume.entries hurt) (sym made_files) (subst (λ (es : List Entry). Kept j (with_new name given bytes v.files) es hurt) (sym entries) kept);
+        };
+        told = subst (λ (l : Layout). told_in l made_state.table.pages ≡ Some made_volume.entries) (sym entering.stands.layout) (told_made none small ∙ ap (λ (es : List Entry). Some es) (sym stands.entries));
+        still = λ page out. waits_still s.log s.table page may.kept.force out;
+        clean = leaf_agrees s.log s.table (entry_put e s.entries) may.kept.force;
+      } in
       record {
         stands = stands;
-        on_disk = change_mounted (mounted_of (drawn_state s) (drawn v)) (mounted_of made_state made_volume) windows h f j (Change.Put name given bytes) before.on_disk (record {
-          volume = record {
-            layout = refl;
-            unforced = refl;
-            epoch = refl;
-            fewer = λ t out. free_is made_state made_volume stands t ∙ fewer_by (is_data s.layout t) (contains (flat_map sectors_of (plans_of s.entries)) t) (contains (flat_map sectors_of (plans_of (entry_put e s.entries))) t)
-                (still_there t e s.entries none) (sym (free_is (drawn_state s) (drawn v) stands_before t) ∙ out);
-          };
-          anchor = refl;
-          head = refl;
-          files = ap (λ (fs : Files). step fs (Change.Put name given bytes)) mounted.on_disk.files ∙ sym (after_one_more h (Change.Put name given bytes));
-          described = record {
-            lists = stands.lists;
-            apart = subst (λ (es : List Entry). Apart v.layout (plans_of es)) (sym entries) (apart_put v.layout x v.entries new_v mounted.on_disk.described.apart);
-            kept = subst (λ (fs : Files). Kept j fs made_volume.entries hurt) (sym made_files) (subst (λ (es : List Entry). Kept j (with_new name given bytes v.files) es hurt) (sym entries) kept);
-          };
-          told = subst (λ (l : Layout). told_in l made_state.table.pages ≡ Some made_volume.entries) (sym entering.stands.layout) (told_made none small ∙ ap (λ (es : List Entry). Some es) (sym stands.entries));
-          still = λ page out. waits_still s.log s.table page may.kept.force out;
-          clean = leaf_agrees s.log s.table (entry_put e s.entries) may.kept.force;
-        });
+        on_disk = change_mounted (mounted_of (drawn_state s) (drawn v)) (mounted_of made_state made_volume) windows h f j (Change.Put name given bytes) before.on_disk changes;
+        indexed = subst (IsIndexed s.log) (sym (change_records (mounted_of (drawn_state s) (drawn v)) (mounted_of made_state made_volume) windows h f j (Change.Put name given bytes) before.on_disk changes)) before.indexed;
       }
 
   pub puts_on : (windows : List WeakRun) (h : List Change) (f : ℕ) (j : Image) (new : State) (r : Result Key Refusal) → IsMounted s v windows h f i → j ≡ with_version i e bytes → Enters (drawn_state s) e new r

@@ -17,8 +17,6 @@ use Rattle.fsd_bytes.specs.declared.key.Key.{Key}
 use Rattle.fsd_bytes.specs.Keys.{key_of}
 use Rattle.fsd_files.specs.Files.{keep_of}
 use Rattle.run_table.specs.RunTable.{sectors_of}
-use Rattle.fsd_formats.specs.Record.{record_len}
-use Rattle.fsd_log.specs.Scan.{HasRoom}
 use Rattle.fsd_volume.specs.State.{State, IsKept, TakesRecord, free_space}
 use Rattle.fsd_volume.specs.Put.{IsWornOut, last_count, placed, placed_or}
 use Rattle.fsd_volume.proofs.PlaceLaws.{IsPlace, AreSome, picked_place}
@@ -161,20 +159,7 @@ module _ (s : State) (free : Area) (name bytes : List ℕ) (given : Option ℕ) 
   pub chosen_count : length (sectors_of e.runs) ≡ sectors_for (length bytes)
   chosen_count = stored_count s.layout e (most_sectors s.layout s.entries kept.table) as_stored ∙ ap sectors_for made.length
 
--- ---- the log has room
+-- ---- the log has a number
 
 pub takes_record : (s : State) → (IsWornOut s → ⊥) → TakesRecord s.log
-takes_record s fresh = record {
-  room = elim (cases_lt s.log.head.end (s.log.head.at + record_len 1)) [
-    | inr here ↦ inl here
-    | inl full ↦ elim (cases_lt s.log.head.end (3 * s.log.layout.third)) [
-      | inl next ↦ inr next
-      | inr last ↦ absurd (fresh (inr (inr (λ two. no_room two.0 full last))))
-    ]
-  ];
-  numbered = elim (cases_lt s.log.head.number last_count) [ inl low ↦ omega (arith, low) | inr high ↦ absurd (fresh (inr (inl high))) ];
-}
-  where
-    no_room : HasRoom s.log.layout 96 s.log.head → s.log.head.end < s.log.head.at + record_len 1 → 3 * s.log.layout.third ≤ s.log.head.end → ⊥
-    no_room (inl here) full last = omega (arith, here, full)
-    no_room (inr next) full last = omega (arith, next, last)
+takes_record s fresh = elim (cases_lt s.log.head.number last_count) [ inl low ↦ omega (arith, low) | inr high ↦ absurd (fresh (inr high)) ]

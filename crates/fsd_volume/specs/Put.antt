@@ -14,7 +14,6 @@ use Rattle.volume_layout.specs.Layout.{is_data}
 use Rattle.fsd_formats.specs.declared.entry.Entry.{Entry}
 use Rattle.sector_disk.specs.declared.sector.WeakRun.{WeakRun}
 use Rattle.fsd_formats.specs.NamePage.{Leaf, page_bytes, room, stamp_at}
-use Rattle.log_thirds.specs.Append.{FitsTwo}
 use Rattle.group_commit.specs.Resident.{ResidentValue, with_page}
 use Rattle.fsd_sound.specs.Mounted.{image_at}
 use Rattle.fsd_files.specs.Answers.{Outcome, entry_put}
@@ -41,9 +40,9 @@ placed free need = placed_or free need (pick (runs_of free) need)
 abbrev pub last_count : ℕ
 last_count = 2 ^ 32 - 16
 
--- This mount has used up its serials or its record numbers, or two full records would not fit into what its log has left.
+-- This mount has used up its serials or its record numbers.
 abbrev pub IsWornOut : State → Type 0
-IsWornOut state = (last_count ≤ state.serial.count) ⊎ ((last_count ≤ state.log.head.number) ⊎ (FitsTwo state.log → ⊥))
+IsWornOut state = (last_count ≤ state.serial.count) ⊎ (last_count ≤ state.log.head.number)
 
 -- page 0 with these entries, under the stamp that it has
 abbrev pub rewritten : List Entry → List ℕ → List ℕ

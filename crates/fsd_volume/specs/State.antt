@@ -12,7 +12,7 @@ use Rattle.sector_disk.specs.Machine.{Moment}
 use Rattle.fsd_formats.specs.declared.entry.Entry.{Entry}
 use Rattle.fsd_formats.specs.NamePage.{Leaf, page_bytes}
 use Rattle.fsd_formats.specs.Record.{Stamp}
-use Rattle.fsd_log.specs.Scan.{HasRoom}
+use Rattle.log_thirds.specs.Append.{IsIndexed}
 use Rattle.log_thirds.specs.LogValue.{LogValue}
 use Rattle.group_commit.specs.Resident.{ResidentValue}
 use Rattle.fsd_files.specs.Disk.{Image}
@@ -48,12 +48,11 @@ pub record IsSpelled (entries : List Entry) (bytes : List ℕ) : Type 0 where
   pub fits : (stamp.epoch < 2 ^ 32) × (stamp.number < 2 ^ 32)
   pub is : bytes ≡ page_bytes 0 stamp (Leaf entries)
 
--- There is room for one record of one page, and a number.
-pub record TakesRecord (log : LogValue) : Type 0 where
-  pub room : HasRoom log.layout 1 log.head
-  pub numbered : log.head.number < 2 ^ 32 - 1
+-- there is a number for one record more
+abbrev pub TakesRecord : LogValue → Type 0
+TakesRecord log = log.head.number < 2 ^ 32 - 1
 
--- nothing waits, or page 0 does, for whose record there is room
+-- nothing waits, or page 0 does, for whose record there is a number
 abbrev pub MayForce : LogValue → ResidentValue → Type 0
 MayForce log table = (table.dirty ≡ []) ⊎ ((table.dirty ≡ 0 ∷ []) × TakesRecord log)
 
@@ -83,10 +82,12 @@ pub record StandsFor (state : State) (v : Volume) : Type 0 where
 abbrev pub mounted_of : State → Volume → Mounted
 mounted_of state v = record { volume = v; pages = state.table.pages; dirty = state.table.dirty; anchor = state.log.anchor; head = state.log.head }
 
--- The volume is mounted on this disk, after these changes, the first f of them forced.
+-- The volume is mounted on this disk, after these changes, the first f of them forced, and the log knows where each page's last
+-- image lies there.
 pub record IsMounted (state : State) (v : Volume) (windows : List WeakRun) (h : List Change) (f : ℕ) (i : Image) : Type 0 where
   pub stands : StandsFor state v
   pub on_disk : StandsOnDisk (mounted_of state v) windows h f i
+  pub indexed : IsIndexed state.log on_disk.records
 
 -- The volume stays mounted on the disk that is left; the windows and what was said are as they were.
 pub record StaysMounted (state : State) (v : Volume) (runs : List WeakRun) (h : List Change) (f : ℕ) (old left : Moment) : Type 0 where

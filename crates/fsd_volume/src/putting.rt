@@ -108,17 +108,15 @@ impl Volume {
     fn is_worn_out(&self) -> bool
         ensures { IsTrue result ↔ IsWornOut self.now }
     {
-        self.serial.count >= 4_294_967_280
-            || self.log.next_number() >= 4_294_967_280
-            || !self.log.two_fit()
+        self.serial.count >= 4_294_967_280 || self.log.next_number() >= 4_294_967_280
     }
 
-    // Puts an entry in, whose sectors are free, with room for its page's record.
+    // Puts an entry in, whose sectors are free, with a number for its page's record.
     fn enter(&mut self, entry: Entry) -> Result<Key, Refusal>
         requires entry { IsTrue (is_entry entry) }
         requires fits { FitsEntry entry }
         requires free { AreNew self.old.layout (plans_of self.old.entries) entry.runs }
-        requires room { TakesRecord self.old.log }
+        requires number { TakesRecord self.old.log }
         ensures { Enters self.old entry self.new result }
     {
         if has_name(self.entries.as_slice(), &entry.key.name) {

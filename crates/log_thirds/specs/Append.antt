@@ -4,7 +4,7 @@ use Rattle.fsd_formats.specs.Record.{Stamp, record_len}
 use Rattle.sector_disk.specs.Image.{stand, open_damage, AllWorn}
 use Rattle.sector_disk.specs.Machine.{Moment, Holds}
 use Rattle.fsd_log.specs.Laid.{laid_bytes, slices}
-use Rattle.fsd_log.specs.Scan.{Head, Placed, Walked, IsLog, place_of, tape, scan, spot_for, HasRoom}
+use Rattle.fsd_log.specs.Scan.{Head, Placed, Walked, IsLog, place_of, tape, scan, spot_for}
 use Rattle.log_thirds.specs.Disk.{reads}
 use Rattle.log_thirds.specs.LogValue.{LogValue}
 use Rattle.log_thirds.specs.Copies.{AreLastCopies}
@@ -56,10 +56,6 @@ pub record IsIndexed (log : LogValue) (records : List Placed) : Type 0 where
 -- the log has the copies of the last record, or there is none
 abbrev pub KnowsLast : LogValue → List Placed → Type 0
 KnowsLast log records = AreLastCopies log.layout log.anchor.epoch log.anchor.third records log.copies
-
--- two records of 96 pages have room, one behind the other
-abbrev pub FitsTwo : LogValue → Type 0
-FitsTwo log = HasRoom log.layout 96 log.head × HasRoom log.layout 96 (head_past log 96)
 
 -- the scan by the log's anchor
 abbrev pub scan_of : LogValue → Moment → Walked

@@ -1,7 +1,7 @@
 //! Looking for the next record.
-ghost use Rattle.std.specs.Prelude.{◌≡◌, ◌≤◌, ◌<◌, ◌↔◌, ◌+◌, ◌-◌, ◌*◌, min, ℕ, List, length, IfErr, IfOk, IfSome, OnOk, IsTrue, option_map};
+ghost use Rattle.std.specs.Prelude.{◌≡◌, ◌≤◌, ◌<◌, ◌+◌, ◌-◌, ◌*◌, min, ℕ, List, length, IfErr, IfOk, IfSome, OnOk, option_map};
 ghost use Rattle.sector_disk.specs.Machine.{Moment, UsesDisk, Trusts, Wears, LeavesOnly};
-ghost use Rattle.fsd_log.specs.Scan.{Head, HasRoom, IsIn, IsEnd, place_of, tape, room_at, last_number, record_here, entered, next};
+ghost use Rattle.fsd_log.specs.Scan.{Head, IsIn, IsEnd, place_of, tape, room_at, last_number, record_here, entered, next};
 ghost use Rattle.log_thirds.specs.Copies.{AreCopies};
 ghost use Rattle.log_thirds.specs.Disk.{reads};
 ghost use Rattle.log_thirds.specs.Seen.{SeesOn};
@@ -56,14 +56,6 @@ pub(crate) fn place_of(layout: &Layout, first: u32, at: u32) -> u32
     } else {
         16 + (from - whole)
     }
-}
-
-/// Whether a record of 96 pages goes behind a place, here or in the next third.
-pub(crate) fn has_room(layout: &Layout, at: u32, end: u32) -> bool
-    requires { at ≤ end }
-    ensures { IsTrue result ↔ HasRoom layout.now 96 (record { number = 0; at = at; end = end }) }
-{
-    197 <= end - at || end < 3 * layout.third()
 }
 
 // As many sectors as a record may have, as far as the third goes.

@@ -1,7 +1,7 @@
 //! Laws of the log: the functions do nothing, the contract of each is a law.
 ghost use Rattle.std.specs.Prelude.{◌≡◌, ◌+◌, ◌<◌, ◌≤◌, ◌^◌, ℕ, List, [], Some, None, length, slice_index_or, IfSome};
 ghost use Rattle.sector_disk.specs.Machine.{Moment};
-ghost use Rattle.log_thirds.specs.Append.{IsCalm, IsNarrow, FitsTwo, head_past, IsIndexed, IsLogIn};
+ghost use Rattle.log_thirds.specs.Append.{IsCalm, IsNarrow, IsIndexed, IsLogIn};
 ghost use Rattle.log_thirds.specs.Disk.{reads};
 ghost use Rattle.log_thirds.specs.Images.{GivesSlot};
 ghost use Rattle.log_thirds.specs.declared.slots.Slot.{Slot};
@@ -10,7 +10,7 @@ ghost use Rattle.log_thirds.specs.LogValue.{LogValue};
 ghost use Rattle.volume_layout.specs.Shape.{Shape};
 ghost use Rattle.fsd_log.specs.Judged.{Reader};
 ghost use Rattle.fsd_log.specs.Borne.{Foreign};
-ghost use Rattle.fsd_log.specs.Scan.{Head, Placed, HasRoom, IsLog, start, tape};
+ghost use Rattle.fsd_log.specs.Scan.{Head, Placed, IsLog, start, tape};
 ghost use Rattle.log_thirds.specs.Moves.{IsNextThird, MovesOn};
 
 /// By an anchor that names the third behind the first one, the log is what lay behind the first third, and goes on where it did.
@@ -29,12 +29,6 @@ pub fn new_epochs_are_empty()
 pub fn short_runs()
     ensures calm { (at : Moment) → IfSome at.windows.present (λ run. run.count ≡ 0) → IfSome at.windows.next (λ run. run.count ≡ 0) → IsCalm at }
     ensures narrow { (at : Moment) → IfSome at.windows.present (λ run. run.count ≤ 2) → IfSome at.windows.next (λ run. run.count ≤ 2) → IsNarrow at }
-{}
-
-/// Where two records of 96 pages fit, any record has room, and any other behind it.
-pub fn smaller_records_fit()
-    ensures one { (log : LogValue) (n : ℕ) → FitsTwo log → n ≤ 96 → HasRoom log.layout n log.head }
-    ensures two { (log : LogValue) (first second : ℕ) → FitsTwo log → first ≤ 96 → second ≤ 96 → HasRoom log.layout second (head_past log first) }
 {}
 
 /// Where a page has a slot, its last image stands in the sector that the slot names, or else in the copy; where it has none, no record of the log has the page.

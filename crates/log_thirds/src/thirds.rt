@@ -1,7 +1,7 @@
 //! The log, and where its next record goes.
 use crate::anchors::{find_anchor, write_anchor};
 use crate::fault::{LogFault, log_fault};
-use crate::find::{Step, Taken, has_room, next, place_of};
+use crate::find::{Step, Taken, next, place_of};
 use crate::firsts::Firsts;
 use crate::images::read_slot;
 use crate::moving::next_third;
@@ -60,7 +60,7 @@ impl Model for Log {
 }
 
 impl Log {
-    ghost use Rattle.std.specs.Prelude.{◌≡◌, ◌≤◌, ◌<◌, ◌+◌, ◌-◌, ◌*◌, ◌^◌, ◌↔◌, ◌++◌, ◌∷◌, [], List, ℕ, length, Some, None, Ok, Err, true, false, if◌then◌else◌, slice_index_or, IsTrue, IfErr, IfOk, IfSome, IfNone, OnOk, OnErr};
+    ghost use Rattle.std.specs.Prelude.{◌≡◌, ◌≤◌, ◌<◌, ◌+◌, ◌-◌, ◌*◌, ◌^◌, ◌++◌, ◌∷◌, [], List, ℕ, length, Some, None, Ok, Err, true, false, if◌then◌else◌, slice_index_or, IsTrue, IfErr, IfOk, IfSome, IfNone, OnOk, OnErr};
     ghost use Rattle.sector_disk.specs.Damage.{IsDevice, LostCause};
     ghost use Rattle.sector_disk.specs.declared.sector.Sector.{Sector};
     ghost use Rattle.sector_disk.specs.Image.{stand, IsWorn, open_damage};
@@ -75,7 +75,7 @@ impl Log {
     ghost use Rattle.log_thirds.specs.Images.{ImageCause, AreLogged, StandsAt, GivesLast};
     ghost use Rattle.fsd_log.specs.Images.{last_image};
     ghost use Rattle.log_thirds.specs.Copies.{copies_count, IsLast};
-    ghost use Rattle.log_thirds.specs.Append.{IsCalm, IsNarrow, IsLogWorn, AppendsWorn, stamp_now, next_record, log_with, scan_of, GoesAt, FitsTwo, IsIndexed, KnowsLast, StandsInPart, IsLeastOfThird, NoneOfThird};
+    ghost use Rattle.log_thirds.specs.Append.{IsCalm, IsNarrow, IsLogWorn, AppendsWorn, stamp_now, next_record, log_with, scan_of, GoesAt, IsIndexed, KnowsLast, StandsInPart, IsLeastOfThird, NoneOfThird};
     ghost use Rattle.log_thirds.specs.Anchoring.{AnchorsIn, with_anchors, next_epoch, in_next_epoch};
     ghost use Rattle.log_thirds.specs.Moving.{moved_anchor, moved, records_moved, EndsInLastThird, MovesWorn};
     ghost use Rattle.log_thirds.specs.Reading.{ReadCause, LogCause, SeesAnchor, SeesLastEpoch};
@@ -242,17 +242,6 @@ impl Log {
         } else {
             (self.end, self.end + third)
         }
-    }
-
-    /// Whether two records of 96 pages, one behind the other, both go before the anchor's first third comes again.
-    pub fn two_fit(&self) -> bool
-        ensures { IsTrue result ↔ FitsTwo self.now }
-    {
-        if !has_room(&self.layout, self.at, self.end) {
-            return false;
-        }
-        let (at, end) = self.spot(96);
-        has_room(&self.layout, at + 197, end)
     }
 
     /// The least page from `first` on whose last image lies in this third of the disk.

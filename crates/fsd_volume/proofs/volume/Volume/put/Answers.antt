@@ -37,6 +37,10 @@ returns-in-Err-clause-any_moment g c honest calm v windows h f ends mounted =
     let M = g.M.Machine in
     started M.moment M.left_since c.args.m.now (M.now c.args.m.now) (StaysMounted c.args.self.now v windows h f (M.now c.args.m.now)) (λ l left. g.met.M.Machine.only_now c.args.m.now l honest left) (record { mounted = mounted; windows = refl; said = refl })
 
+pub returns-in-Some-clause-stands : goal.returns-in-Some-clause-stands
+returns-in-Some-clause-stands g c honest calm v windows h f ends mounted =
+    record { after = v; says = search rules; mounted = subst (λ (hs : List Change). IsMounted c.args.self.now v windows hs f (g.M.Machine.now c.args.m.now).image) (sym (append-nil h)) mounted }
+
 pub returns-then-is_worn_out-clause-stands : goal.returns-then-is_worn_out-clause-stands
 returns-then-is_worn_out-clause-stands g c honest calm v windows h f ends mounted =
     let M = g.M.Machine in
@@ -145,8 +149,8 @@ enter-requires-clause-free g c =
     c.first_key.ensures.value c.first_key.ensures.key c.unwrap_or.ensures (ap (λ (n : ℕ). 1 + n) c.div_ceil.ensures) (sym c.place.ensures ∙ c.in-Ok.is) (epoch, count) in
     is.is.new
 
-pub enter-requires-clause-room : goal.enter-requires-clause-room
-enter-requires-clause-room g c =
+pub enter-requires-clause-number : goal.enter-requires-clause-number
+enter-requires-clause-number g c =
     let state : State = record { layout = c.self.inside.layout; entries = c.self.inside.entries.items; serial = c.self.inside.serial; log = c.self.inside.log; table = c.self.inside.pages } in
     takes_record state (λ worn. both_ways c.is_worn_out.result c.if-is_worn_out.false (c.is_worn_out.ensures.1 (subst IsWornOut c.self.view_is worn)))
 
