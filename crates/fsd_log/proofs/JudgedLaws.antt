@@ -110,7 +110,7 @@ module _ (stamp : Stamp) (fits : FitsStamp stamp) (old new : Reader) (less : Rea
 
 -- ---- what is there stays, where its own sectors do
 
-abbrev Alike : Reader → Reader → ℕ → Type 0
+abbrev pub Alike : Reader → Reader → ℕ → Type 0
 Alike old new n = (k : ℕ) → k < n → new k ≡ old k
 
 copies_same : (stamp : Stamp) (old new : Reader) (a c : ℕ) (pages : List ℕ) → ((k : ℕ) → a ≤ k → k < a + length pages → new k ≡ old k) → ((k : ℕ) → c ≤ k → k < c + length pages → new k ≡ old k)
@@ -122,7 +122,7 @@ copies_same stamp old new a c (page ∷ pages) first second =
     let rest = copies_same stamp old new (a + 1) (c + 1) pages (λ k le lt. first k (omega arith) (omega arith)) (λ k le lt. second k (omega arith) (omega arith)) in
     λ i. option_and_then (λ x. option_map (λ more. x ∷ more) (rest i)) (serving (bears page stamp) (here i) (there i))
 
-with_same : (stamp : Stamp) (room : ℕ) (old new : Reader) (hc : Bool) (pages : List ℕ) → Alike old new (record_len (length pages)) → judged_with stamp room new hc pages ≡ judged_with stamp room old hc pages
+pub with_same : (stamp : Stamp) (room : ℕ) (old new : Reader) (hc : Bool) (pages : List ℕ) → Alike old new (record_len (length pages)) → judged_with stamp room new hc pages ≡ judged_with stamp room old hc pages
 with_same stamp room old new hc pages same =
     let first = same (3 + length pages) (omega arith) in
     let second = same (4 + 2 * length pages) (omega arith) in
@@ -218,7 +218,7 @@ images_same old new a c (x ∷ cs) first second =
     either true p q = q
     either false p q = p
 
-record_with_same : (number : ℕ) (p : ℕ) (stamp : Stamp) (room : ℕ) (old new : Reader) (f : Serving) → IsJudged p stamp room old f → Alike old new (record_len (length f.pages)) → logged_of number new f ≡ logged_of number old f
+pub record_with_same : (number : ℕ) (p : ℕ) (stamp : Stamp) (room : ℕ) (old new : Reader) (f : Serving) → IsJudged p stamp room old f → Alike old new (record_len (length f.pages)) → logged_of number new f ≡ logged_of number old f
 record_with_same number p stamp room old new f is same =
     let many = length-copies stamp old 3 (4 + length f.pages) f.pages f.page_copy is.copies in
     let images = images_same old new 3 (4 + length f.pages) f.page_copy (λ k le lt. same k (omega (arith, many))) (λ k le lt. same k (omega (arith, many))) in

@@ -11,6 +11,7 @@ pub mod LaidLaws
 pub mod OutlastLaws
 pub mod PlaceLaws
 pub mod PlainLaws
+pub mod ReachLaws
 pub mod RecordFacts
 pub mod RobustLaws
 pub mod TornLaws

@@ -5,4 +5,5 @@ pub mod Images
 pub mod Judged
 pub mod Laid
 pub mod Plain
+pub mod Reach
 pub mod Scan

@@ -2,11 +2,21 @@
 ghost use Rattle.std.specs.Prelude.{◌≡◌, ◌≤◌, ◌+◌, ◌*◌, true, false, IfSome, if◌then◌else◌, option_map, length};
 ghost use Rattle.fsd_formats.specs.Record.{is_end, bears};
 ghost use Rattle.fsd_log.specs.Judged.{judged, judged_by, judged_with, page_copies, passes};
+ghost use Rattle.fsd_log.specs.Reach.{len_by, reach};
 ghost use Rattle.log_record.specs.Found.{read_of, serving_in, found_in, IsCounted};
 
 use crate::header::{end_bytes, read_header};
 use arrayvec::ArrayVec;
 use fsd_bytes::u32_at;
+
+/// The header, a blank sector and the header's copy begin a record.
+pub const HEADERS: u32 = 3;
+
+/// As many sectors as a record may have: one of 96 pages.
+pub const RECORD_SECTORS: u32 = 197;
+
+/// Their bytes.
+pub const RECORD_BYTES: usize = 100_864;
 
 /// A record: its `n` pages as its header names them, and for the header, the end and each page whether the copy serves
 /// in place of the first.
@@ -157,6 +167,43 @@ fn judge_by(
     let header = sector_of(whole, bytes, place)?;
     let pages = read_header(p, epoch, number, &header)?;
     judge_with(whole, bytes, epoch, number, header_copy, pages)
+}
+
+// The sectors of the record that the header at a place names, where it has room.
+fn len_by(
+    whole: &[bool],
+    bytes: &[u8],
+    p: u32,
+    epoch: u32,
+    number: u32,
+    room: u32,
+    place: usize,
+) -> u32
+    requires { length bytes.now ≡ 512 * length whole.now }
+    ensures len { result ≡ len_by p (record { epoch = epoch; number = number }) room (read_of whole.now bytes.now place) }
+    ensures within { result ≤ room }
+{
+    let Some(header) = sector_of(whole, bytes, place) else {
+        return 0;
+    };
+    let Some(pages) = read_header(p, epoch, number, &header) else {
+        return 0;
+    };
+    let len = 2 * pages.len() as u32 + 5;
+    if len <= room { len } else { 0 }
+}
+
+/// How far sectors are to be read, from the first on, to judge them: the headers, and the record that they name where it has
+/// room, the longer one of two. What lies beyond has no part in it. `whole` and `bytes` have the headers, or all that there is
+/// room for.
+pub fn reach(whole: &[bool], bytes: &[u8], p: u32, epoch: u32, number: u32, room: u32) -> u32
+    requires { length bytes.now ≡ 512 * length whole.now }
+    ensures reach { result ≡ reach p (record { epoch = epoch; number = number }) room (read_of whole.now bytes.now) }
+    ensures within { result ≤ room }
+{
+    let header = len_by(whole, bytes, p, epoch, number, room, 0);
+    let copy = len_by(whole, bytes, p, epoch, number, room, 2);
+    HEADERS.min(room).max(header.max(copy))
 }
 
 /// The record of this epoch and number that begins these sectors, by its header or else by the header's copy. `whole`

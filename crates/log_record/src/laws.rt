@@ -3,6 +3,7 @@ ghost use Rattle.std.specs.Prelude.{◌≡◌, ◌⊎◌, ◌+◌, ◌*◌, ◌<
 ghost use Rattle.fsd_formats.specs.Record.{Stamp, record_len};
 ghost use Rattle.fsd_log.specs.Judged.{Reader, Logged, Serving, judged, record_in, slice_of};
 ghost use Rattle.fsd_log.specs.Good.{IsGood};
+ghost use Rattle.fsd_log.specs.Reach.{reach};
 ghost use Rattle.fsd_log.specs.Borne.{Foreign, FitsStamp, ReadsLess};
 ghost use Rattle.fsd_log.specs.Laid.{AreLaid, IsTorn, laid_bytes, new_record};
 ghost use Rattle.fsd_log.specs.Plain.{plain_record};
@@ -45,4 +46,10 @@ pub fn records_stay()
 /// The copies that are named as serving are those that a plain reading takes.
 pub fn records_read_plainly()
     ensures plain { (p : ℕ) (stamp : Stamp) (room : ℕ) (at : Reader) → plain_record p stamp room at ≡ record_in p stamp room at }
+{}
+
+/// Which record sectors begin, and with which images, those say that the headers reach, whatever stands beyond.
+pub fn sectors_beyond_a_record_have_no_part()
+    ensures { (p : ℕ) (stamp : Stamp) (room far : ℕ) (all part : Reader) → far ≤ room → ((k : ℕ) → k < far → part k ≡ all k) → part 0 ≡ all 0 → part 2 ≡ all 2 →
+        reach p stamp room part ≤ far → record_in p stamp far part ≡ record_in p stamp room all }
 {}

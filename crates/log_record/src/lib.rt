@@ -9,10 +9,10 @@ mod laying;
 
 pub use anchor::{anchor_bytes, read_anchor};
 pub use fsd_formats::Anchor;
-pub use judging::{Found, Judged, judge};
+pub use judging::{Found, HEADERS, Judged, RECORD_BYTES, RECORD_SECTORS, judge, reach};
 pub use laws::{
     laid_records_are_good, records_are_good_where_copies_serve, records_read_plainly, records_stay,
-    torn_records_are_whole_or_absent,
+    sectors_beyond_a_record_have_no_part, torn_records_are_whole_or_absent,
 };
 pub use laying::lay;
 

@@ -1,8 +1,8 @@
 -- Sectors that are read one after another.
-use Rattle.std.proofs.Common.{◌≡◌, inl, inr, ℕ, ◌+◌, ◌*◌, ◌<◌, Bool, false, List, [], ◌∷◌, ◌++◌, length, get_or, Option, Some, None, refl, sym, ap, subst, ◌∙◌, arith}
-use Rattle.std.specs.Prelude.{IsTrue, if◌then◌else◌}
+use Rattle.std.proofs.Common.{◌≡◌, inl, inr, ℕ, ◌+◌, ◌*◌, ◌<◌, ◌≤◌, Bool, false, List, [], ◌∷◌, ◌++◌, length, get_or, Option, Some, None, refl, sym, ap, subst, ◌∙◌, arith}
+use Rattle.std.specs.Prelude.{IsTrue, if◌then◌else◌, min, max, Result, Ok, Err, OnOk}
 use Rattle.std.proofs.lemmas.Bool.{cases_lt}
-use Rattle.std.proofs.lemmas.List.{length-append, get_or_append_left}
+use Rattle.std.proofs.lemmas.List.{length-append, get_or_append_left, get_or_past}
 use Rattle.std.proofs.Math.Seq.{get_or-append_seam}
 use Rattle.sector_disk.specs.declared.sector.Sector.TheVariants.{Damaged}
 use Rattle.sector_disk.specs.Image.{sector_at, IsWorn, Windows, open_damage}
@@ -13,7 +13,10 @@ use Rattle.fsd_log.specs.Judged.{slice_of}
 use Rattle.log_record.specs.Found.{read_of}
 use Rattle.fsd_log.proofs.LaidLaws.{slice_within, slice_behind, slice_all}
 use Rattle.log_thirds.specs.Disk.{bytes_in}
-use Rattle.log_thirds.specs.Reading.{ReadCause, ReadInto, ReadWorn, Sees, ReadRun, LosesRun}
+use Rattle.fsd_formats.specs.Record.{Stamp}
+use Rattle.fsd_log.specs.Reach.{headers_len, len_by, reach}
+use Rattle.fsd_log.proofs.ReachLaws.{reach_most}
+use Rattle.log_thirds.specs.Reading.{ReadCause, ReadInto, ReadWorn, Sees, ReadsOn, ReadsRecord}
 use Rattle.log_thirds.specs.declared.reading.ReadFault.{ReadFault}
 use Rattle.log_thirds.specs.declared.reading.ReadFault.TheVariants.{Device, Memory}
 
@@ -47,38 +50,60 @@ module _ (whole whole1 : List Bool) (bytes bytes1 : List ℕ) (shows : Option (L
       let slice : slice_of (bytes ++ into.sector) k ≡ into.sector = slice_behind bytes into.sector k 0 k long (omega arith) ∙ slice_all into.sector into.long in
       (λ i. if get_or (into.noted i) k false then Some (slice_of (into.taken i) k) else None) ∙ (λ i. if flag i then Some (slice i) else None)
 
-pub run_more : (honest honest1 : Type 0) (old mid new : Moment) (place k : ℕ) (whole whole1 : List Bool) (bytes bytes1 : List ℕ) → (honest1 → honest) → (honest1 → Wears old mid)
-    → ReadRun honest old place k whole bytes → ReadInto whole whole1 bytes bytes1 (λ o. honest1 → Sees mid new (place + k) o) → ReadRun honest1 old place (k + 1) whole1 bytes1
-run_more honest honest1 old mid new place k whole whole1 bytes bytes1 back wears run into = record {
-  many = ap length into.noted ∙ omega (arith, run.many, length-append whole (into.flag ∷ []));
-  long = ap length into.taken ∙ omega (arith, run.long, into.long, length-append bytes into.sector);
-  shown = λ h j lt. elim (cases_lt j k) [
-    | inl below ↦ subst (ReadWorn old (place + j)) (sym (read_before whole whole1 bytes bytes1 _ into k run.many run.long j below)) (run.shown (back h) j below)
-    | inr from ↦
+-- what was seen up to a moment was seen up to a later one, and what is seen from a moment on is seen from an earlier one on
+sees_later : (old mid new : Moment) (place : ℕ) (o : Option (List ℕ)) → Wears mid new → Sees old mid place o → Sees old new place o
+sees_later old mid new place o wears sees = (sees.0, λ none. worn_damaged (open_damage mid.windows) mid.image new.image place wears.image (sees.1 none))
+
+sees_back : (old mid new : Moment) (place : ℕ) (o : Option (List ℕ)) → Wears old mid → Sees mid new place o → Sees old new place o
+sees_back old mid new place o wears sees = (read_back old mid place o wears sees.0, sees.1)
+
+pub reads_none : (honest : Type 0) (old : Moment) (place : ℕ) (whole : List Bool) (bytes : List ℕ) → length bytes ≡ 512 * length whole → ReadsOn honest old old place (length whole) whole whole bytes bytes
+reads_none honest old place whole bytes long = record { many = refl; long = long; kept = λ k lt. refl; sees = λ h k from lt. absurd (omega arith) }
+
+pub reads_more : (honest honest1 : Type 0) (old mid new : Moment) (place k : ℕ) (whole whole1 whole2 : List Bool) (bytes bytes1 bytes2 : List ℕ) → (honest1 → honest) → (honest1 → Wears old mid) → (honest1 → Wears mid new) → length whole ≤ k
+    → ReadsOn honest old mid place k whole whole1 bytes bytes1 → ReadInto whole1 whole2 bytes1 bytes2 (λ o. honest1 → Sees mid new (place + k) o) → ReadsOn honest1 old new place (k + 1) whole whole2 bytes bytes2
+reads_more honest honest1 old mid new place k whole whole1 whole2 bytes bytes1 bytes2 back wears later begun so_far into = record {
+  many = ap length into.noted ∙ omega (arith, so_far.many, length-append whole1 (into.flag ∷ []));
+  long = ap length into.taken ∙ omega (arith, so_far.long, into.long, length-append bytes1 into.sector);
+  kept = λ j lt. read_before whole1 whole2 bytes1 bytes2 _ into k so_far.many so_far.long j (omega arith) ∙ so_far.kept j lt;
+  sees = λ h j from lt. elim (cases_lt j k) [
+    | inl below ↦ subst (Sees old new (place + j)) (sym (read_before whole1 whole2 bytes1 bytes2 _ into k so_far.many so_far.long j below)) (sees_later old mid new (place + j) _ (later h) (so_far.sees (back h) j from below))
+    | inr past ↦
         let at : k ≡ j = omega arith in
-        subst (λ (n : ℕ). ReadWorn old (place + n) (read_of whole1 bytes1 n)) at
-        (subst (ReadWorn old (place + k)) (sym (read_last whole whole1 bytes bytes1 _ into k run.many run.long)) (read_back old mid (place + k) _ (wears h) (into.shown h).0))
+        subst (λ (n : ℕ). Sees old new (place + n) (read_of whole2 bytes2 n)) at
+        (subst (Sees old new (place + k)) (sym (read_last whole1 whole2 bytes1 bytes2 _ into k so_far.many so_far.long)) (sees_back old mid new (place + k) _ (wears h) (into.shown h)))
   ];
 }
 
--- and where nothing is read, the sector is damaged at the end
-pub run_loses : (honest honest1 : Type 0) (mid new : Moment) (place k : ℕ) (whole whole1 : List Bool) (bytes bytes1 : List ℕ) → (honest1 → honest) → (honest1 → Wears mid new) → length whole ≡ k → length bytes ≡ 512 * k
-    → LosesRun honest mid place k whole bytes → ReadInto whole whole1 bytes bytes1 (λ o. honest1 → Sees mid new (place + k) o) → LosesRun honest1 new place (k + 1) whole1 bytes1
-run_loses honest honest1 mid new place k whole whole1 bytes bytes1 back wears many long run into = record {
-  hurt = λ h j lt none. elim (cases_lt j k) [
-    | inl below ↦ worn_damaged (open_damage mid.windows) mid.image new.image (place + j) (wears h).image (run.hurt (back h) j below (sym (read_before whole whole1 bytes bytes1 _ into k many long j below) ∙ none))
-    | inr from ↦
-        let at : k ≡ j = omega arith in
-        subst (λ (n : ℕ). sector_at new.image (place + n) ≡ Damaged) at
-        ((into.shown h).1 (sym (read_last whole whole1 bytes bytes1 _ into k many long) ∙ ap (read_of whole1 bytes1) at ∙ none))
-  ];
+-- nothing is read beyond what was read
+pub read_past : (whole : List Bool) (bytes : List ℕ) (k : ℕ) → length whole ≤ k → read_of whole bytes k ≡ None
+read_past whole bytes k past = ap (λ (b : Bool). if b then Some (slice_of bytes k) else None) (get_or_past whole k false past)
+
+-- the headers, and then as far as they say
+pub record_read : (honest honest1 : Type 0) (old mid new : Moment) (p : ℕ) (stamp : Stamp) (place room first count : ℕ) (whole whole1 whole2 : List Bool) (bytes bytes1 bytes2 : List ℕ) → whole ≡ [] → (honest1 → honest) → (honest1 → Wears old mid) → (honest1 → Wears mid new)
+    → first ≡ min room headers_len → ReadsOn honest old mid place first whole whole1 bytes bytes1 → count ≡ reach p stamp room (read_of whole1 bytes1) → ReadsOn honest1 mid new place count whole1 whole2 bytes1 bytes2
+    → ReadsRecord honest1 old new p stamp place room whole2 bytes2
+record_read honest honest1 old mid new p stamp place room first count whole whole1 whole2 bytes bytes1 bytes2 none back wears later is_first front is_count rest = record {
+  run = record {
+    many = refl;
+    long = rest.long ∙ ap (λ (n : ℕ). 512 * n) (sym rest.many);
+    sees = λ h j lt. elim (cases_lt j first) [
+      | inl below ↦ subst (Sees old new (place + j)) (sym (rest.kept j (omega (arith, front.many, below)))) (sees_later old mid new (place + j) _ (later h) (front.sees (back h) j (omega (arith, ap length none)) below))
+      | inr from ↦ sees_back old mid new (place + j) _ (wears h) (rest.sees h j (omega (arith, front.many, from)) (omega (arith, rest.many, lt)))
+    ];
+  };
+  within = within;
+  reaches = rest.many ∙ is_count ∙ λ i. max (min headers_len room) (max (len_by p stamp room (header 0 (omega arith) i)) (len_by p stamp room (header 2 (omega arith) i)));
 }
+  where
+    within : length whole2 ≤ room
+    within = omega (arith, rest.many, is_count, reach_most p stamp room (read_of whole1 bytes1))
 
-pub loses_none : (honest : Type 0) (new : Moment) (place : ℕ) → LosesRun honest new place 0 [] []
-loses_none honest new place = record { hurt = λ h k lt. absurd (omega arith) }
-
-pub run_none : (honest : Type 0) (old : Moment) (place : ℕ) → ReadRun honest old place 0 [] []
-run_none honest old place = record { many = refl; long = refl; shown = λ h k lt. absurd (omega arith) }
+    header : (k : ℕ) → k < headers_len → read_of whole1 bytes1 k ≡ read_of whole2 bytes2 k
+    header k lt = elim (cases_lt k (length whole1)) [
+      | inl there ↦ sym (rest.kept k there)
+      | inr past ↦ read_past whole1 bytes1 k past ∙ sym (read_past whole2 bytes2 k (omega (arith, within, front.many, is_first, past, lt)))
+    ]
 
 pub uses_on : (a b c : Report) → UsesDisk a b → UsesDisk b c → UsesDisk a c
 uses_on a b c first second = record {
@@ -98,3 +123,7 @@ reads_on moment left_since old mid new a b wears first second =
 pub fault_on : (a b c : Report) (fault : ReadFault) → UsesDisk a b → ReadCause b c fault → ReadCause a c fault
 fault_on a b c (Device place) uses cause = record { rose = omega (arith, uses.disk, cause.rose); told = cause.told }
 fault_on a b c Memory uses cause = tt
+
+pub on_ok : {T E : Type 0} (r : Result T E) (P Q : Type 0) → (P → Q) → OnOk r P → OnOk r Q
+on_ok (Ok x) P Q more p = more p
+on_ok (Err e) P Q more p = tt

@@ -21,7 +21,10 @@ use Rattle.log_thirds.specs.Copies.{Copies}
 use Rattle.log_thirds.proofs.ScanLaws.{Reaches}
 use Rattle.log_record.specs.Found.{read_of}
 use Rattle.log_thirds.specs.Disk.{bytes_in, reads}
-use Rattle.log_thirds.specs.Reading.{ReadRun, LosesRun}
+use Rattle.fsd_log.specs.Reach.{headers_len}
+use Rattle.fsd_log.proofs.ReachLaws.{record_within}
+use Rattle.log_thirds.specs.Reading.{ReadsRecord}
+use Rattle.log_thirds.proofs.ReadingLaws.{read_past}
 use Rattle.log_thirds.specs.Seen.{SeesOn}
 use Rattle.fsd_log.proofs.PlaceLaws.{InThird, place_add, place_cases, place_from, below_numbers, first_most, end_most}
 use Rattle.fsd_log.proofs.HereLaws.{not_below}
@@ -57,7 +60,7 @@ lay_at image first sector (suc k) j lt room = elim (cases_eq j k) [
 ]
 
 module _ (l : Shape) (first at end : ℕ) (one : first ≤ 2) (before : at ≤ end) (from : end ≤ at + l.third) (ends : IsEnd l end) (old new : Moment) (wears : Wears old new) (honest : Type 0) (h : honest)
-    (place count : ℕ) (is_place : place ≡ place_of l first at) (is_count : count ≡ room_at at end) (whole : List Bool) (bytes : List ℕ) (run : ReadRun honest old place count whole bytes) (lost : LosesRun honest new place count whole bytes)
+    (place : ℕ) (is_place : place ≡ place_of l first at) (p : ℕ) (stamp : Stamp) (whole : List Bool) (bytes : List ℕ) (is : ReadsRecord honest old new p stamp place (room_at at end) whole bytes)
     (j : List Sector) (jw : IsWorn (open_damage old.windows) j old.image) where
   abbrev may : ℕ → Bool
   may = open_damage old.windows
@@ -67,50 +70,50 @@ module _ (l : Shape) (first at end : ℕ) (one : first ≤ 2) (before : at ≤ e
 
   -- the run as it was read over the image as it was seen before
   pub seen : List Sector
-  seen = lay j place (λ k. sector_of (read_of whole bytes k)) count
+  seen = lay j place (λ k. sector_of (read_of whole bytes k)) (length whole)
 
-  long : length (lay j place (λ k. sector_of (read_of whole bytes k)) count) ≡ length j
-  long = length-lay j place (λ k. sector_of (read_of whole bytes k)) count
+  long : length (lay j place (λ k. sector_of (read_of whole bytes k)) (length whole)) ≡ length j
+  long = length-lay j place (λ k. sector_of (read_of whole bytes k)) (length whole)
 
-  whole_then : (k : ℕ) (b : List ℕ) → k < count → read_of whole bytes k ≡ Some b → sector_at old.image (place + k) ≡ Whole b
-  whole_then k b lt is = ⊎_elim (λ same. whole_of (sector_at old.image (place + k)) b (sym same ∙ is)) (λ hurt. absurd (cc (is, hurt.1))) (run.shown h k lt)
+  whole_then : (k : ℕ) (b : List ℕ) → k < length whole → read_of whole bytes k ≡ Some b → sector_at old.image (place + k) ≡ Whole b
+  whole_then k b lt e = ⊎_elim (λ same. whole_of (sector_at old.image (place + k)) b (sym same ∙ e)) (λ hurt. absurd (cc (e, hurt.1))) ((is.run.sees h k lt).0)
 
-  none_then : (k : ℕ) → k < count → read_of whole bytes k ≡ None → (sector_at old.image (place + k) ≡ Damaged) ⊎ IsTrue (open_damage old.windows (place + k))
-  none_then k lt is = ⊎_elim (λ same. inl (damaged_of (sector_at old.image (place + k)) (sym same ∙ is))) (λ hurt. inr hurt.0) (run.shown h k lt)
+  none_then : (k : ℕ) → k < length whole → read_of whole bytes k ≡ None → (sector_at old.image (place + k) ≡ Damaged) ⊎ IsTrue (open_damage old.windows (place + k))
+  none_then k lt e = ⊎_elim (λ same. inl (damaged_of (sector_at old.image (place + k)) (sym same ∙ e))) (λ hurt. inr hurt.0) ((is.run.sees h k lt).0)
 
   -- nothing is read past the end of the image
-  past_none : (k : ℕ) → k < count → length j ≤ place + k → (o : Option (List ℕ)) → read_of whole bytes k ≡ o → o ≡ None
-  past_none k lt past None is = refl
-  past_none k lt past (Some b) is =
+  past_none : (k : ℕ) → k < length whole → length j ≤ place + k → (o : Option (List ℕ)) → read_of whole bytes k ≡ o → o ≡ None
+  past_none k lt past None e = refl
+  past_none k lt past (Some b) e =
       let none : sector_at old.image (place + k) ≡ Damaged = get_or_past old.image (place + k) Damaged (omega (arith, jw.size, past)) in
-      absurd (let stood = whole_then k b lt is in cc (none, stood))
+      absurd (let stood = whole_then k b lt e in cc (none, stood))
 
-  pub seen_at : (k : ℕ) → k < count → sector_at seen (place + k) ≡ sector_of (read_of whole bytes k)
+  pub seen_at : (k : ℕ) → k < length whole → sector_at seen (place + k) ≡ sector_of (read_of whole bytes k)
   unfolding seen
   seen_at k lt = elim (cases_lt (place + k) (length j)) [
-    | inl inside ↦ lay_at j place (λ k. sector_of (read_of whole bytes k)) count k lt inside
-    | inr past ↦ get_or_past (lay j place (λ k. sector_of (read_of whole bytes k)) count) (place + k) Damaged (omega (arith, long, past)) ∙ ap sector_of (sym (past_none k lt past (read_of whole bytes k) refl))
+    | inl inside ↦ lay_at j place (λ k. sector_of (read_of whole bytes k)) (length whole) k lt inside
+    | inr past ↦ get_or_past (lay j place (λ k. sector_of (read_of whole bytes k)) (length whole)) (place + k) Damaged (omega (arith, long, past)) ∙ ap sector_of (sym (past_none k lt past (read_of whole bytes k) refl))
   ]
 
-  seen_other : (s : ℕ) → (s < place) ⊎ (place + count ≤ s) → sector_at seen s ≡ sector_at j s
+  seen_other : (s : ℕ) → (s < place) ⊎ (place + length whole ≤ s) → sector_at seen s ≡ sector_at j s
   unfolding seen
-  seen_other s out = lay_other j place (λ k. sector_of (read_of whole bytes k)) count s out
+  seen_other s out = lay_other j place (λ k. sector_of (read_of whole bytes k)) (length whole) s out
 
   abbrev Worn1 : ℕ → Sector → Sector → Type 0
   Worn1 s a b = (b ≡ a) ⊎ (IsTrue (open_damage old.windows s) × (b ≡ Damaged))
 
-  from_in : (k : ℕ) → k < count → (o : Option (List ℕ)) → read_of whole bytes k ≡ o → Worn1 (place + k) (sector_at j (place + k)) (sector_of o)
-  from_in k lt (Some b) is = inl (sym (worn_whole (open_damage old.windows) j old.image (place + k) b jw (whole_then k b lt is)))
-  from_in k lt None is = ⊎_elim
+  from_in : (k : ℕ) → k < length whole → (o : Option (List ℕ)) → read_of whole bytes k ≡ o → Worn1 (place + k) (sector_at j (place + k)) (sector_of o)
+  from_in k lt (Some b) e = inl (sym (worn_whole (open_damage old.windows) j old.image (place + k) b jw (whole_then k b lt e)))
+  from_in k lt None e = ⊎_elim
       (λ hurt. ⊎_elim (λ same. inl (sym (sym same ∙ hurt))) (λ worn. inr (worn.0, refl)) (jw.each (place + k)))
-      (λ weak. inr (weak, refl)) (none_then k lt is)
+      (λ weak. inr (weak, refl)) (none_then k lt e)
 
-  to_in : (k : ℕ) → k < count → (o : Option (List ℕ)) → read_of whole bytes k ≡ o → Worn1 (place + k) (sector_of o) (sector_at new.image (place + k))
-  to_in k lt (Some b) is = ⊎_elim (λ same. inl (same ∙ whole_then k b lt is)) (λ hurt. inr hurt) (wears.image.each (place + k))
-  to_in k lt None is = inl (lost.hurt h k lt is)
+  to_in : (k : ℕ) → k < length whole → (o : Option (List ℕ)) → read_of whole bytes k ≡ o → Worn1 (place + k) (sector_of o) (sector_at new.image (place + k))
+  to_in k lt (Some b) e = ⊎_elim (λ same. inl (same ∙ whole_then k b lt e)) (λ hurt. inr hurt) (wears.image.each (place + k))
+  to_in k lt None e = inl ((is.run.sees h k lt).1 e)
 
   -- a place of the run, counted from its start
-  at_place : (P : ℕ → Type 0) (s : ℕ) → (place ≤ s) × (s < place + count) → ((k : ℕ) → k < count → P (place + k)) → P s
+  at_place : (P : ℕ → Type 0) (s : ℕ) → (place ≤ s) × (s < place + length whole) → ((k : ℕ) → k < length whole → P (place + k)) → P s
   at_place P s within each =
       let is : place + (s - place) ≡ s = omega (arith, within.0) in
       subst P is (each (s - place) (omega (arith, within.0, within.1)))
@@ -119,7 +122,7 @@ module _ (l : Shape) (first at end : ℕ) (one : first ≤ 2) (before : at ≤ e
   unfolding seen
   seen_from = record {
     size = long;
-    each = λ s. elim (outside_cases place count s) [
+    each = λ s. elim (outside_cases place (length whole) s) [
       | inl within ↦ at_place (λ s. Worn1 s (sector_at j s) (sector_at seen s)) s within (λ k lt. subst (Worn1 (place + k) (sector_at j (place + k))) (sym (seen_at k lt)) (from_in k lt (read_of whole bytes k) refl))
       | inr out ↦ inl (seen_other s out)
     ];
@@ -131,7 +134,7 @@ module _ (l : Shape) (first at end : ℕ) (one : first ≤ 2) (before : at ≤ e
       let all = worn_trans (open_damage old.windows) j old.image new.image jw wears.image in
       record {
         size = all.size ∙ sym long;
-        each = λ s. elim (outside_cases place count s) [
+        each = λ s. elim (outside_cases place (length whole) s) [
           | inl within ↦ at_place (λ s. Worn1 s (sector_at seen s) (sector_at new.image s)) s within (λ k lt. subst (λ (x : Sector). Worn1 (place + k) x (sector_at new.image (place + k))) (sym (seen_at k lt)) (to_in k lt (read_of whole bytes k) refl))
           | inr out ↦ subst (λ (x : Sector). Worn1 s x (sector_at new.image s)) (sym (seen_other s out)) (all.each s)
         ];
@@ -154,32 +157,33 @@ module _ (l : Shape) (first at end : ℕ) (one : first ≤ 2) (before : at ≤ e
   pub seen_below : (w : ℕ) → w < at → tape l first (reads seen) w ≡ tape l first (reads j) w
   seen_below w lt =
       let inside : w < 3 * l.third = omega (arith, lt, before, end_most l end ends) in
-      let away = below_numbers l.third (first * l.third) at count end (place_of l first at) w (place_of l first w) (first_most l first one) (end_most l end ends) (omega (arith, is_count, before)) lt (place_cases l first at) (place_cases l first w) in
+      let away = below_numbers l.third (first * l.third) at (length whole) end (place_of l first at) w (place_of l first w) (first_most l first one) (end_most l end ends) (omega (arith, is.within, before)) lt (place_cases l first at) (place_cases l first w) in
       on_tape seen w inside
       ∙ ap bytes_in (seen_other (place_of l first w) (⊎_elim (λ low. inl (omega (arith, low, is_place))) (λ high. inr (omega (arith, high, is_place))) away))
       ∙ sym (on_tape j w inside)
 
-  seen_read : (k : ℕ) → k < count → tape l first (reads seen) (at + k) ≡ read_of whole bytes k
+  seen_read : (k : ℕ) → k < length whole → tape l first (reads seen) (at + k) ≡ read_of whole bytes k
   seen_read k lt =
-      on_tape seen (at + k) (omega (arith, lt, is_count, end_most l end ends))
-      ∙ ap (reads seen) (place_add l first at (end - at) end k in_third (omega (arith, lt, is_count)) ∙ ap (λ (s : ℕ). s + k) (sym is_place))
+      on_tape seen (at + k) (omega (arith, lt, is.within, end_most l end ends))
+      ∙ ap (reads seen) (place_add l first at (end - at) end k in_third (omega (arith, lt, is.within)) ∙ ap (λ (s : ℕ). s + k) (sym is_place))
       ∙ ap bytes_in (seen_at k lt) ∙ read_back (read_of whole bytes k)
 
-  reads_window : read_of whole bytes ≡ window (tape l first (reads seen)) at (room_at at end)
-  reads_window = λ i k. pointwise k i
-    where
-      pointwise : (k : ℕ) → read_of whole bytes k ≡ window (tape l first (reads seen)) at (room_at at end) k
-      pointwise k = elim (cases_lt k count) [
-        | inl lt ↦ sym (seen_read k lt) ∙ sym (cond-true (nat_lt k (room_at at end)) (tape l first (reads seen) (at + k)) None (lt-ltb _ _ (omega (arith, is_count))))
-        | inr past ↦
-            ap (λ (b : Bool). if b then Some (slice_of bytes k) else None) (get_or_past whole k false (omega (arith, run.many)))
-            ∙ sym (cond-false (nat_lt k (room_at at end)) (tape l first (reads seen) (at + k)) None (not_below _ _ (omega (arith, is_count))))
-      ]
+  read_window : (k : ℕ) → k < length whole → read_of whole bytes k ≡ window (tape l first (reads seen)) at (room_at at end) k
+  read_window k lt = sym (seen_read k lt) ∙ sym (cond-true (nat_lt k (room_at at end)) (tape l first (reads seen) (at + k)) None (lt-ltb _ _ (omega (arith, is.within))))
 
-  pub judged_seen : (p : ℕ) (stamp : Stamp) (o : Option Serving) → o ≡ judged p stamp (length whole) (read_of whole bytes)
+  read_header : (k : ℕ) → k < headers_len → read_of whole bytes k ≡ window (tape l first (reads seen)) at (room_at at end) k
+  read_header k lt = elim (cases_lt k (length whole)) [
+    | inl there ↦ read_window k there
+    | inr past ↦ read_past whole bytes k past ∙ sym (cond-false (nat_lt k (room_at at end)) (tape l first (reads seen) (at + k)) None (not_below _ _ (omega (arith, is.reaches, past, lt))))
+  ]
+
+  pub judged_seen : (o : Option Serving) → o ≡ judged p stamp (length whole) (read_of whole bytes)
       → option_map (logged_of stamp.number (read_of whole bytes)) o ≡ record_in p stamp (room_at at end) (window (tape l first (reads seen)) at (room_at at end))
   unfolding record_in
-  judged_seen p stamp o is = λ i. option_map (logged_of stamp.number (reads_window i)) ((is ∙ λ j. judged p stamp ((run.many ∙ is_count) j) (reads_window j)) i)
+  judged_seen o e =
+      ap (option_map (logged_of stamp.number (read_of whole bytes))) e
+      ∙ record_within p stamp (room_at at end) (length whole) (window (tape l first (reads seen)) at (room_at at end)) (read_of whole bytes)
+      (record { within = is.within; alike = read_window; header = read_header 0 (omega arith); copy = read_header 2 (omega arith) }) (omega (arith, is.reaches))
 
 -- ---- what was found before stays
 

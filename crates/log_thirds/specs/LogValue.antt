@@ -7,7 +7,7 @@ use Rattle.log_thirds.specs.declared.slots.Slot.{Slot}
 use Rattle.log_thirds.specs.declared.firsts.Firsts.{Firsts}
 use Rattle.log_thirds.specs.Firsts.{AreNumbers}
 use Rattle.log_thirds.specs.Slots.{LieInRecords, SlotsInside}
-use Rattle.log_thirds.specs.Copies.{Copies, FitsDisk}
+use Rattle.log_thirds.specs.Copies.{Copies, FitsDisk, copies_count}
 
 pub record LogValue : Type 0 where
   pub layout : Shape
@@ -29,6 +29,7 @@ pub record IsShaped (layout : Shape) (anchor : Anchor) (head : Head) (firsts : F
   pub on_disk : SlotsInside layout.sectors slots
   pub in_records : LieInRecords layout slots
   pub copied : FitsDisk layout.sectors copies
+  pub few : copies_count copies ≤ 97
   pub long : length buffer ≡ 100864
 
 -- A log lies in its layout, and its head in a third.

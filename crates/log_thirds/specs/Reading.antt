@@ -4,12 +4,13 @@ use Rattle.sector_disk.specs.declared.sector.Sector.TheVariants.{Damaged}
 use Rattle.sector_disk.specs.Image.{sector_at, open_damage}
 use Rattle.sector_disk.specs.Machine.{Report, Moment, DeviceFault}
 use Rattle.volume_layout.specs.Shape.{Shape}
+use Rattle.fsd_formats.specs.Record.{Stamp}
+use Rattle.fsd_log.specs.Reach.{reach}
 use Rattle.log_record.specs.Found.{read_of}
 use Rattle.fsd_formats.specs.declared.anchor.Anchor.{Anchor}
 use Rattle.fsd_log.specs.Scan.{Head, Placed, IsEnd, anchor_in, newer_of}
 use Rattle.log_thirds.specs.Disk.{reads}
 use Rattle.log_thirds.specs.declared.find.Spot.{Spot}
-use Rattle.log_thirds.specs.declared.find.Taken.{Taken}
 use Rattle.log_thirds.specs.declared.find.Step.{Step}
 use Rattle.fsd_log.specs.Judged.{Logged}
 use Rattle.log_thirds.specs.Copies.{entry_in}
@@ -51,15 +52,24 @@ ReadWorn old place o = (o ≡ reads old.image place) ⊎ (IsTrue (open_damage ol
 abbrev pub Sees : (old new : Moment) → ℕ → Option (List ℕ) → Type 0
 Sees old new place o = ReadWorn old place o × (o ≡ None → sector_at new.image place ≡ Damaged)
 
--- where nothing is read of a sector, it is damaged at the end
-pub record LosesRun (honest : Type 0) (new : Moment) (place count : ℕ) (whole : List Bool) (bytes : List ℕ) : Type 0 where
-  pub hurt : honest → (k : ℕ) → k < count → read_of whole bytes k ≡ None → sector_at new.image (place + k) ≡ Damaged
+-- So many sectors are read from a place on: those that were read before stay as they were read, and each other one is seen.
+pub record ReadsOn (honest : Type 0) (old new : Moment) (place count : ℕ) (whole whole1 : List Bool) (bytes bytes1 : List ℕ) : Type 0 where
+  pub many : length whole1 ≡ count
+  pub long : length bytes1 ≡ 512 * count
+  pub kept : (k : ℕ) → k < length whole → read_of whole1 bytes1 k ≡ read_of whole bytes k
+  pub sees : honest → (k : ℕ) → length whole ≤ k → k < count → Sees old new (place + k) (read_of whole1 bytes1 k)
 
--- so many sectors are read from a place on
-pub record ReadRun (honest : Type 0) (old : Moment) (place count : ℕ) (whole : List Bool) (bytes : List ℕ) : Type 0 where
+-- so many sectors are read from a place on, each once
+pub record ReadsRun (honest : Type 0) (old new : Moment) (place count : ℕ) (whole : List Bool) (bytes : List ℕ) : Type 0 where
   pub many : length whole ≡ count
   pub long : length bytes ≡ 512 * count
-  pub shown : honest → (k : ℕ) → k < count → ReadWorn old (place + k) (read_of whole bytes k)
+  pub sees : honest → (k : ℕ) → k < count → Sees old new (place + k) (read_of whole bytes k)
+
+-- Of so much room the sectors are read that the headers reach, and the headers.
+pub record ReadsRecord (honest : Type 0) (old new : Moment) (p : ℕ) (stamp : Stamp) (place room : ℕ) (whole : List Bool) (bytes : List ℕ) : Type 0 where
+  pub run : ReadsRun honest old new place (length whole) whole bytes
+  pub within : length whole ≤ room
+  pub reaches : length whole ≡ reach p stamp room (read_of whole bytes)
 
 -- the head goes on in its third
 pub record GoesTo (l : Shape) (from : ℕ) (spot : Spot) : Type 0 where
@@ -75,11 +85,8 @@ pub record Stepped : Type 0 where
   pub at : ℕ
   pub end : ℕ
 
-abbrev pub taken_in : (number : ℕ) → Taken → Logged
-taken_in number t = entry_in number t.found t.copies.items
-
-abbrev pub stepped_in : (number : ℕ) → Step → Stepped
-stepped_in number step = record { from = step.from; entry = taken_in number step.taken; at = step.past.at; end = step.past.end }
+abbrev pub stepped_in : (number : ℕ) → (copies : List ℕ) → Step → Stepped
+stepped_in number copies step = record { from = step.from; entry = entry_in number step.found copies; at = step.past.at; end = step.past.end }
 
 abbrev pub stepped_of : Placed × Head → Stepped
 stepped_of x = record { from = x.0.at; entry = x.0.entry; at = x.1.at; end = x.1.end }
@@ -87,8 +94,9 @@ stepped_of x = record { from = x.0.at; entry = x.0.entry; at = x.1.at; end = x.1
 -- the record ends where the head goes on, in one third
 pub record StepsOn (l : Shape) (from : ℕ) (step : Step) : Type 0 where
   pub goes : GoesTo l from step.past
-  pub lies : step.past.at ≡ step.from + (2 * length step.taken.found.pages.items + 5)
+  pub lies : step.past.at ≡ step.from + (2 * length step.found.pages.items + 5)
   pub in_third : step.past.end ≤ step.from + l.third
+  pub few : length step.found.pages.items ≤ 96
 
 -- an anchor that stood at a place, or none, or none where it may have worn
 pub record SeesCopy (old : Moment) (place : ℕ) (anchor : Option Anchor) : Type 0 where

@@ -1,5 +1,5 @@
 //! Which anchor the disk gives.
-ghost use Rattle.std.specs.Prelude.{◌≡◌, ◌<◌, ◌≤◌, List, Some, None, IfSome, IfErr, IfOk, OnOk, OnErr};
+ghost use Rattle.std.specs.Prelude.{◌≡◌, ◌<◌, ◌≤◌, ◌+◌, List, Some, None, IfSome, IfErr, IfOk, OnOk, OnErr};
 ghost use Rattle.sector_disk.specs.declared.sector.Sector.{Sector};
 ghost use Rattle.sector_disk.specs.Image.{stand, IsWorn, open_damage};
 ghost use Rattle.log_thirds.specs.Seen.{AnchorsOn, ReadsAnchor};
@@ -107,6 +107,7 @@ pub(crate) fn write_anchor<M: Machine>(m: &mut M, anchor: &Anchor) -> Result<(),
     ensures trust { Trusts (M.tells m.old) (M.tells m.new) (M.honest m.old) (M.honest m.new) }
     ensures ledger { M.tells m.new → OnlyWrites (M.ledger m.old) (M.ledger m.new) }
     ensures counted { OnOk result (M.tells m.new → M.ledger m.new ≡ wrote (M.ledger m.old) 2) }
+    ensures most { M.tells m.new → (M.ledger m.new).written ≤ (M.ledger m.old).written + 2 }
     ensures quiet { M.honest m.new → (M.now m.new).said ≡ (M.now m.old).said }
     ensures windows { M.honest m.new → (M.now m.new).windows ≡ (M.now m.old).windows }
     ensures any_moment { M.honest m.new → LeavesOnly M.moment M.left_since m.old m.new (AnchorsIn anchor.now (M.now m.old)) }

@@ -1,10 +1,10 @@
 //! The copies of a record's images and of its end, as they were read.
-ghost use Rattle.std.specs.Prelude.{◌≡◌, ◌≤◌, ◌+◌, ◌*◌, length, IfOk};
+ghost use Rattle.std.specs.Prelude.{◌≡◌, ◌≤◌, ◌+◌, ◌*◌, length, OnOk};
 ghost use Rattle.log_record.specs.Found.{serving_in};
 ghost use Rattle.log_thirds.specs.Copies.{served_at, AreServed};
 
 use log_record::Found;
-use std::alloc::{AllocError, Global};
+use std::alloc::AllocError;
 
 // The record's sector that serves as its `j`th image, and behind the images as its end.
 fn served_at(found: &Found, j: usize) -> usize
@@ -24,17 +24,17 @@ fn served_at(found: &Found, j: usize) -> usize
     }
 }
 
-/// The sectors of a record that serve as its images, and then its end.
-pub(crate) fn copies_in(alloc: Global, found: &Found, bytes: &[u8]) -> Result<Vec<u8>, AllocError>
+/// Takes the sectors of a record that serve as its images, and then its end.
+pub(crate) fn copies_in(found: &Found, bytes: &[u8], copies: &mut Vec<u8>) -> Result<(), AllocError>
     requires each { length found.now.page_copy.items ≡ length found.now.pages.items }
     requires room { 512 * (2 * length found.now.pages.items + 5) ≤ length bytes.now }
-    ensures { IfOk result (λ copies. AreServed (serving_in found.now) bytes.now (length found.now.pages.items + 1) copies.items) }
+    ensures { OnOk result (AreServed (serving_in found.now) bytes.now (length found.now.pages.items + 1) copies.new.items) }
 {
     let count = found.pages.len() + 1;
-    let mut copies = Vec::new(alloc);
+    copies.clear();
     for j in 0..count {
         let k = served_at(found, j);
         copies.extend_from_slice(&bytes[512 * k..512 * k + 512])?;
     }
-    Ok(copies)
+    Ok(())
 }

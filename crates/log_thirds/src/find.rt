@@ -1,24 +1,27 @@
 //! Looking for the next record.
-ghost use Rattle.std.specs.Prelude.{◌≡◌, ◌≤◌, ◌<◌, ◌+◌, ◌-◌, ◌*◌, min, ℕ, List, length, IfErr, IfOk, IfSome, OnOk, option_map};
+ghost use Rattle.std.specs.Prelude.{◌≡◌, ◌≤◌, ◌<◌, ◌+◌, ◌-◌, ◌*◌, min, ℕ, List, length, IfErr, IfOk, IfSome, IfNone, OnOk, option_map};
 ghost use Rattle.sector_disk.specs.Machine.{Moment, UsesDisk, Trusts, Wears, LeavesOnly};
 ghost use Rattle.fsd_log.specs.Scan.{Head, IsIn, IsEnd, place_of, tape, room_at, last_number, record_here, entered, next};
-ghost use Rattle.log_thirds.specs.Copies.{AreCopies};
+ghost use Rattle.log_thirds.specs.Copies.{AreCopies, entry_in};
 ghost use Rattle.log_thirds.specs.Disk.{reads};
 ghost use Rattle.log_thirds.specs.Seen.{SeesOn};
 ghost use Rattle.sector_disk.specs.declared.sector.Sector.{Sector};
 ghost use Rattle.sector_disk.specs.Image.{IsWorn, open_damage};
-ghost use Rattle.log_thirds.specs.Reading.{ReadCause, StepsOn, taken_in, stepped_in, stepped_of};
+ghost use Rattle.log_thirds.specs.Reading.{ReadCause, StepsOn, stepped_in, stepped_of};
 
 use crate::copies::copies_in;
-use crate::reading::{ReadFault, read_run};
+use crate::reading::{ReadFault, Reading, read_record};
 use fsd_formats::Anchor;
-use log_record::{Found, Judged, judge};
+use log_record::{Found, Judged, RECORD_SECTORS, judge};
 use sector_disk::Machine;
-use std::alloc::Global;
+use std::alloc::{AllocError, Global};
 use volume_layout::Layout;
 
 /// No record is ever given this number, and none is looked for.
 const LAST_NUMBER: u32 = u32::MAX;
+
+/// As many bytes as the copies of a record's images and of its end may have.
+const COPIES_BYTES: usize = 49_664;
 
 /// A place on the tape, and where its third ends.
 #[derive(Clone, Copy, Debug, PartialEq, Eq)]
@@ -27,19 +30,32 @@ pub(crate) struct Spot {
     pub end: u32,
 }
 
-/// A record that was found, and the copies of its images and its end.
-#[derive(Drop)]
-pub(crate) struct Taken {
-    pub found: Found,
-    pub copies: Vec<u8>,
-}
-
-/// A record that was taken, where on the tape it begins, and where the head goes behind it.
+/// A record that was found, where on the tape it begins, and where the head goes behind it.
 #[derive(Drop)]
 pub(crate) struct Step {
     pub from: u32,
-    pub taken: Taken,
+    pub found: Found,
     pub past: Spot,
+}
+
+/// What a scan reads into, made once: sectors, and of the record that was found last the copies of its images and its end.
+#[derive(Drop)]
+pub(crate) struct Scratch {
+    pub reading: Reading,
+    pub copies: Vec<u8>,
+}
+
+impl Scratch {
+    ghost use Rattle.std.specs.Prelude.{◌≡◌, [], IfOk};
+
+    /// Room for the longest record.
+    pub fn new(alloc: Global) -> Result<Scratch, AllocError>
+        ensures { IfOk result (λ scratch. scratch.copies.items ≡ []) }
+    {
+        let reading = Reading::new(alloc)?;
+        let copies = Vec::with_capacity(alloc, COPIES_BYTES)?;
+        Ok(Scratch { reading, copies })
+    }
 }
 
 /// Where a place on the tape lies on the disk.
@@ -64,19 +80,19 @@ fn room_at(at: u32, end: u32) -> u32
     ensures { result ≡ room_at at end }
 {
     let left = end - at;
-    if left < 197 { left } else { 197 }
+    left.min(RECORD_SECTORS)
 }
 
 // The record of this number that begins here.
 fn find<M: Machine>(
-    alloc: Global,
     m: &mut M,
     layout: &Layout,
     anchor: &Anchor,
     number: u32,
     at: u32,
     end: u32,
-) -> Result<Option<Taken>, ReadFault>
+    scratch: &mut Scratch,
+) -> Result<Option<Found>, ReadFault>
     requires first { anchor.now.third ≤ 2 }
     requires before { at ≤ end }
     requires from { end ≤ at + layout.now.third }
@@ -88,47 +104,45 @@ fn find<M: Machine>(
     ensures ledger { M.tells m.new → M.ledger m.new ≡ M.ledger m.old }
     ensures worn { M.honest m.new → Wears (M.now m.old) (M.now m.new) }
     ensures any_moment { M.honest m.new → LeavesOnly M.moment M.left_since m.old m.new (Wears (M.now m.old)) }
-    ensures fits { IfOk result (λ o. IfSome o (λ t. at + (2 * t.found.n + 5) ≤ end)) }
-    ensures counted { IfOk result (λ o. IfSome o (λ t. t.found.n ≡ length t.found.pages.items)) }
+    ensures fits { IfOk result (λ o. IfSome o (λ found. at + (2 * found.n + 5) ≤ end)) }
+    ensures counted { IfOk result (λ o. IfSome o (λ found. found.n ≡ length found.pages.items)) }
+    ensures few { IfOk result (λ o. IfSome o (λ found. found.n ≤ 96)) }
     ensures numbered { IfOk result (λ o. IfSome o (λ _. number < last_number)) }
-    ensures copied { IfOk result (λ o. IfSome o (λ t. AreCopies (record { epoch = anchor.now.epoch; number = number }) (length t.found.pages.items) t.copies.items)) }
+    ensures copied { IfOk result (λ o. IfSome o (λ found. AreCopies (record { epoch = anchor.now.epoch; number = number }) (length found.pages.items) scratch.new.copies.items)) }
+    ensures kept { IfOk result (λ o. IfNone o (scratch.new.copies ≡ scratch.old.copies)) }
     ensures seen { IfOk result (λ o. (j : List Sector) → M.honest m.new → IsWorn (open_damage (M.now m.old).windows) j (M.now m.old).image
         → SeesOn layout.now anchor.now.third at (open_damage (M.now m.old).windows) j (M.now m.new).image
-        (λ i. option_map (taken_in number) o ≡ (record_here layout.now anchor.now.epoch (tape layout.now anchor.now.third (reads i)) number at end))) }
+        (λ i. option_map (λ found. entry_in number found scratch.new.copies.items) o ≡ (record_here layout.now anchor.now.epoch (tape layout.now anchor.now.third (reads i)) number at end))) }
 {
     if number == LAST_NUMBER {
         return Ok(None);
     }
-    let count = room_at(at, end);
-    let _sectors = layout.sectors();
+    let room = room_at(at, end);
     let place = place_of(layout, anchor.third, at);
-    match read_run(alloc, m, place, count) {
-        Ok(reading) => match judge(
-            reading.whole.as_slice(),
-            reading.bytes.as_slice(),
-            layout.pages(),
-            anchor.epoch,
-            number,
-        ) {
-            Judged::Good(found) => match copies_in(alloc, &found, reading.bytes.as_slice()) {
-                Ok(copies) => Ok(Some(Taken { found, copies })),
-                Err(_) => Err(ReadFault::Memory),
-            },
-            Judged::NotThere => Ok(None),
+    let (p, epoch) = (layout.pages(), anchor.epoch);
+    match read_record(m, p, epoch, number, place, room, &mut scratch.reading) {
+        Ok(()) => {}
+        Err(fault) => return Err(fault),
+    }
+    let bytes = scratch.reading.bytes.as_slice();
+    match judge(scratch.reading.whole.as_slice(), bytes, p, epoch, number) {
+        Judged::Good(found) => match copies_in(&found, bytes, &mut scratch.copies) {
+            Ok(()) => Ok(Some(found)),
+            Err(_) => Err(ReadFault::Memory),
         },
-        Err(fault) => Err(fault),
+        Judged::NotThere => Ok(None),
     }
 }
 
 // The next record, if it begins the next third.
 fn enter<M: Machine>(
-    alloc: Global,
     m: &mut M,
     layout: &Layout,
     anchor: &Anchor,
     number: u32,
     at: u32,
     end: u32,
+    scratch: &mut Scratch,
 ) -> Result<Option<Step>, ReadFault>
     requires first { anchor.now.third ≤ 2 }
     requires before { at ≤ end }
@@ -143,24 +157,25 @@ fn enter<M: Machine>(
     ensures any_moment { M.honest m.new → LeavesOnly M.moment M.left_since m.old m.new (Wears (M.now m.old)) }
     ensures goes { IfOk result (λ o. IfSome o (StepsOn layout.now at)) }
     ensures numbered { IfOk result (λ o. IfSome o (λ _. number < last_number)) }
-    ensures copied { IfOk result (λ o. IfSome o (λ s. AreCopies (record { epoch = anchor.now.epoch; number = number }) (length s.taken.found.pages.items) s.taken.copies.items)) }
+    ensures copied { IfOk result (λ o. IfSome o (λ s. AreCopies (record { epoch = anchor.now.epoch; number = number }) (length s.found.pages.items) scratch.new.copies.items)) }
+    ensures kept { IfOk result (λ o. IfNone o (scratch.new.copies ≡ scratch.old.copies)) }
     ensures seen { IfOk result (λ o. (j : List Sector) → M.honest m.new → IsWorn (open_damage (M.now m.old).windows) j (M.now m.old).image
         → SeesOn layout.now anchor.now.third end (open_damage (M.now m.old).windows) j (M.now m.new).image
-        (λ i. option_map (stepped_in number) o ≡ option_map stepped_of
+        (λ i. option_map (stepped_in number scratch.new.copies.items) o ≡ option_map stepped_of
         (entered layout.now anchor.now.epoch (tape layout.now anchor.now.third (reads i)) (record { number = number; at = at; end = end })))) }
 {
     let third = layout.third();
     if at == 0 || end >= 3 * third {
         return Ok(None);
     }
-    match find(alloc, m, layout, anchor, number, end, end + third) {
-        Ok(Some(taken)) => Ok(Some(Step {
+    match find(m, layout, anchor, number, end, end + third, scratch) {
+        Ok(Some(found)) => Ok(Some(Step {
             from: end,
             past: Spot {
-                at: end + (2 * taken.found.n + 5),
+                at: end + (2 * found.n + 5),
                 end: end + third,
             },
-            taken,
+            found,
         })),
         Ok(None) => Ok(None),
         Err(fault) => Err(fault),
@@ -169,13 +184,13 @@ fn enter<M: Machine>(
 
 /// The next record.
 pub(crate) fn next<M: Machine>(
-    alloc: Global,
     m: &mut M,
     layout: &Layout,
     anchor: &Anchor,
     number: u32,
     at: u32,
     end: u32,
+    scratch: &mut Scratch,
 ) -> Result<Option<Step>, ReadFault>
     requires first { anchor.now.third ≤ 2 }
     requires before { at ≤ end }
@@ -190,22 +205,23 @@ pub(crate) fn next<M: Machine>(
     ensures any_moment { M.honest m.new → LeavesOnly M.moment M.left_since m.old m.new (Wears (M.now m.old)) }
     ensures goes { IfOk result (λ o. IfSome o (StepsOn layout.now at)) }
     ensures numbered { IfOk result (λ o. IfSome o (λ _. number < last_number)) }
-    ensures copied { IfOk result (λ o. IfSome o (λ s. AreCopies (record { epoch = anchor.now.epoch; number = number }) (length s.taken.found.pages.items) s.taken.copies.items)) }
+    ensures copied { IfOk result (λ o. IfSome o (λ s. AreCopies (record { epoch = anchor.now.epoch; number = number }) (length s.found.pages.items) scratch.new.copies.items)) }
+    ensures kept { IfOk result (λ o. IfNone o (scratch.new.copies ≡ scratch.old.copies)) }
     ensures seen { IfOk result (λ o. (j : List Sector) → M.honest m.new → IsWorn (open_damage (M.now m.old).windows) j (M.now m.old).image
         → SeesOn layout.now anchor.now.third at (open_damage (M.now m.old).windows) j (M.now m.new).image
-        (λ i. option_map (stepped_in number) o ≡ option_map stepped_of
+        (λ i. option_map (stepped_in number scratch.new.copies.items) o ≡ option_map stepped_of
         (next layout.now anchor.now.epoch (tape layout.now anchor.now.third (reads i)) (record { number = number; at = at; end = end })))) }
 {
-    match find(alloc, m, layout, anchor, number, at, end) {
-        Ok(Some(taken)) => Ok(Some(Step {
+    match find(m, layout, anchor, number, at, end, scratch) {
+        Ok(Some(found)) => Ok(Some(Step {
             from: at,
             past: Spot {
-                at: at + (2 * taken.found.n + 5),
+                at: at + (2 * found.n + 5),
                 end,
             },
-            taken,
+            found,
         })),
-        Ok(None) => enter(alloc, m, layout, anchor, number, at, end),
+        Ok(None) => enter(m, layout, anchor, number, at, end, scratch),
         Err(fault) => Err(fault),
     }
 }

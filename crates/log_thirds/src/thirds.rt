@@ -1,7 +1,7 @@
 //! The log, and where its next record goes.
 use crate::anchors::{find_anchor, write_anchor};
 use crate::fault::{LogFault, log_fault};
-use crate::find::{Step, Taken, next, place_of};
+use crate::find::{Scratch, Step, next, place_of};
 use crate::firsts::Firsts;
 use crate::images::read_slot;
 use crate::moving::next_third;
@@ -9,6 +9,7 @@ use crate::reading::ReadFault;
 use crate::slots::{Slot, clear, drop_in, least_in, no_slots, note};
 use crate::write::write_record;
 use fsd_formats::Anchor;
+use log_record::RECORD_BYTES;
 use sector_disk::{Failed, LoadFault, Machine};
 use std::alloc::Global;
 use std::marker::Model;
@@ -102,8 +103,7 @@ impl Log {
         ensures seen { IfOk result (λ log. (j : List Sector) → M.honest m.new → IsWorn (open_damage (M.now m.old).windows) j (M.now m.old).image → ScansOn log (open_damage (M.now m.old).windows) j (M.now m.new).image) }
     {
         let third = layout.third();
-        let _sectors = layout.sectors();
-        let buffer = match vec![in alloc; 0u8; 100_864] {
+        let buffer = match vec![in alloc; 0u8; RECORD_BYTES] {
             Ok(buffer) => buffer,
             Err(_) => return Err(ReadFault::Memory),
         };
@@ -111,19 +111,18 @@ impl Log {
             Ok(slots) => slots,
             Err(_) => return Err(ReadFault::Memory),
         };
-        let mut copies = Vec::new(alloc);
+        let mut scratch = match Scratch::new(alloc) {
+            Ok(scratch) => scratch,
+            Err(_) => return Err(ReadFault::Memory),
+        };
         let mut copies_at = 0;
         let mut number = anchor.first;
         let mut at = 0;
         let mut end = third;
         let mut firsts = Firsts::of(number);
         loop {
-            match next(alloc, m, layout, anchor, number, at, end) {
-                Ok(Some(Step { from, taken, past })) => {
-                    let Taken {
-                        found,
-                        copies: more,
-                    } = taken;
+            match next(m, layout, anchor, number, at, end, &mut scratch) {
+                Ok(Some(Step { from, found, past })) => {
                     let place = place_of(layout, anchor.third, from);
                     note(
                         slots.as_mut_slice(),
@@ -132,7 +131,6 @@ impl Log {
                         found.pages.as_slice(),
                     );
                     copies_at = place + (4 + found.pages.len() as u32);
-                    copies = more;
                     firsts = firsts.with(third, from);
                     number += 1;
                     at = past.at;
@@ -148,7 +146,7 @@ impl Log {
                         firsts,
                         slots,
                         copies_at,
-                        copies,
+                        copies: scratch.copies,
                         buffer,
                     });
                 }
@@ -158,7 +156,8 @@ impl Log {
     }
 
     /// Finds the end of the log that the newer copy of the anchor begins. A number of 2^32 - 1 is never looked for, since
-    /// no record bears it. Needs room for two records, and for a table of the pages.
+    /// no record bears it. Reads the headers of each record and then its own sectors alone, each once. Needs room for three records,
+    /// and for a table of the pages; it is made before the first record is looked for.
     pub fn scan<M: Machine>(alloc: Global, m: &mut M, layout: &Layout) -> Result<Log, LogFault>
         requires sectors { layout.now.sectors ≤ (M.report m.old).sectors }
         ensures fault { IfErr result (LogCause (M.report m.old) (M.report m.new)) }
@@ -312,7 +311,6 @@ impl Log {
         ensures none { IfNone result (self.now.copies.bytes ≡ []) }
         ensures some { IfSome result (IsLast self.now.copies) }
     {
-        let _sectors = self.layout.sectors();
         let count = self.copies.len() / 512;
         if count == 0 {
             return None;
@@ -333,6 +331,7 @@ impl Log {
         ensures ledger { M.tells m.new → OnlyWrites (M.ledger m.old) (M.ledger m.new) }
         ensures counted { OnOk result (M.tells m.new → M.ledger m.new ≡ wrote (M.ledger m.old) (copies_count self.now.copies)) }
         ensures counted_err { OnErr result (M.tells m.new → M.ledger m.new ≡ M.ledger m.old) }
+        ensures few { copies_count self.now.copies ≤ 97 }
         ensures quiet { M.honest m.new → (M.now m.new).said ≡ (M.now m.old).said }
         ensures windows { M.honest m.new → (M.now m.new).windows ≡ (M.now m.old).windows }
         ensures any_moment { M.honest m.new → LeavesOnly M.moment M.left_since m.old m.new (StandsInPart self.now.copies.place self.now.copies.bytes (copies_count self.now.copies) (M.now m.old)) }
@@ -417,6 +416,7 @@ impl Log {
         ensures trust { Trusts (M.tells m.old) (M.tells m.new) (M.honest m.old) (M.honest m.new) }
         ensures ledger { M.tells m.new → OnlyWrites (M.ledger m.old) (M.ledger m.new) }
         ensures counted { OnOk result (M.tells m.new → M.ledger m.new ≡ wrote (M.ledger m.old) 2) }
+        ensures most { M.tells m.new → (M.ledger m.new).written ≤ (M.ledger m.old).written + 2 }
         ensures quiet { M.honest m.new → (M.now m.new).said ≡ (M.now m.old).said }
         ensures windows { M.honest m.new → (M.now m.new).windows ≡ (M.now m.old).windows }
         ensures any_moment { M.honest m.new → LeavesOnly M.moment M.left_since m.old m.new (AnchorsIn (next_epoch self.old) (M.now m.old)) }
@@ -453,6 +453,7 @@ impl Log {
         ensures trust { Trusts (M.tells m.old) (M.tells m.new) (M.honest m.old) (M.honest m.new) }
         ensures ledger { M.tells m.new → OnlyWrites (M.ledger m.old) (M.ledger m.new) }
         ensures counted { OnOk result (M.tells m.new → M.ledger m.new ≡ wrote (M.ledger m.old) 2) }
+        ensures most { M.tells m.new → (M.ledger m.new).written ≤ (M.ledger m.old).written + 2 }
         ensures quiet { M.honest m.new → (M.now m.new).said ≡ (M.now m.old).said }
         ensures windows { M.honest m.new → (M.now m.new).windows ≡ (M.now m.old).windows }
         ensures any_moment { M.honest m.new → LeavesOnly M.moment M.left_since m.old m.new (AnchorsIn (moved_anchor self.old) (M.now m.old)) }

@@ -47,6 +47,7 @@ fn set_copy<M: Machine>(m: &mut M, place: u32, b: &[u8; 512]) -> Result<u32, Loa
     ensures long { length b.now ≡ 512 }
     ensures ledger { M.tells m.new → OnlyWrites (M.ledger m.old) (M.ledger m.new) }
     ensures counted { OnOk result (M.tells m.new → M.ledger m.new ≡ wrote (M.ledger m.old) 1) }
+    ensures most { M.tells m.new → (M.ledger m.new).written ≤ (M.ledger m.old).written + 1 }
     ensures any_moment { M.honest m.new → LeavesOnly M.moment M.left_since m.old m.new (WritesPart place b.now (M.now m.old)) }
     ensures exit { M.honest m.new → WritesPart place b.now (M.now m.old) (M.now m.new) }
     ensures done { OnOk result (M.honest m.new → Holds (M.now m.old) (stand (M.now m.old).image place b.now 1) (M.now m.new)) }
@@ -67,6 +68,7 @@ fn heal_copies<M: Machine>(m: &mut M, a: u32, b: u32) -> Result<u32, LoadFault>
     ensures trust { Trusts (M.tells m.old) (M.tells m.new) (M.honest m.old) (M.honest m.new) }
     ensures ledger { M.tells m.new → OnlyWrites (M.ledger m.old) (M.ledger m.new) }
     ensures counted { IfOk result (λ count. M.tells m.new → M.ledger m.new ≡ wrote (M.ledger m.old) count) }
+    ensures most { M.tells m.new → (M.ledger m.new).written ≤ (M.ledger m.old).written + 1 }
     ensures any_moment { M.honest m.new → LeavesOnly M.moment M.left_since m.old m.new (Heals a b (M.now m.old)) }
     ensures exit { M.honest m.new → Heals a b (M.now m.old) (M.now m.new) }
     ensures done { IfOk result (λ count. M.honest m.new → Healed a b count (M.now m.old) (M.now m.new)) }
@@ -92,6 +94,7 @@ pub fn heal_page<M: Machine>(m: &mut M, l: &Layout, page: u32) -> Result<u32, Lo
     ensures trust { Trusts (M.tells m.old) (M.tells m.new) (M.honest m.old) (M.honest m.new) }
     ensures ledger { M.tells m.new → OnlyWrites (M.ledger m.old) (M.ledger m.new) }
     ensures counted { IfOk result (λ count. M.tells m.new → M.ledger m.new ≡ wrote (M.ledger m.old) count) }
+    ensures most { M.tells m.new → (M.ledger m.new).written ≤ (M.ledger m.old).written + 1 }
     ensures any_moment { M.honest m.new → LeavesOnly M.moment M.left_since m.old m.new (Heals (home_a l.now page) (home_b l.now page) (M.now m.old)) }
     ensures exit { M.honest m.new → Heals (home_a l.now page) (home_b l.now page) (M.now m.old) (M.now m.new) }
     ensures done { IfOk result (λ count. M.honest m.new → Healed (home_a l.now page) (home_b l.now page) count (M.now m.old) (M.now m.new)) }
@@ -109,6 +112,7 @@ pub fn heal_anchor<M: Machine>(m: &mut M) -> Result<u32, LoadFault>
     ensures trust { Trusts (M.tells m.old) (M.tells m.new) (M.honest m.old) (M.honest m.new) }
     ensures ledger { M.tells m.new → OnlyWrites (M.ledger m.old) (M.ledger m.new) }
     ensures counted { IfOk result (λ count. M.tells m.new → M.ledger m.new ≡ wrote (M.ledger m.old) count) }
+    ensures most { M.tells m.new → (M.ledger m.new).written ≤ (M.ledger m.old).written + 1 }
     ensures any_moment { M.honest m.new → LeavesOnly M.moment M.left_since m.old m.new (Heals 8 12 (M.now m.old)) }
     ensures exit { M.honest m.new → Heals 8 12 (M.now m.old) (M.now m.new) }
     ensures done { IfOk result (λ count. M.honest m.new → Healed 8 12 count (M.now m.old) (M.now m.new)) }
@@ -133,6 +137,7 @@ fn set_root<M: Machine>(
     ensures few { IfOk result (λ count. count ≤ 1) }
     ensures ledger { M.tells m.new → OnlyWrites (M.ledger m.old) (M.ledger m.new) }
     ensures counted { IfOk result (λ count. M.tells m.new → (M.ledger m.new).written ≡ (M.ledger m.old).written + count) }
+    ensures most { M.tells m.new → (M.ledger m.new).written ≤ (M.ledger m.old).written + 1 }
     ensures any_moment { M.honest m.new → LeavesOnly M.moment M.left_since m.old m.new (WritesPart place b.now (M.now m.old)) }
     ensures exit { M.honest m.new → WritesPart place b.now (M.now m.old) (M.now m.new) }
     ensures done { IfOk result (λ count. M.honest m.new → SetsRoot place read b.now count (M.now m.old) (M.now m.new)) }
@@ -159,6 +164,7 @@ pub fn heal_root<M: Machine>(m: &mut M, l: &Layout) -> Result<u32, LoadFault>
     ensures trust { Trusts (M.tells m.old) (M.tells m.new) (M.honest m.old) (M.honest m.new) }
     ensures ledger { M.tells m.new → OnlyWrites (M.ledger m.old) (M.ledger m.new) }
     ensures counted { IfOk result (λ count. M.tells m.new → (M.ledger m.new).written ≡ (M.ledger m.old).written + count) }
+    ensures most { M.tells m.new → (M.ledger m.new).written ≤ (M.ledger m.old).written + 2 }
     ensures any_moment { M.honest m.new → LeavesOnly M.moment M.left_since m.old m.new (RootsIn (root_bytes l.now) (M.now m.old)) }
     ensures done { IfOk result (λ count. M.honest m.new → RootsHealed (root_bytes l.now) count (M.now m.old) (M.now m.new)) }
     ensures lost { IfErr result (λ fault. M.honest m.new → LostCause (λ x y. (x ≡ 0) × (y ≡ 4)) (M.now m.new).image fault) }

@@ -3,8 +3,8 @@ use Rattle.std.specs.Prelude.{option_map, IfSome}
 use Rattle.fsd_log.specs.Scan.{Head, IsEnd, tape, record_here}
 use Rattle.log_thirds.specs.Disk.{reads}
 use Rattle.fsd_log.proofs.WalkLaws.{next_end}
-use Rattle.log_thirds.specs.declared.find.Taken.{Taken}
-use Rattle.log_thirds.specs.Reading.{taken_in}
+use Rattle.log_record.specs.declared.judging.Found.{Found}
+use Rattle.log_thirds.specs.Copies.{entry_in}
 use Rattle.log_thirds.proofs.FindLaws.{goes_to, there_found, not_there}
 use Rattle.sector_disk.specs.Image.{open_damage}
 use Rattle.log_thirds.proofs.SeenLaws.{sees_more}
@@ -12,14 +12,16 @@ use Rattle.log_thirds.proofs.find.enter.Goals as goal
 
 pub returns-in-Ok-Some-clause-goes : goal.returns-in-Ok-Some-clause-goes
 returns-in-Ok-Some-clause-goes g c =
-    let n = c.in-Ok-Some.taken.found.n in
+    let n = c.in-Ok-Some.found.n in
     let value = c.third-third.ensures.value in
-    let fits = subst (λ (o : Option Taken). IfSome o (λ t. c.args.end + (2 * t.found.n + 5) ≤ c.args.end + c.third-third.result)) c.in-Ok-Some.field-0-is c.in-Ok-Some.ensures.fits in
-    let counted = subst (λ (o : Option Taken). IfSome o (λ t. t.found.n ≡ length t.found.pages.items)) c.in-Ok-Some.field-0-is c.in-Ok-Some.ensures.counted in
+    let fits = subst (λ (o : Option Found). IfSome o (λ f. c.args.end + (2 * f.n + 5) ≤ c.args.end + c.third-third.result)) c.in-Ok-Some.field-0-is c.in-Ok-Some.ensures.fits in
+    let counted = subst (λ (o : Option Found). IfSome o (λ f. f.n ≡ length f.pages.items)) c.in-Ok-Some.field-0-is c.in-Ok-Some.ensures.counted in
+    let few = subst (λ (o : Option Found). IfSome o (λ f. f.n ≤ 96)) c.in-Ok-Some.field-0-is c.in-Ok-Some.ensures.few in
     record {
       goes = goes_to c.args.layout.now c.args.at c.args.end n (c.args.end + c.third-third.result) (record { at = c.args.end + (2 * n + 5); end = c.args.end + c.third-third.result }) refl c.requires.before fits (omega (arith, value))
           (subst (λ (t : ℕ). IsEnd c.args.layout.now (c.args.end + t)) (sym value) (next_end c.args.layout.now c.args.end c.requires.ends (omega (arith, value, c.if-end-third.false))));
       lies = omega (arith, counted);
+      few = omega (arith, counted, few);
       in_third = omega (arith, value);
     }
 
@@ -30,12 +32,12 @@ returns-in-Ok-Some-clause-seen g c j h jw =
     let l = c.args.layout.now in let third = c.args.anchor.now.third in let epoch = c.args.anchor.now.epoch in
     let head : Head = record { number = c.args.number; at = c.args.at; end = c.args.end } in
     let some : 0 < c.args.at = omega (arith, c.if-at-eq0.false) in
-    let counted = subst (λ (o : Option Taken). IfSome o (λ t. t.found.n ≡ length t.found.pages.items)) c.in-Ok-Some.field-0-is c.in-Ok-Some.ensures.counted in
+    let counted = subst (λ (o : Option Found). IfSome o (λ f. f.n ≡ length f.pages.items)) c.in-Ok-Some.field-0-is c.in-Ok-Some.ensures.counted in
     sees_more l third c.args.end (open_damage (M.now c.args.m.now).windows) j (M.now c.find.new.m).image _ _
     (λ i found.
-    let there = ap (option_map (taken_in c.args.number)) (sym c.in-Ok-Some.field-0-is) ∙ found ∙ ap (λ (t : ℕ). (record_here l epoch (tape l third (reads i)) c.args.number c.args.end (c.args.end + t))) value in
-    (λ k. Some (record { from = c.args.end; entry = taken_in c.args.number c.in-Ok-Some.taken; at = c.args.end + (2 * counted k + 5); end = c.args.end + value k }))
-    ∙ there_found l epoch (tape l third (reads i)) head (taken_in c.args.number c.in-Ok-Some.taken) some (omega (arith, value, c.if-end-third.false)) there)
+    let there = ap (option_map (λ f. entry_in c.args.number f c.find.new.scratch.copies.items)) (sym c.in-Ok-Some.field-0-is) ∙ found ∙ ap (λ (t : ℕ). (record_here l epoch (tape l third (reads i)) c.args.number c.args.end (c.args.end + t))) value in
+    (λ k. Some (record { from = c.args.end; entry = entry_in c.args.number c.in-Ok-Some.found c.find.new.scratch.copies.items; at = c.args.end + (2 * counted k + 5); end = c.args.end + value k }))
+    ∙ there_found l epoch (tape l third (reads i)) head (entry_in c.args.number c.in-Ok-Some.found c.find.new.scratch.copies.items) some (omega (arith, value, c.if-end-third.false)) there)
     (c.in-Ok-Some.ensures.seen j h jw)
 
 pub returns-in-Ok-None-clause-seen : goal.returns-in-Ok-None-clause-seen
@@ -47,6 +49,6 @@ returns-in-Ok-None-clause-seen g c j h jw =
     let some : 0 < c.args.at = omega (arith, c.if-at-eq0.false) in
     sees_more l third c.args.end (open_damage (M.now c.args.m.now).windows) j (M.now c.find.new.m).image _ _
     (λ i found.
-    let there = ap (option_map (taken_in c.args.number)) (sym c.in-Ok-None.field-0-is) ∙ found ∙ ap (λ (t : ℕ). (record_here l epoch (tape l third (reads i)) c.args.number c.args.end (c.args.end + t))) value in
+    let there = ap (option_map (λ f. entry_in c.args.number f c.find.new.scratch.copies.items)) (sym c.in-Ok-None.field-0-is) ∙ found ∙ ap (λ (t : ℕ). (record_here l epoch (tape l third (reads i)) c.args.number c.args.end (c.args.end + t))) value in
     not_there l epoch (tape l third (reads i)) head some (omega (arith, value, c.if-end-third.false)) there)
     (c.in-Ok-None.ensures.seen j h jw)

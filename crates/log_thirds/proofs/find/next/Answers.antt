@@ -2,8 +2,9 @@ use Rattle.std.proofs.Common.{◌≡◌, ◌+◌, ◌*◌, ◌≤◌, length, So
 use Rattle.std.specs.Prelude.{option_map, IfSome}
 use Rattle.fsd_log.specs.Scan.{Head, tape, entered}
 use Rattle.log_thirds.specs.Disk.{reads}
-use Rattle.log_thirds.specs.declared.find.Taken.{Taken}
-use Rattle.log_thirds.specs.Reading.{taken_in, stepped_in, stepped_of}
+use Rattle.log_record.specs.declared.judging.Found.{Found}
+use Rattle.log_thirds.specs.Copies.{entry_in}
+use Rattle.log_thirds.specs.Reading.{stepped_in, stepped_of}
 use Rattle.log_thirds.proofs.ReadingLaws.{reads_on}
 use Rattle.log_thirds.proofs.FindLaws.{goes_to, here_found, not_here, if_ok}
 use Rattle.sector_disk.specs.Image.{Windows, IsWorn, open_damage}
@@ -13,12 +14,14 @@ use Rattle.log_thirds.proofs.find.next.Goals as goal
 
 pub returns-in-Ok-Some-clause-goes : goal.returns-in-Ok-Some-clause-goes
 returns-in-Ok-Some-clause-goes g c =
-    let n = c.in-Ok-Some.taken.found.n in
-    let fits = subst (λ (o : Option Taken). IfSome o (λ t. c.args.at + (2 * t.found.n + 5) ≤ c.args.end)) c.in-Ok-Some.field-0-is c.in-Ok-Some.ensures.fits in
-    let counted = subst (λ (o : Option Taken). IfSome o (λ t. t.found.n ≡ length t.found.pages.items)) c.in-Ok-Some.field-0-is c.in-Ok-Some.ensures.counted in
+    let n = c.in-Ok-Some.found.n in
+    let fits = subst (λ (o : Option Found). IfSome o (λ f. c.args.at + (2 * f.n + 5) ≤ c.args.end)) c.in-Ok-Some.field-0-is c.in-Ok-Some.ensures.fits in
+    let counted = subst (λ (o : Option Found). IfSome o (λ f. f.n ≡ length f.pages.items)) c.in-Ok-Some.field-0-is c.in-Ok-Some.ensures.counted in
+    let few = subst (λ (o : Option Found). IfSome o (λ f. f.n ≤ 96)) c.in-Ok-Some.field-0-is c.in-Ok-Some.ensures.few in
     record {
       goes = goes_to c.args.layout.now c.args.at c.args.at n c.args.end (record { at = c.args.at + (2 * n + 5); end = c.args.end }) refl (omega arith) fits c.requires.from c.requires.ends;
       lies = omega (arith, counted);
+      few = omega (arith, counted, few);
       in_third = c.requires.from;
     }
 
@@ -33,11 +36,11 @@ returns-in-Ok-Some-clause-seen g c j h jw =
     let M = g.M.Machine in
     let l = c.args.layout.now in let third = c.args.anchor.now.third in let epoch = c.args.anchor.now.epoch in
     let head : Head = record { number = c.args.number; at = c.args.at; end = c.args.end } in
-    let counted = subst (λ (o : Option Taken). IfSome o (λ t. t.found.n ≡ length t.found.pages.items)) c.in-Ok-Some.field-0-is c.in-Ok-Some.ensures.counted in
+    let counted = subst (λ (o : Option Found). IfSome o (λ f. f.n ≡ length f.pages.items)) c.in-Ok-Some.field-0-is c.in-Ok-Some.ensures.counted in
     sees_more l third c.args.at (open_damage (M.now c.args.m.now).windows) j (M.now c.find.new.m).image _ _
     (λ i found.
-    (λ k. Some (record { from = c.args.at; entry = taken_in c.args.number c.in-Ok-Some.taken; at = c.args.at + (2 * counted k + 5); end = c.args.end }))
-    ∙ here_found l epoch (tape l third (reads i)) head (taken_in c.args.number c.in-Ok-Some.taken) (ap (option_map (taken_in c.args.number)) (sym c.in-Ok-Some.field-0-is) ∙ found))
+    (λ k. Some (record { from = c.args.at; entry = entry_in c.args.number c.in-Ok-Some.found c.find.new.scratch.copies.items; at = c.args.at + (2 * counted k + 5); end = c.args.end }))
+    ∙ here_found l epoch (tape l third (reads i)) head (entry_in c.args.number c.in-Ok-Some.found c.find.new.scratch.copies.items) (ap (option_map (λ f. entry_in c.args.number f c.find.new.scratch.copies.items)) (sym c.in-Ok-Some.field-0-is) ∙ found))
     (c.in-Ok-Some.ensures.seen j h jw)
 
 pub returns-in-Ok-None-clause-seen : goal.returns-in-Ok-None-clause-seen
@@ -53,9 +56,9 @@ returns-in-Ok-None-clause-seen g c =
     let same = (c.find.ensures.worn h1).windows in
     let first = c.in-Ok-None.ensures.seen j h1 jw in
     let to_mid = subst (λ (w : Windows). IsWorn (open_damage w) first.image mid.image) (sym same) first.to in
-    let second = subst (λ (w : Windows). SeesOn l third c.args.end (open_damage w) first.image (M.now c.enter.new.m).image (λ i. option_map (stepped_in c.args.number) o ≡ option_map stepped_of (entered l epoch (tape l third (reads i)) (record { number = c.args.number; at = c.args.at; end = c.args.end })))) same (later first.image h to_mid) in
+    let second = subst (λ (w : Windows). SeesOn l third c.args.end (open_damage w) first.image (M.now c.enter.new.m).image (λ i. option_map (stepped_in c.args.number c.enter.new.scratch.copies.items) o ≡ option_map stepped_of (entered l epoch (tape l third (reads i)) (record { number = c.args.number; at = c.args.at; end = c.args.end })))) same (later first.image h to_mid) in
     sees_on l third c.args.at c.args.end (open_damage old.windows) j mid.image (M.now c.enter.new.m).image _ _ _ c.requires.before first second
     (λ i k worn below found step.
-    not_here l epoch (tape l third (reads k)) (record { number = c.args.number; at = c.args.at; end = c.args.end }) (option_map (stepped_in c.args.number) o)
-    (ap (option_map (taken_in c.args.number)) (sym c.in-Ok-None.field-0-is) ∙ found ∙ sym (here_below l epoch (tape l third (reads i)) (tape l third (reads k)) c.args.number c.args.at c.args.end c.requires.before below)) step))
+    not_here l epoch (tape l third (reads k)) (record { number = c.args.number; at = c.args.at; end = c.args.end }) (option_map (stepped_in c.args.number c.enter.new.scratch.copies.items) o)
+    (ap (option_map (λ f. entry_in c.args.number f c.find.new.scratch.copies.items)) (sym c.in-Ok-None.field-0-is) ∙ found ∙ sym (here_below l epoch (tape l third (reads i)) (tape l third (reads k)) c.args.number c.args.at c.args.end c.requires.before below)) step))
     c.enter.ensures.seen

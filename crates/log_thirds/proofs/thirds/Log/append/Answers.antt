@@ -203,5 +203,6 @@ invariant_of-self-2 g c =
           (record_lies log.layout log.anchor.third c.self.inside.number (spot_for log.layout (length c.args.pages.now) log.head).at (spot_for log.layout (length c.args.pages.now) log.head).end c.place-place.result c.args.pages.now c.as_mut_slice-2.result.now
           (in_third log c.args.pages.now c.args.images.now (16 + 3 * log.layout.third) may) (c.place-place.ensures ∙ ap (place_of log.layout log.anchor.third) at) in_records));
       copied = was.copied;
+      few = was.few;
       long = ap length buffer ∙ c.write_record.auto.buffer ∙ ap length c.as_mut_slice.ensures.value ∙ was.long;
     }

@@ -153,5 +153,6 @@ invariant_of-self g c =
       on_disk = subst (SlotsInside c.self.inside.layout.sectors) slots (slots_outside_each (λ slot. (slot.place < c.self.inside.layout.sectors) × (slot.copy < c.self.inside.layout.sectors)) c.third_start-start.result c.third-third.result c.self.inside.slots.items was.on_disk);
       in_records = subst (LieInRecords c.self.inside.layout) slots (slots_outside_each (λ slot. LieInRecord c.self.inside.layout slot.place slot.copy) c.third_start-start.result c.third-third.result c.self.inside.slots.items was.in_records);
       copied = was.copied;
+      few = was.few;
       long = was.long;
     }

@@ -1,20 +1,21 @@
-use Rattle.std.proofs.Common.{[], ℕ, ◌≡◌, ◌<◌, ◌≤◌, ◌+◌, ◌*◌, List, length, arith, subst, ap, ◌∙◌, sym, refl, Option, None, inl}
-use Rattle.std.specs.Prelude.{option_map, IfSome, replicate}
+use Rattle.std.proofs.Common.{rules, [], ℕ, ◌≡◌, ◌<◌, ◌≤◌, ◌+◌, ◌*◌, List, length, arith, subst, ap, ◌∙◌, sym, refl, Option, None, inl}
+use Rattle.std.specs.Prelude.{option_map, IfSome, IfNone, replicate}
 use Rattle.std.proofs.lemmas.List.{length-replicate, with_items_is}
 use Rattle.std.specs.Vec.{with_items}
 use Rattle.sector_disk.proofs.Moments.{started}
 use Rattle.sector_disk.proofs.Holding.{trusts_on}
 use Rattle.log_thirds.specs.declared.find.Step.{Step}
 use Rattle.log_thirds.specs.declared.slots.Slot.{Slot}
-use Rattle.fsd_log.specs.Scan.{Head, tape, next, last_number}
+use Rattle.fsd_log.specs.Scan.{Head, tape, scan, next, last_number}
 use Rattle.log_thirds.specs.Disk.{reads}
 use Rattle.log_thirds.specs.Slots.{noted, slots_with, LieInRecords, SlotsInside}
 use Rattle.log_thirds.specs.Reading.{StepsOn, stepped_in, stepped_of}
+use Rattle.volume_layout.proofs.RootLaws.{planned_bounds}
 use Rattle.fsd_log.proofs.WalkLaws.{ends_inside}
 use Rattle.log_thirds.proofs.ReadingLaws.{wears_here, wears_on, uses_on, reads_on, fault_on}
 use Rattle.log_thirds.proofs.FindLaws.{place_most}
 use Rattle.log_thirds.proofs.SlotLaws.{length-noted, none_inside, none_lie, record_inside, record_lies}
-use Rattle.log_thirds.specs.Copies.{FitsDisk, AreCopies}
+use Rattle.log_thirds.specs.Copies.{FitsDisk, AreCopies, AreLastCopies, copies_count}
 use Rattle.fsd_log.proofs.PlaceLaws.{place_inside}
 use Rattle.log_thirds.proofs.ScanLaws.{Reaches, EndsThere, reaches_start, reaches_as, reaches_on, reaches_end}
 use Rattle.log_thirds.specs.Firsts.{AreNumbers, firsts_of, firsts_with}
@@ -32,8 +33,8 @@ loop-from-init g c =
     let value = c.third-third.ensures.value in
     let same : ◌≡◌ {A = Head} (record { number = c.args.anchor.now.first; at = 0; end = c.args.layout.now.third }) (record { number = c.args.anchor.now.first; at = 0; end = c.third-third.result }) = λ i. record { number = c.args.anchor.now.first; at = 0; end = sym value i } in
     let table : c.in-Ok-no_slots.slots.items ≡ replicate {A = Option Slot} c.pages.result None = c.in-Ok-no_slots.ensures in
-    let start_on : (i : List Sector) → Reaches c.args.layout.now c.args.anchor.now.epoch c.args.anchor.now.first c.args.anchor.now.third (tape c.args.layout.now c.args.anchor.now.third (reads i)) (record { number = c.args.anchor.now.first; at = 0; end = c.third-third.result }) c.of-firsts.result c.in-Ok-no_slots.slots.items (record { place = 0; bytes = c.new-copies.result.items }) =
-    λ i. subst (λ (b : List ℕ). Reaches c.args.layout.now c.args.anchor.now.epoch c.args.anchor.now.first c.args.anchor.now.third (tape c.args.layout.now c.args.anchor.now.third (reads i)) (record { number = c.args.anchor.now.first; at = 0; end = c.third-third.result }) c.of-firsts.result c.in-Ok-no_slots.slots.items (record { place = 0; bytes = b })) (sym c.new-copies.ensures.items)
+    let start_on : (i : List Sector) → Reaches c.args.layout.now c.args.anchor.now.epoch c.args.anchor.now.first c.args.anchor.now.third (tape c.args.layout.now c.args.anchor.now.third (reads i)) (record { number = c.args.anchor.now.first; at = 0; end = c.third-third.result }) c.of-firsts.result c.in-Ok-no_slots.slots.items (record { place = 0; bytes = c.in-Ok-new.scratch.copies.items }) =
+    λ i. subst (λ (b : List ℕ). Reaches c.args.layout.now c.args.anchor.now.epoch c.args.anchor.now.first c.args.anchor.now.third (tape c.args.layout.now c.args.anchor.now.third (reads i)) (record { number = c.args.anchor.now.first; at = 0; end = c.third-third.result }) c.of-firsts.result c.in-Ok-no_slots.slots.items (record { place = 0; bytes = b })) (sym c.in-Ok-new.ensures)
     (reaches_as _ _ _ _ _ _ _ _ _ _ _ c.of-firsts.ensures table
     (subst (λ (x : Head). Reaches c.args.layout.now c.args.anchor.now.epoch c.args.anchor.now.first c.args.anchor.now.third (tape c.args.layout.now c.args.anchor.now.third (reads i)) x (firsts_of c.args.anchor.now.first) (replicate c.pages.result None) (record { place = 0; bytes = [] })) same
     (reaches_start c.args.layout.now c.args.anchor.now.epoch c.args.anchor.now.first c.args.anchor.now.third (tape c.args.layout.now c.args.anchor.now.third (reads i)) c.pages.result 0))) in
@@ -48,7 +49,8 @@ loop-from-init g c =
       table = ap length table ∙ length-replicate c.pages.result _ ∙ c.pages.ensures.value;
       on_disk = subst (SlotsInside c.args.layout.now.sectors) (sym table) (none_inside c.args.layout.now.sectors c.pages.result);
       in_records = subst (LieInRecords c.args.layout.now) (sym table) (none_lie c.args.layout.now c.pages.result);
-      fits = subst (λ (b : List ℕ). FitsDisk c.args.layout.now.sectors (record { place = 0; bytes = b })) (sym c.new-copies.ensures.items) (record { whole = refl; inside = omega arith });
+      fits = subst (λ (b : List ℕ). FitsDisk c.args.layout.now.sectors (record { place = 0; bytes = b })) (sym c.in-Ok-new.ensures) (record { whole = refl; inside = omega arith });
+      few = subst (λ (b : List ℕ). copies_count (record { place = 0; bytes = b }) ≤ 97) (sym c.in-Ok-new.ensures) (omega arith);
       seen = λ j h jw. record { image = j; from = worn_refl (open_damage (M.now c.args.m.now).windows) j; to = jw; below = λ w lt. refl; front = λ s lt. refl; is = start_on j };
     }
 
@@ -142,11 +144,11 @@ loop-from-preserved g c =
     let so_far = c.loop-from.invariant in
     let back = c.next.ensures.trust.honest in
     let gone = subst (λ (o : Option Step). IfSome o (StepsOn c.args.layout.now c.loop-from.at)) c.in-Ok-Some.field-0-is c.in-Ok-Some.ensures.goes in
-    let copied = subst (λ (o : Option Step). IfSome o (λ s. AreCopies (record { epoch = c.args.anchor.now.epoch; number = c.loop-from.number }) (length s.taken.found.pages.items) s.taken.copies.items)) c.in-Ok-Some.field-0-is c.in-Ok-Some.ensures.copied in
+    let copied = subst (λ (o : Option Step). IfSome o (λ s. AreCopies (record { epoch = c.args.anchor.now.epoch; number = c.loop-from.number }) (length s.found.pages.items) c.next.new.scratch.copies.items)) c.in-Ok-Some.field-0-is c.in-Ok-Some.ensures.copied in
     let long : length c.note.new.slots ≡ length c.as_mut_slice.result.now =
     ap length c.note.ensures ∙ length-noted c.loop-from.number c.as_mut_slice.result.now (c.place_of-place.result + 3) (c.place_of-place.result + 3 + length c.as_slice.result.now + 1) c.as_slice.result.now in
     let kept : (with_items c.loop-from.slots c.note.new.slots).items ≡ c.note.new.slots = with_items_is c.loop-from.slots c.note.new.slots (long ∙ c.as_mut_slice.ensures.len) in
-    let table : c.note.new.slots ≡ slots_with c.args.layout.now c.args.anchor.now.third c.loop-from.number c.in-Ok-Some.field-0-0.from c.in-Ok-Some.field-0-0.taken.found.pages.items c.loop-from.slots.items =
+    let table : c.note.new.slots ≡ slots_with c.args.layout.now c.args.anchor.now.third c.loop-from.number c.in-Ok-Some.field-0-0.from c.in-Ok-Some.field-0-0.found.pages.items c.loop-from.slots.items =
     c.note.ensures ∙ λ i. noted c.loop-from.number (c.place_of-place.ensures i + 3) (c.place_of-place.ensures i + 3 + length (c.as_slice.ensures.value i) + 1) (c.as_slice.ensures.value i) (c.as_mut_slice.ensures.value i) in
     let firsts = c.with-firsts.ensures ∙ ap (λ (t : ℕ). firsts_with t c.in-Ok-Some.field-0-0.from c.loop-from.firsts) c.third-third.ensures.value in
     record {
@@ -161,7 +163,7 @@ loop-from-preserved g c =
       on_disk = subst (SlotsInside c.args.layout.now.sectors) (sym (kept ∙ c.note.ensures))
           (record_inside c.args.layout.now c.args.anchor.now.third c.loop-from.number c.in-Ok-Some.field-0-0.from c.in-Ok-Some.field-0-0.past.end c.place_of-place.result c.as_slice.result.now c.as_mut_slice.result.now
           (record { one_of = c.requires.third; ends = gone.goes.ends; from = gone.in_third; to = omega (arith, gone.lies, gone.goes.before, ap length c.as_slice.ensures.value) })
-          (omega (arith, c.sectors-sectors.ensures.log, c.sectors-sectors.ensures.value)) c.place_of-place.ensures (subst (SlotsInside c.args.layout.now.sectors) (sym c.as_mut_slice.ensures.value) so_far.on_disk));
+          (omega (arith, (planned_bounds c.args.layout.now c.third-third.ensures.planned).sectors_least)) c.place_of-place.ensures (subst (SlotsInside c.args.layout.now.sectors) (sym c.as_mut_slice.ensures.value) so_far.on_disk));
       in_records = subst (LieInRecords c.args.layout.now) (sym (kept ∙ c.note.ensures))
           (record_lies c.args.layout.now c.args.anchor.now.third c.loop-from.number c.in-Ok-Some.field-0-0.from c.in-Ok-Some.field-0-0.past.end c.place_of-place.result c.as_slice.result.now c.as_mut_slice.result.now
           (record { one_of = c.requires.third; ends = gone.goes.ends; from = gone.in_third; to = omega (arith, gone.lies, gone.goes.before, ap length c.as_slice.ensures.value) })
@@ -171,28 +173,49 @@ loop-from-preserved g c =
         inside = omega (
           arith,
           copied.long,
-          place_inside c.args.layout.now c.args.anchor.now.third c.in-Ok-Some.field-0-0.from (2 * length c.in-Ok-Some.field-0-0.taken.found.pages.items + 5) c.in-Ok-Some.field-0-0.past.end
+          place_inside c.args.layout.now c.args.anchor.now.third c.in-Ok-Some.field-0-0.from (2 * length c.in-Ok-Some.field-0-0.found.pages.items + 5) c.in-Ok-Some.field-0-0.past.end
               (record { one_of = c.requires.third; ends = gone.goes.ends; from = gone.in_third; to = omega (arith, gone.lies, gone.goes.before) }) (omega arith),
           c.place_of-place.ensures,
           c.len.ensures.value,
-          c.sectors-sectors.ensures.log,
-          c.sectors-sectors.ensures.value,
+          (planned_bounds c.args.layout.now c.third-third.ensures.planned).sectors_least,
         );
       };
+      few = omega (arith, copied.long, gone.few);
       seen = λ j h jw.
           let same = (so_far.worn (back h)).windows in
           let first = so_far.seen j (back h) jw in
           let to_mid = subst (λ (w : Windows). IsWorn (open_damage w) first.image (M.now c.loop-from.m).image) (sym same) first.to in
           let second = subst (λ (w : Windows). SeesOn c.args.layout.now c.args.anchor.now.third c.loop-from.at (open_damage w) first.image (M.now c.next.new.m).image
-          (λ i. option_map (stepped_in c.loop-from.number) c.in-Ok-Some.field-0 ≡ option_map stepped_of (next c.args.layout.now c.args.anchor.now.epoch (tape c.args.layout.now c.args.anchor.now.third (reads i)) (record { number = c.loop-from.number; at = c.loop-from.at; end = c.loop-from.end })))) same (c.in-Ok-Some.ensures.seen first.image h to_mid) in
+          (λ i. option_map (stepped_in c.loop-from.number c.next.new.scratch.copies.items) c.in-Ok-Some.field-0 ≡ option_map stepped_of (next c.args.layout.now c.args.anchor.now.epoch (tape c.args.layout.now c.args.anchor.now.third (reads i)) (record { number = c.loop-from.number; at = c.loop-from.at; end = c.loop-from.end })))) same (c.in-Ok-Some.ensures.seen first.image h to_mid) in
           sees_on c.args.layout.now c.args.anchor.now.third 0 c.loop-from.at (open_damage (M.now c.args.m.now).windows) j (M.now c.loop-from.m).image (M.now c.next.new.m).image _ _ _ (omega arith) first second
           (λ i k worn below before step.
           reaches_as _ _ _ _ _ _ _ _ _ _ _ firsts (kept ∙ table)
-          (reaches_on c.args.layout.now c.args.anchor.now.epoch c.args.anchor.now.first c.args.anchor.now.third (tape c.args.layout.now c.args.anchor.now.third (reads k)) (record { number = c.loop-from.number; at = c.loop-from.at; end = c.loop-from.end }) c.loop-from.firsts c.loop-from.slots.items (stepped_in c.loop-from.number c.in-Ok-Some.field-0-0) (record { place = c.loop-from.copies_at; bytes = c.loop-from.copies.items }) (record { place = c.place_of-place.result + (4 + c.len.result); bytes = c.in-Ok-Some.field-0-0.taken.copies.items })
-          (reaches_keeps c.args.layout.now c.args.anchor.now.epoch c.args.anchor.now.first c.args.anchor.now.third (omega (arith, c.fits-anchor.0.1)) (tape c.args.layout.now c.args.anchor.now.third (reads i)) (tape c.args.layout.now c.args.anchor.now.third (reads k)) (record { number = c.loop-from.number; at = c.loop-from.at; end = c.loop-from.end }) c.loop-from.firsts c.loop-from.slots.items (record { place = c.loop-from.copies_at; bytes = c.loop-from.copies.items }) (omega (arith, c.loop-from.auto.number-fits))
+          (reaches_on c.args.layout.now c.args.anchor.now.epoch c.args.anchor.now.first c.args.anchor.now.third (tape c.args.layout.now c.args.anchor.now.third (reads k)) (record { number = c.loop-from.number; at = c.loop-from.at; end = c.loop-from.end }) c.loop-from.firsts c.loop-from.slots.items (stepped_in c.loop-from.number c.next.new.scratch.copies.items c.in-Ok-Some.field-0-0) (record { place = c.loop-from.copies_at; bytes = c.loop-from.scratch.copies.items }) (record { place = c.place_of-place.result + (4 + c.len.result); bytes = c.next.new.scratch.copies.items })
+          (reaches_keeps c.args.layout.now c.args.anchor.now.epoch c.args.anchor.now.first c.args.anchor.now.third (omega (arith, c.fits-anchor.0.1)) (tape c.args.layout.now c.args.anchor.now.third (reads i)) (tape c.args.layout.now c.args.anchor.now.third (reads k)) (record { number = c.loop-from.number; at = c.loop-from.at; end = c.loop-from.end }) c.loop-from.firsts c.loop-from.slots.items (record { place = c.loop-from.copies_at; bytes = c.loop-from.scratch.copies.items }) (omega (arith, c.loop-from.auto.number-fits))
           (tape_worn c.args.layout.now c.args.anchor.now.third (open_damage (M.now c.args.m.now).windows) i k worn) below before)
           (record { place = λ i. c.place_of-place.ensures i + (4 + c.len.ensures.value i); copies = copied; images = refl })
-          (ap (option_map (stepped_in c.loop-from.number)) (sym c.in-Ok-Some.field-0-is) ∙ step)));
+          (ap (option_map (stepped_in c.loop-from.number c.next.new.scratch.copies.items)) (sym c.in-Ok-Some.field-0-is) ∙ step)));
+    }
+
+pub invariant_of-result : goal.invariant_of-result
+invariant_of-result g c =
+    let so_far = c.loop-from.invariant in
+    let kept = subst (λ (o : Option Step). IfNone o (c.next.new.scratch.copies ≡ c.loop-from.scratch.copies)) c.in-Ok-None.field-0-is c.in-Ok-None.ensures.kept in
+    let same : c.loop-from.scratch.copies.items ≡ c.next.new.scratch.copies.items = λ i. (sym kept i).items in
+    record {
+      least = omega (arith, c.third-third.ensures.least, c.third-third.ensures.value);
+      most = omega (arith, c.third-third.ensures.most, c.third-third.ensures.value);
+      inside = omega (arith, (planned_bounds c.args.layout.now c.third-third.ensures.planned).sectors_least);
+      third = c.requires.third;
+      begun = c.requires.epoch;
+      is_in = so_far.is_in;
+      numbers = so_far.numbers;
+      table = so_far.table;
+      on_disk = so_far.on_disk;
+      in_records = so_far.in_records;
+      copied = subst (λ (b : List ℕ). FitsDisk c.args.layout.now.sectors (record { place = c.loop-from.copies_at; bytes = b })) same so_far.fits;
+      few = subst (λ (b : List ℕ). copies_count (record { place = c.loop-from.copies_at; bytes = b }) ≤ 97) same so_far.few;
+      long = let len = c.in-Ok.ensures.len in search rules;
     }
 
 pub returns-in-Ok-None-clause-trust : goal.returns-in-Ok-None-clause-trust
@@ -243,12 +266,15 @@ returns-in-Ok-None-clause-seen g c j h jw =
     let first = so_far.seen j (back h) jw in
     let to_mid = subst (λ (w : Windows). IsWorn (open_damage w) first.image (M.now c.loop-from.m).image) (sym same) first.to in
     let second = subst (λ (w : Windows). SeesOn c.args.layout.now c.args.anchor.now.third c.loop-from.at (open_damage w) first.image (M.now c.next.new.m).image
-    (λ i. option_map (stepped_in c.loop-from.number) c.in-Ok-None.field-0 ≡ option_map stepped_of (next c.args.layout.now c.args.anchor.now.epoch (tape c.args.layout.now c.args.anchor.now.third (reads i)) (record { number = c.loop-from.number; at = c.loop-from.at; end = c.loop-from.end })))) same (c.in-Ok-None.ensures.seen first.image h to_mid) in
+    (λ i. option_map (stepped_in c.loop-from.number c.next.new.scratch.copies.items) c.in-Ok-None.field-0 ≡ option_map stepped_of (next c.args.layout.now c.args.anchor.now.epoch (tape c.args.layout.now c.args.anchor.now.third (reads i)) (record { number = c.loop-from.number; at = c.loop-from.at; end = c.loop-from.end })))) same (c.in-Ok-None.ensures.seen first.image h to_mid) in
     let ends = sees_on c.args.layout.now c.args.anchor.now.third 0 c.loop-from.at (open_damage (M.now c.args.m.now).windows) j (M.now c.loop-from.m).image (M.now c.next.new.m).image _ _
-    (λ k. EndsThere c.args.layout.now c.args.anchor.now.epoch c.args.anchor.now.first c.args.anchor.now.third (tape c.args.layout.now c.args.anchor.now.third (reads k)) (record { number = c.loop-from.number; at = c.loop-from.at; end = c.loop-from.end }) c.loop-from.firsts c.loop-from.slots.items (record { place = c.loop-from.copies_at; bytes = c.loop-from.copies.items })) (omega arith) first second
+    (λ k. EndsThere c.args.layout.now c.args.anchor.now.epoch c.args.anchor.now.first c.args.anchor.now.third (tape c.args.layout.now c.args.anchor.now.third (reads k)) (record { number = c.loop-from.number; at = c.loop-from.at; end = c.loop-from.end }) c.loop-from.firsts c.loop-from.slots.items (record { place = c.loop-from.copies_at; bytes = c.loop-from.scratch.copies.items })) (omega arith) first second
     (λ i k worn below before step.
-    reaches_end c.args.layout.now c.args.anchor.now.epoch c.args.anchor.now.first c.args.anchor.now.third (tape c.args.layout.now c.args.anchor.now.third (reads k)) (record { number = c.loop-from.number; at = c.loop-from.at; end = c.loop-from.end }) c.loop-from.firsts c.loop-from.slots.items (record { place = c.loop-from.copies_at; bytes = c.loop-from.copies.items })
-    (reaches_keeps c.args.layout.now c.args.anchor.now.epoch c.args.anchor.now.first c.args.anchor.now.third (omega (arith, c.fits-anchor.0.1)) (tape c.args.layout.now c.args.anchor.now.third (reads i)) (tape c.args.layout.now c.args.anchor.now.third (reads k)) (record { number = c.loop-from.number; at = c.loop-from.at; end = c.loop-from.end }) c.loop-from.firsts c.loop-from.slots.items (record { place = c.loop-from.copies_at; bytes = c.loop-from.copies.items }) (omega (arith, c.loop-from.auto.number-fits))
+    reaches_end c.args.layout.now c.args.anchor.now.epoch c.args.anchor.now.first c.args.anchor.now.third (tape c.args.layout.now c.args.anchor.now.third (reads k)) (record { number = c.loop-from.number; at = c.loop-from.at; end = c.loop-from.end }) c.loop-from.firsts c.loop-from.slots.items (record { place = c.loop-from.copies_at; bytes = c.loop-from.scratch.copies.items })
+    (reaches_keeps c.args.layout.now c.args.anchor.now.epoch c.args.anchor.now.first c.args.anchor.now.third (omega (arith, c.fits-anchor.0.1)) (tape c.args.layout.now c.args.anchor.now.third (reads i)) (tape c.args.layout.now c.args.anchor.now.third (reads k)) (record { number = c.loop-from.number; at = c.loop-from.at; end = c.loop-from.end }) c.loop-from.firsts c.loop-from.slots.items (record { place = c.loop-from.copies_at; bytes = c.loop-from.scratch.copies.items }) (omega (arith, c.loop-from.auto.number-fits))
     (tape_worn c.args.layout.now c.args.anchor.now.third (open_damage (M.now c.args.m.now).windows) i k worn) below before)
-    (ap (option_map (stepped_in c.loop-from.number)) (sym c.in-Ok-None.field-0-is) ∙ step)) in
-    record { image = ends.image; from = ends.from; to = ends.to; front = ends.front; scanned = record { head = ends.is.head; indexed = record { slots = ends.is.are; firsts = ends.is.firsts }; last = ends.is.last } }
+    (ap (option_map (stepped_in c.loop-from.number c.next.new.scratch.copies.items)) (sym c.in-Ok-None.field-0-is) ∙ step)) in
+    let kept = subst (λ (o : Option Step). IfNone o (c.next.new.scratch.copies ≡ c.loop-from.scratch.copies)) c.in-Ok-None.field-0-is c.in-Ok-None.ensures.kept in
+    let same_copies : c.loop-from.scratch.copies.items ≡ c.next.new.scratch.copies.items = λ i. (sym kept i).items in
+    let last = subst (λ (b : List ℕ). AreLastCopies c.args.layout.now c.args.anchor.now.epoch c.args.anchor.now.third (scan c.args.layout.now c.args.anchor.now.epoch (tape c.args.layout.now c.args.anchor.now.third (reads ends.image)) c.args.anchor.now.first).records (record { place = c.loop-from.copies_at; bytes = b })) same_copies ends.is.last in
+    record { image = ends.image; from = ends.from; to = ends.to; front = ends.front; scanned = record { head = ends.is.head; indexed = record { slots = ends.is.are; firsts = ends.is.firsts }; last = last } }

@@ -1,0 +1,20 @@
+use Rattle.std.proofs.Common.{◌≡◌, ℕ, ap, ◌∙◌, arith}
+use Rattle.std.specs.Prelude.{min}
+use Rattle.fsd_formats.specs.Record.{Stamp}
+use Rattle.fsd_log.specs.Reach.{headers_len, reach}
+use Rattle.log_record.specs.Found.{read_of}
+use Rattle.log_thirds.proofs.ReadingLaws.{record_read, on_ok}
+use Rattle.log_thirds.proofs.reading.read_record.Goals as goal
+
+pub returns-clause-read : goal.returns-clause-read
+returns-clause-read g c =
+    let M = g.M.Machine in
+    let stamp : Stamp = record { epoch = c.args.epoch; number = c.args.number } in
+    let first : c.min.result ≡ min c.args.room headers_len = omega (arith, c.min.ensures) in
+    let count : c.reach-count.result ≡ reach c.args.p stamp c.args.room (read_of c.read_on.new.reading.whole.items c.read_on.new.reading.bytes.items) =
+    c.reach-count.ensures.reach ∙ λ i. reach c.args.p stamp c.args.room (read_of (c.as_slice.ensures.value i) (c.as_slice-2.ensures.value i)) in
+    on_ok c.read_on-2.result _ _
+    (λ rest. record_read (M.honest c.read_on.new.m) (M.honest c.read_on-2.new.m) (M.now c.args.m.now) (M.now c.read_on.new.m) (M.now c.read_on-2.new.m) c.args.p stamp c.args.place c.args.room c.min.result c.reach-count.result
+    c.clear.new.self.whole.items c.read_on.new.reading.whole.items c.read_on-2.new.reading.whole.items c.clear.new.self.bytes.items c.read_on.new.reading.bytes.items c.read_on-2.new.reading.bytes.items
+    c.clear.ensures.whole c.read_on-2.ensures.trust.honest (λ h. c.read_on.ensures.worn (c.read_on-2.ensures.trust.honest h)) c.read_on-2.ensures.worn first c.in-Ok.ensures.read count rest)
+    c.read_on-2.ensures.read
