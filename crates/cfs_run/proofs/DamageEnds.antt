@@ -24,14 +24,14 @@ use Rattle.fsd_files.proofs.KeptLaws.{Agree, behind_there, first_there, rest_the
 use Rattle.fsd_volume.proofs.StoredLaws.{stored}
 use Rattle.cfs_run.specs.declared.answer.Answer.{Answer}
 use Rattle.cfs_run.specs.declared.answer.Answer.TheVariants as Said
-use Rattle.cfs_run.specs.declared.fault.Fault.TheVariants as Ends
-use Rattle.cfs_run.specs.declared.line.Line.{Line}
-use Rattle.cfs_run.specs.declared.line.Line.TheVariants as Lines
+use Rattle.fsd_texts.specs.declared.fault.Fault.TheVariants as Ends
+use Rattle.fsd_texts.specs.declared.line.Line.{Line}
+use Rattle.fsd_texts.specs.declared.line.Line.TheVariants as Lines
 use Rattle.cfs_run.specs.declared.request.Request.{Request}
 use Rattle.cfs_run.specs.declared.request.Request.TheVariants.{Outside, BadField, Format, Put, Get}
 use Rattle.cfs_run.specs.Answer.{answer_status, answer_text, status_of}
-use Rattle.cfs_run.specs.Formatting.{format_line}
-use Rattle.cfs_run.specs.Text.{line_of, text}
+use Rattle.cfs_run.specs.Lines.{line_of}
+use Rattle.fsd_texts.specs.Text.{format_line, text}
 use Rattle.cfs_run.specs.Ends.{DamagedAnswer, DamagedFor, HasDamage, IfDamaged, IsAnswerTo, IsDamagedOn, IsGetAnswer, complete_statuses, fault_statuses, is_one_of, plan_statuses}
 
 -- ---- the read
@@ -106,15 +106,8 @@ damaged_on state count sectors key i j s same on table behind damage =
     }
 
 if_damaged : (P Q : ℕ → Type 0) (answer : Answer) → ((s : ℕ) → P s → Q s) → IfDamaged P answer → IfDamaged Q answer
-if_damaged P Q (Said.Line Lines.Usage) more damaged = tt
-if_damaged P Q (Said.Line (Lines.BadField why)) more damaged = tt
-if_damaged P Q (Said.Line (Lines.Formatted n free)) more damaged = tt
-if_damaged P Q (Said.Line (Lines.Unplanned why)) more damaged = tt
-if_damaged P Q (Said.Line (Lines.Made key sectors)) more damaged = tt
 if_damaged P Q (Said.Line (Lines.Damaged key s)) more damaged = more s damaged
-if_damaged P Q (Said.Line (Lines.Refused why)) more damaged = tt
-if_damaged P Q (Said.Line (Lines.Ended fault)) more damaged = tt
-if_damaged P Q (Said.Bytes bytes) more damaged = tt
+if_damaged P Q answer more damaged = tt
 
 pub get_damaged : (state : State) (count sectors : ℕ) (key : Key) (i j : Image) (answer : Answer) → sectors ≡ count → IsFoundOn count i state → IsTable state.layout state.entries → SameBehind state.layout i j
     → IfDamaged (HasDamage key state.entries j) answer → IfDamaged (IsDamagedOn sectors i key) answer
@@ -132,21 +125,7 @@ record TellsDamage (answer : Answer) : Type 0 where
 tells_damage : (answer : Answer) → answer_status answer ≡ 8 → TellsDamage answer
 tells_damage (Said.Line (Lines.Damaged key s)) eight = record { key = key; sector = s; is = refl }
 tells_damage (Said.Line (Lines.Ended (Ends.Device s))) eight = cc
-tells_damage (Said.Line (Lines.Ended Ends.NotVolume)) eight = cc
-tells_damage (Said.Line (Lines.Ended (Ends.Lost a b))) eight = cc
-tells_damage (Said.Line (Lines.Ended Ends.NoAnchor)) eight = cc
-tells_damage (Said.Line (Lines.Ended (Ends.Unsound s))) eight = cc
-tells_damage (Said.Line (Lines.Ended Ends.Input)) eight = cc
-tells_damage (Said.Line (Lines.Ended Ends.InputTooLong)) eight = cc
-tells_damage (Said.Line (Lines.Ended Ends.Memory)) eight = cc
-tells_damage (Said.Line (Lines.Ended Ends.WornOut)) eight = cc
-tells_damage (Said.Line Lines.Usage) eight = cc
-tells_damage (Said.Line (Lines.BadField why)) eight = cc
-tells_damage (Said.Line (Lines.Formatted n free)) eight = cc
-tells_damage (Said.Line (Lines.Unplanned why)) eight = cc
-tells_damage (Said.Line (Lines.Made key sectors)) eight = cc
-tells_damage (Said.Line (Lines.Refused why)) eight = cc
-tells_damage (Said.Bytes bytes) eight = cc
+tells_damage answer eight = cc
 
 no_plan : (planned : Result Layout LayoutFault) → IsTrue (is_one_of (plan_statuses planned ++ (status_of (format_line planned) ∷ 7 ∷ [])) 8) → ⊥
 no_plan (Ok l) allowed = cc

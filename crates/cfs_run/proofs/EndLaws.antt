@@ -22,13 +22,13 @@ use Rattle.fsd_sound.specs.Sound.{IsSound}
 use Rattle.mount_recover.specs.Recover.{last_epoch}
 use Rattle.cfs_run.specs.declared.answer.Answer.{Answer}
 use Rattle.cfs_run.specs.declared.answer.Answer.TheVariants as Said
-use Rattle.cfs_run.specs.declared.fault.Fault.{Fault}
-use Rattle.cfs_run.specs.declared.fault.Fault.TheVariants as Ends
-use Rattle.cfs_run.specs.declared.line.Line.TheVariants as Lines
+use Rattle.fsd_texts.specs.declared.fault.Fault.{Fault}
+use Rattle.fsd_texts.specs.declared.fault.Fault.TheVariants as Ends
+use Rattle.fsd_texts.specs.declared.line.Line.TheVariants as Lines
 use Rattle.cfs_run.specs.declared.request.Request.{Request}
 use Rattle.cfs_run.specs.declared.request.Request.TheVariants.{Outside, BadField, Format, Put, Get}
 use Rattle.cfs_run.specs.declared.input.TheConstants.{MOST_INPUT}
-use Rattle.cfs_run.specs.Text.{fault_text, memory_text, text}
+use Rattle.fsd_texts.specs.Text.{fault_text, memory_text, text}
 use Rattle.cfs_run.specs.Answer.{CausesFault, Finishes, UsesOutput, UttersOne, answer_status, answer_text, fault_status}
 use Rattle.cfs_run.specs.Input.{UsesCounts}
 use Rattle.cfs_run.specs.Ends.{CausesAnswer, IsAnswerTo, RefusesLast, RunLeaves, is_one_of}

@@ -38,11 +38,11 @@ use Rattle.fsd_volume.proofs.HomeLaws.{data_from}
 use Rattle.fsd_volume.proofs.StoredLaws.{stored}
 use Rattle.cfs_run.specs.declared.answer.Answer.{Answer}
 use Rattle.cfs_run.specs.declared.answer.Answer.TheVariants as Said
-use Rattle.cfs_run.specs.declared.fault.Fault.TheVariants as Ends
-use Rattle.cfs_run.specs.declared.line.Line.{Line}
-use Rattle.cfs_run.specs.declared.line.Line.TheVariants as Lines
+use Rattle.fsd_texts.specs.declared.fault.Fault.TheVariants as Ends
+use Rattle.fsd_texts.specs.declared.line.Line.{Line}
+use Rattle.fsd_texts.specs.declared.line.Line.TheVariants as Lines
 use Rattle.cfs_run.specs.Ends.{HasDamage, IfDamaged, is_one_of}
-use Rattle.cfs_run.specs.Text.{line_of, read_line}
+use Rattle.cfs_run.specs.Lines.{line_of, read_line}
 use Rattle.cfs_run.specs.Leaves.{Turn, damaged_or, first_damaged, get_turn, line_turn, read_turn, version_turn}
 use Rattle.cfs_run.specs.Working.{IsAnswered, IsEnded, IsOutside, Stays, Works}
 use Rattle.cfs_run.proofs.DamageEnds.{read_damage}

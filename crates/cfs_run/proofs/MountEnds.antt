@@ -24,10 +24,10 @@ use Rattle.mount_recover.proofs.LostLaws.{has_root_before}
 use Rattle.fsd_volume.specs.Mount.{IsFoundOn, IsMountable, MountRefused, volume_of}
 use Rattle.fsd_volume.specs.Put.{IsWornOut, PutSays, Puts}
 use Rattle.fsd_volume.specs.State.{StandsFor, State}
-use Rattle.cfs_run.specs.declared.fault.Fault.{Fault}
-use Rattle.cfs_run.specs.declared.fault.Fault.TheVariants as Ends
-use Rattle.cfs_run.specs.declared.line.Line.{Line}
-use Rattle.cfs_run.specs.declared.line.Line.TheVariants as Lines
+use Rattle.fsd_texts.specs.declared.fault.Fault.{Fault}
+use Rattle.fsd_texts.specs.declared.fault.Fault.TheVariants as Ends
+use Rattle.fsd_texts.specs.declared.line.Line.{Line}
+use Rattle.fsd_texts.specs.declared.line.Line.TheVariants as Lines
 use Rattle.cfs_run.specs.declared.answer.Answer.{Answer}
 use Rattle.cfs_run.specs.declared.request.Request.{Request}
 use Rattle.cfs_run.specs.declared.request.Request.TheVariants.{Outside, BadField, Format, Put, Get}
@@ -35,7 +35,7 @@ use Rattle.cfs_run.specs.declared.answer.Answer.TheVariants as Said
 use Rattle.cfs_run.specs.Answer.{answer_status, answer_text}
 use Rattle.cfs_run.specs.Mounting.{IfMount, IfMounts, IsMountFault, fault_of}
 use Rattle.cfs_run.specs.Ends.{IfMountAnswer, IfMountLine, Never, TellsFor, TellsLost, WhereMounted, is_one_of, mounted_statuses}
-use Rattle.cfs_run.specs.Text.{line_of}
+use Rattle.cfs_run.specs.Lines.{line_of}
 use Rattle.cfs_run.proofs.OpenLaws.{found_calm}
 use Rattle.cfs_run.proofs.PutLaws.{keeps}
 
@@ -143,13 +143,7 @@ never_fault P Ends.Memory never = tt
 
 pub never_refused : (P : MountFault → Type 0) (line : Line) → IfMountLine Never line → IfMountLine P line
 never_refused P (Lines.Ended fault) never = never_fault P fault never
-never_refused P Lines.Usage never = tt
-never_refused P (Lines.BadField cause) never = tt
-never_refused P (Lines.Formatted n free) never = tt
-never_refused P (Lines.Unplanned why) never = tt
-never_refused P (Lines.Made key made) never = tt
-never_refused P (Lines.Damaged key s) never = tt
-never_refused P (Lines.Refused why) never = tt
+never_refused P line never = tt
 
 -- ---- a page that is lost
 
@@ -217,14 +211,7 @@ tells_for P (Said.Line (Lines.Ended (Ends.Device s))) at after result holds e sa
 tells_for P (Said.Line (Lines.Ended Ends.Input)) at after result holds e said which = absurd (other 5 result refl e which)
 tells_for P (Said.Line (Lines.Ended Ends.InputTooLong)) at after result holds e said which = absurd (other 5 result refl e which)
 tells_for P (Said.Line (Lines.Ended Ends.Memory)) at after result holds e said which = absurd (other 7 result refl e which)
-tells_for P (Said.Line Lines.Usage) at after result holds e said which = absurd (other 2 result refl e which)
-tells_for P (Said.Line (Lines.BadField cause)) at after result holds e said which = absurd (other 2 result refl e which)
-tells_for P (Said.Line (Lines.Formatted n free)) at after result holds e said which = absurd (other 0 result refl e which)
-tells_for P (Said.Line (Lines.Unplanned why)) at after result holds e said which = absurd (other 1 result refl e which)
-tells_for P (Said.Line (Lines.Made key made)) at after result holds e said which = absurd (other 0 result refl e which)
-tells_for P (Said.Line (Lines.Damaged key s)) at after result holds e said which = absurd (other 8 result refl e which)
-tells_for P (Said.Line (Lines.Refused why)) at after result holds e said which = absurd (other 1 result refl e which)
-tells_for P (Said.Bytes bytes) at after result holds e said which = absurd (other 0 result refl e which)
+tells_for P answer at after result holds e said which = absurd (other (answer_status answer) result refl e which)
 
 -- the copies of a page that is told as lost are damaged, also once that is said
 pub tells_lost : (answer : Answer) (sectors : ℕ) (at between after : Moment) (result : ℕ) → IfMountAnswer (LostIn (AreCopiesOn sectors at) between.image) answer → IsWorn (open_damage between.windows) between.image after.image

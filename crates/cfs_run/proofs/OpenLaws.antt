@@ -27,7 +27,7 @@ use Rattle.mount_recover.specs.Recover.{IsFreshLog}
 use Rattle.fsd_volume.specs.Mount.{IsSoundAt, MountLeaves, MountRefused, Mounts, TellsFirst}
 use Rattle.fsd_volume.specs.Put.{IsWornOut}
 use Rattle.fsd_volume.specs.State.{State}
-use Rattle.cfs_run.specs.declared.fault.Fault.{Fault}
+use Rattle.fsd_texts.specs.declared.fault.Fault.{Fault}
 use Rattle.cfs_run.specs.Leaves.{IsLastEpoch}
 use Rattle.cfs_run.specs.Mounting.{fault_of}
 use Rattle.cfs_run.specs.Working.{IsFailure, Opens}

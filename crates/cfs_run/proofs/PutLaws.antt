@@ -30,12 +30,13 @@ use Rattle.fsd_volume.specs.Put.{IsWornOut, PutSays}
 use Rattle.fsd_volume.specs.State.{IsMounted, State, StaysMounted, mounted_of}
 use Rattle.cfs_run.specs.declared.answer.Answer.{Answer}
 use Rattle.cfs_run.specs.declared.answer.Answer.TheVariants as Said
-use Rattle.cfs_run.specs.declared.fault.Fault.{Fault}
-use Rattle.cfs_run.specs.declared.fault.Fault.TheVariants as Ends
-use Rattle.cfs_run.specs.declared.line.Line.{Line}
-use Rattle.cfs_run.specs.declared.line.Line.TheVariants as Lines
+use Rattle.fsd_texts.specs.declared.fault.Fault.{Fault}
+use Rattle.fsd_texts.specs.declared.fault.Fault.TheVariants as Ends
+use Rattle.fsd_texts.specs.declared.line.Line.{Line}
+use Rattle.fsd_texts.specs.declared.line.Line.TheVariants as Lines
 use Rattle.cfs_run.specs.declared.input.TheConstants.{MOST_INPUT}
-use Rattle.cfs_run.specs.Text.{line_of, text}
+use Rattle.cfs_run.specs.Lines.{line_of}
+use Rattle.fsd_texts.specs.Text.{text}
 use Rattle.cfs_run.specs.Leaves.{Turn, line_turn, put_turn, reply_turn}
 use Rattle.cfs_run.specs.Working.{IsOutside, Stays, WorkEnds, Works}
 use Rattle.cfs_run.proofs.StageLaws.{sound_fewer, sound_more}

@@ -8,19 +8,21 @@ use Rattle.fsd_sound.specs.Format.{IsFormattedIn}
 use Rattle.volume_layout.specs.declared.layout.Layout.{Layout}
 use Rattle.volume_layout.specs.declared.fault.LayoutFault.{LayoutFault}
 use Rattle.volume_layout.specs.Layout.{plan}
-use Rattle.cfs_run.specs.declared.fault.Fault.TheVariants as Ends
-use Rattle.cfs_run.specs.declared.line.Line.{Line}
-use Rattle.cfs_run.specs.declared.line.Line.TheVariants as Lines
+use Rattle.fsd_texts.specs.declared.fault.Fault.{Fault}
+use Rattle.fsd_texts.specs.declared.fault.Fault.TheVariants as Ends
+use Rattle.fsd_texts.specs.declared.line.Line.{Line}
+use Rattle.fsd_texts.specs.declared.line.Line.TheVariants as Lines
 use Rattle.cfs_run.specs.declared.answer.Answer.{Answer}
 use Rattle.cfs_run.specs.declared.answer.Answer.TheVariants as Said
 use Rattle.cfs_run.specs.declared.request.Request.{Request}
 use Rattle.cfs_run.specs.declared.request.Request.TheVariants.{Outside, BadField, Format, Put, Get}
 use Rattle.fsd_bytes.specs.declared.key.Key.{Key}
 use Rattle.cfs_run.specs.declared.input.TheConstants.{MOST_INPUT}
-use Rattle.cfs_run.specs.Text.{fault_text, memory_text, text}
-use Rattle.cfs_run.specs.Answer.{CausesLine, Finishes, UsesOutput, answer_status, answer_text, status_of}
+use Rattle.fsd_texts.specs.Text.{fault_text, format_line, memory_text, text}
+use Rattle.cfs_run.specs.Lines.{field_line}
+use Rattle.cfs_run.specs.Answer.{CausesLine, Finishes, UsesOutput, answer_status, answer_text, fault_status, status_of}
 use Rattle.cfs_run.specs.Input.{UsesCounts}
-use Rattle.cfs_run.specs.Formatting.{HoldsVolume, IsDeviceLine, IsFormatLine, MakesVolume, VolumeMade, format_line, plan_asks}
+use Rattle.cfs_run.specs.Formatting.{HoldsVolume, IsDeviceLine, IsFormatLine, MakesVolume, VolumeMade, plan_asks}
 use Rattle.cfs_run.specs.Ends.{Answers, CausesAnswer, EndsAs, Holds, IsAnswerTo, IsUntouched, Leaves, LeavesInput, MaySay, PlanLeaves, SaysPart, Takes, TakesFor, IsGetLine, IsPutLine, asks_of, complete_statuses, fault_statuses, is_one_of, plan_statuses}
 use Rattle.cfs_run.specs.Leaves.{NoneRose}
 use Rattle.cfs_run.proofs.FormatEnds.{formatted_sound}
@@ -39,41 +41,12 @@ pub record Ran (H : Type 0) (request : Request) (answer : Answer) (old mid new :
 
 device_status : (line : Line) → IsDeviceLine line → status_of line ≡ 4
 device_status (Lines.Ended (Ends.Device s)) h = refl
-device_status (Lines.Ended Ends.NotVolume) h = absurd h
-device_status (Lines.Ended (Ends.Lost a b)) h = absurd h
-device_status (Lines.Ended Ends.NoAnchor) h = absurd h
-device_status (Lines.Ended (Ends.Unsound s)) h = absurd h
-device_status (Lines.Ended Ends.Input) h = absurd h
-device_status (Lines.Ended Ends.InputTooLong) h = absurd h
-device_status (Lines.Ended Ends.Memory) h = absurd h
-device_status (Lines.Ended Ends.WornOut) h = absurd h
-device_status Lines.Usage h = absurd h
-device_status (Lines.BadField cause) h = absurd h
-device_status (Lines.Formatted n free) h = absurd h
-device_status (Lines.Unplanned why) h = absurd h
-device_status (Lines.Made key sectors) h = absurd h
-device_status (Lines.Damaged key s) h = absurd h
-device_status (Lines.Refused why) h = absurd h
+device_status line h = absurd h
 
 -- what is answered with 4 is a fault of the disk
 device_answer : (answer : Answer) → answer_status answer ≡ 4 → (s : ℕ) × (answer ≡ Said.Line (Lines.Ended (Ends.Device s)))
 device_answer (Said.Line (Lines.Ended (Ends.Device s))) four = (s, refl)
-device_answer (Said.Line (Lines.Ended Ends.NotVolume)) four = cc
-device_answer (Said.Line (Lines.Ended (Ends.Lost a b))) four = cc
-device_answer (Said.Line (Lines.Ended Ends.NoAnchor)) four = cc
-device_answer (Said.Line (Lines.Ended (Ends.Unsound s))) four = cc
-device_answer (Said.Line (Lines.Ended Ends.Input)) four = cc
-device_answer (Said.Line (Lines.Ended Ends.InputTooLong)) four = cc
-device_answer (Said.Line (Lines.Ended Ends.Memory)) four = cc
-device_answer (Said.Line (Lines.Ended Ends.WornOut)) four = cc
-device_answer (Said.Line Lines.Usage) four = cc
-device_answer (Said.Line (Lines.BadField why)) four = cc
-device_answer (Said.Line (Lines.Formatted n free)) four = cc
-device_answer (Said.Line (Lines.Unplanned why)) four = cc
-device_answer (Said.Line (Lines.Made key sectors)) four = cc
-device_answer (Said.Line (Lines.Damaged key s)) four = cc
-device_answer (Said.Line (Lines.Refused why)) four = cc
-device_answer (Said.Bytes bytes) four = cc
+device_answer answer four = cc
 
 device_line : (line : Line) → IsDeviceLine line → (s : ℕ) × (Said.Line line ≡ Said.Line (Lines.Ended (Ends.Device s)))
 device_line line device = device_answer (Said.Line line) (device_status line device)
@@ -116,13 +89,8 @@ refused_fits line result R two (inr (inr e)) = one_of (6 ∷ 2 ∷ 7 ∷ []) 7 r
 
 -- what may be answered to a put
 put_status : (line : Line) → IsPutLine line → IsTrue (is_one_of (4 ∷ 6 ∷ 0 ∷ 1 ∷ 3 ∷ 5 ∷ 7 ∷ 9 ∷ []) (status_of line))
-put_status Lines.Usage is = absurd is
-put_status (Lines.BadField why) is = absurd is
-put_status (Lines.Formatted n free) is = absurd is
-put_status (Lines.Unplanned why) is = absurd is
 put_status (Lines.Made key sectors) is = refl
 put_status (Lines.Refused why) is = refl
-put_status (Lines.Damaged at s) is = absurd is
 put_status (Lines.Ended Ends.NotVolume) is = refl
 put_status (Lines.Ended (Ends.Lost a b)) is = refl
 put_status (Lines.Ended Ends.NoAnchor) is = refl
@@ -132,14 +100,10 @@ put_status (Lines.Ended Ends.Input) is = refl
 put_status (Lines.Ended Ends.InputTooLong) is = refl
 put_status (Lines.Ended Ends.Memory) is = refl
 put_status (Lines.Ended Ends.WornOut) is = refl
+put_status line is = absurd is
 
 -- what may be answered to a get
 get_status : (key : Key) (line : Line) → IsGetLine key line → IsTrue (is_one_of (4 ∷ 6 ∷ 0 ∷ 1 ∷ 3 ∷ 7 ∷ 8 ∷ 9 ∷ []) (status_of line))
-get_status key Lines.Usage is = absurd is
-get_status key (Lines.BadField why) is = absurd is
-get_status key (Lines.Formatted n free) is = absurd is
-get_status key (Lines.Unplanned why) is = absurd is
-get_status key (Lines.Made made sectors) is = absurd is
 get_status key (Lines.Refused why) is = refl
 get_status key (Lines.Damaged at s) is = refl
 get_status key (Lines.Ended Ends.NotVolume) is = refl
@@ -147,10 +111,9 @@ get_status key (Lines.Ended (Ends.Lost a b)) is = refl
 get_status key (Lines.Ended Ends.NoAnchor) is = refl
 get_status key (Lines.Ended (Ends.Unsound s)) is = refl
 get_status key (Lines.Ended (Ends.Device s)) is = refl
-get_status key (Lines.Ended Ends.Input) is = absurd is
-get_status key (Lines.Ended Ends.InputTooLong) is = absurd is
 get_status key (Lines.Ended Ends.Memory) is = refl
 get_status key (Lines.Ended Ends.WornOut) is = refl
+get_status key line is = absurd is
 
 -- one of these statuses, or that of the output or of memory
 fits : (xs : List ℕ) (status result : ℕ) (R : Type 0) → IsTrue (is_one_of xs status) → IsTrue (is_one_of xs 6) → IsTrue (is_one_of xs 7)
@@ -187,13 +150,8 @@ refused_completes line result two (inl e) = one_of (2 ∷ 7 ∷ []) 2 result (e 
 refused_completes line result two (inr e) = one_of (2 ∷ 7 ∷ []) 7 result e refl
 
 put_completes : (line : Line) → IsPutLine line → (status_of line ≡ 4 → ⊥) → IsTrue (is_one_of (0 ∷ 1 ∷ 3 ∷ 5 ∷ 7 ∷ 9 ∷ []) (status_of line))
-put_completes Lines.Usage is no_fault = absurd is
-put_completes (Lines.BadField why) is no_fault = absurd is
-put_completes (Lines.Formatted n free) is no_fault = absurd is
-put_completes (Lines.Unplanned why) is no_fault = absurd is
 put_completes (Lines.Made key sectors) is no_fault = refl
 put_completes (Lines.Refused why) is no_fault = refl
-put_completes (Lines.Damaged at s) is no_fault = absurd is
 put_completes (Lines.Ended Ends.NotVolume) is no_fault = refl
 put_completes (Lines.Ended (Ends.Lost a b)) is no_fault = refl
 put_completes (Lines.Ended Ends.NoAnchor) is no_fault = refl
@@ -203,13 +161,9 @@ put_completes (Lines.Ended Ends.Input) is no_fault = refl
 put_completes (Lines.Ended Ends.InputTooLong) is no_fault = refl
 put_completes (Lines.Ended Ends.Memory) is no_fault = refl
 put_completes (Lines.Ended Ends.WornOut) is no_fault = refl
+put_completes line is no_fault = absurd is
 
 get_completes : (key : Key) (line : Line) → IsGetLine key line → (status_of line ≡ 4 → ⊥) → IsTrue (is_one_of (0 ∷ 1 ∷ 3 ∷ 7 ∷ 8 ∷ 9 ∷ []) (status_of line))
-get_completes key Lines.Usage is no_fault = absurd is
-get_completes key (Lines.BadField why) is no_fault = absurd is
-get_completes key (Lines.Formatted n free) is no_fault = absurd is
-get_completes key (Lines.Unplanned why) is no_fault = absurd is
-get_completes key (Lines.Made made sectors) is no_fault = absurd is
 get_completes key (Lines.Refused why) is no_fault = refl
 get_completes key (Lines.Damaged at s) is no_fault = refl
 get_completes key (Lines.Ended Ends.NotVolume) is no_fault = refl
@@ -217,10 +171,9 @@ get_completes key (Lines.Ended (Ends.Lost a b)) is no_fault = refl
 get_completes key (Lines.Ended Ends.NoAnchor) is no_fault = refl
 get_completes key (Lines.Ended (Ends.Unsound s)) is no_fault = refl
 get_completes key (Lines.Ended (Ends.Device s)) is no_fault = absurd (no_fault refl)
-get_completes key (Lines.Ended Ends.Input) is no_fault = absurd is
-get_completes key (Lines.Ended Ends.InputTooLong) is no_fault = absurd is
 get_completes key (Lines.Ended Ends.Memory) is no_fault = refl
 get_completes key (Lines.Ended Ends.WornOut) is no_fault = refl
+get_completes key line is no_fault = absurd is
 
 completes_as : (xs : List ℕ) (status result : ℕ) → IsTrue (is_one_of xs status) → IsTrue (is_one_of xs 7) → (result ≡ status) ⊎ (result ≡ 7) → IsTrue (is_one_of xs result)
 completes_as xs status result here seven (inl e) = one_of xs status result e here
@@ -281,7 +234,7 @@ request_heard H (Format n t p) (Said.Line line) mid new at between after result 
 request_heard H (Format n t p) (Said.Bytes bytes) mid new at between after result is no_fault made never h said = absurd is
 request_heard H Outside (Said.Line line) mid new at between after result is no_fault made never h said = heard_as H line Lines.Usage mid new at between after result is (ap (λ (m : Moment). m.said) made) never h said
 request_heard H Outside (Said.Bytes bytes) mid new at between after result is no_fault made never h said = absurd is
-request_heard H (BadField cause) (Said.Line line) mid new at between after result is no_fault made never h said = heard_as H line (Lines.BadField cause) mid new at between after result is (ap (λ (m : Moment). m.said) made) never h said
+request_heard H (BadField cause) (Said.Line line) mid new at between after result is no_fault made never h said = heard_as H line (field_line cause) mid new at between after result is (ap (λ (m : Moment). m.said) made) never h said
 request_heard H (BadField cause) (Said.Bytes bytes) mid new at between after result is no_fault made never h said = absurd is
 request_heard H (Put name) answer mid new at between after result is no_fault made never h said = tt
 request_heard H (Get key) answer mid new at between after result is no_fault made never h said = tt
@@ -396,21 +349,7 @@ input_answer : (request : Request) (answer : Answer) (T : Type 0) (old new : Rep
     → (T → Takes request answer before after) → Rose old.input_faults new.input_faults ⊎ (T → MOST_INPUT < length before)
 input_answer (Put name) (Said.Line (Lines.Ended Ends.Input)) T old new before after five is cause taken = inl cause
 input_answer (Put name) (Said.Line (Lines.Ended Ends.InputTooLong)) T old new before after five is cause taken = inr taken
-input_answer (Put name) (Said.Line (Lines.Ended Ends.NotVolume)) T old new before after five is cause taken = cc
-input_answer (Put name) (Said.Line (Lines.Ended (Ends.Lost a b))) T old new before after five is cause taken = cc
-input_answer (Put name) (Said.Line (Lines.Ended Ends.NoAnchor)) T old new before after five is cause taken = cc
-input_answer (Put name) (Said.Line (Lines.Ended (Ends.Unsound s))) T old new before after five is cause taken = cc
-input_answer (Put name) (Said.Line (Lines.Ended (Ends.Device s))) T old new before after five is cause taken = cc
-input_answer (Put name) (Said.Line (Lines.Ended Ends.Memory)) T old new before after five is cause taken = cc
-input_answer (Put name) (Said.Line (Lines.Ended Ends.WornOut)) T old new before after five is cause taken = cc
-input_answer (Put name) (Said.Line Lines.Usage) T old new before after five is cause taken = cc
-input_answer (Put name) (Said.Line (Lines.BadField why)) T old new before after five is cause taken = cc
-input_answer (Put name) (Said.Line (Lines.Formatted n free)) T old new before after five is cause taken = cc
-input_answer (Put name) (Said.Line (Lines.Unplanned why)) T old new before after five is cause taken = cc
-input_answer (Put name) (Said.Line (Lines.Made key sectors)) T old new before after five is cause taken = cc
-input_answer (Put name) (Said.Line (Lines.Refused why)) T old new before after five is cause taken = cc
-input_answer (Put name) (Said.Line (Lines.Damaged key s)) T old new before after five is cause taken = cc
-input_answer (Put name) (Said.Bytes bytes) T old new before after five is cause taken = cc
+input_answer (Put name) answer T old new before after five is cause taken = cc
 input_answer Outside (Said.Line line) T old new before after five is cause taken = absurd (omega (arith, ap status_of is))
 input_answer Outside (Said.Bytes bytes) T old new before after five is cause taken = absurd is
 input_answer (BadField why) (Said.Line line) T old new before after five is cause taken = absurd (omega (arith, ap status_of is))
@@ -420,32 +359,18 @@ input_answer (Format n t p) (Said.Bytes bytes) T old new before after five is ca
 input_answer (Get key) (Said.Line line) T old new before after five is cause taken = absurd (get_not_five key line is five)
 input_answer (Get key) (Said.Bytes bytes) T old new before after five is cause taken = cc
 
+-- no fault has the status of what was done or refused
+fault_is_none : (fault : Fault) → (fault_status fault ≡ 0) ⊎ (fault_status fault ≡ 1) → ⊥
+fault_is_none Ends.Memory (inl zeroed) = cc
+fault_is_none Ends.Memory (inr one) = cc
+fault_is_none fault (inl zeroed) = cc
+fault_is_none fault (inr one) = cc
+
 done_takes : (name : List ℕ) (line : Line) (before after : List ℕ) → IsPutLine line → (status_of line ≡ 0) ⊎ (status_of line ≡ 1) → TakesFor line before after → (after ≡ []) × (length before ≤ MOST_INPUT)
 done_takes name (Lines.Made key sectors) before after is done taken = taken
 done_takes name (Lines.Refused why) before after is done taken = taken
-done_takes name (Lines.Ended Ends.NotVolume) before after is (inl done) taken = cc
-done_takes name (Lines.Ended Ends.NotVolume) before after is (inr done) taken = cc
-done_takes name (Lines.Ended (Ends.Lost a b)) before after is (inl done) taken = cc
-done_takes name (Lines.Ended (Ends.Lost a b)) before after is (inr done) taken = cc
-done_takes name (Lines.Ended Ends.NoAnchor) before after is (inl done) taken = cc
-done_takes name (Lines.Ended Ends.NoAnchor) before after is (inr done) taken = cc
-done_takes name (Lines.Ended (Ends.Unsound s)) before after is (inl done) taken = cc
-done_takes name (Lines.Ended (Ends.Unsound s)) before after is (inr done) taken = cc
-done_takes name (Lines.Ended (Ends.Device s)) before after is (inl done) taken = cc
-done_takes name (Lines.Ended (Ends.Device s)) before after is (inr done) taken = cc
-done_takes name (Lines.Ended Ends.Input) before after is (inl done) taken = cc
-done_takes name (Lines.Ended Ends.Input) before after is (inr done) taken = cc
-done_takes name (Lines.Ended Ends.InputTooLong) before after is (inl done) taken = cc
-done_takes name (Lines.Ended Ends.InputTooLong) before after is (inr done) taken = cc
-done_takes name (Lines.Ended Ends.Memory) before after is (inl done) taken = cc
-done_takes name (Lines.Ended Ends.Memory) before after is (inr done) taken = cc
-done_takes name (Lines.Ended Ends.WornOut) before after is (inl done) taken = cc
-done_takes name (Lines.Ended Ends.WornOut) before after is (inr done) taken = cc
-done_takes name Lines.Usage before after is done taken = absurd is
-done_takes name (Lines.BadField why) before after is done taken = absurd is
-done_takes name (Lines.Formatted n free) before after is done taken = absurd is
-done_takes name (Lines.Unplanned why) before after is done taken = absurd is
-done_takes name (Lines.Damaged key s) before after is done taken = absurd is
+done_takes name (Lines.Ended fault) before after is done taken = absurd (fault_is_none fault done)
+done_takes name line before after is done taken = absurd is
 
 request_takes : (request : Request) (answer : Answer) (result : ℕ) (R : Type 0) (before after : List ℕ) → IsAnswerTo request answer
     → (result ≡ answer_status answer) ⊎ (((result ≡ 6) × R) ⊎ (result ≡ 7)) → Takes request answer before after → LeavesInput request result before after

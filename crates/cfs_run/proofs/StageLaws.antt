@@ -18,9 +18,9 @@ use Rattle.fsd_volume.specs.Mount.{MountLeaves, TellsFirst, volume_of}
 use Rattle.fsd_volume.specs.State.{State}
 use Rattle.cfs_run.specs.declared.answer.Answer.{Answer}
 use Rattle.cfs_run.specs.declared.answer.Answer.TheVariants as Said
-use Rattle.cfs_run.specs.declared.fault.Fault.{Fault}
-use Rattle.cfs_run.specs.declared.fault.Fault.TheVariants as Ends
-use Rattle.cfs_run.specs.declared.line.Line.TheVariants as Lines
+use Rattle.fsd_texts.specs.declared.fault.Fault.{Fault}
+use Rattle.fsd_texts.specs.declared.fault.Fault.TheVariants as Ends
+use Rattle.fsd_texts.specs.declared.line.Line.TheVariants as Lines
 use Rattle.cfs_run.specs.declared.request.Request.{Request}
 use Rattle.cfs_run.specs.Leaves.{Starts, Turn, turn_of}
 use Rattle.cfs_run.specs.Working.{Carries, IsFailure, IsOutside, Opens, Quiet, QuietSince, Stays, Works}

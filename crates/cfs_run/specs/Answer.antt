@@ -1,13 +1,13 @@
 -- What is said at the end of a run, and the status that it ends with.
 use Rattle.std.specs.Prelude.{◌≡◌, ◌⊎◌, ℕ, ◌≤◌, List}
 use Rattle.sector_disk.specs.Machine.{Report, Moment, DeviceFault, Rose, Says, Utters}
-use Rattle.cfs_run.specs.declared.fault.Fault.{Fault}
-use Rattle.cfs_run.specs.declared.fault.Fault.TheVariants as Ends
-use Rattle.cfs_run.specs.declared.line.Line.{Line}
-use Rattle.cfs_run.specs.declared.line.Line.TheVariants.{Usage, BadField, Formatted, Unplanned, Made, Damaged, Refused, Ended}
+use Rattle.fsd_texts.specs.declared.fault.Fault.{Fault}
+use Rattle.fsd_texts.specs.declared.fault.Fault.TheVariants as Ends
+use Rattle.fsd_texts.specs.declared.line.Line.{Line}
+use Rattle.fsd_texts.specs.declared.line.Line.TheVariants.{Usage, Bad, Unplanned, Damaged, Refused, Ended}
 use Rattle.cfs_run.specs.declared.answer.Answer.{Answer}
 use Rattle.cfs_run.specs.declared.answer.Answer.TheVariants as Said
-use Rattle.cfs_run.specs.Text.{memory_text, text}
+use Rattle.fsd_texts.specs.Text.{memory_text, text}
 
 -- ---- statuses
 
@@ -23,14 +23,14 @@ fault_status Ends.Memory = 7
 fault_status Ends.WornOut = 9
 
 abbrev pub status_of : Line → ℕ
-status_of (Formatted n free) = 0
-status_of (Made key sectors) = 0
 status_of (Unplanned why) = 1
 status_of (Refused why) = 1
 status_of Usage = 2
-status_of (BadField cause) = 2
+status_of (Bad bad) = 2
 status_of (Damaged key s) = 8
 status_of (Ended fault) = fault_status fault
+-- any other line tells what was done
+status_of done = 0
 
 abbrev pub answer_text : Answer → List ℕ
 answer_text (Said.Line line) = text line

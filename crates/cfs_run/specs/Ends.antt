@@ -11,22 +11,23 @@ use Rattle.fsd_files.specs.Answers.{entry_of}
 use Rattle.fsd_files.specs.Kept.{FirstDamaged, range_sectors}
 use Rattle.fsd_formats.specs.declared.entry.Entry.{Entry}
 use Rattle.fsd_volume.specs.Mount.{IsAccepted, MountRefused, table_on}
-use Rattle.cfs_run.specs.declared.line.Line.{Line}
-use Rattle.cfs_run.specs.declared.line.Line.TheVariants as Says
+use Rattle.fsd_texts.specs.declared.line.Line.{Line}
+use Rattle.fsd_texts.specs.declared.line.Line.TheVariants as Says
 use Rattle.cfs_run.specs.declared.answer.Answer.{Answer}
 use Rattle.cfs_run.specs.declared.answer.Answer.TheVariants as Said
 use Rattle.cfs_run.specs.declared.request.Request.{Request}
 use Rattle.cfs_run.specs.declared.request.Request.TheVariants.{Outside, BadField, Format, Put, Get}
-use Rattle.cfs_run.specs.declared.fault.Fault.TheVariants as Ends
+use Rattle.fsd_texts.specs.declared.fault.Fault.TheVariants as Ends
 use Rattle.fsd_bytes.specs.declared.key.Key.{Key}
 use Rattle.cfs_run.specs.declared.input.TheConstants.{MOST_INPUT}
 use Rattle.mount_recover.specs.declared.fault.MountFault.{MountFault}
 use Rattle.mount_recover.specs.Lost.{AreCopiesOn, LostIn}
 use Rattle.cfs_run.specs.Leaves.{IsLastEpoch, LeavesRun}
 use Rattle.cfs_run.specs.Mounting.{IfMount, IfMounts, IsMountFault, OpensDisk, fault_of, mount_asks}
-use Rattle.cfs_run.specs.Text.{fault_text, memory_text, text}
+use Rattle.fsd_texts.specs.Text.{fault_text, format_line, memory_text, text}
+use Rattle.cfs_run.specs.Lines.{field_line}
 use Rattle.cfs_run.specs.Answer.{CausesLine, answer_status, fault_status, status_of}
-use Rattle.cfs_run.specs.Formatting.{AsksLine, HoldsVolume, IsFormatLine, VolumeMade, format_line, plan_asks}
+use Rattle.cfs_run.specs.Formatting.{AsksLine, HoldsVolume, IsFormatLine, VolumeMade, plan_asks}
 
 -- ---- the answers to a request
 
@@ -70,7 +71,7 @@ IsFormatAnswer planned (Said.Bytes bytes) = ⊥
 -- what may be answered at all
 abbrev pub IsAnswerTo : Request → Answer → Type 0
 IsAnswerTo Outside answer = IsLine Says.Usage answer
-IsAnswerTo (BadField cause) answer = IsLine (Says.BadField cause) answer
+IsAnswerTo (BadField cause) answer = IsLine (field_line cause) answer
 IsAnswerTo (Format n t p) answer = IsFormatAnswer (plan n t p) answer
 IsAnswerTo (Put name) answer = IsPutAnswer answer
 IsAnswerTo (Get key) answer = IsGetAnswer key answer
@@ -165,7 +166,7 @@ EndsAs line before after result =
 -- where nothing fails, of a request that mounts nothing
 abbrev pub Answers : Request → Moment → Moment → ℕ → Type 0
 Answers Outside old new result = EndsAs Says.Usage old.said new.said result
-Answers (BadField cause) old new result = EndsAs (Says.BadField cause) old.said new.said result
+Answers (BadField cause) old new result = EndsAs (field_line cause) old.said new.said result
 Answers (Format n t p) old new result = EndsAs (format_line (plan n t p)) old.said new.said result
 Answers (Put name) old new result = ⊤
 Answers (Get key) old new result = ⊤
@@ -173,7 +174,7 @@ Answers (Get key) old new result = ⊤
 -- the texts that may be said but for that of refused memory; the place is that of the disk's last fault
 abbrev pub MaySay : Request → (place : ℕ) → List ℕ → Type 0
 MaySay Outside place bytes = bytes ≡ text Says.Usage
-MaySay (BadField cause) place bytes = bytes ≡ text (Says.BadField cause)
+MaySay (BadField cause) place bytes = bytes ≡ text (field_line cause)
 MaySay (Format n t p) place bytes = (bytes ≡ text (format_line (plan n t p))) ⊎ (bytes ≡ fault_text (Ends.Device place))
 MaySay (Put name) place bytes = (line : Line) × IsPutLine line × (bytes ≡ text line)
 MaySay (Get key) place bytes = ⊤

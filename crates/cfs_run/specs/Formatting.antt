@@ -1,22 +1,17 @@
 -- What the command `format` answers and leaves.
-use Rattle.std.specs.Prelude.{◌≡◌, ◌⊎◌, ℕ, ◌-◌, ◌≤◌, List, [], ◌∷◌, ◌++◌, Some, None, Result, Ok, Err}
+use Rattle.std.specs.Prelude.{◌≡◌, ◌⊎◌, ℕ, ◌≤◌, List, [], ◌∷◌, ◌++◌, Some, None, Result, Ok, Err}
 use Rattle.sector_disk.specs.declared.machine.Attach.TheVariants.{New}
 use Rattle.sector_disk.specs.declared.sector.WeakRun.{WeakRun}
 use Rattle.sector_disk.specs.Image.{IsShort}
 use Rattle.sector_disk.specs.Machine.{Asked, Ledger, Moment, Report}
 use Rattle.volume_layout.specs.declared.layout.Layout.{Layout}
 use Rattle.volume_layout.specs.declared.fault.LayoutFault.{LayoutFault}
-use Rattle.volume_layout.specs.Layout.{data_start}
 use Rattle.fsd_sound.specs.Format.{IsFormattedIn}
 use Rattle.fsd_sound.specs.Sound.{IsSound}
-use Rattle.cfs_run.specs.declared.fault.Fault.TheVariants as Ends
-use Rattle.cfs_run.specs.declared.line.Line.{Line}
-use Rattle.cfs_run.specs.declared.line.Line.TheVariants.{Formatted, Unplanned, Ended}
-
--- the line of a format that no call of the disk fails: all data sectors are free
-abbrev pub format_line : Result Layout LayoutFault → Line
-format_line (Ok l) = Formatted l.sectors (l.sectors - data_start l)
-format_line (Err why) = Unplanned why
+use Rattle.fsd_texts.specs.declared.fault.Fault.TheVariants as Ends
+use Rattle.fsd_texts.specs.declared.line.Line.{Line}
+use Rattle.fsd_texts.specs.declared.line.Line.TheVariants.{Formatted, Ended}
+use Rattle.fsd_texts.specs.Text.{format_line}
 
 -- the line tells a fault of the disk
 abbrev pub IsDeviceLine : Line → Type 0

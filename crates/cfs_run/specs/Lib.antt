@@ -3,7 +3,7 @@ pub mod Ends
 pub mod Formatting
 pub mod Input
 pub mod Leaves
+pub mod Lines
 pub mod Mounting
-pub mod Text
 pub mod Words
 pub mod Working

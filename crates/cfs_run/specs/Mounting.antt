@@ -10,8 +10,8 @@ use Rattle.fsd_files.specs.Files.{Change}
 use Rattle.fsd_sound.specs.Sound.{EndIn, IsSound}
 use Rattle.mount_recover.specs.declared.fault.MountFault.{MountFault}
 use Rattle.mount_recover.specs.declared.fault.MountFault.TheVariants.{NotVolume, Device, Memory, Lost, NoAnchor, Unsound, WornOut}
-use Rattle.cfs_run.specs.declared.fault.Fault.{Fault}
-use Rattle.cfs_run.specs.declared.fault.Fault.TheVariants as Ends
+use Rattle.fsd_texts.specs.declared.fault.Fault.{Fault}
+use Rattle.fsd_texts.specs.declared.fault.Fault.TheVariants as Ends
 use Rattle.cfs_run.specs.declared.request.Request.{Request}
 use Rattle.cfs_run.specs.declared.request.Request.TheVariants.{Put, Get}
 

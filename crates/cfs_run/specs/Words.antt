@@ -6,7 +6,7 @@ use Rattle.fsd_bytes.specs.declared.fault.NameFault.{NameFault}
 use Rattle.fsd_bytes.specs.declared.key.Key.{Key}
 use Rattle.fsd_bytes.specs.Names.{name_of}
 use Rattle.fsd_bytes.specs.Keys.{max_u32, read_key, read_number}
-use Rattle.cfs_run.specs.declared.request.Cause.TheVariants.{BadNumber, BadName, BadKey}
+use Rattle.fsd_texts.specs.declared.bad_line.Cause.TheVariants.{BadNumber, BadName, BadKey}
 use Rattle.cfs_run.specs.declared.request.Request.{Request}
 use Rattle.cfs_run.specs.declared.request.Request.TheVariants.{Outside, BadField, Format, Put, Get}
 

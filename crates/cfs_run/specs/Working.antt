@@ -12,9 +12,9 @@ use Rattle.fsd_volume.specs.State.{State}
 use Rattle.fsd_volume.specs.Mount.{MountLeaves, Mounts, TellsFirst}
 use Rattle.cfs_run.specs.declared.answer.Answer.{Answer}
 use Rattle.cfs_run.specs.declared.answer.Answer.TheVariants as Said
-use Rattle.cfs_run.specs.declared.fault.Fault.{Fault}
-use Rattle.cfs_run.specs.declared.fault.Fault.TheVariants as Ends
-use Rattle.cfs_run.specs.declared.line.Line.TheVariants as Says
+use Rattle.fsd_texts.specs.declared.fault.Fault.{Fault}
+use Rattle.fsd_texts.specs.declared.fault.Fault.TheVariants as Ends
+use Rattle.fsd_texts.specs.declared.line.Line.TheVariants as Says
 use Rattle.cfs_run.specs.declared.request.Request.{Request}
 use Rattle.cfs_run.specs.Answer.{answer_status, answer_text}
 use Rattle.cfs_run.specs.Leaves.{IsLastEpoch, Starts, Turn, turn_of}

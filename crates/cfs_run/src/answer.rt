@@ -2,10 +2,10 @@
 ghost use Rattle.std.specs.Prelude.{◌≡◌};
 ghost use Rattle.sector_disk.specs.Machine.{LeavesOnly, Trusts, Utters};
 ghost use Rattle.cfs_run.specs.Answer.{answer_status, answer_text, fault_status, status_of, Finishes, Spoken, UsesOutput, UttersOne};
-ghost use Rattle.cfs_run.specs.Text.{fault_text, memory_text};
+ghost use Rattle.fsd_texts.specs.Text.{fault_text, memory_text};
 
-use crate::fault::Fault;
-use crate::line::{Line, text_of};
+use fsd_texts::{Bytes, Fault, Line};
+use script_text::say_line;
 use sector_disk::Machine;
 use std::alloc::Global;
 
@@ -21,9 +21,18 @@ fn status_of(line: &Line) -> u8
     ensures { result ≡ status_of line.now }
 {
     match line {
-        Line::Formatted { .. } | Line::Made { .. } => 0,
+        Line::Formatted { .. }
+        | Line::Made { .. }
+        | Line::Deleted(_)
+        | Line::Kept { .. }
+        | Line::Version { .. }
+        | Line::Listed(_)
+        | Line::Bytes { .. }
+        | Line::Forced
+        | Line::Stat { .. }
+        | Line::Generated { .. } => 0,
         Line::Unplanned(_) | Line::Refused(_) => 1,
-        Line::Usage | Line::BadField(_) => 2,
+        Line::Usage | Line::Bad(_) => 2,
         Line::Damaged { .. } => 8,
         Line::Ended(fault) => fault_status(*fault),
     }
@@ -51,10 +60,13 @@ pub(crate) fn finish<M: Machine>(alloc: Global, m: &mut M, answer: &Answer) -> u
 {
     match answer {
         Answer::Bytes(bytes) => say(m, bytes.as_slice(), 0),
-        Answer::Line(line) => match text_of(alloc, line) {
-            Ok(text) => say(m, text.as_slice(), status_of(line)),
-            Err(_) => say(m, b"fault memory\n", 7),
-        },
+        Answer::Line(line) => {
+            let mut text = Bytes::new(alloc);
+            match say_line(alloc, line, &mut text) {
+                Ok(()) => say(m, text.as_slice(), status_of(line)),
+                Err(_) => say(m, b"fault memory\n", 7),
+            }
+        }
     }
 }
 

@@ -5,9 +5,8 @@ ghost use Rattle.volume_layout.specs.Layout.{plan};
 ghost use Rattle.cfs_run.specs.Answer.{CausesLine};
 ghost use Rattle.cfs_run.specs.Formatting.{AsksPlan, IsFormatLine, UsesAttach, VolumeMade};
 
-use crate::fault::Fault;
-use crate::line::Line;
 use crate::refusal::line_of;
+use fsd_texts::{Fault, Line};
 use fsd_volume::format;
 use sector_disk::{Attach, Machine};
 use volume_layout::Layout;

@@ -16,11 +16,10 @@ ghost use Rattle.cfs_run.specs.Mounting.{OpensDisk, mount_asks};
 ghost use Rattle.cfs_run.specs.Working.{Carries, Works};
 
 use crate::answer::Answer;
-use crate::fault::Fault;
-use crate::line::Line;
 use crate::mounting::open;
 use crate::refusal::{line_of, read_line};
 use fsd_bytes::Key;
+use fsd_texts::{Fault, Line};
 use fsd_volume::Volume;
 use sector_disk::Machine;
 use std::alloc::Global;

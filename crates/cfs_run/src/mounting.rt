@@ -12,7 +12,7 @@ ghost use Rattle.fsd_volume.specs.Mount.{IsFoundOn, MountRefused};
 ghost use Rattle.fsd_volume.specs.Put.{IsWornOut};
 ghost use Rattle.fsd_volume.specs.State.{IsTable};
 
-use crate::fault::Fault;
+use fsd_texts::Fault;
 use fsd_volume::Volume;
 use mount_recover::MountFault;
 use sector_disk::{Attach, Machine};

@@ -22,12 +22,11 @@ ghost use Rattle.cfs_run.specs.Leaves.{put_turn, reply_turn};
 ghost use Rattle.cfs_run.specs.Mounting.{OpensDisk, mount_asks};
 ghost use Rattle.cfs_run.specs.Working.{Carries, Works};
 
-use crate::fault::Fault;
 use crate::input::{InputFault, MOST_INPUT, read_input};
-use crate::line::Line;
 use crate::mounting::open;
 use crate::refusal::line_of;
 use fsd_bytes::FileName;
+use fsd_texts::{Fault, Line};
 use fsd_volume::Volume;
 use sector_disk::Machine;
 use std::alloc::Global;

@@ -1,10 +1,9 @@
 //! The lines of a volume's refusals.
 ghost use Rattle.std.specs.Prelude.{◌≡◌};
-ghost use Rattle.cfs_run.specs.Text.{line_of, read_line};
+ghost use Rattle.cfs_run.specs.Lines.{line_of, read_line};
 
-use crate::fault::Fault;
-use crate::line::Line;
 use fsd_bytes::{Key, Refusal};
+use fsd_texts::{Fault, Line};
 
 /// The line that tells a refusal: one that ends the run is a fault.
 pub(crate) fn line_of(why: Refusal) -> Line

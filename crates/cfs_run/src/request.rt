@@ -6,21 +6,7 @@ ghost use Rattle.fsd_bytes.specs.Names.{name_of};
 ghost use Rattle.fsd_bytes.specs.Keys.{max_u32, read_key, read_number};
 
 use fsd_bytes::{FileName, Key, read_number};
-use thiserror::Error;
-
-/// Why a field is refused.
-#[derive(Clone, Copy, Debug, PartialEq, Eq, Error)]
-pub enum Cause {
-    /// Plain decimal below 2^32, with no zero in front of other digits.
-    #[error("bad number")]
-    BadNumber,
-    /// 1 to 40 letters, digits and `. - _ + /`.
-    #[error("bad name")]
-    BadName,
-    /// A name, `!` and a version from 1 on.
-    #[error("bad key")]
-    BadKey,
-}
+use fsd_texts::Cause;
 
 /// What the words ask for, of the image that they name.
 #[derive(Debug, Drop)]

@@ -5,8 +5,8 @@ ghost use Rattle.sector_disk.specs.Image.{IsCalm};
 ghost use Rattle.sector_disk.specs.Machine.{LeavesOnly, Rose, Trusts};
 ghost use Rattle.mount_recover.specs.Lost.{AreCopiesOn, LostIn};
 ghost use Rattle.fsd_volume.specs.Mount.{IsMountable, MountRefused};
-ghost use Rattle.cfs_run.specs.declared.fault.Fault.TheVariants as Ends;
-ghost use Rattle.cfs_run.specs.Text.{fault_text};
+ghost use Rattle.fsd_texts.specs.declared.fault.Fault.TheVariants as Ends;
+ghost use Rattle.fsd_texts.specs.Text.{fault_text};
 ghost use Rattle.cfs_run.specs.declared.input.TheConstants.{MOST_INPUT};
 ghost use Rattle.cfs_run.specs.Words.{path_of, request_of};
 ghost use Rattle.cfs_run.specs.Input.{UsesCounts};
@@ -18,9 +18,9 @@ ghost use Rattle.cfs_run.specs.Working.{Carried};
 use crate::answer::{Answer, finish};
 use crate::formatting::make;
 use crate::getting::get;
-use crate::line::Line;
 use crate::putting::put;
 use crate::request::{Request, image_of, read_words};
+use fsd_texts::{BadLine, Line};
 use sector_disk::Machine;
 use std::alloc::Global;
 
@@ -99,7 +99,7 @@ fn carry_out<M: Machine>(alloc: Global, words: &[String], m: &mut M) -> Answer
 {
     match read_words(words) {
         Request::Outside => Answer::Line(Line::Usage),
-        Request::BadField(cause) => Answer::Line(Line::BadField(cause)),
+        Request::BadField(cause) => Answer::Line(Line::Bad(BadLine { line: 0, cause })),
         Request::Format {
             sectors,
             third,

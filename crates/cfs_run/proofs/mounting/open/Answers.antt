@@ -1,6 +1,6 @@
 use Rattle.std.proofs.Common.{◌∙◌, subst, sym}
-use Rattle.cfs_run.specs.declared.fault.Fault.{Fault}
-use Rattle.cfs_run.specs.declared.fault.Fault.TheVariants as Ends
+use Rattle.fsd_texts.specs.declared.fault.Fault.{Fault}
+use Rattle.fsd_texts.specs.declared.fault.Fault.TheVariants as Ends
 use Rattle.cfs_run.specs.Working.{IsFailure}
 use Rattle.cfs_run.proofs.MountEnds.{opened_behind, opened_lost, opened_on, opened_refused}
 use Rattle.cfs_run.proofs.OpenLaws.{excused, found_calm, found_entries, found_image, found_sound, found_told, is_fresh, not_opened, opened, unopened}

@@ -7,7 +7,7 @@ use Rattle.fsd_files.specs.OneLeaf.{put_outcome}
 use Rattle.fsd_sound.specs.Sound.{EndIn}
 use Rattle.fsd_volume.specs.State.{IsMounted}
 use Rattle.cfs_run.specs.declared.answer.Answer.TheVariants as Said
-use Rattle.cfs_run.specs.declared.fault.Fault.TheVariants as Ends
+use Rattle.fsd_texts.specs.declared.fault.Fault.TheVariants as Ends
 use Rattle.cfs_run.specs.declared.input.TheConstants.{MOST_INPUT}
 use Rattle.cfs_run.specs.Leaves.{Turn, put_turn, reply_turn}
 use Rattle.cfs_run.specs.Working.{Works}
