@@ -15,13 +15,16 @@ use Rattle.volume_layout.specs.declared.layout.Layout.{Layout}
 use Rattle.mount_recover.specs.declared.fault.MountFault.TheVariants as Mount
 use Rattle.sector_disk.specs.declared.sector.Sector.{Sector}
 use Rattle.sector_disk.specs.Image.{IsCalm, IsWorn, open_damage}
-use Rattle.sector_disk.specs.Machine.{Finds, Moment}
+use Rattle.sector_disk.specs.Machine.{Finds, Moment, Report}
 use Rattle.sector_disk.proofs.Calm.{calm_worn}
 use Rattle.sector_disk.proofs.Damage.{lost_as, lost_worn}
 use Rattle.mount_recover.specs.Lost.{AreCopiesOn, AreLastOf, HasRoot, LostIn}
 use Rattle.fsd_sound.specs.Roots.{root_of}
 use Rattle.mount_recover.proofs.LostLaws.{has_root_before}
 use Rattle.fsd_volume.specs.Mount.{IsFoundOn, IsMountable, MountRefused, volume_of}
+use Rattle.log_thirds.specs.LogValue.{LogValue}
+use Rattle.group_commit.specs.Room.{goes_before}
+use Rattle.fsd_volume.specs.Forcing.{ForceFails}
 use Rattle.fsd_volume.specs.Put.{IsWornOut, PutSays, Puts}
 use Rattle.fsd_volume.specs.State.{StandsFor, State}
 use Rattle.fsd_texts.specs.declared.fault.Fault.{Fault}
@@ -128,6 +131,15 @@ put_refused why line state new name bytes first answers told =
     let v = volume_of state (files_of state.entries) in
     let puts = answers v (stands state) in
     subst (λ (x : Line). IfMountLine Never x) (sym told) (put_refusal why state v puts.after name bytes first puts.says)
+
+-- a force loses nothing where its record goes before the first third comes again
+force_refusal : (log : LogValue) (old new : Report) → goes_before log 1 ≡ true → (why : Refusal) → ForceFails log old new why → IfMountLine Never (line_of why)
+force_refusal log old new room (Why.Device s) fails = tt
+force_refusal log old new room (Why.Lost a b) fails = absurd (cc (room, fails))
+force_refusal log old new room why fails = absurd fails
+
+pub force_refused : (log : LogValue) (old new : Report) → goes_before log 1 ≡ true → (why : Refusal) → ForceFails log old new why → (line : Line) → line ≡ line_of why → IfMountLine Never line
+force_refused log old new room why fails line told = subst (λ (x : Line). IfMountLine Never x) (sym told) (force_refusal log old new room why fails)
 
 -- what tells no fault of a mount is refused for none
 never_fault : (P : MountFault → Type 0) (fault : Fault) → IfMount Never fault → IfMount P fault

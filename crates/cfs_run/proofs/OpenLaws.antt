@@ -11,15 +11,13 @@ use Rattle.volume_layout.specs.declared.layout.Layout.{Layout}
 use Rattle.volume_layout.specs.Layout.{plan}
 use Rattle.volume_layout.proofs.RootLaws.{planned_bounds}
 use Rattle.fsd_formats.specs.declared.entry.Entry.{Entry}
-use Rattle.fsd_formats.specs.Record.{record_len}
-use Rattle.volume_layout.specs.Shape.{Shape}
 use Rattle.fsd_files.specs.Disk.{Image, in_runs}
 use Rattle.fsd_files.specs.Files.{Change}
 use Rattle.fsd_log.specs.Scan.{Head}
 use Rattle.fsd_sound.specs.Shown.{told}
 use Rattle.fsd_sound.specs.Sound.{EndIn, IsSound, Tells, weak_of}
 use Rattle.log_thirds.specs.LogValue.{LogValue}
-use Rattle.log_thirds.specs.Append.{FitsTwo}
+use Rattle.group_commit.proofs.RoomLaws.{here_before}
 use Rattle.mount_recover.specs.declared.fault.MountFault.{MountFault}
 use Rattle.mount_recover.specs.declared.fault.MountFault.TheVariants.{NotVolume, Device, Memory, Lost, NoAnchor, Unsound, WornOut}
 use Rattle.mount_recover.specs.Finding.{IsExcuse}
@@ -28,6 +26,7 @@ use Rattle.fsd_volume.specs.Mount.{IsSoundAt, MountLeaves, MountRefused, Mounts,
 use Rattle.fsd_volume.specs.Put.{IsWornOut}
 use Rattle.fsd_volume.specs.State.{State}
 use Rattle.fsd_texts.specs.declared.fault.Fault.{Fault}
+use Rattle.cfs_run.specs.Mounting.{IsReady}
 use Rattle.cfs_run.specs.Leaves.{IsLastEpoch}
 use Rattle.cfs_run.specs.Mounting.{fault_of}
 use Rattle.cfs_run.specs.Working.{IsFailure, Opens}
@@ -154,21 +153,17 @@ module _ {D : Type 0} (moment : D → ℕ) (left_since : D → ℕ → Moment �
     pub not_opened : (fault : Fault) → IsFailure old.image fault → MountLeaves l windows h f n at new → Opens l windows h f (LeavesOnly moment left_since a c) old new (Err fault)
     not_opened fault failure left = record { count = n; tells = first; moments = all_moments; ends = (failure, mount_from l windows h f n old calm sound at found new left) }
 
--- ---- an empty log has room for the largest records
+-- ---- a volume that was just mounted is ready
 
-next_end : (b : Bool) (h : Head) (third : ℕ) → h.end ≡ third → 200 ≤ third → (cond b h (record { number = h.number; at = h.end; end = h.end + third })).end < 3 * third
-next_end true h third end least = omega (arith, end, least)
-next_end false h third end least = omega (arith, end, least)
+is_fresh : (state : State) → IsFreshLog state.layout state.log → state.serial.count ≡ 1 → IsWornOut state → ⊥
+is_fresh state fresh first (inl serials) = omega (arith, serials, first)
+is_fresh state fresh first (inr numbers) = let number : state.log.head.number ≡ 1 = ap (λ (x : Head). x.number) fresh.head in omega (arith, numbers, number)
 
-fits_two : (l : Layout) (log : LogValue) → 200 ≤ l.third → IsFreshLog l log → FitsTwo log
-fits_two l log third fresh =
+-- its log is empty, so that a record of one page fits into the first third
+pub is_ready : (state : State) → plan state.layout.sectors state.layout.third state.layout.pages ≡ Ok state.layout → IsFreshLog state.layout state.log → state.serial.count ≡ 1 → IsReady state
+is_ready state planned fresh first =
+    let log = state.log in
+    let least = (planned_bounds state.layout planned).third_least in
     let at : log.head.at ≡ 0 = ap (λ (x : Head). x.at) fresh.head in
-    let shape : log.layout.third ≡ l.third = ap (λ (x : Shape). x.third) fresh.layout in
-    let end : log.head.end ≡ log.layout.third = ap (λ (x : Head). x.end) fresh.head ∙ sym shape in
-    (inl (omega (arith, at, end, shape, third)), inr (next_end (nat_le (log.head.at + record_len 96) log.head.end) log.head log.layout.third end (omega (arith, shape, third))))
-
--- so it isn't worn out
-pub is_fresh : (state : State) → plan state.layout.sectors state.layout.third state.layout.pages ≡ Ok state.layout → IsFreshLog state.layout state.log → state.serial.count ≡ 1 → IsWornOut state → ⊥
-is_fresh state planned fresh first (inl serials) = omega (arith, serials, first)
-is_fresh state planned fresh first (inr (inl numbers)) = let number : state.log.head.number ≡ 1 = ap (λ (x : Head). x.number) fresh.head in omega (arith, numbers, number)
-is_fresh state planned fresh first (inr (inr none)) = none (fits_two state.layout state.log (planned_bounds state.layout planned).third_least fresh)
+    let end : log.head.end ≡ state.layout.third = ap (λ (x : Head). x.end) fresh.head in
+    record { fresh = is_fresh state fresh first; room = here_before log 1 (omega (arith, at, end, least)) }

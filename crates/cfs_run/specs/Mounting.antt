@@ -1,5 +1,5 @@
 -- What a command finds when it mounts its image.
-use Rattle.std.specs.Prelude.{◌≡◌, ◌⊎◌, ⊤, ℕ, List, [], ◌∷◌, ◌++◌, Result, Ok, Err}
+use Rattle.std.specs.Prelude.{◌≡◌, ◌⊎◌, ⊤, true, ℕ, List, [], ◌∷◌, ◌++◌, Result, Ok, Err}
 use Rattle.sector_disk.specs.declared.machine.Attach.TheVariants.{Old}
 use Rattle.sector_disk.specs.Image.{IsCalm}
 use Rattle.sector_disk.specs.Machine.{Asked, Ledger, Moment}
@@ -12,6 +12,9 @@ use Rattle.mount_recover.specs.declared.fault.MountFault.{MountFault}
 use Rattle.mount_recover.specs.declared.fault.MountFault.TheVariants.{NotVolume, Device, Memory, Lost, NoAnchor, Unsound, WornOut}
 use Rattle.fsd_texts.specs.declared.fault.Fault.{Fault}
 use Rattle.fsd_texts.specs.declared.fault.Fault.TheVariants as Ends
+use Rattle.group_commit.specs.Room.{goes_before}
+use Rattle.fsd_volume.specs.Put.{IsWornOut}
+use Rattle.fsd_volume.specs.State.{State}
 use Rattle.cfs_run.specs.declared.request.Request.{Request}
 use Rattle.cfs_run.specs.declared.request.Request.TheVariants.{Put, Get}
 
@@ -23,6 +26,11 @@ fault_of (Lost a b) = Ends.Lost a b
 fault_of NoAnchor = Ends.NoAnchor
 fault_of (Unsound s) = Ends.Unsound s
 fault_of WornOut = Ends.WornOut
+
+-- The volume has serials and numbers left, and a record of one page goes before its log's first third comes again.
+pub record IsReady (state : State) : Type 0 where
+  pub fresh : IsWornOut state → ⊥
+  pub room : goes_before state.log 1 ≡ true
 
 -- the fault is not one of the input
 abbrev pub IsMountFault : Fault → Type 0

@@ -4,12 +4,11 @@ ghost use Rattle.sector_disk.specs.Image.{IsCalm};
 ghost use Rattle.sector_disk.specs.Machine.{LeavesOnly, Trusts};
 ghost use Rattle.cfs_run.specs.Answer.{CausesFault};
 ghost use Rattle.cfs_run.specs.Formatting.{UsesAttach};
-ghost use Rattle.cfs_run.specs.Mounting.{AsksMount, IfMount, IsMountFault, OpensDisk, fault_of};
+ghost use Rattle.cfs_run.specs.Mounting.{AsksMount, IfMount, IsMountFault, IsReady, OpensDisk, fault_of};
 ghost use Rattle.cfs_run.specs.Working.{Opens};
 ghost use Rattle.mount_recover.specs.Lost.{AreCopiesOn, LostIn};
 ghost use Rattle.mount_recover.specs.Replay.{SameBehind};
 ghost use Rattle.fsd_volume.specs.Mount.{IsFoundOn, MountRefused};
-ghost use Rattle.fsd_volume.specs.Put.{IsWornOut};
 ghost use Rattle.fsd_volume.specs.State.{IsTable};
 
 use fsd_texts::Fault;
@@ -44,7 +43,7 @@ pub(crate) fn open<M: Machine>(alloc: Global, path: &str, m: &mut M) -> Result<V
     ensures room { IfOk result (λ volume. volume.layout.sectors ≤ (M.report m.new).sectors) }
     ensures idle { IfOk result (λ volume. volume.table.dirty ≡ []) }
     ensures first { IfOk result (λ volume. volume.serial.count ≡ 1) }
-    ensures fresh { IfOk result (λ volume. IsWornOut volume → ⊥) }
+    ensures ready { IfOk result IsReady }
     ensures sound { IfOk result (λ volume. IsTable volume.layout volume.entries) }
     ensures found { IfOk result (λ volume. M.honest m.new → IsCalm (M.now m.old).windows → IsCalm (M.now m.new).windows → IsFoundOn (M.report m.new).sectors (M.now m.old).image volume) }
     ensures behind { IfOk result (λ volume. M.honest m.new → IsCalm (M.now m.old).windows → IsCalm (M.now m.new).windows → SameBehind volume.layout (M.now m.old).image (M.now m.new).image) }

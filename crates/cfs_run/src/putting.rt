@@ -9,7 +9,6 @@ ghost use Rattle.fsd_files.specs.Volume.{Volume as Mounted};
 ghost use Rattle.fsd_sound.specs.Sound.{EndIn};
 ghost use Rattle.mount_recover.specs.Lost.{AreCopiesOn, LostIn};
 ghost use Rattle.fsd_volume.specs.Mount.{IsMountable, MountRefused};
-ghost use Rattle.fsd_volume.specs.Put.{IsWornOut};
 ghost use Rattle.fsd_volume.specs.State.{IsMounted};
 ghost use Rattle.cfs_run.specs.declared.answer.Answer.TheVariants as Said;
 ghost use Rattle.cfs_run.specs.declared.input.TheConstants.{MOST_INPUT};
@@ -19,7 +18,7 @@ ghost use Rattle.cfs_run.specs.Ends.{IfMountLine, IsMadeLine, IsPutLine, Never, 
 ghost use Rattle.cfs_run.specs.Formatting.{AsksLine, UsesAttach};
 ghost use Rattle.cfs_run.specs.Input.{UsesCounts};
 ghost use Rattle.cfs_run.specs.Leaves.{put_turn, reply_turn};
-ghost use Rattle.cfs_run.specs.Mounting.{OpensDisk, mount_asks};
+ghost use Rattle.cfs_run.specs.Mounting.{IsReady, OpensDisk, mount_asks};
 ghost use Rattle.cfs_run.specs.Working.{Carries, Works};
 
 use crate::input::{InputFault, MOST_INPUT, read_input};
@@ -63,8 +62,8 @@ fn put_input<M: Machine>(alloc: Global, volume: Volume, name: &FileName, m: &mut
     ensures takes { M.tells m.new → TakesFor result (M.ledger m.old).input (M.ledger m.new).input }
     ensures quiet { M.honest m.new → (M.now m.new).said ≡ (M.now m.old).said }
     ensures windows { M.honest m.new → (M.now m.new).windows ≡ (M.now m.old).windows }
-    ensures mounted { (IsWornOut volume → ⊥) → IfMountLine Never result }
-    ensures works { M.honest m.new → IsCalm (M.now m.old).windows → (IsWornOut volume → ⊥) → (v : Mounted) (windows : List WeakRun) (h : List Change) (f : ℕ) → EndIn (M.now m.old).windows windows
+    ensures mounted { IsReady volume → IfMountLine Never result }
+    ensures works { M.honest m.new → IsCalm (M.now m.old).windows → IsReady volume → (v : Mounted) (windows : List WeakRun) (h : List Change) (f : ℕ) → EndIn (M.now m.old).windows windows
         → IsMounted volume v windows h f (M.now m.old).image
         → Works volume.layout windows h f (put_turn v name.now (M.ledger m.old).input) (LeavesOnly M.moment M.left_since m.old m.new) (M.now m.old) (M.now m.new) (Said.Line result) }
 {
@@ -87,8 +86,8 @@ fn put_bytes<M: Machine>(volume: Volume, name: &FileName, bytes: &[u8], m: &mut 
     ensures ledger { M.tells m.new → OnlyWrites (M.ledger m.old) (M.ledger m.new) }
     ensures quiet { M.honest m.new → (M.now m.new).said ≡ (M.now m.old).said }
     ensures windows { M.honest m.new → (M.now m.new).windows ≡ (M.now m.old).windows }
-    ensures mounted { (IsWornOut volume → ⊥) → IfMountLine Never result }
-    ensures works { M.honest m.new → IsCalm (M.now m.old).windows → (IsWornOut volume → ⊥) → (v : Mounted) (windows : List WeakRun) (h : List Change) (f : ℕ) → EndIn (M.now m.old).windows windows
+    ensures mounted { IsReady volume → IfMountLine Never result }
+    ensures works { M.honest m.new → IsCalm (M.now m.old).windows → IsReady volume → (v : Mounted) (windows : List WeakRun) (h : List Change) (f : ℕ) → EndIn (M.now m.old).windows windows
         → IsMounted volume v windows h f (M.now m.old).image
         → Works volume.layout windows h f (reply_turn name.now bytes.now (put_outcome v name.now bytes.now None).0) (LeavesOnly M.moment M.left_since m.old m.new) (M.now m.old) (M.now m.new) (Said.Line result) }
 {

@@ -3,11 +3,11 @@ use Rattle.fsd_texts.specs.declared.fault.Fault.{Fault}
 use Rattle.fsd_texts.specs.declared.fault.Fault.TheVariants as Ends
 use Rattle.cfs_run.specs.Working.{IsFailure}
 use Rattle.cfs_run.proofs.MountEnds.{opened_behind, opened_lost, opened_on, opened_refused}
-use Rattle.cfs_run.proofs.OpenLaws.{excused, found_calm, found_entries, found_image, found_sound, found_told, is_fresh, not_opened, opened, unopened}
+use Rattle.cfs_run.proofs.OpenLaws.{excused, found_calm, found_entries, found_image, found_sound, found_told, is_ready, not_opened, opened, unopened}
 use Rattle.cfs_run.proofs.mounting.open.Goals as goal
 
-pub returns-in-Ok-mount-clause-fresh : goal.returns-in-Ok-mount-clause-fresh
-returns-in-Ok-mount-clause-fresh g c = is_fresh c.in-Ok-mount.volume c.in-Ok-mount.ensures.sound.planned c.in-Ok-mount.ensures.fresh c.in-Ok-mount.ensures.first
+pub returns-in-Ok-mount-clause-ready : goal.returns-in-Ok-mount-clause-ready
+returns-in-Ok-mount-clause-ready g c = is_ready c.in-Ok-mount.volume c.in-Ok-mount.ensures.sound.planned c.in-Ok-mount.ensures.fresh c.in-Ok-mount.ensures.first
 
 pub returns-in-Ok-mount-clause-opens : goal.returns-in-Ok-mount-clause-opens
 returns-in-Ok-mount-clause-opens g c h calm after l windows history f planned ends sound =

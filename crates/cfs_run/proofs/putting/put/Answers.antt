@@ -27,7 +27,7 @@ returns-in-Ok-clause-carries g c h calm last l windows history f planned ends so
     let runs = windows ++ opens.ends.0.run ∷ [] in
     let input = (c.in-Ok.ensures.asks (g.met.M.Machine.honest_tells c.open.new.m h1)).input in
     let works = subst (λ (k : Layout). Works k runs (take opens.count history) opens.count (put_turn v c.args.name.now (M.ledger c.open.new.m).input) (LeavesOnly M.moment M.left_since c.open.new.m c.put_input.new.m) mid new (Said.Line c.put_input.result))
-    opens.ends.0.layout (c.put_input.ensures.works h still c.in-Ok.ensures.fresh v runs (take opens.count history) opens.count (ends_now mid.windows windows opens.ends.0.run opens.ends.0.settled) opens.ends.0.mounted) in
+    opens.ends.0.layout (c.put_input.ensures.works h still c.in-Ok.ensures.ready v runs (take opens.count history) opens.count (ends_now mid.windows windows opens.ends.0.run opens.ends.0.settled) opens.ends.0.mounted) in
     carried M.moment M.left_since (Words.Put c.args.name.now) (M.ledger c.args.m.now).input l windows history f (put_turn v c.args.name.now (M.ledger c.open.new.m).input) c.args.m.now c.open.new.m c.put_input.new.m old mid new state
     (Said.Line c.put_input.result) opens (c.in-Ok.ensures.quiet h1) c.in-Ok.ensures.first (ap (put_turn v c.args.name.now) input) works
 
@@ -51,9 +51,9 @@ returns-in-Err-clause-accepted g c h calm after =
 pub returns-in-Ok-clause-refused : goal.returns-in-Ok-clause-refused
 returns-in-Ok-clause-refused g c h calm last =
     let M = g.M.Machine in
-    never_refused (MountRefused (M.report c.put_input.new.m).sectors (M.now c.args.m.now).image) c.put_input.result (c.put_input.ensures.mounted c.in-Ok.ensures.fresh)
+    never_refused (MountRefused (M.report c.put_input.new.m).sectors (M.now c.args.m.now).image) c.put_input.result (c.put_input.ensures.mounted c.in-Ok.ensures.ready)
 
 pub returns-in-Ok-clause-lost : goal.returns-in-Ok-clause-lost
 returns-in-Ok-clause-lost g c h =
     let M = g.M.Machine in
-    never_refused (LostIn (AreCopiesOn (M.report c.put_input.new.m).sectors (M.now c.args.m.now)) (M.now c.put_input.new.m).image) c.put_input.result (c.put_input.ensures.mounted c.in-Ok.ensures.fresh)
+    never_refused (LostIn (AreCopiesOn (M.report c.put_input.new.m).sectors (M.now c.args.m.now)) (M.now c.put_input.new.m).image) c.put_input.result (c.put_input.ensures.mounted c.in-Ok.ensures.ready)

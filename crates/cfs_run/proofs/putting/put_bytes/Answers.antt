@@ -1,4 +1,4 @@
-use Rattle.std.proofs.Common.{◌+◌, ◌++◌, ◌∷◌, [], ℕ, List, ap, None, subst, sym, ◌∙◌}
+use Rattle.std.proofs.Common.{◌≡◌, true, ◌+◌, ◌++◌, ◌∷◌, [], ℕ, List, ap, None, subst, sym, ◌∙◌}
 use Rattle.volume_layout.specs.declared.layout.Layout.{Layout}
 use Rattle.sector_disk.specs.Image.{Windows}
 use Rattle.sector_disk.specs.Machine.{LeavesOnly}
@@ -6,23 +6,25 @@ use Rattle.fsd_files.specs.Files.{Change}
 use Rattle.fsd_sound.specs.Sound.{EndIn}
 use Rattle.fsd_volume.specs.Forcing.{Forces}
 use Rattle.fsd_volume.specs.State.{State}
-use Rattle.cfs_run.proofs.MountEnds.{put_refused}
+use Rattle.log_thirds.specs.LogValue.{LogValue}
+use Rattle.group_commit.specs.Room.{goes_before}
+use Rattle.cfs_run.proofs.MountEnds.{put_refused, force_refused}
 use Rattle.cfs_run.proofs.PutLaws.{keeps, made_works, refused_works, unforced_works}
 use Rattle.cfs_run.proofs.putting.put_bytes.Goals as goal
 
 pub returns-in-Err-clause-mounted : goal.returns-in-Err-clause-mounted
-returns-in-Err-clause-mounted g c fresh = put_refused c.in-Err.why c.line_of.result c.args.volume c.put.new.self c.args.name.now c.args.bytes.now fresh c.in-Err.ensures.answers c.line_of.ensures
+returns-in-Err-clause-mounted g c ready = put_refused c.in-Err.why c.line_of.result c.args.volume c.put.new.self c.args.name.now c.args.bytes.now ready.fresh c.in-Err.ensures.answers c.line_of.ensures
 
 pub returns-in-Err-clause-works : goal.returns-in-Err-clause-works
-returns-in-Err-clause-works g c h calm fresh v windows history f ends mounted =
+returns-in-Err-clause-works g c h calm ready v windows history f ends mounted =
     let M = g.M.Machine in
     let moments = c.put.ensures.any_moment h calm v windows history f ends mounted in
     let on = c.in-Err.ensures.stands h calm v windows history f ends mounted in
     refused_works M.moment M.left_since c.args.volume v c.args.name.now c.args.bytes.now windows history f c.args.m.now c.put.new.m (M.now c.args.m.now) (M.now c.put.new.m) moments
-    (g.met.M.Machine.counts_now c.put.new.m (M.moment c.args.m.now) h moments.later) c.in-Err.why on.after c.line_of.result fresh on.says c.line_of.ensures
+    (g.met.M.Machine.counts_now c.put.new.m (M.moment c.args.m.now) h moments.later) c.in-Err.why on.after c.line_of.result ready.fresh on.says c.line_of.ensures
 
 pub returns-in-Ok-force-clause-works : goal.returns-in-Ok-force-clause-works
-returns-in-Ok-force-clause-works g c h calm fresh v windows history f ends mounted =
+returns-in-Ok-force-clause-works g c h calm ready v windows history f ends mounted =
     let M = g.M.Machine in
     let h1 = c.force.ensures.trust.honest h in
     let old = M.now c.args.m.now in
@@ -40,8 +42,14 @@ returns-in-Ok-force-clause-works g c h calm fresh v windows history f ends mount
     (g.met.M.Machine.counts_now c.put.new.m (M.moment c.args.m.now) h1 moments.later) c.in-Ok.key on.says.0.0 on.says.0.1 c.force.new.m (M.now c.force.new.m) forces (1 + c.div_ceil.result) c.force.new.self _
     (count ∙ sym (ap (λ (n : ℕ). 1 + n) c.div_ceil.ensures)) mounted layout (c.in-Ok-force.ensures.done h on.after windows (history ++ change) f within on.mounted) (c.force.ensures.windows h) (c.force.ensures.quiet h)
 
+pub returns-clause-mounted : goal.returns-clause-mounted
+returns-clause-mounted g c ready =
+    let M = g.M.Machine in
+    let room : goes_before c.put.new.self.log 1 ≡ true = ap (λ (log : LogValue). goes_before log 1) c.put.ensures.log ∙ ready.room in
+    force_refused c.put.new.self.log (M.report c.put.new.m) (M.report c.force.new.m) room c.in-Err-force.why c.in-Err-force.ensures.fault c.line_of-in-Err-force.result c.line_of-in-Err-force.ensures
+
 pub returns-clause-works : goal.returns-clause-works
-returns-clause-works g c h calm fresh v windows history f ends mounted =
+returns-clause-works g c h calm ready v windows history f ends mounted =
     let M = g.M.Machine in
     let h1 = c.force.ensures.trust.honest h in
     let old = M.now c.args.m.now in
@@ -56,4 +64,4 @@ returns-clause-works g c h calm fresh v windows history f ends mounted =
     let left = subst (λ (l : Layout). Forces l windows (history ++ change) f mid (M.now c.force.new.m)) c.put.ensures.layout (c.in-Err-force.ensures.failed h on.after windows (history ++ change) f within on.mounted) in
     unforced_works M.moment M.left_since c.args.volume v c.args.name.now c.args.bytes.now windows history f c.args.m.now c.put.new.m old mid moments
     (g.met.M.Machine.counts_now c.put.new.m (M.moment c.args.m.now) h1 moments.later) c.in-Ok.key on.says.0.0 on.says.0.1 c.force.new.m (M.now c.force.new.m) forces c.in-Err-force.why (M.report c.force.new.m).fault_place
-    c.line_of-in-Err-force.result c.in-Err-force.ensures.fault.told c.line_of-in-Err-force.ensures left
+    c.line_of-in-Err-force.result (c.in-Err-force.ensures.never_lost h on.after windows (history ++ change) f within on.mounted).told c.line_of-in-Err-force.ensures left
