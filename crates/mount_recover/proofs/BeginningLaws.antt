@@ -1,6 +1,6 @@
 -- A mount's end: the anchors of the next epoch are written, and it settles.
 use Rattle.std.proofs.Common.{◌≡◌, ◌⊎◌, inl, inr, ⊎_elim, ℕ, zero, suc, ◌+◌, ◌*◌, ◌^◌, ◌<◌, ◌≤◌, Bool, true, false, cond, List, [], ◌∷◌, ◌++◌, length, get_or, Option, Some, None, refl, sym, ap, subst, ◌∙◌, arith}
-use Rattle.std.specs.Prelude.{IsSome, IfSome, option_and_then}
+use Rattle.std.specs.Prelude.{IsSome, IfSome, IsTrue, option_and_then}
 use Rattle.std.proofs.lemmas.List.{length-set}
 use Rattle.std.proofs.lemmas.Bool.Decides.{nat_tests}
 use Rattle.std.proofs.lemmas.List.FromFn.{length-range_with_len}
@@ -13,13 +13,13 @@ use Rattle.fsd_formats.specs.Record.{Stamp}
 use Rattle.sector_disk.specs.declared.sector.Sector.{Sector}
 use Rattle.sector_disk.specs.declared.sector.Sector.TheVariants.{Whole}
 use Rattle.sector_disk.specs.declared.sector.WeakRun.{WeakRun}
-use Rattle.sector_disk.specs.Image.{Windows, sector_at, with_sector, stand, IsWorn, AreShort, open_damage}
+use Rattle.sector_disk.specs.Image.{Windows, sector_at, with_sector, stand, IsWorn, AreShort, open_damage, settled}
 use Rattle.sector_disk.specs.Machine.{Moment, Holds, Wears, Before, Settles}
 use Rattle.sector_disk.proofs.Calm.{stand_one}
 use Rattle.sector_disk.proofs.Holding.{holds_wears}
 use Rattle.sector_disk.proofs.Wear.{worn_trans, worn_more, stand_other}
 use Rattle.fsd_log.specs.Scan.{is_newer, newer_of, start}
-use Rattle.fsd_files.specs.Disk.{Image, SectorWorn, bytes_of}
+use Rattle.fsd_files.specs.Disk.{Image, SectorWorn, Has, bytes_of}
 use Rattle.fsd_sound.specs.Anchors.{anchor_at, EachAnchor, fresh_anchor}
 use Rattle.fsd_sound.specs.Shown.{newest, records_by, all_pages, shown_by}
 use Rattle.fsd_sound.specs.Sound.{EachStamp, ShowsPages, weak_of}
@@ -35,8 +35,10 @@ use Rattle.fsd_sound.proofs.LaidLaws.{has_worn, own_worn}
 use Rattle.fsd_sound.proofs.RenewLaws.{renewed_shows}
 use Rattle.fsd_sound.proofs.SettleLaws.{open_in_next, settles}
 use Rattle.mount_recover.specs.Mending.{KeepsFrom, IsCompleted, IsMended, Stays, Settled, Begins}
+use Rattle.mount_recover.specs.Recover.{HasAnchors}
 use Rattle.mount_recover.specs.Replay.{IsReplayed}
 use Rattle.mount_recover.proofs.KeepsLaws.{sector_on}
+use Rattle.mount_recover.proofs.MountLaws.{open_settled}
 use Rattle.mount_recover.proofs.MendingLaws.{narrow, over_two}
 use Rattle.fsd_sound.proofs.AnchorFacts.{newer_one}
 use Rattle.fsd_sound.proofs.EachLaws.{each_size}
@@ -130,6 +132,32 @@ pub data_renewed : (anchor : Anchor) (now mid new : Moment) → Holds now (with_
 data_renewed anchor now mid new holds done =
     let last : IsWorn (open_damage now.windows) mid.image new.image = subst (λ (w : Windows). IsWorn (open_damage w) mid.image new.image) holds.windows done in
     data_over (anchor_bytes anchor) now new 1 1 (omega arith) (omega arith) (worn_trans (open_damage now.windows) _ mid.image new.image holds.worn last)
+
+-- they stand then, but for what the run that is settled may wear
+pub anchors_stand : (epoch : ℕ) (now mid new : Moment) → 12 < length now.image → Holds now (with_anchors (fresh_anchor epoch) now.image 1 1) mid → IsWorn (open_damage mid.windows) mid.image new.image
+    → IsSome now.windows.next → new.windows ≡ settled now.windows.present now.windows.next → HasAnchors (fresh_anchor epoch) new
+anchors_stand epoch now mid new room holds done some is = (has 8 first, has 12 copy)
+  where
+    bytes_long : length (anchor_bytes (fresh_anchor epoch)) ≡ 512
+    bytes_long = refl
+
+    both : stand (stand now.image 8 (anchor_bytes (fresh_anchor epoch)) 1) 12 (anchor_bytes (fresh_anchor epoch)) 1 ≡ with_sector (with_sector now.image 8 (anchor_bytes (fresh_anchor epoch))) 12 (anchor_bytes (fresh_anchor epoch))
+    both = ap (λ (i : Image). stand i 12 (anchor_bytes (fresh_anchor epoch)) 1) (stand_one now.image 8 (anchor_bytes (fresh_anchor epoch)) bytes_long) ∙ stand_one (with_sector now.image 8 (anchor_bytes (fresh_anchor epoch))) 12 (anchor_bytes (fresh_anchor epoch)) bytes_long
+
+    first : sector_at (stand (stand now.image 8 (anchor_bytes (fresh_anchor epoch)) 1) 12 (anchor_bytes (fresh_anchor epoch)) 1) 8 ≡ Whole (anchor_bytes (fresh_anchor epoch))
+    first =
+        ap (λ (i : Image). sector_at i 8) both ∙ with_other (with_sector now.image 8 (anchor_bytes (fresh_anchor epoch))) 12 8 (anchor_bytes (fresh_anchor epoch)) (λ e. omega (arith, e))
+        ∙ with_same now.image 8 (anchor_bytes (fresh_anchor epoch)) (omega (arith, room))
+
+    copy : sector_at (stand (stand now.image 8 (anchor_bytes (fresh_anchor epoch)) 1) 12 (anchor_bytes (fresh_anchor epoch)) 1) 12 ≡ Whole (anchor_bytes (fresh_anchor epoch))
+    copy = ap (λ (i : Image). sector_at i 12) both ∙ with_same (with_sector now.image 8 (anchor_bytes (fresh_anchor epoch))) 12 (anchor_bytes (fresh_anchor epoch)) (omega (arith, room, length-set now.image 8 (Whole (anchor_bytes (fresh_anchor epoch)))))
+
+    worn : IsWorn (open_damage now.windows) (stand (stand now.image 8 (anchor_bytes (fresh_anchor epoch)) 1) 12 (anchor_bytes (fresh_anchor epoch)) 1) new.image
+    worn = worn_trans (open_damage now.windows) _ mid.image new.image holds.worn (subst (λ (w : Windows). IsWorn (open_damage w) mid.image new.image) holds.windows done)
+
+    has : (s : ℕ) → sector_at (stand (stand now.image 8 (anchor_bytes (fresh_anchor epoch)) 1) 12 (anchor_bytes (fresh_anchor epoch)) 1) s ≡ Whole (anchor_bytes (fresh_anchor epoch)) → Has (open_damage new.windows) new.image (anchor_bytes (fresh_anchor epoch)) s
+    has s at = ⊎_elim (λ same. inl (same ∙ at))
+        (λ hurt. inr (subst (λ (w : Windows). IsTrue (open_damage w s)) (sym is) (open_settled now.windows.present now.windows.next some s hurt.0), hurt.1)) (worn.each s)
 
 -- ---- the end
 

@@ -274,7 +274,7 @@ worn_more_at b c x y more (inl same) = inl same
 worn_more_at b c x y more (inr hurt) = inr (more hurt.0, hurt.1)
 
 -- what both windows may wear, the named one may, once it is settled
-open_settled : (present next : Option WeakRun) → IsSome next → (s : ℕ) → IsTrue (in_window present next s) → IsTrue (open_damage (settled present next) s)
+pub open_settled : (present next : Option WeakRun) → IsSome next → (s : ℕ) → IsTrue (in_window present next s) → IsTrue (open_damage (settled present next) s)
 open_settled present None some s hurt = absurd (cc some)
 open_settled None (Some run) some s hurt = hurt
 open_settled (Some w) (Some run) some s hurt = (and_parts (in_run w s) (in_run run s) hurt).1

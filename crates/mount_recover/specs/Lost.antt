@@ -1,10 +1,10 @@
 -- What a mount loses: a page both of whose copies are damaged.
-use Rattle.std.specs.Prelude.{◌≡◌, ◌⊎◌, ◌<◌, ⊤, ℕ, Some, None}
+use Rattle.std.specs.Prelude.{◌≡◌, ◌⊎◌, ◌+◌, ◌<◌, ◌≤◌, ⊤, ℕ, Some, None}
 use Rattle.volume_layout.specs.declared.layout.Layout.{Layout}
 use Rattle.fsd_formats.specs.declared.anchor.Anchor.{Anchor}
 use Rattle.sector_disk.specs.Damage.{AreLost}
 use Rattle.sector_disk.specs.Image.{IsCalm}
-use Rattle.sector_disk.specs.Machine.{Moment, Wears}
+use Rattle.sector_disk.specs.Machine.{Ledger, Moment, Wears}
 use Rattle.fsd_files.specs.Disk.{Image}
 use Rattle.fsd_sound.specs.Homes.{AreHomesOf, home_of}
 use Rattle.fsd_sound.specs.Roots.{root_at, root_of}
@@ -14,7 +14,7 @@ use Rattle.log_thirds.specs.LogValue.{LogValue}
 use Rattle.log_thirds.specs.Slots.{LieInRecord, slot_of}
 use Rattle.mount_recover.specs.declared.fault.MountFault.{MountFault}
 use Rattle.mount_recover.specs.declared.fault.MountFault.TheVariants.{Lost}
-use Rattle.mount_recover.specs.Recover.{IsVolume}
+use Rattle.mount_recover.specs.Recover.{IsVolume, writes_most}
 use Rattle.mount_recover.specs.Replay.{KeepsMap}
 
 -- this is a root of the image that counts, the first or the second
@@ -24,6 +24,10 @@ HasRoot sectors i l = (root_at sectors i 0 ≡ Some l) ⊎ (root_at sectors i 4 
 -- Nothing was written; or there is a root of the image by whose layout the map and the data stay, but for wear.
 abbrev pub LeavesMap : ℕ → Moment → Moment → Type 0
 LeavesMap sectors old new = Wears old new ⊎ ((l : Layout) × HasRoot sectors old.image l × KeepsMap l old new)
+
+-- Nothing was written; or there is a root of the image by whose layout no more was written than a mount writes.
+abbrev pub WritesMost : ℕ → Moment → (before after : Ledger) → Type 0
+WritesMost sectors old before after = (after.written ≡ before.written) ⊎ ((l : Layout) × HasRoot sectors old.image l × (after.written ≤ before.written + writes_most l.pages))
 
 -- ---- in the log
 

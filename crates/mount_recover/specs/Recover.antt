@@ -1,13 +1,14 @@
 -- What a mount finds of an image, why it is refused, and what it leaves.
-use Rattle.std.specs.Prelude.{◌≡◌, ⊤, ℕ, ◌+◌, ◌-◌, ◌^◌, ◌<◌, ◌≤◌, List, [], Some, None, IsSome, Ok}
+use Rattle.std.specs.Prelude.{◌≡◌, ⊤, ℕ, ◌+◌, ◌*◌, ◌-◌, ◌^◌, ◌<◌, ◌≤◌, List, [], Some, None, IsSome, Ok}
 use Rattle.volume_layout.specs.declared.layout.Layout.{Layout}
 use Rattle.volume_layout.specs.Layout.{plan}
 use Rattle.fsd_formats.specs.declared.anchor.Anchor.{Anchor}
+use Rattle.fsd_formats.specs.Anchors.{anchor_bytes}
 use Rattle.sector_disk.specs.declared.sector.WeakRun.{WeakRun}
 use Rattle.sector_disk.specs.Image.{IsWorn, open_damage}
 use Rattle.sector_disk.specs.Machine.{Report, Moment, DeviceFault, Wears}
 use Rattle.fsd_log.specs.Scan.{start}
-use Rattle.fsd_files.specs.Disk.{Image}
+use Rattle.fsd_files.specs.Disk.{Image, Has}
 use Rattle.fsd_sound.specs.Roots.{root_of}
 use Rattle.fsd_sound.specs.Anchors.{anchor_of, fresh_anchor}
 use Rattle.fsd_sound.specs.Sound.{EndIn, ShowsPages}
@@ -73,6 +74,15 @@ pub record IsRefusedFor (sectors : ℕ) (fault : MountFault) (old : Moment) : Ty
   pub seen : Image
   pub from : IsWorn (open_damage old.windows) old.image seen
   pub why : RefusedFor sectors seen fault
+
+-- the anchor stands at both of its places, or is damaged where it may be
+abbrev pub HasAnchors : Anchor → Moment → Type 0
+HasAnchors a now = Has (open_damage now.windows) now.image (anchor_bytes a) 8 × Has (open_damage now.windows) now.image (anchor_bytes a) 12
+
+-- The sectors that a mount of so many pages writes at most: the copies of 96 images and of their end, two homes of each page,
+-- the roots and the anchors.
+abbrev pub writes_most : ℕ → ℕ
+writes_most pages = 97 + 2 * pages + 2 + 2
 
 -- what is refused before anything is written stays as it was
 abbrev pub LeavesAll : MountFault → Moment → Moment → Type 0

@@ -1,5 +1,5 @@
 // A mount up to `healing`: the last record is completed before anything is written behind the log.
-ghost use Rattle.std.specs.Prelude.{◌≡◌, ◌≤◌, ℕ, List, Ok, IsSome, IfErr, OnOk, OnErr};
+ghost use Rattle.std.specs.Prelude.{◌≡◌, ◌+◌, ◌≤◌, ℕ, List, Ok, IsSome, IfErr, OnOk, OnErr};
 ghost use Rattle.volume_layout.specs.Layout.{plan};
 ghost use Rattle.volume_layout.specs.declared.layout.Layout.{Layout as Plan};
 ghost use Rattle.sector_disk.specs.declared.sector.WeakRun.{WeakRun as Run};
@@ -21,6 +21,7 @@ pub(crate) fn complete<M: Machine>(m: &mut M, log: &Log) -> Result<(), Failed>
     ensures uses { UsesDisk (M.report m.old) (M.report m.new) }
     ensures trust { Trusts (M.tells m.old) (M.tells m.new) (M.honest m.old) (M.honest m.new) }
     ensures ledger { M.tells m.new → OnlyWrites (M.ledger m.old) (M.ledger m.new) }
+    ensures most { M.tells m.new → (M.ledger m.new).written ≤ (M.ledger m.old).written + 97 }
     ensures quiet { M.honest m.new → (M.now m.new).said ≡ (M.now m.old).said }
     ensures present { M.honest m.new → (M.now m.new).windows.present ≡ (M.now m.old).windows.present }
     ensures named { OnOk result (M.honest m.new → IsSome (M.now m.new).windows.next) }

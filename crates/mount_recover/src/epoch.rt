@@ -7,6 +7,7 @@ ghost use Rattle.sector_disk.specs.Image.{settled};
 ghost use Rattle.sector_disk.specs.Machine.{Moment as At, DeviceFault, UsesDisk, Trusts, OnlyWrites, LeavesOnly};
 ghost use Rattle.log_thirds.specs.Anchoring.{in_next_epoch};
 ghost use Rattle.mount_recover.specs.Mending.{IsCompleted, IsMended, Begins, KeepsFrom};
+ghost use Rattle.mount_recover.specs.Recover.{HasAnchors};
 ghost use Rattle.mount_recover.specs.Replay.{IsReplayed};
 
 use log_thirds::Log;
@@ -22,12 +23,16 @@ pub(crate) fn begin_epoch<M: Machine>(m: &mut M, log: &mut Log) -> Result<(), Fa
     ensures uses { UsesDisk (M.report m.old) (M.report m.new) }
     ensures trust { Trusts (M.tells m.old) (M.tells m.new) (M.honest m.old) (M.honest m.new) }
     ensures ledger { M.tells m.new → OnlyWrites (M.ledger m.old) (M.ledger m.new) }
+    ensures most { M.tells m.new → (M.ledger m.new).written ≤ (M.ledger m.old).written + 2 }
     ensures quiet { M.honest m.new → (M.now m.new).said ≡ (M.now m.old).said }
     ensures windows { OnOk result (M.honest m.new → (M.now m.new).windows ≡ settled (M.now m.old).windows.present (M.now m.old).windows.next) }
     ensures windows_err { OnErr result (M.honest m.new → (M.now m.new).windows ≡ (M.now m.old).windows) }
     ensures past { OnOk result (log.new ≡ in_next_epoch log.old) }
 
     ensures body { M.honest m.new → KeepsFrom 16 (M.now m.old) (M.now m.new) }
+
+    // The anchors are the log's own, whatever the image was.
+    ensures anchors { OnOk result (M.honest m.new → 12 < (M.report m.old).sectors → IsSome (M.now m.old).windows.next → HasAnchors log.new.anchor (M.now m.new)) }
 
     // The image shows the same pages at each moment.
     ensures any_moment { (l : Plan) (windows : List Run) (choices : List (List (List ℕ))) (first : At) (c : IsCompleted l windows choices log.old first) → M.honest m.new →

@@ -1,6 +1,6 @@
 // A mount from `healing` on: the pages that the log has are written home, and of all else that stands twice what is damaged is
 // written from its twin.
-ghost use Rattle.std.specs.Prelude.{◌≡◌, ◌+◌, ◌<◌, ◌≤◌, ℕ, List, Ok, Some, None, IfErr, OnOk};
+ghost use Rattle.std.specs.Prelude.{◌≡◌, ◌+◌, ◌*◌, ◌<◌, ◌≤◌, ℕ, List, Ok, Some, None, IfErr, OnOk};
 ghost use Rattle.volume_layout.specs.Layout.{plan};
 ghost use Rattle.sector_disk.specs.declared.sector.WeakRun.{WeakRun as Run};
 ghost use Rattle.sector_disk.specs.Machine.{Moment as At, DeviceFault, UsesDisk, Trusts, OnlyWrites, LeavesOnly};
@@ -46,6 +46,7 @@ fn home_logged<M: Machine>(
     ensures uses { UsesDisk (M.report m.old) (M.report m.new) }
     ensures trust { Trusts (M.tells m.old) (M.tells m.new) (M.honest m.old) (M.honest m.new) }
     ensures ledger { M.tells m.new → OnlyWrites (M.ledger m.old) (M.ledger m.new) }
+    ensures most { M.tells m.new → (M.ledger m.new).written ≤ (M.ledger m.old).written + 2 }
     ensures keeps { M.honest m.new → Keeps l.now (M.now m.old) (M.now m.new) }
     ensures any_moment { (windows : List Run) (choices : List (List (List ℕ))) (log : LogValue) (first : At) (c : IsCompleted l.now windows choices log first) → M.honest m.new →
         (last_image page (records_by l.now c.clean log.anchor) ≡ None → ⊥) → IsMending l.now windows choices log first c page (M.now m.old) →
@@ -72,6 +73,7 @@ fn heal_home<M: Machine>(m: &mut M, l: &Layout, page: u32) -> Result<(), MountFa
     ensures uses { UsesDisk (M.report m.old) (M.report m.new) }
     ensures trust { Trusts (M.tells m.old) (M.tells m.new) (M.honest m.old) (M.honest m.new) }
     ensures ledger { M.tells m.new → OnlyWrites (M.ledger m.old) (M.ledger m.new) }
+    ensures most { M.tells m.new → (M.ledger m.new).written ≤ (M.ledger m.old).written + 1 }
     ensures keeps { M.honest m.new → Keeps l.now (M.now m.old) (M.now m.new) }
     ensures any_moment { (windows : List Run) (choices : List (List (List ℕ))) (log : LogValue) (first : At) (c : IsCompleted l.now windows choices log first) → M.honest m.new →
         IsMending l.now windows choices log first c page (M.now m.old) →
@@ -102,6 +104,7 @@ fn mend_page<M: Machine>(m: &mut M, l: &Layout, log: &Log, page: u32) -> Result<
     ensures uses { UsesDisk (M.report m.old) (M.report m.new) }
     ensures trust { Trusts (M.tells m.old) (M.tells m.new) (M.honest m.old) (M.honest m.new) }
     ensures ledger { M.tells m.new → OnlyWrites (M.ledger m.old) (M.ledger m.new) }
+    ensures most { M.tells m.new → (M.ledger m.new).written ≤ (M.ledger m.old).written + 2 }
     ensures keeps { M.honest m.new → Keeps l.now (M.now m.old) (M.now m.new) }
     ensures any_moment { (windows : List Run) (choices : List (List (List ℕ))) (first : At) (c : IsCompleted l.now windows choices log.now first) → M.honest m.new →
         IsMending l.now windows choices log.now first c page (M.now m.old) →
@@ -135,6 +138,7 @@ fn mend_pages<M: Machine>(m: &mut M, l: &Layout, log: &Log) -> Result<(), MountF
     ensures uses { UsesDisk (M.report m.old) (M.report m.new) }
     ensures trust { Trusts (M.tells m.old) (M.tells m.new) (M.honest m.old) (M.honest m.new) }
     ensures ledger { M.tells m.new → OnlyWrites (M.ledger m.old) (M.ledger m.new) }
+    ensures most { M.tells m.new → (M.ledger m.new).written ≤ (M.ledger m.old).written + 2 * l.now.pages }
     ensures keeps { M.honest m.new → Keeps l.now (M.now m.old) (M.now m.new) }
     ensures any_moment { (windows : List Run) (choices : List (List (List ℕ))) (c : IsCompleted l.now windows choices log.now (M.now m.old)) → M.honest m.new →
         LeavesOnly M.moment M.left_since m.old m.new (Stays l.now windows choices (M.now m.old)) }
@@ -160,6 +164,7 @@ fn mend_roots<M: Machine>(m: &mut M, l: &Layout) -> Result<(), MountFault>
     ensures uses { UsesDisk (M.report m.old) (M.report m.new) }
     ensures trust { Trusts (M.tells m.old) (M.tells m.new) (M.honest m.old) (M.honest m.new) }
     ensures ledger { M.tells m.new → OnlyWrites (M.ledger m.old) (M.ledger m.new) }
+    ensures most { M.tells m.new → (M.ledger m.new).written ≤ (M.ledger m.old).written + 2 }
     ensures keeps { M.honest m.new → Keeps l.now (M.now m.old) (M.now m.new) }
     ensures any_moment { (windows : List Run) (choices : List (List (List ℕ))) (log : LogValue) (first : At) (c : IsCompleted l.now windows choices log first) → M.honest m.new →
         IsMending l.now windows choices log first c l.now.pages (M.now m.old) →
@@ -189,6 +194,7 @@ pub(crate) fn mend<M: Machine>(m: &mut M, l: &Layout, log: &Log) -> Result<(), M
     ensures uses { UsesDisk (M.report m.old) (M.report m.new) }
     ensures trust { Trusts (M.tells m.old) (M.tells m.new) (M.honest m.old) (M.honest m.new) }
     ensures ledger { M.tells m.new → OnlyWrites (M.ledger m.old) (M.ledger m.new) }
+    ensures most { M.tells m.new → (M.ledger m.new).written ≤ (M.ledger m.old).written + (2 * l.now.pages + 2) }
     ensures keeps { M.honest m.new → Keeps l.now (M.now m.old) (M.now m.new) }
     ensures any_moment { (windows : List Run) (choices : List (List (List ℕ))) (c : IsCompleted l.now windows choices log.now (M.now m.old)) → M.honest m.new →
         LeavesOnly M.moment M.left_since m.old m.new (Stays l.now windows choices (M.now m.old)) }

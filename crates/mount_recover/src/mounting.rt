@@ -1,5 +1,5 @@
 // The mount of a volume, up to its name table.
-ghost use Rattle.std.specs.Prelude.{◌≡◌, ◌<◌, ◌≤◌, ◌^◌, ℕ, List, Some, Ok, IfOk, IfErr, OnErr};
+ghost use Rattle.std.specs.Prelude.{◌≡◌, ◌+◌, ◌<◌, ◌≤◌, ◌^◌, ℕ, List, Some, Ok, IfOk, IfErr, OnErr};
 ghost use Rattle.volume_layout.specs.declared.layout.Layout.{Layout as Plan};
 ghost use Rattle.volume_layout.specs.Layout.{plan};
 ghost use Rattle.sector_disk.specs.declared.sector.WeakRun.{WeakRun as Run};
@@ -7,8 +7,8 @@ ghost use Rattle.sector_disk.specs.Image.{IsCalm};
 ghost use Rattle.sector_disk.specs.Machine.{UsesDisk, Trusts, OnlyWrites, LeavesOnly};
 ghost use Rattle.fsd_formats.specs.declared.anchor.Anchor.{Anchor as Named};
 ghost use Rattle.fsd_sound.specs.Anchors.{anchor_of};
-ghost use Rattle.mount_recover.specs.Lost.{AreCopiesOn, HasRoot, LeavesMap, LostIn, LosesShown, StandAsShown};
-ghost use Rattle.mount_recover.specs.Recover.{IsSettledIn, IsFreshLog, IsRefusedFor, LeavesAll, HasFault, ShowsVolume};
+ghost use Rattle.mount_recover.specs.Lost.{AreCopiesOn, HasRoot, LeavesMap, LostIn, LosesShown, StandAsShown, WritesMost};
+ghost use Rattle.mount_recover.specs.Recover.{IsSettledIn, IsFreshLog, IsRefusedFor, LeavesAll, HasAnchors, HasFault, ShowsVolume, writes_most};
 ghost use Rattle.mount_recover.specs.Finding.{IsExcuse};
 ghost use Rattle.mount_recover.specs.Replay.{KeepsMap, Replays, IsReplayed};
 
@@ -40,10 +40,15 @@ pub fn recover<M: Machine>(alloc: Global, m: &mut M, sectors: u32) -> Result<Set
     ensures uses { UsesDisk (M.report m.old) (M.report m.new) }
     ensures trust { Trusts (M.tells m.old) (M.tells m.new) (M.honest m.old) (M.honest m.new) }
     ensures ledger { M.tells m.new → OnlyWrites (M.ledger m.old) (M.ledger m.new) }
+    ensures counted { IfOk result (λ settled. M.tells m.new → (M.ledger m.new).written ≤ (M.ledger m.old).written + writes_most settled.layout.pages) }
+    ensures counted_err { OnErr result (M.tells m.new → M.honest m.new → WritesMost sectors (M.now m.old) (M.ledger m.old) (M.ledger m.new)) }
     ensures quiet { M.honest m.new → (M.now m.new).said ≡ (M.now m.old).said }
     ensures room { IfOk result (λ settled. settled.layout.sectors ≤ sectors) }
     ensures planned { IfOk result (λ settled. plan settled.layout.sectors settled.layout.third settled.layout.pages ≡ Ok settled.layout) }
     ensures log { IfOk result (λ settled. IsFreshLog settled.layout settled.log) }
+
+    // The anchors on the disk are then those of the log, whatever the image was.
+    ensures anchors { IfOk result (λ settled. M.honest m.new → HasAnchors settled.log.anchor (M.now m.new)) }
 
     // Each answer but a fault of the disk and want of memory says what the image was, as it was seen.
     ensures found { IfOk result (λ settled. M.honest m.new → IsSettledIn sectors settled.layout settled.log (M.now m.old)) }

@@ -1,9 +1,13 @@
-use Rattle.std.proofs.Common.{inl, ◌+◌, ◌^◌, ◌<◌, arith}
+use Rattle.std.proofs.Common.{inl, ◌+◌, ◌^◌, ◌<◌, arith, subst, sym, ap, ◌∙◌}
+use Rattle.sector_disk.specs.Image.{settled}
+use Rattle.fsd_formats.specs.declared.anchor.Anchor.{Anchor}
+use Rattle.log_thirds.specs.LogValue.{LogValue}
+use Rattle.mount_recover.specs.Recover.{HasAnchors}
 use Rattle.sector_disk.proofs.Moments.{goes_on, leaves_more}
 use Rattle.fsd_sound.specs.Anchors.{fresh_anchor}
 use Rattle.log_thirds.specs.Anchoring.{AnchorsIn}
 use Rattle.mount_recover.specs.Mending.{Begins}
-use Rattle.mount_recover.proofs.BeginningLaws.{data_in_part, data_renewed, anchors_stay, begins_before, begins_failed, replayed}
+use Rattle.mount_recover.proofs.BeginningLaws.{data_in_part, data_renewed, anchors_stay, begins_before, begins_failed, replayed, anchors_stand}
 use Rattle.mount_recover.proofs.epoch.begin_epoch.Goals as goal
 
 pub returns-in_err-new_epoch-clause-any_moment : goal.returns-in_err-new_epoch-clause-any_moment
@@ -59,3 +63,14 @@ pub returns-clause-body : goal.returns-clause-body
 returns-clause-body g c h =
     let M = g.M.Machine in
     data_renewed (fresh_anchor (c.args.log.now.anchor.epoch + 1)) (M.now c.args.m.now) (M.now c.new_epoch.new.m) (M.now c.settle.new.self) (c.in_ok-new_epoch.ensures.done (c.settle.ensures.trust.honest h)) (c.in_ok-settle.ensures.settled h).image
+
+pub returns-clause-anchors : goal.returns-clause-anchors
+returns-clause-anchors g c h wide some =
+    let M = g.M.Machine in
+    let now = M.now c.args.m.now in let mid = M.now c.new_epoch.new.m in let new = M.now c.settle.new.self in
+    let h1 = c.settle.ensures.trust.honest h in
+    let sized = g.met.M.Machine.sized c.args.m.now (c.new_epoch.ensures.trust.honest h1) in
+    let done = c.in_ok-new_epoch.ensures.done h1 in
+    let settles = c.in_ok-settle.ensures.settled h in
+    subst (λ (a : Anchor). HasAnchors a (M.now c.settle.new.self)) (sym (ap (λ (log : LogValue). log.anchor) c.in_ok-new_epoch.ensures.past))
+    (anchors_stand (c.args.log.now.anchor.epoch + 1) now mid new (omega (arith, sized, wide)) done settles.image some (settles.windows ∙ λ i. settled (done.windows i).present (done.windows i).next))

@@ -22,6 +22,7 @@ loop-page-init g c =
       uses = uses_none (M.report c.args.m.now);
       trust = record { tells = λ t. t; honest = λ h. h };
       ledger = λ t. writes_none (M.ledger c.args.m.now);
+      most = λ t. omega arith;
       keeps = λ h. keeps_none c.args.l.now old;
       mending = λ windows choices is h. begin c.args.l.now windows choices c.args.log.now old is;
       showing = λ records h still given. showing_none c.args.l.now records old.image;
@@ -36,6 +37,7 @@ loop-page-preserved g c =
       uses = uses_on _ _ _ so_far.uses c.mend_page.ensures.uses;
       trust = trusts_on so_far.trust c.mend_page.ensures.trust;
       ledger = λ t. writes_on _ _ _ (so_far.ledger (c.mend_page.ensures.trust.tells t)) (c.mend_page.ensures.ledger t);
+      most = λ t. omega (arith, so_far.most (c.mend_page.ensures.trust.tells t), c.mend_page.ensures.most t);
       keeps = λ h. keeps_on l old (M.now c.loop-page.m) (M.now c.mend_page.new.m) (so_far.keeps (c.mend_page.ensures.trust.honest h)) (c.mend_page.ensures.keeps h);
       mending = λ windows choices is h. c.in_ok-mend_page.ensures.done windows choices old is h (so_far.mending windows choices is (c.mend_page.ensures.trust.honest h));
       showing = λ records h still given.
@@ -97,3 +99,12 @@ returns-in_err-mend_page-clause-not_shown g c =
     (λ records h still given.
     let h1 = c.mend_page.ensures.trust.honest h in
     c.in_err-mend_page.ensures.not_shown records old.image h (still_next old (M.now c.loop-page.m) (so_far.keeps h1).windows still) given (so_far.showing records h1 still given))
+
+pub returns-in_err-mend_page-clause-most : goal.returns-in_err-mend_page-clause-most
+returns-in_err-mend_page-clause-most g c t =
+    omega (arith, c.loop-page.invariant.most (c.mend_page.ensures.trust.tells t), c.mend_page.ensures.most t, c.loop-page-test.true, c.loop-page.auto.page-end, c.pages-page-end.ensures.value)
+
+pub returns-clause-most : goal.returns-clause-most
+returns-clause-most g c t =
+    let last : c.loop-page.page ≡ c.args.l.now.pages = omega (arith, c.loop-page-test.false, c.loop-page.auto.page-end, c.pages-page-end.ensures.value) in
+    omega (arith, c.loop-page.invariant.most t, last)

@@ -1,15 +1,16 @@
-use Rattle.std.proofs.Common.{inl, inr, ℕ, List, arith, refl, sym, ap, subst}
+use Rattle.std.proofs.Common.{inl, inr, ℕ, ◌<◌, List, arith, refl, sym, ap, subst}
 use Rattle.volume_layout.specs.declared.layout.Layout.{Layout}
 use Rattle.sector_disk.specs.declared.sector.WeakRun.{WeakRun}
-use Rattle.sector_disk.specs.Machine.{LeavesOnly, Wears}
+use Rattle.sector_disk.specs.Machine.{LeavesOnly, Ledger, Wears}
 use Rattle.sector_disk.proofs.Moments.{leaves_more, then_on}
 use Rattle.log_thirds.specs.LogValue.{LogValue}
 use Rattle.mount_recover.specs.Finding.{IsExcuse}
-use Rattle.mount_recover.specs.Lost.{AreCopiesOn, LeavesMap, LostIn, LosesShown}
+use Rattle.mount_recover.specs.Lost.{AreCopiesOn, LeavesMap, LostIn, LosesShown, WritesMost}
 use Rattle.mount_recover.specs.Mending.{Stays, Begins}
 use Rattle.mount_recover.specs.Recover.{IsRefusedFor, ShowsVolume}
 use Rattle.mount_recover.specs.Replay.{Replays, IsReplayed}
-use Rattle.std.specs.Prelude.{IfSome}
+use Rattle.std.specs.Prelude.{IfSome, IsSome}
+use Rattle.volume_layout.proofs.RootLaws.{planned_bounds}
 use Rattle.sector_disk.specs.Image.{Windows, IsCalm, IsEmpty}
 use Rattle.fsd_sound.specs.Shown.{records_by}
 use Rattle.mount_recover.proofs.CalmLaws.{calm_now, calm_two, knows_one, loses_shown, next_kept, next_settled, some_root, stand_shown, still_next, still_one}
@@ -295,3 +296,32 @@ returns-in_err-begin_epoch-clause-behind_err g c =
     let is = c.in_ok-layout.ensures.seen h1 in
     let map = c.complete.ensures.map found.layout is.seen h2 c.in_ok-layout.ensures.planned c.in_ok-layout.ensures.layout is.knows in
     inr (found.layout, c.in_ok-layout.ensures.root h1, map_left found.layout old one two (M.now c.mend.new.m) (M.now c.begin_epoch.new.m) (c.find_volume.ensures.worn h1) map (c.mend.ensures.keeps h3) (λ s from. c.begin_epoch.ensures.body h s (omega (arith, from))) (c.in_err-begin_epoch.ensures.windows_err h)))
+
+pub returns-in_err-mend-clause-counted_err : goal.returns-in_err-mend-clause-counted_err
+returns-in_err-mend-clause-counted_err g c =
+    let M = g.M.Machine in
+    err_as (M.tells c.mend.new.m → M.honest c.mend.new.m → WritesMost c.args.sectors (M.now c.args.m.now) (M.ledger c.args.m.now) (M.ledger c.mend.new.m)) c.from_residual-in_err-mend.result
+    (λ t h.
+    let t2 = c.mend.ensures.trust.tells t in let t1 = c.complete.ensures.trust.tells t2 in
+    let h1 = c.complete.ensures.trust.honest (c.mend.ensures.trust.honest h) in
+    let found = c.in_ok-layout.field-0 in
+    inr (found.layout, c.in_ok-layout.ensures.root h1, omega (arith, ap (λ (x : Ledger). x.written) (c.find_volume.ensures.ledger t1), c.complete.ensures.most t2, c.mend.ensures.most t)))
+
+pub returns-in_err-begin_epoch-clause-counted_err : goal.returns-in_err-begin_epoch-clause-counted_err
+returns-in_err-begin_epoch-clause-counted_err g c =
+    let M = g.M.Machine in
+    err_as (M.tells c.begin_epoch.new.m → M.honest c.begin_epoch.new.m → WritesMost c.args.sectors (M.now c.args.m.now) (M.ledger c.args.m.now) (M.ledger c.begin_epoch.new.m)) c.from_residual-in_err-begin_epoch.result
+    (λ t h.
+    let t3 = c.begin_epoch.ensures.trust.tells t in let t2 = c.mend.ensures.trust.tells t3 in let t1 = c.complete.ensures.trust.tells t2 in
+    let h1 = c.complete.ensures.trust.honest (c.mend.ensures.trust.honest (c.begin_epoch.ensures.trust.honest h)) in
+    let found = c.in_ok-layout.field-0 in
+    inr (found.layout, c.in_ok-layout.ensures.root h1, omega (arith, ap (λ (x : Ledger). x.written) (c.find_volume.ensures.ledger t1), c.complete.ensures.most t2, c.mend.ensures.most t3, c.begin_epoch.ensures.most t)))
+
+pub returns-clause-anchors : goal.returns-clause-anchors
+returns-clause-anchors g c h =
+    let M = g.M.Machine in
+    let h3 = c.begin_epoch.ensures.trust.honest h in let h2 = c.mend.ensures.trust.honest h3 in
+    let found = c.in_ok-layout.field-0 in
+    let bounds = planned_bounds found.layout c.in_ok-layout.ensures.planned in
+    let wide : 12 < (M.report c.mend.new.m).sectors = omega (arith, bounds.third_least, bounds.sectors_least, c.in_ok-layout.ensures.room, c.requires, c.find_volume.ensures.uses.sectors, c.complete.ensures.uses.sectors, c.mend.ensures.uses.sectors) in
+    c.in_ok-begin_epoch.ensures.anchors h wide (subst (λ (w : Windows). IsSome w.next) (sym (c.mend.ensures.keeps h3).windows) (c.in_ok-complete.ensures.named h2))
