@@ -14,6 +14,7 @@ pub mod LookLaws
 pub mod MarkLaws
 pub mod NodeLaws
 pub mod PageLaws
+pub mod PlaceLaws
 pub mod PieceLaws
 pub mod PutLaws
 pub mod ReadingLaws

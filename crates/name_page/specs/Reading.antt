@@ -1,5 +1,5 @@
 -- What stands in a page, by its places.
-use Rattle.std.specs.Prelude.{ℕ, ◌+◌, ◌^◌, List, [], drop, length, Option, Some, None}
+use Rattle.std.specs.Prelude.{◌≡◌, ℕ, ◌+◌, ◌^◌, ◌<◌, ◌≤◌, true, List, [], drop, length, Option, Some, None, slice_get, slice_index}
 use Rattle.fsd_bytes.specs.Bytes.{u8_at, u16_at, u32_at}
 use Rattle.run_table.specs.RunTable.{runs_from}
 use Rattle.fsd_formats.specs.declared.entry.Entry.{Entry}
@@ -7,8 +7,8 @@ use Rattle.fsd_formats.specs.declared.page.Separator.{Separator}
 use Rattle.fsd_formats.specs.declared.page.Page.{Page}
 use Rattle.fsd_formats.specs.declared.page.PageKind.{PageKind}
 use Rattle.fsd_formats.specs.declared.page.PageKind.TheVariants as kinds
-use Rattle.fsd_formats.specs.NamePage.{Content, Free, Leaf, Interior, count_of, contents_of, read_page}
-use Rattle.name_page.specs.Fault.{key_at, separator_key_at}
+use Rattle.fsd_formats.specs.NamePage.{Content, Free, Leaf, Interior, count_of, contents_of, read_page, is_entry}
+use Rattle.name_page.specs.Fault.{key_at, entry_end, separator_key_at}
 
 -- the entry at a place
 abbrev pub entry_at : ℕ → List ℕ → Entry
@@ -46,6 +46,17 @@ entries_of other = []
 -- the entries of a leaf
 unfoldable pub entries_in : List ℕ → List Entry
 entries_in bytes = entries_of (content_in bytes)
+
+-- entry i of a leaf stands at this place
+pub record StandsAt (bytes : List ℕ) (i place : ℕ) : Type 0 where
+  pub there : slice_get (entries_in bytes) i ≡ Some (entry_at place bytes)
+  pub entry : is_entry (entry_at place bytes) ≡ true
+  pub within : entry_end place bytes ≤ 512
+
+-- each entry of a leaf stands at its place
+pub record ArePlaces (bytes places : List ℕ) : Type 0 where
+  pub few : length (entries_in bytes) ≤ 18
+  pub each : (i : ℕ) → i < length (entries_in bytes) → StandsAt bytes i (slice_index places i)
 
 abbrev pub first_of : Option Content → Option ℕ
 first_of (Some (Interior first separators)) = Some first

@@ -4,7 +4,7 @@ ghost use Rattle.fsd_formats.specs.NamePage.{FitsEntry, FitsSeparator};
 ghost use Rattle.name_page.specs.Reading.{content_in};
 ghost use Rattle.name_page.specs.Node.{content_of};
 
-use crate::reading::{leaf_entry, separator};
+use crate::reading::{entry_at, places_in, separator};
 use fsd_bytes::{u8_at, u16_at, u32_at};
 use fsd_formats::{Entry, Separator};
 use std::marker::Model;
@@ -14,6 +14,7 @@ use std::marker::Model;
 pub struct Entries {
     image: [u8; 512],
     count: u32,
+    places: [u16; 18],
 }
 
 impl Model for Entries {
@@ -21,13 +22,13 @@ impl Model for Entries {
     ghost use Rattle.std.specs.List.{AllByRecursion};
     ghost use Rattle.fsd_formats.specs.declared.entry.Entry.{Entry};
     ghost use Rattle.fsd_formats.specs.NamePage.{FitsEntry};
-    ghost use Rattle.name_page.specs.Reading.{entries_in};
+    ghost use Rattle.name_page.specs.Reading.{ArePlaces, entries_in};
 
     ghost Value = { List Entry };
 
     ghost view = { λ s. entries_in s.image };
 
-    ghost invariant = { λ s. (s.count ≡ length (entries_in s.image)) × AllByRecursion FitsEntry (entries_in s.image) };
+    ghost invariant = { λ s. (s.count ≡ length (entries_in s.image)) × AllByRecursion FitsEntry (entries_in s.image) × ArePlaces s.image s.places };
 }
 
 impl Entries {
@@ -43,7 +44,7 @@ impl Entries {
         ensures there { slice_get self.now i ≡ Some result }
         ensures fits { FitsEntry result }
     {
-        leaf_entry(&self.image, i)
+        entry_at(&self.image, usize::from(self.places[i as usize]))
     }
 }
 
@@ -109,7 +110,11 @@ pub fn node_in(b: &[u8; 512]) -> Node
     let count = u32::from(u16_at(b, 6));
     match u8_at(b, 4) {
         0 => Node::Free,
-        1 => Node::Leaf(Entries { image: *b, count }),
+        1 => Node::Leaf(Entries {
+            image: *b,
+            count,
+            places: places_in(b, count),
+        }),
         _ => Node::Interior(Ways {
             image: *b,
             first: u32_at(b, 24),

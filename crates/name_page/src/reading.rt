@@ -5,7 +5,7 @@ ghost use Rattle.fsd_bytes.specs.Names.{is_name};
 ghost use Rattle.run_table.specs.RunTable.{runs_from};
 ghost use Rattle.fsd_formats.specs.NamePage.{is_entry};
 ghost use Rattle.name_page.specs.Fault.{entry_end, separator_key_at};
-ghost use Rattle.name_page.specs.Reading.{entry_at, entries_in, separator_at, first_in, separators_in};
+ghost use Rattle.name_page.specs.Reading.{ArePlaces, entry_at, entries_in, separator_at, first_in, separators_in};
 
 use fsd_bytes::{FileName, Key, Serial, u8_at, u16_at, u32_at};
 use fsd_formats::{Entry, Separator};
@@ -23,6 +23,20 @@ pub fn leaf_entry(b: &[u8; 512], i: u32) -> Entry
     entry_at(b, place)
 }
 
+/// Where each entry of a leaf begins.
+pub(crate) fn places_in(b: &[u8; 512], count: u32) -> [u16; 18]
+    requires { count ≡ length (entries_in b.now) }
+    ensures { ArePlaces b.now result }
+{
+    let mut places = [0; 18];
+    let mut place = 24;
+    for i in 0..count as usize {
+        places[i] = place as u16;
+        place = entry_end(b, place);
+    }
+    places
+}
+
 // Where the entry at a place ends.
 fn entry_end(b: &[u8; 512], place: usize) -> usize
     requires { place + 20 + u8_at place b.now ≤ 512 }
@@ -32,8 +46,8 @@ fn entry_end(b: &[u8; 512], place: usize) -> usize
     runs + 1 + 6 * usize::from(u8_at(b, runs))
 }
 
-// The entry at a place.
-fn entry_at(b: &[u8; 512], place: usize) -> Entry
+/// The entry at a place.
+pub(crate) fn entry_at(b: &[u8; 512], place: usize) -> Entry
     requires entry { is_entry (entry_at place b.now) ≡ true }
     requires within { entry_end place b.now ≤ 512 }
     ensures { result ≡ entry_at place b.now }

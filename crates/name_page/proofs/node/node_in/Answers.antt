@@ -9,7 +9,10 @@ use Rattle.name_page.proofs.node.node_in.Goals as goal
 pub invariant_of-result : goal.invariant_of-result
 invariant_of-result c =
     let kind = sym c.u8_at.ensures ∙ c.in-1.is in
-    (c.from-count.ensures ∙ c.u16_at.ensures ∙ (leaf_is c.args.b.now c.requires kind).1, leaf_fits c.args.b.now c.fits-b c.requires kind)
+    (c.from-count.ensures ∙ c.u16_at.ensures ∙ (leaf_is c.args.b.now c.requires kind).1, leaf_fits c.args.b.now c.fits-b c.requires kind, c.places_in.ensures)
+
+pub places_in-requires : goal.places_in-requires
+places_in-requires c = c.from-count.ensures ∙ c.u16_at.ensures ∙ (leaf_is c.args.b.now c.requires (sym c.u8_at.ensures ∙ c.in-1.is)).1
 
 pub invariant_of-result-in_default : goal.invariant_of-result-in_default
 invariant_of-result-in_default c =
