@@ -2,6 +2,7 @@ pub mod ContentLaws
 pub mod CountLaws
 pub mod CutLaws
 pub mod CutPageLaws
+pub mod EndsLaws
 pub mod EntryLaws
 pub mod FaultLaws
 pub mod FirstLaws

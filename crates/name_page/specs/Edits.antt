@@ -1,15 +1,20 @@
 -- A table that is edited at a key.
 use Rattle.std.specs.Prelude.{Bool, List, ◌∷◌, ◌++◌, filter, if◌then◌else◌}
-use Rattle.std.specs.Ordering.{is_gt}
+use Rattle.std.specs.declared.cmp.Ordering.{Ordering}
+use Rattle.std.specs.Ordering.{is_lt, is_gt}
 use Rattle.fsd_bytes.specs.declared.key.Key.{Key}
-use Rattle.fsd_bytes.specs.Keys.{key_cmp, key_lt, same_key}
+use Rattle.fsd_bytes.specs.Keys.{key_cmp, same_key}
 use Rattle.fsd_formats.specs.declared.entry.Entry.{Entry}
 use Rattle.name_page.specs.declared.entries.Side.{Side}
 use Rattle.name_page.specs.declared.entries.Side.TheVariants.{Lesser, Greater}
 
+-- what compares so with a key stands on this side of it
+abbrev pub has_order : Side → Ordering → Bool
+has_order Lesser order = is_lt order
+has_order Greater order = is_gt order
+
 abbrev pub is_on : Side → Key → Entry → Bool
-is_on Lesser key e = key_lt e.key key
-is_on Greater key e = is_gt (key_cmp e.key key)
+is_on side key e = has_order side (key_cmp e.key key)
 
 -- the entries on one side of a key
 abbrev pub beside : Side → Key → List Entry → List Entry

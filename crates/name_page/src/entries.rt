@@ -2,7 +2,7 @@
 ghost use Rattle.std.specs.Prelude.{◌≡◌, ◌≤◌, ◌+◌, ◌++◌, length, map};
 ghost use Rattle.std.specs.List.{AllByRecursion, flat_map};
 ghost use Rattle.fsd_formats.specs.NamePage.{FitsEntry, entry_bytes};
-ghost use Rattle.name_page.specs.Edits.{beside, is_on, with_entry, without};
+ghost use Rattle.name_page.specs.Edits.{beside, has_order, with_entry, without};
 ghost use Rattle.name_page.specs.Edits.{put};
 
 use crate::node::Entries;
@@ -10,6 +10,7 @@ use crate::writing::entry_len;
 use arrayvec::ArrayVec;
 use fsd_bytes::Key;
 use fsd_formats::Entry;
+use std::cmp::Ordering;
 
 /// One entry more than a leaf has room for.
 pub type EntryList = ArrayVec<Entry, 19>;
@@ -60,13 +61,13 @@ pub enum Side {
 }
 
 impl Side {
-    // Whether the entry stands on this side of a key.
-    fn has(self, key: &Key, entry: &Entry) -> bool
-        ensures { result ≡ is_on self key.now entry.now }
+    // Whether what compares so with a key stands on this side of it.
+    fn has(self, order: Ordering) -> bool
+        ensures { result ≡ has_order self order }
     {
         match self {
-            Side::Lesser => entry.key.cmp(key).is_lt(),
-            Side::Greater => entry.key.cmp(key).is_gt(),
+            Side::Lesser => order.is_lt(),
+            Side::Greater => order.is_gt(),
         }
     }
 }
@@ -79,9 +80,8 @@ fn put_side(list: &mut EntryList, entries: &Entries, key: &Key, side: Side)
     ensures fits { AllByRecursion FitsEntry list.new.items }
 {
     for i in 0..entries.len() {
-        let entry = entries.get(i);
-        if side.has(key, &entry) {
-            list.push(entry);
+        if side.has(entries.compare(i, key)) {
+            list.push(entries.get(i));
         }
     }
 }

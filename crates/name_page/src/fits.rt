@@ -7,11 +7,11 @@ use crate::node::{Entries, Node, Ways};
 use fsd_bytes::Key;
 use fsd_table::Child;
 
-// Whether the key stands between the child's.
-fn is_within(child: &Child, key: &Key) -> bool
-    ensures { result ≡ (not_below child.now.low key.now && below child.now.high key.now) }
+// Whether the keys from the first one to the last stand between the child's.
+fn is_within(child: &Child, first: &Key, last: &Key) -> bool
+    ensures { result ≡ (not_below child.now.low first.now && below child.now.high last.now) }
 {
-    is_not_below(&child.low, key) && is_below(&child.high, key)
+    is_not_below(&child.low, first) && is_below(&child.high, last)
 }
 
 fn is_not_below(low: &Option<Key>, key: &Key) -> bool
@@ -32,26 +32,25 @@ fn is_below(high: &Option<Key>, key: &Key) -> bool
     }
 }
 
+// Keys ascend, so the first and the last tell of all.
 fn entries_fit(child: &Child, entries: &Entries) -> bool
     ensures { result ≡ keys_fit child.now.low child.now.high (entry_keys entries.now) }
 {
-    for i in 0..entries.len() {
-        if !is_within(child, &entries.get(i).key) {
-            return false;
-        }
+    let count = entries.len();
+    if count == 0 {
+        return true;
     }
-    true
+    is_within(child, &entries.get(0).key, &entries.get(count - 1).key)
 }
 
 fn ways_fit(child: &Child, ways: &Ways) -> bool
     ensures { result ≡ keys_fit child.now.low child.now.high (separator_keys ways.now.1) }
 {
-    for i in 0..ways.len() {
-        if !is_within(child, &ways.get(i).key) {
-            return false;
-        }
+    let count = ways.len();
+    if count == 0 {
+        return true;
     }
-    true
+    is_within(child, &ways.get(0).key, &ways.get(count - 1).key)
 }
 
 /// Whether the page's keys stand between the child's.

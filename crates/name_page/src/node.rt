@@ -1,12 +1,17 @@
 //! Pages as values.
-ghost use Rattle.std.specs.Prelude.{◌≡◌, ◌<◌, IsSome, Some, length, slice_get};
-ghost use Rattle.fsd_formats.specs.NamePage.{FitsEntry, FitsSeparator};
+ghost use Rattle.std.specs.Prelude.{◌≡◌, ◌<◌, IsSome, Some, length, slice_get, true};
+ghost use Rattle.fsd_bytes.specs.Keys.{key_cmp};
+ghost use Rattle.fsd_formats.specs.NamePage.{are_ascending, FitsEntry, FitsSeparator};
+ghost use Rattle.fsd_formats.specs.declared.entry.Entry.{Entry};
+ghost use Rattle.fsd_formats.specs.declared.page.Separator.{Separator};
+ghost use Rattle.fsd_table.specs.Pages.{entry_keys, separator_keys};
 ghost use Rattle.name_page.specs.Reading.{content_in};
 ghost use Rattle.name_page.specs.Node.{content_of};
 
-use crate::reading::{entry_at, places_in, separator};
-use fsd_bytes::{u8_at, u16_at, u32_at};
+use crate::reading::{compare_entry, compare_separator, entry_at, places_in, separator};
+use fsd_bytes::{Key, u8_at, u16_at, u32_at};
 use fsd_formats::{Entry, Separator};
+use std::cmp::Ordering;
 use std::marker::Model;
 
 /// The entries of a leaf.
@@ -32,10 +37,20 @@ impl Model for Entries {
 }
 
 impl Entries {
+    /// How many entries there are. Their keys ascend.
     pub fn len(&self) -> u32
-        ensures { result ≡ length self.now }
+        ensures value { result ≡ length self.now }
+        ensures order { are_ascending (entry_keys self.now) ≡ true }
     {
         self.count
+    }
+
+    /// How the key of entry `i` compares with another.
+    pub fn compare(&self, i: u32, key: &Key) -> Ordering
+        requires { i < length self.now }
+        ensures { (entry : Entry) × (slice_get self.now i ≡ Some entry) × (result ≡ key_cmp entry.key key.now) }
+    {
+        compare_entry(&self.image, usize::from(self.places[i as usize]), key)
     }
 
     /// Entry `i`, counted from 0.
@@ -77,11 +92,20 @@ impl Ways {
         self.first
     }
 
-    /// How many separators there are.
+    /// How many separators there are. Their keys ascend.
     pub fn len(&self) -> u32
-        ensures { result ≡ length self.now.1 }
+        ensures value { result ≡ length self.now.1 }
+        ensures order { are_ascending (separator_keys self.now.1) ≡ true }
     {
         self.count
+    }
+
+    /// How the key of separator `i` compares with another.
+    pub fn compare(&self, i: u32, key: &Key) -> Ordering
+        requires { i < length self.now.1 }
+        ensures { (s : Separator) × (slice_get self.now.1 i ≡ Some s) × (result ≡ key_cmp s.key key.now) }
+    {
+        compare_separator(&self.image, i, key)
     }
 
     /// Separator `i`, counted from 0.

@@ -1,15 +1,18 @@
 //! Reading what a page has.
 ghost use Rattle.std.specs.Prelude.{◌≡◌, ◌≤◌, ◌<◌, ◌+◌, ◌*◌, IsTrue, Some, IsSome, length, drop, slice_get, true};
 ghost use Rattle.fsd_bytes.specs.Bytes.{u8_at};
+ghost use Rattle.fsd_bytes.specs.Keys.{key_cmp};
 ghost use Rattle.fsd_bytes.specs.Names.{is_name};
 ghost use Rattle.run_table.specs.RunTable.{runs_from};
 ghost use Rattle.fsd_formats.specs.NamePage.{is_entry};
-ghost use Rattle.name_page.specs.Fault.{entry_end, separator_key_at};
+ghost use Rattle.fsd_formats.specs.declared.page.Separator.{Separator};
+ghost use Rattle.name_page.specs.Fault.{entry_end, key_at, separator_key_at};
 ghost use Rattle.name_page.specs.Reading.{ArePlaces, entry_at, entries_in, separator_at, first_in, separators_in};
 
 use fsd_bytes::{FileName, Key, Serial, u8_at, u16_at, u32_at};
 use fsd_formats::{Entry, Separator};
 use run_table::{Run, Runs};
+use std::cmp::Ordering;
 
 /// Entry `i` of a leaf, counted from 0.
 pub fn leaf_entry(b: &[u8; 512], i: u32) -> Entry
@@ -68,6 +71,35 @@ pub(crate) fn entry_at(b: &[u8; 512], place: usize) -> Entry
         length: u32_at(b, at + 14),
         runs: runs_at(b, at + 18),
     }
+}
+
+/// How the key of the entry at a place compares with another.
+pub(crate) fn compare_entry(b: &[u8; 512], place: usize, key: &Key) -> Ordering
+    requires { place + 5 + u8_at place b.now ≤ 512 }
+    ensures { result ≡ key_cmp (key_at place b.now) key.now }
+{
+    let at = place + 1 + usize::from(u8_at(b, place));
+    let name = b[place + 1..at].cmp(key.name.as_bytes());
+    name.then(u32_at(b, at).cmp(&key.version))
+}
+
+/// How the key of separator `i` of an interior page compares with another.
+pub(crate) fn compare_separator(b: &[u8; 512], i: u32, key: &Key) -> Ordering
+    requires { i < length (separators_in b.now) }
+    ensures { (s : Separator) × (slice_get (separators_in b.now) i ≡ Some s) × (result ≡ key_cmp s.key key.now) }
+{
+    compare_separator_at(b, 28 + 49 * i as usize, key)
+}
+
+// How the key of the separator at a place compares with another.
+fn compare_separator_at(b: &[u8; 512], place: usize, key: &Key) -> Ordering
+    requires within { place + 49 ≤ 512 }
+    requires room { u8_at place b.now ≤ 40 }
+    ensures { result ≡ key_cmp (separator_key_at place b.now) key.now }
+{
+    let end = place + 1 + usize::from(u8_at(b, place));
+    let name = b[place + 1..end].cmp(key.name.as_bytes());
+    name.then(u32_at(b, place + 41).cmp(&key.version))
 }
 
 // The runs at a place, behind their number.

@@ -1,5 +1,6 @@
 //! Lists of separators, to be written into an interior page.
-ghost use Rattle.std.specs.Prelude.{◌≡◌, ◌≤◌, ◌<◌, ◌+◌, ◌-◌, ◌++◌, ◌∷◌, length, take, drop, true, false};
+ghost use Rattle.std.specs.Prelude.{◌≡◌, ◌≤◌, ◌<◌, ◌+◌, ◌-◌, ◌++◌, ◌∷◌, Some, length, take, drop, slice_get, true, false};
+ghost use Rattle.fsd_formats.specs.declared.page.Separator.{Separator};
 ghost use Rattle.std.specs.List.{AllByRecursion};
 ghost use Rattle.fsd_formats.specs.NamePage.{are_ascending, FitsSeparator};
 ghost use Rattle.fsd_table.specs.Pages.{separator_keys};
@@ -83,6 +84,17 @@ pub fn ways_replaced(ways: &Ways, i: u32, separator: Separator) -> SeparatorList
     list
 }
 
+// Whether separator `i` stands before a place.
+fn is_before(ways: &Ways, i: u32, cut: &Cut) -> bool
+    requires { i < length ways.now.1 }
+    ensures { (s : Separator) × (slice_get ways.now.1 i ≡ Some s) × (result ≡ is_before cut.now s.key) }
+{
+    match cut {
+        Cut::UpTo(last) => !ways.compare(i, last).is_gt(),
+        other => other.is_before(&ways.get(i).key),
+    }
+}
+
 /// How many separators of a page stand before a place.
 pub fn ways_before(ways: &Ways, cut: &Cut) -> u32
     ensures within { result ≤ length ways.now.1 }
@@ -90,7 +102,7 @@ pub fn ways_before(ways: &Ways, cut: &Cut) -> u32
     ensures behind { are_ascending (separator_keys ways.now.1) ≡ true → AllByRecursion (λ s. is_before cut.now s.key ≡ false) (drop result ways.now.1) }
 {
     for i in 0..ways.len() {
-        if !cut.is_before(&ways.get(i).key) {
+        if !is_before(ways, i, cut) {
             return i;
         }
     }

@@ -1,18 +1,11 @@
-use Rattle.std.proofs.Common.{◌≡◌, ◌∙◌, sym, ap, Bool, true, false, ◌&&◌, ◌+◌, drop}
-use Rattle.fsd_table.specs.Pages.{keys_fit, entry_keys}
-use Rattle.name_page.proofs.ListLaws.{entries_more}
+use Rattle.std.proofs.Common.{◌≡◌, ◌∙◌, ◌<◌, ◌-◌, sym, length, arith}
+use Rattle.name_page.proofs.EndsLaws.{entries_told}
 use Rattle.name_page.proofs.fits.entries_fit.Goals as goal
 
-pub returns-then-not-is_within : goal.returns-then-not-is_within
-returns-then-not-is_within c =
+pub returns : goal.returns
+returns c =
     let child = c.args.child.now in
-    let no : c.is_within.result ≡ false = cc in
-    let more = entries_more child.low child.high c.args.entries.now c.loop-i.i c.get.result c.is_within.result c.get.ensures.there c.is_within.ensures in
-    sym (sym c.loop-i.invariant ∙ more ∙ ap (λ (b : Bool). b && keys_fit child.low child.high (entry_keys (drop (c.loop-i.i + 1) c.args.entries.now))) no)
-
-pub loop-i-preserved : goal.loop-i-preserved
-loop-i-preserved c =
-    let child = c.args.child.now in
-    let yes : c.is_within.result ≡ true = cc in
-    let more = entries_more child.low child.high c.args.entries.now c.loop-i.i c.get.result c.is_within.result c.get.ensures.there c.is_within.ensures in
-    sym (more ∙ ap (λ (b : Bool). b && keys_fit child.low child.high (entry_keys (drop (c.loop-i.i + 1) c.args.entries.now))) yes) ∙ c.loop-i.invariant
+    let some : 0 < length c.args.entries.now = omega arith in
+    let last : c.len-count.result - 1 ≡ length c.args.entries.now - 1 = omega arith in
+    c.is_within.ensures
+    ∙ sym (entries_told child.low child.high c.args.entries.now (c.len-count.result - 1) c.get.result c.get-2.result c.len-count.ensures.order some last c.get.ensures.there c.get-2.ensures.there)

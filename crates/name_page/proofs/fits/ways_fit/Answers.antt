@@ -1,18 +1,11 @@
-use Rattle.std.proofs.Common.{◌≡◌, ◌∙◌, sym, ap, Bool, true, false, ◌&&◌, ◌+◌, drop}
-use Rattle.fsd_table.specs.Pages.{keys_fit, separator_keys}
-use Rattle.name_page.proofs.ListLaws.{separators_more}
+use Rattle.std.proofs.Common.{◌≡◌, ◌∙◌, ◌<◌, ◌-◌, sym, length, arith}
+use Rattle.name_page.proofs.EndsLaws.{separators_told}
 use Rattle.name_page.proofs.fits.ways_fit.Goals as goal
 
-pub returns-then-not-is_within : goal.returns-then-not-is_within
-returns-then-not-is_within c =
+pub returns : goal.returns
+returns c =
     let child = c.args.child.now in
-    let no : c.is_within.result ≡ false = cc in
-    let more = separators_more child.low child.high c.args.ways.now.1 c.loop-i.i c.get.result c.is_within.result c.get.ensures.there c.is_within.ensures in
-    sym (sym c.loop-i.invariant ∙ more ∙ ap (λ (b : Bool). b && keys_fit child.low child.high (separator_keys (drop (c.loop-i.i + 1) c.args.ways.now.1))) no)
-
-pub loop-i-preserved : goal.loop-i-preserved
-loop-i-preserved c =
-    let child = c.args.child.now in
-    let yes : c.is_within.result ≡ true = cc in
-    let more = separators_more child.low child.high c.args.ways.now.1 c.loop-i.i c.get.result c.is_within.result c.get.ensures.there c.is_within.ensures in
-    sym (more ∙ ap (λ (b : Bool). b && keys_fit child.low child.high (separator_keys (drop (c.loop-i.i + 1) c.args.ways.now.1))) yes) ∙ c.loop-i.invariant
+    let some : 0 < length c.args.ways.now.1 = omega arith in
+    let last : c.len-count.result - 1 ≡ length c.args.ways.now.1 - 1 = omega arith in
+    c.is_within.ensures
+    ∙ sym (separators_told child.low child.high c.args.ways.now.1 (c.len-count.result - 1) c.get.result c.get-2.result c.len-count.ensures.order some last c.get.ensures.there c.get-2.ensures.there)
