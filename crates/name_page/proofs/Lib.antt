@@ -1,3 +1,4 @@
+pub mod AcceptLaws
 pub mod ContentLaws
 pub mod CountLaws
 pub mod CutLaws

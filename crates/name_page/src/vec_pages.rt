@@ -1,5 +1,7 @@
 //! Pages of a name table that all stand in memory.
-ghost use Rattle.std.specs.Prelude.{◌≡◌, ◌<◌, ◌≤◌, ◌^◌, Some, false, length, count_by};
+ghost use Rattle.std.specs.Prelude.{◌≡◌, ◌<◌, ◌≤◌, ◌^◌, Some, false, is_some, length, count_by};
+ghost use Rattle.fsd_table.specs.Pages.{page_at};
+ghost use Rattle.name_page.specs.Accepted.{AreAccepted};
 ghost use Rattle.name_page.specs.Pages.{first_step, renewed};
 
 use crate::fault::read_page;
@@ -9,11 +11,14 @@ use arrayvec::ArrayVec;
 use fsd_bytes::Refusal;
 
 /// All pages of a name table. None of them is ever missing. A step may reach [`MOST_REACHED`] of them, and [`MOST_CHANGED`] may
-/// be changed until the leave is renewed.
+/// be changed until the leave is renewed. A page is read by the grammar where it is reached first, and again once it was
+/// changed; how many pages are spare is counted once.
 #[derive(Debug, Drop)]
 pub struct VecPages {
     pages: Vec<[u8; 512]>,
     spare: Vec<bool>,
+    free: u32,
+    accepted: [bool; 4096],
     home_a: u32,
     reached: ArrayVec<u32, MOST_REACHED>,
     changed: ArrayVec<u32, MOST_CHANGED>,
@@ -21,7 +26,9 @@ pub struct VecPages {
     refusal: Option<Refusal>,
     ghost small: { length pages.items ≤ 4096 },
     ghost flags: { length spare.items ≡ length pages.items },
-    ghost kept: { promised ≤ count_by (λ spare. spare) spare.items },
+    ghost counted: { free ≡ count_by (λ spare. spare) spare.items },
+    ghost kept: { promised ≤ free },
+    ghost are_accepted: { AreAccepted accepted pages.items },
 }
 
 impl VecPages {
@@ -31,9 +38,12 @@ impl VecPages {
         requires flags { length spare.items ≡ length pages.items }
         ensures { ⟦<VecPages as Pages>⟧.step result ≡ first_step pages.items spare.items home_a MOST_REACHED MOST_CHANGED }
     {
+        let free = count_true(&spare) as u32;
         VecPages {
             pages,
             spare,
+            free,
+            accepted: [false; 4096],
             home_a,
             reached: ArrayVec::new(),
             changed: ArrayVec::new(),
@@ -48,6 +58,15 @@ impl VecPages {
     {
         self.rest();
         self.changed.clear();
+    }
+
+    // Whether the grammar accepts a page.
+    fn is_accepted(&self, page: u32) -> bool
+        requires { page < length self.now.pages.items }
+        ensures { result ≡ is_some (page_at self.now.pages.items page) }
+    {
+        let i = page as usize;
+        self.accepted[i] || read_page(&self.pages[i], page, self.count()).is_ok()
     }
 
     fn refuse(&mut self, refusal: Refusal) -> Refusal
@@ -99,16 +118,17 @@ impl Pages for VecPages {
     #[tactic(auto, unfolding(fsd_table::specs::Pages::page_at))]
     fn reach(&mut self, page: u32) -> Result<(), Refusal> {
         let i = page as usize;
-        if self.spare[i] || read_page(&self.pages[i], page, self.count()).is_err() {
+        if self.spare[i] || !self.is_accepted(page) {
             let sector = self.home_a.wrapping_add(page);
             return Err(self.refuse(Refusal::Unsound(sector)));
         }
+        self.accepted[i] = true;
         self.reached.push(page);
         Ok(())
     }
 
     fn spare(&mut self, n: u32) -> Result<(), Refusal> {
-        let free = count_true(&self.spare) as u32;
+        let free = self.free;
         if free < n {
             return Err(self.refuse(Refusal::NameTableFull { free }));
         }
@@ -122,6 +142,7 @@ impl Pages for VecPages {
     }
 
     fn change(&mut self, page: u32) -> &mut [u8; 512] {
+        self.accepted[page as usize] = false;
         put_one(&mut self.changed, page);
         &mut self.pages[page as usize]
     }
@@ -130,11 +151,13 @@ impl Pages for VecPages {
         let i = first_true(&self.spare);
         put_one(&mut self.changed, i as u32);
         self.promised -= 1;
+        self.free -= 1;
         self.spare[i] = false;
         i as u32
     }
 
     fn give_back(&mut self, page: u32) {
+        self.free += 1;
         self.spare[page as usize] = true;
     }
 

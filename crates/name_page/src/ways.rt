@@ -2,8 +2,7 @@
 ghost use Rattle.std.specs.Prelude.{◌≡◌, ◌≤◌, ◌<◌, ◌+◌, ◌-◌, ◌++◌, ◌∷◌, Some, length, take, drop, slice_get, true, false};
 ghost use Rattle.fsd_formats.specs.declared.page.Separator.{Separator};
 ghost use Rattle.std.specs.List.{AllByRecursion};
-ghost use Rattle.fsd_formats.specs.NamePage.{are_ascending, FitsSeparator};
-ghost use Rattle.fsd_table.specs.Pages.{separator_keys};
+ghost use Rattle.fsd_formats.specs.NamePage.{FitsSeparator};
 ghost use Rattle.name_page.specs.Cut.{is_before};
 
 use crate::cut::Cut;
@@ -99,7 +98,7 @@ fn is_before(ways: &Ways, i: u32, cut: &Cut) -> bool
 pub fn ways_before(ways: &Ways, cut: &Cut) -> u32
     ensures within { result ≤ length ways.now.1 }
     ensures before { AllByRecursion (λ s. is_before cut.now s.key ≡ true) (take result ways.now.1) }
-    ensures behind { are_ascending (separator_keys ways.now.1) ≡ true → AllByRecursion (λ s. is_before cut.now s.key ≡ false) (drop result ways.now.1) }
+    ensures behind { AllByRecursion (λ s. is_before cut.now s.key ≡ false) (drop result ways.now.1) }
 {
     for i in 0..ways.len() {
         if !is_before(ways, i, cut) {

@@ -5,10 +5,10 @@ use Rattle.name_page.proofs.WaysLaws.{stand_behind, stand_before}
 use Rattle.name_page.proofs.ways.ways_before.Goals as goal
 
 pub returns-then-not-is_before-clause-behind : goal.returns-then-not-is_before-clause-behind
-returns-then-not-is_before-clause-behind c = λ asc.
+returns-then-not-is_before-clause-behind c =
     let s = c.is_before.ensures.0 in
     let no : is_before c.args.cut.now s.key ≡ false = sym c.is_before.ensures.2 ∙ c.if-not-is_before.true in
-    stand_behind (is_before c.args.cut.now) (cuts_monotone c.args.cut.now) c.args.ways.now.1 c.loop-i.i s c.is_before.ensures.1 no asc
+    stand_behind (is_before c.args.cut.now) (cuts_monotone c.args.cut.now) c.args.ways.now.1 c.loop-i.i s c.is_before.ensures.1 no c.len-i-end.ensures.order
 
 pub loop-i-preserved : goal.loop-i-preserved
 loop-i-preserved c =
