@@ -7,7 +7,7 @@ use crate::machines::calm;
 use fsd_formats::Anchor;
 use group_commit::{Group, Newest, Resident};
 use log_record::anchor_bytes;
-use log_thirds::{Log, Place};
+use log_thirds::Log;
 use name_page::write_free;
 use page_cache::PageSource;
 use sector_disk::{Attach, LoadFault, Machine, MemoryMachine, Sector};
@@ -61,7 +61,7 @@ fn forced_log<M: Machine>(alloc: Global, m: &mut M, layout: &Layout) -> Option<L
 {
     let mut log = Log::scan(alloc, m, layout).ok()?;
     let mut pages = table(alloc)?;
-    if log.room(1) != Place::Here || log.next_number() != 1 {
+    if log.next_number() != 1 {
         return None;
     }
     match Group::force(m, &mut log, &mut pages) {

@@ -10,6 +10,8 @@ mod machines;
 #[cfg(test)]
 mod mounts;
 #[cfg(test)]
+mod rounds;
+#[cfg(test)]
 mod runs;
 #[cfg(test)]
 mod sweeps;

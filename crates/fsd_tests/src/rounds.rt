@@ -1,0 +1,168 @@
+//! A log that comes round: a force that enters its first third again, on a volume of 721 sectors whose thirds have 200, so that
+//! each takes 28 records of one page, and whose 16 pages have their homes from 616 and from 636 on.
+ghost use Rattle.std.specs.Prelude.{◌≡◌, ◌<◌, ◌≤◌, ◌∷◌, [], take, codes, length, IfSome, IfOk};
+ghost use Rattle.fsd_bytes.specs.Bytes.{u32_at};
+ghost use Rattle.group_commit.specs.Resident.{AreImages};
+
+use crate::machines::{calm, formatted};
+use group_commit::{ForceFault, Forced, Group, Resident};
+use log_thirds::Log;
+use mount_recover::{Settled, recover};
+use name_page::write_free;
+use sector_disk::{Attach, Event, Machine, MemoryMachine, Sector};
+use std::alloc::Global;
+use std::test::Fail;
+
+const FORMAT: &str = "cfs format w 721 200 16";
+
+fn free_page(page: u32) -> [u8; 512]
+    ensures magic { take 4 result ≡ codes "CNPG" }
+    ensures number { u32_at 12 result ≡ page }
+{
+    let mut bytes = [0; 512];
+    write_free(page, &mut bytes);
+    bytes
+}
+
+// 16 pages, of which this one waits.
+fn table(alloc: Global, page: u32) -> Option<Resident>
+    requires { page < 16 }
+    ensures pages { IfSome result (λ s. length s.pages ≡ 16) }
+    ensures dirty { IfSome result (λ s. s.dirty ≡ page ∷ []) }
+    ensures images { IfSome result AreImages }
+{
+    let images = vec![in alloc; [0; 512]; 16].ok()?;
+    let mut pages = Resident::new(alloc, images).ok()?;
+    pages.put(page, &free_page(page));
+    pages.dirty(page);
+    Some(pages)
+}
+
+// Forces this page; nothing is answered where memory is short or the log has no number more.
+fn force_page<M: Machine>(
+    alloc: Global,
+    m: &mut M,
+    log: &mut Log,
+    page: u32,
+) -> Option<Result<Forced, ForceFault>>
+    requires pages { log.old.layout.pages ≡ 16 }
+    requires page { page < 16 }
+    requires sectors { log.old.layout.sectors ≤ (M.report m.old).sectors }
+    ensures layout { log.new.layout ≡ log.old.layout }
+    ensures sectors { (M.report m.new).sectors ≡ (M.report m.old).sectors }
+{
+    let mut pages = table(alloc, page)?;
+    if log.next_number() > 1000 {
+        return None;
+    }
+    Some(Group::force(m, log, &mut pages))
+}
+
+// Page 5 in the first record, and this page in each of the 83 behind it.
+fn fill<M: Machine>(alloc: Global, m: &mut M, log: &mut Log, page: u32) -> Option<()>
+    requires pages { log.old.layout.pages ≡ 16 }
+    requires page { page < 16 }
+    requires sectors { log.old.layout.sectors ≤ (M.report m.old).sectors }
+    ensures layout { log.new.layout ≡ log.old.layout }
+    ensures sectors { (M.report m.new).sectors ≡ (M.report m.old).sectors }
+{
+    force_page(alloc, m, log, 5)?.ok()?;
+    'records: for _ in 0..83u32 {
+        force_page(alloc, m, log, page)?.ok()?;
+    }
+    Some(())
+}
+
+// The machine behind the 84 records and one more force of page 5, in a run with these events.
+fn come_round(
+    alloc: Global,
+    page: u32,
+    events: &[Event],
+) -> Result<(MemoryMachine, Option<Result<Forced, ForceFault>>), Fail>
+    requires { page < 16 }
+{
+    let m = calm(alloc, formatted(alloc, FORMAT)?);
+    let mut m = m.again(events.to_vec(alloc)?, Vec::new(alloc));
+    let sectors = m.attach("w", Attach::Old)?;
+    let Settled { layout, mut log } = recover(alloc, &mut m, sectors)?;
+    if layout.pages() != 16 || fill(alloc, &mut m, &mut log, page).is_none() {
+        return Ok((m, None));
+    }
+    let forced = force_page(alloc, &mut m, &mut log, 5);
+    Ok((m, forced))
+}
+
+// Of which record the page 5 is that the next mount brings home.
+fn record_mounted(alloc: Global, m: MemoryMachine) -> Result<Option<u8>, Fail> {
+    let mut m = m.again(Vec::new(alloc), Vec::new(alloc));
+    let sectors = m.attach("w", Attach::Old)?;
+    recover(alloc, &mut m, sectors)?;
+    Ok(record_at(&m, 621))
+}
+
+// Which record's number a page bears in its stamp, in the lowest byte.
+fn record_at(m: &MemoryMachine, sector: usize) -> Option<u8> {
+    match m.image().get(sector) {
+        Some(Sector::Whole(bytes)) => Some(bytes[23]),
+        _ => None,
+    }
+}
+
+fn stop_in(first: u32, nth: u32, stand: u32) -> Event {
+    Event::StopIn { first, nth, stand }
+}
+
+// The 85th record is written at 16 again. Up to its page's end the old page stands.
+#[test]
+fn a_stop_leaves_the_old_page_or_the_new_one(rt: HostRuntime) -> Result<(), Fail> {
+    let alloc = rt.alloc();
+    let stops = [
+        (stop_in(8, 2, 0), 84),
+        (stop_in(12, 2, 0), 84),
+        (stop_in(16, 2, 0), 84),
+        (stop_in(16, 2, 4), 84),
+        (stop_in(16, 2, 5), 85),
+    ];
+    for (stop, record) in stops {
+        let (m, forced) = come_round(alloc, 5, &[stop])?;
+        assert!(rt; matches!(forced, Some(Err(_))));
+        assert_eq!(rt; record_mounted(alloc, m)?, Some(record));
+    }
+    Ok(())
+}
+
+// No other page's last image lies in the first third, so the anchor moves with no page written home before.
+#[test]
+fn the_first_third_is_entered_again(rt: HostRuntime) -> Result<(), Fail> {
+    let alloc = rt.alloc();
+    let (m, forced) = come_round(alloc, 5, &[])?;
+    assert_eq!(rt; forced, Some(Ok(Forced { pages: 1 })));
+    assert_eq!(rt; record_at(&m, 19), Some(85));
+    assert_eq!(rt; record_at(&m, 621), Some(0));
+    assert_eq!(rt; record_mounted(alloc, m)?, Some(85));
+    Ok(())
+}
+
+// Page 5's last image lies in the first record: it is written home before the anchor, and not the image that waits.
+#[test]
+fn a_page_of_the_first_third_goes_home_first(rt: HostRuntime) -> Result<(), Fail> {
+    let alloc = rt.alloc();
+    let (m, forced) = come_round(alloc, 6, &[stop_in(8, 2, 0)])?;
+    assert_eq!(rt; forced, Some(Err(ForceFault::Device(8))));
+    assert_eq!(rt;
+        (record_at(&m, 621), record_at(&m, 641)),
+        (Some(1), Some(1))
+    );
+    assert_eq!(rt; record_mounted(alloc, m)?, Some(1));
+    let (m, forced) = come_round(alloc, 6, &[])?;
+    assert_eq!(rt; forced, Some(Ok(Forced { pages: 1 })));
+    assert_eq!(rt;
+        (record_at(&m, 621), record_at(&m, 641)),
+        (Some(1), Some(1))
+    );
+    assert_eq!(rt;
+        (record_at(&m, 19), record_at(&m, 21)),
+        (Some(85), Some(85))
+    );
+    Ok(())
+}
