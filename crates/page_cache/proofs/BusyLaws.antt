@@ -12,7 +12,7 @@ use Rattle.page_cache.proofs.Entries.{by_bool, by_option, entry_some, find_back,
 use Rattle.page_cache.proofs.CacheLaws.{promoted_is, used_absent}
 use Rattle.page_cache.proofs.ShownLaws.{altered_none}
 
-abbrev one : Bool → ℕ
+abbrev pub one : Bool → ℕ
 one t = cond t 1 0
 
 at_most_one : (t : Bool) → one t ≤ 1
@@ -152,7 +152,7 @@ neither true false = omega arith
 neither false true = omega arith
 neither false false = omega arith
 
-count_dirty : (ds : List ℕ) (es : List (ℕ × Held)) → IsDistinct nat_eq (keys_of es) → count_by (λ e. is_one_of ds e.0) es ≤ length ds
+pub count_dirty : (ds : List ℕ) (es : List (ℕ × Held)) → IsDistinct nat_eq (keys_of es) → count_by (λ e. is_one_of ds e.0) es ≤ length ds
 count_dirty [] es h = count_no es
   where
     count_no : (fs : List (ℕ × Held)) → count_by (λ (e : ℕ × Held). is_one_of [] e.0) fs ≤ 0

@@ -5,4 +5,5 @@ pub mod NewestLaws
 pub mod BusyLaws
 pub mod FrameLaws
 pub mod FetchLaws
+pub mod KeepLaws
 mod TestLaws

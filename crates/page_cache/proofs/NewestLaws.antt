@@ -29,7 +29,7 @@ used_newest page c = same_newest c (used page c) (used_held page c) refl
 -- ---- a page enters
 
 -- what is held of a page beside the one that enters: what was, or nothing more where the page was not dirty
-abbrev Stood : CacheValue → List (ℕ × Held) → ℕ → Type 0
+abbrev pub Stood : CacheValue → List (ℕ × Held) → ℕ → Type 0
 Stood c stay q = (lookup (nat_eq q) stay ≡ held c q) ⊎ ((lookup (nat_eq q) stay ≡ None) × IsResident c q × (is_one_of c.dirty q ≡ false))
 
 module _ (c : CacheValue) (h : IsCache c) (q : ℕ) where

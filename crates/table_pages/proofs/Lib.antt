@@ -1,0 +1,3 @@
+pub mod BringLaws
+pub mod PinLaws
+pub mod SpareLaws

@@ -1,0 +1,121 @@
+//! Pages of the table that are brought into the cache and kept there.
+ghost use Rattle.std.specs.Prelude.{◌≡◌, ◌⊎◌, ℕ, ◌+◌, ◌-◌, ◌^◌, ◌<◌, ◌≤◌, ◌++◌, ◌∷◌, [], Err, true, false, is_some, IfErr, OnOk, IsSome, length, count_by, nat_eq, slice_index_or};
+ghost use Rattle.arrayvec.specs.ArrayVec.{array_vec_len};
+ghost use Rattle.fsd_bytes.specs.declared.refusal.Refusal.{Refusal};
+ghost use Rattle.fsd_bytes.specs.declared.refusal.Refusal.TheVariants.{Unsound};
+ghost use Rattle.page_cache.specs.Cache.{IsResident, pins_of, with_pins};
+ghost use Rattle.table_pages.specs.Bringing.{HasRoom, OnlyPins, FetchesOnly, OuterCause, IsRefused, content_in, home_in, refusal_for};
+
+use crate::free::FreePages;
+use arrayvec::ArrayVec;
+use fsd_bytes::Refusal;
+use name_page::read_page;
+use page_cache::{Cache, CacheFault, PageSource};
+use sector_disk::Machine;
+
+fn refusal_of(fault: CacheFault) -> Refusal
+    ensures { result ≡ refusal_for fault }
+{
+    match fault {
+        CacheFault::Device(place) => Refusal::Device(place),
+        CacheFault::Memory => Refusal::Memory,
+        CacheFault::Lost { a, b } => Refusal::Lost { a, b },
+    }
+}
+
+/// Brings a page into the cache.
+pub fn bring<M: Machine, S: PageSource>(
+    m: &mut M,
+    cache: &mut Cache,
+    source: &S,
+    page: u32,
+) -> Result<(), Refusal>
+    requires page { page < S.pages source.now }
+    requires sectors { S.sectors source.now ≤ (M.report m.old).sectors }
+    requires room { HasRoom 1 cache.old }
+    ensures fetches { FetchesOnly M.Machine S.PageSource source.now m.old m.new cache.old cache.new }
+    ensures pins { (q : ℕ) → pins_of cache.new q ≡ pins_of cache.old q }
+    ensures there { OnOk result (IsResident cache.new page) }
+    ensures cause { IfErr result (OuterCause M.Machine S.PageSource source.now m.old m.new) }
+{
+    let _whole = cache.dirty_list();
+    match cache.fetch(m, page, source) {
+        Ok(_) => Ok(()),
+        Err(fault) => Err(refusal_of(fault)),
+    }
+}
+
+// Whether the grammar accepts what the cache has of a page, in a table of so many pages.
+fn is_accepted(cache: &Cache, page: u32, pages: u32) -> bool
+    requires { IsResident cache.now page }
+    ensures { result ≡ is_some (content_in cache.now pages page) }
+{
+    read_page(cache.bytes(page), page, pages).is_ok()
+}
+
+/// Brings a page that is in use into the cache, if the grammar accepts it. `home_a` is the first sector of the homes A.
+pub fn bring_used<M: Machine, S: PageSource>(
+    m: &mut M,
+    cache: &mut Cache,
+    source: &S,
+    free: &FreePages,
+    home_a: u32,
+    page: u32,
+) -> Result<(), Refusal>
+    requires pages { S.pages source.now ≡ length free.now }
+    requires page { page < S.pages source.now }
+    requires sectors { S.sectors source.now ≤ (M.report m.old).sectors }
+    requires room { HasRoom 1 cache.old }
+    ensures fetches { FetchesOnly M.Machine S.PageSource source.now m.old m.new cache.old cache.new }
+    ensures pins { (q : ℕ) → pins_of cache.new q ≡ pins_of cache.old q }
+    ensures there { OnOk result (IsResident cache.new page) }
+    ensures used { OnOk result (slice_index_or free.now page false ≡ false) }
+    ensures accepted { OnOk result (IsSome (content_in cache.new (length free.now) page)) }
+    ensures spare { slice_index_or free.now page false ≡ true → result ≡ Err (Unsound (home_in home_a page)) }
+    ensures cause { IfErr result (λ refusal. OuterCause M.Machine S.PageSource source.now m.old m.new refusal
+        ⊎ ((refusal ≡ Unsound (home_in home_a page)) × IsRefused free.now cache.new page)) }
+{
+    if free.has(page) {
+        return Err(Refusal::Unsound(home_a.wrapping_add(page)));
+    }
+    bring(m, cache, source, page)?;
+    if is_accepted(cache, page, free.pages()) {
+        Ok(())
+    } else {
+        Err(Refusal::Unsound(home_a.wrapping_add(page)))
+    }
+}
+
+/// Pins a page, and notes that in a list.
+pub fn keep<const N: usize>(cache: &mut Cache, list: &mut ArrayVec<u32, N>, page: u32)
+    requires resident { IsResident cache.old page }
+    requires few { pins_of cache.old page < 2 ^ 32 - 1 }
+    requires room { array_vec_len list.old < N }
+    ensures noted { list.new.items ≡ list.old.items ++ page ∷ [] }
+    ensures pinned { cache.new ≡ with_pins page (pins_of cache.old page + 1) cache.old }
+{
+    cache.pin(page);
+    list.push(page);
+}
+
+// Unpins each page of a list as often as it stands there.
+fn unpin_all(cache: &mut Cache, pages: &[u32])
+    requires { (q : ℕ) → count_by (nat_eq q) pages.now ≤ pins_of cache.old q }
+    ensures pins { (q : ℕ) → pins_of cache.new q + count_by (nat_eq q) pages.now ≡ pins_of cache.old q }
+    ensures only { OnlyPins cache.old cache.new }
+{
+    for page in pages {
+        cache.unpin(*page);
+    }
+}
+
+/// Unpins each page of a list, and empties the list.
+pub fn release<const N: usize>(cache: &mut Cache, list: &mut ArrayVec<u32, N>)
+    requires { (q : ℕ) → count_by (nat_eq q) list.old.items ≤ pins_of cache.old q }
+    ensures none { list.new.items ≡ [] }
+    ensures pins { (q : ℕ) → pins_of cache.new q + count_by (nat_eq q) list.old.items ≡ pins_of cache.old q }
+    ensures only { OnlyPins cache.old cache.new }
+{
+    unpin_all(cache, list.as_slice());
+    list.clear();
+}
