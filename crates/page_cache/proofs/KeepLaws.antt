@@ -1,16 +1,16 @@
 -- What callers keep: the pins of each page, the bytes of what is dirty or pinned, and room for one page more.
-use Rattle.std.proofs.Common.{◌≡◌, ◌⊎◌, ℕ, ◌+◌, ◌<◌, ◌≤◌, Bool, true, false, cond, not, ◌&&◌, ◌||◌, List, [], ◌∷◌, length, option_map, is_some, Option, Some, None, IsSome, refl, sym, ap, ◌∙◌, subst, inl, inr, arith, eqb-true}
+use Rattle.std.proofs.Common.{◌≡◌, ◌⊎◌, ℕ, ◌+◌, ◌<◌, ◌≤◌, Bool, true, false, cond, not, ◌&&◌, List, [], ◌∷◌, length, option_map, is_some, Option, Some, None, IsSome, refl, sym, ap, ◌∙◌, subst, inl, inr, arith, eqb-true}
 use Rattle.std.specs.Prelude.{nat_eq, count_by, ◌==◌}
 use Rattle.std.specs.List.{IsDistinct}
 use Rattle.std.specs.Map.{lookup, keys_of}
 use Rattle.std.specs.Option.{option_map_or}
 use Rattle.std.proofs.lemmas.Bool.{true≢false, ne_eqb, eqb-false}
 use Rattle.std.proofs.lemmas.Map.Keys.{IsDistinct-head, IsDistinct-tail}
-use Rattle.page_cache.specs.Cache.{CacheValue, Held, IsCache, IsResident, IsBusy, held, bytes_of, pins_of, is_one_of, is_idle, busy, leaver, staying, used, entered, with_pins, with_dirty, with_bytes}
+use Rattle.page_cache.specs.Cache.{CacheValue, Held, IsCache, IsResident, held, bytes_of, pins_of, is_one_of, is_idle, busy, leaver, staying, with_pins}
 use Rattle.page_cache.proofs.Entries.{by_bool, by_option, same_key, key_flips}
 use Rattle.page_cache.proofs.CacheLaws.{all_gone, altered_lookup}
 use Rattle.page_cache.proofs.NewestLaws.{used_held, stood, Stood}
-use Rattle.page_cache.proofs.BusyLaws.{one, count_cons, count_dirty, busy_at_most, pinned}
+use Rattle.page_cache.proofs.BusyLaws.{one, count_cons, count_dirty, busy_at_most}
 use Rattle.page_cache.proofs.FetchLaws.{Fetched, fetched_stays}
 
 -- ---- what is held and what its bytes are

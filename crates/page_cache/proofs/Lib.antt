@@ -6,4 +6,5 @@ pub mod BusyLaws
 pub mod FrameLaws
 pub mod FetchLaws
 pub mod KeepLaws
+pub mod WrittenLaws
 mod TestLaws

@@ -1,5 +1,5 @@
 -- A cache of pages as its callers see it.
-use Rattle.std.specs.Prelude.{◌≡◌, ℕ, ◌<◌, ◌≤◌, Bool, false, not, ◌&&◌, ◌==◌, nat_eq, cond, if◌then◌else◌, IsSome, List, [], ◌∷◌, ◌++◌, map, length, reverse, slice_index_or, count_by, find, Option, Some, None, option_map}
+use Rattle.std.specs.Prelude.{◌≡◌, ℕ, ◌<◌, ◌≤◌, Bool, false, not, ◌&&◌, ◌==◌, nat_eq, cond, if◌then◌else◌, is_some, IsSome, List, [], ◌∷◌, ◌++◌, map, length, reverse, slice_index_or, count_by, find, Option, Some, None, option_map}
 use Rattle.std.specs.List.{AllByRecursion, IsDistinct, list_any}
 use Rattle.std.specs.Option.{option_map_or, option_or}
 use Rattle.std.specs.Map.{keys_of, lookup, remove_entry}
@@ -110,6 +110,13 @@ with_pins page pins c = record c { resident = altered page (λ h. record h { pin
 -- the page is dirty, and stands in the list once
 abbrev pub with_dirty : ℕ → CacheValue → CacheValue
 with_dirty page c = record c { dirty = if is_one_of c.dirty page then c.dirty else c.dirty ++ page ∷ [] }
+
+-- the page is dirty and has these bytes, whether it was in memory or not
+abbrev pub with_written : (page : ℕ) (bytes : List ℕ) → CacheValue → CacheValue
+with_written page bytes c =
+    record (with_dirty page c) {
+      resident = cond (is_some (held c page)) (altered page (λ h. record h { bytes = bytes }) c.resident) ((page, record { frame = 0; bytes = bytes; pins = 0 }) ∷ c.resident);
+    }
 
 abbrev pub cleaned : CacheValue → CacheValue
 cleaned c = record c { dirty = [] }

@@ -1,3 +1,5 @@
 pub mod BringLaws
 pub mod PinLaws
 pub mod SpareLaws
+pub mod KeptLaws
+pub mod StepLaws

@@ -17,11 +17,12 @@ use Rattle.table_pages.specs.Reads.{OnlyReads}
 use Rattle.table_pages.specs.Bringing.{HasRoom, OnlyPins, Brings, given_by, FetchesOnly}
 use Rattle.table_pages.specs.Sparing.{AreSpare, SparesOnly}
 use Rattle.table_pages.proofs.PinLaws.{count_append, count_single, set_only, set_pins}
-use Rattle.table_pages.proofs.BringLaws.{reads_then, brings_still, brings_then, trusted_before}
+use Rattle.table_pages.proofs.BringLaws.{brings_still, brings_then}
+use Rattle.table_pages.specs.ReadLaws.{reads_then, trusted_before}
 
 -- ---- so many pages are free at most as stand in a list of all of them
 
-one_of_count : (q : ℕ) (xs : List ℕ) → is_one_of xs q ≡ true → 1 ≤ count_by (nat_eq q) xs
+pub one_of_count : (q : ℕ) (xs : List ℕ) → is_one_of xs q ≡ true → 1 ≤ count_by (nat_eq q) xs
 one_of_count q [] h = absurd (true≢false (sym h))
 one_of_count q (x ∷ xs) h =
     let all = count_cons (nat_eq q) x xs in

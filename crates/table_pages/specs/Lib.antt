@@ -1,3 +1,9 @@
 pub mod Reads
 pub mod Bringing
 pub mod Sparing
+pub mod Kept
+pub mod ReadLaws
+pub mod ImageLaws
+pub mod CauseLaws
+pub mod Table
+pub mod TableLaws

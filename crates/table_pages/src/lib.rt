@@ -4,5 +4,7 @@
 mod bringing;
 mod free;
 mod sparing;
+mod table;
 
 pub use free::FreePages;
+pub use table::Table;

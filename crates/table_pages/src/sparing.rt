@@ -46,6 +46,8 @@ fn add_spare<M: Machine, S: PageSource>(
     ensures only { SparesOnly M.Machine S.PageSource source.now free.now m.old m.new cache.old cache.new spares.old.items spares.new.items }
     ensures room { HasRoom (16 - length spares.new.items) cache.new }
     ensures added { OnOk result (length spares.new.items ≡ length spares.old.items + 1) }
+    ensures few { length spares.new.items ≤ 16 }
+    ensures more { length spares.old.items ≤ length spares.new.items }
     ensures cause { IfErr result (OuterCause M.Machine S.PageSource source.now m.old m.new) }
 {
     let page = spare_beside(free, spares.as_slice()).unwrap();
@@ -67,9 +69,12 @@ fn add_spares<M: Machine, S: PageSource>(
     requires sectors { S.sectors source.now ≤ (M.report m.old).sectors }
     requires room { HasRoom (16 - length spares.old.items) cache.old }
     requires spares { AreSpare free.now spares.old.items }
-    requires few { n ≤ 16 }
+    requires few { length spares.old.items ≤ 16 }
+    requires most { n ≤ 16 }
     requires enough { n ≤ count_by (λ free. free) free.now }
     ensures only { SparesOnly M.Machine S.PageSource source.now free.now m.old m.new cache.old cache.new spares.old.items spares.new.items }
+    ensures few { length spares.new.items ≤ 16 }
+    ensures more { length spares.old.items ≤ length spares.new.items }
     ensures kept { OnOk result (n ≤ length spares.new.items) }
     ensures cause { IfErr result (OuterCause M.Machine S.PageSource source.now m.old m.new) }
 {
@@ -92,7 +97,10 @@ pub fn spare_pages<M: Machine, S: PageSource>(
     requires sectors { S.sectors source.now ≤ (M.report m.old).sectors }
     requires room { HasRoom (16 - length spares.old.items) cache.old }
     requires spares { AreSpare free.now spares.old.items }
+    requires few { length spares.old.items ≤ 16 }
     ensures only { SparesOnly M.Machine S.PageSource source.now free.now m.old m.new cache.old cache.new spares.old.items spares.new.items }
+    ensures few { length spares.new.items ≤ 16 }
+    ensures more { length spares.old.items ≤ length spares.new.items }
     ensures kept { OnOk result (n ≤ length spares.new.items) }
     ensures full { let count = count_by (λ free. free) free.now in (result ≡ Err (NameTableFull count)) ↔ (count < n) }
     ensures cause { IfErr result (λ refusal. OuterCause M.Machine S.PageSource source.now m.old m.new refusal

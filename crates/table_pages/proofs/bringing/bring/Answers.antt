@@ -4,7 +4,8 @@ use Rattle.page_cache.specs.Cache.{KeepsNewest}
 use Rattle.page_cache.proofs.FetchLaws.{Fetched, fetched_of, fetched_there}
 use Rattle.page_cache.proofs.KeepLaws.{fetched_pins}
 use Rattle.table_pages.specs.Reads.{OnlyReads}
-use Rattle.table_pages.proofs.BringLaws.{fetched_brings, room_busy, trusted_before}
+use Rattle.table_pages.proofs.BringLaws.{fetched_brings, room_busy}
+use Rattle.table_pages.specs.ReadLaws.{trusted_before}
 use Rattle.table_pages.proofs.bringing.bring.Given as given
 use Rattle.table_pages.proofs.bringing.bring.Goals as goal
 

@@ -1,5 +1,5 @@
 use Rattle.table_pages.proofs.SpareLaws.{spares_then}
-use Rattle.std.proofs.Common.{◌∙◌, ap, ℕ, ◌+◌}
+use Rattle.std.proofs.Common.{◌∙◌, ap, ℕ, ◌+◌, arith}
 use Rattle.table_pages.proofs.sparing.add_spares.Goals as goal
 
 pub returns-in_err-add_spare-clause-only : goal.returns-in_err-add_spare-clause-only
@@ -13,4 +13,6 @@ loop-preserved g c = record {
       c.args.spares.now.items c.loop.spares.items c.add_spare.new.spares.items c.loop.invariant.only c.add_spare.ensures.only;
   room = c.add_spare.ensures.room;
   count = c.in_ok-add_spare.ensures.added ∙ ap (λ (n : ℕ). n + 1) c.loop.invariant.count;
+  few = c.add_spare.ensures.few;
+  first = (let one = c.loop.invariant.first in let two = c.add_spare.ensures.more in omega (arith, one, two));
 }

@@ -1,4 +1,4 @@
-use Rattle.std.proofs.Common.{◌≡◌, ◌-◌, length}
+use Rattle.std.proofs.Common.{◌≡◌, ◌≤◌, ◌-◌, length}
 use Rattle.table_pages.specs.Bringing.{HasRoom}
 use Rattle.table_pages.specs.Sparing.{SparesOnly}
 use Rattle.table_pages.proofs.sparing.add_spares.Given as goal
@@ -9,4 +9,6 @@ invariant-loop g l = record {
   only : SparesOnly g.M.Machine g.S.PageSource l.source l.free l.fn.m l.m l.fn.cache l.cache l.fn.spares.items l.spares.items;
   room : HasRoom (16 - length l.spares.items) l.cache;
   count : length l.spares.items ≡ l.counter;
+  few : length l.spares.items ≤ 16;
+  first : length l.fn.spares.items ≤ length l.spares.items;
 }

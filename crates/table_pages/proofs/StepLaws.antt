@@ -1,0 +1,110 @@
+-- The step of a table over a cache, after each call.
+use Rattle.std.proofs.Common.{◌≡◌, ◌⊎◌, inl, inr, ℕ, zero, suc, ◌-◌, ◌<◌, Bool, true, false, List, [], ◌∷◌, length, Option, Some, None, IsSome, refl, sym, ap, ◌∙◌, subst, arith, length-set}
+use Rattle.std.specs.Prelude.{slice_get, slice_index_or, slice_set, option_and_then}
+use Rattle.std.specs.Option.{option_or}
+use Rattle.std.proofs.Props.{props}
+use Rattle.std.proofs.lemmas.Bool.{true≢false}
+use Rattle.fsd_formats.specs.NamePage.{read_page}
+use Rattle.fsd_table.specs.Pages.{page_at}
+use Rattle.sector_disk.specs.declared.machine.Machine.{Ghosts as MachineGhosts}
+use Rattle.page_cache.specs.declared.source.PageSource.{Ghosts as SourceGhosts}
+use Rattle.page_cache.specs.Cache.{CacheValue, IsResident, newest, bytes_of, pins_of, is_one_of, with_pins, with_dirty, with_written}
+use Rattle.page_cache.proofs.KeepLaws.{resident_bytes, pinned_bytes}
+use Rattle.page_cache.proofs.WrittenLaws.{now_dirty}
+use Rattle.name_page.specs.Pages.{Keeps, IsReached, with_taken, rested}
+use Rattle.table_pages.specs.Bringing.{OnlyPins, given_by, FetchesOnly, IsRefused, content_in}
+use Rattle.table_pages.specs.Kept.{IsKept, images_of}
+use Rattle.table_pages.specs.ImageLaws.{image_count, image_at, images_same}
+use Rattle.table_pages.specs.Table.{step_of, written}
+use Rattle.table_pages.specs.declared.table.Table.{Table}
+use Rattle.table_pages.proofs.KeptLaws.{fetched_image, reached_there}
+
+-- a page that is free is one of the table
+pub free_within : (free : List Bool) (page : ℕ) → slice_index_or free page false ≡ true → page < length free
+free_within [] page h = absurd (true≢false (sym h))
+free_within (f ∷ free) zero h = omega arith
+free_within (f ∷ free) (suc page) h = let on = free_within free page h in omega (arith, on)
+
+-- a page of the cache is what it has
+pub newest_at : (c : CacheValue) (source : ℕ → Option (List ℕ)) (page : ℕ) (bytes : List ℕ) → bytes_of c page ≡ Some bytes → newest c source page ≡ Some bytes
+newest_at c source page bytes is = ap (λ (o : Option (List ℕ)). option_or o (source page)) is
+
+pub page_in : (c : CacheValue) (source : ℕ → Option (List ℕ)) (n page : ℕ) → IsResident c page → page < n → page_at (images_of (newest c source) n) page ≡ content_in c n page
+unfolding page_at
+page_in c source n page there lt = at (bytes_of c page) refl (resident_bytes c page there)
+  where
+    at : (o : Option (List ℕ)) → bytes_of c page ≡ o → IsSome o → option_and_then (read_page page (length (images_of (newest c source) n))) (slice_get (images_of (newest c source) n) page) ≡ option_and_then (read_page page n) (bytes_of c page)
+    at None is some = absurd (true≢false (sym some))
+    at (Some bytes) is some =
+        ap (λ (k : ℕ). option_and_then (read_page page k) (slice_get (images_of (newest c source) n) page)) (image_count (newest c source) n)
+        ∙ ap (λ (o : Option (List ℕ)). option_and_then (read_page page n) o) (image_at (newest c source) n page bytes lt (newest_at c source page bytes is) ∙ sym is)
+
+-- a page that is refused is free, or the grammar refuses it
+pub barred : (free : List Bool) (c : CacheValue) (source : ℕ → Option (List ℕ)) (page : ℕ) → page < length free → IsRefused free c page → (slice_index_or free page false ≡ true) ⊎ (page_at (images_of (newest c source) (length free)) page ≡ None)
+barred free c source page lt (inl spare) = inl spare
+barred free c source page lt (inr bad) = inr (page_in c source (length free) page bad.0 lt ∙ bad.1)
+
+-- where no bytes change the images stay
+pub same_images : (old new : CacheValue) (source : ℕ → Option (List ℕ)) (n : ℕ) → ((q : ℕ) → bytes_of new q ≡ bytes_of old q) → images_of (newest new source) n ≡ images_of (newest old source) n
+same_images old new source n same = images_same (newest old source) (newest new source) n (λ q. ap (λ (o : Option (List ℕ)). option_or o (source q)) (same q))
+
+module _ {D E : Type 0} {M : MachineGhosts D} {S : SourceGhosts E} (t : Table D E M S) where
+  abbrev source : ℕ → Option (List ℕ)
+  source = given_by M S t.source.now t.m.now
+
+  pub within_free : (page : ℕ) → page < length (step_of t).images → page < length t.free.now
+  within_free page lt = let count = image_count (newest t.cache.now source) (length t.free.now) in omega (arith, lt, count)
+
+  pub within_pages : (page : ℕ) → page < length (step_of t).images → page < S.pages t.source.now
+  within_pages page lt = let free = within_free page lt in let same = t.kept.pages in omega (arith, free, same)
+
+  pub there : (page : ℕ) → IsReached (step_of t) page → IsResident t.cache.now page
+  there page is = reached_there M S t.source.now t.m.now t.cache.now t.free.now t.reached.items t.spares.items t.promised t.kept page is.1
+
+  -- what was reached stays while pages are fetched
+  pub fetched_keeps : (m' : D) (c' : CacheValue) → FetchesOnly M S t.source.now t.m.now m' t.cache.now c' → Keeps (step_of t) (images_of (newest c' (given_by M S t.source.now m')) (length t.free.now))
+  fetched_keeps m' c' fetches = record {
+    count = image_count (newest c' (given_by M S t.source.now m')) (length t.free.now) ∙ sym (image_count (newest t.cache.now source) (length t.free.now));
+    reached = λ q is. fetched_image M S t.source.now t.m.now t.cache.now t.free.now t.reached.items t.spares.items t.promised t.kept m' c' fetches q is.1;
+  }
+
+  -- ---- a table with a page written
+
+  abbrev Kept : CacheValue → Type 0
+  Kept c = IsKept M S t.m.now c t.source.now t.free.now t.reached.items t.spares.items t.promised
+
+  kept_prop : (c : CacheValue) (a b : Kept c) → a ≡ b
+  kept_prop c = Prim.hlevel props
+
+  abbrev over : (c : CacheValue) → Kept c → Table D E M S
+  over c kept = record t { cache = record t.cache { now = c }; kept = kept }
+
+  pub same_written : (page : ℕ) (bytes : List ℕ) (c : CacheValue) (kept : Kept c) → c ≡ with_written page bytes t.cache.now → over c kept ≡ written t page bytes
+  same_written page bytes c kept e =
+      subst (λ (x : CacheValue). (k : Kept x) → over c kept ≡ over x k) e (λ k. ap (over c) (kept_prop c kept k)) (written t page bytes).kept
+
+  -- ---- a page is taken
+
+  module _ (page : ℕ) (c' : CacheValue) (free' : List Bool) (free_is : free' ≡ slice_set t.free.now page false) (set : c' ≡ with_dirty page (with_pins page (pins_of t.cache.now page - 1) t.cache.now)) where
+    taken_images : images_of (newest c' source) (length free') ≡ images_of (newest t.cache.now source) (length t.free.now)
+    taken_images =
+        ap (images_of (newest c' source)) (ap length free_is ∙ length-set t.free.now page false)
+        ∙ same_images t.cache.now c' source (length t.free.now) (λ q. ap (λ (c : CacheValue). bytes_of c q) set ∙ pinned_bytes page (pins_of t.cache.now page - 1) t.cache.now q)
+
+    pub taken_step : record (step_of t) { images = images_of (newest c' source) (length free'); spares = free'; changed = c'.dirty; promised = t.promised - 1 } ≡ with_taken page (step_of t)
+    taken_step = λ i. record (step_of t) { images = taken_images i; spares = free_is i; changed = (set i).dirty; promised = t.promised - 1 }
+
+    pub taken_reached : slice_index_or t.free.now page false ≡ true → (page < length (images_of (newest c' source) (length free'))) × (is_one_of c'.dirty page ≡ true)
+    taken_reached spare = (
+      (let lt = free_within t.free.now page spare in let count = image_count (newest c' source) (length free') in let same = ap length free_is ∙ length-set t.free.now page false in omega (arith, lt, count, same)),
+      ap (λ (c : CacheValue). is_one_of c.dirty page) set ∙ now_dirty (with_pins page (pins_of t.cache.now page - 1) t.cache.now) page,
+    )
+
+  -- ---- the step ends
+
+  pub rested_step : (mid new : CacheValue) (reached : List ℕ) → OnlyPins t.cache.now mid → OnlyPins mid new → reached ≡ []
+      → record (step_of t) { images = images_of (newest new source) (length t.free.now); changed = new.dirty; reached = reached; promised = 0; refusal = None } ≡ rested (step_of t)
+  rested_step mid new reached first second none =
+      let images = same_images t.cache.now new source (length t.free.now) (λ q. second.bytes q ∙ first.bytes q) in
+      let dirty = second.dirty ∙ first.dirty in
+      λ i. record (step_of t) { images = images i; changed = dirty i; reached = none i; promised = 0; refusal = None }

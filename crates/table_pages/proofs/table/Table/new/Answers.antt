@@ -1,0 +1,14 @@
+use Rattle.std.proofs.Common.{ℕ, List, [], sym, subst}
+use Rattle.page_cache.proofs.WrittenLaws.{dirty_there}
+use Rattle.table_pages.specs.Kept.{IsKept}
+use Rattle.table_pages.proofs.KeptLaws.{kept_at_first}
+use Rattle.table_pages.proofs.table.Table.new.Goals as goal
+
+pub invariant_of-result : goal.invariant_of-result
+invariant_of-result g c =
+    let M = g.M.Machine in
+    let S = g.S.PageSource in
+    let r = c.requires in
+    let kept = kept_at_first M S c.args.source.now c.args.m.now c.args.cache.now c.args.free.now r.pages r.small r.sectors r.frames r.unpinned (dirty_there c.args.cache.now c.dirty_list-whole.ensures.valid) r.clean in
+    let reached = subst (λ (l : List ℕ). IsKept M S c.args.m.now c.args.cache.now c.args.source.now c.args.free.now l [] 0) (sym c.new.ensures) kept in
+    record { kept = subst (λ (l : List ℕ). IsKept M S c.args.m.now c.args.cache.now c.args.source.now c.args.free.now c.new.result.items l 0) (sym c.new-2.ensures) reached }

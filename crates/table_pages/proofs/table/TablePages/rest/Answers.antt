@@ -1,0 +1,36 @@
+use Rattle.std.proofs.Common.{List, ℕ, [], sym, subst, arith}
+use Rattle.table_pages.specs.Kept.{IsKept}
+use Rattle.table_pages.proofs.KeptLaws.{spare_pins, reached_pins, kept_unreached, kept_unspared}
+use Rattle.table_pages.proofs.StepLaws.{rested_step}
+use Rattle.table_pages.proofs.table.TablePages.rest.Given as given
+use Rattle.table_pages.proofs.table.TablePages.rest.Goals as goal
+use Rattle.table_pages.proofs.table.TablePages.rest.Goals.{After-release}
+
+-- what is kept once the pages that were reached are unpinned
+unreached : (g : given.Over) (c : After-release g) → let t = c.args.self.now in IsKept g.M.Machine g.S.PageSource t.m.now c.release.new.cache t.source.now t.free.now [] t.spares.items t.promised
+unreached g c =
+    let t = c.args.self.now in
+    kept_unreached g.M.Machine g.S.PageSource t.source.now t.m.now t.cache.now t.free.now t.reached.items t.spares.items t.promised t.kept c.release.new.cache c.release.ensures.only c.release.ensures.pins
+
+pub release-requires : goal.release-requires
+release-requires g c =
+    let t = c.args.self.now in
+    (omega arith, reached_pins g.M.Machine g.S.PageSource t.source.now t.m.now t.cache.now t.free.now t.reached.items t.spares.items t.promised t.kept)
+
+pub release-requires-2 : goal.release-requires-2
+release-requires-2 g c =
+    let t = c.args.self.now in
+    (omega arith, spare_pins g.M.Machine g.S.PageSource t.source.now t.m.now c.release.new.cache t.free.now [] t.spares.items t.promised (unreached g (goal.at.release-requires-2 g c).After-release))
+
+pub invariant_of-self : goal.invariant_of-self
+invariant_of-self g c =
+    let M = g.M.Machine in
+    let S = g.S.PageSource in
+    let t = c.args.self.now in
+    let last = c.release-2.new.cache in
+    let kept = kept_unspared M S t.source.now t.m.now c.release.new.cache t.free.now [] t.spares.items t.promised (unreached g (goal.at.invariant_of-self g c).After-release) last c.release-2.ensures.only c.release-2.ensures.pins in
+    let reached = subst (λ (l : List ℕ). IsKept M S t.m.now last t.source.now t.free.now l [] 0) (sym c.release.ensures.none) kept in
+    record { kept = subst (λ (l : List ℕ). IsKept M S t.m.now last t.source.now t.free.now c.release.new.list.items l 0) (sym c.release-2.ensures.none) reached }
+
+pub returns-clause-step : goal.returns-clause-step
+returns-clause-step g c = rested_step c.args.self.now c.release.new.cache c.release-2.new.cache c.release.new.list.items c.release.ensures.only c.release-2.ensures.only c.release.ensures.none

@@ -1,0 +1,51 @@
+-- A table over a cache as the tree sees it.
+use Rattle.std.specs.Prelude.{◌≡◌, ℕ, Bool, List, [], Option, None, length}
+use Rattle.std.specs.Borrow.{MutBor}
+use Rattle.sector_disk.specs.declared.machine.Machine.{Ghosts as MachineGhosts}
+use Rattle.page_cache.specs.declared.source.PageSource.{Ghosts as SourceGhosts}
+use Rattle.page_cache.specs.Cache.{CacheValue, newest, with_written}
+use Rattle.name_page.specs.Pages.{Step}
+use Rattle.table_pages.specs.Reads.{OnlyReads}
+use Rattle.table_pages.specs.Bringing.{given_by}
+use Rattle.table_pages.specs.Kept.{images_of, kept_written}
+use Rattle.table_pages.specs.declared.table.Table.{Table}
+
+-- the pages before the first step: those that are dirty are changed, and nothing else was done
+abbrev pub begun : (source : ℕ → Option (List ℕ)) (cache : CacheValue) (free : List Bool) (home_a : ℕ) → Step
+begun source cache free home_a =
+    record { images = images_of (newest cache source) (length free); spares = free; home_a = home_a; reached = []; changed = cache.dirty; promised = 0; refusal = None; most_reached = 80; most_changed = 96 }
+
+module _ {D E : Type 0} {M : MachineGhosts D} {S : SourceGhosts E} where
+  -- A page is what the cache has of it, else what the source would give; it was changed where it is dirty, and at most 96
+  -- pages are.
+  abbrev pub step_of : Table D E M S → Step
+  step_of t = record {
+    images = images_of (newest t.cache.now (given_by M S t.source.now t.m.now)) (length t.free.now);
+    spares = t.free.now;
+    home_a = t.home_a;
+    reached = t.reached.items;
+    changed = t.cache.now.dirty;
+    promised = t.promised;
+    refusal = t.refusal;
+    most_reached = 80;
+    most_changed = 96;
+  }
+
+  -- the table with the bytes of one of its pages written
+  abbrev pub written : Table D E M S → ℕ → List ℕ → Table D E M S
+  written t page bytes = record t { cache = record t.cache { now = with_written page bytes t.cache.now }; kept = kept_written M S t.m.now t.cache.now t.source.now t.free.now t.reached.items t.spares.items t.promised t.kept page bytes }
+
+  -- over the same machine, cache, source and free pages, of which the disk was read, and nothing else
+  pub record ReadsOnly (old new : Table D E M S) : Type 0 where
+    pub reads : OnlyReads M old.m.now new.m.now
+    pub source : new.source.now ≡ old.source.now
+    pub machine : new.m.ghost_name ≡ old.m.ghost_name
+    pub cache : new.cache.ghost_name ≡ old.cache.ghost_name
+    pub free : new.free.ghost_name ≡ old.free.ghost_name
+
+  -- it is over these
+  pub record IsOver (m : MutBor D) (cache : MutBor CacheValue) (source : E) (free : MutBor (List Bool)) (t : Table D E M S) : Type 0 where
+    pub machine : t.m ≡ m
+    pub cached : t.cache ≡ cache
+    pub from : t.source.now ≡ source
+    pub spared : t.free ≡ free

@@ -1,0 +1,171 @@
+//! `Table`.
+ghost use Rattle.std.specs.Prelude.{◌≡◌, ◌<◌, ◌≤◌, ◌^◌, ℕ, [], Some, true, length};
+ghost use Rattle.table_pages.specs.Kept.{IsKept};
+
+use crate::bringing::{bring_used, keep, release};
+use crate::free::FreePages;
+use crate::sparing::{MOST_SPARE, spare_pages, take_spare};
+use arrayvec::ArrayVec;
+use fsd_bytes::Refusal;
+use name_page::{MOST_REACHED, Pages};
+use page_cache::{Cache, PageSource};
+use sector_disk::Machine;
+
+/// The pages of a name table over a cache of at least 192 frames. A page that is changed waits in the cache until a force
+/// has written it: at most 96 do, and what is left of them is the leave to change.
+pub struct Table<'a, M: Machine, S: PageSource> {
+    m: &'a mut M,
+    cache: &'a mut Cache,
+    source: &'a S,
+    home_a: u32,
+    free: &'a mut FreePages,
+    reached: ArrayVec<u32, MOST_REACHED>,
+    // Free pages that are pinned, so that they can be taken: the promised ones, and maybe more.
+    spares: ArrayVec<u32, MOST_SPARE>,
+    promised: u32,
+    refusal: Option<Refusal>,
+    ghost kept: { IsKept M.Machine S.PageSource m.now cache.now source.now free.now reached.items spares.items promised },
+}
+
+impl<'a, M: Machine, S: PageSource> Table<'a, M, S> {
+    ghost use Rattle.page_cache.specs.Cache.{AreNewest, pins_of};
+    ghost use Rattle.table_pages.specs.Bringing.{IsTrusted, given_by};
+    ghost use Rattle.table_pages.specs.Table.{step_of, begun, IsOver};
+
+    /// Over a cache with no page pinned. `home_a` is the first sector of the homes A.
+    pub fn new(
+        m: &'a mut M,
+        cache: &'a mut Cache,
+        source: &'a S,
+        home_a: u32,
+        free: &'a mut FreePages,
+    ) -> Table<'a, M, S>
+        requires pages { S.pages source.now ≡ length free.old }
+        requires small { length free.old ≤ 4096 }
+        requires sectors { S.sectors source.now ≤ (M.report m.old).sectors }
+        requires frames { 192 ≤ cache.old.frames }
+        requires unpinned { (page : ℕ) → pins_of cache.old page ≡ 0 }
+        requires clean { IsTrusted M.Machine S.PageSource source.now m.old → AreNewest (given_by M.Machine S.PageSource source.now m.old) cache.old }
+        ensures over { IsOver m.entry cache.entry source.now free.entry result }
+        ensures step { step_of result ≡ begun (given_by M.Machine S.PageSource source.now m.old) cache.old free.old home_a }
+    {
+        let _whole = cache.dirty_list();
+        Table {
+            m,
+            cache,
+            source,
+            home_a,
+            free,
+            reached: ArrayVec::new(),
+            spares: ArrayVec::new(),
+            promised: 0,
+            refusal: None,
+        }
+    }
+}
+
+impl<'a, M: Machine, S: PageSource> Pages for Table<'a, M, S> {
+    ghost use Rattle.std.specs.Prelude.{refl};
+    ghost use Rattle.std.proofs.Common.{ap, ◌∙◌, subst, sym};
+    ghost use Rattle.name_page.specs.Pages.{Step};
+    ghost use Rattle.table_pages.specs.Bringing.{IsTrusted, OuterCause};
+    ghost use Rattle.table_pages.specs.Table.{step_of, written, ReadsOnly};
+    ghost use Rattle.table_pages.specs.TableLaws.{step_written, reads_written, reads_still, reads_then, trusted_earlier, later_cause, outer_cause, few_images, as_many};
+
+    ghost step = { step_of };
+
+    ghost written = { written };
+
+    ghost trusted = { λ t. IsTrusted M.Machine S.PageSource t.source.now t.m.now };
+
+    ghost outside = { ReadsOnly };
+
+    ghost causes = { λ a b refusal. OuterCause M.Machine S.PageSource b.source.now a.m.now b.m.now refusal };
+
+    ghost changed = { step_written };
+
+    ghost quiet = { reads_written M.only_now };
+
+    ghost still = { reads_still M.only_now };
+
+    ghost then = { reads_then };
+
+    ghost trust = { trusted_earlier };
+
+    ghost later = { later_cause };
+
+    ghost outer = { outer_cause };
+
+    ghost small = { few_images };
+
+    ghost flags = { as_many };
+
+    fn count(&self) -> u32 {
+        self.free.pages()
+    }
+
+    fn reach(&mut self, page: u32) -> Result<(), Refusal> {
+        match bring_used(
+            self.m,
+            self.cache,
+            self.source,
+            self.free,
+            self.home_a,
+            page,
+        ) {
+            Ok(()) => {
+                keep(self.cache, &mut self.reached, page);
+                Ok(())
+            }
+            Err(refusal) => {
+                self.refusal = Some(refusal);
+                Err(refusal)
+            }
+        }
+    }
+
+    fn spare(&mut self, n: u32) -> Result<(), Refusal> {
+        match spare_pages(
+            self.m,
+            self.cache,
+            self.source,
+            self.free,
+            &mut self.spares,
+            n,
+        ) {
+            Ok(()) => {
+                self.promised = n;
+                Ok(())
+            }
+            Err(refusal) => {
+                self.refusal = Some(refusal);
+                Err(refusal)
+            }
+        }
+    }
+
+    fn look(&self, page: u32) -> &[u8; 512] {
+        self.cache.bytes(page)
+    }
+
+    fn change(&mut self, page: u32) -> &mut [u8; 512] {
+        self.cache.dirty(page);
+        self.cache.bytes_mut(page)
+    }
+
+    fn take(&mut self) -> u32 {
+        self.promised -= 1;
+        take_spare(self.cache, self.free, &mut self.spares)
+    }
+
+    fn give_back(&mut self, page: u32) {
+        self.free.add(page);
+    }
+
+    fn rest(&mut self) {
+        self.promised = 0;
+        self.refusal = None;
+        release(self.cache, &mut self.reached);
+        release(self.cache, &mut self.spares);
+    }
+}
