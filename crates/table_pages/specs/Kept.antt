@@ -14,6 +14,16 @@ use Rattle.table_pages.specs.Sparing.{AreSpare}
 unfoldable pub images_of : (ℕ → Option (List ℕ)) → (count : ℕ) → List (List ℕ)
 images_of image count = map (λ page. unwrap_or (image page) []) (range_with_len 0 count)
 
+-- A table can be made over these: the source has as many pages as can be free; the disk is large enough for it, and the cache
+-- for a step; no page is pinned. Where the outside is trusted, what is not dirty is what the source has.
+pub record IsReady {D E : Type 0} (M : MachineGhosts D) (S : SourceGhosts E) (m : D) (cache : CacheValue) (source : E) (free : List Bool) : Type 0 where
+  pub pages : S.pages source ≡ length free
+  pub small : length free ≤ 4096
+  pub sectors : S.sectors source ≤ (M.report m).sectors
+  pub frames : 192 ≤ cache.frames
+  pub unpinned : (page : ℕ) → pins_of cache page ≡ 0
+  pub clean : IsTrusted M S source m → AreNewest (given_by M S source m) cache
+
 -- The source has as many pages as can be free; the disk is large enough for it. The pages that were reached and the free
 -- ones that are kept are pinned, and no others; those that are dirty are in the cache. Where the outside is trusted, what
 -- is not dirty is what the source has.

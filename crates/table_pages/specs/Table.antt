@@ -7,7 +7,7 @@ use Rattle.page_cache.specs.Cache.{CacheValue, newest, with_written}
 use Rattle.name_page.specs.Pages.{Step}
 use Rattle.table_pages.specs.Reads.{OnlyReads}
 use Rattle.table_pages.specs.Bringing.{given_by}
-use Rattle.table_pages.specs.Kept.{images_of, kept_written}
+use Rattle.table_pages.specs.Kept.{IsReady, images_of, kept_written}
 use Rattle.table_pages.specs.declared.table.Table.{Table}
 
 -- the pages before the first step: those that are dirty are changed, and nothing else was done
@@ -49,3 +49,7 @@ module _ {D E : Type 0} {M : MachineGhosts D} {S : SourceGhosts E} where
     pub cached : t.cache ≡ cache
     pub from : t.source.now ≡ source
     pub spared : t.free ≡ free
+
+  -- no page is pinned any more, and another table can be made over the same
+  abbrev pub IsAtRest : Table D E M S → Type 0
+  IsAtRest t = IsReady M S t.m.now t.cache.now t.source.now t.free.now

@@ -13,6 +13,7 @@ use sector_disk::Machine;
 
 /// The pages of a name table over a cache of at least 192 frames. A page that is changed waits in the cache until a force
 /// has written it: at most 96 do, and what is left of them is the leave to change.
+#[derive(Drop)]
 pub struct Table<'a, M: Machine, S: PageSource> {
     m: &'a mut M,
     cache: &'a mut Cache,
@@ -28,11 +29,11 @@ pub struct Table<'a, M: Machine, S: PageSource> {
 }
 
 impl<'a, M: Machine, S: PageSource> Table<'a, M, S> {
-    ghost use Rattle.page_cache.specs.Cache.{AreNewest, pins_of};
-    ghost use Rattle.table_pages.specs.Bringing.{IsTrusted, given_by};
+    ghost use Rattle.table_pages.specs.Bringing.{given_by};
+    ghost use Rattle.table_pages.specs.Kept.{IsReady};
     ghost use Rattle.table_pages.specs.Table.{step_of, begun, IsOver};
 
-    /// Over a cache with no page pinned. `home_a` is the first sector of the homes A.
+    /// A table over these. `home_a` is the first sector of the homes A.
     pub fn new(
         m: &'a mut M,
         cache: &'a mut Cache,
@@ -40,12 +41,7 @@ impl<'a, M: Machine, S: PageSource> Table<'a, M, S> {
         home_a: u32,
         free: &'a mut FreePages,
     ) -> Table<'a, M, S>
-        requires pages { S.pages source.now ≡ length free.old }
-        requires small { length free.old ≤ 4096 }
-        requires sectors { S.sectors source.now ≤ (M.report m.old).sectors }
-        requires frames { 192 ≤ cache.old.frames }
-        requires unpinned { (page : ℕ) → pins_of cache.old page ≡ 0 }
-        requires clean { IsTrusted M.Machine S.PageSource source.now m.old → AreNewest (given_by M.Machine S.PageSource source.now m.old) cache.old }
+        requires { IsReady M.Machine S.PageSource m.old cache.old source.now free.old }
         ensures over { IsOver m.entry cache.entry source.now free.entry result }
         ensures step { step_of result ≡ begun (given_by M.Machine S.PageSource source.now m.old) cache.old free.old home_a }
     {
@@ -67,9 +63,9 @@ impl<'a, M: Machine, S: PageSource> Table<'a, M, S> {
 impl<'a, M: Machine, S: PageSource> Pages for Table<'a, M, S> {
     ghost use Rattle.std.specs.Prelude.{refl};
     ghost use Rattle.std.proofs.Common.{ap, ◌∙◌, subst, sym};
-    ghost use Rattle.name_page.specs.Pages.{Step};
+    ghost use Rattle.name_page.specs.Pages.{Step, rested};
     ghost use Rattle.table_pages.specs.Bringing.{IsTrusted, OuterCause};
-    ghost use Rattle.table_pages.specs.Table.{step_of, written, ReadsOnly};
+    ghost use Rattle.table_pages.specs.Table.{step_of, written, ReadsOnly, IsAtRest};
     ghost use Rattle.table_pages.specs.TableLaws.{step_written, reads_written, reads_still, reads_then, trusted_earlier, later_cause, outer_cause, few_images, as_many};
 
     ghost step = { step_of };
@@ -162,7 +158,11 @@ impl<'a, M: Machine, S: PageSource> Pages for Table<'a, M, S> {
         self.free.add(page);
     }
 
-    fn rest(&mut self) {
+    fn rest(&mut self)
+        ensures outside { ReadsOnly self.old self.new }
+        ensures step { step_of self.new ≡ rested (step_of self.old) }
+        ensures ready { IsAtRest self.new }
+    {
         self.promised = 0;
         self.refusal = None;
         release(self.cache, &mut self.reached);

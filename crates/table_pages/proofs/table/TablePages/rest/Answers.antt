@@ -4,7 +4,7 @@ use Rattle.table_pages.proofs.KeptLaws.{spare_pins, reached_pins, kept_unreached
 use Rattle.table_pages.proofs.StepLaws.{rested_step}
 use Rattle.table_pages.proofs.table.TablePages.rest.Given as given
 use Rattle.table_pages.proofs.table.TablePages.rest.Goals as goal
-use Rattle.table_pages.proofs.table.TablePages.rest.Goals.{After-release}
+use Rattle.table_pages.proofs.table.TablePages.rest.Goals.{After-release, After-release-2}
 
 -- what is kept once the pages that were reached are unpinned
 unreached : (g : given.Over) (c : After-release g) → let t = c.args.self.now in IsKept g.M.Machine g.S.PageSource t.m.now c.release.new.cache t.source.now t.free.now [] t.spares.items t.promised
@@ -22,15 +22,26 @@ release-requires-2 g c =
     let t = c.args.self.now in
     (omega arith, spare_pins g.M.Machine g.S.PageSource t.source.now t.m.now c.release.new.cache t.free.now [] t.spares.items t.promised (unreached g (goal.at.release-requires-2 g c).After-release))
 
+-- no page is kept any more
+unspared : (g : given.Over) (c : After-release-2 g) → let t = c.args.self.now in IsKept g.M.Machine g.S.PageSource t.m.now c.release.new.cache t.source.now t.free.now [] t.spares.items t.promised
+    → IsKept g.M.Machine g.S.PageSource t.m.now c.release-2.new.cache t.source.now t.free.now [] [] 0
+unspared g c kept =
+    let t = c.args.self.now in
+    kept_unspared g.M.Machine g.S.PageSource t.source.now t.m.now c.release.new.cache t.free.now [] t.spares.items t.promised kept c.release-2.new.cache c.release-2.ensures.only c.release-2.ensures.pins
+
 pub invariant_of-self : goal.invariant_of-self
 invariant_of-self g c =
     let M = g.M.Machine in
     let S = g.S.PageSource in
     let t = c.args.self.now in
     let last = c.release-2.new.cache in
-    let kept = kept_unspared M S t.source.now t.m.now c.release.new.cache t.free.now [] t.spares.items t.promised (unreached g (goal.at.invariant_of-self g c).After-release) last c.release-2.ensures.only c.release-2.ensures.pins in
-    let reached = subst (λ (l : List ℕ). IsKept M S t.m.now last t.source.now t.free.now l [] 0) (sym c.release.ensures.none) kept in
+    let reached = subst (λ (l : List ℕ). IsKept M S t.m.now last t.source.now t.free.now l [] 0) (sym c.release.ensures.none) (unspared g (goal.at.invariant_of-self g c).After-release-2 (unreached g (goal.at.invariant_of-self g c).After-release)) in
     record { kept = subst (λ (l : List ℕ). IsKept M S t.m.now last t.source.now t.free.now c.release.new.list.items l 0) (sym c.release-2.ensures.none) reached }
+
+pub returns-clause-ready : goal.returns-clause-ready
+returns-clause-ready g c =
+    let kept = unspared g (goal.at.returns-clause-ready g c).After-release-2 (unreached g (goal.at.returns-clause-ready g c).After-release) in
+    record { pages = kept.pages; small = kept.small; sectors = kept.sectors; frames = kept.frames; unpinned = kept.pins; clean = kept.clean }
 
 pub returns-clause-step : goal.returns-clause-step
 returns-clause-step g c = rested_step c.args.self.now c.release.new.cache c.release-2.new.cache c.release.new.list.items c.release.ensures.only c.release-2.ensures.only c.release.ensures.none
