@@ -1,13 +1,13 @@
 //! The mount of a volume.
-ghost use Rattle.std.specs.Prelude.{◌≡◌, ◌≤◌, ◌<◌, ◌^◌, ℕ, List, [], Some, Ok, IfOk, IfErr, length};
+ghost use Rattle.std.specs.Prelude.{◌≡◌, ◌+◌, ◌≤◌, ◌<◌, ◌^◌, ℕ, List, [], Some, Ok, IfOk, IfErr, OnErr, length};
 ghost use Rattle.volume_layout.specs.declared.layout.Layout.{Layout as Plan};
 ghost use Rattle.volume_layout.specs.Layout.{plan};
 ghost use Rattle.sector_disk.specs.declared.sector.WeakRun.{WeakRun as Run};
 ghost use Rattle.sector_disk.specs.Image.{IsCalm};
 ghost use Rattle.sector_disk.specs.Machine.{UsesDisk, Trusts, OnlyWrites, Wears, LeavesOnly};
 ghost use Rattle.fsd_files.specs.Files.{Change};
-ghost use Rattle.mount_recover.specs.Lost.{AreCopiesOn, AreHomes, LostIn};
-ghost use Rattle.mount_recover.specs.Recover.{IsFreshLog};
+ghost use Rattle.mount_recover.specs.Lost.{AreCopiesOn, AreHomes, LostIn, WritesMost};
+ghost use Rattle.mount_recover.specs.Recover.{IsFreshLog, writes_most};
 ghost use Rattle.mount_recover.specs.Replay.{SameBehind};
 ghost use Rattle.fsd_volume.specs.State.{IsTable, free_space};
 ghost use Rattle.fsd_volume.specs.Mount.{TellsFault, MountRefused, IsFoundOn, IsSoundAt, MountLeaves, MountEnds, TellsFirst};
@@ -36,6 +36,8 @@ impl Volume {
         ensures uses { UsesDisk (M.report m.old) (M.report m.new) }
         ensures trust { Trusts (M.tells m.old) (M.tells m.new) (M.honest m.old) (M.honest m.new) }
         ensures ledger { M.tells m.new → OnlyWrites (M.ledger m.old) (M.ledger m.new) }
+        ensures counted { IfOk result (λ volume. M.tells m.new → (M.ledger m.new).written ≤ (M.ledger m.old).written + writes_most volume.layout.pages) }
+        ensures counted_err { OnErr result (M.tells m.new → M.honest m.new → WritesMost sectors (M.now m.old) (M.ledger m.old) (M.ledger m.new)) }
         ensures quiet { M.honest m.new → (M.now m.new).said ≡ (M.now m.old).said }
         ensures room { IfOk result (λ volume. volume.layout.sectors ≤ sectors) }
         ensures idle { IfOk result (λ volume. volume.table.dirty ≡ []) }
