@@ -4,8 +4,7 @@ use Rattle.std.specs.Prelude.{IsTrue, if◌then◌else◌, min, max, Result, Ok,
 use Rattle.std.proofs.lemmas.Bool.{cases_lt}
 use Rattle.std.proofs.lemmas.List.{length-append, get_or_append_left, get_or_past}
 use Rattle.std.proofs.Math.Seq.{get_or-append_seam}
-use Rattle.sector_disk.specs.declared.sector.Sector.TheVariants.{Damaged}
-use Rattle.sector_disk.specs.Image.{sector_at, IsWorn, Windows, open_damage}
+use Rattle.sector_disk.specs.Image.{IsWorn, Windows, open_damage}
 use Rattle.sector_disk.specs.Machine.{Report, Moment, Wears, UsesDisk, LeavesOnly}
 use Rattle.sector_disk.proofs.Moments.{then_on, leaves_more}
 use Rattle.sector_disk.proofs.Wear.{worn_refl, worn_trans, worn_damaged}

@@ -10,7 +10,7 @@ use Rattle.sector_disk.specs.Machine.{Moment, Wears}
 use Rattle.sector_disk.proofs.Wear.{worn_trans, worn_whole, length-lay, lay_other, outside_cases}
 use Rattle.volume_layout.specs.Shape.{Shape}
 use Rattle.fsd_formats.specs.Record.{Stamp}
-use Rattle.fsd_log.specs.Judged.{Reader, slice_of, Serving, judged, logged_of, record_in}
+use Rattle.fsd_log.specs.Judged.{Reader, Serving, judged, logged_of, record_in}
 use Rattle.fsd_log.specs.Scan.{IsEnd, Head, place_of, tape, room_at, window, record_here, last_number, start}
 use Rattle.fsd_log.specs.Borne.{Foreign}
 use Rattle.fsd_log.proofs.AppendLaws.{none_foreign}

@@ -25,7 +25,6 @@ use Rattle.fsd_sound.proofs.WindowLaws.{open_is_weak}
 use Rattle.log_thirds.specs.Append.{IsIndexed, StandsInPart}
 use Rattle.log_thirds.specs.Copies.{copies_count, AreCopiesOf, AreLastCopies}
 use Rattle.log_thirds.specs.LogValue.{LogValue}
-use Rattle.log_thirds.specs.Slots.{AreSlots}
 use Rattle.fsd_sound.specs.Logged.{IsLogged, Follows}
 use Rattle.fsd_sound.specs.Windows.{IsNarrow}
 use Rattle.fsd_sound.proofs.CoverLaws.{ends_so, logged_still}

@@ -25,7 +25,6 @@ use Rattle.log_thirds.specs.Disk.{bytes_in, reads}
 use Rattle.log_thirds.specs.LogValue.{LogValue}
 use Rattle.log_thirds.specs.Reading.{ReadWorn, SeesAnchor, SeesLastEpoch}
 use Rattle.log_thirds.specs.Seen.{IsScanOf, LogOn}
-use Rattle.log_thirds.specs.Slots.{AreSlots}
 use Rattle.fsd_sound.proofs.CommuteLaws.{same_or}
 use Rattle.mount_recover.specs.declared.fault.MountFault.{MountFault}
 use Rattle.mount_recover.specs.Finding.{mount_fault_of, IsFound, IsNotFound}

@@ -1,11 +1,10 @@
-use Rattle.std.proofs.Common.{◌≡◌, ◌≤◌, ◌+◌, ℕ, List, Bool, length, arith, subst, ap, ◌∙◌, sym, Some, None}
+use Rattle.std.proofs.Common.{◌≤◌, ℕ, List, Bool, length, arith, subst, ap, ◌∙◌, sym, Some, None}
 use Rattle.fsd_formats.specs.Record.{Stamp, record_len}
 use Rattle.log_record.specs.Found.{read_of, serving_in}
 use Rattle.fsd_log.specs.Judged.{record_in}
 use Rattle.fsd_log.specs.Scan.{room_at, window, tape}
 use Rattle.log_thirds.specs.Disk.{reads}
 use Rattle.log_thirds.specs.Reading.{ReadsRecord}
-use Rattle.log_thirds.specs.Copies.{AreServed}
 use Rattle.log_thirds.proofs.CopyLaws.{length_copies, images_served, end_served}
 use Rattle.volume_layout.proofs.RootLaws.{planned_bounds}
 use Rattle.fsd_log.proofs.HereLaws.{here_looks, here_last}
