@@ -15,10 +15,9 @@ use Rattle.fsd_formats.specs.declared.anchor.Anchor.{Anchor}
 use Rattle.fsd_files.specs.Answers.{entry_of}
 use Rattle.fsd_files.specs.Disk.{Image}
 use Rattle.fsd_files.specs.Files.{Change}
-use Rattle.fsd_files.specs.OneLeaf.{put_outcome}
-use Rattle.fsd_files.specs.Replies.{Made, Refused, Bytes, DamagedAt, Reply}
+use Rattle.fsd_volume.specs.OneLeaf.{IsSoundLeaf, leaf_put_outcome}
+use Rattle.fsd_files.specs.Replies.{Made, Reply}
 use Rattle.fsd_files.specs.Volume.{Volume}
-use Rattle.fsd_sound.specs.Sound.{IsSound}
 use Rattle.mount_recover.specs.Recover.{last_epoch}
 use Rattle.cfs_run.specs.declared.answer.Answer.{Answer}
 use Rattle.cfs_run.specs.declared.answer.Answer.TheVariants as Said
@@ -60,9 +59,7 @@ made_is_no_fault key n Ends.WornOut (suc k) e = let letter : 102 ≡ 109 = ap fi
 
 reply_proper : (name bytes : List ℕ) (reply : Reply) (fault : Fault) (heard : ℕ) → take heard (fault_text fault) ≡ (reply_turn name bytes reply).said → length (reply_turn name bytes reply).changes ≡ 0
 reply_proper name bytes (Made key n) fault heard e = absurd (made_is_no_fault key n fault heard e)
-reply_proper name bytes (Refused why) fault heard e = refl
-reply_proper name bytes (Bytes key given) fault heard e = refl
-reply_proper name bytes (DamagedAt key s) fault heard e = refl
+reply_proper name bytes other fault heard e = refl
 
 -- where the line of a fault is all that a turn says, it changes nothing
 turn_proper : (request : Request) (v : Volume) (i : Image) (input : List ℕ) (fault : Fault) (heard : ℕ) → take heard (fault_text fault) ≡ (turn_of request v i input).said → length (turn_of request v i input).changes ≡ 0
@@ -72,10 +69,10 @@ turn_proper (Format n t p) v i input fault heard e = refl
 turn_proper (Get key) v i input fault heard e = ap length (nothing_changes key i (find key_cmp key v.files) (entry_of key v.entries))
 turn_proper (Put name) v i input fault heard e = by (nat_lt MOST_INPUT (length input)) e
   where
-    by : (b : Bool) → take heard (fault_text fault) ≡ (cond b (line_turn (Lines.Ended Ends.InputTooLong) []) (reply_turn name input (put_outcome v name input None).0)).said
-        → length (cond b (line_turn (Lines.Ended Ends.InputTooLong) []) (reply_turn name input (put_outcome v name input None).0)).changes ≡ 0
+    by : (b : Bool) → take heard (fault_text fault) ≡ (cond b (line_turn (Lines.Ended Ends.InputTooLong) []) (reply_turn name input (leaf_put_outcome v name input None).0)).said
+        → length (cond b (line_turn (Lines.Ended Ends.InputTooLong) []) (reply_turn name input (leaf_put_outcome v name input None).0)).changes ≡ 0
     by true e = refl
-    by false e = reply_proper name input (put_outcome v name input None).0 fault heard e
+    by false e = reply_proper name input (leaf_put_outcome v name input None).0 fault heard e
 
 abbrev plain_statuses : List ℕ
 plain_statuses = 0 ∷ 1 ∷ 2 ∷ 5 ∷ 8 ∷ []
@@ -85,14 +82,12 @@ turn_plain Outside v i input = refl
 turn_plain (BadField cause) v i input = refl
 turn_plain (Format n t p) v i input = refl
 turn_plain (Get key) v i input = read_plain key i (find key_cmp key v.files) (entry_of key v.entries)
-turn_plain (Put name) v i input = by (nat_lt MOST_INPUT (length input)) (put_outcome v name input None).0
+turn_plain (Put name) v i input = by (nat_lt MOST_INPUT (length input)) (leaf_put_outcome v name input None).0
   where
     by : (b : Bool) (reply : Reply) → IsTrue (is_one_of plain_statuses (cond b (line_turn (Lines.Ended Ends.InputTooLong) []) (reply_turn name input reply)).status)
     by true reply = refl
     by false (Made key n) = refl
-    by false (Refused why) = refl
-    by false (Bytes key given) = refl
-    by false (DamagedAt key s) = refl
+    by false other = refl
 
 not_refused : (status : ℕ) → IsTrue (is_one_of plain_statuses status) → (status ≡ 3) ⊎ (status ≡ 9) → ⊥
 not_refused status plain (inl three) = let is : is_one_of plain_statuses 3 ≡ true = ap (is_one_of plain_statuses) (sym three) ∙ plain in cc
@@ -213,7 +208,7 @@ module _ (request : Request) (input : List ℕ) (l : Layout) (windows : List Wea
     part = take u.heard (fault_text fault);
     said = u.said ∙ ap (λ (s : List ℕ). s ++ take u.heard (fault_text fault)) quiet;
     fault = (fault, (u.heard, refl));
-    sound = subst (λ (i : Image). IsSound l windows h f i) (sym (same left u.image)) before.sound;
+    sound = subst (λ (i : Image). IsSoundLeaf l windows h f i) (sym (same left u.image)) before.sound;
   })
   left_fault fault left u (inr since) = inr (record {
     run = since.run;
@@ -223,7 +218,7 @@ module _ (request : Request) (input : List ℕ) (l : Layout) (windows : List Wea
     begins = inr (fault, (u.heard, refl));
     forced = 0;
     whole = λ e. sym (turn_proper request carries.volume at.image input fault u.heard e);
-    sound = subst (λ (i : Image). IsSound l (windows ++ since.run ∷ []) (take n h ++ turn.changes) (n + 0) i) (sym (same left u.image)) since.sound;
+    sound = subst (λ (i : Image). IsSoundLeaf l (windows ++ since.run ∷ []) (take n h ++ turn.changes) (n + 0) i) (sym (same left u.image)) since.sound;
   })
 
   -- a part of the turn's text, or that memory was refused
@@ -237,7 +232,7 @@ module _ (request : Request) (input : List ℕ) (l : Layout) (windows : List Wea
     begins = begins (take u.heard bytes) (u.heard, refl);
     forced = length turn.changes;
     whole = λ e. refl;
-    sound = subst (λ (i : Image). IsSound l (windows ++ since.run ∷ []) (take n h ++ turn.changes) (n + length turn.changes) i) (sym (same left u.image)) since.sound;
+    sound = subst (λ (i : Image). IsSoundLeaf l (windows ++ since.run ∷ []) (take n h ++ turn.changes) (n + length turn.changes) i) (sym (same left u.image)) since.sound;
   })
 
   left_uttered : (left : Moment) → UttersOne (answer_text answer) between left → Left l windows h f n turn at left
@@ -269,7 +264,7 @@ module _ (request : Request) (input : List ℕ) (l : Layout) (windows : List Wea
       said = says.said ∙ ap (λ (s : List ℕ). s ++ answer_text answer) quiet ∙ ap (λ (b : List ℕ). at.said ++ b) answers.text;
       run = since.run;
       settled = says.windows ∙ since.settled;
-      sound = subst (λ (i : Image). IsSound l (windows ++ since.run ∷ []) (take n h ++ turn.changes) (n + length turn.changes) i) (sym (same last says.image)) since.sound;
+      sound = subst (λ (i : Image). IsSoundLeaf l (windows ++ since.run ∷ []) (take n h ++ turn.changes) (n + length turn.changes) i) (sym (same last says.image)) since.sound;
     }
 
     pub run_replies : IsTrue (is_turn_status result) → IsReplied l windows h n turn at last result

@@ -9,11 +9,13 @@ use Rattle.sector_disk.specs.Machine.{Makes, Moment}
 use Rattle.volume_layout.specs.declared.layout.Layout.{Layout}
 use Rattle.fsd_files.specs.Disk.{Image}
 use Rattle.fsd_sound.specs.Format.{IsFormattedIn}
-use Rattle.fsd_sound.specs.Sound.{IsSound}
-use Rattle.fsd_sound.proofs.FormatSoundLaws.{format_is_sound}
-use Rattle.fsd_sound.proofs.SoundLaws.{sound_still}
+use Rattle.fsd_table.specs.Table.{one_leaf}
+use Rattle.fsd_sound.specs.Shown.{told}
+use Rattle.fsd_sound.proofs.FormatSoundLaws.{format_is_sound, format_told}
 use Rattle.fsd_sound.proofs.WindowLaws.{windows_are_narrow}
+use Rattle.fsd_volume.specs.OneLeaf.{IsSoundLeaf}
 use Rattle.fsd_volume.specs.Formatting.{Formats, IsNew}
+use Rattle.fsd_volume.proofs.OneLeafLaws.{leaf_is, sound_leaf_still}
 use Rattle.cfs_run.specs.Formatting.{MakesVolume}
 
 sector_at-replicate : (count s : ℕ) → sector_at (replicate count Damaged) s ≡ Damaged
@@ -21,11 +23,14 @@ sector_at-replicate zero s = refl
 sector_at-replicate (suc count) zero = refl
 sector_at-replicate (suc count) (suc s) = sector_at-replicate count s
 
-pub formatted_sound : (l : Layout) (run : WeakRun) (i : Image) → IsShort run → IsFormattedIn l run i → IsSound l (run ∷ []) [] 0 i
+pub formatted_sound : (l : Layout) (run : WeakRun) (i : Image) → IsShort run → IsFormattedIn l run i → IsSoundLeaf l (run ∷ []) [] 0 i
 formatted_sound l run i short f =
     let few : run.count ≤ 3 = omega (arith, short) in
     let narrow = windows_are_narrow (run ∷ []) (last_or None (run ∷ [])) refl few in
-    sound_still l (run ∷ []) narrow [] 0 f.written i f.worn (format_is_sound l (run ∷ []) narrow f.written f.formatted)
+    sound_leaf_still l (run ∷ []) narrow [] 0 f.written i f.worn (record {
+      sound = format_is_sound l (run ∷ []) narrow f.written f.formatted;
+      leaf = λ j w. leaf_is (told l j) (one_leaf []) (format_told l (run ∷ []) narrow f.written j w f.formatted) refl;
+    })
 
 pub volume_made : (l : Layout) (count : ℕ) (old mid new : Moment) → AreShort new.windows → Makes count old mid → (IsNew mid → Formats l mid new) → MakesVolume l old new
 volume_made l count old mid new are_short made done =

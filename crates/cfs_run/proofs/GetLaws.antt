@@ -2,9 +2,7 @@
 use Rattle.std.proofs.Common.{◌≡◌, ◌⊎◌, inl, inr, ℕ, zero, suc, ◌+◌, ◌-◌, ◌≤◌, min, Bool, true, false, cond, ◌||◌, List, [], ◌∷◌, ◌++◌, length, take, take_all, drop, Option, Some, None, refl, sym, ap, subst, ◌∙◌, arith}
 use Rattle.std.specs.Prelude.{⊤, ◌==◌, Ok, Err, IsTrue}
 use Rattle.std.specs.List.{AllByRecursion}
-use Rattle.std.specs.Ordering.{eq_by_cmp, is_eq, ordering_reverse}
-use Rattle.std.specs.declared.cmp.Ordering.{Ordering}
-use Rattle.std.specs.declared.cmp.Ordering.TheVariants.{Less, Equal, Greater}
+use Rattle.std.specs.Ordering.{eq_by_cmp}
 use Rattle.std.specs.FinMap.{find}
 use Rattle.fsd_bytes.specs.declared.key.Key.{Key}
 use Rattle.fsd_bytes.specs.Keys.{key_cmp, same_key}
@@ -28,14 +26,14 @@ use Rattle.fsd_files.specs.Disk.{Image, Sectors, in_runs}
 use Rattle.fsd_files.specs.Files.{Change, File, Files}
 use Rattle.fsd_files.specs.Kept.{FirstDamaged, IsWhole, Kept, KeptIn, Lists, data_sectors, range_sectors}
 use Rattle.fsd_files.specs.Volume.{Volume}
-use Rattle.fsd_files.proofs.HistoryLaws.{keys_total}
 use Rattle.fsd_files.proofs.KeptLaws.{Agree, behind_there, first_there, rest_there}
-use Rattle.fsd_sound.specs.Sound.{IsSound}
+use Rattle.fsd_volume.specs.OneLeaf.{IsSoundLeaf}
 use Rattle.mount_recover.specs.Replay.{SameBehind}
 use Rattle.fsd_volume.specs.Pieces.{DamagedIn, GivesPart, ReadEnds, part_len}
 use Rattle.fsd_volume.specs.State.{IsMounted, IsTable, State}
 use Rattle.fsd_volume.proofs.HomeLaws.{data_from}
 use Rattle.fsd_volume.proofs.StoredLaws.{stored}
+use Rattle.fsd_volume.proofs.OneLeafLaws.{mounted_sound_leaf}
 use Rattle.cfs_run.specs.declared.answer.Answer.{Answer}
 use Rattle.cfs_run.specs.declared.answer.Answer.TheVariants as Said
 use Rattle.fsd_texts.specs.declared.fault.Fault.TheVariants as Ends
@@ -45,17 +43,9 @@ use Rattle.cfs_run.specs.Ends.{HasDamage, IfDamaged, is_one_of}
 use Rattle.cfs_run.specs.Lines.{line_of, read_line}
 use Rattle.cfs_run.specs.Leaves.{Turn, damaged_or, first_damaged, get_turn, line_turn, read_turn, version_turn}
 use Rattle.cfs_run.specs.Working.{IsAnswered, IsEnded, IsOutside, Stays, Works}
+use Rattle.fsd_files.proofs.ChangeLaws.{same_key_turned}
 use Rattle.cfs_run.proofs.DamageEnds.{read_damage}
-use Rattle.cfs_run.proofs.PutLaws.{mounted_is_sound}
 use Rattle.cfs_run.proofs.StageLaws.{sound_more}
-
-turned_eq : (o : Ordering) → is_eq (ordering_reverse o) ≡ is_eq o
-turned_eq Less = refl
-turned_eq Equal = refl
-turned_eq Greater = refl
-
-same_key_turned : (a b : Key) → eq_by_cmp key_cmp a b ≡ same_key b a
-same_key_turned a b = ap is_eq (keys_total.antisymm a b) ∙ turned_eq (key_cmp b a)
 
 -- the version and its entry, or neither
 abbrev pub FileAt : Sectors → Image → Option File → Option Entry → Type 0
@@ -205,9 +195,9 @@ module _ {D : Type 0} (moment : D → ℕ) (left_since : D → ℕ → Moment �
   stays c g none same left w = record {
     windows = w.windows;
     said = w.said;
-    sound = subst (λ (n : ℕ). IsSound state.layout windows (h ++ c) n left.image) (sym same)
+    sound = subst (λ (n : ℕ). IsSoundLeaf state.layout windows (h ++ c) n left.image) (sym same)
         (sound_more state.layout windows h c f left.image
-        (subst (λ (i : Image). IsSound state.layout windows h f i) (sym (calm_worn old.windows old.image left.image calm w.image)) (mounted_is_sound state v windows h f old.image m)));
+        (subst (λ (i : Image). IsSoundLeaf state.layout windows h f i) (sym (calm_worn old.windows old.image left.image calm w.image)) (mounted_sound_leaf state v windows h f old.image m)));
   }
 
   none : turn.changes ≡ []

@@ -7,7 +7,7 @@ use Rattle.fsd_bytes.specs.declared.refusal.Refusal.TheVariants as Why
 use Rattle.fsd_formats.specs.declared.entry.Entry.{Entry}
 use Rattle.fsd_files.specs.Files.{Files}
 use Rattle.fsd_files.specs.Kept.{Lists}
-use Rattle.fsd_files.specs.OneLeaf.{put_outcome}
+use Rattle.fsd_volume.specs.OneLeaf.{leaf_put_outcome}
 use Rattle.fsd_files.specs.Volume.{Volume}
 use Rattle.mount_recover.specs.declared.fault.MountFault.{MountFault}
 use Rattle.mount_recover.specs.Replay.{SameBehind}
@@ -104,7 +104,7 @@ lists (e ∷ entries) = (record { key = refl; keep = refl; length = sym (length-
 stands : (state : State) → StandsFor state (volume_of state (files_of state.entries))
 stands state = record { layout = refl; entries = refl; lists = lists state.entries; serial = refl; removed = refl; held = refl; drafts = refl; reached = refl }
 
-put_refusal : (why : Refusal) (old : State) (v after : Volume) (name bytes : List ℕ) → (IsWornOut old → ⊥) → PutSays old v (put_outcome v name bytes None) after (Err why) → IfMountLine Never (line_of why)
+put_refusal : (why : Refusal) (old : State) (v after : Volume) (name bytes : List ℕ) → (IsWornOut old → ⊥) → PutSays old v (leaf_put_outcome v name bytes None) after (Err why) → IfMountLine Never (line_of why)
 put_refusal (Why.Lost a b) old v after name bytes first says = absurd ((keeps v name bytes None).told (Why.Lost a b) says.0)
 put_refusal (Why.Unsound s) old v after name bytes first says = absurd ((keeps v name bytes None).told (Why.Unsound s) says.0)
 put_refusal Why.WornOut old v after name bytes first says = absurd (first says.0)
@@ -126,7 +126,7 @@ put_refusal (Why.Short declared got) old v after name bytes first says = tt
 put_refusal (Why.Long declared got) old v after name bytes first says = tt
 
 pub put_refused : (why : Refusal) (line : Line) (state new : State) (name bytes : List ℕ) → (IsWornOut state → ⊥)
-    → ((v : Volume) → StandsFor state v → Puts state v (put_outcome v name bytes None) new (Err why)) → line ≡ line_of why → IfMountLine Never line
+    → ((v : Volume) → StandsFor state v → Puts state v (leaf_put_outcome v name bytes None) new (Err why)) → line ≡ line_of why → IfMountLine Never line
 put_refused why line state new name bytes first answers told =
     let v = volume_of state (files_of state.entries) in
     let puts = answers v (stands state) in

@@ -20,14 +20,13 @@ use Rattle.fsd_formats.specs.NamePage.{sectors_for}
 use Rattle.fsd_files.specs.Answers.{Outcome, keep_given, no_place, refused, size_fault, with_version}
 use Rattle.fsd_files.specs.Disk.{Image}
 use Rattle.fsd_files.specs.Files.{Change, new_key}
-use Rattle.fsd_files.specs.OneLeaf.{put_at, put_outcome, put_unless}
+use Rattle.fsd_volume.specs.OneLeaf.{IsSoundLeaf, leaf_put_at, leaf_put_outcome, leaf_put_unless}
 use Rattle.fsd_files.specs.Replies.{Made, Refused, Reply}
 use Rattle.fsd_files.specs.Volume.{Volume, drawn, free_runs, place_for}
-use Rattle.fsd_sound.specs.Sound.{IsSound}
-use Rattle.fsd_sound.proofs.MountedLaws.{mounted_sound}
+use Rattle.fsd_volume.proofs.OneLeafLaws.{mounted_sound_leaf}
 use Rattle.fsd_volume.specs.Forcing.{Forces}
 use Rattle.fsd_volume.specs.Put.{IsWornOut, PutSays}
-use Rattle.fsd_volume.specs.State.{IsMounted, State, StaysMounted, mounted_of}
+use Rattle.fsd_volume.specs.State.{IsMounted, State, StaysMounted}
 use Rattle.cfs_run.specs.declared.answer.Answer.{Answer}
 use Rattle.cfs_run.specs.declared.answer.Answer.TheVariants as Said
 use Rattle.fsd_texts.specs.declared.fault.Fault.{Fault}
@@ -95,11 +94,11 @@ reply_of_place : (b : Bool) (need free best : ℕ) → IsReply (cond b (Why.NoSp
 reply_of_place true need free best = tt
 reply_of_place false need free best = tt
 
-keeps_at : (v : Volume) (name bytes : List ℕ) (given : Option ℕ) (need : ℕ) (found : Option (List Run)) → IfSome found (λ runs. total runs ≡ need) → Keeps v need (put_at v name bytes given need found)
+keeps_at : (v : Volume) (name bytes : List ℕ) (given : Option ℕ) (need : ℕ) (found : Option (List Run)) → IfSome found (λ runs. total runs ≡ need) → Keeps v need (leaf_put_at v name bytes given need found)
 keeps_at v name bytes given need None sum = keeps_refused v v need (no_place v need) refl refl refl (reply_of_place _ need _ _)
 keeps_at v name bytes given need (Some runs) sum = keeps_in v name bytes given runs v.serial need _ _ sum
 
-keeps_unless : (v : Volume) (name bytes : List ℕ) (given : Option ℕ) (fault : Option Refusal) → IfSome fault IsReply → Keeps v (sectors_for (length bytes)) (put_unless fault v name bytes given)
+keeps_unless : (v : Volume) (name bytes : List ℕ) (given : Option ℕ) (fault : Option Refusal) → IfSome fault IsReply → Keeps v (sectors_for (length bytes)) (leaf_put_unless fault v name bytes given)
 keeps_unless v name bytes given None reply = keeps_at v name bytes given (sectors_for (length bytes)) (place_for v (sectors_for (length bytes))) (total_of_pick (free_runs v) (sectors_for (length bytes)))
 keeps_unless v name bytes given (Some why) reply = keeps_refused v v (sectors_for (length bytes)) why refl refl refl reply
 
@@ -108,13 +107,10 @@ reply_of_size true b keep n = tt
 reply_of_size false true keep n = tt
 reply_of_size false false keep n = tt
 
-pub keeps : (v : Volume) (name bytes : List ℕ) (given : Option ℕ) → Keeps v (sectors_for (length bytes)) (put_outcome v name bytes given)
+pub keeps : (v : Volume) (name bytes : List ℕ) (given : Option ℕ) → Keeps v (sectors_for (length bytes)) (leaf_put_outcome v name bytes given)
 keeps v name bytes given = keeps_unless v name bytes given (size_fault (keep_given given) (length bytes)) (reply_of_size _ _ (keep_given given) (length bytes))
 
 -- ---- the sound disk below the volume
-
-pub mounted_is_sound : (state : State) (v : Volume) (windows : List WeakRun) (h : List Change) (f : ℕ) (i : Image) → IsMounted state v windows h f i → IsSound state.layout windows h f i
-mounted_is_sound state v windows h f i m = subst (λ (l : Layout). IsSound l windows h f i) m.stands.layout (mounted_sound (mounted_of state v) windows h f i m.on_disk)
 
 forced_at_most : (state : State) (v : Volume) (windows : List WeakRun) (h : List Change) (f : ℕ) (i : Image) → IsMounted state v windows h f i → f ≤ length h
 forced_at_most state v windows h f i m = let count = m.on_disk.count in omega (arith, count)
@@ -123,7 +119,7 @@ pub stays_more : (l : Layout) (windows : List WeakRun) (h c : List Change) (f : 
 stays_more l windows h c f old left stays = record { windows = stays.windows; said = stays.said; sound = sound_more l windows h c f left.image stays.sound }
 
 stays_mounted : (state : State) (v : Volume) (windows : List WeakRun) (h c : List Change) (f : ℕ) (old left : Moment) → StaysMounted state v windows h f old left → Stays state.layout windows (h ++ c) f old left
-stays_mounted state v windows h c f old left stays = stays_more state.layout windows h c f old left (record { windows = stays.windows; said = stays.said; sound = mounted_is_sound state v windows h f left.image stays.mounted })
+stays_mounted state v windows h c f old left stays = stays_more state.layout windows h c f old left (record { windows = stays.windows; said = stays.said; sound = mounted_sound_leaf state v windows h f left.image stays.mounted })
 
 -- ---- a put that is refused
 
@@ -146,7 +142,7 @@ ended_ends : (turn : Turn) (fault : Fault) (l : Layout) (windows : List WeakRun)
 ended_ends turn fault l windows h f old new outside stays = inr (record { fault = fault; allowed = outside; is = refl }, stays_more l windows h turn.changes f old new stays)
 
 put_ends : (why : Refusal) (state : State) (v after : Volume) (name bytes : List ℕ) (l : Layout) (windows : List WeakRun) (h : List Change) (f : ℕ) (old new : Moment) → (IsWornOut state → ⊥)
-    → PutSays state v (put_outcome v name bytes None) after (Err why) → Stays l windows h f old new → WorkEnds l windows h f (reply_turn name bytes (put_outcome v name bytes None).0) old new (Said.Line (line_of why))
+    → PutSays state v (leaf_put_outcome v name bytes None) after (Err why) → Stays l windows h f old new → WorkEnds l windows h f (reply_turn name bytes (leaf_put_outcome v name bytes None).0) old new (Said.Line (line_of why))
 put_ends (Why.Device s) state v after name bytes l windows h f old new fresh says stays = ended_ends _ (Ends.Device s) l windows h f old new tt stays
 put_ends Why.Memory state v after name bytes l windows h f old new fresh says stays = ended_ends _ Ends.Memory l windows h f old new tt stays
 put_ends Why.WornOut state v after name bytes l windows h f old new fresh says stays = absurd (fresh says.0)
@@ -177,19 +173,19 @@ module _ {D : Type 0} (moment : D → ℕ) (left_since : D → ℕ → Moment �
   moments_with : (c : List Change) → LeavesOnly moment left_since a b (Stays state.layout windows (h ++ c) f old)
   moments_with c = leaves_more moment left_since a b (StaysMounted state v windows h f old) (Stays state.layout windows (h ++ c) f old) (λ left. stays_mounted state v windows h c f old left) put
 
-  pub refused_works : (why : Refusal) (after : Volume) (line : Line) → (IsWornOut state → ⊥) → PutSays state v (put_outcome v name bytes None) after (Err why) → line ≡ line_of why
-      → Works state.layout windows h f (reply_turn name bytes (put_outcome v name bytes None).0) (LeavesOnly moment left_since a b) old mid (Said.Line line)
+  pub refused_works : (why : Refusal) (after : Volume) (line : Line) → (IsWornOut state → ⊥) → PutSays state v (leaf_put_outcome v name bytes None) after (Err why) → line ≡ line_of why
+      → Works state.layout windows h f (reply_turn name bytes (leaf_put_outcome v name bytes None).0) (LeavesOnly moment left_since a b) old mid (Said.Line line)
   refused_works why after line fresh says is =
-      let turn = reply_turn name bytes (put_outcome v name bytes None).0 in
+      let turn = reply_turn name bytes (leaf_put_outcome v name bytes None).0 in
       let at = put.each mid now in
-      let stays : Stays state.layout windows h f old mid = record { windows = at.windows; said = at.said; sound = mounted_is_sound state v windows h f mid.image at.mounted } in
+      let stays : Stays state.layout windows h f old mid = record { windows = at.windows; said = at.said; sound = mounted_sound_leaf state v windows h f mid.image at.mounted } in
       record {
         moments = moments_with turn.changes;
         ends = subst (λ (x : Line). WorkEnds state.layout windows h f turn old mid (Said.Line x)) (sym is) (put_ends why state v after name bytes state.layout windows h f old mid fresh says stays);
       }
 
-  module _ (key : Key) (n : ℕ) (made : (put_outcome v name bytes None).0 ≡ Made key n) (c : D) (new : Moment) (force : LeavesOnly moment left_since b c (Forces state.layout windows (h ++ change) f mid)) where
-    from_mid : (left : Moment) (g : ℕ) → left.windows ≡ mid.windows → left.said ≡ mid.said → IsSound state.layout windows (h ++ change) g left.image → Stays state.layout windows (h ++ change) g old left
+  module _ (key : Key) (n : ℕ) (made : (leaf_put_outcome v name bytes None).0 ≡ Made key n) (c : D) (new : Moment) (force : LeavesOnly moment left_since b c (Forces state.layout windows (h ++ change) f mid)) where
+    from_mid : (left : Moment) (g : ℕ) → left.windows ≡ mid.windows → left.said ≡ mid.said → IsSoundLeaf state.layout windows (h ++ change) g left.image → Stays state.layout windows (h ++ change) g old left
     from_mid left g same quiet sound = let at = put.each mid now in record { windows = same ∙ at.windows; said = quiet ∙ at.said; sound = sound }
 
     both_moments : LeavesOnly moment left_since a c (Stays state.layout windows (h ++ change) f old)
@@ -199,10 +195,10 @@ module _ {D : Type 0} (moment : D → ℕ) (left_since : D → ℕ → Moment �
 
     pub made_works : (sectors : ℕ) (last : State) (after : Volume) → n ≡ sectors → IsMounted state v windows h f old.image → last.layout ≡ state.layout → IsMounted last after windows (h ++ change) (length (h ++ change)) new.image
         → new.windows ≡ mid.windows → new.said ≡ mid.said
-        → Works state.layout windows h f (reply_turn name bytes (put_outcome v name bytes None).0) (LeavesOnly moment left_since a c) old new (Said.Line (Lines.Made key sectors))
+        → Works state.layout windows h f (reply_turn name bytes (leaf_put_outcome v name bytes None).0) (LeavesOnly moment left_since a c) old new (Said.Line (Lines.Made key sectors))
     made_works sectors last after count mounted same done windows_same quiet =
         let most = forced_at_most state v windows h f old.image mounted in
-        let sound = subst (λ (l : Layout). IsSound l windows (h ++ change) (length (h ++ change)) new.image) same (mounted_is_sound last after windows (h ++ change) (length (h ++ change)) new.image done) in
+        let sound = subst (λ (l : Layout). IsSoundLeaf l windows (h ++ change) (length (h ++ change)) new.image) same (mounted_sound_leaf last after windows (h ++ change) (length (h ++ change)) new.image done) in
         subst (λ (r : Reply). Works state.layout windows h f (reply_turn name bytes r) (LeavesOnly moment left_since a c) old new (Said.Line (Lines.Made key sectors))) (sym made)
         (record {
           moments = both_moments;
@@ -213,7 +209,7 @@ module _ {D : Type 0} (moment : D → ℕ) (left_since : D → ℕ → Moment �
         })
 
     pub unforced_works : (why : Refusal) (place : ℕ) (line : Line) → why ≡ Why.Device place → line ≡ line_of why → Forces state.layout windows (h ++ change) f mid new
-        → Works state.layout windows h f (reply_turn name bytes (put_outcome v name bytes None).0) (LeavesOnly moment left_since a c) old new (Said.Line line)
+        → Works state.layout windows h f (reply_turn name bytes (leaf_put_outcome v name bytes None).0) (LeavesOnly moment left_since a c) old new (Said.Line line)
     unforced_works why place line device is failed =
         subst (λ (r : Reply). Works state.layout windows h f (reply_turn name bytes r) (LeavesOnly moment left_since a c) old new (Said.Line line)) (sym made)
         (record {
@@ -223,13 +219,13 @@ module _ {D : Type 0} (moment : D → ℕ) (left_since : D → ℕ → Moment �
 
 -- ---- the input before it
 
-module _ {D : Type 0} (moment : D → ℕ) (left_since : D → ℕ → Moment → Type 0) (l : Layout) (windows : List WeakRun) (h : List Change) (f : ℕ) (a b : D) (old mid : Moment) (calm : IsCalm old.windows) (sound : IsSound l windows h f old.image)
+module _ {D : Type 0} (moment : D → ℕ) (left_since : D → ℕ → Moment → Type 0) (l : Layout) (windows : List WeakRun) (h : List Change) (f : ℕ) (a b : D) (old mid : Moment) (calm : IsCalm old.windows) (sound : IsSoundLeaf l windows h f old.image)
     (input : LeavesOnly moment left_since a b (Wears old)) (worn : Wears old mid) where
   worn_stays : (c : List Change) (left : Moment) → Wears old left → Stays l windows (h ++ c) f old left
   worn_stays c left wears = record {
     windows = wears.windows;
     said = wears.said;
-    sound = subst (λ (i : Image). IsSound l windows (h ++ c) f i) (sym (calm_worn old.windows old.image left.image calm wears.image)) (sound_more l windows h c f old.image sound);
+    sound = subst (λ (i : Image). IsSoundLeaf l windows (h ++ c) f i) (sym (calm_worn old.windows old.image left.image calm wears.image)) (sound_more l windows h c f old.image sound);
   }
 
   input_moments : (c : List Change) → LeavesOnly moment left_since a b (Stays l windows (h ++ c) f old)
@@ -257,7 +253,7 @@ module _ {D : Type 0} (moment : D → ℕ) (left_since : D → ℕ → Moment �
   pub long_works : (v : Volume) (name bytes : List ℕ) → MOST_INPUT < length bytes → Works l windows h f (put_turn v name bytes) (LeavesOnly moment left_since a b) old mid (Said.Line (Lines.Ended Ends.InputTooLong))
   long_works v name bytes long =
       let too_long : nat_lt MOST_INPUT (length bytes) ≡ true = lt-ltb MOST_INPUT (length bytes) long in
-      subst (λ (yes : Bool). Works l windows h f (cond yes (line_turn (Lines.Ended Ends.InputTooLong) []) (reply_turn name bytes (put_outcome v name bytes None).0)) (LeavesOnly moment left_since a b) old mid (Said.Line (Lines.Ended Ends.InputTooLong)))
+      subst (λ (yes : Bool). Works l windows h f (cond yes (line_turn (Lines.Ended Ends.InputTooLong) []) (reply_turn name bytes (leaf_put_outcome v name bytes None).0)) (LeavesOnly moment left_since a b) old mid (Said.Line (Lines.Ended Ends.InputTooLong)))
       (sym too_long) (record {
         moments = input_moments [];
         ends = inl (
@@ -270,8 +266,8 @@ module _ {D : Type 0} (moment : D → ℕ) (left_since : D → ℕ → Moment �
         );
       })
 
-pub short_turn : (v : Volume) (name bytes : List ℕ) → length bytes ≤ MOST_INPUT → put_turn v name bytes ≡ reply_turn name bytes (put_outcome v name bytes None).0
-short_turn v name bytes short = ap (λ (b : Bool). cond b (line_turn (Lines.Ended Ends.InputTooLong) []) (reply_turn name bytes (put_outcome v name bytes None).0)) not_long
+pub short_turn : (v : Volume) (name bytes : List ℕ) → length bytes ≤ MOST_INPUT → put_turn v name bytes ≡ reply_turn name bytes (leaf_put_outcome v name bytes None).0
+short_turn v name bytes short = ap (λ (b : Bool). cond b (line_turn (Lines.Ended Ends.InputTooLong) []) (reply_turn name bytes (leaf_put_outcome v name bytes None).0)) not_long
   where
     not_long : nat_lt MOST_INPUT (length bytes) ≡ false
     not_long = le-ltb MOST_INPUT (length bytes) short

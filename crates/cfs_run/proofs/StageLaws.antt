@@ -1,5 +1,5 @@
 -- The moments of a run that mounts, one part of it after another.
-use Rattle.std.proofs.Common.{◌≡◌, inl, inr, ℕ, ◌+◌, ◌≤◌, List, [], ◌∷◌, ◌++◌, length, take, Option, Some, None, refl, sym, subst, ◌∙◌, arith}
+use Rattle.std.proofs.Common.{◌≡◌, inl, inr, ℕ, ◌+◌, ◌≤◌, List, [], ◌∷◌, ◌++◌, length, take, Option, Some, None, refl, sym, ap, subst, ◌∙◌, arith}
 use Rattle.std.specs.Prelude.{Ok, Err}
 use Rattle.std.proofs.lemmas.List.{take-append-le, length-append}
 use Rattle.volume_layout.specs.declared.layout.Layout.{Layout}
@@ -8,12 +8,14 @@ use Rattle.sector_disk.specs.declared.sector.WeakRun.{WeakRun}
 use Rattle.sector_disk.specs.Image.{Windows}
 use Rattle.sector_disk.specs.Machine.{LeavesOnly, Moment}
 use Rattle.sector_disk.proofs.Moments.{leaves_more, then_on}
+use Rattle.fsd_table.specs.Table.{Telling, one_leaf}
 use Rattle.fsd_files.specs.Disk.{Image, Sectors, in_runs}
 use Rattle.fsd_files.specs.Files.{Change, Files, after}
 use Rattle.fsd_files.specs.Volume.{Volume}
 use Rattle.fsd_files.specs.Kept.{Describes}
-use Rattle.fsd_sound.specs.Sound.{EndIn, IsSound, Tells}
+use Rattle.fsd_sound.specs.Sound.{EndIn, Tells}
 use Rattle.fsd_sound.specs.Shown.{told}
+use Rattle.fsd_volume.specs.OneLeaf.{IsSoundLeaf}
 use Rattle.fsd_volume.specs.Mount.{MountLeaves, TellsFirst, volume_of}
 use Rattle.fsd_volume.specs.State.{State}
 use Rattle.cfs_run.specs.declared.answer.Answer.{Answer}
@@ -28,22 +30,28 @@ use Rattle.fsd_sound.proofs.WindowLaws.{last_snoc}
 
 -- ---- more changes, and fewer that are forced
 
-tells_more : (l : Layout) (hurt : Sectors) (i : Image) (h c : List Change) (f : ℕ) (o : Option (List Entry)) → Tells l hurt i h f o → Tells l hurt i (h ++ c) f o
+tells_more : (l : Layout) (hurt : Sectors) (i : Image) (h c : List Change) (f : ℕ) (o : Option Telling) → Tells l hurt i h f o → Tells l hurt i (h ++ c) f o
 tells_more l hurt i h c f None tells = absurd tells
-tells_more l hurt i h c f (Some entries) tells =
+tells_more l hurt i h c f (Some telling) tells =
     let made = tells.1.made in
     let same : take tells.0 (h ++ c) ≡ take tells.0 h = take-append-le tells.0 h c made in
-    (tells.0, record { forced = tells.1.forced; made = omega (arith, made, length-append h c) }, subst (λ (g : List Change). Describes l hurt i (after g) entries) (sym same) tells.2)
+    (tells.0, record { forced = tells.1.forced; made = omega (arith, made, length-append h c) }, subst (λ (g : List Change). Describes l hurt i (after g) telling.entries) (sym same) tells.2)
 
-pub sound_more : (l : Layout) (windows : List WeakRun) (h c : List Change) (f : ℕ) (i : Image) → IsSound l windows h f i → IsSound l windows (h ++ c) f i
-sound_more l windows h c f i sound = record { readable = sound.readable; tells = λ j worn. tells_more l (in_runs windows) j h c f (told l j) (sound.tells j worn) }
+pub sound_more : (l : Layout) (windows : List WeakRun) (h c : List Change) (f : ℕ) (i : Image) → IsSoundLeaf l windows h f i → IsSoundLeaf l windows (h ++ c) f i
+sound_more l windows h c f i s = record {
+  sound = record { readable = s.sound.readable; tells = λ j worn. tells_more l (in_runs windows) j h c f (told l j) (s.sound.tells j worn) };
+  leaf = s.leaf;
+}
 
-tells_fewer : (l : Layout) (hurt : Sectors) (i : Image) (h : List Change) (f g : ℕ) (o : Option (List Entry)) → f ≤ g → Tells l hurt i h g o → Tells l hurt i h f o
+tells_fewer : (l : Layout) (hurt : Sectors) (i : Image) (h : List Change) (f g : ℕ) (o : Option Telling) → f ≤ g → Tells l hurt i h g o → Tells l hurt i h f o
 tells_fewer l hurt i h f g None le tells = absurd tells
-tells_fewer l hurt i h f g (Some entries) le tells = let forced = tells.1.forced in (tells.0, record { forced = omega (arith, le, forced); made = tells.1.made }, tells.2)
+tells_fewer l hurt i h f g (Some telling) le tells = let forced = tells.1.forced in (tells.0, record { forced = omega (arith, le, forced); made = tells.1.made }, tells.2)
 
-pub sound_fewer : (l : Layout) (windows : List WeakRun) (h : List Change) (f g : ℕ) (i : Image) → f ≤ g → IsSound l windows h g i → IsSound l windows h f i
-sound_fewer l windows h f g i le sound = record { readable = sound.readable; tells = λ j worn. tells_fewer l (in_runs windows) j h f g (told l j) le (sound.tells j worn) }
+pub sound_fewer : (l : Layout) (windows : List WeakRun) (h : List Change) (f g : ℕ) (i : Image) → f ≤ g → IsSoundLeaf l windows h g i → IsSoundLeaf l windows h f i
+sound_fewer l windows h f g i le s = record {
+  sound = record { readable = s.sound.readable; tells = λ j worn. tells_fewer l (in_runs windows) j h f g (told l j) le (s.sound.tells j worn) };
+  leaf = s.leaf;
+}
 
 -- ---- the mount, within the run
 
@@ -96,13 +104,13 @@ first_starts l windows h f n i t = record { layout = refl; files = refl; tells =
 some_is : {A : Type 0} (x y : A) → Some x ≡ Some y → x ≡ y
 some_is x y e = cc
 
-pub starts : (l : Layout) (windows : List WeakRun) (h : List Change) (f n : ℕ) (i : Image) (state : State) → TellsFirst l windows h f n i → told l i ≡ Some state.entries → state.layout ≡ l → state.serial.count ≡ 1
+pub starts : (l : Layout) (windows : List WeakRun) (h : List Change) (f n : ℕ) (i : Image) (state : State) → TellsFirst l windows h f n i → told l i ≡ Some (one_leaf state.entries) → state.layout ≡ l → state.serial.count ≡ 1
     → Starts l windows h n (volume_of state (after (take n h))) i
 starts l windows h f n i state t is layout first = record {
   layout = layout;
   files = refl;
   tells = is;
-  described = subst (λ (es : List Entry). Describes l (in_runs windows) i (after (take n h)) es) (some_is t.entries state.entries (sym t.tells ∙ is)) t.described;
+  described = subst (λ (es : List Entry). Describes l (in_runs windows) i (after (take n h)) es) (ap (λ (t : Telling). t.entries) (some_is (one_leaf t.entries) (one_leaf state.entries) (sym t.tells ∙ is))) t.described;
   removed = refl;
   held = refl;
   drafts = refl;

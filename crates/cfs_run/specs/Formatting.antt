@@ -7,7 +7,7 @@ use Rattle.sector_disk.specs.Machine.{Asked, Ledger, Moment, Report}
 use Rattle.volume_layout.specs.declared.layout.Layout.{Layout}
 use Rattle.volume_layout.specs.declared.fault.LayoutFault.{LayoutFault}
 use Rattle.fsd_sound.specs.Format.{IsFormattedIn}
-use Rattle.fsd_sound.specs.Sound.{IsSound}
+use Rattle.fsd_volume.specs.OneLeaf.{IsSoundLeaf}
 use Rattle.fsd_texts.specs.declared.fault.Fault.TheVariants as Ends
 use Rattle.fsd_texts.specs.declared.line.Line.{Line}
 use Rattle.fsd_texts.specs.declared.line.Line.TheVariants.{Formatted, Ended}
@@ -48,7 +48,7 @@ pub record HoldsVolume (l : Layout) (moment : Moment) : Type 0 where
   pub run : WeakRun
   pub short : IsShort run
   pub formatted : IsFormattedIn l run moment.image
-  pub sound : IsSound l (run ∷ []) [] 0 moment.image
+  pub sound : IsSoundLeaf l (run ∷ []) [] 0 moment.image
   pub windows : moment.windows ≡ record { present = Some run; next = None }
 
 -- It is made, and nothing is said of it.

@@ -16,12 +16,13 @@ use Rattle.fsd_files.specs.Answers.{entry_of}
 use Rattle.fsd_files.specs.Disk.{Image, in_runs}
 use Rattle.fsd_files.specs.Files.{Change, File, after}
 use Rattle.fsd_files.specs.Kept.{Describes, range_sectors}
-use Rattle.fsd_files.specs.OneLeaf.{put_outcome}
+use Rattle.fsd_volume.specs.OneLeaf.{IsSoundLeaf, leaf_put_outcome}
 use Rattle.fsd_files.specs.Replies.{Made, Refused, Reply}
 use Rattle.fsd_files.specs.Volume.{Volume}
 use Rattle.fsd_sound.specs.Anchors.{anchor_of}
+use Rattle.fsd_sound.specs.Mounted.{telling_of}
 use Rattle.fsd_sound.specs.Shown.{told}
-use Rattle.fsd_sound.specs.Sound.{IsPrefixOf, IsSound}
+use Rattle.fsd_sound.specs.Sound.{IsPrefixOf}
 use Rattle.mount_recover.specs.Recover.{last_epoch}
 use Rattle.fsd_formats.specs.declared.anchor.Anchor.{Anchor}
 use Rattle.fsd_texts.specs.declared.fault.Fault.{Fault}
@@ -36,12 +37,12 @@ use Rattle.cfs_run.specs.Answer.{status_of}
 
 -- ---- the volume that a run begins with
 
--- A mount of the image gives this volume: its files are those after the first n changes, and its entries those that the
+-- A mount of the image gives this volume: its files are those after the first n changes, and its table the one that the
 -- image tells.
 pub record Starts (l : Layout) (windows : List WeakRun) (h : List Change) (n : ℕ) (v : Volume) (i : Image) : Type 0 where
   pub layout : v.layout ≡ l
   pub files : v.files ≡ after (take n h)
-  pub tells : told l i ≡ Some v.entries
+  pub tells : told l i ≡ Some (telling_of v)
   pub described : Describes l (in_runs windows) i v.files v.entries
   pub removed : v.removed ≡ []
   pub held : v.held ≡ []
@@ -82,7 +83,7 @@ reply_turn name bytes reply = line_turn (reply_line reply) (changes_of name byte
 -- the whole input is put, if it isn't too long
 abbrev pub put_turn : Volume → (name input : List ℕ) → Turn
 put_turn v name input =
-    if nat_lt MOST_INPUT (length input) then line_turn (Says.Ended Ends.InputTooLong) [] else reply_turn name input (put_outcome v name input None).0
+    if nat_lt MOST_INPUT (length input) then line_turn (Says.Ended Ends.InputTooLong) [] else reply_turn name input (leaf_put_outcome v name input None).0
 
 abbrev pub damaged_or : Sector → ℕ → Option ℕ → Option ℕ
 damaged_or Damaged s rest = Some s
@@ -127,7 +128,7 @@ pub record LeftBefore (l : Layout) (windows : List WeakRun) (h : List Change) (f
   pub part : List ℕ
   pub said : left.said ≡ old.said ++ part
   pub fault : SaysFault part
-  pub sound : IsSound l windows h f left.image
+  pub sound : IsSoundLeaf l windows h f left.image
 
 -- Since then: the run that was named is the present one, and a part of the turn's text is said, or of a fault. The image is
 -- sound for the n changes that were found, all of them forced, and for the turn's, which are forced once its text is said.
@@ -139,7 +140,7 @@ pub record LeftSince (l : Layout) (windows : List WeakRun) (h : List Change) (n 
   pub begins : Begins turn.said part ⊎ SaysFault part
   pub forced : ℕ
   pub whole : part ≡ turn.said → forced ≡ length turn.changes
-  pub sound : IsSound l (windows ++ run ∷ []) (take n h ++ turn.changes) (n + forced) left.image
+  pub sound : IsSoundLeaf l (windows ++ run ∷ []) (take n h ++ turn.changes) (n + forced) left.image
 
 abbrev pub Left : Layout → List WeakRun → List Change → (f n : ℕ) → Turn → (old left : Moment) → Type 0
 Left l windows h f n turn old left = LeftBefore l windows h f old left ⊎ LeftSince l windows h n turn old left
@@ -162,7 +163,7 @@ pub record IsReplied (l : Layout) (windows : List WeakRun) (h : List Change) (n 
   pub said : new.said ≡ old.said ++ turn.said
   pub run : WeakRun
   pub settled : new.windows ≡ record { present = Some run; next = None }
-  pub sound : IsSound l (windows ++ run ∷ []) (take n h ++ turn.changes) (n + length turn.changes) new.image
+  pub sound : IsSoundLeaf l (windows ++ run ∷ []) (take n h ++ turn.changes) (n + length turn.changes) new.image
 
 -- So it is, or it is said that memory was refused.
 abbrev pub IsRepliedOrMemory : Layout → List WeakRun → List Change → (n : ℕ) → Turn → (old new : Moment) → (result : ℕ) → Type 0

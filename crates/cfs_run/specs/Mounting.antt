@@ -7,7 +7,8 @@ use Rattle.sector_disk.specs.declared.sector.WeakRun.{WeakRun}
 use Rattle.volume_layout.specs.declared.layout.Layout.{Layout}
 use Rattle.volume_layout.specs.Layout.{plan}
 use Rattle.fsd_files.specs.Files.{Change}
-use Rattle.fsd_sound.specs.Sound.{EndIn, IsSound}
+use Rattle.fsd_sound.specs.Sound.{EndIn}
+use Rattle.fsd_volume.specs.OneLeaf.{IsSoundLeaf}
 use Rattle.mount_recover.specs.declared.fault.MountFault.{MountFault}
 use Rattle.mount_recover.specs.declared.fault.MountFault.TheVariants.{NotVolume, Device, Memory, Lost, NoAnchor, Unsound, WornOut}
 use Rattle.fsd_texts.specs.declared.fault.Fault.{Fault}
@@ -56,7 +57,7 @@ IfMount P fault = ⊤
 -- it is so of every sound disk, where nothing wears
 abbrev pub OpensDisk : Moment → Moment → (Layout → List WeakRun → List Change → ℕ → Type 0) → Type 0
 OpensDisk old new P = IsCalm old.windows → IsCalm new.windows → (l : Layout) (windows : List WeakRun) (h : List Change) (f : ℕ) → plan l.sectors l.third l.pages ≡ Ok l
-    → EndIn old.windows windows → IsSound l windows h f old.image → P l windows h f
+    → EndIn old.windows windows → IsSoundLeaf l windows h f old.image → P l windows h f
 
 -- the attach that a command asks for, of an image that is there
 abbrev pub mount_asks : List ℕ → List Asked

@@ -6,8 +6,10 @@ use Rattle.sector_disk.specs.Machine.{Moment}
 use Rattle.fsd_files.specs.Disk.{Image}
 use Rattle.fsd_files.specs.Files.{Change}
 use Rattle.fsd_files.specs.Volume.{Volume}
+use Rattle.fsd_table.specs.Table.{one_leaf}
 use Rattle.fsd_sound.specs.Shown.{told}
-use Rattle.fsd_sound.specs.Sound.{IsPrefixOf, IsSound}
+use Rattle.fsd_sound.specs.Sound.{IsPrefixOf}
+use Rattle.fsd_volume.specs.OneLeaf.{IsSoundLeaf}
 use Rattle.fsd_volume.specs.State.{State}
 use Rattle.fsd_volume.specs.Mount.{MountLeaves, Mounts, TellsFirst}
 use Rattle.cfs_run.specs.declared.answer.Answer.{Answer}
@@ -36,7 +38,7 @@ IsFailure i Ends.WornOut = IsLastEpoch i
 IsFailure i fault = ⊥
 
 abbrev pub OpenEnds : Layout → List WeakRun → List Change → (f n : ℕ) → (old new : Moment) → Result State Fault → Type 0
-OpenEnds l windows h f n old new (Ok state) = Mounts l windows h n state new × (told l old.image ≡ Some state.entries)
+OpenEnds l windows h f n old new (Ok state) = Mounts l windows h n state new × (told l old.image ≡ Some (one_leaf state.entries))
 OpenEnds l windows h f n old new (Err fault) = IsFailure old.image fault × MountLeaves l windows h f n old new
 
 -- A mount, from the attach on.
@@ -52,7 +54,7 @@ pub record Opens (l : Layout) (windows : List WeakRun) (h : List Change) (f : �
 pub record Stays (l : Layout) (runs : List WeakRun) (h : List Change) (f : ℕ) (old left : Moment) : Type 0 where
   pub windows : left.windows ≡ old.windows
   pub said : left.said ≡ old.said
-  pub sound : IsSound l runs h f left.image
+  pub sound : IsSoundLeaf l runs h f left.image
 
 -- a fault ends the command
 pub record IsEnded (P : Fault → Type 0) (answer : Answer) : Type 0 where
@@ -82,14 +84,14 @@ pub record Works (l : Layout) (windows : List WeakRun) (h : List Change) (f : �
 pub record QuietBefore (l : Layout) (windows : List WeakRun) (h : List Change) (f : ℕ) (old left : Moment) : Type 0 where
   pub present : left.windows.present ≡ old.windows.present
   pub said : left.said ≡ old.said
-  pub sound : IsSound l windows h f left.image
+  pub sound : IsSoundLeaf l windows h f left.image
 
 -- Since then, with so many of the changes forced.
 pub record QuietSince (l : Layout) (windows : List WeakRun) (h : List Change) (n : ℕ) (changes : List Change) (forced : ℕ) (old left : Moment) : Type 0 where
   pub run : WeakRun
   pub settled : left.windows ≡ record { present = Some run; next = None }
   pub said : left.said ≡ old.said
-  pub sound : IsSound l (windows ++ run ∷ []) (take n h ++ changes) (n + forced) left.image
+  pub sound : IsSoundLeaf l (windows ++ run ∷ []) (take n h ++ changes) (n + forced) left.image
 
 abbrev pub Quiet : Layout → List WeakRun → List Change → (f n : ℕ) → List Change → (old left : Moment) → Type 0
 Quiet l windows h f n changes old left = QuietBefore l windows h f old left ⊎ QuietSince l windows h n changes 0 old left

@@ -4,7 +4,7 @@ ghost use Rattle.sector_disk.specs.declared.sector.WeakRun.{WeakRun};
 ghost use Rattle.sector_disk.specs.Image.{IsCalm};
 ghost use Rattle.sector_disk.specs.Machine.{LeavesOnly, OnlyWrites, Trusts};
 ghost use Rattle.fsd_files.specs.Files.{Change};
-ghost use Rattle.fsd_files.specs.OneLeaf.{put_outcome};
+ghost use Rattle.fsd_volume.specs.OneLeaf.{leaf_put_outcome};
 ghost use Rattle.fsd_files.specs.Volume.{Volume as Mounted};
 ghost use Rattle.fsd_sound.specs.Sound.{EndIn};
 ghost use Rattle.mount_recover.specs.Lost.{AreCopiesOn, LostIn};
@@ -89,7 +89,7 @@ fn put_bytes<M: Machine>(volume: Volume, name: &FileName, bytes: &[u8], m: &mut 
     ensures mounted { IsReady volume → IfMountLine Never result }
     ensures works { M.honest m.new → IsCalm (M.now m.old).windows → IsReady volume → (v : Mounted) (windows : List WeakRun) (h : List Change) (f : ℕ) → EndIn (M.now m.old).windows windows
         → IsMounted volume v windows h f (M.now m.old).image
-        → Works volume.layout windows h f (reply_turn name.now bytes.now (put_outcome v name.now bytes.now None).0) (LeavesOnly M.moment M.left_since m.old m.new) (M.now m.old) (M.now m.new) (Said.Line result) }
+        → Works volume.layout windows h f (reply_turn name.now bytes.now (leaf_put_outcome v name.now bytes.now None).0) (LeavesOnly M.moment M.left_since m.old m.new) (M.now m.old) (M.now m.new) (Said.Line result) }
 {
     let mut volume = volume;
     let key = match volume.put(m, name, None, bytes) {

@@ -1,3 +1,10 @@
+pub mod ChangeKept
+pub mod ChangeLaws
+pub mod CountLaws
+pub mod FreshLaws
 pub mod HistoryLaws
 pub mod KeptLaws
+pub mod ListingLaws
+pub mod WaitExamples
+pub mod WaitLaws
 pub mod WearLaws

@@ -1,10 +1,19 @@
 -- The replies of a volume.
-use Rattle.std.specs.Prelude.{ℕ, List}
+use Rattle.std.specs.Prelude.{ℕ, List, Option}
 use Rattle.fsd_bytes.specs.declared.key.Key.{Key}
 use Rattle.fsd_bytes.specs.declared.refusal.Refusal.{Refusal}
+use Rattle.fsd_formats.specs.declared.entry.Entry.{Entry}
 
 pub data Reply : Type 0 where
   Refused : Refusal → Reply
   Made : Key → (sectors : ℕ) → Reply
+  Deleted : Key → Reply
+  -- the key of the name's highest version, whose keep it is now
+  Kept : Key → (keep : ℕ) → Reply
+  Listed : List Entry → Reply
   Bytes : Key → List ℕ → Reply
   DamagedAt : Key → (sector : ℕ) → Reply
+  Forced : Reply
+  Counts : (free waiting pages versions : ℕ) → Reply
+  -- one version's entry, or that no later one is there
+  Found : Option Entry → Reply

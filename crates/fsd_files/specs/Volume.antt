@@ -1,5 +1,5 @@
 -- What a mounted volume has: its files, where they lie, and which sectors wait.
-use Rattle.std.specs.Prelude.{ℕ, suc, ◌-◌, Bool, not, ◌&&◌, ◌||◌, List, [], length, map, filter, Option}
+use Rattle.std.specs.Prelude.{ℕ, suc, ◌+◌, ◌-◌, ◌≤◌, Bool, not, ◌&&◌, ◌||◌, List, [], length, map, filter, Option, is_none, nat_le, ◌==◌, if◌then◌else◌}
 use Rattle.std.specs.List.{list_any, flat_map}
 use Rattle.fsd_bytes.specs.declared.key.Key.{Key}
 use Rattle.fsd_bytes.specs.Keys.{same_key}
@@ -63,6 +63,20 @@ module _ (v : Volume) where
 -- what went before is on the disk as gone
 abbrev pub forced : Volume → Volume
 forced v = record v { removed = []; unforced = 0 }
+
+-- where a creation finds no place and a removed sector waits, a force comes first
+abbrev pub forced_for_place : ℕ → Volume → Volume
+forced_for_place need v = if is_none (place_for v need) && not (length v.removed == 0) then forced v else v
+
+-- A volume may force by itself before a change, but only once two changes wait for one. Which changes those are it says for
+-- itself: here it is what it chose.
+abbrev pub forced_if : Bool → Volume → Volume
+forced_if chosen v = if chosen && nat_le 2 v.unforced then forced v else v
+
+-- the table has its root, and no more than a page for each version beside it
+pub record HasReach (v : Volume) : Type 0 where
+  pub root : 1 ≤ v.reached
+  pub most : v.reached ≤ length v.files + 1
 
 -- the next creation's serial is drawn
 abbrev pub drawn : Volume → Volume

@@ -1,12 +1,18 @@
 //! Laws over the definitions: the functions do nothing, the contract of each is a law.
-ghost use Rattle.std.specs.Prelude.{◌≡◌, List, [], ◌∷◌, ◌++◌, T, IsFalse, ℕ};
+ghost use Rattle.std.specs.Prelude.{◌≡◌, Bool, List, [], ◌∷◌, ◌++◌, Option, Some, T, IsFalse, ℕ};
 ghost use Rattle.std.specs.FinMap.{is_sorted};
 ghost use Rattle.fsd_bytes.specs.Keys.{key_cmp};
 ghost use Rattle.fsd_formats.specs.declared.entry.Entry.{Entry};
 ghost use Rattle.fsd_files.specs.Disk.{Image, Sectors, Within};
 ghost use Rattle.sector_disk.specs.Image.{IsWorn};
 ghost use Rattle.fsd_files.specs.Files.{Files, Change, step, after};
-ghost use Rattle.fsd_files.specs.Kept.{Kept};
+ghost use Rattle.fsd_files.specs.Kept.{Kept, KeptIn, Lists};
+ghost use Rattle.fsd_bytes.specs.declared.key.Key.{Key};
+ghost use Rattle.fsd_bytes.specs.declared.key.Serial.{Serial};
+ghost use Rattle.run_table.specs.declared.run.Run.{Run};
+ghost use Rattle.fsd_files.specs.Answers.{Met, put_outcome, delete_outcome, keep_outcome, deleted, highest_entry, keep_set, with_version};
+ghost use Rattle.fsd_files.specs.Volume.{Volume, drawn, forced, forced_if, place_for};
+ghost use Rattle.fsd_files.specs.Waiting.{Changes, IsSpaced};
 
 /// One change more is one step more, and the files always stand in the order of their keys.
 pub fn files_after_changes()
@@ -22,4 +28,35 @@ pub fn wear()
     ensures twice { (weak : Sectors) (i j k : Image) → IsWorn weak i j → IsWorn weak j k → IsWorn weak i k }
     ensures kept { (weak hurt : Sectors) (i j : Image) (s : Files) (entries : List Entry) →
         Within weak hurt → IsWorn weak i j → Kept i s entries hurt → Kept j s entries hurt }
+{}
+
+/// Whatever a volume answers, its entries are those of its files, in order.
+pub fn entries_list_the_files()
+    ensures puts { (met : Met) (v : Volume) (name bytes : List ℕ) (given : Option ℕ) → Lists v.files v.entries →
+        Lists (put_outcome met v name bytes given).1.files (put_outcome met v name bytes given).1.entries }
+    ensures deletes { (met : Met) (v : Volume) (key : Key) → Lists v.files v.entries →
+        Lists (delete_outcome met v key).1.files (delete_outcome met v key).1.entries }
+    ensures keeps { (met : Met) (v : Volume) (name : List ℕ) (keep : ℕ) → Lists v.files v.entries →
+        Lists (keep_outcome met v name keep).1.files (keep_outcome met v name keep).1.entries }
+{}
+
+/// A change keeps versions, drafts and what waits apart, and lets nothing go that the volume had. A force keeps them so too.
+pub fn changes_let_nothing_go()
+    ensures puts { (chosen : Bool) (v : Volume) (name bytes : List ℕ) (given : Option ℕ) (need : ℕ) (runs : List Run) (serial : Serial) (r : ℕ) →
+        IsSpaced v → Lists v.files v.entries → T (is_sorted key_cmp v.files) → place_for v need ≡ Some runs →
+        Changes (forced_if chosen (drawn v)) (with_version (forced_if chosen (drawn v)) name bytes given runs serial r) }
+    ensures deletes { (v : Volume) (key : Key) (r : ℕ) (e : Entry) → IsSpaced v → Changes v (deleted v key r (Some e)).1 }
+    ensures keeps { (v : Volume) (name : List ℕ) (keep r : ℕ) (e : Entry) → IsSpaced v → Changes v (keep_set v name keep r (Some e)).1 }
+    ensures forces { (v : Volume) → IsSpaced v → IsSpaced (forced v) }
+{}
+
+/// A change keeps the bytes of all versions that stay, and of the new one where they stand.
+pub fn changes_keep_what_stays()
+    ensures puts { (hurt : Sectors) (i : Image) (v : Volume) (name bytes : List ℕ) (given : Option ℕ) (runs : List Run) (serial : Serial) (r : ℕ) →
+        Lists v.files v.entries → Kept i v.files v.entries hurt → KeptIn i hurt bytes runs →
+        Kept i (with_version v name bytes given runs serial r).files (with_version v name bytes given runs serial r).entries hurt }
+    ensures deletes { (hurt : Sectors) (i : Image) (v : Volume) (key : Key) (r : ℕ) (e : Entry) → Lists v.files v.entries → Kept i v.files v.entries hurt →
+        Kept i (deleted v key r (Some e)).1.files (deleted v key r (Some e)).1.entries hurt }
+    ensures keeps { (hurt : Sectors) (i : Image) (v : Volume) (name : List ℕ) (keep r : ℕ) (e : Entry) → Lists v.files v.entries → highest_entry name v.entries ≡ Some e →
+        Kept i v.files v.entries hurt → Kept i (keep_set v name keep r (Some e)).1.files (keep_set v name keep r (Some e)).1.entries hurt }
 {}

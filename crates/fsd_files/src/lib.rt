@@ -3,4 +3,7 @@
 
 mod laws;
 
-pub use laws::{files_after_changes, wear};
+pub use laws::{
+    changes_keep_what_stays, changes_let_nothing_go, entries_list_the_files, files_after_changes,
+    wear,
+};

@@ -8,7 +8,6 @@ use Rattle.std.proofs.lemmas.Option.{slice_get_within}
 use Rattle.run_table.specs.Space.{contains, all_differ}
 use Rattle.fsd_bytes.specs.Keys.{is_key}
 use Rattle.fsd_bytes.specs.Names.{is_between}
-use Rattle.fsd_bytes.specs.declared.key.Key.{Key}
 use Rattle.fsd_formats.specs.declared.page.Separator.{Separator}
 use Rattle.fsd_formats.specs.NamePage.{Content, Free, Leaf, Interior, is_page, are_ascending, least_separators, read_page}
 use Rattle.fsd_table.specs.declared.child.Child.{Child}
@@ -16,7 +15,7 @@ use Rattle.fsd_table.specs.Pages.{page_at, children, children_of, separator_keys
 use Rattle.fsd_table.specs.Table.{top, max_height}
 use Rattle.fsd_table.specs.Tree.{IsLeaf, IsInterior, IsSubtree, pages_below}
 use Rattle.fsd_table.proofs.BoundLaws.{all_append, all_weaker}
-use Rattle.fsd_table.proofs.PageLaws.{at_is_page}
+use Rattle.fsd_table.proofs.PageLaws.{at_is_page, length_of_children, subtrees_of}
 use Rattle.fsd_forest.specs.Forest.{forest_pages}
 use Rattle.fsd_forest.specs.Laws.{TreesAreLow}
 use Rattle.fsd_forest.proofs.CountLaws.{few_below, differ_counts}
@@ -39,12 +38,6 @@ interior_within : (pages : List (List ℕ)) (P : Child → Type 0) (c : Child) (
 interior_within pages P c None at h = absurd h
 interior_within pages P c (Some x) at h = page_within pages c.page x at
 
-pub subtrees_of : (P : Child → Type 0) (c : Child) (x : Option Content) → IsInterior P c x → AllByRecursion P (children_of c.low c.high x)
-subtrees_of P c None h = absurd h
-subtrees_of P c (Some Free) h = absurd h
-subtrees_of P c (Some (Leaf entries)) h = absurd h
-subtrees_of P c (Some (Interior first separators)) h = h.1
-
 all_flat : (P : ℕ → Type 0) (f : Child → List ℕ) (cs : List Child) → AllByRecursion (λ d. AllByRecursion P (f d)) cs → AllByRecursion P (flat_map f cs)
 all_flat P f [] a = tt
 all_flat P f (c ∷ cs) a = all_append P (f c) (flat_map f cs) a.0 (all_flat P f cs a.1)
@@ -63,10 +56,6 @@ all_within (suc level) pages c h =
 abbrev pub least_pages : (level : ℕ) → ℕ
 least_pages zero = 1
 least_pages (suc level) = 1 + 5 * least_pages level
-
-length_of_children : (first : ℕ) (low high : Option Key) (separators : List Separator) → length (children first low high separators) ≡ suc (length separators)
-length_of_children first low high [] = refl
-length_of_children first low high (s ∷ separators) = ap suc (length_of_children s.child (Some s.key) high separators)
 
 interior_long : (page p first : ℕ) (separators : List Separator) → is_page page p (Interior first separators) ≡ true → (page == 0) ≡ false → 4 ≤ length separators
 interior_long page p first separators e other =

@@ -11,7 +11,7 @@ use Rattle.fsd_forest.specs.Forest.{heads, inner, count_of, forest_pages, Become
 use Rattle.fsd_forest.specs.Steps.{StepsUp, PageStepsUp, SidesStay, PageSidesStay}
 use Rattle.fsd_forest.proofs.CountLaws.{count_append, there_counts, counts_out, differ_counts}
 use Rattle.fsd_forest.proofs.ForestLaws.{widens, count_three}
-use Rattle.fsd_forest.proofs.LowLaws.{subtrees_of}
+use Rattle.fsd_table.proofs.PageLaws.{subtrees_of}
 use Rattle.fsd_forest.proofs.PartLaws.{all_split}
 use Rattle.fsd_forest.proofs.RiseLaws.{rises, pages_rise, children_at}
 use Rattle.fsd_forest.proofs.TreeLaws.{alone}

@@ -13,10 +13,10 @@ use Rattle.sector_disk.specs.declared.sector.WeakRun.{WeakRun}
 use Rattle.sector_disk.specs.Image.{sector_at, IsWorn, weak as in_window}
 use Rattle.sector_disk.proofs.Calm.{worn_not}
 use Rattle.sector_disk.proofs.Wear.{worn_refl}
-use Rattle.fsd_formats.specs.declared.entry.Entry.{Entry}
+use Rattle.fsd_table.specs.Table.{Telling, told_in}
 use Rattle.fsd_files.specs.Disk.{Image, Sectors, in_runs}
 use Rattle.fsd_files.specs.Files.{Change, after}
-use Rattle.fsd_sound.specs.Shown.{shown, told_in}
+use Rattle.fsd_sound.specs.Shown.{shown}
 use Rattle.fsd_sound.specs.Sound.{Tells, weak_of, IsSound, ShowsOne}
 use Rattle.fsd_sound.specs.Choices.{TellsChoices}
 use Rattle.fsd_sound.proofs.CommuteLaws.{same_or}
@@ -142,26 +142,26 @@ choices_in l P None i each =
 -- ---- what each of them tells of the one image
 
 module _ (l : Layout) (windows : List WeakRun) (h : List Change) (f : ℕ) (i : Image) (room : map_start l ≤ l.sectors) (sound : IsSound l windows h f i) where
-  tells_data : (k : Image) → ((s : ℕ) → map_start l ≤ s → sector_at i s ≡ sector_at k s) → (o : Option (List Entry)) → Tells l (in_runs windows) k h f o → Tells l (in_runs windows) i h f o
+  tells_data : (k : Image) → ((s : ℕ) → map_start l ≤ s → sector_at i s ≡ sector_at k s) → (o : Option Telling) → Tells l (in_runs windows) k h f o → Tells l (in_runs windows) i h f o
   tells_data k same None tells = tells
-  tells_data k same (Some entries) tells = (tells.0, tells.1, describes_data l (in_runs windows) (after (Rattle.std.specs.Prelude.take tells.0 h)) entries k i (λ s ge. inl (same s ge)) tells.2)
+  tells_data k same (Some telling) tells = (tells.0, tells.1, describes_data l (in_runs windows) (after (Rattle.std.specs.Prelude.take tells.0 h)) telling.entries k i (λ s ge. inl (same s ge)) tells.2)
 
-  shown_of : (j : Image) (o : Option (List (List ℕ))) → shown l j ≡ o → Tells l (in_runs windows) i h f (option_and_then (told_in l) o) → (pages : List (List ℕ)) × (shown l j ≡ Some pages) × Tells l (in_runs windows) i h f (told_in l pages)
+  shown_of : (j : Image) (o : Option (List (List ℕ))) → shown l j ≡ o → Tells l (in_runs windows) i h f (option_and_then told_in o) → (pages : List (List ℕ)) × (shown l j ≡ Some pages) × Tells l (in_runs windows) i h f (told_in pages)
   shown_of j None is tells = absurd tells
   shown_of j (Some pages) is tells = (pages, is, tells)
 
   -- the front of a worn image before the data of this one
-  each_shown : (j : Image) → IsWorn (weak_of windows) i j → (pages : List (List ℕ)) × (shown l j ≡ Some pages) × Tells l (in_runs windows) i h f (told_in l pages)
+  each_shown : (j : Image) → IsWorn (weak_of windows) i j → (pages : List (List ℕ)) × (shown l j ≡ Some pages) × Tells l (in_runs windows) i h f (told_in pages)
   each_shown j w =
       let long = sound.readable.roots.fits in
       let still : SameFront l i i = λ s lt. refl in
       let k : Image = graft l j i in
       let grafted = graft_worn l (weak_of windows) i i j still refl long room w in
       let same = shown_same l (graft l j i) j (graft_same l (weak_of windows) i i j still refl long room w) in
-      let tells = tells_data (graft l j i) (λ s ge. sym (graft_rest l (weak_of windows) i i j still refl long room w s ge)) (option_and_then (told_in l) (shown l (graft l j i))) (sound.tells (graft l j i) grafted) in
-      shown_of j (shown l j) refl (subst (λ (o : Option (List (List ℕ))). Tells l (in_runs windows) i h f (option_and_then (told_in l) o)) (sym same) tells)
+      let tells = tells_data (graft l j i) (λ s ge. sym (graft_rest l (weak_of windows) i i j still refl long room w s ge)) (option_and_then told_in (shown l (graft l j i))) (sound.tells (graft l j i) grafted) in
+      shown_of j (shown l j) refl (subst (λ (o : Option (List (List ℕ))). Tells l (in_runs windows) i h f (option_and_then told_in o)) (sym same) tells)
 
   pub shows_choices : TellsChoices l windows h f i
   shows_choices =
-      let all = choices_in l (λ pages. Tells l (in_runs windows) i h f (told_in l pages)) (last_or None windows) i each_shown in
+      let all = choices_in l (λ pages. Tells l (in_runs windows) i h f (told_in pages)) (last_or None windows) i each_shown in
       record { choices = all.lists; shows = record { readable = sound.readable; shows = all.shows }; tells = all.each }

@@ -18,6 +18,7 @@ pub mod MendLaws
 pub mod MountedLaws
 pub mod MountedWearLaws
 pub mod MoveLaws
+pub mod OpenLaws
 pub mod PagesLaws
 pub mod RehomeLaws
 pub mod RenewLaws

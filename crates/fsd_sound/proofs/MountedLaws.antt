@@ -1,11 +1,12 @@
 -- What keeps a mounted volume on its disk.
-use Rattle.std.proofs.Common.{◌≡◌, ℕ, zero, suc, ◌<◌, ◌≤◌, Bool, ◌&&◌, not, List, [], ◌∷◌, ◌++◌, length, take, Option, Some, refl, sym, ap, subst, ◌∙◌, inl, inr, arith}
-use Rattle.std.specs.Prelude.{IsTrue, IsFalse, Contains, nat_le, nat_lt, true, false, ◌==◌}
-use Rattle.std.specs.List.{AllByRecursion, flat_map, list_all}
+use Rattle.std.proofs.Common.{◌≡◌, ℕ, zero, suc, ◌<◌, ◌≤◌, Bool, ◌&&◌, ◌||◌, not, List, [], ◌∷◌, ◌++◌, length, take, Option, Some, None, refl, sym, ap, subst, ◌∙◌, inl, inr, arith}
+use Rattle.std.specs.Prelude.{IsTrue, IsFalse, Contains, nat_le, nat_lt, option_and_then, true, false, ◌==◌}
+use Rattle.std.specs.List.{AllByRecursion, AllZip, flat_map, list_all}
 use Rattle.std.proofs.lemmas.List.{take_all, take-append-le, length-append}
-use Rattle.std.proofs.lemmas.Bool.{leb-true, and_parts, or_cases, eqb-true}
+use Rattle.std.proofs.lemmas.Bool.{leb-true, and_parts, or_cases, or_from, or_parts, eqb-true, false_from_ne_true}
 use Rattle.volume_layout.specs.declared.layout.Layout.{Layout}
 use Rattle.volume_layout.specs.Layout.{data_start, map_start, is_data}
+use Rattle.run_table.specs.declared.run.Run.{Run}
 use Rattle.run_table.specs.RunTable.{sectors_of}
 use Rattle.run_table.specs.Space.{contains, all_differ}
 use Rattle.fsd_formats.specs.declared.anchor.Anchor.{Anchor}
@@ -14,16 +15,22 @@ use Rattle.sector_disk.specs.declared.sector.WeakRun.{WeakRun}
 use Rattle.fsd_log.specs.Scan.{Placed, Head, IsLog, tape}
 use Rattle.fsd_files.specs.Disk.{Image, Sectors, in_runs, bytes_at}
 use Rattle.fsd_files.specs.Files.{Files, Change, after}
-use Rattle.fsd_files.specs.Kept.{Describes}
-use Rattle.fsd_files.specs.Volume.{Volume, plans_of, is_in, in_version, is_free, waits, forced}
+use Rattle.fsd_files.specs.Kept.{Describes, KeptIn, Lists, data_sectors}
+use Rattle.fsd_files.specs.Volume.{Volume, HasReach, plans_of, is_in, in_version, is_free, waits, drawn, forced}
 use Rattle.fsd_files.proofs.KeptLaws.{kept_on, kept_worn}
+use Rattle.fsd_table.proofs.TreeLaws.{told_few}
 use Rattle.fsd_sound.specs.Laid.{HasOwnLog, AllLaid}
-use Rattle.fsd_sound.specs.Shown.{told_in}
-use Rattle.fsd_sound.specs.Sound.{ShowsPages, IsSound, Tells, weak_of}
-use Rattle.fsd_sound.specs.Mounted.{AgreeOutside, Mounted, StandsOver, HasForced, IsMounted, SameTaken, SameData, ChangesTo, IsSameEpoch, with_forced, IsFresh}
+use Rattle.fsd_table.specs.Table.{Telling, told_in}
+use Rattle.fsd_sound.specs.Shown.{shown, told}
+use Rattle.fsd_sound.specs.Sound.{ShowsOne, ShowsPages, IsSound, Tells, weak_of}
+use Rattle.sector_disk.proofs.Wear.{worn_refl}
+use Rattle.fsd_sound.specs.Mounted.{AgreeOutside, image_at, Mounted, StandsOver, HasForced, HasOpen, Wrote, IsMounted, SameStays, SameTaken, SameData, ChangesTo, IsSameEpoch, with_forced, IsFresh, telling_of, forces_by_itself}
+use Rattle.fsd_files.specs.Waiting.{IsSpaced, is_kept_alone, is_let_go}
+use Rattle.fsd_files.proofs.WaitLaws.{version_stays, forced_is_spaced, let_go_free, open_taken, open_in_area, idle_is_spaced}
+use Rattle.fsd_sound.proofs.OpenLaws.{open_on, open_worn}
 use Rattle.fsd_sound.proofs.LogPlaces.{IsRecord, same_tape, front_same, copies_same, in_record, goes_records, scan_goes, start_in}
 use Rattle.fsd_sound.proofs.AlikeLaws.{each_same}
-use Rattle.fsd_sound.proofs.FrontLaws.{SameFront, log_front, front_log, front_shows}
+use Rattle.fsd_sound.proofs.FrontLaws.{SameFront, log_front, front_log, front_shows, shown_same}
 use Rattle.fsd_sound.proofs.SoundLaws.{sound_from_pages}
 
 -- ---- the log of its own
@@ -69,29 +76,34 @@ version_taken v s is = by_test (is_data v.layout s) (in_version v s) is
     by_test false true h = refl
     by_test a false h = absurd (cc h)
 
-module _ (v : Volume) (i j : Image) (same : SameTaken v i j) where
-  pub taken_front : SameFront v.layout i j
-  taken_front = λ s lt. same s (front_taken v s (omega (arith, lt)))
+-- nothing in front of the data area is let go
+front_stays : (v : Volume) → IsSpaced v → (s : ℕ) → s < data_start v.layout → IsFalse (is_let_go v s)
+front_stays v spaced s lt =
+    let none : IsFalse (is_in v.drafts s || is_in v.held s) = false_from_ne_true (is_in v.drafts s || is_in v.held s) (λ is.
+    let le : data_start v.layout ≤ s = leb-true (data_start v.layout) s (and_parts (nat_le (data_start v.layout) s) (nat_lt s v.layout.sectors) (open_in_area v spaced s is)).0 in omega (arith, le, lt)) in
+    let parts = or_parts (is_in v.drafts s) (is_in v.held s) none in
+    or_from (is_free v s || is_in v.drafts s) (is_kept_alone v s) (or_from (is_free v s) (is_in v.drafts s) (front_taken v s lt) parts.0) (alone (is_in v.held s) (in_version v s) (contains v.removed s) parts.1)
+  where
+    alone : (a b c : Bool) → IsFalse a → IsFalse (a && not b && not c)
+    alone false b c h = refl
+    alone true b c h = absurd (cc h)
 
-  describes_same : (hurt : Sectors) (files : Files) (entries : List Entry) → ((s : ℕ) → IsTrue (is_in (plans_of entries) s) → IsFalse (is_free v s)) → Describes v.layout hurt i files entries → Describes v.layout hurt j files entries
-  describes_same hurt files entries taken d = record {
-    lists = d.lists;
-    apart = d.apart;
-    kept = kept_on hurt i j files entries (λ s is. same s (taken s is)) d.kept;
-  }
-
--- what is written to free sectors leaves the volume mounted
-pub still_mounted : (m : Mounted) (windows : List WeakRun) (h : List Change) (f : ℕ) (i j : Image) → length j ≡ length i → SameTaken m.volume i j → IsMounted m windows h f i → IsMounted m windows h f j
-still_mounted m windows h f i j size same is =
-    let front = taken_front m.volume i j same in
+-- what is written to sectors that were let go leaves the volume mounted, where what is open stands
+pub may_be_written : (m : Mounted) (slices : List (List (Option (List ℕ)))) (windows : List WeakRun) (h : List Change) (f : ℕ) (i j : Image) → length j ≡ length i → SameStays m.volume i j
+    → HasOpen (in_runs windows) j (record m { slices = slices }) → IsMounted m windows h f i → IsMounted (record m { slices = slices }) windows h f j
+may_be_written m slices windows h f i j size same stands is =
+    let front : SameFront m.volume.layout i j = λ s lt. same s (front_stays m.volume is.spaced s (omega (arith, lt))) in
     record {
       files = is.files;
-      described = describes_same m.volume i j same (in_runs windows) m.volume.files m.volume.entries (λ s at. version_taken m.volume s at) is.described;
+      described = described_on m.volume.files m.volume.entries (λ s at. version_stays m.volume is.spaced s at) is.described;
       count = is.count;
+      few = is.few;
       epoch = is.epoch;
       third = is.third;
       room = is.room;
       in_memory = is.in_memory;
+      spaced = is.spaced;
+      open_ones = stands;
       disk = is.disk;
       records = is.records;
       over = record {
@@ -100,12 +112,45 @@ still_mounted m windows h f i j size same is =
         clean = is.over.clean;
       };
       forced = record {
-        entries = is.forced.entries;
+        telling = is.forced.telling;
         told = is.forced.told;
-        described = describes_same m.volume i j same (in_runs windows) (after (take f h)) is.forced.entries is.forced.taken is.forced.described;
+        described = described_on (after (take f h)) is.forced.telling.entries is.forced.taken is.forced.described;
         taken = is.forced.taken;
+        leaders = is.forced.leaders;
       };
     }
+  where
+    described_on : (files : Files) (entries : List Entry) → ((s : ℕ) → IsTrue (is_in (plans_of entries) s) → IsFalse (is_let_go m.volume s)) → Describes m.volume.layout (in_runs windows) i files entries
+        → Describes m.volume.layout (in_runs windows) j files entries
+    described_on files entries stays d = record { lists = d.lists; apart = d.apart; kept = kept_on (in_runs windows) i j files entries (λ s at. same s (stays s at)) d.kept }
+
+-- what is written to free sectors leaves the volume mounted
+pub still_mounted : (m : Mounted) (windows : List WeakRun) (h : List Change) (f : ℕ) (i j : Image) → length j ≡ length i → SameTaken m.volume i j → IsMounted m windows h f i → IsMounted m windows h f j
+still_mounted m windows h f i j size same is =
+    may_be_written m m.slices windows h f i j size (λ s stays. same s (let_go_free m.volume s stays)) (open_on (in_runs windows) i j m (λ s at. same s (open_taken m.volume s at)) is.open_ones) is
+
+-- and the disk tells what it told
+pub still_told : (v : Volume) (i j : Image) → SameTaken v i j → told v.layout j ≡ told v.layout i
+still_told v i j same = ap (option_and_then told_in) (shown_same v.layout i j (λ s lt. same s (front_taken v s (omega (arith, lt)))))
+
+-- a serial that is drawn changes nothing else
+pub drawn_mounted : (m : Mounted) (windows : List WeakRun) (h : List Change) (f : ℕ) (i : Image) → IsMounted m windows h f i → IsMounted (record m { volume = drawn m.volume }) windows h f i
+drawn_mounted m windows h f i is = record {
+  files = is.files;
+  described = is.described;
+  count = is.count;
+  few = is.few;
+  epoch = is.epoch;
+  third = is.third;
+  room = is.room;
+  in_memory = is.in_memory;
+  spaced = record { apart = is.spaced.apart; area = is.spaced.area; drafts = is.spaced.drafts; removed = is.spaced.removed; held = is.spaced.held };
+  open_ones = record { drafts = is.open_ones.drafts; held = is.open_ones.held };
+  disk = is.disk;
+  records = is.records;
+  over = is.over;
+  forced = record { telling = is.forced.telling; told = is.forced.told; described = is.forced.described; taken = is.forced.taken; leaders = is.forced.leaders };
+}
 
 -- ---- what is mounted is sound
 
@@ -118,15 +163,15 @@ first_or_second P a b x p q c = by_place c.0 c.1 c.2
     by_place (suc zero) lt is = subst P is q
     by_place (suc (suc k)) lt is = absurd (omega (arith, lt))
 
-tells_forced : (v : Volume) (windows : List WeakRun) (h : List Change) (f : ℕ) (i : Image) (disk : List (List ℕ)) → f ≤ length h → HasForced v windows h f i disk → Tells v.layout (in_runs windows) i h f (told_in v.layout disk)
+tells_forced : (v : Volume) (windows : List WeakRun) (h : List Change) (f : ℕ) (i : Image) (disk : List (List ℕ)) → f ≤ length h → HasForced v windows h f i disk → Tells v.layout (in_runs windows) i h f (told_in disk)
 tells_forced v windows h f i disk le forced =
-    subst (λ (o : Option (List Entry)). Tells v.layout (in_runs windows) i h f o) (sym forced.told) (f, record { forced = omega arith; made = le }, forced.described)
+    subst (λ (o : Option Telling). Tells v.layout (in_runs windows) i h f o) (sym forced.told) (f, record { forced = omega arith; made = le }, forced.described)
 
-tells_all : (v : Volume) (windows : List WeakRun) (h : List Change) (f : ℕ) (i : Image) (pages : List (List ℕ)) → f ≤ length h → v.files ≡ after h → told_in v.layout pages ≡ Some v.entries
-    → Describes v.layout (in_runs windows) i v.files v.entries → Tells v.layout (in_runs windows) i h f (told_in v.layout pages)
+tells_all : (v : Volume) (windows : List WeakRun) (h : List Change) (f : ℕ) (i : Image) (pages : List (List ℕ)) → f ≤ length h → v.files ≡ after h → told_in pages ≡ Some (telling_of v)
+    → Describes v.layout (in_runs windows) i v.files v.entries → Tells v.layout (in_runs windows) i h f (told_in pages)
 tells_all v windows h f i pages le files told d =
     let all : take (length h) h ≡ h = take_all (length h) h (omega arith) in
-    subst (λ (o : Option (List Entry)). Tells v.layout (in_runs windows) i h f o) (sym told)
+    subst (λ (o : Option Telling). Tells v.layout (in_runs windows) i h f o) (sym told)
     (length h, record { forced = le; made = omega arith }, subst (λ (s : Files). Describes v.layout (in_runs windows) i s v.entries) (files ∙ ap after (sym all)) d)
 
 some_forced : (m : Mounted) (windows : List WeakRun) (h : List Change) (f : ℕ) (i : Image) → IsMounted m windows h f i → f ≤ length h
@@ -143,7 +188,7 @@ pub mounted_sound : (m : Mounted) (windows : List WeakRun) (h : List Change) (f 
 mounted_sound m windows h f i is =
     let l = m.volume.layout in
     sound_from_pages l windows h f (is.disk ∷ []) i is.over.shows
-    (λ pages one. one_of (λ pages. Tells l (in_runs windows) i h f (told_in l pages)) is.disk pages (tells_forced m.volume windows h f i is.disk (some_forced m windows h f i is) is.forced) one)
+    (λ pages one. one_of (λ pages. Tells l (in_runs windows) i h f (told_in pages)) is.disk pages (tells_forced m.volume windows h f i is.disk (some_forced m windows h f i is) is.forced) one)
 
 -- ---- a force
 
@@ -168,23 +213,25 @@ describes_data l hurt files entries i j same d = record {
 
 -- while the disk shows what was forced or what is in memory, it is sound
 pub force_sound : (m : Mounted) (windows : List WeakRun) (h : List Change) (f : ℕ) (i j : Image) (now : List (List ℕ)) → (is : IsMounted m windows h f i) → SameData m.volume.layout (in_runs windows) i j
-    → told_in m.volume.layout now ≡ Some m.volume.entries → ShowsPages m.volume.layout windows (is.disk ∷ now ∷ []) j → IsSound m.volume.layout windows h f j
+    → told_in now ≡ Some (telling_of m.volume) → ShowsPages m.volume.layout windows (is.disk ∷ now ∷ []) j → IsSound m.volume.layout windows h f j
 force_sound m windows h f i j now is same told shows =
     let l = m.volume.layout in
     let le = some_forced m windows h f i is in
     let forced : HasForced m.volume windows h f j is.disk = record {
-      entries = is.forced.entries;
+      telling = is.forced.telling;
       told = is.forced.told;
-      described = describes_data l (in_runs windows) (after (take f h)) is.forced.entries i j same is.forced.described;
+      described = describes_data l (in_runs windows) (after (take f h)) is.forced.telling.entries i j same is.forced.described;
       taken = is.forced.taken;
+      leaders = is.forced.leaders;
     } in
     sound_from_pages l windows h f (is.disk ∷ now ∷ []) j shows
-    (λ pages two. first_or_second (λ pages. Tells l (in_runs windows) j h f (told_in l pages)) is.disk now pages
+    (λ pages two. first_or_second (λ pages. Tells l (in_runs windows) j h f (told_in pages)) is.disk now pages
     (tells_forced m.volume windows h f j is.disk le forced)
     (tells_all m.volume windows h f j now le is.files told (describes_data l (in_runs windows) m.volume.files m.volume.entries i j same is.described)) two)
 
 pub force_mounted : (m : Mounted) (windows : List WeakRun) (h : List Change) (f : ℕ) (i j : Image) (now : List (List ℕ)) (anchor : Anchor) (head : Head) (records : List Placed) → IsMounted m windows h f i → SameData m.volume.layout (in_runs windows) i j
-    → told_in m.volume.layout now ≡ Some m.volume.entries → IsSameEpoch m.anchor anchor → StandsOver m.volume.layout anchor head records now now [] windows j → IsMounted (with_forced m now anchor head) windows h (length h) j
+    → told_in now ≡ Some (telling_of m.volume) → IsSameEpoch m.anchor anchor → StandsOver m.volume.layout anchor head records now now [] windows j
+    → IsMounted (with_forced m now anchor head) windows h (length h) j
 force_mounted m windows h f i j now anchor head records is same told later over =
     let all : take (length h) h ≡ h = take_all (length h) h (omega arith) in
     let described = describes_data m.volume.layout (in_runs windows) m.volume.files m.volume.entries i j same is.described in
@@ -192,20 +239,27 @@ force_mounted m windows h f i j now anchor head records is same told later over 
       files = is.files;
       described = described;
       count = omega arith;
+      few = omega arith;
       epoch = is.epoch ∙ sym later.epoch;
       third = later.third;
       room = is.room;
       in_memory = told;
+      spaced = forced_is_spaced m.volume is.spaced;
+      open_ones = open_forced (open_worn (in_runs windows) i j m (λ s at. same s (data_behind m.volume.layout s (open_in_area m.volume is.spaced s at))) is.open_ones);
       disk = now;
       records = records;
       over = over;
       forced = record {
-        entries = m.volume.entries;
+        telling = telling_of m.volume;
         told = told;
         described = subst (λ (s : Files). Describes m.volume.layout (in_runs windows) j s m.volume.entries) (is.files ∙ ap after (sym all)) described;
-        taken = λ s at. version_taken (forced m.volume) s at;
+        taken = version_stays (forced m.volume) (forced_is_spaced m.volume is.spaced);
+        leaders = λ s at leads. leads;
       };
     }
+  where
+    open_forced : HasOpen (in_runs windows) j m → HasOpen (in_runs windows) j (with_forced m now anchor head)
+    open_forced o = record { drafts = o.drafts; held = o.held }
 
 -- ---- a change in memory
 
@@ -222,10 +276,13 @@ change_mounted m n windows h f i c is to =
       files = to.files;
       described = subst (λ (l : Layout). Describes l (in_runs windows) i n.volume.files n.volume.entries) same to.described;
       count = let long = length-append h (c ∷ []) in omega (arith, is.count, changes.unforced, long);
+      few = let before = is.few in let more = to.few in omega (arith, before, more, changes.unforced);
       epoch = changes.epoch ∙ is.epoch ∙ ap (λ (a : Anchor). a.epoch) (sym to.anchor);
       third = subst (λ (a : Anchor). a.third ≤ 2) (sym to.anchor) is.third;
       room = subst (λ (l : Layout). map_start l ≤ l.sectors) same is.room;
-      in_memory = subst (λ (l : Layout). told_in l n.pages ≡ Some n.volume.entries) same to.told;
+      in_memory = to.told;
+      spaced = changes.spaced;
+      open_ones = to.open_ones;
       disk = is.disk;
       records = is.records;
       over = over_on n.volume.layout n.anchor n.head same (sym to.anchor) (sym to.head) (record {
@@ -234,11 +291,12 @@ change_mounted m n windows h f i c is to =
         clean = agree_more m.dirty n.dirty is.disk m.pages n.pages to.still is.over.clean to.clean;
       });
       forced = record {
-        entries = is.forced.entries;
-        told = subst (λ (l : Layout). told_in l is.disk ≡ Some is.forced.entries) same is.forced.told;
-        described = subst (λ (l : Layout). Describes l (in_runs windows) i (after (take f (h ++ c ∷ []))) is.forced.entries) same
-            (subst (λ (s : List Change). Describes m.volume.layout (in_runs windows) i (after s) is.forced.entries) (sym front) is.forced.described);
+        telling = is.forced.telling;
+        told = is.forced.told;
+        described = subst (λ (l : Layout). Describes l (in_runs windows) i (after (take f (h ++ c ∷ []))) is.forced.telling.entries) same
+            (subst (λ (s : List Change). Describes m.volume.layout (in_runs windows) i (after s) is.forced.telling.entries) (sym front) is.forced.described);
         taken = λ s at. changes.fewer s (is.forced.taken s at);
+        leaders = λ s at leads. is.forced.leaders s at (changes.leaders s (is.forced.taken s at) leads);
       };
     }
   where
@@ -259,25 +317,94 @@ fresh_mounted m windows h i fresh =
       files = fresh.files;
       described = fresh.described;
       count = omega (arith, fresh.unforced);
+      few = let none : length m.dirty ≡ 0 = ap (λ (x : List ℕ). length x) fresh.clean in omega (arith, none);
       epoch = fresh.epoch;
       third = fresh.third;
       room = fresh.room;
       in_memory = fresh.told;
+      spaced = spaced;
+      open_ones = idle m.slices m.bytes m.volume.drafts m.volume.held fresh.slices fresh.bytes fresh.drafts fresh.held;
       disk = m.pages;
       records = fresh.records;
       over = fresh.over;
       forced = record {
-        entries = m.volume.entries;
+        telling = telling_of m.volume;
         told = fresh.told;
         described = subst (λ (s : Files). Describes m.volume.layout (in_runs windows) i s m.volume.entries) (fresh.files ∙ ap after (sym all)) fresh.described;
-        taken = λ s at. version_taken m.volume s at;
+        taken = version_stays m.volume spaced;
+        leaders = λ s at leads. leads;
       };
     }
+  where
+    spaced : IsSpaced m.volume
+    spaced = idle_is_spaced m.volume fresh.removed fresh.held fresh.drafts fresh.described.apart
+
+    idle : (slices : List (List (Option (List ℕ)))) (bytes : List (List ℕ)) (drafts held : List (List Run)) → slices ≡ [] → bytes ≡ [] → drafts ≡ [] → held ≡ []
+        → HasOpen (in_runs windows) i (record m { volume = record m.volume { drafts = drafts; held = held }; slices = slices; bytes = bytes })
+    idle slices bytes drafts held a b c d = record {
+      drafts = subst (λ (x : List (List (Option (List ℕ)))). AllZip (λ slices runs. AllZip (Wrote (in_runs windows) i) slices (data_sectors runs)) x drafts) (sym a)
+          (subst (λ (x : List (List Run)). AllZip (λ slices runs. AllZip (Wrote (in_runs windows) i) slices (data_sectors runs)) [] x) (sym c) tt);
+      held = subst (λ (x : List (List ℕ)). AllZip (KeptIn i (in_runs windows)) x held) (sym b) (subst (λ (x : List (List Run)). AllZip (KeptIn i (in_runs windows)) [] x) (sym d) tt);
+    }
+
+-- ---- where nothing waits
+
+no_items : {A : Type 0} (xs : List A) → length xs ≤ 0 → xs ≡ []
+no_items [] le = refl
+no_items (x ∷ xs) le = absurd (omega (arith, le))
+
+same_items : (xs ys : List (List ℕ)) → length xs ≡ length ys → ((k : ℕ) → image_at xs k ≡ image_at ys k) → xs ≡ ys
+same_items [] [] size each = refl
+same_items [] (y ∷ ys) size each = absurd (omega (arith, size))
+same_items (x ∷ xs) [] size each = absurd (omega (arith, size))
+same_items (x ∷ xs) (y ∷ ys) size each =
+    let first : x ≡ y = each 0 in
+    let rest : xs ≡ ys = same_items xs ys (omega (arith, size)) (λ k. each (suc k)) in
+    ap (λ (z : List ℕ). z ∷ xs) first ∙ ap (λ (zs : List (List ℕ)). y ∷ zs) rest
+
+-- the disk's own table is the volume's
+pub mounted_tells : (m : Mounted) (windows : List WeakRun) (h : List Change) (f : ℕ) (i : Image) → IsMounted m windows h f i → m.volume.unforced ≡ 0 → told m.volume.layout i ≡ Some (telling_of m.volume)
+mounted_tells m windows h f i is none = by (shown m.volume.layout i) (is.over.shows.shows i (worn_refl (weak_of windows) i))
+  where
+    few : length m.dirty ≤ 0
+    few = let at_most = is.few in omega (arith, at_most, none)
+
+    same : is.disk ≡ m.pages
+    same = same_items is.disk m.pages is.over.clean.size
+        (λ k. is.over.clean.each k (subst (λ (d : List ℕ). IsFalse (contains d k)) (sym (no_items m.dirty few)) refl))
+
+    by : (o : Option (List (List ℕ))) → ShowsOne (is.disk ∷ []) o → option_and_then told_in o ≡ Some (telling_of m.volume)
+    by None one = absurd one
+    by (Some pages) one = one_of (λ pages. told_in pages ≡ Some (telling_of m.volume)) is.disk pages (ap told_in same ∙ is.in_memory) one
+
+-- ---- where a volume forces by itself
+
+pub two_wait : (m : Mounted) (windows : List WeakRun) (h : List Change) (f : ℕ) (i : Image) → IsMounted m windows h f i → IsTrue (forces_by_itself m) → 2 ≤ m.volume.unforced
+two_wait m windows h f i is many =
+    let more : 56 < length m.dirty = leb-true 57 (length m.dirty) many in
+    let few = is.few in
+    omega (arith, more, few)
+
+-- ---- how many pages
+
+lists_long : (files : Files) (entries : List Entry) → Lists files entries → length entries ≡ length files
+lists_long [] [] lists = refl
+lists_long [] (e ∷ entries) lists = absurd lists
+lists_long (x ∷ files) [] lists = absurd lists
+lists_long (x ∷ files) (e ∷ entries) lists = ap suc (lists_long files entries lists.1)
+
+pub mounted_reach : (m : Mounted) (windows : List WeakRun) (h : List Change) (f : ℕ) (i : Image) → IsMounted m windows h f i → HasReach m.volume
+mounted_reach m windows h f i is =
+    let few = told_few m.pages (telling_of m.volume) is.in_memory in
+    let long = lists_long m.volume.files m.volume.entries is.described.lists in
+    let some = few.0 in
+    let most = few.1 in
+    record { root = some; most = omega (arith, most, long) }
 
 -- ---- the records that the log has then
 
 pub still_records : (m : Mounted) (windows : List WeakRun) (h : List Change) (f : ℕ) (i j : Image) (size : length j ≡ length i) (same : SameTaken m.volume i j) (is : IsMounted m windows h f i) → (still_mounted m windows h f i j size same is).records ≡ is.records
-unfolding still_mounted
+unfolding still_mounted may_be_written
 still_records m windows h f i j size same is = refl
 
 pub change_records : (m n : Mounted) (windows : List WeakRun) (h : List Change) (f : ℕ) (i : Image) (c : Change) (is : IsMounted m windows h f i) (to : ChangesTo (h ++ c ∷ []) windows i m n) → (change_mounted m n windows h f i c is to).records ≡ is.records
@@ -289,6 +416,10 @@ unfolding fresh_mounted
 fresh_records m windows h i fresh = refl
 
 pub force_records : (m : Mounted) (windows : List WeakRun) (h : List Change) (f : ℕ) (i j : Image) (now : List (List ℕ)) (anchor : Anchor) (head : Head) (records : List Placed) (is : IsMounted m windows h f i) (same : SameData m.volume.layout (in_runs windows) i j)
-    (told : told_in m.volume.layout now ≡ Some m.volume.entries) (later : IsSameEpoch m.anchor anchor) (over : StandsOver m.volume.layout anchor head records now now [] windows j) → (force_mounted m windows h f i j now anchor head records is same told later over).records ≡ records
+    (told : told_in now ≡ Some (telling_of m.volume)) (later : IsSameEpoch m.anchor anchor) (over : StandsOver m.volume.layout anchor head records now now [] windows j) → (force_mounted m windows h f i j now anchor head records is same told later over).records ≡ records
 unfolding force_mounted
 force_records m windows h f i j now anchor head records is same told later over = refl
+
+pub drawn_records : (m : Mounted) (windows : List WeakRun) (h : List Change) (f : ℕ) (i : Image) (is : IsMounted m windows h f i) → (drawn_mounted m windows h f i is).records ≡ is.records
+unfolding drawn_mounted
+drawn_records m windows h f i is = refl

@@ -1,5 +1,5 @@
 -- A mounted volume stays mounted however a narrow run wears.
-use Rattle.std.proofs.Common.{◌≡◌, ℕ, ◌^◌, ◌≤◌, List, [], ◌∷◌, take, Option, Some, None, refl, subst}
+use Rattle.std.proofs.Common.{◌≡◌, inl, inr, ⊎_elim, ℕ, ◌^◌, ◌≤◌, List, [], ◌∷◌, take, Option, Some, None, refl, subst}
 use Rattle.std.specs.Prelude.{IfSome, option_and_then}
 use Rattle.sector_disk.specs.declared.sector.WeakRun.{WeakRun}
 use Rattle.sector_disk.specs.Image.{IsWorn}
@@ -19,6 +19,7 @@ use Rattle.fsd_sound.specs.Windows.{IsApart}
 use Rattle.fsd_sound.proofs.AnchorFacts.{IsAnchor, newer_one}
 use Rattle.fsd_sound.proofs.CoverLaws.{is_anchor_at}
 use Rattle.fsd_sound.proofs.LaidLaws.{own_worn}
+use Rattle.fsd_sound.proofs.OpenLaws.{open_worn}
 use Rattle.fsd_sound.proofs.SoundLaws.{shows_still, weak_within_hurt}
 use Rattle.fsd_sound.proofs.WindowLaws.{apart_narrow}
 
@@ -54,10 +55,13 @@ module _ (m : Mounted) (windows : List WeakRun) (h : List Change) (f : ℕ) (i j
         files = is.files;
         described = described_still m.volume.files m.volume.entries is.described;
         count = is.count;
+        few = is.few;
         epoch = is.epoch;
         third = is.third;
         room = is.room;
         in_memory = is.in_memory;
+        spaced = is.spaced;
+        open_ones = open_worn (in_runs windows) i j m (λ s at. ⊎_elim inl (λ worn. inr (weak_within_hurt windows s worn.0, worn.1)) (w.each s)) is.open_ones;
         disk = is.disk;
         records = is.records;
         over = record {
@@ -66,9 +70,10 @@ module _ (m : Mounted) (windows : List WeakRun) (h : List Change) (f : ℕ) (i j
           clean = is.over.clean;
         };
         forced = record {
-          entries = is.forced.entries;
+          telling = is.forced.telling;
           told = is.forced.told;
-          described = described_still (after (take f h)) is.forced.entries is.forced.described;
+          described = described_still (after (take f h)) is.forced.telling.entries is.forced.described;
           taken = is.forced.taken;
+          leaders = is.forced.leaders;
         };
       }

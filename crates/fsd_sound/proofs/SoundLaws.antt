@@ -13,9 +13,9 @@ use Rattle.sector_disk.specs.declared.sector.Sector.TheVariants.{Whole, Damaged}
 use Rattle.fsd_files.specs.Disk.{Image, bytes_of, Sectors, in_runs, Within, SectorWorn}
 use Rattle.sector_disk.specs.Image.{weak as in_window, sector_at, in_run, IsWorn}
 use Rattle.fsd_files.specs.Files.{Change, after}
-use Rattle.fsd_formats.specs.declared.entry.Entry.{Entry}
 use Rattle.fsd_sound.specs.Anchors.{EachAnchor}
-use Rattle.fsd_sound.specs.Shown.{shown, told_in}
+use Rattle.fsd_table.specs.Table.{Telling, told_in}
+use Rattle.fsd_sound.specs.Shown.{shown}
 use Rattle.fsd_sound.specs.Sound.{IfWhole, HasRoots, HasAnchors, Tells, weak_of, IsReadable, IsSound, ShowsOne, ShowsPages, is_twin}
 use Rattle.fsd_sound.specs.Windows.{IsNarrow}
 use Rattle.sector_disk.proofs.Wear.{worn_trans, worn_whole}
@@ -143,18 +143,18 @@ weak_within_hurt windows s weak = weak_is_hurt windows (last_or None windows) re
 
 -- what the pages tell is a prefix of the changes, and is kept in i
 abbrev pub PagesTell : Layout → Sectors → Image → List Change → ℕ → List (List ℕ) → Type 0
-PagesTell l hurt i h f pages = Tells l hurt i h f (told_in l pages)
+PagesTell l hurt i h f pages = Tells l hurt i h f (told_in pages)
 
-tells_still : (l : Layout) (weak hurt : Sectors) (i j : Image) (h : List Change) (f : ℕ) (o : Option (List Entry)) → Within weak hurt → IsWorn weak i j → Tells l hurt i h f o → Tells l hurt j h f o
+tells_still : (l : Layout) (weak hurt : Sectors) (i j : Image) (h : List Change) (f : ℕ) (o : Option Telling) → Within weak hurt → IsWorn weak i j → Tells l hurt i h f o → Tells l hurt j h f o
 tells_still l weak hurt i j h f None within w t = t
 tells_still l weak hurt i j h f (Some x) within w t =
-    (t.0, t.1, record { lists = t.2.lists; apart = t.2.apart; kept = kept_still weak hurt i j (after (take t.0 h)) x within w t.2.kept })
+    (t.0, t.1, record { lists = t.2.lists; apart = t.2.apart; kept = kept_still weak hurt i j (after (take t.0 h)) x.entries within w t.2.kept })
 
 one_of : {A : Type 0} (P : A → Type 0) (xs : List A) (x : A) → Contains xs x → ((k : ℕ) → k < length xs → P (slice_index_or xs k x)) → P x
 one_of P xs x c each = subst P c.2 (each c.0 c.1)
 
 shown_tells : (l : Layout) (hurt : Sectors) (j : Image) (h : List Change) (f : ℕ) (choices : List (List (List ℕ))) (o : Option (List (List ℕ)))
-    → ShowsOne choices o → ((pages : List (List ℕ)) → Contains choices pages → PagesTell l hurt j h f pages) → Tells l hurt j h f (option_and_then (told_in l) o)
+    → ShowsOne choices o → ((pages : List (List ℕ)) → Contains choices pages → PagesTell l hurt j h f pages) → Tells l hurt j h f (option_and_then told_in o)
 shown_tells l hurt j h f choices None shows each = absurd shows
 shown_tells l hurt j h f choices (Some pages) shows each = each pages shows
 
@@ -163,5 +163,5 @@ pub sound_from_pages : (l : Layout) (windows : List WeakRun) (h : List Change) (
 sound_from_pages l windows h f choices i shows each = record {
   readable = shows.readable;
   tells = λ j w. shown_tells l (in_runs windows) j h f choices (shown l j) (shows.shows j w)
-      (λ pages c. tells_still l (weak_of windows) (in_runs windows) i j h f (told_in l pages) (weak_within_hurt windows) w (each pages c));
+      (λ pages c. tells_still l (weak_of windows) (in_runs windows) i j h f (told_in pages) (weak_within_hurt windows) w (each pages c));
 }

@@ -1,13 +1,12 @@
 -- What an image shows of a volume with this layout: the pages of the name table, each by its newest image.
-use Rattle.std.specs.Prelude.{ℕ, List, [], ◌∷◌, Option, Some, None, option_map, option_and_then, slice_get, IsTrue}
+use Rattle.std.specs.Prelude.{ℕ, List, [], ◌∷◌, Option, Some, option_map, option_and_then}
 use Rattle.std.specs.List.{range_with_len}
 use Rattle.std.specs.Option.{option_or}
 use Rattle.volume_layout.specs.declared.layout.Layout.{Layout}
 use Rattle.fsd_formats.specs.declared.anchor.Anchor.{Anchor}
-use Rattle.fsd_formats.specs.declared.entry.Entry.{Entry}
-use Rattle.fsd_formats.specs.NamePage.{Content, Leaf, is_page, read_page, FitsPage}
 use Rattle.fsd_log.specs.Scan.{Placed, Walked, scan, tape}
 use Rattle.fsd_log.specs.Images.{last_image}
+use Rattle.fsd_table.specs.Table.{Telling, told_in}
 use Rattle.fsd_files.specs.Disk.{Image, bytes_at}
 use Rattle.fsd_sound.specs.Anchors.{anchor_of}
 use Rattle.fsd_sound.specs.Homes.{home_of}
@@ -41,19 +40,8 @@ shown_by l i a = each_of (newest l i (records_by l i a)) (all_pages l)
 abbrev pub shown : Layout → Image → Option (List (List ℕ))
 shown l i = option_and_then (shown_by l i) (anchor_of i)
 
--- ---- the entries that they tell, where page 0 is a leaf
+-- ---- what they tell
 
-abbrev pub entries_of : Content → Option (List Entry)
-entries_of (Leaf entries) = Some entries
-entries_of other = None
-
-abbrev pub told_in : Layout → List (List ℕ) → Option (List Entry)
-told_in l pages = option_and_then entries_of (option_and_then (read_page 0 l.pages) (slice_get pages 0))
-
-abbrev pub told : Layout → Image → Option (List Entry)
-told l i = option_and_then (told_in l) (shown l i)
-
--- a leaf that page 0 may be
-pub record IsRootLeaf (l : Layout) (entries : List Entry) : Type 0 where
-  pub page : IsTrue (is_page 0 l.pages (Leaf entries))
-  pub fits : FitsPage (Leaf entries)
+-- the entries of the table that the pages are, and how many pages it has; none where they are no table
+abbrev pub told : Layout → Image → Option Telling
+told l i = option_and_then told_in (shown l i)

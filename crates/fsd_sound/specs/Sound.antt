@@ -5,7 +5,6 @@ use Rattle.volume_layout.specs.declared.layout.Layout.{Layout}
 use Rattle.volume_layout.specs.Layout.{home_a, home_b, InLog}
 use Rattle.volume_layout.specs.Root.{root_bytes}
 use Rattle.fsd_formats.specs.declared.anchor.Anchor.{Anchor}
-use Rattle.fsd_formats.specs.declared.entry.Entry.{Entry}
 use Rattle.fsd_formats.specs.Anchors.{read_anchor}
 use Rattle.fsd_formats.specs.Record.{Stamp}
 use Rattle.sector_disk.specs.declared.sector.WeakRun.{WeakRun}
@@ -19,7 +18,8 @@ use Rattle.fsd_files.specs.Files.{Change, after}
 use Rattle.fsd_files.specs.Kept.{Describes}
 use Rattle.fsd_sound.specs.Anchors.{anchor_at, anchor_of, EachAnchor}
 use Rattle.fsd_sound.specs.Laid.{IsLaid}
-use Rattle.fsd_sound.specs.Shown.{records_by, shown, told, told_in}
+use Rattle.fsd_table.specs.Table.{Telling, told_in}
+use Rattle.fsd_sound.specs.Shown.{records_by, shown, told}
 
 -- P of the bytes, if the sector is Whole
 abbrev pub IfWhole : Image → ℕ → (List ℕ → Type 0) → Type 0
@@ -106,9 +106,9 @@ pub record IsPrefixOf (h : List Change) (f n : ℕ) : Type 0 where
   pub forced : f ≤ n
   pub made : n ≤ length h
 
-abbrev pub Tells : Layout → Sectors → Image → List Change → ℕ → Option (List Entry) → Type 0
+abbrev pub Tells : Layout → Sectors → Image → List Change → ℕ → Option Telling → Type 0
 Tells l hurt i h f None = ⊥
-Tells l hurt i h f (Some entries) = (n : ℕ) × IsPrefixOf h f n × Describes l hurt i (after (take n h)) entries
+Tells l hurt i h f (Some t) = (n : ℕ) × IsPrefixOf h f n × Describes l hurt i (after (take n h)) t.entries
 
 -- ---- the whole
 
@@ -145,8 +145,8 @@ IsStill windows = (s : ℕ) → IsTrue (weak_of windows s) → ⊥
 pub record TellsPrefix (l : Layout) (windows : List WeakRun) (h : List Change) (f : ℕ) (i : Image) : Type 0 where
   pub pages : List (List ℕ)
   pub shows : ShowsPages l windows (pages ∷ []) i
-  pub entries : List Entry
-  pub told : told_in l pages ≡ Some entries
+  pub telling : Telling
+  pub told : told_in pages ≡ Some telling
   pub count : ℕ
   pub prefix : IsPrefixOf h f count
-  pub described : Describes l (in_runs windows) i (after (take count h)) entries
+  pub described : Describes l (in_runs windows) i (after (take count h)) telling.entries

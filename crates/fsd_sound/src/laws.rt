@@ -1,5 +1,6 @@
 //! Laws over the definitions: the functions do nothing, the contract of each is a law.
-ghost use Rattle.std.specs.Prelude.{◌≡◌, ◌≤◌, ◌^◌, ℕ, List, [], ◌∷◌, ◌++◌, length, Some, None, IfSome, Contains};
+ghost use Rattle.std.specs.Prelude.{◌≡◌, ◌≤◌, ◌^◌, ℕ, List, [], ◌∷◌, ◌++◌, length, Option, Some, None, IfSome, IsTrue, Contains};
+ghost use Rattle.fsd_formats.specs.declared.anchor.Anchor.{Anchor};
 ghost use Rattle.std.specs.List.{last_or};
 ghost use Rattle.volume_layout.specs.declared.layout.Layout.{Layout};
 ghost use Rattle.volume_layout.specs.Layout.{map_start};
@@ -7,11 +8,12 @@ ghost use Rattle.sector_disk.specs.declared.sector.WeakRun.{WeakRun};
 ghost use Rattle.sector_disk.specs.Image.{Windows, open_damage, IsWorn};
 ghost use Rattle.fsd_files.specs.Disk.{Image, in_runs};
 ghost use Rattle.fsd_files.specs.Files.{Change};
+ghost use Rattle.fsd_files.specs.Volume.{HasReach, drawn};
 ghost use Rattle.fsd_sound.specs.Format.{IsFormatted, IsFormattedIn};
 ghost use Rattle.fsd_log.specs.Scan.{Placed, Head};
-ghost use Rattle.fsd_formats.specs.declared.anchor.Anchor.{Anchor};
-ghost use Rattle.fsd_sound.specs.Mounted.{Mounted, StandsOver, IsMounted, SameTaken, SameData, ChangesTo, IsFresh, IsSameEpoch, with_forced};
-ghost use Rattle.fsd_sound.specs.Shown.{told_in};
+ghost use Rattle.fsd_sound.specs.Mounted.{Mounted, StandsOver, HasOpen, IsMounted, SameStays, SameTaken, SameData, ChangesTo, IsFresh, IsSameEpoch, forces_by_itself, telling_of, with_forced};
+ghost use Rattle.fsd_table.specs.Table.{one_leaf, told_in};
+ghost use Rattle.fsd_sound.specs.Shown.{told};
 ghost use Rattle.fsd_sound.specs.Sound.{EndIn, weak_of, IsSound, IsStill, ShowsPages, Tells, TellsPrefix};
 ghost use Rattle.fsd_sound.specs.Choices.{TellsChoices};
 ghost use Rattle.fsd_sound.specs.Windows.{IsApart};
@@ -23,6 +25,12 @@ pub fn formatted_disks_are_sound()
         IsFormatted l i → IsSound l windows [] 0 i }
     ensures worn { (l : Layout) (next : WeakRun) (i : Image) → next.count ≤ 3 →
         IsFormattedIn l next i → IsSound l (next ∷ []) [] 0 i }
+{}
+
+/// It tells an empty table of one leaf, however its weak run wears.
+pub fn formatted_disks_are_empty()
+    ensures { (l : Layout) (windows : List WeakRun) (i j : Image) → IfSome (last_or None windows) (λ r. r.count ≤ 3) → IsWorn (weak_of windows) i j →
+        IsFormatted l i → told l j ≡ Some (one_leaf []) }
 {}
 
 /// A sound disk stays sound however its weak run of at most three sectors wears.
@@ -46,7 +54,7 @@ pub fn open_windows_wear_soundly()
 pub fn sound_from_pages()
     ensures { (l : Layout) (windows : List WeakRun) (h : List Change) (f : ℕ) (choices : List (List (List ℕ))) (i : Image) →
         ShowsPages l windows choices i →
-        ((pages : List (List ℕ)) → Contains choices pages → Tells l (in_runs windows) i h f (told_in l pages)) →
+        ((pages : List (List ℕ)) → Contains choices pages → Tells l (in_runs windows) i h f (told_in pages)) →
         IsSound l windows h f i }
 {}
 
@@ -66,10 +74,38 @@ pub fn mounted_volumes_wear()
         IsMounted m windows h f i → IsMounted m windows h f j }
 {}
 
+/// A mounted volume has no more pages than it may have.
+pub fn mounted_volumes_have_few_pages()
+    ensures { (m : Mounted) (windows : List WeakRun) (h : List Change) (f : ℕ) (i : Image) → IsMounted m windows h f i → HasReach m.volume }
+{}
+
+/// Where no change waits for a force, the disk's own table is the volume's.
+pub fn mounted_volumes_stand_where_nothing_waits()
+    ensures { (m : Mounted) (windows : List WeakRun) (h : List Change) (f : ℕ) (i : Image) → IsMounted m windows h f i → m.volume.unforced ≡ 0 →
+        told m.volume.layout i ≡ Some (telling_of m.volume) }
+{}
+
+/// A volume whose pages are so many that it forces by itself has two changes at least that wait for a force.
+pub fn two_changes_wait_where_many_pages_do()
+    ensures { (m : Mounted) (windows : List WeakRun) (h : List Change) (f : ℕ) (i : Image) → IsMounted m windows h f i → IsTrue (forces_by_itself m) → 2 ≤ m.volume.unforced }
+{}
+
 /// What is written to free sectors leaves a volume mounted.
 pub fn free_sectors_may_be_written()
     ensures { (m : Mounted) (windows : List WeakRun) (h : List Change) (f : ℕ) (i j : Image) → length j ≡ length i → SameTaken m.volume i j →
         IsMounted m windows h f i → IsMounted m windows h f j }
+{}
+
+/// So does what is written to any sector that the forced changes have let go, where what drafts and readers have stands then.
+pub fn drafts_may_be_written()
+    ensures { (m : Mounted) (slices : List (List (Option (List ℕ)))) (windows : List WeakRun) (h : List Change) (f : ℕ) (i j : Image) → length j ≡ length i → SameStays m.volume i j →
+        HasOpen (in_runs windows) j (record m { slices = slices }) → IsMounted m windows h f i → IsMounted (record m { slices = slices }) windows h f j }
+{}
+
+/// A volume whose next serial is drawn stays mounted.
+pub fn serials_may_be_drawn()
+    ensures { (m : Mounted) (windows : List WeakRun) (h : List Change) (f : ℕ) (i : Image) → IsMounted m windows h f i →
+        IsMounted (record m { volume = drawn m.volume }) windows h f i }
 {}
 
 /// A change in memory leaves a volume mounted, after one change more, which waits for a force.
@@ -82,9 +118,10 @@ pub fn changes_wait_for_a_force()
 /// are forced. The anchor of the log may have moved on.
 pub fn forces_commit_all_changes()
     ensures during { (m : Mounted) (windows : List WeakRun) (h : List Change) (f : ℕ) (i j : Image) (now : List (List ℕ)) → (is : IsMounted m windows h f i) → SameData m.volume.layout (in_runs windows) i j →
-        told_in m.volume.layout now ≡ Some m.volume.entries → ShowsPages m.volume.layout windows (is.disk ∷ now ∷ []) j → IsSound m.volume.layout windows h f j }
+        told_in now ≡ Some (telling_of m.volume) → ShowsPages m.volume.layout windows (is.disk ∷ now ∷ []) j → IsSound m.volume.layout windows h f j }
     ensures done { (m : Mounted) (windows : List WeakRun) (h : List Change) (f : ℕ) (i j : Image) (now : List (List ℕ)) (anchor : Anchor) (head : Head) (records : List Placed) → IsMounted m windows h f i → SameData m.volume.layout (in_runs windows) i j →
-        told_in m.volume.layout now ≡ Some m.volume.entries → IsSameEpoch m.anchor anchor → StandsOver m.volume.layout anchor head records now now [] windows j → IsMounted (with_forced m now anchor head) windows h (length h) j }
+        told_in now ≡ Some (telling_of m.volume) → IsSameEpoch m.anchor anchor →
+        StandsOver m.volume.layout anchor head records now now [] windows j → IsMounted (with_forced m now anchor head) windows h (length h) j }
 {}
 
 /// A volume is mounted where the pages that the disk shows tell its files, and its log has no record that it doesn't know.

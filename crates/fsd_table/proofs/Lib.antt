@@ -1,5 +1,11 @@
 pub mod BoundLaws
 pub mod BreakLaws
+pub mod EntryLaws
+pub mod FewLaws
 pub mod KeyLaws
+pub mod OneLeafLaws
 pub mod PageLaws
+pub mod TableExamples
+pub mod ToldLaws
+pub mod TreeLaws
 pub mod VisitLaws

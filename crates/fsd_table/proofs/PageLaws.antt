@@ -1,17 +1,20 @@
 -- What the grammar of a page says of what it has.
-use Rattle.std.proofs.Common.{◌≡◌, ℕ, Bool, true, false, cond, ◌&&◌, List, length, Option, Some, None, refl, ap, ◌∙◌, sym}
+use Rattle.std.proofs.Common.{◌≡◌, ℕ, suc, Bool, true, false, cond, ◌&&◌, List, [], ◌∷◌, length, Option, Some, None, refl, ap, ◌∙◌, sym}
 use Rattle.std.specs.Prelude.{slice_get, option_and_then, nat_lt}
-use Rattle.std.specs.List.{list_all}
+use Rattle.std.specs.List.{list_all, AllByRecursion}
 use Rattle.std.proofs.lemmas.Bool.{and_parts}
 use Rattle.fsd_bytes.specs.Bytes.{same_bytes}
 use Rattle.fsd_bytes.specs.Keys.{is_key}
 use Rattle.fsd_bytes.specs.Names.{is_between}
 use Rattle.fsd_formats.specs.declared.entry.Entry.{Entry}
 use Rattle.fsd_formats.specs.declared.page.Separator.{Separator}
-use Rattle.fsd_formats.specs.NamePage.{Content, Leaf, Interior, is_page, is_entry, are_ascending, room, least_used, least_separators, contents_of, content_from, page_bytes, stamp_at, read_page}
+use Rattle.fsd_formats.specs.NamePage.{Content, Free, Leaf, Interior, is_page, is_entry, are_ascending, room, least_used, least_separators, contents_of, content_from, page_bytes, stamp_at, read_page}
 use Rattle.fsd_bytes.specs.Bytes.{u8_at, u16_at}
 use Rattle.std.specs.Prelude.{drop}
-use Rattle.fsd_table.specs.Pages.{page_at, entry_keys, separator_keys}
+use Rattle.fsd_bytes.specs.declared.key.Key.{Key}
+use Rattle.fsd_table.specs.declared.child.Child.{Child}
+use Rattle.fsd_table.specs.Pages.{page_at, children, children_of, entry_keys, separator_keys}
+use Rattle.fsd_table.specs.Tree.{IsInterior}
 
 some_if : (b : Bool) (x y : Content) → cond b (Some x) None ≡ Some y → (b ≡ true) × (x ≡ y)
 some_if true x y e = (refl, cc)
@@ -42,3 +45,15 @@ interior_ascends page p first separators e =
     let p3 = and_parts (all && are_ascending (separator_keys separators) && nat_lt first p) (is_between (least_separators page) 9 (length separators)) e in
     let p2 = and_parts (all && are_ascending (separator_keys separators)) (nat_lt first p) p3.0 in
     (and_parts all (are_ascending (separator_keys separators)) p2.0).1
+
+-- ---- what an interior page leads to
+
+pub length_of_children : (first : ℕ) (low high : Option Key) (separators : List Separator) → length (children first low high separators) ≡ suc (length separators)
+length_of_children first low high [] = refl
+length_of_children first low high (s ∷ separators) = ap suc (length_of_children s.child (Some s.key) high separators)
+
+pub subtrees_of : (P : Child → Type 0) (c : Child) (x : Option Content) → IsInterior P c x → AllByRecursion P (children_of c.low c.high x)
+subtrees_of P c None h = absurd h
+subtrees_of P c (Some Free) h = absurd h
+subtrees_of P c (Some (Leaf entries)) h = absurd h
+subtrees_of P c (Some (Interior first separators)) h = h.1

@@ -134,7 +134,7 @@ counted_once (x ∷ xs) e =
     unnot false e = refl
     unnot true e = absurd cc
 
-count_map : (x : ℕ) (all : List Visit) → count_by (λ w. w.page == x) all ≡ count_by (λ t. t == x) (map (λ v. v.page) all)
+pub count_map : (x : ℕ) (all : List Visit) → count_by (λ w. w.page == x) all ≡ count_by (λ t. t == x) (map (λ v. v.page) all)
 count_map x [] = refl
 count_map x (v ∷ all) =
     sum_by-cons (λ (w : Visit). cond (w.page == x) 1 0) v all

@@ -1,3 +1,4 @@
+pub mod Breaks
 pub mod Pages
 pub mod Table
 pub mod Tree

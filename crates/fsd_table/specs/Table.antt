@@ -77,6 +77,10 @@ pub record Telling : Type 0 where
   pub entries : List Entry
   pub reached : ℕ
 
+-- the telling of a table that is one leaf
+abbrev pub one_leaf : List Entry → Telling
+one_leaf entries = record { entries = entries; reached = 1 }
+
 abbrev pub entries_in : List Visit → List Entry
 entries_in all = flat_map (λ v. entries_of v.content) all
 

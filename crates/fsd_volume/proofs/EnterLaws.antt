@@ -23,18 +23,18 @@ use Rattle.sector_set.proofs.FreeLaws.{where_same, contains_where}
 use Rattle.fsd_formats.specs.declared.entry.Entry.{Entry}
 use Rattle.fsd_formats.specs.NamePage.{Leaf, contents_of, entry_bytes, is_entry, are_ascending, room, least_used, FitsEntry}
 use Rattle.fsd_files.specs.Answers.{entry_put, entry_of}
-use Rattle.fsd_files.specs.OneLeaf.{leaf_used}
+use Rattle.fsd_volume.specs.OneLeaf.{leaf_used}
 use Rattle.fsd_files.specs.Volume.{plans_of}
 use Rattle.fsd_files.proofs.HistoryLaws.{keys_total}
 use Rattle.group_commit.specs.Resident.{ResidentValue}
 use Rattle.fsd_sound.specs.Mounted.{image_at}
 use Rattle.fsd_volume.specs.Put.{names, rewritten, with_leaf, AreNew, IsFull}
 use Rattle.fsd_volume.specs.State.{State, IsTable, IsKept, IsSpelled, TakesRecord, free_space}
-use Rattle.fsd_volume.proofs.ApartLaws.{occurs, contains_occurs, occurs_contains}
+use Rattle.fsd_files.proofs.CountLaws.{occurs, used, used-cons, contains_occurs, occurs_contains}
 use Rattle.fsd_volume.proofs.HomeLaws.{data_from}
 use Rattle.fsd_volume.proofs.LeafLaws.{planned_pages, first_image, spelled_again, leaf_waits}
 use Rattle.fsd_volume.proofs.ListLaws.{none_alike}
-use Rattle.fsd_volume.proofs.PlanLaws.{used, used-cons, apart_put}
+use Rattle.fsd_volume.proofs.PlanLaws.{apart_put}
 
 abbrev keys_of : List Entry → List Key
 keys_of entries = map (λ e. e.key) entries
@@ -264,8 +264,3 @@ kept_put s e new table before after runs kept good fits free takes absent small 
 pub free_as_kept : (s : State) (before : Area) (e : Entry) (runs : List Run) → IsKept s before → AreNew s.layout (plans_of s.entries) e.runs → runs ≡ e.runs → AreIn before runs
 free_as_kept s before e runs kept free same =
     subst (λ (rs : List Run). AreIn before rs) (sym same) (subst (λ (m : Area). AreIn m e.runs) (sym kept.map) (place_free s.layout s.entries e.runs free))
-
--- what stood in the entries stands there still
-pub still_there : (s : ℕ) (e : Entry) (entries : List Entry) → names e.key.name entries ≡ false → IsTrue (contains (flat_map sectors_of (plans_of entries)) s) → IsTrue (contains (flat_map sectors_of (plans_of (entry_put e entries))) s)
-still_there s e entries absent there =
-    occurs_contains s (flat_map sectors_of (plans_of (entry_put e entries))) (omega (arith, contains_occurs s (flat_map sectors_of (plans_of entries)) there, used_is s e entries absent))

@@ -9,8 +9,6 @@ use Rattle.sector_set.specs.Area.{Area}
 use Rattle.sector_disk.specs.declared.sector.WeakRun.{WeakRun}
 use Rattle.sector_disk.specs.Image.{sector_at}
 use Rattle.sector_disk.specs.Machine.{Moment, Report}
-use Rattle.fsd_formats.specs.declared.anchor.Anchor.{Anchor}
-use Rattle.fsd_formats.specs.declared.entry.Entry.{Entry}
 use Rattle.fsd_formats.specs.Record.{Stamp}
 use Rattle.log_thirds.specs.LogValue.{LogValue}
 use Rattle.log_thirds.specs.Append.{stamp_now, IsIndexed}
@@ -22,15 +20,16 @@ use Rattle.group_commit.proofs.StandsLaws.{knows_images}
 use Rattle.group_commit.specs.Resident.{ResidentValue, stamped, with_stamp}
 use Rattle.group_commit.specs.Force.{KeepsData, StandsOver, Commits, Committed, stamped_by, log_forced, as_load}
 use Rattle.group_commit.proofs.CommitLaws.{idle_committed}
+use Rattle.fsd_table.specs.Table.{one_leaf, told_in}
 use Rattle.fsd_files.specs.Disk.{Image, in_runs}
 use Rattle.fsd_files.specs.Files.{Change}
 use Rattle.fsd_files.specs.Volume.{Volume, forced}
-use Rattle.fsd_sound.specs.Mounted.{StandsOver as Over, SameData, IsSameEpoch, image_at}
-use Rattle.fsd_sound.specs.Shown.{told_in}
-use Rattle.fsd_sound.specs.Sound.{EndIn, IsSound, ShowsPages}
+use Rattle.fsd_sound.specs.Mounted.{IsMounted as StandsOnDisk, StandsOver as Over, SameData, IsSameEpoch, image_at, telling_of}
+use Rattle.fsd_sound.specs.Shown.{told}
+use Rattle.fsd_sound.specs.Sound.{EndIn, ShowsPages}
 use Rattle.fsd_sound.proofs.SoundLaws.{weak_within_hurt}
 use Rattle.fsd_sound.proofs.WindowLaws.{fewer}
-use Rattle.fsd_sound.proofs.MountedLaws.{mounted_sound, force_sound, force_mounted, force_records}
+use Rattle.fsd_sound.proofs.MountedLaws.{first_or_second, force_sound, force_mounted, force_records, mounted_tells}
 use Rattle.fsd_bytes.specs.declared.refusal.Refusal.TheVariants.{Device}
 use Rattle.sector_disk.specs.Damage.{IsDevice}
 use Rattle.group_commit.specs.declared.force.ForceFault.{ForceFault}
@@ -38,8 +37,10 @@ use Rattle.group_commit.specs.declared.force.ForceFault.TheVariants as fault
 use Rattle.group_commit.specs.Entering.{RecordCause, LosesLogged}
 use Rattle.fsd_volume.specs.Calls.{OnlyDevice}
 use Rattle.fsd_volume.specs.Forcing.{Forces, ForceFails, LosesImage, Unforced, force_refusal, stamped_state, entered_state, forced_state}
+use Rattle.fsd_volume.specs.OneLeaf.{IsOneLeaf, IsSoundLeaf}
 use Rattle.fsd_volume.specs.State.{State, IsKept, IsSpelled, IsMounted, StandsFor, mounted_of}
 use Rattle.fsd_volume.proofs.LeafLaws.{planned_pages, first_image, spelled_stamped, told_leaf}
+use Rattle.fsd_volume.proofs.OneLeafLaws.{leaf_from_pages, leaf_is, mounted_sound_leaf, pages_leaf}
 
 -- ---- the state then
 
@@ -139,8 +140,10 @@ module _ (s : State) (free : Area) (kept : IsKept s free) (epoch : s.serial.epoc
   }
 
   -- the stamped pages tell the same entries
-  told_now : told_in s.layout now ≡ Some s.entries
-  told_now = told_leaf s.layout s.entries now kept.table.leaf (omega (arith, some_pages, stamped_size (stamp_now s.log) s.table.dirty s.table.pages)) spelled_now
+  told_now : told_in now ≡ Some (one_leaf s.entries)
+  told_now =
+      let size = stamped_size (stamp_now s.log) s.table.dirty s.table.pages in
+      told_leaf s.layout s.entries now kept.table.leaf (omega (arith, some_pages, size)) (size ∙ kept.pages) spelled_now
 
   -- ---- the disk
 
@@ -148,8 +151,8 @@ module _ (s : State) (free : Area) (kept : IsKept s free) (epoch : s.serial.epoc
     layout_is : v.layout ≡ s.log.layout
     layout_is = mounted.stands.layout ∙ sym kept.log
 
-    told_volume : told_in v.layout now ≡ Some v.entries
-    told_volume = subst (λ (l : Layout). told_in l now ≡ Some v.entries) (sym mounted.stands.layout) (told_now ∙ ap (λ (es : List Entry). Some es) (sym mounted.stands.entries))
+    told_volume : told_in now ≡ Some (telling_of v)
+    told_volume = told_now ∙ (λ k. Some (record { entries = sym mounted.stands.entries k; reached = sym mounted.stands.reached k }))
 
     pub over_log : StandsOver s.log mounted.on_disk.records mounted.on_disk.disk s.table windows i
     over_log = subst (λ (l : Layout). Over l s.log.anchor s.log.head mounted.on_disk.records mounted.on_disk.disk s.table.pages s.table.dirty windows i) layout_is mounted.on_disk.over
@@ -163,13 +166,19 @@ module _ (s : State) (free : Area) (kept : IsKept s free) (epoch : s.serial.epoc
 
     pub forces_at : (old left : Moment) → old.image ≡ i → EndIn old.windows windows → Commits s.log.layout windows mounted.on_disk.disk now old left → Forces s.layout windows h f old left
     forces_at old left at ends commits = record {
-      sound = subst (λ (l : Layout). IsSound l windows h f left.image) mounted.stands.layout
-          (force_sound (mounted_of s v) windows h f i left.image now mounted.on_disk (same_data old left at ends commits.kept) told_volume
-          (subst (λ (l : Layout). ShowsPages l windows (mounted.on_disk.disk ∷ now ∷ []) left.image) (sym layout_is) commits.shows));
+      sound = subst (λ (l : Layout). IsSoundLeaf l windows h f left.image) mounted.stands.layout (record {
+        sound = force_sound (mounted_of s v) windows h f i left.image now mounted.on_disk (same_data old left at ends commits.kept) told_volume shows;
+        leaf = leaf_from_pages v.layout windows (mounted.on_disk.disk ∷ now ∷ []) left.image shows
+            (λ pages two. first_or_second (λ ps. IsOneLeaf (told_in ps)) mounted.on_disk.disk now pages (pages_leaf v.layout windows mounted.on_disk.disk i mounted.on_disk.over.shows mounted.leaf)
+            (leaf_is (told_in now) (telling_of v) told_volume mounted.stands.reached) two);
+      });
       kept = subst (λ (l : Layout). KeepsData l old left) kept.log commits.kept;
       windows = commits.windows;
       said = commits.said;
     }
+      where
+        shows : ShowsPages v.layout windows (mounted.on_disk.disk ∷ now ∷ []) left.image
+        shows = subst (λ (l : Layout). ShowsPages l windows (mounted.on_disk.disk ∷ now ∷ []) left.image) (sym layout_is) commits.shows
 
     stands_forced : StandsFor (forced_state s) (forced v)
     stands_forced = record {
@@ -192,9 +201,12 @@ module _ (s : State) (free : Area) (kept : IsKept s free) (epoch : s.serial.epoc
         let over = subst (λ (l : Layout). Over l log.anchor log.head committed.records now now [] windows j) (log_layout s.log s.table.dirty ∙ sym layout_is) committed.stands in
         let later = log_anchor s.log s.table.dirty mounted.on_disk.third in
         let indexed = (knows_images log log.head committed.records now now [] windows j committed.stands).0 knows in
+        let on_disk : StandsOnDisk (mounted_of (forced_state s) (forced v)) windows h (length h) j =
+        force_mounted (mounted_of s v) windows h f i j now log.anchor log.head committed.records mounted.on_disk same told_volume later over in
         record {
           stands = stands_forced;
-          on_disk = force_mounted (mounted_of s v) windows h f i j now log.anchor log.head committed.records mounted.on_disk same told_volume later over;
+          on_disk = on_disk;
+          leaf = leaf_is (told v.layout j) (telling_of (forced v)) (mounted_tells (mounted_of (forced_state s) (forced v)) windows h (length h) j on_disk refl) mounted.stands.reached;
           indexed = subst (IsIndexed log) (sym (force_records (mounted_of s v) windows h f i j now log.anchor log.head committed.records mounted.on_disk same told_volume later over)) indexed;
         }
 
@@ -217,7 +229,7 @@ idle_state s none =
 
 pub idle_forces : (s : State) (v : Volume) (windows : List WeakRun) (h : List Change) (f : ℕ) (at : Moment) → IsMounted s v windows h f at.image → Forces s.layout windows h f at at
 idle_forces s v windows h f at mounted = record {
-  sound = subst (λ (l : Layout). IsSound l windows h f at.image) mounted.stands.layout (mounted_sound (mounted_of s v) windows h f at.image mounted.on_disk);
+  sound = mounted_sound_leaf s v windows h f at.image mounted;
   kept = λ t from. inl refl;
   windows = refl;
   said = refl;

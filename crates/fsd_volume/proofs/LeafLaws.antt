@@ -1,6 +1,6 @@
 -- Page 0 in memory: what it tells, and what a new leaf makes of it.
-use Rattle.std.proofs.Common.{◌≡◌, inl, inr, ℕ, zero, suc, ◌<◌, ◌^◌, List, [], ◌∷◌, length, take, Some, Ok, refl, sym, ap, subst, ◌∙◌, arith}
-use Rattle.std.specs.Prelude.{IsFalse, slice_set, option_and_then}
+use Rattle.std.proofs.Common.{◌≡◌, inl, inr, ℕ, zero, suc, ◌+◌, ◌<◌, ◌≤◌, ◌^◌, List, [], ◌∷◌, length, take, Some, Ok, refl, sym, ap, subst, ◌∙◌, arith}
+use Rattle.std.specs.Prelude.{IsFalse, slice_set}
 use Rattle.std.proofs.lemmas.List.{length-set}
 use Rattle.std.proofs.lemmas.Nat.{from_be_bytes-to_be_bytes_4}
 use Rattle.run_table.specs.Space.{contains}
@@ -15,7 +15,10 @@ use Rattle.fsd_formats.proofs.PageLaws.{page_is_read}
 use Rattle.log_thirds.specs.LogValue.{LogValue}
 use Rattle.group_commit.specs.Resident.{ResidentValue, IsImageOf, with_page, with_stamp}
 use Rattle.fsd_sound.specs.Mounted.{AgreeOutside, image_at}
-use Rattle.fsd_sound.specs.Shown.{entries_of, told_in, IsRootLeaf}
+use Rattle.fsd_table.specs.Pages.{page_at}
+use Rattle.fsd_table.specs.Table.{one_leaf, told_in}
+use Rattle.fsd_table.proofs.OneLeafLaws.{leaf_told}
+use Rattle.fsd_volume.specs.OneLeaf.{IsRootLeaf}
 use Rattle.fsd_volume.specs.Put.{rewritten, with_leaf}
 use Rattle.fsd_volume.specs.State.{IsSpelled, MayForce}
 
@@ -45,11 +48,14 @@ spelled_image entries bytes is = record { magic = ap (take 4) is.is; number = ap
 pub planned_pages : (l : Layout) → plan l.sectors l.third l.pages ≡ Ok l → 0 < l.pages
 planned_pages l planned = let bounds = planned_bounds l planned in let least = bounds.pages_least in omega (arith, least)
 
-pub told_leaf : (l : Layout) (entries : List Entry) (pages : List (List ℕ)) → IsRootLeaf l entries → 0 < length pages → IsSpelled entries (image_at pages 0) → told_in l pages ≡ Some entries
-told_leaf l entries [] leaf some is = absurd (omega arith)
-told_leaf l entries (p ∷ pages) leaf some is =
-    ap (λ (b : List ℕ). option_and_then entries_of (read_page 0 l.pages b)) is.is
-    ∙ ap (option_and_then entries_of) (page_is_read 0 l.pages is.stamp (Leaf entries) leaf.page leaf.fits is.fits.0 is.fits.1)
+leaf_at : (l : Layout) (entries : List Entry) (pages : List (List ℕ)) → IsRootLeaf l entries → 0 < length pages → length pages ≡ l.pages → IsSpelled entries (image_at pages 0) → page_at pages 0 ≡ Some (Leaf entries)
+unfolding page_at
+leaf_at l entries [] leaf some size is = absurd (omega arith)
+leaf_at l entries (p ∷ pages) leaf some size is =
+    ap (λ (n : ℕ). read_page 0 n p) size ∙ ap (read_page 0 l.pages) is.is ∙ page_is_read 0 l.pages is.stamp (Leaf entries) leaf.page leaf.fits is.fits.0 is.fits.1
+
+pub told_leaf : (l : Layout) (entries : List Entry) (pages : List (List ℕ)) → IsRootLeaf l entries → 0 < length pages → length pages ≡ l.pages → IsSpelled entries (image_at pages 0) → told_in pages ≡ Some (one_leaf entries)
+told_leaf l entries pages leaf some size is = leaf_told pages entries (leaf_at l entries pages leaf some size is)
 
 pub first_image : (pages : List (List ℕ)) (bytes : List ℕ) → 0 < length pages → image_at (slice_set pages 0 bytes) 0 ≡ bytes
 first_image [] bytes some = absurd (omega arith)
@@ -75,3 +81,7 @@ leaf_agrees log table entries may = record {
   size = sym (length-set table.pages 0 (rewritten entries (image_at table.pages 0)));
   each = λ page out. other_image table.pages (rewritten entries (image_at table.pages 0)) page (ap (λ (ps : List ℕ). contains ps page) (sym (leaf_waits log table may)) ∙ out);
 }
+
+-- one page more waits at most
+pub leaf_few : (log : LogValue) (table : ResidentValue) → MayForce log table → length (with_page 0 table.dirty) ≤ length table.dirty + 40
+leaf_few log table may = let one : length (with_page 0 table.dirty) ≡ 1 = ap (λ (ps : List ℕ). length ps) (leaf_waits log table may) in omega (arith, one)

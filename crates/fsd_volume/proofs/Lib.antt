@@ -1,4 +1,3 @@
-pub mod ApartLaws
 pub mod CallLaws
 pub mod EnterLaws
 pub mod ForceLaws
@@ -13,6 +12,7 @@ pub mod LostLaws
 pub mod MountEnds
 pub mod MountLaws
 pub mod MountMoments
+pub mod OneLeafLaws
 pub mod PieceLaws
 pub mod PlaceLaws
 pub mod PlanLaws

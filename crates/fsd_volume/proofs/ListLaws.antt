@@ -5,11 +5,9 @@ use Rattle.std.specs.List.{last_or}
 use Rattle.std.proofs.lemmas.Bool.{ne_eqb, or_left, or_parts}
 use Rattle.std.proofs.lemmas.List.{take_more, drop_all}
 use Rattle.fsd_bytes.proofs.SameLaws.{is_same}
-use Rattle.std.specs.Ordering.{nat_cmp, ordering_then}
 use Rattle.std.specs.declared.cmp.Ordering.{Ordering}
 use Rattle.std.specs.declared.cmp.Ordering.TheVariants.{Less, Equal, Greater}
-use Rattle.std.specs.Cmp.Lexicographic.{slice_cmp}
-use Rattle.std.specs.FinMap.{put, slice_cmp-IsAntisymmetric, nat_cmp-IsAntisymmetric}
+use Rattle.std.specs.FinMap.{put}
 use Rattle.std.specs.FinMap.Entries.{by_order}
 use Rattle.fsd_bytes.specs.Bytes.{same_bytes}
 use Rattle.fsd_bytes.specs.declared.key.Key.{Key}
@@ -17,41 +15,10 @@ use Rattle.fsd_bytes.specs.Keys.{key_cmp, key_of}
 use Rattle.fsd_formats.specs.declared.entry.Entry.{Entry}
 use Rattle.fsd_files.specs.Answers.{entry_put}
 use Rattle.fsd_files.specs.Files.{File, Files, of_name, highest, without, new_key, new_keep, gone, gone_keys, next_version, keep_of}
-use Rattle.fsd_files.specs.Kept.{IsEntryOf, Lists}
-use Rattle.fsd_files.specs.OneLeaf.{has_name}
+use Rattle.fsd_files.specs.Kept.{Lists}
+use Rattle.fsd_volume.specs.OneLeaf.{has_name}
+use Rattle.fsd_files.proofs.ListingLaws.{alike_is}
 use Rattle.fsd_volume.specs.Put.{names}
-use Rattle.fsd_files.specs.Volume.{entries_at, entries_without}
-
--- ---- keys that compare alike are one
-
-key_is : (a b : Key) → a.name ≡ b.name → a.version ≡ b.version → a ≡ b
-key_is a b n v = λ i. record { name = n i; version = v i }
-
-same_place : (o : Ordering) (a b : Key) → slice_cmp nat_cmp a.name b.name ≡ o → ordering_then o (nat_cmp a.version b.version) ≡ Equal → a ≡ b
-same_place Less a b e f = absurd cc
-same_place Equal a b e f = key_is a b (slice_cmp-IsAntisymmetric nat_cmp-IsAntisymmetric a.name b.name e) (nat_cmp-IsAntisymmetric a.version b.version f)
-same_place Greater a b e f = absurd cc
-
-pub alike_is : (a b : Key) → key_cmp a b ≡ Equal → a ≡ b
-alike_is a b e = same_place (slice_cmp nat_cmp a.name b.name) a b refl e
-
--- ---- the entries list the files
-
-lists_by_order : (o : Ordering) (k : Key) (x : File) (e : Entry) (y : Key × File) (z : Entry) (s : Files) (entries : List Entry) (rest : Files) (more : List Entry)
-    → key_cmp k y.0 ≡ o → IsEntryOf (k, x) e → IsEntryOf y z → Lists s entries → Lists rest more
-    → Lists (by_order o ((k, x) ∷ y ∷ s) ((y.0, x) ∷ s) (y ∷ rest)) (by_order o (e ∷ z ∷ entries) (e ∷ entries) (z ∷ more))
-lists_by_order Less k x e y z s entries rest more o new old lists deeper = (new, (old, lists))
-lists_by_order Equal k x e y z s entries rest more o new old lists deeper = (record { key = new.key ∙ alike_is k y.0 o; keep = new.keep; length = new.length }, lists)
-lists_by_order Greater k x e y z s entries rest more o new old lists deeper = (old, deeper)
-
-pub lists_put : (k : Key) (x : File) (e : Entry) (s : Files) (entries : List Entry) → IsEntryOf (k, x) e → Lists s entries → Lists (put key_cmp k x s) (entry_put e entries)
-lists_put k x e [] [] new lists = (new, tt)
-lists_put k x e [] (z ∷ entries) new lists = absurd lists
-lists_put k x e (y ∷ s) [] new lists = absurd lists
-lists_put k x e (y ∷ s) (z ∷ entries) new lists =
-    let same : key_cmp k y.0 ≡ key_cmp e.key z.key = ap (λ (a : Key). key_cmp a y.0) (sym new.key) ∙ ap (key_cmp e.key) (sym lists.0.key) in
-    subst (λ (o : Ordering). Lists (put key_cmp k x (y ∷ s)) (by_order o (e ∷ z ∷ entries) (e ∷ entries) (z ∷ entry_put e entries))) same
-    (lists_by_order (key_cmp k y.0) k x e y z s entries (put key_cmp k x s) (entry_put e entries) refl new lists.0 lists.1 (lists_put k x e s entries new lists.1))
 
 -- ---- names
 
@@ -134,14 +101,6 @@ keys_gone name bytes given s self absent =
 pub without_none : (s : Files) → without [] s ≡ s
 without_none [] = refl
 without_none (e ∷ s) = ap (λ (xs : Files). e ∷ xs) (without_none s)
-
-pub entries_without_none : (entries : List Entry) → entries_without [] entries ≡ entries
-entries_without_none [] = refl
-entries_without_none (e ∷ entries) = ap (λ (xs : List Entry). e ∷ xs) (entries_without_none entries)
-
-pub entries_at_none : (entries : List Entry) → entries_at [] entries ≡ []
-entries_at_none [] = refl
-entries_at_none (e ∷ entries) = entries_at_none entries
 
 -- ---- where an entry goes
 

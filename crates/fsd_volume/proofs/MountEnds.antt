@@ -15,18 +15,21 @@ use Rattle.sector_disk.specs.Machine.{Moment}
 use Rattle.sector_disk.proofs.Wear.{worn_refl}
 use Rattle.fsd_formats.specs.declared.anchor.Anchor.{Anchor}
 use Rattle.fsd_formats.specs.declared.entry.Entry.{Entry}
-use Rattle.fsd_formats.specs.NamePage.{Content, Free, Leaf, Interior, read_page}
+use Rattle.fsd_formats.specs.NamePage.{Leaf, read_page}
 use Rattle.fsd_log.specs.Scan.{Head}
+use Rattle.fsd_table.specs.Pages.{page_at}
+use Rattle.fsd_table.specs.Table.{Telling, one_leaf, told_in}
+use Rattle.fsd_table.proofs.OneLeafLaws.{one_is_leaf}
 use Rattle.fsd_files.specs.Disk.{Image, Has, in_runs, bytes_of, bytes_at, either_copy}
 use Rattle.fsd_files.specs.Files.{Files, Change, after}
 use Rattle.fsd_files.specs.Kept.{Describes}
 use Rattle.fsd_sound.specs.Anchors.{anchor_of, fresh_anchor}
 use Rattle.fsd_sound.specs.Homes.{home_of}
 use Rattle.fsd_sound.specs.Laid.{HasOwnLog}
-use Rattle.fsd_sound.specs.Mounted.{image_at, IsFresh}
-use Rattle.fsd_sound.specs.Shown.{all_pages, shown, shown_by, told_in, entries_of}
+use Rattle.fsd_sound.specs.Mounted.{image_at, telling_of, IsFresh}
+use Rattle.fsd_sound.specs.Shown.{all_pages, shown, shown_by, told}
 use Rattle.fsd_sound.specs.Sound.{weak_of, ShowsOne, ShowsPages}
-use Rattle.fsd_sound.proofs.MountedLaws.{one_of, fresh_mounted, fresh_records}
+use Rattle.fsd_sound.proofs.MountedLaws.{one_of, fresh_mounted, fresh_records, mounted_tells}
 use Rattle.log_thirds.specs.Append.{IsIndexed}
 use Rattle.log_thirds.specs.LogValue.{LogValue}
 use Rattle.mount_recover.specs.declared.fault.MountFault.{MountFault}
@@ -39,7 +42,8 @@ use Rattle.fsd_volume.specs.Mount.{IsSoundAt, Mounts, MountLeaves, MountEnds, vo
 use Rattle.fsd_volume.specs.Opening.{AreAtHome, UnreadFor, Opens, OpensNotFor}
 use Rattle.fsd_volume.specs.Table.{table_in, leaf_of, if_apart, sectors_apart}
 use Rattle.fsd_volume.proofs.LostLaws.{none_at_home}
-use Rattle.fsd_volume.proofs.MountMoments.{ends_still, told_now, pages_now, count_now, entries_told, described_after, chosen_now, took_so_many}
+use Rattle.fsd_volume.proofs.MountMoments.{ends_still, told_now, pages_now, count_now, entries_now as told_entries, telling_is, entries_told, described_after, chosen_now, took_so_many}
+use Rattle.fsd_volume.proofs.OneLeafLaws.{leaf_is}
 use Rattle.fsd_volume.proofs.TableLaws.{table_is}
 use Rattle.fsd_sound.proofs.EachLaws.{each_size}
 use Rattle.fsd_sound.proofs.WindowLaws.{last_snoc}
@@ -75,19 +79,14 @@ read_all l i pages others home read size long =
 
 -- ---- the entries of page 0
 
-leaf_told : (o : Option Content) → option_and_then entries_of o ≡ leaf_of o
-leaf_told None = refl
-leaf_told (Some Free) = refl
-leaf_told (Some (Leaf entries)) = refl
-leaf_told (Some (Interior first separators)) = refl
-
 first_page : (pages : List (List ℕ)) → 0 < length pages → slice_get pages 0 ≡ Some (image_at pages 0)
 first_page [] some = absurd (omega (arith, some))
 first_page (page ∷ pages) some = refl
 
-told_leaf : (l : Layout) (pages : List (List ℕ)) → 0 < length pages → told_in l pages ≡ leaf_of (read_page 0 l.pages (image_at pages 0))
-told_leaf l pages some =
-    ap (λ (o : Option (List ℕ)). option_and_then entries_of (option_and_then (read_page 0 l.pages) o)) (first_page pages some) ∙ leaf_told (read_page 0 l.pages (image_at pages 0))
+leaf_read : (p : ℕ) (pages : List (List ℕ)) (entries : List Entry) → 0 < length pages → length pages ≡ p → page_at pages 0 ≡ Some (Leaf entries) → leaf_of (read_page 0 p (image_at pages 0)) ≡ Some entries
+unfolding page_at
+leaf_read p pages entries some size at =
+    ap leaf_of (ap (λ (n : ℕ). read_page 0 n (image_at pages 0)) (sym size) ∙ sym (ap (option_and_then (read_page 0 (length pages))) (first_page pages some)) ∙ at)
 
 if_apart_is : (l : Layout) (o : Option (List Entry)) (entries : List Entry) → option_and_then (if_apart l) o ≡ Some entries → o ≡ Some entries
 if_apart_is l None entries e = absurd cc
@@ -108,14 +107,20 @@ module _ (sectors : ℕ) (l : Layout) (windows : List WeakRun) (h : List Change)
   abbrev n : ℕ
   n = count_now sectors l windows h f old begun
 
-  abbrev told : List Entry
-  told = (told_now sectors l windows h f old begun).entries
+  abbrev entries_found : List Entry
+  entries_found = told_entries sectors l windows h f old begun
 
   some_page : 0 < length shown_pages
   some_page = let bounds = planned_bounds l begun.planned in omega (arith, bounds.pages_least, one_size l windows shown_pages old.image (told_now sectors l windows h f old begun).shows)
 
-  told_table : table_in l (image_at shown_pages 0) ≡ Some told
-  told_table = table_is l (image_at shown_pages 0) told (sym (told_leaf l shown_pages some_page) ∙ (told_now sectors l windows h f old begun).told) (told_now sectors l windows h f old begun).described.apart
+  told_pages : told_in shown_pages ≡ Some (one_leaf entries_found)
+  told_pages = (told_now sectors l windows h f old begun).told ∙ ap (λ (t : Telling). Some t) (telling_is sectors l windows h f old begun)
+
+  told_table : table_in l (image_at shown_pages 0) ≡ Some entries_found
+  told_table =
+      let size = one_size l windows shown_pages old.image (told_now sectors l windows h f old begun).shows in
+      table_is l (image_at shown_pages 0) entries_found (leaf_read l.pages shown_pages entries_found some_page size (one_is_leaf shown_pages (one_leaf entries_found) told_pages refl))
+      (told_now sectors l windows h f old begun).described.apart
 
   module _ (log : LogValue) (mid : Moment) (fresh : IsFreshLog l log) (done : IsReplayed l windows (shown_pages ∷ []) log.anchor.epoch mid) (calm : IsCalm mid.windows) (behind : SameBehind l old.image mid.image) where
     abbrev windows_now : List WeakRun
@@ -149,7 +154,7 @@ module _ (sectors : ℕ) (l : Layout) (windows : List WeakRun) (h : List Change)
 
       -- page 0 is a name table
       pub opens_now : (fault : MountFault) → OpensNotFor l pages fault → IsExcuse fault
-      opens_now (Unsound s) un = let e : Some told ≡ None = sym told_table ∙ ap (λ (ps : List (List ℕ)). table_in l (image_at ps 0)) (sym read_now) ∙ un.1 in absurd cc
+      opens_now (Unsound s) un = let e : Some entries_found ≡ None = sym told_table ∙ ap (λ (ps : List (List ℕ)). table_in l (image_at ps 0)) (sym read_now) ∙ un.1 in absurd cc
       opens_now Memory un = tt
       opens_now (Device s) un = tt
       opens_now (Lost a b) un = un
@@ -158,8 +163,8 @@ module _ (sectors : ℕ) (l : Layout) (windows : List WeakRun) (h : List Change)
       opens_now WornOut un = tt
 
       module _ (state : State) (opens : Opens l log pages state) where
-        entries_now : told ≡ state.entries
-        entries_now = some_is told state.entries (sym told_table ∙ ap (λ (ps : List (List ℕ)). table_in l (image_at ps 0)) (sym read_now) ∙ opens.table)
+        entries_now : entries_found ≡ state.entries
+        entries_now = some_is entries_found state.entries (sym told_table ∙ ap (λ (ps : List (List ℕ)). table_in l (image_at ps 0)) (sym read_now) ∙ opens.table)
 
         abbrev files_now : Files
         files_now = after (take n h)
@@ -182,9 +187,15 @@ module _ (sectors : ℕ) (l : Layout) (windows : List WeakRun) (h : List Change)
         fresh_now = record {
           records = [];
           over = record { shows = shows_now; own = own_now; clean = record { size = refl; each = λ page out. refl } };
-          told = ap (told_in l) read_now ∙ (told_now sectors l windows h f old begun).told ∙ ap (λ (es : List Entry). Some es) entries_now;
+          clean = refl;
+          told = ap told_in read_now ∙ told_pages ∙ ap (λ (es : List Entry). Some (one_leaf es)) entries_now;
           files = refl;
           described = described_now;
+          removed = refl;
+          held = refl;
+          drafts = refl;
+          slices = refl;
+          bytes = refl;
           unforced = refl;
           epoch = refl;
           third = subst (λ (a : Anchor). a.third ≤ 2) (sym fresh.anchor) (omega arith);
@@ -195,6 +206,8 @@ module _ (sectors : ℕ) (l : Layout) (windows : List WeakRun) (h : List Change)
         mounted_now = subst (λ (count : ℕ). IsMounted state_now (volume_of state_now files_now) windows_now (take n h) count mid.image) (took_so_many h n (told_now sectors l windows h f old begun).prefix.made) record {
           stands = record { layout = refl; entries = refl; lists = described_now.lists; serial = refl; removed = refl; held = refl; drafts = refl; reached = refl };
           on_disk = fresh_mounted (mounted_of state_now (volume_of state_now files_now)) windows_now (take n h) mid.image fresh_now;
+          leaf = leaf_is (told l mid.image) (telling_of (volume_of state_now files_now)) (mounted_tells (mounted_of state_now (volume_of state_now files_now)) windows_now (take n h) (length (take n h)) mid.image
+              (fresh_mounted (mounted_of state_now (volume_of state_now files_now)) windows_now (take n h) mid.image fresh_now) refl) refl;
           indexed = subst (IsIndexed log) (sym (fresh_records (mounted_of state_now (volume_of state_now files_now)) windows_now (take n h) mid.image fresh_now)) fresh.indexed;
         }
 
@@ -203,7 +216,7 @@ module _ (sectors : ℕ) (l : Layout) (windows : List WeakRun) (h : List Change)
 
       -- and so it ends
       pub ends_now : (r : Result State MountFault) → IfOk r (Opens l log pages) → IfErr r (OpensNotFor l pages) → MountLeaves l windows h f n old mid → MountEnds l windows h f n old mid r
-      ends_now (Ok state) opens broken leaves = (mounts_now state opens, entries_told sectors l windows h f old begun ∙ ap (λ (es : List Entry). Some es) (entries_now state opens))
+      ends_now (Ok state) opens broken leaves = (mounts_now state opens, entries_told sectors l windows h f old begun ∙ ap (λ (es : List Entry). Some (one_leaf es)) (entries_now state opens))
       ends_now (Err fault) opens broken leaves = (opens_now fault broken, leaves)
 
 -- a fault that is handed up

@@ -11,13 +11,14 @@ use Rattle.sector_disk.specs.Machine.{Moment, Wears}
 use Rattle.sector_disk.proofs.Calm.{calm_nowhere, calm_wears}
 use Rattle.sector_disk.proofs.Wear.{worn_refl}
 use Rattle.fsd_formats.specs.declared.entry.Entry.{Entry}
+use Rattle.fsd_table.specs.Table.{Telling, one_leaf, told_in}
 use Rattle.fsd_files.specs.Disk.{Image, Sectors, Has, in_runs}
 use Rattle.fsd_files.specs.Files.{Files, Change, after}
 use Rattle.fsd_files.specs.Kept.{Describes, Kept, slices, data_sectors}
 use Rattle.fsd_files.specs.Volume.{plans_of}
 use Rattle.fsd_files.proofs.KeptLaws.{kept_on}
 use Rattle.fsd_files.proofs.WearLaws.{each_of_both}
-use Rattle.fsd_sound.specs.Shown.{shown, told, told_in}
+use Rattle.fsd_sound.specs.Shown.{shown, told}
 use Rattle.fsd_sound.specs.Sound.{EndIn, IsStill, ShowsOne, Tells, TellsPrefix, weak_of}
 use Rattle.fsd_sound.proofs.MountedLaws.{one_of}
 use Rattle.fsd_sound.proofs.SoundLaws.{sound_from_pages}
@@ -25,7 +26,9 @@ use Rattle.fsd_sound.proofs.StillLaws.{tells_prefix}
 use Rattle.mount_recover.specs.Recover.{ShowsVolume}
 use Rattle.mount_recover.specs.Replay.{SameBehind, IsBefore, IsAfter, Replays}
 use Rattle.fsd_volume.specs.Mount.{IsSoundAt, LeavesFound, LeavesSettled, MountLeaves, TellsFirst}
+use Rattle.fsd_volume.specs.OneLeaf.{IsOneLeaf}
 use Rattle.fsd_volume.proofs.HomeLaws.{plans_in_data, data_from}
+use Rattle.fsd_volume.proofs.OneLeafLaws.{is_leaf, leaf_from_pages, pages_leaf}
 
 -- ---- what is kept, in another image and in more windows
 
@@ -65,7 +68,7 @@ ends_still now windows calm ends s weakly = calm_nowhere now.present None s calm
 module _ (sectors : ℕ) (l : Layout) (windows : List WeakRun) (h : List Change) (f : ℕ) (old : Moment) (start : IsSoundAt sectors l windows h f old) where
   -- the one list of pages that the disk shows, and what they tell
   pub told_now : TellsPrefix l windows h f old.image
-  told_now = tells_prefix l windows h f old.image (ends_still old.windows windows start.calm start.ends) start.sound
+  told_now = tells_prefix l windows h f old.image (ends_still old.windows windows start.calm start.ends) start.sound.sound
 
   abbrev pub pages_now : List (List ℕ)
   pages_now = told_now.pages
@@ -80,39 +83,58 @@ module _ (sectors : ℕ) (l : Layout) (windows : List WeakRun) (h : List Change)
       by None is one = absurd one
       by (Some pages) is one = is ∙ ap (λ (ps : List (List ℕ)). Some ps) (one_of (λ ps. ps ≡ pages_now) pages_now pages refl one)
 
-  pub entries_told : told l old.image ≡ Some told_now.entries
-  entries_told = ap (option_and_then (told_in l)) shown_now ∙ told_now.told
+  pub leaf_now : IsOneLeaf (told l old.image)
+  leaf_now = start.sound.leaf old.image (worn_refl (weak_of windows) old.image)
+
+  telling_now : told l old.image ≡ Some told_now.telling
+  telling_now = ap (option_and_then told_in) shown_now ∙ told_now.told
+
+  -- the table is one leaf, of these entries
+  abbrev pub entries_now : List Entry
+  entries_now = told_now.telling.entries
+
+  pub telling_is : told_now.telling ≡ one_leaf entries_now
+  telling_is = is_leaf (told l old.image) told_now.telling telling_now leaf_now
+
+  pub entries_told : told l old.image ≡ Some (one_leaf entries_now)
+  entries_told = telling_now ∙ ap (λ (t : Telling). Some t) telling_is
+
+  pages_are_leaf : IsOneLeaf (told_in pages_now)
+  pages_are_leaf = pages_leaf l windows pages_now old.image told_now.shows leaf_now
 
   pub first_now : TellsFirst l windows h f count_now old.image
-  first_now = record { prefix = told_now.prefix; entries = told_now.entries; tells = entries_told; described = told_now.described }
+  first_now = record { prefix = told_now.prefix; entries = entries_now; tells = entries_told; described = told_now.described }
 
   pub mountable_now : ShowsVolume sectors l windows (pages_now ∷ []) old
   mountable_now = record { planned = start.planned; fits = start.fits; ends = start.ends; shows = told_now.shows }
 
-  tells_found : (j : Image) → SameBehind l old.image j → Tells l (in_runs windows) j h f (told_in l pages_now)
+  tells_found : (j : Image) → SameBehind l old.image j → Tells l (in_runs windows) j h f (told_in pages_now)
   tells_found j same =
-      subst (λ (o : Option (List Entry)). Tells l (in_runs windows) j h f o) (sym told_now.told)
-      (count_now, told_now.prefix, describes_on l (in_runs windows) (in_runs windows) old.image j (after (take count_now h)) told_now.entries same (λ s is. is) told_now.described)
+      subst (λ (o : Option Telling). Tells l (in_runs windows) j h f o) (sym told_now.told)
+      (count_now, told_now.prefix, describes_on l (in_runs windows) (in_runs windows) old.image j (after (take count_now h)) entries_now same (λ s is. is) told_now.described)
 
   -- what the pages tell, in the window that was settled
-  pub described_after : (run : WeakRun) (j : Image) → SameBehind l old.image j → Describes l (in_runs (windows ++ run ∷ [])) j (after (take count_now h)) told_now.entries
+  pub described_after : (run : WeakRun) (j : Image) → SameBehind l old.image j → Describes l (in_runs (windows ++ run ∷ [])) j (after (take count_now h)) entries_now
   described_after run j same =
-      describes_on l (in_runs windows) (in_runs (windows ++ run ∷ [])) old.image j (after (take count_now h)) told_now.entries same (in_more_runs windows run) told_now.described
+      describes_on l (in_runs windows) (in_runs (windows ++ run ∷ [])) old.image j (after (take count_now h)) entries_now same (in_more_runs windows run) told_now.described
 
-  tells_settled : (run : WeakRun) (j : Image) → SameBehind l old.image j → Tells l (in_runs (windows ++ run ∷ [])) j (take count_now h) count_now (told_in l pages_now)
+  tells_settled : (run : WeakRun) (j : Image) → SameBehind l old.image j → Tells l (in_runs (windows ++ run ∷ [])) j (take count_now h) count_now (told_in pages_now)
   tells_settled run j same =
       let made = told_now.prefix.made in
       let all : after (take count_now h) ≡ after (take count_now (take count_now h)) = ap after (sym (took_again h count_now made)) in
-      subst (λ (o : Option (List Entry)). Tells l (in_runs (windows ++ run ∷ [])) j (take count_now h) count_now o) (sym told_now.told) (
+      subst (λ (o : Option Telling). Tells l (in_runs (windows ++ run ∷ [])) j (take count_now h) count_now o) (sym told_now.told) (
         count_now,
         record { forced = omega arith; made = omega (arith, took_so_many h count_now made) },
-        subst (λ (s : Files). Describes l (in_runs (windows ++ run ∷ [])) j s told_now.entries) all (described_after run j same),
+        subst (λ (s : Files). Describes l (in_runs (windows ++ run ∷ [])) j s entries_now) all (described_after run j same),
       )
 
   pub leaves_found : (left : Moment) → SameBehind l old.image left.image → IsBefore l windows (pages_now ∷ []) old left → LeavesFound l windows h f old left
   leaves_found left same before = record {
     present = before.present;
-    sound = sound_from_pages l windows h f (pages_now ∷ []) left.image before.shows (λ pages one. one_of (λ ps. Tells l (in_runs windows) left.image h f (told_in l ps)) pages_now pages (tells_found left.image same) one);
+    sound = record {
+      sound = sound_from_pages l windows h f (pages_now ∷ []) left.image before.shows (λ pages one. one_of (λ ps. Tells l (in_runs windows) left.image h f (told_in ps)) pages_now pages (tells_found left.image same) one);
+      leaf = leaf_from_pages l windows (pages_now ∷ []) left.image before.shows (λ pages one. one_of (λ ps. IsOneLeaf (told_in ps)) pages_now pages pages_are_leaf one);
+    };
   }
 
   -- the list that is shown after the mount settles is that of before
@@ -125,9 +147,13 @@ module _ (sectors : ℕ) (l : Layout) (windows : List WeakRun) (h : List Change)
       record {
         run = after_it.run;
         settled = after_it.settled;
-        sound = sound_from_pages l (windows ++ after_it.run ∷ []) (take count_now h) count_now (after_it.pages ∷ []) left.image after_it.shows
-            (λ pages one. one_of (λ ps. Tells l (in_runs (windows ++ after_it.run ∷ [])) left.image (take count_now h) count_now (told_in l ps)) after_it.pages pages
-            (subst (λ ps. Tells l (in_runs (windows ++ after_it.run ∷ [])) left.image (take count_now h) count_now (told_in l ps)) (sym same_pages) (tells_settled after_it.run left.image same)) one);
+        sound = record {
+          sound = sound_from_pages l (windows ++ after_it.run ∷ []) (take count_now h) count_now (after_it.pages ∷ []) left.image after_it.shows
+              (λ pages one. one_of (λ ps. Tells l (in_runs (windows ++ after_it.run ∷ [])) left.image (take count_now h) count_now (told_in ps)) after_it.pages pages
+              (subst (λ ps. Tells l (in_runs (windows ++ after_it.run ∷ [])) left.image (take count_now h) count_now (told_in ps)) (sym same_pages) (tells_settled after_it.run left.image same)) one);
+          leaf = leaf_from_pages l (windows ++ after_it.run ∷ []) (after_it.pages ∷ []) left.image after_it.shows
+              (λ pages one. one_of (λ ps. IsOneLeaf (told_in ps)) after_it.pages pages (subst (λ ps. IsOneLeaf (told_in ps)) (sym same_pages) pages_are_leaf) one);
+        };
       }
 
   behind_still : (left : Moment) → Replays l windows (pages_now ∷ []) old left → SameBehind l old.image left.image

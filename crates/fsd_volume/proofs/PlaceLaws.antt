@@ -22,7 +22,7 @@ use Rattle.fsd_formats.specs.declared.entry.Entry.{Entry}
 use Rattle.fsd_files.specs.Volume.{Volume, plans_of, is_free, in_version, free_runs}
 use Rattle.fsd_volume.specs.State.{State, StandsFor, free_space}
 use Rattle.fsd_volume.specs.Put.{placed, placed_or, AreNew}
-use Rattle.fsd_volume.proofs.ApartLaws.{occurs, contains_occurs, occurs_contains, occurs_differ, picked_once, runs_same}
+use Rattle.fsd_files.proofs.CountLaws.{occurs, contains_occurs, occurs_contains, occurs_differ, picked_once, runs_same}
 use Rattle.fsd_volume.proofs.RunApartLaws.{sectors_of_all}
 
 -- ---- the map of the entries

@@ -1,5 +1,5 @@
 -- Plans that are apart, with one more of free sectors.
-use Rattle.std.proofs.Common.{◌≡◌, ◌⊎◌, ℕ, ◌+◌, ◌<◌, ◌≤◌, Bool, List, [], ◌∷◌, refl, inl, inr, arith}
+use Rattle.std.proofs.Common.{◌⊎◌, ℕ, ◌+◌, ◌<◌, ◌≤◌, Bool, List, [], ◌∷◌, refl, inl, inr, arith}
 use Rattle.std.specs.Prelude.{IsTrue, ◌==◌}
 use Rattle.std.specs.List.{flat_map, list_all}
 use Rattle.std.specs.declared.cmp.Ordering.{Ordering}
@@ -18,14 +18,7 @@ use Rattle.fsd_files.specs.Space.{Apart}
 use Rattle.fsd_files.specs.Volume.{plans_of}
 use Rattle.fsd_volume.specs.Put.{AreNew}
 use Rattle.fsd_volume.proofs.HomeLaws.{plans_in_data}
-use Rattle.fsd_volume.proofs.ApartLaws.{occurs, occurs-append, contains_occurs, occurs_contains, differ_occurs, occurs_differ}
-
--- how often a sector stands in plans
-abbrev pub used : ℕ → List (List Run) → ℕ
-used s plans = occurs s (flat_map sectors_of plans)
-
-pub used-cons : (s : ℕ) (runs : List Run) (plans : List (List Run)) → used s (runs ∷ plans) ≡ occurs s (sectors_of runs) + used s plans
-used-cons s runs plans = occurs-append s (sectors_of runs) (flat_map sectors_of plans)
+use Rattle.fsd_files.proofs.CountLaws.{occurs, used, used-cons, contains_occurs, occurs_contains, differ_occurs, occurs_differ}
 
 -- each of them passes the test, as each that stands in the list does
 pub pass_all : (p : ℕ → Bool) (xs : List ℕ) → ((s : ℕ) → IsTrue (contains xs s) → IsTrue (p s)) → IsTrue (list_all p xs)

@@ -1,11 +1,8 @@
 -- What a put answers, and what the volume and its disk are then.
 use Rattle.std.proofs.Common.{◌≡◌, inl, inr, ℕ, suc, ◌+◌, ◌<◌, ◌≤◌, Bool, true, false, not, ◌&&◌, cond, nat_lt, List, [], ◌∷◌, ◌++◌, length, Option, Some, None, Result, Ok, Err, refl, sym, ap, subst, ◌∙◌, arith}
-use Rattle.std.specs.Prelude.{IsTrue, IsSome, IfSome, IfOk, slice_index_or}
+use Rattle.std.specs.Prelude.{T, IsTrue, IsSome, IfSome, IfOk, slice_index_or}
 use Rattle.std.specs.List.{flat_map}
-use Rattle.std.specs.declared.cmp.Ordering.{Ordering}
-use Rattle.std.specs.declared.cmp.Ordering.TheVariants.{Less, Equal, Greater}
-use Rattle.std.specs.FinMap.{put}
-use Rattle.std.specs.FinMap.Entries.{by_order}
+use Rattle.std.specs.FinMap.{is_sorted}
 use Rattle.std.proofs.lemmas.Bool.{lt-ltb, le-ltb, both_ways}
 use Rattle.std.proofs.lemmas.List.{append-nil, length-set}
 use Rattle.sector_set.specs.Area.{Area}
@@ -26,27 +23,31 @@ use Rattle.sector_disk.specs.Machine.{Moment}
 use Rattle.sector_disk.proofs.Calm.{calm_nowhere}
 use Rattle.fsd_formats.specs.declared.entry.Entry.{Entry}
 use Rattle.fsd_formats.specs.NamePage.{room, sectors_for, is_entry, FitsEntry}
+use Rattle.fsd_table.specs.Table.{one_leaf, told_in}
 use Rattle.fsd_files.specs.Space.{Apart}
-use Rattle.fsd_files.specs.Disk.{Image, Sectors, nowhere, in_runs}
-use Rattle.fsd_files.specs.Files.{File, Files, Change, after, step, new_key, new_keep, with_new, gone_keys, keep_of, without}
-use Rattle.fsd_files.specs.Kept.{Lists, Kept, KeptIn}
+use Rattle.fsd_files.specs.Disk.{Image, nowhere, in_runs}
+use Rattle.fsd_files.specs.Files.{Files, Change, after, step, new_key, new_keep, with_new, gone_keys, keep_of, without}
+use Rattle.fsd_files.specs.Kept.{Lists}
 use Rattle.fsd_files.specs.Answers.{Outcome, refused, entry_put, entry_of, HasLeader, new_entry, no_place, size_fault, with_version as volume_with, keep_given}
-use Rattle.fsd_files.specs.OneLeaf.{has_name, leaf_used, put_in, put_at, put_unless, put_outcome}
+use Rattle.fsd_volume.specs.OneLeaf.{IsOneLeaf, has_name, leaf_used, leaf_put_in, leaf_put_at, leaf_put_unless, leaf_put_outcome}
 use Rattle.fsd_files.specs.Replies.{Refused, Made}
-use Rattle.fsd_files.specs.Volume.{Volume, drawn, is_free, plans_of, entries_at, entries_without, free_runs}
-use Rattle.fsd_sound.specs.Mounted.{ChangesTo, image_at}
-use Rattle.fsd_sound.specs.Shown.{told_in}
-use Rattle.fsd_sound.proofs.MountedLaws.{still_mounted, still_records, change_mounted, change_records}
+use Rattle.fsd_files.specs.Volume.{Volume, drawn, is_free, place_for, plans_of, entries_at, entries_without, free_runs}
+use Rattle.fsd_sound.specs.Mounted.{ChangesTo, image_at, SameTaken}
+use Rattle.fsd_sound.specs.Shown.{told}
+use Rattle.fsd_sound.proofs.MountedLaws.{still_mounted, still_records, still_told, drawn_mounted, drawn_records, change_mounted, change_records}
 use Rattle.log_thirds.specs.Append.{IsIndexed}
 use Rattle.fsd_volume.specs.Put.{names, placed, made_by, rewritten, AreNew, Enters, EntersOk, entered, PutSays, Puts, PutsOn}
 use Rattle.fsd_volume.specs.Slices.{with_version, WritesIn}
 use Rattle.fsd_volume.specs.State.{State, StandsFor, IsKept, IsSpelled, IsMounted, StaysMounted, mounted_of, free_space}
-use Rattle.fsd_files.proofs.HistoryLaws.{after_one_more}
-use Rattle.fsd_volume.proofs.LeafLaws.{planned_pages, first_image, spelled_again, told_leaf, waits_still, leaf_agrees}
-use Rattle.fsd_volume.proofs.ListLaws.{lists_put, has_name_is, first_key, first_keep, keys_gone, without_none, entries_without_none, entries_at_none}
+use Rattle.fsd_files.proofs.ChangeKept.{version_kept as all_kept}
+use Rattle.fsd_files.proofs.ChangeLaws.{put_changes}
+use Rattle.fsd_files.proofs.HistoryLaws.{after_in_order, after_one_more}
+use Rattle.fsd_volume.proofs.LeafLaws.{planned_pages, first_image, spelled_again, told_leaf, waits_still, leaf_agrees, leaf_few}
+use Rattle.fsd_volume.proofs.ListLaws.{has_name_is, first_key, first_keep, keys_gone, without_none}
+use Rattle.fsd_files.proofs.ListingLaws.{lists_put, entries_without_none, entries_at_none}
 use Rattle.fsd_volume.proofs.PlaceLaws.{free_is, same_runs_free}
 use Rattle.fsd_volume.proofs.PlanLaws.{apart_put}
-use Rattle.fsd_volume.proofs.EnterLaws.{still_there, entry_of_put, table_put}
+use Rattle.fsd_volume.proofs.EnterLaws.{entry_of_put, table_put}
 use Rattle.fsd_volume.proofs.VersionLaws.{length-with_version, version_elsewhere, version_kept}
 
 -- the state whose next serial is drawn
@@ -68,9 +69,9 @@ stands_drawn s v h = record {
 -- ---- no place
 
 pub place_refused : (s : State) (v : Volume) (name bytes : List ℕ) (given : Option ℕ) (refusal : Refusal) → StandsFor s v → size_fault (keep_given given) (length bytes) ≡ None
-    → placed (free_space s.layout s.entries).sectors (sectors_for (length bytes)) ≡ Err refusal → PutSays s v (put_outcome v name bytes given) v (Err refusal)
+    → placed (free_space s.layout s.entries).sectors (sectors_for (length bytes)) ≡ Err refusal → PutSays s v (leaf_put_outcome v name bytes given) v (Err refusal)
 place_refused s v name bytes given refusal stands fits none =
-    subst (λ (o : Option Refusal). PutSays s v (put_unless o v name bytes given) v (Err refusal)) (sym fits)
+    subst (λ (o : Option Refusal). PutSays s v (leaf_put_unless o v name bytes given) v (Err refusal)) (sym fits)
     (by (pick (free_runs v) need) (ap (λ (rs : List Run). placed_in rs (pick rs need)) (same_runs_free s v stands) ∙ none))
   where
     need : ℕ
@@ -84,7 +85,7 @@ place_refused s v name bytes given refusal stands fits none =
     says true n m e out is = subst (λ (r : Refusal). PutSays s v out v (Err r)) e (ap (λ (o : Outcome). o.0) is, sym (ap (λ (o : Outcome). o.1) is))
     says false n m e out is = subst (λ (r : Refusal). PutSays s v out v (Err r)) e (ap (λ (o : Outcome). o.0) is, sym (ap (λ (o : Outcome). o.1) is))
 
-    by : (o : Option (List Run)) → placed_in (free_runs v) o ≡ Err refusal → PutSays s v (put_at v name bytes given need o) v (Err refusal)
+    by : (o : Option (List Run)) → placed_in (free_runs v) o ≡ Err refusal → PutSays s v (leaf_put_at v name bytes given need o) v (Err refusal)
     by (Some out) e = absurd cc
     by None e =
         let is : cond (nat_lt (total (free_runs v)) need) (Why.NoSpace need (total (free_runs v))) (Why.TooFragmented need (best (free_runs v))) ≡ refusal = cc in
@@ -104,12 +105,12 @@ pub record Entering (s : State) (v : Volume) (name bytes : List ℕ) (given : Op
 
 module _ (s : State) (v : Volume) (name bytes : List ℕ) (given : Option ℕ) (e : Entry) (h : Entering s v name bytes given e) where
   abbrev out_in : Outcome
-  out_in = put_in (drawn v) name bytes given e.runs v.serial
+  out_in = leaf_put_in (drawn v) name bytes given e.runs v.serial
 
-  outcome_is : put_outcome v name bytes given ≡ out_in
+  outcome_is : leaf_put_outcome v name bytes given ≡ out_in
   outcome_is =
-      ap (λ (o : Option Refusal). put_unless o v name bytes given) h.fits
-      ∙ ap (put_at v name bytes given (sectors_for (length bytes))) (ap (λ (rs : List Run). pick rs (sectors_for (length bytes))) (same_runs_free s v h.stands) ∙ h.place)
+      ap (λ (o : Option Refusal). leaf_put_unless o v name bytes given) h.fits
+      ∙ ap (leaf_put_at v name bytes given (sectors_for (length bytes))) (ap (λ (rs : List Run). pick rs (sectors_for (length bytes))) (same_runs_free s v h.stands) ∙ h.place)
 
   has_is : has_name name v.files ≡ names e.key.name s.entries
   has_is = has_name_is name v.files v.entries h.stands.lists ∙ ap (names name) h.stands.entries ∙ ap (λ (k : Key). names k.name s.entries) (sym h.key)
@@ -156,7 +157,7 @@ module _ (s : State) (v : Volume) (name bytes : List ℕ) (given : Option ℕ) (
         reached = refl;
       }
 
-  says_by : (a b : Bool) (after : Volume) (r : Result Key Refusal) → has_name name v.files ≡ a → nat_lt room used_then ≡ b → PutSays s v (branches a b) after r → PutSays s v (put_outcome v name bytes given) after r
+  says_by : (a b : Bool) (after : Volume) (r : Result Key Refusal) → has_name name v.files ≡ a → nat_lt room used_then ≡ b → PutSays s v (branches a b) after r → PutSays s v (leaf_put_outcome v name bytes given) after r
   says_by a b after r p q says =
       subst (λ (o : Outcome). PutSays s v o after r) (sym (outcome_is ∙ ap (λ (x : Bool). branches x (nat_lt room used_then)) p ∙ ap (branches a) q)) says
 
@@ -167,7 +168,7 @@ module _ (s : State) (v : Volume) (name bytes : List ℕ) (given : Option ℕ) (
   le_false : has_name name v.files ≡ false → leaf_used (entry_put e s.entries) ≤ room → nat_lt room used_then ≡ false
   le_false absent fits = le-ltb room used_then (omega (arith, used_same absent, fits))
 
-  pub says_entered : (new : State) (r : Result Key Refusal) → Enters (drawn_state s) e new r → PutSays s v (put_outcome v name bytes given) (after_of r) r
+  pub says_entered : (new : State) (r : Result Key Refusal) → Enters (drawn_state s) e new r → PutSays s v (leaf_put_outcome v name bytes given) (after_of r) r
   says_entered new (Ok key) ok =
       let absent = has_is ∙ ok.absent in
       says_by false false made (Ok key) absent (le_false absent ok.fits) ((total e.runs, ap (λ (k : Key). Made k (total e.runs)) (first_key name v.files absent ∙ sym h.key ∙ sym ok.is)), refl)
@@ -178,7 +179,7 @@ module _ (s : State) (v : Volume) (name bytes : List ℕ) (given : Option ℕ) (
   says_entered new (Err Why.Memory) entering = refl
   says_entered new (Err refusal) entering = absurd entering
 
-  pub puts_entered : (new : State) (r : Result Key Refusal) → Enters (drawn_state s) e new r → Puts s v (put_outcome v name bytes given) new r
+  pub puts_entered : (new : State) (r : Result Key Refusal) → Enters (drawn_state s) e new r → Puts s v (leaf_put_outcome v name bytes given) new r
   puts_entered new r entering = record { after = after_of r; stands = by r entering; says = says_entered new r entering }
     where
       by : (q : Result Key Refusal) → Enters (drawn_state s) e new q → StandsFor new (after_of q)
@@ -219,31 +220,22 @@ pub mounted_beside : (s : State) (v : Volume) (windows : List WeakRun) (h : List
     → ((t : ℕ) → (IsTrue (contains (sectors_of runs) t) → ⊥) → sector_at j t ≡ sector_at i t) → IsMounted s v windows h f i → IsMounted s v windows h f j
 mounted_beside s v windows h f i j runs new size same mounted = record {
   stands = mounted.stands;
-  on_disk = still_mounted (mounted_of s v) windows h f i j size (λ t taken. same t (λ there. both_ways (is_free v t) taken (new_free s v runs t mounted.stands new there))) mounted.on_disk;
-  indexed = subst (IsIndexed s.log) (sym (still_records (mounted_of s v) windows h f i j size (λ t taken. same t (λ there. both_ways (is_free v t) taken (new_free s v runs t mounted.stands new there))) mounted.on_disk)) mounted.indexed;
+  on_disk = still_mounted (mounted_of s v) windows h f i j size beside mounted.on_disk;
+  leaf = subst IsOneLeaf (sym (still_told v i j beside)) mounted.leaf;
+  indexed = subst (IsIndexed s.log) (sym (still_records (mounted_of s v) windows h f i j size beside mounted.on_disk)) mounted.indexed;
 }
+  where
+    beside : SameTaken v i j
+    beside t taken = same t (λ there. both_ways (is_free v t) taken (new_free s v runs t mounted.stands new there))
 
 -- the next serial is drawn
 pub mounted_drawn : (s : State) (v : Volume) (windows : List WeakRun) (h : List Change) (f : ℕ) (i : Image) → IsMounted s v windows h f i → IsMounted (drawn_state s) (drawn v) windows h f i
-mounted_drawn s v windows h f i mounted =
-    let d = mounted.on_disk in
-    record {
-      stands = stands_drawn s v mounted.stands;
-      on_disk = record {
-        files = d.files;
-        described = d.described;
-        count = d.count;
-        epoch = d.epoch;
-        third = d.third;
-        room = d.room;
-        in_memory = d.in_memory;
-        disk = d.disk;
-        records = d.records;
-        over = d.over;
-        forced = record { entries = d.forced.entries; told = d.forced.told; described = d.forced.described; taken = d.forced.taken };
-      };
-      indexed = mounted.indexed;
-    }
+mounted_drawn s v windows h f i mounted = record {
+  stands = stands_drawn s v mounted.stands;
+  on_disk = drawn_mounted (mounted_of s v) windows h f i mounted.on_disk;
+  leaf = mounted.leaf;
+  indexed = subst (IsIndexed s.log) (sym (drawn_records (mounted_of s v) windows h f i mounted.on_disk)) mounted.indexed;
+}
 
 -- the disk with the version in free sectors: all else stands
 pub version_on : (s : State) (v : Volume) (windows : List WeakRun) (h : List Change) (f : ℕ) (i : Image) (e : Entry) (bytes : List ℕ) → length (sectors_of e.runs) ≡ sectors_for (length bytes) → AreNew s.layout (plans_of s.entries) e.runs
@@ -260,26 +252,6 @@ stays_mounted s v windows h f old left runs new calm mounted writes = record {
   windows = writes.windows;
   said = writes.said;
 }
-
--- the new version is kept beside the others
-kept_put : (hurt : Sectors) (j : Image) (k : Key) (x : File) (e : Entry) (s : Files) (entries : List Entry) → KeptIn j hurt x.bytes e.runs → e.key ≡ k → Lists s entries → Kept j s entries hurt → Kept j (put key_cmp k x s) (entry_put e entries) hurt
-kept_put hurt j k x e [] [] one key lists kept = (one, tt)
-kept_put hurt j k x e [] (z ∷ entries) one key lists kept = absurd kept
-kept_put hurt j k x e (y ∷ s) [] one key lists kept = absurd kept
-kept_put hurt j k x e (y ∷ s) (z ∷ entries) one key lists kept =
-    let same : key_cmp k y.0 ≡ key_cmp e.key z.key = ap (λ (a : Key). key_cmp a y.0) (sym key) ∙ ap (key_cmp e.key) (sym lists.0.key) in
-    subst (λ (o : Ordering). Kept j (put key_cmp k x (y ∷ s)) (by_order o (e ∷ z ∷ entries) (e ∷ entries) (z ∷ entry_put e entries)) hurt) same
-    (by (key_cmp k y.0) (kept_put hurt j k x e s entries one key lists.1 kept.1))
-  where
-    by : (o : Ordering) → Kept j (put key_cmp k x s) (entry_put e entries) hurt → Kept j (by_order o ((k, x) ∷ y ∷ s) ((y.0, x) ∷ s) (y ∷ put key_cmp k x s)) (by_order o (e ∷ z ∷ entries) (e ∷ entries) (z ∷ entry_put e entries)) hurt
-    by Less rest = (one, kept)
-    by Equal rest = (one, kept.1)
-    by Greater rest = (kept.0, rest)
-
-fewer_by : (inside old new : Bool) → (IsTrue old → IsTrue new) → (inside && not old) ≡ false → (inside && not new) ≡ false
-fewer_by false old new more out = refl
-fewer_by true true new more out = ap not (more refl)
-fewer_by true false new more out = absurd (cc out)
 
 -- what an entry needs to be entered
 pub record Enterable (s : State) (e : Entry) (bytes : List ℕ) (i : Image) : Type 0 where
@@ -299,14 +271,15 @@ module _ (s : State) (v : Volume) (name bytes : List ℕ) (given : Option ℕ) (
   made_state = entered (drawn_state s) e
 
   -- the pages in memory tell the entries with the new one
-  told_made : names e.key.name s.entries ≡ false → leaf_used (entry_put e s.entries) ≤ room → told_in s.layout made_state.table.pages ≡ Some (entry_put e s.entries)
+  told_made : names e.key.name s.entries ≡ false → leaf_used (entry_put e s.entries) ≤ room → told_in made_state.table.pages ≡ Some (one_leaf (entry_put e s.entries))
   told_made none small =
       let all : List Entry = entry_put e s.entries in
       let table = table_put s.layout e s.entries may.kept.table may.good may.fits may.new none small in
       let old : List ℕ = image_at s.table.pages 0 in
       let some = planned_pages s.layout may.kept.table.planned in
       let most : 0 < length s.table.pages = omega (arith, some, may.kept.pages) in
-      told_leaf s.layout all made_state.table.pages table.leaf (omega (arith, most, length-set s.table.pages 0 (rewritten all old)))
+      let size = length-set s.table.pages 0 (rewritten all old) in
+      told_leaf s.layout all made_state.table.pages table.leaf (omega (arith, most, size)) (size ∙ may.kept.pages)
       (subst (IsSpelled all) (sym (first_image s.table.pages (rewritten all old) most)) (spelled_again s.entries all old may.kept.leaf))
 
   -- the volume with the version stands on the disk
@@ -321,38 +294,36 @@ module _ (s : State) (v : Volume) (name bytes : List ℕ) (given : Option ℕ) (
       let gone = keys_gone name bytes given v.files (is_same name) absent in
       let x : Entry = new_entry (drawn v) name bytes given e.runs v.serial in
       let entries = ap (λ (ks : List Key). entries_without ks (entry_put x v.entries)) gone ∙ entries_without_none (entry_put x v.entries) in
-      let made_files = ap (λ (ks : List Key). without ks (with_new name given bytes v.files)) gone ∙ without_none (with_new name given bytes v.files) in
       let new_v : AreNew v.layout (plans_of v.entries) e.runs = subst (λ (l : Layout). AreNew l (plans_of v.entries) e.runs) (sym entering.stands.layout) (subst (λ (es : List Entry). AreNew s.layout (plans_of es) e.runs) (sym entering.stands.entries) may.new) in
-      let kept = kept_put hurt j (new_key name v.files) (record { bytes = bytes; keep = new_keep name given v.files }) x v.files v.entries (version_kept i e bytes may.count may.new.differ hurt may.room) refl entering.stands.lists before.on_disk.described.kept in
-      let stands_before = before.stands in
+      let kept = all_kept hurt j (drawn v) name bytes given e.runs v.serial 1 entering.stands.lists before.on_disk.described.kept (version_kept i e bytes may.count may.new.differ hurt may.room) in
+      let need = sectors_for (length bytes) in
+      let place : place_for v need ≡ Some e.runs = ap (λ (rs : List Run). pick rs need) (same_runs_free s v entering.stands) ∙ entering.place in
+      let sorted = subst (λ (fs : Files). T (is_sorted key_cmp fs)) (sym mounted.on_disk.files) (after_in_order h) in
       let changes : ChangesTo (h ++ Change.Put name given bytes ∷ []) windows j (mounted_of (drawn_state s) (drawn v)) (mounted_of made_state made_volume) = record {
-        volume = record {
-          layout = refl;
-          unforced = refl;
-          epoch = refl;
-          fewer = λ t out. free_is made_state made_volume stands t ∙ fewer_by (is_data s.layout t) (contains (flat_map sectors_of (plans_of s.entries)) t) (contains (flat_map sectors_of (plans_of (entry_put e s.entries))) t)
-              (still_there t e s.entries none) (sym (free_is (drawn_state s) (drawn v) stands_before t) ∙ out);
-        };
+        volume = put_changes false v name bytes given need e.runs v.serial 1 mounted.on_disk.spaced entering.stands.lists sorted place;
         anchor = refl;
         head = refl;
         files = ap (λ (fs : Files). step fs (Change.Put name given bytes)) mounted.on_disk.files ∙ sym (after_one_more h (Change.Put name given bytes));
         described = record {
           lists = stands.lists;
           apart = subst (λ (es : List Entry). Apart v.layout (plans_of es)) (sym entries) (apart_put v.layout x v.entries new_v mounted.on_disk.described.apart);
-          kept = subst (λ (fs : Files). Kept j fs made_volume.entries hurt) (sym made_files) (subst (λ (es : List Entry). Kept j (with_new name given bytes v.files) es hurt) (sym entries) kept);
+          kept = kept;
         };
-        told = subst (λ (l : Layout). told_in l made_state.table.pages ≡ Some made_volume.entries) (sym entering.stands.layout) (told_made none small ∙ ap (λ (es : List Entry). Some es) (sym stands.entries));
+        told = told_made none small ∙ ap (λ (es : List Entry). Some (one_leaf es)) (sym stands.entries);
+        open_ones = record { drafts = before.on_disk.open_ones.drafts; held = before.on_disk.open_ones.held };
+        few = leaf_few s.log s.table may.kept.force;
         still = λ page out. waits_still s.log s.table page may.kept.force out;
         clean = leaf_agrees s.log s.table (entry_put e s.entries) may.kept.force;
       } in
       record {
         stands = stands;
         on_disk = change_mounted (mounted_of (drawn_state s) (drawn v)) (mounted_of made_state made_volume) windows h f j (Change.Put name given bytes) before.on_disk changes;
+        leaf = before.leaf;
         indexed = subst (IsIndexed s.log) (sym (change_records (mounted_of (drawn_state s) (drawn v)) (mounted_of made_state made_volume) windows h f j (Change.Put name given bytes) before.on_disk changes)) before.indexed;
       }
 
   pub puts_on : (windows : List WeakRun) (h : List Change) (f : ℕ) (j : Image) (new : State) (r : Result Key Refusal) → IsMounted s v windows h f i → j ≡ with_version i e bytes → Enters (drawn_state s) e new r
-      → PutsOn s v (put_outcome v name bytes given) windows h (made_by (Change.Put name given bytes) r) f new j r
+      → PutsOn s v (leaf_put_outcome v name bytes given) windows h (made_by (Change.Put name given bytes) r) f new j r
   puts_on windows h f j new r mounted is entered_so = record {
     after = after_of s v name bytes given e entering r;
     says = says_entered s v name bytes given e entering new r entered_so;

@@ -12,7 +12,7 @@ use Rattle.run_table.specs.Space.{all_differ}
 use Rattle.fsd_formats.specs.declared.entry.Entry.{Entry}
 use Rattle.fsd_files.specs.Volume.{plans_of}
 use Rattle.fsd_volume.specs.Table.{is_inside, meet, meets, are_apart}
-use Rattle.fsd_volume.proofs.ApartLaws.{occurs, one_where, range_once, sectors-cons, contains_occurs, occurs_contains, differ_occurs, occurs_differ}
+use Rattle.fsd_files.proofs.CountLaws.{occurs, one_where, range_once, sectors-cons, contains_occurs, occurs_contains, differ_occurs, occurs_differ}
 use Rattle.fsd_volume.proofs.HomeLaws.{all_of}
 use Rattle.fsd_volume.proofs.PlanLaws.{pass_all}
 

@@ -7,7 +7,6 @@ use Rattle.sector_disk.specs.Machine.{Moment, Report, DeviceFault}
 use Rattle.fsd_bytes.specs.declared.refusal.Refusal.{Refusal}
 use Rattle.fsd_bytes.specs.declared.refusal.Refusal.TheVariants.{Device, Lost}
 use Rattle.fsd_files.specs.Files.{Change}
-use Rattle.fsd_sound.specs.Sound.{IsSound}
 use Rattle.log_thirds.specs.LogValue.{LogValue}
 use Rattle.group_commit.specs.declared.force.ForceFault.{ForceFault}
 use Rattle.group_commit.specs.declared.force.ForceFault.TheVariants as fault
@@ -15,6 +14,7 @@ use Rattle.group_commit.specs.Entering.{LosesLogged}
 use Rattle.group_commit.specs.Force.{KeepsData, stamped_by, log_forced}
 use Rattle.group_commit.specs.Room.{goes_before, log_before}
 use Rattle.fsd_files.specs.Disk.{Image}
+use Rattle.fsd_volume.specs.OneLeaf.{IsSoundLeaf}
 use Rattle.fsd_volume.specs.State.{State}
 
 -- the state whose waiting pages bear the next record's stamp
@@ -35,7 +35,7 @@ forced_state state = record state { log = log_forced state.log state.table.dirty
 
 -- The disk that is left is sound, with the changes that were forced before at least; no data changes.
 pub record Forces (l : Layout) (runs : List WeakRun) (h : List Change) (f : ℕ) (old left : Moment) : Type 0 where
-  pub sound : IsSound l runs h f left.image
+  pub sound : IsSoundLeaf l runs h f left.image
   pub kept : KeepsData l old left
   pub windows : left.windows ≡ old.windows
   pub said : left.said ≡ old.said

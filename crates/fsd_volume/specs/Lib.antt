@@ -2,6 +2,7 @@ pub mod Calls
 pub mod Forcing
 pub mod Formatting
 pub mod Mount
+pub mod OneLeaf
 pub mod Opening
 pub mod Pieces
 pub mod Put

@@ -7,18 +7,20 @@ use Rattle.fsd_formats.specs.declared.entry.Entry.{Entry}
 use Rattle.sector_disk.specs.declared.sector.WeakRun.{WeakRun}
 use Rattle.sector_disk.specs.Image.{IsCalm}
 use Rattle.sector_disk.specs.Machine.{Report, Moment, DeviceFault}
+use Rattle.fsd_table.specs.Table.{one_leaf}
 use Rattle.fsd_files.specs.Disk.{Image, in_runs}
 use Rattle.fsd_files.specs.Files.{Files, Change, after}
 use Rattle.fsd_files.specs.Kept.{Describes}
 use Rattle.fsd_files.specs.Volume.{Volume}
 use Rattle.fsd_sound.specs.Anchors.{anchor_of}
 use Rattle.fsd_sound.specs.Shown.{newest, records_by, told}
-use Rattle.fsd_sound.specs.Sound.{EndIn, IsPrefixOf, IsSound}
+use Rattle.fsd_sound.specs.Sound.{EndIn, IsPrefixOf}
 use Rattle.mount_recover.specs.declared.fault.MountFault.{MountFault}
 use Rattle.mount_recover.specs.declared.fault.MountFault.TheVariants.{Device, Memory, Lost, Unsound}
 use Rattle.mount_recover.specs.Finding.{IsExcuse}
 use Rattle.mount_recover.specs.Recover.{IsVolume, RefusedFor}
 use Rattle.mount_recover.specs.Replay.{SameBehind}
+use Rattle.fsd_volume.specs.OneLeaf.{IsSoundLeaf}
 use Rattle.fsd_volume.specs.State.{State, IsMounted}
 use Rattle.fsd_volume.specs.Table.{table_in}
 
@@ -95,25 +97,25 @@ pub record IsSoundAt (sectors : ℕ) (l : Layout) (windows : List WeakRun) (h : 
   pub fits : l.sectors ≤ sectors
   pub calm : IsCalm now.windows
   pub ends : EndIn now.windows windows
-  pub sound : IsSound l windows h f now.image
+  pub sound : IsSoundLeaf l windows h f now.image
 
 -- The image tells these entries, of the files after the first n changes, every forced one among them.
 pub record TellsFirst (l : Layout) (windows : List WeakRun) (h : List Change) (f n : ℕ) (i : Image) : Type 0 where
   pub prefix : IsPrefixOf h f n
   pub entries : List Entry
-  pub tells : told l i ≡ Some entries
+  pub tells : told l i ≡ Some (one_leaf entries)
   pub described : Describes l (in_runs windows) i (after (take n h)) entries
 
 -- Before the mount settles: the present window is as it was, and the disk is sound as it was.
 pub record LeavesFound (l : Layout) (windows : List WeakRun) (h : List Change) (f : ℕ) (old left : Moment) : Type 0 where
   pub present : left.windows.present ≡ old.windows.present
-  pub sound : IsSound l windows h f left.image
+  pub sound : IsSoundLeaf l windows h f left.image
 
 -- After it: the run that was named is the present one, and the disk is sound for the first n changes alone.
 pub record LeavesSettled (l : Layout) (windows : List WeakRun) (h : List Change) (n : ℕ) (left : Moment) : Type 0 where
   pub run : WeakRun
   pub settled : left.windows ≡ record { present = Some run; next = None }
-  pub sound : IsSound l (windows ++ run ∷ []) (take n h) n left.image
+  pub sound : IsSoundLeaf l (windows ++ run ∷ []) (take n h) n left.image
 
 -- A moment of a mount that finds the files after the first n changes. The map and the data stay.
 pub record MountLeaves (l : Layout) (windows : List WeakRun) (h : List Change) (f n : ℕ) (old left : Moment) : Type 0 where
@@ -145,5 +147,5 @@ pub record Mounts (l : Layout) (windows : List WeakRun) (h : List Change) (n : �
 -- at the end the volume is mounted, with the entries that were told; or the disk, memory or the last epoch stood in the way,
 -- and the disk is left as by a stop
 abbrev pub MountEnds : Layout → List WeakRun → List Change → (f n : ℕ) → (old new : Moment) → Result State MountFault → Type 0
-MountEnds l windows h f n old new (Ok state) = Mounts l windows h n state new × (told l old.image ≡ Some state.entries)
+MountEnds l windows h f n old new (Ok state) = Mounts l windows h n state new × (told l old.image ≡ Some (one_leaf state.entries))
 MountEnds l windows h f n old new (Err fault) = IsExcuse fault × MountLeaves l windows h f n old new

@@ -19,7 +19,7 @@ use Rattle.fsd_sound.specs.Mounted.{image_at}
 use Rattle.fsd_files.specs.Answers.{Outcome, entry_put}
 use Rattle.fsd_files.specs.Disk.{Image}
 use Rattle.fsd_files.specs.Files.{Change}
-use Rattle.fsd_files.specs.OneLeaf.{leaf_used}
+use Rattle.fsd_volume.specs.OneLeaf.{leaf_used}
 use Rattle.fsd_files.specs.Replies.{Refused, Made}
 use Rattle.fsd_files.specs.Volume.{Volume, drawn}
 use Rattle.fsd_volume.specs.State.{State, StandsFor, IsMounted}

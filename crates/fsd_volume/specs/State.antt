@@ -20,8 +20,9 @@ use Rattle.fsd_files.specs.Files.{Change}
 use Rattle.fsd_files.specs.Kept.{Lists}
 use Rattle.fsd_files.specs.Space.{Apart}
 use Rattle.fsd_files.specs.Volume.{Volume, plans_of}
-use Rattle.fsd_sound.specs.Shown.{IsRootLeaf}
+use Rattle.fsd_sound.specs.Shown.{told}
 use Rattle.fsd_sound.specs.Mounted.{Mounted, IsMounted as StandsOnDisk, image_at}
+use Rattle.fsd_volume.specs.OneLeaf.{IsOneLeaf, IsRootLeaf}
 
 -- The layout, the entries of the one leaf in order, the serial that the next creation draws, the log, and the pages of the
 -- name table in memory.
@@ -78,15 +79,16 @@ pub record StandsFor (state : State) (v : Volume) : Type 0 where
   pub drafts : v.drafts ≡ []
   pub reached : v.reached ≡ 1
 
--- the volume over its log and pages
+-- the volume over its log and pages; nothing is open
 abbrev pub mounted_of : State → Volume → Mounted
-mounted_of state v = record { volume = v; pages = state.table.pages; dirty = state.table.dirty; anchor = state.log.anchor; head = state.log.head }
+mounted_of state v = record { volume = v; pages = state.table.pages; dirty = state.table.dirty; anchor = state.log.anchor; head = state.log.head; slices = []; bytes = [] }
 
--- The volume is mounted on this disk, after these changes, the first f of them forced, and the log knows where each page's last
--- image lies there.
+-- The volume is mounted on this disk, after these changes, the first f of them forced; the disk's own table is one leaf, and the
+-- log knows where each page's last image lies there.
 pub record IsMounted (state : State) (v : Volume) (windows : List WeakRun) (h : List Change) (f : ℕ) (i : Image) : Type 0 where
   pub stands : StandsFor state v
   pub on_disk : StandsOnDisk (mounted_of state v) windows h f i
+  pub leaf : IsOneLeaf (told v.layout i)
   pub indexed : IsIndexed state.log on_disk.records
 
 -- The volume stays mounted on the disk that is left; the windows and what was said are as they were.

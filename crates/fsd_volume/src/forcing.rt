@@ -4,10 +4,11 @@ ghost use Rattle.sector_disk.specs.declared.sector.WeakRun.{WeakRun};
 ghost use Rattle.sector_disk.specs.Machine.{UsesDisk, Trusts, OnlyWrites, LeavesOnly};
 ghost use Rattle.fsd_files.specs.Files.{Change};
 ghost use Rattle.fsd_files.specs.Volume.{Volume as Mounted, forced};
-ghost use Rattle.fsd_sound.specs.Sound.{EndIn, IsSound};
+ghost use Rattle.fsd_sound.specs.Sound.{EndIn};
 ghost use Rattle.fsd_volume.specs.Calls.{OnlyDevice};
 ghost use Rattle.group_commit.specs.Force.{sectors_written};
 ghost use Rattle.fsd_volume.specs.Forcing.{Forces, ForceFails, LosesImage, Unforced, force_refusal, forced_state};
+ghost use Rattle.fsd_volume.specs.OneLeaf.{IsSoundLeaf};
 ghost use Rattle.fsd_volume.specs.State.{IsMounted};
 
 use crate::Volume;
@@ -92,7 +93,7 @@ impl Volume {
         // The disk tells all changes then.
         ensures done { OnOk result (M.honest m.new → (v : Mounted) (windows : List WeakRun) (h : List Change) (f : ℕ) →
             EndIn (M.now m.old).windows windows → IsMounted self v windows h f (M.now m.old).image →
-            IsSound self.layout windows h (length h) (M.now m.new).image) }
+            IsSoundLeaf self.layout windows h (length h) (M.now m.new).image) }
     {
         match self.force(m) {
             Ok(_) => Ok(()),

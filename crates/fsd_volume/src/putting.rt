@@ -12,7 +12,7 @@ ghost use Rattle.sector_disk.specs.Machine.{DeviceFault, UsesDisk, Trusts, OnlyW
 ghost use Rattle.fsd_files.specs.Answers.{entry_put, entry_of, size_fault, keep_given, HasLeader};
 ghost use Rattle.fsd_files.specs.Disk.{nowhere};
 ghost use Rattle.fsd_files.specs.Files.{Change};
-ghost use Rattle.fsd_files.specs.OneLeaf.{leaf_used, put_outcome};
+ghost use Rattle.fsd_volume.specs.OneLeaf.{leaf_used, leaf_put_outcome};
 ghost use Rattle.fsd_files.specs.Volume.{Volume as Mounted, plans_of};
 ghost use Rattle.fsd_volume.specs.Calls.{TellsDevice};
 ghost use Rattle.fsd_sound.specs.Sound.{EndIn};
@@ -61,7 +61,7 @@ impl Volume {
         ensures spent { size_fault (keep_given keep) (length bytes.now) ≡ None → IsWornOut self.old → result ≡ Err WornOut }
 
         // It answers what the volume answers, and is the volume then. The log stays, up to the next force.
-        ensures answers { (v : Mounted) → StandsFor self.old v → Puts self.old v (put_outcome v name.now bytes.now keep) self.new result }
+        ensures answers { (v : Mounted) → StandsFor self.old v → Puts self.old v (leaf_put_outcome v name.now bytes.now keep) self.new result }
         ensures log { self.new.log ≡ self.old.log }
 
         // The new version is listed, and its leader stands in its first sector.
@@ -77,7 +77,7 @@ impl Volume {
         // The volume stands on the disk, after one change more where the put was made, and with the same changes forced.
         ensures stands { M.honest m.new → IsCalm (M.now m.old).windows → (v : Mounted) (windows : List WeakRun) (h : List Change) (f : ℕ) →
             EndIn (M.now m.old).windows windows → IsMounted self.old v windows h f (M.now m.old).image →
-            PutsOn self.old v (put_outcome v name.now bytes.now keep) windows h (made_by (Change.Put name.now keep bytes.now) result) f self.new (M.now m.new).image result }
+            PutsOn self.old v (leaf_put_outcome v name.now bytes.now keep) windows h (made_by (Change.Put name.now keep bytes.now) result) f self.new (M.now m.new).image result }
     {
         if let Some(refusal) = size_fault(keep, bytes.len()) {
             return Err(refusal);

@@ -16,7 +16,7 @@ use Rattle.fsd_table.specs.Tree.{pages_below, IsInterior, IsSubtree}
 use Rattle.fsd_table.proofs.BoundLaws.{all_weaker}
 use Rattle.fsd_forest.specs.Forest.{forest_pages, count_of, Stay, Keep, IsLocal, Becomes}
 use Rattle.fsd_forest.specs.Ways.{StandsAt, IsUpTo, IsBehind, children_before, children_from}
-use Rattle.fsd_forest.proofs.LowLaws.{subtrees_of}
+use Rattle.fsd_table.proofs.PageLaws.{subtrees_of}
 use Rattle.fsd_forest.proofs.CountLaws.{count_cons, count_append, there_counts, counts_there, differ_counts, counts_differ, one_if}
 use Rattle.fsd_forest.proofs.ForestLaws.{widens}
 use Rattle.fsd_forest.proofs.StepLaws.{page_steps_up, page_sides_stay}

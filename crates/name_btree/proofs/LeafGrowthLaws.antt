@@ -1,18 +1,16 @@
 -- An entry that is put into a leaf.
-use Rattle.std.proofs.Common.{◌≡◌, ℕ, zero, suc, ◌+◌, ◌*◌, ◌≤◌, Bool, true, false, cond, not, ◌&&◌, List, [], ◌∷◌, ◌++◌, length, refl, sym, ap, subst, ◌∙◌, arith, Some, None, Option, length-append}
-use Rattle.std.specs.Prelude.{◌==◌, nat_le}
+use Rattle.std.proofs.Common.{◌≡◌, ℕ, zero, suc, ◌+◌, ◌≤◌, Bool, true, false, cond, not, ◌&&◌, List, [], ◌∷◌, ◌++◌, length, refl, sym, ap, subst, ◌∙◌, arith, Some, None, Option, length-append}
+use Rattle.std.specs.Prelude.{◌==◌}
 use Rattle.std.specs.List.{flat_map, list_all, AllByRecursion}
 use Rattle.std.specs.Ordering.{is_gt, is_lt, is_eq}
 use Rattle.std.specs.declared.cmp.Ordering.{Ordering}
 use Rattle.std.specs.declared.cmp.Ordering.TheVariants as orders
 use Rattle.std.proofs.lemmas.Bool.{and_parts, eqb-true}
 use Rattle.std.proofs.lemmas.List.Concat.{flat_map-append}
-use Rattle.run_table.specs.RunTable.{are_runs, total, max_runs}
 use Rattle.fsd_bytes.specs.declared.key.Key.{Key}
-use Rattle.fsd_bytes.specs.Keys.{is_key, key_cmp, key_lt, same_key}
-use Rattle.fsd_bytes.specs.Names.{is_between, is_name, is_name_byte, max_name_len}
+use Rattle.fsd_bytes.specs.Keys.{key_cmp, key_lt, same_key}
 use Rattle.fsd_formats.specs.declared.entry.Entry.{Entry}
-use Rattle.fsd_formats.specs.NamePage.{Content, Leaf, is_entry, entry_bytes, are_ascending, room, least_used, max_keep, max_length, sectors_for}
+use Rattle.fsd_formats.specs.NamePage.{Content, Leaf, is_entry, entry_bytes, are_ascending, room, least_used}
 use Rattle.fsd_table.specs.declared.child.Child.{Child}
 use Rattle.fsd_table.specs.Pages.{page_at, not_below, below, keys_fit, entry_keys, entries_of}
 use Rattle.fsd_table.specs.Tree.{IsLeaf}
@@ -25,7 +23,7 @@ use Rattle.fsd_forest.proofs.ForestLaws.{leaves_become}
 use Rattle.fsd_forest.proofs.PartLaws.{leaves_part}
 use Rattle.name_page.specs.Pages.{Step}
 use Rattle.name_page.proofs.LeafLaws.{between}
-use Rattle.name_page.proofs.LengthLaws.{length_entry}
+use Rattle.fsd_table.proofs.EntryLaws.{entry_short}
 use Rattle.name_page.specs.declared.cut.Cut.TheVariants.{UpTo}
 use Rattle.name_page.specs.declared.entries.Side.TheVariants.{Lesser, Greater}
 use Rattle.name_page.specs.Cut.{is_before, AtLow, AtHigh}
@@ -41,20 +39,6 @@ use Rattle.name_btree.specs.Grown.{came_of, went_of, parts_of, most_parted, Fits
 use Rattle.name_btree.proofs.ReplaceLaws.{leaf_parts}
 
 -- ---- how many bytes
-
-entry_short : (e : Entry) → is_entry e ≡ true → length (entry_bytes e) ≤ 108
-entry_short e is =
-    let p1 = and_parts (is_key e.key && nat_le e.keep max_keep && nat_le e.length max_length && are_runs e.runs) (total e.runs == sectors_for e.length) is in
-    let p2 = and_parts (is_key e.key && nat_le e.keep max_keep && nat_le e.length max_length) (are_runs e.runs) p1.0 in
-    let p3 = and_parts (is_key e.key && nat_le e.keep max_keep) (nat_le e.length max_length) p2.0 in
-    let key = (and_parts (is_key e.key) (nat_le e.keep max_keep) p3.0).0 in
-    let name = (and_parts (is_name e.key.name) (nat_le 1 e.key.version) key).0 in
-    let named = (between 1 max_name_len (length e.key.name) (and_parts (is_between 1 max_name_len (length e.key.name)) (list_all is_name_byte e.key.name) name).0).1 in
-    let runs = (between 1 max_runs (length e.runs) (and_parts (is_between 1 max_runs (length e.runs)) (list_all (λ r. is_between 1 65535 r.length) e.runs) p2.1).0).1 in
-    at_most (length (entry_bytes e)) (length e.key.name) (length e.runs) (length_entry e) named runs
-  where
-    at_most : (n name runs : ℕ) → n ≡ 20 + name + 6 * runs → name ≤ 40 → runs ≤ 8 → n ≤ 108
-    at_most n name runs is a b = omega arith
 
 abbrev used_by : List Entry → ℕ
 used_by entries = length (flat_map entry_bytes entries)

@@ -13,7 +13,7 @@ use Rattle.fsd_table.specs.Table.{top}
 use Rattle.fsd_table.specs.Tree.{IsTree, table_of}
 use Rattle.fsd_table.proofs.PageLaws.{at_is_page}
 use Rattle.name_page.proofs.LeafLaws.{between}
-use Rattle.name_page.proofs.LengthLaws.{length_entry}
+use Rattle.fsd_table.proofs.EntryLaws.{length_entry}
 use Rattle.name_page.specs.declared.cut.Cut.TheVariants.{UpTo}
 use Rattle.name_btree.specs.declared.descent.Found.{Found}
 use Rattle.name_page.specs.Cut.{is_before}

@@ -17,7 +17,7 @@ use Rattle.fsd_table.proofs.PageLaws.{at_is_page}
 use Rattle.fsd_forest.specs.Forest.{count_of, forest_pages}
 use Rattle.fsd_forest.specs.Ways.{StandsAt, IsUpTo, IsBehind, children_before, child_behind, children_from}
 use Rattle.fsd_forest.proofs.CountLaws.{count_cons, count_append, count_nothing, counts_there, counts_out, differ_counts, one_where}
-use Rattle.name_page.proofs.ListLaws.{children_count}
+use Rattle.fsd_table.proofs.PageLaws.{length_of_children}
 use Rattle.name_btree.specs.declared.trimming.Pair.{Pair}
 use Rattle.name_btree.specs.declared.trimming.Trimmed.{Trimmed}
 use Rattle.name_btree.specs.declared.trimming.Trimmed.TheVariants.{Whole, Leaf, Interior}
@@ -118,7 +118,7 @@ has_neighbour p above first xs i child o within =
     let some : 1 ≤ length xs = by_page (above.page == 0) o.least in
     let s = some_at xs (i - 1) (omega (arith, some, within)) in
     let pair : Pair = record { place = i - 1; left = (child_behind first above.low (take (i - 1) xs) (Some s.0.key)).page; right = s.0.child } in
-    let n = some_child (children first above.low above.high xs) (beside i) (by_i (i == 0) (children_count first above.low above.high xs) some within) in
+    let n = some_child (children first above.low above.high xs) (beside i) (by_i (i == 0) (length_of_children first above.low above.high xs) some within) in
     record { pair = pair; place = refl; is = record { between = s.0; there = s.1; left = refl; right = refl }; neighbour = n.0; there = n.1 }
   where
     by_page : (b : Bool) → cond b 1 4 ≤ length xs → 1 ≤ length xs

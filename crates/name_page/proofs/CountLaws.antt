@@ -13,7 +13,7 @@ use Rattle.fsd_table.specs.Pages.{page_at, children, children_of, entries_of, en
 use Rattle.fsd_table.specs.Tree.{entries_below, IsLeaf, IsInterior, IsSubtree}
 use Rattle.fsd_table.proofs.PageLaws.{at_is_page}
 use Rattle.name_page.proofs.LeafLaws.{between}
-use Rattle.name_page.proofs.ListLaws.{children_count}
+use Rattle.fsd_table.proofs.PageLaws.{length_of_children}
 
 each_has_bytes : (entries : List Entry) → length entries ≤ length (flat_map entry_bytes entries)
 each_has_bytes [] = omega arith
@@ -66,7 +66,7 @@ interior_by level pages c None at h each = absurd h
 interior_by level pages c (Some Free) at h each = absurd h
 interior_by level pages c (Some (Leaf entries)) at h each = absurd h
 interior_by level pages c (Some (Interior first separators)) at h each =
-    let few : length (children first c.low c.high separators) ≤ 10 = omega (arith, children_count first c.low c.high separators, few_separators pages c.page first separators at) in
+    let few : length (children first c.low c.high separators) ≤ 10 = omega (arith, length_of_children first c.low c.high separators, few_separators pages c.page first separators at) in
     many (entries_below level pages) (IsSubtree level pages) (most level) each (children first c.low c.high separators) 10 few h.1
 
 few_below : (level : ℕ) (pages : List (List ℕ)) (c : Child) → IsSubtree level pages c → length (entries_below level pages c) ≤ most level

@@ -12,7 +12,7 @@ use Rattle.fsd_formats.specs.NamePage.{entry_bytes, entry_from, entry_with}
 use Rattle.name_page.specs.Fault.{entry_end}
 use Rattle.name_page.specs.Reading.{entry_at}
 use Rattle.name_page.proofs.PieceLaws.{AreSmall, length_range, u8_there, u8_behind, u16_behind, u32_behind, u32_there, u8_again, u16_again, u32_again, runs_again, count_runs}
-use Rattle.name_page.proofs.LengthLaws.{length_entry}
+use Rattle.fsd_table.proofs.EntryLaws.{length_entry}
 
 pub entry_there : (place : ℕ) (bytes : List ℕ) → entry_from (drop place bytes) ≡ entry_at place bytes
 entry_there place bytes =

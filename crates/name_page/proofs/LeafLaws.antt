@@ -17,7 +17,7 @@ use Rattle.name_page.specs.Fault.{unless, follows, lengths_fault, runs_fault, ke
 use Rattle.name_page.specs.Reading.{entry_at}
 use Rattle.name_page.proofs.FirstLaws.{none_both, none_from, good_from, none_at}
 use Rattle.name_page.proofs.PieceLaws.{AreSmall, u16_behind, u16_small, count_runs}
-use Rattle.name_page.proofs.LengthLaws.{length_entry}
+use Rattle.fsd_table.proofs.EntryLaws.{length_entry}
 use Rattle.name_page.proofs.EntryLaws.{entry_there, entry_ends, entry_again}
 
 pub between : (low high n : ℕ) → is_between low high n ≡ true → (low ≤ n) × (n ≤ high)

@@ -1,27 +1,17 @@
--- How long runs, entries and contents are.
-use Rattle.std.proofs.Common.{◌≡◌, ℕ, ◌+◌, ◌-◌, ◌*◌, ◌<◌, ◌≤◌, List, [], ◌∷◌, ◌++◌, length, take, drop, get_or, refl, ap, sym, subst, ◌∙◌, arith, append_assoc}
+-- How long contents are.
+use Rattle.std.proofs.Common.{◌≡◌, ℕ, ◌+◌, ◌-◌, ◌<◌, ◌≤◌, List, [], ◌∷◌, ◌++◌, length, take, drop, get_or, refl, ap, sym, subst, ◌∙◌, arith, append_assoc}
 use Rattle.std.specs.Prelude.{replicate}
 use Rattle.std.proofs.Math.Seq.{take-append_seam, drop-append-add}
-use Rattle.std.specs.List.{flat_map, concat}
+use Rattle.std.specs.List.{flat_map}
 use Rattle.std.proofs.lemmas.List.{length-append, append-nil, take_more, drop-replicate}
 use Rattle.std.proofs.lemmas.Grind.{flat_map-append}
-use Rattle.fsd_bytes.specs.Bytes.{u8, u16, u32, zeros, sector, with_bytes}
-use Rattle.run_table.specs.declared.run.Run.{Run}
+use Rattle.fsd_bytes.specs.Bytes.{u32, zeros, sector, with_bytes}
 use Rattle.run_table.specs.RunTable.{run_bytes}
 use Rattle.fsd_formats.specs.declared.entry.Entry.{Entry}
 use Rattle.fsd_formats.specs.declared.page.Separator.{Separator}
 use Rattle.fsd_formats.specs.NamePage.{entry_bytes, separator_bytes}
+use Rattle.fsd_table.proofs.EntryLaws.{length_entry}
 use Rattle.name_page.specs.Spelling.{numbers}
-
-pub length_runs : (runs : List Run) → length (flat_map run_bytes runs) ≡ 6 * length runs
-length_runs [] = refl
-length_runs (r ∷ runs) = omega (arith, length_runs runs)
-
-pub length_entry : (e : Entry) → length (entry_bytes e) ≡ 20 + length e.key.name + 6 * length e.runs
-length_entry e =
-    let runs : List ℕ = flat_map run_bytes e.runs in
-    let tail : List ℕ = concat (u32 e.key.version ∷ u16 e.keep ∷ u32 e.serial.epoch ∷ u32 e.serial.count ∷ u32 e.length ∷ u8 (length e.runs) ∷ runs ∷ []) in
-    omega (arith, length-append e.key.name tail, length-append runs [], length_runs e.runs)
 
 -- an entry takes some bytes
 pub count_below : (entries : List Entry) → length entries ≤ length (flat_map entry_bytes entries)

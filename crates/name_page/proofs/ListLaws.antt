@@ -1,10 +1,10 @@
 -- Lists that are gone through from the front.
-use Rattle.std.proofs.Common.{◌≡◌, ℕ, suc, ◌+◌, length, Bool, cond, List, [], ◌∷◌, refl, drop, Option, Some, sym, ap, ◌∙◌, add-one, drop-cons}
+use Rattle.std.proofs.Common.{◌≡◌, ℕ, suc, ◌+◌, Bool, cond, List, ◌∷◌, drop, Option, Some, sym, ap, ◌∙◌, add-one, drop-cons}
 use Rattle.std.specs.Prelude.{slice_get, find, ◌&&◌}
 use Rattle.fsd_bytes.specs.declared.key.Key.{Key}
 use Rattle.fsd_formats.specs.declared.entry.Entry.{Entry}
 use Rattle.fsd_formats.specs.declared.page.Separator.{Separator}
-use Rattle.fsd_table.specs.Pages.{children, not_below, below, keys_fit, entry_keys, separator_keys}
+use Rattle.fsd_table.specs.Pages.{not_below, below, keys_fit, entry_keys, separator_keys}
 use Rattle.std.proofs.lemmas.Option.{slice_get_within, get_or_from_slice_get}
 
 pub drop_at : {X : Type 0} (xs : List X) (i : ℕ) (x : X) → slice_get xs i ≡ Some x → drop i xs ≡ x ∷ drop (i + 1) xs
@@ -31,9 +31,3 @@ pub find_more : (test : Entry → Bool) (entries : List Entry) (i : ℕ) (e : En
     → find test (drop i entries) ≡ cond b (Some e) (find test (drop (i + 1) entries))
 find_more test entries i e b at is =
     ap (find test) (drop_at entries i e at) ∙ ap (λ (b : Bool). cond b (Some e) (find test (drop (i + 1) entries))) (sym is)
-
--- ---- children
-
-pub children_count : (first : ℕ) (low high : Option Key) (xs : List Separator) → length (children first low high xs) ≡ suc (length xs)
-children_count first low high [] = refl
-children_count first low high (s ∷ xs) = ap suc (children_count s.child (Some s.key) high xs)

@@ -12,7 +12,7 @@ use Rattle.fsd_formats.specs.declared.entry.Entry.{Entry}
 use Rattle.fsd_formats.specs.NamePage.{entry_bytes, is_entry, max_keep, max_length, sectors_for}
 use Rattle.name_page.specs.Fault.{entry_end}
 use Rattle.name_page.specs.Reading.{entry_at, entries_in, StandsAt, ArePlaces}
-use Rattle.name_page.proofs.LengthLaws.{length_entry}
+use Rattle.fsd_table.proofs.EntryLaws.{length_entry}
 use Rattle.name_page.proofs.LeafLaws.{between}
 use Rattle.name_page.proofs.PieceLaws.{AreSmall}
 use Rattle.name_page.proofs.ReadingLaws.{Walk, LeafIn, leaf_in, walk_begins, walk_next, walk_entry, walk_ends}

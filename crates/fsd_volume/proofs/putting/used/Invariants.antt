@@ -1,5 +1,5 @@
 use Rattle.std.proofs.Common.{◌≡◌, ◌+◌, drop}
-use Rattle.fsd_files.specs.OneLeaf.{leaf_used}
+use Rattle.fsd_volume.specs.OneLeaf.{leaf_used}
 use Rattle.fsd_volume.proofs.putting.used.Given as goal
 
 abbrev pub invariant-loop-e : goal.invariant-loop-e

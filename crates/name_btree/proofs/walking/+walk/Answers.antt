@@ -12,7 +12,7 @@ use Rattle.name_page.specs.Node.{content_of}
 use Rattle.name_btree.specs.Walk.{is_marked, IsWalked, AreWalked, ComesTo, FailsWalk}
 use Rattle.name_page.proofs.CountLaws.{few_separators, few_entries, take_short, take_whole}
 use Rattle.name_btree.proofs.ResultLaws.{ok_more, err_more}
-use Rattle.name_page.proofs.ListLaws.{children_count}
+use Rattle.fsd_table.proofs.PageLaws.{length_of_children}
 use Rattle.name_btree.proofs.WalkLaws.{one_more, above_walked}
 use Rattle.name_btree.proofs.ComeLaws.{marked_breaks, leaf_breaks, interior_breaks, comes_below, comes_along, walk_map, walk_here}
 use Rattle.name_btree.proofs.walking.+walk.Goals as goal
@@ -175,7 +175,7 @@ walk_children-loop-i-preserved g t c =
           let Q : List Bool → Type 0 = λ (x : List Bool). IsWalked x c.args.level s.images child c.loop-i.reached c.walk_below.new.reached more in
           let w = subst Q c.loop-i.invariant.calls.spares (subst P (c.loop-i.invariant.calls.stays t) (c.in_ok-more.ensures.walked trusted)) in
           let next = one_more s.spares c.args.level s.images cs c.loop-i.i child c.args.reached.now c.loop-i.reached c.walk_below.new.reached c.loop-i.count more c.child_at-child.ensures (c.loop-i.invariant.walked t) w in
-          let short : length (take (c.loop-i.i + 1) cs) ≤ 10 = omega (arith, take_short (c.loop-i.i + 1) cs, children_count ways.0 above.low above.high ways.1, c.requires.few) in
+          let short : length (take (c.loop-i.i + 1) cs) ≤ 10 = omega (arith, take_short (c.loop-i.i + 1) cs, length_of_children ways.0 above.low above.high ways.1, c.requires.few) in
           let small = few_entries c.args.level s.images (take (c.loop-i.i + 1) cs) c.requires.level short next.subtrees in
           let exact : c.loop-i.count + more ≡ c.saturating_add-count.result = omega (arith, next.count_is, small, c.saturating_add-count.ensures) in
           subst (λ (n : ℕ). AreWalked s.spares c.args.level s.images (take (c.loop-i.i + 1) cs) c.args.reached.now c.walk_below.new.reached n) exact next;
@@ -187,6 +187,6 @@ walk_children-returns-clause-walked g t c = λ trusted.
     let above = c.args.above.now in
     let s = g.T.Pages.step c.args.t.now in
     let cs : List Child = children ways.0 above.low above.high ways.1 in
-    let all : length cs ≤ c.loop-i.i = omega (arith, children_count ways.0 above.low above.high ways.1, c.len-i-end.ensures, c.loop-i-test.false) in
+    let all : length cs ≤ c.loop-i.i = omega (arith, length_of_children ways.0 above.low above.high ways.1, c.len-i-end.ensures, c.loop-i-test.false) in
     let P : List Child → Type 0 = λ (xs : List Child). AreWalked s.spares c.args.level s.images xs c.args.reached.now c.loop-i.reached c.loop-i.count in
     subst P (take_whole c.loop-i.i cs all) (c.loop-i.invariant.walked trusted)

@@ -1,5 +1,5 @@
 use Rattle.std.proofs.Common.{length, ap, arith}
-use Rattle.name_page.proofs.LengthLaws.{length_entry}
+use Rattle.fsd_table.proofs.EntryLaws.{length_entry}
 use Rattle.name_page.proofs.writing.entry_len.Goals as goal
 
 pub returns-clause-value : goal.returns-clause-value

@@ -4,7 +4,7 @@ use Rattle.std.specs.Prelude.{IsTrue}
 use Rattle.std.specs.List.{list_all}
 use Rattle.fsd_formats.specs.NamePage.{is_entry, room}
 use Rattle.fsd_files.specs.Answers.{entry_put}
-use Rattle.fsd_files.specs.OneLeaf.{leaf_used}
+use Rattle.fsd_volume.specs.OneLeaf.{leaf_used}
 use Rattle.fsd_files.specs.Volume.{plans_of}
 use Rattle.group_commit.specs.Resident.{ResidentValue}
 use Rattle.fsd_volume.specs.Put.{IsFull, EntersOk, AreNew, with_leaf}

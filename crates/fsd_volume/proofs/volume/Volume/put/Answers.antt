@@ -11,7 +11,7 @@ use Rattle.fsd_formats.specs.NamePage.{sectors_for}
 use Rattle.fsd_files.specs.Answers.{HasLeader}
 use Rattle.fsd_files.specs.Disk.{Image, nowhere}
 use Rattle.fsd_files.specs.Files.{Change}
-use Rattle.fsd_files.specs.OneLeaf.{put_outcome}
+use Rattle.fsd_volume.specs.OneLeaf.{leaf_put_outcome}
 use Rattle.fsd_files.specs.Volume.{drawn}
 use Rattle.fsd_volume.specs.Put.{placed, made_by, IsWornOut, Puts, PutsOn}
 use Rattle.fsd_volume.specs.Slices.{with_version, WritesIn}
@@ -54,7 +54,7 @@ returns-in-Err-clause-answers g c v stands =
     let need = ap (λ (n : ℕ). 1 + n) c.div_ceil.ensures in
     let place = ap (λ (m : Area). placed m.sectors (sectors_for (length c.args.bytes.now))) (sym c.self.invariant.map) ∙ ap (placed c.self.inside.map.sectors) (sym need) ∙ sym c.place.ensures ∙ c.in-Err.is in
     let here = subst (λ (s : State). StandsFor s v) (sym c.self.view_is) stands in
-    subst (λ (s : State). Puts s v (put_outcome v c.args.name.now c.args.bytes.now c.args.keep) s (Err c.in-Err.refusal)) c.self.view_is
+    subst (λ (s : State). Puts s v (leaf_put_outcome v c.args.name.now c.args.bytes.now c.args.keep) s (Err c.in-Err.refusal)) c.self.view_is
     (record { after = v; stands = here; says = place_refused state v c.args.name.now c.args.bytes.now c.args.keep c.in-Err.refusal here fits place })
 
 pub returns-in-Err-clause-stands : goal.returns-in-Err-clause-stands
@@ -67,7 +67,7 @@ returns-in-Err-clause-stands g c honest calm v windows h f ends mounted =
     let image = (M.now c.args.m.now).image in
     let here = subst (λ (s : State). IsMounted s v windows h f image) (sym c.self.view_is) mounted in
     let so = subst (λ (hs : List Change). IsMounted state v windows hs f image) (sym (append-nil h)) here in
-    subst (λ (s : State). PutsOn s v (put_outcome v c.args.name.now c.args.bytes.now c.args.keep) windows h [] f s image (Err c.in-Err.refusal)) c.self.view_is
+    subst (λ (s : State). PutsOn s v (leaf_put_outcome v c.args.name.now c.args.bytes.now c.args.keep) windows h [] f s image (Err c.in-Err.refusal)) c.self.view_is
     (record { after = v; says = place_refused state v c.args.name.now c.args.bytes.now c.args.keep c.in-Err.refusal here.stands fits place; mounted = so })
 
 pub write_version-requires-clause-runs : goal.write_version-requires-clause-runs
@@ -164,7 +164,7 @@ returns-in-Ok-write_version-clause-answers g c v stands =
     chosen state c.self.inside.map c.args.name.now c.args.bytes.now c.args.keep c.first_key.result c.unwrap_or.result (1 + c.div_ceil.result) c.in-Ok.runs c.self.invariant (sym c.size_fault.ensures ∙ c.in_default.is)
     c.first_key.ensures.value c.first_key.ensures.key c.unwrap_or.ensures (ap (λ (n : ℕ). 1 + n) c.div_ceil.ensures) (sym c.place.ensures ∙ c.in-Ok.is) (epoch, count) in
     let entering : Entering state v c.args.name.now c.args.bytes.now c.args.keep e = record { stands = subst (λ (s : State). StandsFor s v) (sym c.self.view_is) stands; fits = is.sizes; place = is.picked; key = is.key; keep = is.keep; serial = is.serial; length = is.length } in
-    subst (λ (s : State). Puts s v (put_outcome v c.args.name.now c.args.bytes.now c.args.keep) c.enter.new.self c.enter.result) c.self.view_is
+    subst (λ (s : State). Puts s v (leaf_put_outcome v c.args.name.now c.args.bytes.now c.args.keep) c.enter.new.self c.enter.result) c.self.view_is
     (puts_entered state v c.args.name.now c.args.bytes.now c.args.keep e entering c.enter.new.self c.enter.result c.enter.ensures)
 
 pub returns-in-Ok-write_version-clause-stands : goal.returns-in-Ok-write_version-clause-stands
@@ -186,7 +186,7 @@ returns-in-Ok-write_version-clause-stands g c honest calm v windows h f ends mou
     let room : (k : ℕ) → k < length (sectors_of c.in-Ok.runs) → slice_index_or (sectors_of c.in-Ok.runs) k 0 < length old.image = λ k lt. let b = below k 0 lt in omega (arith, b, ap (λ (s : State). s.layout.sectors) c.self.view_is, c.requires, sized) in
     let may : Enterable state e c.args.bytes.now old.image = record { free = c.self.inside.map; kept = c.self.invariant; good = is.good; fits = is.fits; count = chosen_count state c.self.inside.map c.args.name.now c.args.bytes.now c.args.keep e c.self.invariant is; new = is.is.new; room = room } in
     let image = calm_holds old new (with_version old.image e c.args.bytes.now) calm (c.in-Ok-write_version.ensures.done honest) in
-    subst (λ (s : State). PutsOn s v (put_outcome v c.args.name.now c.args.bytes.now c.args.keep) windows h (made_by (Change.Put c.args.name.now c.args.keep c.args.bytes.now) c.enter.result) f c.enter.new.self new.image c.enter.result) c.self.view_is
+    subst (λ (s : State). PutsOn s v (leaf_put_outcome v c.args.name.now c.args.bytes.now c.args.keep) windows h (made_by (Change.Put c.args.name.now c.args.keep c.args.bytes.now) c.enter.result) f c.enter.new.self new.image c.enter.result) c.self.view_is
     (puts_on state v c.args.name.now c.args.bytes.now c.args.keep e entering old.image may windows h f new.image c.enter.new.self c.enter.result here image c.enter.ensures)
 
 pub returns-in-Ok-write_version-clause-listed : goal.returns-in-Ok-write_version-clause-listed

@@ -1,11 +1,10 @@
 -- How often a sector stands in a list: once at most in what is picked of the free ones.
 use Rattle.std.proofs.Common.{◌≡◌, ℕ, zero, suc, ◌+◌, ◌-◌, ◌<◌, ◌≤◌, Bool, true, false, cond, List, [], ◌∷◌, ◌++◌, take, filter, Option, Some, None, refl, sym, ap, subst, inl, inr, arith}
 use Rattle.std.specs.Prelude.{IsTrue, IfSome, not, nat_le, nat_lt, ◌==◌, find}
-use Rattle.std.specs.List.{range_with_len}
+use Rattle.std.specs.List.{flat_map, range_with_len}
 use Rattle.std.proofs.lemmas.Bool.{and_parts, and_from, or_cases, or_left, or_right, eqb-true, eq-eqb, leb-true, not-true, not_from_false, cases_Bool, false_from_ne_true, both_ways}
 use Rattle.run_table.specs.declared.run.Run.{Run}
-use Rattle.run_table.specs.RunTable.{run_of}
-use Rattle.run_table.specs.RunTable.{sectors_of}
+use Rattle.run_table.specs.RunTable.{run_of, sectors_of}
 use Rattle.run_table.specs.Space.{contains, all_differ, where_free, joined, runs_of, by_length, longest_first, cut_to, longest, best, picked, pick}
 
 abbrev pub one_where : Bool → ℕ
@@ -192,3 +191,12 @@ picked_once free from to need s = by (pick (runs_of (where_free free from to)) n
         let kept = filter_fewer free s (range_with_len from (to - from)) in
         let once = range_once s from (to - from) in
         (omega (arith, kept.0, once.0), λ lt. kept.1 (omega arith))
+
+-- ---- plans
+
+-- how often a sector stands in plans
+abbrev pub used : ℕ → List (List Run) → ℕ
+used s plans = occurs s (flat_map sectors_of plans)
+
+pub used-cons : (s : ℕ) (runs : List Run) (plans : List (List Run)) → used s (runs ∷ plans) ≡ occurs s (sectors_of runs) + used s plans
+used-cons s runs plans = occurs-append s (sectors_of runs) (flat_map sectors_of plans)

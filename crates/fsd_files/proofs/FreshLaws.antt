@@ -1,0 +1,103 @@
+-- The key of a new version is new.
+use Rattle.std.proofs.Common.{◌≡◌, ◌⊎◌, inl, inr, ℕ, ◌+◌, ◌<◌, ◌≤◌, Bool, true, false, cond, List, [], ◌∷◌, Option, Some, None, Ordering, refl, sym, ap, ◌∙◌, arith}
+use Rattle.std.specs.Prelude.{T, unwrap_or, option_map}
+use Rattle.std.specs.List.{AllByRecursion, last_or}
+use Rattle.std.specs.Cmp.{nat_cmp_is}
+use Rattle.std.specs.Cmp.Lexicographic.{nat_list_cmp_total, slice_cmp}
+use Rattle.std.specs.FinMap.{is_sorted}
+use Rattle.std.specs.FinMap.Entries.{below_all}
+use Rattle.std.specs.Ordering.{is_lt, nat_cmp, ordering_then}
+use Rattle.std.specs.declared.cmp.Ordering.TheVariants.{Equal, Greater}
+use Rattle.std.proofs.lemmas.Bool.{and_parts, cases_lt}
+use Rattle.std.proofs.lemmas.Cmp.{tied_itself}
+use Rattle.fsd_bytes.specs.Bytes.{same_bytes}
+use Rattle.fsd_bytes.proofs.SameLaws.{same_is, is_same}
+use Rattle.fsd_bytes.specs.declared.key.Key.{Key}
+use Rattle.fsd_bytes.specs.Keys.{key_cmp}
+use Rattle.fsd_formats.specs.declared.entry.Entry.{Entry}
+use Rattle.fsd_files.specs.Files.{File, Files, highest, new_key, of_name, version_of}
+use Rattle.fsd_files.specs.Kept.{Lists}
+use Rattle.fsd_files.proofs.ListingLaws.{alike_is}
+
+less_is : (x y : ℕ) → is_lt (nat_cmp x y) ≡ true → x < y
+less_is x y e = by (cases_lt x y)
+  where
+    by : (x < y) ⊎ (y ≤ x) → x < y
+    by (inl lt) = lt
+    by (inr le) = elim (cases_lt y x) [
+      | inl gt ↦ absurd (let bad : false ≡ true = ap is_lt (nat_cmp_is x y Greater gt) ∙ e in cc)
+      | inr same ↦ absurd (let bad : false ≡ true = ap is_lt (nat_cmp_is x y Equal (omega (arith, le, same))) ∙ e in cc)
+    ]
+
+-- of two keys of one name the lesser has the lesser version
+versions_ascend : (a b : Key) → a.name ≡ b.name → is_lt (key_cmp a b) ≡ true → a.version < b.version
+versions_ascend a b same lt =
+    let tied : slice_cmp nat_cmp a.name b.name ≡ Equal = ap (slice_cmp nat_cmp a.name) (sym same) ∙ tied_itself nat_list_cmp_total a.name in
+    let by_version = ap (λ (o : Ordering). is_lt (ordering_then o (nat_cmp a.version b.version))) tied in
+    less_is a.version b.version (sym by_version ∙ lt)
+
+abbrev most_of : Option (Key × File) → ℕ
+most_of o = unwrap_or (option_map version_of o) 0
+
+abbrev IsOf : List ℕ → Key × File → Type 0
+IsOf name y = same_bytes name y.0.name ≡ true
+
+same_names : (name : List ℕ) (a b : Key) → same_bytes name a.name ≡ true → same_bytes name b.name ≡ true → a.name ≡ b.name
+same_names name a b x y = sym (same_is name a.name x) ∙ same_is name b.name y
+
+-- a version is at most the last behind it of its name
+behind_it : (name : List ℕ) (y : Key × File) (s : Files) → IsOf name y → (is_sorted key_cmp (y ∷ s) ≡ true) → version_of y ≤ most_of (last_or (Some y) (of_name name s))
+behind_it name y [] of sorted = omega arith
+behind_it name y (z ∷ s) of sorted = by (same_bytes name z.0.name) refl (behind_it name y s of skipped) (λ here. behind_it name z s here parts.1)
+  where
+    parts : (below_all key_cmp y.0 (z ∷ s) ≡ true) × (is_sorted key_cmp (z ∷ s) ≡ true)
+    parts = and_parts (below_all key_cmp y.0 (z ∷ s)) (is_sorted key_cmp (z ∷ s)) sorted
+
+    below : (is_lt (key_cmp y.0 z.0) ≡ true) × (below_all key_cmp y.0 s ≡ true)
+    below = and_parts (is_lt (key_cmp y.0 z.0)) (below_all key_cmp y.0 s) parts.0
+
+    skipped : (is_sorted key_cmp (y ∷ s) ≡ true)
+    skipped = Rattle.std.proofs.lemmas.Bool.and_from (below_all key_cmp y.0 s) (is_sorted key_cmp s) below.1 (and_parts (below_all key_cmp z.0 s) (is_sorted key_cmp s) parts.1).1
+
+    by : (b : Bool) → same_bytes name z.0.name ≡ b → version_of y ≤ most_of (last_or (Some y) (of_name name s)) → (IsOf name z → version_of z ≤ most_of (last_or (Some z) (of_name name s)))
+        → version_of y ≤ most_of (last_or (Some y) (cond b (z ∷ of_name name s) (of_name name s)))
+    by false is rest there = rest
+    by true is rest there =
+        let lt : version_of y < version_of z = versions_ascend y.0 z.0 (same_names name y.0 z.0 of is) below.0 in
+        let le = there is in
+        omega (arith, lt, le)
+
+-- all versions of a name are at most its highest
+at_most_highest : (name : List ℕ) (o : Option (Key × File)) (s : Files) → (is_sorted key_cmp s ≡ true) → AllByRecursion (λ y. IsOf name y → version_of y ≤ most_of (last_or o (of_name name s))) s
+at_most_highest name o [] sorted = tt
+at_most_highest name o (y ∷ s) sorted = by (same_bytes name y.0.name) refl (λ p. at_most_highest name p s parts.1)
+  where
+    parts : (below_all key_cmp y.0 s ≡ true) × (is_sorted key_cmp s ≡ true)
+    parts = and_parts (below_all key_cmp y.0 s) (is_sorted key_cmp s) sorted
+
+    by : (b : Bool) → same_bytes name y.0.name ≡ b → ((p : Option (Key × File)) → AllByRecursion (λ z. IsOf name z → version_of z ≤ most_of (last_or p (of_name name s))) s)
+        → (IsOf name y → version_of y ≤ most_of (last_or o (cond b (y ∷ of_name name s) (of_name name s)))) × AllByRecursion (λ z. IsOf name z → version_of z ≤ most_of (last_or o (cond b (y ∷ of_name name s) (of_name name s)))) s
+    by true is rest = ((λ of. behind_it name y s of sorted), rest (Some y))
+    by false is rest = ((λ of. absurd (let bad : true ≡ false = sym of ∙ is in cc)), rest o)
+
+of_T : (b : Bool) → T b → b ≡ true
+of_T true h = refl
+of_T false h = absurd h
+
+-- no entry has the key of a new version
+pub new_key_is_new : (name : List ℕ) (s : Files) (entries : List Entry) → T (is_sorted key_cmp s) → Lists s entries → AllByRecursion (λ z. key_cmp (new_key name s) z.key ≡ Equal → ⊥) entries
+new_key_is_new name s entries sorted lists = by s entries (at_most_highest name None s (of_T (is_sorted key_cmp s) sorted)) lists
+  where
+    one : (y : Key × File) (z : Entry) → (IsOf name y → version_of y ≤ most_of (highest name s)) → z.key ≡ y.0 → key_cmp (new_key name s) z.key ≡ Equal → ⊥
+    one y z most same tied =
+        let is : new_key name s ≡ y.0 = alike_is (new_key name s) z.key tied ∙ same in
+        let named : name ≡ y.0.name = ap (λ (k : Key). k.name) is in
+        let version : most_of (highest name s) + 1 ≡ version_of y = ap (λ (k : Key). k.version) is in
+        let le = most (ap (same_bytes name) (sym named) ∙ is_same name) in
+        omega (arith, version, le)
+
+    by : (t : Files) (entries : List Entry) → AllByRecursion (λ y. IsOf name y → version_of y ≤ most_of (highest name s)) t → Lists t entries → AllByRecursion (λ z. key_cmp (new_key name s) z.key ≡ Equal → ⊥) entries
+    by [] [] all lists = tt
+    by [] (z ∷ entries) all lists = absurd lists
+    by (y ∷ t) [] all lists = absurd lists
+    by (y ∷ t) (z ∷ entries) all lists = (one y z all.0 lists.0.key, by t entries all.1 lists.1)

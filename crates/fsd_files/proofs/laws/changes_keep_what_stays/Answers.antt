@@ -1,0 +1,11 @@
+use Rattle.fsd_files.proofs.ChangeKept.{delete_kept, keep_kept, version_kept}
+use Rattle.fsd_files.proofs.laws.changes_keep_what_stays.Goals as goal
+
+pub returns-clause-puts : goal.returns-clause-puts
+returns-clause-puts c = version_kept
+
+pub returns-clause-deletes : goal.returns-clause-deletes
+returns-clause-deletes c = delete_kept
+
+pub returns-clause-keeps : goal.returns-clause-keeps
+returns-clause-keeps c = keep_kept

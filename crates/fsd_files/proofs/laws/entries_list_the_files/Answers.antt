@@ -1,0 +1,11 @@
+use Rattle.fsd_files.proofs.ListingLaws.{deletes_listed, keeps_listed, puts_listed}
+use Rattle.fsd_files.proofs.laws.entries_list_the_files.Goals as goal
+
+pub returns-clause-puts : goal.returns-clause-puts
+returns-clause-puts c = puts_listed
+
+pub returns-clause-deletes : goal.returns-clause-deletes
+returns-clause-deletes c = deletes_listed
+
+pub returns-clause-keeps : goal.returns-clause-keeps
+returns-clause-keeps c = keeps_listed
