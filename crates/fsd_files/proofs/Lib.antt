@@ -8,3 +8,4 @@ pub mod ListingLaws
 pub mod WaitExamples
 pub mod WaitLaws
 pub mod WearLaws
+pub mod FoundLaws

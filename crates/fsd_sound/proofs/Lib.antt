@@ -29,3 +29,4 @@ pub mod StillLaws
 pub mod TwiceLaws
 pub mod TwinLaws
 pub mod WindowLaws
+pub mod MoreLaws
