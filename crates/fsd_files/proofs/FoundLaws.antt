@@ -1,29 +1,20 @@
 -- A version and its entry are both there, or neither is.
-use Rattle.std.proofs.Common.{◌≡◌, Bool, true, false, cond, List, [], ◌∷◌, Option, Some, None, Ordering, refl, sym, ap, subst, ◌∙◌}
+use Rattle.std.proofs.Common.{◌≡◌, Bool, true, false, cond, List, [], ◌∷◌, Option, Some, None, refl, sym, ap, subst, ◌∙◌}
 use Rattle.std.specs.Prelude.{⊤}
 use Rattle.std.specs.FinMap.{find}
-use Rattle.std.specs.Ordering.{eq_by_cmp, is_eq, ordering_reverse}
-use Rattle.std.specs.declared.cmp.Ordering.TheVariants.{Less, Equal, Greater}
+use Rattle.std.specs.Ordering.{eq_by_cmp}
 use Rattle.fsd_bytes.specs.declared.key.Key.{Key}
 use Rattle.fsd_bytes.specs.Keys.{key_cmp, same_key}
 use Rattle.fsd_formats.specs.declared.entry.Entry.{Entry}
 use Rattle.fsd_files.specs.Answers.{entry_of}
 use Rattle.fsd_files.specs.Files.{File, Files}
 use Rattle.fsd_files.specs.Kept.{Lists}
-use Rattle.fsd_files.proofs.HistoryLaws.{keys_total}
+use Rattle.fsd_files.proofs.ChangeLaws.{same_key_turned}
 
 abbrev AreBothThere : Option File → Option Entry → Type 0
 AreBothThere None None = ⊤
 AreBothThere (Some file) (Some e) = ⊤
 AreBothThere file e = ⊥
-
-turned_eq : (o : Ordering) → is_eq (ordering_reverse o) ≡ is_eq o
-turned_eq Less = refl
-turned_eq Equal = refl
-turned_eq Greater = refl
-
-same_key_turned : (a b : Key) → eq_by_cmp key_cmp a b ≡ same_key b a
-same_key_turned a b = ap is_eq (keys_total.antisymm a b) ∙ turned_eq (key_cmp b a)
 
 both_chosen : (b : Bool) (file : File) (e : Entry) (o : Option File) (p : Option Entry) → AreBothThere o p → AreBothThere (cond b (Some file) o) (cond b (Some e) p)
 both_chosen true file e o p rest = tt

@@ -1,0 +1,300 @@
+-- What the answers of a run do to the files, to the pages of the table and to what is forced; and that each command has one.
+use Rattle.std.proofs.Common.{◌≡◌, ◌⊎◌, inl, inr, ℕ, suc, ◌+◌, ◌≤◌, Bool, true, false, cond, List, [], ◌∷◌, ◌++◌, length, map, Option, Some, None, refl, sym, ap, ◌∙◌, arith}
+use Rattle.std.specs.Prelude.{IfSome, is_none, not, nat_le, nat_lt, ◌&&◌, ◌||◌, ◌==◌, fold}
+use Rattle.std.specs.List.{list_any}
+use Rattle.std.specs.FinMap.{find}
+use Rattle.std.proofs.lemmas.List.{length-append}
+use Rattle.fsd_bytes.specs.declared.key.Key.{Key}
+use Rattle.fsd_bytes.specs.declared.key.Serial.{Serial}
+use Rattle.fsd_bytes.specs.declared.refusal.Refusal.{Refusal}
+use Rattle.fsd_bytes.specs.declared.refusal.Refusal.TheVariants.{KeepTooLarge}
+use Rattle.fsd_bytes.specs.Keys.{key_cmp}
+use Rattle.run_table.specs.declared.run.Run.{Run}
+use Rattle.fsd_formats.specs.declared.entry.Entry.{Entry}
+use Rattle.fsd_formats.specs.NamePage.{sectors_for, max_keep}
+use Rattle.sector_disk.specs.declared.sector.Sector.{Sector}
+use Rattle.sector_disk.specs.declared.sector.Sector.TheVariants.{Whole, Damaged}
+use Rattle.sector_disk.specs.Image.{sector_at}
+use Rattle.fsd_files.proofs.HistoryLaws.{fold_both}
+use Rattle.fsd_files.specs.Answers.{Met, Outcome, refused, enter_fault, entered_unless, entered, put_at, put_unless, size_fault, keep_given, deleted, keep_set, entry_of, highest_entry, got, Finds, FindsIn}
+use Rattle.fsd_files.specs.Disk.{Image}
+use Rattle.fsd_files.specs.Files.{Change, File, Files, step}
+use Rattle.fsd_files.specs.Kept.{range_sectors}
+use Rattle.fsd_files.specs.Replies.{Reply}
+use Rattle.fsd_files.specs.Volume.{Volume, HasReach, forced, forced_if, forced_for_place, drawn, place_for}
+use Rattle.fsd_texts.specs.declared.command.Command.{Command}
+use Rattle.fsd_texts.specs.declared.command.Command.TheVariants as Word
+use Rattle.fsd_runs.specs.Commands.{answer, changes_of, MayFind, MayMeet}
+use Rattle.fsd_runs.specs.Errands.{Turn, Errand, answered_so, is_forced}
+use Rattle.fsd_runs.specs.Runs.{answered, behind, turn_of, changes_in, forced_in, turns_begun}
+
+-- ---- one answer: nothing is changed, or the change is made
+
+-- the files and the pages are as before, and no more is unforced
+record IsSame (v w : Volume) : Type 0 where
+  files : w.files ≡ v.files
+  reached : w.reached ≡ v.reached
+  unforced : w.unforced ≤ v.unforced
+
+same_itself : (v : Volume) → IsSame v v
+same_itself v = record { files = refl; reached = refl; unforced = omega arith }
+
+same_then : (u v w : Volume) → IsSame u v → IsSame v w → IsSame u w
+same_then u v w a b = record { files = b.files ∙ a.files; reached = b.reached ∙ a.reached; unforced = omega (arith, a.unforced, b.unforced) }
+
+same_forced : (b : Bool) (v : Volume) → IsSame v (cond b (forced v) v)
+same_forced true v = record { files = refl; reached = refl; unforced = omega arith }
+same_forced false v = same_itself v
+
+record Refuses (v : Volume) (command : Command) (out : Outcome) : Type 0 where
+  none : changes_of command out.0 ≡ []
+  same : IsSame v out.1
+
+record Changes (met : Met) (v : Volume) (command : Command) (out : Outcome) : Type 0 where
+  change : Change
+  is : changes_of command out.0 ≡ change ∷ []
+  files : out.1.files ≡ step v.files change
+  reached : out.1.reached ≡ met.reached
+  unforced : out.1.unforced ≤ suc v.unforced
+
+abbrev Does : Met → Volume → Command → Outcome → Type 0
+Does met v command out = Refuses v command out ⊎ Changes met v command out
+
+-- from a volume that is the same
+does_from : (met : Met) (u v : Volume) (command : Command) (out : Outcome) → IsSame u v → Does met v command out → Does met u command out
+does_from met u v command out same (inl r) = inl (record { none = r.none; same = same_then u v out.1 same r.same })
+does_from met u v command out same (inr c) = inr (record {
+  change = c.change;
+  is = c.is;
+  files = c.files ∙ ap (λ (s : Files). step s c.change) same.files;
+  reached = c.reached;
+  unforced = omega (arith, c.unforced, same.unforced);
+})
+
+put_enters : (met : Met) (v : Volume) (name bytes : List ℕ) (given : Option ℕ) (runs : List Run) (serial : Serial) (o : Option Refusal)
+    → Does met v (Word.Put name bytes given) (entered_unless o v name bytes given runs serial met.reached)
+put_enters met v name bytes given runs serial (Some why) = inl (record { none = refl; same = same_itself v })
+put_enters met v name bytes given runs serial None = inr (record { change = Change.Put name given bytes; is = refl; files = refl; reached = refl; unforced = omega arith })
+
+put_entered : (met : Met) (v : Volume) (name bytes : List ℕ) (given : Option ℕ) (runs : List Run) (serial : Serial) → Does met v (Word.Put name bytes given) (entered met v name bytes given runs serial)
+put_entered met v name bytes given runs serial =
+    let at = forced_if met.forces v in
+    does_from met v at (Word.Put name bytes given) (entered met v name bytes given runs serial) (same_forced (met.forces && nat_le 2 v.unforced) v) (put_enters met at name bytes given runs serial (enter_fault at name))
+
+put_placed : (met : Met) (v : Volume) (name bytes : List ℕ) (given : Option ℕ) (need : ℕ) (o : Option (List Run)) → Does met v (Word.Put name bytes given) (put_at met v name bytes given need o)
+put_placed met v name bytes given need None = inl (record { none = refl; same = same_itself v })
+put_placed met v name bytes given need (Some runs) =
+    does_from met v (drawn v) (Word.Put name bytes given) (put_at met v name bytes given need (Some runs)) (record { files = refl; reached = refl; unforced = omega arith }) (put_entered met (drawn v) name bytes given runs v.serial)
+
+put_does : (met : Met) (v : Volume) (name bytes : List ℕ) (given : Option ℕ) (o : Option Refusal) → Does met v (Word.Put name bytes given) (put_unless o met v name bytes given)
+put_does met v name bytes given (Some why) = inl (record { none = refl; same = same_itself v })
+put_does met v name bytes given None =
+    let need = sectors_for (length bytes) in
+    let at = forced_for_place need v in
+    does_from met v at (Word.Put name bytes given) (put_unless None met v name bytes given) (same_forced (is_none (place_for v need) && not (length v.removed == 0)) v) (put_placed met at name bytes given need (place_for at need))
+
+delete_does : (met : Met) (v : Volume) (key : Key) (o : Option Entry) → Does met v (Word.Delete key) (deleted v key met.reached o)
+delete_does met v key None = inl (record { none = refl; same = same_itself v })
+delete_does met v key (Some e) = inr (record { change = Change.Delete key; is = refl; files = refl; reached = refl; unforced = omega arith })
+
+keep_does : (met : Met) (v : Volume) (name : List ℕ) (keep : ℕ) (o : Option Entry) → Does met v (Word.Keep name keep) (keep_set v name keep met.reached o)
+keep_does met v name keep None = inl (record { none = refl; same = same_itself v })
+keep_does met v name keep (Some e) = inr (record { change = Change.SetKeep name keep; is = refl; files = refl; reached = refl; unforced = omega arith })
+
+keep_tried : (met : Met) (v at : Volume) (name : List ℕ) (keep : ℕ) (b : Bool) → IsSame v at → Does met v (Word.Keep name keep) (cond b (refused v (KeepTooLarge keep)) (keep_set at name keep met.reached (highest_entry name at.entries)))
+keep_tried met v at name keep true same = inl (record { none = refl; same = same_itself v })
+keep_tried met v at name keep false same = does_from met v at (Word.Keep name keep) (keep_set at name keep met.reached (highest_entry name at.entries)) same (keep_does met at name keep (highest_entry name at.entries))
+
+still : (met : Met) (v : Volume) (command : Command) (out : Outcome) → changes_of command out.0 ≡ [] → IsSame v out.1 → Does met v command out
+still met v command out none same = inl (record { none = none; same = same })
+
+got_none : (key : Key) (damaged : Option ℕ) (o : Option File) → changes_of (Word.Get key) (got key damaged o) ≡ []
+got_none key damaged o = refl
+
+does : (met : Met) (v : Volume) (command : Command) → Does met v command (answer met v command)
+does met v (Word.Put name bytes given) = put_does met v name bytes given (size_fault (keep_given given) (length bytes))
+does met v (Word.Delete key) =
+    let at = forced_if met.forces v in
+    does_from met v at (Word.Delete key) (answer met v (Word.Delete key)) (same_forced (met.forces && nat_le 2 v.unforced) v) (delete_does met at key (entry_of key at.entries))
+does met v (Word.Keep name keep) = keep_tried met v (forced_if met.forces v) name keep (nat_lt max_keep keep) (same_forced (met.forces && nat_le 2 v.unforced) v)
+does met v (Word.List pattern) = still met v (Word.List pattern) (answer met v (Word.List pattern)) refl (same_itself v)
+does met v (Word.Get key) = still met v (Word.Get key) (answer met v (Word.Get key)) refl (same_itself v)
+does met v Word.Force = still met v Word.Force (answer met v Word.Force) refl (same_forced true v)
+does met v Word.Tick = still met v Word.Tick (answer met v Word.Tick) refl (same_forced true v)
+does met v Word.Stat = still met v Word.Stat (answer met v Word.Stat) refl (same_itself v)
+
+-- ---- the files
+
+pub command_follows : (met : Met) (v : Volume) (command : Command) → (answer met v command).1.files ≡ fold step v.files (changes_of command (answer met v command).0)
+command_follows met v command = by (does met v command)
+  where
+    by : Does met v command (answer met v command) → (answer met v command).1.files ≡ fold step v.files (changes_of command (answer met v command).0)
+    by (inl r) = r.same.files ∙ ap (λ (h : List Change). fold step v.files h) (sym r.none)
+    by (inr c) = c.files ∙ ap (λ (h : List Change). fold step v.files h) (sym c.is)
+
+pub run_follows : (e : Errand) (mets : List Met) (v : Volume) (commands : List Command) → (behind mets v commands).files ≡ fold step v.files (changes_in (turns_begun e mets v commands))
+run_follows e [] v commands = refl
+run_follows e (met ∷ mets) v [] = refl
+run_follows e (met ∷ mets) v (command ∷ commands) =
+    let out = answer met v command in
+    run_follows e mets out.1 commands
+    ∙ ap (λ (s : Files). fold step s (changes_in (turns_begun e mets out.1 commands))) (command_follows met v command)
+    ∙ sym (fold_both v.files (changes_of command out.0) (changes_in (turns_begun e mets out.1 commands)))
+
+-- ---- what is forced
+
+abbrev any_forces : List Turn → Bool
+any_forces turns = list_any (λ t. t.forces) turns
+
+pub command_grows : (met : Met) (v : Volume) (command : Command) → (answer met v command).1.unforced ≤ length (changes_of command (answer met v command).0) + v.unforced
+command_grows met v command = by (does met v command)
+  where
+    by : Does met v command (answer met v command) → (answer met v command).1.unforced ≤ length (changes_of command (answer met v command).0) + v.unforced
+    by (inl r) = omega (arith, r.same.unforced)
+    by (inr c) = let one : length (changes_of command (answer met v command).0) ≡ 1 = ap length c.is in omega (arith, c.unforced, one)
+
+-- a command that is answered by this is a force
+forces_all : (met : Met) (v : Volume) (command : Command) → is_forced (answer met v command).0 ≡ true → (answer met v command).1.unforced ≡ 0
+forces_all met v Word.Force e = refl
+forces_all met v Word.Tick e = refl
+forces_all met v Word.Stat e = absurd cc
+forces_all met v (Word.List pattern) e = absurd cc
+forces_all met v (Word.Get key) e = absurd (by (find key_cmp key v.files) met.damaged e)
+  where
+    by : (o : Option File) (damaged : Option ℕ) → is_forced (got key damaged o) ≡ true → ⊥
+    by None damaged e = cc
+    by (Some file) None e = cc
+    by (Some file) (Some s) e = cc
+forces_all met v (Word.Delete key) e = absurd (by (forced_if met.forces v) (entry_of key (forced_if met.forces v).entries) e)
+  where
+    by : (w : Volume) (o : Option Entry) → is_forced (deleted w key met.reached o).0 ≡ true → ⊥
+    by w None e = cc
+    by w (Some x) e = cc
+forces_all met v (Word.Keep name keep) e = absurd (by (nat_lt max_keep keep) (forced_if met.forces v) (highest_entry name (forced_if met.forces v).entries) e)
+  where
+    by : (b : Bool) (w : Volume) (o : Option Entry) → is_forced (cond b (refused v (KeepTooLarge keep)) (keep_set w name keep met.reached o)).0 ≡ true → ⊥
+    by true w o e = cc
+    by false w None e = cc
+    by false w (Some x) e = cc
+forces_all met v (Word.Put name bytes given) e = absurd (by (size_fault (keep_given given) (length bytes)) e)
+  where
+    at_end : (w : Volume) (runs : List Run) (serial : Serial) (o : Option Refusal) → is_forced (entered_unless o w name bytes given runs serial met.reached).0 ≡ true → ⊥
+    at_end w runs serial None e = cc
+    at_end w runs serial (Some why) e = cc
+
+    at_place : (w : Volume) (need : ℕ) (o : Option (List Run)) → is_forced (put_at met w name bytes given need o).0 ≡ true → ⊥
+    at_place w need None e = cc
+    at_place w need (Some runs) e = at_end (forced_if met.forces (drawn w)) runs w.serial (enter_fault (forced_if met.forces (drawn w)) name) e
+
+    by : (o : Option Refusal) → is_forced (put_unless o met v name bytes given).0 ≡ true → ⊥
+    by (Some why) e = cc
+    by None e = at_place (forced_for_place (sectors_for (length bytes)) v) (sectors_for (length bytes)) (place_for (forced_for_place (sectors_for (length bytes)) v) (sectors_for (length bytes))) e
+
+-- Behind the commands no more is unforced than was made since the last `forced`.
+record Counts (all : ℕ) (before now : ℕ) (turns : List Turn) : Type 0 where
+  grown : now ≤ all + before
+  told : any_forces turns ≡ true → forced_in turns + now ≤ all
+  none : any_forces turns ≡ false → forced_in turns ≡ 0
+
+counts_step : (t : Turn) (more : List Turn) (before mid now : ℕ) → mid ≤ length t.changes + before → (t.forces ≡ true → mid ≡ 0) → Counts (length (changes_in more)) mid now more
+    → Counts (length (changes_in (t ∷ more))) before now (t ∷ more)
+counts_step t more before mid now grows resets rest = by t.forces refl (any_forces more) refl
+  where
+    long : length (changes_in (t ∷ more)) ≡ length t.changes + length (changes_in more)
+    long = length-append t.changes (changes_in more)
+
+    grown : now ≤ length (changes_in (t ∷ more)) + before
+    grown = omega (arith, long, grows, rest.grown)
+
+    any_is : (b c : Bool) → t.forces ≡ b → any_forces more ≡ c → any_forces (t ∷ more) ≡ (b || c)
+    any_is b c is others = ap (λ (x : Bool). x || any_forces more) is ∙ ap (λ (x : Bool). b || x) others
+
+    forced_is : (b : Bool) → any_forces (t ∷ more) ≡ b → forced_in (t ∷ more) ≡ cond b (length t.changes + forced_in more) 0
+    forced_is b is = ap (λ (x : Bool). cond x (length t.changes + forced_in more) 0) is
+
+    by : (b : Bool) → t.forces ≡ b → (c : Bool) → any_forces more ≡ c → Counts (length (changes_in (t ∷ more))) before now (t ∷ more)
+    by b is true others = record {
+      grown = grown;
+      told = λ any. let there = rest.told others in let sum = forced_is true any in omega (arith, long, there, sum);
+      none = λ any. absurd (let bad : (b || true) ≡ false = sym (any_is b true is others) ∙ any in no b bad);
+    }
+      where
+        no : (b : Bool) → (b || true) ≡ false → ⊥
+        no true e = cc
+        no false e = cc
+    by true is false others = record {
+      grown = grown;
+      told = λ any. let none = rest.none others in let sum = forced_is true any in let small = rest.grown in let gone = resets is in omega (arith, long, none, sum, small, gone);
+      none = λ any. absurd (let bad : (true || false) ≡ false = sym (any_is true false is others) ∙ any in cc);
+    }
+    by false is false others = record {
+      grown = grown;
+      told = λ any. absurd (let bad : (false || false) ≡ true = sym (any_is false false is others) ∙ any in cc);
+      none = λ any. forced_is false any;
+    }
+
+counts : (e : Errand) → ((r : Reply) → e.forces r ≡ is_forced r) → (mets : List Met) (v : Volume) (commands : List Command)
+    → Counts (length (changes_in (turns_begun e mets v commands))) v.unforced (behind mets v commands).unforced (turns_begun e mets v commands)
+counts e same [] v commands = record { grown = omega arith; told = λ t. absurd cc; none = λ t. refl }
+counts e same (met ∷ mets) v [] = record { grown = omega arith; told = λ t. absurd cc; none = λ t. refl }
+counts e same (met ∷ mets) v (command ∷ commands) =
+    let out = answer met v command in
+    counts_step (turn_of e (answered_so command out.0)) (turns_begun e mets out.1 commands) v.unforced out.1.unforced (behind mets out.1 commands).unforced
+    (command_grows met v command) (λ t. forces_all met v command (sym (same out.0) ∙ t)) (counts e same mets out.1 commands)
+
+-- what the replies of a script tell as forced is forced
+pub told_is_forced : (e : Errand) → ((r : Reply) → e.forces r ≡ is_forced r) → (mets : List Met) (v : Volume) (commands : List Command)
+    → forced_in (turns_begun e mets v commands) + (behind mets v commands).unforced ≤ length (changes_in (turns_begun e mets v commands)) + v.unforced
+told_is_forced e same mets v commands = by (any_forces (turns_begun e mets v commands)) refl
+  where
+    c : Counts (length (changes_in (turns_begun e mets v commands))) v.unforced (behind mets v commands).unforced (turns_begun e mets v commands)
+    c = counts e same mets v commands
+
+    by : (b : Bool) → any_forces (turns_begun e mets v commands) ≡ b → forced_in (turns_begun e mets v commands) + (behind mets v commands).unforced ≤ length (changes_in (turns_begun e mets v commands)) + v.unforced
+    by true any = let told = c.told any in omega (arith, told)
+    by false any = let none = c.none any in let grown = c.grown in omega (arith, none, grown)
+
+-- ---- each command has an answer
+
+finds : (i : Image) (sectors : List ℕ) → (damaged : Option ℕ) × Finds i i sectors damaged
+finds i [] = (None, tt)
+finds i (s ∷ sectors) = by (sector_at i s) refl (finds i sectors)
+  where
+    by : (x : Sector) → sector_at i s ≡ x → (damaged : Option ℕ) × Finds i i sectors damaged → (damaged : Option ℕ) × Finds i i (s ∷ sectors) damaged
+    by Damaged is rest = (Some s, inl (refl, is))
+    by (Whole bytes) is (None, rest) = (None, ((bytes, is), rest))
+    by (Whole bytes) is (Some t, rest) = (Some t, inr ((bytes, is), rest))
+
+finds_in : (i : Image) (v : Volume) (key : Key) → (damaged : Option ℕ) × FindsIn i i v key damaged
+finds_in i v key = by (entry_of key v.entries)
+  where
+    by : (o : Option Entry) → (damaged : Option ℕ) × IfSome o (λ e. Finds i i (range_sectors e.runs 0 e.length) damaged)
+    by None = (None, tt)
+    by (Some e) = finds i (range_sectors e.runs 0 e.length)
+
+may_find : (i : Image) (v : Volume) (command : Command) → (damaged : Option ℕ) × MayFind i i v command (record { forces = false; reached = 1; damaged = damaged })
+may_find i v (Word.Get key) = finds_in i v key
+may_find i v (Word.Put name bytes given) = (None, tt)
+may_find i v (Word.Delete key) = (None, tt)
+may_find i v (Word.Keep name keep) = (None, tt)
+may_find i v (Word.List pattern) = (None, tt)
+may_find i v Word.Force = (None, tt)
+may_find i v Word.Tick = (None, tt)
+may_find i v Word.Stat = (None, tt)
+
+pub some_answer : (i : Image) (v : Volume) (command : Command) → HasReach v → (met : Met) × MayMeet i i v command met
+some_answer i v command reach = by (may_find i v command)
+  where
+    by : (damaged : Option ℕ) × MayFind i i v command (record { forces = false; reached = 1; damaged = damaged }) → (met : Met) × MayMeet i i v command met
+    by (damaged, find) =
+        let met : Met = record { forces = false; reached = 1; damaged = damaged } in
+        (met, record { find = find; reach = reached met refl (does met v command) })
+      where
+        reached : (met : Met) → met.reached ≡ 1 → Does met v command (answer met v command) → HasReach (answer met v command).1
+        reached met one (inl r) =
+            let same = r.same.reached in
+            let files = ap length r.same.files in
+            let root = reach.root in
+            let most = reach.most in
+            record { root = omega (arith, same, root); most = omega (arith, same, files, most) }
+        reached met one (inr c) = let is = c.reached in record { root = omega (arith, is, one); most = omega (arith, is, one) }

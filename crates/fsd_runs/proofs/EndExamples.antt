@@ -1,0 +1,153 @@
+-- Worked examples of how runs end, and of ends that are refused, computed.
+use Rattle.std.proofs.Common.{◌≡◌, ℕ, List, [], ◌∷◌, ◌++◌, map, Some, None, refl, inl, codes, arith}
+use Rattle.std.specs.Fmt.{digits}
+use Rattle.std.specs.Prelude.{length, replicate, true, false}
+use Rattle.fsd_bytes.specs.Keys.{key_of}
+use Rattle.run_table.specs.RunTable.{run_of}
+use Rattle.fsd_files.specs.Answers.{Met, put_outcome}
+use Rattle.fsd_files.specs.Disk.{Image, Sectors}
+use Rattle.fsd_files.specs.Replies.{Made}
+use Rattle.fsd_files.specs.Volume.{Volume}
+use Rattle.sector_disk.specs.Machine.{Moment}
+use Rattle.fsd_texts.specs.declared.command.Command.{Command}
+use Rattle.fsd_texts.specs.declared.command.Command.TheVariants as Word
+use Rattle.fsd_texts.specs.declared.fault.Fault.TheVariants as Ends
+use Rattle.fsd_texts.specs.declared.end.End.TheVariants.{Done}
+use Rattle.fsd_texts.specs.Script.{script_in, script_of}
+use Rattle.fsd_runs.specs.Commands.{may_wear_out}
+use Rattle.fsd_runs.specs.Errands.{Errand, Turn, alone, blank, cut_off, forced_turn, scripted}
+use Rattle.fsd_runs.specs.Runs.{IsCutBefore, IsStep, answered, last_count, said_in, turns_of}
+use Rattle.fsd_runs.proofs.Plain.{behind, default, fresh, lines, plain, plainly, says}
+
+abbrev status : Errand → List Met → Volume → ℕ
+status e mets v = (e.ends (answered mets v e.commands)).status
+
+abbrev puts_a_b_c : List ℕ
+puts_a_b_c = lines (codes "put a 0" ∷ codes "" ∷ codes "put b 0" ∷ codes "" ∷ codes "put c 0" ∷ codes "" ∷ [])
+
+-- ---- a bad line behind three puts
+
+abbrev three_and_bad : Errand
+three_and_bad = scripted (script_in (puts_a_b_c ++ lines (codes "stat x" ∷ [])))
+
+says_three_and_bad : says three_and_bad default ≡ lines (codes "made a!1 1" ∷ codes "made b!1 1" ∷ codes "made c!1 1" ∷ codes "forced" ∷ codes "bad line 4: word count" ∷ [])
+unfolding digits
+says_three_and_bad = refl
+
+status_of_bad : status three_and_bad (plainly three_and_bad) default ≡ 2
+status_of_bad = refl
+
+-- ---- a force that makes place
+
+abbrev small : Volume
+small = behind (fresh 721 200 16) (Word.Put (codes "a") (replicate 16384 1) None ∷ Word.Delete (key_of (codes "a") 1) ∷ [])
+
+-- 33 sectors wait and 31 are free; behind the force all 64 are
+finds_place : (put_outcome plain small (codes "b") (replicate 20480 2) None).0 ≡ Made (key_of (codes "b") 1) 41
+finds_place = refl
+
+from_the_start : map (λ e. e.runs) (put_outcome plain small (codes "b") (replicate 20480 2) None).1.entries ≡ (run_of 657 41 ∷ []) ∷ []
+from_the_start = refl
+
+one_waits : (put_outcome plain small (codes "b") (replicate 20480 2) None).1.unforced ≡ 1
+one_waits = refl
+
+-- ---- a force by itself
+
+abbrev forcing : Met
+forcing = record { forces = true; reached = 1; damaged = None }
+
+abbrev three : List Command
+three = Word.Put (codes "a") (codes "x") None ∷ Word.Delete (key_of (codes "a") 1) ∷ Word.Put (codes "b") (codes "y") None ∷ Word.Stat ∷ []
+
+abbrev said_with : List Met → List ℕ
+said_with mets = said_in (turns_of (scripted (three, Done)) mets default)
+
+-- it comes behind the pick, so b!1 lies behind what waits, which is free then
+forced_behind_the_pick : said_with (plain ∷ plain ∷ forcing ∷ plain ∷ [])
+    ≡ lines (codes "made a!1 2" ∷ codes "deleted a!1" ∷ codes "made b!1 2" ∷ codes "stat free 1125 waiting 0 pages 63 versions 1" ∷ codes "forced" ∷ [])
+unfolding digits
+forced_behind_the_pick = refl
+
+-- with one change it can't come
+not_behind_one : said_with (plain ∷ forcing ∷ plain ∷ plain ∷ [])
+    ≡ lines (codes "made a!1 2" ∷ codes "deleted a!1" ∷ codes "made b!1 2" ∷ codes "stat free 1123 waiting 2 pages 63 versions 1" ∷ codes "forced" ∷ [])
+unfolding digits
+not_behind_one = refl
+
+-- ---- a damaged sector
+
+abbrev finds_922 : Met
+finds_922 = record { forces = false; reached = 1; damaged = Some 922 }
+
+abbrev gets : Errand
+gets = scripted (Word.Put (codes "a") (codes "x") None ∷ Word.Get (key_of (codes "a") 1) ∷ Word.Stat ∷ [], Done)
+
+-- a script says it and goes on
+damaged_in_a_script : said_in (turns_of gets (plain ∷ finds_922 ∷ plain ∷ []) default) ≡ lines (codes "made a!1 2" ∷ codes "damaged a!1 922" ∷ codes "stat free 1125 waiting 0 pages 63 versions 1" ∷ codes "forced" ∷ [])
+unfolding digits
+damaged_in_a_script = refl
+
+status_in_a_script : status gets (plain ∷ finds_922 ∷ plain ∷ []) default ≡ 0
+status_in_a_script = refl
+
+status_alone : status (alone (Word.Get (key_of (codes "a") 1))) (finds_922 ∷ []) (behind default (Word.Put (codes "a") (codes "x") None ∷ [])) ≡ 8
+status_alone = refl
+
+-- ---- a group that is cut off
+
+abbrev worn : Errand
+worn = cut_off (Some (1, Ends.WornOut)) (scripted (three, Done))
+
+says_worn_out : said_in (turns_of worn (plain ∷ []) default) ≡ lines (codes "made a!1 2" ∷ codes "forced" ∷ codes "fault worn out" ∷ [])
+unfolding digits
+says_worn_out = refl
+
+status_worn_out : status worn (plain ∷ []) default ≡ 9
+status_worn_out = refl
+
+-- the second command would change something, the fourth would not, and there is no fifth
+before_a_delete : IsCutBefore (Some (1, Ends.WornOut)) three
+before_a_delete = refl
+
+not_before_a_stat : IsCutBefore (Some (3, Ends.WornOut)) three → ⊥
+not_before_a_stat is = absurd (cc is)
+
+not_at_the_end : IsCutBefore (Some (4, Ends.WornOut)) three → ⊥
+not_at_the_end is = is
+
+-- what is refused before that is no place for it
+not_before_a_long_one : may_wear_out (Word.Keep (codes "a") 1000) ≡ false
+not_before_a_long_one = refl
+
+-- a mount whose serials are used up makes nothing
+abbrev used_up : Volume
+used_up = record default { serial = record { epoch = 2; count = last_count } }
+
+makes_nothing : (hurt : Sectors) (Passed : Moment → Type 0) (said : List ℕ) (i j : Image) (met : Met) → IsStep hurt Passed said i j used_up (Word.Put (codes "a") [] None) met → ⊥
+makes_nothing hurt Passed said i j met step = step.unworn refl (inl (omega arith))
+
+-- an input that fails behind two commands
+abbrev cut_short : Errand
+cut_short = cut_off (Some (2, Ends.Input)) (scripted (script_in puts_a_b_c))
+
+says_input : said_in (turns_of cut_short (plain ∷ plain ∷ []) default) ≡ lines (codes "made a!1 1" ∷ codes "made b!1 1" ∷ codes "forced" ∷ codes "fault input" ∷ [])
+unfolding digits
+says_input = refl
+
+-- the third command was not taken whole, though its line was
+two_taken : length (script_of (lines (codes "put a 0" ∷ codes "" ∷ codes "put b 0" ∷ codes "" ∷ codes "put c 3" ∷ []) ++ codes "xy")).0 ≡ 2
+two_taken = refl
+
+-- ---- a run that ends at once
+
+-- a script whose mount fails in the walk has no whole turn, also where it has no command
+walk_fails : turns_of (scripted (three, Done)) [] default ≡ blank ∷ []
+walk_fails = refl
+
+walk_fails_with_no_command : turns_of (scripted ([], Done)) [] default ≡ forced_turn ∷ []
+walk_fails_with_no_command = refl
+
+-- of one change all is forced once it is said, and nothing before
+alone_is_forced : map (λ (t : Turn). t.forces) (turns_of (alone (Word.Put (codes "a") [] None)) (plain ∷ []) default) ≡ true ∷ []
+alone_is_forced = refl

@@ -1,0 +1,74 @@
+-- Runs go on from what a stop leaves; and where no fault is counted a run says all, or that memory was refused.
+use Rattle.std.proofs.Common.{◌≡◌, ◌⊎◌, inl, inr, ℕ, zero, suc, ◌+◌, ◌≤◌, List, [], ◌∷◌, ◌++◌, length, take, Option, Some, None, refl, sym, ap, ◌∙◌, arith}
+use Rattle.std.specs.Prelude.{min}
+use Rattle.std.specs.List.{last_or}
+use Rattle.std.proofs.lemmas.List.{length-take, take-append-le}
+use Rattle.volume_layout.specs.declared.layout.Layout.{Layout}
+use Rattle.sector_disk.specs.declared.sector.WeakRun.{WeakRun}
+use Rattle.sector_disk.specs.Machine.{Moment, Report}
+use Rattle.fsd_files.specs.Files.{Change}
+use Rattle.fsd_sound.specs.Sound.{IsPrefixOf}
+use Rattle.fsd_texts.specs.declared.fault.Fault.{Fault}
+use Rattle.fsd_texts.specs.declared.fault.Fault.TheVariants as Ends
+use Rattle.fsd_texts.specs.Text.{memory_text}
+use Rattle.fsd_runs.specs.declared.request.Request.{Request}
+use Rattle.fsd_runs.specs.declared.request.Request.TheVariants as Asks
+use Rattle.fsd_runs.specs.Errands.{Turn}
+use Rattle.fsd_runs.specs.Leaves.{IsBroken, IsOutside, IsUnsaid, Left, NoneRose, SaysThen, StaysSound}
+use Rattle.fsd_runs.specs.Runs.{changes_in}
+
+last_is : (windows : List WeakRun) (o : Option WeakRun) (run : WeakRun) → last_or o (windows ++ run ∷ []) ≡ Some run
+last_is [] o run = refl
+last_is (w ∷ windows) o run = last_is windows (Some w) run
+
+take_of_take : (f n : ℕ) (h : List Change) → f ≤ n → take f (take n h) ≡ take f h
+take_of_take zero n h le = refl
+take_of_take (suc f) zero h le = absurd (omega (arith, le))
+take_of_take (suc f) (suc n) [] le = refl
+take_of_take (suc f) (suc n) (c ∷ h) le = ap (λ (x : List Change). c ∷ x) (take_of_take f n h (omega (arith, le)))
+
+-- whatever a stop leaves is sound again
+pub left_stays : (l : Layout) (windows : List WeakRun) (h : List Change) (f n : ℕ) (turns : List Turn) (old left : Moment) → IsPrefixOf h f n → last_or None windows ≡ old.windows.present
+    → Left l windows h f n turns old left → StaysSound l h f left
+left_stays l windows h f n turns old left prefix ends (inl b) =
+    record { windows = windows; changes = h; count = f; keeps = record { forced = omega arith; same = refl }; present = ends ∙ sym b.present; sound = b.sound }
+left_stays l windows h f n turns old left prefix ends (inr s) =
+    let forced = prefix.forced in
+    let made = prefix.made in
+    let long : length (take n h) ≡ min n (length h) = length-take n h in
+    let few : f ≤ length (take n h) = omega (arith, forced, made, long) in
+    record {
+      windows = windows ++ s.run ∷ [];
+      changes = take n h ++ changes_in (take (suc s.whole) turns);
+      count = n + s.forced;
+      keeps = record { forced = omega (arith, forced); same = take-append-le f (take n h) (changes_in (take (suc s.whole) turns)) few ∙ take_of_take f n h forced };
+      present = last_is windows None s.run ∙ sym s.present;
+      sound = s.sound;
+    }
+
+-- a run that neither says all nor has a fault counted says that memory was refused
+pub broken_by_memory : (request : Request) (before after : Report) (turns : List Turn) (old new : Moment) (result : ℕ) → NoneRose before after
+    → IsUnsaid before after result ⊎ IsBroken request before after turns old new result → (result ≡ 7) × SaysThen turns memory_text old new
+broken_by_memory request before after turns old new result none (inl unsaid) = absurd (none.output unsaid.rose)
+broken_by_memory request before after turns old new result none (inr broken) = by request broken.why broken.outside broken.ends broken.says
+  where
+    by : (r : Request) (why : Fault) → IsOutside r before after why → result ≡ Rattle.fsd_runs.specs.Errands.fault_status why → SaysThen turns (Rattle.fsd_texts.specs.Text.fault_text why) old new
+        → (result ≡ 7) × SaysThen turns memory_text old new
+    by r (Ends.Device s) outside ends says = absurd (none.disk outside.rose)
+    by r Ends.Memory outside ends says = (ends, says)
+    by (Asks.Put name keep) Ends.Input outside ends says = absurd (none.input outside)
+    by Asks.Outside Ends.Input outside ends says = absurd outside
+    by (Asks.BadField cause) Ends.Input outside ends says = absurd outside
+    by (Asks.Format a b c) Ends.Input outside ends says = absurd outside
+    by (Asks.One command) Ends.Input outside ends says = absurd outside
+    by Asks.Script Ends.Input outside ends says = absurd outside
+    by (Asks.Generate a b) Ends.Input outside ends says = absurd outside
+    by r Ends.NotVolume outside ends says = absurd (never r outside)
+      where
+        never : (r : Request) → IsOutside r before after Ends.NotVolume → ⊥
+        never r outside = outside
+    by r (Ends.Lost a b) outside ends says = absurd outside
+    by r Ends.NoAnchor outside ends says = absurd outside
+    by r (Ends.Unsound s) outside ends says = absurd outside
+    by r Ends.InputTooLong outside ends says = absurd outside
+    by r Ends.WornOut outside ends says = absurd outside

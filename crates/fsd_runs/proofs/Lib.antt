@@ -1,0 +1,9 @@
+pub mod AnswerLaws
+pub mod EndExamples
+pub mod LeaveExamples
+pub mod LeaveLaws
+pub mod PlaceExamples
+pub mod Plain
+pub mod RunExamples
+pub mod SafeLaws
+pub mod WordExamples

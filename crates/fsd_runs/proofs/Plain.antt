@@ -1,0 +1,51 @@
+-- Volumes and runs for worked examples: nothing is damaged, no force comes by itself, and the table has one page.
+use Rattle.std.proofs.Common.{ℕ, List, [], ◌∷◌, ◌++◌, None}
+use Rattle.std.specs.Prelude.{false, length, replicate}
+use Rattle.fsd_files.specs.Answers.{Met}
+use Rattle.fsd_files.specs.Volume.{Volume}
+use Rattle.fsd_texts.specs.declared.command.Command.{Command}
+use Rattle.fsd_texts.specs.Script.{script_in}
+use Rattle.fsd_texts.specs.Text.{newline}
+use Rattle.fsd_runs.specs.Commands.{answer}
+use Rattle.fsd_runs.specs.Errands.{Errand, scripted}
+use Rattle.fsd_runs.specs.Runs.{turns_of, said_in}
+
+abbrev pub plain : Met
+plain = record { forces = false; reached = 1; damaged = None }
+
+-- right behind the first mount after a format
+abbrev pub fresh : (n t p : ℕ) → Volume
+fresh n t p = record {
+  layout = record { sectors = n; third = t; pages = p };
+  files = [];
+  entries = [];
+  removed = [];
+  held = [];
+  drafts = [];
+  reached = 1;
+  unforced = 0;
+  serial = record { epoch = 2; count = 1 };
+}
+
+abbrev pub default : Volume
+default = fresh 2048 256 64
+
+abbrev pub plainly : Errand → List Met
+plainly e = replicate (length e.commands) plain
+
+-- all that an errand says
+abbrev pub says : Errand → Volume → List ℕ
+says e v = said_in (turns_of e (plainly e) v)
+
+abbrev pub script_says : Volume → List ℕ → List ℕ
+script_says v input = says (scripted (script_in input)) v
+
+-- the volume behind some commands
+abbrev pub behind : Volume → List Command → Volume
+behind v [] = v
+behind v (c ∷ commands) = behind (answer plain v c).1 commands
+
+-- lines
+abbrev pub lines : List (List ℕ) → List ℕ
+lines [] = []
+lines (l ∷ ls) = l ++ newline ++ lines ls

@@ -1,0 +1,157 @@
+-- Worked examples of the words of the command line, computed.
+use Rattle.std.proofs.Common.{◌≡◌, [], ◌∷◌, Some, None, refl, codes}
+use Rattle.clap.proofs.OnLiterals.{clap_on_literals}
+use Rattle.fsd_bytes.specs.Keys.{key_of}
+use Rattle.fsd_bytes.specs.declared.pattern.Pattern.TheVariants.{Prefix}
+use Rattle.fsd_texts.specs.declared.bad_line.Cause.TheVariants.{BadNumber, BadName, BadKey}
+use Rattle.fsd_texts.specs.declared.command.Command.TheVariants as Word
+use Rattle.fsd_runs.specs.declared.request.Request.TheVariants.{Outside, BadField, Format, Put, One, Script, Generate}
+use Rattle.fsd_runs.specs.Words.{request_of, path_of}
+
+formats : request_of (codes "cfs" ∷ codes "format" ∷ codes "v" ∷ codes "2048" ∷ codes "256" ∷ codes "64" ∷ []) ≡ Format 2048 256 64
+unfolding clap_on_literals
+formats = refl
+
+puts : request_of (codes "cfs" ∷ codes "put" ∷ codes "v" ∷ codes "a" ∷ []) ≡ Put (codes "a") None
+unfolding clap_on_literals
+puts = refl
+
+puts_and_keeps : request_of (codes "cfs" ∷ codes "put" ∷ codes "v" ∷ codes "a" ∷ codes "--keep" ∷ codes "7" ∷ []) ≡ Put (codes "a") (Some 7)
+unfolding clap_on_literals
+puts_and_keeps = refl
+
+-- the option may stand in front, and with `=`
+keeps_first : request_of (codes "cfs" ∷ codes "put" ∷ codes "--keep=7" ∷ codes "v" ∷ codes "a" ∷ []) ≡ Put (codes "a") (Some 7)
+unfolding clap_on_literals
+keeps_first = refl
+
+the_image : path_of (codes "cfs" ∷ codes "put" ∷ codes "--keep=7" ∷ codes "v" ∷ codes "a" ∷ []) ≡ codes "v"
+unfolding clap_on_literals
+the_image = refl
+
+unknown_word : request_of (codes "cfs" ∷ codes "frob" ∷ codes "v" ∷ []) ≡ Outside
+unfolding clap_on_literals
+unknown_word = refl
+
+no_word : request_of (codes "cfs" ∷ []) ≡ Outside
+unfolding clap_on_literals
+no_word = refl
+
+no_name : request_of [] ≡ Outside
+unfolding clap_on_literals
+no_name = refl
+
+asks_for_help : request_of (codes "cfs" ∷ codes "help" ∷ []) ≡ Outside
+unfolding clap_on_literals
+asks_for_help = refl
+
+asks_for_help_of_one : request_of (codes "cfs" ∷ codes "get" ∷ codes "--help" ∷ []) ≡ Outside
+unfolding clap_on_literals
+asks_for_help_of_one = refl
+
+too_few : request_of (codes "cfs" ∷ codes "get" ∷ codes "v" ∷ []) ≡ Outside
+unfolding clap_on_literals
+too_few = refl
+
+too_many : request_of (codes "cfs" ∷ codes "stat" ∷ codes "v" ∷ codes "w" ∷ []) ≡ Outside
+unfolding clap_on_literals
+too_many = refl
+
+-- the option is a put's alone
+keeps_elsewhere : request_of (codes "cfs" ∷ codes "get" ∷ codes "v" ∷ codes "a!1" ∷ codes "--keep" ∷ codes "7" ∷ []) ≡ Outside
+unfolding clap_on_literals
+keeps_elsewhere = refl
+
+gets : request_of (codes "cfs" ∷ codes "get" ∷ codes "v" ∷ codes "a!1" ∷ []) ≡ One (Word.Get (key_of (codes "a") 1))
+unfolding clap_on_literals
+gets = refl
+
+lists : request_of (codes "cfs" ∷ codes "list" ∷ codes "v" ∷ codes "*" ∷ []) ≡ One (Word.List (Prefix []))
+unfolding clap_on_literals
+lists = refl
+
+keeps : request_of (codes "cfs" ∷ codes "keep" ∷ codes "v" ∷ codes "a" ∷ codes "1000" ∷ []) ≡ One (Word.Keep (codes "a") 1000)
+unfolding clap_on_literals
+keeps = refl
+
+scripts : request_of (codes "cfs" ∷ codes "script" ∷ codes "v" ∷ []) ≡ Script
+unfolding clap_on_literals
+scripts = refl
+
+generates : request_of (codes "cfs" ∷ codes "generate" ∷ codes "v" ∷ codes "18446744073709551615" ∷ codes "1" ∷ []) ≡ Generate 18446744073709551615 1
+unfolding clap_on_literals
+generates = refl
+
+bad_key : request_of (codes "cfs" ∷ codes "get" ∷ codes "v" ∷ codes "a!0" ∷ []) ≡ BadField BadKey
+unfolding clap_on_literals
+bad_key = refl
+
+-- the first field from the left
+bad_name : request_of (codes "cfs" ∷ codes "put" ∷ codes "v" ∷ codes "a b" ∷ codes "--keep" ∷ codes "x" ∷ []) ≡ BadField BadName
+unfolding clap_on_literals
+bad_name = refl
+
+bad_keep : request_of (codes "cfs" ∷ codes "put" ∷ codes "v" ∷ codes "a" ∷ codes "--keep" ∷ codes "01" ∷ []) ≡ BadField BadNumber
+unfolding clap_on_literals
+bad_keep = refl
+
+-- ---- where the option may stand
+
+keeps_between : request_of (codes "cfs" ∷ codes "put" ∷ codes "v" ∷ codes "--keep" ∷ codes "7" ∷ codes "a" ∷ []) ≡ Put (codes "a") (Some 7)
+unfolding clap_on_literals
+keeps_between = refl
+
+-- it comes once
+keeps_twice : request_of (codes "cfs" ∷ codes "put" ∷ codes "v" ∷ codes "a" ∷ codes "--keep" ∷ codes "7" ∷ codes "--keep" ∷ codes "7" ∷ []) ≡ Outside
+unfolding clap_on_literals
+keeps_twice = refl
+
+-- it has a value
+keeps_nothing : request_of (codes "cfs" ∷ codes "put" ∷ codes "v" ∷ codes "a" ∷ codes "--keep" ∷ []) ≡ Outside
+unfolding clap_on_literals
+keeps_nothing = refl
+
+-- which may not begin as an option does
+keeps_minus : request_of (codes "cfs" ∷ codes "put" ∷ codes "v" ∷ codes "a" ∷ codes "--keep" ∷ codes "-1" ∷ []) ≡ Outside
+unfolding clap_on_literals
+keeps_minus = refl
+
+keeps_is_minus : request_of (codes "cfs" ∷ codes "put" ∷ codes "v" ∷ codes "a" ∷ codes "--keep=-1" ∷ []) ≡ BadField BadNumber
+unfolding clap_on_literals
+keeps_is_minus = refl
+
+-- behind `--` all words are positionals
+names_behind_dashes : request_of (codes "cfs" ∷ codes "put" ∷ codes "v" ∷ codes "--" ∷ codes "--keep" ∷ []) ≡ Put (codes "--keep") None
+unfolding clap_on_literals
+names_behind_dashes = refl
+
+no_name_with_a_dash : request_of (codes "cfs" ∷ codes "put" ∷ codes "v" ∷ codes "-a" ∷ []) ≡ Outside
+unfolding clap_on_literals
+no_name_with_a_dash = refl
+
+-- the image is any text, no text too
+no_image : request_of (codes "cfs" ∷ codes "stat" ∷ [] ∷ []) ≡ One Word.Stat
+unfolding clap_on_literals
+no_image = refl
+
+-- help is asked for by any of these
+asks_for_help_by_one_letter : request_of (codes "cfs" ∷ codes "-h" ∷ []) ≡ Outside
+unfolding clap_on_literals
+asks_for_help_by_one_letter = refl
+
+asks_for_help_of_a_word : request_of (codes "cfs" ∷ codes "help" ∷ codes "put" ∷ []) ≡ Outside
+unfolding clap_on_literals
+asks_for_help_of_a_word = refl
+
+asks_for_help_with_all : request_of (codes "cfs" ∷ codes "get" ∷ codes "v" ∷ codes "a!1" ∷ codes "--help" ∷ []) ≡ Outside
+unfolding clap_on_literals
+asks_for_help_with_all = refl
+
+-- the words of later requests
+scrubs_not_yet : request_of (codes "cfs" ∷ codes "scrub" ∷ codes "v" ∷ []) ≡ Outside
+unfolding clap_on_literals
+scrubs_not_yet = refl
+
+drills_not_yet : request_of (codes "cfs" ∷ codes "drill" ∷ []) ≡ Outside
+unfolding clap_on_literals
+drills_not_yet = refl

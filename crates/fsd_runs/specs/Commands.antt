@@ -1,0 +1,76 @@
+-- Commands and replies: what a volume answers, what is said of it, and what it changed.
+use Rattle.std.specs.Prelude.{ℕ, Bool, true, false, not, List, [], ◌∷◌, ◌++◌, length, is_none, nat_lt, ⊤}
+use Rattle.std.specs.List.{flat_map}
+use Rattle.fsd_formats.specs.declared.entry.Entry.{Entry}
+use Rattle.fsd_formats.specs.NamePage.{max_keep, sectors_for}
+use Rattle.fsd_files.specs.Answers.{Met, Outcome, put_outcome, delete_outcome, keep_outcome, force_outcome, stat_reply, list_reply, get_reply, keep_given, size_fault, FindsIn}
+use Rattle.fsd_files.specs.Disk.{Image}
+use Rattle.fsd_files.specs.Files.{Change}
+use Rattle.fsd_files.specs.Replies.{Reply, Refused, Made, Deleted, Kept, Listed, Bytes, DamagedAt, Forced, Counts, Found}
+use Rattle.fsd_files.specs.Volume.{Volume, HasReach}
+use Rattle.fsd_texts.specs.declared.command.Command.{Command}
+use Rattle.fsd_texts.specs.declared.command.Command.TheVariants as Word
+use Rattle.fsd_texts.specs.declared.line.Line.{Line}
+use Rattle.fsd_texts.specs.declared.line.Line.TheVariants as Says
+use Rattle.fsd_texts.specs.Text.{text, newline}
+
+-- ---- answers
+
+-- what a volume answers to a command, and what it is then
+abbrev pub answer : Met → Volume → Command → Outcome
+answer met v (Word.Put name bytes keep) = put_outcome met v name bytes keep
+answer met v (Word.Delete key) = delete_outcome met v key
+answer met v (Word.Keep name keep) = keep_outcome met v name keep
+answer met v (Word.List pattern) = (list_reply v pattern, v)
+answer met v (Word.Get key) = (get_reply met v key, v)
+answer met v Word.Force = force_outcome v
+answer met v Word.Tick = force_outcome v
+answer met v Word.Stat = (stat_reply v, v)
+
+-- A mount that is worn out refuses what would change something, where no refusal comes before this one.
+abbrev pub may_wear_out : Command → Bool
+may_wear_out (Word.Put name bytes keep) = is_none (size_fault (keep_given keep) (length bytes))
+may_wear_out (Word.Delete key) = true
+may_wear_out (Word.Keep name keep) = not (nat_lt max_keep keep)
+may_wear_out command = false
+
+-- what may read as damaged, between these images
+abbrev pub MayFind : Image → Image → Volume → Command → Met → Type 0
+MayFind i j v (Word.Get key) met = FindsIn i j v key met.damaged
+MayFind i j v command met = ⊤
+
+-- What a command may meet: what it reads, and the pages of the table then.
+pub record MayMeet (i j : Image) (v : Volume) (command : Command) (met : Met) : Type 0 where
+  pub find : MayFind i j v command met
+  pub reach : HasReach (answer met v command).1
+
+-- the change that was accepted, if one was
+abbrev pub changes_of : Command → Reply → List Change
+changes_of (Word.Put name bytes keep) (Made key sectors) = Change.Put name keep bytes ∷ []
+changes_of (Word.Delete key) (Deleted k) = Change.Delete key ∷ []
+changes_of (Word.Keep name keep) (Kept key k) = Change.SetKeep name keep ∷ []
+changes_of command reply = []
+
+-- ---- texts
+
+abbrev pub version_line : Entry → Line
+version_line e = Says.Version e.key e.length (sectors_for e.length) e.keep
+
+-- what a script says of a reply
+abbrev pub reply_text : Reply → List ℕ
+reply_text (Refused why) = text (Says.Refused why)
+reply_text (Made key sectors) = text (Says.Made key sectors)
+reply_text (Deleted key) = text (Says.Deleted key)
+reply_text (Kept key keep) = text (Says.Kept key keep)
+reply_text (Listed entries) = flat_map (λ e. text (version_line e)) entries ++ text (Says.Listed (length entries))
+reply_text (Bytes key bytes) = text (Says.Bytes key (length bytes)) ++ bytes ++ newline
+reply_text (DamagedAt key s) = text (Says.Damaged key s)
+reply_text Forced = text Says.Forced
+reply_text (Counts free waiting pages versions) = text (Says.Stat free waiting pages versions)
+-- no command of a script is answered so
+reply_text (Found e) = []
+
+-- what a command by itself says: a get the bytes alone
+abbrev pub reply_alone : Reply → List ℕ
+reply_alone (Bytes key bytes) = bytes
+reply_alone reply = reply_text reply

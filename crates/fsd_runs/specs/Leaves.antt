@@ -1,0 +1,204 @@
+-- What a stop at any moment of a run leaves, and how the run ends.
+use Rattle.std.specs.Prelude.{◌≡◌, ◌⊎◌, ◌<◌, ◌≤◌, ⊤, ℕ, suc, ◌+◌, List, [], ◌∷◌, ◌++◌, length, take, Option, Some, None, IsSome, slice_get}
+use Rattle.std.specs.List.{last_or}
+use Rattle.volume_layout.specs.declared.layout.Layout.{Layout}
+use Rattle.sector_disk.specs.declared.sector.WeakRun.{WeakRun}
+use Rattle.sector_disk.specs.Image.{IsWorn}
+use Rattle.sector_disk.specs.Machine.{DeviceFault, Moment, Report, Rose}
+use Rattle.fsd_bytes.specs.Keys.{max_u32}
+use Rattle.fsd_files.specs.Disk.{Image}
+use Rattle.fsd_files.specs.Files.{Change}
+use Rattle.fsd_files.specs.Volume.{Volume}
+use Rattle.fsd_formats.specs.declared.anchor.Anchor.{Anchor}
+use Rattle.fsd_sound.specs.Anchors.{anchor_of}
+use Rattle.fsd_sound.specs.Mounted.{telling_of}
+use Rattle.fsd_sound.specs.Shown.{told}
+use Rattle.fsd_sound.specs.Sound.{IsPrefixOf, IsSound, weak_of}
+use Rattle.fsd_texts.specs.declared.fault.Fault.{Fault}
+use Rattle.fsd_texts.specs.declared.fault.Fault.TheVariants as Ends
+use Rattle.fsd_texts.specs.Script.{script_of}
+use Rattle.fsd_texts.specs.Text.{fault_text}
+use Rattle.fsd_runs.specs.declared.request.Request.{Request}
+use Rattle.fsd_runs.specs.declared.request.Request.TheVariants.{Put}
+use Rattle.fsd_runs.specs.Errands.{Cut, Turn, blank, fault_status}
+use Rattle.fsd_runs.specs.Runs.{IsThrough, Run, Starts, Stood, changes_in, forced_in, run_end, run_status, run_turns, said_in}
+
+-- ---- what is said
+
+-- some first bytes of this text, not all of them
+abbrev pub BeginsOnly : List ℕ → List ℕ → Type 0
+BeginsOnly whole part = (heard : ℕ) × (heard < length whole) × (part ≡ take heard whole)
+
+-- what may end a run over a sound image at once, or end its mount
+abbrev pub MayEnd : Fault → Type 0
+MayEnd (Ends.Device s) = ⊤
+MayEnd Ends.Memory = ⊤
+MayEnd Ends.Input = ⊤
+MayEnd Ends.WornOut = ⊤
+MayEnd other = ⊥
+
+-- some first bytes of such a fault's line, or none
+abbrev pub SaysFault : List ℕ → Type 0
+SaysFault part = (why : Fault) × (heard : ℕ) × MayEnd why × (part ≡ take heard (fault_text why))
+
+-- what may follow some whole turns: the beginning of the next one's text, or of a fault that ends the run there; nothing behind
+-- the last turn
+abbrev pub SaysNext : Option Turn → List ℕ → Type 0
+SaysNext None part = part ≡ []
+SaysNext (Some turn) part = BeginsOnly turn.said part ⊎ SaysFault part
+
+-- ---- what a stop leaves
+
+-- Before the mount settles: the present window is as it was, the image is sound as it was, and nothing but a fault is said.
+pub record LeftBefore (l : Layout) (windows : List WeakRun) (h : List Change) (f : ℕ) (old left : Moment) : Type 0 where
+  pub present : left.windows.present ≡ old.windows.present
+  pub part : List ℕ
+  pub said : left.said ≡ old.said ++ part
+  pub fault : SaysFault part
+  pub sound : IsSound l windows h f left.image
+
+-- Since then: the run that was named is the present one. Some turns are said whole, and a part of what comes next. The image is
+-- sound for the n changes that were found, all of them forced, and those of the turns said and of the one under way, of which those
+-- are forced at least that are forced by what is said whole.
+pub record LeftSince (l : Layout) (windows : List WeakRun) (h : List Change) (n : ℕ) (turns : List Turn) (old left : Moment) : Type 0 where
+  pub run : WeakRun
+  pub present : left.windows.present ≡ Some run
+  pub whole : ℕ
+  pub part : List ℕ
+  pub said : left.said ≡ old.said ++ (said_in (take whole turns) ++ part)
+  pub next : SaysNext (slice_get turns whole) part
+  pub forced : ℕ
+  pub enough : forced_in (take whole turns) ≤ forced
+  pub sound : IsSound l (windows ++ run ∷ []) (take n h ++ changes_in (take (suc whole) turns)) (n + forced) left.image
+
+abbrev pub Left : Layout → List WeakRun → List Change → (f n : ℕ) → List Turn → (old left : Moment) → Type 0
+Left l windows h f n turns old left = LeftBefore l windows h f old left ⊎ LeftSince l windows h n turns old left
+
+-- ---- how a run ends
+
+-- The whole text of the run is said, its status is given, and all its changes are forced: the disk's own table is that of the
+-- volume behind them, in the places and with the serials that it gave.
+pub record IsReplied (l : Layout) (windows : List WeakRun) (h : List Change) (n : ℕ) (turns : List Turn) (status : ℕ) (behind : Volume) (old new : Moment) (result : ℕ) : Type 0 where
+  pub ends : result ≡ status
+  pub said : new.said ≡ old.said ++ said_in turns
+  pub run : WeakRun
+  pub settled : new.windows ≡ record { present = Some run; next = None }
+  pub sound : IsSound l (windows ++ run ∷ []) (take n h ++ changes_in turns) (n + length (changes_in turns)) new.image
+  pub tells : told l new.image ≡ Some (telling_of behind)
+
+-- some turns are said whole, not all of them, and then this
+pub record SaysThen (turns : List Turn) (bytes : List ℕ) (old new : Moment) : Type 0 where
+  pub whole : ℕ
+  pub more : IsSome (slice_get turns whole)
+  pub said : new.said ≡ old.said ++ (said_in (take whole turns) ++ bytes)
+
+-- a fault that comes from outside: it is counted, and the disk's place told; or memory was refused. Of a put it may be the input's.
+abbrev pub IsOutside : Request → (before after : Report) → Fault → Type 0
+IsOutside request before after (Ends.Device s) = DeviceFault before after s
+IsOutside request before after Ends.Memory = ⊤
+IsOutside (Put name keep) before after Ends.Input = Rose before.input_faults after.input_faults
+IsOutside request before after other = ⊥
+
+-- A fault from outside has ended the run at once: its line is said behind some whole turns, and its status given.
+pub record IsBroken (request : Request) (before after : Report) (turns : List Turn) (old new : Moment) (result : ℕ) : Type 0 where
+  pub why : Fault
+  pub outside : IsOutside request before after why
+  pub ends : result ≡ fault_status why
+  pub says : SaysThen turns (fault_text why) old new
+
+-- the output failed, and nothing more is said
+pub record IsUnsaid (before after : Report) (result : ℕ) : Type 0 where
+  pub ends : result ≡ 6
+  pub rose : Rose before.output_faults after.output_faults
+
+-- A script that is cut off by its input behind so many commands has a fault of the input counted, and these are all that stand
+-- whole in what was taken; rest is what was left to take.
+pub record IsCutShort (k : ℕ) (input rest : List ℕ) (before after : Report) : Type 0 where
+  pub rose : Rose before.input_faults after.input_faults
+  pub taken : List ℕ
+  pub all : input ≡ taken ++ rest
+  pub commands : length (script_of taken).0 ≡ k
+
+abbrev pub CutCause : Cut → (input rest : List ℕ) → (before after : Report) → Type 0
+CutCause (Some (k, Ends.Input)) input rest before after = IsCutShort k input rest before after
+CutCause cut input rest before after = ⊤
+
+-- no fault was counted
+pub record NoneRose (old new : Report) : Type 0 where
+  pub disk : Rose old.disk_faults new.disk_faults → ⊥
+  pub input : Rose old.input_faults new.input_faults → ⊥
+  pub output : Rose old.output_faults new.output_faults → ⊥
+
+-- ---- what goes on from one run to the next
+
+-- The first f changes are forced still, and are those that were.
+pub record KeepsForced (h : List Change) (f : ℕ) (g : List Change) (n : ℕ) : Type 0 where
+  pub forced : f ≤ n
+  pub same : take f g ≡ take f h
+
+-- the image is sound in the windows that the machine has then, with every change forced that was
+pub record StaysSound (l : Layout) (h : List Change) (f : ℕ) (left : Moment) : Type 0 where
+  pub windows : List WeakRun
+  pub changes : List Change
+  pub count : ℕ
+  pub keeps : KeepsForced h f changes count
+  pub present : last_or None windows ≡ left.windows.present
+  pub sound : IsSound l windows changes count left.image
+
+-- ---- the whole
+
+-- no epoch follows this one
+abbrev pub last_epoch : ℕ
+last_epoch = max_u32
+
+-- No mount follows the one of the image's epoch, and so it is said.
+pub record IsSpent (old new : Moment) (result : ℕ) : Type 0 where
+  pub anchor : Anchor
+  pub taken : anchor_of old.image ≡ Some anchor
+  pub last : anchor.epoch ≡ last_epoch
+  pub ends : result ≡ fault_status Ends.WornOut
+  pub said : new.said ≡ old.said ++ fault_text Ends.WornOut
+
+-- The mount did not settle: nothing is changed, and a fault is said, but where the output failed. It is one from outside, or the
+-- image's epochs are used up.
+pub record LeavesUnmounted (request : Request) (l : Layout) (windows : List WeakRun) (h : List Change) (f : ℕ) (Only : (Moment → Type 0) → Type 0) (before after : Report) (old new : Moment) (result : ℕ) : Type 0 where
+  pub moments : Only (LeftBefore l windows h f old)
+  pub exit : LeftBefore l windows h f old new
+  pub ends : IsSpent old new result ⊎ (IsUnsaid before after result ⊎ IsBroken request before after (blank ∷ []) old new result)
+
+-- The mount's epoch is the next one behind that of the image, as its weak run may have worn.
+abbrev pub AreNext : Option Anchor → Option Anchor → Type 0
+AreNext (Some a) (Some b) = b.epoch ≡ suc a.epoch
+AreNext a b = ⊥
+
+pub record RaisesEpoch (windows : List WeakRun) (old from : Image) : Type 0 where
+  pub left : Image
+  pub worn : IsWorn (weak_of windows) old left
+  pub next : AreNext (anchor_of left) (anchor_of from)
+
+-- The mount settled at some time: it found the first n changes, every forced one among them, and the run went on from the image as
+-- it settled, in the window of this run. Each moment is what is said above; from that time on each is of the second kind, and the
+-- images of the run are of these. Either all commands were begun, all is said and all changes are forced; or a fault from outside
+-- has ended the run at once; or the output failed.
+pub record LeavesMounted (request : Request) (input rest : List ℕ) (l : Layout) (windows : List WeakRun) (h : List Change) (f : ℕ) (Past : ℕ → Moment → Type 0) (Only : (Moment → Type 0) → Type 0) (before after : Report) (old new : Moment) (result : ℕ) : Type 0 where
+  pub count : ℕ
+  pub prefix : IsPrefixOf h f count
+  pub next : WeakRun
+  pub at : ℕ
+  pub from : Image
+  pub stood : Stood (Past at) old.said from
+  pub settled : stood.moment.windows ≡ record { present = Some next; next = None }
+  pub raised : RaisesEpoch windows old.image from
+  pub volume : Volume
+  pub starts : Starts l (windows ++ next ∷ []) (take count h) volume from
+  pub run : Run request input (windows ++ next ∷ []) (Past at) old.said volume from
+  pub cause : CutCause run.cut input rest before after
+  pub moments : Only (Left l windows h f count (run_turns run) old)
+  pub later : (left : Moment) → Past at left → LeftSince l windows h count (run_turns run) old left
+  pub exit : LeftSince l windows h count (run_turns run) old new
+  pub ends : (IsThrough run × IsReplied l windows h count (run_turns run) (run_status run) (run_end run) old new result) ⊎ (IsUnsaid before after result ⊎ IsBroken request before after (run_turns run) old new result)
+
+-- A run over a sound image. The input is as it was, and rest what is left of it. Past is what a stop from a time on may have left.
+abbrev pub LeavesRun : Request → (input rest : List ℕ) → Layout → List WeakRun → List Change → ℕ → (Past : ℕ → Moment → Type 0) → (Only : (Moment → Type 0) → Type 0) → (before after : Report) → (old new : Moment) → (result : ℕ) → Type 0
+LeavesRun request input rest l windows h f Past Only before after old new result =
+    LeavesUnmounted request l windows h f Only before after old new result ⊎ LeavesMounted request input rest l windows h f Past Only before after old new result

@@ -1,0 +1,5 @@
+pub mod Commands
+pub mod Errands
+pub mod Leaves
+pub mod Runs
+pub mod Words

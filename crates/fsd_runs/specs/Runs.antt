@@ -1,0 +1,164 @@
+-- Runs over a mounted volume: what is said, what is changed, and how much of it is forced.
+use Rattle.std.specs.Prelude.{◌≡◌, ◌⊎◌, ◌≤◌, ℕ, ◌+◌, ◌-◌, ◌^◌, List, [], ◌∷◌, ◌++◌, length, map, slice_get, Option, Some, None, IfSome, IsTrue, ⊤, ◌==◌, if◌then◌else◌}
+use Rattle.std.specs.List.{list_any, flat_map}
+use Rattle.volume_layout.specs.declared.layout.Layout.{Layout}
+use Rattle.sector_disk.specs.declared.sector.WeakRun.{WeakRun}
+use Rattle.sector_disk.specs.Machine.{Moment}
+use Rattle.fsd_files.specs.Answers.{Met}
+use Rattle.fsd_files.specs.Disk.{Image, Sectors, in_runs}
+use Rattle.fsd_files.specs.Files.{Change, after}
+use Rattle.fsd_files.specs.Kept.{Describes, Kept}
+use Rattle.fsd_files.specs.Volume.{Volume}
+use Rattle.fsd_sound.specs.Anchors.{anchor_of}
+use Rattle.fsd_sound.specs.Mounted.{telling_of}
+use Rattle.fsd_sound.specs.Shown.{scan_by, told}
+use Rattle.fsd_formats.specs.declared.anchor.Anchor.{Anchor}
+use Rattle.fsd_texts.specs.declared.fault.Fault.TheVariants as Ends
+use Rattle.fsd_texts.specs.declared.command.Command.{Command}
+use Rattle.fsd_runs.specs.declared.request.Request.{Request}
+use Rattle.fsd_runs.specs.Commands.{answer, MayMeet, may_wear_out}
+use Rattle.fsd_runs.specs.Errands.{Answered, Cut, Errand, MayCut, Turn, answered_so, blank, cut_off, errand_of}
+
+-- ---- the volume that a run begins with
+
+-- A mount of the image gives this volume: its files are those after the changes h, its table is the one that the image tells, its
+-- epoch that of the image's anchor, and nothing waits.
+pub record Starts (l : Layout) (windows : List WeakRun) (h : List Change) (v : Volume) (i : Image) : Type 0 where
+  pub layout : v.layout ≡ l
+  pub files : v.files ≡ after h
+  pub tells : told l i ≡ Some (telling_of v)
+  pub described : Describes l (in_runs windows) i v.files v.entries
+  pub epoch : IfSome (anchor_of i) (λ a. a.epoch ≡ v.serial.epoch)
+  pub count : v.serial.count ≡ 1
+  pub removed : v.removed ≡ []
+  pub held : v.held ≡ []
+  pub drafts : v.drafts ≡ []
+  pub unforced : v.unforced ≡ 0
+
+-- ---- replies
+
+-- the commands that were begun, in order, and their replies: one for each of these
+abbrev pub answered : List Met → Volume → List Command → List Answered
+answered (met ∷ mets) v (command ∷ commands) =
+    let out = answer met v command in
+    answered_so command out.0 ∷ answered mets out.1 commands
+answered mets v commands = []
+
+-- the volume behind them
+abbrev pub behind : List Met → Volume → List Command → Volume
+behind (met ∷ mets) v (command ∷ commands) = behind mets (answer met v command).1 commands
+behind mets v commands = v
+
+-- ---- turns
+
+abbrev pub turn_of : Errand → Answered → Turn
+turn_of e p = record { said = e.says p.reply; changes = p.changes; forces = e.forces p.reply }
+
+-- the turns of the commands that were begun; behind them, where these are all, those of the end
+abbrev pub turns_with : Errand → List Answered → List Turn
+turns_with e done = map (turn_of e) done ++ (if length done == length e.commands then (e.ends done).turns else blank ∷ [])
+
+-- of those alone
+abbrev pub turns_begun : Errand → List Met → Volume → List Command → List Turn
+turns_begun e mets v commands = map (turn_of e) (answered mets v commands)
+
+abbrev pub turns_of : Errand → List Met → Volume → List Turn
+turns_of e mets v = turns_with e (answered mets v e.commands)
+
+abbrev pub changes_in : List Turn → List Change
+changes_in turns = flat_map (λ t. t.changes) turns
+
+abbrev pub said_in : List Turn → List ℕ
+said_in turns = flat_map (λ t. t.said) turns
+
+-- how many changes are forced once all of this is said: those up to the last turn that forces
+abbrev pub forced_in : List Turn → ℕ
+forced_in [] = 0
+forced_in (t ∷ turns) = if list_any (λ u. u.forces) (t ∷ turns) then length t.changes + forced_in turns else 0
+
+-- ---- where a mount is worn out
+
+-- the first serial count, and the first record number, that a mount doesn't give any more
+abbrev pub last_count : ℕ
+last_count = 2 ^ 32 - 16
+
+-- by where the disk's log ends
+pub record LogIsFull (l : Layout) (i : Image) : Type 0 where
+  pub anchor : Anchor
+  pub taken : anchor_of i ≡ Some anchor
+  pub full : last_count ≤ (scan_by l i anchor).head.number
+
+-- the serials of this mount are used up, or its log is
+abbrev pub IsWornOut : Volume → Image → Type 0
+IsWornOut v i = (last_count ≤ v.serial.count) ⊎ LogIsFull v.layout i
+
+-- ---- the images between commands
+
+-- an image of the run at which just this was said
+pub record Stood (Passed : Moment → Type 0) (said : List ℕ) (i : Image) : Type 0 where
+  pub moment : Moment
+  pub passed : Passed moment
+  pub image : moment.image ≡ i
+  pub so_far : moment.said ≡ said
+
+-- One command, from the image i on to the image j of its exit, before its reply is said: all versions are kept as it begins; where
+-- no change is unforced the disk's own table is the volume's; the mount isn't worn out, where that would refuse it; and it meets
+-- what it may.
+pub record IsStep (hurt : Sectors) (Passed : Moment → Type 0) (said : List ℕ) (i j : Image) (v : Volume) (command : Command) (met : Met) : Type 0 where
+  pub kept : Kept i v.files v.entries hurt
+  pub tells : v.unforced ≡ 0 → told v.layout i ≡ Some (telling_of v)
+  pub unworn : IsTrue (may_wear_out command) → IsWornOut v i → ⊥
+  pub exit : Stood Passed said j
+  pub may : MayMeet i j v command met
+
+-- The commands are begun one after another, one for each of what they meet, and each is answered over images of the run. Last is
+-- what has to be so behind them.
+abbrev pub Goes : Sectors → (Moment → Type 0) → (Volume → Image → Type 0) → Errand → (said : List ℕ) → Image → Volume → List Met → List Command → Type 0
+Goes hurt Passed Last e said i v [] commands = Last v i
+Goes hurt Passed Last e said i v (met ∷ mets) [] = ⊥
+Goes hurt Passed Last e said i v (met ∷ mets) (command ∷ commands) =
+    (j : Image) × IsStep hurt Passed said i j v command met
+    × Goes hurt Passed Last e (said ++ e.says (answer met v command).0) j (answer met v command).1 mets commands
+
+-- ---- a run
+
+-- a group is cut off by a mount that is worn out only in front of a command that this refuses
+abbrev pub WearsOut : Option Command → Type 0
+WearsOut None = ⊥
+WearsOut (Some command) = IsTrue (may_wear_out command)
+
+abbrev pub IsCutBefore : Cut → List Command → Type 0
+IsCutBefore (Some (k, Ends.WornOut)) commands = WearsOut (slice_get commands k)
+IsCutBefore cut commands = ⊤
+
+-- and only where it is so
+abbrev pub IsCutAt : Cut → Volume → Image → Type 0
+IsCutAt (Some (k, Ends.WornOut)) v i = IsWornOut v i
+IsCutAt cut v i = ⊤
+
+abbrev pub errand_in : Request → (input : List ℕ) → Cut → Errand
+errand_in request input cut = cut_off cut (errand_of request input)
+
+-- What the words ask for is done over this volume, from the image i on: where it is cut off, if it is, and what the commands that
+-- were begun meet. Passed is the moments of the run, and base what was said before it.
+pub record Run (request : Request) (input : List ℕ) (windows : List WeakRun) (Passed : Moment → Type 0) (base : List ℕ) (v : Volume) (i : Image) : Type 0 where
+  pub cut : Cut
+  pub may : MayCut request cut
+  pub before : IsCutBefore cut (errand_of request input).commands
+  pub mets : List Met
+  pub goes : Goes (in_runs windows) Passed (IsCutAt cut) (errand_in request input cut) base i v mets (errand_in request input cut).commands
+
+module _ {request : Request} {input : List ℕ} {windows : List WeakRun} {Passed : Moment → Type 0} {base : List ℕ} {v : Volume} {i : Image} (r : Run request input windows Passed base v i) where
+  abbrev pub run_turns : List Turn
+  run_turns = turns_of (errand_in request input r.cut) r.mets v
+
+  abbrev pub run_status : ℕ
+  run_status = ((errand_in request input r.cut).ends (answered r.mets v (errand_in request input r.cut).commands)).status
+
+  -- the volume behind the commands that were begun
+  abbrev pub run_end : Volume
+  run_end = behind r.mets v (errand_in request input r.cut).commands
+
+  -- all commands were begun
+  abbrev pub IsThrough : Type 0
+  IsThrough = length r.mets ≡ length (errand_in request input r.cut).commands

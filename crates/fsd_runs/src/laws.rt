@@ -1,0 +1,50 @@
+//! Laws over the definitions: the functions do nothing, the contract of each is a law.
+ghost use Rattle.std.specs.Prelude.{◌≡◌, ◌⊎◌, ◌≤◌, ◌+◌, ℕ, List, [], ◌∷◌, None, length, map, fold};
+ghost use Rattle.std.specs.List.{last_or};
+ghost use Rattle.volume_layout.specs.declared.layout.Layout.{Layout};
+ghost use Rattle.sector_disk.specs.declared.sector.WeakRun.{WeakRun};
+ghost use Rattle.sector_disk.specs.Machine.{Moment, Report};
+ghost use Rattle.fsd_sound.specs.Sound.{IsPrefixOf};
+ghost use Rattle.fsd_texts.specs.Text.{memory_text};
+ghost use Rattle.fsd_runs.specs.declared.request.Request.{Request};
+ghost use Rattle.fsd_runs.specs.Leaves.{IsBroken, IsUnsaid, Left, NoneRose, SaysThen, StaysSound};
+ghost use Rattle.fsd_files.specs.Answers.{Met};
+ghost use Rattle.fsd_files.specs.Disk.{Image};
+ghost use Rattle.fsd_files.specs.Files.{Change, step};
+ghost use Rattle.fsd_files.specs.Volume.{Volume, HasReach};
+ghost use Rattle.fsd_texts.specs.declared.command.Command.{Command};
+ghost use Rattle.fsd_texts.specs.Script.{Script};
+ghost use Rattle.fsd_runs.specs.Commands.{answer, changes_of, MayMeet};
+ghost use Rattle.fsd_runs.specs.Errands.{Errand, Turn, scripted};
+ghost use Rattle.fsd_runs.specs.Runs.{answered, behind, changes_in, forced_in, turn_of};
+
+/// What commands do to the files is the changes that their replies accept, in order.
+pub fn replies_tell_the_changes()
+    ensures command { (met : Met) (v : Volume) (c : Command) → (answer met v c).1.files ≡ fold step v.files (changes_of c (answer met v c).0) }
+    ensures run { (e : Errand) (mets : List Met) (v : Volume) (commands : List Command) →
+        (behind mets v commands).files ≡ fold step v.files (changes_in (map (turn_of e) (answered mets v commands))) }
+{}
+
+/// What the lines of a script tell as forced is forced: of all changes, those before the last `forced` wait no more.
+pub fn forced_lines_tell_what_is_forced()
+    ensures { (s : Script) (mets : List Met) (v : Volume) (commands : List Command) → let turns = map (turn_of (scripted s)) (answered mets v commands) in
+        forced_in turns + (behind mets v commands).unforced ≤ length (changes_in turns) + v.unforced }
+{}
+
+/// Each command has an answer, whatever the disk.
+pub fn each_command_has_an_answer()
+    ensures { (i : Image) (v : Volume) (c : Command) → HasReach v → (met : Met) × MayMeet i i v c met }
+{}
+
+/// Whatever a stop leaves of a run over a sound disk is a sound disk again, in the windows that the machine has then, with every
+/// change forced that was: so runs go on from each other.
+pub fn stops_leave_sound_disks()
+    ensures { (l : Layout) (windows : List WeakRun) (h : List Change) (f n : ℕ) (turns : List Turn) (old left : Moment) → IsPrefixOf h f n →
+        last_or None windows ≡ old.windows.present → Left l windows h f n turns old left → StaysSound l h f left }
+{}
+
+/// Where no fault is counted, a run that does not say all says that memory was refused.
+pub fn without_faults_memory_alone_is_refused()
+    ensures { (request : Request) (before after : Report) (turns : List Turn) (old new : Moment) (result : ℕ) → NoneRose before after →
+        IsUnsaid before after result ⊎ IsBroken request before after turns old new result → (result ≡ 7) × SaysThen turns memory_text old new }
+{}

@@ -1,0 +1,30 @@
+//! What the words of the command line ask for.
+use fsd_bytes::FileName;
+use fsd_texts::{Cause, Command};
+
+/// What the words ask for, of the image that they name.
+#[derive(Debug, Drop)]
+pub enum Request {
+    /// The words are outside the command set.
+    Outside,
+    /// The first field from the left that is refused.
+    BadField(Cause),
+    Format {
+        sectors: u32,
+        third: u32,
+        pages: u32,
+    },
+    /// The whole input is to be a version of this name.
+    Put {
+        name: FileName,
+        keep: Option<u32>,
+    },
+    /// One command that takes no input.
+    One(Command),
+    /// The input is a script.
+    Script,
+    Generate {
+        seed: u64,
+        count: u32,
+    },
+}
