@@ -1,0 +1,78 @@
+-- Why a call of a volume tells something as lost or as unsound, over an honest machine and any image.
+use Rattle.std.specs.Prelude.{◌≡◌, ◌⊎◌, ⊤, ℕ, ◌<◌, List, [], ◌∷◌, Option, Some, None, IsTrue, Result, IfErr, ◌||◌}
+use Rattle.std.specs.List.{list_any, Contains}
+use Rattle.volume_layout.specs.declared.layout.Layout.{Layout}
+use Rattle.volume_layout.specs.Layout.{home_a}
+use Rattle.run_table.specs.RunTable.{sectors_of}
+use Rattle.run_table.specs.Space.{contains}
+use Rattle.fsd_bytes.specs.declared.refusal.Refusal.{Refusal}
+use Rattle.fsd_bytes.specs.declared.refusal.Refusal.TheVariants as Why
+use Rattle.fsd_formats.specs.declared.entry.Entry.{Entry}
+use Rattle.sector_disk.specs.declared.machine.Machine.{Ghosts}
+use Rattle.sector_disk.specs.declared.sector.Sector.TheVariants.{Whole}
+use Rattle.sector_disk.specs.Damage.{AreLost}
+use Rattle.sector_disk.specs.Image.{IsWorn, open_damage, sector_at}
+use Rattle.sector_disk.specs.Machine.{Moment}
+use Rattle.fsd_table.specs.Breaks.{Breaks}
+use Rattle.fsd_table.specs.Pages.{entries_of}
+use Rattle.fsd_table.specs.Table.{Visit, visits}
+use Rattle.fsd_files.specs.Disk.{Image}
+use Rattle.fsd_files.specs.Volume.{is_in}
+use Rattle.fsd_sound.specs.Homes.{AreHomesOf}
+use Rattle.fsd_sound.specs.Mounted.{image_at}
+use Rattle.log_thirds.specs.Images.{LiesAt}
+use Rattle.log_thirds.specs.Slots.{slot_of}
+use Rattle.volume_contract.specs.State.{State}
+
+-- ---- what is lost
+
+-- the sectors are the two copies of the page: its own and the copy in the last record that has it, or its homes where none has
+abbrev pub AreCopiesOf : State → (page a b : ℕ) → Type 0
+AreCopiesOf s page a b =
+    let slot = slot_of s.layout s.anchor.third page s.records in
+    LiesAt slot a b ⊎ ((slot ≡ None) × AreHomesOf s.layout page a b)
+
+-- so they are of some page, before the call or behind a force that it made
+pub record AreCopies (old new : State) (a b : ℕ) : Type 0 where
+  pub page : ℕ
+  pub within : page < old.layout.pages
+  pub copies : AreCopiesOf old page a b ⊎ AreCopiesOf new page a b
+
+-- ---- what is unsound
+
+-- The bytes stand in one of the page's two copies, as the image was worn meanwhile.
+pub record StandsInCopy (s : State) (now : Moment) (page : ℕ) (bytes : List ℕ) : Type 0 where
+  pub seen : Image
+  pub worn : IsWorn (open_damage now.windows) now.image seen
+  pub a : ℕ
+  pub b : ℕ
+  pub copies : AreCopiesOf s page a b
+  pub whole : (sector_at seen a ≡ Whole bytes) ⊎ (sector_at seen b ≡ Whole bytes)
+
+-- A call meets each page that these reach from page 0 as it was resident when the call began, or as it stands on the disk.
+abbrev pub Meets : State → (resident : ℕ → Option (List ℕ)) → Moment → List (List ℕ) → Type 0
+Meets s resident now pages = (visit : Visit) → Contains (visits pages) visit →
+    (resident visit.page ≡ Some (image_at pages visit.page)) ⊎ StandsInCopy s now visit.page (image_at pages visit.page)
+
+-- the entry has a sector that is free or waits
+abbrev pub HasUntaken : State → Entry → Type 0
+HasUntaken s e = IsTrue (list_any (λ t. is_in (s.free ∷ []) t || contains s.waiting t) (sectors_of e.runs))
+
+-- The page at this home breaks the table that the pages are; or it is reached, and stands in the list of free name pages or has an
+-- entry with a sector that is free or waits.
+pub record BreaksMounted (s : State) (pages : List (List ℕ)) (place : ℕ) : Type 0 where
+  pub visit : Visit
+  pub reached : Contains (visits pages) visit
+  pub home : place ≡ home_a s.layout visit.page
+  pub how : Breaks s.layout pages visit.page ⊎ (IsTrue (contains s.free_pages visit.page) ⊎ ((e : Entry) × Contains (entries_of visit.content) e × HasUntaken s e))
+
+-- ---- both
+
+abbrev pub HasCause : (old new : State) → (resident : ℕ → Option (List ℕ)) → (before now : Moment) → Refusal → Type 0
+HasCause old new resident before now (Why.Lost a b) = AreLost (AreCopies old new) now.image a b
+HasCause old new resident before now (Why.Unsound s) = (pages : List (List ℕ)) × Meets old resident before pages × BreaksMounted old pages s
+HasCause old new resident before now why = ⊤
+
+-- so it is of a refusal, where the machine kept to its promise
+abbrev pub Causes : {D T : Type 0} → (M : Ghosts D) → (resident : ℕ → Option (List ℕ)) → (old new : State) → (before now : D) → Result T Refusal → Type 0
+Causes M resident old new before now result = IfErr result (λ why. M.honest now → HasCause old new resident (M.now before) (M.now now) why)

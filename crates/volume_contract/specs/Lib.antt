@@ -1,0 +1,5 @@
+pub mod State
+pub mod Order
+pub mod Ends
+pub mod Mount
+pub mod Causes

@@ -1,0 +1,214 @@
+-- What a mount finds, why it is refused, and what it leaves.
+use Rattle.std.specs.Prelude.{◌≡◌, ◌⊎◌, ⊤, ℕ, ◌+◌, ◌*◌, ◌≤◌, ◌==◌, ◌||◌, List, [], ◌∷◌, ◌++◌, take, Option, Some, None, IfOk, IsFalse, Result, Ok, Err}
+use Rattle.volume_layout.specs.declared.layout.Layout.{Layout}
+use Rattle.volume_layout.specs.Layout.{home_a, plan}
+use Rattle.fsd_formats.specs.declared.anchor.Anchor.{Anchor}
+use Rattle.sector_disk.specs.declared.machine.Machine.{Ghosts}
+use Rattle.sector_disk.specs.declared.sector.WeakRun.{WeakRun}
+use Rattle.sector_disk.specs.Calls.{DiskFaults, Since}
+use Rattle.sector_disk.specs.Image.{IsCalm, IsWorn, in_run, open_damage, sector_at}
+use Rattle.sector_disk.specs.Machine.{Ledger, Moment, OnlyWrites, Trusts, UsesDisk, Wears}
+use Rattle.fsd_table.specs.Breaks.{Breaks}
+use Rattle.fsd_table.specs.Table.{told_in}
+use Rattle.fsd_files.specs.Disk.{Image, Sectors, SectorWorn}
+use Rattle.fsd_files.specs.Files.{Change}
+use Rattle.fsd_sound.specs.Anchors.{anchor_of}
+use Rattle.fsd_sound.specs.Homes.{home_of}
+use Rattle.fsd_sound.specs.Mounted.{Mounted, IsFresh, telling_of}
+use Rattle.fsd_sound.specs.Shown.{all_pages, each_of, shown}
+use Rattle.fsd_sound.specs.Sound.{EndIn, IsPrefixOf, IsSound, weak_of}
+use Rattle.mount_recover.specs.declared.fault.MountFault.{MountFault}
+use Rattle.mount_recover.specs.declared.fault.MountFault.TheVariants.{Device, Lost, Memory, NoAnchor, NotVolume, Unsound, WornOut}
+use Rattle.mount_recover.specs.Lost.{HasRoot, LosesShown}
+use Rattle.mount_recover.specs.Recover.{HasNextEpoch, IsVolume, RefusedFor, last_epoch}
+use Rattle.fsd_runs.specs.Leaves.{RaisesEpoch}
+use Rattle.volume_contract.specs.State.{Fits, Known, Stands, State, force_writes, volume_of}
+
+-- ---- over any machine
+
+abbrev pub device_of_mount : MountFault → Option ℕ
+device_of_mount (Device s) = Some s
+device_of_mount other = None
+
+-- A call that writes the disk and changes its windows.
+pub record MountsDisk {D : Type 0} (M : Ghosts D) (fault : Option ℕ) (old new : D) : Type 0 where
+  pub uses : UsesDisk (M.report old) (M.report new)
+  pub faults : DiskFaults fault (M.report old) (M.report new)
+  pub trust : Trusts (M.tells old) (M.tells new) (M.honest old) (M.honest new)
+  pub ledger : M.tells new → OnlyWrites (M.ledger old) (M.ledger new)
+  pub quiet : M.honest new → (M.now new).said ≡ (M.now old).said
+  pub later : M.honest new → M.moment old ≤ M.moment new
+  pub since : M.honest new → Since M old new
+
+-- A mount writes each home once at most, the last record's copies, the roots and the anchors.
+abbrev pub CountsMount : State → Ledger → Ledger → Type 0
+CountsMount s old new = (old.written ≤ new.written) × (new.written ≤ old.written + (2 * s.layout.pages + 101))
+
+-- ---- what is found, and why a mount is refused: by an image that was seen, which the old one may be worn to
+
+-- The layout is the image's root, and the epoch the one behind its anchor's.
+pub record IsFound (sectors : ℕ) (s : State) (old : Moment) : Type 0 where
+  pub seen : Image
+  pub from : IsWorn (open_damage old.windows) old.image seen
+  pub anchor : Anchor
+  pub found : IsVolume sectors seen s.layout anchor
+  pub next : s.serial.epoch ≡ anchor.epoch + 1
+
+-- Where its table is unsound the image has an epoch behind it too.
+abbrev pub MountRefusedFor : ℕ → Image → MountFault → Type 0
+MountRefusedFor sectors i (Unsound s) = HasNextEpoch sectors i
+MountRefusedFor sectors i fault = RefusedFor sectors i fault
+
+pub record IsRefused (sectors : ℕ) (fault : MountFault) (old : Moment) : Type 0 where
+  pub seen : Image
+  pub from : IsWorn (open_damage old.windows) old.image seen
+  pub why : MountRefusedFor sectors seen fault
+
+-- what is refused before anything is written stays as it was
+abbrev pub KeepsAll : MountFault → Moment → Moment → Type 0
+KeepsAll NotVolume old new = Wears old new
+KeepsAll NoAnchor old new = Wears old new
+KeepsAll WornOut old new = Wears old new
+KeepsAll fault old new = ⊤
+
+-- ---- where a mount writes: the roots beside what a force writes
+
+abbrev pub mount_writes : Layout → Sectors
+mount_writes l s = (s == 0) || (s == 4) || force_writes l s
+
+-- nothing is written but there, by a root of the image
+pub record KeepsRest (sectors : ℕ) (old new : Moment) : Type 0 where
+  pub layout : Layout
+  pub root : HasRoot sectors old.image layout
+  pub rest : (s : ℕ) → IsFalse (mount_writes layout s) → SectorWorn (open_damage old.windows s || open_damage new.windows s) (sector_at old.image s) (sector_at new.image s)
+
+abbrev pub MountKeeps : ℕ → Moment → Moment → Type 0
+MountKeeps sectors old new = Wears old new ⊎ KeepsRest sectors old new
+
+-- ---- unsound tables
+
+-- a page of these at this home breaks the table
+abbrev pub BreaksAt : Layout → List (List ℕ) → ℕ → Type 0
+BreaksAt l pages s = (page : ℕ) × (s ≡ home_a l page) × Breaks l pages page
+
+-- The pages were read at home, from an image that may be worn to this one, and one of them breaks the table.
+pub record IsUnsoundAt (sectors : ℕ) (old new : Moment) (s : ℕ) : Type 0 where
+  pub layout : Layout
+  pub root : HasRoot sectors old.image layout
+  pub seen : Image
+  pub to : IsWorn (open_damage new.windows) seen new.image
+  pub pages : List (List ℕ)
+  pub at_home : each_of (home_of layout seen) (all_pages layout) ≡ Some pages
+  pub breaks : BreaksAt layout pages s
+
+abbrev pub UnsoundFor : ℕ → (old new : Moment) → MountFault → Type 0
+UnsoundFor sectors old new (Unsound s) = IsUnsoundAt sectors old new s
+UnsoundFor sectors old new fault = ⊤
+
+-- ---- where nothing wears
+
+-- The image shows these pages of a volume.
+pub record ShowsVolume (sectors : ℕ) (i : Image) (l : Layout) (pages : List (List ℕ)) : Type 0 where
+  pub anchor : Anchor
+  pub found : IsVolume sectors i l anchor
+  pub shows : shown l i ≡ Some pages
+
+module _ {S : Type 0} (state : S → State) (has : S → Mounted → Type 0) where
+  -- The volume has the pages that the image shows in memory: they are a table, and none of them breaks it.
+  pub record MountsShown (sectors : ℕ) (i : Image) (volume : S) : Type 0 where
+    pub mounted : Mounted
+    pub shows : ShowsVolume sectors i (state volume).layout mounted.pages
+    pub holds : has volume mounted
+    pub fits : Fits (state volume) mounted
+    pub told : told_in mounted.pages ≡ Some (telling_of mounted.volume)
+    pub whole : (page : ℕ) → Breaks (state volume).layout mounted.pages page → ⊥
+
+  -- it is mounted, or a page breaks, or one isn't shown
+  abbrev pub MountsCalm : ℕ → Image → Result S MountFault → Type 0
+  MountsCalm sectors i (Ok volume) = MountsShown sectors i volume
+  MountsCalm sectors i (Err (Unsound s)) = (l : Layout) × (pages : List (List ℕ)) × ShowsVolume sectors i l pages × BreaksAt l pages s
+  MountsCalm sectors i (Err fault) = LosesShown sectors i fault
+
+-- ---- the mount of a sound disk
+
+-- The machine's disk is sound.
+pub record IsSoundAt (sectors : ℕ) (l : Layout) (windows : List WeakRun) (h : List Change) (f : ℕ) (now : Moment) : Type 0 where
+  pub planned : plan l.sectors l.third l.pages ≡ Ok l
+  pub fits : l.sectors ≤ sectors
+  pub ends : EndIn now.windows windows
+  pub sound : IsSound l windows h f now.image
+
+-- nothing is written but where a mount writes; the rest may be worn there
+abbrev pub WritesAsMount : Layout → Sectors → Moment → Moment → Type 0
+WritesAsMount l weak old left = (s : ℕ) → IsFalse (mount_writes l s) → SectorWorn (weak s) (sector_at old.image s) (sector_at left.image s)
+
+-- Before it settles: the present window is as it was, and the disk is sound as it was.
+pub record SoundBefore (l : Layout) (windows : List WeakRun) (h : List Change) (f : ℕ) (old left : Moment) : Type 0 where
+  pub present : left.windows.present ≡ old.windows.present
+  pub said : left.said ≡ old.said
+  pub sound : IsSound l windows h f left.image
+  pub writes : WritesAsMount l (weak_of windows) old left
+
+-- Since then: the run that was named is the present one, and the disk is sound for the first n changes alone.
+pub record SoundSince (l : Layout) (windows : List WeakRun) (h : List Change) (n : ℕ) (old left : Moment) : Type 0 where
+  pub run : WeakRun
+  pub present : left.windows.present ≡ Some run
+  pub said : left.said ≡ old.said
+  pub sound : IsSound l (windows ++ run ∷ []) (take n h) n left.image
+  pub writes : WritesAsMount l (λ s. weak_of windows s || in_run run s) old left
+
+-- ---- its end
+
+-- The disk that settled, in the epoch behind that of the old one: it is this volume's, with nothing that waits.
+pub record Settled (l : Layout) (windows : List WeakRun) (h : List Change) (n : ℕ) (k : Known) (old new : Moment) : Type 0 where
+  pub run : WeakRun
+  pub settled : new.windows ≡ record { present = Some run; next = None }
+  pub known : k.windows ≡ windows ++ run ∷ []
+  pub changes : k.changes ≡ take n h
+  pub layout : k.mounted.volume.layout ≡ l
+  pub first : k.mounted.volume.serial.count ≡ 1
+  pub raised : RaisesEpoch windows old.image new.image
+  pub fresh : IsFresh k.changes k.windows new.image k.mounted
+
+-- the disk failed, or memory was refused
+abbrev pub Excuses : MountFault → Type 0
+Excuses (Device s) = ⊤
+Excuses Memory = ⊤
+Excuses fault = ⊥
+
+-- The image's epoch is the last one.
+pub record IsAtLastEpoch (i : Image) : Type 0 where
+  pub anchor : Anchor
+  pub taken : anchor_of i ≡ Some anchor
+  pub last : anchor.epoch ≡ last_epoch
+
+abbrev pub ExcusesOf : Image → MountFault → Type 0
+ExcusesOf i WornOut = IsAtLastEpoch i
+ExcusesOf i fault = Excuses fault
+
+abbrev pub FailsFor : {T : Type 0} → (MountFault → Type 0) → Result T MountFault → Type 0
+FailsFor P (Ok x) = ⊥
+FailsFor P (Err fault) = P fault
+
+module _ {S : Type 0} (state : S → State) (has : S → Mounted → Type 0) where
+  abbrev pub Mounts : Known → Moment → Result S MountFault → Type 0
+  Mounts k new (Ok volume) = Stands state has volume k new
+  Mounts k new (Err fault) = Excuses fault
+
+  -- it failed before it settled
+  pub record EndsBefore (l : Layout) (windows : List WeakRun) (h : List Change) (f : ℕ) (Only : (Moment → Type 0) → Type 0) (old new : Moment) (result : Result S MountFault) : Type 0 where
+    pub moments : Only (SoundBefore l windows h f old)
+    pub exit : SoundBefore l windows h f old new
+    pub why : FailsFor (ExcusesOf old.image) result
+
+  -- it settled, with the files after the first n changes, all of them forced: the volume is mounted, or its walk failed
+  pub record EndsSettled (l : Layout) (windows : List WeakRun) (h : List Change) (f : ℕ) (Only : (Moment → Type 0) → Type 0) (old new : Moment) (result : Result S MountFault) : Type 0 where
+    pub count : ℕ
+    pub prefix : IsPrefixOf h f count
+    pub known : Known
+    pub moments : Only (λ left. SoundBefore l windows h f old left ⊎ SoundSince l windows h count old left)
+    pub settled : Settled l windows h count known old new
+    pub ends : Mounts known new result
+
+  abbrev pub MountsSound : Layout → List WeakRun → List Change → ℕ → ((Moment → Type 0) → Type 0) → (old new : Moment) → Result S MountFault → Type 0
+  MountsSound l windows h f Only old new result = EndsBefore l windows h f Only old new result ⊎ EndsSettled l windows h f Only old new result

@@ -1,0 +1,161 @@
+-- In which order a call may be refused, and what a refusal keeps, over any machine: the steps of each call in a line.
+use Rattle.std.specs.Prelude.{◌≡◌, ◌⊎◌, ⊤, ℕ, suc, Bool, true, false, not, ◌&&◌, List, [], ◌∷◌, length, Option, Some, None, is_none, option_map, nat_lt, if◌then◌else◌, IsTrue, Result, MatchResult}
+use Rattle.fsd_bytes.specs.declared.key.Serial.{Serial}
+use Rattle.fsd_bytes.specs.declared.refusal.Refusal.{Refusal}
+use Rattle.fsd_bytes.specs.declared.refusal.Refusal.TheVariants as Why
+use Rattle.run_table.specs.RunTable.{total}
+use Rattle.run_table.specs.Space.{pick, best}
+use Rattle.run_table.specs.declared.run.Run.{Run}
+use Rattle.fsd_formats.specs.NamePage.{max_keep, sectors_for}
+use Rattle.fsd_files.specs.Answers.{size_fault, keep_given, least_pages}
+use Rattle.fsd_files.specs.Disk.{Sectors}
+use Rattle.volume_contract.specs.State.{State, IsForced, IsDownAt, forces_first, forces_for_place, in_place, is_worn, place_in}
+
+-- A step of a call on its way to its answer: a test of what is in memory, or one of the table; a serial that is drawn; writes of the
+-- disk that begin in such sectors; a force, where one comes; a look-up; pages that are made resident; the data of a version.
+pub data Step : Type 0 where
+  Test : Option Refusal → Step
+  Asks : Refusal → Step
+  Draw : Step
+  Disk : Sectors → Step
+  Force : Bool → Step
+  LookUp : Step
+  Fetch : Step
+  Data : Step
+
+-- ---- what a step may refuse
+
+abbrev pub IsDevice : Refusal → Type 0
+IsDevice (Why.Device s) = ⊤
+IsDevice other = ⊥
+
+abbrev pub IsDeviceIn : Sectors → Refusal → Type 0
+IsDeviceIn may (Why.Device s) = IsTrue (may s)
+IsDeviceIn may other = ⊥
+
+abbrev pub IsLoss : Refusal → Type 0
+IsLoss (Why.Device s) = ⊤
+IsLoss (Why.Lost a b) = ⊤
+IsLoss other = ⊥
+
+abbrev pub IsFetch : Refusal → Type 0
+IsFetch Why.Memory = ⊤
+IsFetch other = IsLoss other
+
+abbrev pub IsLookUp : Refusal → Type 0
+IsLookUp (Why.Unsound s) = ⊤
+IsLookUp other = IsFetch other
+
+abbrev pub IsData : Refusal → Type 0
+IsData (Why.Damaged s) = ⊤
+IsData other = IsDevice other
+
+abbrev pub Refuses : Step → Refusal → Type 0
+Refuses (Test why) r = why ≡ Some r
+Refuses (Asks why) r = r ≡ why
+Refuses Draw r = ⊥
+Refuses (Disk may) r = IsDeviceIn may r
+Refuses (Force comes) r = (comes ≡ true) × IsLoss r
+Refuses LookUp r = IsLookUp r
+Refuses Fetch r = IsFetch r
+Refuses Data r = IsData r
+
+-- a test that refuses nothing; of any other step nothing is known here
+abbrev pub Passes : Step → Type 0
+Passes (Test why) = why ≡ None
+Passes step = ⊤
+
+-- a step refuses so, and none before it
+abbrev pub Comes : List Step → Refusal → Type 0
+Comes [] r = ⊥
+Comes (step ∷ steps) r = Refuses step r ⊎ (Passes step × Comes steps r)
+
+-- no test refuses
+abbrev pub Through : List Step → Type 0
+Through [] = ⊤
+Through (step ∷ steps) = Passes step × Through steps
+
+abbrev pub Follows : {T : Type 0} → List Step → Result T Refusal → Type 0
+Follows steps result = MatchResult result (λ x. Through steps) (λ r. Comes steps r)
+
+-- a test ends the call before it draws a serial or calls the machine, or there is nothing to do
+abbrev pub is_idle : List Step → Bool
+is_idle [] = true
+is_idle (Test (Some why) ∷ steps) = true
+is_idle (Test None ∷ steps) = is_idle steps
+is_idle (Force false ∷ steps) = is_idle steps
+is_idle (step ∷ steps) = false
+
+-- ---- what a refusal keeps
+
+-- the next serial is drawn
+abbrev pub with_drawn : State → State
+with_drawn s = record s { serial = record { epoch = s.serial.epoch; count = suc s.serial.count } }
+
+abbrev pub IsDownBy : Refusal → State → State → Type 0
+IsDownBy (Why.Device s) old new = IsDownAt s old new
+IsDownBy (Why.Lost a b) old new = IsDownAt a old new
+IsDownBy why old new = ⊥
+
+-- The volume came to these steps so, and one of them refused: it is as it was at that step, which a serial drawn and a force that
+-- ended before it have changed; or it is down, where a force has failed.
+abbrev pub Keeps : List Step → Refusal → (at new : State) → Type 0
+Keeps [] r at new = ⊥
+Keeps (Draw ∷ steps) r at new = Keeps steps r (with_drawn at) new
+Keeps (Force true ∷ steps) r at new = IsDownBy r at new ⊎ ((next : State) × IsForced at next × Keeps steps r next new)
+Keeps (step ∷ steps) r at new = (Refuses step r × (new ≡ at)) ⊎ (Passes step × Keeps steps r at new)
+
+-- ---- the tests
+
+module _ (s : State) where
+  abbrev pub down : Step
+  down = Test (option_map Why.Down s.down)
+
+  abbrev pub worn : Step
+  worn = Test (if is_worn s then Some Why.WornOut else None)
+
+  abbrev pub keep_size : ℕ → Step
+  keep_size keep = Test (if nat_lt max_keep keep then Some (Why.KeepTooLarge keep) else None)
+
+  -- the runs to choose from, once a force has ended where one comes
+  abbrev pub runs_at : ℕ → List Run
+  runs_at need = if forces_for_place s need then s.freed else s.free
+
+  abbrev pub no_place_in : List Run → ℕ → Refusal
+  no_place_in runs need = if nat_lt (total runs) need then Why.NoSpace need (total runs) else Why.TooFragmented need (best runs)
+
+  abbrev pub place : ℕ → Step
+  place need = Test (if is_none (place_in s need) then Some (no_place_in (runs_at need) need) else None)
+
+  abbrev pub table_full : Step
+  table_full = Test (if nat_lt (length s.free_pages) least_pages then Some (Why.NameTableFull (length s.free_pages)) else None)
+
+  abbrev pub by_itself : Step
+  by_itself = Force (forces_first s)
+
+  -- ---- the calls
+
+  -- no page waits behind the force that a place asks for
+  abbrev pub put_steps : Option ℕ → ℕ → List Step
+  put_steps keep len = let need = sectors_for len in
+      down ∷ Test (size_fault (keep_given keep) len) ∷ worn ∷ Force (forces_for_place s need) ∷ place need ∷ Draw ∷ Disk (in_place (place_in s need))
+      ∷ Force (forces_first s && not (forces_for_place s need)) ∷ LookUp ∷ Asks Why.VersionsUsedUp ∷ table_full ∷ Fetch ∷ []
+
+  abbrev pub delete_steps : List Step
+  delete_steps = down ∷ worn ∷ by_itself ∷ LookUp ∷ Asks Why.NoSuch ∷ []
+
+  abbrev pub keep_steps : ℕ → List Step
+  keep_steps keep = down ∷ keep_size keep ∷ worn ∷ by_itself ∷ LookUp ∷ Asks Why.NoSuch ∷ []
+
+  abbrev pub entry_steps : List Step
+  entry_steps = down ∷ LookUp ∷ Asks Why.NoSuch ∷ []
+
+  abbrev pub next_steps : List Step
+  next_steps = down ∷ LookUp ∷ []
+
+  abbrev pub read_steps : List Step
+  read_steps = down ∷ LookUp ∷ Asks Why.NoSuch ∷ Data ∷ []
+
+  -- a force comes only where a page waits
+  abbrev pub force_steps : List Step
+  force_steps = down ∷ Force (nat_lt 0 (length s.dirty)) ∷ []

@@ -1,0 +1,221 @@
+-- A volume as its caller knows it: what it tells over any machine, and what it is where the machine kept to its promise.
+use Rattle.std.specs.Prelude.{◌≡◌, ◌⊎◌, ⊤, ℕ, suc, ◌+◌, ◌-◌, ◌*◌, ◌^◌, ◌≤◌, Bool, false, true, not, ◌&&◌, ◌||◌, List, [], ◌∷◌, length, take, Option, Some, None, IsSome, Result, Ok, Err, IsTrue, IsFalse, is_none, nat_le, nat_lt, ◌==◌, if◌then◌else◌, count_by}
+use Rattle.std.specs.List.{range_with_len}
+use Rattle.fsd_bytes.specs.declared.key.Serial.{Serial}
+use Rattle.fsd_bytes.specs.declared.refusal.Refusal.{Refusal}
+use Rattle.fsd_bytes.specs.declared.refusal.Refusal.TheVariants as Why
+use Rattle.volume_layout.specs.declared.layout.Layout.{Layout}
+use Rattle.volume_layout.specs.Layout.{data_start, home_a}
+use Rattle.run_table.specs.declared.run.Run.{Run}
+use Rattle.run_table.specs.RunTable.{sectors_of}
+use Rattle.run_table.specs.Space.{contains, pick, where_free}
+use Rattle.fsd_formats.specs.declared.anchor.Anchor.{Anchor}
+use Rattle.fsd_formats.specs.Record.{record_len}
+use Rattle.sector_disk.specs.declared.sector.WeakRun.{WeakRun}
+use Rattle.sector_disk.specs.Image.{sector_at, open_damage, IsWorn}
+use Rattle.sector_disk.specs.Machine.{Moment, Ledger}
+use Rattle.fsd_log.specs.Scan.{Head, Placed, start}
+use Rattle.fsd_files.specs.Disk.{Sectors, SectorWorn}
+use Rattle.fsd_files.specs.Files.{Change}
+use Rattle.fsd_files.specs.Volume.{Volume, forced, free_runs, pages_free, waits}
+use Rattle.fsd_sound.specs.Anchors.{fresh_anchor}
+use Rattle.fsd_sound.specs.Mounted.{Mounted, IsMounted, most_waiting}
+use Rattle.fsd_sound.specs.Shown.{records_by}
+use Rattle.fsd_sound.specs.Sound.{EndIn, IsSound, is_home}
+use Rattle.fsd_runs.specs.Runs.{last_count}
+
+-- ---- over any machine
+
+-- The layout, the serial that the next creation draws, the log's anchor, records and end, the pages that wait for a force, the free
+-- runs now and once a force has ended, the sectors that wait, whether some of them wait for a force, the free name pages, the number
+-- of versions, and the place of the force that failed.
+pub record State : Type 0 where
+  pub layout : Layout
+  pub serial : Serial
+  pub anchor : Anchor
+  pub head : Head
+  pub records : List Placed
+  pub dirty : List ℕ
+  pub free : List Run
+  pub freed : List Run
+  pub waiting : List ℕ
+  pub waits : Bool
+  pub free_pages : List ℕ
+  pub versions : ℕ
+  pub down : Option ℕ
+
+-- serials or record numbers are used up
+abbrev pub is_worn : State → Bool
+is_worn s = nat_le last_count s.serial.count || nat_le last_count s.head.number
+
+-- a change forces first where many pages wait
+abbrev pub forces_first : State → Bool
+forces_first s = nat_lt most_waiting (length s.dirty)
+
+-- a put forces where it finds no place and a sector waits for a force
+abbrev pub forces_for_place : State → ℕ → Bool
+forces_for_place s need = is_none (pick s.free need) && s.waits
+
+-- Of a mount: the log is empty and its epoch that of the serials, which are numbered from 1; nothing waits.
+pub record IsNew (s : State) : Type 0 where
+  pub anchor : s.anchor ≡ fresh_anchor s.serial.epoch
+  pub head : s.head ≡ start s.layout 1
+  pub records : s.records ≡ []
+  pub count : s.serial.count ≡ 1
+  pub dirty : s.dirty ≡ []
+  pub waiting : s.waiting ≡ []
+  pub waits : s.waits ≡ false
+  pub freed : s.freed ≡ s.free
+  pub up : s.down ≡ None
+
+-- where a refusal may leave a volume down, and the place that it tells then
+abbrev pub downs_for : Refusal → Option ℕ
+downs_for (Why.Device s) = Some s
+downs_for (Why.Lost a b) = Some a
+downs_for other = None
+
+abbrev pub downs : {T : Type 0} → Result T Refusal → Option ℕ
+downs (Ok x) = None
+downs (Err why) = downs_for why
+
+-- What a call keeps of a volume: it is down where it was, or where a force has failed at this place.
+pub record GoesOn (place : Option ℕ) (old new : State) : Type 0 where
+  pub layout : new.layout ≡ old.layout
+  pub epoch : new.serial.epoch ≡ old.serial.epoch
+  pub down : (new.down ≡ old.down) ⊎ (IsSome place × (new.down ≡ place))
+
+-- ---- forces
+
+-- the record that a force numbers: none where no page waits
+abbrev pub numbered : State → ℕ
+numbered s = if length s.dirty == 0 then s.head.number else suc s.head.number
+
+-- a force has ended, with its log here: nothing waits for one, and what did is free
+abbrev pub forced_state : State → (anchor : Anchor) → (head : Head) → (records : List Placed) → (waiting : List ℕ) → State
+forced_state s anchor head records waiting = record s { anchor = anchor; head = head; records = records; dirty = []; free = s.freed; waiting = waiting; waits = false }
+
+-- A force has ended: it has numbered one record, and none where no page waited.
+pub record IsForced (old new : State) : Type 0 where
+  pub is : new ≡ forced_state old new.anchor new.head new.records new.waiting
+  pub number : new.head.number ≡ numbered old
+  pub idle : old.dirty ≡ [] → new ≡ old
+
+-- A force has failed: it is down with that place, its log left where it failed, and all else as it was.
+pub record IsDownAt (place : ℕ) (old new : State) : Type 0 where
+  pub is : new ≡ record old { anchor = new.anchor; head = new.head; records = new.records; down = Some place }
+
+-- What a call that has answered Ok has drawn and numbered: a serial, where it makes a version; a record, where a force came.
+pub record HasCounted (draws forces : Bool) (old new : State) : Type 0 where
+  pub count : new.serial.count ≡ (if draws then suc old.serial.count else old.serial.count)
+  pub number : new.head.number ≡ (if forces then numbered old else old.head.number)
+
+-- ---- sectors that a call writes
+
+-- a page's last record among these lies in the log's first third
+abbrev pub last_in_first : ℕ → Bool → List Placed → ℕ → Bool
+last_in_first third found [] page = found
+last_in_first third found (r ∷ records) page = last_in_first third (if contains r.entry.pages page then nat_lt r.at third else found) records page
+
+-- how many pages have to go home before the first third is entered again
+abbrev pub homed : State → ℕ
+homed s = count_by (last_in_first s.layout.third false s.records) (range_with_len 0 s.layout.pages)
+
+-- the next record would be laid in the anchor's first third
+abbrev pub enters_again : State → Bool
+enters_again s = nat_lt s.head.end (s.head.at + record_len (length s.dirty)) && nat_le (3 * s.layout.third) s.head.end
+
+abbrev pub force_len : State → ℕ
+force_len s = if length s.dirty == 0 then 0 else record_len (length s.dirty) + (if enters_again s then 2 * homed s + 2 else 0)
+
+-- with a force on the way, where one comes
+abbrev pub change_len : State → ℕ
+change_len s = if forces_first s then force_len s else 0
+
+-- a put's leader and data beside it
+abbrev pub put_len : State → (need : ℕ) → ℕ
+put_len s need = need + (if forces_for_place s need || forces_first s then force_len s else 0)
+
+-- so many sectors are counted as written, where the call answers Ok, and no more where it doesn't
+abbrev pub Counted : {T E : Type 0} → Result T E → ℕ → Ledger → Ledger → Type 0
+Counted (Ok x) n old new = new.written ≡ old.written + n
+Counted (Err why) n old new = (old.written ≤ new.written) × (new.written ≤ old.written + n)
+
+-- ---- over an honest machine
+
+-- What stands: the volume with what it has in memory, the windows so far, and the changes so far.
+pub record Known : Type 0 where
+  pub mounted : Mounted
+  pub windows : List WeakRun
+  pub changes : List Change
+
+abbrev pub volume_of : Known → Volume
+volume_of k = k.mounted.volume
+
+-- how many of the changes are forced
+abbrev pub forced_of : Known → ℕ
+forced_of k = length k.changes - k.mounted.volume.unforced
+
+-- What the volume tells is of this one, and it isn't down.
+pub record Fits (s : State) (m : Mounted) : Type 0 where
+  pub layout : m.volume.layout ≡ s.layout
+  pub serial : m.volume.serial ≡ s.serial
+  pub anchor : m.anchor ≡ s.anchor
+  pub head : m.head ≡ s.head
+  pub dirty : m.dirty ≡ s.dirty
+  pub free : free_runs m.volume ≡ s.free
+  pub freed : free_runs (forced m.volume) ≡ s.freed
+  pub waiting : where_free (waits m.volume) (data_start m.volume.layout) m.volume.layout.sectors ≡ s.waiting
+  pub waits : not (length m.volume.removed == 0) ≡ s.waits
+  pub pages_free : pages_free m.volume ≡ length s.free_pages
+  pub versions : length m.volume.files ≡ s.versions
+  pub up : s.down ≡ None
+
+-- The volume is mounted on the disk of this moment, and its records are those that the disk's log has.
+pub record Stands {S : Type 0} (state : S → State) (has : S → Mounted → Type 0) (s : S) (k : Known) (now : Moment) : Type 0 where
+  pub fits : Fits (state s) k.mounted
+  pub holds : has s k.mounted
+  pub ends : EndIn now.windows k.windows
+  pub disk : IsMounted k.mounted k.windows k.changes (forced_of k) now.image
+  pub records : records_by k.mounted.volume.layout now.image k.mounted.anchor ≡ (state s).records
+
+-- The disk is worn since, in the same windows; what is said may differ.
+pub record Ages (old new : Moment) : Type 0 where
+  pub image : IsWorn (open_damage old.windows) old.image new.image
+  pub windows : new.windows ≡ old.windows
+
+-- ---- what a stop leaves
+
+-- whether a force writes there: the anchors, the log, the homes
+abbrev pub force_writes : Layout → Sectors
+force_writes l s = (s == 8) || (s == 12) || nat_le 16 s && nat_lt s (home_a l 0) || is_home l s
+
+-- Nothing was written but where the test says; what else is not as it was is worn.
+pub record Touches (may : Sectors) (old left : Moment) : Type 0 where
+  pub size : length left.image ≡ length old.image
+  pub others : (s : ℕ) → IsFalse (may s) → SectorWorn (open_damage old.windows s) (sector_at old.image s) (sector_at left.image s)
+
+-- The disk is sound for the changes of before, with all that were forced before: a call forces no change of its own.
+pub record LeavesSound (k : Known) (may : Sectors) (old left : Moment) : Type 0 where
+  pub sound : IsSound k.mounted.volume.layout k.windows k.changes (forced_of k) left.image
+  pub windows : left.windows ≡ old.windows
+  pub said : left.said ≡ old.said
+  pub touches : Touches may old left
+
+-- what a stop leaves of a call over a mounted volume that writes only there
+abbrev pub Leaves : {S : Type 0} → (state : S → State) → (has : S → Mounted → Type 0) → S → Sectors → Moment → Moment → Type 0
+Leaves state has s may old left = (k : Known) → Stands state has s k old → LeavesSound k may old left
+
+-- the runs that a put takes: those that are picked now, or once a force has ended
+abbrev pub or_freed : State → ℕ → Option (List Run) → Option (List Run)
+or_freed s need (Some runs) = Some runs
+or_freed s need None = if s.waits then pick s.freed need else None
+
+abbrev pub place_in : State → ℕ → Option (List Run)
+place_in s need = or_freed s need (pick s.free need)
+
+abbrev pub in_place : Option (List Run) → Sectors
+in_place None s = false
+in_place (Some runs) s = contains (sectors_of runs) s
+
+abbrev pub put_writes : State → ℕ → Sectors
+put_writes s need t = force_writes s.layout t || in_place (place_in s need) t

@@ -1,0 +1,220 @@
+//! A volume as its callers see it.
+ghost use Rattle.std.specs.Prelude.{◌≡◌, ◌≤◌, ◌||◌, ℕ, List, Option, length, true, false, Some, Ok, IfOk, IfErr, IsTrue, MatchResult, option_map};
+ghost use Rattle.volume_layout.specs.declared.layout.Layout.{Layout as Plan};
+ghost use Rattle.volume_layout.specs.Layout.{plan};
+ghost use Rattle.sector_disk.specs.declared.sector.WeakRun.{WeakRun as Run};
+ghost use Rattle.sector_disk.specs.Image.{AreShort, IsCalm};
+ghost use Rattle.sector_disk.specs.Calls.{OnlyReads, WritesDisk, device_in};
+ghost use Rattle.sector_disk.specs.Machine.{Moment, LeavesOnly};
+ghost use Rattle.std.specs.FinMap.{find as file_of};
+ghost use Rattle.run_table.specs.RunTable.{total};
+ghost use Rattle.fsd_bytes.specs.Keys.{key_cmp};
+ghost use Rattle.fsd_formats.specs.NamePage.{sectors_for};
+ghost use Rattle.fsd_files.specs.Files.{Change};
+ghost use Rattle.fsd_files.specs.Replies.{Forced as IsForced, Deleted};
+ghost use Rattle.fsd_files.specs.Answers.{entry_of, entry_reply, next_reply, put_outcome, delete_outcome, keep_outcome, force_outcome};
+ghost use Rattle.fsd_sound.specs.Mounted.{Mounted, image_at};
+ghost use Rattle.mount_recover.specs.Lost.{AreCopiesOn, LostIn};
+ghost use Rattle.volume_contract.specs.State.{State, Known, Ages, volume_of, Stands, IsNew, GoesOn, HasCounted, IsForced as HasForced, Counted, downs, Leaves, force_writes, put_writes, force_len, change_len, put_len, forces_first, forces_for_place};
+ghost use Rattle.volume_contract.specs.Order.{Follows, IsDevice, Keeps, is_idle, put_steps, delete_steps, keep_steps, entry_steps, next_steps, read_steps, force_steps};
+ghost use Rattle.volume_contract.specs.Ends.{Ends, EndsPut, EndsForce, Closes, Looks, IsLater, found_one, Reads, kept_key, device_of};
+ghost use Rattle.volume_contract.specs.Causes.{Causes};
+ghost use Rattle.volume_contract.specs.Mount.{MountsDisk, CountsMount, IsFound, IsRefused, KeepsAll, MountKeeps, UnsoundFor, MountsCalm, IsSoundAt, MountsSound, device_of_mount};
+
+use fsd_bytes::{FileName, Key, Refusal};
+use fsd_formats::Entry;
+use mount_recover::MountFault;
+use sector_disk::Machine;
+use std::alloc::Global;
+
+/// How many pages a force has committed.
+#[derive(Clone, Copy, Debug, PartialEq, Eq)]
+pub struct Forced {
+    pub pages: u32,
+}
+
+/// What a volume counts.
+#[derive(Clone, Copy, Debug, PartialEq, Eq)]
+pub struct Stat {
+    pub sectors: u32,
+    pub free: u32,
+    pub waiting: u32,
+    pub pages_free: u32,
+    pub versions: u32,
+}
+
+/// A mounted volume. A call of a volume that is down does nothing: it answers Down.
+pub trait Files<M: Machine>: Sized {
+    /// What it tells over any machine.
+    ghost state: { Self → State };
+
+    /// The pages that are in memory.
+    ghost resident: { Self → ℕ → Option (List ℕ) };
+
+    /// What it has in memory is of this one.
+    ghost holds: { Self → Mounted → Type 0 };
+
+    /// Mounts the volume of an image with so many sectors.
+    fn mount(alloc: Global, m: &mut M, sectors: u32) -> Result<Self, MountFault>
+        requires { sectors ≡ (M.report m.old).sectors }
+
+        ensures disk { MountsDisk M.Machine (device_in device_of_mount result) m.old m.new }
+        ensures room { IfOk result (λ volume. (state volume).layout.sectors ≤ sectors) }
+        ensures planned { IfOk result (λ volume. let l = (state volume).layout in plan l.sectors l.third l.pages ≡ Ok l) }
+        ensures fresh { IfOk result (λ volume. IsNew (state volume)) }
+        ensures counted { IfOk result (λ volume. M.tells m.new → CountsMount (state volume) (M.ledger m.old) (M.ledger m.new)) }
+
+        // Each answer but a fault of the disk and want of memory says what the image was, as it was seen.
+        ensures found { IfOk result (λ volume. M.honest m.new → IsFound sectors (state volume) (M.now m.old)) }
+        ensures refused { IfErr result (λ fault. M.honest m.new → IsRefused sectors fault (M.now m.old)) }
+        ensures unchanged { IfErr result (λ fault. M.honest m.new → KeepsAll fault (M.now m.old) (M.now m.new)) }
+        ensures rest { M.honest m.new → MountKeeps sectors (M.now m.old) (M.now m.new) }
+        ensures lost { IfErr result (λ fault. M.honest m.new → LostIn (AreCopiesOn sectors (M.now m.old)) (M.now m.new).image fault) }
+        ensures unsound { IfErr result (λ fault. M.honest m.new → UnsoundFor sectors (M.now m.old) (M.now m.new) fault) }
+
+        // Where nothing wears, an image is mounted as it shows its table, and refused for it exactly where a page breaks.
+        ensures calm { M.honest m.new → IsCalm (M.now m.old).windows → IsCalm (M.now m.new).windows → MountsCalm state holds sectors (M.now m.old).image result }
+
+        // A sound disk stays sound at each moment, and its files after a prefix of the changes, with every forced one, are mounted.
+        ensures sound { M.honest m.new → (l : Plan) (windows : List Run) (h : List Change) (f : ℕ) → IsSoundAt sectors l windows h f (M.now m.old) →
+            MountsSound state holds l windows h f (LeavesOnly M.moment M.left_since m.old m.new) (M.now m.old) (M.now m.new) result };
+
+    /// Makes a version with these bytes.
+    fn put(
+        &mut self,
+        m: &mut M,
+        name: &FileName,
+        keep: Option<u32>,
+        bytes: &[u8],
+    ) -> Result<Key, Refusal>
+        requires { (state self.old).layout.sectors ≤ (M.report m.old).sectors }
+        ensures order { Follows (put_steps (state self.old) keep (length bytes.now)) result }
+        ensures disk { let may = put_writes (state self.old) (sectors_for (length bytes.now)) in
+            WritesDisk M.Machine (device_in device_of result) (Leaves state holds self.old may) m.old m.new }
+        ensures counted { M.tells m.new → Counted result (put_len (state self.old) (sectors_for (length bytes.now))) (M.ledger m.old) (M.ledger m.new) }
+        ensures state { GoesOn (downs result) (state self.old) (state self.new) }
+        ensures idle { IsTrue (is_idle (put_steps (state self.old) keep (length bytes.now))) → m.new ≡ m.old }
+        ensures kept { let s = state self.old in
+            MatchResult result (λ key. HasCounted true (forces_for_place s (sectors_for (length bytes.now)) || forces_first s) s (state self.new))
+            (λ why. Keeps (put_steps s keep (length bytes.now)) why s (state self.new)) }
+        ensures causes { Causes M.Machine (resident self.old) (state self.old) (state self.new) m.old m.new result }
+        ensures done { M.honest m.new → (k : Known) → Stands state holds self.old k (M.now m.old) →
+            EndsPut state holds (λ met. put_outcome met (volume_of k) name.now bytes.now keep) bytes.now (Change.Put name.now keep bytes.now) k self.new (M.now m.new) result };
+
+    /// Takes a version out.
+    fn delete(&mut self, m: &mut M, key: &Key) -> Result<(), Refusal>
+        requires { (state self.old).layout.sectors ≤ (M.report m.old).sectors }
+        ensures order { Follows (delete_steps (state self.old)) result }
+        ensures disk { WritesDisk M.Machine (device_in device_of result) (Leaves state holds self.old (force_writes (state self.old).layout)) m.old m.new }
+        ensures counted { M.tells m.new → Counted result (change_len (state self.old)) (M.ledger m.old) (M.ledger m.new) }
+        ensures state { GoesOn (downs result) (state self.old) (state self.new) }
+        ensures idle { IsTrue (is_idle (delete_steps (state self.old))) → m.new ≡ m.old }
+        ensures kept { let s = state self.old in MatchResult result (λ x. HasCounted false (forces_first s) s (state self.new)) (λ why. Keeps (delete_steps s) why s (state self.new)) }
+        ensures causes { Causes M.Machine (resident self.old) (state self.old) (state self.new) m.old m.new result }
+        ensures done { M.honest m.new → (k : Known) → Stands state holds self.old k (M.now m.old) →
+            Ends state holds (λ met. delete_outcome met (volume_of k) key.now) (λ x. Deleted key.now) (Change.Delete key.now) k self.new (M.now m.new) result };
+
+    /// Sets the keep of a name's highest version, and answers its key.
+    fn set_keep(&mut self, m: &mut M, name: &FileName, keep: u32) -> Result<Key, Refusal>
+        requires { (state self.old).layout.sectors ≤ (M.report m.old).sectors }
+        ensures order { Follows (keep_steps (state self.old) keep) result }
+        ensures disk { WritesDisk M.Machine (device_in device_of result) (Leaves state holds self.old (force_writes (state self.old).layout)) m.old m.new }
+        ensures counted { M.tells m.new → Counted result (change_len (state self.old)) (M.ledger m.old) (M.ledger m.new) }
+        ensures state { GoesOn (downs result) (state self.old) (state self.new) }
+        ensures idle { IsTrue (is_idle (keep_steps (state self.old) keep)) → m.new ≡ m.old }
+        ensures kept { let s = state self.old in MatchResult result (λ x. HasCounted false (forces_first s) s (state self.new)) (λ why. Keeps (keep_steps s keep) why s (state self.new)) }
+        ensures causes { Causes M.Machine (resident self.old) (state self.old) (state self.new) m.old m.new result }
+        ensures done { M.honest m.new → (k : Known) → Stands state holds self.old k (M.now m.old) →
+            Ends state holds (λ met. keep_outcome met (volume_of k) name.now keep) (kept_key keep) (Change.SetKeep name.now keep) k self.new (M.now m.new) result };
+
+    /// The entry of a version.
+    fn entry(&mut self, m: &mut M, key: &Key) -> Result<Entry, Refusal>
+        requires { (state self.old).layout.sectors ≤ (M.report m.old).sectors }
+        ensures order { Follows (entry_steps (state self.old)) result }
+        ensures disk { OnlyReads M.Machine (device_in device_of result) m.old m.new }
+        ensures state { state self.new ≡ state self.old }
+        ensures idle { IsTrue (is_idle (entry_steps (state self.old))) → m.new ≡ m.old }
+        ensures stands { M.honest m.new → (k : Known) → Stands state holds self.old k (M.now m.old) → Stands state holds self.new k (M.now m.new) }
+        ensures causes { Causes M.Machine (resident self.old) (state self.old) (state self.new) m.old m.new result }
+        ensures done { M.honest m.new → (k : Known) → Stands state holds self.old k (M.now m.old) → Looks (entry_reply (volume_of k) key.now) (found_one result) };
+
+    /// The entry of the version with the least later key, if there is one.
+    fn next_after(&mut self, m: &mut M, after: Option<&Key>) -> Result<Option<Entry>, Refusal>
+        requires { (state self.old).layout.sectors ≤ (M.report m.old).sectors }
+        ensures order { Follows (next_steps (state self.old)) result }
+        ensures disk { OnlyReads M.Machine (device_in device_of result) m.old m.new }
+        ensures state { state self.new ≡ state self.old }
+        ensures idle { IsTrue (is_idle (next_steps (state self.old))) → m.new ≡ m.old }
+        ensures later { IfOk result (IsLater (option_map (λ key. key.now) after.entry)) }
+        ensures stands { M.honest m.new → (k : Known) → Stands state holds self.old k (M.now m.old) → Stands state holds self.new k (M.now m.new) }
+        ensures causes { Causes M.Machine (resident self.old) (state self.old) (state self.new) m.old m.new result }
+        ensures done { M.honest m.new → (k : Known) → Stands state holds self.old k (M.now m.old) → Looks (next_reply (volume_of k) (option_map (λ key. key.now) after.entry)) result };
+
+    /// Reads bytes of a version from a place on, as many as there are and the buffer has room for.
+    fn read(&mut self, m: &mut M, key: &Key, from: u32, buf: &mut [u8]) -> Result<u32, Refusal>
+        requires { (state self.old).layout.sectors ≤ (M.report m.old).sectors }
+        ensures order { Follows (read_steps (state self.old)) result }
+        ensures disk { OnlyReads M.Machine (device_in device_of result) m.old m.new }
+        ensures state { state self.new ≡ state self.old }
+        ensures idle { IsTrue (is_idle (read_steps (state self.old))) → m.new ≡ m.old }
+        ensures most { IfOk result (λ count. count ≤ length buf.old) }
+        ensures stands { M.honest m.new → (k : Known) → Stands state holds self.old k (M.now m.old) → Stands state holds self.new k (M.now m.new) }
+        ensures causes { Causes M.Machine (resident self.old) (state self.old) (state self.new) m.old m.new result }
+        ensures done { M.honest m.new → (k : Known) → Stands state holds self.old k (M.now m.old) →
+            Reads (M.now m.old).image (M.now m.new).image (file_of key_cmp key.now (volume_of k).files) (entry_of key.now (volume_of k).entries) from buf.old buf.new result };
+
+    /// Commits all changes since the last force, where there were any. It takes no memory.
+    fn force(&mut self, m: &mut M) -> Result<Forced, Refusal>
+        requires { (state self.old).layout.sectors ≤ (M.report m.old).sectors }
+        ensures order { Follows (force_steps (state self.old)) result }
+        ensures disk { WritesDisk M.Machine (device_in device_of result) (Leaves state holds self.old (force_writes (state self.old).layout)) m.old m.new }
+        ensures counted { M.tells m.new → Counted result (force_len (state self.old)) (M.ledger m.old) (M.ledger m.new) }
+        ensures pages { IfOk result (λ forced. forced.pages ≡ length (state self.old).dirty) }
+        ensures state { GoesOn (downs result) (state self.old) (state self.new) }
+        ensures idle { IsTrue (is_idle (force_steps (state self.old))) → m.new ≡ m.old }
+        ensures kept { MatchResult result (λ x. HasForced (state self.old) (state self.new)) (λ why. Keeps (force_steps (state self.old)) why (state self.old) (state self.new)) }
+        ensures causes { Causes M.Machine (resident self.old) (state self.old) (state self.new) m.old m.new result }
+        ensures done { M.honest m.new → (k : Known) → Stands state holds self.old k (M.now m.old) →
+            EndsForce state holds (λ met. force_outcome (volume_of k)) IsForced k self.new (M.now m.new) result };
+
+    /// A force, as time goes on.
+    fn tick(&mut self, m: &mut M) -> Result<Forced, Refusal>
+        requires { (state self.old).layout.sectors ≤ (M.report m.old).sectors }
+        ensures order { Follows (force_steps (state self.old)) result }
+        ensures disk { WritesDisk M.Machine (device_in device_of result) (Leaves state holds self.old (force_writes (state self.old).layout)) m.old m.new }
+        ensures counted { M.tells m.new → Counted result (force_len (state self.old)) (M.ledger m.old) (M.ledger m.new) }
+        ensures pages { IfOk result (λ forced. forced.pages ≡ length (state self.old).dirty) }
+        ensures state { GoesOn (downs result) (state self.old) (state self.new) }
+        ensures idle { IsTrue (is_idle (force_steps (state self.old))) → m.new ≡ m.old }
+        ensures kept { MatchResult result (λ x. HasForced (state self.old) (state self.new)) (λ why. Keeps (force_steps (state self.old)) why (state self.old) (state self.new)) }
+        ensures causes { Causes M.Machine (resident self.old) (state self.old) (state self.new) m.old m.new result }
+        ensures done { M.honest m.new → (k : Known) → Stands state holds self.old k (M.now m.old) →
+            EndsForce state holds (λ met. force_outcome (volume_of k)) IsForced k self.new (M.now m.new) result }
+    {
+        self.force(m)
+    }
+
+    /// What it counts; a volume that is down counts too.
+    fn stat(&self) -> Stat
+        ensures size { result.sectors ≡ (state self.now).layout.sectors }
+        ensures free { result.free ≡ total (state self.now).free }
+        ensures waiting { result.waiting ≡ length (state self.now).waiting }
+        ensures pages_free { result.pages_free ≡ length (state self.now).free_pages }
+        ensures versions { result.versions ≡ (state self.now).versions };
+
+    /// Ends the use of a volume by a force.
+    fn close(self, m: &mut M) -> Result<(), Refusal>
+        requires { (state self).layout.sectors ≤ (M.report m.old).sectors }
+        ensures order { Follows (force_steps (state self)) result }
+        ensures disk { WritesDisk M.Machine (device_in device_of result) (Leaves state holds self (force_writes (state self).layout)) m.old m.new }
+        ensures counted { M.tells m.new → Counted result (force_len (state self)) (M.ledger m.old) (M.ledger m.new) }
+        ensures idle { IsTrue (is_idle (force_steps (state self))) → m.new ≡ m.old }
+        ensures causes { Causes M.Machine (resident self) (state self) (state self) m.old m.new result }
+        ensures done { M.honest m.new → (k : Known) → Stands state holds self k (M.now m.old) → MatchResult result (λ x. Closes k (M.now m.new).image) (λ why. IsDevice why) };
+
+    /// A volume that stands over a disk stands over it as it is worn by any call of the machine.
+    ghost wears: { (s : Self) (k : Known) (old new : Moment) → AreShort old.windows → Ages old new → Stands state holds s k old → Stands state holds s k new };
+
+    /// The pages in memory are those of what it has there.
+    ghost shows: { (s : Self) (mounted : Mounted) (page : ℕ) (bytes : List ℕ) → holds s mounted → resident s page ≡ Some bytes → image_at mounted.pages page ≡ bytes };
+}

@@ -1,0 +1,6 @@
+//! The contract of a volume, as its callers see it: the trait `Files`. Nothing here runs.
+#![tactic(auto)]
+
+mod files;
+
+pub use files::{Files, Forced, Stat};

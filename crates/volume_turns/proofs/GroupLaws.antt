@@ -1,0 +1,147 @@
+-- A group of commands, with the force behind it.
+use Rattle.std.proofs.Common.{◌≡◌, ◌⊎◌, inl, inr, ℕ, ◌+◌, ◌≤◌, Bool, true, false, List, [], ◌∷◌, ◌++◌, length, take, Option, Some, None, refl, sym, ◌∙◌, ap, subst, arith, append_assoc, length-append}
+use Rattle.std.specs.Prelude.{IsTrue, IfOk, Result, Ok, Err}
+use Rattle.std.proofs.lemmas.List.{append-nil, take_all}
+use Rattle.volume_layout.specs.declared.layout.Layout.{Layout}
+use Rattle.sector_disk.specs.declared.machine.Machine.{Ghosts}
+use Rattle.sector_disk.specs.declared.sector.WeakRun.{WeakRun}
+use Rattle.sector_disk.specs.Machine.{Moment, LeavesOnly}
+use Rattle.sector_disk.proofs.Moments.{then_on, leaves_more}
+use Rattle.fsd_files.specs.Answers.{Met}
+use Rattle.fsd_files.specs.Disk.{Image, Sectors, in_runs}
+use Rattle.fsd_files.specs.Files.{Change}
+use Rattle.fsd_files.specs.Volume.{Volume}
+use Rattle.fsd_files.specs.Replies.{Reply}
+use Rattle.fsd_sound.specs.Mounted.{Mounted, telling_of}
+use Rattle.fsd_sound.specs.Shown.{told}
+use Rattle.fsd_sound.specs.Sound.{IsSound}
+use Rattle.fsd_texts.specs.declared.command.Command.{Command}
+use Rattle.fsd_texts.specs.declared.fault.Fault.TheVariants as Ends
+use Rattle.fsd_runs.specs.Commands.{reply_text, answer}
+use Rattle.fsd_runs.specs.Errands.{Errand, Turn, forced_turn}
+use Rattle.fsd_runs.specs.Runs.{Goes, behind, changes_in, said_in, turns_begun}
+use Rattle.volume_turns.specs.declared.turns.End.{End}
+use Rattle.volume_turns.specs.declared.turns.End.TheVariants.{Fault as Stopped, Output}
+use Rattle.sector_disk.specs.Calls.{Since}
+use Rattle.volume_turns.specs.Group.{IsGroup, AllOrWorn, EndsGroup, LastIs, is_worn_end, unit_of}
+use Rattle.volume_turns.specs.Once.{ClosesAndSays, EndsClosed, InClose, IsDone, SaysClosed}
+use Rattle.volume_contract.specs.State.{State, Ages, Known, volume_of, forced_of, Stands}
+use Rattle.volume_turns.specs.Turns.{Behind, EndsAtOnce, EndsBy, InRun, Runs, RunsFrom, Said, StandsBehind}
+use Rattle.volume_turns.proofs.TurnLaws.{in_close}
+
+-- a list of turns with the one that says the force
+said_last : (turns : List Turn) → said_in (turns ++ forced_turn ∷ []) ≡ said_in turns ++ forced_turn.said
+said_last [] = append-nil forced_turn.said
+said_last (u ∷ turns) = ap (λ (x : List ℕ). u.said ++ x) (said_last turns) ∙ sym (append_assoc u.said (said_in turns) forced_turn.said)
+
+changes_last : (turns : List Turn) → changes_in (turns ++ forced_turn ∷ []) ≡ changes_in turns
+changes_last [] = refl
+changes_last (u ∷ turns) = ap (λ (x : List Change). u.changes ++ x) (changes_last turns)
+
+module _ (H : Sectors) (P Q : Moment → Type 0) (wider : (c : Moment) → P c → Q c) (L N : Volume → Image → Type 0) (last : (v : Volume) (i : Image) → L v i → N v i) (e : Errand) where
+  pub goes_wider : (said : List ℕ) (i : Image) (v : Volume) (mets : List Met) (commands : List Command) → Goes H P L e said i v mets commands → Goes H Q N e said i v mets commands
+  goes_wider said i v [] commands goes = last v i goes
+  goes_wider said i v (met ∷ mets) [] goes = absurd goes
+  goes_wider said i v (met ∷ mets) (command ∷ commands) goes = (
+    goes.0,
+    record {
+      kept = goes.1.kept;
+      tells = goes.1.tells;
+      unworn = goes.1.unworn;
+      exit = record { moment = goes.1.exit.moment; passed = wider goes.1.exit.moment goes.1.exit.passed; image = goes.1.exit.image; so_far = goes.1.exit.so_far };
+      may = goes.1.may;
+    },
+    goes_wider (said ++ e.says (answer met v command).0) goes.0 (answer met v command).1 mets commands goes.2,
+  )
+
+module _ {S D : Type 0} (state : S → State) (has : S → Mounted → Type 0) (M : Ghosts D) (e : Errand) (says : e.says ≡ reply_text) (k : Known) (from : Moment) (commands : List Command) (a m b : D) (w : S)
+    (since : Since M m b) (later : M.moment a ≤ M.moment m) where
+  module _ (run : Result (Unit {0}) End) (ran : RunsFrom state has M e k from commands a m w run) where
+    abbrev turns : List Turn
+    turns = turns_begun e ran.mets (volume_of k) commands
+
+    module _ (behind_it : StandsBehind state has e k ran.mets commands w (M.now a) (M.now m)) (result : Result Bool End) (closed : ClosesAndSays M behind_it.after (e.says Reply.Forced) m b (unit_of result)) where
+      text_is : e.says Reply.Forced ≡ forced_turn.said
+      text_is = ap (λ (f : Reply → List ℕ). f Reply.Forced) says
+
+      at_text : ClosesAndSays M behind_it.after forced_turn.said m b (unit_of result)
+      at_text = subst (λ (t : List ℕ). ClosesAndSays M behind_it.after t m b (unit_of result)) text_is closed
+
+      both : (more : List Turn) → LeavesOnly M.moment M.left_since a b (InRun k (turns ++ forced_turn ∷ more) (M.now a))
+      both more = then_on M.moment M.left_since a m b (InRun k (turns ++ forced_turn ∷ more) (M.now a)) (ran.moments (forced_turn ∷ more))
+          (leaves_more M.moment M.left_since m b (InClose behind_it.after forced_turn.said (M.now m)) (InRun k (turns ++ forced_turn ∷ more) (M.now a))
+          (λ left c. in_close k behind_it.after turns forced_turn more refl behind_it.layout behind_it.windows behind_it.changes behind_it.least behind_it.forced (M.now a) (M.now m) left behind_it.open_windows behind_it.said c) at_text.moments)
+
+      done : SaysClosed behind_it.after forced_turn.said (M.now m) (M.now b) → IsDone k (turns ++ forced_turn ∷ []) (behind ran.mets (volume_of k) commands) (M.now a) (M.now b)
+      done c =
+          let all : behind_it.after.changes ≡ k.changes ++ changes_in (turns ++ forced_turn ∷ []) = behind_it.changes ∙ ap (λ (h : List Change). k.changes ++ h) (sym (changes_last turns)) in
+          record {
+            windows = c.windows ∙ behind_it.open_windows;
+            said = c.said ∙ ap (λ (x : List ℕ). x ++ forced_turn.said) behind_it.said ∙ append_assoc (M.now a).said (said_in turns) forced_turn.said ∙ ap (λ (x : List ℕ). (M.now a).said ++ x) (sym (said_last turns));
+            sound = subst (λ (h : List Change). IsSound k.mounted.volume.layout k.windows h (length h) (M.now b).image) all
+                (subst (λ (x : List WeakRun). IsSound k.mounted.volume.layout x behind_it.after.changes (length behind_it.after.changes) (M.now b).image) behind_it.windows
+                (subst (λ (l : Layout). IsSound l behind_it.after.windows behind_it.after.changes (length behind_it.after.changes) (M.now b).image) behind_it.layout c.sound));
+            tells = subst (λ (l : Layout). told l (M.now b).image ≡ Some (telling_of (behind ran.mets (volume_of k) commands))) behind_it.layout (c.tells ∙ ap (λ (x : Volume). Some (telling_of x)) behind_it.is);
+          }
+
+      said_all : (M.now b).said ≡ (M.now m).said → Said turns (M.now a) (M.now b)
+      said_all same = record { whole = length turns; most = omega arith; said = same ∙ behind_it.said ∙ ap (λ (x : List Turn). (M.now a).said ++ said_in x) (sym (take_all (length turns) turns (omega arith))) }
+
+      ends_by : (r : Result Bool End) (all : Bool) → IfOk r (λ x. x ≡ all) → AllOrWorn all ran.mets commands → EndsClosed behind_it.after forced_turn.said (M.now m) (M.now b) (unit_of r) → EndsGroup e k ran.mets commands (M.now a) (M.now b) r
+      ends_by (Ok x) all same so c = (subst (λ (y : Bool). AllOrWorn y ran.mets commands) (sym same) so, done c)
+      ends_by (Err Output) all same so c = tt
+      ends_by (Err (Stopped fault)) all same so c = (c.0, said_all c.1)
+
+      pub group_done : (all : Bool) → IfOk result (λ x. x ≡ all) → AllOrWorn all ran.mets commands → ((v : Volume) (i : Image) → Behind run v i → LastIs result v i) → IsGroup M e k from commands a b result
+      group_done all same so last = record {
+        mets = ran.mets;
+        goes = λ t le. goes_wider (in_runs k.windows) (M.left_since m t) (M.left_since b t) (λ c was. since t c (omega (arith, le, later)) was) (Behind run) (LastIs result) last e (M.now a).said from.image (volume_of k) ran.mets commands (ran.goes t le);
+        moments = both;
+        ends = ends_by result all same so at_text.ends;
+      }
+
+worn_is : (end : End) → is_worn_end end ≡ true → end ≡ Stopped Ends.WornOut
+worn_is (Stopped Ends.WornOut) is = refl
+worn_is (Stopped fault) is = cc is
+worn_is Output is = cc is
+
+module _ {S D : Type 0} (state : S → State) (has : S → Mounted → Type 0) (M : Ghosts D) (e : Errand) (k : Known) (from : Moment) (commands : List Command) where
+  -- all were done
+  pub group_all : e.says ≡ reply_text → (a m b : D) (w : S) → Since M m b → M.moment a ≤ M.moment m → RunsFrom state has M e k from commands a m w (Ok tt) → (result : Result Bool End) → IfOk result (λ x. x ≡ true)
+      → ((x : Known) → Stands state has w x (M.now m) → ClosesAndSays M x (e.says Reply.Forced) m b (unit_of result)) → IsGroup M e k from commands a b result
+  group_all says a m b w since later ran result same closes =
+      group_done state has M e says k from commands a m b w since later (Ok tt) ran ran.ends.1 result (closes ran.ends.1.after ran.ends.1.stands) true same ran.ends.0 (λ v i is. last v i result same)
+    where
+      last : (v : Volume) (i : Image) (r : Result Bool End) → IfOk r (λ x. x ≡ true) → LastIs r v i
+      last v i (Ok true) is = tt
+      last v i (Ok false) is = cc is
+      last v i (Err x) is = tt
+
+  -- it was cut off
+  pub group_worn : e.says ≡ reply_text → (a m b : D) (w : S) → Since M m b → M.moment a ≤ M.moment m → (end : End) → is_worn_end end ≡ true → RunsFrom state has M e k from commands a m w (Err end) → (result : Result Bool End) → IfOk result (λ x. x ≡ false)
+      → ((x : Known) → Stands state has w x (M.now m) → ClosesAndSays M x (e.says Reply.Forced) m b (unit_of result)) → IsGroup M e k from commands a b result
+  group_worn says a m b w since later end worn given result same closes = by (subst (λ (x : End). RunsFrom state has M e k from commands a m w (Err x)) (worn_is end worn) given)
+    where
+      last : (v : Volume) (i : Image) (r : Result Bool End) → IfOk r (λ x. x ≡ false) → Behind (Err (Stopped Ends.WornOut)) v i → LastIs r v i
+      last v i (Ok true) is worn_out = tt
+      last v i (Ok false) is worn_out = worn_out
+      last v i (Err x) is worn_out = tt
+
+      by : RunsFrom state has M e k from commands a m w (Err (Stopped Ends.WornOut)) → IsGroup M e k from commands a b result
+      by ran = group_done state has M e says k from commands a m b w since later (Err (Stopped Ends.WornOut)) ran ran.ends.1 result (closes ran.ends.1.after ran.ends.1.stands) false same ran.ends.0 (λ v i is. last v i result same is)
+
+  -- it was broken off
+  pub group_stop : (a m : D) (w : S) (end : End) → is_worn_end end ≡ false → RunsFrom state has M e k from commands a m w (Err end) → IsGroup M e k from commands a m (Err end)
+  group_stop a m w (Stopped Ends.WornOut) other ran = cc other
+  group_stop a m w (Stopped why) other ran = record {
+    mets = ran.mets;
+    goes = λ t le. goes_wider (in_runs k.windows) (M.left_since m t) (M.left_since m t) (λ c was. was) (Behind (Err (Stopped why))) (LastIs (Err (Stopped why))) (λ v i is. tt) e (M.now a).said from.image (volume_of k) ran.mets commands (ran.goes t le);
+    moments = λ more. ran.moments (forced_turn ∷ more);
+    ends = ran.ends;
+  }
+  group_stop a m w Output other ran = record {
+    mets = ran.mets;
+    goes = λ t le. goes_wider (in_runs k.windows) (M.left_since m t) (M.left_since m t) (λ c was. was) (Behind (Err Output)) (LastIs (Err Output)) (λ v i is. tt) e (M.now a).said from.image (volume_of k) ran.mets commands (ran.goes t le);
+    moments = λ more. ran.moments (forced_turn ∷ more);
+    ends = tt;
+  }

@@ -1,0 +1,10 @@
+pub mod ListLaws
+pub mod OrderLaws
+pub mod StepLaws
+pub mod ReadLaws
+pub mod TurnLaws
+pub mod RunLaws
+pub mod OnceLaws
+pub mod MountLaws
+pub mod OneShotLaws
+pub mod GroupLaws

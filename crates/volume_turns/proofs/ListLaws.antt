@@ -1,0 +1,187 @@
+-- A list takes the entries in the order of their keys.
+use Rattle.std.proofs.Common.{◌≡◌, ◌⊎◌, inl, inr, ℕ, suc, ◌+◌, Bool, true, false, cond, List, [], ◌∷◌, ◌++◌, length, filter, Option, Some, None, Ordering, refl, sym, ◌∙◌, ap, subst, arith, append_assoc, length-append}
+use Rattle.std.specs.Prelude.{IsTrue, T, option_map, Result, Ok, Err}
+use Rattle.std.specs.List.{AllByRecursion, last_or}
+use Rattle.std.specs.FinMap.{is_sorted}
+use Rattle.std.specs.FinMap.Entries.{below_all}
+use Rattle.std.specs.Ordering.{is_lt, ordering_reverse}
+use Rattle.std.specs.declared.cmp.Ordering.TheVariants.{Less, Equal, Greater}
+use Rattle.std.proofs.lemmas.List.{append-nil}
+use Rattle.std.proofs.lemmas.Bool.{and_parts}
+use Rattle.fsd_bytes.specs.declared.key.Key.{Key}
+use Rattle.fsd_bytes.specs.declared.pattern.Pattern.{Pattern}
+use Rattle.fsd_bytes.specs.declared.refusal.Refusal.{Refusal}
+use Rattle.fsd_bytes.specs.declared.refusal.Refusal.TheVariants as Why
+use Rattle.fsd_bytes.specs.Keys.{fits, key_cmp, key_lt}
+use Rattle.fsd_formats.specs.declared.entry.Entry.{Entry}
+use Rattle.fsd_files.specs.Answers.{entry_after}
+use Rattle.fsd_files.specs.Files.{File, Files}
+use Rattle.fsd_files.specs.Kept.{Lists}
+use Rattle.fsd_files.specs.Replies.{Reply, Found}
+use Rattle.fsd_files.proofs.HistoryLaws.{after_in_order, keys_total}
+use Rattle.sector_disk.specs.Machine.{Moment}
+use Rattle.fsd_sound.specs.Mounted.{Mounted}
+use Rattle.volume_contract.specs.Ends.{Looks}
+use Rattle.volume_contract.specs.State.{State, Known, Stands, volume_of}
+use Rattle.volume_turns.specs.Listing.{AreListed, IsFromOutside, fitting, last_key}
+
+-- ---- the order of keys
+
+turned : (o : Ordering) → is_lt o ≡ true → is_lt (ordering_reverse o) ≡ false
+turned Less is = refl
+turned Equal is = refl
+turned Greater is = cc is
+
+not_back : (a b : Key) → key_lt a b ≡ true → key_lt b a ≡ false
+not_back a b is = ap is_lt (keys_total.antisymm b a) ∙ turned (key_cmp a b) is
+
+own_reverse : (o : Ordering) → o ≡ ordering_reverse o → is_lt o ≡ false
+own_reverse Less is = cc is
+own_reverse Equal is = refl
+own_reverse Greater is = refl
+
+not_itself : (a : Key) → key_lt a a ≡ false
+not_itself a = own_reverse (key_cmp a a) (keys_total.antisymm a a)
+
+-- ---- entries in order
+
+of_T : (b : Bool) → T b → b ≡ true
+of_T true is = refl
+of_T false is = absurd is
+
+-- each is of a lesser key than those behind it
+abbrev Ascend : List Entry → Type 0
+Ascend [] = Unit {0}
+Ascend (e ∷ entries) = AllByRecursion (λ x. key_lt e.key x.key ≡ true) entries × Ascend entries
+
+below_listed : (key : Key) (s : Files) (entries : List Entry) → Lists s entries → below_all key_cmp key s ≡ true → AllByRecursion (λ x. key_lt key x.key ≡ true) entries
+below_listed key [] [] lists below = tt
+below_listed key [] (e ∷ entries) lists below = absurd lists
+below_listed key (v ∷ s) [] lists below = absurd lists
+below_listed key (v ∷ s) (e ∷ entries) lists below =
+    let parts = and_parts (key_lt key v.0) (below_all key_cmp key s) below in
+    (ap (key_lt key) lists.0.key ∙ parts.0, below_listed key s entries lists.1 parts.1)
+
+ascend_listed : (s : Files) (entries : List Entry) → Lists s entries → is_sorted key_cmp s ≡ true → Ascend entries
+ascend_listed [] [] lists sorted = tt
+ascend_listed [] (e ∷ entries) lists sorted = absurd lists
+ascend_listed (v ∷ s) [] lists sorted = absurd lists
+ascend_listed (v ∷ s) (e ∷ entries) lists sorted =
+    let parts = and_parts (below_all key_cmp v.0 s) (is_sorted key_cmp s) sorted in
+    (below_listed e.key s entries lists.1 (ap (λ (k : Key). below_all key_cmp k s) lists.0.key ∙ parts.0), ascend_listed s entries lists.1 parts.1)
+
+-- ---- the one behind the last that was met
+
+abbrev last_from : Entry → List Entry → Entry
+last_from b [] = b
+last_from b (c ∷ cs) = last_from c cs
+
+last_is : (b : Entry) (bs : List Entry) → last_or (Some b) bs ≡ Some (last_from b bs)
+last_is b [] = refl
+last_is b (c ∷ cs) = last_is c cs
+
+all_last : (P : Entry → Type 0) (c : Entry) (cs rest : List Entry) → AllByRecursion P ((c ∷ cs) ++ rest) → P (last_from c cs)
+all_last P c [] rest all = all.0
+all_last P c (d ∷ ds) rest all = all_last P d ds rest all.1
+
+abbrev head_of : List Entry → Option Entry
+head_of [] = None
+head_of (r ∷ rest) = Some r
+
+head_after : (key : Key) (rest : List Entry) → AllByRecursion (λ x. key_lt key x.key ≡ true) rest → entry_after (Some key) rest ≡ head_of rest
+head_after key [] all = refl
+head_after key (r ∷ rest) all = ap (λ (b : Bool). cond b (Some r) (entry_after (Some key) rest)) all.0
+
+past : (key : Key) (b : Entry) (entries : List Entry) → key_lt key b.key ≡ false → entry_after (Some key) (b ∷ entries) ≡ entry_after (Some key) entries
+past key b entries is = ap (λ (x : Bool). cond x (Some b) (entry_after (Some key) entries)) is
+
+behind_last : (b : Entry) (bs rest : List Entry) → Ascend ((b ∷ bs) ++ rest) → entry_after (Some (last_from b bs).key) ((b ∷ bs) ++ rest) ≡ head_of rest
+behind_last b [] rest ascend = past b.key b rest (not_itself b.key) ∙ head_after b.key rest ascend.0
+behind_last b (c ∷ cs) rest ascend =
+    past (last_from c cs).key b ((c ∷ cs) ++ rest) (not_back b.key (last_from c cs).key (all_last (λ x. key_lt b.key x.key ≡ true) c cs rest ascend.0)) ∙ behind_last c cs rest ascend.1
+
+first_of_all : (rest : List Entry) → entry_after None rest ≡ head_of rest
+first_of_all [] = refl
+first_of_all (r ∷ rest) = refl
+
+behind_front : (front rest : List Entry) → Ascend (front ++ rest) → entry_after (last_key front) (front ++ rest) ≡ head_of rest
+behind_front [] rest ascend = first_of_all rest
+behind_front (b ∷ bs) rest ascend = ap (λ (o : Option Entry). entry_after (option_map (λ e. e.key) o) ((b ∷ bs) ++ rest)) (last_is b bs) ∙ behind_last b bs rest ascend
+
+-- ---- one entry more
+
+last_more : (front : List Entry) (o : Option Entry) (e : Entry) → last_or o (front ++ e ∷ []) ≡ Some e
+last_more [] o e = refl
+last_more (b ∷ bs) o e = last_more bs (Some b) e
+
+by_bool : (b : Bool) (e : Entry) (xs ys : List Entry) → cond b (e ∷ (xs ++ ys)) (xs ++ ys) ≡ cond b (e ∷ xs) xs ++ ys
+by_bool true e xs ys = refl
+by_bool false e xs ys = refl
+
+fitting_more : (pattern : Pattern) (front more : List Entry) → fitting pattern (front ++ more) ≡ fitting pattern front ++ fitting pattern more
+fitting_more pattern [] more = refl
+fitting_more pattern (b ∷ bs) more =
+    ap (λ (x : List Entry). cond (fits pattern b.key.name) (b ∷ x) x) (fitting_more pattern bs more) ∙ by_bool (fits pattern b.key.name) b (fitting pattern bs) (fitting pattern more)
+
+module _ (pattern : Pattern) (s : Files) (entries : List Entry) (lists : Lists s entries) (sorted : T (is_sorted key_cmp s)) where
+  module _ (count : ℕ) (last : Option Key) (listed : List Entry) (so_far : AreListed pattern entries count last listed) where
+    next_is : entry_after last entries ≡ head_of so_far.rest
+    next_is = ap (λ (o : Option Key). entry_after o entries) so_far.ends ∙ ap (λ (x : List Entry). entry_after (last_key so_far.front) x) so_far.all
+        ∙ behind_front so_far.front so_far.rest (subst Ascend so_far.all (ascend_listed s entries lists (of_T (is_sorted key_cmp s) sorted)))
+
+    some_rest : (rest : List Entry) (e : Entry) → head_of rest ≡ Some e → (more : List Entry) × (rest ≡ e ∷ more)
+    some_rest [] e is = absurd (cc is)
+    some_rest (r ∷ rest) e is = (rest, cc is)
+
+    none_rest : (rest : List Entry) → head_of rest ≡ None → rest ≡ []
+    none_rest [] is = refl
+    none_rest (r ∷ rest) is = absurd (cc is)
+
+    pub listed_more : (e : Entry) → Found (entry_after last entries) ≡ Found (Some e) → (key : Key) → key ≡ e.key → (now : List Entry) → now ≡ listed ++ fitting pattern (e ∷ []) → AreListed pattern entries (count + 1) (Some key) now
+    listed_more e looks key is now put =
+        let found : entry_after last entries ≡ Some e = cc looks in
+        let parts = some_rest so_far.rest e (sym next_is ∙ found) in
+        record {
+          front = so_far.front ++ e ∷ [];
+          rest = parts.0;
+          all = so_far.all ∙ ap (λ (x : List Entry). so_far.front ++ x) parts.1 ∙ sym (append_assoc so_far.front (e ∷ []) parts.0);
+          met = let sum = length-append so_far.front (e ∷ []) in let met = so_far.met in omega (arith, sum, met);
+          ends = ap (λ (k : Key). Some k) is ∙ sym (ap (λ (o : Option Entry). option_map (λ x. x.key) o) (last_more so_far.front None e));
+          fit = put ∙ ap (λ (x : List Entry). x ++ fitting pattern (e ∷ [])) so_far.fit ∙ sym (fitting_more pattern so_far.front (e ∷ []));
+        }
+
+    whole : so_far.rest ≡ [] → listed ≡ fitting pattern entries
+    whole none = so_far.fit ∙ ap (fitting pattern) (sym (so_far.all ∙ ap (λ (x : List Entry). so_far.front ++ x) none ∙ append-nil so_far.front))
+
+    -- none is left
+    pub listed_all : Found (entry_after last entries) ≡ Found None → listed ≡ fitting pattern entries
+    listed_all looks = let found : entry_after last entries ≡ None = cc looks in whole (none_rest so_far.rest (sym next_is ∙ found))
+
+    -- as many were met as there are
+    pub listed_counted : count ≡ length entries → listed ≡ fitting pattern entries
+    listed_counted is = whole (no_more so_far.rest (let sum = ap (λ (x : List Entry). length x) so_far.all in let both = length-append so_far.front so_far.rest in let met = so_far.met in omega (arith, is, sum, both, met)))
+      where
+        no_more : (rest : List Entry) → length rest ≡ 0 → rest ≡ []
+        no_more [] none = refl
+        no_more (r ∷ rest) none = absurd (cc none)
+
+-- the files of a volume that stands
+pub files_in_order : {S : Type 0} (state : S → State) (has : S → Mounted → Type 0) (v : S) (k : Known) (now : Moment) → Stands state has v k now → T (is_sorted key_cmp (volume_of k).files)
+files_in_order state has v k now stands = subst (λ (s : Files). T (is_sorted key_cmp s)) (sym stands.disk.files) (after_in_order k.changes)
+
+pub listed_none : (pattern : Pattern) (entries : List Entry) → AreListed pattern entries 0 None []
+listed_none pattern entries = record { front = []; rest = entries; all = refl; met = refl; ends = refl; fit = refl }
+
+pub lists_length : (s : Files) (entries : List Entry) → Lists s entries → length s ≡ length entries
+lists_length [] [] lists = refl
+lists_length [] (e ∷ entries) lists = absurd lists
+lists_length (v ∷ s) [] lists = absurd lists
+lists_length (v ∷ s) (e ∷ entries) lists = ap (λ (n : ℕ). suc n) (lists_length s entries lists.1)
+
+-- ---- what a look-up of the next one refuses
+
+pub outside_only : (reply : Option Entry) (why : Refusal) → (let r : Result (Option Entry) Refusal = Err why in Looks (Found reply) r) → IsFromOutside why
+outside_only reply (Why.Device s) looks = tt
+outside_only reply Why.Memory looks = tt
+outside_only reply Why.NoSuch looks = absurd (cc looks)
+outside_only reply why looks = absurd looks

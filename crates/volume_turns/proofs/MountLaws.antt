@@ -1,0 +1,195 @@
+-- One command from the mount on.
+use Rattle.std.proofs.Common.{◌≡◌, ◌⊎◌, inl, inr, ℕ, zero, suc, ◌+◌, ◌-◌, ◌≤◌, Bool, true, false, List, [], ◌∷◌, ◌++◌, length, take, Option, Some, None, refl, sym, ◌∙◌, ap, subst, arith, append_assoc, length-append}
+use Rattle.std.specs.Prelude.{IsTrue, Result, Ok, Err, slice_get, IfSome}
+use Rattle.std.specs.List.{list_any}
+use Rattle.std.proofs.lemmas.List.{append-nil, length-take}
+use Rattle.volume_layout.specs.declared.layout.Layout.{Layout}
+use Rattle.sector_disk.specs.declared.machine.Machine.{Ghosts}
+use Rattle.sector_disk.specs.declared.sector.WeakRun.{WeakRun}
+use Rattle.sector_disk.specs.Image.{Windows}
+use Rattle.sector_disk.specs.Machine.{Moment, LeavesOnly}
+use Rattle.sector_disk.proofs.Moments.{started, then_on, leaves_more}
+use Rattle.fsd_formats.specs.declared.anchor.Anchor.{Anchor}
+use Rattle.fsd_files.specs.Answers.{Met}
+use Rattle.fsd_files.specs.Disk.{Image, in_runs}
+use Rattle.fsd_files.specs.Files.{Change, Files, after}
+use Rattle.fsd_files.specs.Kept.{Describes}
+use Rattle.fsd_files.specs.Volume.{Volume}
+use Rattle.fsd_sound.specs.Anchors.{anchor_of, anchor_at}
+use Rattle.fsd_sound.specs.Mounted.{Mounted, IsMounted, telling_of}
+use Rattle.fsd_sound.specs.Shown.{told}
+use Rattle.fsd_sound.specs.Sound.{IsSound, IsPrefixOf}
+use Rattle.fsd_sound.proofs.MoreLaws.{sound_more}
+use Rattle.fsd_sound.proofs.MountedLaws.{fresh_mounted, mounted_tells, mounted_sound}
+use Rattle.fsd_texts.specs.declared.command.Command.{Command}
+use Rattle.fsd_texts.specs.declared.fault.Fault.TheVariants as Ends
+use Rattle.fsd_runs.specs.Errands.{Turn, alone}
+use Rattle.fsd_runs.specs.Leaves.{Left, LeftBefore, LeftSince, IsReplied, SaysFault}
+use Rattle.fsd_runs.specs.Runs.{Goes, Starts, Stood, Run, behind, changes_in, forced_in, run_end, run_status, run_turns, said_in, turns_of}
+use Rattle.fsd_runs.specs.declared.request.Request.TheVariants.{One}
+use Rattle.volume_turns.specs.declared.turns.End.{End}
+use Rattle.volume_turns.specs.declared.turns.End.TheVariants.{Fault as Stopped, Output}
+use Rattle.volume_turns.specs.declared.once.Stop.{Stop}
+use Rattle.volume_turns.specs.declared.once.Stop.TheVariants.{Unmounted, Ended}
+use Rattle.sector_disk.specs.Calls.{Since}
+use Rattle.volume_contract.specs.Mount.{SoundBefore, SoundSince, Settled}
+use Rattle.volume_turns.specs.Once.{Anything, EndsAlone, IsAlone, IsDone, OnceMounted, OnceEnds}
+use Rattle.volume_contract.specs.State.{Known, volume_of, forced_of}
+use Rattle.volume_turns.specs.Turns.{InRun, EndsAtOnce}
+use Rattle.volume_turns.proofs.TurnLaws.{newer_own, forced_none, says_nothing}
+
+-- the same, said of equals
+sound_to : (l l2 : Layout) (w w2 : List WeakRun) (h h2 : List Change) (f f2 : ℕ) (i : Image) → l ≡ l2 → w ≡ w2 → h ≡ h2 → f ≡ f2 → IsSound l w h f i → IsSound l2 w2 h2 f2 i
+sound_to l l2 w w2 h h2 f f2 i el ew eh ef sound =
+    subst (λ (x : Layout). IsSound x w2 h2 f2 i) el (subst (λ (x : List WeakRun). IsSound l x h2 f2 i) ew (subst (λ (x : List Change). IsSound l w x f2 i) eh (subst (λ (x : ℕ). IsSound l w h x i) ef sound)))
+
+pub nothing_said : SaysFault []
+nothing_said = (Ends.Memory, 0, tt, refl)
+
+module _ (l : Layout) (windows : List WeakRun) (h : List Change) (f n : ℕ) (prefix : IsPrefixOf h f n) (k : Known) (old mid : Moment) (s : Settled l windows h n k old mid) (quiet : mid.said ≡ old.said) where
+  pub taken : length (take n h) ≡ n
+  taken = let made = prefix.made in let long = length-take n h in omega (arith, made, long)
+
+  pub known_length : length k.changes ≡ n
+  known_length = ap (λ (x : List Change). length x) s.changes ∙ taken
+
+  known_forced : forced_of k ≡ n
+  known_forced = let all = known_length in let none = s.fresh.unforced in omega (arith, all, none)
+
+  -- ---- moments
+
+  pub before_left : (turns : List Turn) (left : Moment) → SoundBefore l windows h f old left → Left l windows h f n turns old left
+  before_left turns left x = inl (record { present = x.present; part = []; said = x.said ∙ sym (append-nil old.said); fault = nothing_said; sound = x.sound })
+
+  pub since_left : (turns : List Turn) (left : Moment) → SoundSince l windows h n old left → LeftSince l windows h n turns old left
+  since_left turns left x = record {
+    run = x.run;
+    present = x.present;
+    whole = 0;
+    part = [];
+    said = x.said ∙ sym (append-nil old.said);
+    next = says_nothing (slice_get turns 0);
+    forced = 0;
+    enough = omega arith;
+    sound = sound_to l l (windows ++ x.run ∷ []) (windows ++ x.run ∷ []) (take n h ++ changes_in (take 1 turns)) (take n h ++ changes_in (take 1 turns)) n (n + 0) left.image refl refl refl (omega arith)
+        (sound_more l (windows ++ x.run ∷ []) (take n h) (changes_in (take 1 turns)) n left.image x.sound);
+  }
+
+  pub run_left : (turns : List Turn) (left : Moment) → InRun k turns mid left → LeftSince l windows h n turns old left
+  run_left turns left r = record {
+    run = s.run;
+    present = ap (λ (w : Windows). w.present) (r.windows ∙ s.settled);
+    whole = r.whole;
+    part = r.part;
+    said = r.said ∙ ap (λ (x : List ℕ). x ++ (said_in (take r.whole turns) ++ r.part)) quiet;
+    next = r.next;
+    forced = r.forced - n;
+    enough = by (list_any (λ t. t.forces) (take r.whole turns)) refl;
+    sound = sound_to k.mounted.volume.layout l k.windows (windows ++ s.run ∷ []) (k.changes ++ changes_in (take (suc r.whole) turns)) (take n h ++ changes_in (take (suc r.whole) turns)) r.forced (n + (r.forced - n)) left.image
+        s.layout s.known (ap (λ (x : List Change). x ++ changes_in (take (suc r.whole) turns)) s.changes) (let least = r.least in let known = known_forced in omega (arith, least, known)) r.sound;
+  }
+    where
+      by : (b : Bool) → b ≡ list_any (λ t. t.forces) (take r.whole turns) → forced_in (take r.whole turns) ≤ r.forced - n
+      by true is = let e = r.enough (sym is) in let all = known_length in omega (arith, e, all)
+      by false is = let none = forced_none (take r.whole turns) (sym is) in omega (arith, none)
+
+  -- ---- the volume that it begins with
+
+  mounted : IsMounted k.mounted k.windows k.changes (length k.changes) mid.image
+  mounted = fresh_mounted k.mounted k.windows k.changes mid.image s.fresh
+
+  own : IfSome (anchor_of mid.image) (λ a. a ≡ k.mounted.anchor)
+  own = let both = mounted.over.own.own in newer_own k.mounted.anchor (anchor_at mid.image 8) (anchor_at mid.image 12) both.0 both.1
+
+  epoch_of : (o : Option Anchor) → IfSome o (λ a. a ≡ k.mounted.anchor) → IfSome o (λ a. a.epoch ≡ k.mounted.volume.serial.epoch)
+  epoch_of None is = tt
+  epoch_of (Some a) is = ap (λ (x : Anchor). x.epoch) is ∙ sym s.fresh.epoch
+
+  pub starts : Starts l (windows ++ s.run ∷ []) (take n h) (volume_of k) mid.image
+  starts = record {
+    layout = s.layout;
+    files = s.fresh.files ∙ ap (λ (x : List Change). after x) s.changes;
+    tells = subst (λ (x : Layout). told x mid.image ≡ Some (telling_of (volume_of k))) s.layout (mounted_tells k.mounted k.windows k.changes (length k.changes) mid.image mounted s.fresh.unforced);
+    described = subst (λ (x : Layout). Describes x (in_runs (windows ++ s.run ∷ [])) mid.image (volume_of k).files (volume_of k).entries) s.layout
+        (subst (λ (x : List WeakRun). Describes k.mounted.volume.layout (in_runs x) mid.image (volume_of k).files (volume_of k).entries) s.known s.fresh.described);
+    epoch = epoch_of (anchor_of mid.image) own;
+    count = s.first;
+    removed = s.fresh.removed;
+    held = s.fresh.held;
+    drafts = s.fresh.drafts;
+    unforced = s.fresh.unforced;
+  }
+
+-- ---- the whole
+
+abbrev pub stop_of : Result (Unit {0}) End → Result (Unit {0}) Stop
+stop_of (Ok x) = Ok x
+stop_of (Err end) = Err (Ended end)
+
+module _ {D : Type 0} (M : Ghosts D) (l : Layout) (windows : List WeakRun) (h : List Change) (f n : ℕ) (prefix : IsPrefixOf h f n) (k : Known) (a m b : D) (s : Settled l windows h n k (M.now a) (M.now m)) (quiet : (M.now m).said ≡ (M.now a).said)
+    (mount : LeavesOnly M.moment M.left_since a m (λ left. SoundBefore l windows h f (M.now a) left ⊎ SoundSince l windows h n (M.now a) left))
+    (since : Since M m b) (here : M.left_since m (M.moment m) (M.now m)) (now : M.left_since b (M.moment m) (M.now b)) (command : Command) (mets : List Met) where
+  abbrev turns : List Turn
+  turns = turns_of (alone command) mets (volume_of k)
+
+  abbrev on : (left : Moment) → InRun k turns (M.now m) left → LeftSince l windows h n turns (M.now a) left
+  on left r = run_left l windows h f n prefix k (M.now a) (M.now m) s quiet turns left r
+
+  mount_left : LeavesOnly M.moment M.left_since a m (Left l windows h f n turns (M.now a))
+  mount_left = leaves_more M.moment M.left_since a m (λ left. SoundBefore l windows h f (M.now a) left ⊎ SoundSince l windows h n (M.now a) left) (Left l windows h f n turns (M.now a))
+      (λ left x. elim x [ inl y ↦ before_left l windows h f n prefix k (M.now a) (M.now m) s quiet turns left y | inr y ↦ inr (since_left l windows h f n prefix k (M.now a) (M.now m) s quiet turns left y) ]) mount
+
+  module _ (goes : Goes (in_runs k.windows) (M.left_since b (M.moment m)) Anything (alone command) (M.now m).said (M.now m).image (volume_of k) mets (command ∷ [])) where
+    abbrev pub run_is : Run (One command) [] (windows ++ s.run ∷ []) (M.left_since b (M.moment m)) (M.now a).said (volume_of k) (M.now m).image
+    run_is = record {
+      cut = None;
+      may = tt;
+      before = tt;
+      mets = mets;
+      goes = subst (λ (x : List ℕ). Goes (in_runs (windows ++ s.run ∷ [])) (M.left_since b (M.moment m)) Anything (alone command) x (M.now m).image (volume_of k) mets (command ∷ [])) quiet
+          (subst (λ (x : List WeakRun). Goes (in_runs x) (M.left_since b (M.moment m)) Anything (alone command) (M.now m).said (M.now m).image (volume_of k) mets (command ∷ [])) s.known goes);
+    }
+
+    replied : IsDone k turns (behind mets (volume_of k) (command ∷ [])) (M.now m) (M.now b) → IsReplied l windows h n (run_turns run_is) (run_status run_is) (run_end run_is) (M.now a) (M.now b) (run_status run_is)
+    replied d =
+        let all : length (k.changes ++ changes_in turns) ≡ n + length (changes_in turns) = let sum = length-append k.changes (changes_in turns) in let known = known_length l windows h f n prefix k (M.now a) (M.now m) s quiet in omega (arith, sum, known) in
+        record {
+          ends = refl;
+          said = d.said ∙ ap (λ (x : List ℕ). x ++ said_in turns) quiet;
+          run = s.run;
+          settled = d.windows ∙ s.settled;
+          sound = sound_to k.mounted.volume.layout l k.windows (windows ++ s.run ∷ []) (k.changes ++ changes_in turns) (take n h ++ changes_in turns) (length (k.changes ++ changes_in turns)) (n + length (changes_in turns)) (M.now b).image
+              s.layout s.known (ap (λ (x : List Change). x ++ changes_in turns) s.changes) all d.sound;
+          tells = subst (λ (x : Layout). told x (M.now b).image ≡ Some (telling_of (behind mets (volume_of k) (command ∷ [])))) s.layout d.tells;
+        }
+
+    ended : (r : Result (Unit {0}) End) → EndsAlone command k mets (M.now m) (M.now b) r → OnceEnds l windows h n run_is (M.now a) (M.now b) (stop_of r)
+    ended (Ok x) e = (e.0, replied e.1)
+    ended (Err (Stopped fault)) e = (e.0, e.1 ∙ quiet)
+    ended (Err Output) e = tt
+
+    pub once_mounted : LeavesOnly M.moment M.left_since m b (InRun k turns (M.now m)) → (result : Result (Unit {0}) Stop) → OnceEnds l windows h n run_is (M.now a) (M.now b) result
+        → OnceMounted command l windows h f (M.left_since b) (LeavesOnly M.moment M.left_since a b) (M.now a) (M.now b) result
+    once_mounted moments result ends = record {
+      count = n;
+      prefix = prefix;
+      next = s.run;
+      at = M.moment m;
+      from = (M.now m).image;
+      stood = record { moment = M.now m; passed = since (M.moment m) (M.now m) (omega arith) here; image = refl; so_far = quiet };
+      settled = s.settled;
+      raised = s.raised;
+      volume = volume_of k;
+      starts = starts l windows h f n prefix k (M.now a) (M.now m) s quiet;
+      run = run_is;
+      moments = then_on M.moment M.left_since a m b (Left l windows h f n turns (M.now a)) mount_left
+          (leaves_more M.moment M.left_since m b (InRun k turns (M.now m)) (Left l windows h f n turns (M.now a)) (λ left r. inr (on left r)) moments);
+      later = λ left past. on left (moments.each left past);
+      exit = on (M.now b) (moments.each (M.now b) now);
+      ends = ends;
+    }
+
+  pub mounted_alone : (r : Result (Unit {0}) End) (moments : LeavesOnly M.moment M.left_since m b (InRun k turns (M.now m)))
+      → Goes (in_runs k.windows) (M.left_since b (M.moment m)) Anything (alone command) (M.now m).said (M.now m).image (volume_of k) mets (command ∷ []) → EndsAlone command k mets (M.now m) (M.now b) r
+      → OnceMounted command l windows h f (M.left_since b) (LeavesOnly M.moment M.left_since a b) (M.now a) (M.now b) (stop_of r)
+  mounted_alone r moments goes ends = once_mounted goes moments (stop_of r) (ended goes r ends)

@@ -1,0 +1,253 @@
+-- What the order of refusals tells of a mount that is worn out.
+use Rattle.std.proofs.Common.{◌≡◌, ◌⊎◌, inl, inr, ℕ, Bool, true, false, cond, List, [], ◌∷◌, length, Option, Some, None, refl, sym, ◌∙◌, subst, ap}
+use Rattle.std.specs.Prelude.{IsTrue, IsFalse, option_map, is_none, not, nat_lt, ◌&&◌, ⊤}
+use Rattle.fsd_bytes.specs.declared.refusal.Refusal.{Refusal}
+use Rattle.fsd_bytes.specs.declared.refusal.Refusal.TheVariants as Why
+use Rattle.run_table.specs.RunTable.{total}
+use Rattle.run_table.specs.Space.{pick, best}
+use Rattle.fsd_formats.specs.NamePage.{max_keep, max_length}
+use Rattle.fsd_files.specs.Answers.{size_fault, least_pages}
+use Rattle.fsd_files.specs.Disk.{Sectors}
+use Rattle.volume_contract.specs.State.{State, forces_first, forces_for_place, in_place, is_worn, place_in}
+use Rattle.volume_contract.specs.Order.{Step, Test, Asks, Draw, Disk, Force, LookUp, Fetch, Data, IsDeviceIn, Passes, Comes, Refuses, Through, IsLookUp, IsFetch, IsLoss, IsDevice, down, worn, place, by_itself, table_full, no_place_in, runs_at}
+
+abbrev worn_test : Bool → Option Refusal
+worn_test b = cond b (Some Why.WornOut) None
+
+passes_worn : (b : Bool) → worn_test b ≡ None → IsFalse b
+passes_worn true is = cc
+passes_worn false is = refl
+
+refuses_worn : (b : Bool) (why : Refusal) → worn_test b ≡ Some why → (why ≡ Why.WornOut) × IsTrue b
+refuses_worn true why is = (cc, refl)
+refuses_worn false why is = absurd (cc (is))
+
+-- where it goes on to behind the test
+pub through_worn : (b : Bool) (rest : List Step) → Through (Test (worn_test b) ∷ rest) → IsFalse b
+through_worn b rest is = passes_worn b is.0
+
+pub past_worn : (b : Bool) (rest : List Step) (why : Refusal) → (why ≡ Why.WornOut → ⊥) → Comes (Test (worn_test b) ∷ rest) why → IsFalse b
+past_worn b rest why other (inl refuses) = absurd (other (refuses_worn b why refuses).0)
+past_worn b rest why other (inr later) = passes_worn b later.0
+
+pub at_worn : (b : Bool) (rest : List Step) → (Comes rest Why.WornOut → ⊥) → Comes (Test (worn_test b) ∷ rest) Why.WornOut → IsTrue b
+at_worn b rest never (inl refuses) = (refuses_worn b Why.WornOut refuses).1
+at_worn b rest never (inr later) = absurd (never later.1)
+
+-- a test that refuses nothing
+pub past_test : (test : Option Refusal) (rest : List Step) (why : Refusal) → test ≡ None → Comes (Test test ∷ rest) why → Comes rest why
+past_test test rest why none (inl refuses) = absurd (cc (none, refuses))
+past_test test rest why none (inr later) = later.1
+
+-- one that would refuse otherwise
+pub past_other : (test : Option Refusal) (rest : List Step) (why : Refusal) → (test ≡ Some why → ⊥) → Comes (Test test ∷ rest) why → (test ≡ None) × Comes rest why
+past_other test rest why other (inl refuses) = absurd (other refuses)
+past_other test rest why other (inr later) = later
+
+-- no step of these refuses so
+abbrev pub Never : Refusal → List Step → Type 0
+Never why [] = Unit {0}
+Never why (step ∷ steps) = (Refuses step why → ⊥) × Never why steps
+
+pub never : (why : Refusal) (steps : List Step) → Never why steps → Comes steps why → ⊥
+never why [] none comes = comes
+never why (step ∷ steps) none (inl here) = none.0 here
+never why (step ∷ steps) none (inr later) = never why steps none.1 later.1
+
+some_never : (b : Bool) (x y : Refusal) → (x ≡ y → ⊥) → cond b (Some x) None ≡ Some y → ⊥
+some_never true x y other is = other (cc is)
+some_never false x y other is = cc is
+
+-- ---- the refusals that the tests of sizes and place make
+
+abbrev pub IsOther : Refusal → Type 0
+IsOther Why.WornOut = ⊤
+IsOther (Why.Down t) = ⊤
+IsOther why = ⊥
+
+not_keep : (why : Refusal) (k : ℕ) → IsOther why → Why.KeepTooLarge k ≡ why → ⊥
+not_keep Why.WornOut k o is = cc is
+not_keep (Why.Down t) k o is = cc is
+not_keep why k o is = absurd o
+
+not_long : (why : Refusal) (n : ℕ) → IsOther why → Why.TooLong n ≡ why → ⊥
+not_long Why.WornOut n o is = cc is
+not_long (Why.Down t) n o is = cc is
+not_long why n o is = absurd o
+
+not_space : (why : Refusal) (need free : ℕ) → IsOther why → Why.NoSpace need free ≡ why → ⊥
+not_space Why.WornOut need free o is = cc is
+not_space (Why.Down t) need free o is = cc is
+not_space why need free o is = absurd o
+
+not_fragmented : (why : Refusal) (need most : ℕ) → IsOther why → Why.TooFragmented need most ≡ why → ⊥
+not_fragmented Why.WornOut need most o is = cc is
+not_fragmented (Why.Down t) need most o is = cc is
+not_fragmented why need most o is = absurd o
+
+not_full : (why : Refusal) (free : ℕ) → IsOther why → Why.NameTableFull free ≡ why → ⊥
+not_full Why.WornOut free o is = cc is
+not_full (Why.Down t) free o is = cc is
+not_full why free o is = absurd o
+
+not_versions : (why : Refusal) → IsOther why → why ≡ Why.VersionsUsedUp → ⊥
+not_versions Why.WornOut o is = cc is
+not_versions (Why.Down t) o is = cc is
+not_versions why o is = absurd o
+
+not_such : (why : Refusal) → IsOther why → why ≡ Why.NoSuch → ⊥
+not_such Why.WornOut o is = cc is
+not_such (Why.Down t) o is = cc is
+not_such why o is = absurd o
+
+no_write : (why : Refusal) → IsOther why → (may : Sectors) → IsDeviceIn may why → ⊥
+no_write Why.WornOut o may is = is
+no_write (Why.Down t) o may is = is
+no_write why o may is = absurd o
+
+not_looked : (why : Refusal) → IsOther why → (IsLookUp why → ⊥) × (IsFetch why → ⊥) × (IsLoss why → ⊥) × (IsDevice why → ⊥)
+not_looked Why.WornOut o = (λ x. x, λ x. x, λ x. x, λ x. x)
+not_looked (Why.Down t) o = (λ x. x, λ x. x, λ x. x, λ x. x)
+not_looked why o = absurd o
+
+pub keep_never : (keep : ℕ) (why : Refusal) → IsOther why → cond (nat_lt max_keep keep) (Some (Why.KeepTooLarge keep)) None ≡ Some why → ⊥
+keep_never keep why o is = some_never (nat_lt max_keep keep) (Why.KeepTooLarge keep) why (not_keep why keep o) is
+
+pub size_never : (keep len : ℕ) (why : Refusal) → IsOther why → size_fault keep len ≡ Some why → ⊥
+size_never keep len why o = by (nat_lt max_keep keep) (nat_lt max_length len)
+  where
+    by : (a b : Bool) → cond a (Some (Why.KeepTooLarge keep)) (cond b (Some (Why.TooLong len)) None) ≡ Some why → ⊥
+    by true b is = not_keep why keep o (cc is)
+    by false true is = not_long why len o (cc is)
+    by false false is = cc is
+
+place_never : (s : State) (need : ℕ) (why : Refusal) → IsOther why → cond (is_none (place_in s need)) (Some (no_place_in s (runs_at s need) need)) None ≡ Some why → ⊥
+place_never s need why o is = some_never (is_none (place_in s need)) (no_place_in s (runs_at s need) need) why (by (nat_lt (total (runs_at s need)) need)) is
+  where
+    by : (b : Bool) → cond b (Why.NoSpace need (total (runs_at s need))) (Why.TooFragmented need (best (runs_at s need))) ≡ why → ⊥
+    by true is = not_space why need (total (runs_at s need)) o is
+    by false is = not_fragmented why need (best (runs_at s need)) o is
+
+-- ---- of a volume that is up
+
+-- The order of a call that may refuse for a size, then where the mount is worn out, and then does this.
+abbrev pub steps_of : State → Option Refusal → List Step → List Step
+steps_of s size rest = down s ∷ Test size ∷ worn s ∷ rest
+
+abbrev pub put_rest : State → ℕ → List Step
+put_rest s need = Force (forces_for_place s need) ∷ place s need ∷ Draw ∷ Disk (in_place (place_in s need)) ∷ Force (forces_first s && not (forces_for_place s need)) ∷ LookUp ∷ Asks Why.VersionsUsedUp ∷ table_full s ∷ Fetch ∷ []
+
+abbrev pub edit_rest : State → List Step
+edit_rest s = by_itself s ∷ LookUp ∷ Asks Why.NoSuch ∷ []
+
+pub put_never : (s : State) (need : ℕ) (why : Refusal) → IsOther why → Never why (put_rest s need)
+put_never s need why o =
+    let no_call = not_looked why o in (
+      λ x. no_call.2 x.1,
+      (
+        place_never s need why o,
+        (
+          λ x. x,
+          (
+            no_write why o (in_place (place_in s need)),
+            (
+              λ x. no_call.2 x.1,
+              (
+                no_call.0,
+                (
+                  not_versions why o,
+                  (some_never (nat_lt (length s.free_pages) least_pages) (Why.NameTableFull (length s.free_pages)) why (not_full why (length s.free_pages) o), (no_call.1, tt)),
+                ),
+              ),
+            ),
+          ),
+        ),
+      ),
+    )
+
+pub edit_never : (s : State) (why : Refusal) → IsOther why → Never why (edit_rest s)
+edit_never s why o = let no_call = not_looked why o in (λ x. no_call.2 x.1, (no_call.0, (not_such why o, tt)))
+
+module _ (s : State) (up : s.down ≡ None) where
+  starts_up : (rest : List Step) (why : Refusal) → Comes (down s ∷ rest) why → Comes rest why
+  starts_up rest why comes = past_test (option_map Why.Down s.down) rest why (ap (λ (o : Option ℕ). option_map Why.Down o) up) comes
+
+  module _ (size : Option Refusal) (rest : List Step) (size_other : (why : Refusal) → IsOther why → size ≡ Some why → ⊥) (rest_other : (why : Refusal) → IsOther why → Never why rest) where
+    -- it is not told as down
+    pub never_down : (why : Refusal) → Comes (steps_of s size rest) why → (t : ℕ) → why ≡ Why.Down t → ⊥
+    never_down why comes t is =
+        let at = starts_up (Test size ∷ worn s ∷ rest) (Why.Down t) (subst (λ (w : Refusal). Comes (steps_of s size rest) w) is comes) in
+        let past = past_other size (worn s ∷ rest) (Why.Down t) (size_other (Why.Down t) tt) at in
+        elim past.1 [ inl here ↦ cc (refuses_worn (is_worn s) (Why.Down t) here).0 | inr later ↦ never (Why.Down t) rest (rest_other (Why.Down t) tt) later.1 ]
+
+    -- where it isn't refused as worn out, and no size is refused, the mount isn't
+    pub unworn_by : (why : Refusal) → Comes (steps_of s size rest) why → (why ≡ Why.WornOut → ⊥) → size ≡ None → IsFalse (is_worn s)
+    unworn_by why comes other none = past_worn (is_worn s) rest why other (past_test size (worn s ∷ rest) why none (starts_up (Test size ∷ worn s ∷ rest) why comes))
+
+    -- where it is, it is worn out, and no size was refused
+    pub worn_by : Comes (steps_of s size rest) Why.WornOut → (size ≡ None) × IsTrue (is_worn s)
+    worn_by comes =
+        let past = past_other size (worn s ∷ rest) Why.WornOut (size_other Why.WornOut tt) (starts_up (Test size ∷ worn s ∷ rest) Why.WornOut comes) in
+        (past.0, at_worn (is_worn s) rest (never Why.WornOut rest (rest_other Why.WornOut tt)) past.1)
+
+    pub unworn_through : Through (steps_of s size rest) → IsFalse (is_worn s)
+    unworn_through is = passes_worn (is_worn s) is.1.1.0
+
+-- ---- by what a worn-out mount refuses
+
+pub is_no_fault : (o : Option Refusal) → IsTrue (is_none o) → o ≡ None
+is_no_fault None is = refl
+is_no_fault (Some why) is = cc is
+
+pub no_fault_is : (o : Option Refusal) → o ≡ None → IsTrue (is_none o)
+no_fault_is o none = ap (λ (x : Option Refusal). is_none x) none
+
+-- a keep that isn't too large
+pub keep_fits : (b : Bool) (why : Refusal) → IsTrue (not b) → cond b (Some why) None ≡ None
+keep_fits true why is = cc is
+keep_fits false why is = refl
+
+pub fits_keep : (b : Bool) (why : Refusal) → cond b (Some why) None ≡ None → IsTrue (not b)
+fits_keep true why is = cc is
+fits_keep false why is = refl
+
+-- a call without a test of a size
+abbrev pub delete_all : State → List Step
+delete_all s = worn s ∷ edit_rest s
+
+module _ (s : State) (up : s.down ≡ None) where
+  pub delete_down : (why : Refusal) → Comes (down s ∷ delete_all s) why → (t : ℕ) → why ≡ Why.Down t → ⊥
+  delete_down why comes t is =
+      elim (starts_up s up (delete_all s) (Why.Down t) (subst (λ (w : Refusal). Comes (down s ∷ delete_all s) w) is comes)) [
+        | inl here ↦ cc (refuses_worn (is_worn s) (Why.Down t) here).0
+        | inr later ↦ never (Why.Down t) (edit_rest s) (edit_never s (Why.Down t) tt) later.1
+      ]
+
+  pub delete_unworn : (why : Refusal) → Comes (down s ∷ delete_all s) why → (why ≡ Why.WornOut → ⊥) → IsFalse (is_worn s)
+  delete_unworn why comes other = past_worn (is_worn s) (edit_rest s) why other (starts_up s up (delete_all s) why comes)
+
+  pub delete_worn : Comes (down s ∷ delete_all s) Why.WornOut → IsTrue (is_worn s)
+  delete_worn comes = at_worn (is_worn s) (edit_rest s) (never Why.WornOut (edit_rest s) (edit_never s Why.WornOut tt)) (starts_up s up (delete_all s) Why.WornOut comes)
+
+pub delete_through : (s : State) → Through (down s ∷ delete_all s) → IsFalse (is_worn s)
+delete_through s is = passes_worn (is_worn s) is.1.0
+
+-- a force
+pub force_down : (s : State) → s.down ≡ None → (comes_one : Bool) (why : Refusal) → Comes (down s ∷ Force comes_one ∷ []) why → (t : ℕ) → why ≡ Why.Down t → ⊥
+force_down s up comes_one why comes t is =
+    elim (starts_up s up (Force comes_one ∷ []) (Why.Down t) (subst (λ (w : Refusal). Comes (down s ∷ Force comes_one ∷ []) w) is comes)) [ inl here ↦ here.1 | inr later ↦ later.1 ]
+
+-- a look-up, and the read behind it
+pub entry_down : (s : State) → s.down ≡ None → (why : Refusal) → Comes (down s ∷ LookUp ∷ Asks Why.NoSuch ∷ []) why → (t : ℕ) → why ≡ Why.Down t → ⊥
+entry_down s up why comes t is =
+    let rest = LookUp ∷ Asks Why.NoSuch ∷ [] in
+    never (Why.Down t) rest (λ x. x, (not_such (Why.Down t) tt, tt)) (starts_up s up rest (Why.Down t) (subst (λ (w : Refusal). Comes (down s ∷ rest) w) is comes))
+
+pub read_down : (s : State) → s.down ≡ None → (why : Refusal) → Comes (down s ∷ LookUp ∷ Asks Why.NoSuch ∷ Data ∷ []) why → (t : ℕ) → why ≡ Why.Down t → ⊥
+read_down s up why comes t is =
+    let rest = LookUp ∷ Asks Why.NoSuch ∷ Data ∷ [] in
+    never (Why.Down t) rest (λ x. x, (not_such (Why.Down t) tt, (λ x. x, tt))) (starts_up s up rest (Why.Down t) (subst (λ (w : Refusal). Comes (down s ∷ rest) w) is comes))
+
+-- the look-up behind a test that refuses nothing
+pub next_refuses : (s : State) → s.down ≡ None → (why : Refusal) → Comes (down s ∷ LookUp ∷ []) why → IsLookUp why
+next_refuses s up why comes = elim (starts_up s up (LookUp ∷ []) why comes) [ inl here ↦ here | inr later ↦ absurd later.1 ]

@@ -1,0 +1,323 @@
+-- A command and its reply, and the commands behind it.
+use Rattle.std.proofs.Common.{◌≡◌, ◌⊎◌, inl, inr, ⊎_elim, ℕ, zero, suc, ◌+◌, ◌-◌, ◌<◌, ◌≤◌, Bool, true, false, cond, List, [], ◌∷◌, ◌++◌, length, map, take, Option, Some, None, refl, sym, ◌∙◌, ap, subst, arith, append_assoc, length-append}
+use Rattle.std.specs.Prelude.{IsTrue, IsFalse, slice_get, Result, Ok, Err, OnOk, IfErr, IfSome, ⊤}
+use Rattle.std.specs.List.{list_any}
+use Rattle.std.proofs.lemmas.List.{append-nil}
+use Rattle.volume_layout.specs.declared.layout.Layout.{Layout}
+use Rattle.sector_disk.specs.declared.machine.Machine.{Ghosts}
+use Rattle.sector_disk.specs.declared.sector.WeakRun.{WeakRun}
+use Rattle.sector_disk.specs.Image.{IsWorn, open_damage, AreShort}
+use Rattle.sector_disk.specs.Machine.{Moment, Report, LeavesOnly, UsesDisk, Utters, Wears}
+use Rattle.sector_disk.proofs.Moments.{started, then_on, leaves_more}
+use Rattle.fsd_formats.specs.declared.entry.Entry.{Entry}
+use Rattle.fsd_files.specs.Answers.{Met, Outcome, entry_of, Finds}
+use Rattle.fsd_files.specs.Disk.{Image, Sectors, in_runs}
+use Rattle.fsd_files.specs.Files.{Change}
+use Rattle.fsd_files.specs.Replies.{Reply}
+use Rattle.fsd_files.specs.Volume.{Volume, HasReach}
+use Rattle.fsd_sound.specs.Mounted.{Mounted}
+use Rattle.fsd_sound.specs.Sound.{IsSound}
+use Rattle.fsd_sound.proofs.MountedLaws.{mounted_sound, mounted_tells, mounted_reach}
+use Rattle.fsd_texts.specs.declared.command.Command.{Command}
+use Rattle.fsd_texts.specs.declared.command.Command.TheVariants as Word
+use Rattle.fsd_texts.specs.declared.fault.Fault.{Fault}
+use Rattle.fsd_texts.specs.declared.fault.Fault.TheVariants as Ends
+use Rattle.fsd_runs.specs.Commands.{answer, changes_of, MayFind}
+use Rattle.fsd_runs.specs.Errands.{Errand, Turn, answered_so}
+use Rattle.fsd_runs.specs.Runs.{Goes, IsStep, IsWornOut, Stood, answered, behind, changes_in, forced_in, said_in, turn_of, turns_begun}
+use Rattle.fsd_runs.proofs.AnswerLaws.{command_grows}
+use Rattle.volume_turns.specs.declared.answer.Answer.{Answer}
+use Rattle.volume_turns.specs.declared.turns.End.{End}
+use Rattle.volume_turns.specs.declared.turns.End.TheVariants.{Fault as Stopped, Output}
+use Rattle.sector_disk.specs.Calls.{DiskFaults, Since, WritesDisk}
+use Rattle.sector_disk.proofs.CallLaws.{faults_then}
+use Rattle.volume_contract.specs.State.{State, Ages, Known, volume_of, forced_of, Stands, is_worn}
+use Rattle.volume_turns.specs.Steps.{Does, IsAnswered, Stays, StaysSound, device_told, reply_of}
+use Rattle.volume_turns.specs.Turns.{Carries, Follows, InRun, RunsFrom, Runs, Steps, StepsBy, StepsOk, StandsBehind, EndsBy, EndsAtOnce, Said, SaysAll, Unsaid, Behind, Told, Unheard, device_end, turn_by}
+use Rattle.volume_turns.proofs.ReadLaws.{some_earlier}
+use Rattle.volume_turns.proofs.TurnLaws.{in_before, in_saying, in_behind, enough_from, worn_state, state_worn}
+
+-- what is found, from an earlier image on
+find_earlier : (may : ℕ → Bool) (i j k : Image) → IsWorn may i j → (v : Volume) (command : Command) (met : Met) → MayFind j k v command met → MayFind i k v command met
+find_earlier may i j k worn v (Word.Get key) met find = some_earlier may i j worn k (entry_of key v.entries) met.damaged find
+find_earlier may i j k worn v command met find = tt
+
+module _ {S D : Type 0} (state : S → State) (has : S → Mounted → Type 0) (M : Ghosts D)
+    (wears : (s : S) (k : Known) (old new : Moment) → AreShort old.windows → Ages old new → Stands state has s k old → Stands state has s k new)
+    (short : (m : D) → M.honest m → AreShort (M.now m).windows)
+    (counts_now : (m : D) (t : ℕ) → M.honest m → t ≤ M.moment m → M.left_since m t (M.now m)) (e : Errand)
+    (forced : (met : Met) (v : Volume) (c : Command) → IsTrue (e.forces (answer met v c).0) → (answer met v c).1.unforced ≡ 0) where
+  -- ---- one command, from its answer on
+
+  module _ (command : Command) (v w : S) (a m b : D) (k : Known) (from : Moment) (stood_from : Stands state has v k from) (aged : Ages from (M.now a)) (stood : Stands state has v k (M.now a))
+      (fault : Option ℕ) (disk : WritesDisk M fault (Stays state has v) a m) (layout : (state w).layout ≡ (state v).layout) (honest : M.honest m) (since : Since M m b) where
+    pub before_it : (turns : List Turn) → LeavesOnly M.moment M.left_since a m (InRun k turns (M.now a))
+    before_it turns = leaves_more M.moment M.left_since a m (Stays state has v (M.now a)) (InRun k turns (M.now a)) (λ left stays. in_before k turns (M.now a) left (stays k stood)) (disk.any_moment honest)
+
+    module _ (after : Known) (reply : Reply) (is : IsAnswered command (state v) k after (M.now a).image (M.now m).image reply) (stands : Stands state has w after (M.now m)) where
+      abbrev out : Outcome
+      out = answer is.met (volume_of k) command
+
+      abbrev turn : Turn
+      turn = turn_by e k command is.met
+
+      pub reply_is : out.0 ≡ reply
+      reply_is = ap (λ (o : Outcome). o.0) is.is
+
+      pub volume_is : volume_of after ≡ out.1
+      volume_is = sym (ap (λ (o : Outcome). o.1) is.is)
+
+      pub changes_is : after.changes ≡ k.changes ++ turn.changes
+      changes_is = is.changes ∙ ap (λ (r : Reply). k.changes ++ changes_of command r) (sym reply_is)
+
+      pub behind_it : Carries k after turn
+      behind_it =
+          let more = command_grows is.met (volume_of k) command in
+          let same : (volume_of after).unforced ≡ out.1.unforced = ap (λ (x : Volume). x.unforced) volume_is in
+          let sum = length-append k.changes turn.changes in
+          let long : length after.changes ≡ length (k.changes ++ turn.changes) = ap (λ (h : List Change). length h) changes_is in
+          record {
+            layout = stands.fits.layout ∙ layout ∙ sym stood.fits.layout;
+            windows = is.windows;
+            changes = changes_is;
+            least = omega (arith, more, same, sum, long);
+            all = λ all. let none = forced is.met (volume_of k) command all in omega (arith, none, same);
+          }
+
+      passed : (t : ℕ) → t ≤ M.moment a → Stood (M.left_since b t) (M.now a).said (M.now m).image
+      passed t le =
+          let later = (disk.any_moment honest).later in
+          let on : t ≤ M.moment m = omega (arith, le, later) in
+          record { moment = M.now m; passed = since t (M.now m) on (counts_now m t honest on); image = refl; so_far = disk.quiet honest }
+
+      pub step_is : (t : ℕ) → t ≤ M.moment a → IsStep (in_runs k.windows) (M.left_since b t) (M.now a).said from.image (M.now m).image (volume_of k) command is.met
+      step_is t le = record {
+        kept = stood_from.disk.described.kept;
+        tells = mounted_tells k.mounted k.windows k.changes (forced_of k) from.image stood_from.disk;
+        unworn = λ may worn. let so = worn_state state has v k from stood_from worn in let not_so = is.unworn may in cc (so, not_so);
+        exit = passed t le;
+        may = record {
+          find = find_earlier (open_damage from.windows) from.image (M.now a).image (M.now m).image aged.image (volume_of k) command is.met is.find;
+          reach = subst (λ (x : Volume). HasReach x) volume_is (mounted_reach after.mounted after.windows after.changes (forced_of after) (M.now m).image stands.disk);
+        };
+      }
+
+      -- while its reply is said
+      module _ (run : LeavesOnly M.moment M.left_since m b (Utters (e.says reply) (M.now m))) where
+        said_is : e.says reply ≡ turn.said
+        said_is = ap (λ (r : Reply). e.says r) (sym reply_is)
+
+        saying : (rest : List Turn) (left : Moment) → Utters (e.says reply) (M.now m) left → InRun k (turn ∷ rest) (M.now a) left
+        saying rest left utters =
+            let at = wears w after (M.now m) left (short m honest) (record { image = utters.image; windows = utters.windows }) stands in
+            in_saying k after turn rest behind_it (M.now a) left (utters.windows ∙ disk.windows honest) (mounted_sound after.mounted after.windows after.changes (forced_of after) left.image at.disk) utters.heard
+            (utters.said ∙ ap (λ (x : List ℕ). x ++ take utters.heard (e.says reply)) (disk.quiet honest) ∙ ap (λ (x : List ℕ). (M.now a).said ++ take utters.heard x) said_is)
+
+        pub in_both : (rest : List Turn) → LeavesOnly M.moment M.left_since a b (InRun k (turn ∷ rest) (M.now a))
+        in_both rest = then_on M.moment M.left_since a m b (InRun k (turn ∷ rest) (M.now a)) (before_it (turn ∷ rest)) (leaves_more M.moment M.left_since m b (Utters (e.says reply) (M.now m)) (InRun k (turn ∷ rest) (M.now a)) (saying rest) run)
+
+        pub step_ok : SaysAll (e.says reply) (M.now m) (M.now b) → StepsOk state has M e k from command a b w
+        step_ok says = record {
+          met = is.met;
+          after = after;
+          mid = M.now m;
+          step = step_is;
+          is = volume_is;
+          carries = behind_it;
+          stands = stands;
+          ages = says.ages;
+          open_windows = says.ages.windows ∙ disk.windows honest;
+          said = says.said ∙ ap (λ (x : List ℕ). x ++ e.says reply) (disk.quiet honest) ∙ ap (λ (x : List ℕ). (M.now a).said ++ x) said_is;
+          moments = in_both;
+        }
+
+        -- it was not said
+        pub step_unsaid : (end : End) → Unsaid (M.now m) (M.now b) end → (more : List Command) → RunsFrom state has M e k from (command ∷ more) a b w (Err end)
+        step_unsaid (Stopped Ends.Memory) unsaid more = record {
+          mets = is.met ∷ [];
+          goes = λ t le. ((M.now m).image, step_is t le, tt);
+          moments = in_both;
+          ends = (tt, record { whole = 0; most = omega arith; said = unsaid.said ∙ disk.quiet honest ∙ sym (append-nil (M.now a).said) });
+        }
+        step_unsaid Output unsaid more = record { mets = is.met ∷ []; goes = λ t le. ((M.now m).image, step_is t le, tt); moments = in_both; ends = tt }
+        step_unsaid (Stopped fault) unsaid more = absurd unsaid
+
+      -- by how its reply was said
+      pub step_said : (run : LeavesOnly M.moment M.left_since m b (Utters (e.says reply) (M.now m))) (r : Result (Unit {0}) End) → OnOk r (SaysAll (e.says reply) (M.now m) (M.now b)) → IfErr r (λ end. Unsaid (M.now m) (M.now b) end)
+          → StepsBy state has M e k from command a b w r
+      step_said run (Ok x) said unsaid = step_ok run said
+      step_said run (Err end) said unsaid = step_unsaid run end unsaid
+
+    -- it was not answered
+    pub step_fault : (why : Fault) → Does state has command v w k (M.now a) (M.now m) (Err why) → (more : List Command) → RunsFrom state has M e k from (command ∷ more) a m w (Err (Stopped why))
+    step_fault (Ends.Device s) does more = record {
+      mets = [];
+      goes = λ t le. tt;
+      moments = before_it;
+      ends = (tt, record { whole = 0; most = omega arith; said = disk.quiet honest ∙ sym (append-nil (M.now a).said) });
+    }
+    step_fault Ends.Memory does more = record {
+      mets = [];
+      goes = λ t le. tt;
+      moments = before_it;
+      ends = (tt, record { whole = 0; most = omega arith; said = disk.quiet honest ∙ sym (append-nil (M.now a).said) });
+    }
+    step_fault Ends.WornOut does more = record {
+      mets = [];
+      goes = λ t le. state_worn state has v k from stood_from does.0.worn;
+      moments = before_it;
+      ends = (
+        does.0.may,
+        record {
+          after = k;
+          is = refl;
+          windows = refl;
+          changes = sym (append-nil k.changes);
+          said = disk.quiet honest ∙ sym (append-nil (M.now a).said);
+          open_windows = disk.windows honest;
+          layout = refl;
+          least = omega arith;
+          forced = λ any. absurd (cc any);
+          stands = does.1;
+        },
+      );
+    }
+    step_fault why does more = absurd does
+
+-- ---- commands one after another
+
+module _ {H : Sectors} {P Q : Moment → Type 0} (wider : (c : Moment) → P c → Q c) where
+  step_wider : (said : List ℕ) (i j : Image) (v : Volume) (command : Command) (met : Met) → IsStep H P said i j v command met → IsStep H Q said i j v command met
+  step_wider said i j v command met step = record {
+    kept = step.kept;
+    tells = step.tells;
+    unworn = step.unworn;
+    exit = record { moment = step.exit.moment; passed = wider step.exit.moment step.exit.passed; image = step.exit.image; so_far = step.exit.so_far };
+    may = step.may;
+  }
+
+pub follows_then : {D : Type 0} (M : Ghosts D) (a b c : D) → Follows M a b → Follows M b c → Follows M a c
+follows_then M a b c x y = record {
+  honest = λ h. x.honest (y.honest h);
+  since = λ h t left le was. let later = x.later (y.honest h) in y.since h t left (omega (arith, le, later)) (x.since (y.honest h) t left le was);
+  later = λ h. let p = x.later (y.honest h) in let q = y.later h in omega (arith, p, q);
+}
+
+module _ {S D : Type 0} (state : S → State) (has : S → Mounted → Type 0) (M : Ghosts D) (e : Errand) where
+  pub runs_nil : (v : S) (a : D) → ((s : S) (k : Known) (old new : Moment) → AreShort old.windows → Ages old new → Stands state has s k old → Stands state has s k new)
+      → (M.honest a → (left : Moment) → M.left_since a (M.moment a) left → left ≡ M.now a) → (M.honest a → (from : Moment) → Ages from (M.now a) → AreShort from.windows) → Runs state has M e [] v a v a (Ok tt)
+  runs_nil v a wears only short honest k from stood aged =
+      let now = wears v k from (M.now a) (short honest from aged) aged stood in
+      record {
+        mets = [];
+        goes = λ t le. tt;
+        moments = λ rest. started M.moment M.left_since a (M.now a) (InRun k rest (M.now a)) (only honest)
+            (in_before k rest (M.now a) (M.now a) (record { sound = mounted_sound k.mounted k.windows k.changes (forced_of k) (M.now a).image now.disk; windows = refl; said = refl }));
+        ends = (refl, record { after = k; is = refl; windows = refl; changes = sym (append-nil k.changes); said = sym (append-nil (M.now a).said); open_windows = refl; layout = refl; least = omega arith; forced = λ any. absurd (cc any); stands = now });
+      }
+
+  module _ (command : Command) (commands : List Command) (v w z : S) (a m b : D) (result : Result (Unit {0}) End) (follows : Follows M m b) (later : M.honest m → M.moment a ≤ M.moment m)
+      (steps : Steps state has M e command v a w m (Ok tt)) (runs : Runs state has M e commands w m z b result) where
+    module _ (honest : M.honest b) (k : Known) (from : Moment) (stood : Stands state has v k from) (aged : Ages from (M.now a)) where
+      ok : StepsOk state has M e k from command a m w
+      ok = steps (follows.honest honest) k from stood aged
+
+      rest : RunsFrom state has M e ok.after ok.mid commands m b z result
+      rest = runs honest ok.after ok.mid ok.stands ok.ages
+
+      abbrev this_turn : Turn
+      this_turn = turn_by e k command ok.met
+
+      abbrev next_volume : Volume
+      next_volume = (answer ok.met (volume_of k) command).1
+
+      -- the turns behind it
+      abbrev turns : List Turn
+      turns = turns_begun e rest.mets next_volume commands
+
+      same_turns : turns_begun e rest.mets (volume_of ok.after) commands ≡ turns
+      same_turns = ap (λ (x : Volume). turns_begun e rest.mets x commands) ok.is
+
+      goes : (t : ℕ) → t ≤ M.moment a → Goes (in_runs k.windows) (M.left_since b t) (Behind result) e (M.now a).said from.image (volume_of k) (ok.met ∷ rest.mets) (command ∷ commands)
+      goes t le =
+          let at_m = later (follows.honest honest) in
+          let on : t ≤ M.moment m = omega (arith, le, at_m) in (
+            ok.mid.image,
+            step_wider (λ c was. follows.since honest t c on was) (M.now a).said from.image ok.mid.image (volume_of k) command ok.met (ok.step t le),
+            subst (λ (x : Volume). Goes (in_runs k.windows) (M.left_since b t) (Behind result) e ((M.now a).said ++ this_turn.said) ok.mid.image x rest.mets commands) ok.is
+                (subst (λ (x : List ℕ). Goes (in_runs k.windows) (M.left_since b t) (Behind result) e x ok.mid.image (volume_of ok.after) rest.mets commands) ok.said
+                (subst (λ (x : List WeakRun). Goes (in_runs x) (M.left_since b t) (Behind result) e (M.now m).said ok.mid.image (volume_of ok.after) rest.mets commands) ok.carries.windows (rest.goes t on))),
+          )
+
+      moments : (more : List Turn) → LeavesOnly M.moment M.left_since a b (InRun k (this_turn ∷ (turns ++ more)) (M.now a))
+      moments more = then_on M.moment M.left_since a m b (InRun k (this_turn ∷ (turns ++ more)) (M.now a)) (ok.moments (turns ++ more))
+          (leaves_more M.moment M.left_since m b (InRun ok.after (turns ++ more) (M.now m)) (InRun k (this_turn ∷ (turns ++ more)) (M.now a))
+          (λ left run. in_behind k ok.after this_turn (turns ++ more) ok.carries (M.now a) (M.now m) left ok.open_windows ok.said run)
+          (subst (λ (ts : List Turn). LeavesOnly M.moment M.left_since m b (InRun ok.after (ts ++ more) (M.now m))) same_turns (rest.moments more)))
+
+      stands_behind : StandsBehind state has e ok.after rest.mets commands z (M.now m) (M.now b) → StandsBehind state has e k (ok.met ∷ rest.mets) (command ∷ commands) z (M.now a) (M.now b)
+      stands_behind x = record {
+        after = x.after;
+        is = x.is ∙ ap (λ (y : Volume). behind rest.mets y commands) ok.is;
+        windows = x.windows ∙ ok.carries.windows;
+        changes = x.changes ∙ ap (λ (h : List Change). h ++ changes_in (turns_begun e rest.mets (volume_of ok.after) commands)) ok.carries.changes
+            ∙ append_assoc k.changes this_turn.changes (changes_in (turns_begun e rest.mets (volume_of ok.after) commands)) ∙ ap (λ (ts : List Turn). k.changes ++ (this_turn.changes ++ changes_in ts)) same_turns;
+        said = x.said ∙ ap (λ (y : List ℕ). y ++ said_in (turns_begun e rest.mets (volume_of ok.after) commands)) ok.said
+            ∙ append_assoc (M.now a).said this_turn.said (said_in (turns_begun e rest.mets (volume_of ok.after) commands)) ∙ ap (λ (ts : List Turn). (M.now a).said ++ (this_turn.said ++ said_in ts)) same_turns;
+        open_windows = x.open_windows ∙ ok.open_windows;
+        layout = x.layout ∙ ok.carries.layout;
+        least = let p = ok.carries.least in let q = x.least in omega (arith, p, q);
+        forced = λ any. enough_from k ok.after this_turn ok.carries turns (forced_of x.after) x.least (subst (λ (ts : List Turn). IsTrue (list_any (λ u. u.forces) ts) → length ok.after.changes + forced_in ts ≤ forced_of x.after) same_turns x.forced) any;
+        stands = x.stands;
+      }
+
+      said_behind : Said (turns_begun e rest.mets (volume_of ok.after) commands) (M.now m) (M.now b) → Said (this_turn ∷ turns) (M.now a) (M.now b)
+      said_behind x = record {
+        whole = suc x.whole;
+        most = let long = ap (λ (ts : List Turn). length ts) same_turns in let most = x.most in omega (arith, long, most);
+        said = x.said ∙ ap (λ (y : List ℕ). y ++ said_in (take x.whole (turns_begun e rest.mets (volume_of ok.after) commands))) ok.said
+            ∙ append_assoc (M.now a).said this_turn.said (said_in (take x.whole (turns_begun e rest.mets (volume_of ok.after) commands))) ∙ ap (λ (ts : List Turn). (M.now a).said ++ (this_turn.said ++ said_in (take x.whole ts))) same_turns;
+      }
+
+      ends : (r : Result (Unit {0}) End) → EndsBy state has e ok.after rest.mets commands z (M.now m) (M.now b) r → EndsBy state has e k (ok.met ∷ rest.mets) (command ∷ commands) z (M.now a) (M.now b) r
+      ends (Ok x) is = (ap (λ (n : ℕ). suc n) is.0, stands_behind is.1)
+      ends (Err (Stopped Ends.WornOut)) is = (is.0, stands_behind is.1)
+      ends (Err Output) is = tt
+      ends (Err (Stopped fault)) is = (is.0, said_behind is.1)
+
+      pub from_both : RunsFrom state has M e k from (command ∷ commands) a b z result
+      from_both = record { mets = ok.met ∷ rest.mets; goes = goes; moments = moments; ends = ends result rest.ends }
+
+    pub runs_then : Runs state has M e (command ∷ commands) v a z b result
+    runs_then honest k from stood aged = from_both honest k from stood aged
+
+  -- one that ends the run
+  pub runs_stop : (command : Command) (commands : List Command) (v z : S) (a b : D) (end : End) → Steps state has M e command v a z b (Err end) → Runs state has M e (command ∷ commands) v a z b (Err end)
+  runs_stop command commands v z a b end steps honest k from stood aged = steps honest k from stood aged commands
+
+-- ---- counts
+
+pub told_fault : (old new : Report) (fault : Fault) → UsesDisk old new → DiskFaults (device_told fault) old new → Told old new (Err (Stopped fault))
+told_fault old new fault uses faults = record { sectors = uses.sectors; disk = faults; input = uses.input; later = omega (arith, uses.output); output = tt }
+
+pub told_then : (a b c : Report) (r : Result (Unit {0}) End) → Told a b (Ok tt) → Told b c r → Told a c r
+told_then a b c r x y = record {
+  sectors = y.sectors ∙ x.sectors;
+  disk = faults_then (device_end r) a b c x.disk y.disk;
+  input = y.input ∙ x.input;
+  later = let p = x.later in let q = y.later in omega (arith, p, q);
+  output = unheard r y.output;
+}
+  where
+    unheard : (s : Result (Unit {0}) End) → Unheard b c s → Unheard a c s
+    unheard (Err Output) rose = let p = x.later in omega (arith, p, rose)
+    unheard (Err (Stopped fault)) rose = tt
+    unheard (Ok u) rose = tt
+
+pub on_ok_said : {T : Type 0} {H : Type 0} (P : Type 0) (r : Result T End) → H → OnOk r (H → P) → OnOk r P
+on_ok_said P (Ok x) h fact = fact h
+on_ok_said P (Err e) h fact = tt
+
+pub on_err_said : {T : Type 0} {H : Type 0} (P : End → Type 0) (r : Result T End) → H → IfErr r (λ end. H → P end) → IfErr r P
+on_err_said P (Ok x) h fact = tt
+on_err_said P (Err e) h fact = fact h

@@ -1,0 +1,313 @@
+-- Turns one after another.
+use Rattle.std.proofs.Common.{◌≡◌, ◌⊎◌, inl, inr, ⊎_elim, ℕ, zero, suc, ◌+◌, ◌-◌, ◌<◌, ◌≤◌, Bool, true, false, cond, List, [], ◌∷◌, ◌++◌, length, map, take, drop, Option, Some, None, refl, sym, ◌∙◌, ap, subst, arith, append_assoc, length-append}
+use Rattle.std.specs.Prelude.{IsTrue, IsFalse, nat_le, slice_get, ◌||◌, IfSome, option_and_then}
+use Rattle.std.specs.List.{list_any}
+use Rattle.std.proofs.lemmas.List.{append-nil, take_all, take-append-le}
+use Rattle.std.proofs.lemmas.Bool.{le-leb, leb-true, cases_lt, or_left, or_right}
+use Rattle.volume_layout.specs.declared.layout.Layout.{Layout}
+use Rattle.fsd_formats.specs.declared.anchor.Anchor.{Anchor}
+use Rattle.sector_disk.specs.declared.machine.Machine.{Ghosts}
+use Rattle.sector_disk.specs.declared.sector.WeakRun.{WeakRun}
+use Rattle.sector_disk.specs.Image.{IsWorn, open_damage}
+use Rattle.sector_disk.specs.Machine.{Moment, LeavesOnly, Utters}
+use Rattle.sector_disk.proofs.Moments.{then_on, leaves_more}
+use Rattle.fsd_log.specs.Scan.{Head, Walked, newer_of, is_newer}
+use Rattle.fsd_table.specs.Table.{Telling, told_in}
+use Rattle.fsd_files.specs.Answers.{Met}
+use Rattle.fsd_files.specs.Disk.{Image, Sectors, in_runs}
+use Rattle.fsd_files.specs.Files.{Change, after}
+use Rattle.fsd_files.specs.Kept.{Describes}
+use Rattle.fsd_bytes.specs.declared.key.Serial.{Serial}
+use Rattle.fsd_files.specs.Replies.{Reply}
+use Rattle.fsd_files.specs.Volume.{Volume}
+use Rattle.fsd_sound.specs.Anchors.{anchor_of, anchor_at}
+use Rattle.fsd_sound.specs.Mounted.{Mounted}
+use Rattle.fsd_sound.specs.Shown.{told, shown, shown_by, scan_by}
+use Rattle.fsd_sound.specs.Sound.{IsSound, Tells, weak_of}
+use Rattle.sector_disk.proofs.Wear.{worn_refl}
+use Rattle.fsd_sound.proofs.MountedLaws.{mounted_sound}
+use Rattle.fsd_sound.proofs.MoreLaws.{sound_more}
+use Rattle.fsd_texts.specs.declared.command.Command.{Command}
+use Rattle.fsd_texts.specs.declared.fault.Fault.TheVariants as Ends
+use Rattle.fsd_runs.specs.Commands.{answer, changes_of}
+use Rattle.fsd_runs.specs.Errands.{Errand, Turn, answered_so, scripted}
+use Rattle.fsd_runs.specs.Leaves.{SaysNext}
+use Rattle.fsd_runs.specs.Runs.{IsWornOut, LogIsFull, changes_in, forced_in, said_in, turn_of, last_count}
+use Rattle.fsd_runs.proofs.AnswerLaws.{told_is_forced}
+use Rattle.volume_contract.specs.State.{State, Ages, Known, volume_of, forced_of, Stands, is_worn}
+use Rattle.volume_turns.specs.Steps.{StaysSound}
+use Rattle.volume_turns.specs.Once.{InClose}
+use Rattle.volume_turns.specs.Turns.{Carries, InRun}
+
+-- ---- where a mount is worn out
+
+pub newer_own : (a : Anchor) (o p : Option Anchor) → IfSome o (λ b. b ≡ a) → IfSome p (λ b. b ≡ a) → IfSome (newer_of o p) (λ b. b ≡ a)
+newer_own a None None x y = tt
+newer_own a None (Some q) x y = y
+newer_own a (Some b) None x y = x
+newer_own a (Some b) (Some q) x y = by (is_newer q b)
+  where
+    by : (n : Bool) → cond n q b ≡ a
+    by true = y
+    by false = x
+
+some_is : (a b : Anchor) (o : Option Anchor) → o ≡ Some b → IfSome o (λ x. x ≡ a) → b ≡ a
+some_is a b None is own = absurd (cc is)
+some_is a b (Some x) is own = let same : x ≡ b = cc is in sym same ∙ own
+
+low_test : (n m : ℕ) → n ≤ m → IsTrue (nat_le n m)
+low_test n m le = le-leb n m le
+
+module _ {S : Type 0} (state : S → State) (has : S → Mounted → Type 0) (s : S) (k : Known) (now : Moment) (stands : Stands state has s k now) where
+  own_anchor : IfSome (anchor_of now.image) (λ b. b ≡ k.mounted.anchor)
+  own_anchor = let own = stands.disk.over.own.own in newer_own k.mounted.anchor (anchor_at now.image 8) (anchor_at now.image 12) own.0 own.1
+
+  head_is : (scan_by k.mounted.volume.layout now.image k.mounted.anchor).head ≡ k.mounted.head
+  head_is = ap (λ (w : Walked). w.head) stands.disk.over.own.log.scanned
+
+  pub worn_state : IsWornOut (volume_of k) now.image → IsTrue (is_worn (state s))
+  worn_state (inl low) =
+      let le : last_count ≤ (state s).serial.count = subst (λ (n : ℕ). last_count ≤ n) (ap (λ (x : Serial). x.count) stands.fits.serial) low in
+      or_left (nat_le last_count (state s).serial.count) (nat_le last_count (state s).head.number) (low_test last_count (state s).serial.count le)
+  worn_state (inr full) =
+      let same : full.anchor ≡ k.mounted.anchor = some_is k.mounted.anchor full.anchor (anchor_of now.image) full.taken own_anchor in
+      let head : (scan_by k.mounted.volume.layout now.image full.anchor).head ≡ (state s).head = ap (λ (a : Anchor). (scan_by k.mounted.volume.layout now.image a).head) same ∙ head_is ∙ stands.fits.head in
+      let le : last_count ≤ (state s).head.number = subst (λ (h : Head). last_count ≤ h.number) head full.full in
+      or_right (nat_le last_count (state s).serial.count) (nat_le last_count (state s).head.number) (low_test last_count (state s).head.number le)
+
+  some_anchor : (o : Option Anchor) → o ≡ anchor_of now.image → IfSome o (λ b. b ≡ k.mounted.anchor) → anchor_of now.image ≡ Some k.mounted.anchor
+  some_anchor (Some a) is own = sym is ∙ ap (λ (b : Anchor). Some b) own
+  some_anchor None is own = absurd (none_told (told k.mounted.volume.layout now.image) no_told (sound.tells now.image (worn_refl (weak_of k.windows) now.image)))
+    where
+      sound : IsSound k.mounted.volume.layout k.windows k.changes (forced_of k) now.image
+      sound = mounted_sound k.mounted k.windows k.changes (forced_of k) now.image stands.disk
+
+      no_shown : shown k.mounted.volume.layout now.image ≡ None
+      no_shown = ap (λ (o : Option Anchor). option_and_then (shown_by k.mounted.volume.layout now.image) o) (sym is)
+
+      no_told : told k.mounted.volume.layout now.image ≡ None
+      no_told = ap (λ (o : Option (List (List ℕ))). option_and_then told_in o) no_shown
+
+      none_told : (o : Option Telling) → o ≡ None → Tells k.mounted.volume.layout (in_runs k.windows) now.image k.changes (forced_of k) o → ⊥
+      none_told None none tells = tells
+      none_told (Some t) none tells = cc none
+
+  -- and conversely
+  pub state_worn : IsTrue (is_worn (state s)) → IsWornOut (volume_of k) now.image
+  state_worn worn = by (nat_le last_count (state s).serial.count) refl worn
+    where
+      by : (b : Bool) → b ≡ nat_le last_count (state s).serial.count → IsTrue (b || nat_le last_count (state s).head.number) → IsWornOut (volume_of k) now.image
+      by true is any = inl (subst (λ (x : Serial). last_count ≤ x.count) (sym stands.fits.serial) (leb-true last_count (state s).serial.count (sym is)))
+      by false is any = inr (record {
+        anchor = k.mounted.anchor;
+        taken = some_anchor (anchor_of now.image) refl own_anchor;
+        full = subst (λ (h : Head). last_count ≤ h.number) (sym (head_is ∙ stands.fits.head)) (leb-true last_count (state s).head.number any);
+      })
+
+-- ---- what may be said next
+
+pub says_nothing : (o : Option Turn) → SaysNext o []
+says_nothing None = refl
+says_nothing (Some t) = inr (Ends.Memory, 0, tt, refl)
+
+-- ---- moments of one command
+
+-- before anything is said
+pub in_before : (k : Known) (turns : List Turn) (old left : Moment) → StaysSound k old left → InRun k turns old left
+in_before k turns old left stays = record {
+  windows = stays.windows;
+  whole = 0;
+  part = [];
+  said = stays.said ∙ sym (append-nil old.said);
+  next = says_nothing (slice_get turns 0);
+  forced = forced_of k;
+  least = omega arith;
+  enough = λ any. absurd (cc any);
+  sound = sound_more k.mounted.volume.layout k.windows k.changes (changes_in (take 1 turns)) (forced_of k) left.image stays.sound;
+}
+
+one_turn : (t : Turn) (rest : List Turn) → changes_in (take 1 (t ∷ rest)) ≡ t.changes
+one_turn t rest = append-nil t.changes
+
+no_or : (b : Bool) → IsTrue (b || false) → IsTrue b
+no_or true is = refl
+no_or false is = is
+
+forced_one : (t : Turn) → IsTrue t.forces → forced_in (t ∷ []) ≡ length t.changes
+forced_one t is = ap (λ (b : Bool). cond b (length t.changes + 0) 0) (or_left t.forces false is) ∙ omega arith
+
+module _ (k after : Known) (t : Turn) (rest : List Turn) (layout : after.mounted.volume.layout ≡ k.mounted.volume.layout) (same : after.windows ≡ k.windows) (changes : after.changes ≡ k.changes ++ t.changes)
+    (f : ℕ) (least : forced_of k ≤ f) (old left : Moment) (windows : left.windows ≡ old.windows) (sound : IsSound after.mounted.volume.layout after.windows after.changes f left.image) where
+  sound_at : IsSound k.mounted.volume.layout k.windows (k.changes ++ t.changes) f left.image
+  sound_at =
+      subst (λ (h : List Change). IsSound k.mounted.volume.layout k.windows h f left.image) changes
+      (subst (λ (w : List WeakRun). IsSound k.mounted.volume.layout w after.changes f left.image) same
+      (subst (λ (l : Layout). IsSound l after.windows after.changes f left.image) layout sound))
+
+  -- a part of it is said
+  pub in_part : (part : List ℕ) → left.said ≡ old.said ++ part → SaysNext (Some t) part → InRun k (t ∷ rest) old left
+  in_part part said next = record {
+    windows = windows;
+    whole = 0;
+    part = part;
+    said = said;
+    next = next;
+    forced = f;
+    least = least;
+    enough = λ any. absurd (cc any);
+    sound = subst (λ (c : List Change). IsSound k.mounted.volume.layout k.windows (k.changes ++ c) f left.image) (sym (one_turn t rest)) sound_at;
+  }
+
+  -- all of it is said
+  pub in_whole : (IsTrue t.forces → f ≡ length after.changes) → left.said ≡ old.said ++ t.said → InRun k (t ∷ rest) old left
+  in_whole all said = record {
+    windows = windows;
+    whole = 1;
+    part = [];
+    said = said ∙ ap (λ (b : List ℕ). old.said ++ b) (sym (append-nil (t.said ++ []) ∙ append-nil t.said));
+    next = says_nothing (slice_get (t ∷ rest) 1);
+    forced = f;
+    least = least;
+    enough = λ any. let is = no_or t.forces any in let one = forced_one t is in let every = all is in let sum = length-append k.changes t.changes in let long = ap (λ (h : List Change). length h) changes in omega (arith, one, every, sum, long);
+    sound = subst (λ (h : List Change). IsSound k.mounted.volume.layout k.windows h f left.image) (append_assoc k.changes t.changes (changes_in (take 1 rest)))
+        (sound_more k.mounted.volume.layout k.windows (k.changes ++ t.changes) (changes_in (take 1 rest)) f left.image sound_at);
+  }
+
+  -- while it is said
+  pub in_saying_at : (IsTrue t.forces → f ≡ length after.changes) → (heard : ℕ) → left.said ≡ old.said ++ take heard t.said → InRun k (t ∷ rest) old left
+  in_saying_at all heard said = ⊎_elim (λ short. in_part (take heard t.said) said (inl (heard, short, refl))) (λ long. in_whole all (said ∙ ap (λ (b : List ℕ). old.said ++ b) (take_all heard t.said long))) (cases_lt heard (length t.said))
+
+pub in_saying : (k after : Known) (t : Turn) (rest : List Turn) → Carries k after t → (old left : Moment) → left.windows ≡ old.windows → IsSound after.mounted.volume.layout after.windows after.changes (forced_of after) left.image → (heard : ℕ)
+    → left.said ≡ old.said ++ take heard t.said → InRun k (t ∷ rest) old left
+in_saying k after t rest c old left windows sound heard said = in_saying_at k after t rest c.layout c.windows c.changes (forced_of after) c.least old left windows sound c.all heard said
+
+-- ---- one turn, and those behind it
+
+any_at : (t : Turn) (turns : List Turn) → Bool
+any_at t turns = list_any (λ u. u.forces) (t ∷ turns)
+
+pub forced_none : (turns : List Turn) → IsFalse (list_any (λ u. u.forces) turns) → forced_in turns ≡ 0
+forced_none [] none = refl
+forced_none (t ∷ turns) none = ap (λ (b : Bool). cond b (length t.changes + forced_in turns) 0) none
+
+module _ (k after : Known) (t : Turn) (stood : Carries k after t) (front : List Turn) (f : ℕ) (least : forced_of after ≤ f) (enough : IsTrue (list_any (λ u. u.forces) front) → length after.changes + forced_in front ≤ f) where
+  on_from : (here : Bool) → here ≡ t.forces → (behind : Bool) → behind ≡ list_any (λ u. u.forces) front → IsTrue (here || behind) → length k.changes + cond (here || behind) (length t.changes + forced_in front) 0 ≤ f
+  on_from here is_here true is any =
+      let e = enough (sym is) in
+      let sum = length-append k.changes t.changes in
+      let long = ap (λ (h : List Change). length h) stood.changes in
+      let whole : cond (here || true) (length t.changes + forced_in front) 0 ≡ length t.changes + forced_in front = ap (λ (b : Bool). cond b (length t.changes + forced_in front) 0) any in
+      omega (arith, e, sum, long, whole)
+  on_from true is_here false is any =
+      let none : forced_in front ≡ 0 = forced_none front (sym is) in
+      let all = stood.all (sym is_here) in
+      let sum = length-append k.changes t.changes in
+      let long = ap (λ (h : List Change). length h) stood.changes in
+      omega (arith, none, all, sum, long, least)
+  on_from false is_here false is any = absurd (cc any)
+
+  pub enough_from : IsTrue (list_any (λ u. u.forces) (t ∷ front)) → length k.changes + forced_in (t ∷ front) ≤ f
+  enough_from any = on_from t.forces refl (list_any (λ u. u.forces) front) refl any
+
+module _ (k after : Known) (t : Turn) (turns : List Turn) (stood : Carries k after t) (old mid left : Moment) (windows : mid.windows ≡ old.windows) (said : mid.said ≡ old.said ++ t.said) (run : InRun after turns mid left) where
+  abbrev front : List Turn
+  front = take run.whole turns
+
+  pub in_behind : InRun k (t ∷ turns) old left
+  in_behind = record {
+    windows = run.windows ∙ windows;
+    whole = suc run.whole;
+    part = run.part;
+    said = run.said ∙ ap (λ (b : List ℕ). b ++ (said_in front ++ run.part)) said ∙ append_assoc old.said t.said (said_in front ++ run.part) ∙ ap (λ (b : List ℕ). old.said ++ b) (sym (append_assoc t.said (said_in front) run.part));
+    next = run.next;
+    forced = run.forced;
+    least = let a = stood.least in let b = run.least in omega (arith, a, b);
+    enough = λ any. enough_from k after t stood front run.forced run.least run.enough any;
+    sound = subst (λ (h : List Change). IsSound k.mounted.volume.layout k.windows h run.forced left.image) (ap (λ (h : List Change). h ++ changes_in (take (suc run.whole) turns)) stood.changes ∙ append_assoc k.changes t.changes (changes_in (take (suc run.whole) turns)))
+        (subst (λ (w : List WeakRun). IsSound k.mounted.volume.layout w (after.changes ++ changes_in (take (suc run.whole) turns)) run.forced left.image) stood.windows
+        (subst (λ (l : Layout). IsSound l after.windows (after.changes ++ changes_in (take (suc run.whole) turns)) run.forced left.image) stood.layout run.sound));
+  }
+
+-- ---- a turn behind all of these, which changes nothing
+
+take_front : (turns more : List Turn) → take (length turns) (turns ++ more) ≡ turns
+take_front [] more = refl
+take_front (u ∷ turns) more = ap (λ (x : List Turn). u ∷ x) (take_front turns more)
+
+slice_at : (turns : List Turn) (t : Turn) (more : List Turn) → slice_get (turns ++ t ∷ more) (length turns) ≡ Some t
+slice_at [] t more = refl
+slice_at (u ∷ turns) t more = slice_at turns t more
+
+-- the changes of so many, where the one behind them has none
+changes_at : (turns : List Turn) (t : Turn) (more : List Turn) → t.changes ≡ [] → changes_in (take (suc (length turns)) (turns ++ t ∷ more)) ≡ changes_in turns
+changes_at [] t more none = append-nil t.changes ∙ none
+changes_at (u ∷ turns) t more none = ap (λ (x : List Change). u.changes ++ x) (changes_at turns t more none)
+
+changes_past : (turns : List Turn) (t : Turn) (more : List Turn) → t.changes ≡ [] → changes_in (take (suc (suc (length turns))) (turns ++ t ∷ more)) ≡ changes_in turns ++ changes_in (take 1 more)
+changes_past [] t more none = ap (λ (x : List Change). x ++ changes_in (take 1 more)) none
+changes_past (u ∷ turns) t more none = ap (λ (x : List Change). u.changes ++ x) (changes_past turns t more none) ∙ sym (append_assoc u.changes (changes_in turns) (changes_in (take 1 more)))
+
+said_past : (turns : List Turn) (t : Turn) (more : List Turn) → said_in (take (suc (length turns)) (turns ++ t ∷ more)) ≡ said_in turns ++ t.said
+said_past [] t more = append-nil t.said
+said_past (u ∷ turns) t more = ap (λ (x : List ℕ). u.said ++ x) (said_past turns t more) ∙ sym (append_assoc u.said (said_in turns) t.said)
+
+forced_more : (t : Turn) (turns : List Turn) → forced_in turns ≤ length (changes_in turns) → (b : Bool) → cond b (length t.changes + forced_in turns) 0 ≤ length (t.changes ++ changes_in turns)
+forced_more t turns rest true = let sum = length-append t.changes (changes_in turns) in omega (arith, rest, sum)
+forced_more t turns rest false = omega arith
+
+forced_most : (turns : List Turn) → forced_in turns ≤ length (changes_in turns)
+forced_most [] = omega arith
+forced_most (t ∷ turns) = forced_more t turns (forced_most turns) (list_any (λ u. u.forces) (t ∷ turns))
+
+module _ (k after : Known) (turns : List Turn) (t : Turn) (more : List Turn) (none : t.changes ≡ []) (layout : after.mounted.volume.layout ≡ k.mounted.volume.layout) (same : after.windows ≡ k.windows) (changes : after.changes ≡ k.changes ++ changes_in turns)
+    (least : forced_of k ≤ forced_of after) (enough : IsTrue (list_any (λ u. u.forces) turns) → length k.changes + forced_in turns ≤ forced_of after)
+    (old mid left : Moment) (mid_windows : mid.windows ≡ old.windows) (mid_said : mid.said ≡ old.said ++ said_in turns) (c : InClose after t.said mid left) where
+  sound_behind : IsSound k.mounted.volume.layout k.windows (k.changes ++ changes_in turns) c.forced left.image
+  sound_behind =
+      subst (λ (h : List Change). IsSound k.mounted.volume.layout k.windows h c.forced left.image) changes
+      (subst (λ (w : List WeakRun). IsSound k.mounted.volume.layout w after.changes c.forced left.image) same
+      (subst (λ (l : Layout). IsSound l after.windows after.changes c.forced left.image) layout c.sound))
+
+  part_behind : SaysNext (Some t) (take c.heard t.said) → InRun k (turns ++ t ∷ more) old left
+  part_behind next = record {
+    windows = c.windows ∙ mid_windows;
+    whole = length turns;
+    part = take c.heard t.said;
+    said = c.said ∙ ap (λ (x : List ℕ). x ++ take c.heard t.said) mid_said ∙ append_assoc old.said (said_in turns) (take c.heard t.said)
+        ∙ ap (λ (x : List Turn). old.said ++ (said_in x ++ take c.heard t.said)) (sym (take_front turns (t ∷ more)));
+    next = subst (λ (o : Option Turn). SaysNext o (take c.heard t.said)) (sym (slice_at turns t more)) next;
+    forced = c.forced;
+    least = let x = c.least in omega (arith, least, x);
+    enough = λ any. subst (λ (x : List Turn). length k.changes + forced_in x ≤ c.forced) (sym (take_front turns (t ∷ more)))
+        (let e = enough (subst (λ (x : List Turn). IsTrue (list_any (λ u. u.forces) x)) (take_front turns (t ∷ more)) any) in let x = c.least in omega (arith, e, x));
+    sound = subst (λ (x : List Change). IsSound k.mounted.volume.layout k.windows (k.changes ++ x) c.forced left.image) (sym (changes_at turns t more none)) sound_behind;
+  }
+
+  whole_behind : (some : 0 < c.heard) → length t.said ≤ c.heard → InRun k (turns ++ t ∷ more) old left
+  whole_behind some long = record {
+    windows = c.windows ∙ mid_windows;
+    whole = suc (length turns);
+    part = [];
+    said = c.said ∙ ap (λ (x : List ℕ). mid.said ++ x) (take_all c.heard t.said long) ∙ ap (λ (x : List ℕ). x ++ t.said) mid_said ∙ append_assoc old.said (said_in turns) t.said
+        ∙ ap (λ (x : List ℕ). old.said ++ x) (sym (append-nil (said_in (take (suc (length turns)) (turns ++ t ∷ more))) ∙ said_past turns t more));
+    next = says_nothing (slice_get (turns ++ t ∷ more) (suc (length turns)));
+    forced = c.forced;
+    least = let x = c.least in omega (arith, least, x);
+    enough = λ any.
+        let all = c.all some in
+        let sum = length-append k.changes (changes_in turns) in
+        let long_all = ap (λ (h : List Change). length h) changes in
+        let few = forced_most (take (suc (length turns)) (turns ++ t ∷ more)) in
+        let count = ap (λ (h : List Change). length h) (changes_at turns t more none) in
+        omega (arith, all, sum, long_all, few, count);
+    sound = subst (λ (x : List Change). IsSound k.mounted.volume.layout k.windows x c.forced left.image) (append_assoc k.changes (changes_in turns) (changes_in (take 1 more)) ∙ ap (λ (x : List Change). k.changes ++ x) (sym (changes_past turns t more none)))
+        (sound_more k.mounted.volume.layout k.windows (k.changes ++ changes_in turns) (changes_in (take 1 more)) c.forced left.image sound_behind);
+  }
+
+  -- while the volume is closed, and that turn is said
+  pub in_close : InRun k (turns ++ t ∷ more) old left
+  in_close = by c.heard refl
+    where
+      by : (heard : ℕ) → heard ≡ c.heard → InRun k (turns ++ t ∷ more) old left
+      by zero is = part_behind (subst (λ (x : ℕ). SaysNext (Some t) (take x t.said)) is (says_nothing (Some t)))
+      by (suc n) is = ⊎_elim (λ short. part_behind (inl (c.heard, short, refl))) (λ long. whole_behind (omega (arith, is)) long) (cases_lt c.heard (length t.said))

@@ -1,0 +1,57 @@
+use Rattle.std.proofs.Common.{◌≡◌, ℕ, List, [], ◌∷◌, ◌∙◌, sym, ap, subst, refl, Option, Some, None, cond}
+use Rattle.std.specs.Prelude.{Result, IsFalse, nat_lt}
+use Rattle.fsd_bytes.specs.declared.key.Key.{Key}
+use Rattle.fsd_bytes.specs.declared.refusal.Refusal.{Refusal}
+use Rattle.fsd_bytes.specs.declared.refusal.Refusal.TheVariants as Why
+use Rattle.fsd_formats.specs.NamePage.{max_keep}
+use Rattle.fsd_files.specs.Answers.{delete_outcome}
+use Rattle.fsd_files.specs.Files.{Change}
+use Rattle.fsd_files.specs.Replies.{Reply}
+use Rattle.fsd_texts.specs.declared.command.Command.TheVariants as Word
+use Rattle.fsd_texts.specs.declared.fault.Fault.{Fault}
+use Rattle.volume_turns.specs.declared.answer.Answer.{Answer}
+use Rattle.sector_disk.specs.Calls.{WritesDisk}
+use Rattle.volume_contract.specs.Order.{Comes, down}
+use Rattle.volume_contract.specs.State.{volume_of, force_writes, is_worn}
+use Rattle.volume_turns.specs.Steps.{Does, IsAnswered, Stays, device_by}
+use Rattle.sector_disk.proofs.CallLaws.{writes_more}
+use Rattle.volume_turns.proofs.OrderLaws.{steps_of, edit_rest, edit_never, keep_never, never_down, unworn_by, worn_by, unworn_through, keep_fits, fits_keep, delete_all, delete_down, delete_unworn, delete_worn, delete_through, force_down}
+use Rattle.volume_turns.proofs.StepLaws.{same_device, less_touched, answered_does, refused_does}
+use Rattle.volume_turns.proofs.commands.delete.Goals as goal
+
+pub returns-in-Ok-clause-disk : goal.returns-in-Ok-clause-disk
+returns-in-Ok-clause-disk g c =
+    let V = g.V.Files in
+    let v = c.args.v.now in
+    writes_more c.in-Ok.ensures.disk (λ h left. less_touched V.state V.holds v (force_writes (V.state v).layout) (g.M.Machine.now c.args.m.now) left)
+
+pub returns-in-Err-clause-disk : goal.returns-in-Err-clause-disk
+returns-in-Err-clause-disk g c =
+    let V = g.V.Files in
+    let v = c.args.v.now in
+    let s = V.state v in
+    subst (λ (f : Option ℕ). WritesDisk g.M.Machine f (Stays V.state V.holds v) c.args.m.now c.delete.new.m) (same_device c.in-Err.why (delete_down s c.requires.up c.in-Err.why c.in-Err.ensures.order) ∙ ap (λ (r : Result Answer Fault). device_by r) (sym c.ended_by.ensures))
+    (writes_more c.in-Err.ensures.disk (λ h left. less_touched V.state V.holds v (force_writes s.layout) (g.M.Machine.now c.args.m.now) left))
+
+pub returns-in-Ok-clause-done : goal.returns-in-Ok-clause-done
+returns-in-Ok-clause-done g c h k stands =
+    let V = g.V.Files in
+    let M = g.M.Machine in
+    let s = V.state c.args.v.now in
+    let e = c.in-Ok.ensures.done h k stands in
+    let unworn : IsFalse (is_worn s) = delete_through s c.in-Ok.ensures.order in
+    let is = answered_does V.state V.holds (Word.Delete c.args.key.now) c.args.v.now c.delete.new.self k (M.now c.args.m.now) (M.now c.delete.new.m) (λ met. delete_outcome met (volume_of k) c.args.key.now) (λ met. refl) (λ met. tt) (Reply.Deleted c.args.key.now) (Change.Delete c.args.key.now ∷ []) refl e.0 e.1 (λ may. unworn) in
+    (e.0, subst (λ (key : Key). IsAnswered (Word.Delete c.args.key.now) s k e.0 (M.now c.args.m.now).image (M.now c.delete.new.m).image (Reply.Deleted key)) (sym c.copied.ensures) is, e.2)
+
+pub returns-in-Err-clause-done : goal.returns-in-Err-clause-done
+returns-in-Err-clause-done g c h k stands =
+    let V = g.V.Files in
+    let M = g.M.Machine in
+    let s = V.state c.args.v.now in
+    let why = c.in-Err.why in
+    let order = c.in-Err.ensures.order in
+    subst (λ (r : Result Answer Fault). Does V.state V.holds (Word.Delete c.args.key.now) c.args.v.now c.delete.new.self k (M.now c.args.m.now) (M.now c.delete.new.m) r) (sym c.ended_by.ensures)
+    (refused_does V.state V.holds (Word.Delete c.args.key.now) c.args.v.now c.delete.new.self k (M.now c.args.m.now) (M.now c.delete.new.m) (λ met. delete_outcome met (volume_of k) c.args.key.now) (λ met. refl) (λ met. tt) why refl
+    (λ other may. delete_unworn s c.requires.up why order other)
+    (λ is. record { may = refl; worn = delete_worn s c.requires.up (subst (λ (x : Refusal). Comes (down s ∷ delete_all s) x) is order) })
+    (c.in-Err.ensures.done h k stands))

@@ -1,0 +1,49 @@
+use Rattle.std.proofs.Common.{◌≡◌, ℕ, ◌∙◌, sym, ap, subst, refl, Option}
+use Rattle.std.specs.Prelude.{Result}
+use Rattle.fsd_files.specs.Answers.{entry_of}
+use Rattle.fsd_texts.specs.declared.command.Command.TheVariants as Word
+use Rattle.fsd_texts.specs.declared.fault.Fault.{Fault}
+use Rattle.sector_disk.specs.Image.{open_damage}
+use Rattle.sector_disk.specs.Machine.{Moment}
+use Rattle.volume_turns.specs.declared.answer.Answer.{Answer}
+use Rattle.sector_disk.specs.Calls.{WritesDisk}
+use Rattle.volume_contract.specs.State.{volume_of}
+use Rattle.volume_turns.specs.Steps.{Does, Stays, device_by}
+use Rattle.sector_disk.proofs.CallLaws.{reads_as_writes, reads_then}
+use Rattle.volume_turns.proofs.OrderLaws.{entry_down}
+use Rattle.volume_turns.proofs.ReadLaws.{does_earlier, found_length, unfound_does}
+use Rattle.volume_turns.proofs.StepLaws.{same_device, wear_stays}
+use Rattle.volume_turns.proofs.commands.get.Goals as goal
+
+pub returns-in-Ok-clause-disk : goal.returns-in-Ok-clause-disk
+returns-in-Ok-clause-disk g c =
+    let V = g.V.Files in
+    let M = g.M.Machine in
+    let v = c.args.v.now in
+    let both = reads_then c.in-Ok.ensures.disk c.read_whole.ensures.disk in
+    reads_as_writes both (λ h left worn. wear_stays V.state V.holds v (M.now c.args.m.now) left (λ k. g.met.V.Files.wears v k (M.now c.args.m.now) left (g.met.M.Machine.short c.args.m.now (both.trust.honest h)) (record { image = worn.image; windows = worn.windows })) worn)
+
+pub returns-in-Ok-clause-done : goal.returns-in-Ok-clause-done
+returns-in-Ok-clause-done g c h k stands =
+    let V = g.V.Files in
+    let M = g.M.Machine in
+    let back = c.read_whole.ensures.disk.trust.honest h in
+    let worn = c.in-Ok.ensures.disk.worn back in
+    does_earlier V.state V.holds c.args.key.now c.args.v.now c.entry.new.self c.read_whole.new.v k (M.now c.args.m.now) (M.now c.entry.new.m) (M.now c.read_whole.new.m) (open_damage (M.now c.args.m.now).windows) worn.image c.read_whole.result
+    (c.read_whole.ensures.done h k (c.in-Ok.ensures.stands back k stands) (found_length (entry_of c.args.key.now (volume_of k).entries) c.in-Ok.entry (c.in-Ok.ensures.done back k stands)))
+
+pub returns-in-Err-clause-disk : goal.returns-in-Err-clause-disk
+returns-in-Err-clause-disk g c =
+    let V = g.V.Files in
+    let M = g.M.Machine in
+    let v = c.args.v.now in
+    let disk = c.in-Err.ensures.disk in
+    subst (λ (f : Option ℕ). WritesDisk M f (Stays V.state V.holds v) c.args.m.now c.entry.new.m) (same_device c.in-Err.why (entry_down (V.state v) c.requires.up c.in-Err.why c.in-Err.ensures.order) ∙ ap (λ (r : Result Answer Fault). device_by r) (sym c.ended_by.ensures))
+    (reads_as_writes disk (λ h left worn. wear_stays V.state V.holds v (M.now c.args.m.now) left (λ k. g.met.V.Files.wears v k (M.now c.args.m.now) left (g.met.M.Machine.short c.args.m.now (disk.trust.honest h)) (record { image = worn.image; windows = worn.windows })) worn))
+
+pub returns-in-Err-clause-done : goal.returns-in-Err-clause-done
+returns-in-Err-clause-done g c h k stands =
+    let V = g.V.Files in
+    let M = g.M.Machine in
+    subst (λ (r : Result Answer Fault). Does V.state V.holds (Word.Get c.args.key.now) c.args.v.now c.entry.new.self k (M.now c.args.m.now) (M.now c.entry.new.m) r) (sym c.ended_by.ensures)
+    (unfound_does V.state V.holds c.args.key.now c.args.v.now c.entry.new.self k (M.now c.args.m.now) (M.now c.entry.new.m) c.in-Err.why (c.in-Err.ensures.stands h k stands) (c.in-Err.ensures.done h k stands))

@@ -1,0 +1,45 @@
+use Rattle.std.proofs.Common.{◌≡◌, ℕ, List, ◌++◌, ◌∙◌, sym, ap, subst, refl, Option, length, take, drop, arith}
+use Rattle.std.specs.Prelude.{Result, IfSome}
+use Rattle.std.proofs.lemmas.List.{take_at}
+use Rattle.fsd_bytes.specs.declared.key.Key.{Key}
+use Rattle.fsd_formats.specs.declared.entry.Entry.{Entry}
+use Rattle.fsd_files.specs.Answers.{entry_of}
+use Rattle.fsd_files.specs.Replies.{Reply}
+use Rattle.fsd_texts.specs.declared.command.Command.TheVariants as Word
+use Rattle.fsd_texts.specs.declared.fault.Fault.{Fault}
+use Rattle.volume_turns.specs.declared.answer.Answer.{Answer}
+use Rattle.sector_disk.specs.Calls.{OnlyReads}
+use Rattle.volume_contract.specs.State.{volume_of}
+use Rattle.volume_turns.specs.Steps.{Does, IsAnswered, device_by}
+use Rattle.volume_turns.proofs.OrderLaws.{read_down}
+use Rattle.volume_turns.proofs.ReadLaws.{read_does, unread_does}
+use Rattle.volume_turns.proofs.StepLaws.{same_read_device}
+use Rattle.volume_turns.proofs.commands.read_whole.Goals as goal
+
+pub returns-in-Ok-read-clause-done : goal.returns-in-Ok-read-clause-done
+returns-in-Ok-read-clause-done g c h k stands len =
+    let V = g.V.Files in
+    let M = g.M.Machine in
+    let e = entry_of c.args.key.now (volume_of k).entries in
+    let size : length c.as_mut_slice.result.now ≡ c.args.length = omega (arith, c.in-Ok.ensures.len, c.as_mut_slice.ensures.len) in
+    let lens = subst (λ (n : ℕ). IfSome e (λ x. x.length ≡ n)) (sym size) len in
+    let is = read_does V.state V.holds c.args.key.now c.args.v.now c.read.new.self k (M.now c.args.m.now) (M.now c.read.new.m) c.as_mut_slice.result.now c.read.new.buf c.in-Ok-read.field-0 lens (c.in-Ok-read.ensures.done h k stands) in
+    let items = take_at c.read.new.buf (drop (length c.read.new.buf) c.in-Ok.bytes.items) c.in-Ok.bytes.len (omega (arith, c.in-Ok.ensures.len, c.as_mut_slice.ensures.len, c.read.auto.buf)) in
+    let reply : Reply.Bytes c.args.key.now c.read.new.buf ≡ Reply.Bytes c.copied.result (take c.in-Ok.bytes.len (c.read.new.buf ++ drop (length c.read.new.buf) c.in-Ok.bytes.items)) =
+    ap (λ (b : List ℕ). Reply.Bytes c.args.key.now b) (sym items) ∙ ap (λ (key : Key). Reply.Bytes key (take c.in-Ok.bytes.len (c.read.new.buf ++ drop (length c.read.new.buf) c.in-Ok.bytes.items))) (sym c.copied.ensures) in
+    (k, subst (λ (r : Reply). IsAnswered (Word.Get c.args.key.now) (V.state c.args.v.now) k k (M.now c.args.m.now).image (M.now c.read.new.m).image r) reply is, c.in-Ok-read.ensures.stands h k stands)
+
+pub returns-in-Err-clause-disk : goal.returns-in-Err-clause-disk
+returns-in-Err-clause-disk g c =
+    let s = g.V.Files.state c.args.v.now in
+    subst (λ (f : Option ℕ). OnlyReads g.M.Machine f c.args.m.now c.read.new.m) (same_read_device c.args.key.now c.in-Err.why (read_down s c.requires.up c.in-Err.why c.in-Err.ensures.order) ∙ ap (λ (r : Result Answer Fault). device_by r) (sym c.read_ended_by.ensures)) c.in-Err.ensures.disk
+
+pub returns-in-Err-clause-done : goal.returns-in-Err-clause-done
+returns-in-Err-clause-done g c h k stands len =
+    let V = g.V.Files in
+    let M = g.M.Machine in
+    let e = entry_of c.args.key.now (volume_of k).entries in
+    let size : length c.as_mut_slice.result.now ≡ c.args.length = omega (arith, c.in-Ok.ensures.len, c.as_mut_slice.ensures.len) in
+    let lens = subst (λ (n : ℕ). IfSome e (λ x. x.length ≡ n)) (sym size) len in
+    subst (λ (r : Result Answer Fault). Does V.state V.holds (Word.Get c.args.key.now) c.args.v.now c.read.new.self k (M.now c.args.m.now) (M.now c.read.new.m) r) (sym c.read_ended_by.ensures)
+    (unread_does V.state V.holds c.args.key.now c.args.v.now c.read.new.self k (M.now c.args.m.now) (M.now c.read.new.m) c.as_mut_slice.result.now c.read.new.buf c.in-Err.why lens (c.in-Err.ensures.stands h k stands) (c.in-Err.ensures.done h k stands))

@@ -1,0 +1,103 @@
+use Rattle.std.proofs.Common.{◌≡◌, ◌≤◌, ℕ, List, [], Option, None, refl, sym, ◌∙◌, ap, subst, arith, length}
+use Rattle.fsd_formats.specs.declared.entry.Entry.{Entry}
+use Rattle.fsd_files.specs.Answers.{entry_after}
+use Rattle.fsd_files.specs.Replies.{Found}
+use Rattle.sector_disk.proofs.CallLaws.{reads_none, reads_then}
+use Rattle.volume_contract.specs.State.{State, volume_of}
+use Rattle.volume_turns.specs.Listing.{AreListed}
+use Rattle.volume_turns.proofs.ListLaws.{files_in_order, listed_all, listed_counted, listed_more, listed_none, lists_length, outside_only}
+use Rattle.volume_turns.proofs.OrderLaws.{next_refuses}
+use Rattle.volume_turns.proofs.listing.collect.Goals as goal
+
+pub loop-init : goal.loop-init
+loop-init g c = record {
+  state = refl;
+  disk = reads_none c.args.m.now (λ left h was. g.met.M.Machine.only_now c.args.m.now left h was);
+  stands = λ h k stands. stands;
+  listed = λ h k stands. subst (λ (x : List Entry). AreListed c.args.pattern.now (volume_of k).entries 0 None x) (sym c.new-entries.ensures.items) (listed_none c.args.pattern.now (volume_of k).entries);
+}
+
+pub next_one-requires : goal.next_one-requires
+next_one-requires g c =
+    let was = c.loop.invariant in
+    let same = ap (λ (s : State). s.layout.sectors) was.state in
+    let sectors = was.disk.uses.sectors in
+    let room = c.requires.room in
+    record { room = omega (arith, same, sectors, room) }
+
+pub loop-preserved : goal.loop-preserved
+loop-preserved g c =
+    let was = c.loop.invariant in
+    let disk = c.in-Ok-Some.ensures.disk in
+    record {
+      state = c.next_one.ensures.state ∙ was.state;
+      disk = reads_then was.disk disk;
+      stands = λ h k stands. c.next_one.ensures.stands h k (was.stands (disk.trust.honest h) k stands);
+      listed = λ h k stands.
+          let back = disk.trust.honest h in
+          let looks = subst (λ (o : Option Entry). Found (entry_after c.loop.last (volume_of k).entries) ≡ Found o) c.in-Ok-Some.field-0-is (c.in-Ok-Some.ensures.done h k (was.stands back k stands)) in
+          listed_more c.args.pattern.now (volume_of k).files (volume_of k).entries stands.disk.described.lists (files_in_order g.V.Files.state g.V.Files.holds c.args.v.now k (g.M.Machine.now c.args.m.now) stands)
+          c.loop.counter c.loop.last c.loop.entries.items (was.listed back k stands) c.in-Ok-Some.e looks c.in-Ok.key c.in-Ok.ensures.key c.take_fitting.new.entries.items c.in-Ok.ensures.ok;
+    }
+
+pub returns-in-Err-take_fitting-clause-state : goal.returns-in-Err-take_fitting-clause-state
+returns-in-Err-take_fitting-clause-state g c = c.next_one.ensures.state ∙ c.loop.invariant.state
+
+pub returns-in-Err-take_fitting-clause-disk : goal.returns-in-Err-take_fitting-clause-disk
+returns-in-Err-take_fitting-clause-disk g c = reads_then c.loop.invariant.disk c.in-Ok-Some.ensures.disk
+
+pub returns-in-Err-take_fitting-clause-stands : goal.returns-in-Err-take_fitting-clause-stands
+returns-in-Err-take_fitting-clause-stands g c h k stands = c.next_one.ensures.stands h k (c.loop.invariant.stands (c.in-Ok-Some.ensures.disk.trust.honest h) k stands)
+
+pub returns-in-Ok-None-clause-state : goal.returns-in-Ok-None-clause-state
+returns-in-Ok-None-clause-state g c = c.next_one.ensures.state ∙ c.loop.invariant.state
+
+pub returns-in-Ok-None-clause-disk : goal.returns-in-Ok-None-clause-disk
+returns-in-Ok-None-clause-disk g c = reads_then c.loop.invariant.disk c.in-Ok-None.ensures.disk
+
+pub returns-in-Ok-None-clause-stands : goal.returns-in-Ok-None-clause-stands
+returns-in-Ok-None-clause-stands g c h k stands = c.next_one.ensures.stands h k (c.loop.invariant.stands (c.in-Ok-None.ensures.disk.trust.honest h) k stands)
+
+pub returns-in-Ok-None-clause-done : goal.returns-in-Ok-None-clause-done
+returns-in-Ok-None-clause-done g c h k stands =
+    let was = c.loop.invariant in
+    let back = c.in-Ok-None.ensures.disk.trust.honest h in
+    listed_all c.args.pattern.now (volume_of k).files (volume_of k).entries stands.disk.described.lists (files_in_order g.V.Files.state g.V.Files.holds c.args.v.now k (g.M.Machine.now c.args.m.now) stands)
+    c.loop.counter c.loop.last c.loop.entries.items (was.listed back k stands)
+    (subst (λ (o : Option Entry). Found (entry_after c.loop.last (volume_of k).entries) ≡ Found o) c.in-Ok-None.field-0-is (c.in-Ok-None.ensures.done h k (was.stands back k stands)))
+
+pub returns-in-Err-clause-state : goal.returns-in-Err-clause-state
+returns-in-Err-clause-state g c = c.next_one.ensures.state ∙ c.loop.invariant.state
+
+pub returns-in-Err-clause-refusal : goal.returns-in-Err-clause-refusal
+returns-in-Err-clause-refusal g c = next_refuses (g.V.Files.state c.loop.v) (ap (λ (s : State). s.down) c.loop.invariant.state ∙ c.requires.up) c.in-Err.why c.in-Err.ensures.order
+
+pub returns-in-Err-clause-disk : goal.returns-in-Err-clause-disk
+returns-in-Err-clause-disk g c = reads_then c.loop.invariant.disk c.in-Err.ensures.disk
+
+pub returns-in-Err-clause-stands : goal.returns-in-Err-clause-stands
+returns-in-Err-clause-stands g c h k stands = c.next_one.ensures.stands h k (c.loop.invariant.stands (c.in-Err.ensures.disk.trust.honest h) k stands)
+
+pub returns-in-Err-clause-done : goal.returns-in-Err-clause-done
+returns-in-Err-clause-done g c h k stands =
+    outside_only (entry_after c.loop.last (volume_of k).entries) c.in-Err.why (c.in-Err.ensures.done h k (c.loop.invariant.stands (c.in-Err.ensures.disk.trust.honest h) k stands))
+
+pub returns-clause-state : goal.returns-clause-state
+returns-clause-state g c = c.loop.invariant.state
+
+pub returns-clause-disk : goal.returns-clause-disk
+returns-clause-disk g c = c.loop.invariant.disk
+
+pub returns-clause-stands : goal.returns-clause-stands
+returns-clause-stands g c h k stands = c.loop.invariant.stands h k stands
+
+pub returns-clause-done : goal.returns-clause-done
+returns-clause-done g c h k stands =
+    let lists = stands.disk.described.lists in
+    let met = lists_length (volume_of k).files (volume_of k).entries lists in
+    let there = stands.fits.versions in
+    let asked = c.stat-end.ensures.versions in
+    let most = c.loop.auto.counter-end in
+    let ended = c.loop-test.false in
+    listed_counted c.args.pattern.now (volume_of k).files (volume_of k).entries lists (files_in_order g.V.Files.state g.V.Files.holds c.args.v.now k (g.M.Machine.now c.args.m.now) stands)
+    c.loop.counter c.loop.last c.loop.entries.items (c.loop.invariant.listed h k stands) (omega (arith, met, there, asked, most, ended))

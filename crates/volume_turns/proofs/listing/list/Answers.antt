@@ -1,0 +1,55 @@
+use Rattle.std.proofs.Common.{◌≡◌, ℕ, List, ◌∙◌, refl, sym, ap, subst, Option, None, false}
+use Rattle.std.specs.Prelude.{Result}
+use Rattle.std.proofs.lemmas.List.{append-nil}
+use Rattle.fsd_bytes.specs.declared.refusal.Refusal.TheVariants as Why
+use Rattle.fsd_formats.specs.declared.entry.Entry.{Entry}
+use Rattle.fsd_files.specs.Replies.{Reply}
+use Rattle.fsd_texts.specs.declared.command.Command.TheVariants as Word
+use Rattle.fsd_texts.specs.declared.fault.Fault.{Fault}
+use Rattle.sector_disk.specs.Calls.{WritesDisk}
+use Rattle.sector_disk.proofs.CallLaws.{reads_as_writes}
+use Rattle.volume_contract.specs.Order.{IsLookUp}
+use Rattle.volume_contract.specs.State.{volume_of}
+use Rattle.volume_turns.specs.declared.answer.Answer.{Answer}
+use Rattle.volume_turns.specs.Steps.{Does, Stays, device_by}
+use Rattle.volume_turns.proofs.StepLaws.{outside_does, same_device, wear_stays}
+use Rattle.volume_turns.proofs.listing.list.Goals as goal
+
+pub returns-in-Ok-clause-disk : goal.returns-in-Ok-clause-disk
+returns-in-Ok-clause-disk g c =
+    let V = g.V.Files in
+    let M = g.M.Machine in
+    let v = c.args.v.now in
+    let disk = c.in-Ok.ensures.disk in
+    reads_as_writes disk (λ h left worn. wear_stays V.state V.holds v (M.now c.args.m.now) left (λ k. g.met.V.Files.wears v k (M.now c.args.m.now) left (g.met.M.Machine.short c.args.m.now (disk.trust.honest h)) (record { image = worn.image; windows = worn.windows })) worn)
+
+pub returns-in-Ok-clause-done : goal.returns-in-Ok-clause-done
+returns-in-Ok-clause-done g c h k stands = (
+  k,
+  record {
+    met = record { forces = false; reached = 0; damaged = None };
+    is = ap (λ (x : List Entry). (Reply.Listed x, volume_of k)) (sym (c.in-Ok.ensures.done h k stands));
+    windows = refl;
+    changes = sym (append-nil k.changes);
+    find = tt;
+    unworn = λ may. cc may;
+  },
+  c.in-Ok.ensures.stands h k stands,
+)
+
+pub returns-in-Err-clause-disk : goal.returns-in-Err-clause-disk
+returns-in-Err-clause-disk g c =
+    let V = g.V.Files in
+    let M = g.M.Machine in
+    let v = c.args.v.now in
+    let disk = c.in-Err.ensures.disk in
+    let up = λ (t : ℕ) (is : c.in-Err.why ≡ Why.Down t). subst IsLookUp is c.in-Err.ensures.refusal in
+    subst (λ (f : Option ℕ). WritesDisk M f (Stays V.state V.holds v) c.args.m.now c.collect.new.m) (same_device c.in-Err.why up ∙ ap (λ (r : Result Answer Fault). device_by r) (sym c.ended_by.ensures))
+    (reads_as_writes disk (λ h left worn. wear_stays V.state V.holds v (M.now c.args.m.now) left (λ k. g.met.V.Files.wears v k (M.now c.args.m.now) left (g.met.M.Machine.short c.args.m.now (disk.trust.honest h)) (record { image = worn.image; windows = worn.windows })) worn))
+
+pub returns-in-Err-clause-done : goal.returns-in-Err-clause-done
+returns-in-Err-clause-done g c h k stands =
+    let V = g.V.Files in
+    let M = g.M.Machine in
+    subst (λ (r : Result Answer Fault). Does V.state V.holds (Word.List c.args.pattern.now) c.args.v.now c.collect.new.v k (M.now c.args.m.now) (M.now c.collect.new.m) r) (sym c.ended_by.ensures)
+    (outside_does V.state V.holds (Word.List c.args.pattern.now) c.args.v.now c.collect.new.v k (M.now c.args.m.now) (M.now c.collect.new.m) c.in-Err.why (c.in-Err.ensures.done h k stands))

@@ -1,0 +1,24 @@
+use Rattle.std.proofs.Common.{◌≡◌, ℕ, List, sym, subst}
+use Rattle.fsd_files.specs.Replies.{Reply}
+use Rattle.volume_turns.specs.Once.{ClosesAndSays}
+use Rattle.volume_turns.specs.Steps.{reply_of}
+use Rattle.volume_turns.proofs.OnceLaws.{alone_answered, alone_fault}
+use Rattle.volume_turns.proofs.once.alone.Goals as goal
+
+pub returns-in-Ok-clause-does : goal.returns-in-Ok-clause-does
+returns-in-Ok-clause-does g c h k none stands =
+    let V = g.V.Files in
+    let M = g.M.Machine in
+    let back = c.close_and_say.ensures.trust.honest h in
+    let does = c.in-Ok.ensures.done back k stands in
+    let reply = reply_of c.in-Ok.answer in
+    alone_answered V.state V.holds M g.met.V.Files.wears (λ m x. g.met.M.Machine.short m x) g.met.M.Machine.counts_now c.args.c.now c.args.v c.answer.new.v c.args.m.now c.answer.new.m c.close_and_say.new.m k stands _ c.in-Ok.ensures.disk c.in-Ok.ensures.layout back
+    (c.close_and_say.ensures.since h) does.0 reply does.1 does.2 c.close_and_say.result
+    (subst (λ (says : Reply → List ℕ). ClosesAndSays M does.0 (says reply) c.answer.new.m c.close_and_say.new.m c.close_and_say.result) c.requires.says (c.close_and_say.ensures.closes h does.0 does.2))
+
+pub returns-in-Err-clause-does : goal.returns-in-Err-clause-does
+returns-in-Err-clause-does g c h k none stands =
+    let V = g.V.Files in
+    let M = g.M.Machine in
+    alone_fault V.state V.holds M g.met.V.Files.wears (λ m x. g.met.M.Machine.short m x) g.met.M.Machine.counts_now c.args.c.now c.args.v c.answer.new.v c.args.m.now c.answer.new.m c.answer.new.m k stands _ c.in-Err.ensures.disk c.in-Err.ensures.layout h (λ t left le was. was)
+    c.requires.unworn c.in-Err.fault (c.in-Err.ensures.done h k stands)

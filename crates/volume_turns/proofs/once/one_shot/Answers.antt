@@ -1,0 +1,29 @@
+use Rattle.std.proofs.Common.{◌≡◌, inl, inr, Ok, Err}
+use Rattle.volume_turns.specs.declared.once.Stop.TheVariants.{Unmounted, Ended}
+use Rattle.volume_turns.proofs.OneShotLaws.{shot_mounted, shot_failed}
+use Rattle.volume_turns.proofs.once.one_shot.Goals as goal
+
+pub returns-in-Ok-alone-clause-leaves : goal.returns-in-Ok-alone-clause-leaves
+returns-in-Ok-alone-clause-leaves g c honest l windows h f sound =
+    let V = g.V.Files in
+    let M = g.M.Machine in
+    let back = c.alone.ensures.trust.honest honest in
+    let disk = c.in-Ok.ensures.disk in
+    shot_mounted V.state V.holds M l windows h f c.args.m.now c.mount.new.m c.alone.new.m c.in-Ok.v (disk.quiet back) (c.alone.ensures.since honest) (g.met.M.Machine.counts_now c.mount.new.m) back (g.met.M.Machine.counts_now c.alone.new.m) honest c.args.c.now (Ok tt) (c.in-Ok.ensures.sound back l windows h f sound)
+    (λ k none stands. c.in-Ok-alone.ensures.does honest k none stands)
+
+pub returns-in-Err-alone-clause-leaves : goal.returns-in-Err-alone-clause-leaves
+returns-in-Err-alone-clause-leaves g c honest l windows h f sound =
+    let V = g.V.Files in
+    let M = g.M.Machine in
+    let back = c.alone.ensures.trust.honest honest in
+    let disk = c.in-Ok.ensures.disk in
+    shot_mounted V.state V.holds M l windows h f c.args.m.now c.mount.new.m c.alone.new.m c.in-Ok.v (disk.quiet back) (c.alone.ensures.since honest) (g.met.M.Machine.counts_now c.mount.new.m) back (g.met.M.Machine.counts_now c.alone.new.m) honest c.args.c.now (Err c.in-Err-alone.end) (c.in-Ok.ensures.sound back l windows h f sound)
+    (λ k none stands. c.in-Err-alone.ensures.does honest k none stands)
+
+pub returns-in-Err-clause-leaves : goal.returns-in-Err-clause-leaves
+returns-in-Err-clause-leaves g c honest l windows h f sound =
+    let V = g.V.Files in
+    let M = g.M.Machine in
+    let disk = c.in-Err.ensures.disk in
+    shot_failed V.state V.holds M l windows h f c.args.m.now c.mount.new.m c.in-Err.fault (disk.quiet honest) (g.met.M.Machine.counts_now c.mount.new.m) (λ left was. g.met.M.Machine.only_now c.mount.new.m left honest was) honest c.args.c.now (c.in-Err.ensures.sound honest l windows h f sound)

@@ -1,0 +1,39 @@
+use Rattle.std.proofs.Common.{refl, sym, subst, ◌∙◌}
+use Rattle.sector_disk.specs.Image.{AreShort, Windows}
+use Rattle.fsd_runs.specs.Errands.{Errand}
+use Rattle.volume_turns.specs.declared.turns.End.{End}
+use Rattle.volume_turns.specs.Steps.{device_told, reply_of}
+use Rattle.volume_turns.specs.Turns.{SaysAll, Unsaid}
+use Rattle.volume_turns.proofs.RunLaws.{step_said, step_fault, told_fault, told_then, on_ok_said, on_err_said}
+use Rattle.volume_turns.proofs.turns.step.Goals as goal
+
+pub returns-in-Ok-clause-steps : goal.returns-in-Ok-clause-steps
+returns-in-Ok-clause-steps g c h k from stood aged =
+    let V = g.V.Files in
+    let M = g.M.Machine in
+    let a = c.args.m.now in
+    let v = c.args.v.now in
+    let back = c.say.ensures.trust.honest h in
+    let disk = c.answer.ensures.disk in
+    let first = disk.trust.honest back in
+    let short = λ (m : g.row.M.Denot) (x : M.honest m). g.met.M.Machine.short m x in
+    let at = g.met.V.Files.wears v k from (M.now a) (subst (λ (w : Windows). AreShort w) aged.windows (short a first)) aged stood in
+    let does = c.in-Ok.ensures.done back k at in
+    step_said V.state V.holds M g.met.V.Files.wears short g.met.M.Machine.counts_now g.T.Says.errand c.requires.lazily c.args.c.now v c.answer.new.v a c.answer.new.m c.say.new.m k from stood aged at _ c.in-Ok.ensures.disk c.in-Ok.ensures.layout back (c.say.ensures.since h)
+    does.0 (reply_of c.in-Ok.answer) does.1 does.2 (c.say.ensures.moments h) c.say.result (on_ok_said (SaysAll (g.T.Says.errand.says (reply_of c.in-Ok.answer)) (M.now c.answer.new.m) (M.now c.say.new.m)) c.say.result h c.say.ensures.said) (on_err_said (Unsaid (M.now c.answer.new.m) (M.now c.say.new.m)) c.say.result h c.say.ensures.unsaid)
+
+pub returns-in-Err-clause-told : goal.returns-in-Err-clause-told
+returns-in-Err-clause-told g c = told_fault (g.M.Machine.report c.args.m.now) (g.M.Machine.report c.answer.new.m) c.in-Err.fault c.in-Err.ensures.disk.uses c.in-Err.ensures.disk.faults
+
+pub returns-in-Err-clause-steps : goal.returns-in-Err-clause-steps
+returns-in-Err-clause-steps g c h k from stood aged =
+    let V = g.V.Files in
+    let M = g.M.Machine in
+    let a = c.args.m.now in
+    let v = c.args.v.now in
+    let disk = c.in-Err.ensures.disk in
+    let first = disk.trust.honest h in
+    let short = λ (m : g.row.M.Denot) (x : M.honest m). g.met.M.Machine.short m x in
+    let at = g.met.V.Files.wears v k from (M.now a) (subst (λ (w : Windows). AreShort w) aged.windows (short a first)) aged stood in
+    step_fault V.state V.holds M g.met.V.Files.wears short g.met.M.Machine.counts_now g.T.Says.errand c.requires.lazily c.args.c.now v c.answer.new.v a c.answer.new.m c.answer.new.m k from stood aged at _ disk c.in-Err.ensures.layout h (λ t left le was. was)
+    c.in-Err.fault (c.in-Err.ensures.done h k at)

@@ -1,0 +1,5 @@
+pub mod Listing
+pub mod Steps
+pub mod Turns
+pub mod Once
+pub mod Group

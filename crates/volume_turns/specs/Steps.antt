@@ -1,0 +1,89 @@
+-- One command over a mounted volume: what it answers, and what it leaves.
+use Rattle.std.specs.Prelude.{◌≡◌, ⊤, ℕ, List, ◌++◌, length, Option, Some, None, Result, Ok, Err, IsTrue, IsFalse}
+use Rattle.fsd_bytes.specs.declared.key.Key.{Key}
+use Rattle.fsd_bytes.specs.declared.refusal.Refusal.{Refusal}
+use Rattle.fsd_bytes.specs.declared.refusal.Refusal.TheVariants as Why
+use Rattle.fsd_files.specs.Answers.{Met}
+use Rattle.fsd_files.specs.Disk.{Image}
+use Rattle.fsd_files.specs.Replies.{Reply}
+use Rattle.fsd_texts.specs.declared.command.Command.{Command}
+use Rattle.fsd_texts.specs.declared.fault.Fault.{Fault}
+use Rattle.fsd_texts.specs.declared.fault.Fault.TheVariants as Ends
+use Rattle.fsd_runs.specs.Commands.{answer, changes_of, MayFind, may_wear_out}
+use Rattle.sector_disk.specs.Machine.{Moment}
+use Rattle.fsd_sound.specs.Mounted.{Mounted}
+use Rattle.fsd_sound.specs.Sound.{IsSound}
+use Rattle.volume_turns.specs.declared.answer.Answer.{Answer}
+use Rattle.volume_turns.specs.declared.answer.Answer.TheVariants as Said
+use Rattle.volume_contract.specs.State.{State, Known, volume_of, forced_of, Stands, is_worn}
+
+-- ---- answers of the code
+
+abbrev pub reply_of : Answer → Reply
+reply_of (Said.Refused why) = Reply.Refused why
+reply_of (Said.Made key sectors) = Reply.Made key sectors
+reply_of (Said.Deleted key) = Reply.Deleted key
+reply_of (Said.Kept key keep) = Reply.Kept key keep
+reply_of (Said.Bytes key bytes) = Reply.Bytes key bytes.items
+reply_of (Said.Damaged key s) = Reply.DamagedAt key s
+reply_of Said.Forced = Reply.Forced
+reply_of (Said.Listed entries) = Reply.Listed entries.items
+reply_of (Said.Counts s) = Reply.Counts s.free s.waiting s.pages_free s.versions
+
+-- a refusal ends the run, or is said
+abbrev pub ended_by : Refusal → Result Answer Fault
+ended_by (Why.Device s) = Err (Ends.Device s)
+ended_by (Why.Down s) = Err (Ends.Device s)
+ended_by (Why.Lost a b) = Err (Ends.Lost a b)
+ended_by (Why.Unsound s) = Err (Ends.Unsound s)
+ended_by Why.WornOut = Err Ends.WornOut
+ended_by Why.Memory = Err Ends.Memory
+ended_by why = Ok (Said.Refused why)
+
+abbrev pub read_ended_by : Key → Refusal → Result Answer Fault
+read_ended_by key (Why.Damaged s) = Ok (Said.Damaged key s)
+read_ended_by key why = ended_by why
+
+-- the place of the call of the disk that failed
+abbrev pub device_told : Fault → Option ℕ
+device_told (Ends.Device s) = Some s
+device_told fault = None
+
+abbrev pub device_by : {T : Type 0} → Result T Fault → Option ℕ
+device_by (Ok x) = None
+device_by (Err fault) = device_told fault
+
+-- ---- what a stop leaves
+
+-- The disk is sound as it was.
+pub record StaysSound (k : Known) (old left : Moment) : Type 0 where
+  pub sound : IsSound k.mounted.volume.layout k.windows k.changes (forced_of k) left.image
+  pub windows : left.windows ≡ old.windows
+  pub said : left.said ≡ old.said
+
+abbrev pub Stays : {S : Type 0} → (state : S → State) → (has : S → Mounted → Type 0) → S → Moment → Moment → Type 0
+Stays state has s old left = (k : Known) → Stands state has s k old → StaysSound k old left
+
+-- ---- how a command ends
+
+-- It is answered as the definitions do, over the images from its entry to its exit, and isn't one that a worn-out mount refuses.
+pub record IsAnswered (command : Command) (s : State) (k after : Known) (i j : Image) (reply : Reply) : Type 0 where
+  pub met : Met
+  pub is : answer met (volume_of k) command ≡ (reply, volume_of after)
+  pub windows : after.windows ≡ k.windows
+  pub changes : after.changes ≡ k.changes ++ changes_of command reply
+  pub find : MayFind i j (volume_of k) command met
+  pub unworn : IsTrue (may_wear_out command) → IsFalse (is_worn s)
+
+-- The mount is worn out, and would have to change something.
+pub record IsRefusedWorn (command : Command) (s : State) : Type 0 where
+  pub may : IsTrue (may_wear_out command)
+  pub worn : IsTrue (is_worn s)
+
+module _ {S : Type 0} (state : S → State) (has : S → Mounted → Type 0) where
+  abbrev pub Does : Command → (old new : S) → Known → (before now : Moment) → Result Answer Fault → Type 0
+  Does command old new k before now (Ok a) = (after : Known) × IsAnswered command (state old) k after before.image now.image (reply_of a) × Stands state has new after now
+  Does command old new k before now (Err (Ends.Device s)) = ⊤
+  Does command old new k before now (Err Ends.Memory) = ⊤
+  Does command old new k before now (Err Ends.WornOut) = IsRefusedWorn command (state old) × Stands state has new k now
+  Does command old new k before now (Err fault) = ⊥

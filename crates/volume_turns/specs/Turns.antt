@@ -1,0 +1,154 @@
+-- Commands one after another over a mounted volume, each with its reply said: what a stop leaves, and how they end.
+use Rattle.std.specs.Prelude.{◌≡◌, ◌⊎◌, ⊤, ℕ, suc, ◌+◌, ◌≤◌, List, [], ◌∷◌, ◌++◌, length, map, take, slice_get, Option, Some, None, Result, Ok, Err, IsTrue, IsSome}
+use Rattle.std.specs.List.{list_any}
+use Rattle.sector_disk.specs.declared.machine.Machine.{Ghosts}
+use Rattle.sector_disk.specs.Machine.{Moment, Report, Rose, LeavesOnly, Wears}
+use Rattle.fsd_files.specs.Answers.{Met}
+use Rattle.fsd_files.specs.Disk.{Image, in_runs}
+use Rattle.fsd_files.specs.Replies.{Reply}
+use Rattle.fsd_files.specs.Volume.{Volume}
+use Rattle.fsd_sound.specs.Mounted.{Mounted}
+use Rattle.fsd_sound.specs.Sound.{IsSound}
+use Rattle.fsd_texts.specs.declared.command.Command.{Command}
+use Rattle.fsd_texts.specs.declared.fault.Fault.{Fault}
+use Rattle.fsd_texts.specs.declared.fault.Fault.TheVariants as Ends
+use Rattle.fsd_runs.specs.Commands.{answer, changes_of, may_wear_out}
+use Rattle.fsd_runs.specs.Errands.{Answered, Errand, Turn, answered_so}
+use Rattle.fsd_runs.specs.Runs.{Goes, IsStep, IsWornOut, Stood, answered, behind, changes_in, forced_in, said_in, turn_of, WearsOut, turns_begun}
+use Rattle.fsd_runs.specs.Leaves.{SaysNext}
+use Rattle.volume_turns.specs.declared.turns.End.{End}
+use Rattle.volume_turns.specs.declared.turns.End.TheVariants.{Fault as Stopped, Output}
+use Rattle.sector_disk.specs.Calls.{DiskFaults, Since}
+use Rattle.volume_turns.specs.Steps.{device_told}
+use Rattle.volume_contract.specs.State.{State, Ages, Known, volume_of, forced_of, Stands}
+
+-- A moment of a run of these turns over a volume that stands so: some are said whole, and a part of what comes next. The disk is
+-- sound for the changes of the turns said and of the one under way.
+pub record InRun (k : Known) (turns : List Turn) (old left : Moment) : Type 0 where
+  pub windows : left.windows ≡ old.windows
+  pub whole : ℕ
+  pub part : List ℕ
+  pub said : left.said ≡ old.said ++ (said_in (take whole turns) ++ part)
+  pub next : SaysNext (slice_get turns whole) part
+  pub forced : ℕ
+  pub least : forced_of k ≤ forced
+  pub enough : IsTrue (list_any (λ t. t.forces) (take whole turns)) → length k.changes + forced_in (take whole turns) ≤ forced
+  pub sound : IsSound k.mounted.volume.layout k.windows (k.changes ++ changes_in (take (suc whole) turns)) forced left.image
+
+-- All of it is said, or none where memory was refused.
+pub record SaysAll (text : List ℕ) (old new : Moment) : Type 0 where
+  pub ages : Ages old new
+  pub said : new.said ≡ old.said ++ text
+
+abbrev pub Unsaid : Moment → Moment → End → Type 0
+Unsaid old new (Stopped Ends.Memory) = Wears old new
+Unsaid old new Output = ⊤
+Unsaid old new end = ⊥
+
+-- What stands behind a turn.
+pub record Carries (k after : Known) (t : Turn) : Type 0 where
+  pub layout : after.mounted.volume.layout ≡ k.mounted.volume.layout
+  pub windows : after.windows ≡ k.windows
+  pub changes : after.changes ≡ k.changes ++ t.changes
+  pub least : forced_of k ≤ forced_of after
+  pub all : IsTrue t.forces → forced_of after ≡ length after.changes
+
+-- Nothing, or what a group that is cut off asks for: the mount is worn out.
+abbrev pub Behind : Result (Unit {0}) End → Volume → Image → Type 0
+Behind (Err (Stopped Ends.WornOut)) v i = IsWornOut v i
+Behind result v i = ⊤
+
+-- a fault that ends a run at once
+abbrev pub EndsAtOnce : Fault → Type 0
+EndsAtOnce (Ends.Device s) = ⊤
+EndsAtOnce Ends.Memory = ⊤
+EndsAtOnce fault = ⊥
+
+-- What was said is whole turns, and not all that were begun, or no more were.
+pub record Said (turns : List Turn) (old now : Moment) : Type 0 where
+  pub whole : ℕ
+  pub most : whole ≤ length turns
+  pub said : now.said ≡ old.said ++ said_in (take whole turns)
+
+abbrev pub turn_by : Errand → Known → Command → Met → Turn
+turn_by e k command met = turn_of e (answered_so command (answer met (volume_of k) command).0)
+
+module _ {S : Type 0} (state : S → State) (has : S → Mounted → Type 0) where
+  -- The commands that were begun are answered and said, and the volume stands behind them.
+  pub record StandsBehind (e : Errand) (k : Known) (mets : List Met) (commands : List Command) (s : S) (old now : Moment) : Type 0 where
+    pub after : Known
+    pub is : volume_of after ≡ behind mets (volume_of k) commands
+    pub windows : after.windows ≡ k.windows
+    pub changes : after.changes ≡ k.changes ++ changes_in (turns_begun e mets (volume_of k) commands)
+    pub said : now.said ≡ old.said ++ said_in (turns_begun e mets (volume_of k) commands)
+    pub open_windows : now.windows ≡ old.windows
+    pub layout : after.mounted.volume.layout ≡ k.mounted.volume.layout
+    pub least : forced_of k ≤ forced_of after
+    pub forced : IsTrue (list_any (λ t. t.forces) (turns_begun e mets (volume_of k) commands)) → length k.changes + forced_in (turns_begun e mets (volume_of k) commands) ≤ forced_of after
+    pub stands : Stands state has s after now
+
+  abbrev pub EndsBy : Errand → Known → List Met → List Command → S → (old now : Moment) → Result (Unit {0}) End → Type 0
+  EndsBy e k mets commands s old now (Ok x) = (length mets ≡ length commands) × StandsBehind e k mets commands s old now
+  EndsBy e k mets commands s old now (Err (Stopped Ends.WornOut)) = WearsOut (slice_get commands (length mets)) × StandsBehind e k mets commands s old now
+  EndsBy e k mets commands s old now (Err (Stopped fault)) = EndsAtOnce fault × Said (turns_begun e mets (volume_of k) commands) old now
+  EndsBy e k mets commands s old now (Err Output) = ⊤
+
+  -- The commands over the volume as it stood at a moment that has been worn since.
+  pub record RunsFrom {D : Type 0} (M : Ghosts D) (e : Errand) (k : Known) (from : Moment) (commands : List Command) (a b : D) (s : S) (result : Result (Unit {0}) End) : Type 0 where
+    pub mets : List Met
+    pub goes : (t : ℕ) → t ≤ M.moment a → Goes (in_runs k.windows) (M.left_since b t) (Behind result) e (M.now a).said from.image (volume_of k) mets commands
+    pub moments : (rest : List Turn) → LeavesOnly M.moment M.left_since a b (InRun k (turns_begun e mets (volume_of k) commands ++ rest) (M.now a))
+    pub ends : EndsBy e k mets commands s (M.now a) (M.now b) result
+
+  abbrev pub Runs : {D : Type 0} → (M : Ghosts D) → Errand → List Command → (old : S) → (a : D) → (new : S) → (b : D) → Result (Unit {0}) End → Type 0
+  Runs M e commands old a new b result =
+      M.honest b → (k : Known) (from : Moment) → Stands state has old k from → Ages from (M.now a) → RunsFrom M e k from commands a b new result
+
+  -- ---- one command
+
+  -- It is answered and said: the volume stands so before its reply is said, and since.
+  pub record StepsOk {D : Type 0} (M : Ghosts D) (e : Errand) (k : Known) (from : Moment) (command : Command) (a b : D) (s : S) : Type 0 where
+    pub met : Met
+    pub after : Known
+    pub mid : Moment
+    pub step : (t : ℕ) → t ≤ M.moment a → IsStep (in_runs k.windows) (M.left_since b t) (M.now a).said from.image mid.image (volume_of k) command met
+    pub is : volume_of after ≡ (answer met (volume_of k) command).1
+    pub carries : Carries k after (turn_by e k command met)
+    pub stands : Stands state has s after mid
+    pub ages : Ages mid (M.now b)
+    pub open_windows : (M.now b).windows ≡ (M.now a).windows
+    pub said : (M.now b).said ≡ (M.now a).said ++ (turn_by e k command met).said
+    pub moments : (rest : List Turn) → LeavesOnly M.moment M.left_since a b (InRun k (turn_by e k command met ∷ rest) (M.now a))
+
+  -- where it ends the run, it does so whatever commands would follow
+  abbrev pub StepsBy : {D : Type 0} → (M : Ghosts D) → Errand → Known → Moment → Command → (a b : D) → S → Result (Unit {0}) End → Type 0
+  StepsBy M e k from command a b s (Ok x) = StepsOk M e k from command a b s
+  StepsBy M e k from command a b s (Err end) = (more : List Command) → RunsFrom M e k from (command ∷ more) a b s (Err end)
+
+  abbrev pub Steps : {D : Type 0} → (M : Ghosts D) → Errand → Command → (old : S) → (a : D) → (new : S) → (b : D) → Result (Unit {0}) End → Type 0
+  Steps M e command old a new b result =
+      M.honest b → (k : Known) (from : Moment) → Stands state has old k from → Ages from (M.now a) → StepsBy M e k from command a b new result
+
+-- ---- what is counted
+
+abbrev pub device_end : Result (Unit {0}) End → Option ℕ
+device_end (Err (Stopped fault)) = device_told fault
+device_end result = None
+
+abbrev pub Unheard : Report → Report → Result (Unit {0}) End → Type 0
+Unheard old new (Err Output) = Rose old.output_faults new.output_faults
+Unheard old new result = ⊤
+
+-- Of a run of commands the fault that ends it is counted, and no other of the disk.
+pub record Told (old new : Report) (result : Result (Unit {0}) End) : Type 0 where
+  pub sectors : new.sectors ≡ old.sectors
+  pub disk : DiskFaults (device_end result) old new
+  pub input : new.input_faults ≡ old.input_faults
+  pub later : old.output_faults ≤ new.output_faults
+  pub output : Unheard old new result
+
+-- What the rest of the machine's calls keep.
+pub record Follows {D : Type 0} (M : Ghosts D) (a b : D) : Type 0 where
+  pub honest : M.honest b → M.honest a
+  pub since : M.honest b → Since M a b
+  pub later : M.honest b → M.moment a ≤ M.moment b

@@ -1,0 +1,50 @@
+//! What a command answers.
+ghost use Rattle.std.specs.Prelude.{◌≡◌};
+ghost use Rattle.volume_turns.specs.Steps.{ended_by, read_ended_by};
+
+use fsd_bytes::{Key, Refusal};
+use fsd_formats::Entry;
+use fsd_texts::Fault;
+use volume_contract::Stat;
+
+/// What a command answers.
+#[derive(Drop)]
+pub enum Answer {
+    Refused(Refusal),
+    Made { key: Key, sectors: u32 },
+    Deleted(Key),
+    Kept { key: Key, keep: u32 },
+    Listed(Vec<Entry>),
+    Bytes { key: Key, bytes: Vec<u8> },
+    Damaged { key: Key, sector: u32 },
+    Forced,
+    Counts(Stat),
+}
+
+// A refusal is said, or ends the run.
+pub(crate) fn ended_by(why: Refusal) -> Result<Answer, Fault>
+    ensures { result ≡ ended_by why }
+{
+    match why {
+        Refusal::Device(s) => Err(Fault::Device(s)),
+        Refusal::Down(s) => Err(Fault::Device(s)),
+        Refusal::Lost { a, b } => Err(Fault::Lost { a, b }),
+        Refusal::Unsound(s) => Err(Fault::Unsound(s)),
+        Refusal::WornOut => Err(Fault::WornOut),
+        Refusal::Memory => Err(Fault::Memory),
+        other => Ok(Answer::Refused(other)),
+    }
+}
+
+// So it is of a read, whose damaged sector is said.
+pub(crate) fn read_ended_by(key: &Key, why: Refusal) -> Result<Answer, Fault>
+    ensures { result ≡ read_ended_by key.now why }
+{
+    match why {
+        Refusal::Damaged(sector) => Ok(Answer::Damaged {
+            key: key.copied(),
+            sector,
+        }),
+        other => ended_by(other),
+    }
+}

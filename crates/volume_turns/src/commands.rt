@@ -1,0 +1,208 @@
+//! One command over a mounted volume.
+ghost use Rattle.std.specs.Prelude.{◌≡◌, ◌≤◌, length, None, OnOk, IfSome};
+ghost use Rattle.fsd_formats.specs.NamePage.{max_length, sectors_for};
+ghost use Rattle.fsd_files.specs.Answers.{entry_of};
+ghost use Rattle.fsd_texts.specs.declared.command.Command.TheVariants as Word;
+ghost use Rattle.sector_disk.specs.Calls.{OnlyReads, WritesDisk};
+ghost use Rattle.volume_contract.specs.State.{Known, Stands, volume_of};
+ghost use Rattle.volume_turns.specs.Steps.{Does, Stays, device_by};
+
+use crate::answer::{Answer, ended_by, read_ended_by};
+use crate::listing::list;
+use fsd_bytes::{FileName, Key, Refusal};
+use fsd_texts::{Command, Fault};
+use sector_disk::Machine;
+use std::alloc::Global;
+use volume_contract::Files;
+
+// Makes a version.
+pub(crate) fn put<M: Machine, V: Files<M>>(
+    v: &mut V,
+    m: &mut M,
+    name: &FileName,
+    keep: Option<u32>,
+    bytes: &[u8],
+) -> Result<Answer, Fault>
+    requires room { (V.state v.old).layout.sectors ≤ (M.report m.old).sectors }
+    requires up { (V.state v.old).down ≡ None }
+    ensures layout { (V.state v.new).layout ≡ (V.state v.old).layout }
+    ensures up { OnOk result ((V.state v.new).down ≡ None) }
+    ensures disk { WritesDisk M.Machine (device_by result) (Stays V.state V.holds v.old) m.old m.new }
+    ensures done { M.honest m.new → (k : Known) → Stands V.state V.holds v.old k (M.now m.old) →
+        Does V.state V.holds (Word.Put name.now bytes.now keep) v.old v.new k (M.now m.old) (M.now m.new) result }
+{
+    match v.put(m, name, keep, bytes) {
+        Ok(key) => Ok(Answer::Made {
+            key,
+            sectors: sectors_of(bytes.len()),
+        }),
+        Err(why) => ended_by(why),
+    }
+}
+
+// Takes a version out.
+pub(crate) fn delete<M: Machine, V: Files<M>>(
+    v: &mut V,
+    m: &mut M,
+    key: &Key,
+) -> Result<Answer, Fault>
+    requires room { (V.state v.old).layout.sectors ≤ (M.report m.old).sectors }
+    requires up { (V.state v.old).down ≡ None }
+    ensures layout { (V.state v.new).layout ≡ (V.state v.old).layout }
+    ensures up { OnOk result ((V.state v.new).down ≡ None) }
+    ensures disk { WritesDisk M.Machine (device_by result) (Stays V.state V.holds v.old) m.old m.new }
+    ensures done { M.honest m.new → (k : Known) → Stands V.state V.holds v.old k (M.now m.old) →
+        Does V.state V.holds (Word.Delete key.now) v.old v.new k (M.now m.old) (M.now m.new) result }
+{
+    match v.delete(m, key) {
+        Ok(()) => Ok(Answer::Deleted(key.copied())),
+        Err(why) => ended_by(why),
+    }
+}
+
+// Sets a keep.
+pub(crate) fn set_keep<M: Machine, V: Files<M>>(
+    v: &mut V,
+    m: &mut M,
+    name: &FileName,
+    keep: u32,
+) -> Result<Answer, Fault>
+    requires room { (V.state v.old).layout.sectors ≤ (M.report m.old).sectors }
+    requires up { (V.state v.old).down ≡ None }
+    ensures layout { (V.state v.new).layout ≡ (V.state v.old).layout }
+    ensures up { OnOk result ((V.state v.new).down ≡ None) }
+    ensures disk { WritesDisk M.Machine (device_by result) (Stays V.state V.holds v.old) m.old m.new }
+    ensures done { M.honest m.new → (k : Known) → Stands V.state V.holds v.old k (M.now m.old) →
+        Does V.state V.holds (Word.Keep name.now keep) v.old v.new k (M.now m.old) (M.now m.new) result }
+{
+    match v.set_keep(m, name, keep) {
+        Ok(key) => Ok(Answer::Kept { key, keep }),
+        Err(why) => ended_by(why),
+    }
+}
+
+// Forces all.
+pub(crate) fn force<M: Machine, V: Files<M>>(v: &mut V, m: &mut M) -> Result<Answer, Fault>
+    requires room { (V.state v.old).layout.sectors ≤ (M.report m.old).sectors }
+    requires up { (V.state v.old).down ≡ None }
+    ensures layout { (V.state v.new).layout ≡ (V.state v.old).layout }
+    ensures up { OnOk result ((V.state v.new).down ≡ None) }
+    ensures disk { WritesDisk M.Machine (device_by result) (Stays V.state V.holds v.old) m.old m.new }
+    ensures done { M.honest m.new → (k : Known) → Stands V.state V.holds v.old k (M.now m.old) →
+        Does V.state V.holds Word.Force v.old v.new k (M.now m.old) (M.now m.new) result }
+{
+    match v.force(m) {
+        Ok(_) => Ok(Answer::Forced),
+        Err(why) => ended_by(why),
+    }
+}
+
+// Forces all, as time goes on.
+pub(crate) fn tick<M: Machine, V: Files<M>>(v: &mut V, m: &mut M) -> Result<Answer, Fault>
+    requires room { (V.state v.old).layout.sectors ≤ (M.report m.old).sectors }
+    requires up { (V.state v.old).down ≡ None }
+    ensures layout { (V.state v.new).layout ≡ (V.state v.old).layout }
+    ensures up { OnOk result ((V.state v.new).down ≡ None) }
+    ensures disk { WritesDisk M.Machine (device_by result) (Stays V.state V.holds v.old) m.old m.new }
+    ensures done { M.honest m.new → (k : Known) → Stands V.state V.holds v.old k (M.now m.old) →
+        Does V.state V.holds Word.Tick v.old v.new k (M.now m.old) (M.now m.new) result }
+{
+    match v.tick(m) {
+        Ok(_) => Ok(Answer::Forced),
+        Err(why) => ended_by(why),
+    }
+}
+
+// Reads a whole version.
+pub(crate) fn get<M: Machine, V: Files<M>>(
+    alloc: Global,
+    v: &mut V,
+    m: &mut M,
+    key: &Key,
+) -> Result<Answer, Fault>
+    requires room { (V.state v.old).layout.sectors ≤ (M.report m.old).sectors }
+    requires up { (V.state v.old).down ≡ None }
+    ensures layout { (V.state v.new).layout ≡ (V.state v.old).layout }
+    ensures up { OnOk result ((V.state v.new).down ≡ None) }
+    ensures disk { WritesDisk M.Machine (device_by result) (Stays V.state V.holds v.old) m.old m.new }
+    ensures done { M.honest m.new → (k : Known) → Stands V.state V.holds v.old k (M.now m.old) →
+        Does V.state V.holds (Word.Get key.now) v.old v.new k (M.now m.old) (M.now m.new) result }
+{
+    match v.entry(m, key) {
+        Ok(entry) => read_whole(alloc, v, m, key, entry.length),
+        Err(why) => ended_by(why),
+    }
+}
+
+// Reads a version of this length.
+fn read_whole<M: Machine, V: Files<M>>(
+    alloc: Global,
+    v: &mut V,
+    m: &mut M,
+    key: &Key,
+    length: u32,
+) -> Result<Answer, Fault>
+    requires room { (V.state v.old).layout.sectors ≤ (M.report m.old).sectors }
+    requires up { (V.state v.old).down ≡ None }
+    ensures layout { (V.state v.new).layout ≡ (V.state v.old).layout }
+    ensures up { OnOk result ((V.state v.new).down ≡ None) }
+    ensures disk { OnlyReads M.Machine (device_by result) m.old m.new }
+    ensures done { M.honest m.new → (k : Known) → Stands V.state V.holds v.old k (M.now m.old) → IfSome (entry_of key.now (volume_of k).entries) (λ e. e.length ≡ length) →
+        Does V.state V.holds (Word.Get key.now) v.old v.new k (M.now m.old) (M.now m.new) result }
+{
+    let Ok(mut bytes) = vec![in alloc; 0u8; length as usize] else {
+        return Err(Fault::Memory);
+    };
+    match v.read(m, key, 0, bytes.as_mut_slice()) {
+        Ok(_) => Ok(Answer::Bytes {
+            key: key.copied(),
+            bytes,
+        }),
+        Err(why) => read_ended_by(key, why),
+    }
+}
+
+/// Does one command.
+pub(crate) fn answer<M: Machine, V: Files<M>>(
+    alloc: Global,
+    v: &mut V,
+    m: &mut M,
+    c: &Command,
+) -> Result<Answer, Fault>
+    requires room { (V.state v.old).layout.sectors ≤ (M.report m.old).sectors }
+    requires up { (V.state v.old).down ≡ None }
+    ensures layout { (V.state v.new).layout ≡ (V.state v.old).layout }
+    ensures up { OnOk result ((V.state v.new).down ≡ None) }
+    ensures disk { WritesDisk M.Machine (device_by result) (Stays V.state V.holds v.old) m.old m.new }
+    ensures done { M.honest m.new → (k : Known) → Stands V.state V.holds v.old k (M.now m.old) →
+        Does V.state V.holds c.now v.old v.new k (M.now m.old) (M.now m.new) result }
+{
+    match c {
+        Command::Put { name, bytes, keep } => put(v, m, name, *keep, bytes.as_slice()),
+        Command::Delete(key) => delete(v, m, key),
+        Command::Keep { name, keep } => set_keep(v, m, name, *keep),
+        Command::Get(key) => get(alloc, v, m, key),
+        Command::Force => force(v, m),
+        Command::Tick => tick(v, m),
+        Command::List(pattern) => list(alloc, v, m, pattern),
+        Command::Stat => count(v, m),
+    }
+}
+
+// What it counts.
+fn count<M: Machine, V: Files<M>>(v: &mut V, m: &mut M) -> Result<Answer, Fault>
+    ensures same { v.new ≡ v.old }
+    ensures disk { WritesDisk M.Machine (device_by result) (Stays V.state V.holds v.old) m.old m.new }
+    ensures done { M.honest m.new → (k : Known) → Stands V.state V.holds v.old k (M.now m.old) →
+        Does V.state V.holds Word.Stat v.old v.new k (M.now m.old) (M.now m.new) result }
+{
+    Ok(Answer::Counts(v.stat()))
+}
+
+// How many sectors a version of so many bytes takes.
+fn sectors_of(len: usize) -> u32
+    requires { len ≤ max_length }
+    ensures { result ≡ sectors_for len }
+{
+    1 + (len as u32).div_ceil(512)
+}

@@ -1,0 +1,15 @@
+//! Programs over the contract of a volume that know nothing else of it: commands one after another, each with its reply said, a
+//! group of them with its force, and one command from the mount to its reply.
+#![tactic(auto)]
+
+mod answer;
+mod commands;
+mod group;
+mod listing;
+mod once;
+mod turns;
+
+pub use answer::Answer;
+pub use group::group_run;
+pub use once::{Stop, alone, one_shot};
+pub use turns::{End, Says};

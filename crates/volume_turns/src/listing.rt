@@ -1,0 +1,101 @@
+//! The list of the versions that fit a pattern.
+ghost use Rattle.std.specs.Prelude.{◌≡◌, ◌≤◌, ◌++◌, [], ◌∷◌, None, OnOk, IfOk, IfErr, MatchResult};
+ghost use Rattle.fsd_files.specs.Answers.{next_reply};
+ghost use Rattle.fsd_texts.specs.declared.command.Command.TheVariants as Word;
+ghost use Rattle.sector_disk.specs.Calls.{OnlyReads, WritesDisk, device_in};
+ghost use Rattle.volume_contract.specs.Ends.{Looks, device_of};
+ghost use Rattle.volume_contract.specs.Order.{Follows, IsLookUp, next_steps};
+ghost use Rattle.volume_contract.specs.State.{Known, Stands, volume_of};
+ghost use Rattle.volume_turns.specs.Listing.{IsFromOutside, fitting};
+ghost use Rattle.volume_turns.specs.Steps.{Does, Stays, device_by};
+
+use crate::answer::{Answer, ended_by};
+use fsd_bytes::{Key, Pattern, Refusal};
+use fsd_formats::Entry;
+use fsd_texts::Fault;
+use sector_disk::Machine;
+use std::alloc::{AllocError, Global};
+use volume_contract::Files;
+
+// The entry behind this key, or the first one.
+fn next_one<M: Machine, V: Files<M>>(
+    v: &mut V,
+    m: &mut M,
+    last: &Option<Key>,
+) -> Result<Option<Entry>, Refusal>
+    requires room { (V.state v.old).layout.sectors ≤ (M.report m.old).sectors }
+    ensures order { Follows (next_steps (V.state v.old)) result }
+    ensures disk { OnlyReads M.Machine (device_in device_of result) m.old m.new }
+    ensures state { V.state v.new ≡ V.state v.old }
+    ensures stands { M.honest m.new → (k : Known) → Stands V.state V.holds v.old k (M.now m.old) → Stands V.state V.holds v.new k (M.now m.new) }
+    ensures done { M.honest m.new → (k : Known) → Stands V.state V.holds v.old k (M.now m.old) → Looks (next_reply (volume_of k) last.now) result }
+{
+    match last {
+        Some(key) => v.next_after(m, Some(key)),
+        None => v.next_after(m, None),
+    }
+}
+
+// Puts an entry behind the others where it fits, and gives its key.
+fn take_fitting(pattern: &Pattern, e: Entry, entries: &mut Vec<Entry>) -> Result<Key, AllocError>
+    ensures ok { OnOk result (entries.new.items ≡ entries.old.items ++ fitting pattern.now (e ∷ [])) }
+    ensures key { IfOk result (λ key. key ≡ e.key) }
+{
+    let key = e.key.copied();
+    if pattern.fits(&e.key.name) {
+        entries.push(e)?;
+    }
+    Ok(key)
+}
+
+// All entries whose names fit, in the order of their keys.
+fn collect<M: Machine, V: Files<M>>(
+    alloc: Global,
+    v: &mut V,
+    m: &mut M,
+    pattern: &Pattern,
+) -> Result<Vec<Entry>, Refusal>
+    requires room { (V.state v.old).layout.sectors ≤ (M.report m.old).sectors }
+    requires up { (V.state v.old).down ≡ None }
+    ensures state { V.state v.new ≡ V.state v.old }
+    ensures refusal { IfErr result IsLookUp }
+    ensures disk { OnlyReads M.Machine (device_in device_of result) m.old m.new }
+    ensures stands { M.honest m.new → (k : Known) → Stands V.state V.holds v.old k (M.now m.old) → Stands V.state V.holds v.new k (M.now m.new) }
+    ensures done { M.honest m.new → (k : Known) → Stands V.state V.holds v.old k (M.now m.old) →
+        MatchResult result (λ entries. entries.items ≡ fitting pattern.now (volume_of k).entries) IsFromOutside }
+{
+    let mut entries = Vec::new(alloc);
+    let mut last = None;
+    for _ in 0..v.stat().versions {
+        match next_one(v, m, &last) {
+            Ok(Some(e)) => match take_fitting(pattern, e, &mut entries) {
+                Ok(key) => last = Some(key),
+                Err(_) => return Err(Refusal::Memory),
+            },
+            Ok(None) => return Ok(entries),
+            Err(why) => return Err(why),
+        }
+    }
+    Ok(entries)
+}
+
+// Lists all versions that fit.
+pub(crate) fn list<M: Machine, V: Files<M>>(
+    alloc: Global,
+    v: &mut V,
+    m: &mut M,
+    pattern: &Pattern,
+) -> Result<Answer, Fault>
+    requires room { (V.state v.old).layout.sectors ≤ (M.report m.old).sectors }
+    requires up { (V.state v.old).down ≡ None }
+    ensures layout { (V.state v.new).layout ≡ (V.state v.old).layout }
+    ensures up { OnOk result ((V.state v.new).down ≡ None) }
+    ensures disk { WritesDisk M.Machine (device_by result) (Stays V.state V.holds v.old) m.old m.new }
+    ensures done { M.honest m.new → (k : Known) → Stands V.state V.holds v.old k (M.now m.old) →
+        Does V.state V.holds (Word.List pattern.now) v.old v.new k (M.now m.old) (M.now m.new) result }
+{
+    match collect(alloc, v, m, pattern) {
+        Ok(entries) => Ok(Answer::Listed(entries)),
+        Err(why) => ended_by(why),
+    }
+}

@@ -1,0 +1,106 @@
+//! One command by itself, from the mount to its reply.
+ghost use Rattle.std.specs.Prelude.{◌≡◌, ◌≤◌, ℕ, List, None, false};
+ghost use Rattle.sector_disk.specs.declared.sector.WeakRun.{WeakRun};
+ghost use Rattle.sector_disk.specs.Machine.{LeavesOnly, Trusts};
+ghost use Rattle.volume_layout.specs.declared.layout.Layout.{Layout as Plan};
+ghost use Rattle.fsd_files.specs.Files.{Change};
+ghost use Rattle.fsd_runs.specs.Commands.{reply_alone};
+ghost use Rattle.sector_disk.specs.Calls.{Since};
+ghost use Rattle.volume_contract.specs.Mount.{IsSoundAt};
+ghost use Rattle.volume_turns.specs.Once.{ClosesAndSays, IsAlone, OnceLeaves, close_fault};
+ghost use Rattle.volume_contract.specs.State.{Known, Stands, is_worn, volume_of};
+ghost use Rattle.volume_turns.specs.Steps.{reply_of};
+ghost use Rattle.volume_turns.specs.Turns.{Told};
+
+use crate::answer::Answer;
+use crate::commands;
+use crate::turns::{End, Says, say};
+use fsd_bytes::Refusal;
+use fsd_texts::{Command, Fault};
+use mount_recover::MountFault;
+use sector_disk::Machine;
+use std::alloc::Global;
+use volume_contract::Files;
+
+// Why a close has failed.
+fn close_fault(why: Refusal) -> Fault
+    ensures { result ≡ close_fault why }
+{
+    match why {
+        Refusal::Device(s) => Fault::Device(s),
+        Refusal::Lost { a, b } => Fault::Lost { a, b },
+        _ => Fault::Memory,
+    }
+}
+
+// Ends the use of a volume, and says a reply.
+pub(crate) fn close_and_say<M: Machine, V: Files<M>, T: Says>(
+    alloc: Global,
+    v: V,
+    m: &mut M,
+    answer: &Answer,
+) -> Result<(), End>
+    requires room { (V.state v).layout.sectors ≤ (M.report m.old).sectors }
+    ensures told { Told (M.report m.old) (M.report m.new) result }
+    ensures trust { Trusts (M.tells m.old) (M.tells m.new) (M.honest m.old) (M.honest m.new) }
+    ensures since { M.honest m.new → Since M.Machine m.old m.new }
+    ensures closes { M.honest m.new → (k : Known) → Stands V.state V.holds v k (M.now m.old) → ClosesAndSays M.Machine k (T.errand.says (reply_of answer.now)) m.old m.new result }
+{
+    match v.close(m) {
+        Ok(()) => say::<M, T>(alloc, m, answer),
+        Err(why) => Err(End::Fault(close_fault(why))),
+    }
+}
+
+/// Does one command over a volume that was just mounted, forces all, and says its reply.
+pub fn alone<M: Machine, V: Files<M> + Drop, T: Says>(
+    alloc: Global,
+    v: V,
+    m: &mut M,
+    c: &Command,
+) -> Result<(), End>
+    requires room { (V.state v).layout.sectors ≤ (M.report m.old).sectors }
+    requires up { (V.state v).down ≡ None }
+    requires unworn { is_worn (V.state v) ≡ false }
+    requires says { T.errand.says ≡ reply_alone }
+    ensures told { Told (M.report m.old) (M.report m.new) result }
+    ensures trust { Trusts (M.tells m.old) (M.tells m.new) (M.honest m.old) (M.honest m.new) }
+    ensures since { M.honest m.new → Since M.Machine m.old m.new }
+    ensures does { M.honest m.new → (k : Known) → (volume_of k).unforced ≡ 0 → Stands V.state V.holds v k (M.now m.old) → IsAlone M.Machine c.now k m.old m.new result }
+{
+    let mut v = v;
+    match commands::answer(alloc, &mut v, m, c) {
+        Ok(answer) => close_and_say::<M, V, T>(alloc, v, m, &answer),
+        Err(fault) => Err(End::Fault(fault)),
+    }
+}
+
+/// Why a command by itself was not done.
+#[derive(Clone, Copy, Debug, PartialEq, Eq)]
+pub enum Stop {
+    /// The volume was not mounted.
+    Unmounted(MountFault),
+    Ended(End),
+}
+
+/// Mounts a volume, does one command, forces all, and says its reply.
+pub fn one_shot<M: Machine, V: Files<M> + Drop, T: Says>(
+    alloc: Global,
+    m: &mut M,
+    sectors: u32,
+    c: &Command,
+) -> Result<(), Stop>
+    requires sectors { sectors ≡ (M.report m.old).sectors }
+    requires says { T.errand.says ≡ reply_alone }
+    ensures trust { Trusts (M.tells m.old) (M.tells m.new) (M.honest m.old) (M.honest m.new) }
+    ensures leaves { M.honest m.new → (l : Plan) (windows : List WeakRun) (h : List Change) (f : ℕ) → IsSoundAt sectors l windows h f (M.now m.old) →
+        OnceLeaves c.now l windows h f (M.left_since m.new) (LeavesOnly M.moment M.left_since m.old m.new) (M.now m.old) (M.now m.new) result }
+{
+    match V::mount(alloc, m, sectors) {
+        Ok(v) => match alone::<M, V, T>(alloc, v, m, c) {
+            Ok(()) => Ok(()),
+            Err(end) => Err(Stop::Ended(end)),
+        },
+        Err(fault) => Err(Stop::Unmounted(fault)),
+    }
+}

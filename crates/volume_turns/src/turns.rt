@@ -1,0 +1,106 @@
+//! Commands one after another, each with its reply said.
+ghost use Rattle.std.specs.Prelude.{◌≡◌, ◌≤◌, None, OnOk, IfOk, IfErr, IsTrue};
+ghost use Rattle.sector_disk.specs.Machine.{LeavesOnly, Trusts, Utters};
+ghost use Rattle.fsd_files.specs.Answers.{Met};
+ghost use Rattle.fsd_files.specs.Volume.{Volume};
+ghost use Rattle.fsd_texts.specs.declared.command.Command.{Command as Word};
+ghost use Rattle.fsd_runs.specs.Commands.{answer};
+ghost use Rattle.fsd_runs.specs.Errands.{Errand};
+ghost use Rattle.sector_disk.specs.Calls.{Since};
+ghost use Rattle.volume_turns.specs.Steps.{reply_of};
+ghost use Rattle.volume_turns.specs.Turns.{Runs, Steps, SaysAll, Told, Unsaid};
+
+use crate::answer::Answer;
+use crate::commands;
+use fsd_texts::{Command, Fault};
+use sector_disk::Machine;
+use std::alloc::{AllocError, Global};
+use volume_contract::Files;
+
+/// Why commands were not all done.
+#[derive(Clone, Copy, Debug, PartialEq, Eq)]
+pub enum End {
+    /// A fault, which is to be said.
+    Fault(Fault),
+    /// The output has failed.
+    Output,
+}
+
+/// How replies are said.
+pub trait Says {
+    /// The text of a reply, and whether all is forced once it is said.
+    ghost errand: { Errand };
+
+    /// The text of an answer.
+    fn text(alloc: Global, answer: &Answer) -> Result<Vec<u8>, AllocError>
+        ensures { IfOk result (λ text. text.items ≡ errand.says (reply_of answer.now)) };
+}
+
+// Says a reply.
+pub(crate) fn say<M: Machine, T: Says>(alloc: Global, m: &mut M, answer: &Answer) -> Result<(), End>
+    ensures told { Told (M.report m.old) (M.report m.new) result }
+    ensures trust { Trusts (M.tells m.old) (M.tells m.new) (M.honest m.old) (M.honest m.new) }
+    ensures since { M.honest m.new → Since M.Machine m.old m.new }
+    ensures moments { M.honest m.new → LeavesOnly M.moment M.left_since m.old m.new (Utters (T.errand.says (reply_of answer.now)) (M.now m.old)) }
+    ensures said { OnOk result (M.honest m.new → SaysAll (T.errand.says (reply_of answer.now)) (M.now m.old) (M.now m.new)) }
+    ensures unsaid { IfErr result (λ end. M.honest m.new → Unsaid (M.now m.old) (M.now m.new) end) }
+{
+    let Ok(text) = T::text(alloc, answer) else {
+        return Err(End::Fault(Fault::Memory));
+    };
+    match m.say(text.as_slice()) {
+        Ok(()) => Ok(()),
+        Err(_) => Err(End::Output),
+    }
+}
+
+/// Does one command and says its reply.
+pub fn step<M: Machine, V: Files<M>, T: Says>(
+    alloc: Global,
+    v: &mut V,
+    m: &mut M,
+    c: &Command,
+) -> Result<(), End>
+    requires room { (V.state v.old).layout.sectors ≤ (M.report m.old).sectors }
+    requires up { (V.state v.old).down ≡ None }
+    requires lazily { (met : Met) (x : Volume) (w : Word) → IsTrue (T.errand.forces (answer met x w).0) → (answer met x w).1.unforced ≡ 0 }
+    ensures layout { (V.state v.new).layout ≡ (V.state v.old).layout }
+    ensures up { OnOk result ((V.state v.new).down ≡ None) }
+    ensures told { Told (M.report m.old) (M.report m.new) result }
+    ensures trust { Trusts (M.tells m.old) (M.tells m.new) (M.honest m.old) (M.honest m.new) }
+    ensures since { M.honest m.new → Since M.Machine m.old m.new }
+    ensures later { M.honest m.new → M.moment m.old ≤ M.moment m.new }
+    ensures steps { Steps V.state V.holds M.Machine T.errand c.now v.old m.old v.new m.new result }
+{
+    match commands::answer(alloc, v, m, c) {
+        Ok(answer) => say::<M, T>(alloc, m, &answer),
+        Err(fault) => Err(End::Fault(fault)),
+    }
+}
+
+/// Does commands one after another, and says the reply of each.
+pub fn run<M: Machine, V: Files<M>, T: Says>(
+    alloc: Global,
+    v: &mut V,
+    m: &mut M,
+    commands: &[Command],
+) -> Result<(), End>
+    requires room { (V.state v.old).layout.sectors ≤ (M.report m.old).sectors }
+    requires up { (V.state v.old).down ≡ None }
+    requires lazily { (met : Met) (x : Volume) (w : Word) → IsTrue (T.errand.forces (answer met x w).0) → (answer met x w).1.unforced ≡ 0 }
+    ensures layout { (V.state v.new).layout ≡ (V.state v.old).layout }
+    ensures up { OnOk result ((V.state v.new).down ≡ None) }
+    ensures told { Told (M.report m.old) (M.report m.new) result }
+    ensures trust { Trusts (M.tells m.old) (M.tells m.new) (M.honest m.old) (M.honest m.new) }
+    ensures since { M.honest m.new → Since M.Machine m.old m.new }
+    ensures later { M.honest m.new → M.moment m.old ≤ M.moment m.new }
+    ensures runs { Runs V.state V.holds M.Machine T.errand commands.now v.old m.old v.new m.new result }
+{
+    for c in commands {
+        match step::<M, V, T>(alloc, v, m, c) {
+            Ok(()) => {}
+            Err(end) => return Err(end),
+        }
+    }
+    Ok(())
+}
