@@ -1,7 +1,6 @@
 -- The way down to a leaf.
 use Rattle.std.proofs.Common.{◌≡◌, ◌⊎◌, inl, inr, ℕ, zero, suc, ◌+◌, ◌<◌, Bool, true, false, cond, ◌&&◌, List, [], ◌∷◌, ◌++◌, length, Option, Some, None, refl, sym, ap, subst, ◌∙◌, arith, append_assoc}
 use Rattle.std.specs.Prelude.{slice_get, drop}
-use Rattle.name_page.proofs.ListLaws.{drop_at}
 use Rattle.std.specs.List.{flat_map, AllByRecursion}
 use Rattle.std.proofs.lemmas.Bool.{and_parts}
 use Rattle.std.proofs.lemmas.List.{append-nil}
@@ -217,20 +216,3 @@ misfit_interior P c (Some (Interior first separators)) e h = let fits = h.0 in c
 pub misfit : (level : ℕ) (pages : List (List ℕ)) (c : Child) → content_fits c.low c.high (page_at pages c.page) ≡ false → IsSubtree level pages c → ⊥
 misfit zero pages c e h = misfit_leaf c (page_at pages c.page) e h
 misfit (suc level) pages c e h = misfit_interior (IsSubtree level pages) c (page_at pages c.page) e h
-
--- ---- the way among the separators that are left
-
-pub way_stops : (before : Key → Bool) (above : ℕ) (previous next : Option Neighbour) (page : ℕ) (low high : Option Key) (xs : List Separator) (i : ℕ) (s : Separator) → slice_get xs i ≡ Some s → before s.key ≡ false
-    → way_to before above previous next page low high (drop i xs)
-    ≡ record { child = record { page = page; low = low; high = Some s.key }; previous = previous; next = Some (record { child = record { page = s.child; low = Some s.key; high = end_of high (drop (i + 1) xs) }; above = above }) }
-way_stops before above previous next page low high xs i s at stops =
-    let stop : Way = record { child = record { page = page; low = low; high = Some s.key }; previous = previous; next = Some (record { child = record { page = s.child; low = Some s.key; high = end_of high (drop (i + 1) xs) }; above = above }) } in
-    let go : Way = way_to before above (Some (record { child = record { page = page; low = low; high = Some s.key }; above = above })) next s.child (Some s.key) high (drop (i + 1) xs) in
-    ap (λ (ys : List Separator). way_to before above previous next page low high ys) (drop_at xs i s at) ∙ ap (λ (b : Bool). cond b go stop) stops
-
-pub way_goes : (before : Key → Bool) (above : ℕ) (previous next : Option Neighbour) (page : ℕ) (low high : Option Key) (xs : List Separator) (i : ℕ) (s : Separator) → slice_get xs i ≡ Some s → before s.key ≡ true
-    → way_to before above previous next page low high (drop i xs) ≡ way_to before above (Some (record { child = record { page = page; low = low; high = Some s.key }; above = above })) next s.child (Some s.key) high (drop (i + 1) xs)
-way_goes before above previous next page low high xs i s at goes =
-    let stop : Way = record { child = record { page = page; low = low; high = Some s.key }; previous = previous; next = Some (record { child = record { page = s.child; low = Some s.key; high = end_of high (drop (i + 1) xs) }; above = above }) } in
-    let go : Way = way_to before above (Some (record { child = record { page = page; low = low; high = Some s.key }; above = above })) next s.child (Some s.key) high (drop (i + 1) xs) in
-    ap (λ (ys : List Separator). way_to before above previous next page low high ys) (drop_at xs i s at) ∙ ap (λ (b : Bool). cond b go stop) goes

@@ -9,12 +9,11 @@ use Rattle.fsd_bytes.specs.declared.key.Key.{Key}
 use Rattle.fsd_bytes.specs.Keys.{key_cmp}
 use Rattle.fsd_formats.specs.declared.entry.Entry.{Entry}
 use Rattle.fsd_formats.specs.declared.page.Separator.{Separator}
-use Rattle.fsd_formats.specs.NamePage.{Content, Leaf, Interior, are_ascending}
+use Rattle.fsd_formats.specs.NamePage.{Content, Leaf, Interior}
 use Rattle.fsd_table.specs.declared.child.Child.{Child}
-use Rattle.fsd_table.specs.Pages.{page_at, children, children_of, not_below, below, separator_keys}
+use Rattle.fsd_table.specs.Pages.{page_at, children, children_of, not_below, below}
 use Rattle.fsd_table.specs.Tree.{entries_below, pages_below, IsInterior, IsSubtree}
 use Rattle.fsd_table.proofs.BoundLaws.{all_weaker}
-use Rattle.fsd_table.proofs.PageLaws.{at_is_page, interior_ascends}
 use Rattle.fsd_forest.specs.Parts.{is_inside}
 use Rattle.fsd_forest.specs.Ways.{IsUpTo, IsBehind}
 use Rattle.fsd_forest.proofs.WayLaws as ways
@@ -51,12 +50,11 @@ unnot_false true e = refl
 unnot_false false e = absurd cc
 
 pub middle_is : (key k : Key) (pages : List (List ℕ)) (above d : Child) (first : ℕ) (separators : List Separator) (i : ℕ) → page_at pages above.page ≡ Some (Interior first separators) → k ≡ key → i ≤ length separators
-    → AllByRecursion (λ s. is_before (UpTo k) s.key ≡ true) (take i separators) → (are_ascending (separator_keys separators) ≡ true → AllByRecursion (λ s. is_before (UpTo k) s.key ≡ false) (drop i separators))
+    → AllByRecursion (λ s. is_before (UpTo k) s.key ≡ true) (take i separators) → AllByRecursion (λ s. is_before (UpTo k) s.key ≡ false) (drop i separators)
     → slice_get (children first above.low above.high separators) i ≡ Some d → IsMiddle key above d first separators i
 middle_is key k pages above d first separators i at same within before behind there =
-    let order = interior_ascends above.page (length pages) first separators (at_is_page pages above.page (Interior first separators) at) in
     let upto = all_weaker (λ s. is_before (UpTo k) s.key ≡ true) (IsUpTo k) (take i separators) (λ s h. sym (greater s.key k) ∙ unnot_true (is_gt (key_cmp s.key k)) h) before in
-    let later = all_weaker (λ s. is_before (UpTo k) s.key ≡ false) (IsBehind k) (drop i separators) (λ s h. sym (greater s.key k) ∙ unnot_false (is_gt (key_cmp s.key k)) h) (behind order) in
+    let later = all_weaker (λ s. is_before (UpTo k) s.key ≡ false) (IsBehind k) (drop i separators) (λ s h. sym (greater s.key k) ∙ unnot_false (is_gt (key_cmp s.key k)) h) behind in
     record {
       around = subst (λ (x : Key). StandAround x separators i) same (upto, later);
       is = child_is_at above first separators i d within there;

@@ -45,5 +45,6 @@ pub mod TrimLaws
 pub mod UnlikeLaws
 mod VisitedLaws
 pub mod WalkLaws
+pub mod WayLaws
 pub mod WayTreeLaws
 mod WaysGrowthLaws

@@ -4,6 +4,7 @@ use Rattle.std.specs.Prelude.{slice_get, slice_set, option_and_then}
 use Rattle.std.proofs.lemmas.List.{length-set}
 use Rattle.fsd_formats.specs.NamePage.{Content, read_page}
 use Rattle.fsd_table.specs.Pages.{page_at}
+pub use Rattle.name_page.specs.Accepted.{set_other, at_other}
 use Rattle.name_page.specs.Pages.{Step, with_page}
 use Rattle.name_btree.specs.Replace.{IsWritten}
 
@@ -11,13 +12,6 @@ set_here : (pages : List (List ℕ)) (page : ℕ) (bytes : List ℕ) → page < 
 set_here [] page bytes low = absurd (omega arith)
 set_here (x ∷ pages) zero bytes low = refl
 set_here (x ∷ pages) (suc page) bytes low = set_here pages page bytes (omega arith)
-
-pub set_other : (pages : List (List ℕ)) (page q : ℕ) (bytes : List ℕ) → (q ≡ page → ⊥) → slice_get (slice_set pages page bytes) q ≡ slice_get pages q
-set_other [] page q bytes differs = refl
-set_other (x ∷ pages) zero zero bytes differs = absurd (differs refl)
-set_other (x ∷ pages) zero (suc q) bytes differs = refl
-set_other (x ∷ pages) (suc page) zero bytes differs = refl
-set_other (x ∷ pages) (suc page) (suc q) bytes differs = set_other pages page q bytes (λ e. differs (ap suc e))
 
 at_here : (pages : List (List ℕ)) (page : ℕ) (bytes : List ℕ) (x : Content) → page < length pages → ((p : ℕ) → read_page page p bytes ≡ Some x) → page_at (slice_set pages page bytes) page ≡ Some x
 unfolding page_at
@@ -29,12 +23,6 @@ unfolding page_at
 set_at pages page bytes low =
     ap (option_and_then (read_page page (length (slice_set pages page bytes)))) (set_here pages page bytes low)
     ∙ ap (λ (n : ℕ). read_page page n bytes) (length-set pages page bytes)
-
-pub at_other : (pages : List (List ℕ)) (page q : ℕ) (bytes : List ℕ) → (q ≡ page → ⊥) → page_at (slice_set pages page bytes) q ≡ page_at pages q
-unfolding page_at
-at_other pages page q bytes differs =
-    ap (λ (n : ℕ). option_and_then (read_page q n) (slice_get (slice_set pages page bytes) q)) (length-set pages page bytes)
-    ∙ ap (option_and_then (read_page q (length pages))) (set_other pages page q bytes differs)
 
 pub written : (old new : Step) (page : ℕ) (bytes : List ℕ) (x : Content) → new ≡ with_page page bytes old → page < length old.images → ((p : ℕ) → read_page page p bytes ≡ Some x) → IsWritten old new page x
 written old new page bytes x step low read =

@@ -5,6 +5,7 @@ ghost use Rattle.fsd_table.specs.Tree.{IsTree, table_of};
 ghost use Rattle.name_page.specs.Lookups.{entry_with};
 ghost use Rattle.name_page.specs.Pages.{reaches};
 
+use crate::map_tests::{images, spare_pages};
 use crate::tests::{entry, key, leaf, separator};
 use crate::{TreeFault, find, insert, remove, replace_same_size};
 use arrayvec::ArrayVec;
@@ -95,18 +96,19 @@ fn broken_tables_are_not_changed(rt: HostRuntime) -> Result<(), Fail> {
         (1, 3, b'a', 1, TreeFault::Broken(3)),
     ] {
         let mut t = table(rt.alloc(), left, right)?;
+        let before = images(&mut t, rt.alloc())?;
+        let spare = spare_pages(&mut t);
         t.renew();
-        let before = format!(in rt.alloc(); "{t:?}")?;
         assert_eq!(rt; remove(&mut t, &key(last, version)), Err(fault));
-        t.rest();
-        assert_eq!(rt; format!(in rt.alloc(); "{t:?}")?, before);
+        assert_eq!(rt; images(&mut t, rt.alloc())?, before);
+        assert_eq!(rt; spare_pages(&mut t), spare);
         if let Some(entry) = entry(key(last, 9), 2) {
             let mut gone = ArrayVec::new();
             gone.push(key(last, version));
             assert_eq!(rt; put(&mut t, &entry, &gone), Err(fault));
         }
-        t.rest();
-        assert_eq!(rt; format!(in rt.alloc(); "{t:?}")?, before);
+        assert_eq!(rt; images(&mut t, rt.alloc())?, before);
+        assert_eq!(rt; spare_pages(&mut t), spare);
     }
     Ok(())
 }

@@ -1,7 +1,8 @@
 //! The way to a leaf.
-ghost use Rattle.std.specs.Prelude.{◌≡◌, ◌+◌, ◌-◌, ◌<◌, ◌≤◌, ℕ, IfOk, IfErr, Some, length, drop, true, false};
+ghost use Rattle.std.specs.Prelude.{◌≡◌, ◌+◌, ◌-◌, ◌<◌, ◌≤◌, ℕ, IfOk, IfErr, Some, length, drop, slice_get, true, false};
 ghost use Rattle.fsd_formats.specs.NamePage.{Leaf};
-ghost use Rattle.fsd_table.specs.Pages.{page_at};
+ghost use Rattle.fsd_table.specs.declared.child.Child.{Child};
+ghost use Rattle.fsd_table.specs.Pages.{children, page_at};
 ghost use Rattle.fsd_forest.specs.Ways.{end_of};
 ghost use Rattle.name_page.specs.Cut.{is_before};
 ghost use Rattle.name_btree.specs.Descent.{way_to, IsPlace, HasNeighbours};
@@ -12,9 +13,10 @@ ghost use Rattle.name_page.specs.Pages.{reaches, is_spare, IsReached};
 
 use crate::child::child_node;
 use crate::fault::TreeFault;
+use crate::walking::child_at;
 use fsd_bytes::Key;
 use fsd_table::Child;
-use name_page::{Cut, Entries, Node, Pages, Ways};
+use name_page::{Cut, Entries, Node, Pages, Ways, ways_before};
 
 /// A child beside the way to a leaf, and how many pages stand above it.
 #[derive(Drop)]
@@ -61,49 +63,58 @@ pub(crate) fn end_of(ways: &Ways, i: u32, high: &Option<Key>) -> Option<Key>
     }
 }
 
+// The child before child `i` of a page, below so many pages, or else the nearest one before the page.
+fn previous_of(
+    ways: &Ways,
+    i: u32,
+    page: &Child,
+    above: u32,
+    previous: Option<Neighbour>,
+) -> Option<Neighbour>
+    requires { i ≤ length ways.now.1 }
+    ensures first { i ≡ 0 → result ≡ previous }
+    ensures before { 0 < i → (c : Child) × (slice_get (children ways.now.0 page.now.low page.now.high ways.now.1) (i - 1) ≡ Some c) × (result ≡ Some (record { child = c; above = above })) }
+{
+    if i == 0 {
+        return previous;
+    }
+    let child = child_at(ways, i - 1, page);
+    Some(Neighbour { child, above })
+}
+
+// The child behind child `i` of a page, below so many pages, or else the nearest one behind the page.
+fn next_of(
+    ways: &Ways,
+    i: u32,
+    page: &Child,
+    above: u32,
+    next: Option<Neighbour>,
+) -> Option<Neighbour>
+    requires { i ≤ length ways.now.1 }
+    ensures last { i ≡ length ways.now.1 → result ≡ next }
+    ensures behind { i < length ways.now.1 → (c : Child) × (slice_get (children ways.now.0 page.now.low page.now.high ways.now.1) (i + 1) ≡ Some c) × (result ≡ Some (record { child = c; above = above })) }
+{
+    if i == ways.len() {
+        return next;
+    }
+    let child = child_at(ways, i + 1, page);
+    Some(Neighbour { child, above })
+}
+
 // The child at a place between keys, below so many pages.
 fn way_to(ways: &Ways, way: Way, above: u32, cut: &Cut) -> Way
     ensures { result ≡ way_to (is_before cut.now) above way.previous way.next ways.now.0 way.child.low way.child.high ways.now.1 }
 {
-    let high = way.child.high;
-    let mut page = ways.first();
-    let mut low = way.child.low;
-    let mut previous = way.previous;
-    for i in 0..ways.len() {
-        let separator = ways.get(i);
-        if !cut.is_before(&separator.key) {
-            let next = Child {
-                page: separator.child,
-                low: Some(separator.key.copied()),
-                high: end_of(ways, i + 1, &high),
-            };
-            let child = Child {
-                page,
-                low,
-                high: Some(separator.key),
-            };
-            return Way {
-                child,
-                previous,
-                next: Some(Neighbour { child: next, above }),
-            };
-        }
-        let passed = Child {
-            page,
-            low,
-            high: Some(separator.key.copied()),
-        };
-        previous = Some(Neighbour {
-            child: passed,
-            above,
-        });
-        page = separator.child;
-        low = Some(separator.key);
-    }
-    Way {
-        child: Child { page, low, high },
+    let i = ways_before(ways, cut);
+    let Way {
+        child,
         previous,
-        next: way.next,
+        next,
+    } = way;
+    Way {
+        previous: previous_of(ways, i, &child, above, previous),
+        next: next_of(ways, i, &child, above, next),
+        child: child_at(ways, i, &child),
     }
 }
 

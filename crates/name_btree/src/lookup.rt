@@ -33,9 +33,8 @@ pub(crate) fn entry_in(entries: &Entries, key: &Key) -> Option<Entry>
     ensures { result ≡ entry_with key.now entries.now }
 {
     for i in 0..entries.len() {
-        let entry = entries.get(i);
-        if entry.key.cmp(key).is_eq() {
-            return Some(entry);
+        if entries.compare(i, key).is_eq() {
+            return Some(entries.get(i));
         }
     }
     None

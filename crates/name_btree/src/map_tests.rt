@@ -40,7 +40,7 @@ impl Seen {
     }
 }
 
-type Images = Vec<Option<[u8; 512]>>;
+pub(crate) type Images = Vec<Option<[u8; 512]>>;
 
 fn count(times: &mut u32) {
     *times = times.wrapping_add(1);
@@ -64,7 +64,7 @@ fn table(alloc: Global) -> Result<VecPages, AllocError> {
 }
 
 // How many pages are spare: a table never has 4097, and the refusal tells.
-fn spare_pages(t: &mut VecPages) -> u32 {
+pub(crate) fn spare_pages(t: &mut VecPages) -> u32 {
     t.rest();
     match t.spare(4097) {
         Err(Refusal::NameTableFull { free }) => free,
@@ -73,7 +73,7 @@ fn spare_pages(t: &mut VecPages) -> u32 {
 }
 
 // The bytes of each page that may be reached.
-fn images(t: &mut VecPages, alloc: Global) -> Result<Images, AllocError> {
+pub(crate) fn images(t: &mut VecPages, alloc: Global) -> Result<Images, AllocError> {
     let mut images = Vec::new(alloc);
     for page in 0..PAGES {
         t.rest();

@@ -20,4 +20,4 @@ returns-in_err-found-clause-fault g c =
 pub returns-clause-last : goal.returns-clause-last
 returns-clause-last g c = λ pages is.
     let some : 0 < c.len-count.result = omega arith in
-    ends pages c.args.previous.child c.in_ok-found.found c.len-count.result c.get.result (c.in_ok-found.ensures.place pages is) c.len-count.ensures some c.get.ensures.there
+    ends pages c.args.previous.child c.in_ok-found.found c.len-count.result c.get.result (c.in_ok-found.ensures.place pages is) c.len-count.ensures.value some c.get.ensures.there

@@ -207,7 +207,7 @@ returns-in_ok-trimmed-in-Interior-clause-trimmed g t c =
     let has = page_ways child.page (length pages) ways.0 ways.1 (at_is_page pages child.page (Interior ways.0 ways.1) at) in
     let opened : IsOpened (length pages) child ways.0 ways.1 = record { ways = has.ways; within = fit; least = has.least; most = has.most } in
     let before = subst (λ (k : Key). AllByRecursion (λ s. is_before (UpTo k) s.key ≡ true) (take i ways.1)) c.copied.ensures c.ways_before-i.ensures.before in
-    let behind = subst (λ (k : Key). AllByRecursion (λ s. is_before (UpTo k) s.key ≡ false) (drop i ways.1)) c.copied.ensures (c.ways_before-i.ensures.behind has.ways.ascend) in
+    let behind = subst (λ (k : Key). AllByRecursion (λ s. is_before (UpTo k) s.key ≡ false) (drop i ways.1)) c.copied.ensures c.ways_before-i.ensures.behind in
     let count : length s1.images ≡ length pages = sym agrees1.count ∙ sym (drafted_length draft.sheets.items images) in
     let small = subst (λ (n : ℕ). IsLeft n below_child below) count c.in_ok-trimmed-in-Interior.ensures.left in
     trimmed_above (with_images images s) images images refl refl key draft mid new c.args.levels child ways.0 ways.1 i below_child below left at opened c.ways_before-i.ensures.within before behind c.child_at-below.ensures small
@@ -234,7 +234,7 @@ returns-in_err-trimmed-in-Interior-clause-fault g t c =
     let at : page_at pages child.page ≡ Some (Interior ways.0 ways.1) = c.in_ok-entries.ensures.node images agrees1 ∙ ap (λ (n : Node). Some (content_of n)) c.in-Interior.is in
     let has = page_ways child.page (length pages) ways.0 ways.1 (at_is_page pages child.page (Interior ways.0 ways.1) at) in
     let before = subst (λ (k : Key). AllByRecursion (λ s. is_before (UpTo k) s.key ≡ true) (take i ways.1)) c.copied.ensures c.ways_before-i.ensures.before in
-    let behind = subst (λ (k : Key). AllByRecursion (λ s. is_before (UpTo k) s.key ≡ false) (drop i ways.1)) c.copied.ensures (c.ways_before-i.ensures.behind has.ways.ascend) in
+    let behind = subst (λ (k : Key). AllByRecursion (λ s. is_before (UpTo k) s.key ≡ false) (drop i ways.1)) c.copied.ensures c.ways_before-i.ensures.behind in
     breaks_above images key draft c.args.levels child ways.0 ways.1 i below_child page at c.ways_before-i.ensures.within before behind c.child_at-below.ensures h)
     c.in_err-trimmed-in-Interior.field-0.0 c.in_err-trimmed-in-Interior.ensures.fault)
 
@@ -269,7 +269,7 @@ returns-in_ok-trimmed-in-Interior-clause-fault g t c =
     let has = page_ways child.page (length pages) ways.0 ways.1 (at_is_page pages child.page (Interior ways.0 ways.1) at) in
     let opened : IsOpened (length pages) child ways.0 ways.1 = record { ways = has.ways; within = fit; least = has.least; most = has.most } in
     let before = subst (λ (k : Key). AllByRecursion (λ s. is_before (UpTo k) s.key ≡ true) (take i ways.1)) c.copied.ensures c.ways_before-i.ensures.before in
-    let behind = subst (λ (k : Key). AllByRecursion (λ s. is_before (UpTo k) s.key ≡ false) (drop i ways.1)) c.copied.ensures (c.ways_before-i.ensures.behind has.ways.ascend) in
+    let behind = subst (λ (k : Key). AllByRecursion (λ s. is_before (UpTo k) s.key ≡ false) (drop i ways.1)) c.copied.ensures c.ways_before-i.ensures.behind in
     unlike_above images images images refl refl key draft mid c.args.levels (length pages) child ways.0 ways.1 i below_child below at opened c.ways_before-i.ensures.within before behind c.child_at-below.ensures
     (c.in_ok-trimmed-in-Interior.ensures.trimmed images agrees2) page u) fault h) c.trim_above.ensures.fault
 

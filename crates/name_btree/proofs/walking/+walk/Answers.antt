@@ -187,6 +187,6 @@ walk_children-returns-clause-walked g t c = λ trusted.
     let above = c.args.above.now in
     let s = g.T.Pages.step c.args.t.now in
     let cs : List Child = children ways.0 above.low above.high ways.1 in
-    let all : length cs ≤ c.loop-i.i = omega (arith, length_of_children ways.0 above.low above.high ways.1, c.len-i-end.ensures, c.loop-i-test.false) in
+    let all : length cs ≤ c.loop-i.i = omega (arith, length_of_children ways.0 above.low above.high ways.1, c.len-i-end.ensures.value, c.loop-i-test.false) in
     let P : List Child → Type 0 = λ (xs : List Child). AreWalked s.spares c.args.level s.images xs c.args.reached.now c.loop-i.reached c.loop-i.count in
     subst P (take_whole c.loop-i.i cs all) (c.loop-i.invariant.walked trusted)
