@@ -9,6 +9,7 @@ use Rattle.fsd_volume.specs.State.{State}
 use Rattle.log_thirds.specs.LogValue.{LogValue}
 use Rattle.group_commit.specs.Room.{goes_before}
 use Rattle.cfs_run.proofs.MountEnds.{put_refused, force_refused}
+use Rattle.cfs_run.proofs.PutEnds.{force_makes, force_causes}
 use Rattle.cfs_run.proofs.PutLaws.{keeps, made_works, refused_works, unforced_works}
 use Rattle.cfs_run.proofs.putting.put_bytes.Goals as goal
 
@@ -41,6 +42,19 @@ returns-in-Ok-force-clause-works g c h calm ready v windows history f ends mount
     made_works M.moment M.left_since c.args.volume v c.args.name.now c.args.bytes.now windows history f c.args.m.now c.put.new.m old mid moments
     (g.met.M.Machine.counts_now c.put.new.m (M.moment c.args.m.now) h1 moments.later) c.in-Ok.key on.says.0.0 on.says.0.1 c.force.new.m (M.now c.force.new.m) forces (1 + c.div_ceil.result) c.force.new.self _
     (count ∙ sym (ap (λ (n : ℕ). 1 + n) c.div_ceil.ensures)) mounted layout (c.in-Ok-force.ensures.done h on.after windows (history ++ change) f within on.mounted) (c.force.ensures.windows h) (c.force.ensures.quiet h)
+
+pub returns-clause-line : goal.returns-clause-line
+returns-clause-line g c =
+    let M = g.M.Machine in
+    force_makes c.put.new.self.log (M.report c.put.new.m) (M.report c.force.new.m) c.in-Err-force.why c.line_of-in-Err-force.result c.in-Err-force.ensures.fault c.line_of-in-Err-force.ensures
+
+pub returns-clause-cause : goal.returns-clause-cause
+returns-clause-cause g c =
+    let M = g.M.Machine in
+    force_causes c.put.new.self.log (M.report c.args.m.now) (M.report c.put.new.m) (M.report c.force.new.m) c.in-Err-force.why c.line_of-in-Err-force.result c.put.ensures.uses c.in-Err-force.ensures.fault c.line_of-in-Err-force.ensures
+
+pub returns-clause-trust : goal.returns-clause-trust
+returns-clause-trust g c = record { tells = λ t. c.put.ensures.trust.tells (c.force.ensures.trust.tells t); honest = λ h. c.put.ensures.trust.honest (c.force.ensures.trust.honest h) }
 
 pub returns-clause-mounted : goal.returns-clause-mounted
 returns-clause-mounted g c ready =
