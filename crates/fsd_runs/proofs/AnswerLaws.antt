@@ -1,5 +1,5 @@
 -- What the answers of a run do to the files, to the pages of the table and to what is forced; and that each command has one.
-use Rattle.std.proofs.Common.{◌≡◌, ◌⊎◌, inl, inr, ℕ, suc, ◌+◌, ◌≤◌, Bool, true, false, cond, List, [], ◌∷◌, ◌++◌, length, map, Option, Some, None, refl, sym, ap, ◌∙◌, arith}
+use Rattle.std.proofs.Common.{◌≡◌, ◌⊎◌, inl, inr, ℕ, suc, ◌+◌, ◌≤◌, Bool, true, false, cond, List, [], ◌∷◌, length, Option, Some, None, refl, sym, ap, ◌∙◌, arith}
 use Rattle.std.specs.Prelude.{IfSome, is_none, not, nat_le, nat_lt, ◌&&◌, ◌||◌, ◌==◌, fold}
 use Rattle.std.specs.List.{list_any}
 use Rattle.std.specs.FinMap.{find}
@@ -26,7 +26,7 @@ use Rattle.fsd_texts.specs.declared.command.Command.{Command}
 use Rattle.fsd_texts.specs.declared.command.Command.TheVariants as Word
 use Rattle.fsd_runs.specs.Commands.{answer, changes_of, MayFind, MayMeet}
 use Rattle.fsd_runs.specs.Errands.{Turn, Errand, answered_so, is_forced}
-use Rattle.fsd_runs.specs.Runs.{answered, behind, turn_of, changes_in, forced_in, turns_begun}
+use Rattle.fsd_runs.specs.Runs.{behind, turn_of, changes_in, forced_in, turns_begun}
 
 -- ---- one answer: nothing is changed, or the change is made
 

@@ -12,11 +12,9 @@ use Rattle.fsd_files.specs.Replies.{Reply, Refused, Made, Deleted}
 use Rattle.fsd_files.specs.Volume.{Volume, place_for}
 use Rattle.fsd_texts.specs.declared.command.Command.{Command}
 use Rattle.fsd_texts.specs.declared.command.Command.TheVariants as Word
-use Rattle.fsd_texts.specs.Generator.{next_state, draw_of, amount_of, made_up}
+use Rattle.fsd_texts.specs.Generator.{next_state}
 use Rattle.fsd_texts.specs.Text.{format_line, text}
-use Rattle.std.specs.Prelude.{Err}
 use Rattle.volume_layout.specs.Layout.{plan}
-use Rattle.volume_layout.specs.declared.fault.LayoutFault.TheVariants.{TooSmall}
 use Rattle.fsd_runs.specs.Errands.{generated}
 use Rattle.fsd_runs.proofs.Plain.{behind, default, fresh, lines, plain, says}
 

@@ -1,7 +1,6 @@
 -- Why a call of a volume tells something as lost or as unsound, over an honest machine and any image.
 use Rattle.std.specs.Prelude.{◌≡◌, ◌⊎◌, ⊤, ℕ, ◌<◌, List, [], ◌∷◌, Option, Some, None, IsTrue, Result, IfErr, ◌||◌}
 use Rattle.std.specs.List.{list_any, Contains}
-use Rattle.volume_layout.specs.declared.layout.Layout.{Layout}
 use Rattle.volume_layout.specs.Layout.{home_a}
 use Rattle.run_table.specs.RunTable.{sectors_of}
 use Rattle.run_table.specs.Space.{contains}

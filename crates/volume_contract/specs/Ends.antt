@@ -1,11 +1,10 @@
 -- How the calls of a volume end where it is mounted over an honest machine.
-use Rattle.std.specs.Prelude.{◌≡◌, ◌⊎◌, ⊤, ℕ, ◌+◌, ◌-◌, ◌≤◌, min, Bool, List, [], ◌∷◌, ◌++◌, length, take, drop, Option, Some, None, IfSome, IsTrue, Result, Ok, Err}
+use Rattle.std.specs.Prelude.{◌≡◌, ◌⊎◌, ⊤, ℕ, ◌-◌, min, List, [], ◌∷◌, ◌++◌, length, take, drop, Option, Some, None, IsTrue, Result, Ok, Err}
 use Rattle.std.specs.List.{AllByRecursion}
 use Rattle.fsd_bytes.specs.declared.key.Key.{Key}
 use Rattle.fsd_bytes.specs.declared.refusal.Refusal.{Refusal}
 use Rattle.fsd_bytes.specs.declared.refusal.Refusal.TheVariants as Why
-use Rattle.fsd_bytes.specs.Keys.{key_cmp, key_lt}
-use Rattle.std.specs.FinMap.{find}
+use Rattle.fsd_bytes.specs.Keys.{key_lt}
 use Rattle.fsd_formats.specs.declared.entry.Entry.{Entry}
 use Rattle.fsd_formats.specs.NamePage.{sectors_for}
 use Rattle.sector_disk.specs.Machine.{Moment}
@@ -13,7 +12,7 @@ use Rattle.fsd_files.specs.Answers.{HasLeader, Met, Outcome, entry_of}
 use Rattle.fsd_files.specs.Disk.{Image, Sectors}
 use Rattle.fsd_files.specs.Files.{File, Change}
 use Rattle.fsd_files.specs.Kept.{FirstDamaged, IsWhole, KeptIn, range_sectors}
-use Rattle.fsd_files.specs.Replies.{Reply, Refused, Made, Deleted, Kept, Found}
+use Rattle.fsd_files.specs.Replies.{Reply, Refused, Made, Kept, Found}
 use Rattle.fsd_files.specs.Volume.{Volume, drawn, forced}
 use Rattle.fsd_sound.specs.Mounted.{Mounted, forces_by_itself, telling_of}
 use Rattle.fsd_sound.specs.Shown.{told}

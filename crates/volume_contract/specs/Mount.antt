@@ -1,12 +1,12 @@
 -- What a mount finds, why it is refused, and what it leaves.
-use Rattle.std.specs.Prelude.{◌≡◌, ◌⊎◌, ⊤, ℕ, ◌+◌, ◌*◌, ◌≤◌, ◌==◌, ◌||◌, List, [], ◌∷◌, ◌++◌, take, Option, Some, None, IfOk, IsFalse, Result, Ok, Err}
+use Rattle.std.specs.Prelude.{◌≡◌, ◌⊎◌, ⊤, ℕ, ◌+◌, ◌*◌, ◌≤◌, ◌==◌, ◌||◌, List, [], ◌∷◌, ◌++◌, take, Option, Some, None, IsFalse, Result, Ok, Err}
 use Rattle.volume_layout.specs.declared.layout.Layout.{Layout}
 use Rattle.volume_layout.specs.Layout.{home_a, plan}
 use Rattle.fsd_formats.specs.declared.anchor.Anchor.{Anchor}
 use Rattle.sector_disk.specs.declared.machine.Machine.{Ghosts}
 use Rattle.sector_disk.specs.declared.sector.WeakRun.{WeakRun}
 use Rattle.sector_disk.specs.Calls.{DiskFaults, Since}
-use Rattle.sector_disk.specs.Image.{IsCalm, IsWorn, in_run, open_damage, sector_at}
+use Rattle.sector_disk.specs.Image.{IsWorn, in_run, open_damage, sector_at}
 use Rattle.sector_disk.specs.Machine.{Ledger, Moment, OnlyWrites, Trusts, UsesDisk, Wears}
 use Rattle.fsd_table.specs.Breaks.{Breaks}
 use Rattle.fsd_table.specs.Table.{told_in}
@@ -18,11 +18,11 @@ use Rattle.fsd_sound.specs.Mounted.{Mounted, IsFresh, telling_of}
 use Rattle.fsd_sound.specs.Shown.{all_pages, each_of, shown}
 use Rattle.fsd_sound.specs.Sound.{EndIn, IsPrefixOf, IsSound, weak_of}
 use Rattle.mount_recover.specs.declared.fault.MountFault.{MountFault}
-use Rattle.mount_recover.specs.declared.fault.MountFault.TheVariants.{Device, Lost, Memory, NoAnchor, NotVolume, Unsound, WornOut}
+use Rattle.mount_recover.specs.declared.fault.MountFault.TheVariants.{Device, Memory, NoAnchor, NotVolume, Unsound, WornOut}
 use Rattle.mount_recover.specs.Lost.{HasRoot, LosesShown}
 use Rattle.mount_recover.specs.Recover.{HasNextEpoch, IsVolume, RefusedFor, last_epoch}
 use Rattle.fsd_runs.specs.Leaves.{RaisesEpoch}
-use Rattle.volume_contract.specs.State.{Fits, Known, Stands, State, force_writes, volume_of}
+use Rattle.volume_contract.specs.State.{Fits, Known, Stands, State, force_writes}
 
 -- ---- over any machine
 

@@ -1,10 +1,9 @@
 -- In which order a call may be refused, and what a refusal keeps, over any machine: the steps of each call in a line.
 use Rattle.std.specs.Prelude.{◌≡◌, ◌⊎◌, ⊤, ℕ, suc, Bool, true, false, not, ◌&&◌, List, [], ◌∷◌, length, Option, Some, None, is_none, option_map, nat_lt, if◌then◌else◌, IsTrue, Result, MatchResult}
-use Rattle.fsd_bytes.specs.declared.key.Serial.{Serial}
 use Rattle.fsd_bytes.specs.declared.refusal.Refusal.{Refusal}
 use Rattle.fsd_bytes.specs.declared.refusal.Refusal.TheVariants as Why
 use Rattle.run_table.specs.RunTable.{total}
-use Rattle.run_table.specs.Space.{pick, best}
+use Rattle.run_table.specs.Space.{best}
 use Rattle.run_table.specs.declared.run.Run.{Run}
 use Rattle.fsd_formats.specs.NamePage.{max_keep, sectors_for}
 use Rattle.fsd_files.specs.Answers.{size_fault, keep_given, least_pages}

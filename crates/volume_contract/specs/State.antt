@@ -1,5 +1,5 @@
 -- A volume as its caller knows it: what it tells over any machine, and what it is where the machine kept to its promise.
-use Rattle.std.specs.Prelude.{◌≡◌, ◌⊎◌, ⊤, ℕ, suc, ◌+◌, ◌-◌, ◌*◌, ◌^◌, ◌≤◌, Bool, false, true, not, ◌&&◌, ◌||◌, List, [], ◌∷◌, length, take, Option, Some, None, IsSome, Result, Ok, Err, IsTrue, IsFalse, is_none, nat_le, nat_lt, ◌==◌, if◌then◌else◌, count_by}
+use Rattle.std.specs.Prelude.{◌≡◌, ◌⊎◌, ℕ, suc, ◌+◌, ◌-◌, ◌*◌, ◌<◌, ◌≤◌, Bool, false, not, ◌&&◌, ◌||◌, List, [], ◌∷◌, length, Option, Some, None, IsSome, Result, Ok, Err, IsFalse, is_none, nat_le, nat_lt, ◌==◌, if◌then◌else◌, count_by}
 use Rattle.std.specs.List.{range_with_len}
 use Rattle.fsd_bytes.specs.declared.key.Serial.{Serial}
 use Rattle.fsd_bytes.specs.declared.refusal.Refusal.{Refusal}
@@ -83,6 +83,10 @@ pub record GoesOn (place : Option ℕ) (old new : State) : Type 0 where
   pub layout : new.layout ≡ old.layout
   pub epoch : new.serial.epoch ≡ old.serial.epoch
   pub down : (new.down ≡ old.down) ⊎ (IsSome place × (new.down ≡ place))
+
+-- every page that isn't a free one is in memory
+abbrev pub HasAllPages : State → (resident : ℕ → Option (List ℕ)) → Type 0
+HasAllPages s resident = (page : ℕ) → page < s.layout.pages → IsFalse (contains s.free_pages page) → IsSome (resident page)
 
 -- ---- forces
 

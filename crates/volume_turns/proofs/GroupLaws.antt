@@ -1,6 +1,6 @@
 -- A group of commands, with the force behind it.
-use Rattle.std.proofs.Common.{◌≡◌, ◌⊎◌, inl, inr, ℕ, ◌+◌, ◌≤◌, Bool, true, false, List, [], ◌∷◌, ◌++◌, length, take, Option, Some, None, refl, sym, ◌∙◌, ap, subst, arith, append_assoc, length-append}
-use Rattle.std.specs.Prelude.{IsTrue, IfOk, Result, Ok, Err}
+use Rattle.std.proofs.Common.{◌≡◌, ℕ, ◌≤◌, Bool, true, false, List, [], ◌∷◌, ◌++◌, length, Some, refl, sym, ◌∙◌, ap, subst, arith, append_assoc}
+use Rattle.std.specs.Prelude.{IfOk, Result, Ok, Err}
 use Rattle.std.proofs.lemmas.List.{append-nil, take_all}
 use Rattle.volume_layout.specs.declared.layout.Layout.{Layout}
 use Rattle.sector_disk.specs.declared.machine.Machine.{Ghosts}
@@ -25,8 +25,8 @@ use Rattle.volume_turns.specs.declared.turns.End.TheVariants.{Fault as Stopped, 
 use Rattle.sector_disk.specs.Calls.{Since}
 use Rattle.volume_turns.specs.Group.{IsGroup, AllOrWorn, EndsGroup, LastIs, is_worn_end, unit_of}
 use Rattle.volume_turns.specs.Once.{ClosesAndSays, EndsClosed, InClose, IsDone, SaysClosed}
-use Rattle.volume_contract.specs.State.{State, Ages, Known, volume_of, forced_of, Stands}
-use Rattle.volume_turns.specs.Turns.{Behind, EndsAtOnce, EndsBy, InRun, Runs, RunsFrom, Said, StandsBehind}
+use Rattle.volume_contract.specs.State.{State, Known, volume_of, Stands}
+use Rattle.volume_turns.specs.Turns.{Behind, InRun, RunsFrom, Said, StandsBehind}
 use Rattle.volume_turns.proofs.TurnLaws.{in_close}
 
 -- a list of turns with the one that says the force

@@ -1,6 +1,6 @@
 -- A list takes the entries in the order of their keys.
-use Rattle.std.proofs.Common.{◌≡◌, ◌⊎◌, inl, inr, ℕ, suc, ◌+◌, Bool, true, false, cond, List, [], ◌∷◌, ◌++◌, length, filter, Option, Some, None, Ordering, refl, sym, ◌∙◌, ap, subst, arith, append_assoc, length-append}
-use Rattle.std.specs.Prelude.{IsTrue, T, option_map, Result, Ok, Err}
+use Rattle.std.proofs.Common.{◌≡◌, ℕ, suc, ◌+◌, Bool, true, false, cond, List, [], ◌∷◌, ◌++◌, length, Option, Some, None, Ordering, refl, sym, ◌∙◌, ap, subst, arith, append_assoc, length-append}
+use Rattle.std.specs.Prelude.{T, option_map, Result, Err}
 use Rattle.std.specs.List.{AllByRecursion, last_or}
 use Rattle.std.specs.FinMap.{is_sorted}
 use Rattle.std.specs.FinMap.Entries.{below_all}
@@ -15,9 +15,9 @@ use Rattle.fsd_bytes.specs.declared.refusal.Refusal.TheVariants as Why
 use Rattle.fsd_bytes.specs.Keys.{fits, key_cmp, key_lt}
 use Rattle.fsd_formats.specs.declared.entry.Entry.{Entry}
 use Rattle.fsd_files.specs.Answers.{entry_after}
-use Rattle.fsd_files.specs.Files.{File, Files}
+use Rattle.fsd_files.specs.Files.{Files}
 use Rattle.fsd_files.specs.Kept.{Lists}
-use Rattle.fsd_files.specs.Replies.{Reply, Found}
+use Rattle.fsd_files.specs.Replies.{Found}
 use Rattle.fsd_files.proofs.HistoryLaws.{after_in_order, keys_total}
 use Rattle.sector_disk.specs.Machine.{Moment}
 use Rattle.fsd_sound.specs.Mounted.{Mounted}

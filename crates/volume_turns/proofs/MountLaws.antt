@@ -1,6 +1,6 @@
 -- One command from the mount on.
-use Rattle.std.proofs.Common.{◌≡◌, ◌⊎◌, inl, inr, ℕ, zero, suc, ◌+◌, ◌-◌, ◌≤◌, Bool, true, false, List, [], ◌∷◌, ◌++◌, length, take, Option, Some, None, refl, sym, ◌∙◌, ap, subst, arith, append_assoc, length-append}
-use Rattle.std.specs.Prelude.{IsTrue, Result, Ok, Err, slice_get, IfSome}
+use Rattle.std.proofs.Common.{◌≡◌, ◌⊎◌, inl, inr, ℕ, suc, ◌+◌, ◌-◌, ◌≤◌, Bool, true, false, List, [], ◌∷◌, ◌++◌, length, take, Option, Some, None, refl, sym, ◌∙◌, ap, subst, arith, length-append}
+use Rattle.std.specs.Prelude.{Result, Ok, Err, slice_get, IfSome}
 use Rattle.std.specs.List.{list_any}
 use Rattle.std.proofs.lemmas.List.{append-nil, length-take}
 use Rattle.volume_layout.specs.declared.layout.Layout.{Layout}
@@ -8,34 +8,33 @@ use Rattle.sector_disk.specs.declared.machine.Machine.{Ghosts}
 use Rattle.sector_disk.specs.declared.sector.WeakRun.{WeakRun}
 use Rattle.sector_disk.specs.Image.{Windows}
 use Rattle.sector_disk.specs.Machine.{Moment, LeavesOnly}
-use Rattle.sector_disk.proofs.Moments.{started, then_on, leaves_more}
+use Rattle.sector_disk.proofs.Moments.{then_on, leaves_more}
 use Rattle.fsd_formats.specs.declared.anchor.Anchor.{Anchor}
 use Rattle.fsd_files.specs.Answers.{Met}
 use Rattle.fsd_files.specs.Disk.{Image, in_runs}
-use Rattle.fsd_files.specs.Files.{Change, Files, after}
+use Rattle.fsd_files.specs.Files.{Change, after}
 use Rattle.fsd_files.specs.Kept.{Describes}
-use Rattle.fsd_files.specs.Volume.{Volume}
 use Rattle.fsd_sound.specs.Anchors.{anchor_of, anchor_at}
-use Rattle.fsd_sound.specs.Mounted.{Mounted, IsMounted, telling_of}
+use Rattle.fsd_sound.specs.Mounted.{IsMounted, telling_of}
 use Rattle.fsd_sound.specs.Shown.{told}
 use Rattle.fsd_sound.specs.Sound.{IsSound, IsPrefixOf}
 use Rattle.fsd_sound.proofs.MoreLaws.{sound_more}
-use Rattle.fsd_sound.proofs.MountedLaws.{fresh_mounted, mounted_tells, mounted_sound}
+use Rattle.fsd_sound.proofs.MountedLaws.{fresh_mounted, mounted_tells}
 use Rattle.fsd_texts.specs.declared.command.Command.{Command}
 use Rattle.fsd_texts.specs.declared.fault.Fault.TheVariants as Ends
 use Rattle.fsd_runs.specs.Errands.{Turn, alone}
-use Rattle.fsd_runs.specs.Leaves.{Left, LeftBefore, LeftSince, IsReplied, SaysFault}
-use Rattle.fsd_runs.specs.Runs.{Goes, Starts, Stood, Run, behind, changes_in, forced_in, run_end, run_status, run_turns, said_in, turns_of}
+use Rattle.fsd_runs.specs.Leaves.{Left, LeftSince, IsReplied, SaysFault}
+use Rattle.fsd_runs.specs.Runs.{Goes, Starts, Run, behind, changes_in, forced_in, run_end, run_status, run_turns, said_in, turns_of}
 use Rattle.fsd_runs.specs.declared.request.Request.TheVariants.{One}
 use Rattle.volume_turns.specs.declared.turns.End.{End}
 use Rattle.volume_turns.specs.declared.turns.End.TheVariants.{Fault as Stopped, Output}
 use Rattle.volume_turns.specs.declared.once.Stop.{Stop}
-use Rattle.volume_turns.specs.declared.once.Stop.TheVariants.{Unmounted, Ended}
+use Rattle.volume_turns.specs.declared.once.Stop.TheVariants.{Ended}
 use Rattle.sector_disk.specs.Calls.{Since}
 use Rattle.volume_contract.specs.Mount.{SoundBefore, SoundSince, Settled}
-use Rattle.volume_turns.specs.Once.{Anything, EndsAlone, IsAlone, IsDone, OnceMounted, OnceEnds}
+use Rattle.volume_turns.specs.Once.{Anything, EndsAlone, IsDone, OnceMounted, OnceEnds}
 use Rattle.volume_contract.specs.State.{Known, volume_of, forced_of}
-use Rattle.volume_turns.specs.Turns.{InRun, EndsAtOnce}
+use Rattle.volume_turns.specs.Turns.{InRun}
 use Rattle.volume_turns.proofs.TurnLaws.{newer_own, forced_none, says_nothing}
 
 -- the same, said of equals

@@ -1,32 +1,29 @@
 -- One command by itself.
-use Rattle.std.proofs.Common.{◌≡◌, ◌⊎◌, inl, inr, ℕ, zero, suc, ◌+◌, ◌-◌, ◌<◌, ◌≤◌, Bool, true, false, List, [], ◌∷◌, ◌++◌, length, take, Option, Some, None, refl, sym, ◌∙◌, ap, subst, arith, append_assoc}
-use Rattle.std.specs.Prelude.{IsTrue, Result, Ok, Err, OnOk, IfErr, IfSome}
-use Rattle.std.specs.List.{last_or}
+use Rattle.std.proofs.Common.{◌≡◌, ℕ, zero, suc, ◌≤◌, Bool, false, List, [], ◌∷◌, ◌++◌, length, take, Option, Some, refl, sym, ◌∙◌, ap, subst, arith}
+use Rattle.std.specs.Prelude.{IsTrue, Result, Ok, Err, OnOk, IfErr}
 use Rattle.std.proofs.lemmas.List.{append-nil}
 use Rattle.volume_layout.specs.declared.layout.Layout.{Layout}
 use Rattle.fsd_bytes.specs.declared.refusal.Refusal.{Refusal}
 use Rattle.fsd_bytes.specs.declared.refusal.Refusal.TheVariants as Why
 use Rattle.sector_disk.specs.declared.machine.Machine.{Ghosts}
 use Rattle.sector_disk.specs.declared.sector.WeakRun.{WeakRun}
-use Rattle.sector_disk.specs.Image.{IsWorn, open_damage, weak, AreShort, IsShort, Windows}
-use Rattle.sector_disk.specs.Machine.{Moment, LeavesOnly, Utters, Wears}
+use Rattle.sector_disk.specs.Image.{open_damage, AreShort, Windows}
+use Rattle.sector_disk.specs.Machine.{Moment, LeavesOnly, Utters}
 use Rattle.sector_disk.proofs.Moments.{then_on, leaves_more}
 use Rattle.sector_disk.proofs.Wear.{worn_refl}
 use Rattle.fsd_files.specs.Answers.{Met}
-use Rattle.fsd_files.specs.Disk.{Image}
 use Rattle.fsd_files.specs.Files.{Change}
 use Rattle.fsd_files.specs.Replies.{Reply}
 use Rattle.fsd_files.specs.Volume.{Volume}
-use Rattle.fsd_table.specs.Table.{Telling}
 use Rattle.fsd_sound.specs.Mounted.{Mounted, telling_of}
 use Rattle.fsd_sound.specs.Shown.{told}
-use Rattle.fsd_sound.specs.Sound.{IsSound, EndIn, weak_of}
+use Rattle.fsd_sound.specs.Sound.{IsSound, EndIn}
 use Rattle.fsd_sound.proofs.MoreLaws.{wear_sound}
 use Rattle.fsd_sound.proofs.WindowLaws.{open_is_weak}
 use Rattle.fsd_texts.specs.declared.command.Command.{Command}
 use Rattle.fsd_texts.specs.declared.fault.Fault.{Fault}
 use Rattle.fsd_texts.specs.declared.fault.Fault.TheVariants as Ends
-use Rattle.fsd_runs.specs.Commands.{answer, changes_of, reply_alone}
+use Rattle.fsd_runs.specs.Commands.{answer, reply_alone}
 use Rattle.fsd_runs.specs.Errands.{Errand, Turn, alone, generated, blank}
 use Rattle.fsd_runs.specs.Runs.{changes_in}
 use Rattle.volume_turns.specs.declared.turns.End.{End}
@@ -35,7 +32,7 @@ use Rattle.sector_disk.specs.Calls.{Since, WritesDisk}
 use Rattle.volume_contract.specs.Ends.{Closes}
 use Rattle.volume_turns.specs.Once.{close_fault, InClose, SaysClosed, EndsClosed, ClosesAndSays, IsDone, EndsAlone, IsAlone}
 use Rattle.volume_contract.specs.Order.{IsDevice}
-use Rattle.volume_contract.specs.State.{State, Ages, Known, volume_of, forced_of, Stands, Leaves, LeavesSound, is_worn}
+use Rattle.volume_contract.specs.State.{State, Ages, Known, volume_of, forced_of, Stands, Leaves, is_worn}
 use Rattle.volume_turns.specs.Steps.{Does, IsAnswered, Stays}
 use Rattle.volume_turns.specs.Turns.{Carries, InRun, EndsAtOnce, SaysAll, Unsaid, turn_by}
 use Rattle.volume_turns.proofs.TurnLaws.{in_part, in_saying_at, says_nothing}

@@ -1,5 +1,5 @@
 -- How a command by itself ends, by how its mount ended.
-use Rattle.std.proofs.Common.{◌≡◌, ◌⊎◌, inl, inr, ℕ, ◌≤◌, List, [], ◌∷◌, ◌++◌, length, Option, Some, None, refl, sym, ◌∙◌, ap, subst, arith}
+use Rattle.std.proofs.Common.{◌≡◌, inl, inr, ℕ, ◌≤◌, List, [], ◌∷◌, length, refl, sym, ◌∙◌, subst, arith}
 use Rattle.std.specs.Prelude.{Result, Ok, Err}
 use Rattle.std.proofs.lemmas.List.{append-nil}
 use Rattle.volume_layout.specs.declared.layout.Layout.{Layout}
@@ -16,11 +16,10 @@ use Rattle.fsd_runs.specs.Errands.{blank}
 use Rattle.fsd_runs.specs.Leaves.{LeftBefore}
 use Rattle.mount_recover.specs.declared.fault.MountFault.{MountFault}
 use Rattle.volume_turns.specs.declared.turns.End.{End}
-use Rattle.volume_turns.specs.declared.once.Stop.{Stop}
-use Rattle.volume_turns.specs.declared.once.Stop.TheVariants.{Unmounted, Ended}
+use Rattle.volume_turns.specs.declared.once.Stop.TheVariants.{Unmounted}
 use Rattle.sector_disk.specs.Calls.{Since}
-use Rattle.volume_contract.specs.Mount.{EndsBefore, EndsSettled, MountsSound, SoundBefore}
-use Rattle.volume_turns.specs.Once.{IsAlone, OnceLeaves, OnceUnmounted}
+use Rattle.volume_contract.specs.Mount.{MountsSound, SoundBefore}
+use Rattle.volume_turns.specs.Once.{IsAlone, OnceLeaves}
 use Rattle.volume_contract.specs.State.{State, Known, volume_of, forced_of, Stands}
 use Rattle.volume_turns.specs.Turns.{InRun}
 use Rattle.volume_turns.proofs.MountLaws.{mounted_alone, once_mounted, nothing_said, stop_of}

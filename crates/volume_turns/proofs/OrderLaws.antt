@@ -1,15 +1,15 @@
 -- What the order of refusals tells of a mount that is worn out.
-use Rattle.std.proofs.Common.{◌≡◌, ◌⊎◌, inl, inr, ℕ, Bool, true, false, cond, List, [], ◌∷◌, length, Option, Some, None, refl, sym, ◌∙◌, subst, ap}
+use Rattle.std.proofs.Common.{◌≡◌, inl, inr, ℕ, Bool, true, false, cond, List, [], ◌∷◌, length, Option, Some, None, refl, subst, ap}
 use Rattle.std.specs.Prelude.{IsTrue, IsFalse, option_map, is_none, not, nat_lt, ◌&&◌, ⊤}
 use Rattle.fsd_bytes.specs.declared.refusal.Refusal.{Refusal}
 use Rattle.fsd_bytes.specs.declared.refusal.Refusal.TheVariants as Why
 use Rattle.run_table.specs.RunTable.{total}
-use Rattle.run_table.specs.Space.{pick, best}
+use Rattle.run_table.specs.Space.{best}
 use Rattle.fsd_formats.specs.NamePage.{max_keep, max_length}
 use Rattle.fsd_files.specs.Answers.{size_fault, least_pages}
 use Rattle.fsd_files.specs.Disk.{Sectors}
 use Rattle.volume_contract.specs.State.{State, forces_first, forces_for_place, in_place, is_worn, place_in}
-use Rattle.volume_contract.specs.Order.{Step, Test, Asks, Draw, Disk, Force, LookUp, Fetch, Data, IsDeviceIn, Passes, Comes, Refuses, Through, IsLookUp, IsFetch, IsLoss, IsDevice, down, worn, place, by_itself, table_full, no_place_in, runs_at}
+use Rattle.volume_contract.specs.Order.{Step, Test, Asks, Draw, Disk, Force, LookUp, Fetch, Data, IsDeviceIn, Comes, Refuses, Through, IsLookUp, IsFetch, IsLoss, IsDevice, down, worn, place, by_itself, table_full, no_place_in, runs_at}
 
 abbrev worn_test : Bool → Option Refusal
 worn_test b = cond b (Some Why.WornOut) None

@@ -1,6 +1,6 @@
 -- What a whole version's reading says.
-use Rattle.std.proofs.Common.{◌≡◌, ◌⊎◌, inl, inr, ◌+◌, ◌-◌, ℕ, Bool, false, List, [], ◌∷◌, ◌++◌, length, take, drop, Option, Some, None, refl, sym, ◌∙◌, ap, subst, arith}
-use Rattle.std.specs.Prelude.{IsTrue, IfSome, Result, Ok, Err, min}
+use Rattle.std.proofs.Common.{◌≡◌, inl, inr, ◌-◌, ℕ, Bool, false, List, [], ◌∷◌, ◌++◌, length, take, drop, Option, Some, None, refl, sym, ◌∙◌, ap, subst, arith}
+use Rattle.std.specs.Prelude.{IfSome, Result, Ok, Err, min}
 use Rattle.std.specs.List.{AllByRecursion}
 use Rattle.std.specs.FinMap.{find}
 use Rattle.std.proofs.lemmas.List.{append-nil, take_all, drop_all}
@@ -13,7 +13,7 @@ use Rattle.fsd_files.specs.Answers.{got, Finds, entry_of, entry_reply, found_or}
 use Rattle.fsd_files.specs.Disk.{Image}
 use Rattle.fsd_files.specs.Files.{File}
 use Rattle.fsd_files.specs.Kept.{FirstDamaged, IsWhole, range_sectors}
-use Rattle.fsd_files.specs.Replies.{Reply, Found}
+use Rattle.fsd_files.specs.Replies.{Reply}
 use Rattle.fsd_texts.specs.declared.command.Command.TheVariants as Word
 use Rattle.fsd_texts.specs.declared.fault.Fault.{Fault}
 use Rattle.fsd_texts.specs.declared.fault.Fault.TheVariants as Ends
@@ -22,7 +22,7 @@ use Rattle.sector_disk.specs.Machine.{Moment}
 use Rattle.sector_disk.proofs.Wear.{worn_whole}
 use Rattle.fsd_sound.specs.Mounted.{Mounted}
 use Rattle.volume_turns.specs.declared.answer.Answer.{Answer}
-use Rattle.volume_contract.specs.Ends.{Reads, Looks, found_one, Gives}
+use Rattle.volume_contract.specs.Ends.{Reads, Looks, found_one}
 use Rattle.volume_contract.specs.State.{State, Known, volume_of, Stands}
 use Rattle.fsd_files.proofs.FoundLaws.{no_file}
 use Rattle.volume_turns.specs.Steps.{Does, IsAnswered, reply_of, ended_by, read_ended_by}

@@ -1,39 +1,35 @@
 -- A command and its reply, and the commands behind it.
-use Rattle.std.proofs.Common.{◌≡◌, ◌⊎◌, inl, inr, ⊎_elim, ℕ, zero, suc, ◌+◌, ◌-◌, ◌<◌, ◌≤◌, Bool, true, false, cond, List, [], ◌∷◌, ◌++◌, length, map, take, Option, Some, None, refl, sym, ◌∙◌, ap, subst, arith, append_assoc, length-append}
-use Rattle.std.specs.Prelude.{IsTrue, IsFalse, slice_get, Result, Ok, Err, OnOk, IfErr, IfSome, ⊤}
+use Rattle.std.proofs.Common.{◌≡◌, ℕ, suc, ◌+◌, ◌≤◌, Bool, List, [], ◌∷◌, ◌++◌, length, take, Option, refl, sym, ◌∙◌, ap, subst, arith, append_assoc, length-append}
+use Rattle.std.specs.Prelude.{IsTrue, Result, Ok, Err, OnOk, IfErr}
 use Rattle.std.specs.List.{list_any}
 use Rattle.std.proofs.lemmas.List.{append-nil}
-use Rattle.volume_layout.specs.declared.layout.Layout.{Layout}
 use Rattle.sector_disk.specs.declared.machine.Machine.{Ghosts}
 use Rattle.sector_disk.specs.declared.sector.WeakRun.{WeakRun}
 use Rattle.sector_disk.specs.Image.{IsWorn, open_damage, AreShort}
-use Rattle.sector_disk.specs.Machine.{Moment, Report, LeavesOnly, UsesDisk, Utters, Wears}
+use Rattle.sector_disk.specs.Machine.{Moment, Report, LeavesOnly, UsesDisk, Utters}
 use Rattle.sector_disk.proofs.Moments.{started, then_on, leaves_more}
-use Rattle.fsd_formats.specs.declared.entry.Entry.{Entry}
-use Rattle.fsd_files.specs.Answers.{Met, Outcome, entry_of, Finds}
+use Rattle.fsd_files.specs.Answers.{Met, Outcome, entry_of}
 use Rattle.fsd_files.specs.Disk.{Image, Sectors, in_runs}
 use Rattle.fsd_files.specs.Files.{Change}
 use Rattle.fsd_files.specs.Replies.{Reply}
 use Rattle.fsd_files.specs.Volume.{Volume, HasReach}
 use Rattle.fsd_sound.specs.Mounted.{Mounted}
-use Rattle.fsd_sound.specs.Sound.{IsSound}
 use Rattle.fsd_sound.proofs.MountedLaws.{mounted_sound, mounted_tells, mounted_reach}
 use Rattle.fsd_texts.specs.declared.command.Command.{Command}
 use Rattle.fsd_texts.specs.declared.command.Command.TheVariants as Word
 use Rattle.fsd_texts.specs.declared.fault.Fault.{Fault}
 use Rattle.fsd_texts.specs.declared.fault.Fault.TheVariants as Ends
 use Rattle.fsd_runs.specs.Commands.{answer, changes_of, MayFind}
-use Rattle.fsd_runs.specs.Errands.{Errand, Turn, answered_so}
-use Rattle.fsd_runs.specs.Runs.{Goes, IsStep, IsWornOut, Stood, answered, behind, changes_in, forced_in, said_in, turn_of, turns_begun}
+use Rattle.fsd_runs.specs.Errands.{Errand, Turn}
+use Rattle.fsd_runs.specs.Runs.{Goes, IsStep, Stood, behind, changes_in, forced_in, said_in, turns_begun}
 use Rattle.fsd_runs.proofs.AnswerLaws.{command_grows}
-use Rattle.volume_turns.specs.declared.answer.Answer.{Answer}
 use Rattle.volume_turns.specs.declared.turns.End.{End}
 use Rattle.volume_turns.specs.declared.turns.End.TheVariants.{Fault as Stopped, Output}
 use Rattle.sector_disk.specs.Calls.{DiskFaults, Since, WritesDisk}
 use Rattle.sector_disk.proofs.CallLaws.{faults_then}
-use Rattle.volume_contract.specs.State.{State, Ages, Known, volume_of, forced_of, Stands, is_worn}
-use Rattle.volume_turns.specs.Steps.{Does, IsAnswered, Stays, StaysSound, device_told, reply_of}
-use Rattle.volume_turns.specs.Turns.{Carries, Follows, InRun, RunsFrom, Runs, Steps, StepsBy, StepsOk, StandsBehind, EndsBy, EndsAtOnce, Said, SaysAll, Unsaid, Behind, Told, Unheard, device_end, turn_by}
+use Rattle.volume_contract.specs.State.{State, Ages, Known, volume_of, forced_of, Stands}
+use Rattle.volume_turns.specs.Steps.{Does, IsAnswered, Stays, device_told}
+use Rattle.volume_turns.specs.Turns.{Carries, Follows, InRun, RunsFrom, Runs, Steps, StepsBy, StepsOk, StandsBehind, EndsBy, Said, SaysAll, Unsaid, Behind, Told, Unheard, device_end, turn_by}
 use Rattle.volume_turns.proofs.ReadLaws.{some_earlier}
 use Rattle.volume_turns.proofs.TurnLaws.{in_before, in_saying, in_behind, enough_from, worn_state, state_worn}
 

@@ -1,13 +1,12 @@
 -- What a command's answer says, by how the volume's call ended.
-use Rattle.std.proofs.Common.{◌≡◌, ◌⊎◌, inl, inr, Bool, true, false, List, [], ◌∷◌, ◌++◌, Option, Some, None, refl, sym, ◌∙◌, subst, ap, ℕ, length}
-use Rattle.std.specs.Prelude.{IsTrue, IsFalse, Result, Ok, Err}
+use Rattle.std.proofs.Common.{◌≡◌, Bool, List, [], ◌++◌, refl, sym, ◌∙◌, ap, ℕ, length}
+use Rattle.std.specs.Prelude.{IsTrue, IsFalse, Result, Err}
 use Rattle.fsd_bytes.specs.declared.key.Key.{Key}
 use Rattle.fsd_bytes.specs.declared.refusal.Refusal.{Refusal}
 use Rattle.fsd_bytes.specs.declared.refusal.Refusal.TheVariants as Why
 use Rattle.run_table.specs.declared.run.Run.{Run}
 use Rattle.run_table.specs.RunTable.{total}
 use Rattle.fsd_files.specs.Answers.{Met, Outcome, stat_reply}
-use Rattle.fsd_files.specs.Disk.{Image}
 use Rattle.fsd_files.specs.Files.{Change}
 use Rattle.fsd_files.specs.Replies.{Reply, Counts}
 use Rattle.fsd_files.specs.Volume.{free_count, pages_free, waiting_count}
@@ -15,15 +14,12 @@ use Rattle.fsd_texts.specs.declared.command.Command.{Command}
 use Rattle.fsd_runs.specs.Commands.{answer, changes_of, MayFind, may_wear_out}
 use Rattle.sector_disk.specs.Machine.{Moment, Wears}
 use Rattle.fsd_sound.proofs.MountedLaws.{mounted_sound}
-use Rattle.sector_disk.specs.declared.machine.Machine.{Ghosts}
 use Rattle.fsd_sound.specs.Mounted.{Mounted}
-use Rattle.sector_disk.specs.Calls.{WritesDisk}
 use Rattle.volume_contract.specs.Ends.{EndsRefused, EndsForce, Answers, device_of}
 use Rattle.volume_contract.specs.declared.files.Forced.{Forced}
-use Rattle.volume_contract.specs.State.{State, Fits, Known, volume_of, forced_of, Stands, Leaves, LeavesSound, is_worn}
+use Rattle.volume_contract.specs.State.{State, Fits, Known, volume_of, forced_of, Stands, Leaves, is_worn}
 use Rattle.volume_turns.specs.Listing.{IsFromOutside}
-use Rattle.volume_turns.specs.Steps.{Does, IsAnswered, IsRefusedWorn, Stays, StaysSound, device_by, ended_by, read_ended_by}
-use Rattle.sector_disk.proofs.CallLaws.{writes_more}
+use Rattle.volume_turns.specs.Steps.{Does, IsAnswered, IsRefusedWorn, Stays, device_by, ended_by, read_ended_by}
 
 -- the fault that is told is the one that was counted
 pub same_device : (why : Refusal) → ((s : ℕ) → why ≡ Why.Down s → ⊥) → device_of why ≡ device_by (ended_by why)

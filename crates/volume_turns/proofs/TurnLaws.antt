@@ -1,25 +1,18 @@
 -- Turns one after another.
-use Rattle.std.proofs.Common.{◌≡◌, ◌⊎◌, inl, inr, ⊎_elim, ℕ, zero, suc, ◌+◌, ◌-◌, ◌<◌, ◌≤◌, Bool, true, false, cond, List, [], ◌∷◌, ◌++◌, length, map, take, drop, Option, Some, None, refl, sym, ◌∙◌, ap, subst, arith, append_assoc, length-append}
+use Rattle.std.proofs.Common.{◌≡◌, inl, inr, ⊎_elim, ℕ, zero, suc, ◌+◌, ◌<◌, ◌≤◌, Bool, true, false, cond, List, [], ◌∷◌, ◌++◌, length, take, Option, Some, None, refl, sym, ◌∙◌, ap, subst, arith, append_assoc, length-append}
 use Rattle.std.specs.Prelude.{IsTrue, IsFalse, nat_le, slice_get, ◌||◌, IfSome, option_and_then}
 use Rattle.std.specs.List.{list_any}
-use Rattle.std.proofs.lemmas.List.{append-nil, take_all, take-append-le}
+use Rattle.std.proofs.lemmas.List.{append-nil, take_all}
 use Rattle.std.proofs.lemmas.Bool.{le-leb, leb-true, cases_lt, or_left, or_right}
 use Rattle.volume_layout.specs.declared.layout.Layout.{Layout}
 use Rattle.fsd_formats.specs.declared.anchor.Anchor.{Anchor}
-use Rattle.sector_disk.specs.declared.machine.Machine.{Ghosts}
 use Rattle.sector_disk.specs.declared.sector.WeakRun.{WeakRun}
-use Rattle.sector_disk.specs.Image.{IsWorn, open_damage}
-use Rattle.sector_disk.specs.Machine.{Moment, LeavesOnly, Utters}
-use Rattle.sector_disk.proofs.Moments.{then_on, leaves_more}
+use Rattle.sector_disk.specs.Machine.{Moment}
 use Rattle.fsd_log.specs.Scan.{Head, Walked, newer_of, is_newer}
 use Rattle.fsd_table.specs.Table.{Telling, told_in}
-use Rattle.fsd_files.specs.Answers.{Met}
-use Rattle.fsd_files.specs.Disk.{Image, Sectors, in_runs}
+use Rattle.fsd_files.specs.Disk.{in_runs}
 use Rattle.fsd_files.specs.Files.{Change, after}
-use Rattle.fsd_files.specs.Kept.{Describes}
 use Rattle.fsd_bytes.specs.declared.key.Serial.{Serial}
-use Rattle.fsd_files.specs.Replies.{Reply}
-use Rattle.fsd_files.specs.Volume.{Volume}
 use Rattle.fsd_sound.specs.Anchors.{anchor_of, anchor_at}
 use Rattle.fsd_sound.specs.Mounted.{Mounted}
 use Rattle.fsd_sound.specs.Shown.{told, shown, shown_by, scan_by}
@@ -27,14 +20,11 @@ use Rattle.fsd_sound.specs.Sound.{IsSound, Tells, weak_of}
 use Rattle.sector_disk.proofs.Wear.{worn_refl}
 use Rattle.fsd_sound.proofs.MountedLaws.{mounted_sound}
 use Rattle.fsd_sound.proofs.MoreLaws.{sound_more}
-use Rattle.fsd_texts.specs.declared.command.Command.{Command}
 use Rattle.fsd_texts.specs.declared.fault.Fault.TheVariants as Ends
-use Rattle.fsd_runs.specs.Commands.{answer, changes_of}
-use Rattle.fsd_runs.specs.Errands.{Errand, Turn, answered_so, scripted}
+use Rattle.fsd_runs.specs.Errands.{Turn}
 use Rattle.fsd_runs.specs.Leaves.{SaysNext}
-use Rattle.fsd_runs.specs.Runs.{IsWornOut, LogIsFull, changes_in, forced_in, said_in, turn_of, last_count}
-use Rattle.fsd_runs.proofs.AnswerLaws.{told_is_forced}
-use Rattle.volume_contract.specs.State.{State, Ages, Known, volume_of, forced_of, Stands, is_worn}
+use Rattle.fsd_runs.specs.Runs.{IsWornOut, changes_in, forced_in, said_in, last_count}
+use Rattle.volume_contract.specs.State.{State, Known, volume_of, forced_of, Stands, is_worn}
 use Rattle.volume_turns.specs.Steps.{StaysSound}
 use Rattle.volume_turns.specs.Once.{InClose}
 use Rattle.volume_turns.specs.Turns.{Carries, InRun}

@@ -1,5 +1,5 @@
 -- One command by itself: it is done, all is forced, and then its reply is said.
-use Rattle.std.specs.Prelude.{◌≡◌, ◌⊎◌, ⊤, ℕ, ◌<◌, ◌≤◌, List, [], ◌∷◌, ◌++◌, length, take, Option, Some, None, Result, Ok, Err}
+use Rattle.std.specs.Prelude.{◌≡◌, ◌⊎◌, ⊤, ℕ, ◌<◌, ◌≤◌, List, [], ◌∷◌, ◌++◌, length, take, Some, None, Result, Ok, Err}
 use Rattle.fsd_bytes.specs.declared.refusal.Refusal.{Refusal}
 use Rattle.fsd_bytes.specs.declared.refusal.Refusal.TheVariants as Why
 use Rattle.sector_disk.specs.declared.machine.Machine.{Ghosts}
@@ -13,7 +13,7 @@ use Rattle.fsd_sound.specs.Sound.{IsSound}
 use Rattle.fsd_texts.specs.declared.command.Command.{Command}
 use Rattle.fsd_texts.specs.declared.fault.Fault.{Fault}
 use Rattle.fsd_texts.specs.declared.fault.Fault.TheVariants as Ends
-use Rattle.fsd_runs.specs.Errands.{Errand, Turn, alone}
+use Rattle.fsd_runs.specs.Errands.{Turn, alone}
 use Rattle.fsd_runs.specs.Runs.{Goes, IsThrough, Run, Starts, Stood, behind, changes_in, run_end, run_status, run_turns, said_in, turns_of}
 use Rattle.fsd_runs.specs.Leaves.{IsReplied, Left, LeftBefore, LeftSince, RaisesEpoch}
 use Rattle.fsd_runs.specs.declared.request.Request.{Request}
@@ -28,9 +28,8 @@ use Rattle.volume_turns.specs.declared.once.Stop.{Stop}
 use Rattle.volume_turns.specs.declared.once.Stop.TheVariants.{Unmounted, Ended}
 use Rattle.volume_turns.specs.declared.turns.End.{End}
 use Rattle.volume_turns.specs.declared.turns.End.TheVariants.{Fault as Stopped, Output}
-use Rattle.volume_contract.specs.Ends.{Closes}
 use Rattle.volume_contract.specs.State.{Known, volume_of, forced_of}
-use Rattle.volume_turns.specs.Turns.{InRun, EndsAtOnce, Said}
+use Rattle.volume_turns.specs.Turns.{InRun, EndsAtOnce}
 
 -- why a close has failed
 abbrev pub close_fault : Refusal → Fault

@@ -1,20 +1,19 @@
 -- Commands one after another over a mounted volume, each with its reply said: what a stop leaves, and how they end.
-use Rattle.std.specs.Prelude.{◌≡◌, ◌⊎◌, ⊤, ℕ, suc, ◌+◌, ◌≤◌, List, [], ◌∷◌, ◌++◌, length, map, take, slice_get, Option, Some, None, Result, Ok, Err, IsTrue, IsSome}
+use Rattle.std.specs.Prelude.{◌≡◌, ⊤, ℕ, suc, ◌+◌, ◌≤◌, List, ◌∷◌, ◌++◌, length, take, slice_get, Option, None, Result, Ok, Err, IsTrue}
 use Rattle.std.specs.List.{list_any}
 use Rattle.sector_disk.specs.declared.machine.Machine.{Ghosts}
 use Rattle.sector_disk.specs.Machine.{Moment, Report, Rose, LeavesOnly, Wears}
 use Rattle.fsd_files.specs.Answers.{Met}
 use Rattle.fsd_files.specs.Disk.{Image, in_runs}
-use Rattle.fsd_files.specs.Replies.{Reply}
 use Rattle.fsd_files.specs.Volume.{Volume}
 use Rattle.fsd_sound.specs.Mounted.{Mounted}
 use Rattle.fsd_sound.specs.Sound.{IsSound}
 use Rattle.fsd_texts.specs.declared.command.Command.{Command}
 use Rattle.fsd_texts.specs.declared.fault.Fault.{Fault}
 use Rattle.fsd_texts.specs.declared.fault.Fault.TheVariants as Ends
-use Rattle.fsd_runs.specs.Commands.{answer, changes_of, may_wear_out}
-use Rattle.fsd_runs.specs.Errands.{Answered, Errand, Turn, answered_so}
-use Rattle.fsd_runs.specs.Runs.{Goes, IsStep, IsWornOut, Stood, answered, behind, changes_in, forced_in, said_in, turn_of, WearsOut, turns_begun}
+use Rattle.fsd_runs.specs.Commands.{answer}
+use Rattle.fsd_runs.specs.Errands.{Errand, Turn, answered_so}
+use Rattle.fsd_runs.specs.Runs.{Goes, IsStep, IsWornOut, behind, changes_in, forced_in, said_in, turn_of, WearsOut, turns_begun}
 use Rattle.fsd_runs.specs.Leaves.{SaysNext}
 use Rattle.volume_turns.specs.declared.turns.End.{End}
 use Rattle.volume_turns.specs.declared.turns.End.TheVariants.{Fault as Stopped, Output}

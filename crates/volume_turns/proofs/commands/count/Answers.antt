@@ -1,4 +1,4 @@
-use Rattle.std.proofs.Common.{◌≡◌, List, ◌++◌, None, false, refl, sym, ap}
+use Rattle.std.proofs.Common.{None, false, refl, sym, ap}
 use Rattle.std.proofs.lemmas.List.{append-nil}
 use Rattle.sector_disk.proofs.CallLaws.{writes_none}
 use Rattle.sector_disk.proofs.Holding.{wears_none}

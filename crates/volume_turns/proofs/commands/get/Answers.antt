@@ -1,10 +1,9 @@
-use Rattle.std.proofs.Common.{◌≡◌, ℕ, ◌∙◌, sym, ap, subst, refl, Option}
+use Rattle.std.proofs.Common.{ℕ, ◌∙◌, sym, ap, subst, Option}
 use Rattle.std.specs.Prelude.{Result}
 use Rattle.fsd_files.specs.Answers.{entry_of}
 use Rattle.fsd_texts.specs.declared.command.Command.TheVariants as Word
 use Rattle.fsd_texts.specs.declared.fault.Fault.{Fault}
 use Rattle.sector_disk.specs.Image.{open_damage}
-use Rattle.sector_disk.specs.Machine.{Moment}
 use Rattle.volume_turns.specs.declared.answer.Answer.{Answer}
 use Rattle.sector_disk.specs.Calls.{WritesDisk}
 use Rattle.volume_contract.specs.State.{volume_of}

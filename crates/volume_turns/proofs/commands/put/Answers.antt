@@ -1,19 +1,17 @@
-use Rattle.std.proofs.Common.{◌≡◌, ℕ, List, [], ◌∷◌, ◌∙◌, sym, ap, subst, refl, Option, length}
+use Rattle.std.proofs.Common.{ℕ, [], ◌∷◌, ◌∙◌, sym, ap, subst, refl, Option, length}
 use Rattle.std.specs.Prelude.{Result, IsFalse}
 use Rattle.fsd_bytes.specs.declared.refusal.Refusal.{Refusal}
 use Rattle.fsd_formats.specs.NamePage.{sectors_for}
-use Rattle.fsd_files.specs.Answers.{Met, put_outcome, size_fault, keep_given}
+use Rattle.fsd_files.specs.Answers.{put_outcome, size_fault, keep_given}
 use Rattle.fsd_files.specs.Files.{Change}
 use Rattle.fsd_files.specs.Replies.{Reply}
-use Rattle.fsd_texts.specs.declared.command.Command.{Command}
 use Rattle.fsd_texts.specs.declared.command.Command.TheVariants as Word
 use Rattle.fsd_texts.specs.declared.fault.Fault.{Fault}
-use Rattle.sector_disk.specs.Machine.{Moment}
 use Rattle.volume_turns.specs.declared.answer.Answer.{Answer}
 use Rattle.sector_disk.specs.Calls.{WritesDisk}
 use Rattle.volume_contract.specs.Order.{Comes}
 use Rattle.volume_contract.specs.State.{volume_of, put_writes, is_worn}
-use Rattle.volume_turns.specs.Steps.{Does, IsAnswered, Stays, device_by, ended_by}
+use Rattle.volume_turns.specs.Steps.{Does, IsAnswered, Stays, device_by}
 use Rattle.sector_disk.proofs.CallLaws.{writes_more}
 use Rattle.volume_turns.proofs.OrderLaws.{steps_of, put_rest, put_never, size_never, never_down, unworn_by, worn_by, unworn_through, is_no_fault, no_fault_is}
 use Rattle.volume_turns.proofs.StepLaws.{same_device, less_touched, answered_does, refused_does}

@@ -1,4 +1,4 @@
-use Rattle.std.proofs.Common.{◌≡◌, ℕ, List, [], ◌∷◌, ◌∙◌, sym, ap, subst, refl, Option, Some, None, cond}
+use Rattle.std.proofs.Common.{ℕ, [], ◌∷◌, ◌∙◌, sym, ap, subst, refl, Option, Some, None, cond}
 use Rattle.std.specs.Prelude.{Result, IsFalse, nat_lt}
 use Rattle.fsd_bytes.specs.declared.refusal.Refusal.{Refusal}
 use Rattle.fsd_bytes.specs.declared.refusal.Refusal.TheVariants as Why
@@ -10,11 +10,11 @@ use Rattle.fsd_texts.specs.declared.command.Command.TheVariants as Word
 use Rattle.fsd_texts.specs.declared.fault.Fault.{Fault}
 use Rattle.volume_turns.specs.declared.answer.Answer.{Answer}
 use Rattle.sector_disk.specs.Calls.{WritesDisk}
-use Rattle.volume_contract.specs.Order.{Comes, down}
+use Rattle.volume_contract.specs.Order.{Comes}
 use Rattle.volume_contract.specs.State.{volume_of, force_writes, is_worn}
 use Rattle.volume_turns.specs.Steps.{Does, Stays, device_by}
 use Rattle.sector_disk.proofs.CallLaws.{writes_more}
-use Rattle.volume_turns.proofs.OrderLaws.{steps_of, edit_rest, edit_never, keep_never, never_down, unworn_by, worn_by, unworn_through, keep_fits, fits_keep, delete_all, delete_down, delete_unworn, delete_worn, delete_through, force_down}
+use Rattle.volume_turns.proofs.OrderLaws.{steps_of, edit_rest, edit_never, keep_never, never_down, unworn_by, worn_by, unworn_through, keep_fits, fits_keep}
 use Rattle.volume_turns.proofs.StepLaws.{same_device, less_touched, answered_does, refused_does}
 use Rattle.volume_turns.proofs.commands.set_keep.Goals as goal
 

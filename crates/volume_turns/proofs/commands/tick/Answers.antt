@@ -1,20 +1,15 @@
-use Rattle.std.proofs.Common.{◌≡◌, ℕ, List, [], ◌∷◌, ◌∙◌, sym, ap, subst, refl, Option, Some, None, cond}
-use Rattle.std.specs.Prelude.{Result, IsFalse, nat_lt}
-use Rattle.fsd_bytes.specs.declared.refusal.Refusal.{Refusal}
-use Rattle.fsd_bytes.specs.declared.refusal.Refusal.TheVariants as Why
-use Rattle.fsd_formats.specs.NamePage.{max_keep}
+use Rattle.std.proofs.Common.{ℕ, [], ◌∙◌, sym, ap, subst, refl, Option}
+use Rattle.std.specs.Prelude.{Result}
 use Rattle.fsd_files.specs.Answers.{force_outcome}
-use Rattle.fsd_files.specs.Files.{Change}
 use Rattle.fsd_files.specs.Replies.{Reply}
 use Rattle.fsd_texts.specs.declared.command.Command.TheVariants as Word
 use Rattle.fsd_texts.specs.declared.fault.Fault.{Fault}
 use Rattle.volume_turns.specs.declared.answer.Answer.{Answer}
 use Rattle.sector_disk.specs.Calls.{WritesDisk}
-use Rattle.volume_contract.specs.Order.{Comes, down}
-use Rattle.volume_contract.specs.State.{volume_of, force_writes, is_worn}
+use Rattle.volume_contract.specs.State.{volume_of, force_writes}
 use Rattle.volume_turns.specs.Steps.{Does, Stays, device_by}
 use Rattle.sector_disk.proofs.CallLaws.{writes_more}
-use Rattle.volume_turns.proofs.OrderLaws.{steps_of, edit_rest, edit_never, keep_never, never_down, unworn_by, worn_by, unworn_through, keep_fits, fits_keep, delete_all, delete_down, delete_unworn, delete_worn, delete_through, force_down}
+use Rattle.volume_turns.proofs.OrderLaws.{force_down}
 use Rattle.volume_turns.proofs.StepLaws.{same_device, less_touched, answered_does, force_does}
 use Rattle.volume_turns.proofs.commands.tick.Goals as goal
 

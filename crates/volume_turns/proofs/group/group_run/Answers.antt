@@ -1,4 +1,4 @@
-use Rattle.std.proofs.Common.{◌≡◌, refl, sym, ◌∙◌}
+use Rattle.std.proofs.Common.{refl, sym, ◌∙◌}
 use Rattle.sector_disk.specs.Image.{open_damage}
 use Rattle.sector_disk.proofs.Wear.{worn_refl}
 use Rattle.volume_turns.proofs.GroupLaws.{group_all, group_worn, group_stop}

@@ -1,4 +1,4 @@
-use Rattle.std.proofs.Common.{◌≡◌, Option, sym, subst}
+use Rattle.std.proofs.Common.{Option, sym, subst}
 use Rattle.fsd_bytes.specs.declared.key.Key.{Key}
 use Rattle.fsd_files.specs.Answers.{next_reply}
 use Rattle.volume_contract.specs.Ends.{Looks}

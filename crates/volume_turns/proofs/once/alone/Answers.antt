@@ -1,4 +1,4 @@
-use Rattle.std.proofs.Common.{◌≡◌, ℕ, List, sym, subst}
+use Rattle.std.proofs.Common.{ℕ, List, subst}
 use Rattle.fsd_files.specs.Replies.{Reply}
 use Rattle.volume_turns.specs.Once.{ClosesAndSays}
 use Rattle.volume_turns.specs.Steps.{reply_of}

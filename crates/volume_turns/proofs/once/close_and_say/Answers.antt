@@ -1,5 +1,4 @@
-use Rattle.std.proofs.Common.{◌≡◌, Err, sym, subst}
-use Rattle.std.specs.Prelude.{Result}
+use Rattle.std.proofs.Common.{Err, sym, subst}
 use Rattle.fsd_texts.specs.declared.fault.Fault.{Fault}
 use Rattle.volume_turns.specs.declared.turns.End.TheVariants.{Fault as Stopped}
 use Rattle.volume_turns.specs.Once.{ClosesAndSays}

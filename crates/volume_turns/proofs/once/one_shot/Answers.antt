@@ -1,5 +1,4 @@
-use Rattle.std.proofs.Common.{◌≡◌, inl, inr, Ok, Err}
-use Rattle.volume_turns.specs.declared.once.Stop.TheVariants.{Unmounted, Ended}
+use Rattle.std.proofs.Common.{Ok, Err}
 use Rattle.volume_turns.proofs.OneShotLaws.{shot_mounted, shot_failed}
 use Rattle.volume_turns.proofs.once.one_shot.Goals as goal
 

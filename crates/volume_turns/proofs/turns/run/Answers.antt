@@ -1,12 +1,9 @@
-use Rattle.std.proofs.Common.{◌≡◌, ℕ, suc, List, [], ◌∷◌, Err, refl, sym, ◌∙◌, ap, subst, arith, drop, get_or, drop-cons, add-one}
-use Rattle.std.specs.Prelude.{Result, Ok}
+use Rattle.std.proofs.Common.{ℕ, suc, List, ◌∷◌, Err, sym, ◌∙◌, ap, subst, arith, drop, drop-cons, add-one}
+use Rattle.std.specs.Prelude.{Ok}
 use Rattle.std.proofs.lemmas.List.{drop_all}
 use Rattle.sector_disk.specs.Image.{AreShort, Windows}
-use Rattle.sector_disk.specs.Machine.{Moment}
 use Rattle.sector_disk.proofs.Holding.{trusts_on}
 use Rattle.fsd_texts.specs.declared.command.Command.{Command as Word}
-use Rattle.volume_turns.specs.declared.turns.End.{End}
-use Rattle.volume_contract.specs.State.{Ages}
 use Rattle.volume_turns.specs.Turns.{Runs, Follows}
 use Rattle.volume_turns.proofs.RunLaws.{runs_nil, runs_then, runs_stop, told_then, follows_then}
 use Rattle.volume_turns.proofs.turns.run.Goals as goal

@@ -1,10 +1,8 @@
-use Rattle.std.proofs.Common.{refl, sym, subst, ◌∙◌}
+use Rattle.std.proofs.Common.{subst}
 use Rattle.sector_disk.specs.Image.{AreShort, Windows}
-use Rattle.fsd_runs.specs.Errands.{Errand}
-use Rattle.volume_turns.specs.declared.turns.End.{End}
-use Rattle.volume_turns.specs.Steps.{device_told, reply_of}
+use Rattle.volume_turns.specs.Steps.{reply_of}
 use Rattle.volume_turns.specs.Turns.{SaysAll, Unsaid}
-use Rattle.volume_turns.proofs.RunLaws.{step_said, step_fault, told_fault, told_then, on_ok_said, on_err_said}
+use Rattle.volume_turns.proofs.RunLaws.{step_said, step_fault, told_fault, on_ok_said, on_err_said}
 use Rattle.volume_turns.proofs.turns.step.Goals as goal
 
 pub returns-in-Ok-clause-steps : goal.returns-in-Ok-clause-steps
