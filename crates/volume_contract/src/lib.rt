@@ -1,4 +1,4 @@
-//! The contract of a volume, as its callers see it: the trait `Files`. Nothing here runs.
+//! The contract of a volume, as its callers see it: the trait `Files`.
 #![tactic(auto)]
 
 mod files;

@@ -56,7 +56,7 @@ fn is_worn_end(end: &End) -> bool
 }
 
 // Forces all, and says that it is forced.
-fn finish<M: Machine, V: Files<M>, T: Says>(
+fn finish<M: Machine, V: Files<M> + Drop, T: Says>(
     alloc: Global,
     v: V,
     m: &mut M,
