@@ -1,5 +1,5 @@
 -- Why a call of a volume tells something as lost or as unsound, over an honest machine and any image.
-use Rattle.std.specs.Prelude.{◌≡◌, ◌⊎◌, ⊤, ℕ, ◌<◌, List, [], ◌∷◌, Option, Some, None, IsTrue, Result, IfErr, ◌||◌}
+use Rattle.std.specs.Prelude.{◌≡◌, ◌⊎◌, ⊤, ℕ, ◌<◌, List, [], ◌∷◌, Option, Some, None, IsTrue, Result, IfErr, slice_index_or, ◌||◌}
 use Rattle.std.specs.List.{list_any, Contains}
 use Rattle.volume_layout.specs.Layout.{home_a}
 use Rattle.run_table.specs.RunTable.{sectors_of}
@@ -20,7 +20,6 @@ use Rattle.fsd_files.specs.Volume.{is_in}
 use Rattle.fsd_sound.specs.Homes.{AreHomesOf}
 use Rattle.fsd_sound.specs.Mounted.{image_at}
 use Rattle.log_thirds.specs.Images.{LiesAt}
-use Rattle.log_thirds.specs.Slots.{slot_of}
 use Rattle.volume_contract.specs.State.{State}
 
 -- ---- what is lost
@@ -28,7 +27,7 @@ use Rattle.volume_contract.specs.State.{State}
 -- the sectors are the two copies of the page: its own and the copy in the last record that has it, or its homes where none has
 abbrev pub AreCopiesOf : State → (page a b : ℕ) → Type 0
 AreCopiesOf s page a b =
-    let slot = slot_of s.layout s.anchor.third page s.records in
+    let slot = slice_index_or s.slots page None in
     LiesAt slot a b ⊎ ((slot ≡ None) × AreHomesOf s.layout page a b)
 
 -- so they are of some page, before the call or behind a force that it made
