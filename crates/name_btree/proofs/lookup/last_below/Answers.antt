@@ -1,4 +1,5 @@
-use Rattle.std.proofs.Common.{◌≡◌, ◌<◌, length, arith}
+use Rattle.std.proofs.Common.{◌≡◌, ◌<◌, ◌-◌, length, arith}
+use Rattle.name_btree.proofs.LookupLaws.{contains_at, stands_in}
 use Rattle.name_btree.proofs.NextLaws.{ends, empty_is, leaf_has_entries}
 use Rattle.std.proofs.lemmas.Result.{err_from_is_err_and}
 use Rattle.name_btree.proofs.VisitedLaws.{root_above, neighbour_breaks}
@@ -21,3 +22,13 @@ pub returns-clause-last : goal.returns-clause-last
 returns-clause-last g c = λ pages is.
     let some : 0 < c.len-count.result = omega arith in
     ends pages c.args.previous.child c.in_ok-found.found c.len-count.result c.get.result (c.in_ok-found.ensures.place pages is) c.len-count.ensures.value some c.get.ensures.there
+
+pub returns-clause-there : goal.returns-clause-there
+returns-clause-there g c =
+    let e = c.in_ok-found.ensures in
+    let leaf = c.in_ok-found.found in
+    stands_in (g.T.Pages.step c.args.t.now) (g.T.Pages.step c.leaf_below.new.t) leaf.page leaf.entries c.get.result e.reached e.used e.calls.looks.spares e.leaf
+    (contains_at leaf.entries (c.len-count.result - 1) c.get.result c.get.ensures.there)
+
+pub returns-clause-way : goal.returns-clause-way
+returns-clause-way g c = λ pages is there. c.in_ok-found.ensures.way pages is there.1
