@@ -1,11 +1,10 @@
 -- Why the outside refused a page. The laws stand here since a table's `impl` rests on them.
-use Rattle.std.proofs.Common.{inl, inr, ℕ, refl, arith}
+use Rattle.std.proofs.Common.{ℕ, arith}
 use Rattle.fsd_bytes.specs.declared.refusal.Refusal.{Refusal}
 use Rattle.fsd_bytes.specs.declared.refusal.Refusal.TheVariants.{NoSuch, TooLong, NoSpace, TooFragmented, NameTableFull, VersionsUsedUp, KeepTooLarge, Damaged, Device, Down, Lost, Unsound, WornOut, Memory, BadClient, Busy, Idle, Short, Long}
 use Rattle.sector_disk.specs.Machine.{Report, DeviceFault, UsesDisk}
 use Rattle.sector_disk.specs.declared.machine.Machine.{Ghosts as MachineGhosts}
 use Rattle.page_cache.specs.declared.source.PageSource.{Ghosts as SourceGhosts}
-use Rattle.name_page.specs.Pages.{IsOuter}
 use Rattle.table_pages.specs.Reads.{OnlyReads}
 use Rattle.table_pages.specs.Bringing.{OuterCause}
 
@@ -37,24 +36,3 @@ module _ {D E : Type 0} (M : MachineGhosts D) (S : SourceGhosts E) (source : E) 
   cause_later a b c (Idle n) reads cause = cause
   cause_later a b c (Short n m) reads cause = cause
   cause_later a b c (Long n m) reads cause = cause
-
-  pub cause_outer : (a b : D) (refusal : Refusal) → OuterCause M S source a b refusal → IsOuter refusal
-  cause_outer a b (Device place) cause = inl (place, refl)
-  cause_outer a b (Lost x y) cause = inr (inl (x, y, refl))
-  cause_outer a b Memory cause = inr (inr refl)
-  cause_outer a b NoSuch cause = absurd cause
-  cause_outer a b (TooLong n) cause = absurd cause
-  cause_outer a b (NoSpace n m) cause = absurd cause
-  cause_outer a b (TooFragmented n m) cause = absurd cause
-  cause_outer a b (NameTableFull n) cause = absurd cause
-  cause_outer a b VersionsUsedUp cause = absurd cause
-  cause_outer a b (KeepTooLarge n) cause = absurd cause
-  cause_outer a b (Damaged n) cause = absurd cause
-  cause_outer a b (Down n) cause = absurd cause
-  cause_outer a b (Unsound n) cause = absurd cause
-  cause_outer a b WornOut cause = absurd cause
-  cause_outer a b (BadClient n) cause = absurd cause
-  cause_outer a b (Busy n) cause = absurd cause
-  cause_outer a b (Idle n) cause = absurd cause
-  cause_outer a b (Short n m) cause = absurd cause
-  cause_outer a b (Long n m) cause = absurd cause

@@ -1,12 +1,13 @@
 -- A table over a cache as the tree sees it.
-use Rattle.std.specs.Prelude.{◌≡◌, ℕ, Bool, List, [], Option, None, length}
+use Rattle.std.specs.Prelude.{◌≡◌, ℕ, Bool, List, [], Option, None, IfSome, length}
 use Rattle.std.specs.Borrow.{MutBor}
+use Rattle.fsd_bytes.specs.declared.refusal.Refusal.{Refusal}
 use Rattle.sector_disk.specs.declared.machine.Machine.{Ghosts as MachineGhosts}
 use Rattle.page_cache.specs.declared.source.PageSource.{Ghosts as SourceGhosts}
 use Rattle.page_cache.specs.Cache.{CacheValue, newest, with_written}
 use Rattle.name_page.specs.Pages.{Step}
 use Rattle.table_pages.specs.Reads.{OnlyReads}
-use Rattle.table_pages.specs.Bringing.{given_by}
+use Rattle.table_pages.specs.Bringing.{given_by, OuterCause}
 use Rattle.table_pages.specs.Kept.{IsReady, images_of, kept_written}
 use Rattle.table_pages.specs.declared.table.Table.{Table}
 
@@ -42,6 +43,10 @@ module _ {D E : Type 0} {M : MachineGhosts D} {S : SourceGhosts E} where
     pub machine : new.m.ghost_name ≡ old.m.ghost_name
     pub cache : new.cache.ghost_name ≡ old.cache.ghost_name
     pub free : new.free.ghost_name ≡ old.free.ghost_name
+
+  -- the same, and the outside refused the last call so, or none
+  abbrev pub ReadsTo : Option Refusal → Table D E M S → Table D E M S → Type 0
+  ReadsTo refusal old new = ReadsOnly old new × IfSome refusal (OuterCause M S new.source.now old.m.now new.m.now)
 
   -- it is over these
   pub record IsOver (m : MutBor D) (cache : MutBor CacheValue) (source : E) (free : MutBor (List Bool)) (t : Table D E M S) : Type 0 where

@@ -61,12 +61,12 @@ impl<'a, M: Machine, S: PageSource> Table<'a, M, S> {
 }
 
 impl<'a, M: Machine, S: PageSource> Pages for Table<'a, M, S> {
-    ghost use Rattle.std.specs.Prelude.{refl};
+    ghost use Rattle.std.specs.Prelude.{refl, None};
     ghost use Rattle.std.proofs.Common.{ap, ◌∙◌, subst, sym};
     ghost use Rattle.name_page.specs.Pages.{Step, rested};
-    ghost use Rattle.table_pages.specs.Bringing.{IsTrusted, OuterCause};
-    ghost use Rattle.table_pages.specs.Table.{step_of, written, ReadsOnly, IsAtRest};
-    ghost use Rattle.table_pages.specs.TableLaws.{step_written, reads_written, reads_still, reads_then, trusted_earlier, later_cause, outer_cause, few_images, as_many};
+    ghost use Rattle.table_pages.specs.Bringing.{IsTrusted};
+    ghost use Rattle.table_pages.specs.Table.{step_of, written, ReadsTo, IsAtRest};
+    ghost use Rattle.table_pages.specs.TableLaws.{step_written, reads_written, reads_still, reads_then, trusted_earlier, few_images, as_many};
 
     ghost step = { step_of };
 
@@ -74,9 +74,7 @@ impl<'a, M: Machine, S: PageSource> Pages for Table<'a, M, S> {
 
     ghost trusted = { λ t. IsTrusted M.Machine S.PageSource t.source.now t.m.now };
 
-    ghost outside = { ReadsOnly };
-
-    ghost causes = { λ a b refusal. OuterCause M.Machine S.PageSource b.source.now a.m.now b.m.now refusal };
+    ghost outside = { ReadsTo };
 
     ghost changed = { step_written };
 
@@ -87,10 +85,6 @@ impl<'a, M: Machine, S: PageSource> Pages for Table<'a, M, S> {
     ghost then = { reads_then };
 
     ghost trust = { trusted_earlier };
-
-    ghost later = { later_cause };
-
-    ghost outer = { outer_cause };
 
     ghost small = { few_images };
 
@@ -159,7 +153,7 @@ impl<'a, M: Machine, S: PageSource> Pages for Table<'a, M, S> {
     }
 
     fn rest(&mut self)
-        ensures outside { ReadsOnly self.old self.new }
+        ensures outside { ReadsTo None self.old self.new }
         ensures step { step_of self.new ≡ rested (step_of self.old) }
         ensures ready { IsAtRest self.new }
     {

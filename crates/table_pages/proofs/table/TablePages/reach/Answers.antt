@@ -1,15 +1,17 @@
 use Rattle.std.proofs.Common.{◌≡◌, inl, inr, ◌∙◌, ℕ, ◌+◌, List, length, true, refl, sym, ap, subst, arith}
 use Rattle.std.specs.Prelude.{IsSome, option_and_then}
+use Rattle.fsd_bytes.specs.declared.refusal.Refusal.TheVariants.{Unsound}
 use Rattle.fsd_formats.specs.NamePage.{read_page}
 use Rattle.page_cache.specs.Cache.{IsResident, newest, pins_of}
 use Rattle.name_page.specs.Pages.{is_one_of}
 use Rattle.name_page.proofs.StepLaws.{last_is_one}
-use Rattle.table_pages.specs.Bringing.{HasRoom, FetchesOnly, content_in, given_by}
+use Rattle.table_pages.specs.Bringing.{HasRoom, FetchesOnly, content_in, home_in, given_by}
 use Rattle.table_pages.specs.Kept.{IsKept}
 use Rattle.table_pages.specs.ImageLaws.{image_count}
 use Rattle.table_pages.proofs.PinLaws.{set_only, only_there}
 use Rattle.table_pages.proofs.SpareLaws.{room_pins, kept_pins, fetches_pins}
 use Rattle.table_pages.proofs.KeptLaws.{kept_room, kept_brought, kept_reached, fetched_images}
+use Rattle.table_pages.proofs.OuterLaws.{cause_outer, cause_told, untold}
 use Rattle.table_pages.proofs.StepLaws.{within_free, within_pages, page_in, barred, fetched_keeps}
 use Rattle.table_pages.proofs.table.TablePages.reach.Given as given
 use Rattle.table_pages.proofs.table.TablePages.reach.Goals as goal
@@ -98,6 +100,16 @@ returns-in-Ok-clause-accepted g c =
     let same : content_in new (length t.free.now) page ≡ content_in mid (length t.free.now) page = ap (λ o. option_and_then (read_page page (length t.free.now)) o) (only.bytes page) in
     subst (λ o. IsSome o) (sym (is ∙ same)) c.in-Ok.ensures.accepted
 
+pub returns-in-Err-clause-outside : goal.returns-in-Err-clause-outside
+returns-in-Err-clause-outside g c =
+    let t = c.args.self.now in (
+      record { reads = c.bring_used.ensures.fetches.reads; source = refl; machine = refl; cache = refl; free = refl },
+      elim (c.in-Err.ensures.cause) [
+        | inl outer ↦ cause_told g.M.Machine g.S.PageSource t.source.now t.m.now c.bring_used.new.m c.in-Err.refusal outer
+        | inr bad ↦ untold g.M.Machine g.S.PageSource t.source.now t.m.now c.bring_used.new.m c.in-Err.refusal (Unsound (home_in t.home_a c.args.page)) bad.0 refl
+      ],
+    )
+
 pub returns-in-Err-clause-kept : goal.returns-in-Err-clause-kept
 returns-in-Err-clause-kept g c = fetched_keeps c.args.self.now c.bring_used.new.m c.bring_used.new.cache c.bring_used.ensures.fetches
 
@@ -111,6 +123,6 @@ pub returns-in-Err-clause-cause : goal.returns-in-Err-clause-cause
 returns-in-Err-clause-cause g c =
     let t = c.args.self.now in
     elim (c.in-Err.ensures.cause) [
-      | inl outer ↦ inl outer
+      | inl outer ↦ inl (cause_outer g.M.Machine g.S.PageSource t.source.now t.m.now c.bring_used.new.m c.in-Err.refusal outer)
       | inr bad ↦ inr (bad.0, barred t.free.now c.bring_used.new.cache (given_by g.M.Machine g.S.PageSource t.source.now c.bring_used.new.m) c.args.page (within_free t c.args.page c.requires.within) bad.1)
     ]
