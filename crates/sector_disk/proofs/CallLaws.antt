@@ -1,11 +1,11 @@
 -- Calls one after another, and what they leave said of less.
 use Rattle.std.proofs.Common.{◌≡◌, ◌≤◌, ◌∙◌, refl, sym, ap, subst, arith, ℕ, Bool, true, false, Option, Some, None}
-use Rattle.std.specs.Prelude.{Result, Err}
+use Rattle.std.specs.Prelude.{Result, Ok, Err, IsErrAnd}
 use Rattle.sector_disk.specs.declared.machine.Failed.{Failed}
 use Rattle.sector_disk.specs.declared.machine.LoadFault.{LoadFault}
 use Rattle.sector_disk.specs.declared.machine.LoadFault.TheVariants.{Device}
 use Rattle.sector_disk.specs.declared.machine.Machine.{Ghosts}
-use Rattle.sector_disk.specs.Machine.{Moment, Report, Ledger, OnlyWrites, UsesDisk, Wears, LeavesOnly}
+use Rattle.sector_disk.specs.Machine.{Before, DiskCause, Elapses, Ledger, LeavesOnly, Moment, OnlyWrites, Report, Trusts, UsesDisk, Wears}
 use Rattle.sector_disk.specs.Calls.{Counts, DiskFaults, HealsDisk, LeavesDisk, OnlyReads, Since, SparesDisk, WritesDisk, device_in, failed_at, load_failed_at}
 use Rattle.sector_disk.proofs.Holding.{trusts_on, wears_none, wears_on}
 use Rattle.sector_disk.proofs.Moments.{started, then_on, leaves_more}
@@ -46,6 +46,11 @@ only_writes_then a b c first second = record { input = second.input ∙ first.in
 -- a fault that is handed on tells the place that it told
 pub told_on : {T U E : Type 0} (at : E → Option ℕ) (was : Result T E) (is : Result U E) (fault : E) → was ≡ Err fault → is ≡ Err fault → device_in at is ≡ device_in at was
 told_on at was is fault first second = ap (device_in at) second ∙ sym (ap (device_in at) first)
+
+-- and so does one that `?` hands on
+pub told_up : {T E : Type 0} (at : E → Option ℕ) (is : Result T E) (fault : E) → IsErrAnd is (λ told. told ≡ fault) → device_in at is ≡ at fault
+told_up at (Ok x) fault same = absurd same
+told_up at (Err told) fault same = ap at same
 
 -- a call of the disk that failed, handed on as a fault of a load
 pub failed_on : {T U : Type 0} (was : Result T Failed) (is : Result U LoadFault) (failed : Failed) → was ≡ Err failed → is ≡ Err (Device failed.place) → device_in load_failed_at is ≡ device_in failed_at was
@@ -184,6 +189,26 @@ module _ {D : Type 0} {M : Ghosts D} {a b c : D} where
   pub reads_then_writes : {fault : Option ℕ} {Q R : Moment → Moment → Type 0} → OnlyReads M None a b → WritesDisk M fault Q b c
       → (M.honest b → (left : Moment) → Wears (M.now a) left → R (M.now a) left) → (M.honest c → (left : Moment) → Q (M.now b) left → R (M.now a) left) → WritesDisk M fault R a c
   reads_then_writes {R = R} first second worn_so then_so = writes_then {P = R} (reads_as_writes first worn_so) second (λ h left so. so) then_so
+
+-- ---- a call that turns the windows
+
+tells_place : {T : Type 0} (a b : Report) (place : ℕ) (r : Result T Failed) → DiskCause a b place r → DiskFaults (device_in failed_at r) a b
+tells_place a b place (Ok x) cause = (cause.disk.stays, cause.untold)
+tells_place a b place (Err failed) cause = record { rose = cause.disk.failed; told = cause.names ∙ sym cause.told }
+
+module _ {D : Type 0} {M : Ghosts D} (a b : D) where
+  pub turns : {T : Type 0} (place : ℕ) (r : Result T Failed) → DiskCause (M.report a) (M.report b) place r → (M.report b).sectors ≡ (M.report a).sectors → Trusts (M.tells a) (M.tells b) (M.honest a) (M.honest b)
+      → (M.honest b → Elapses (M.moment a) (M.moment b) (M.left_since a) (M.left_since b) (Before (M.now a) (M.now b))) → (M.tells b → M.ledger b ≡ M.ledger a) → (M.honest b → (M.now b).said ≡ (M.now a).said)
+      → HealsDisk M (device_in failed_at r) a b
+  turns place r cause sectors trust time ledger quiet = record {
+    uses = record { sectors = sectors; disk = cause.disk.later; input = cause.input; output = cause.output };
+    faults = tells_place (M.report a) (M.report b) place r cause;
+    trust = trust;
+    ledger = λ t. record { input = ap (λ (l : Ledger). l.input) (ledger t); attaches = ap (λ (l : Ledger). l.attaches) (ledger t) };
+    quiet = quiet;
+    later = λ h. (time h).later;
+    since = λ h. (time h).keeps;
+  }
 
 -- ---- no call
 

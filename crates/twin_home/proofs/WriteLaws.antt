@@ -4,8 +4,8 @@ use Rattle.std.specs.Prelude.{OnOk}
 use Rattle.volume_layout.specs.declared.layout.Layout.{Layout}
 use Rattle.volume_layout.specs.Layout.{home_a, home_b}
 use Rattle.sector_disk.specs.Image.{stand, IsWorn, Windows, open_damage}
-use Rattle.sector_disk.specs.Machine.{Moment, Tears, Writes, Holds}
-use Rattle.sector_disk.proofs.Holding.{holds_now, holds_tears, holds_writes}
+use Rattle.sector_disk.specs.Machine.{Moment, Tears, Holds}
+use Rattle.sector_disk.proofs.Holding.{holds_now, holds_tears}
 use Rattle.sector_disk.proofs.Wear.{worn_trans, stand_worn}
 use Rattle.sector_disk.specs.declared.sector.Sector.{Sector}
 use Rattle.twin_home.specs.Home.{WritesPart, with_homes, HomesIn}
@@ -18,12 +18,6 @@ module _ (place : ℕ) (bytes : List ℕ) (long : length bytes ≡ 512) (old lef
   torn_part torn =
       let some = holds_tears old old.image old left (holds_now old) place bytes torn in
       record { stood = some.stood; within = omega (arith, some.some, one); holds = some.holds }
-
-  pub written_whole : Writes place bytes old left → Holds old (stand old.image place bytes 1) left
-  written_whole written = subst (λ (k : ℕ). Holds old (stand old.image place bytes k) left) one (holds_writes old old.image old left (holds_now old) place bytes written)
-
-pub nothing_part : (place : ℕ) (bytes : List ℕ) (old : Moment) → WritesPart place bytes old old
-nothing_part place bytes old = record { stood = 0; within = omega arith; holds = holds_now old }
 
 -- a write over what holds
 pub holds_on : (old mid left : Moment) (image : List Sector) (place : ℕ) (bytes : List ℕ) (k : ℕ) → Holds old image mid → Holds mid (stand mid.image place bytes k) left → Holds old (stand image place bytes k) left
@@ -40,18 +34,20 @@ pub on_ok_more : {T E : Type 0} (P Q : Type 0) (r : Result T E) → (P → Q) �
 on_ok_more P Q (Ok x) more p = more p
 on_ok_more P Q (Err e) more p = tt
 
-module _ (l : Layout) (page : ℕ) (bytes : List ℕ) (old : Moment) where
-  pub first_only : (left : Moment) → WritesPart (home_a l page) bytes old left → HomesIn l page bytes old left
-  first_only left part = record { first = part.stood; second = 0; in_order = omega arith; once = part.within; holds = part.holds }
+module _ (l : Layout) (page : ℕ) (bytes : List ℕ) (long : length bytes ≡ 512) (old : Moment) where
+  pub first_only : (left : Moment) → Tears (home_a l page) bytes old left → HomesIn l page bytes old left
+  first_only left torn =
+      let part = torn_part (home_a l page) bytes long old left torn in record { first = part.stood; second = 0; in_order = omega arith; once = part.within; holds = part.holds }
 
-  pub then_second : (mid left : Moment) → Holds old (stand old.image (home_a l page) bytes 1) mid → WritesPart (home_b l page) bytes mid left → HomesIn l page bytes old left
-  then_second mid left first part = record {
-    first = 1;
-    second = part.stood;
-    in_order = part.within;
-    once = omega arith;
-    holds = holds_on old mid left (stand old.image (home_a l page) bytes 1) (home_b l page) bytes part.stood first part.holds;
-  }
+  pub then_second : (mid left : Moment) → Holds old (stand old.image (home_a l page) bytes 1) mid → Tears (home_b l page) bytes mid left → HomesIn l page bytes old left
+  then_second mid left first torn =
+      let part = torn_part (home_b l page) bytes long mid left torn in record {
+        first = 1;
+        second = part.stood;
+        in_order = part.within;
+        once = omega arith;
+        holds = holds_on old mid left (stand old.image (home_a l page) bytes 1) (home_b l page) bytes part.stood first part.holds;
+      }
 
   pub both_stand : (mid left : Moment) → Holds old (stand old.image (home_a l page) bytes 1) mid → Holds mid (stand mid.image (home_b l page) bytes 1) left → Holds old (with_homes l page bytes old.image 1 1) left
   both_stand mid left first second = holds_on old mid left (stand old.image (home_a l page) bytes 1) (home_b l page) bytes 1 first second

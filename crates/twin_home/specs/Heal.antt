@@ -1,20 +1,25 @@
 -- What healing one of two copies from the other leaves.
-use Rattle.std.specs.Prelude.{◌≡◌, ◌⊎◌, ℕ, ◌+◌, ◌≤◌, List, length, Option, Some, None, IsTrue}
+use Rattle.std.specs.Prelude.{◌≡◌, ◌⊎◌, ⊤, ℕ, ◌+◌, ◌≤◌, List, length, Option, Some, None, IsTrue}
 use Rattle.sector_disk.specs.declared.sector.Sector.TheVariants.{Whole, Damaged}
 use Rattle.sector_disk.specs.declared.machine.LoadFault.{LoadFault}
 use Rattle.sector_disk.specs.declared.machine.LoadFault.TheVariants.{Device, Lost}
 use Rattle.sector_disk.specs.Image.{sector_at, stand, open_damage}
-use Rattle.sector_disk.specs.Machine.{Report, Moment, Holds, DeviceFault}
+use Rattle.sector_disk.specs.Machine.{Moment, Holds}
 use Rattle.twin_home.specs.Home.{WritesPart}
 
 -- a sector that reads damaged in a call: it was so, or an open window may have worn it
 abbrev pub MayReadDamaged : Moment → ℕ → Type 0
 MayReadDamaged old place = (sector_at old.image place ≡ Damaged) ⊎ IsTrue (open_damage old.windows place)
 
--- what is read of a copy: the bytes that stand there
-abbrev pub ReadsCopy : Moment → ℕ → Option (List ℕ) → Type 0
-ReadsCopy old place (Some bytes) = sector_at old.image place ≡ Whole bytes
-ReadsCopy old place None = MayReadDamaged old place
+-- what was read of a copy between two moments: the bytes that stood there, or that it is damaged
+abbrev pub ReadsCopy : (place : ℕ) → Option (List ℕ) → Moment → Moment → Type 0
+ReadsCopy place (Some bytes) old new = sector_at old.image place ≡ Whole bytes
+ReadsCopy place None old new = sector_at new.image place ≡ Damaged
+
+-- Both copies were read.
+pub record ReadsBoth (a b : ℕ) (read_a read_b : Option (List ℕ)) (old new : Moment) : Type 0 where
+  pub first : ReadsCopy a read_a old new
+  pub second : ReadsCopy b read_b old new
 
 -- A sector is written with its twin's bytes, or not yet.
 pub record Mends (place twin : ℕ) (old left : Moment) : Type 0 where
@@ -43,16 +48,29 @@ WasWhole old place = (bytes : List ℕ) × (sector_at old.image place ≡ Whole 
 abbrev pub Healed : (a b count : ℕ) → Moment → Moment → Type 0
 Healed a b count old new = ((count ≡ 0) × WasWhole old a × WasWhole old b × Holds old old.image new) ⊎ ((count ≡ 1) × (Mended a b old new ⊎ Mended b a old new))
 
--- a failed call of the disk is told, or the two copies
-abbrev pub HealCause : (a b : ℕ) → Report → Report → LoadFault → Type 0
-HealCause a b old new (Device place) = DeviceFault old new place
-HealCause a b old new (Lost x y) = (x ≡ a) × (y ≡ b)
+-- the two copies are these
+abbrev pub AreCopies : (a b x y : ℕ) → Type 0
+AreCopies a b x y = (x ≡ a) × (y ≡ b)
+
+-- what is lost is told by these two copies
+abbrev pub TellsCopies : (a b : ℕ) → LoadFault → Type 0
+TellsCopies a b (Device place) = ⊤
+TellsCopies a b (Lost x y) = AreCopies a b x y
 
 -- ---- roots
 
 -- A sector reads as these bytes and is not written, or it reads otherwise and is.
 abbrev pub SetsRoot : (place : ℕ) → Option (List ℕ) → List ℕ → (count : ℕ) → Moment → Moment → Type 0
 SetsRoot place read bytes count old new = ((count ≡ 0) × (read ≡ Some bytes) × Holds old old.image new) ⊎ ((count ≡ 1) × (read ≡ Some bytes → ⊥) × Holds old (stand old.image place bytes 1) new)
+
+-- Each of the two roots is written where it was read otherwise.
+pub record SetsRoots (read_0 read_4 : Option (List ℕ)) (bytes : List ℕ) (count : ℕ) (old new : Moment) : Type 0 where
+  pub mid : Moment
+  pub one : ℕ
+  pub two : ℕ
+  pub sum : count ≡ one + two
+  pub first : SetsRoot 0 read_0 bytes one old mid
+  pub second : SetsRoot 4 read_4 bytes two mid new
 
 -- The roots of these bytes stand at the first place, if so many (0 or 1) are written there, and at the second.
 pub record RootsIn (bytes : List ℕ) (old left : Moment) : Type 0 where

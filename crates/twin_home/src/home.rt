@@ -1,12 +1,13 @@
 // Name pages at home.
-ghost use Rattle.std.specs.Prelude.{◌≡◌, ◌<◌, ◌≤◌, ◌+◌, IfOk, IfErr, OnOk, OnErr};
+ghost use Rattle.std.specs.Prelude.{◌≡◌, ◌<◌, ◌≤◌, ◌+◌, Ok, IfOk, OnOk, OnErr};
 ghost use Rattle.sector_disk.specs.Image.{stand};
+ghost use Rattle.sector_disk.specs.Calls.{OnlyReads, WritesDisk, device_in, failed_at};
 ghost use Rattle.volume_layout.specs.Layout.{home_a, home_b};
-ghost use Rattle.sector_disk.specs.Machine.{DeviceFault, UsesDisk, Trusts, OnlyWrites, Wears, Writes, Tears, LeavesOnly, Holds, wrote};
+ghost use Rattle.sector_disk.specs.Machine.{Writes, Tears, Holds, wrote};
 ghost use Rattle.fsd_sound.specs.Homes.{home_of};
-ghost use Rattle.twin_home.specs.Home.{ShowsHome, WritesPart, with_homes, HomesIn};
+ghost use Rattle.twin_home.specs.Home.{ShowsHome, with_homes, HomesIn};
 
-use sector_disk::{Failed, Machine, Seen};
+use sector_disk::{Failed, Machine, Seen, read_into, write_sectors};
 use volume_layout::Layout;
 
 /// Reads a page from its first home, and where that is damaged from the second. `Damaged` says that both are; `buf` then
@@ -20,20 +21,15 @@ pub fn read_home<M: Machine>(
     requires page { page < l.now.pages }
     requires room { l.now.sectors ≤ (M.report m.old).sectors }
 
-    ensures fault { IfErr result (λ failed. DeviceFault (M.report m.old) (M.report m.new) failed.place) }
-    ensures uses { UsesDisk (M.report m.old) (M.report m.new) }
-    ensures trust { Trusts (M.tells m.old) (M.tells m.new) (M.honest m.old) (M.honest m.new) }
-    ensures ledger { M.tells m.new → M.ledger m.new ≡ M.ledger m.old }
-    ensures worn { M.honest m.new → Wears (M.now m.old) (M.now m.new) }
-    ensures any_moment { M.honest m.new → LeavesOnly M.moment M.left_since m.old m.new (Wears (M.now m.old)) }
+    ensures reads { OnlyReads M.Machine (device_in failed_at result) m.old m.new }
 
     // The answer is what the image shows as the call ends.
     ensures shown { IfOk result (λ seen. M.honest m.new → ShowsHome seen (home_of l.now (M.now m.new).image page) buf.new) }
     ensures kept { result ≡ Ok Seen.Damaged → buf.new ≡ buf.old }
 {
-    match m.read(l.home_a(page), buf)? {
+    match read_into(m, l.home_a(page), buf)? {
         Seen::Whole => Ok(Seen::Whole),
-        Seen::Damaged => m.read(l.home_b(page), buf),
+        Seen::Damaged => read_into(m, l.home_b(page), buf),
     }
 }
 
@@ -42,18 +38,13 @@ pub fn write_a<M: Machine>(m: &mut M, l: &Layout, page: u32, b: &[u8; 512]) -> R
     requires page { page < l.now.pages }
     requires room { l.now.sectors ≤ (M.report m.old).sectors }
 
-    ensures fault { IfErr result (λ failed. DeviceFault (M.report m.old) (M.report m.new) failed.place) }
-    ensures uses { UsesDisk (M.report m.old) (M.report m.new) }
-    ensures trust { Trusts (M.tells m.old) (M.tells m.new) (M.honest m.old) (M.honest m.new) }
-    ensures ledger { OnOk result (M.tells m.new → M.ledger m.new ≡ wrote (M.ledger m.old) 1) }
-    ensures ledger_err { OnErr result (M.tells m.new → M.ledger m.new ≡ M.ledger m.old) }
-
+    ensures writes { WritesDisk M.Machine (device_in failed_at result) (Tears (home_a l.now page) b.now) m.old m.new }
+    ensures counted { OnOk result (M.tells m.new → M.ledger m.new ≡ wrote (M.ledger m.old) 1) }
+    ensures counted_err { OnErr result (M.tells m.new → M.ledger m.new ≡ M.ledger m.old) }
     ensures written { OnOk result (M.honest m.new → Writes (home_a l.now page) b.now (M.now m.old) (M.now m.new)) }
-    ensures cut { M.honest m.new → Tears (home_a l.now page) b.now (M.now m.old) (M.now m.new) }
-    ensures any_moment { M.honest m.new → LeavesOnly M.moment M.left_since m.old m.new (WritesPart (home_a l.now page) b.now (M.now m.old)) }
     ensures done { OnOk result (M.honest m.new → Holds (M.now m.old) (stand (M.now m.old).image (home_a l.now page) b.now 1) (M.now m.new)) }
 {
-    m.write(l.home_a(page), b)
+    write_sectors(m, l.home_a(page), b)
 }
 
 /// Writes the second home of a page, and nothing else. A call that fails may have written it.
@@ -61,18 +52,13 @@ pub fn write_b<M: Machine>(m: &mut M, l: &Layout, page: u32, b: &[u8; 512]) -> R
     requires page { page < l.now.pages }
     requires room { l.now.sectors ≤ (M.report m.old).sectors }
 
-    ensures fault { IfErr result (λ failed. DeviceFault (M.report m.old) (M.report m.new) failed.place) }
-    ensures uses { UsesDisk (M.report m.old) (M.report m.new) }
-    ensures trust { Trusts (M.tells m.old) (M.tells m.new) (M.honest m.old) (M.honest m.new) }
-    ensures ledger { OnOk result (M.tells m.new → M.ledger m.new ≡ wrote (M.ledger m.old) 1) }
-    ensures ledger_err { OnErr result (M.tells m.new → M.ledger m.new ≡ M.ledger m.old) }
-
+    ensures writes { WritesDisk M.Machine (device_in failed_at result) (Tears (home_b l.now page) b.now) m.old m.new }
+    ensures counted { OnOk result (M.tells m.new → M.ledger m.new ≡ wrote (M.ledger m.old) 1) }
+    ensures counted_err { OnErr result (M.tells m.new → M.ledger m.new ≡ M.ledger m.old) }
     ensures written { OnOk result (M.honest m.new → Writes (home_b l.now page) b.now (M.now m.old) (M.now m.new)) }
-    ensures cut { M.honest m.new → Tears (home_b l.now page) b.now (M.now m.old) (M.now m.new) }
-    ensures any_moment { M.honest m.new → LeavesOnly M.moment M.left_since m.old m.new (WritesPart (home_b l.now page) b.now (M.now m.old)) }
     ensures done { OnOk result (M.honest m.new → Holds (M.now m.old) (stand (M.now m.old).image (home_b l.now page) b.now 1) (M.now m.new)) }
 {
-    m.write(l.home_b(page), b)
+    write_sectors(m, l.home_b(page), b)
 }
 
 /// Writes a page to its first home, and then to its second.
@@ -80,16 +66,9 @@ pub fn write_home<M: Machine>(m: &mut M, l: &Layout, page: u32, b: &[u8; 512]) -
     requires page { page < l.now.pages }
     requires room { l.now.sectors ≤ (M.report m.old).sectors }
 
-    ensures fault { IfErr result (λ failed. DeviceFault (M.report m.old) (M.report m.new) failed.place) }
-    ensures uses { UsesDisk (M.report m.old) (M.report m.new) }
-    ensures trust { Trusts (M.tells m.old) (M.tells m.new) (M.honest m.old) (M.honest m.new) }
-    ensures ledger { M.tells m.new → OnlyWrites (M.ledger m.old) (M.ledger m.new) }
+    ensures writes { WritesDisk M.Machine (device_in failed_at result) (HomesIn l.now page b.now) m.old m.new }
     ensures counted { OnOk result (M.tells m.new → M.ledger m.new ≡ wrote (M.ledger m.old) 2) }
     ensures most { M.tells m.new → (M.ledger m.new).written ≤ (M.ledger m.old).written + 2 }
-    ensures quiet { M.honest m.new → (M.now m.new).said ≡ (M.now m.old).said }
-    ensures windows { M.honest m.new → (M.now m.new).windows ≡ (M.now m.old).windows }
-
-    ensures any_moment { M.honest m.new → LeavesOnly M.moment M.left_since m.old m.new (HomesIn l.now page b.now (M.now m.old)) }
     ensures done { OnOk result (M.honest m.new → Holds (M.now m.old) (with_homes l.now page b.now (M.now m.old).image 1 1) (M.now m.new)) }
 {
     write_a(m, l, page, b)?;

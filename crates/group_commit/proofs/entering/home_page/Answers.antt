@@ -16,7 +16,7 @@ returns-in-Ok-clause-any_moment g c records disk windows old n h may lies at =
     let now = M.now c.args.m.now in
     let read = M.now c.image_of.new.m in
     let buf = c.image_of.new.buf in
-    let h1 = c.write_home.ensures.trust.honest h in
+    let h1 = c.write_home.ensures.writes.trust.honest h in
     let long : length c.image_of.new.buf ≡ 512 = search rules in
     let given = slot_gives log records disk windows old may n now at c.args.page c.image_of.new.buf (wears_here now) (c.in-Ok-true.ensures.whole (λ i. Ok (c.in-Ok-true.field-0-test i)) h1) in
     let logged : last_image c.args.page records ≡ None → ⊥ = λ none. absurd (cc (none, given)) in
@@ -25,7 +25,7 @@ returns-in-Ok-clause-any_moment g c records disk windows old n h may lies at =
     (leaves_more M.moment M.left_since c.args.m.now c.image_of.new.m (Wears now) (Shows log.layout windows disk old) (λ left wears. stays log records disk windows old may n now at left wears) (c.image_of.ensures.any_moment h1))
     (leaves_more M.moment M.left_since c.image_of.new.m c.write_home.new.m (HomesIn c.layout.result.now c.args.page buf read) (Shows log.layout windows disk old)
     (λ left homes. homes_stay log records disk windows old may n read later c.args.page c.requires.page buf long logged left
-    (subst (λ (k : Layout). HomesIn k c.args.page c.image_of.new.buf read left) c.layout.ensures.value homes)) (c.write_home.ensures.any_moment h))
+    (subst (λ (k : Layout). HomesIn k c.args.page c.image_of.new.buf read left) c.layout.ensures.value homes)) (c.write_home.ensures.writes.any_moment h))
 
 pub returns-in-Err-write_home-clause-any_moment : goal.returns-in-Err-write_home-clause-any_moment
 returns-in-Err-write_home-clause-any_moment g c records disk windows old n h may lies at =
@@ -34,7 +34,7 @@ returns-in-Err-write_home-clause-any_moment g c records disk windows old n h may
     let now = M.now c.args.m.now in
     let read = M.now c.image_of.new.m in
     let buf = c.image_of.new.buf in
-    let h1 = c.write_home.ensures.trust.honest h in
+    let h1 = c.write_home.ensures.writes.trust.honest h in
     let long : length c.image_of.new.buf ≡ 512 = search rules in
     let given = slot_gives log records disk windows old may n now at c.args.page c.image_of.new.buf (wears_here now) (c.in-Ok-true.ensures.whole (λ i. Ok (c.in-Ok-true.field-0-test i)) h1) in
     let logged : last_image c.args.page records ≡ None → ⊥ = λ none. absurd (cc (none, given)) in
@@ -43,7 +43,7 @@ returns-in-Err-write_home-clause-any_moment g c records disk windows old n h may
     (leaves_more M.moment M.left_since c.args.m.now c.image_of.new.m (Wears now) (Shows log.layout windows disk old) (λ left wears. stays log records disk windows old may n now at left wears) (c.image_of.ensures.any_moment h1))
     (leaves_more M.moment M.left_since c.image_of.new.m c.write_home.new.m (HomesIn c.layout.result.now c.args.page buf read) (Shows log.layout windows disk old)
     (λ left homes. homes_stay log records disk windows old may n read later c.args.page c.requires.page buf long logged left
-    (subst (λ (k : Layout). HomesIn k c.args.page c.image_of.new.buf read left) c.layout.ensures.value homes)) (c.write_home.ensures.any_moment h))
+    (subst (λ (k : Layout). HomesIn k c.args.page c.image_of.new.buf read left) c.layout.ensures.value homes)) (c.write_home.ensures.writes.any_moment h))
 
 pub returns-in-Ok-clause-done : goal.returns-in-Ok-clause-done
 returns-in-Ok-clause-done g c records disk windows old n h may lies between at =
@@ -52,7 +52,7 @@ returns-in-Ok-clause-done g c records disk windows old n h may lies between at =
     let now = M.now c.args.m.now in
     let read = M.now c.image_of.new.m in
     let buf = c.image_of.new.buf in
-    let h1 = c.write_home.ensures.trust.honest h in
+    let h1 = c.write_home.ensures.writes.trust.honest h in
     let long : length c.image_of.new.buf ≡ 512 = search rules in
     let given = slot_gives log records disk windows old may n now at c.args.page c.image_of.new.buf (wears_here now) (c.in-Ok-true.ensures.whole (λ i. Ok (c.in-Ok-true.field-0-test i)) h1) in
     let logged : last_image c.args.page records ≡ None → ⊥ = λ none. absurd (cc (none, given)) in

@@ -11,34 +11,34 @@ use Rattle.mount_recover.proofs.MendingLaws.{heals_stay, heals_next}
 use Rattle.mount_recover.proofs.mending.heal_home.Goals as goal
 
 pub returns-in-Ok-clause-keeps : goal.returns-in-Ok-clause-keeps
-returns-in-Ok-clause-keeps g c h = let M = g.M.Machine in keeps_heals c.args.l.now c.args.page c.requires.page (M.now c.args.m.now) (M.now c.heal_page.new.m) (c.heal_page.ensures.exit h)
+returns-in-Ok-clause-keeps g c h = let M = g.M.Machine in keeps_heals c.args.l.now c.args.page c.requires.page (M.now c.args.m.now) (M.now c.heal_page.new.m) (c.heal_page.ensures.writes.exit h)
 
 pub returns-in-Err-clause-keeps : goal.returns-in-Err-clause-keeps
-returns-in-Err-clause-keeps g c h = let M = g.M.Machine in keeps_heals c.args.l.now c.args.page c.requires.page (M.now c.args.m.now) (M.now c.heal_page.new.m) (c.heal_page.ensures.exit h)
+returns-in-Err-clause-keeps g c h = let M = g.M.Machine in keeps_heals c.args.l.now c.args.page c.requires.page (M.now c.args.m.now) (M.now c.heal_page.new.m) (c.heal_page.ensures.writes.exit h)
 
 pub returns-in-Ok-clause-any_moment : goal.returns-in-Ok-clause-any_moment
 returns-in-Ok-clause-any_moment g c windows choices log first is h at =
     let M = g.M.Machine in
     let l = c.args.l.now in let now = M.now c.args.m.now in
     leaves_more M.moment M.left_since c.args.m.now c.heal_page.new.m (Heals (home_a l c.args.page) (home_b l c.args.page) now) (Stays l windows choices first)
-    (λ left heals. heals_stay l windows choices log first is c.args.page c.requires.page now at left heals) (c.heal_page.ensures.any_moment h)
+    (λ left heals. heals_stay l windows choices log first is c.args.page c.requires.page now at left heals) (c.heal_page.ensures.writes.any_moment h)
 
 pub returns-in-Err-clause-any_moment : goal.returns-in-Err-clause-any_moment
 returns-in-Err-clause-any_moment g c windows choices log first is h at =
     let M = g.M.Machine in
     let l = c.args.l.now in let now = M.now c.args.m.now in
     leaves_more M.moment M.left_since c.args.m.now c.heal_page.new.m (Heals (home_a l c.args.page) (home_b l c.args.page) now) (Stays l windows choices first)
-    (λ left heals. heals_stay l windows choices log first is c.args.page c.requires.page now at left heals) (c.heal_page.ensures.any_moment h)
+    (λ left heals. heals_stay l windows choices log first is c.args.page c.requires.page now at left heals) (c.heal_page.ensures.writes.any_moment h)
 
 pub returns-in-Ok-clause-exit : goal.returns-in-Ok-clause-exit
 returns-in-Ok-clause-exit g c windows choices log first is h at =
     let M = g.M.Machine in
-    heals_stay c.args.l.now windows choices log first is c.args.page c.requires.page (M.now c.args.m.now) at (M.now c.heal_page.new.m) (c.heal_page.ensures.exit h)
+    heals_stay c.args.l.now windows choices log first is c.args.page c.requires.page (M.now c.args.m.now) at (M.now c.heal_page.new.m) (c.heal_page.ensures.writes.exit h)
 
 pub returns-in-Err-clause-exit : goal.returns-in-Err-clause-exit
 returns-in-Err-clause-exit g c windows choices log first is h at =
     let M = g.M.Machine in
-    heals_stay c.args.l.now windows choices log first is c.args.page c.requires.page (M.now c.args.m.now) at (M.now c.heal_page.new.m) (c.heal_page.ensures.exit h)
+    heals_stay c.args.l.now windows choices log first is c.args.page c.requires.page (M.now c.args.m.now) at (M.now c.heal_page.new.m) (c.heal_page.ensures.writes.exit h)
 
 pub returns-in-Ok-clause-done : goal.returns-in-Ok-clause-done
 returns-in-Ok-clause-done g c windows choices log first is h none at =
@@ -48,7 +48,7 @@ returns-in-Ok-clause-done g c windows choices log first is h none at =
 pub returns-in-Ok-clause-shown : goal.returns-in-Ok-clause-shown
 returns-in-Ok-clause-shown g c h still =
     let M = g.M.Machine in
-    let sized = g.met.M.Machine.sized c.args.m.now (c.heal_page.ensures.trust.honest h) in
+    let sized = g.met.M.Machine.sized c.args.m.now (c.heal_page.ensures.writes.trust.honest h) in
     let bounds = planned_bounds c.args.l.now c.requires.planned in
     let long : home_b c.args.l.now c.args.l.now.pages ≤ length (M.now c.args.m.now).image = omega (arith, sized, bounds.third_least, bounds.sectors_least, c.requires.room) in
     heal_changes c.args.l.now c.args.page c.requires.page (M.now c.args.m.now) (M.now c.heal_page.new.m) still long c.in-Ok.field-0 (c.in-Ok.ensures.done h)
@@ -56,8 +56,8 @@ returns-in-Ok-clause-shown g c h still =
 pub returns-in-Err-clause-not_shown : goal.returns-in-Err-clause-not_shown
 returns-in-Err-clause-not_shown g c h still =
     let M = g.M.Machine in
-    let sized = g.met.M.Machine.sized c.args.m.now (c.heal_page.ensures.trust.honest h) in
+    let sized = g.met.M.Machine.sized c.args.m.now (c.heal_page.ensures.writes.trust.honest h) in
     let bounds = planned_bounds c.args.l.now c.requires.planned in
     let long : home_b c.args.l.now c.args.l.now.pages ≤ length (M.now c.args.m.now).image = omega (arith, sized, bounds.third_least, bounds.sectors_least, c.requires.room) in
     subst (LosesHome c.args.l.now c.args.page (M.now c.args.m.now).image) (sym c.load_fault.ensures)
-    (heal_loses c.args.l.now c.args.page c.requires.page (M.now c.args.m.now) (M.now c.heal_page.new.m) still long (c.heal_page.ensures.exit h) c.in-Err.fault (c.in-Err.ensures.lost h))
+    (heal_loses c.args.l.now c.args.page c.requires.page (M.now c.args.m.now) (M.now c.heal_page.new.m) still long (c.heal_page.ensures.writes.exit h) c.in-Err.fault (c.in-Err.ensures.lost h))

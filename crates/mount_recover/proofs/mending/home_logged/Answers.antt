@@ -14,25 +14,25 @@ returns-in-Ok-clause-any_moment g c windows choices log first is h logged at =
     let M = g.M.Machine in
     let l = c.args.l.now in let now = M.now c.args.m.now in
     leaves_more M.moment M.left_since c.args.m.now c.write_home.new.m (HomesIn l c.args.page c.args.b.now now) (Stays l windows choices first)
-    (λ left homes. homes_stay l windows choices log first is c.args.page c.requires.page now at c.args.b.now c.told-b logged left homes) (c.write_home.ensures.any_moment h)
+    (λ left homes. homes_stay l windows choices log first is c.args.page c.requires.page now at c.args.b.now c.told-b logged left homes) (c.write_home.ensures.writes.any_moment h)
 
 pub returns-in-Err-clause-any_moment : goal.returns-in-Err-clause-any_moment
 returns-in-Err-clause-any_moment g c windows choices log first is h logged at =
     let M = g.M.Machine in
     let l = c.args.l.now in let now = M.now c.args.m.now in
     leaves_more M.moment M.left_since c.args.m.now c.write_home.new.m (HomesIn l c.args.page c.args.b.now now) (Stays l windows choices first)
-    (λ left homes. homes_stay l windows choices log first is c.args.page c.requires.page now at c.args.b.now c.told-b logged left homes) (c.write_home.ensures.any_moment h)
+    (λ left homes. homes_stay l windows choices log first is c.args.page c.requires.page now at c.args.b.now c.told-b logged left homes) (c.write_home.ensures.writes.any_moment h)
 
 pub returns-in-Ok-clause-keeps : goal.returns-in-Ok-clause-keeps
 returns-in-Ok-clause-keeps g c h =
     let M = g.M.Machine in
-    let run = c.write_home.ensures.any_moment h in
+    let run = c.write_home.ensures.writes.any_moment h in
     keeps_homes c.args.l.now c.args.page c.requires.page (M.now c.args.m.now) (M.now c.write_home.new.m) c.args.b.now (run.each (M.now c.write_home.new.m) (g.met.M.Machine.counts_now c.write_home.new.m (M.moment c.args.m.now) h run.later))
 
 pub returns-in-Err-clause-keeps : goal.returns-in-Err-clause-keeps
 returns-in-Err-clause-keeps g c h =
     let M = g.M.Machine in
-    let run = c.write_home.ensures.any_moment h in
+    let run = c.write_home.ensures.writes.any_moment h in
     keeps_homes c.args.l.now c.args.page c.requires.page (M.now c.args.m.now) (M.now c.write_home.new.m) c.args.b.now (run.each (M.now c.write_home.new.m) (g.met.M.Machine.counts_now c.write_home.new.m (M.moment c.args.m.now) h run.later))
 
 pub returns-in-Ok-clause-done : goal.returns-in-Ok-clause-done
@@ -44,7 +44,7 @@ returns-in-Ok-clause-done g c windows choices log first is h logged at =
 pub returns-in-Ok-clause-shown : goal.returns-in-Ok-clause-shown
 returns-in-Ok-clause-shown g c h still =
     let M = g.M.Machine in
-    let sized = g.met.M.Machine.sized c.args.m.now (c.write_home.ensures.trust.honest h) in
+    let sized = g.met.M.Machine.sized c.args.m.now (c.write_home.ensures.writes.trust.honest h) in
     let bounds = planned_bounds c.args.l.now c.requires.planned in
     let long : home_b c.args.l.now c.args.l.now.pages ≤ length (M.now c.args.m.now).image = omega (arith, sized, bounds.third_least, bounds.sectors_least, c.requires.room) in
     homes_change c.args.l.now c.args.page c.requires.page (M.now c.args.m.now) (M.now c.write_home.new.m) still long c.args.b.now c.told-b (c.in-Ok.ensures.done h)

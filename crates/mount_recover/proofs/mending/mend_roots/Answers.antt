@@ -15,24 +15,24 @@ pub returns-in-Ok-clause-any_moment : goal.returns-in-Ok-clause-any_moment
 returns-in-Ok-clause-any_moment g c windows choices log first is h at =
     let M = g.M.Machine in
     let l = c.args.l.now in let now = M.now c.args.m.now in
-    leaves_more M.moment M.left_since c.args.m.now c.heal_root.new.m (RootsIn (root_bytes l) now) (Stays l windows choices first) (λ left roots. roots_stay l windows choices log first is now at left roots) (c.heal_root.ensures.any_moment h)
+    leaves_more M.moment M.left_since c.args.m.now c.heal_root.new.m (RootsIn (root_bytes l) now) (Stays l windows choices first) (λ left roots. roots_stay l windows choices log first is now at left roots) (c.heal_root.ensures.writes.any_moment h)
 
 pub returns-in-Err-clause-any_moment : goal.returns-in-Err-clause-any_moment
 returns-in-Err-clause-any_moment g c windows choices log first is h at =
     let M = g.M.Machine in
     let l = c.args.l.now in let now = M.now c.args.m.now in
-    leaves_more M.moment M.left_since c.args.m.now c.heal_root.new.m (RootsIn (root_bytes l) now) (Stays l windows choices first) (λ left roots. roots_stay l windows choices log first is now at left roots) (c.heal_root.ensures.any_moment h)
+    leaves_more M.moment M.left_since c.args.m.now c.heal_root.new.m (RootsIn (root_bytes l) now) (Stays l windows choices first) (λ left roots. roots_stay l windows choices log first is now at left roots) (c.heal_root.ensures.writes.any_moment h)
 
 pub returns-in-Ok-clause-keeps : goal.returns-in-Ok-clause-keeps
 returns-in-Ok-clause-keeps g c h =
     let M = g.M.Machine in
-    let run = c.heal_root.ensures.any_moment h in
+    let run = c.heal_root.ensures.writes.any_moment h in
     keeps_roots c.args.l.now (root_bytes c.args.l.now) (M.now c.args.m.now) (M.now c.heal_root.new.m) (run.each (M.now c.heal_root.new.m) (g.met.M.Machine.counts_now c.heal_root.new.m (M.moment c.args.m.now) h run.later))
 
 pub returns-in-Err-clause-keeps : goal.returns-in-Err-clause-keeps
 returns-in-Err-clause-keeps g c h =
     let M = g.M.Machine in
-    let run = c.heal_root.ensures.any_moment h in
+    let run = c.heal_root.ensures.writes.any_moment h in
     keeps_roots c.args.l.now (root_bytes c.args.l.now) (M.now c.args.m.now) (M.now c.heal_root.new.m) (run.each (M.now c.heal_root.new.m) (g.met.M.Machine.counts_now c.heal_root.new.m (M.moment c.args.m.now) h run.later))
 
 pub returns-in-Ok-clause-done : goal.returns-in-Ok-clause-done
@@ -44,27 +44,27 @@ pub returns-in-Err-clause-never_lost : goal.returns-in-Err-clause-never_lost
 returns-in-Err-clause-never_lost g c windows choices log first is h at =
     let M = g.M.Machine in
     let l = c.args.l.now in let now = M.now c.args.m.now in let new = M.now c.heal_root.new.m in
-    let run = c.heal_root.ensures.any_moment h in
+    let run = c.heal_root.ensures.writes.any_moment h in
     let stays = roots_stay l windows choices log first is now at new (run.each new (g.met.M.Machine.counts_now c.heal_root.new.m (M.moment c.args.m.now) h run.later)) in
     load_not_lost AreRoots new.image c.in-Err.fault c.load_fault.result c.load_fault.ensures (roots_serve l windows (narrow l windows choices log first is) choices new.image (stays_show l windows choices log first is new stays)) (c.in-Err.ensures.lost h)
 
 pub returns-in-Ok-clause-body : goal.returns-in-Ok-clause-body
 returns-in-Ok-clause-body g c h =
     let M = g.M.Machine in
-    let run = c.heal_root.ensures.any_moment h in
+    let run = c.heal_root.ensures.writes.any_moment h in
     roots_body (root_bytes c.args.l.now) (M.now c.args.m.now) (M.now c.heal_root.new.m) (run.each (M.now c.heal_root.new.m) (g.met.M.Machine.counts_now c.heal_root.new.m (M.moment c.args.m.now) h run.later))
 
 pub returns-in-Err-clause-body : goal.returns-in-Err-clause-body
 returns-in-Err-clause-body g c h =
     let M = g.M.Machine in
-    let run = c.heal_root.ensures.any_moment h in
+    let run = c.heal_root.ensures.writes.any_moment h in
     roots_body (root_bytes c.args.l.now) (M.now c.args.m.now) (M.now c.heal_root.new.m) (run.each (M.now c.heal_root.new.m) (g.met.M.Machine.counts_now c.heal_root.new.m (M.moment c.args.m.now) h run.later))
 
 pub returns-in-Err-clause-not_shown : goal.returns-in-Err-clause-not_shown
 returns-in-Err-clause-not_shown g c h still some =
     let M = g.M.Machine in
-    let run = c.heal_root.ensures.any_moment h in
-    let sized = g.met.M.Machine.sized c.args.m.now (c.heal_root.ensures.trust.honest h) in
+    let run = c.heal_root.ensures.writes.any_moment h in
+    let sized = g.met.M.Machine.sized c.args.m.now (c.heal_root.ensures.writes.trust.honest h) in
     let bounds = planned_bounds c.args.l.now c.requires.planned in
     let room : 4 < length (M.now c.args.m.now).image = omega (arith, sized, bounds.third_least, bounds.sectors_least, c.requires.room) in
     subst IsExcuse (sym c.load_fault.ensures) (load_excused c.in-Err.fault
