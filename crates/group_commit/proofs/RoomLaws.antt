@@ -6,8 +6,7 @@ use Rattle.std.proofs.lemmas.Bool.{le-leb, lt-ltb, lt-leb, le-ltb}
 use Rattle.fsd_formats.specs.Record.{record_len}
 use Rattle.sector_disk.specs.declared.machine.LoadFault.{LoadFault}
 use Rattle.sector_disk.specs.declared.machine.LoadFault.TheVariants.{Device, Lost}
-use Rattle.sector_disk.specs.Machine.{Report}
-use Rattle.group_commit.specs.Entering.{HomeCause, RecordCause}
+use Rattle.group_commit.specs.Entering.{RecordCause}
 use Rattle.group_commit.specs.Room.{goes_before}
 
 -- ---- where a record goes
@@ -37,6 +36,6 @@ on_err_any P (Err e) is = is
 
 -- ---- why there is none
 
-pub record_cause : (log : LogValue) (n : ℕ) (old new : Report) → goes_before log n ≡ false → (fault : LoadFault) → HomeCause old new fault → RecordCause log n old new fault
-record_cause log n old new enters (Device place) cause = cause
-record_cause log n old new enters (Lost a b) cause = enters
+pub record_cause : (log : LogValue) (n : ℕ) → goes_before log n ≡ false → (fault : LoadFault) → RecordCause log n fault
+record_cause log n enters (Device place) = tt
+record_cause log n enters (Lost a b) = enters
