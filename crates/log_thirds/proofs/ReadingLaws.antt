@@ -4,10 +4,12 @@ use Rattle.std.specs.Prelude.{IsTrue, if◌then◌else◌, min, max, Result, Ok,
 use Rattle.std.proofs.lemmas.Bool.{cases_lt}
 use Rattle.std.proofs.lemmas.List.{length-append, get_or_append_left, get_or_past}
 use Rattle.std.proofs.Math.Seq.{get_or-append_seam}
-use Rattle.sector_disk.specs.Image.{IsWorn, Windows, open_damage}
-use Rattle.sector_disk.specs.Machine.{Report, Moment, Wears, UsesDisk, LeavesOnly}
+use Rattle.sector_disk.specs.Calls.{as_sector}
+use Rattle.sector_disk.specs.Image.{sector_at, Windows, open_damage}
+use Rattle.sector_disk.specs.Machine.{Moment, Wears, LeavesOnly}
+use Rattle.sector_disk.proofs.Holding.{wears_on}
 use Rattle.sector_disk.proofs.Moments.{then_on, leaves_more}
-use Rattle.sector_disk.proofs.Wear.{worn_refl, worn_trans, worn_damaged}
+use Rattle.sector_disk.proofs.Wear.{worn_damaged}
 use Rattle.fsd_log.specs.Judged.{slice_of}
 use Rattle.log_record.specs.Found.{read_of}
 use Rattle.fsd_log.proofs.LaidLaws.{slice_within, slice_behind, slice_all}
@@ -15,19 +17,21 @@ use Rattle.log_thirds.specs.Disk.{bytes_in}
 use Rattle.fsd_formats.specs.Record.{Stamp}
 use Rattle.fsd_log.specs.Reach.{headers_len, len_by, reach}
 use Rattle.fsd_log.proofs.ReachLaws.{reach_most}
-use Rattle.log_thirds.specs.Reading.{ReadCause, ReadInto, ReadWorn, Sees, ReadsOn, ReadsRecord}
-use Rattle.log_thirds.specs.declared.reading.ReadFault.{ReadFault}
-use Rattle.log_thirds.specs.declared.reading.ReadFault.TheVariants.{Device, Memory}
+use Rattle.log_thirds.specs.Reading.{ReadInto, ReadWorn, Sees, ReadsOn, ReadsRecord}
 
-pub wears_here : (at : Moment) → Wears at at
-wears_here at = record { image = worn_refl (open_damage at.windows) at.image; windows = refl; said = refl }
+pub bytes_back : (o : Option (List ℕ)) → bytes_in (as_sector o) ≡ o
+bytes_back None = refl
+bytes_back (Some bytes) = refl
 
-pub wears_on : (old mid new : Moment) → Wears old mid → Wears mid new → Wears old new
-wears_on old mid new first second = record {
-  image = worn_trans (open_damage old.windows) old.image mid.image new.image first.image (subst (λ (w : Windows). IsWorn (open_damage w) mid.image new.image) first.windows second.image);
-  windows = second.windows ∙ first.windows;
-  said = second.said ∙ first.said;
-}
+-- what a read shows as it ends, it sees
+pub read_shown : (old new : Moment) (place : ℕ) (o : Option (List ℕ)) → Wears old new → sector_at new.image place ≡ as_sector o → ReadWorn old place o
+read_shown old new place o wears shown = elim (wears.image.each place) [
+  | inl same ↦ inl (sym (bytes_back o) ∙ ap bytes_in (sym shown) ∙ ap bytes_in same)
+  | inr hurt ↦ inr (hurt.0, sym (bytes_back o) ∙ ap bytes_in (sym shown) ∙ ap bytes_in hurt.1)
+]
+
+pub sees_shown : (old new : Moment) (place : ℕ) (o : Option (List ℕ)) → Wears old new → sector_at new.image place ≡ as_sector o → Sees old new place o
+sees_shown old new place o wears shown = (read_shown old new place o wears shown, λ none. shown ∙ ap as_sector none)
 
 -- what is read later may have worn before
 pub read_back : (old mid : Moment) (place : ℕ) (o : Option (List ℕ)) → Wears old mid → ReadWorn mid place o → ReadWorn old place o
@@ -56,8 +60,8 @@ sees_later old mid new place o wears sees = (sees.0, λ none. worn_damaged (open
 sees_back : (old mid new : Moment) (place : ℕ) (o : Option (List ℕ)) → Wears old mid → Sees mid new place o → Sees old new place o
 sees_back old mid new place o wears sees = (read_back old mid place o wears sees.0, sees.1)
 
-pub reads_none : (honest : Type 0) (old : Moment) (place : ℕ) (whole : List Bool) (bytes : List ℕ) → length bytes ≡ 512 * length whole → ReadsOn honest old old place (length whole) whole whole bytes bytes
-reads_none honest old place whole bytes long = record { many = refl; long = long; kept = λ k lt. refl; sees = λ h k from lt. absurd (omega arith) }
+pub none_read : (honest : Type 0) (old : Moment) (place : ℕ) (whole : List Bool) (bytes : List ℕ) → length bytes ≡ 512 * length whole → ReadsOn honest old old place (length whole) whole whole bytes bytes
+none_read honest old place whole bytes long = record { many = refl; long = long; kept = λ k lt. refl; sees = λ h k from lt. absurd (omega arith) }
 
 pub reads_more : (honest honest1 : Type 0) (old mid new : Moment) (place k : ℕ) (whole whole1 whole2 : List Bool) (bytes bytes1 bytes2 : List ℕ) → (honest1 → honest) → (honest1 → Wears old mid) → (honest1 → Wears mid new) → length whole ≤ k
     → ReadsOn honest old mid place k whole whole1 bytes bytes1 → ReadInto whole1 whole2 bytes1 bytes2 (λ o. honest1 → Sees mid new (place + k) o) → ReadsOn honest1 old new place (k + 1) whole whole2 bytes bytes2
@@ -104,24 +108,11 @@ record_read honest honest1 old mid new p stamp place room first count whole whol
       | inr past ↦ read_past whole1 bytes1 k past ∙ sym (read_past whole2 bytes2 k (omega (arith, within, front.many, is_first, past, lt)))
     ]
 
-pub uses_on : (a b c : Report) → UsesDisk a b → UsesDisk b c → UsesDisk a c
-uses_on a b c first second = record {
-  sectors = second.sectors ∙ first.sectors;
-  disk = omega (arith, first.disk, second.disk);
-  input = second.input ∙ first.input;
-  output = second.output ∙ first.output;
-}
-
 -- two runs of reads, one after the other
 pub reads_on : {D : Type 0} (moment : D → ℕ) (left_since : D → ℕ → Moment → Type 0) (old mid new : D) (a b : Moment) → Wears a b → LeavesOnly moment left_since old mid (Wears a) → LeavesOnly moment left_since mid new (Wears b)
     → LeavesOnly moment left_since old new (Wears a)
 reads_on moment left_since old mid new a b wears first second =
     then_on moment left_since old mid new (Wears a) first (leaves_more moment left_since mid new (Wears b) (Wears a) (λ c worn. wears_on a b c wears worn) second)
-
--- a fault that comes later
-pub fault_on : (a b c : Report) (fault : ReadFault) → UsesDisk a b → ReadCause b c fault → ReadCause a c fault
-fault_on a b c (Device place) uses cause = record { rose = omega (arith, uses.disk, cause.rose); told = cause.told }
-fault_on a b c Memory uses cause = tt
 
 pub on_ok : {T E : Type 0} (r : Result T E) (P Q : Type 0) → (P → Q) → OnOk r P → OnOk r Q
 on_ok (Ok x) P Q more p = more p

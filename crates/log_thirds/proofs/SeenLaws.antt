@@ -5,6 +5,7 @@ use Rattle.std.proofs.lemmas.Bool.{cases_eq, cases_lt, cond-true, cond-false, lt
 use Rattle.std.proofs.lemmas.List.{get_or_past, get_or-set_same, get_or-set_other}
 use Rattle.sector_disk.specs.declared.sector.Sector.{Sector}
 use Rattle.sector_disk.specs.declared.sector.Sector.TheVariants.{Whole, Damaged}
+use Rattle.sector_disk.specs.Calls.{as_sector}
 use Rattle.sector_disk.specs.Image.{sector_at, lay, IsWorn, open_damage}
 use Rattle.sector_disk.specs.Machine.{Moment, Wears}
 use Rattle.sector_disk.proofs.Wear.{worn_trans, worn_whole, length-lay, lay_other, outside_cases}
@@ -24,18 +25,10 @@ use Rattle.log_thirds.specs.Disk.{bytes_in, reads}
 use Rattle.fsd_log.specs.Reach.{headers_len}
 use Rattle.fsd_log.proofs.ReachLaws.{record_within}
 use Rattle.log_thirds.specs.Reading.{ReadsRecord}
-use Rattle.log_thirds.proofs.ReadingLaws.{read_past}
+use Rattle.log_thirds.proofs.ReadingLaws.{bytes_back, read_past}
 use Rattle.log_thirds.specs.Seen.{SeesOn}
 use Rattle.fsd_log.proofs.PlaceLaws.{InThird, place_add, place_cases, place_from, below_numbers, first_most, end_most}
 use Rattle.fsd_log.proofs.HereLaws.{not_below}
-
-abbrev pub sector_of : Option (List ℕ) → Sector
-sector_of None = Damaged
-sector_of (Some bytes) = Whole bytes
-
-pub read_back : (o : Option (List ℕ)) → bytes_in (sector_of o) ≡ o
-read_back None = refl
-read_back (Some bytes) = refl
 
 pub whole_of : (s : Sector) (bytes : List ℕ) → bytes_in s ≡ Some bytes → s ≡ Whole bytes
 whole_of (Whole b) bytes is = let same : b ≡ bytes = cc in ap Whole same
@@ -70,10 +63,10 @@ module _ (l : Shape) (first at end : ℕ) (one : first ≤ 2) (before : at ≤ e
 
   -- the run as it was read over the image as it was seen before
   pub seen : List Sector
-  seen = lay j place (λ k. sector_of (read_of whole bytes k)) (length whole)
+  seen = lay j place (λ k. as_sector (read_of whole bytes k)) (length whole)
 
-  long : length (lay j place (λ k. sector_of (read_of whole bytes k)) (length whole)) ≡ length j
-  long = length-lay j place (λ k. sector_of (read_of whole bytes k)) (length whole)
+  long : length (lay j place (λ k. as_sector (read_of whole bytes k)) (length whole)) ≡ length j
+  long = length-lay j place (λ k. as_sector (read_of whole bytes k)) (length whole)
 
   whole_then : (k : ℕ) (b : List ℕ) → k < length whole → read_of whole bytes k ≡ Some b → sector_at old.image (place + k) ≡ Whole b
   whole_then k b lt e = ⊎_elim (λ same. whole_of (sector_at old.image (place + k)) b (sym same ∙ e)) (λ hurt. absurd (cc (e, hurt.1))) ((is.run.sees h k lt).0)
@@ -88,27 +81,27 @@ module _ (l : Shape) (first at end : ℕ) (one : first ≤ 2) (before : at ≤ e
       let none : sector_at old.image (place + k) ≡ Damaged = get_or_past old.image (place + k) Damaged (omega (arith, jw.size, past)) in
       absurd (let stood = whole_then k b lt e in cc (none, stood))
 
-  pub seen_at : (k : ℕ) → k < length whole → sector_at seen (place + k) ≡ sector_of (read_of whole bytes k)
+  pub seen_at : (k : ℕ) → k < length whole → sector_at seen (place + k) ≡ as_sector (read_of whole bytes k)
   unfolding seen
   seen_at k lt = elim (cases_lt (place + k) (length j)) [
-    | inl inside ↦ lay_at j place (λ k. sector_of (read_of whole bytes k)) (length whole) k lt inside
-    | inr past ↦ get_or_past (lay j place (λ k. sector_of (read_of whole bytes k)) (length whole)) (place + k) Damaged (omega (arith, long, past)) ∙ ap sector_of (sym (past_none k lt past (read_of whole bytes k) refl))
+    | inl inside ↦ lay_at j place (λ k. as_sector (read_of whole bytes k)) (length whole) k lt inside
+    | inr past ↦ get_or_past (lay j place (λ k. as_sector (read_of whole bytes k)) (length whole)) (place + k) Damaged (omega (arith, long, past)) ∙ ap as_sector (sym (past_none k lt past (read_of whole bytes k) refl))
   ]
 
   seen_other : (s : ℕ) → (s < place) ⊎ (place + length whole ≤ s) → sector_at seen s ≡ sector_at j s
   unfolding seen
-  seen_other s out = lay_other j place (λ k. sector_of (read_of whole bytes k)) (length whole) s out
+  seen_other s out = lay_other j place (λ k. as_sector (read_of whole bytes k)) (length whole) s out
 
   abbrev Worn1 : ℕ → Sector → Sector → Type 0
   Worn1 s a b = (b ≡ a) ⊎ (IsTrue (open_damage old.windows s) × (b ≡ Damaged))
 
-  from_in : (k : ℕ) → k < length whole → (o : Option (List ℕ)) → read_of whole bytes k ≡ o → Worn1 (place + k) (sector_at j (place + k)) (sector_of o)
+  from_in : (k : ℕ) → k < length whole → (o : Option (List ℕ)) → read_of whole bytes k ≡ o → Worn1 (place + k) (sector_at j (place + k)) (as_sector o)
   from_in k lt (Some b) e = inl (sym (worn_whole (open_damage old.windows) j old.image (place + k) b jw (whole_then k b lt e)))
   from_in k lt None e = ⊎_elim
       (λ hurt. ⊎_elim (λ same. inl (sym (sym same ∙ hurt))) (λ worn. inr (worn.0, refl)) (jw.each (place + k)))
       (λ weak. inr (weak, refl)) (none_then k lt e)
 
-  to_in : (k : ℕ) → k < length whole → (o : Option (List ℕ)) → read_of whole bytes k ≡ o → Worn1 (place + k) (sector_of o) (sector_at new.image (place + k))
+  to_in : (k : ℕ) → k < length whole → (o : Option (List ℕ)) → read_of whole bytes k ≡ o → Worn1 (place + k) (as_sector o) (sector_at new.image (place + k))
   to_in k lt (Some b) e = ⊎_elim (λ same. inl (same ∙ whole_then k b lt e)) (λ hurt. inr hurt) (wears.image.each (place + k))
   to_in k lt None e = inl ((is.run.sees h k lt).1 e)
 
@@ -166,7 +159,7 @@ module _ (l : Shape) (first at end : ℕ) (one : first ≤ 2) (before : at ≤ e
   seen_read k lt =
       on_tape seen (at + k) (omega (arith, lt, is.within, end_most l end ends))
       ∙ ap (reads seen) (place_add l first at (end - at) end k in_third (omega (arith, lt, is.within)) ∙ ap (λ (s : ℕ). s + k) (sym is_place))
-      ∙ ap bytes_in (seen_at k lt) ∙ read_back (read_of whole bytes k)
+      ∙ ap bytes_in (seen_at k lt) ∙ bytes_back (read_of whole bytes k)
 
   read_window : (k : ℕ) → k < length whole → read_of whole bytes k ≡ window (tape l first (reads seen)) at (room_at at end) k
   read_window k lt = sym (seen_read k lt) ∙ sym (cond-true (nat_lt k (room_at at end)) (tape l first (reads seen) (at + k)) None (lt-ltb _ _ (omega (arith, is.within))))

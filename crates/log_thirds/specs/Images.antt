@@ -1,10 +1,10 @@
 -- What a page's slot gives of its last image.
-use Rattle.std.specs.Prelude.{◌≡◌, ◌⊎◌, ℕ, Bool, List, Option, Some, None, IfSome, slice_index_or}
+use Rattle.std.specs.Prelude.{◌≡◌, ◌⊎◌, ⊤, ℕ, Bool, List, Option, Some, None, IfSome, slice_index_or}
 use Rattle.std.specs.Option.{option_or}
 use Rattle.sector_disk.specs.declared.sector.Sector.{Sector}
 use Rattle.sector_disk.specs.declared.sector.Sector.TheVariants.{Whole}
 use Rattle.sector_disk.specs.Image.{sector_at}
-use Rattle.sector_disk.specs.Machine.{Report, Moment, DeviceFault}
+use Rattle.sector_disk.specs.Machine.{Moment}
 use Rattle.sector_disk.specs.declared.machine.LoadFault.{LoadFault}
 use Rattle.sector_disk.specs.declared.machine.LoadFault.TheVariants.{Device, Lost}
 use Rattle.fsd_formats.specs.Record.{bears}
@@ -45,10 +45,10 @@ pub record LiesAt (slot : Option Slot) (a b : ℕ) : Type 0 where
   pub number : ℕ
   pub is : slot ≡ Some (record { place = a; copy = b; number = number })
 
--- A failed call of the disk is told. A lost image's two sectors are those of its slot.
-abbrev pub ImageCause : Option Slot → Report → Report → LoadFault → Type 0
-ImageCause slot old new (Device place) = DeviceFault old new place
-ImageCause slot old new (Lost a b) = LiesAt slot a b
+-- a lost image's two sectors are those of its slot
+abbrev pub NamesSlot : Option Slot → LoadFault → Type 0
+NamesSlot slot (Device place) = ⊤
+NamesSlot slot (Lost a b) = LiesAt slot a b
 
 -- The sectors are a page's own and its copy in the record that the log names as the page's last, and that lies in its layout.
 pub record AreLogged (log : LogValue) (page a b : ℕ) : Type 0 where

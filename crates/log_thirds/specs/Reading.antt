@@ -2,7 +2,7 @@
 use Rattle.std.specs.Prelude.{◌≡◌, ◌⊎◌, ◌<◌, ◌≤◌, ℕ, ◌+◌, ◌-◌, ◌*◌, ◌^◌, Bool, List, [], ◌∷◌, ◌++◌, length, Option, Some, None, IsTrue, if◌then◌else◌}
 use Rattle.sector_disk.specs.declared.sector.Sector.TheVariants.{Damaged}
 use Rattle.sector_disk.specs.Image.{sector_at, open_damage}
-use Rattle.sector_disk.specs.Machine.{Report, Moment, DeviceFault}
+use Rattle.sector_disk.specs.Machine.{Moment}
 use Rattle.volume_layout.specs.Shape.{Shape}
 use Rattle.fsd_formats.specs.Record.{Stamp}
 use Rattle.fsd_log.specs.Reach.{reach}
@@ -19,21 +19,20 @@ use Rattle.log_thirds.specs.declared.reading.ReadFault.TheVariants.{Device, Memo
 use Rattle.log_thirds.specs.declared.fault.LogFault.{LogFault}
 use Rattle.log_thirds.specs.declared.fault.LogFault.TheVariants as log
 
--- the cause of a fault
-abbrev pub ReadCause : Report → Report → ReadFault → Type 0
-ReadCause old new (Device place) = DeviceFault old new place
-ReadCause old new Memory = Unit {0}
+-- the place of the call of the disk that failed
+abbrev pub read_failed_at : ReadFault → Option ℕ
+read_failed_at (Device place) = Some place
+read_failed_at Memory = None
 
 abbrev pub log_fault_of : ReadFault → LogFault
 log_fault_of (Device place) = log.Device place
 log_fault_of Memory = log.Memory
 
--- A failed call of the disk is told. The other causes lie on the disk.
-abbrev pub LogCause : Report → Report → LogFault → Type 0
-LogCause old new (log.Device place) = DeviceFault old new place
-LogCause old new log.Memory = Unit {0}
-LogCause old new log.NoAnchor = Unit {0}
-LogCause old new log.WornOut = Unit {0}
+abbrev pub log_failed_at : LogFault → Option ℕ
+log_failed_at (log.Device place) = Some place
+log_failed_at log.Memory = None
+log_failed_at log.NoAnchor = None
+log_failed_at log.WornOut = None
 
 -- one sector more: its flag, and its bytes
 pub record ReadInto (whole whole1 : List Bool) (bytes bytes1 : List ℕ) (shows : Option (List ℕ) → Type 0) : Type 0 where

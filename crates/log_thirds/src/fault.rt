@@ -1,6 +1,6 @@
 //! Why a log can't be found.
 ghost use Rattle.std.specs.Prelude.{◌≡◌};
-ghost use Rattle.log_thirds.specs.Reading.{log_fault_of};
+ghost use Rattle.log_thirds.specs.Reading.{log_failed_at, log_fault_of, read_failed_at};
 
 use crate::reading::ReadFault;
 use thiserror::Error;
@@ -22,7 +22,8 @@ pub enum LogFault {
 }
 
 pub(crate) fn log_fault(fault: ReadFault) -> LogFault
-    ensures { result ≡ log_fault_of fault }
+    ensures value { result ≡ log_fault_of fault }
+    ensures place { log_failed_at result ≡ read_failed_at fault }
 {
     match fault {
         ReadFault::Device(place) => LogFault::Device(place),

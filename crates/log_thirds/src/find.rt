@@ -1,13 +1,13 @@
 //! Looking for the next record.
-ghost use Rattle.std.specs.Prelude.{◌≡◌, ◌≤◌, ◌<◌, ◌+◌, ◌-◌, ◌*◌, min, ℕ, List, length, IfErr, IfOk, IfSome, IfNone, OnOk, option_map};
-ghost use Rattle.sector_disk.specs.Machine.{Moment, UsesDisk, Trusts, Wears, LeavesOnly};
+ghost use Rattle.std.specs.Prelude.{◌≡◌, ◌≤◌, ◌<◌, ◌+◌, ◌-◌, ◌*◌, min, ℕ, List, length, IfOk, IfSome, IfNone, OnOk, option_map};
+ghost use Rattle.sector_disk.specs.Calls.{OnlyReads, device_in};
 ghost use Rattle.fsd_log.specs.Scan.{Head, IsIn, IsEnd, place_of, tape, room_at, last_number, record_here, entered, next};
 ghost use Rattle.log_thirds.specs.Copies.{AreCopies, entry_in};
 ghost use Rattle.log_thirds.specs.Disk.{reads};
 ghost use Rattle.log_thirds.specs.Seen.{SeesOn};
 ghost use Rattle.sector_disk.specs.declared.sector.Sector.{Sector};
 ghost use Rattle.sector_disk.specs.Image.{IsWorn, open_damage};
-ghost use Rattle.log_thirds.specs.Reading.{ReadCause, StepsOn, stepped_in, stepped_of};
+ghost use Rattle.log_thirds.specs.Reading.{StepsOn, read_failed_at, stepped_in, stepped_of};
 
 use crate::copies::copies_in;
 use crate::reading::{ReadFault, Reading, read_record};
@@ -98,12 +98,7 @@ fn find<M: Machine>(
     requires from { end ≤ at + layout.now.third }
     requires ends { IsEnd layout.now end }
     requires sectors { layout.now.sectors ≤ (M.report m.old).sectors }
-    ensures fault { IfErr result (ReadCause (M.report m.old) (M.report m.new)) }
-    ensures uses { UsesDisk (M.report m.old) (M.report m.new) }
-    ensures trust { Trusts (M.tells m.old) (M.tells m.new) (M.honest m.old) (M.honest m.new) }
-    ensures ledger { M.tells m.new → M.ledger m.new ≡ M.ledger m.old }
-    ensures worn { M.honest m.new → Wears (M.now m.old) (M.now m.new) }
-    ensures any_moment { M.honest m.new → LeavesOnly M.moment M.left_since m.old m.new (Wears (M.now m.old)) }
+    ensures reads { OnlyReads M.Machine (device_in read_failed_at result) m.old m.new }
     ensures fits { IfOk result (λ o. IfSome o (λ found. at + (2 * found.n + 5) ≤ end)) }
     ensures counted { IfOk result (λ o. IfSome o (λ found. found.n ≡ length found.pages.items)) }
     ensures few { IfOk result (λ o. IfSome o (λ found. found.n ≤ 96)) }
@@ -149,12 +144,7 @@ fn enter<M: Machine>(
     requires from { end ≤ at + layout.now.third }
     requires ends { IsEnd layout.now end }
     requires sectors { layout.now.sectors ≤ (M.report m.old).sectors }
-    ensures fault { IfErr result (ReadCause (M.report m.old) (M.report m.new)) }
-    ensures uses { UsesDisk (M.report m.old) (M.report m.new) }
-    ensures trust { Trusts (M.tells m.old) (M.tells m.new) (M.honest m.old) (M.honest m.new) }
-    ensures ledger { M.tells m.new → M.ledger m.new ≡ M.ledger m.old }
-    ensures worn { M.honest m.new → Wears (M.now m.old) (M.now m.new) }
-    ensures any_moment { M.honest m.new → LeavesOnly M.moment M.left_since m.old m.new (Wears (M.now m.old)) }
+    ensures reads { OnlyReads M.Machine (device_in read_failed_at result) m.old m.new }
     ensures goes { IfOk result (λ o. IfSome o (StepsOn layout.now at)) }
     ensures numbered { IfOk result (λ o. IfSome o (λ _. number < last_number)) }
     ensures copied { IfOk result (λ o. IfSome o (λ s. AreCopies (record { epoch = anchor.now.epoch; number = number }) (length s.found.pages.items) scratch.new.copies.items)) }
@@ -197,12 +187,7 @@ pub(crate) fn next<M: Machine>(
     requires from { end ≤ at + layout.now.third }
     requires ends { IsEnd layout.now end }
     requires sectors { layout.now.sectors ≤ (M.report m.old).sectors }
-    ensures fault { IfErr result (ReadCause (M.report m.old) (M.report m.new)) }
-    ensures uses { UsesDisk (M.report m.old) (M.report m.new) }
-    ensures trust { Trusts (M.tells m.old) (M.tells m.new) (M.honest m.old) (M.honest m.new) }
-    ensures ledger { M.tells m.new → M.ledger m.new ≡ M.ledger m.old }
-    ensures worn { M.honest m.new → Wears (M.now m.old) (M.now m.new) }
-    ensures any_moment { M.honest m.new → LeavesOnly M.moment M.left_since m.old m.new (Wears (M.now m.old)) }
+    ensures reads { OnlyReads M.Machine (device_in read_failed_at result) m.old m.new }
     ensures goes { IfOk result (λ o. IfSome o (StepsOn layout.now at)) }
     ensures numbered { IfOk result (λ o. IfSome o (λ _. number < last_number)) }
     ensures copied { IfOk result (λ o. IfSome o (λ s. AreCopies (record { epoch = anchor.now.epoch; number = number }) (length s.found.pages.items) scratch.new.copies.items)) }

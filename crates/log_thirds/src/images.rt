@@ -1,15 +1,14 @@
 //! Reading a page's image in a record.
-ghost use Rattle.std.specs.Prelude.{◌≡◌, ◌<◌, Some, None, Ok, IfErr, IfOk};
+ghost use Rattle.std.specs.Prelude.{◌≡◌, ◌<◌, Some, None, Ok, IfOk};
+ghost use Rattle.sector_disk.specs.Calls.{OnlyReads, device_in, failed_at};
 ghost use Rattle.sector_disk.specs.Damage.{AreLost};
-ghost use Rattle.sector_disk.specs.Machine.{Moment, DeviceFault, UsesDisk, Trusts, Wears, LeavesOnly};
 ghost use Rattle.fsd_formats.specs.Record.{bears};
 ghost use Rattle.fsd_log.specs.Plain.{served};
 ghost use Rattle.log_thirds.specs.Images.{best_copy, LiesAt, SeesSlot};
 
-use crate::reading::read_sector;
 use crate::slots::Slot;
 use fsd_bytes::u32_at;
-use sector_disk::{Failed, Machine};
+use sector_disk::{Failed, Machine, read_sector};
 
 // Whether a sector is the page's image in a record.
 fn bears(b: &[u8; 512], page: u32, epoch: u32, number: u32) -> bool
@@ -63,12 +62,7 @@ pub(crate) fn read_slot<M: Machine>(
 ) -> Result<Option<[u8; 512]>, Failed>
     requires place { slot.place < (M.report m.old).sectors }
     requires copy { slot.copy < (M.report m.old).sectors }
-    ensures fault { IfErr result (λ failed. DeviceFault (M.report m.old) (M.report m.new) failed.place) }
-    ensures uses { UsesDisk (M.report m.old) (M.report m.new) }
-    ensures trust { Trusts (M.tells m.old) (M.tells m.new) (M.honest m.old) (M.honest m.new) }
-    ensures ledger { M.tells m.new → M.ledger m.new ≡ M.ledger m.old }
-    ensures worn { M.honest m.new → Wears (M.now m.old) (M.now m.new) }
-    ensures any_moment { M.honest m.new → LeavesOnly M.moment M.left_since m.old m.new (Wears (M.now m.old)) }
+    ensures reads { OnlyReads M.Machine (device_in failed_at result) m.old m.new }
     ensures sees { IfOk result (λ o. M.honest m.new → SeesSlot (M.now m.old) slot page epoch o) }
     ensures lost { result ≡ Ok None → M.honest m.new → AreLost (LiesAt (Some slot)) (M.now m.new).image slot.place slot.copy }
 {

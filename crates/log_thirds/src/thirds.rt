@@ -10,7 +10,7 @@ use crate::slots::{Slot, clear, drop_in, least_in, no_slots, note};
 use crate::write::write_record;
 use fsd_formats::Anchor;
 use log_record::RECORD_BYTES;
-use sector_disk::{Failed, LoadFault, Machine};
+use sector_disk::{Failed, LoadFault, Machine, write_sectors};
 use std::alloc::Global;
 use std::marker::Model;
 use volume_layout::Layout;
@@ -61,25 +61,26 @@ impl Model for Log {
 }
 
 impl Log {
-    ghost use Rattle.std.specs.Prelude.{◌≡◌, ◌≤◌, ◌<◌, ◌+◌, ◌-◌, ◌*◌, ◌^◌, ◌++◌, ◌∷◌, [], List, ℕ, length, Some, None, Ok, Err, true, false, if◌then◌else◌, slice_index_or, IsTrue, IfErr, IfOk, IfSome, IfNone, OnOk, OnErr};
+    ghost use Rattle.std.specs.Prelude.{◌≡◌, ◌≤◌, ◌<◌, ◌↔◌, ◌+◌, ◌-◌, ◌*◌, ◌^◌, ◌++◌, ◌∷◌, [], List, ℕ, length, Some, None, Ok, Err, true, false, if◌then◌else◌, slice_index_or, IsTrue, IfErr, IfOk, IfSome, IfNone, OnOk, OnErr};
+    ghost use Rattle.sector_disk.specs.Calls.{OnlyReads, WritesDisk, device_in, failed_at, load_failed_at};
     ghost use Rattle.sector_disk.specs.Damage.{IsDevice, LostCause};
     ghost use Rattle.sector_disk.specs.declared.sector.Sector.{Sector};
     ghost use Rattle.sector_disk.specs.Image.{stand, IsWorn, open_damage};
     ghost use Rattle.log_thirds.specs.Seen.{ScansOn, LogOn};
-    ghost use Rattle.sector_disk.specs.Machine.{DeviceFault, UsesDisk, Trusts, LeavesOnly, Holds, Wears, OnlyWrites, wrote};
+    ghost use Rattle.sector_disk.specs.Machine.{LeavesOnly, Holds, wrote};
     ghost use Rattle.fsd_formats.specs.Record.{are_pages, AreStamped};
     ghost use Rattle.fsd_log.specs.Laid.{laid_bytes, slices};
     ghost use Rattle.fsd_log.specs.Scan.{Placed, HasRoom, spot_for, place_of};
     ghost use Rattle.log_thirds.specs.LogValue.{FitsLayout};
     ghost use Rattle.log_thirds.specs.Slots.{IsLeastIn, NoneLiesIn};
     ghost use Rattle.volume_layout.specs.Layout.{third_start};
-    ghost use Rattle.log_thirds.specs.Images.{ImageCause, AreLogged, StandsAt, GivesLast};
+    ghost use Rattle.log_thirds.specs.Images.{NamesSlot, AreLogged, StandsAt, GivesLast};
     ghost use Rattle.fsd_log.specs.Images.{last_image};
     ghost use Rattle.log_thirds.specs.Copies.{copies_count, IsLast};
     ghost use Rattle.log_thirds.specs.Append.{IsCalm, IsNarrow, IsLogWorn, AppendsWorn, stamp_now, next_record, log_with, scan_of, GoesAt, IsIndexed, KnowsLast, StandsInPart, IsLeastOfThird, NoneOfThird};
     ghost use Rattle.log_thirds.specs.Anchoring.{AnchorsIn, with_anchors, next_epoch, in_next_epoch};
     ghost use Rattle.log_thirds.specs.Moving.{moved_anchor, moved, records_moved, EndsInLastThird, MovesWorn};
-    ghost use Rattle.log_thirds.specs.Reading.{ReadCause, LogCause, SeesAnchor, SeesLastEpoch};
+    ghost use Rattle.log_thirds.specs.Reading.{SeesAnchor, SeesLastEpoch, log_failed_at, read_failed_at};
 
     // Finds the end of the log that begins with this anchor's first record.
     fn scan_by<M: Machine>(
@@ -92,12 +93,7 @@ impl Log {
         requires first { 1 ≤ anchor.now.first }
         requires epoch { 1 ≤ anchor.now.epoch }
         requires sectors { layout.now.sectors ≤ (M.report m.old).sectors }
-        ensures fault { IfErr result (ReadCause (M.report m.old) (M.report m.new)) }
-        ensures uses { UsesDisk (M.report m.old) (M.report m.new) }
-        ensures trust { Trusts (M.tells m.old) (M.tells m.new) (M.honest m.old) (M.honest m.new) }
-        ensures ledger { M.tells m.new → M.ledger m.new ≡ M.ledger m.old }
-        ensures worn { M.honest m.new → Wears (M.now m.old) (M.now m.new) }
-        ensures any_moment { M.honest m.new → LeavesOnly M.moment M.left_since m.old m.new (Wears (M.now m.old)) }
+        ensures reads { OnlyReads M.Machine (device_in read_failed_at result) m.old m.new }
         ensures layout { IfOk result (λ log. log.layout ≡ layout.now) }
         ensures anchor { IfOk result (λ log. log.anchor ≡ anchor.now) }
         ensures seen { IfOk result (λ log. (j : List Sector) → M.honest m.new → IsWorn (open_damage (M.now m.old).windows) j (M.now m.old).image → ScansOn log (open_damage (M.now m.old).windows) j (M.now m.new).image) }
@@ -160,14 +156,9 @@ impl Log {
     /// and for a table of the pages; it is made before the first record is looked for.
     pub fn scan<M: Machine>(alloc: Global, m: &mut M, layout: &Layout) -> Result<Log, LogFault>
         requires sectors { layout.now.sectors ≤ (M.report m.old).sectors }
-        ensures fault { IfErr result (LogCause (M.report m.old) (M.report m.new)) }
+        ensures reads { OnlyReads M.Machine (device_in log_failed_at result) m.old m.new }
         ensures no_anchor { result ≡ Err LogFault.NoAnchor → M.honest m.new → SeesAnchor (M.now m.old) None }
         ensures worn_out { result ≡ Err LogFault.WornOut → M.honest m.new → SeesLastEpoch (M.now m.old) }
-        ensures uses { UsesDisk (M.report m.old) (M.report m.new) }
-        ensures trust { Trusts (M.tells m.old) (M.tells m.new) (M.honest m.old) (M.honest m.new) }
-        ensures ledger { M.tells m.new → M.ledger m.new ≡ M.ledger m.old }
-        ensures worn { M.honest m.new → Wears (M.now m.old) (M.now m.new) }
-        ensures any_moment { M.honest m.new → LeavesOnly M.moment M.left_since m.old m.new (Wears (M.now m.old)) }
         ensures layout { IfOk result (λ log. log.layout ≡ layout.now) }
         ensures anchor { IfOk result (λ log. M.honest m.new → SeesAnchor (M.now m.old) (Some log.anchor)) }
         ensures epoch { IfOk result (λ log. log.anchor.epoch < 2 ^ 32 - 1) }
@@ -269,14 +260,11 @@ impl Log {
     ) -> Result<bool, LoadFault>
         requires page { page < self.now.layout.pages }
         requires sectors { self.now.layout.sectors ≤ (M.report m.old).sectors }
-        ensures fault { IfErr result (ImageCause (slice_index_or self.now.slots page None) (M.report m.old) (M.report m.new)) }
+        ensures reads { OnlyReads M.Machine (device_in load_failed_at result) m.old m.new }
+        ensures absent { (result ≡ Ok false) ↔ (slice_index_or self.now.slots page None ≡ None) }
+        ensures named { IfErr result (NamesSlot (slice_index_or self.now.slots page None)) }
         ensures lost { IfErr result (λ fault. M.honest m.new → LostCause (AreLogged self.now page) (M.now m.new).image fault) }
         ensures whole { result ≡ Ok true → M.honest m.new → StandsAt (slice_index_or self.now.slots page None) (M.now m.old).image buf.new }
-        ensures uses { UsesDisk (M.report m.old) (M.report m.new) }
-        ensures trust { Trusts (M.tells m.old) (M.tells m.new) (M.honest m.old) (M.honest m.new) }
-        ensures ledger { M.tells m.new → M.ledger m.new ≡ M.ledger m.old }
-        ensures worn { M.honest m.new → Wears (M.now m.old) (M.now m.new) }
-        ensures any_moment { M.honest m.new → LeavesOnly M.moment M.left_since m.old m.new (Wears (M.now m.old)) }
         ensures image { IfOk result (λ there. (records : List Placed) → M.honest m.new → IsCalm (M.now m.old) → IsIndexed self.now records → (scan_of self.now (M.now m.old)).records ≡ records
             → last_image page records ≡ (if there then Some buf.new else None)) }
         ensures never_lost { IfErr result (λ fault. (records : List Placed) → M.honest m.new → IsCalm (M.now m.old) → IsIndexed self.now records → (scan_of self.now (M.now m.old)).records ≡ records → IsDevice fault) }
@@ -286,7 +274,6 @@ impl Log {
             → last_image page records ≡ (if there then Some buf.new else None)) }
         ensures none_lost { IfErr result (λ fault. (records : List Placed) → M.honest m.new → IsCalm (M.now m.old) → IsIndexed self.now records → GivesLast self.now records page (M.now m.old).image → IsDevice fault) }
         ensures nowhere { result ≡ Ok false → (records : List Placed) → IsIndexed self.now records → last_image page records ≡ None }
-        ensures no_slot { result ≡ Ok false → slice_index_or self.now.slots page None ≡ None }
         ensures kept { result ≡ Ok false → buf.new ≡ buf.old }
         ensures kept_err { OnErr result (buf.new ≡ buf.old) }
     {
@@ -325,23 +312,16 @@ impl Log {
     /// it found none. Where it fails, some first ones of these sectors may stand.
     pub fn complete_last<M: Machine>(&self, m: &mut M) -> Result<(), Failed>
         requires sectors { self.now.layout.sectors ≤ (M.report m.old).sectors }
-        ensures fault { IfErr result (λ failed. DeviceFault (M.report m.old) (M.report m.new) failed.place) }
-        ensures uses { UsesDisk (M.report m.old) (M.report m.new) }
-        ensures trust { Trusts (M.tells m.old) (M.tells m.new) (M.honest m.old) (M.honest m.new) }
-        ensures ledger { M.tells m.new → OnlyWrites (M.ledger m.old) (M.ledger m.new) }
+        ensures writes { WritesDisk M.Machine (device_in failed_at result) (StandsInPart self.now.copies.place self.now.copies.bytes (copies_count self.now.copies)) m.old m.new }
         ensures counted { OnOk result (M.tells m.new → M.ledger m.new ≡ wrote (M.ledger m.old) (copies_count self.now.copies)) }
         ensures counted_err { OnErr result (M.tells m.new → M.ledger m.new ≡ M.ledger m.old) }
         ensures few { copies_count self.now.copies ≤ 97 }
-        ensures quiet { M.honest m.new → (M.now m.new).said ≡ (M.now m.old).said }
-        ensures windows { M.honest m.new → (M.now m.new).windows ≡ (M.now m.old).windows }
-        ensures any_moment { M.honest m.new → LeavesOnly M.moment M.left_since m.old m.new (StandsInPart self.now.copies.place self.now.copies.bytes (copies_count self.now.copies) (M.now m.old)) }
         ensures done { OnOk result (M.honest m.new → Holds (M.now m.old) (stand (M.now m.old).image self.now.copies.place self.now.copies.bytes (copies_count self.now.copies)) (M.now m.new)) }
     {
         if self.copies.is_empty() {
             return Ok(());
         }
-        m.write(self.copies_at, self.copies.as_slice())?;
-        Ok(())
+        write_sectors(m, self.copies_at, self.copies.as_slice())
     }
 
     // Where a place on the tape lies on the disk.
@@ -367,14 +347,11 @@ impl Log {
         requires room { HasRoom self.old.layout (length pages.now) self.old.head }
         requires numbered { self.old.head.number < 2 ^ 32 - 1 }
         requires sectors { self.old.layout.sectors ≤ (M.report m.old).sectors }
-        ensures fault { IfErr result (λ failed. DeviceFault (M.report m.old) (M.report m.new) failed.place) }
-        ensures uses { UsesDisk (M.report m.old) (M.report m.new) }
-        ensures trust { Trusts (M.tells m.old) (M.tells m.new) (M.honest m.old) (M.honest m.new) }
-        ensures ledger { M.tells m.new → OnlyWrites (M.ledger m.old) (M.ledger m.new) }
+        ensures writes { WritesDisk M.Machine (device_in failed_at result)
+            (StandsInPart (place_of self.old.layout self.old.anchor.third (spot_for self.old.layout (length pages.now) self.old.head).at)
+            (laid_bytes (stamp_now self.old) pages.now images.now) (2 * length pages.now + 5)) m.old m.new }
         ensures counted { OnOk result (M.tells m.new → M.ledger m.new ≡ wrote (M.ledger m.old) (2 * length pages.now + 5)) }
         ensures counted_err { OnErr result (M.tells m.new → M.ledger m.new ≡ M.ledger m.old) }
-        ensures quiet { M.honest m.new → (M.now m.new).said ≡ (M.now m.old).said }
-        ensures windows { M.honest m.new → (M.now m.new).windows ≡ (M.now m.old).windows }
         ensures worn_moment { (records : List Placed) → M.honest m.new → IsLogWorn self.old records (M.now m.old)
             → LeavesOnly M.moment M.left_since m.old m.new (AppendsWorn self.old records pages.now images.now (M.now m.old)) }
         ensures worn_done { OnOk result ((records : List Placed) → M.honest m.new → IsNarrow (M.now m.old) → IsLogWorn self.old records (M.now m.old)
@@ -411,15 +388,9 @@ impl Log {
     pub fn new_epoch<M: Machine>(&mut self, m: &mut M) -> Result<(), Failed>
         requires epoch { self.old.anchor.epoch < 2 ^ 32 - 1 }
         requires sectors { self.old.layout.sectors ≤ (M.report m.old).sectors }
-        ensures fault { IfErr result (λ failed. DeviceFault (M.report m.old) (M.report m.new) failed.place) }
-        ensures uses { UsesDisk (M.report m.old) (M.report m.new) }
-        ensures trust { Trusts (M.tells m.old) (M.tells m.new) (M.honest m.old) (M.honest m.new) }
-        ensures ledger { M.tells m.new → OnlyWrites (M.ledger m.old) (M.ledger m.new) }
+        ensures writes { WritesDisk M.Machine (device_in failed_at result) (AnchorsIn (next_epoch self.old)) m.old m.new }
         ensures counted { OnOk result (M.tells m.new → M.ledger m.new ≡ wrote (M.ledger m.old) 2) }
         ensures most { M.tells m.new → (M.ledger m.new).written ≤ (M.ledger m.old).written + 2 }
-        ensures quiet { M.honest m.new → (M.now m.new).said ≡ (M.now m.old).said }
-        ensures windows { M.honest m.new → (M.now m.new).windows ≡ (M.now m.old).windows }
-        ensures any_moment { M.honest m.new → LeavesOnly M.moment M.left_since m.old m.new (AnchorsIn (next_epoch self.old) (M.now m.old)) }
         ensures done { OnOk result (M.honest m.new → Holds (M.now m.old) (with_anchors (next_epoch self.old) (M.now m.old).image 1 1) (M.now m.new)) }
         ensures past { OnOk result (self.new ≡ in_next_epoch self.old) }
         ensures kept { OnErr result (self.new ≡ self.old) }
@@ -448,15 +419,9 @@ impl Log {
     pub fn move_anchor<M: Machine>(&mut self, m: &mut M) -> Result<(), Failed>
         requires ends { EndsInLastThird self.old }
         requires sectors { self.old.layout.sectors ≤ (M.report m.old).sectors }
-        ensures fault { IfErr result (λ failed. DeviceFault (M.report m.old) (M.report m.new) failed.place) }
-        ensures uses { UsesDisk (M.report m.old) (M.report m.new) }
-        ensures trust { Trusts (M.tells m.old) (M.tells m.new) (M.honest m.old) (M.honest m.new) }
-        ensures ledger { M.tells m.new → OnlyWrites (M.ledger m.old) (M.ledger m.new) }
+        ensures writes { WritesDisk M.Machine (device_in failed_at result) (AnchorsIn (moved_anchor self.old)) m.old m.new }
         ensures counted { OnOk result (M.tells m.new → M.ledger m.new ≡ wrote (M.ledger m.old) 2) }
         ensures most { M.tells m.new → (M.ledger m.new).written ≤ (M.ledger m.old).written + 2 }
-        ensures quiet { M.honest m.new → (M.now m.new).said ≡ (M.now m.old).said }
-        ensures windows { M.honest m.new → (M.now m.new).windows ≡ (M.now m.old).windows }
-        ensures any_moment { M.honest m.new → LeavesOnly M.moment M.left_since m.old m.new (AnchorsIn (moved_anchor self.old) (M.now m.old)) }
         ensures done { OnOk result (M.honest m.new → Holds (M.now m.old) (with_anchors (moved_anchor self.old) (M.now m.old).image 1 1) (M.now m.new)) }
         ensures worn_moment { (records : List Placed) → M.honest m.new → IsIndexed self.old records → IsLogWorn self.old records (M.now m.old)
             → LeavesOnly M.moment M.left_since m.old m.new (MovesWorn self.old records (M.now m.old)) }

@@ -69,15 +69,15 @@ returns-in-Ok-copies_in-clause-seen g c j h jw =
     let l = c.args.layout.now in let third = c.args.anchor.now.third in
     let stamp : Stamp = record { epoch = c.args.anchor.now.epoch; number = c.args.number } in
     let read = is_read g (goal.at.returns-in-Ok-copies_in-clause-seen g c).After-judge in
-    let image = seen l third c.args.at c.args.end c.requires.first c.requires.before c.requires.from c.requires.ends old new (c.read_record.ensures.worn h) (M.honest c.read_record.new.m) h c.place_of-place.result c.place_of-place.ensures c.pages-p.result stamp c.as_slice.result.now c.as_slice-bytes.result.now read j jw in
+    let image = seen l third c.args.at c.args.end c.requires.first c.requires.before c.requires.from c.requires.ends old new (c.read_record.ensures.reads.worn h) (M.honest c.read_record.new.m) h c.place_of-place.result c.place_of-place.ensures c.pages-p.result stamp c.as_slice.result.now c.as_slice-bytes.result.now read j jw in
     record {
       image = image;
-      from = seen_from l third c.args.at c.args.end c.requires.first c.requires.before c.requires.from c.requires.ends old new (c.read_record.ensures.worn h) (M.honest c.read_record.new.m) h c.place_of-place.result c.place_of-place.ensures c.pages-p.result stamp c.as_slice.result.now c.as_slice-bytes.result.now read j jw;
-      to = seen_to l third c.args.at c.args.end c.requires.first c.requires.before c.requires.from c.requires.ends old new (c.read_record.ensures.worn h) (M.honest c.read_record.new.m) h c.place_of-place.result c.place_of-place.ensures c.pages-p.result stamp c.as_slice.result.now c.as_slice-bytes.result.now read j jw;
-      below = seen_below l third c.args.at c.args.end c.requires.first c.requires.before c.requires.from c.requires.ends old new (c.read_record.ensures.worn h) (M.honest c.read_record.new.m) h c.place_of-place.result c.place_of-place.ensures c.pages-p.result stamp c.as_slice.result.now c.as_slice-bytes.result.now read j jw;
-      front = seen_front l third c.args.at c.args.end c.requires.first c.requires.before c.requires.from c.requires.ends old new (c.read_record.ensures.worn h) (M.honest c.read_record.new.m) h c.place_of-place.result c.place_of-place.ensures c.pages-p.result stamp c.as_slice.result.now c.as_slice-bytes.result.now read j jw;
+      from = seen_from l third c.args.at c.args.end c.requires.first c.requires.before c.requires.from c.requires.ends old new (c.read_record.ensures.reads.worn h) (M.honest c.read_record.new.m) h c.place_of-place.result c.place_of-place.ensures c.pages-p.result stamp c.as_slice.result.now c.as_slice-bytes.result.now read j jw;
+      to = seen_to l third c.args.at c.args.end c.requires.first c.requires.before c.requires.from c.requires.ends old new (c.read_record.ensures.reads.worn h) (M.honest c.read_record.new.m) h c.place_of-place.result c.place_of-place.ensures c.pages-p.result stamp c.as_slice.result.now c.as_slice-bytes.result.now read j jw;
+      below = seen_below l third c.args.at c.args.end c.requires.first c.requires.before c.requires.from c.requires.ends old new (c.read_record.ensures.reads.worn h) (M.honest c.read_record.new.m) h c.place_of-place.result c.place_of-place.ensures c.pages-p.result stamp c.as_slice.result.now c.as_slice-bytes.result.now read j jw;
+      front = seen_front l third c.args.at c.args.end c.requires.first c.requires.before c.requires.from c.requires.ends old new (c.read_record.ensures.reads.worn h) (M.honest c.read_record.new.m) h c.place_of-place.result c.place_of-place.ensures c.pages-p.result stamp c.as_slice.result.now c.as_slice-bytes.result.now read j jw;
       is = (λ i. Some (record { number = c.args.number; pages = c.in-Good.found.pages.items; images = sym (images_served c.as_slice.result.now c.as_slice-bytes.result.now c.pages-p.result stamp (serving_in c.in-Good.found) (sym c.in-Good.ensures.judged) c.copies_in.new.copies.items c.in-Ok-copies_in.ensures) i }))
-          ∙ judged_seen l third c.args.at c.args.end c.requires.first c.requires.before c.requires.from c.requires.ends old new (c.read_record.ensures.worn h) (M.honest c.read_record.new.m) h c.place_of-place.result c.place_of-place.ensures c.pages-p.result stamp c.as_slice.result.now c.as_slice-bytes.result.now read j jw (Some (serving_in c.in-Good.found)) c.in-Good.ensures.judged
+          ∙ judged_seen l third c.args.at c.args.end c.requires.first c.requires.before c.requires.from c.requires.ends old new (c.read_record.ensures.reads.worn h) (M.honest c.read_record.new.m) h c.place_of-place.result c.place_of-place.ensures c.pages-p.result stamp c.as_slice.result.now c.as_slice-bytes.result.now read j jw (Some (serving_in c.in-Good.found)) c.in-Good.ensures.judged
           ∙ ap (λ (p : ℕ). (record_in p stamp (room_at c.args.at c.args.end) (window (tape l third (reads image)) c.args.at (room_at c.args.at c.args.end)))) c.pages-p.ensures.value
           ∙ (sym (here_looks l c.args.anchor.now.epoch (tape l third (reads image)) c.args.number c.args.at c.args.end (omega (arith, c.if-number-eq-LAST_NUMBER.false))));
     }
@@ -90,14 +90,14 @@ returns-in-NotThere-clause-seen g c j h jw =
     let l = c.args.layout.now in let third = c.args.anchor.now.third in
     let stamp : Stamp = record { epoch = c.args.anchor.now.epoch; number = c.args.number } in
     let read = is_read g (goal.at.returns-in-NotThere-clause-seen g c).After-judge in
-    let image = seen l third c.args.at c.args.end c.requires.first c.requires.before c.requires.from c.requires.ends old new (c.read_record.ensures.worn h) (M.honest c.read_record.new.m) h c.place_of-place.result c.place_of-place.ensures c.pages-p.result stamp c.as_slice.result.now c.as_slice-bytes.result.now read j jw in
+    let image = seen l third c.args.at c.args.end c.requires.first c.requires.before c.requires.from c.requires.ends old new (c.read_record.ensures.reads.worn h) (M.honest c.read_record.new.m) h c.place_of-place.result c.place_of-place.ensures c.pages-p.result stamp c.as_slice.result.now c.as_slice-bytes.result.now read j jw in
     record {
       image = image;
-      from = seen_from l third c.args.at c.args.end c.requires.first c.requires.before c.requires.from c.requires.ends old new (c.read_record.ensures.worn h) (M.honest c.read_record.new.m) h c.place_of-place.result c.place_of-place.ensures c.pages-p.result stamp c.as_slice.result.now c.as_slice-bytes.result.now read j jw;
-      to = seen_to l third c.args.at c.args.end c.requires.first c.requires.before c.requires.from c.requires.ends old new (c.read_record.ensures.worn h) (M.honest c.read_record.new.m) h c.place_of-place.result c.place_of-place.ensures c.pages-p.result stamp c.as_slice.result.now c.as_slice-bytes.result.now read j jw;
-      below = seen_below l third c.args.at c.args.end c.requires.first c.requires.before c.requires.from c.requires.ends old new (c.read_record.ensures.worn h) (M.honest c.read_record.new.m) h c.place_of-place.result c.place_of-place.ensures c.pages-p.result stamp c.as_slice.result.now c.as_slice-bytes.result.now read j jw;
-      front = seen_front l third c.args.at c.args.end c.requires.first c.requires.before c.requires.from c.requires.ends old new (c.read_record.ensures.worn h) (M.honest c.read_record.new.m) h c.place_of-place.result c.place_of-place.ensures c.pages-p.result stamp c.as_slice.result.now c.as_slice-bytes.result.now read j jw;
-      is = judged_seen l third c.args.at c.args.end c.requires.first c.requires.before c.requires.from c.requires.ends old new (c.read_record.ensures.worn h) (M.honest c.read_record.new.m) h c.place_of-place.result c.place_of-place.ensures c.pages-p.result stamp c.as_slice.result.now c.as_slice-bytes.result.now read j jw None c.in-NotThere.ensures.judged
+      from = seen_from l third c.args.at c.args.end c.requires.first c.requires.before c.requires.from c.requires.ends old new (c.read_record.ensures.reads.worn h) (M.honest c.read_record.new.m) h c.place_of-place.result c.place_of-place.ensures c.pages-p.result stamp c.as_slice.result.now c.as_slice-bytes.result.now read j jw;
+      to = seen_to l third c.args.at c.args.end c.requires.first c.requires.before c.requires.from c.requires.ends old new (c.read_record.ensures.reads.worn h) (M.honest c.read_record.new.m) h c.place_of-place.result c.place_of-place.ensures c.pages-p.result stamp c.as_slice.result.now c.as_slice-bytes.result.now read j jw;
+      below = seen_below l third c.args.at c.args.end c.requires.first c.requires.before c.requires.from c.requires.ends old new (c.read_record.ensures.reads.worn h) (M.honest c.read_record.new.m) h c.place_of-place.result c.place_of-place.ensures c.pages-p.result stamp c.as_slice.result.now c.as_slice-bytes.result.now read j jw;
+      front = seen_front l third c.args.at c.args.end c.requires.first c.requires.before c.requires.from c.requires.ends old new (c.read_record.ensures.reads.worn h) (M.honest c.read_record.new.m) h c.place_of-place.result c.place_of-place.ensures c.pages-p.result stamp c.as_slice.result.now c.as_slice-bytes.result.now read j jw;
+      is = judged_seen l third c.args.at c.args.end c.requires.first c.requires.before c.requires.from c.requires.ends old new (c.read_record.ensures.reads.worn h) (M.honest c.read_record.new.m) h c.place_of-place.result c.place_of-place.ensures c.pages-p.result stamp c.as_slice.result.now c.as_slice-bytes.result.now read j jw None c.in-NotThere.ensures.judged
           ∙ ap (λ (p : ℕ). (record_in p stamp (room_at c.args.at c.args.end) (window (tape l third (reads image)) c.args.at (room_at c.args.at c.args.end)))) c.pages-p.ensures.value
           ∙ (sym (here_looks l c.args.anchor.now.epoch (tape l third (reads image)) c.args.number c.args.at c.args.end (omega (arith, c.if-number-eq-LAST_NUMBER.false))));
     }

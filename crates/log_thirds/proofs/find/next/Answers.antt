@@ -5,8 +5,8 @@ use Rattle.log_thirds.specs.Disk.{reads}
 use Rattle.log_record.specs.declared.judging.Found.{Found}
 use Rattle.log_thirds.specs.Copies.{entry_in}
 use Rattle.log_thirds.specs.Reading.{stepped_in, stepped_of}
-use Rattle.log_thirds.proofs.ReadingLaws.{reads_on}
 use Rattle.log_thirds.proofs.FindLaws.{goes_to, here_found, not_here, if_ok}
+use Rattle.sector_disk.proofs.CallLaws.{reads_then}
 use Rattle.sector_disk.specs.Image.{Windows, IsWorn, open_damage}
 use Rattle.log_thirds.specs.Seen.{SeesOn}
 use Rattle.log_thirds.proofs.SeenLaws.{sees_more, sees_on, here_below}
@@ -25,11 +25,8 @@ returns-in-Ok-Some-clause-goes g c =
       in_third = c.requires.from;
     }
 
-pub returns-in-Ok-None-clause-any_moment : goal.returns-in-Ok-None-clause-any_moment
-returns-in-Ok-None-clause-any_moment g c h =
-    let M = g.M.Machine in
-    let h1 = c.enter.ensures.trust.honest h in
-    reads_on M.moment M.left_since c.args.m.now c.find.new.m c.enter.new.m (M.now c.args.m.now) (M.now c.find.new.m) (c.find.ensures.worn h1) (c.find.ensures.any_moment h1) (c.enter.ensures.any_moment h)
+pub returns-in-Ok-None-clause-reads : goal.returns-in-Ok-None-clause-reads
+returns-in-Ok-None-clause-reads g c = reads_then c.in-Ok-None.ensures.reads c.enter.ensures.reads
 
 pub returns-in-Ok-Some-clause-seen : goal.returns-in-Ok-Some-clause-seen
 returns-in-Ok-Some-clause-seen g c j h jw =
@@ -52,8 +49,8 @@ returns-in-Ok-None-clause-seen g c =
     let head : Head = record { number = c.args.number; at = c.args.at; end = c.args.end } in
     if_ok c.enter.result _ _
     (λ o later j h jw.
-    let h1 = c.enter.ensures.trust.honest h in
-    let same = (c.find.ensures.worn h1).windows in
+    let h1 = c.enter.ensures.reads.trust.honest h in
+    let same = (c.find.ensures.reads.worn h1).windows in
     let first = c.in-Ok-None.ensures.seen j h1 jw in
     let to_mid = subst (λ (w : Windows). IsWorn (open_damage w) first.image mid.image) (sym same) first.to in
     let second = subst (λ (w : Windows). SeesOn l third c.args.end (open_damage w) first.image (M.now c.enter.new.m).image (λ i. option_map (stepped_in c.args.number c.enter.new.scratch.copies.items) o ≡ option_map stepped_of (entered l epoch (tape l third (reads i)) (record { number = c.args.number; at = c.args.at; end = c.args.end })))) same (later first.image h to_mid) in

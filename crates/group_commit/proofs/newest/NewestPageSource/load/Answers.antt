@@ -39,7 +39,7 @@ returns-clause-whole g c =
     let M = g.M.Machine in
     on_ok_weaker c.load_home.result
     (λ shown h. copy_stands c.args.self.now (M.now c.args.m.now) c.args.page (unlogged g c) c.self.inside.layout (same_layout g c) (M.now c.image_of.new.m) (M.now c.load_home.new.m)
-    (c.in_ok-image_of.ensures.worn (c.load_home.ensures.trust.honest h)) (c.load_home.ensures.worn h) c.load_home.new.buf (shown h))
+    (c.in_ok-image_of.ensures.reads.worn (c.load_home.ensures.trust.honest h)) (c.load_home.ensures.worn h) c.load_home.new.buf (shown h))
     c.load_home.ensures.shown
 
 pub returns-clause-lost : goal.returns-clause-lost
@@ -47,7 +47,7 @@ returns-clause-lost g c =
     let M = g.M.Machine in
     IfErr-weaker c.load_home.result _ _
     (λ fault lost h. copies_lost c.args.self.now (M.now c.args.m.now) c.args.page (unlogged g c) c.self.inside.layout (same_layout g c) (M.now c.image_of.new.m) (M.now c.load_home.new.m)
-    (c.in_ok-image_of.ensures.worn (c.load_home.ensures.trust.honest h)) (c.load_home.ensures.worn h) fault (lost h))
+    (c.in_ok-image_of.ensures.reads.worn (c.load_home.ensures.trust.honest h)) (c.load_home.ensures.worn h) fault (lost h))
     c.load_home.ensures.lost
 
 pub returns-clause-newest : goal.returns-clause-newest
@@ -55,7 +55,7 @@ returns-clause-newest g c =
     let M = g.M.Machine in
     on_ok_weaker c.load_home.result
     (λ shown h calm knows. home_newest c.args.self.now (M.now c.args.m.now) c.args.page (unlogged g c) c.self.inside.layout (same_layout g c) (M.now c.image_of.new.m) (M.now c.load_home.new.m)
-    (c.in_ok-image_of.ensures.worn (c.load_home.ensures.trust.honest h)) (c.load_home.ensures.worn h) calm knows c.load_home.new.buf (shown h))
+    (c.in_ok-image_of.ensures.reads.worn (c.load_home.ensures.trust.honest h)) (c.load_home.ensures.worn h) calm knows c.load_home.new.buf (shown h))
     c.load_home.ensures.shown
 
 pub returns-clause-never_lost : goal.returns-clause-never_lost
@@ -63,5 +63,5 @@ returns-clause-never_lost g c =
     let M = g.M.Machine in
     IfErr-weaker c.load_home.result _ _
     (λ fault lost h calm knows some. home_lost c.args.self.now (M.now c.args.m.now) c.args.page (unlogged g c) c.self.inside.layout (same_layout g c) (M.now c.image_of.new.m) (M.now c.load_home.new.m)
-    (c.in_ok-image_of.ensures.worn (c.load_home.ensures.trust.honest h)) (c.load_home.ensures.worn h) calm knows fault (lost h) some)
+    (c.in_ok-image_of.ensures.reads.worn (c.load_home.ensures.trust.honest h)) (c.load_home.ensures.worn h) calm knows fault (lost h) some)
     c.load_home.ensures.lost

@@ -2,8 +2,7 @@ use Rattle.std.proofs.Common.{rules, [], ℕ, ◌≡◌, ◌<◌, ◌≤◌, ◌
 use Rattle.std.specs.Prelude.{option_map, IfSome, IfNone, replicate}
 use Rattle.std.proofs.lemmas.List.{length-replicate, with_items_is}
 use Rattle.std.specs.Vec.{with_items}
-use Rattle.sector_disk.proofs.Moments.{started}
-use Rattle.sector_disk.proofs.Holding.{trusts_on}
+use Rattle.sector_disk.proofs.CallLaws.{reads_none, reads_then}
 use Rattle.log_thirds.specs.declared.find.Step.{Step}
 use Rattle.log_thirds.specs.declared.slots.Slot.{Slot}
 use Rattle.fsd_log.specs.Scan.{Head, tape, scan, next, last_number}
@@ -12,7 +11,6 @@ use Rattle.log_thirds.specs.Slots.{noted, slots_with, LieInRecords, SlotsInside}
 use Rattle.log_thirds.specs.Reading.{StepsOn, stepped_in, stepped_of}
 use Rattle.volume_layout.proofs.RootLaws.{planned_bounds}
 use Rattle.fsd_log.proofs.WalkLaws.{ends_inside}
-use Rattle.log_thirds.proofs.ReadingLaws.{wears_here, wears_on, uses_on, reads_on, fault_on}
 use Rattle.log_thirds.proofs.FindLaws.{place_most}
 use Rattle.log_thirds.proofs.SlotLaws.{length-noted, none_inside, none_lie, record_inside, record_lies}
 use Rattle.log_thirds.specs.Copies.{FitsDisk, AreCopies, AreLastCopies, copies_count}
@@ -40,11 +38,7 @@ loop-from-init g c =
     (reaches_start c.args.layout.now c.args.anchor.now.epoch c.args.anchor.now.first c.args.anchor.now.third (tape c.args.layout.now c.args.anchor.now.third (reads i)) c.pages.result 0))) in
     record {
       is_in = record { before = omega arith; from = omega (arith, value); ends = inl value };
-      uses = record { sectors = refl; disk = omega arith; input = refl; output = refl };
-      trust = record { tells = λ t. t; honest = λ h. h };
-      ledger = λ t. refl;
-      worn = λ h. wears_here (M.now c.args.m.now);
-      moments = λ h. started M.moment M.left_since c.args.m.now (M.now c.args.m.now) _ (λ l left. g.met.M.Machine.only_now c.args.m.now l h left) (wears_here (M.now c.args.m.now));
+      calls = reads_none c.args.m.now (λ l h left. g.met.M.Machine.only_now c.args.m.now l h left);
       numbers = subst (AreNumbers c.args.anchor.now.first) (sym c.of-firsts.ensures) (record { some = c.requires.first; in_order = omega arith; most = omega arith });
       table = ap length table ∙ length-replicate c.pages.result _ ∙ c.pages.ensures.value;
       on_disk = subst (SlotsInside c.args.layout.now.sectors) (sym table) (none_inside c.args.layout.now.sectors c.pages.result);
@@ -142,7 +136,7 @@ pub loop-from-preserved : goal.loop-from-preserved
 loop-from-preserved g c =
     let M = g.M.Machine in
     let so_far = c.loop-from.invariant in
-    let back = c.next.ensures.trust.honest in
+    let back = c.next.ensures.reads.trust.honest in
     let gone = subst (λ (o : Option Step). IfSome o (StepsOn c.args.layout.now c.loop-from.at)) c.in-Ok-Some.field-0-is c.in-Ok-Some.ensures.goes in
     let copied = subst (λ (o : Option Step). IfSome o (λ s. AreCopies (record { epoch = c.args.anchor.now.epoch; number = c.loop-from.number }) (length s.found.pages.items) c.next.new.scratch.copies.items)) c.in-Ok-Some.field-0-is c.in-Ok-Some.ensures.copied in
     let long : length c.note.new.slots ≡ length c.as_mut_slice.result.now =
@@ -153,11 +147,7 @@ loop-from-preserved g c =
     let firsts = c.with-firsts.ensures ∙ ap (λ (t : ℕ). firsts_with t c.in-Ok-Some.field-0-0.from c.loop-from.firsts) c.third-third.ensures.value in
     record {
       is_in = record { before = gone.goes.before; from = gone.goes.after; ends = gone.goes.ends };
-      uses = uses_on (M.report c.args.m.now) (M.report c.loop-from.m) (M.report c.next.new.m) so_far.uses c.next.ensures.uses;
-      trust = trusts_on so_far.trust c.next.ensures.trust;
-      ledger = λ t. c.next.ensures.ledger t ∙ so_far.ledger (c.next.ensures.trust.tells t);
-      worn = λ h. wears_on (M.now c.args.m.now) (M.now c.loop-from.m) (M.now c.next.new.m) (so_far.worn (back h)) (c.next.ensures.worn h);
-      moments = λ h. reads_on M.moment M.left_since c.args.m.now c.loop-from.m c.next.new.m (M.now c.args.m.now) (M.now c.loop-from.m) (so_far.worn (back h)) (so_far.moments (back h)) (c.next.ensures.any_moment h);
+      calls = reads_then {fault = None} so_far.calls c.in-Ok-Some.ensures.reads;
       numbers = subst (AreNumbers (c.loop-from.number + 1)) (sym c.with-firsts.ensures) (numbers_more c.third-third.result c.loop-from.number c.in-Ok-Some.field-0-0.from c.loop-from.firsts so_far.numbers);
       table = ap length kept ∙ long ∙ ap length c.as_mut_slice.ensures.value ∙ so_far.table;
       on_disk = subst (SlotsInside c.args.layout.now.sectors) (sym (kept ∙ c.note.ensures))
@@ -182,7 +172,7 @@ loop-from-preserved g c =
       };
       few = omega (arith, copied.long, gone.few);
       seen = λ j h jw.
-          let same = (so_far.worn (back h)).windows in
+          let same = (so_far.calls.worn (back h)).windows in
           let first = so_far.seen j (back h) jw in
           let to_mid = subst (λ (w : Windows). IsWorn (open_damage w) first.image (M.now c.loop-from.m).image) (sym same) first.to in
           let second = subst (λ (w : Windows). SeesOn c.args.layout.now c.args.anchor.now.third c.loop-from.at (open_damage w) first.image (M.now c.next.new.m).image
@@ -218,51 +208,18 @@ invariant_of-result g c =
       long = let len = c.in-Ok.ensures.len in search rules;
     }
 
-pub returns-in-Ok-None-clause-trust : goal.returns-in-Ok-None-clause-trust
-returns-in-Ok-None-clause-trust g c = trusts_on c.loop-from.invariant.trust c.next.ensures.trust
+pub returns-in-Ok-None-clause-reads : goal.returns-in-Ok-None-clause-reads
+returns-in-Ok-None-clause-reads g c = reads_then c.loop-from.invariant.calls c.in-Ok-None.ensures.reads
 
-pub returns-in-Ok-None-clause-worn : goal.returns-in-Ok-None-clause-worn
-returns-in-Ok-None-clause-worn g c h =
-    let M = g.M.Machine in
-    wears_on (M.now c.args.m.now) (M.now c.loop-from.m) (M.now c.next.new.m) (c.loop-from.invariant.worn (c.next.ensures.trust.honest h)) (c.next.ensures.worn h)
-
-pub returns-in-Ok-None-clause-any_moment : goal.returns-in-Ok-None-clause-any_moment
-returns-in-Ok-None-clause-any_moment g c h =
-    let M = g.M.Machine in
-    let h1 = c.next.ensures.trust.honest h in
-    reads_on M.moment M.left_since c.args.m.now c.loop-from.m c.next.new.m (M.now c.args.m.now) (M.now c.loop-from.m) (c.loop-from.invariant.worn h1) (c.loop-from.invariant.moments h1) (c.next.ensures.any_moment h)
-
-pub returns-in-Err-next-clause-fault : goal.returns-in-Err-next-clause-fault
-returns-in-Err-next-clause-fault g c =
-    let M = g.M.Machine in
-    fault_on (M.report c.args.m.now) (M.report c.loop-from.m) (M.report c.next.new.m) c.in-Err-next.fault c.loop-from.invariant.uses c.in-Err-next.ensures.fault
-
-pub returns-in-Err-next-clause-trust : goal.returns-in-Err-next-clause-trust
-returns-in-Err-next-clause-trust g c = trusts_on c.loop-from.invariant.trust c.next.ensures.trust
-
-pub returns-in-Err-next-clause-worn : goal.returns-in-Err-next-clause-worn
-returns-in-Err-next-clause-worn g c h =
-    let M = g.M.Machine in
-    wears_on (M.now c.args.m.now) (M.now c.loop-from.m) (M.now c.next.new.m) (c.loop-from.invariant.worn (c.next.ensures.trust.honest h)) (c.next.ensures.worn h)
-
-pub returns-in-Err-next-clause-any_moment : goal.returns-in-Err-next-clause-any_moment
-returns-in-Err-next-clause-any_moment g c h =
-    let M = g.M.Machine in
-    let h1 = c.next.ensures.trust.honest h in
-    reads_on M.moment M.left_since c.args.m.now c.loop-from.m c.next.new.m (M.now c.args.m.now) (M.now c.loop-from.m) (c.loop-from.invariant.worn h1) (c.loop-from.invariant.moments h1) (c.next.ensures.any_moment h)
-
-pub returns-in-Ok-None-clause-ledger : goal.returns-in-Ok-None-clause-ledger
-returns-in-Ok-None-clause-ledger g c t = c.next.ensures.ledger t ∙ c.loop-from.invariant.ledger (c.next.ensures.trust.tells t)
-
-pub returns-in-Err-next-clause-ledger : goal.returns-in-Err-next-clause-ledger
-returns-in-Err-next-clause-ledger g c t = c.next.ensures.ledger t ∙ c.loop-from.invariant.ledger (c.next.ensures.trust.tells t)
+pub returns-in-Err-next-clause-reads : goal.returns-in-Err-next-clause-reads
+returns-in-Err-next-clause-reads g c = reads_then c.loop-from.invariant.calls c.in-Err-next.ensures.reads
 
 pub returns-in-Ok-None-clause-seen : goal.returns-in-Ok-None-clause-seen
 returns-in-Ok-None-clause-seen g c j h jw =
     let M = g.M.Machine in
     let so_far = c.loop-from.invariant in
-    let back = c.next.ensures.trust.honest in
-    let same = (so_far.worn (back h)).windows in
+    let back = c.next.ensures.reads.trust.honest in
+    let same = (so_far.calls.worn (back h)).windows in
     let first = so_far.seen j (back h) jw in
     let to_mid = subst (λ (w : Windows). IsWorn (open_damage w) first.image (M.now c.loop-from.m).image) (sym same) first.to in
     let second = subst (λ (w : Windows). SeesOn c.args.layout.now c.args.anchor.now.third c.loop-from.at (open_damage w) first.image (M.now c.next.new.m).image

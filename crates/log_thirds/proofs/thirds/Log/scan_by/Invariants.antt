@@ -1,8 +1,8 @@
-use Rattle.std.proofs.Common.{◌≡◌, ◌≤◌, ◌-◌, ◌*◌, List, length}
+use Rattle.std.proofs.Common.{◌≡◌, ◌≤◌, ◌-◌, ◌*◌, List, None, length}
 use Rattle.sector_disk.specs.declared.sector.Sector.{Sector}
 use Rattle.sector_disk.specs.Image.{IsWorn, open_damage}
 use Rattle.log_thirds.specs.Seen.{SeesOn}
-use Rattle.sector_disk.specs.Machine.{UsesDisk, Trusts, Wears, LeavesOnly}
+use Rattle.sector_disk.specs.Calls.{OnlyReads}
 use Rattle.fsd_log.specs.Scan.{IsIn, tape}
 use Rattle.log_thirds.specs.Disk.{reads}
 use Rattle.log_thirds.specs.Firsts.{AreNumbers}
@@ -14,11 +14,7 @@ use Rattle.log_thirds.proofs.thirds.Log.scan_by.Given as goal
 abbrev pub invariant-loop-from : goal.invariant-loop-from
 invariant-loop-from g l = let M = g.M.Machine in let old = l.fn.m in record {
   is_in : IsIn l.layout (record { number = l.number; at = l.at; end = l.end });
-  uses : UsesDisk (M.report old) (M.report l.m);
-  trust : Trusts (M.tells old) (M.tells l.m) (M.honest old) (M.honest l.m);
-  ledger : M.tells l.m → M.ledger l.m ≡ M.ledger old;
-  worn : M.honest l.m → Wears (M.now old) (M.now l.m);
-  moments : M.honest l.m → LeavesOnly M.moment M.left_since old l.m (Wears (M.now old));
+  calls : OnlyReads g.M.Machine None old l.m;
   numbers : AreNumbers l.number l.firsts;
   table : length l.slots.items ≡ l.layout.pages;
   on_disk : SlotsInside l.layout.sectors l.slots.items;
