@@ -19,7 +19,7 @@ use Rattle.fsd_formats.specs.Leader.{leader_of, leader_bytes}
 use Rattle.fsd_formats.specs.NamePage.{max_keep, max_length, sectors_for}
 use Rattle.fsd_files.specs.Disk.{Image, Sectors, Has}
 use Rattle.fsd_files.specs.Files.{File, Change, step, new_key, new_keep, gone_keys}
-use Rattle.fsd_files.specs.Kept.{FirstDamaged, IsWhole, range_sectors}
+use Rattle.fsd_files.specs.Kept.{FirstDamaged, IsWhole, KeptIn, range_sectors}
 use Rattle.fsd_files.specs.Replies.{Reply, Refused, Made, Deleted, Kept, Listed, Bytes, DamagedAt, Forced, Counts, Found}
 use Rattle.fsd_files.specs.Volume.{Volume, plans_of, free_runs, free_count, waiting_count, pages_free, place_for, forced, forced_for_place, forced_if, drawn, entries_at, entries_without}
 
@@ -220,3 +220,8 @@ FindsIn i j v key damaged = IfSome (entry_of key v.entries) (λ e. Finds i j (ra
 -- the version's first sector is its leader, or is Damaged where it may be
 abbrev pub HasLeader : Sectors → Image → Entry → Type 0
 HasLeader weak j e = IfSome (slice_get (sectors_of e.runs) 0) (Has weak j (leader_bytes (leader_of e)))
+
+-- A version stands whole with its leader, but for damage in these sectors.
+pub record HasVersion (weak : Sectors) (i : Image) (bytes : List ℕ) (e : Entry) : Type 0 where
+  pub leader : HasLeader weak i e
+  pub data_there : KeptIn i weak bytes e.runs

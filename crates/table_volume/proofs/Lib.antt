@@ -1,0 +1,4 @@
+pub mod CountLaws
+pub mod PageLaws
+pub mod TakenLaws
+pub mod WearLaws

@@ -1,0 +1,5 @@
+pub mod LayLaws
+pub mod PlaceLaws
+pub mod RangeLaws
+pub mod VersionLaws
+pub mod WritingLaws

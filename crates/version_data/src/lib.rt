@@ -1,0 +1,10 @@
+//! The sectors of a version, its leader and its data, written and read.
+#![tactic(auto)]
+
+mod fault;
+mod reading;
+mod writing;
+
+pub use fault::DataFault;
+pub use reading::read_range;
+pub use writing::write_version;
