@@ -1,8 +1,12 @@
 -- Calls one after another, and what they leave said of less.
-use Rattle.std.proofs.Common.{◌≡◌, ◌≤◌, ◌∙◌, refl, ap, arith, ℕ, Bool, true, false, Option, Some, None}
+use Rattle.std.proofs.Common.{◌≡◌, ◌≤◌, ◌∙◌, refl, sym, ap, subst, arith, ℕ, Bool, true, false, Option, Some, None}
+use Rattle.std.specs.Prelude.{Result, Err}
+use Rattle.sector_disk.specs.declared.machine.Failed.{Failed}
+use Rattle.sector_disk.specs.declared.machine.LoadFault.{LoadFault}
+use Rattle.sector_disk.specs.declared.machine.LoadFault.TheVariants.{Device}
 use Rattle.sector_disk.specs.declared.machine.Machine.{Ghosts}
 use Rattle.sector_disk.specs.Machine.{Moment, Report, Ledger, OnlyWrites, UsesDisk, Wears, LeavesOnly}
-use Rattle.sector_disk.specs.Calls.{Counts, DiskFaults, LeavesDisk, OnlyReads, Since, SparesDisk, WritesDisk}
+use Rattle.sector_disk.specs.Calls.{Counts, DiskFaults, HealsDisk, LeavesDisk, OnlyReads, Since, SparesDisk, WritesDisk, device_in, failed_at, load_failed_at}
 use Rattle.sector_disk.proofs.Holding.{trusts_on, wears_none, wears_on}
 use Rattle.sector_disk.proofs.Moments.{started, then_on, leaves_more}
 
@@ -36,6 +40,16 @@ spares_then takes says a b c first second = record {
 
 only_writes_then : (a b c : Ledger) → OnlyWrites a b → OnlyWrites b c → OnlyWrites a c
 only_writes_then a b c first second = record { input = second.input ∙ first.input; attaches = second.attaches ∙ first.attaches }
+
+-- ---- faults handed on
+
+-- a fault that is handed on tells the place that it told
+pub told_on : {T U E : Type 0} (at : E → Option ℕ) (was : Result T E) (is : Result U E) (fault : E) → was ≡ Err fault → is ≡ Err fault → device_in at is ≡ device_in at was
+told_on at was is fault first second = ap (device_in at) second ∙ sym (ap (device_in at) first)
+
+-- a call of the disk that failed, handed on as a fault of a load
+pub failed_on : {T U : Type 0} (was : Result T Failed) (is : Result U LoadFault) (failed : Failed) → was ≡ Err failed → is ≡ Err (Device failed.place) → device_in load_failed_at is ≡ device_in failed_at was
+failed_on was is failed first second = ap (device_in load_failed_at) second ∙ sym (ap (device_in failed_at) first)
 
 -- ---- two calls in a row
 
@@ -78,6 +92,19 @@ module _ {D : Type 0} {M : Ghosts D} {a b c : D} where
         exit = λ h. then_so h (M.now c) (second.exit h);
         since = λ h. since_then M a b c (first.any_moment (back h)).later (first.since (back h)) (second.since h);
         any_moment = λ h. moments_then M a b c P Q R (first_so (back h)) (then_so h) (first.any_moment (back h)) (second.any_moment h);
+      }
+
+  -- two calls that turn the windows
+  pub heals_then : {fault : Option ℕ} → HealsDisk M None a b → HealsDisk M fault b c → HealsDisk M fault a c
+  heals_then {fault = fault} first second =
+      let back = second.trust.honest in record {
+        uses = uses_then (M.report a) (M.report b) (M.report c) first.uses second.uses;
+        faults = faults_then fault (M.report a) (M.report b) (M.report c) first.faults second.faults;
+        trust = trusts_on first.trust second.trust;
+        ledger = λ t. only_writes_then (M.ledger a) (M.ledger b) (M.ledger c) (first.ledger (second.trust.tells t)) (second.ledger t);
+        quiet = λ h. second.quiet h ∙ first.quiet (back h);
+        later = λ h. let one = first.later (back h) in let two = second.later h in omega (arith, one, two);
+        since = λ h. since_then M a b c (first.later (back h)) (first.since (back h)) (second.since h);
       }
 
   -- two calls that take or say
@@ -126,6 +153,31 @@ module _ {D : Type 0} {M : Ghosts D} {a b : D} where
     since = r.since;
     any_moment = λ h. leaves_more M.moment M.left_since a b (Wears (M.now a)) (R (M.now a)) (wears h) (r.any_moment h);
   }
+
+  -- a call that writes, as one that might have turned the windows
+  pub writes_as_heals : {fault : Option ℕ} {R : Moment → Moment → Type 0} → WritesDisk M fault R a b → HealsDisk M fault a b
+  writes_as_heals w = record {
+    uses = w.uses;
+    faults = w.faults;
+    trust = w.trust;
+    ledger = w.ledger;
+    quiet = w.quiet;
+    later = λ h. (w.any_moment h).later;
+    since = w.since;
+  }
+
+  pub reads_as_heals : {fault : Option ℕ} → OnlyReads M fault a b → HealsDisk M fault a b
+  reads_as_heals r = writes_as_heals (reads_as_writes {R = Wears} r (λ h left worn. worn))
+
+  -- the same fault of the disk, told otherwise
+  pub reads_told : {was is : Option ℕ} → is ≡ was → OnlyReads M was a b → OnlyReads M is a b
+  reads_told same r = subst (λ (fault : Option ℕ). OnlyReads M fault a b) (sym same) r
+
+  pub writes_told : {was is : Option ℕ} {R : Moment → Moment → Type 0} → is ≡ was → WritesDisk M was R a b → WritesDisk M is R a b
+  writes_told {R = R} same w = subst (λ (fault : Option ℕ). WritesDisk M fault R a b) (sym same) w
+
+  pub heals_told : {was is : Option ℕ} → is ≡ was → HealsDisk M was a b → HealsDisk M is a b
+  heals_told same w = subst (λ (fault : Option ℕ). HealsDisk M fault a b) (sym same) w
 
 -- a write behind calls that only read
 module _ {D : Type 0} {M : Ghosts D} {a b c : D} where

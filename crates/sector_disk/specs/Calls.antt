@@ -70,6 +70,16 @@ pub record WritesDisk {D : Type 0} (M : Ghosts D) (fault : Option ℕ) (R : Mome
   pub since : M.honest new → Since M old new
   pub any_moment : M.honest new → LeavesOnly M.moment M.left_since old new (R (M.now old))
 
+-- A call that writes the disk and turns its windows.
+pub record HealsDisk {D : Type 0} (M : Ghosts D) (fault : Option ℕ) (old new : D) : Type 0 where
+  pub uses : UsesDisk (M.report old) (M.report new)
+  pub faults : DiskFaults fault (M.report old) (M.report new)
+  pub trust : Trusts (M.tells old) (M.tells new) (M.honest old) (M.honest new)
+  pub ledger : M.tells new → OnlyWrites (M.ledger old) (M.ledger new)
+  pub quiet : M.honest new → (M.now new).said ≡ (M.now old).said
+  pub later : M.honest new → M.moment old ≤ M.moment new
+  pub since : M.honest new → Since M old new
+
 -- A call that takes or says, by whether it tells a fault of the input or of the output, and of which a stop leaves this.
 pub record LeavesDisk {D : Type 0} (M : Ghosts D) (takes says : Bool) (R : Moment → Moment → Type 0) (old new : D) : Type 0 where
   pub spares : SparesDisk takes says (M.report old) (M.report new)
