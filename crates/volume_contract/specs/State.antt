@@ -29,7 +29,7 @@ use Rattle.fsd_runs.specs.Runs.{last_count}
 
 -- The layout, the serial that the next creation draws, the log's anchor and end, the slot of each page's last image in it, the pages
 -- that wait for a force, the free runs now and once a force has ended, the sectors that wait, whether some of them wait for a force,
--- the free name pages, the number of versions, and the place of the force that failed.
+-- the runs of the versions that readers hold, the free name pages, the number of versions, and the place of the force that failed.
 pub record State : Type 0 where
   pub layout : Layout
   pub serial : Serial
@@ -41,6 +41,7 @@ pub record State : Type 0 where
   pub freed : List Run
   pub waiting : List ℕ
   pub waits : Bool
+  pub held : List (List Run)
   pub free_pages : List ℕ
   pub versions : ℕ
   pub down : Option ℕ
@@ -66,6 +67,7 @@ pub record IsNew (s : State) : Type 0 where
   pub dirty : s.dirty ≡ []
   pub waiting : s.waiting ≡ []
   pub waits : s.waits ≡ false
+  pub held : s.held ≡ []
   pub freed : s.freed ≡ s.free
   pub up : s.down ≡ None
 
@@ -83,6 +85,7 @@ downs (Err why) = downs_for why
 pub record GoesOn (place : Option ℕ) (old new : State) : Type 0 where
   pub layout : new.layout ≡ old.layout
   pub epoch : new.serial.epoch ≡ old.serial.epoch
+  pub held : new.held ≡ old.held
   pub down : (new.down ≡ old.down) ⊎ (IsSome place × (new.down ≡ place))
 
 -- every page that isn't a free one is in memory
@@ -166,6 +169,7 @@ pub record Fits (s : State) (m : Mounted) : Type 0 where
   pub freed : free_runs (forced m.volume) ≡ s.freed
   pub waiting : where_free (waits m.volume) (data_start m.volume.layout) m.volume.layout.sectors ≡ s.waiting
   pub waits : not (length m.volume.removed == 0) ≡ s.waits
+  pub held : m.volume.held ≡ s.held
   pub pages_free : pages_free m.volume ≡ length s.free_pages
   pub versions : length m.volume.files ≡ s.versions
   pub up : s.down ≡ None
