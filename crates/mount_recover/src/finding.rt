@@ -2,11 +2,11 @@
 ghost use Rattle.std.specs.Prelude.{◌≡◌, ◌-◌, ◌<◌, ◌≤◌, ◌^◌, Ok, IfOk, IfErr};
 ghost use Rattle.volume_layout.specs.Layout.{plan};
 ghost use Rattle.sector_disk.specs.Machine.{UsesDisk, Trusts, Wears, LeavesOnly};
-ghost use Rattle.mount_recover.specs.Lost.{HasRoot};
+ghost use Rattle.fsd_sound.specs.Mounting.{HasRoot};
 ghost use Rattle.mount_recover.specs.Finding.{mount_fault_of, FindCause, IsFound, IsNotFound};
 
-use crate::fault::MountFault;
 use crate::root::find_root;
+use fsd_sound::MountFault;
 use log_thirds::{Log, LogFault};
 use sector_disk::Machine;
 use std::alloc::Global;

@@ -3,7 +3,7 @@ ghost use Rattle.std.specs.Prelude.{◌≡◌, ◌<◌, ◌≤◌, Ok, IfOk, IfE
 ghost use Rattle.volume_layout.specs.Layout.{plan};
 ghost use Rattle.sector_disk.specs.Machine.{DeviceFault, UsesDisk, Trusts, Wears, LeavesOnly};
 ghost use Rattle.fsd_sound.specs.Roots.{root_at, root_of};
-ghost use Rattle.mount_recover.specs.Lost.{HasRoot};
+ghost use Rattle.fsd_sound.specs.Mounting.{HasRoot};
 
 use sector_disk::{Failed, Machine, Seen};
 use volume_layout::{Layout, read_root};

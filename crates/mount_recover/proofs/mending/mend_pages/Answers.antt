@@ -4,7 +4,7 @@ use Rattle.sector_disk.proofs.Moments.{started, then_on}
 use Rattle.sector_disk.proofs.Holding.{trusts_on}
 use Rattle.log_thirds.proofs.ReadingLaws.{uses_on}
 use Rattle.mount_recover.specs.Finding.{IsExcuse}
-use Rattle.mount_recover.specs.Lost.{LostIn}
+use Rattle.fsd_sound.specs.Lost.{LostIn}
 use Rattle.mount_recover.specs.Mending.{AreOfVolume, IsCompleted, IsMending, Stays}
 use Rattle.fsd_log.specs.Scan.{Placed}
 use Rattle.log_thirds.specs.Append.{IsCalm as IsCalmNow}

@@ -5,7 +5,8 @@ use Rattle.sector_disk.specs.Machine.{LeavesOnly, Ledger, Wears}
 use Rattle.sector_disk.proofs.Moments.{leaves_more, then_on}
 use Rattle.log_thirds.specs.LogValue.{LogValue}
 use Rattle.mount_recover.specs.Finding.{IsExcuse}
-use Rattle.mount_recover.specs.Lost.{AreCopiesOn, LeavesMap, LostIn, LosesShown, WritesMost}
+use Rattle.mount_recover.specs.Lost.{LeavesMap, WritesMost}
+use Rattle.fsd_sound.specs.Lost.{AreCopiesOn, LosesShown, LostIn}
 use Rattle.mount_recover.specs.Mending.{Stays, Begins}
 use Rattle.mount_recover.specs.Recover.{IsRefusedFor, ShowsVolume}
 use Rattle.mount_recover.specs.Replay.{Replays, IsReplayed}
