@@ -18,7 +18,7 @@ use Rattle.fsd_files.specs.Files.{Change}
 use Rattle.fsd_volume.specs.OneLeaf.{IsSoundLeaf, leaf_put_outcome}
 use Rattle.fsd_files.specs.Replies.{Made, Reply}
 use Rattle.fsd_files.specs.Volume.{Volume}
-use Rattle.mount_recover.specs.Recover.{last_epoch}
+use Rattle.fsd_sound.specs.Mounting.{last_epoch}
 use Rattle.cfs_run.specs.declared.answer.Answer.{Answer}
 use Rattle.cfs_run.specs.declared.answer.Answer.TheVariants as Said
 use Rattle.fsd_texts.specs.declared.fault.Fault.{Fault}

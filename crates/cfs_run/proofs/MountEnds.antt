@@ -9,16 +9,17 @@ use Rattle.fsd_files.specs.Files.{Files}
 use Rattle.fsd_files.specs.Kept.{Lists}
 use Rattle.fsd_volume.specs.OneLeaf.{leaf_put_outcome}
 use Rattle.fsd_files.specs.Volume.{Volume}
-use Rattle.mount_recover.specs.declared.fault.MountFault.{MountFault}
+use Rattle.fsd_sound.specs.declared.fault.MountFault.{MountFault}
 use Rattle.mount_recover.specs.Replay.{SameBehind}
 use Rattle.volume_layout.specs.declared.layout.Layout.{Layout}
-use Rattle.mount_recover.specs.declared.fault.MountFault.TheVariants as Mount
+use Rattle.fsd_sound.specs.declared.fault.MountFault.TheVariants as Mount
 use Rattle.sector_disk.specs.declared.sector.Sector.{Sector}
 use Rattle.sector_disk.specs.Image.{IsCalm, IsWorn, open_damage}
 use Rattle.sector_disk.specs.Machine.{Finds, Moment, Report}
 use Rattle.sector_disk.proofs.Calm.{calm_worn}
 use Rattle.sector_disk.proofs.Damage.{lost_as, lost_worn}
-use Rattle.mount_recover.specs.Lost.{AreCopiesOn, AreLastOf, HasRoot, LostIn}
+use Rattle.fsd_sound.specs.Lost.{AreCopiesOn, AreLastOf, LostIn}
+use Rattle.fsd_sound.specs.Mounting.{HasRoot}
 use Rattle.fsd_sound.specs.Roots.{root_of}
 use Rattle.mount_recover.proofs.LostLaws.{has_root_before}
 use Rattle.fsd_volume.specs.Mount.{IsFoundOn, IsMountable, MountRefused, volume_of}

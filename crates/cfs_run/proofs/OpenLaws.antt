@@ -20,8 +20,8 @@ use Rattle.fsd_sound.specs.Sound.{EndIn, Tells, weak_of}
 use Rattle.log_thirds.specs.LogValue.{LogValue}
 use Rattle.fsd_volume.specs.OneLeaf.{IsOneLeaf, IsSoundLeaf}
 use Rattle.group_commit.proofs.RoomLaws.{here_before}
-use Rattle.mount_recover.specs.declared.fault.MountFault.{MountFault}
-use Rattle.mount_recover.specs.declared.fault.MountFault.TheVariants.{NotVolume, Device, Memory, Lost, NoAnchor, Unsound, WornOut}
+use Rattle.fsd_sound.specs.declared.fault.MountFault.{MountFault}
+use Rattle.fsd_sound.specs.declared.fault.MountFault.TheVariants.{NotVolume, Device, Memory, Lost, NoAnchor, Unsound, WornOut}
 use Rattle.mount_recover.specs.Finding.{IsExcuse}
 use Rattle.mount_recover.specs.Recover.{IsFreshLog}
 use Rattle.fsd_volume.specs.Mount.{IsSoundAt, MountLeaves, MountRefused, Mounts, TellsFirst}

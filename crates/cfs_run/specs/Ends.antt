@@ -20,8 +20,8 @@ use Rattle.cfs_run.specs.declared.request.Request.TheVariants.{Outside, BadField
 use Rattle.fsd_texts.specs.declared.fault.Fault.TheVariants as Ends
 use Rattle.fsd_bytes.specs.declared.key.Key.{Key}
 use Rattle.cfs_run.specs.declared.input.TheConstants.{MOST_INPUT}
-use Rattle.mount_recover.specs.declared.fault.MountFault.{MountFault}
-use Rattle.mount_recover.specs.Lost.{AreCopiesOn, LostIn}
+use Rattle.fsd_sound.specs.declared.fault.MountFault.{MountFault}
+use Rattle.fsd_sound.specs.Lost.{AreCopiesOn, LostIn}
 use Rattle.cfs_run.specs.Leaves.{IsLastEpoch, LeavesRun}
 use Rattle.cfs_run.specs.Mounting.{IfMount, IfMounts, IsMountFault, OpensDisk, fault_of, mount_asks}
 use Rattle.fsd_texts.specs.Text.{fault_text, format_line, memory_text, text}

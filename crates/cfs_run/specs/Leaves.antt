@@ -23,7 +23,7 @@ use Rattle.fsd_sound.specs.Anchors.{anchor_of}
 use Rattle.fsd_sound.specs.Mounted.{telling_of}
 use Rattle.fsd_sound.specs.Shown.{told}
 use Rattle.fsd_sound.specs.Sound.{IsPrefixOf}
-use Rattle.mount_recover.specs.Recover.{last_epoch}
+use Rattle.fsd_sound.specs.Mounting.{last_epoch}
 use Rattle.fsd_formats.specs.declared.anchor.Anchor.{Anchor}
 use Rattle.fsd_texts.specs.declared.fault.Fault.{Fault}
 use Rattle.fsd_texts.specs.declared.fault.Fault.TheVariants as Ends

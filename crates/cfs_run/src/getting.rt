@@ -5,7 +5,7 @@ ghost use Rattle.sector_disk.specs.Image.{IsCalm};
 ghost use Rattle.sector_disk.specs.Machine.{LeavesOnly, Trusts, Wears};
 ghost use Rattle.fsd_files.specs.Files.{Change};
 ghost use Rattle.fsd_files.specs.Volume.{Volume as Mounted};
-ghost use Rattle.mount_recover.specs.Lost.{AreCopiesOn, LostIn};
+ghost use Rattle.fsd_sound.specs.Lost.{AreCopiesOn, LostIn};
 ghost use Rattle.fsd_volume.specs.Mount.{IsMountable, MountRefused};
 ghost use Rattle.fsd_volume.specs.State.{IsMounted};
 ghost use Rattle.cfs_run.specs.declared.request.Request.TheVariants as Words;

@@ -6,14 +6,14 @@ ghost use Rattle.cfs_run.specs.Answer.{CausesFault};
 ghost use Rattle.cfs_run.specs.Formatting.{UsesAttach};
 ghost use Rattle.cfs_run.specs.Mounting.{AsksMount, IfMount, IsMountFault, IsReady, OpensDisk, fault_of};
 ghost use Rattle.cfs_run.specs.Working.{Opens};
-ghost use Rattle.mount_recover.specs.Lost.{AreCopiesOn, LostIn};
+ghost use Rattle.fsd_sound.specs.Lost.{AreCopiesOn, LostIn};
 ghost use Rattle.mount_recover.specs.Replay.{SameBehind};
 ghost use Rattle.fsd_volume.specs.Mount.{IsFoundOn, MountRefused};
 ghost use Rattle.fsd_volume.specs.State.{IsTable};
 
+use fsd_sound::MountFault;
 use fsd_texts::Fault;
 use fsd_volume::Volume;
-use mount_recover::MountFault;
 use sector_disk::{Attach, Machine};
 use std::alloc::Global;
 

@@ -7,7 +7,7 @@ ghost use Rattle.fsd_files.specs.Files.{Change};
 ghost use Rattle.fsd_volume.specs.OneLeaf.{leaf_put_outcome};
 ghost use Rattle.fsd_files.specs.Volume.{Volume as Mounted};
 ghost use Rattle.fsd_sound.specs.Sound.{EndIn};
-ghost use Rattle.mount_recover.specs.Lost.{AreCopiesOn, LostIn};
+ghost use Rattle.fsd_sound.specs.Lost.{AreCopiesOn, LostIn};
 ghost use Rattle.fsd_volume.specs.Mount.{IsMountable, MountRefused};
 ghost use Rattle.fsd_volume.specs.State.{IsMounted};
 ghost use Rattle.cfs_run.specs.declared.answer.Answer.TheVariants as Said;

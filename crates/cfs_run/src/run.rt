@@ -3,7 +3,7 @@ ghost use Rattle.std.specs.Prelude.{◌≡◌, ◌⊎◌, ◌<◌, ◌++◌, [],
 ghost use Rattle.std.specs.String.{string_bytes};
 ghost use Rattle.sector_disk.specs.Image.{IsCalm};
 ghost use Rattle.sector_disk.specs.Machine.{LeavesOnly, Rose, Trusts};
-ghost use Rattle.mount_recover.specs.Lost.{AreCopiesOn, LostIn};
+ghost use Rattle.fsd_sound.specs.Lost.{AreCopiesOn, LostIn};
 ghost use Rattle.fsd_volume.specs.Mount.{IsMountable, MountRefused};
 ghost use Rattle.fsd_texts.specs.declared.fault.Fault.TheVariants as Ends;
 ghost use Rattle.fsd_texts.specs.Text.{fault_text};

@@ -4,6 +4,7 @@ pub mod Good
 pub mod Images
 pub mod Judged
 pub mod Laid
+pub mod Places
 pub mod Plain
 pub mod Reach
 pub mod Scan

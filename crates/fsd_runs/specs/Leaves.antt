@@ -5,13 +5,13 @@ use Rattle.volume_layout.specs.declared.layout.Layout.{Layout}
 use Rattle.sector_disk.specs.declared.sector.WeakRun.{WeakRun}
 use Rattle.sector_disk.specs.Image.{IsWorn}
 use Rattle.sector_disk.specs.Machine.{DeviceFault, Moment, Report, Rose}
-use Rattle.fsd_bytes.specs.Keys.{max_u32}
 use Rattle.fsd_files.specs.Disk.{Image}
 use Rattle.fsd_files.specs.Files.{Change}
 use Rattle.fsd_files.specs.Volume.{Volume}
 use Rattle.fsd_formats.specs.declared.anchor.Anchor.{Anchor}
 use Rattle.fsd_sound.specs.Anchors.{anchor_of}
 use Rattle.fsd_sound.specs.Mounted.{telling_of}
+use Rattle.fsd_sound.specs.Mounting.{last_epoch}
 use Rattle.fsd_sound.specs.Shown.{told}
 use Rattle.fsd_sound.specs.Sound.{IsPrefixOf, IsSound, weak_of}
 use Rattle.fsd_texts.specs.declared.fault.Fault.{Fault}
@@ -146,10 +146,6 @@ pub record StaysSound (l : Layout) (h : List Change) (f : ℕ) (left : Moment) :
   pub sound : IsSound l windows changes count left.image
 
 -- ---- the whole
-
--- no epoch follows this one
-abbrev pub last_epoch : ℕ
-last_epoch = max_u32
 
 -- No mount follows the one of the image's epoch, and so it is said.
 pub record IsSpent (old new : Moment) (result : ℕ) : Type 0 where

@@ -5,6 +5,8 @@ pub mod Format
 pub mod Homes
 pub mod Laid
 pub mod Logged
+pub mod Lost
+pub mod Mounting
 pub mod Mounted
 pub mod Roots
 pub mod Shown

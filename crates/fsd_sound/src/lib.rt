@@ -1,11 +1,13 @@
 //! Definitions: what stands on the disk of a volume.
 #![tactic(auto)]
 
+mod fault;
 mod home_laws;
 mod laws;
 mod log_laws;
 mod mount_laws;
 
+pub use fault::MountFault;
 pub use home_laws::{
     homes_may_be_mended, logged_homes_may_be_written, roots_may_be_mended, shown_pages_stand,
 };

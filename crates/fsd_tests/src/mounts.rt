@@ -1,7 +1,8 @@
 //! The mount up to the name table, of images that no run has left.
 use crate::machines::calm;
+use fsd_sound::MountFault;
 use log_record::lay;
-use mount_recover::{MountFault, Settled, recover};
+use mount_recover::{Settled, recover};
 use sector_disk::{Attach, Machine, MemoryMachine, Sector};
 use std::alloc::{AllocError, Global};
 use std::test::Fail;

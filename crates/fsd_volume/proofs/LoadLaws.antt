@@ -11,7 +11,7 @@ use Rattle.sector_disk.proofs.Calm.{calm_wears}
 use Rattle.fsd_files.specs.Disk.{Image}
 use Rattle.fsd_sound.specs.Homes.{home_of}
 use Rattle.fsd_sound.specs.Mounted.{image_at}
-use Rattle.mount_recover.specs.declared.fault.MountFault.{MountFault}
+use Rattle.fsd_sound.specs.declared.fault.MountFault.{MountFault}
 use Rattle.fsd_volume.specs.Opening.{AreAtHome, UnreadFor}
 
 -- none is read yet

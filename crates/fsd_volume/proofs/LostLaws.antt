@@ -10,9 +10,10 @@ use Rattle.sector_disk.proofs.Damage.{lost_as}
 use Rattle.fsd_files.specs.Disk.{Image, bytes_of, either_copy}
 use Rattle.fsd_sound.specs.Homes.{home_of}
 use Rattle.fsd_sound.specs.Roots.{root_of}
-use Rattle.mount_recover.specs.declared.fault.MountFault.{MountFault}
-use Rattle.mount_recover.specs.declared.fault.MountFault.TheVariants.{NotVolume, Device, Memory, Lost, NoAnchor, Unsound, WornOut}
-use Rattle.mount_recover.specs.Lost.{AreCopiesOn, AreHomes, HasRoot, LostIn}
+use Rattle.fsd_sound.specs.declared.fault.MountFault.{MountFault}
+use Rattle.fsd_sound.specs.declared.fault.MountFault.TheVariants.{NotVolume, Device, Memory, Lost, NoAnchor, Unsound, WornOut}
+use Rattle.fsd_sound.specs.Lost.{AreCopiesOn, AreHomes, LostIn}
+use Rattle.fsd_sound.specs.Mounting.{HasRoot}
 use Rattle.fsd_volume.specs.Opening.{OpensNotFor, UnreadFor}
 
 -- ---- a page at home

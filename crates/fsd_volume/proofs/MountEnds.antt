@@ -32,8 +32,8 @@ use Rattle.fsd_sound.specs.Sound.{weak_of, ShowsOne, ShowsPages}
 use Rattle.fsd_sound.proofs.MountedLaws.{one_of, fresh_mounted, fresh_records, mounted_tells}
 use Rattle.log_thirds.specs.Append.{IsIndexed}
 use Rattle.log_thirds.specs.LogValue.{LogValue}
-use Rattle.mount_recover.specs.declared.fault.MountFault.{MountFault}
-use Rattle.mount_recover.specs.declared.fault.MountFault.TheVariants.{NotVolume, Device, Memory, Lost, NoAnchor, Unsound, WornOut}
+use Rattle.fsd_sound.specs.declared.fault.MountFault.{MountFault}
+use Rattle.fsd_sound.specs.declared.fault.MountFault.TheVariants.{NotVolume, Device, Memory, Lost, NoAnchor, Unsound, WornOut}
 use Rattle.mount_recover.specs.Finding.{IsExcuse}
 use Rattle.mount_recover.specs.Recover.{IsFreshLog}
 use Rattle.mount_recover.specs.Replay.{SameBehind, StandAtHome, IsReplayed}

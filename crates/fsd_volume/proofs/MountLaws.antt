@@ -14,10 +14,12 @@ use Rattle.fsd_sound.specs.Homes.{home_of}
 use Rattle.fsd_sound.specs.Mounted.{image_at}
 use Rattle.fsd_sound.specs.Shown.{newest, records_by}
 use Rattle.log_thirds.specs.LogValue.{LogValue}
-use Rattle.mount_recover.specs.declared.fault.MountFault.{MountFault}
-use Rattle.mount_recover.specs.declared.fault.MountFault.TheVariants.{NotVolume, Device, Memory, Lost, NoAnchor, Unsound, WornOut}
-use Rattle.mount_recover.specs.Recover.{IsSettled, IsSettledIn, IsRefusedFor, RefusedFor}
-use Rattle.mount_recover.specs.Lost.{LosesShown, StandAsShown}
+use Rattle.fsd_sound.specs.declared.fault.MountFault.{MountFault}
+use Rattle.fsd_sound.specs.declared.fault.MountFault.TheVariants.{NotVolume, Device, Memory, Lost, NoAnchor, Unsound, WornOut}
+use Rattle.mount_recover.specs.Recover.{IsSettled, IsSettledIn, IsRefusedFor}
+use Rattle.fsd_sound.specs.Mounting.{RefusedFor}
+use Rattle.mount_recover.specs.Lost.{StandAsShown}
+use Rattle.fsd_sound.specs.Lost.{LosesShown}
 use Rattle.mount_recover.specs.Replay.{KeepsMap, SameBehind}
 use Rattle.fsd_volume.specs.State.{State}
 use Rattle.fsd_volume.specs.Mount.{shown_page, table_on, IsAccepted, IsFoundOn, MountRefused}

@@ -15,10 +15,10 @@ use Rattle.fsd_files.specs.Volume.{Volume}
 use Rattle.fsd_sound.specs.Anchors.{anchor_of}
 use Rattle.fsd_sound.specs.Shown.{newest, records_by, told}
 use Rattle.fsd_sound.specs.Sound.{EndIn, IsPrefixOf}
-use Rattle.mount_recover.specs.declared.fault.MountFault.{MountFault}
-use Rattle.mount_recover.specs.declared.fault.MountFault.TheVariants.{Device, Memory, Lost, Unsound}
+use Rattle.fsd_sound.specs.declared.fault.MountFault.{MountFault}
+use Rattle.fsd_sound.specs.declared.fault.MountFault.TheVariants.{Device, Memory, Lost, Unsound}
 use Rattle.mount_recover.specs.Finding.{IsExcuse}
-use Rattle.mount_recover.specs.Recover.{IsVolume, RefusedFor}
+use Rattle.fsd_sound.specs.Mounting.{IsVolume, RefusedFor}
 use Rattle.mount_recover.specs.Replay.{SameBehind}
 use Rattle.fsd_volume.specs.OneLeaf.{IsSoundLeaf}
 use Rattle.fsd_volume.specs.State.{State, IsMounted}

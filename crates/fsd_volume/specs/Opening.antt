@@ -7,9 +7,9 @@ use Rattle.fsd_files.specs.Disk.{Image}
 use Rattle.fsd_sound.specs.Homes.{home_of}
 use Rattle.fsd_sound.specs.Mounted.{image_at}
 use Rattle.log_thirds.specs.LogValue.{LogValue}
-use Rattle.mount_recover.specs.declared.fault.MountFault.{MountFault}
-use Rattle.mount_recover.specs.declared.fault.MountFault.TheVariants.{Device, Memory, Lost, Unsound}
-use Rattle.mount_recover.specs.Lost.{AreHomes}
+use Rattle.fsd_sound.specs.declared.fault.MountFault.{MountFault}
+use Rattle.fsd_sound.specs.declared.fault.MountFault.TheVariants.{Device, Memory, Lost, Unsound}
+use Rattle.fsd_sound.specs.Lost.{AreHomes}
 use Rattle.fsd_volume.specs.State.{State, IsTable}
 use Rattle.fsd_volume.specs.Table.{table_in}
 

@@ -7,8 +7,9 @@ use Rattle.std.proofs.lemmas.List.{length-set, drop_all, length-replicate, get_o
 use Rattle.volume_layout.specs.Shape.{Shape}
 use Rattle.fsd_log.specs.Scan.{Placed, place_of}
 use Rattle.log_thirds.specs.declared.slots.Slot.{Slot}
-use Rattle.log_thirds.specs.Slots.{slot_in, slot_at, slot_of, noted, slots_with, AreSlots, LieInRecord, LieInRecords, SlotsInside}
+use Rattle.log_thirds.specs.Slots.{slot_in, slot_at, slot_of, noted, slots_with, AreSlots, LieInRecords, SlotsInside}
 use Rattle.fsd_log.proofs.PlaceLaws.{InThird, place_from, place_inside}
+use Rattle.fsd_log.specs.Places.{LieInRecord}
 
 module _ (number : ℕ) (slots : List (Option Slot)) where
   pub length-noted : (place copy : ℕ) (pages : List ℕ) → length (noted number place copy pages slots) ≡ length slots

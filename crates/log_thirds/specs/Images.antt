@@ -12,10 +12,11 @@ use Rattle.fsd_log.specs.Judged.{Reader}
 use Rattle.fsd_log.specs.Plain.{either_copy}
 use Rattle.fsd_log.specs.Images.{last_image}
 use Rattle.fsd_log.specs.Scan.{Placed}
+use Rattle.fsd_log.specs.Places.{LieInRecord}
 use Rattle.log_thirds.specs.Disk.{reads}
 use Rattle.log_thirds.specs.Reading.{ReadWorn}
 use Rattle.log_thirds.specs.LogValue.{LogValue}
-use Rattle.log_thirds.specs.Slots.{LieInRecord, slot_of}
+use Rattle.log_thirds.specs.Slots.{slot_of}
 use Rattle.log_thirds.specs.declared.slots.Slot.{Slot}
 
 -- The page, or else its copy, bears the record's stamp, and is the image that is meant.

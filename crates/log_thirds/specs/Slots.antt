@@ -1,7 +1,8 @@
 -- Where each page's last image lies.
-use Rattle.std.specs.Prelude.{◌≡◌, ◌<◌, ◌≤◌, IsTrue, Bool, false, ◌&&◌, nat_le, nat_lt, ℕ, ◌+◌, ◌*◌, List, [], ◌∷◌, length, slice_set, slice_index_or, Option, Some, None, IfSome, ◌==◌, if◌then◌else◌}
+use Rattle.std.specs.Prelude.{◌≡◌, ◌<◌, ◌≤◌, IsTrue, Bool, false, ◌&&◌, nat_le, nat_lt, ℕ, ◌+◌, List, [], ◌∷◌, length, slice_set, slice_index_or, Option, Some, None, IfSome, ◌==◌, if◌then◌else◌}
 use Rattle.std.specs.Option.{option_or}
 use Rattle.volume_layout.specs.Shape.{Shape}
+use Rattle.fsd_log.specs.Places.{LieInRecord}
 use Rattle.fsd_log.specs.Scan.{Placed, place_of}
 use Rattle.log_thirds.specs.declared.slots.Slot.{Slot}
 
@@ -35,18 +36,7 @@ AreSlots l third records slots = (page : ℕ) → page < length slots → slice_
 abbrev pub SlotsInside : (sectors : ℕ) → List (Option Slot) → Type 0
 SlotsInside sectors slots = (page : ℕ) → IfSome (slice_index_or slots page None) (λ slot. (slot.place < sectors) × (slot.copy < sectors))
 
--- The sectors are those of one page in a record that lies in the log: its image's and the copy's.
-pub record LieInRecord (l : Shape) (a b : ℕ) : Type 0 where
-  pub start : ℕ
-  pub count : ℕ
-  pub index : ℕ
-  pub there : index < count
-  pub first : a ≡ start + 3 + index
-  pub copy : b ≡ start + 3 + count + 1 + index
-  pub from : 16 ≤ start
-  pub to : start + (2 * count + 5) ≤ 16 + 3 * l.third
-
--- so do each slot's
+-- the sectors of each slot lie in a record that lies in the log
 abbrev pub LieInRecords : Shape → List (Option Slot) → Type 0
 LieInRecords l slots = (page : ℕ) → IfSome (slice_index_or slots page None) (λ slot. LieInRecord l slot.place slot.copy)
 

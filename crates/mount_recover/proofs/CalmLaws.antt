@@ -37,12 +37,13 @@ use Rattle.log_thirds.specs.Slots.{slot_of}
 use Rattle.log_thirds.proofs.RunLaws.{calm_runs}
 use Rattle.twin_home.specs.Heal.{MayReadDamaged, Mends, Heals, Healed, RootsIn}
 use Rattle.fsd_sound.proofs.CommuteLaws.{with_same, with_other}
-use Rattle.mount_recover.specs.declared.fault.MountFault.{MountFault}
-use Rattle.mount_recover.specs.declared.fault.MountFault.TheVariants.{NotVolume, Device, Memory, Lost, NoAnchor, Unsound, WornOut}
+use Rattle.fsd_sound.specs.declared.fault.MountFault.{MountFault}
+use Rattle.fsd_sound.specs.declared.fault.MountFault.TheVariants.{NotVolume, Device, Memory, Lost, NoAnchor, Unsound, WornOut}
 use Rattle.mount_recover.specs.Finding.{IsExcuse, IsFound}
-use Rattle.mount_recover.specs.Lost.{LosesShown, StandAsShown}
-use Rattle.mount_recover.specs.Mending.{load_fault_of, KnowsLog, KeepsFrom}
-use Rattle.mount_recover.specs.Recover.{IsVolume}
+use Rattle.mount_recover.specs.Lost.{StandAsShown}
+use Rattle.fsd_sound.specs.Lost.{LosesShown}
+use Rattle.mount_recover.specs.Mending.{KnowsLog, KeepsFrom}
+use Rattle.fsd_sound.specs.Mounting.{IsVolume, load_fault_of}
 use Rattle.mount_recover.specs.Showing.{GivesPages, shows_of, ChangesHome, HasNoRoot, IsLaidAgain, IsShowing, LosesNone, LosesHome}
 use Rattle.mount_recover.proofs.AgainLaws.{again_stand}
 use Rattle.mount_recover.proofs.CompletingLaws.{low_third, copies_inside, copies_behind}

@@ -14,16 +14,18 @@ use Rattle.fsd_files.specs.Disk.{Image}
 use Rattle.fsd_sound.specs.Sound.{ShowsPages, weak_of}
 use Rattle.fsd_sound.specs.Windows.{IsNarrow}
 use Rattle.fsd_sound.proofs.TwinLaws.{twin_a, twin_b}
-use Rattle.mount_recover.specs.declared.fault.MountFault.{MountFault}
-use Rattle.mount_recover.specs.declared.fault.MountFault.TheVariants.{NotVolume, Device, Memory, Lost, NoAnchor, Unsound, WornOut}
+use Rattle.fsd_sound.specs.declared.fault.MountFault.{MountFault}
+use Rattle.fsd_sound.specs.declared.fault.MountFault.TheVariants.{NotVolume, Device, Memory, Lost, NoAnchor, Unsound, WornOut}
 use Rattle.log_thirds.specs.declared.fault.LogFault.{LogFault}
 use Rattle.log_thirds.specs.declared.fault.LogFault.TheVariants as log
 use Rattle.log_thirds.specs.Reading.{log_failed_at}
 use Rattle.mount_recover.specs.Finding.{IsExcuse, mount_fault_of}
-use Rattle.mount_recover.specs.Lost.{AreHomes, LostIn}
+use Rattle.fsd_sound.specs.Lost.{AreHomes, LostIn}
 use Rattle.sector_disk.specs.Machine.{Moment, Wears}
-use Rattle.mount_recover.specs.Recover.{IsNotUnsound, LeavesAll, device_of_mount}
-use Rattle.mount_recover.specs.Mending.{load_fault_of, IsLoadFault, AreRoots}
+use Rattle.mount_recover.specs.Recover.{IsNotUnsound, LeavesAll}
+use Rattle.fsd_sound.specs.Mounting.{device_of_mount}
+use Rattle.mount_recover.specs.Mending.{IsLoadFault, AreRoots}
+use Rattle.fsd_sound.specs.Mounting.{load_fault_of}
 
 pub if_err_more : {T : Type 0} (r : Result T MountFault) (P Q : MountFault → Type 0) → ((fault : MountFault) → P fault → Q fault) → IfErr r P → IfErr r Q
 if_err_more (Ok x) P Q more p = tt

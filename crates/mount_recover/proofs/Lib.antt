@@ -7,6 +7,7 @@ mod GivenLaws
 mod KeepsLaws
 mod MendingLaws
 mod MountLaws
+mod PlaceLaws
 mod SeenLaws
 mod SlotLaws
 pub mod LostLaws

@@ -9,7 +9,7 @@ use Rattle.sector_disk.specs.Image.{IsWorn, sector_at}
 use Rattle.sector_disk.proofs.Wear.{worn_whole}
 use Rattle.fsd_files.specs.Disk.{Image, bytes_at, bytes_of}
 use Rattle.fsd_sound.specs.Roots.{counted_root, root_at}
-use Rattle.mount_recover.specs.Lost.{HasRoot}
+use Rattle.fsd_sound.specs.Mounting.{HasRoot}
 use Rattle.fsd_sound.proofs.SectorFacts.{whole_of}
 
 -- wear makes no root

@@ -28,23 +28,25 @@ use Rattle.fsd_sound.specs.Sound.{EndIn, ShowsOne, ShowsPages, weak_of}
 use Rattle.fsd_sound.proofs.LogPlaces.{IsRecord, scan_records}
 use Rattle.fsd_sound.proofs.SoundLaws.{shows_still}
 use Rattle.fsd_sound.proofs.WindowLaws.{open_is_weak}
-use Rattle.log_thirds.specs.Images.{LiesAt}
 use Rattle.log_thirds.specs.LogValue.{LogValue}
-use Rattle.log_thirds.specs.Slots.{LieInRecord, slot_of}
 use Rattle.log_thirds.proofs.ImageLaws.{logged_by}
 use Rattle.fsd_sound.specs.Windows.{IsNarrow, IsApart}
-use Rattle.mount_recover.specs.declared.fault.MountFault.{MountFault}
-use Rattle.mount_recover.specs.declared.fault.MountFault.TheVariants.{NotVolume, Device, Memory, Lost, NoAnchor, Unsound, WornOut}
+use Rattle.fsd_sound.specs.declared.fault.MountFault.{MountFault}
+use Rattle.fsd_sound.specs.declared.fault.MountFault.TheVariants.{NotVolume, Device, Memory, Lost, NoAnchor, Unsound, WornOut}
 use Rattle.mount_recover.specs.Finding.{IsFound, NotFoundFor, IsNotFound, IsExcuse}
-use Rattle.mount_recover.specs.Lost.{AreOfLog, AreHomes, AreLoggedOn, AreHomesOn, AreCopiesOn, HasRoot, LostIn}
+use Rattle.mount_recover.specs.Lost.{AreOfLog}
+use Rattle.fsd_sound.specs.Lost.{AreHomes, AreLoggedOn, AreHomesOn, AreCopiesOn, LostIn}
+use Rattle.fsd_sound.specs.Mounting.{HasRoot, last_epoch}
 use Rattle.mount_recover.specs.Mending.{IsLoadFault, AreOfAll, KeepsData, Keeps, IsSeen, Completed, Stays, Settled, Begins}
-use Rattle.mount_recover.specs.Recover.{last_epoch, IsRefusedFor, ShowsVolume}
+use Rattle.mount_recover.specs.Recover.{IsRefusedFor, ShowsVolume}
 use Rattle.mount_recover.specs.Replay.{HasLastCopies, KeepsMap, IsCompletedFrom, Replays}
 use Rattle.fsd_sound.proofs.WindowLaws.{short_apart}
+use Rattle.mount_recover.proofs.PlaceLaws.{lies_last}
 use Rattle.mount_recover.proofs.CompletingLaws.{last_by, low_third}
 use Rattle.mount_recover.proofs.KeepsLaws.{sector_on}
 use Rattle.mount_recover.proofs.MendingLaws.{stays_show}
 use Rattle.fsd_log.proofs.RobustLaws.{length_more}
+use Rattle.fsd_log.specs.Places.{LieInRecord, last_places}
 use Rattle.fsd_files.proofs.KeptLaws.{has_on}
 
 -- ---- the root of an image that shows pages
@@ -225,9 +227,9 @@ module _ (sectors : ℕ) (l : Layout) (log : LogValue) (old one : Moment) (same 
       found = record { root = ap (root_of sectors) (sym (as_old calm)) ∙ is.root; anchor = ap anchor_of (sym (as_old calm)) ∙ is.knows.taken };
       page = of.page;
       within = subst (λ (k : Layout). of.page < k.pages) same of.within;
-      lies = subst (λ (i : Image). LiesAt (slot_of l log.anchor.third of.page (records_by l i log.anchor)) a b) (as_old calm)
-          (subst (λ (k : Layout). LiesAt (slot_of k log.anchor.third of.page (records_by l is.seen log.anchor)) a b) same
-          (logged_by log (records_by l is.seen log.anchor) of.page a b is.knows.slots of.logged.lies));
+      lies = subst (λ (i : Image). last_places l log.anchor.third of.page (records_by l i log.anchor) ≡ Some (a, b)) (as_old calm)
+          (subst (λ (k : Layout). last_places k log.anchor.third of.page (records_by l is.seen log.anchor) ≡ Some (a, b)) same
+          (lies_last log.layout log.anchor.third of.page (records_by l is.seen log.anchor) a b (logged_by log (records_by l is.seen log.anchor) of.page a b is.knows.slots of.logged.lies)));
     };
   }
 

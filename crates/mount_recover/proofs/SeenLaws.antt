@@ -26,7 +26,7 @@ use Rattle.log_thirds.specs.LogValue.{LogValue}
 use Rattle.log_thirds.specs.Reading.{ReadWorn, SeesAnchor, SeesLastEpoch}
 use Rattle.log_thirds.specs.Seen.{IsScanOf, LogOn}
 use Rattle.fsd_sound.proofs.CommuteLaws.{same_or}
-use Rattle.mount_recover.specs.declared.fault.MountFault.{MountFault}
+use Rattle.fsd_sound.specs.declared.fault.MountFault.{MountFault}
 use Rattle.mount_recover.specs.Finding.{mount_fault_of, IsFound, IsNotFound}
 use Rattle.mount_recover.specs.Mending.{KnowsLog}
 

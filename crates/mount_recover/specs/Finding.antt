@@ -8,11 +8,11 @@ use Rattle.fsd_sound.specs.Roots.{root_of}
 use Rattle.fsd_sound.specs.Anchors.{anchor_of}
 use Rattle.log_thirds.specs.declared.fault.LogFault.{LogFault}
 use Rattle.log_thirds.specs.declared.fault.LogFault.TheVariants as log
-use Rattle.mount_recover.specs.declared.fault.MountFault.{MountFault}
-use Rattle.mount_recover.specs.declared.fault.MountFault.TheVariants.{NotVolume, Device, Memory, Lost, NoAnchor, Unsound, WornOut}
+use Rattle.fsd_sound.specs.declared.fault.MountFault.{MountFault}
+use Rattle.fsd_sound.specs.declared.fault.MountFault.TheVariants.{NotVolume, Device, Memory, Lost, NoAnchor, Unsound, WornOut}
 use Rattle.log_thirds.specs.LogValue.{LogValue}
 use Rattle.mount_recover.specs.Mending.{KnowsLog}
-use Rattle.mount_recover.specs.Recover.{IsWornOut}
+use Rattle.fsd_sound.specs.Mounting.{IsWornOut}
 
 abbrev pub mount_fault_of : LogFault → MountFault
 mount_fault_of (log.Device s) = Device s

@@ -7,8 +7,6 @@ use Rattle.sector_disk.specs.declared.sector.Sector.TheVariants.{Whole}
 use Rattle.sector_disk.specs.declared.sector.WeakRun.{WeakRun}
 use Rattle.sector_disk.specs.Image.{sector_at, IsWorn, open_damage}
 use Rattle.sector_disk.specs.Machine.{Moment, Holds}
-use Rattle.sector_disk.specs.declared.machine.LoadFault.{LoadFault}
-use Rattle.sector_disk.specs.declared.machine.LoadFault.TheVariants as load
 use Rattle.fsd_log.specs.Images.{last_image}
 use Rattle.fsd_files.specs.Disk.{Image, SectorWorn}
 use Rattle.fsd_sound.specs.Anchors.{anchor_of}
@@ -18,18 +16,15 @@ use Rattle.fsd_sound.specs.Sound.{weak_of, EndIn, ShowsPages}
 use Rattle.log_thirds.specs.Append.{IsIndexed}
 use Rattle.log_thirds.specs.Copies.{AreLastCopies}
 use Rattle.log_thirds.specs.LogValue.{LogValue}
-use Rattle.mount_recover.specs.declared.fault.MountFault.{MountFault}
-use Rattle.mount_recover.specs.declared.fault.MountFault.TheVariants.{NotVolume, Device, Memory, Lost, NoAnchor, Unsound, WornOut}
-use Rattle.mount_recover.specs.Lost.{AreOfLog, AreHomes}
+use Rattle.fsd_sound.specs.declared.fault.MountFault.{MountFault}
+use Rattle.fsd_sound.specs.declared.fault.MountFault.TheVariants.{NotVolume, Device, Memory, Lost, NoAnchor, Unsound, WornOut}
+use Rattle.mount_recover.specs.Lost.{AreOfLog}
+use Rattle.fsd_sound.specs.Lost.{AreHomes}
 use Rattle.mount_recover.specs.Replay.{HasLastCopies, KeepsBehindLog, IsAfter}
 use Rattle.fsd_sound.specs.Logged.{IsLogged}
 use Rattle.fsd_sound.specs.Windows.{IsApart}
 
 -- ---- faults
-
-abbrev pub load_fault_of : LoadFault → MountFault
-load_fault_of (load.Device s) = Device s
-load_fault_of (load.Lost a b) = Lost a b
 
 -- a fault of a load, and no other
 abbrev pub IsLoadFault : MountFault → Type 0

@@ -1,4 +1,4 @@
--- What a mount finds of an image, why it is refused, and what it leaves.
+-- What a mount settles, and what it leaves.
 use Rattle.std.specs.Prelude.{◌≡◌, ⊤, ℕ, ◌+◌, ◌*◌, ◌-◌, ◌^◌, ◌<◌, ◌≤◌, List, [], Option, Some, None, IsSome, Ok}
 use Rattle.volume_layout.specs.declared.layout.Layout.{Layout}
 use Rattle.volume_layout.specs.Layout.{plan}
@@ -9,21 +9,13 @@ use Rattle.sector_disk.specs.Image.{IsWorn, open_damage}
 use Rattle.sector_disk.specs.Machine.{Moment, Wears}
 use Rattle.fsd_log.specs.Scan.{start}
 use Rattle.fsd_files.specs.Disk.{Image, Has}
-use Rattle.fsd_sound.specs.Roots.{root_of}
-use Rattle.fsd_sound.specs.Anchors.{anchor_of, fresh_anchor}
+use Rattle.fsd_sound.specs.Anchors.{fresh_anchor}
+use Rattle.fsd_sound.specs.Mounting.{IsVolume, RefusedFor}
 use Rattle.fsd_sound.specs.Sound.{EndIn, ShowsPages}
 use Rattle.log_thirds.specs.LogValue.{LogValue}
 use Rattle.log_thirds.specs.Append.{IsIndexed}
-use Rattle.mount_recover.specs.declared.fault.MountFault.{MountFault}
-use Rattle.mount_recover.specs.declared.fault.MountFault.TheVariants.{NotVolume, Device, Memory, Lost, NoAnchor, Unsound, WornOut}
-
-abbrev pub last_epoch : ℕ
-last_epoch = 2 ^ 32 - 1
-
--- The image has this root and this anchor.
-pub record IsVolume (sectors : ℕ) (i : Image) (l : Layout) (a : Anchor) : Type 0 where
-  pub root : root_of sectors i ≡ Some l
-  pub anchor : anchor_of i ≡ Some a
+use Rattle.fsd_sound.specs.declared.fault.MountFault.{MountFault}
+use Rattle.fsd_sound.specs.declared.fault.MountFault.TheVariants.{Device, Lost, Unsound}
 
 -- What is settled is the image's root, and the epoch behind its anchor's.
 pub record IsSettled (sectors : ℕ) (i : Image) (l : Layout) (log : LogValue) : Type 0 where
@@ -37,31 +29,6 @@ pub record IsFreshLog (l : Layout) (log : LogValue) : Type 0 where
   pub anchor : log.anchor ≡ fresh_anchor log.anchor.epoch
   pub head : log.head ≡ start l 1
   pub indexed : IsIndexed log []
-
--- An anchor of the last epoch is chosen.
-pub record IsWornOut (sectors : ℕ) (i : Image) : Type 0 where
-  pub layout : Layout
-  pub anchor : Anchor
-  pub found : IsVolume sectors i layout anchor
-  pub epoch : anchor.epoch ≡ last_epoch
-
--- A root and an anchor are chosen, and there is an epoch behind the anchor's.
-pub record HasNextEpoch (sectors : ℕ) (i : Image) : Type 0 where
-  pub layout : Layout
-  pub anchor : Anchor
-  pub found : IsVolume sectors i layout anchor
-  pub epoch : anchor.epoch < last_epoch
-
--- Neither root counts; or one does, and there is no anchor; or its epoch is the last; or a page of its log could not be
--- read. A fault of the disk and want of memory say nothing of the image.
-abbrev pub RefusedFor : ℕ → Image → MountFault → Type 0
-RefusedFor sectors i NotVolume = root_of sectors i ≡ None
-RefusedFor sectors i NoAnchor = IsSome (root_of sectors i) × (anchor_of i ≡ None)
-RefusedFor sectors i WornOut = IsWornOut sectors i
-RefusedFor sectors i (Lost a b) = HasNextEpoch sectors i
-RefusedFor sectors i (Device s) = ⊤
-RefusedFor sectors i Memory = ⊤
-RefusedFor sectors i (Unsound s) = ⊥
 
 -- An image was seen, which the old one may be worn to: what is settled is its root, and the epoch behind its anchor's.
 pub record IsSettledIn (sectors : ℕ) (l : Layout) (log : LogValue) (old : Moment) : Type 0 where
@@ -89,11 +56,6 @@ abbrev pub LeavesAll : MountFault → Moment → Moment → Type 0
 LeavesAll (Device s) old new = ⊤
 LeavesAll (Lost a b) old new = ⊤
 LeavesAll fault old new = Wears old new
-
--- the place of the call of the disk that failed, if one did
-abbrev pub device_of_mount : MountFault → Option ℕ
-device_of_mount (Device s) = Some s
-device_of_mount other = None
 
 -- it is not said that the name table is unsound
 abbrev pub IsNotUnsound : MountFault → Type 0

@@ -14,8 +14,8 @@ use Rattle.log_thirds.specs.Append.{IsIndexed}
 use Rattle.log_thirds.specs.Images.{GivesLast}
 use Rattle.log_thirds.specs.LogValue.{LogValue}
 use Rattle.log_thirds.specs.Slots.{slot_of}
-use Rattle.mount_recover.specs.declared.fault.MountFault.{MountFault}
-use Rattle.mount_recover.specs.declared.fault.MountFault.TheVariants.{Lost}
+use Rattle.fsd_sound.specs.declared.fault.MountFault.{MountFault}
+use Rattle.fsd_sound.specs.declared.fault.MountFault.TheVariants.{Lost}
 
 -- The log knows where each page's last image of these records lies, which is in the log's thirds, and the image gives it there.
 pub record GivesPages (log : LogValue) (records : List Placed) (i : Image) : Type 0 where

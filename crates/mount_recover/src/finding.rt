@@ -2,12 +2,13 @@
 ghost use Rattle.std.specs.Prelude.{◌≡◌, ◌-◌, ◌<◌, ◌≤◌, ◌^◌, Ok, IfOk, IfErr};
 ghost use Rattle.volume_layout.specs.Layout.{plan};
 ghost use Rattle.sector_disk.specs.Calls.{OnlyReads, device_in};
-ghost use Rattle.mount_recover.specs.Lost.{HasRoot};
+ghost use Rattle.fsd_sound.specs.Mounting.{HasRoot};
 ghost use Rattle.mount_recover.specs.Finding.{mount_fault_of, IsFound, IsNotFound};
-ghost use Rattle.mount_recover.specs.Recover.{IsNotUnsound, device_of_mount};
+ghost use Rattle.mount_recover.specs.Recover.{IsNotUnsound};
+ghost use Rattle.fsd_sound.specs.Mounting.{device_of_mount};
 
-use crate::fault::MountFault;
 use crate::root::find_root;
+use fsd_sound::MountFault;
 use log_thirds::{Log, LogFault};
 use sector_disk::Machine;
 use std::alloc::Global;

@@ -3,11 +3,9 @@
 
 mod completing;
 mod epoch;
-mod fault;
 mod finding;
 mod mending;
 mod mounting;
 mod root;
 
-pub use fault::MountFault;
 pub use mounting::{Settled, recover};

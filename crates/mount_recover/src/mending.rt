@@ -13,12 +13,13 @@ ghost use Rattle.fsd_sound.specs.Shown.{records_by};
 ghost use Rattle.log_thirds.specs.Append.{IsCalm as IsCalmNow};
 ghost use Rattle.log_thirds.specs.LogValue.{LogValue};
 ghost use Rattle.mount_recover.specs.Finding.{IsExcuse};
-ghost use Rattle.mount_recover.specs.Lost.{AreHomes, LostIn};
-ghost use Rattle.mount_recover.specs.Mending.{load_fault_of, IsLoadFault, AreOfVolume, AreOfAll, AreRoots, IsCompleted, IsMending, IsMended, Stays, Keeps, KeepsFrom};
-ghost use Rattle.mount_recover.specs.Recover.{device_of_mount};
+ghost use Rattle.fsd_sound.specs.Lost.{AreHomes, LostIn};
+ghost use Rattle.fsd_sound.specs.Mounting.{load_fault_of};
+ghost use Rattle.mount_recover.specs.Mending.{IsLoadFault, AreOfVolume, AreOfAll, AreRoots, IsCompleted, IsMending, IsMended, Stays, Keeps, KeepsFrom};
+ghost use Rattle.fsd_sound.specs.Mounting.{device_of_mount};
 ghost use Rattle.mount_recover.specs.Showing.{GivesPages, ChangesHome, HasNoRoot, IsShowing, LosesNone, LosesHome, shows_of};
 
-use crate::fault::MountFault;
+use fsd_sound::MountFault;
 use log_thirds::Log;
 use sector_disk::{LoadFault, Machine};
 use twin_home::{heal_page, heal_root, write_home};

@@ -4,7 +4,7 @@ ghost use Rattle.volume_layout.specs.Layout.{plan};
 ghost use Rattle.volume_layout.specs.Root.{read_root};
 ghost use Rattle.sector_disk.specs.Calls.{OnlyReads, device_in, failed_at};
 ghost use Rattle.fsd_sound.specs.Roots.{counted_root, root_at, root_of};
-ghost use Rattle.mount_recover.specs.Lost.{HasRoot};
+ghost use Rattle.fsd_sound.specs.Mounting.{HasRoot};
 
 use sector_disk::{Failed, Machine, read_sector};
 use volume_layout::{Layout, read_root};

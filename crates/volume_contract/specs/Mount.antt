@@ -3,11 +3,9 @@ use Rattle.std.specs.Prelude.{◌≡◌, ◌⊎◌, ⊤, ℕ, ◌+◌, ◌*◌, 
 use Rattle.volume_layout.specs.declared.layout.Layout.{Layout}
 use Rattle.volume_layout.specs.Layout.{home_a, plan}
 use Rattle.fsd_formats.specs.declared.anchor.Anchor.{Anchor}
-use Rattle.sector_disk.specs.declared.machine.Machine.{Ghosts}
 use Rattle.sector_disk.specs.declared.sector.WeakRun.{WeakRun}
-use Rattle.sector_disk.specs.Calls.{DiskFaults, Since}
 use Rattle.sector_disk.specs.Image.{IsWorn, in_run, open_damage, sector_at}
-use Rattle.sector_disk.specs.Machine.{Ledger, Moment, OnlyWrites, Trusts, UsesDisk, Wears}
+use Rattle.sector_disk.specs.Machine.{Ledger, Moment, Wears}
 use Rattle.fsd_log.specs.Scan.{Placed}
 use Rattle.fsd_table.specs.Breaks.{Breaks}
 use Rattle.fsd_table.specs.Table.{told_in}
@@ -18,28 +16,14 @@ use Rattle.fsd_sound.specs.Homes.{home_of}
 use Rattle.fsd_sound.specs.Mounted.{Mounted, IsFresh, telling_of}
 use Rattle.fsd_sound.specs.Shown.{all_pages, each_of, shown}
 use Rattle.fsd_sound.specs.Sound.{EndIn, IsPrefixOf, IsSound, weak_of}
-use Rattle.mount_recover.specs.declared.fault.MountFault.{MountFault}
-use Rattle.mount_recover.specs.declared.fault.MountFault.TheVariants.{Device, Memory, NoAnchor, NotVolume, Unsound, WornOut}
-use Rattle.mount_recover.specs.Lost.{HasRoot, LosesShown}
-use Rattle.mount_recover.specs.Recover.{HasNextEpoch, IsVolume, RefusedFor, last_epoch}
+use Rattle.fsd_sound.specs.declared.fault.MountFault.{MountFault}
+use Rattle.fsd_sound.specs.declared.fault.MountFault.TheVariants.{Device, Memory, NoAnchor, NotVolume, Unsound, WornOut}
+use Rattle.fsd_sound.specs.Lost.{LosesShown}
+use Rattle.fsd_sound.specs.Mounting.{HasNextEpoch, HasRoot, IsVolume, RefusedFor, last_epoch}
 use Rattle.fsd_runs.specs.Leaves.{RaisesEpoch}
 use Rattle.volume_contract.specs.State.{Fits, Known, Stands, State, force_writes}
 
 -- ---- over any machine
-
-abbrev pub device_of_mount : MountFault → Option ℕ
-device_of_mount (Device s) = Some s
-device_of_mount other = None
-
--- A call that writes the disk and changes its windows.
-pub record MountsDisk {D : Type 0} (M : Ghosts D) (fault : Option ℕ) (old new : D) : Type 0 where
-  pub uses : UsesDisk (M.report old) (M.report new)
-  pub faults : DiskFaults fault (M.report old) (M.report new)
-  pub trust : Trusts (M.tells old) (M.tells new) (M.honest old) (M.honest new)
-  pub ledger : M.tells new → OnlyWrites (M.ledger old) (M.ledger new)
-  pub quiet : M.honest new → (M.now new).said ≡ (M.now old).said
-  pub later : M.honest new → M.moment old ≤ M.moment new
-  pub since : M.honest new → Since M old new
 
 -- A mount writes each home once at most, the last record's copies, the roots and the anchors.
 abbrev pub CountsMount : State → Ledger → Ledger → Type 0

@@ -4,7 +4,7 @@ ghost use Rattle.volume_layout.specs.declared.layout.Layout.{Layout as Plan};
 ghost use Rattle.volume_layout.specs.Layout.{plan};
 ghost use Rattle.sector_disk.specs.declared.sector.WeakRun.{WeakRun as Run};
 ghost use Rattle.sector_disk.specs.Image.{AreShort, IsCalm};
-ghost use Rattle.sector_disk.specs.Calls.{OnlyReads, WritesDisk, device_in};
+ghost use Rattle.sector_disk.specs.Calls.{HealsDisk, OnlyReads, WritesDisk, device_in};
 ghost use Rattle.sector_disk.specs.Machine.{Moment, LeavesOnly};
 ghost use Rattle.std.specs.FinMap.{find as file_of};
 ghost use Rattle.run_table.specs.RunTable.{total};
@@ -16,16 +16,17 @@ ghost use Rattle.fsd_files.specs.Files.{Change};
 ghost use Rattle.fsd_files.specs.Replies.{Forced as IsForced, Deleted};
 ghost use Rattle.fsd_files.specs.Answers.{entry_of, entry_reply, next_reply, put_outcome, delete_outcome, keep_outcome, force_outcome};
 ghost use Rattle.fsd_sound.specs.Mounted.{Mounted, image_at};
-ghost use Rattle.mount_recover.specs.Lost.{AreCopiesOn, LostIn};
+ghost use Rattle.fsd_sound.specs.Lost.{AreCopiesOn, LostIn};
 ghost use Rattle.volume_contract.specs.State.{State, Known, Ages, volume_of, Stands, IsNew, GoesOn, HasAllPages, HasCounted, IsForced as HasForced, Counted, downs, Leaves, force_writes, put_writes, force_len, change_len, put_len, forces_first, forces_for_place};
 ghost use Rattle.volume_contract.specs.Order.{Follows, IsDevice, Keeps, is_idle, put_steps, delete_steps, keep_steps, entry_steps, next_steps, read_steps, force_steps};
 ghost use Rattle.volume_contract.specs.Ends.{Ends, EndsPut, EndsForce, Closes, Looks, IsLater, found_one, Reads, kept_key, device_of};
 ghost use Rattle.volume_contract.specs.Causes.{Causes};
-ghost use Rattle.volume_contract.specs.Mount.{MountsDisk, CountsMount, IsFound, IsRefused, KeepsAll, MountKeeps, UnsoundFor, MountsCalm, IsSoundAt, MountsSound, device_of_mount};
+ghost use Rattle.volume_contract.specs.Mount.{CountsMount, IsFound, IsRefused, KeepsAll, MountKeeps, UnsoundFor, MountsCalm, IsSoundAt, MountsSound};
+ghost use Rattle.fsd_sound.specs.Mounting.{device_of_mount};
 
 use fsd_bytes::{FileName, Key, Refusal};
 use fsd_formats::Entry;
-use mount_recover::MountFault;
+use fsd_sound::MountFault;
 use sector_disk::Machine;
 use std::alloc::Global;
 
@@ -60,7 +61,7 @@ pub trait Files<M: Machine>: Sized {
     fn mount(alloc: Global, m: &mut M, sectors: u32) -> Result<Self, MountFault>
         requires { sectors ≡ (M.report m.old).sectors }
 
-        ensures disk { MountsDisk M.Machine (device_in device_of_mount result) m.old m.new }
+        ensures disk { HealsDisk M.Machine (device_in device_of_mount result) m.old m.new }
         ensures room { IfOk result (λ volume. (state volume).layout.sectors ≤ sectors) }
         ensures planned { IfOk result (λ volume. let l = (state volume).layout in plan l.sectors l.third l.pages ≡ Ok l) }
         ensures fresh { IfOk result (λ volume. IsNew (state volume)) }

@@ -15,7 +15,7 @@ use Rattle.fsd_sound.proofs.MountedLaws.{fresh_mounted, mounted_sound}
 use Rattle.fsd_texts.specs.declared.command.Command.{Command}
 use Rattle.fsd_runs.specs.Errands.{blank}
 use Rattle.fsd_runs.specs.Leaves.{LeftBefore}
-use Rattle.mount_recover.specs.declared.fault.MountFault.{MountFault}
+use Rattle.fsd_sound.specs.declared.fault.MountFault.{MountFault}
 use Rattle.volume_turns.specs.declared.turns.End.{End}
 use Rattle.volume_turns.specs.declared.once.Stop.TheVariants.{Unmounted}
 use Rattle.sector_disk.specs.Calls.{Since}

@@ -23,7 +23,7 @@ use Rattle.sector_disk.specs.declared.sector.WeakRun.{WeakRun}
 use Rattle.fsd_files.specs.Files.{Change}
 use Rattle.fsd_sound.specs.Sound.{IsPrefixOf}
 use Rattle.volume_contract.specs.Mount.{Excuses, ExcusesOf}
-use Rattle.mount_recover.specs.declared.fault.MountFault.{MountFault}
+use Rattle.fsd_sound.specs.declared.fault.MountFault.{MountFault}
 use Rattle.volume_turns.specs.declared.once.Stop.{Stop}
 use Rattle.volume_turns.specs.declared.once.Stop.TheVariants.{Unmounted, Ended}
 use Rattle.volume_turns.specs.declared.turns.End.{End}

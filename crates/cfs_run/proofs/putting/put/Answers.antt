@@ -3,7 +3,7 @@ use Rattle.volume_layout.specs.declared.layout.Layout.{Layout}
 use Rattle.sector_disk.specs.Machine.{LeavesOnly}
 use Rattle.sector_disk.proofs.Calm.{same_calm}
 use Rattle.fsd_files.specs.Files.{after}
-use Rattle.mount_recover.specs.Lost.{AreCopiesOn, LostIn}
+use Rattle.fsd_sound.specs.Lost.{AreCopiesOn, LostIn}
 use Rattle.fsd_volume.specs.Mount.{IsMountable, MountRefused, volume_of}
 use Rattle.cfs_run.specs.declared.answer.Answer.TheVariants as Said
 use Rattle.cfs_run.specs.declared.request.Request.TheVariants as Words

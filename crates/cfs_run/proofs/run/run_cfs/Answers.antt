@@ -2,7 +2,7 @@ use Rattle.std.proofs.Common.{Global, ℕ, arith, map, refl, subst, sym}
 use Rattle.std.specs.String.{string_bytes}
 use Rattle.sector_disk.specs.Machine.{Ledger}
 use Rattle.sector_disk.proofs.Calm.{same_calm}
-use Rattle.mount_recover.specs.Lost.{AreCopiesOn, LostIn}
+use Rattle.fsd_sound.specs.Lost.{AreCopiesOn, LostIn}
 use Rattle.fsd_volume.specs.Mount.{IsMountable, MountRefused}
 use Rattle.cfs_run.specs.Words.{request_of}
 use Rattle.cfs_run.specs.Ends.{DamagedAnswer, IfMountAnswer, LeavesInput, WhereMounted}

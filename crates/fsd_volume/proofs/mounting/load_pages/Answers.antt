@@ -4,7 +4,7 @@ use Rattle.sector_disk.proofs.Moments.{started}
 use Rattle.sector_disk.specs.Image.{IsCalm}
 use Rattle.sector_disk.specs.Machine.{Wears}
 use Rattle.log_thirds.proofs.ReadingLaws.{reads_on}
-use Rattle.mount_recover.specs.Lost.{AreHomes, LostIn}
+use Rattle.fsd_sound.specs.Lost.{AreHomes, LostIn}
 use Rattle.fsd_volume.specs.Opening.{AreAtHome, UnreadFor}
 use Rattle.fsd_volume.proofs.CallLaws.{uses_on, wears_same, wears_on}
 use Rattle.fsd_volume.proofs.LoadLaws.{home_none, home_more, home_before, unread_before, handed_up}

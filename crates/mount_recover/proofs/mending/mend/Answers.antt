@@ -10,7 +10,7 @@ use Rattle.log_thirds.specs.LogValue.{LogValue}
 use Rattle.twin_home.proofs.WriteLaws.{on_ok_more}
 use Rattle.mount_recover.specs.Finding.{IsExcuse}
 use Rattle.mount_recover.specs.Mending.{IsLoadFault, IsCompleted, IsMending, IsMended, Stays}
-use Rattle.mount_recover.specs.Recover.{device_of_mount}
+use Rattle.fsd_sound.specs.Mounting.{device_of_mount}
 use Rattle.mount_recover.specs.Showing.{GivesPages, HasNoRoot, LosesNone, shows_of}
 use Rattle.mount_recover.proofs.CalmLaws.{all_shown, excuse_loses, roots_kept, still_next}
 use Rattle.mount_recover.proofs.FaultLaws.{handed_up, if_err_more, ok_as}

@@ -14,7 +14,7 @@ use Rattle.fsd_sound.specs.Shown.{records_by}
 use Rattle.log_thirds.specs.LogValue.{LogValue}
 use Rattle.twin_home.proofs.WriteLaws.{on_ok_more}
 use Rattle.mount_recover.specs.Finding.{IsExcuse}
-use Rattle.mount_recover.specs.Lost.{AreHomes, LostIn}
+use Rattle.fsd_sound.specs.Lost.{AreHomes, LostIn}
 use Rattle.mount_recover.specs.Mending.{IsLoadFault, IsCompleted, IsMending, Stays}
 use Rattle.mount_recover.specs.Showing.{GivesPages, ChangesHome, IsShowing, LosesHome, LosesNone}
 use Rattle.mount_recover.proofs.CalmLaws.{still_worn, still_next, given_on, showing_next, at_home, in_log, loses_so, device_loses, excuse_loses}

@@ -3,11 +3,11 @@ use Rattle.sector_disk.specs.declared.sector.WeakRun.{WeakRun}
 use Rattle.sector_disk.proofs.Moments.{started, then_on}
 use Rattle.sector_disk.proofs.CallLaws.{heals_then, heals_told, reads_as_heals, reads_none, told_up}
 use Rattle.mount_recover.specs.Finding.{IsExcuse}
-use Rattle.mount_recover.specs.Lost.{LostIn}
+use Rattle.fsd_sound.specs.Lost.{LostIn}
 use Rattle.mount_recover.specs.Mending.{IsLoadFault, AreOfVolume, IsCompleted, IsMending, Stays}
 use Rattle.fsd_log.specs.Scan.{Placed}
 use Rattle.log_thirds.specs.Append.{IsCalm as IsCalmNow}
-use Rattle.mount_recover.specs.Recover.{device_of_mount}
+use Rattle.fsd_sound.specs.Mounting.{device_of_mount}
 use Rattle.mount_recover.specs.Showing.{GivesPages, IsShowing, LosesNone}
 use Rattle.mount_recover.proofs.CalmLaws.{still_next, showing_none}
 use Rattle.mount_recover.proofs.FaultLaws.{handed_up}

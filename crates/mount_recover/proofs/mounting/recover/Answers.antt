@@ -6,9 +6,11 @@ use Rattle.sector_disk.proofs.CallLaws.{heals_then, heals_told, reads_as_heals, 
 use Rattle.sector_disk.proofs.Moments.{leaves_more, then_on}
 use Rattle.log_thirds.specs.LogValue.{LogValue}
 use Rattle.mount_recover.specs.Finding.{IsExcuse}
-use Rattle.mount_recover.specs.Lost.{AreCopiesOn, LeavesMap, LostIn, LosesShown, WritesMost}
+use Rattle.mount_recover.specs.Lost.{LeavesMap, WritesMost}
+use Rattle.fsd_sound.specs.Lost.{AreCopiesOn, LosesShown, LostIn}
 use Rattle.mount_recover.specs.Mending.{Stays, Begins}
-use Rattle.mount_recover.specs.Recover.{IsNotUnsound, IsRefusedFor, LeavesAll, ShowsVolume, device_of_mount}
+use Rattle.mount_recover.specs.Recover.{IsNotUnsound, IsRefusedFor, LeavesAll, ShowsVolume}
+use Rattle.fsd_sound.specs.Mounting.{device_of_mount}
 use Rattle.mount_recover.specs.Replay.{Replays, IsReplayed}
 use Rattle.std.specs.Prelude.{IfSome, IsSome}
 use Rattle.volume_layout.proofs.RootLaws.{planned_bounds}

@@ -5,7 +5,7 @@ use Rattle.sector_disk.specs.Image.{IsCalm}
 use Rattle.sector_disk.specs.Machine.{Moment, Wears}
 use Rattle.sector_disk.proofs.Calm.{calm_wears, same_calm}
 use Rattle.sector_disk.proofs.Moments.{leaves_more, then_on}
-use Rattle.mount_recover.specs.Lost.{AreCopiesOn, LostIn}
+use Rattle.fsd_sound.specs.Lost.{AreCopiesOn, LostIn}
 use Rattle.mount_recover.specs.Recover.{IsFreshLog}
 use Rattle.mount_recover.specs.Replay.{SameBehind, Replays}
 use Rattle.fsd_volume.specs.Mount.{IsFoundOn, MountRefused, MountLeaves, MountEnds}

@@ -3,10 +3,11 @@ use Rattle.std.specs.Prelude.{IfSome}
 use Rattle.std.proofs.lemmas.List.{get_or_read}
 use Rattle.sector_disk.proofs.Damage.{lost_as}
 use Rattle.fsd_log.specs.Images.{last_image}
+use Rattle.fsd_log.specs.Places.{LieInRecord}
 use Rattle.log_thirds.specs.declared.slots.Slot.{Slot}
 use Rattle.log_thirds.specs.Disk.{reads}
 use Rattle.log_thirds.specs.LogValue.{LogValue}
-use Rattle.log_thirds.specs.Slots.{LieInRecord, LieInRecords, slot_of}
+use Rattle.log_thirds.specs.Slots.{LieInRecords, slot_of}
 use Rattle.log_thirds.specs.Images.{AreLogged, GivesSlot, LiesAt, SeesSlot, StandsAt}
 use Rattle.log_thirds.proofs.ImageLaws.{image_there, image_nowhere, slot_seen, stands_there}
 use Rattle.log_thirds.proofs.thirds.Log.image_of.Goals as goal

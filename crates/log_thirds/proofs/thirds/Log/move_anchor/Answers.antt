@@ -8,9 +8,10 @@ use Rattle.sector_disk.proofs.Wear.{worn_refl}
 use Rattle.sector_disk.specs.Image.{open_damage}
 use Rattle.fsd_formats.specs.declared.anchor.Anchor.{Anchor}
 use Rattle.fsd_log.specs.Scan.{IsIn}
+use Rattle.fsd_log.specs.Places.{LieInRecord}
 use Rattle.log_thirds.specs.Append.{IsIndexed, IsLogWorn}
 use Rattle.log_thirds.specs.Anchoring.{AnchorsIn, with_anchors}
-use Rattle.log_thirds.specs.Slots.{LieInRecord, LieInRecords, SlotsInside}
+use Rattle.log_thirds.specs.Slots.{LieInRecords, SlotsInside}
 use Rattle.log_thirds.specs.LogValue.{LogValue}
 use Rattle.log_thirds.specs.Moving.{next_third, moved_anchor, moved, slot_outside, records_moved}
 use Rattle.log_thirds.proofs.MovingLaws.{MayMove, next_low, moved_in, moves_worn, moved_part, indexed_moved, slots_outside_each}

@@ -29,7 +29,7 @@ pub enum MountFault {
 
 impl From<Failed> for MountFault {
     ghost use Rattle.std.specs.Prelude.{◌≡◌};
-    ghost use Rattle.mount_recover.specs.declared.fault.MountFault.TheVariants.{Device};
+    ghost use Rattle.fsd_sound.specs.declared.fault.MountFault.TheVariants.{Device};
 
     ghost from_gives = { λ failed fault. fault ≡ Device failed.place };
 
@@ -40,7 +40,7 @@ impl From<Failed> for MountFault {
 
 impl From<LoadFault> for MountFault {
     ghost use Rattle.std.specs.Prelude.{◌≡◌};
-    ghost use Rattle.mount_recover.specs.Mending.{load_fault_of};
+    ghost use Rattle.fsd_sound.specs.Mounting.{load_fault_of};
 
     ghost from_gives = { λ load fault. fault ≡ load_fault_of load };
 
