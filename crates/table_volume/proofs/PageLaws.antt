@@ -56,7 +56,7 @@ module _ (v : VolumeValue) (k : Known) (now : Moment) (whole : IsWhole v) (stand
   same_layout = stands.fits.layout ∙ sym whole.log
 
   -- what it stands over, by its own log
-  over : StandsOver v.log.layout v.log.anchor v.log.head stands.disk.records stands.disk.disk k.mounted.pages v.cache.dirty k.windows now.image
+  pub over : StandsOver v.log.layout v.log.anchor v.log.head stands.disk.records stands.disk.disk k.mounted.pages v.cache.dirty k.windows now.image
   over =
       subst (λ (l : Layout). StandsOver l v.log.anchor v.log.head stands.disk.records stands.disk.disk k.mounted.pages v.cache.dirty k.windows now.image) same_layout
       (subst (λ (a : Anchor). StandsOver k.mounted.volume.layout a v.log.head stands.disk.records stands.disk.disk k.mounted.pages v.cache.dirty k.windows now.image) stands.fits.anchor

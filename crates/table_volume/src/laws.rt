@@ -1,5 +1,6 @@
 //! Laws of a volume that stands over a disk: the functions do nothing, the contract of each is a law.
-ghost use Rattle.std.specs.Prelude.{◌≡◌, ◌⊎◌, ◌<◌, ℕ, List, Some, Contains, IsTrue, IsFalse};
+ghost use Rattle.std.specs.Prelude.{◌≡◌, ◌⊎◌, ◌<◌, ℕ, false, List, Option, Some, Contains, IsTrue, IsFalse, length, slice_index_or};
+ghost use Rattle.fsd_bytes.specs.declared.key.Key.{Key};
 ghost use Rattle.sector_disk.specs.declared.sector.Sector.TheVariants.{Damaged};
 ghost use Rattle.sector_disk.specs.Image.{AreShort, sector_at};
 ghost use Rattle.sector_disk.specs.Machine.{Moment};
@@ -8,7 +9,11 @@ ghost use Rattle.fsd_formats.specs.declared.entry.Entry.{Entry};
 ghost use Rattle.fsd_log.specs.Scan.{Placed};
 ghost use Rattle.fsd_table.specs.Breaks.{Breaks};
 ghost use Rattle.fsd_table.specs.Pages.{entries_of};
-ghost use Rattle.fsd_table.specs.Table.{Visit, visits};
+ghost use Rattle.fsd_table.specs.Table.{BreaksTable, Visit, visits};
+ghost use Rattle.fsd_table.specs.Tree.{IsTree, table_of};
+ghost use Rattle.fsd_files.specs.Answers.{entry_of, entry_after as entry_behind};
+ghost use Rattle.name_page.specs.Lookups.{entry_with, entry_after};
+ghost use Rattle.table_pages.specs.Kept.{images_of};
 ghost use Rattle.fsd_sound.specs.Mounted.{Mounted, image_at};
 ghost use Rattle.group_commit.specs.Newest.{AreCopies, newest_by};
 ghost use Rattle.volume_contract.specs.Causes.{HasUntaken};
@@ -32,6 +37,8 @@ pub fn resident_pages_are_shown()
 pub fn pages_are_read()
     ensures newest { (v : VolumeValue) (k : Known) (now : Moment) (page : ℕ) → IsWhole v → IsCache v.cache → Stands state Holds v k now → page < v.layout.pages →
         newest v.cache (newest_by v.log now.image) page ≡ Some (image_at k.mounted.pages page) }
+    ensures all { (v : VolumeValue) (k : Known) (now : Moment) → IsWhole v → IsCache v.cache → Stands state Holds v k now →
+        images_of (newest v.cache (newest_by v.log now.image)) (length v.free_pages) ≡ k.mounted.pages }
     ensures never_lost { (v : VolumeValue) (k : Known) (now : Moment) (page a b : ℕ) → IsWhole v → Stands state Holds v k now → page < v.layout.pages → AreCopies v.log page a b →
         sector_at now.image a ≡ Damaged → sector_at now.image b ≡ Damaged → ⊥ }
 {}
@@ -45,4 +52,15 @@ pub fn entries_are_taken()
 pub fn untaken_entries_break()
     ensures { (v : VolumeValue) (pages : List (List ℕ)) (visit : Visit) (e : Entry) → IsWhole v → Contains (visits pages) visit → Contains (entries_of visit.content) e → IsFalse (are_taken v e.runs) →
         Breaks v.layout pages visit.page ⊎ HasUntaken (state v) e }
+{}
+
+/// Its pages are a tree, in which look-ups find what the volume's definitions answer; no page breaks it, and none that a path reaches
+/// is free.
+pub fn tables_are_looked_up()
+    ensures entry { (v : VolumeValue) (k : Known) (now : Moment) (key : Key) → IsWhole v → Stands state Holds v k now →
+        (height : ℕ) × IsTree k.mounted.pages height × (entry_with key (table_of k.mounted.pages height) ≡ entry_of key k.mounted.volume.entries) }
+    ensures next { (v : VolumeValue) (k : Known) (now : Moment) (after : Option Key) → IsWhole v → Stands state Holds v k now →
+        (height : ℕ) × IsTree k.mounted.pages height × (entry_after after (table_of k.mounted.pages height) ≡ entry_behind after k.mounted.volume.entries) }
+    ensures unbroken { (v : VolumeValue) (k : Known) (now : Moment) (page : ℕ) → IsWhole v → Stands state Holds v k now → BreaksTable k.mounted.pages page → ⊥ }
+    ensures used { (v : VolumeValue) (k : Known) (now : Moment) (visit : Visit) → IsWhole v → Stands state Holds v k now → Contains (visits k.mounted.pages) visit → slice_index_or v.free_pages visit.page false ≡ false }
 {}
