@@ -8,6 +8,7 @@ use Rattle.volume_layout.specs.Layout.{map_start}
 use Rattle.sector_set.specs.Area.{Area}
 use Rattle.sector_disk.specs.declared.sector.WeakRun.{WeakRun}
 use Rattle.sector_disk.specs.Image.{sector_at}
+use Rattle.sector_disk.specs.Calls.{DiskFaults}
 use Rattle.sector_disk.specs.Machine.{Moment, Report}
 use Rattle.fsd_formats.specs.Record.{Stamp}
 use Rattle.log_thirds.specs.LogValue.{LogValue}
@@ -18,7 +19,7 @@ use Rattle.group_commit.specs.Newest.{KnowsImages}
 use Rattle.group_commit.specs.Room.{goes_before, log_before}
 use Rattle.group_commit.proofs.StandsLaws.{knows_images}
 use Rattle.group_commit.specs.Resident.{ResidentValue, stamped, with_stamp}
-use Rattle.group_commit.specs.Force.{KeepsData, StandsOver, Commits, Committed, stamped_by, log_forced, as_load}
+use Rattle.group_commit.specs.Force.{KeepsData, StandsOver, Commits, Committed, stamped_by, log_forced, as_load, force_failed_at}
 use Rattle.group_commit.proofs.CommitLaws.{idle_committed}
 use Rattle.fsd_table.specs.Table.{one_leaf, told_in}
 use Rattle.fsd_files.specs.Disk.{Image, in_runs}
@@ -246,14 +247,14 @@ idle_mounted s free kept epoch none v windows h f i mounted =
 
 -- ---- why a force fails
 
-pub fails : (log : LogValue) (n : ℕ) (old new : Report) → (goes_before log n ≡ false → goes_before log 1 ≡ false) → (why : ForceFault) → RecordCause log n old new (as_load why) → ForceFails log old new (force_refusal why)
-fails log n old new one (fault.Device place) cause = cause
-fails log n old new one (fault.Lost a b) cause = one cause
+pub fails : (log : LogValue) (n : ℕ) (old new : Report) → (goes_before log n ≡ false → goes_before log 1 ≡ false) → (why : ForceFault) → DiskFaults (force_failed_at why) old new → RecordCause log n (as_load why) → ForceFails log old new (force_refusal why)
+fails log n old new one (fault.Device place) faults cause = faults
+fails log n old new one (fault.Lost a b) faults cause = one cause
 
 pub loses : (log : LogValue) (i : Image) (why : ForceFault) → LosesLogged log i (as_load why) → LosesImage log i (force_refusal why)
 loses log i (fault.Device place) lost = tt
 loses log i (fault.Lost a b) lost = lost
 
-pub only_device : (log : LogValue) (n : ℕ) (old new : Report) (why : ForceFault) → RecordCause log n old new (as_load why) → IsDevice (as_load why) → OnlyDevice old new (force_refusal why)
-only_device log n old new (fault.Device place) cause device = record { told = ap Device cause.told; fault = record { rose = cause.rose; told = refl } }
-only_device log n old new (fault.Lost a b) cause device = absurd device
+pub only_device : (old new : Report) (why : ForceFault) → DiskFaults (force_failed_at why) old new → IsDevice (as_load why) → OnlyDevice old new (force_refusal why)
+only_device old new (fault.Device place) faults device = record { told = ap Device faults.told; fault = record { rose = faults.rose; told = refl } }
+only_device old new (fault.Lost a b) faults device = absurd device

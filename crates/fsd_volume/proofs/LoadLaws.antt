@@ -6,12 +6,16 @@ use Rattle.std.proofs.Math.Seq.{get_or-append_seam}
 use Rattle.std.proofs.lemmas.List.{get_or_append_left}
 use Rattle.volume_layout.specs.declared.layout.Layout.{Layout}
 use Rattle.sector_disk.specs.Image.{IsCalm}
-use Rattle.sector_disk.specs.Machine.{Moment, Wears}
+use Rattle.sector_disk.specs.Calls.{DiskFaults}
+use Rattle.sector_disk.specs.Machine.{Moment, Report, Wears}
 use Rattle.sector_disk.proofs.Calm.{calm_wears}
 use Rattle.fsd_files.specs.Disk.{Image}
 use Rattle.fsd_sound.specs.Homes.{home_of}
 use Rattle.fsd_sound.specs.Mounted.{image_at}
 use Rattle.fsd_sound.specs.declared.fault.MountFault.{MountFault}
+use Rattle.fsd_sound.specs.declared.fault.MountFault.TheVariants.{NotVolume, Device, Memory, Lost, NoAnchor, Unsound, WornOut}
+use Rattle.fsd_sound.specs.Mounting.{device_of_mount}
+use Rattle.fsd_volume.specs.Mount.{TellsFault}
 use Rattle.fsd_volume.specs.Opening.{AreAtHome, UnreadFor}
 
 -- none is read yet
@@ -40,3 +44,13 @@ unread_before l old new fault calm worn is = subst (λ (m : Moment). UnreadFor l
 pub handed_up : {T : Type 0} (P : MountFault → Type 0) (r : Result T MountFault) (fault : MountFault) → IsErrAnd r (λ told. told ≡ fault) → P fault → IfErr r P
 handed_up P (Ok x) fault is holds = tt
 handed_up P (Err told) fault is holds = subst P (sym is) holds
+
+-- the place that a mount tells is that of the fault of the disk
+pub tells_fault : (old new : Report) (fault : MountFault) → DiskFaults (device_of_mount fault) old new → TellsFault old new fault
+tells_fault old new (Device s) told = told
+tells_fault old new NotVolume told = tt
+tells_fault old new Memory told = tt
+tells_fault old new (Lost a b) told = tt
+tells_fault old new NoAnchor told = tt
+tells_fault old new (Unsound s) told = tt
+tells_fault old new WornOut told = tt

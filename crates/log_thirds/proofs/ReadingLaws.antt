@@ -30,9 +30,6 @@ read_shown old new place o wears shown = elim (wears.image.each place) [
   | inr hurt ↦ inr (hurt.0, sym (bytes_back o) ∙ ap bytes_in (sym shown) ∙ ap bytes_in hurt.1)
 ]
 
-pub sees_shown : (old new : Moment) (place : ℕ) (o : Option (List ℕ)) → Wears old new → sector_at new.image place ≡ as_sector o → Sees old new place o
-sees_shown old new place o wears shown = (read_shown old new place o wears shown, λ none. shown ∙ ap as_sector none)
-
 -- what is read later may have worn before
 pub read_back : (old mid : Moment) (place : ℕ) (o : Option (List ℕ)) → Wears old mid → ReadWorn mid place o → ReadWorn old place o
 read_back old mid place o wears (inl is) = elim (wears.image.each place) [

@@ -18,7 +18,7 @@ use Rattle.sector_disk.specs.Image.{Windows, IsCalm, IsEmpty}
 use Rattle.fsd_sound.specs.Shown.{records_by}
 use Rattle.mount_recover.proofs.CalmLaws.{calm_now, calm_two, knows_one, loses_shown, next_kept, next_settled, some_root, stand_shown, still_next, still_one}
 use Rattle.mount_recover.proofs.FaultLaws.{err_as, handed_up, load_left, load_sound, worn_left}
-use Rattle.mount_recover.specs.declared.fault.MountFault.TheVariants.{Device}
+use Rattle.fsd_sound.specs.declared.fault.MountFault.TheVariants.{Device}
 use Rattle.mount_recover.proofs.MountLaws.{wears_replays, not_found_excused, found_same, is_seen, replays_from, stays_replays, begins_replays, lost_on, keeps_all, map_kept, map_left, mend_refused, none_found}
 use Rattle.mount_recover.proofs.mounting.recover.Goals as goal
 

@@ -64,8 +64,23 @@ returns-clause-fault g c =
     elim c.match-force.branch [
       | in-Ok w ↦ rw w.result-is tt
       | in-Err w ↦ rw w.result-is (subst (λ (s : State). ForceFails s.log (M.report c.args.m.now) (M.report c.force.new.m) w.force_refusal.result) c.self.view_is
-          (subst told (sym w.force_refusal.ensures) (fails state.log (length state.table.dirty) (M.report c.args.m.now) (M.report c.force.new.m) (one_enters state c.self.inside.map c.self.invariant epoch some) w.in-Err.fault w.in-Err.ensures.fault)))
+          (subst told (sym w.force_refusal.ensures) (fails state.log (length state.table.dirty) (M.report c.args.m.now) (M.report c.force.new.m) (one_enters state c.self.inside.map c.self.invariant epoch some) w.in-Err.fault w.in-Err.ensures.disk.faults w.in-Err.ensures.cause)))
     ]
+
+pub returns-clause-uses : goal.returns-clause-uses
+returns-clause-uses g c = c.force.ensures.disk.uses
+
+pub returns-clause-trust : goal.returns-clause-trust
+returns-clause-trust g c = c.force.ensures.disk.trust
+
+pub returns-clause-ledger : goal.returns-clause-ledger
+returns-clause-ledger g c = c.force.ensures.disk.ledger
+
+pub returns-clause-quiet : goal.returns-clause-quiet
+returns-clause-quiet g c = c.force.ensures.disk.quiet
+
+pub returns-clause-windows : goal.returns-clause-windows
+returns-clause-windows g c = c.force.ensures.disk.windows
 
 pub returns-clause-lost : goal.returns-clause-lost
 returns-clause-lost g c =
@@ -90,7 +105,7 @@ returns-clause-never_lost g c =
           let over = over_log state c.self.inside.map c.self.invariant epoch v windows h f old.image here in
           let device = w.in-Err.ensures.never_lost windows here.on_disk.records here.on_disk.disk honest ends over (known state c.self.inside.map c.self.invariant epoch v windows h f old.image here) in
           subst (OnlyDevice (M.report c.args.m.now) (M.report c.force.new.m)) (sym w.force_refusal.ensures)
-          (only_device state.log (length state.table.dirty) (M.report c.args.m.now) (M.report c.force.new.m) w.in-Err.fault w.in-Err.ensures.fault device))
+          (only_device (M.report c.args.m.now) (M.report c.force.new.m) w.in-Err.fault w.in-Err.ensures.disk.faults device))
     ]
 
 pub returns-clause-any_moment : goal.returns-clause-any_moment
@@ -101,10 +116,10 @@ returns-clause-any_moment g c honest v windows h f ends mounted =
     let epoch : c.self.inside.serial.epoch < 2 ^ 32 = search rules in
     let here = subst (λ (s : State). IsMounted s v windows h f old.image) (sym c.self.view_is) mounted in
     let over = over_log state c.self.inside.map c.self.invariant epoch v windows h f old.image here in
-    let moments = c.force.ensures.any_moment windows here.on_disk.records here.on_disk.disk honest ends over (known state c.self.inside.map c.self.invariant epoch v windows h f old.image here) in
+    let known_here = (known state c.self.inside.map c.self.invariant epoch v windows h f old.image here) in
     subst (λ (s : State). LeavesOnly M.moment M.left_since c.args.m.now c.force.new.m (Forces s.layout windows h f old)) c.self.view_is
     (leaves_more M.moment M.left_since c.args.m.now c.force.new.m _ (Forces state.layout windows h f old)
-    (λ left commits. forces_at state c.self.inside.map c.self.invariant epoch v windows h f old.image here old left refl ends commits) moments)
+    (λ left leaves. forces_at state c.self.inside.map c.self.invariant epoch v windows h f old.image here old left refl ends (leaves windows here.on_disk.records here.on_disk.disk ends over known_here)) (c.force.ensures.disk.any_moment honest))
 
 pub returns-clause-failed : goal.returns-clause-failed
 returns-clause-failed g c = on_err c.match-force.result (λ honest v windows h f ends mounted.
@@ -114,9 +129,8 @@ returns-clause-failed g c = on_err c.match-force.result (λ honest v windows h f
     let epoch : c.self.inside.serial.epoch < 2 ^ 32 = search rules in
     let here = subst (λ (s : State). IsMounted s v windows h f old.image) (sym c.self.view_is) mounted in
     let over = over_log state c.self.inside.map c.self.invariant epoch v windows h f old.image here in
-    let moments = c.force.ensures.any_moment windows here.on_disk.records here.on_disk.disk honest ends over (known state c.self.inside.map c.self.invariant epoch v windows h f old.image here) in
     let left = M.now c.force.new.m in
-    let commits = moments.each left (g.met.M.Machine.counts_now c.force.new.m (M.moment c.args.m.now) honest moments.later) in
+    let commits = c.force.ensures.disk.exit honest windows here.on_disk.records here.on_disk.disk ends over (known state c.self.inside.map c.self.invariant epoch v windows h f old.image here) in
     subst (λ (s : State). Forces s.layout windows h f old left) c.self.view_is (forces_at state c.self.inside.map c.self.invariant epoch v windows h f old.image here old left refl ends commits))
 
 pub returns-clause-done : goal.returns-clause-done
@@ -129,9 +143,8 @@ returns-clause-done g c =
           let epoch : c.self.inside.serial.epoch < 2 ^ 32 = search rules in
           let here = subst (λ (s : State). IsMounted s v windows h f old.image) (sym c.self.view_is) mounted in
           let over = over_log state c.self.inside.map c.self.invariant epoch v windows h f old.image here in
-          let moments = c.force.ensures.any_moment windows here.on_disk.records here.on_disk.disk honest ends over (known state c.self.inside.map c.self.invariant epoch v windows h f old.image here) in
           let left = M.now c.force.new.m in
-          let commits = moments.each left (g.met.M.Machine.counts_now c.force.new.m (M.moment c.args.m.now) honest moments.later) in
+          let commits = c.force.ensures.disk.exit honest windows here.on_disk.records here.on_disk.disk ends over (known state c.self.inside.map c.self.invariant epoch v windows h f old.image here) in
           let done = w.in-Ok.ensures.done windows here.on_disk.records here.on_disk.disk honest ends over (known state c.self.inside.map c.self.invariant epoch v windows h f old.image here) in
           forced_at state c.self.inside.map c.self.invariant epoch v windows h f old.image here old left c.force.new.log c.force.new.pages refl ends commits w.in-Ok.ensures.log w.in-Ok.ensures.state done
           (w.in-Ok.ensures.knows windows here.on_disk.records here.on_disk.disk honest ends over (known state c.self.inside.map c.self.invariant epoch v windows h f old.image here)))

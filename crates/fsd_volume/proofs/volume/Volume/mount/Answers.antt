@@ -8,14 +8,20 @@ use Rattle.sector_disk.proofs.Moments.{leaves_more, then_on}
 use Rattle.fsd_sound.specs.Lost.{AreCopiesOn, LostIn}
 use Rattle.mount_recover.specs.Recover.{IsFreshLog}
 use Rattle.mount_recover.specs.Replay.{SameBehind, Replays}
-use Rattle.fsd_volume.specs.Mount.{IsFoundOn, MountRefused, MountLeaves, MountEnds}
+use Rattle.fsd_volume.specs.Mount.{IsFoundOn, MountRefused, MountLeaves, MountEnds, TellsFault}
 use Rattle.fsd_volume.specs.Opening.{AreAtHome, UnreadFor, Opens, OpensNotFor}
-use Rattle.fsd_volume.proofs.LoadLaws.{handed_up}
+use Rattle.fsd_volume.proofs.LoadLaws.{handed_up, tells_fault}
 use Rattle.fsd_volume.proofs.LostLaws.{home_lost, none_lost}
 use Rattle.fsd_volume.proofs.MountLaws.{if_ok_more, if_err_more, map_still, opens_behind, opens_found, opens_refused, recover_refused, refused_for, settled_in, unread_refused}
 use Rattle.fsd_volume.proofs.MountMoments.{first_now, pages_now, count_now, mountable_now, leaves_at, leaves_read}
 use Rattle.fsd_volume.proofs.MountEnds.{unread_now, ends_now, ends_err}
 use Rattle.fsd_volume.proofs.volume.Volume.mount.Goals as goal
+
+pub returns-in_err-settled-clause-fault : goal.returns-in_err-settled-clause-fault
+returns-in_err-settled-clause-fault g c =
+    let M = g.M.Machine in
+    let old = M.report c.args.m.now in let new = M.report c.recover.new.m in
+    handed_up (TellsFault old new) c.from_residual.result c.in_err-settled.field-0.0 c.from_residual.ensures.1 (tells_fault old new c.in_err-settled.field-0.0 c.in_err-settled.ensures.disk.faults)
 
 pub returns-in_err-settled-clause-mounted : goal.returns-in_err-settled-clause-mounted
 returns-in_err-settled-clause-mounted g c l windows h f honest begun calm_new =
