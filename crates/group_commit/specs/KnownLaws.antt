@@ -8,10 +8,9 @@ use Rattle.sector_disk.specs.Image.{Windows, IsWorn, open_damage}
 use Rattle.sector_disk.specs.Machine.{Moment}
 use Rattle.sector_disk.proofs.Wear.{worn_refl}
 use Rattle.fsd_formats.specs.declared.anchor.Anchor.{Anchor}
-use Rattle.fsd_log.specs.Scan.{Placed}
 use Rattle.fsd_files.specs.Disk.{Image}
 use Rattle.fsd_sound.specs.Anchors.{EachAnchor, anchor_at, anchor_of}
-use Rattle.fsd_sound.specs.Shown.{each_of, newest, records_by, shown_by}
+use Rattle.fsd_sound.specs.Shown.{newest, records_by, shown_by}
 use Rattle.fsd_sound.specs.Sound.{EndIn, ShowsOne, ShowsPages, weak_of}
 use Rattle.fsd_sound.proofs.AnchorFacts.{newer_one}
 use Rattle.fsd_sound.proofs.EachLaws.{each_at}
@@ -19,7 +18,6 @@ use Rattle.fsd_sound.proofs.LaidLaws.{own_worn}
 use Rattle.fsd_sound.proofs.SoundLaws.{shows_still}
 use Rattle.fsd_sound.proofs.WindowLaws.{apart_narrow, open_is_weak}
 use Rattle.log_thirds.specs.LogValue.{LogValue}
-use Rattle.group_commit.specs.Entering.{OwnsLog}
 use Rattle.group_commit.specs.Newest.{KnowsPages, newest_by}
 
 -- ---- the pages that a disk shows by the log's own anchor
