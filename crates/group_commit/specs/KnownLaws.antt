@@ -27,15 +27,15 @@ module _ (l : Layout) (a : Anchor) (windows : List WeakRun) (disk : List (List �
   only None one = absurd one
   only (Some pages) one = ap (λ (x : List (List ℕ)). Some x) (sym one.2 ∙ ap (λ (k : ℕ). get_or (disk ∷ []) k pages) (let first = one.1 in let e : one.0 ≡ 0 = omega (arith, first) in e))
 
-  by_taken : (o : Option Anchor) → IfSome o (λ b. b ≡ a) → ShowsOne (disk ∷ []) (option_and_then (shown_by l i) o) → shown_by l i a ≡ Some disk
+  by_taken : (o : Option Anchor) → IfSome o (λ b. b ≡ a) → ShowsOne (disk ∷ []) (option_and_then (shown_by l i) o) → (o ≡ Some a) × (shown_by l i a ≡ Some disk)
   by_taken None mine one = absurd one
-  by_taken (Some b) mine one = ap (shown_by l i) (sym mine) ∙ only (shown_by l i b) one
+  by_taken (Some b) mine one = (ap (λ (x : Anchor). Some x) mine, ap (shown_by l i) (sym mine) ∙ only (shown_by l i b) one)
 
-  own_pages : shown_by l i a ≡ Some disk
-  own_pages = by_taken (anchor_of i) (newer_one (λ b. b ≡ a) (anchor_at i 8) (anchor_at i 12) own.0 own.1) (shows.shows i (worn_refl (weak_of windows) i))
+  pub own_shown : (anchor_of i ≡ Some a) × (shown_by l i a ≡ Some disk)
+  own_shown = by_taken (anchor_of i) (newer_one (λ b. b ≡ a) (anchor_at i 8) (anchor_at i 12) own.0 own.1) (shows.shows i (worn_refl (weak_of windows) i))
 
-  pub own_newest : (page : ℕ) → page < l.pages → newest l i (records_by l i a) page ≡ Some (get_or disk page [])
-  own_newest page lt = ap (newest l i (records_by l i a)) (let e : page ≡ 0 + page = omega arith in e) ∙ each_at (newest l i (records_by l i a)) 0 l.pages disk [] own_pages page lt
+  own_newest : (page : ℕ) → page < l.pages → newest l i (records_by l i a) page ≡ Some (get_or disk page [])
+  own_newest page lt = ap (newest l i (records_by l i a)) (let e : page ≡ 0 + page = omega arith in e) ∙ each_at (newest l i (records_by l i a)) 0 l.pages disk [] own_shown.1 page lt
 
 -- ---- what a log knows
 
