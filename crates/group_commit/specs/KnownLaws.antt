@@ -8,10 +8,9 @@ use Rattle.sector_disk.specs.Image.{Windows, IsWorn, open_damage}
 use Rattle.sector_disk.specs.Machine.{Moment}
 use Rattle.sector_disk.proofs.Wear.{worn_refl}
 use Rattle.fsd_formats.specs.declared.anchor.Anchor.{Anchor}
-use Rattle.fsd_log.specs.Scan.{Placed}
 use Rattle.fsd_files.specs.Disk.{Image}
 use Rattle.fsd_sound.specs.Anchors.{EachAnchor, anchor_at, anchor_of}
-use Rattle.fsd_sound.specs.Shown.{each_of, newest, records_by, shown_by}
+use Rattle.fsd_sound.specs.Shown.{newest, records_by, shown_by}
 use Rattle.fsd_sound.specs.Sound.{EndIn, ShowsOne, ShowsPages, weak_of}
 use Rattle.fsd_sound.proofs.AnchorFacts.{newer_one}
 use Rattle.fsd_sound.proofs.EachLaws.{each_at}
@@ -19,7 +18,6 @@ use Rattle.fsd_sound.proofs.LaidLaws.{own_worn}
 use Rattle.fsd_sound.proofs.SoundLaws.{shows_still}
 use Rattle.fsd_sound.proofs.WindowLaws.{apart_narrow, open_is_weak}
 use Rattle.log_thirds.specs.LogValue.{LogValue}
-use Rattle.group_commit.specs.Entering.{OwnsLog}
 use Rattle.group_commit.specs.Newest.{KnowsPages, newest_by}
 
 -- ---- the pages that a disk shows by the log's own anchor
@@ -29,15 +27,15 @@ module _ (l : Layout) (a : Anchor) (windows : List WeakRun) (disk : List (List �
   only None one = absurd one
   only (Some pages) one = ap (λ (x : List (List ℕ)). Some x) (sym one.2 ∙ ap (λ (k : ℕ). get_or (disk ∷ []) k pages) (let first = one.1 in let e : one.0 ≡ 0 = omega (arith, first) in e))
 
-  by_taken : (o : Option Anchor) → IfSome o (λ b. b ≡ a) → ShowsOne (disk ∷ []) (option_and_then (shown_by l i) o) → shown_by l i a ≡ Some disk
+  by_taken : (o : Option Anchor) → IfSome o (λ b. b ≡ a) → ShowsOne (disk ∷ []) (option_and_then (shown_by l i) o) → (o ≡ Some a) × (shown_by l i a ≡ Some disk)
   by_taken None mine one = absurd one
-  by_taken (Some b) mine one = ap (shown_by l i) (sym mine) ∙ only (shown_by l i b) one
+  by_taken (Some b) mine one = (ap (λ (x : Anchor). Some x) mine, ap (shown_by l i) (sym mine) ∙ only (shown_by l i b) one)
 
-  own_pages : shown_by l i a ≡ Some disk
-  own_pages = by_taken (anchor_of i) (newer_one (λ b. b ≡ a) (anchor_at i 8) (anchor_at i 12) own.0 own.1) (shows.shows i (worn_refl (weak_of windows) i))
+  pub own_shown : (anchor_of i ≡ Some a) × (shown_by l i a ≡ Some disk)
+  own_shown = by_taken (anchor_of i) (newer_one (λ b. b ≡ a) (anchor_at i 8) (anchor_at i 12) own.0 own.1) (shows.shows i (worn_refl (weak_of windows) i))
 
-  pub own_newest : (page : ℕ) → page < l.pages → newest l i (records_by l i a) page ≡ Some (get_or disk page [])
-  own_newest page lt = ap (newest l i (records_by l i a)) (let e : page ≡ 0 + page = omega arith in e) ∙ each_at (newest l i (records_by l i a)) 0 l.pages disk [] own_pages page lt
+  own_newest : (page : ℕ) → page < l.pages → newest l i (records_by l i a) page ≡ Some (get_or disk page [])
+  own_newest page lt = ap (newest l i (records_by l i a)) (let e : page ≡ 0 + page = omega arith in e) ∙ each_at (newest l i (records_by l i a)) 0 l.pages disk [] own_shown.1 page lt
 
 -- ---- what a log knows
 
