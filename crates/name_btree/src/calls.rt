@@ -3,6 +3,7 @@ ghost use Rattle.std.specs.Prelude.{◌≡◌, ◌≤◌, ℕ, length};
 ghost use Rattle.std.specs.List.{AllByRecursion};
 ghost use Rattle.fsd_table.specs.Tree.{IsTree, table_of};
 ghost use Rattle.name_btree.specs.Calls.{Allows, Carries, IsFormed, Permits, RunsTo, without_answer};
+ghost use Rattle.name_btree.specs.Fault.{outer_told};
 ghost use Rattle.name_btree.specs.Map.{IsTable};
 ghost use Rattle.name_page.specs.declared.pages.TheConstants.{MOST_CHANGED, MOST_REACHED};
 ghost use Rattle.name_page.specs.Looks.{OnlyEdits};
@@ -50,8 +51,8 @@ fn carry_out<T: RenewedPages>(t: &mut T, call: &Call) -> Result<Option<Entry>, T
     requires changed { MOST_CHANGED ≤ (T.step t.old).most_changed }
     requires formed { IsFormed call.now }
     requires allowed { T.trusted t.old → (height : ℕ) → IsTree (T.step t.old).images height → Allows (table_of (T.step t.old).images height) call.now }
-    ensures calls { OnlyEdits T.Pages t.old t.new }
-    ensures carried { T.trusted t.new → (height : ℕ) → IsTable (T.step t.old) height → Carries (T.causes t.old t.new) (table_of (T.step t.old).images height) call.now result (T.step t.new) }
+    ensures calls { OnlyEdits T.Pages (outer_told result) t.old t.new }
+    ensures carried { T.trusted t.new → (height : ℕ) → IsTable (T.step t.old) height → Carries (table_of (T.step t.old).images height) call.now result (T.step t.new) }
 {
     if let Err(refusal) = t.begin() {
         return Err(TreeFault::Pages(refusal));
@@ -79,8 +80,8 @@ pub fn run<T: RenewedPages>(
     requires changed { MOST_CHANGED ≤ (T.step t.old).most_changed }
     requires formed { AllByRecursion IsFormed calls.now }
     requires table { T.trusted t.old → Permits (T.step t.old) calls.now }
-    ensures calls { OnlyEdits T.Pages t.old t.new }
-    ensures run { T.trusted t.new → (height : ℕ) → IsTable (T.step t.old) height → RunsTo (T.causes t.old t.new) (table_of (T.step t.old).images height) calls.now answers.new result (T.step t.new) }
+    ensures calls { OnlyEdits T.Pages (outer_told result) t.old t.new }
+    ensures run { T.trusted t.new → (height : ℕ) → IsTable (T.step t.old) height → RunsTo (table_of (T.step t.old).images height) calls.now answers.new result (T.step t.new) }
 {
     for (i, call) in calls.iter().enumerate() {
         answers[i] = carry_out(t, call)?;

@@ -6,7 +6,7 @@ ghost use Rattle.fsd_table.specs.Pages.{children, page_at};
 ghost use Rattle.fsd_forest.specs.Ways.{end_of};
 ghost use Rattle.name_page.specs.Cut.{is_before};
 ghost use Rattle.name_btree.specs.Descent.{way_to, IsPlace, HasNeighbours};
-ghost use Rattle.name_btree.specs.Fault.{HasCause, BreaksBelow, BarsBelow};
+ghost use Rattle.name_btree.specs.Fault.{outer_told, HasCause, BreaksBelow, BarsBelow};
 ghost use Rattle.name_btree.specs.Replace.{IsLeafAt};
 ghost use Rattle.name_page.specs.Looks.{OnlyReaches, Shows};
 ghost use Rattle.name_page.specs.Pages.{reaches, is_spare, IsReached};
@@ -126,7 +126,7 @@ pub(crate) fn leaf_below<T: Pages>(
     cut: &Cut,
 ) -> Result<Found, TreeFault>
     requires { 6 ≤ reaches (T.step t.old) }
-    ensures calls { OnlyReaches T.Pages t.old t.new }
+    ensures calls { OnlyReaches T.Pages (outer_told result) t.old t.new }
     ensures reaches { reaches (T.step t.old) ≤ reaches (T.step t.new) + 6 }
     ensures reached { IfOk result (λ found. IsReached (T.step t.new) found.page) }
     ensures used { IfOk result (λ found. is_spare (T.step t.old).spares found.page ≡ false) }
@@ -134,7 +134,7 @@ pub(crate) fn leaf_below<T: Pages>(
     ensures at { IfOk result (λ found. Shows (T.step t.new) (λ pages. IsLeafAt cut.now pages start found)) }
     ensures place { IfOk result (λ found. Shows (T.step t.new) (λ pages. IsPlace (is_before cut.now) pages start found)) }
     ensures beside { IfOk result (λ found. Shows (T.step t.new) (λ pages. HasNeighbours pages above start found)) }
-    ensures fault { IfErr result (HasCause (T.causes t.old t.new) (T.step t.new) (BreaksBelow (T.step t.new).images above start) (BarsBelow (T.step t.new) above start)) }
+    ensures fault { IfErr result (HasCause (T.step t.new) (BreaksBelow (T.step t.new).images above start) (BarsBelow (T.step t.new) above start)) }
 {
     let mut way = Way {
         child: start,

@@ -5,7 +5,7 @@ ghost use Rattle.fsd_table.specs.Table.{top, BreaksTable};
 ghost use Rattle.fsd_table.specs.Tree.{IsTree, table_of};
 ghost use Rattle.name_page.specs.Cut.{after_cut, is_before};
 ghost use Rattle.name_btree.specs.Descent.{BeginsWith, EndsWith};
-ghost use Rattle.name_btree.specs.Fault.{HasCause, BreaksBeside, BarsBeside, BarsTable};
+ghost use Rattle.name_btree.specs.Fault.{outer_told, HasCause, BreaksBeside, BarsBeside, BarsTable};
 ghost use Rattle.name_page.specs.Lookups.{entry_with, entry_after, highest_of, last_that, same_name};
 ghost use Rattle.name_page.specs.declared.pages.TheConstants.{MOST_REACHED};
 ghost use Rattle.name_page.specs.Looks.{OnlyReaches, Shows};
@@ -43,10 +43,10 @@ pub(crate) fn entry_in(entries: &Entries, key: &Key) -> Option<Entry>
 /// The entry with this key.
 pub fn find<T: Pages>(t: &mut T, key: &Key) -> Result<Option<Entry>, TreeFault>
     requires { MOST_REACHED ≤ reaches (T.step t.old) }
-    ensures calls { OnlyReaches T.Pages t.old t.new }
+    ensures calls { OnlyReaches T.Pages (outer_told result) t.old t.new }
     ensures reaches { reaches (T.step t.old) ≤ reaches (T.step t.new) + 6 }
     ensures found { IfOk result (λ found. T.trusted t.new → (height : ℕ) → IsTree (T.step t.old).images height → found ≡ entry_with key.now (table_of (T.step t.old).images height)) }
-    ensures fault { IfErr result (HasCause (T.causes t.old t.new) (T.step t.new) (BreaksTable (T.step t.new).images) (BarsTable (T.step t.new))) }
+    ensures fault { IfErr result (HasCause (T.step t.new) (BreaksTable (T.step t.new).images) (BarsTable (T.step t.new))) }
 {
     let found = leaf_below(t, top(), 0, &Cut::UpTo(key.copied()))?;
     Ok(entry_in(&found.entries, key))
@@ -92,10 +92,10 @@ fn named(entry: Entry, name: &FileName) -> Option<Entry>
 // The first entry below a child beside the way.
 fn first_below<T: Pages>(t: &mut T, next: Neighbour) -> Result<Entry, TreeFault>
     requires { 6 ≤ reaches (T.step t.old) }
-    ensures calls { OnlyReaches T.Pages t.old t.new }
+    ensures calls { OnlyReaches T.Pages (outer_told result) t.old t.new }
     ensures reaches { reaches (T.step t.old) ≤ reaches (T.step t.new) + 6 }
     ensures first { IfOk result (λ first. Shows (T.step t.new) (λ pages. BeginsWith pages next.child first)) }
-    ensures fault { IfErr result (HasCause (T.causes t.old t.new) (T.step t.new) (BreaksBeside (T.step t.new).images next) (BarsBeside (T.step t.new) next)) }
+    ensures fault { IfErr result (HasCause (T.step t.new) (BreaksBeside (T.step t.new).images next) (BarsBeside (T.step t.new) next)) }
 {
     let found = leaf_below(t, next.child, next.above, &Cut::Start)?;
     if found.entries.len() == 0 {
@@ -107,10 +107,10 @@ fn first_below<T: Pages>(t: &mut T, next: Neighbour) -> Result<Entry, TreeFault>
 // The last entry below a child beside the way.
 fn last_below<T: Pages>(t: &mut T, previous: Neighbour) -> Result<Entry, TreeFault>
     requires { 6 ≤ reaches (T.step t.old) }
-    ensures calls { OnlyReaches T.Pages t.old t.new }
+    ensures calls { OnlyReaches T.Pages (outer_told result) t.old t.new }
     ensures reaches { reaches (T.step t.old) ≤ reaches (T.step t.new) + 6 }
     ensures last { IfOk result (λ last. Shows (T.step t.new) (λ pages. EndsWith pages previous.child last)) }
-    ensures fault { IfErr result (HasCause (T.causes t.old t.new) (T.step t.new) (BreaksBeside (T.step t.new).images previous) (BarsBeside (T.step t.new) previous)) }
+    ensures fault { IfErr result (HasCause (T.step t.new) (BreaksBeside (T.step t.new).images previous) (BarsBeside (T.step t.new) previous)) }
 {
     let found = leaf_below(t, previous.child, previous.above, &Cut::End)?;
     let count = found.entries.len();
@@ -133,11 +133,11 @@ fn cut_after(after: Option<&Key>) -> Cut
 /// The entry with the least later key. Any key is later than none.
 pub fn next_after<T: Pages>(t: &mut T, after: Option<&Key>) -> Result<Option<Entry>, TreeFault>
     requires { MOST_REACHED ≤ reaches (T.step t.old) }
-    ensures calls { OnlyReaches T.Pages t.old t.new }
+    ensures calls { OnlyReaches T.Pages (outer_told result) t.old t.new }
     ensures reaches { reaches (T.step t.old) ≤ reaches (T.step t.new) + 12 }
     ensures found { IfOk result (λ found. T.trusted t.new → (height : ℕ) → IsTree (T.step t.old).images height
         → found ≡ entry_after (option_copied after.entry) (table_of (T.step t.old).images height)) }
-    ensures fault { IfErr result (HasCause (T.causes t.old t.new) (T.step t.new) (BreaksTable (T.step t.new).images) (BarsTable (T.step t.new))) }
+    ensures fault { IfErr result (HasCause (T.step t.new) (BreaksTable (T.step t.new).images) (BarsTable (T.step t.new))) }
 {
     let cut = cut_after(after);
     let found = leaf_below(t, top(), 0, &cut)?;
@@ -153,10 +153,10 @@ pub fn next_after<T: Pages>(t: &mut T, after: Option<&Key>) -> Result<Option<Ent
 /// The entry with the highest version of a name.
 pub fn highest<T: Pages>(t: &mut T, name: &FileName) -> Result<Option<Entry>, TreeFault>
     requires { MOST_REACHED ≤ reaches (T.step t.old) }
-    ensures calls { OnlyReaches T.Pages t.old t.new }
+    ensures calls { OnlyReaches T.Pages (outer_told result) t.old t.new }
     ensures reaches { reaches (T.step t.old) ≤ reaches (T.step t.new) + 12 }
     ensures found { IfOk result (λ found. T.trusted t.new → (height : ℕ) → IsTree (T.step t.old).images height → found ≡ highest_of name.now (table_of (T.step t.old).images height)) }
-    ensures fault { IfErr result (HasCause (T.causes t.old t.new) (T.step t.new) (BreaksTable (T.step t.new).images) (BarsTable (T.step t.new))) }
+    ensures fault { IfErr result (HasCause (T.step t.new) (BreaksTable (T.step t.new).images) (BarsTable (T.step t.new))) }
 {
     let cut = Cut::Named(name.copied());
     let found = leaf_below(t, top(), 0, &cut)?;

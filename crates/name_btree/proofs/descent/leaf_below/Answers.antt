@@ -6,14 +6,12 @@ use Rattle.name_page.specs.declared.node.Node.{Node}
 use Rattle.name_btree.specs.declared.descent.Way.{Way}
 use Rattle.name_page.specs.Node.{content_of}
 use Rattle.name_page.specs.Cut.{is_before}
-use Rattle.name_btree.specs.Fault.{IsMisfit, BarsPage}
 use Rattle.name_page.proofs.LookLaws.{reaches_still, reaches_then, agrees_before, agrees_now, agrees_at}
 use Rattle.name_page.specs.Looks.{Agrees, Shows}
 use Rattle.name_page.specs.Pages.{is_spare}
 use Rattle.name_page.proofs.CutLaws.{cuts_monotone}
 use Rattle.name_btree.proofs.DescentLaws.{IsOnWay, way_begins, way_down, way_ends}
 use Rattle.name_btree.proofs.PathLaws.{IsPath, path_begins, path_down, path_ends}
-use Rattle.name_btree.proofs.CauseLaws.{cause_map}
 use Rattle.name_btree.proofs.VisitedLaws.{IsVisitedWay, visited_down, misfit_below, deep_below}
 use Rattle.name_btree.proofs.descent.leaf_below.Goals as goal
 
@@ -38,16 +36,13 @@ returns-in_err-child_node-clause-fault g c =
     let s = g.T.Pages.step new in
     let fault = c.in_err-child_node.field-0.0 in
     let on = c.loop-above.invariant.visited s.images (agrees_before (g.T.Pages.step c.loop-above.t) s s.images c.in_err-child_node.ensures.calls.looks (agrees_now s)) in
-    let Before = g.T.Pages.causes c.loop-above.t new in
-    let After = g.T.Pages.causes c.args.t.now new in
-    let Br = IsMisfit s.images c.loop-above.way.child in
-    let Ba = BarsPage s c.loop-above.way.child.page in
-    let h = cause_map Before After s Br Br Ba Ba (λ r x. g.met.T.Pages.later c.args.t.now c.loop-above.t new r c.loop-above.invariant.calls.outside x) (λ p x. x) (λ p x. x) fault c.in_err-child_node.ensures.fault in
     let p = err_from_is_err_and c.from_residual.result c.from_residual.ensures.1 in
-    rw (p.1, p.2) (misfit_below After s fault c.args.above c.args.start c.loop-above.above c.loop-above.way on h)
+    rw (p.1, p.2) (misfit_below s fault c.args.above c.args.start c.loop-above.above c.loop-above.way on c.in_err-child_node.ensures.fault)
 
 pub returns-in_err-child_node-clause-calls : goal.returns-in_err-child_node-clause-calls
-returns-in_err-child_node-clause-calls g c = reaches_then g.T.Pages g.met.T.Pages.then c.args.t.now c.loop-above.t c.child_node.new.t c.loop-above.invariant.calls c.in_err-child_node.ensures.calls
+returns-in_err-child_node-clause-calls g c =
+    let p = err_from_is_err_and c.from_residual.result c.from_residual.ensures.1 in
+    rw (p.1, p.2) (reaches_then g.T.Pages g.met.T.Pages.then c.args.t.now c.loop-above.t c.child_node.new.t c.loop-above.invariant.calls c.in_err-child_node.ensures.calls)
 
 pub returns-in-Leaf-clause-calls : goal.returns-in-Leaf-clause-calls
 returns-in-Leaf-clause-calls g c = reaches_then g.T.Pages g.met.T.Pages.then c.args.t.now c.loop-above.t c.child_node.new.t c.loop-above.invariant.calls c.in_ok-child_node.ensures.calls

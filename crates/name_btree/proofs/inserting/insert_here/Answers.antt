@@ -30,7 +30,7 @@ returns-clause-calls g c =
     let old = c.args.t.now in
     let new = c.grow_leaf.new.t in
     let e = c.grow_leaf.ensures in
-    takes_only G old new (G.step old).images _ refl (e.grown (G.step old).images refl).takes e.outside (g.met.T.Pages.trust old new e.outside) e.images e.home
+    takes_only G old new (G.step old).images _ refl (e.grown (G.step old).images refl).takes e.outside (g.met.T.Pages.trust old new _ e.outside) e.images e.home
 
 pub returns-then-is_some-clause-calls : goal.returns-then-is_some-clause-calls
 returns-then-is_some-clause-calls g c = reaches_takes g.T.Pages c.args.t.now c.args.t.now (reaches_still g.T.Pages c.args.t.now (g.met.T.Pages.still c.args.t.now))

@@ -15,7 +15,12 @@ pub returns-in_err-found-clause-fault : goal.returns-in_err-found-clause-fault
 returns-in_err-found-clause-fault g c =
     let p = err_from_is_err_and c.from_residual.result c.from_residual.ensures.1 in
     let new = c.leaf_below.new.t in
-    rw (p.1, p.2) (neighbour_breaks (g.T.Pages.causes c.args.t.now new) (g.T.Pages.step new) c.in_err-found.field-0.0 c.args.next c.in_err-found.ensures.fault)
+    rw (p.1, p.2) (neighbour_breaks (g.T.Pages.step new) c.in_err-found.field-0.0 c.args.next c.in_err-found.ensures.fault)
 
 pub returns-clause-first : goal.returns-clause-first
 returns-clause-first g c = λ pages is. begins pages c.args.next.child c.in_ok-found.found c.get.result (c.in_ok-found.ensures.place pages is) c.get.ensures.there
+
+pub returns-in_err-found-clause-calls : goal.returns-in_err-found-clause-calls
+returns-in_err-found-clause-calls g c =
+    let p = err_from_is_err_and c.from_residual.result c.from_residual.ensures.1 in
+    rw (p.1, p.2) c.in_err-found.ensures.calls

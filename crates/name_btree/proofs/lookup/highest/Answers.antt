@@ -3,7 +3,7 @@ use Rattle.fsd_table.specs.declared.child.Child.{Child}
 use Rattle.name_page.specs.declared.cut.Cut.TheVariants.{Named}
 use Rattle.name_page.specs.Cut.{is_before}
 use Rattle.name_btree.specs.declared.descent.Neighbour.{Neighbour}
-use Rattle.name_page.specs.Looks.{OnlyReaches, Shows}
+use Rattle.name_page.specs.Looks.{Shows}
 use Rattle.name_page.proofs.LookLaws.{reaches_then, shows_trusted, agrees_before, agrees_now}
 use Rattle.name_btree.specs.Fault.{HasCause, BreaksBeside, BarsBeside}
 use Rattle.name_btree.specs.Descent.{IsPlace, EndsWith}
@@ -40,7 +40,7 @@ returns-in_ok-last_below-in-Some-previous-clause-found g c = λ trusted height t
     let last = ap (λ (n : List ℕ). last_that (λ x. is_before (Named n) x.key) found.entries) (sym c.copied.ensures) ∙ sym c.last_before.ensures ∙ c.in_default.is in
     let e = c.in_ok-last_below-in-Some-previous.field-0 in
     let new = c.last_below.new.t in
-    let both : OnlyReaches g.T.Pages c.args.t.now new = reaches_then g.T.Pages g.met.T.Pages.then c.args.t.now c.leaf_below.new.t new c.in_ok-found.ensures.calls second.calls in
+    let both = reaches_then g.T.Pages g.met.T.Pages.then c.args.t.now c.leaf_below.new.t new c.in_ok-found.ensures.calls second.calls in
     let B : Neighbour → Type 0 = λ (n : Neighbour). Shows (g.T.Pages.step new) (λ x. EndsWith x n.child e) in
     let here : B c.in-Some-previous.previous = subst B c.in-Some-previous.previous-is second.last in
     let end = shows_trusted g.T.Pages (λ x. EndsWith x c.in-Some-previous.previous.child e) c.args.t.now new both here trusted in
@@ -63,7 +63,7 @@ pub returns-in_err-found-clause-fault : goal.returns-in_err-found-clause-fault
 returns-in_err-found-clause-fault g c =
     let p = err_from_is_err_and c.from_residual.result c.from_residual.ensures.1 in
     let new = c.leaf_below.new.t in
-    rw (p.1, p.2) (top_breaks (g.T.Pages.causes c.args.t.now new) (g.T.Pages.step new) c.in_err-found.field-0.0 c.top.result c.top.ensures c.in_err-found.ensures.fault)
+    rw (p.1, p.2) (top_breaks (g.T.Pages.step new) c.in_err-found.field-0.0 c.top.result c.top.ensures c.in_err-found.ensures.fault)
 
 pub returns-in_err-last_below-in-Some-previous-clause-fault : goal.returns-in_err-last_below-in-Some-previous-clause-fault
 returns-in_err-last_below-in-Some-previous-clause-fault g c =
@@ -71,16 +71,22 @@ returns-in_err-last_below-in-Some-previous-clause-fault g c =
     let new = c.last_below.new.t in
     let s = g.T.Pages.step new in
     let fault = c.in_err-last_below-in-Some-previous.field-0.0 in
-    let Outer = g.T.Pages.causes mid new in
-    let P : Neighbour → Type 0 = λ (n : Neighbour). HasCause Outer s (BreaksBeside s.images n) (BarsBeside s n) fault in
+    let P : Neighbour → Type 0 = λ (n : Neighbour). HasCause s (BreaksBeside s.images n) (BarsBeside s n) fault in
     let h : P c.in-Some-previous.previous = subst P c.in-Some-previous.previous-is c.in_err-last_below-in-Some-previous.ensures.fault in
     let beside = c.in_ok-found.ensures.beside s.images (agrees_before (g.T.Pages.step mid) s s.images c.in_err-last_below-in-Some-previous.ensures.calls.looks (agrees_now s)) in
     let p = err_from_is_err_and c.from_residual-in_err-last_below-in-Some-previous.result c.from_residual-in_err-last_below-in-Some-previous.ensures.1 in
-    rw (p.1, p.2) (previous_breaks Outer (g.T.Pages.causes c.args.t.now new) s c.top.result c.in_ok-found.found c.top.ensures beside
-    (λ r x. g.met.T.Pages.later c.args.t.now mid new r c.in_ok-found.ensures.calls.outside x) c.in-Some-previous.previous fault h c.in-Some-previous.is)
+    rw (p.1, p.2) (previous_breaks s c.top.result c.in_ok-found.found c.top.ensures beside
+    c.in-Some-previous.previous fault h c.in-Some-previous.is)
 
 pub returns-in_ok-last_below-in-Some-previous-clause-calls : goal.returns-in_ok-last_below-in-Some-previous-clause-calls
 returns-in_ok-last_below-in-Some-previous-clause-calls g c = reaches_then g.T.Pages g.met.T.Pages.then c.args.t.now c.leaf_below.new.t c.last_below.new.t c.in_ok-found.ensures.calls c.in_ok-last_below-in-Some-previous.ensures.calls
 
 pub returns-in_err-last_below-in-Some-previous-clause-calls : goal.returns-in_err-last_below-in-Some-previous-clause-calls
-returns-in_err-last_below-in-Some-previous-clause-calls g c = reaches_then g.T.Pages g.met.T.Pages.then c.args.t.now c.leaf_below.new.t c.last_below.new.t c.in_ok-found.ensures.calls c.in_err-last_below-in-Some-previous.ensures.calls
+returns-in_err-last_below-in-Some-previous-clause-calls g c =
+    let p = err_from_is_err_and c.from_residual-in_err-last_below-in-Some-previous.result c.from_residual-in_err-last_below-in-Some-previous.ensures.1 in
+    rw (p.1, p.2) (reaches_then g.T.Pages g.met.T.Pages.then c.args.t.now c.leaf_below.new.t c.last_below.new.t c.in_ok-found.ensures.calls c.in_err-last_below-in-Some-previous.ensures.calls)
+
+pub returns-in_err-found-clause-calls : goal.returns-in_err-found-clause-calls
+returns-in_err-found-clause-calls g c =
+    let p = err_from_is_err_and c.from_residual.result c.from_residual.ensures.1 in
+    rw (p.1, p.2) c.in_err-found.ensures.calls

@@ -4,7 +4,7 @@ use Rattle.fsd_table.specs.declared.child.Child.{Child}
 use Rattle.fsd_table.specs.Table.{top}
 use Rattle.name_page.specs.Cut.{is_before}
 use Rattle.name_btree.specs.declared.descent.Neighbour.{Neighbour}
-use Rattle.name_page.specs.Looks.{OnlyReaches, Shows}
+use Rattle.name_page.specs.Looks.{Shows}
 use Rattle.name_page.proofs.LookLaws.{reaches_then, shows_trusted, agrees_before, agrees_now}
 use Rattle.name_btree.specs.Fault.{HasCause, BreaksBeside, BarsBeside}
 use Rattle.name_btree.specs.Descent.{IsPlace, BeginsWith}
@@ -36,7 +36,7 @@ returns-in_ok-first_below-in-Some-next-clause-found g c = λ trusted.
     let place : P top = subst P c.top.ensures seen in
     let e = c.in_ok-first_below-in-Some-next.field-0 in
     let new = c.first_below.new.t in
-    let both : OnlyReaches g.T.Pages c.args.t.now new = reaches_then g.T.Pages g.met.T.Pages.then c.args.t.now c.leaf_below.new.t new c.in_ok-found.ensures.calls second.calls in
+    let both = reaches_then g.T.Pages g.met.T.Pages.then c.args.t.now c.leaf_below.new.t new c.in_ok-found.ensures.calls second.calls in
     let B : Neighbour → Type 0 = λ (n : Neighbour). Shows (g.T.Pages.step new) (λ x. BeginsWith x n.child e) in
     let here : B c.in-Some-next.next = subst B c.in-Some-next.next-is second.first in
     let begin = shows_trusted g.T.Pages (λ x. BeginsWith x c.in-Some-next.next.child e) c.args.t.now new both here trusted in
@@ -57,7 +57,7 @@ pub returns-in_err-found-clause-fault : goal.returns-in_err-found-clause-fault
 returns-in_err-found-clause-fault g c =
     let p = err_from_is_err_and c.from_residual.result c.from_residual.ensures.1 in
     let new = c.leaf_below.new.t in
-    rw (p.1, p.2) (top_breaks (g.T.Pages.causes c.args.t.now new) (g.T.Pages.step new) c.in_err-found.field-0.0 c.top.result c.top.ensures c.in_err-found.ensures.fault)
+    rw (p.1, p.2) (top_breaks (g.T.Pages.step new) c.in_err-found.field-0.0 c.top.result c.top.ensures c.in_err-found.ensures.fault)
 
 pub returns-in_err-first_below-in-Some-next-clause-fault : goal.returns-in_err-first_below-in-Some-next-clause-fault
 returns-in_err-first_below-in-Some-next-clause-fault g c =
@@ -65,16 +65,22 @@ returns-in_err-first_below-in-Some-next-clause-fault g c =
     let new = c.first_below.new.t in
     let s = g.T.Pages.step new in
     let fault = c.in_err-first_below-in-Some-next.field-0.0 in
-    let Outer = g.T.Pages.causes mid new in
-    let P : Neighbour → Type 0 = λ (n : Neighbour). HasCause Outer s (BreaksBeside s.images n) (BarsBeside s n) fault in
+    let P : Neighbour → Type 0 = λ (n : Neighbour). HasCause s (BreaksBeside s.images n) (BarsBeside s n) fault in
     let h : P c.in-Some-next.next = subst P c.in-Some-next.next-is c.in_err-first_below-in-Some-next.ensures.fault in
     let beside = c.in_ok-found.ensures.beside s.images (agrees_before (g.T.Pages.step mid) s s.images c.in_err-first_below-in-Some-next.ensures.calls.looks (agrees_now s)) in
     let p = err_from_is_err_and c.from_residual-in_err-first_below-in-Some-next.result c.from_residual-in_err-first_below-in-Some-next.ensures.1 in
-    rw (p.1, p.2) (next_breaks Outer (g.T.Pages.causes c.args.t.now new) s c.top.result c.in_ok-found.found c.top.ensures beside
-    (λ r x. g.met.T.Pages.later c.args.t.now mid new r c.in_ok-found.ensures.calls.outside x) c.in-Some-next.next fault h c.in-Some-next.is)
+    rw (p.1, p.2) (next_breaks s c.top.result c.in_ok-found.found c.top.ensures beside
+    c.in-Some-next.next fault h c.in-Some-next.is)
 
 pub returns-in_ok-first_below-in-Some-next-clause-calls : goal.returns-in_ok-first_below-in-Some-next-clause-calls
 returns-in_ok-first_below-in-Some-next-clause-calls g c = reaches_then g.T.Pages g.met.T.Pages.then c.args.t.now c.leaf_below.new.t c.first_below.new.t c.in_ok-found.ensures.calls c.in_ok-first_below-in-Some-next.ensures.calls
 
 pub returns-in_err-first_below-in-Some-next-clause-calls : goal.returns-in_err-first_below-in-Some-next-clause-calls
-returns-in_err-first_below-in-Some-next-clause-calls g c = reaches_then g.T.Pages g.met.T.Pages.then c.args.t.now c.leaf_below.new.t c.first_below.new.t c.in_ok-found.ensures.calls c.in_err-first_below-in-Some-next.ensures.calls
+returns-in_err-first_below-in-Some-next-clause-calls g c =
+    let p = err_from_is_err_and c.from_residual-in_err-first_below-in-Some-next.result c.from_residual-in_err-first_below-in-Some-next.ensures.1 in
+    rw (p.1, p.2) (reaches_then g.T.Pages g.met.T.Pages.then c.args.t.now c.leaf_below.new.t c.first_below.new.t c.in_ok-found.ensures.calls c.in_err-first_below-in-Some-next.ensures.calls)
+
+pub returns-in_err-found-clause-calls : goal.returns-in_err-found-clause-calls
+returns-in_err-found-clause-calls g c =
+    let p = err_from_is_err_and c.from_residual.result c.from_residual.ensures.1 in
+    rw (p.1, p.2) c.in_err-found.ensures.calls
