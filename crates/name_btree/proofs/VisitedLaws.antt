@@ -94,7 +94,7 @@ deep_below pages above0 start above w on deep v = too_deep_breaks pages (above +
     deeper : (n : ℕ) → max_height ≤ n → max_height < n + 1
     deeper n h = omega arith
 
-found_beside : (pages : List (List ℕ)) (c : Child) (found : Found) → c ≡ top → HasNeighbours pages 0 c found → IfSome found.previous (IsNeighbour pages) × IfSome found.next (IsNeighbour pages)
+pub found_beside : (pages : List (List ℕ)) (c : Child) (found : Found) → c ≡ top → HasNeighbours pages 0 c found → IfSome found.previous (IsNeighbour pages) × IfSome found.next (IsNeighbour pages)
 found_beside pages c found is beside = beside (subst (IsVisited pages 1) (sym is) (visited_top pages))
 
 module _ (s : Step) (c : Child) (found : Found) (is : c ≡ top) (beside : HasNeighbours s.images 0 c found) (n : Neighbour) (fault : TreeFault)

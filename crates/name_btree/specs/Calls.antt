@@ -11,6 +11,8 @@ use Rattle.name_btree.specs.declared.calls.Call.{Call}
 use Rattle.name_btree.specs.declared.calls.Call.TheVariants.{Find, Highest, NextAfter, Insert, Remove, Replace}
 use Rattle.name_btree.specs.declared.fault.TreeFault.{TreeFault}
 use Rattle.name_btree.specs.declared.fault.TreeFault.TheVariants.{Pages, Broken}
+use Rattle.name_btree.specs.declared.lookup.FoundEntry.{FoundEntry}
+use Rattle.name_btree.specs.Lookup.{entry_of}
 use Rattle.name_btree.specs.Map.{IsTable, HasTable, without_all}
 use Rattle.name_btree.specs.Replace.{HasAsLong}
 
@@ -97,6 +99,11 @@ pub record StopsAt (table : List Entry) (calls : List Call) (answers : List (Opt
 abbrev pub RunsTo : List Entry → List Call → List (Option Entry) → Result (Unit {0}) TreeFault → Step → Type 0
 RunsTo table calls answers (Ok done) s = Runs table calls answers s
 RunsTo table calls answers (Err fault) s = StopsAt table calls answers fault s
+
+-- an answer without the leaf that has it
+abbrev pub without_page : Result (Option FoundEntry) TreeFault → Result (Option Entry) TreeFault
+without_page (Ok found) = Ok (entry_of found)
+without_page (Err fault) = Err fault
 
 -- a change that is done answers nothing
 abbrev pub without_answer : Result (Unit {0}) TreeFault → Result (Option Entry) TreeFault

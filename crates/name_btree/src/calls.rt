@@ -2,7 +2,7 @@
 ghost use Rattle.std.specs.Prelude.{◌≡◌, ◌≤◌, ℕ, length};
 ghost use Rattle.std.specs.List.{AllByRecursion};
 ghost use Rattle.fsd_table.specs.Tree.{IsTree, table_of};
-ghost use Rattle.name_btree.specs.Calls.{Allows, Carries, IsFormed, Permits, RunsTo, without_answer};
+ghost use Rattle.name_btree.specs.Calls.{Allows, Carries, IsFormed, Permits, RunsTo, without_answer, without_page};
 ghost use Rattle.name_btree.specs.Fault.{outer_told};
 ghost use Rattle.name_btree.specs.Map.{IsTable};
 ghost use Rattle.name_page.specs.declared.pages.TheConstants.{MOST_CHANGED, MOST_REACHED};
@@ -10,7 +10,7 @@ ghost use Rattle.name_page.specs.Looks.{OnlyEdits};
 
 use crate::fault::TreeFault;
 use crate::inserting::insert;
-use crate::lookup::{find, highest, next_after};
+use crate::lookup::{FoundEntry, find, highest, next_after};
 use crate::removing::remove;
 use crate::renewing::RenewedPages;
 use crate::replacing::replace_same_size;
@@ -45,6 +45,17 @@ fn without_answer(done: Result<(), TreeFault>) -> Result<Option<Entry>, TreeFaul
     }
 }
 
+// The entry that was found.
+fn without_page(found: Result<Option<FoundEntry>, TreeFault>) -> Result<Option<Entry>, TreeFault>
+    ensures { result ≡ without_page found }
+{
+    match found {
+        Ok(Some(found)) => Ok(Some(found.entry)),
+        Ok(None) => Ok(None),
+        Err(fault) => Err(fault),
+    }
+}
+
 // Makes one call, in a step of its own, with the whole leave to change.
 fn carry_out<T: RenewedPages>(t: &mut T, call: &Call) -> Result<Option<Entry>, TreeFault>
     requires reached { MOST_REACHED ≤ (T.step t.old).most_reached }
@@ -58,9 +69,9 @@ fn carry_out<T: RenewedPages>(t: &mut T, call: &Call) -> Result<Option<Entry>, T
         return Err(TreeFault::Pages(refusal));
     }
     match call {
-        Call::Find(key) => find(t, key),
-        Call::Highest(name) => highest(t, name),
-        Call::NextAfter(key) => next_after(t, key.as_ref()),
+        Call::Find(key) => without_page(find(t, key)),
+        Call::Highest(name) => without_page(highest(t, name)),
+        Call::NextAfter(key) => without_page(next_after(t, key.as_ref())),
         Call::Insert(entry, gone) => without_answer(insert(t, entry, gone)),
         Call::Remove(key) => without_answer(remove(t, key)),
         Call::Replace(entry) => without_answer(replace_same_size(t, entry)),
