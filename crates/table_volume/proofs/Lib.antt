@@ -1,3 +1,4 @@
+pub mod CacheLaws
 pub mod CountLaws
 pub mod PageLaws
 pub mod TableLaws

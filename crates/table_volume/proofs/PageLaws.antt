@@ -23,6 +23,7 @@ use Rattle.log_thirds.specs.Disk.{bytes_in, reads}
 use Rattle.log_thirds.specs.Images.{AreLogged}
 use Rattle.log_thirds.proofs.ImageLaws.{image_there}
 use Rattle.group_commit.specs.Newest.{AreCopies, IsUnlogged, newest_by}
+use Rattle.group_commit.proofs.NewestLaws.{in_layout}
 use Rattle.group_commit.proofs.StandsLaws.{page_newest, page_in_memory}
 use Rattle.volume_contract.specs.State.{Known, Stands}
 use Rattle.table_volume.specs.State.{Holds, state}
@@ -63,7 +64,7 @@ module _ (v : VolumeValue) (k : Known) (now : Moment) (whole : IsWhole v) (stand
       (subst (λ (h : Head). StandsOver k.mounted.volume.layout k.mounted.anchor h stands.disk.records stands.disk.disk k.mounted.pages v.cache.dirty k.windows now.image) stands.fits.head
       (subst (λ (dirty : List ℕ). StandsOver k.mounted.volume.layout k.mounted.anchor k.mounted.head stands.disk.records stands.disk.disk k.mounted.pages dirty k.windows now.image) stands.fits.dirty stands.disk.over)))
 
-  indexed : IsIndexed v.log (records_by v.log.layout now.image v.log.anchor)
+  pub indexed : IsIndexed v.log (records_by v.log.layout now.image v.log.anchor)
   indexed = subst (λ (l : Layout). IsIndexed v.log (records_by l now.image v.log.anchor)) same_layout (subst (λ (a : Anchor). IsIndexed v.log (records_by k.mounted.volume.layout now.image a)) stands.fits.anchor stands.holds.indexed)
 
   module _ (page : ℕ) (within : page < v.layout.pages) where
@@ -72,20 +73,20 @@ module _ (v : VolumeValue) (k : Known) (now : Moment) (whole : IsWhole v) (stand
 
     -- what stands on the disk
     on_disk : newest_by v.log now.image page ≡ Some (image_at stands.disk.disk page)
-    on_disk = page_newest v.log.layout v.log.anchor v.log.head stands.disk.records stands.disk.disk k.mounted.pages v.cache.dirty k.windows now.image over page in_log_layout
+    on_disk = in_layout v.log page in_log_layout now.image ∙ page_newest v.log.layout v.log.anchor v.log.head stands.disk.records stands.disk.disk k.mounted.pages v.cache.dirty k.windows now.image over page in_log_layout
 
     -- what is read of the page
     pub page_read : IsCache v.cache → newest v.cache (newest_by v.log now.image) page ≡ Some (image_at k.mounted.pages page)
     page_read cache = by (bytes_of v.cache page) refl
       where
         by : (o : Option (List ℕ)) → bytes_of v.cache page ≡ o → option_or o (newest_by v.log now.image page) ≡ Some (image_at k.mounted.pages page)
-        by None none = page_in_memory v.log.layout v.log.anchor v.log.head stands.disk.records stands.disk.disk k.mounted.pages v.cache.dirty k.windows now.image over page in_log_layout (clean_absent v.cache cache page none)
+        by None none = in_layout v.log page in_log_layout now.image ∙ page_in_memory v.log.layout v.log.anchor v.log.head stands.disk.records stands.disk.disk k.mounted.pages v.cache.dirty k.windows now.image over page in_log_layout (clean_absent v.cache cache page none)
         by (Some bytes) there = ap (λ (x : List ℕ). Some x) (sym (stands.holds.pages page bytes there))
 
     module _ (a b : ℕ) (first : sector_at now.image a ≡ Damaged) (second : sector_at now.image b ≡ Damaged) where
       homes_not_lost : IsUnlogged v.log page → AreHomesOf v.log.layout page a b → ⊥
       homes_not_lost none homes =
-          let at_home : newest_by v.log now.image page ≡ home_of v.log.layout now.image page = ap (λ (o : Option (List ℕ)). option_or o (home_of v.log.layout now.image page)) (none (records_by v.log.layout now.image v.log.anchor) indexed) in
+          let at_home : newest_by v.log now.image page ≡ home_of v.log.layout now.image page = in_layout v.log page in_log_layout now.image ∙ ap (λ (o : Option (List ℕ)). option_or o (home_of v.log.layout now.image page)) (none (records_by v.log.layout now.image v.log.anchor) indexed) in
           let gone : home_of v.log.layout now.image page ≡ None =
           λ i. either_copy (sector_bytes ((ap (sector_at now.image) (sym homes.first) ∙ first) i)) (sector_bytes ((ap (sector_at now.image) (sym homes.second) ∙ second) i)) in
           absurd (cc (on_disk, at_home, gone))

@@ -4,7 +4,7 @@ ghost use Rattle.fsd_bytes.specs.declared.key.Key.{Key};
 ghost use Rattle.sector_disk.specs.declared.sector.Sector.TheVariants.{Damaged};
 ghost use Rattle.sector_disk.specs.Image.{AreShort, sector_at};
 ghost use Rattle.sector_disk.specs.Machine.{Moment};
-ghost use Rattle.page_cache.specs.Cache.{IsCache, newest};
+ghost use Rattle.page_cache.specs.Cache.{AreNewest, CacheValue, IsCache, bytes_of, is_one_of, newest};
 ghost use Rattle.fsd_formats.specs.declared.entry.Entry.{Entry};
 ghost use Rattle.fsd_log.specs.Scan.{Placed};
 ghost use Rattle.fsd_table.specs.Breaks.{Breaks};
@@ -15,7 +15,7 @@ ghost use Rattle.fsd_files.specs.Answers.{entry_of, entry_after as entry_behind}
 ghost use Rattle.name_page.specs.Lookups.{entry_with, entry_after};
 ghost use Rattle.table_pages.specs.Kept.{images_of};
 ghost use Rattle.fsd_sound.specs.Mounted.{Mounted, image_at};
-ghost use Rattle.group_commit.specs.Newest.{AreCopies, newest_by};
+ghost use Rattle.group_commit.specs.Newest.{AreCopies, KnowsPages, newest_by};
 ghost use Rattle.volume_contract.specs.Causes.{HasUntaken};
 ghost use Rattle.volume_contract.specs.State.{Known, Ages, Stands};
 ghost use Rattle.table_volume.specs.State.{Holds, resident, state};
@@ -41,6 +41,14 @@ pub fn pages_are_read()
         images_of (newest v.cache (newest_by v.log now.image)) (length v.free_pages) ≡ k.mounted.pages }
     ensures never_lost { (v : VolumeValue) (k : Known) (now : Moment) (page a b : ℕ) → IsWhole v → Stands state Holds v k now → page < v.layout.pages → AreCopies v.log page a b →
         sector_at now.image a ≡ Damaged → sector_at now.image b ≡ Damaged → ⊥ }
+{}
+
+/// Over its disk it knows its pages, however the disk wears; and it stands there with each page that is brought into its cache.
+pub fn pages_are_known()
+    ensures knows { (v : VolumeValue) (k : Known) (now : Moment) → IsWhole v → AreShort now.windows → Stands state Holds v k now → KnowsPages v.log now }
+    ensures filled { (v : VolumeValue) (k : Known) (now : Moment) (c : CacheValue) → IsWhole v → Stands state Holds v k now →
+        c.dirty ≡ v.cache.dirty → ((page : ℕ) → IsTrue (is_one_of c.dirty page) → bytes_of c page ≡ bytes_of v.cache page) → AreNewest (newest_by v.log now.image) c →
+        Stands state Holds (record v { cache = c }) k now }
 {}
 
 /// The sectors of each entry of its table are taken: an entry that is met is none of its table where they aren't.
