@@ -1,7 +1,8 @@
 -- A group of commands, with the force behind it.
 use Rattle.std.proofs.Common.{◌≡◌, ℕ, ◌≤◌, Bool, true, false, List, [], ◌∷◌, ◌++◌, length, Some, refl, sym, ◌∙◌, ap, subst, arith, append_assoc}
 use Rattle.fsd_log.specs.Scan.{Placed}
-use Rattle.std.specs.Prelude.{IfOk, Result, Ok, Err}
+use Rattle.std.specs.Prelude.{⊤, not, IfOk, Result, Ok, Err}
+use Rattle.std.proofs.lemmas.Bool.{eq-eqb}
 use Rattle.std.proofs.lemmas.List.{append-nil, take_all}
 use Rattle.volume_layout.specs.declared.layout.Layout.{Layout}
 use Rattle.sector_disk.specs.declared.machine.Machine.{Ghosts}
@@ -24,8 +25,8 @@ use Rattle.fsd_runs.specs.Runs.{Goes, behind, changes_in, said_in, turns_begun}
 use Rattle.volume_turns.specs.declared.turns.End.{End}
 use Rattle.volume_turns.specs.declared.turns.End.TheVariants.{Fault as Stopped, Output}
 use Rattle.sector_disk.specs.Calls.{Since}
-use Rattle.volume_turns.specs.Group.{IsGroup, AllOrWorn, EndsGroup, LastIs, is_worn_end, unit_of}
-use Rattle.volume_turns.specs.Once.{ClosesAndSays, EndsClosed, InClose, IsDone, SaysClosed}
+use Rattle.volume_turns.specs.Group.{IsGroup, CutsOff, EndsGroup, WornIf, is_through, is_worn_end, turns_behind}
+use Rattle.volume_turns.specs.Once.{ClosesAndSays, EndsClosed, InClose, IsDone, SaysClosed, unit_of}
 use Rattle.volume_contract.specs.State.{State, Known, volume_of, Stands}
 use Rattle.volume_turns.specs.Turns.{Behind, InRun, RunsFrom, Said, StandsBehind}
 use Rattle.volume_turns.proofs.TurnLaws.{in_close}
@@ -88,17 +89,19 @@ module _ {S D : Type 0} (state : S → State) (has : S → Mounted → List Plac
       said_all : (M.now b).said ≡ (M.now m).said → Said turns (M.now a) (M.now b)
       said_all same = record { whole = length turns; most = omega arith; said = same ∙ behind_it.said ∙ ap (λ (x : List Turn). (M.now a).said ++ said_in x) (sym (take_all (length turns) turns (omega arith))) }
 
-      ends_by : (r : Result Bool End) (all : Bool) → IfOk r (λ x. x ≡ all) → AllOrWorn all ran.mets commands → EndsClosed behind_it.after forced_turn.said (M.now m) (M.now b) (unit_of r) → EndsGroup e k ran.mets commands (M.now a) (M.now b) r
-      ends_by (Ok x) all same so c = (subst (λ (y : Bool). AllOrWorn y ran.mets commands) (sym same) so, done c)
-      ends_by (Err Output) all same so c = tt
-      ends_by (Err (Stopped fault)) all same so c = (c.0, said_all c.1)
+      ends_by : (r : Result Bool End) (cut : Bool) → IfOk r (λ x. x ≡ not cut) → is_through cut ran.mets commands ≡ true → EndsClosed behind_it.after forced_turn.said (M.now m) (M.now b) (unit_of r) → EndsGroup e k cut ran.mets commands (M.now a) (M.now b) r
+      ends_by (Ok x) cut same through c = (same, through, done c)
+      ends_by (Err Output) cut same through c = tt
+      ends_by (Err (Stopped fault)) cut same through c = (c.0, said_all c.1)
 
-      pub group_done : (all : Bool) → IfOk result (λ x. x ≡ all) → AllOrWorn all ran.mets commands → ((v : Volume) (i : Image) → Behind run v i → LastIs result v i) → IsGroup M e k from commands a b result
-      group_done all same so last = record {
+      pub group_done : (cut : Bool) → IfOk result (λ x. x ≡ not cut) → CutsOff cut ran.mets commands → is_through cut ran.mets commands ≡ true → ((v : Volume) (i : Image) → Behind run v i → WornIf cut v i) → IsGroup M e k from commands a b result
+      group_done cut same before through last = record {
         mets = ran.mets;
-        goes = λ t le. goes_wider (in_runs k.windows) (M.left_since m t) (M.left_since b t) (λ c was. since t c (omega (arith, le, later)) was) (Behind run) (LastIs result) last e (M.now a).said from.image (volume_of k) ran.mets commands (ran.goes t le);
-        moments = both;
-        ends = ends_by result all same so at_text.ends;
+        cut = cut;
+        before = before;
+        goes = λ t le. goes_wider (in_runs k.windows) (M.left_since m t) (M.left_since b t) (λ c was. since t c (omega (arith, le, later)) was) (Behind run) (WornIf cut) last e (M.now a).said from.image (volume_of k) ran.mets commands (ran.goes t le);
+        moments = λ more. subst (λ (x : Bool). LeavesOnly M.moment M.left_since a b (InRun k (turns ++ turns_behind x more) (M.now a))) (sym through) (both more);
+        ends = ends_by result cut same through at_text.ends;
       }
 
 worn_is : (end : End) → is_worn_end end ≡ true → end ≡ Stopped Ends.WornOut
@@ -111,38 +114,29 @@ module _ {S D : Type 0} (state : S → State) (has : S → Mounted → List Plac
   pub group_all : e.says ≡ reply_text → (a m b : D) (w : S) → Since M m b → M.moment a ≤ M.moment m → RunsFrom state has M e k from commands a m w (Ok tt) → (result : Result Bool End) → IfOk result (λ x. x ≡ true)
       → ((x : Known) → Stands state has w x (M.now m) → ClosesAndSays M x (e.says Reply.Forced) m b (unit_of result)) → IsGroup M e k from commands a b result
   group_all says a m b w since later ran result same closes =
-      group_done state has M e says k from commands a m b w since later (Ok tt) ran ran.ends.1 result (closes ran.ends.1.after ran.ends.1.stands) true same ran.ends.0 (λ v i is. last v i result same)
-    where
-      last : (v : Volume) (i : Image) (r : Result Bool End) → IfOk r (λ x. x ≡ true) → LastIs r v i
-      last v i (Ok true) is = tt
-      last v i (Ok false) is = cc is
-      last v i (Err x) is = tt
+      group_done state has M e says k from commands a m b w since later (Ok tt) ran ran.ends.1 result (closes ran.ends.1.after ran.ends.1.stands) false same tt (eq-eqb (length ran.mets) (length commands) ran.ends.0) (λ v i is. tt)
 
   -- it was cut off
   pub group_worn : e.says ≡ reply_text → (a m b : D) (w : S) → Since M m b → M.moment a ≤ M.moment m → (end : End) → is_worn_end end ≡ true → RunsFrom state has M e k from commands a m w (Err end) → (result : Result Bool End) → IfOk result (λ x. x ≡ false)
       → ((x : Known) → Stands state has w x (M.now m) → ClosesAndSays M x (e.says Reply.Forced) m b (unit_of result)) → IsGroup M e k from commands a b result
   group_worn says a m b w since later end worn given result same closes = by (subst (λ (x : End). RunsFrom state has M e k from commands a m w (Err x)) (worn_is end worn) given)
     where
-      last : (v : Volume) (i : Image) (r : Result Bool End) → IfOk r (λ x. x ≡ false) → Behind (Err (Stopped Ends.WornOut)) v i → LastIs r v i
-      last v i (Ok true) is worn_out = tt
-      last v i (Ok false) is worn_out = worn_out
-      last v i (Err x) is worn_out = tt
-
       by : RunsFrom state has M e k from commands a m w (Err (Stopped Ends.WornOut)) → IsGroup M e k from commands a b result
-      by ran = group_done state has M e says k from commands a m b w since later (Err (Stopped Ends.WornOut)) ran ran.ends.1 result (closes ran.ends.1.after ran.ends.1.stands) false same ran.ends.0 (λ v i is. last v i result same is)
+      by ran = group_done state has M e says k from commands a m b w since later (Err (Stopped Ends.WornOut)) ran ran.ends.1 result (closes ran.ends.1.after ran.ends.1.stands) true same ran.ends.0 refl (λ v i is. is)
 
   -- it was broken off
+  module _ (a m : D) (w : S) (end : End) (ran : RunsFrom state has M e k from commands a m w (Err end)) where
+    stops : ((v : Volume) (i : Image) → Behind (Err end) v i → ⊤) → EndsGroup e k false ran.mets commands (M.now a) (M.now m) (Err end) → IsGroup M e k from commands a m (Err end)
+    stops last ends = record {
+      mets = ran.mets;
+      cut = false;
+      before = tt;
+      goes = λ t le. goes_wider (in_runs k.windows) (M.left_since m t) (M.left_since m t) (λ c was. was) (Behind (Err end)) (WornIf false) last e (M.now a).said from.image (volume_of k) ran.mets commands (ran.goes t le);
+      moments = λ more. ran.moments (turns_behind (is_through false ran.mets commands) more);
+      ends = ends;
+    }
+
   pub group_stop : (a m : D) (w : S) (end : End) → is_worn_end end ≡ false → RunsFrom state has M e k from commands a m w (Err end) → IsGroup M e k from commands a m (Err end)
   group_stop a m w (Stopped Ends.WornOut) other ran = cc other
-  group_stop a m w (Stopped why) other ran = record {
-    mets = ran.mets;
-    goes = λ t le. goes_wider (in_runs k.windows) (M.left_since m t) (M.left_since m t) (λ c was. was) (Behind (Err (Stopped why))) (LastIs (Err (Stopped why))) (λ v i is. tt) e (M.now a).said from.image (volume_of k) ran.mets commands (ran.goes t le);
-    moments = λ more. ran.moments (forced_turn ∷ more);
-    ends = ran.ends;
-  }
-  group_stop a m w Output other ran = record {
-    mets = ran.mets;
-    goes = λ t le. goes_wider (in_runs k.windows) (M.left_since m t) (M.left_since m t) (λ c was. was) (Behind (Err Output)) (LastIs (Err Output)) (λ v i is. tt) e (M.now a).said from.image (volume_of k) ran.mets commands (ran.goes t le);
-    moments = λ more. ran.moments (forced_turn ∷ more);
-    ends = tt;
-  }
+  group_stop a m w (Stopped why) other ran = stops a m w (Stopped why) ran (λ v i is. tt) ran.ends
+  group_stop a m w Output other ran = stops a m w Output ran (λ v i is. tt) tt

@@ -8,3 +8,4 @@ pub mod OnceLaws
 pub mod MountLaws
 pub mod OneShotLaws
 pub mod GroupLaws
+pub mod LineLaws

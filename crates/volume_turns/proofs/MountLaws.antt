@@ -28,11 +28,9 @@ use Rattle.fsd_runs.specs.Runs.{Goes, Starts, Run, behind, changes_in, forced_in
 use Rattle.fsd_runs.specs.declared.request.Request.TheVariants.{One}
 use Rattle.volume_turns.specs.declared.turns.End.{End}
 use Rattle.volume_turns.specs.declared.turns.End.TheVariants.{Fault as Stopped, Output}
-use Rattle.volume_turns.specs.declared.once.Stop.{Stop}
-use Rattle.volume_turns.specs.declared.once.Stop.TheVariants.{Ended}
 use Rattle.sector_disk.specs.Calls.{Since}
 use Rattle.volume_contract.specs.Mount.{SoundBefore, SoundSince, Settled}
-use Rattle.volume_turns.specs.Once.{Anything, EndsAlone, IsDone, OnceMounted, OnceEnds}
+use Rattle.volume_turns.specs.Once.{Anything, EndsAlone, IsDone, OnceMounted, OnceEnds, status_alone}
 use Rattle.volume_contract.specs.State.{Known, volume_of, forced_of}
 use Rattle.volume_turns.specs.Turns.{InRun}
 use Rattle.volume_turns.proofs.TurnLaws.{newer_own, forced_none, says_nothing}
@@ -121,10 +119,6 @@ module _ (l : Layout) (windows : List WeakRun) (h : List Change) (f n : ℕ) (pr
 
 -- ---- the whole
 
-abbrev pub stop_of : Result (Unit {0}) End → Result (Unit {0}) Stop
-stop_of (Ok x) = Ok x
-stop_of (Err end) = Err (Ended end)
-
 module _ {D : Type 0} (M : Ghosts D) (l : Layout) (windows : List WeakRun) (h : List Change) (f n : ℕ) (prefix : IsPrefixOf h f n) (k : Known) (a m b : D) (s : Settled l windows h n k (M.now a) (M.now m)) (quiet : (M.now m).said ≡ (M.now a).said)
     (mount : LeavesOnly M.moment M.left_since a m (λ left. SoundBefore l windows h f (M.now a) left ⊎ SoundSince l windows h n (M.now a) left))
     (since : Since M m b) (here : M.left_since m (M.moment m) (M.now m)) (now : M.left_since b (M.moment m) (M.now b)) (command : Command) (mets : List Met) where
@@ -149,11 +143,11 @@ module _ {D : Type 0} (M : Ghosts D) (l : Layout) (windows : List WeakRun) (h : 
           (subst (λ (x : List WeakRun). Goes (in_runs x) (M.left_since b (M.moment m)) Anything (alone command) (M.now m).said (M.now m).image (volume_of k) mets (command ∷ [])) s.known goes);
     }
 
-    replied : IsDone k turns (behind mets (volume_of k) (command ∷ [])) (M.now m) (M.now b) → IsReplied l windows h n (run_turns run_is) (run_status run_is) (run_end run_is) (M.now a) (M.now b) (run_status run_is)
-    replied d =
+    replied : (status : ℕ) → status ≡ status_alone command mets (volume_of k) → IsDone k turns (behind mets (volume_of k) (command ∷ [])) (M.now m) (M.now b) → IsReplied l windows h n (run_turns run_is) (run_status run_is) (run_end run_is) (M.now a) (M.now b) status
+    replied status same d =
         let all : length (k.changes ++ changes_in turns) ≡ n + length (changes_in turns) = let sum = length-append k.changes (changes_in turns) in let known = known_length l windows h f n prefix k (M.now a) (M.now m) s quiet in omega (arith, sum, known) in
         record {
-          ends = refl;
+          ends = same;
           said = d.said ∙ ap (λ (x : List ℕ). x ++ said_in turns) quiet;
           run = s.run;
           settled = d.windows ∙ s.settled;
@@ -162,18 +156,19 @@ module _ {D : Type 0} (M : Ghosts D) (l : Layout) (windows : List WeakRun) (h : 
           tells = subst (λ (x : Layout). told x (M.now b).image ≡ Some (telling_of (behind mets (volume_of k) (command ∷ [])))) s.layout d.tells;
         }
 
-    ended : (r : Result (Unit {0}) End) → EndsAlone command k mets (M.now m) (M.now b) r → OnceEnds l windows h n run_is (M.now a) (M.now b) (stop_of r)
-    ended (Ok x) e = (e.0, replied e.1)
+    ended : (r : Result ℕ End) → EndsAlone command k mets (M.now m) (M.now b) r → OnceEnds l windows h n run_is (M.now a) (M.now b) r
+    ended (Ok status) e = (e.0, replied status e.1 e.2)
     ended (Err (Stopped fault)) e = (e.0, e.1 ∙ quiet)
     ended (Err Output) e = tt
 
-    pub once_mounted : LeavesOnly M.moment M.left_since m b (InRun k turns (M.now m)) → (result : Result (Unit {0}) Stop) → OnceEnds l windows h n run_is (M.now a) (M.now b) result
-        → OnceMounted command l windows h f (M.left_since b) (LeavesOnly M.moment M.left_since a b) (M.now a) (M.now b) result
+    pub once_mounted : LeavesOnly M.moment M.left_since m b (InRun k turns (M.now m)) → (result : Result ℕ End) → OnceEnds l windows h n run_is (M.now a) (M.now b) result
+        → OnceMounted command l windows h f (M.moment b) (M.left_since b) (LeavesOnly M.moment M.left_since a b) (M.now a) (M.now b) result
     once_mounted moments result ends = record {
       count = n;
       prefix = prefix;
       next = s.run;
       at = M.moment m;
+      begun = moments.later;
       from = (M.now m).image;
       stood = record { moment = M.now m; passed = since (M.moment m) (M.now m) (omega arith) here; image = refl; so_far = quiet };
       settled = s.settled;
@@ -188,7 +183,7 @@ module _ {D : Type 0} (M : Ghosts D) (l : Layout) (windows : List WeakRun) (h : 
       ends = ends;
     }
 
-  pub mounted_alone : (r : Result (Unit {0}) End) (moments : LeavesOnly M.moment M.left_since m b (InRun k turns (M.now m)))
+  pub mounted_alone : (r : Result ℕ End) (moments : LeavesOnly M.moment M.left_since m b (InRun k turns (M.now m)))
       → Goes (in_runs k.windows) (M.left_since b (M.moment m)) Anything (alone command) (M.now m).said (M.now m).image (volume_of k) mets (command ∷ []) → EndsAlone command k mets (M.now m) (M.now b) r
-      → OnceMounted command l windows h f (M.left_since b) (LeavesOnly M.moment M.left_since a b) (M.now a) (M.now b) (stop_of r)
-  mounted_alone r moments goes ends = once_mounted goes moments (stop_of r) (ended goes r ends)
+      → OnceMounted command l windows h f (M.moment b) (M.left_since b) (LeavesOnly M.moment M.left_since a b) (M.now a) (M.now b) r
+  mounted_alone r moments goes ends = once_mounted goes moments r (ended goes r ends)

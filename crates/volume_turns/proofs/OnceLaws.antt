@@ -1,7 +1,7 @@
 -- One command by itself.
 use Rattle.std.proofs.Common.{◌≡◌, ℕ, zero, suc, ◌≤◌, Bool, false, List, [], ◌∷◌, ◌++◌, length, take, Option, Some, refl, sym, ◌∙◌, ap, subst, arith}
 use Rattle.fsd_log.specs.Scan.{Placed}
-use Rattle.std.specs.Prelude.{IsTrue, Result, Ok, Err, OnOk, IfErr}
+use Rattle.std.specs.Prelude.{IsTrue, Result, Ok, Err, OnOk, IfOk, IfErr}
 use Rattle.std.proofs.lemmas.List.{append-nil}
 use Rattle.volume_layout.specs.declared.layout.Layout.{Layout}
 use Rattle.fsd_bytes.specs.declared.refusal.Refusal.{Refusal}
@@ -25,13 +25,13 @@ use Rattle.fsd_texts.specs.declared.command.Command.{Command}
 use Rattle.fsd_texts.specs.declared.fault.Fault.{Fault}
 use Rattle.fsd_texts.specs.declared.fault.Fault.TheVariants as Ends
 use Rattle.fsd_runs.specs.Commands.{answer, reply_alone}
-use Rattle.fsd_runs.specs.Errands.{Errand, Turn, alone, generated, blank}
+use Rattle.fsd_runs.specs.Errands.{Errand, Turn, alone, generated, blank, reply_status}
 use Rattle.fsd_runs.specs.Runs.{changes_in}
 use Rattle.volume_turns.specs.declared.turns.End.{End}
 use Rattle.volume_turns.specs.declared.turns.End.TheVariants.{Fault as Stopped, Output}
 use Rattle.sector_disk.specs.Calls.{Since, WritesDisk}
 use Rattle.volume_contract.specs.Ends.{Closes}
-use Rattle.volume_turns.specs.Once.{close_fault, InClose, SaysClosed, EndsClosed, ClosesAndSays, IsDone, EndsAlone, IsAlone}
+use Rattle.volume_turns.specs.Once.{close_fault, InClose, SaysClosed, EndsClosed, ClosesAndSays, IsDone, EndsAlone, IsAlone, unit_of}
 use Rattle.volume_contract.specs.Order.{IsDevice}
 use Rattle.volume_contract.specs.State.{State, Ages, Known, volume_of, forced_of, Stands, Leaves, is_worn}
 use Rattle.volume_turns.specs.Steps.{Does, IsAnswered, Stays}
@@ -162,15 +162,18 @@ module _ {S D : Type 0} (state : S → State) (has : S → Mounted → List Plac
           tells = subst (λ (l : Layout). told l (M.now b).image ≡ Some (telling_of (answer is.met (volume_of k) command).1)) carried.layout (c.tells ∙ ap (λ (x : Volume). Some (telling_of x)) volume_same);
         }
 
-    ended : (r : Result (Unit {0}) End) → EndsClosed after (reply_alone reply) (M.now m) (M.now b) r → EndsAlone command k (is.met ∷ []) (M.now a) (M.now b) r
-    ended (Ok x) c = (refl, done c)
-    ended (Err Output) c = tt
-    ended (Err (Stopped why)) c = (c.0, c.1 ∙ disk.quiet honest)
+    status_same : reply_status reply ≡ reply_status (answer is.met (volume_of k) command).0
+    status_same = ap (λ (r : Reply). reply_status r) (sym (reply_is state has M wears short counts_now plain never command v w a m b k (M.now a) stood same stood fault disk layout honest since after reply is stands))
 
-    pub alone_answered : (r : Result (Unit {0}) End) → ClosesAndSays M after (reply_alone reply) m b r → IsAlone M command k a b r
-    alone_answered r c = record {
+    ended : (r : Result ℕ End) → IfOk r (λ status. status ≡ reply_status reply) → EndsClosed after (reply_alone reply) (M.now m) (M.now b) (unit_of r) → EndsAlone command k (is.met ∷ []) (M.now a) (M.now b) r
+    ended (Ok status) gives c = (refl, gives ∙ status_same, done c)
+    ended (Err Output) gives c = tt
+    ended (Err (Stopped why)) gives c = (c.0, c.1 ∙ disk.quiet honest)
+
+    pub alone_answered : (r : Result ℕ End) → IfOk r (λ status. status ≡ reply_status reply) → ClosesAndSays M after (reply_alone reply) m b (unit_of r) → IsAlone M command k a b r
+    alone_answered r gives c = record {
       mets = is.met ∷ [];
       goes = λ t le. ((M.now m).image, step_is state has M wears short counts_now plain never command v w a m b k (M.now a) stood same stood fault disk layout honest since after reply is stands t le, tt);
       moments = then_on M.moment M.left_since a m b (InRun k (turn ∷ []) (M.now a)) (before (turn ∷ [])) (leaves_more M.moment M.left_since m b (InClose after (reply_alone reply) (M.now m)) (InRun k (turn ∷ []) (M.now a)) on_close c.moments);
-      ends = ended r c.ends;
+      ends = ended r gives c.ends;
     }

@@ -294,10 +294,10 @@ module _ {S D : Type 0} (state : S → State) (has : S → Mounted → List Plac
 
 -- ---- counts
 
-pub told_fault : (old new : Report) (fault : Fault) → UsesDisk old new → DiskFaults (device_told fault) old new → Told old new (Err (Stopped fault))
+pub told_fault : (old new : Report) (fault : Fault) → UsesDisk old new → DiskFaults (device_told fault) old new → Told {T = Unit {0}} old new (Err (Stopped fault))
 told_fault old new fault uses faults = record { sectors = uses.sectors; disk = faults; input = uses.input; later = omega (arith, uses.output); output = tt }
 
-pub told_then : (a b c : Report) (r : Result (Unit {0}) End) → Told a b (Ok tt) → Told b c r → Told a c r
+pub told_then : (a b c : Report) (r : Result (Unit {0}) End) → Told {T = Unit {0}} a b (Ok tt) → Told b c r → Told a c r
 told_then a b c r x y = record {
   sectors = y.sectors ∙ x.sectors;
   disk = faults_then (device_end r) a b c x.disk y.disk;

@@ -3,3 +3,4 @@ pub mod Steps
 pub mod Turns
 pub mod Once
 pub mod Group
+pub mod Line

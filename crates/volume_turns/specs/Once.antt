@@ -13,8 +13,8 @@ use Rattle.fsd_sound.specs.Sound.{IsSound}
 use Rattle.fsd_texts.specs.declared.command.Command.{Command}
 use Rattle.fsd_texts.specs.declared.fault.Fault.{Fault}
 use Rattle.fsd_texts.specs.declared.fault.Fault.TheVariants as Ends
-use Rattle.fsd_runs.specs.Errands.{Turn, alone}
-use Rattle.fsd_runs.specs.Runs.{Goes, IsThrough, Run, Starts, Stood, behind, changes_in, run_end, run_status, run_turns, said_in, turns_of}
+use Rattle.fsd_runs.specs.Errands.{Turn, alone, alone_ending}
+use Rattle.fsd_runs.specs.Runs.{Goes, IsThrough, Run, Starts, Stood, answered, behind, changes_in, run_end, run_status, run_turns, said_in, turns_of}
 use Rattle.fsd_runs.specs.Leaves.{IsReplied, Left, LeftBefore, LeftSince, RaisesEpoch}
 use Rattle.fsd_runs.specs.declared.request.Request.{Request}
 use Rattle.fsd_runs.specs.declared.request.Request.TheVariants.{One}
@@ -22,14 +22,23 @@ use Rattle.volume_layout.specs.declared.layout.Layout.{Layout}
 use Rattle.sector_disk.specs.declared.sector.WeakRun.{WeakRun}
 use Rattle.fsd_files.specs.Files.{Change}
 use Rattle.fsd_sound.specs.Sound.{IsPrefixOf}
-use Rattle.volume_contract.specs.Mount.{Excuses, ExcusesOf}
+use Rattle.volume_contract.specs.Mount.{ExcusesOf}
 use Rattle.fsd_sound.specs.declared.fault.MountFault.{MountFault}
-use Rattle.volume_turns.specs.declared.once.Stop.{Stop}
-use Rattle.volume_turns.specs.declared.once.Stop.TheVariants.{Unmounted, Ended}
+use Rattle.fsd_sound.specs.declared.fault.MountFault.TheVariants as Refused
 use Rattle.volume_turns.specs.declared.turns.End.{End}
 use Rattle.volume_turns.specs.declared.turns.End.TheVariants.{Fault as Stopped, Output}
 use Rattle.volume_contract.specs.State.{Known, volume_of, forced_of}
 use Rattle.volume_turns.specs.Turns.{InRun, EndsAtOnce}
+
+-- what a mount's fault is as the end of a run
+abbrev pub fault_of : MountFault → Fault
+fault_of Refused.NotVolume = Ends.NotVolume
+fault_of Refused.NoAnchor = Ends.NoAnchor
+fault_of (Refused.Lost a b) = Ends.Lost a b
+fault_of (Refused.Unsound s) = Ends.Unsound s
+fault_of (Refused.Device s) = Ends.Device s
+fault_of Refused.Memory = Ends.Memory
+fault_of Refused.WornOut = Ends.WornOut
 
 -- why a close has failed
 abbrev pub close_fault : Refusal → Fault
@@ -67,6 +76,11 @@ pub record ClosesAndSays {D : Type 0} (M : Ghosts D) (k : Known) (text : List �
 
 -- ---- one command
 
+-- whether it has ended well
+abbrev pub unit_of : {T : Type 0} → Result T End → Result (Unit {0}) End
+unit_of (Ok x) = Ok tt
+unit_of (Err end) = Err end
+
 -- All is said, and all is forced: the disk's own table is that of the volume behind it.
 pub record IsDone (k : Known) (turns : List Turn) (after : Volume) (old new : Moment) : Type 0 where
   pub windows : new.windows ≡ old.windows
@@ -74,15 +88,19 @@ pub record IsDone (k : Known) (turns : List Turn) (after : Volume) (old new : Mo
   pub sound : IsSound k.mounted.volume.layout k.windows (k.changes ++ changes_in turns) (length (k.changes ++ changes_in turns)) new.image
   pub tells : told k.mounted.volume.layout new.image ≡ Some (telling_of after)
 
-abbrev pub EndsAlone : Command → Known → List Met → (old new : Moment) → Result (Unit {0}) End → Type 0
-EndsAlone c k mets old new (Ok x) = (length mets ≡ 1) × IsDone k (turns_of (alone c) mets (volume_of k)) (behind mets (volume_of k) (c ∷ [])) old new
+-- the status of its reply
+abbrev pub status_alone : Command → List Met → Volume → ℕ
+status_alone c mets v = (alone_ending (answered mets v (c ∷ []))).status
+
+abbrev pub EndsAlone : Command → Known → List Met → (old new : Moment) → Result ℕ End → Type 0
+EndsAlone c k mets old new (Ok status) = (length mets ≡ 1) × (status ≡ status_alone c mets (volume_of k)) × IsDone k (turns_of (alone c) mets (volume_of k)) (behind mets (volume_of k) (c ∷ [])) old new
 EndsAlone c k mets old new (Err (Stopped fault)) = EndsAtOnce fault × (new.said ≡ old.said)
 EndsAlone c k mets old new (Err Output) = ⊤
 
 abbrev pub Anything : Volume → Image → Type 0
 Anything v i = ⊤
 
-pub record IsAlone {D : Type 0} (M : Ghosts D) (c : Command) (k : Known) (a b : D) (result : Result (Unit {0}) End) : Type 0 where
+pub record IsAlone {D : Type 0} (M : Ghosts D) (c : Command) (k : Known) (a b : D) (result : Result ℕ End) : Type 0 where
   pub mets : List Met
   pub goes : (t : ℕ) → t ≤ M.moment a → Goes (in_runs k.windows) (M.left_since b t) Anything (alone c) (M.now a).said (M.now a).image (volume_of k) mets (c ∷ [])
   pub moments : LeavesOnly M.moment M.left_since a b (InRun k (turns_of (alone c) mets (volume_of k)) (M.now a))
@@ -92,17 +110,17 @@ pub record IsAlone {D : Type 0} (M : Ghosts D) (c : Command) (k : Known) (a b : 
 
 -- The mount settled: these are the parts of what a run of one command leaves, up to the line of a fault that ended it.
 abbrev pub OnceEnds : {request : Request} {input : List ℕ} {windows : List WeakRun} {Passed : Moment → Type 0} {base : List ℕ} {v : Volume} {i : Image} → (l : Layout) → (known : List WeakRun) → (h : List Change) → (n : ℕ)
-    → Run request input windows Passed base v i → (old new : Moment) → Result (Unit {0}) Stop → Type 0
-OnceEnds l known h n run old new (Ok x) = IsThrough run × IsReplied l known h n (run_turns run) (run_status run) (run_end run) old new (run_status run)
-OnceEnds l known h n run old new (Err (Unmounted fault)) = Excuses fault × (new.said ≡ old.said)
-OnceEnds l known h n run old new (Err (Ended (Stopped fault))) = EndsAtOnce fault × (new.said ≡ old.said)
-OnceEnds l known h n run old new (Err (Ended Output)) = ⊤
+    → Run request input windows Passed base v i → (old new : Moment) → Result ℕ End → Type 0
+OnceEnds l known h n run old new (Ok status) = IsThrough run × IsReplied l known h n (run_turns run) (run_status run) (run_end run) old new status
+OnceEnds l known h n run old new (Err (Stopped fault)) = EndsAtOnce fault × (new.said ≡ old.said)
+OnceEnds l known h n run old new (Err Output) = ⊤
 
-pub record OnceMounted (c : Command) (l : Layout) (windows : List WeakRun) (h : List Change) (f : ℕ) (Past : ℕ → Moment → Type 0) (Only : (Moment → Type 0) → Type 0) (old new : Moment) (result : Result (Unit {0}) Stop) : Type 0 where
+pub record OnceMounted (c : Command) (l : Layout) (windows : List WeakRun) (h : List Change) (f : ℕ) (time : ℕ) (Past : ℕ → Moment → Type 0) (Only : (Moment → Type 0) → Type 0) (old new : Moment) (result : Result ℕ End) : Type 0 where
   pub count : ℕ
   pub prefix : IsPrefixOf h f count
   pub next : WeakRun
   pub at : ℕ
+  pub begun : at ≤ time
   pub from : Image
   pub stood : Stood (Past at) old.said from
   pub settled : stood.moment.windows ≡ record { present = Some next; next = None }
@@ -116,13 +134,14 @@ pub record OnceMounted (c : Command) (l : Layout) (windows : List WeakRun) (h : 
   pub ends : OnceEnds l windows h count run old new result
 
 -- The mount did not settle: nothing is changed.
-pub record OnceUnmounted (l : Layout) (windows : List WeakRun) (h : List Change) (f : ℕ) (Only : (Moment → Type 0) → Type 0) (old new : Moment) (result : Result (Unit {0}) Stop) : Type 0 where
+pub record OnceUnmounted (l : Layout) (windows : List WeakRun) (h : List Change) (f : ℕ) (Only : (Moment → Type 0) → Type 0) (old new : Moment) (result : Result ℕ End) : Type 0 where
   pub moments : Only (LeftBefore l windows h f old)
   pub exit : LeftBefore l windows h f old new
   pub fault : MountFault
-  pub is : result ≡ Err (Unmounted fault)
+  pub is : result ≡ Err (Stopped (fault_of fault))
   pub why : ExcusesOf old.image fault
   pub quiet : new.said ≡ old.said
 
-abbrev pub OnceLeaves : Command → Layout → List WeakRun → List Change → ℕ → (Past : ℕ → Moment → Type 0) → (Only : (Moment → Type 0) → Type 0) → (old new : Moment) → Result (Unit {0}) Stop → Type 0
-OnceLeaves c l windows h f Past Only old new result = OnceUnmounted l windows h f Only old new result ⊎ OnceMounted c l windows h f Past Only old new result
+-- Time is the number of the last moment.
+abbrev pub OnceLeaves : Command → Layout → List WeakRun → List Change → ℕ → (time : ℕ) → (Past : ℕ → Moment → Type 0) → (Only : (Moment → Type 0) → Type 0) → (old new : Moment) → Result ℕ End → Type 0
+OnceLeaves c l windows h f time Past Only old new result = OnceUnmounted l windows h f Only old new result ⊎ OnceMounted c l windows h f time Past Only old new result

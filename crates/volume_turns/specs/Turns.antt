@@ -131,16 +131,16 @@ module _ {S : Type 0} (state : S → State) (has : S → Mounted → List Placed
 
 -- ---- what is counted
 
-abbrev pub device_end : Result (Unit {0}) End → Option ℕ
+abbrev pub device_end : {T : Type 0} → Result T End → Option ℕ
 device_end (Err (Stopped fault)) = device_told fault
 device_end result = None
 
-abbrev pub Unheard : Report → Report → Result (Unit {0}) End → Type 0
+abbrev pub Unheard : {T : Type 0} → Report → Report → Result T End → Type 0
 Unheard old new (Err Output) = Rose old.output_faults new.output_faults
 Unheard old new result = ⊤
 
 -- Of a run of commands the fault that ends it is counted, and no other of the disk.
-pub record Told (old new : Report) (result : Result (Unit {0}) End) : Type 0 where
+pub record Told {T : Type 0} (old new : Report) (result : Result T End) : Type 0 where
   pub sectors : new.sectors ≡ old.sectors
   pub disk : DiskFaults (device_end result) old new
   pub input : new.input_faults ≡ old.input_faults

@@ -6,8 +6,8 @@ ghost use Rattle.fsd_files.specs.Volume.{Volume};
 ghost use Rattle.fsd_texts.specs.declared.command.Command.{Command as Word};
 ghost use Rattle.fsd_runs.specs.Commands.{answer, reply_text};
 ghost use Rattle.sector_disk.specs.Calls.{Since};
-ghost use Rattle.volume_turns.specs.Group.{IsGroup, is_worn_end, unit_of};
-ghost use Rattle.volume_turns.specs.Once.{ClosesAndSays};
+ghost use Rattle.volume_turns.specs.Group.{IsGroup, is_worn_end};
+ghost use Rattle.volume_turns.specs.Once.{ClosesAndSays, unit_of};
 ghost use Rattle.fsd_files.specs.Replies.{Reply as Replied};
 ghost use Rattle.volume_contract.specs.State.{Known, Stands};
 

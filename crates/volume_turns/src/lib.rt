@@ -5,11 +5,14 @@
 mod answer;
 mod commands;
 mod group;
+mod line;
 mod listing;
 mod once;
 mod turns;
+mod whole;
 
 pub use answer::Answer;
 pub use group::group_run;
-pub use once::{Stop, alone, one_shot};
+pub use once::{alone, one_shot};
 pub use turns::{End, Says};
+pub use whole::run_one;

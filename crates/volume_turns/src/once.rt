@@ -1,13 +1,14 @@
 //! One command by itself, from the mount to its reply.
-ghost use Rattle.std.specs.Prelude.{◌≡◌, ◌≤◌, ℕ, List, None, false};
+ghost use Rattle.std.specs.Prelude.{◌≡◌, ◌≤◌, ℕ, List, None, IfOk, false};
 ghost use Rattle.sector_disk.specs.declared.sector.WeakRun.{WeakRun};
 ghost use Rattle.sector_disk.specs.Machine.{LeavesOnly, Trusts};
 ghost use Rattle.volume_layout.specs.declared.layout.Layout.{Layout as Plan};
 ghost use Rattle.fsd_files.specs.Files.{Change};
 ghost use Rattle.fsd_runs.specs.Commands.{reply_alone};
+ghost use Rattle.fsd_runs.specs.Errands.{reply_status};
 ghost use Rattle.sector_disk.specs.Calls.{Since};
 ghost use Rattle.volume_contract.specs.Mount.{IsSoundAt};
-ghost use Rattle.volume_turns.specs.Once.{ClosesAndSays, IsAlone, OnceLeaves, close_fault};
+ghost use Rattle.volume_turns.specs.Once.{ClosesAndSays, IsAlone, OnceLeaves, close_fault, fault_of, unit_of};
 ghost use Rattle.volume_contract.specs.State.{Known, Stands, is_worn, volume_of};
 ghost use Rattle.volume_turns.specs.Steps.{reply_of};
 ghost use Rattle.volume_turns.specs.Turns.{Told};
@@ -52,13 +53,44 @@ pub(crate) fn close_and_say<M: Machine, V: Files<M>, T: Says>(
     }
 }
 
-/// Does one command over a volume that was just mounted, forces all, and says its reply.
+// The status of a reply.
+fn status_of(answer: &Answer) -> u8
+    ensures { result ≡ reply_status (reply_of answer.now) }
+{
+    match answer {
+        Answer::Refused(_) => 1,
+        Answer::Damaged { .. } => 8,
+        _ => 0,
+    }
+}
+
+// Ends the use of a volume, says a reply, and gives its status.
+fn close_as<M: Machine, V: Files<M>, T: Says>(
+    alloc: Global,
+    v: V,
+    m: &mut M,
+    answer: &Answer,
+) -> Result<u8, End>
+    requires room { (V.state v).layout.sectors ≤ (M.report m.old).sectors }
+    ensures status { IfOk result (λ status. status ≡ reply_status (reply_of answer.now)) }
+    ensures told { Told (M.report m.old) (M.report m.new) result }
+    ensures trust { Trusts (M.tells m.old) (M.tells m.new) (M.honest m.old) (M.honest m.new) }
+    ensures since { M.honest m.new → Since M.Machine m.old m.new }
+    ensures closes { M.honest m.new → (k : Known) → Stands V.state V.holds v k (M.now m.old) → ClosesAndSays M.Machine k (T.errand.says (reply_of answer.now)) m.old m.new (unit_of result) }
+{
+    match close_and_say::<M, V, T>(alloc, v, m, answer) {
+        Ok(()) => Ok(status_of(answer)),
+        Err(end) => Err(end),
+    }
+}
+
+/// Does one command over a volume that was just mounted, forces all, says its reply, and gives the reply's status.
 pub fn alone<M: Machine, V: Files<M> + Drop, T: Says>(
     alloc: Global,
     v: V,
     m: &mut M,
     c: &Command,
-) -> Result<(), End>
+) -> Result<u8, End>
     requires room { (V.state v).layout.sectors ≤ (M.report m.old).sectors }
     requires up { (V.state v).down ≡ None }
     requires unworn { is_worn (V.state v) ≡ false }
@@ -70,37 +102,45 @@ pub fn alone<M: Machine, V: Files<M> + Drop, T: Says>(
 {
     let mut v = v;
     match commands::answer(alloc, &mut v, m, c) {
-        Ok(answer) => close_and_say::<M, V, T>(alloc, v, m, &answer),
+        Ok(answer) => close_as::<M, V, T>(alloc, v, m, &answer),
         Err(fault) => Err(End::Fault(fault)),
     }
 }
 
-/// Why a command by itself was not done.
-#[derive(Clone, Copy, Debug, PartialEq, Eq)]
-pub enum Stop {
-    /// The volume was not mounted.
-    Unmounted(MountFault),
-    Ended(End),
+// What a refused mount says.
+fn fault_of(fault: MountFault) -> Fault
+    ensures { result ≡ fault_of fault }
+{
+    match fault {
+        MountFault::NotVolume => Fault::NotVolume,
+        MountFault::Device(sector) => Fault::Device(sector),
+        MountFault::Memory => Fault::Memory,
+        MountFault::Lost { a, b } => Fault::Lost { a, b },
+        MountFault::NoAnchor => Fault::NoAnchor,
+        MountFault::Unsound(sector) => Fault::Unsound(sector),
+        MountFault::WornOut => Fault::WornOut,
+    }
 }
 
-/// Mounts a volume, does one command, forces all, and says its reply.
+/// Mounts a volume, does one command, forces all, says its reply, and gives the reply's status.
 pub fn one_shot<M: Machine, V: Files<M> + Drop, T: Says>(
     alloc: Global,
     m: &mut M,
     sectors: u32,
     c: &Command,
-) -> Result<(), Stop>
+) -> Result<u8, End>
     requires sectors { sectors ≡ (M.report m.old).sectors }
     requires says { T.errand.says ≡ reply_alone }
+    ensures told { Told (M.report m.old) (M.report m.new) result }
     ensures trust { Trusts (M.tells m.old) (M.tells m.new) (M.honest m.old) (M.honest m.new) }
     ensures leaves { M.honest m.new → (l : Plan) (windows : List WeakRun) (h : List Change) (f : ℕ) → IsSoundAt sectors l windows h f (M.now m.old) →
-        OnceLeaves c.now l windows h f (M.left_since m.new) (LeavesOnly M.moment M.left_since m.old m.new) (M.now m.old) (M.now m.new) result }
+        OnceLeaves c.now l windows h f (M.moment m.new) (M.left_since m.new) (LeavesOnly M.moment M.left_since m.old m.new) (M.now m.old) (M.now m.new) result }
 {
     match V::mount(alloc, m, sectors) {
         Ok(v) => match alone::<M, V, T>(alloc, v, m, c) {
-            Ok(()) => Ok(()),
-            Err(end) => Err(Stop::Ended(end)),
+            Ok(status) => Ok(status),
+            Err(end) => Err(end),
         },
-        Err(fault) => Err(Stop::Unmounted(fault)),
+        Err(fault) => Err(End::Fault(fault_of(fault))),
     }
 }

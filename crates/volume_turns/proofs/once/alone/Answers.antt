@@ -1,6 +1,6 @@
 use Rattle.std.proofs.Common.{ℕ, List, subst}
 use Rattle.fsd_files.specs.Replies.{Reply}
-use Rattle.volume_turns.specs.Once.{ClosesAndSays}
+use Rattle.volume_turns.specs.Once.{ClosesAndSays, unit_of}
 use Rattle.volume_turns.specs.Steps.{reply_of}
 use Rattle.volume_turns.proofs.OnceLaws.{alone_answered, alone_fault}
 use Rattle.volume_turns.proofs.once.alone.Goals as goal
@@ -9,12 +9,12 @@ pub returns-in-Ok-clause-does : goal.returns-in-Ok-clause-does
 returns-in-Ok-clause-does g c h k none stands =
     let V = g.V.Files in
     let M = g.M.Machine in
-    let back = c.close_and_say.ensures.trust.honest h in
+    let back = c.close_as.ensures.trust.honest h in
     let does = c.in-Ok.ensures.done back k stands in
     let reply = reply_of c.in-Ok.answer in
-    alone_answered V.state V.holds M g.met.V.Files.wears (λ m x. g.met.M.Machine.short m x) g.met.M.Machine.counts_now c.args.c.now c.args.v c.answer.new.v c.args.m.now c.answer.new.m c.close_and_say.new.m k stands _ c.in-Ok.ensures.disk c.in-Ok.ensures.layout back
-    (c.close_and_say.ensures.since h) does.0 reply does.1 does.2 c.close_and_say.result
-    (subst (λ (says : Reply → List ℕ). ClosesAndSays M does.0 (says reply) c.answer.new.m c.close_and_say.new.m c.close_and_say.result) c.requires.says (c.close_and_say.ensures.closes h does.0 does.2))
+    alone_answered V.state V.holds M g.met.V.Files.wears (λ m x. g.met.M.Machine.short m x) g.met.M.Machine.counts_now c.args.c.now c.args.v c.answer.new.v c.args.m.now c.answer.new.m c.close_as.new.m k stands _ c.in-Ok.ensures.disk c.in-Ok.ensures.layout back
+    (c.close_as.ensures.since h) does.0 reply does.1 does.2 c.close_as.result c.close_as.ensures.status
+    (subst (λ (says : Reply → List ℕ). ClosesAndSays M does.0 (says reply) c.answer.new.m c.close_as.new.m (unit_of c.close_as.result)) c.requires.says (c.close_as.ensures.closes h does.0 does.2))
 
 pub returns-in-Err-clause-does : goal.returns-in-Err-clause-does
 returns-in-Err-clause-does g c h k none stands =

@@ -11,7 +11,7 @@ abbrev pub invariant-loop-c : goal.invariant-loop-c
 invariant-loop-c g l = record {
   layout : (g.V.Files.state l.v).layout ≡ (g.V.Files.state l.fn.v).layout;
   up : (g.V.Files.state l.v).down ≡ None;
-  told : Told (g.M.Machine.report l.fn.m) (g.M.Machine.report l.m) (Ok tt);
+  told : Told {T = Unit {0}} (g.M.Machine.report l.fn.m) (g.M.Machine.report l.m) (Ok tt);
   trust : Trusts (g.M.Machine.tells l.fn.m) (g.M.Machine.tells l.m) (g.M.Machine.honest l.fn.m) (g.M.Machine.honest l.m);
   since : g.M.Machine.honest l.m → Since g.M.Machine l.fn.m l.m;
   later : g.M.Machine.honest l.m → g.M.Machine.moment l.fn.m ≤ g.M.Machine.moment l.m;
