@@ -1,6 +1,6 @@
 //! The search for the page that breaks a table.
-ghost use Rattle.std.specs.Prelude.{◌≡◌, ◌<◌, ◌≤◌};
-ghost use Rattle.name_btree.specs.Fault.{FailsTable, FailsTree, IsNoUsedTree, is_inner};
+ghost use Rattle.std.specs.Prelude.{◌≡◌, ◌<◌, ◌≤◌, length};
+ghost use Rattle.name_btree.specs.Fault.{FailsTable, FailsTree, IsAmong, IsNoUsedTree, is_inner};
 ghost use Rattle.name_page.specs.Looks.{OnlyWalks};
 ghost use Rattle.name_page.specs.Pages.{reaches};
 
@@ -15,6 +15,7 @@ fn search<T: Pages>(t: &mut T) -> TreeFault
     requires more { 0 < (T.step t.old).most_reached }
     ensures calls { OnlyWalks T.Pages t.old t.new }
     ensures reaches { reaches (T.step t.old) ≤ reaches (T.step t.new) }
+    ensures among { 0 < length (T.step t.old).images → IsAmong (length (T.step t.old).images) result }
     ensures cause { (T.trusted t.old → IsNoUsedTree (T.step t.old)) → FailsTable T.Pages t.old t.new result }
 {
     let mut reached = [false; 4096];
@@ -48,6 +49,7 @@ pub(crate) fn fault_of<T: Pages>(t: &mut T, fault: TreeFault) -> TreeFault
     requires more { 0 < (T.step t.old).most_reached }
     ensures calls { OnlyWalks T.Pages t.old t.new }
     ensures reaches { reaches (T.step t.old) ≤ reaches (T.step t.new) }
+    ensures among { 0 < length (T.step t.old).images → IsAmong (length (T.step t.old).images) result }
     ensures cause { (first : T) → T.outside first t.old → FailsTree T.Pages first t.old fault → FailsTable T.Pages first t.new result }
 {
     if is_inner(fault) { search(t) } else { fault }

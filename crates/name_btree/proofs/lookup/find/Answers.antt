@@ -1,4 +1,4 @@
-use Rattle.std.proofs.Common.{◌≡◌, ◌∙◌, sym, subst, List, ℕ, Option}
+use Rattle.std.proofs.Common.{◌≡◌, ◌∙◌, length, sym, subst, List, ℕ, Option}
 use Rattle.std.specs.Prelude.{IfSome}
 use Rattle.fsd_bytes.specs.declared.key.Key.{Key}
 use Rattle.fsd_bytes.specs.Keys.{same_key}
@@ -12,10 +12,12 @@ use Rattle.name_page.proofs.LookLaws.{shows_trusted}
 use Rattle.name_page.proofs.PutLaws.{found_in}
 use Rattle.name_btree.specs.declared.descent.Found.{Found}
 use Rattle.name_btree.specs.Descent.{IsPlace}
+use Rattle.name_btree.specs.Fault.{BarsTable}
 use Rattle.name_btree.proofs.LookupLaws.{find_contains, stands_in, good_entry, led_to}
 use Rattle.name_btree.proofs.FindLaws.{entry_found}
 use Rattle.std.proofs.lemmas.Result.{err_from_is_err_and}
 use Rattle.name_btree.proofs.VisitedLaws.{top_breaks}
+use Rattle.name_btree.proofs.WithinLaws.{fails_among}
 use Rattle.name_btree.proofs.lookup.find.Goals as goal
 
 -- the place of the key, below page 0
@@ -63,3 +65,11 @@ returns-in_err-found-clause-fault g c =
     let p = err_from_is_err_and c.from_residual.result c.from_residual.ensures.1 in
     let new = c.leaf_below.new.t in
     rw (p.1, p.2) (top_breaks (g.T.Pages.causes c.args.t.now new) (g.T.Pages.step new) c.in_err-found.field-0.0 c.top.result c.top.ensures c.in_err-found.ensures.fault)
+
+-- ---- a page that is named is one of the table
+
+pub returns-in_err-found-clause-among : goal.returns-in_err-found-clause-among
+returns-in_err-found-clause-among g c = λ some.
+    let new = c.leaf_below.new.t in
+    let s = g.T.Pages.step new in
+    fails_among c.from_residual.result (g.T.Pages.causes c.args.t.now new) s (BarsTable s) (length (g.T.Pages.step c.args.t.now).images) c.in_err-found.ensures.calls.looks.count some (returns-in_err-found-clause-fault g c)

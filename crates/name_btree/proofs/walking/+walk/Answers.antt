@@ -1,5 +1,5 @@
 use Rattle.std.proofs.Common.{◌≡◌, ◌∙◌, ◌+◌, ◌-◌, ◌<◌, ◌≤◌, Bool, true, false, cond, not, refl, sym, ap, subst, List, [], ◌∷◌, length, take, ℕ, suc, Some, arith, rules}
-use Rattle.std.specs.Prelude.{slice_set}
+use Rattle.std.specs.Prelude.{slice_set, IfErr}
 use Rattle.std.proofs.lemmas.Result.{err_from_is_err_and}
 use Rattle.fsd_formats.specs.NamePage.{Interior}
 use Rattle.fsd_table.specs.declared.child.Child.{Child}
@@ -13,7 +13,9 @@ use Rattle.name_btree.specs.Walk.{is_marked, IsWalked, AreWalked, ComesTo, Fails
 use Rattle.name_page.proofs.CountLaws.{few_separators, few_entries, take_short, take_whole}
 use Rattle.name_btree.proofs.ResultLaws.{ok_more, err_more}
 use Rattle.fsd_table.proofs.PageLaws.{length_of_children}
-use Rattle.name_btree.proofs.WalkLaws.{one_more, above_walked}
+use Rattle.name_btree.specs.Fault.{BarsPage, IsAmong}
+use Rattle.name_btree.proofs.WalkLaws.{all_at, one_more, above_walked}
+use Rattle.name_btree.proofs.WithinLaws.{IsWithin, misfit_among, ways_within}
 use Rattle.name_btree.proofs.ComeLaws.{marked_breaks, leaf_breaks, interior_breaks, comes_below, comes_along, walk_map, walk_here}
 use Rattle.name_btree.proofs.walking.+walk.Goals as goal
 use Rattle.name_btree.proofs.walking.+walk.Goals.{walk_below-in_default-via-in-Leaf+else-level-eq0, walk_below-in_default-via-in-Interior+else-level-gt0, walk_below-in_default-via-in_default}
@@ -190,3 +192,42 @@ walk_children-returns-clause-walked g t c = λ trusted.
     let all : length cs ≤ c.loop-i.i = omega (arith, length_of_children ways.0 above.low above.high ways.1, c.len-i-end.ensures.value, c.loop-i-test.false) in
     let P : List Child → Type 0 = λ (xs : List Child). AreWalked s.spares c.args.level s.images xs c.args.reached.now c.loop-i.reached c.loop-i.count in
     subst P (take_whole c.loop-i.i cs all) (c.loop-i.invariant.walked trusted)
+
+-- ---- a page that is named is one of the table
+
+pub walk_below-returns-then-not-is_new-clause-among : goal.walk_below-returns-then-not-is_new-clause-among
+walk_below-returns-then-not-is_new-clause-among g t c = λ here. here
+
+pub walk_below-returns-in_default-clause-among : goal.walk_below-returns-in_default-clause-among
+walk_below-returns-in_default-clause-among g t c = λ here. here
+
+pub walk_below-returns-in_err-entries-clause-among : goal.walk_below-returns-in_err-entries-clause-among
+walk_below-returns-in_err-entries-clause-among g t c = λ here.
+    let new = c.child_node.new.t in
+    let s = g.T.Pages.step new in
+    let child = c.args.child.now in
+    let p = err_from_is_err_and c.from_residual.result c.from_residual.ensures.1 in
+    rw (p.1, p.2) (misfit_among (g.T.Pages.causes c.rest.new.self new) s (BarsPage s child.page) (length (g.T.Pages.step c.args.t.now).images) child c.in_err-entries.field-0.0 here c.in_err-entries.ensures.fault)
+
+pub walk_below-returns-in-Interior-clause-among : goal.walk_below-returns-in-Interior-clause-among
+walk_below-returns-in-Interior-clause-among g t c = λ here.
+    let G = g.T.Pages in
+    let law = g.met.T.Pages in
+    let old = c.args.t.now in
+    let mid = c.child_node.new.t in
+    let so : OnlyWalks G old mid = rest_reaches G law.then law.trust old c.rest.new.self mid c.rest.ensures.outside c.rest.ensures.step c.in_ok-entries.ensures.calls in
+    let child = c.args.child.now in
+    let ways = c.in-Interior.ways in
+    let kids = ways_within (G.step mid).images child.page ways.0 ways.1 child.low child.high (c.in_ok-entries.ensures.node ∙ ap (λ (n : Node). Some (content_of n)) c.in-Interior.is) in
+    subst (λ (n : ℕ). IfErr c.walk_children.result (IsAmong n)) so.count (c.walk_children.ensures.among kids)
+
+pub walk_children-returns-in_err-more-clause-among : goal.walk_children-returns-in_err-more-clause-among
+walk_children-returns-in_err-more-clause-among g t c = λ all.
+    let ways = c.args.ways.now in
+    let above = c.args.above.now in
+    let n = length (g.T.Pages.step c.args.t.now).images in
+    let child = c.child_at-child.result in
+    let here : child.page < n = all_at (IsWithin n) (children ways.0 above.low above.high ways.1) c.loop-i.i child c.child_at-child.ensures all in
+    let same = c.loop-i.invariant.calls.count in
+    let p = err_from_is_err_and c.from_residual.result c.from_residual.ensures.1 in
+    rw (p.1, p.2) (subst (λ (k : ℕ). IsAmong k c.in_err-more.field-0.0) same (c.in_err-more.ensures.among (subst (λ (k : ℕ). child.page < k) (sym same) here)))

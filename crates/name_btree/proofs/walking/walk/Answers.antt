@@ -1,6 +1,8 @@
-use Rattle.std.proofs.Common.{◌≡◌, ◌∙◌, length, sym, subst, List, [], ◌∷◌, ℕ, Bool}
+use Rattle.std.proofs.Common.{◌≡◌, ◌∙◌, ◌<◌, length, sym, subst, List, [], ◌∷◌, ℕ, Bool}
 use Rattle.name_page.proofs.LookLaws.{walks_then}
-use Rattle.name_btree.specs.Fault.{FailsTable}
+use Rattle.std.specs.Prelude.{IfErr}
+use Rattle.fsd_table.specs.declared.child.Child.{Child}
+use Rattle.name_btree.specs.Fault.{FailsTable, IsAmong}
 use Rattle.name_btree.specs.Walk.{IsWalked, IsTopLevel, IsCounted, FailsWalk}
 use Rattle.name_btree.proofs.ResultLaws.{ok_more, err_more}
 use Rattle.name_btree.proofs.TopLaws.{counted}
@@ -42,3 +44,11 @@ returns-clause-fault g c =
     let whole : length before ≡ length (G.step new).images = c.requires.whole ∙ sym all.count in
     err_more c.walk_below.result (FailsWalk G mid new level (child ∷ []) before) (FailsTable G old new)
     (λ fault h. walk_whole G g.met.T.Pages.later old mid new c.in_ok-level.ensures.calls.outside fault level child before is c.top.ensures whole c.requires.clear h) c.walk_below.ensures.fault
+
+-- a page that is named is one of the table
+pub returns-clause-among : goal.returns-clause-among
+returns-clause-among g c = λ some.
+    let same = c.in_ok-level.ensures.calls.count in
+    let mid = length (g.T.Pages.step c.top_level.new.t).images in
+    let here = subst (λ (d : Child). d.page < mid) (sym c.top.ensures) (subst (λ (n : ℕ). 0 < n) (sym same) some) in
+    subst (λ (n : ℕ). IfErr c.walk_below.result (IsAmong n)) same (c.walk_below.ensures.among here)
