@@ -1,5 +1,5 @@
 -- Where there are pages, those that paths from page 0 reach are among them.
-use Rattle.std.proofs.Common.{◌≡◌, ℕ, zero, suc, ◌+◌, ◌<◌, true, false, ◌&&◌, List, [], ◌∷◌, length, Option, Some, None, refl, sym, subst, arith}
+use Rattle.std.proofs.Common.{◌≡◌, ℕ, zero, suc, ◌+◌, ◌<◌, true, false, ◌&&◌, List, [], ◌∷◌, length, Option, Some, None, refl, sym, subst}
 use Rattle.std.specs.Prelude.{nat_lt, Result, Ok, Err, IfErr}
 use Rattle.std.specs.List.{flat_map, list_all, AllByRecursion}
 use Rattle.std.proofs.lemmas.Bool.{and_parts, ltb-true}
@@ -8,10 +8,10 @@ use Rattle.fsd_bytes.specs.Names.{is_between}
 use Rattle.fsd_bytes.specs.declared.key.Key.{Key}
 use Rattle.fsd_bytes.specs.declared.refusal.Refusal.{Refusal}
 use Rattle.fsd_formats.specs.declared.page.Separator.{Separator}
-use Rattle.fsd_formats.specs.NamePage.{Content, Free, Leaf, Interior, is_page, are_ascending, least_separators}
+use Rattle.fsd_formats.specs.NamePage.{Content, Free, Leaf, Interior, are_ascending, least_separators}
 use Rattle.fsd_table.specs.declared.child.Child.{Child}
 use Rattle.fsd_table.specs.Pages.{page_at, children, children_of, separator_keys}
-use Rattle.fsd_table.specs.Table.{Visit, visit_of, visits_below, visits, max_height, top, BreaksTable}
+use Rattle.fsd_table.specs.Table.{Visit, visits_below, visits, max_height, top, BreaksTable}
 use Rattle.fsd_table.proofs.BoundLaws.{all_append, all_weaker}
 use Rattle.fsd_table.proofs.PageLaws.{at_is_page}
 use Rattle.name_page.specs.Pages.{Step}

@@ -4,7 +4,7 @@ ghost use Rattle.std.specs.Prelude.{◌≡◌, ◌<◌, ◌≤◌, IfOk, IfErr, 
 ghost use Rattle.fsd_table.specs.Pages.{children};
 ghost use Rattle.name_btree.specs.Fault.{FailsTable, IsAmong};
 ghost use Rattle.name_btree.specs.Still.{HasRefusal};
-ghost use Rattle.name_btree.specs.Walk.{AreMarksOf, is_marked, IsWalked, AreWalked, FailsWalk, IsTopLevel, IsCounted};
+ghost use Rattle.name_btree.specs.Walk.{AreMarksOf, KeepsMarks, is_marked, IsWalked, AreWalked, FailsWalk, IsTopLevel, IsCounted};
 ghost use Rattle.name_page.specs.Looks.{OnlyWalks};
 ghost use Rattle.name_page.specs.Pages.{rested};
 
@@ -83,6 +83,8 @@ fn walk_below<T: Pages>(
     requires level { level ≤ 5 }
     ensures calls { OnlyWalks T.Pages t.old t.new }
     ensures among { child.now.page < length (T.step t.old).images → IfErr result (IsAmong (length (T.step t.old).images)) }
+    ensures marked { is_marked reached.new child.now.page ≡ true }
+    ensures kept { KeepsMarks reached.old reached.new }
     ensures walked { IfOk result (λ count. T.trusted t.new → IsWalked (T.step t.old).spares level (T.step t.old).images child.now reached.old reached.new count) }
     ensures fault { IfErr result (FailsWalk T.Pages t.old t.new level (child.now ∷ []) reached.old) }
     ensures refused { IfErr result (HasRefusal (rested (T.step t.new)) (T.step t.new)) }
@@ -111,6 +113,7 @@ fn walk_children<T: Pages>(
     requires few { length ways.now.1 ≤ 9 }
     ensures calls { OnlyWalks T.Pages t.old t.new }
     ensures among { AllByRecursion (λ c. c.page < length (T.step t.old).images) (children ways.now.0 above.now.low above.now.high ways.now.1) → IfErr result (IsAmong (length (T.step t.old).images)) }
+    ensures kept { KeepsMarks reached.old reached.new }
     ensures walked { IfOk result (λ count. T.trusted t.new → AreWalked (T.step t.old).spares level (T.step t.old).images (children ways.now.0 above.now.low above.now.high ways.now.1) reached.old reached.new count) }
     ensures fault { IfErr result (FailsWalk T.Pages t.old t.new level (children ways.now.0 above.now.low above.now.high ways.now.1) reached.old) }
     ensures refused { IfErr result (HasRefusal (rested (T.step t.new)) (T.step t.new)) }
@@ -134,6 +137,7 @@ pub fn walk<T: Pages>(t: &mut T, reached: &mut [bool]) -> Result<u32, TreeFault>
     ensures calls { OnlyWalks T.Pages t.old t.new }
     // A page that is named is one of the table, which has page 0 at least.
     ensures among { 0 < length (T.step t.old).images → IfErr result (IsAmong (length (T.step t.old).images)) }
+    ensures root { IfOk result (λ count. is_marked reached.new 0 ≡ true) }
     ensures counted { IfOk result (λ count. T.trusted t.new → IsCounted (T.step t.old) reached.new count) }
     ensures fault { IfErr result (FailsTable T.Pages t.old t.new) }
     ensures refused { IfErr result (HasRefusal (rested (T.step t.new)) (T.step t.new)) }

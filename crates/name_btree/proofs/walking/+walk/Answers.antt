@@ -14,6 +14,7 @@ use Rattle.name_page.proofs.CountLaws.{few_separators, few_entries, take_short, 
 use Rattle.name_btree.proofs.ResultLaws.{ok_more, err_more}
 use Rattle.fsd_table.proofs.PageLaws.{length_of_children}
 use Rattle.name_btree.specs.Fault.{BarsPage, IsAmong}
+use Rattle.name_btree.proofs.MarkLaws.{one_marked, still_marked}
 use Rattle.name_btree.proofs.WalkLaws.{all_at, one_more, above_walked}
 use Rattle.name_btree.proofs.WithinLaws.{IsWithin, misfit_among, ways_within}
 use Rattle.name_btree.proofs.ComeLaws.{marked_breaks, leaf_breaks, interior_breaks, comes_below, comes_along, walk_map, walk_here}
@@ -134,6 +135,7 @@ walk_below-returns-in-Interior-clause-fault g t c =
 pub walk_children-loop-i-init : goal.walk_children-loop-i-init
 walk_children-loop-i-init g t c = record {
   calls = reaches_walks g.T.Pages c.args.t.now c.args.t.now (reaches_still g.T.Pages c.args.t.now (g.met.T.Pages.still c.args.t.now));
+  kept = λ page h. h;
   walked = λ trusted. record { used = tt; subtrees = tt; unmarked = refl; marks = refl; count_is = refl };
 }
 
@@ -171,6 +173,7 @@ walk_children-loop-i-preserved g t c =
     let calls = c.in_ok-more.ensures.calls in
     record {
       calls = walks_then G g.met.T.Pages.then c.args.t.now c.loop-i.t c.walk_below.new.t c.loop-i.invariant.calls calls;
+      kept = λ page h. c.walk_below.ensures.kept page (c.loop-i.invariant.kept page h);
       walked = λ trusted.
           let t = calls.trust trusted in
           let P : List (List ℕ) → Type 0 = λ (x : List (List ℕ)). IsWalked (G.step c.loop-i.t).spares c.args.level x child c.loop-i.reached c.walk_below.new.reached more in
@@ -231,3 +234,43 @@ walk_children-returns-in_err-more-clause-among g t c = λ all.
     let same = c.loop-i.invariant.calls.count in
     let p = err_from_is_err_and c.from_residual.result c.from_residual.ensures.1 in
     rw (p.1, p.2) (subst (λ (k : ℕ). IsAmong k c.in_err-more.field-0.0) same (c.in_err-more.ensures.among (subst (λ (k : ℕ). child.page < k) (sym same) here)))
+
+-- ---- the page is marked, and marks stay
+
+pub walk_below-returns-then-not-is_new-clause-marked : goal.walk_below-returns-then-not-is_new-clause-marked
+walk_below-returns-then-not-is_new-clause-marked g t c = one_marked c.args.reached.now c.is_new.new.reached c.args.child.now.page c.is_new.result c.is_new.ensures.new c.is_new.ensures.marks
+
+pub walk_below-returns-then-not-is_new-clause-kept : goal.walk_below-returns-then-not-is_new-clause-kept
+walk_below-returns-then-not-is_new-clause-kept g t c = still_marked c.args.reached.now c.is_new.new.reached c.args.child.now.page c.is_new.result c.is_new.ensures.marks
+
+pub walk_below-returns-in_default-clause-marked : goal.walk_below-returns-in_default-clause-marked
+walk_below-returns-in_default-clause-marked g t c = one_marked c.args.reached.now c.is_new.new.reached c.args.child.now.page c.is_new.result c.is_new.ensures.new c.is_new.ensures.marks
+
+pub walk_below-returns-in_default-clause-kept : goal.walk_below-returns-in_default-clause-kept
+walk_below-returns-in_default-clause-kept g t c = still_marked c.args.reached.now c.is_new.new.reached c.args.child.now.page c.is_new.result c.is_new.ensures.marks
+
+pub walk_below-returns-in_err-entries-clause-marked : goal.walk_below-returns-in_err-entries-clause-marked
+walk_below-returns-in_err-entries-clause-marked g t c = one_marked c.args.reached.now c.is_new.new.reached c.args.child.now.page c.is_new.result c.is_new.ensures.new c.is_new.ensures.marks
+
+pub walk_below-returns-in_err-entries-clause-kept : goal.walk_below-returns-in_err-entries-clause-kept
+walk_below-returns-in_err-entries-clause-kept g t c = still_marked c.args.reached.now c.is_new.new.reached c.args.child.now.page c.is_new.result c.is_new.ensures.marks
+
+pub walk_below-returns-in-Leaf-clause-marked : goal.walk_below-returns-in-Leaf-clause-marked
+walk_below-returns-in-Leaf-clause-marked g t c = one_marked c.args.reached.now c.is_new.new.reached c.args.child.now.page c.is_new.result c.is_new.ensures.new c.is_new.ensures.marks
+
+pub walk_below-returns-in-Leaf-clause-kept : goal.walk_below-returns-in-Leaf-clause-kept
+walk_below-returns-in-Leaf-clause-kept g t c = still_marked c.args.reached.now c.is_new.new.reached c.args.child.now.page c.is_new.result c.is_new.ensures.marks
+
+pub walk_below-returns-in-Interior-clause-marked : goal.walk_below-returns-in-Interior-clause-marked
+walk_below-returns-in-Interior-clause-marked g t c =
+    c.walk_children.ensures.kept c.args.child.now.page (one_marked c.args.reached.now c.is_new.new.reached c.args.child.now.page c.is_new.result c.is_new.ensures.new c.is_new.ensures.marks)
+
+pub walk_below-returns-in-Interior-clause-kept : goal.walk_below-returns-in-Interior-clause-kept
+walk_below-returns-in-Interior-clause-kept g t c = λ page h.
+    c.walk_children.ensures.kept page (still_marked c.args.reached.now c.is_new.new.reached c.args.child.now.page c.is_new.result c.is_new.ensures.marks page h)
+
+pub walk_children-returns-in_err-more-clause-kept : goal.walk_children-returns-in_err-more-clause-kept
+walk_children-returns-in_err-more-clause-kept g t c = λ page h. c.walk_below.ensures.kept page (c.loop-i.invariant.kept page h)
+
+pub walk_children-returns-clause-kept : goal.walk_children-returns-clause-kept
+walk_children-returns-clause-kept g t c = c.loop-i.invariant.kept
