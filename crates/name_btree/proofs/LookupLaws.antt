@@ -1,5 +1,5 @@
 -- What is looked up stands in a leaf that was reached, whatever the pages are.
-use Rattle.std.proofs.Common.{◌≡◌, ℕ, suc, ◌+◌, Bool, true, false, cond, not, ◌&&◌, List, [], ◌∷◌, ◌++◌, length, Option, Some, None, refl, sym, ap, subst, ◌∙◌, arith}
+use Rattle.std.proofs.Common.{◌≡◌, ℕ, suc, Bool, true, false, cond, not, ◌&&◌, List, [], ◌∷◌, ◌++◌, length, Option, Some, None, refl, sym, ap, subst, ◌∙◌, arith}
 use Rattle.std.specs.Prelude.{find, map, slice_get, Result, Ok, Err, IfOk, IfErr, IfSome}
 use Rattle.std.specs.List.{list_all, AllByRecursion, Contains, position_or_len}
 use Rattle.std.specs.Cmp.{Equal-is}
@@ -16,9 +16,9 @@ use Rattle.fsd_bytes.specs.Names.{is_between}
 use Rattle.fsd_forest.specs.Ways.{end_of}
 use Rattle.fsd_formats.specs.declared.entry.Entry.{Entry}
 use Rattle.fsd_formats.specs.declared.page.Separator.{Separator}
-use Rattle.fsd_formats.specs.NamePage.{Leaf, Interior, is_page, is_entry, are_ascending, contents_of, least_used, room}
+use Rattle.fsd_formats.specs.NamePage.{Leaf, Interior, is_entry, are_ascending, contents_of, least_used, room}
 use Rattle.fsd_table.specs.declared.child.Child.{Child}
-use Rattle.fsd_table.specs.Pages.{page_at, content_fits, entry_keys, separator_keys, keys_fit, not_below, below}
+use Rattle.fsd_table.specs.Pages.{page_at, content_fits, separator_keys, keys_fit, not_below, below}
 use Rattle.fsd_table.specs.Table.{top, IsVisited}
 use Rattle.fsd_table.proofs.BreakLaws.{visited_top}
 use Rattle.fsd_table.proofs.BoundLaws.{all_weaker, entries_fit, follows_separator, Fits, Follows}

@@ -1,12 +1,12 @@
 -- Marks, one a page.
-use Rattle.std.proofs.Common.{◌≡◌, ◌≢◌, ℕ, zero, suc, ◌<◌, Bool, true, false, not, ◌&&◌, ◌||◌, List, [], ◌∷◌, ◌++◌, length, Some, refl, ap, subst, ◌∙◌, arith}
+use Rattle.std.proofs.Common.{◌≡◌, ◌≢◌, ℕ, zero, suc, ◌<◌, Bool, true, false, cond, not, ◌&&◌, ◌||◌, List, [], ◌∷◌, ◌++◌, length, Some, refl, ap, subst, ◌∙◌, arith}
 use Rattle.std.specs.Prelude.{slice_set, ◌==◌}
 use Rattle.std.proofs.lemmas.Bool.{and_parts, and_from, not-true}
 use Rattle.std.proofs.lemmas.Bool.Decides.{nat_tests}
 use Rattle.std.proofs.lemmas.List.{get_or-set_other, length-set}
 use Rattle.std.proofs.lemmas.Option.{get_or_from_slice_get, slice_get-get_or}
 use Rattle.run_table.specs.Space.{contains, all_differ}
-use Rattle.name_btree.specs.Walk.{AreMarksOf, is_marked, can_mark, marked}
+use Rattle.name_btree.specs.Walk.{AreMarksOf, KeepsMarks, is_marked, can_mark, marked}
 
 equal : (m n : ℕ) → (m == n) ≡ true → m ≡ n
 equal m n e = grind (arith, nat_tests)
@@ -45,6 +45,19 @@ stays_marked (m ∷ marks) zero zero e = refl
 stays_marked (m ∷ marks) zero (suc q) e = e
 stays_marked (m ∷ marks) (suc p) zero e = e
 stays_marked (m ∷ marks) (suc p) (suc q) e = stays_marked marks p q e
+
+-- a page is marked, unless it was
+pub one_marked : (old new : List Bool) (page : ℕ) (b : Bool) → b ≡ not (is_marked old page) → new ≡ cond b (slice_set old page true) old → is_marked new page ≡ true
+one_marked old new page true is same = ap (λ (marks : List Bool). is_marked marks page) same ∙ set_marked old page
+one_marked old new page false is same = ap (λ (marks : List Bool). is_marked marks page) same ∙ by (is_marked old page) is
+  where
+    by : (m : Bool) → false ≡ not m → m ≡ true
+    by true e = refl
+    by false e = absurd cc
+
+pub still_marked : (old new : List Bool) (page : ℕ) (b : Bool) → new ≡ cond b (slice_set old page true) old → KeepsMarks old new
+still_marked old new page true same q h = ap (λ (marks : List Bool). is_marked marks q) same ∙ stays_marked old page q h
+still_marked old new page false same q h = ap (λ (marks : List Bool). is_marked marks q) same ∙ h
 
 read_by : (marks : List Bool) (p q : ℕ) (b : Bool) → (p == q) ≡ b → is_marked (slice_set marks p true) q ≡ (b || is_marked marks q)
 read_by marks p q true e = subst (λ (n : ℕ). is_marked (slice_set marks p true) n ≡ true) (equal p q e) (set_marked marks p)

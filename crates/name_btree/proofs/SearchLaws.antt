@@ -45,7 +45,7 @@ clear_front most n low = subst (AreMarksOf []) (sym (take-replicate n most false
 abbrev IsFree : List Bool → Visit → Type 0
 IsFree spares v = is_spare spares v.page ≡ false
 
-each_at : (P : Visit → Type 0) (xs : List Visit) (i : ℕ) (d : Visit) → i < length xs → AllByRecursion P xs → P (get_or xs i d)
+pub each_at : (P : Visit → Type 0) (xs : List Visit) (i : ℕ) (d : Visit) → i < length xs → AllByRecursion P xs → P (get_or xs i d)
 each_at P [] i d low all = absurd (omega (arith, low))
 each_at P (v ∷ xs) zero d low all = all.0
 each_at P (v ∷ xs) (suc i) d low all = each_at P xs i d (omega (arith, low)) all.1

@@ -1,5 +1,5 @@
 -- Why a call of the table fails.
-use Rattle.std.specs.Prelude.{◌≡◌, ℕ, ◌+◌, ◌⊎◌, Bool, true, false, List, Option, Some, None, Result, Ok, Err}
+use Rattle.std.specs.Prelude.{◌≡◌, ℕ, ◌+◌, ◌⊎◌, Bool, true, false, List, Option, Some, None, Result, Ok, Err, ◌<◌, ⊤}
 use Rattle.std.specs.List.{Contains, AllByRecursion}
 use Rattle.fsd_bytes.specs.declared.refusal.Refusal.{Refusal}
 use Rattle.fsd_bytes.specs.declared.refusal.Refusal.TheVariants.{Unsound, NameTableFull}
@@ -97,3 +97,8 @@ BarsBelow s above start page = IsVisited s.images (above + 1) start → BarsTabl
 
 abbrev pub BarsBeside : Step → Neighbour → ℕ → Type 0
 BarsBeside s n page = IsNeighbour s.images n → BarsTable s page
+
+-- a page that is named is one of so many
+abbrev pub IsAmong : ℕ → TreeFault → Type 0
+IsAmong pages (Pages refusal) = ⊤
+IsAmong pages (Broken page) = page < pages

@@ -24,6 +24,10 @@ AreMarksOf reached marks = (page : ℕ) → page < length marks → slice_get ma
 abbrev pub is_marked : List Bool → ℕ → Bool
 is_marked marks page = slice_index_or marks page true
 
+-- what is marked stays so
+abbrev pub KeepsMarks : (old new : List Bool) → Type 0
+KeepsMarks old new = (page : ℕ) → is_marked old page ≡ true → is_marked new page ≡ true
+
 -- one after another, none of them marked before
 abbrev pub can_mark : List Bool → List ℕ → Bool
 can_mark marks [] = true

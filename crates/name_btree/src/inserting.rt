@@ -7,7 +7,7 @@ ghost use Rattle.fsd_forest.specs.Ways.{child_between};
 ghost use Rattle.fsd_table.specs.Pages.{page_at, keys_fit, entry_keys};
 ghost use Rattle.fsd_table.specs.Tree.{IsTree, table_of};
 ghost use Rattle.name_btree.specs.Draft.{drafted, AreSheets, IsDraft};
-ghost use Rattle.name_btree.specs.Fault.{outer_told, FailsBy, FailsSpare, IsNoTree};
+ghost use Rattle.name_btree.specs.Fault.{outer_told, FailsBy, FailsSpare, IsNoTree, IsAmong};
 ghost use Rattle.name_btree.specs.Grown.{Over, most_parted, most_taken, IsGrown, IsAboveGrown, IsSound, IsDivided, Grows, Inserts, BreaksGrowth, BreaksNew};
 ghost use Rattle.name_btree.specs.Map.{IsTable, HasTable, LeavesTree, without_all};
 ghost use Rattle.name_page.specs.Edits.{with_entry};
@@ -42,6 +42,7 @@ pub fn insert<T: Pages>(t: &mut T, entry: &Entry, gone: &ArrayVec<Key, 2>) -> Re
     ensures reaches { reaches (T.step t.old) ≤ reaches (T.step t.new) + 30 }
     ensures changes { changes (T.step t.old) ≤ changes (T.step t.new) + 36 }
     ensures taken { free_count (T.step t.old) ≤ free_count (T.step t.new) + 7 }
+    ensures among { 0 < length (T.step t.old).images → IfErr result (IsAmong (length (T.step t.old).images)) }
     ensures inserted { OnOk result (T.trusted t.new → (height : ℕ) → IsTable (T.step t.old) height → HasTable (T.step t.new) (with_entry entry.now (without_all gone.now.items (table_of (T.step t.old).images height)))) }
     ensures full { let free = free_count (T.step t.old) in (result ≡ Err (TreeFault.Pages (NameTableFull free))) ↔ (free < 8) }
     ensures fault { IfErr result (FailsSpare T.Pages (free_count (T.step t.old)) t.new) }

@@ -7,7 +7,7 @@ ghost use Rattle.fsd_table.specs.Table.{top, BreaksTable};
 ghost use Rattle.fsd_table.specs.Tree.{IsTree, table_of};
 ghost use Rattle.name_page.specs.Cut.{after_cut, is_before};
 ghost use Rattle.name_btree.specs.Descent.{BeginsWith, EndsWith};
-ghost use Rattle.name_btree.specs.Fault.{outer_told, HasCause, BreaksBeside, BarsBeside, BarsTable};
+ghost use Rattle.name_btree.specs.Fault.{outer_told, HasCause, BreaksBeside, BarsBeside, BarsTable, IsAmong};
 ghost use Rattle.name_page.specs.Lookups.{entry_with, entry_after, highest_of, last_that, same_name, is_after};
 ghost use Rattle.name_btree.specs.Lookup.{entry_of, StandsIn, IsLedTo, IsLedBeside};
 ghost use Rattle.name_page.specs.declared.pages.TheConstants.{MOST_REACHED};
@@ -56,6 +56,7 @@ pub fn find<T: Pages>(t: &mut T, key: &Key) -> Result<Option<FoundEntry>, TreeFa
     requires { MOST_REACHED ≤ reaches (T.step t.old) }
     ensures calls { OnlyReaches T.Pages (outer_told result) t.old t.new }
     ensures reaches { reaches (T.step t.old) ≤ reaches (T.step t.new) + 6 }
+    ensures among { 0 < length (T.step t.old).images → IfErr result (IsAmong (length (T.step t.old).images)) }
     ensures there { IfOk result (λ found. IfSome found (StandsIn (T.step t.new))) }
     ensures way { IfOk result (λ found. IfSome found (IsLedTo (T.step t.new))) }
     ensures entry { IfOk result (λ found. IfSome found (λ f. is_entry f.entry ≡ true)) }
@@ -172,6 +173,7 @@ pub fn next_after<T: Pages>(t: &mut T, after: Option<&Key>) -> Result<Option<Fou
     requires { MOST_REACHED ≤ reaches (T.step t.old) }
     ensures calls { OnlyReaches T.Pages (outer_told result) t.old t.new }
     ensures reaches { reaches (T.step t.old) ≤ reaches (T.step t.new) + 12 }
+    ensures among { 0 < length (T.step t.old).images → IfErr result (IsAmong (length (T.step t.old).images)) }
     ensures there { IfOk result (λ found. IfSome found (StandsIn (T.step t.new))) }
     ensures way { IfOk result (λ found. IfSome found (IsLedTo (T.step t.new))) }
     ensures entry { IfOk result (λ found. IfSome found (λ f. is_entry f.entry ≡ true)) }
@@ -198,6 +200,7 @@ pub fn highest<T: Pages>(t: &mut T, name: &FileName) -> Result<Option<FoundEntry
     requires { MOST_REACHED ≤ reaches (T.step t.old) }
     ensures calls { OnlyReaches T.Pages (outer_told result) t.old t.new }
     ensures reaches { reaches (T.step t.old) ≤ reaches (T.step t.new) + 12 }
+    ensures among { 0 < length (T.step t.old).images → IfErr result (IsAmong (length (T.step t.old).images)) }
     ensures there { IfOk result (λ found. IfSome found (StandsIn (T.step t.new))) }
     ensures way { IfOk result (λ found. IfSome found (IsLedTo (T.step t.new))) }
     ensures entry { IfOk result (λ found. IfSome found (λ f. is_entry f.entry ≡ true)) }

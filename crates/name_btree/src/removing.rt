@@ -1,8 +1,8 @@
 //! Taking entries out.
-ghost use Rattle.std.specs.Prelude.{◌≡◌, ◌+◌, ◌*◌, ◌≤◌, ℕ, OnOk, OnErr, IfOk, IfErr, length, true};
+ghost use Rattle.std.specs.Prelude.{◌≡◌, ◌+◌, ◌*◌, ◌<◌, ◌≤◌, ℕ, OnOk, OnErr, IfOk, IfErr, length, true};
 ghost use Rattle.fsd_table.specs.Tree.{table_of};
 ghost use Rattle.name_btree.specs.Draft.{drafted, IsDraft, RemovesFrom};
-ghost use Rattle.name_btree.specs.Fault.{outer_told, FailsBy, FailsTable, IsNoTree};
+ghost use Rattle.name_btree.specs.Fault.{outer_told, FailsBy, FailsTable, IsNoTree, IsAmong};
 ghost use Rattle.name_btree.specs.Map.{IsTable, HasTable};
 ghost use Rattle.name_btree.specs.Remove.{IsTrimmedBelow, BreaksAround, IsRootLeft};
 ghost use Rattle.name_btree.specs.Trim.{MayHave, IsLeft, sheets_below};
@@ -31,6 +31,7 @@ pub fn remove<T: Pages>(t: &mut T, key: &Key) -> Result<(), TreeFault>
     ensures reaches { reaches (T.step t.old) ≤ reaches (T.step t.new) + 12 }
     ensures changes { changes (T.step t.old) ≤ changes (T.step t.new) + 8 }
     ensures taken { (page : ℕ) → is_spare (T.step t.old).spares page ≡ true → is_spare (T.step t.new).spares page ≡ true }
+    ensures among { 0 < length (T.step t.old).images → IfErr result (IsAmong (length (T.step t.old).images)) }
     ensures removed { OnOk result (T.trusted t.new → (height : ℕ) → IsTable (T.step t.old) height → HasTable (T.step t.new) (without key.now (table_of (T.step t.old).images height))) }
     ensures fault { IfErr result (FailsTable T.Pages t.new) }
 {

@@ -1,8 +1,8 @@
 //! Replacing an entry.
-ghost use Rattle.std.specs.Prelude.{◌≡◌, ◌≤◌, ◌+◌, ℕ, IsTrue, IfErr, OnErr, OnOk, true, false, map};
+ghost use Rattle.std.specs.Prelude.{◌≡◌, ◌<◌, ◌≤◌, ◌+◌, ℕ, IsTrue, IfErr, OnErr, OnOk, true, false, length, map};
 ghost use Rattle.fsd_formats.specs.NamePage.{is_entry, FitsEntry};
 ghost use Rattle.fsd_table.specs.Tree.{IsTree, table_of};
-ghost use Rattle.name_btree.specs.Fault.{outer_told, FailsTable};
+ghost use Rattle.name_btree.specs.Fault.{outer_told, FailsTable, IsAmong};
 ghost use Rattle.name_btree.specs.Map.{IsTable, HasTable};
 ghost use Rattle.name_page.specs.Edits.{put};
 ghost use Rattle.name_btree.specs.Replace.{HasAsLong, HasEdit, WritesOne};
@@ -41,6 +41,7 @@ pub fn replace_same_size<T: Pages>(t: &mut T, entry: &Entry) -> Result<(), TreeF
     ensures kept { OnErr result (OnlyWalks T.Pages (outer_told result) t.old t.new) }
     ensures written { OnOk result (WritesOne T.Pages t.old t.new) }
     ensures reaches { reaches (T.step t.old) ≤ reaches (T.step t.new) + 6 }
+    ensures among { 0 < length (T.step t.old).images → IfErr result (IsAmong (length (T.step t.old).images)) }
     // Of each tree, also beside pages that are not spare, comes one of the same height and pages.
     ensures tree { OnOk result (T.trusted t.new → (height : ℕ) → IsTree (T.step t.old).images height → HasEdit (map (put entry.now)) (T.step t.old).images (T.step t.new).images height) }
     ensures replaced { OnOk result (T.trusted t.new → (height : ℕ) → IsTable (T.step t.old) height → HasTable (T.step t.new) (map (put entry.now) (table_of (T.step t.old).images height))) }

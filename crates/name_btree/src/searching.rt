@@ -1,6 +1,6 @@
 //! The search for the page that breaks a table.
-ghost use Rattle.std.specs.Prelude.{◌≡◌, ◌<◌, ◌≤◌};
-ghost use Rattle.name_btree.specs.Fault.{outer_of, FailsTable, FailsTree, IsNoUsedTree, is_inner};
+ghost use Rattle.std.specs.Prelude.{◌≡◌, ◌<◌, ◌≤◌, length};
+ghost use Rattle.name_btree.specs.Fault.{outer_of, FailsTable, FailsTree, IsNoUsedTree, is_inner, IsAmong};
 ghost use Rattle.name_page.specs.Looks.{OnlyWalks};
 ghost use Rattle.name_page.specs.Pages.{reaches};
 
@@ -16,6 +16,7 @@ fn search<T: Pages>(t: &mut T) -> TreeFault
     ensures calls { OnlyWalks T.Pages (outer_of result) t.old t.new }
     ensures reaches { reaches (T.step t.old) ≤ reaches (T.step t.new) }
     ensures cause { (T.trusted t.old → IsNoUsedTree (T.step t.old)) → FailsTable T.Pages t.new result }
+    ensures among { 0 < length (T.step t.old).images → IsAmong (length (T.step t.old).images) result }
 {
     let mut reached = [false; 4096];
     let pages = t.count() as usize;
@@ -49,6 +50,7 @@ pub(crate) fn fault_of<T: Pages>(t: &mut T, fault: TreeFault) -> TreeFault
     ensures calls { (first : T) → OnlyWalks T.Pages (outer_of fault) first t.old → OnlyWalks T.Pages (outer_of result) first t.new }
     ensures reaches { reaches (T.step t.old) ≤ reaches (T.step t.new) }
     ensures cause { FailsTree T.Pages t.old fault → FailsTable T.Pages t.new result }
+    ensures among { 0 < length (T.step t.old).images → IsAmong (length (T.step t.old).images) result }
 {
     if is_inner(fault) { search(t) } else { fault }
 }

@@ -19,6 +19,7 @@ use Rattle.name_btree.proofs.CommitLaws.{commit_reaches, commit_changes, commit_
 use Rattle.name_btree.proofs.MapLaws.{promised_walks}
 use Rattle.name_btree.proofs.SpareLaws.{commit_free, inserted_table}
 use Rattle.name_btree.proofs.inserting.insert.Given as given
+use Rattle.name_btree.proofs.WithinLaws.{among_since}
 use Rattle.name_btree.proofs.inserting.insert.Goals as goal
 use Rattle.name_btree.proofs.inserting.insert.Goals.{After-fault_of, After-fault_of-in-Err-insert_in}
 
@@ -205,3 +206,16 @@ returns-in-Err-insert_in-clause-full g c =
     let new = f.new.t in
     let table = fails_inserting g (goal.at.returns-in-Err-insert_in-clause-full g c).After-fault_of-in-Err-insert_in in
     (λ is. absurd (not_full G new (free_count (G.step old)) (subst (FailsTable G new) (same_err f.result (Pages (NameTableFull (free_count (G.step old)))) is) table)), λ few. absurd (let h = c.in_default.is in let no = sp.full.1 few in cc))
+
+-- ---- a page that is named is one of the table
+
+pub returns-in-Err-remove_all-clause-among : goal.returns-in-Err-remove_all-clause-among
+returns-in-Err-remove_all-clause-among g c =
+    let same = c.in-Err-remove_all.ensures.calls.looks.count ∙ c.in_default.ensures.kept.count in
+    among_since (length (g.T.Pages.step c.remove_all.new.t).images) (length (g.T.Pages.step c.args.t.now).images) c.fault_of.result same c.fault_of.ensures.among
+
+pub returns-in-Err-insert_in-clause-among : goal.returns-in-Err-insert_in-clause-among
+returns-in-Err-insert_in-clause-among g c =
+    let f = c.fault_of-in-Err-insert_in in
+    let same = c.in-Err-insert_in.ensures.failed.looks.count ∙ c.in_default-remove_all.ensures.calls.looks.count ∙ c.in_default.ensures.kept.count in
+    among_since (length (g.T.Pages.step c.insert_in.new.t).images) (length (g.T.Pages.step c.args.t.now).images) f.result same f.ensures.among

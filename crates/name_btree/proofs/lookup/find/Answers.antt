@@ -1,4 +1,4 @@
-use Rattle.std.proofs.Common.{◌≡◌, ◌∙◌, sym, subst, List, ℕ, Option}
+use Rattle.std.proofs.Common.{◌≡◌, ◌∙◌, length, sym, subst, List, ℕ, Option}
 use Rattle.std.specs.Prelude.{IfSome}
 use Rattle.fsd_bytes.specs.declared.key.Key.{Key}
 use Rattle.fsd_bytes.specs.Keys.{same_key}
@@ -12,10 +12,12 @@ use Rattle.name_page.proofs.LookLaws.{shows_trusted}
 use Rattle.name_page.proofs.PutLaws.{found_in}
 use Rattle.name_btree.specs.declared.descent.Found.{Found}
 use Rattle.name_btree.specs.Descent.{IsPlace}
+use Rattle.name_btree.specs.Fault.{BarsTable}
 use Rattle.name_btree.proofs.LookupLaws.{find_contains, stands_in, good_entry, led_to}
 use Rattle.name_btree.proofs.FindLaws.{entry_found}
 use Rattle.std.proofs.lemmas.Result.{err_from_is_err_and}
 use Rattle.name_btree.proofs.VisitedLaws.{top_breaks}
+use Rattle.name_btree.proofs.WithinLaws.{fails_among}
 use Rattle.name_btree.proofs.lookup.find.Goals as goal
 
 -- the place of the key, below page 0
@@ -68,3 +70,11 @@ pub returns-in_err-found-clause-calls : goal.returns-in_err-found-clause-calls
 returns-in_err-found-clause-calls g c =
     let p = err_from_is_err_and c.from_residual.result c.from_residual.ensures.1 in
     rw (p.1, p.2) c.in_err-found.ensures.calls
+
+-- ---- a page that is named is one of the table
+
+pub returns-in_err-found-clause-among : goal.returns-in_err-found-clause-among
+returns-in_err-found-clause-among g c = λ some.
+    let new = c.leaf_below.new.t in
+    let s = g.T.Pages.step new in
+    fails_among c.from_residual.result s (BarsTable s) (length (g.T.Pages.step c.args.t.now).images) c.in_err-found.ensures.calls.looks.count some (returns-in_err-found-clause-fault g c)

@@ -1,4 +1,4 @@
-use Rattle.std.proofs.Common.{◌≡◌, ◌∙◌, sym, ap, subst, List, ℕ, Option}
+use Rattle.std.proofs.Common.{◌≡◌, ◌∙◌, length, sym, ap, subst, List, ℕ, Option}
 use Rattle.std.specs.Prelude.{IfSome}
 use Rattle.std.proofs.lemmas.Option.{IfSome_then}
 use Rattle.fsd_formats.specs.declared.entry.Entry.{Entry}
@@ -12,12 +12,13 @@ use Rattle.name_page.specs.Cut.{is_before}
 use Rattle.name_btree.specs.declared.descent.Neighbour.{Neighbour}
 use Rattle.name_page.specs.Looks.{Shows}
 use Rattle.name_page.proofs.LookLaws.{reaches_then, shows_trusted, agrees_before, agrees_now}
-use Rattle.name_btree.specs.Fault.{HasCause, BreaksBeside, BarsBeside}
+use Rattle.name_btree.specs.Fault.{HasCause, BreaksBeside, BarsBeside, BarsTable}
 use Rattle.name_btree.specs.Descent.{IsPlace, EndsWith}
 use Rattle.name_page.specs.Lookups.{last_that, same_name}
 use Rattle.name_btree.proofs.HighestLaws.{highest_in_leaf, highest_at_start, highest_in_previous}
 use Rattle.std.proofs.lemmas.Result.{err_from_is_err_and}
 use Rattle.name_btree.proofs.VisitedLaws.{top_breaks, previous_breaks}
+use Rattle.name_btree.proofs.WithinLaws.{fails_among}
 use Rattle.name_btree.proofs.lookup.highest.Goals as goal
 
 pub returns-in-Some-clause-found : goal.returns-in-Some-clause-found
@@ -155,3 +156,18 @@ pub returns-in_err-found-clause-calls : goal.returns-in_err-found-clause-calls
 returns-in_err-found-clause-calls g c =
     let p = err_from_is_err_and c.from_residual.result c.from_residual.ensures.1 in
     rw (p.1, p.2) c.in_err-found.ensures.calls
+
+-- ---- a page that is named is one of the table
+
+pub returns-in_err-found-clause-among : goal.returns-in_err-found-clause-among
+returns-in_err-found-clause-among g c = λ some.
+    let new = c.leaf_below.new.t in
+    let s = g.T.Pages.step new in
+    fails_among c.from_residual.result s (BarsTable s) (length (g.T.Pages.step c.args.t.now).images) c.in_err-found.ensures.calls.looks.count some (returns-in_err-found-clause-fault g c)
+
+pub returns-in_err-last_below-in-Some-previous-clause-among : goal.returns-in_err-last_below-in-Some-previous-clause-among
+returns-in_err-last_below-in-Some-previous-clause-among g c = λ some.
+    let new = c.last_below.new.t in
+    let s = g.T.Pages.step new in
+    let same = c.in_err-last_below-in-Some-previous.ensures.calls.looks.count ∙ c.in_ok-found.ensures.calls.looks.count in
+    fails_among c.from_residual-in_err-last_below-in-Some-previous.result s (BarsTable s) (length (g.T.Pages.step c.args.t.now).images) same some (returns-in_err-last_below-in-Some-previous-clause-fault g c)

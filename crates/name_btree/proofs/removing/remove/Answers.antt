@@ -12,6 +12,7 @@ use Rattle.name_btree.specs.Fault.{FailsTree, IsNoTree}
 use Rattle.name_btree.proofs.CauseLaws.{fails_by_map}
 use Rattle.name_btree.proofs.SearchLaws.{shown_tree}
 use Rattle.name_btree.proofs.TableLaws.{table_without}
+use Rattle.name_btree.proofs.WithinLaws.{among_since}
 use Rattle.name_btree.proofs.removing.remove.Goals as goal
 
 pub returns-clause-reaches : goal.returns-clause-reaches
@@ -81,3 +82,8 @@ returns-in-Err-clause-fault g c =
     (λ images page is h. subst IsNoTree (ap (λ (xs : List Sheet). drafted xs images) c.new-draft.ensures.sheets) h) fault c.in-Err.ensures.fault in
     let fails : FailsTree G mid fault = shown_tree G mid fault bare in
     c.fault_of.ensures.cause fails
+
+-- a page that is named is one of the table
+pub returns-in-Err-clause-among : goal.returns-in-Err-clause-among
+returns-in-Err-clause-among g c =
+    among_since (length (g.T.Pages.step c.remove_in.new.t).images) (length (g.T.Pages.step c.args.t.now).images) c.fault_of.result c.in-Err.ensures.calls.looks.count c.fault_of.ensures.among

@@ -1,4 +1,4 @@
-use Rattle.std.proofs.Common.{◌≡◌, ◌∙◌, ℕ, ap, subst, List, map}
+use Rattle.std.proofs.Common.{◌≡◌, ◌∙◌, ℕ, ap, subst, length, List, map}
 use Rattle.fsd_bytes.specs.declared.key.Key.{Key}
 use Rattle.fsd_formats.specs.declared.entry.Entry.{Entry}
 use Rattle.fsd_formats.specs.NamePage.{Leaf, is_page}
@@ -15,6 +15,7 @@ use Rattle.name_btree.proofs.ChangeLaws.{tree_replaced, table_replaced}
 use Rattle.name_btree.proofs.ReplaceLaws.{few_in_leaf, put_is_page, not_in_tree}
 use Rattle.name_btree.proofs.SearchLaws.{fails_tree}
 use Rattle.name_btree.proofs.VisitedLaws.{top_breaks}
+use Rattle.name_btree.proofs.WithinLaws.{among_since}
 use Rattle.name_btree.proofs.replacing.replace_same_size.Goals as goal
 
 pub put_among-list-requires-clause-few : goal.put_among-list-requires-clause-few
@@ -110,3 +111,14 @@ returns-clause-replaced g c = λ trusted.
     let at = subst by_top c.top.ensures (subst by_key c.copied.ensures seen) in
     let put_in = subst (λ (xs : List Entry). IsWritten (G.step mid) (G.step new) found.page (Leaf xs)) (c.as_slice.ensures.value ∙ c.put_among-list.ensures.put) c.put_leaf.ensures.written in
     table_replaced c.args.entry.now (G.step old) (G.step mid) (G.step new) found (calls.stays t) calls.looks.spares put_in at
+
+-- ---- a page that is named is one of the table
+
+pub returns-in-Err-clause-among : goal.returns-in-Err-clause-among
+returns-in-Err-clause-among g c =
+    among_since (length (g.T.Pages.step c.leaf_below.new.t).images) (length (g.T.Pages.step c.args.t.now).images) c.fault_of.result c.in-Err.ensures.calls.looks.count c.fault_of.ensures.among
+
+pub returns-then-not-has_as_long-clause-among : goal.returns-then-not-has_as_long-clause-among
+returns-then-not-has_as_long-clause-among g c =
+    let f = c.fault_of-then-not-has_as_long in
+    among_since (length (g.T.Pages.step c.leaf_below.new.t).images) (length (g.T.Pages.step c.args.t.now).images) f.result c.in-Ok.ensures.calls.looks.count f.ensures.among

@@ -1,9 +1,10 @@
-use Rattle.std.proofs.Common.{◌≡◌, Option, None, true, false, subst}
+use Rattle.std.proofs.Common.{◌≡◌, Option, None, true, false, subst, length}
 use Rattle.fsd_bytes.specs.declared.refusal.Refusal.{Refusal}
 use Rattle.name_page.specs.Looks.{OnlyWalks}
 use Rattle.name_page.proofs.LookLaws.{walks_then}
 use Rattle.name_btree.specs.Fault.{is_inner}
 use Rattle.name_btree.proofs.SearchLaws.{inner_broken, inner_untold, outer_fails}
+use Rattle.name_btree.proofs.WithinLaws.{outer_among}
 use Rattle.name_btree.proofs.searching.fault_of.Goals as goal
 
 pub returns-then-is_inner-clause-calls : goal.returns-then-is_inner-clause-calls
@@ -25,3 +26,8 @@ returns-else-is_inner-clause-cause g c = λ fails.
 
 pub returns-else-is_inner-clause-calls : goal.returns-else-is_inner-clause-calls
 returns-else-is_inner-clause-calls g c = λ first before. before
+
+pub returns-else-is_inner-clause-among : goal.returns-else-is_inner-clause-among
+returns-else-is_inner-clause-among g c = λ some.
+    let outer : is_inner c.args.fault ≡ false = cc in
+    outer_among (length (g.T.Pages.step c.args.t.now).images) c.args.fault outer

@@ -1,9 +1,10 @@
-use Rattle.std.proofs.Common.{◌≡◌, ◌∙◌, ◌+◌, ◌-◌, ◌<◌, ◌≤◌, Bool, true, false, cond, not, refl, sym, ap, subst, List, [], ◌∷◌, length, take, ℕ, suc, Some, arith, rules}
-use Rattle.std.specs.Prelude.{slice_set}
+use Rattle.std.proofs.Common.{◌≡◌, ◌∙◌, ◌+◌, ◌-◌, ◌<◌, ◌≤◌, Bool, true, false, cond, not, refl, sym, ap, subst, List, [], ◌∷◌, length, take, ℕ, suc, None, Some, arith, rules}
+use Rattle.std.specs.Prelude.{slice_set, IfErr}
 use Rattle.std.proofs.lemmas.Result.{err_from_is_err_and}
 use Rattle.fsd_formats.specs.NamePage.{Interior}
 use Rattle.fsd_table.specs.declared.child.Child.{Child}
 use Rattle.fsd_table.specs.Pages.{page_at, children, content_fits, keys_fit, separator_keys}
+use Rattle.name_page.specs.Looks.{OnlyWalks}
 use Rattle.name_page.specs.Pages.{Step, is_spare}
 use Rattle.name_page.proofs.LookLaws.{reaches_still, reaches_walks, rest_reaches, walks_then}
 use Rattle.name_page.specs.declared.node.Node.{Node}
@@ -12,7 +13,10 @@ use Rattle.name_btree.specs.Walk.{is_marked, IsWalked, AreWalked, ComesTo, Fails
 use Rattle.name_page.proofs.CountLaws.{few_separators, few_entries, take_short, take_whole}
 use Rattle.name_btree.proofs.ResultLaws.{ok_more, err_more}
 use Rattle.fsd_table.proofs.PageLaws.{length_of_children}
-use Rattle.name_btree.proofs.WalkLaws.{one_more, above_walked}
+use Rattle.name_btree.specs.Fault.{BarsPage, IsAmong}
+use Rattle.name_btree.proofs.MarkLaws.{one_marked, still_marked}
+use Rattle.name_btree.proofs.WalkLaws.{all_at, one_more, above_walked}
+use Rattle.name_btree.proofs.WithinLaws.{IsWithin, misfit_among, ways_within}
 use Rattle.name_btree.proofs.ComeLaws.{marked_breaks, leaf_breaks, interior_breaks, comes_below, comes_along, walk_map, walk_here}
 use Rattle.name_btree.proofs.walking.+walk.Goals as goal
 use Rattle.name_btree.proofs.walking.+walk.Goals.{walk_below-in_default-via-in-Leaf+else-level-eq0, walk_below-in_default-via-in-Interior+else-level-gt0, walk_below-in_default-via-in_default}
@@ -131,6 +135,7 @@ walk_below-returns-in-Interior-clause-fault g t c =
 pub walk_children-loop-i-init : goal.walk_children-loop-i-init
 walk_children-loop-i-init g t c = record {
   calls = reaches_walks g.T.Pages c.args.t.now c.args.t.now (reaches_still g.T.Pages c.args.t.now (g.met.T.Pages.still c.args.t.now));
+  kept = λ page h. h;
   walked = λ trusted. record { used = tt; subtrees = tt; unmarked = refl; marks = refl; count_is = refl };
 }
 
@@ -170,6 +175,7 @@ walk_children-loop-i-preserved g t c =
     let calls = c.in_ok-more.ensures.calls in
     record {
       calls = walks_then G g.met.T.Pages.then c.args.t.now c.loop-i.t c.walk_below.new.t c.loop-i.invariant.calls calls;
+      kept = λ page h. c.walk_below.ensures.kept page (c.loop-i.invariant.kept page h);
       walked = λ trusted.
           let t = calls.trust trusted in
           let P : List (List ℕ) → Type 0 = λ (x : List (List ℕ)). IsWalked (G.step c.loop-i.t).spares c.args.level x child c.loop-i.reached c.walk_below.new.reached more in
@@ -197,3 +203,82 @@ walk_below-returns-in_err-entries-clause-calls g t c =
     let law = g.met.T.Pages in
     let p = err_from_is_err_and c.from_residual.result c.from_residual.ensures.1 in
     rw (p.1, p.2) (rest_reaches g.T.Pages law.then law.trust c.args.t.now c.rest.new.self c.child_node.new.t c.rest.ensures.outside c.rest.ensures.step c.in_err-entries.ensures.calls)
+
+-- ---- a page that is named is one of the table
+
+pub walk_below-returns-then-not-is_new-clause-among : goal.walk_below-returns-then-not-is_new-clause-among
+walk_below-returns-then-not-is_new-clause-among g t c = λ here. here
+
+pub walk_below-returns-in_default-clause-among : goal.walk_below-returns-in_default-clause-among
+walk_below-returns-in_default-clause-among g t c = λ here. here
+
+pub walk_below-returns-in_err-entries-clause-among : goal.walk_below-returns-in_err-entries-clause-among
+walk_below-returns-in_err-entries-clause-among g t c = λ here.
+    let new = c.child_node.new.t in
+    let s = g.T.Pages.step new in
+    let child = c.args.child.now in
+    let p = err_from_is_err_and c.from_residual.result c.from_residual.ensures.1 in
+    rw (p.1, p.2) (misfit_among s (BarsPage s child.page) (length (g.T.Pages.step c.args.t.now).images) child c.in_err-entries.field-0.0 here c.in_err-entries.ensures.fault)
+
+pub walk_below-returns-in-Interior-clause-among : goal.walk_below-returns-in-Interior-clause-among
+walk_below-returns-in-Interior-clause-among g t c = λ here.
+    let G = g.T.Pages in
+    let law = g.met.T.Pages in
+    let old = c.args.t.now in
+    let mid = c.child_node.new.t in
+    let so : OnlyWalks G None old mid = rest_reaches G law.then law.trust old c.rest.new.self mid c.rest.ensures.outside c.rest.ensures.step c.in_ok-entries.ensures.calls in
+    let child = c.args.child.now in
+    let ways = c.in-Interior.ways in
+    let kids = ways_within (G.step mid).images child.page ways.0 ways.1 child.low child.high (c.in_ok-entries.ensures.node ∙ ap (λ (n : Node). Some (content_of n)) c.in-Interior.is) in
+    subst (λ (n : ℕ). IfErr c.walk_children.result (IsAmong n)) so.count (c.walk_children.ensures.among kids)
+
+pub walk_children-returns-in_err-more-clause-among : goal.walk_children-returns-in_err-more-clause-among
+walk_children-returns-in_err-more-clause-among g t c = λ all.
+    let ways = c.args.ways.now in
+    let above = c.args.above.now in
+    let n = length (g.T.Pages.step c.args.t.now).images in
+    let child = c.child_at-child.result in
+    let here : child.page < n = all_at (IsWithin n) (children ways.0 above.low above.high ways.1) c.loop-i.i child c.child_at-child.ensures all in
+    let same = c.loop-i.invariant.calls.count in
+    let p = err_from_is_err_and c.from_residual.result c.from_residual.ensures.1 in
+    rw (p.1, p.2) (subst (λ (k : ℕ). IsAmong k c.in_err-more.field-0.0) same (c.in_err-more.ensures.among (subst (λ (k : ℕ). child.page < k) (sym same) here)))
+
+-- ---- the page is marked, and marks stay
+
+pub walk_below-returns-then-not-is_new-clause-marked : goal.walk_below-returns-then-not-is_new-clause-marked
+walk_below-returns-then-not-is_new-clause-marked g t c = one_marked c.args.reached.now c.is_new.new.reached c.args.child.now.page c.is_new.result c.is_new.ensures.new c.is_new.ensures.marks
+
+pub walk_below-returns-then-not-is_new-clause-kept : goal.walk_below-returns-then-not-is_new-clause-kept
+walk_below-returns-then-not-is_new-clause-kept g t c = still_marked c.args.reached.now c.is_new.new.reached c.args.child.now.page c.is_new.result c.is_new.ensures.marks
+
+pub walk_below-returns-in_default-clause-marked : goal.walk_below-returns-in_default-clause-marked
+walk_below-returns-in_default-clause-marked g t c = one_marked c.args.reached.now c.is_new.new.reached c.args.child.now.page c.is_new.result c.is_new.ensures.new c.is_new.ensures.marks
+
+pub walk_below-returns-in_default-clause-kept : goal.walk_below-returns-in_default-clause-kept
+walk_below-returns-in_default-clause-kept g t c = still_marked c.args.reached.now c.is_new.new.reached c.args.child.now.page c.is_new.result c.is_new.ensures.marks
+
+pub walk_below-returns-in_err-entries-clause-marked : goal.walk_below-returns-in_err-entries-clause-marked
+walk_below-returns-in_err-entries-clause-marked g t c = one_marked c.args.reached.now c.is_new.new.reached c.args.child.now.page c.is_new.result c.is_new.ensures.new c.is_new.ensures.marks
+
+pub walk_below-returns-in_err-entries-clause-kept : goal.walk_below-returns-in_err-entries-clause-kept
+walk_below-returns-in_err-entries-clause-kept g t c = still_marked c.args.reached.now c.is_new.new.reached c.args.child.now.page c.is_new.result c.is_new.ensures.marks
+
+pub walk_below-returns-in-Leaf-clause-marked : goal.walk_below-returns-in-Leaf-clause-marked
+walk_below-returns-in-Leaf-clause-marked g t c = one_marked c.args.reached.now c.is_new.new.reached c.args.child.now.page c.is_new.result c.is_new.ensures.new c.is_new.ensures.marks
+
+pub walk_below-returns-in-Leaf-clause-kept : goal.walk_below-returns-in-Leaf-clause-kept
+walk_below-returns-in-Leaf-clause-kept g t c = still_marked c.args.reached.now c.is_new.new.reached c.args.child.now.page c.is_new.result c.is_new.ensures.marks
+
+pub walk_below-returns-in-Interior-clause-marked : goal.walk_below-returns-in-Interior-clause-marked
+walk_below-returns-in-Interior-clause-marked g t c =
+    c.walk_children.ensures.kept c.args.child.now.page (one_marked c.args.reached.now c.is_new.new.reached c.args.child.now.page c.is_new.result c.is_new.ensures.new c.is_new.ensures.marks)
+
+pub walk_below-returns-in-Interior-clause-kept : goal.walk_below-returns-in-Interior-clause-kept
+walk_below-returns-in-Interior-clause-kept g t c = λ page h.
+    c.walk_children.ensures.kept page (still_marked c.args.reached.now c.is_new.new.reached c.args.child.now.page c.is_new.result c.is_new.ensures.marks page h)
+
+pub walk_children-returns-in_err-more-clause-kept : goal.walk_children-returns-in_err-more-clause-kept
+walk_children-returns-in_err-more-clause-kept g t c = λ page h. c.walk_below.ensures.kept page (c.loop-i.invariant.kept page h)
+
+pub walk_children-returns-clause-kept : goal.walk_children-returns-clause-kept
+walk_children-returns-clause-kept g t c = c.loop-i.invariant.kept

@@ -1,17 +1,22 @@
-use Rattle.std.proofs.Common.{◌≡◌, ◌∙◌, ◌<◌, sym, ap, subst, List, ℕ, Some, arith}
+use Rattle.std.proofs.Common.{◌≡◌, ◌∙◌, ◌<◌, length, sym, ap, subst, List, ℕ, Some, arith}
 use Rattle.std.proofs.lemmas.Result.{err_from_is_err_and}
 use Rattle.fsd_formats.specs.NamePage.{Leaf, Interior}
-use Rattle.fsd_table.specs.Pages.{page_at}
+use Rattle.fsd_table.specs.Pages.{page_at, children}
+use Rattle.fsd_table.specs.declared.child.Child.{Child}
 use Rattle.name_page.specs.Pages.{Step, reaches, rested}
 use Rattle.name_page.proofs.LookLaws.{reaches_still, reaches_walks, rest_reaches, walks_then}
 use Rattle.name_page.specs.declared.node.Node.{Node}
 use Rattle.name_page.specs.Node.{content_of}
+use Rattle.name_btree.specs.Fault.{BarsPage}
+use Rattle.name_btree.proofs.WalkLaws.{all_at}
+use Rattle.name_btree.proofs.WithinLaws.{IsWithin, misfit_among, ways_within}
 use Rattle.name_btree.proofs.TopLaws.{IsDown, down_begins, down_first, down_ends, down_breaks}
 use Rattle.name_btree.proofs.walking.top_level.Goals as goal
 
 pub loop-level-init : goal.loop-level-init
 loop-level-init g c = record {
   calls = reaches_walks g.T.Pages c.args.t.now c.args.t.now (reaches_still g.T.Pages c.args.t.now (g.met.T.Pages.still c.args.t.now));
+  within = λ some. subst (λ (d : Child). d.page < length (g.T.Pages.step c.args.t.now).images) (sym c.top-child.ensures) some;
   down = λ t. down_begins (g.T.Pages.step c.args.t.now).images c.top-child.result c.top-child.ensures;
 }
 
@@ -61,6 +66,11 @@ loop-level-preserved g c =
     let ways = c.in-Interior.ways in
     record {
       calls = all;
+      within = λ some.
+          let at = c.in_ok-child_node.ensures.node ∙ ap (λ (n : Node). Some (content_of n)) c.in-Interior.is in
+          let kids = ways_within (G.step new).images child.page ways.0 ways.1 child.low child.high at in
+          let next = c.child_at-child.result in
+          subst (λ (n : ℕ). next.page < n) all.count (all_at (IsWithin (length (G.step new).images)) (children ways.0 child.low child.high ways.1) 0 next c.child_at-child.ensures kids);
       down = λ t.
           let at : page_at pages child.page ≡ Some (Interior ways.0 ways.1) =
           ap (λ (p : List (List ℕ)). page_at p child.page) (sym (all.stays t)) ∙ c.in_ok-child_node.ensures.node ∙ ap (λ (n : Node). Some (content_of n)) c.in-Interior.is in
@@ -75,3 +85,19 @@ returns-in_err-child_node-clause-calls g c =
     let so = rest_reaches G law.then law.trust c.loop-level.t c.rest.new.self new c.rest.ensures.outside c.rest.ensures.step c.in_err-child_node.ensures.calls in
     let p = err_from_is_err_and c.from_residual.result c.from_residual.ensures.1 in
     rw (p.1, p.2) (walks_then G law.then c.args.t.now c.loop-level.t new c.loop-level.invariant.calls so)
+
+-- ---- a page that is named is one of the table
+
+pub returns-in_err-child_node-clause-among : goal.returns-in_err-child_node-clause-among
+returns-in_err-child_node-clause-among g c = λ some.
+    let new = c.child_node.new.t in
+    let s = g.T.Pages.step new in
+    let child = c.loop-level.child in
+    let p = err_from_is_err_and c.from_residual.result c.from_residual.ensures.1 in
+    rw (p.1, p.2) (misfit_among s (BarsPage s child.page) (length (g.T.Pages.step c.args.t.now).images) child c.in_err-child_node.field-0.0 (c.loop-level.invariant.within some) c.in_err-child_node.ensures.fault)
+
+pub returns-in-Free-clause-among : goal.returns-in-Free-clause-among
+returns-in-Free-clause-among g c = λ some. c.loop-level.invariant.within some
+
+pub returns-clause-among : goal.returns-clause-among
+returns-clause-among g c = λ some. c.loop-level.invariant.within some

@@ -1,8 +1,10 @@
-use Rattle.std.proofs.Common.{◌≡◌, ◌∙◌, length, sym, subst, List, [], ◌∷◌, ℕ, Bool}
+use Rattle.std.proofs.Common.{◌≡◌, ◌∙◌, length, sym, subst, List, [], ◌∷◌, ℕ, Bool, ◌<◌, true}
 use Rattle.std.proofs.lemmas.Result.{err_from_is_err_and}
 use Rattle.name_page.proofs.LookLaws.{walks_then}
-use Rattle.name_btree.specs.Fault.{FailsTable}
-use Rattle.name_btree.specs.Walk.{IsWalked, IsTopLevel, IsCounted, FailsWalk}
+use Rattle.std.specs.Prelude.{IfErr}
+use Rattle.fsd_table.specs.declared.child.Child.{Child}
+use Rattle.name_btree.specs.Fault.{FailsTable, IsAmong}
+use Rattle.name_btree.specs.Walk.{is_marked, IsWalked, IsTopLevel, IsCounted, FailsWalk}
 use Rattle.name_btree.proofs.ResultLaws.{ok_more, err_more}
 use Rattle.name_btree.proofs.TopLaws.{counted}
 use Rattle.name_btree.proofs.ComeLaws.{walk_whole}
@@ -48,3 +50,20 @@ pub returns-in_err-level-clause-calls : goal.returns-in_err-level-clause-calls
 returns-in_err-level-clause-calls g c =
     let p = err_from_is_err_and c.from_residual.result c.from_residual.ensures.1 in
     rw (p.1, p.2) c.in_err-level.ensures.calls
+
+-- a page that is named is one of the table
+pub returns-clause-among : goal.returns-clause-among
+returns-clause-among g c = λ some.
+    let same = c.in_ok-level.ensures.calls.count in
+    let mid = length (g.T.Pages.step c.top_level.new.t).images in
+    let here = subst (λ (d : Child). d.page < mid) (sym c.top.ensures) (subst (λ (n : ℕ). 0 < n) (sym same) some) in
+    subst (λ (n : ℕ). IfErr c.walk_below.result (IsAmong n)) same (c.walk_below.ensures.among here)
+
+pub returns-clause-root : goal.returns-clause-root
+returns-clause-root g c =
+    let G = g.T.Pages in
+    let mid = c.top_level.new.t in
+    let before = c.args.reached.now in
+    let after = c.walk_below.new.reached in
+    let root = subst (λ (d : Child). is_marked after d.page ≡ true) c.top.ensures c.walk_below.ensures.marked in
+    ok_more c.walk_below.result (λ n. G.trusted c.walk_below.new.t → IsWalked (G.step mid).spares c.in_ok-level.level (G.step mid).images c.top.result before after n) (λ n. is_marked after 0 ≡ true) (λ n w. root) c.walk_below.ensures.walked
