@@ -9,10 +9,10 @@ use Rattle.fsd_formats.specs.declared.entry.Entry.{Entry}
 use Rattle.fsd_formats.specs.NamePage.{sectors_for}
 use Rattle.sector_disk.specs.Machine.{Moment}
 use Rattle.fsd_log.specs.Scan.{Placed}
-use Rattle.fsd_files.specs.Answers.{HasLeader, Met, Outcome, entry_of}
-use Rattle.fsd_files.specs.Disk.{Image, Sectors}
+use Rattle.fsd_files.specs.Answers.{HasVersion, Met, Outcome, entry_of}
+use Rattle.fsd_files.specs.Disk.{Image}
 use Rattle.fsd_files.specs.Files.{File, Change}
-use Rattle.fsd_files.specs.Kept.{FirstDamaged, IsWhole, KeptIn, range_sectors}
+use Rattle.fsd_files.specs.Kept.{FirstDamaged, IsWhole, range_sectors}
 use Rattle.fsd_files.specs.Replies.{Reply, Refused, Made, Kept, Found}
 use Rattle.fsd_files.specs.Volume.{Volume, drawn, forced}
 use Rattle.fsd_sound.specs.Mounted.{Mounted, forces_by_itself, telling_of}
@@ -35,11 +35,6 @@ abbrev pub kept_key : ℕ → Key → Reply
 kept_key keep key = Kept key keep
 
 -- ---- changes
-
--- A version that was just made stands whole, with its leader, but for damage in the open windows.
-pub record HasVersion (weak : Sectors) (i : Image) (bytes : List ℕ) (e : Entry) : Type 0 where
-  pub leader : HasLeader weak i e
-  pub data_there : KeptIn i weak bytes e.runs
 
 -- The call answers as the definitions do, and the volume is then as they say.
 pub record Answers (outcome : Met → Outcome) (reply : Reply) (made : List Change) (k after : Known) : Type 0 where

@@ -11,10 +11,10 @@ use Rattle.run_table.specs.Space.{contains, pick, where_free}
 use Rattle.fsd_formats.specs.declared.anchor.Anchor.{Anchor}
 use Rattle.fsd_formats.specs.Record.{record_len}
 use Rattle.sector_disk.specs.declared.sector.WeakRun.{WeakRun}
-use Rattle.sector_disk.specs.Image.{sector_at, open_damage, IsWorn}
+use Rattle.sector_disk.specs.Image.{open_damage, IsWorn}
 use Rattle.sector_disk.specs.Machine.{Moment, Ledger}
 use Rattle.fsd_log.specs.Scan.{Head, Placed, start}
-use Rattle.fsd_files.specs.Disk.{Sectors, SectorWorn}
+use Rattle.fsd_files.specs.Disk.{Sectors, Touches}
 use Rattle.fsd_files.specs.Files.{Change}
 use Rattle.fsd_files.specs.Volume.{Volume, forced, free_runs, pages_free, waits}
 use Rattle.fsd_sound.specs.Anchors.{fresh_anchor}
@@ -191,11 +191,6 @@ pub record Ages (old new : Moment) : Type 0 where
 -- whether a force writes there: the anchors, the log, the homes
 abbrev pub force_writes : Layout → Sectors
 force_writes l s = (s == 8) || (s == 12) || nat_le 16 s && nat_lt s (home_a l 0) || is_home l s
-
--- Nothing was written but where the test says; what else is not as it was is worn.
-pub record Touches (may : Sectors) (old left : Moment) : Type 0 where
-  pub size : length left.image ≡ length old.image
-  pub others : (s : ℕ) → IsFalse (may s) → SectorWorn (open_damage old.windows s) (sector_at old.image s) (sector_at left.image s)
 
 -- The disk is sound for the changes of before, with all that were forced before: a call forces no change of its own.
 pub record LeavesSound (k : Known) (may : Sectors) (old left : Moment) : Type 0 where
