@@ -1,16 +1,20 @@
--- Taking entries out adds none.
-use Rattle.std.proofs.Common.{◌≡◌, ℕ, Bool, true, false, cond, List, [], ◌∷◌, ◌++◌, Option, Some, None, refl, sym, ap, ◌∙◌, subst}
+-- Whether an entry has a key: taking entries out adds none, and what a look-up found is still there.
+use Rattle.std.proofs.Common.{◌≡◌, ℕ, Bool, true, false, cond, List, [], ◌∷◌, ◌++◌, length, Option, Some, None, refl, sym, ap, ◌∙◌, subst}
 use Rattle.std.specs.Prelude.{find, filter}
 use Rattle.std.specs.Option.{option_or, is_some}
 use Rattle.std.proofs.lemmas.List.Folds.{find-append}
 use Rattle.fsd_bytes.specs.declared.key.Key.{Key}
 use Rattle.fsd_bytes.specs.Keys.{same_key}
 use Rattle.fsd_formats.specs.declared.entry.Entry.{Entry}
+use Rattle.fsd_formats.specs.NamePage.{entry_bytes}
 use Rattle.fsd_table.specs.Tree.{IsTree, table_of}
 use Rattle.name_page.specs.declared.entries.Side.TheVariants.{Lesser, Greater}
 use Rattle.name_page.specs.Edits.{is_on, beside, without}
 use Rattle.name_page.specs.Lookups.{entry_with}
+use Rattle.name_btree.specs.declared.lookup.FoundEntry.{FoundEntry}
+use Rattle.name_btree.specs.Lookup.{entry_of}
 use Rattle.name_btree.specs.Map.{without_all}
+use Rattle.name_btree.specs.Replace.{HasAsLong}
 
 -- ---- what is not found in a list is not found in a part of it
 
@@ -52,7 +56,19 @@ still_new before after key keys same new = λ height tree.
     without_all_none key keys (table_of after height)
     (subst (λ (pages : List (List ℕ)). entry_with key (table_of pages height) ≡ None) (sym same) (new height (subst (λ (pages : List (List ℕ)). IsTree pages height) same tree)))
 
-pub none_found : (pages : List (List ℕ)) (key : Key) (found : Option Entry) → is_some found ≡ false
-    → ((height : ℕ) → IsTree pages height → found ≡ entry_with key (table_of pages height))
+pub none_found : (pages : List (List ℕ)) (key : Key) (found : Option FoundEntry) → is_some found ≡ false
+    → ((height : ℕ) → IsTree pages height → entry_of found ≡ entry_with key (table_of pages height))
     → (height : ℕ) → IsTree pages height → entry_with key (table_of pages height) ≡ None
-none_found pages key found none at = λ height tree. sym (at height tree) ∙ absent found none
+none_found pages key None none at = λ height tree. sym (at height tree)
+none_found pages key (Some f) none at = absurd cc
+
+-- ---- a key that is found
+
+-- the pages are still those in which an entry as long has the key
+pub still_as_long : (before after : List (List ℕ)) (entry : Entry) (found : Option FoundEntry) (old : FoundEntry) → after ≡ before → found ≡ Some old
+    → ((height : ℕ) → IsTree before height → entry_of found ≡ entry_with entry.key (table_of before height))
+    → length (entry_bytes old.entry) ≡ length (entry_bytes entry) → (height : ℕ) → IsTree after height → HasAsLong entry (table_of after height)
+still_as_long before after entry found old same is at long = λ height tree.
+    let there : entry_with entry.key (table_of before height) ≡ Some old.entry =
+    sym (at height (subst (λ (pages : List (List ℕ)). IsTree pages height) same tree)) ∙ ap entry_of is in
+    (old.entry, subst (λ (pages : List (List ℕ)). entry_with entry.key (table_of pages height) ≡ Some old.entry) (sym same) there, long)
