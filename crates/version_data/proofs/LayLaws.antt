@@ -7,7 +7,7 @@ use Rattle.sector_disk.specs.declared.sector.Sector.{Sector}
 use Rattle.sector_disk.specs.declared.sector.Sector.TheVariants.{Whole, Damaged}
 use Rattle.sector_disk.specs.Image.{IsWorn, Windows, lay, open_damage, sector_at, slice_of, stand, with_sector}
 use Rattle.sector_disk.specs.Machine.{Holds, Moment}
-use Rattle.sector_disk.proofs.Wear.{lay_worn, set_worn, stand_worn, worn_trans}
+use Rattle.sector_disk.proofs.Wear.{lay_worn, stand_worn, worn_trans}
 use Rattle.fsd_bytes.specs.Bytes.{sector}
 use Rattle.fsd_files.specs.Kept.{slice_of as slice_of_version}
 use Rattle.version_data.specs.Writing.{lay_at}
@@ -23,9 +23,6 @@ holds_then f old mid new a monotone first second = record {
   windows = second.windows ∙ first.windows;
   said = second.said ∙ first.said;
 }
-
-pub monotone_sector : (place : ℕ) (bytes : List ℕ) → Monotone (λ image. with_sector image place bytes)
-monotone_sector place bytes = record { worn = λ may a b worn. set_worn may a b place (Whole bytes) worn }
 
 pub monotone_lay : (first : ℕ) (sector : ℕ → Sector) (k : ℕ) → Monotone (λ image. lay image first sector k)
 monotone_lay first sector k = record { worn = λ may a b worn. lay_worn may a b first sector k worn }
