@@ -1,5 +1,5 @@
 //! The map of the data area.
-ghost use Rattle.std.specs.Prelude.{◌≡◌, ◌≤◌, ◌<◌, not, [], ◌∷◌, length, IfOk};
+ghost use Rattle.std.specs.Prelude.{◌≡◌, ◌≤◌, ◌<◌, ◌↔◌, not, [], ◌∷◌, length, IfOk, IsTrue};
 ghost use Rattle.run_table.specs.RunTable.{sectors_of};
 ghost use Rattle.run_table.specs.Space.{contains};
 
@@ -51,6 +51,13 @@ impl Map {
         ensures { result ≡ contains self.now.sectors s }
     {
         self.free.contains(s)
+    }
+
+    /// Whether the sectors of runs are of the data area and none is free, each named once.
+    pub fn are_taken(&self, runs: &Runs) -> bool
+        ensures { IsTrue result ↔ AreOut self.now runs.now }
+    {
+        self.free.are_out(runs)
     }
 
     /// Where so many sectors go: from the start of the lowest free run that holds them, else in the longest free runs,

@@ -1,7 +1,8 @@
 -- What is loaded of a page.
-use Rattle.std.proofs.Common.{◌≡◌, ◌⊎◌, inl, inr, ℕ, Bool, true, cond, List, Option, Some, None, sym, ap, subst, ◌∙◌}
-use Rattle.std.specs.Prelude.{IsSome}
+use Rattle.std.proofs.Common.{◌≡◌, ◌⊎◌, inl, inr, ℕ, ◌<◌, Bool, true, cond, List, [], length, get_or, Option, Some, None, refl, sym, ap, subst, ◌∙◌}
+use Rattle.std.specs.Prelude.{IsSome, slice_index_or}
 use Rattle.std.specs.Option.{option_or}
+use Rattle.std.proofs.lemmas.Bool.{lt-ltb}
 use Rattle.volume_layout.specs.declared.layout.Layout.{Layout}
 use Rattle.volume_layout.specs.Layout.{home_a, home_b}
 use Rattle.sector_disk.specs.declared.sector.Sector.{Sector}
@@ -9,17 +10,26 @@ use Rattle.sector_disk.specs.declared.sector.Sector.TheVariants.{Whole, Damaged}
 use Rattle.sector_disk.specs.declared.machine.LoadFault.{LoadFault}
 use Rattle.sector_disk.specs.declared.machine.LoadFault.TheVariants.{Device, Lost}
 use Rattle.sector_disk.specs.Damage.{IsDevice, LostCause}
-use Rattle.sector_disk.specs.Image.{IsCalm, IsWorn, open_damage, sector_at}
+use Rattle.sector_disk.specs.Image.{IsWorn, open_damage, sector_at}
 use Rattle.sector_disk.specs.Machine.{Moment, Wears}
-use Rattle.sector_disk.proofs.Calm.{calm_worn}
 use Rattle.sector_disk.proofs.Damage.{cause_as}
-use Rattle.sector_disk.proofs.Wear.{worn_whole}
-use Rattle.fsd_log.specs.Images.{last_image}
+use Rattle.sector_disk.proofs.Holding.{wears_on}
+use Rattle.sector_disk.proofs.Wear.{worn_refl, worn_whole}
+use Rattle.fsd_log.specs.Scan.{Walked}
 use Rattle.fsd_files.specs.Disk.{Image, bytes_of, either_copy}
 use Rattle.fsd_sound.specs.Homes.{AreHomesOf, home_of}
-use Rattle.fsd_sound.specs.Shown.{records_by}
+use Rattle.fsd_sound.specs.Laid.{AllLaid}
+use Rattle.fsd_sound.specs.Shown.{newest, records_by}
+use Rattle.fsd_sound.specs.Sound.{weak_of}
+use Rattle.fsd_sound.proofs.WindowLaws.{open_is_weak}
+use Rattle.log_thirds.specs.Append.{IsIndexed}
+use Rattle.log_thirds.specs.Images.{AreLogged, StandsAt}
 use Rattle.log_thirds.specs.LogValue.{LogValue}
-use Rattle.group_commit.specs.Newest.{AreCopies, IsUnlogged, KnowsImages, StandsAtHome, StandsInCopy, newest_by}
+use Rattle.log_thirds.specs.Slots.{slot_of}
+use Rattle.log_thirds.specs.declared.slots.Slot.{Slot}
+use Rattle.group_commit.specs.KnownLaws.{known_newest, knows_worn, newest_worn}
+use Rattle.group_commit.specs.Newest.{AreCopies, IsUnlogged, KnowsPages, StandsAtHome, StandsInCopy, newest_by}
+use Rattle.group_commit.proofs.GivenLaws.{given_is, never_lost}
 
 -- ---- at home
 
@@ -52,34 +62,65 @@ lost_home l page i (Device s) lost some = tt
 lost_home l page i (Lost a b) lost some =
     absurd (none_some (home_of l i page) (no_home l page i (ap (sector_at i) (sym lost.copies.first) ∙ lost.first) (ap (sector_at i) (sym lost.copies.second) ∙ lost.second)) some)
 
--- ---- of the log
+-- ---- of a disk that the log knows
 
-module _ (log : LogValue) (old : Moment) (page : ℕ) where
-  pub logged_newest : (there : Bool) (bytes : List ℕ) → there ≡ true → last_image page (records_by log.layout old.image log.anchor) ≡ cond there (Some bytes) None → newest_by log old.image page ≡ Some bytes
-  logged_newest there bytes has is = ap (λ (o : Option (List ℕ)). option_or o (home_of log.layout old.image page)) (is ∙ ap (λ (b : Bool). cond b (Some bytes) None) has)
+module _ (log : LogValue) (page : ℕ) (lt : page < log.layout.pages) where
+  pub in_layout : (i : Image) → newest_by log i page ≡ newest log.layout i (records_by log.layout i log.anchor) page
+  in_layout i = ap (λ (b : Bool). cond b (newest log.layout i (records_by log.layout i log.anchor) page) None) (lt-ltb page log.layout.pages lt)
 
-  module _ (none : IsUnlogged log page) where
-    unlogged_newest : KnowsImages log old.image → newest_by log old.image page ≡ home_of log.layout old.image page
-    unlogged_newest knows = ap (λ (o : Option (List ℕ)). option_or o (home_of log.layout old.image page)) (none (records_by log.layout old.image log.anchor) knows)
+  module _ (at : Moment) (knows : KnowsPages log at) where
+    records_are : records_by log.layout at.image log.anchor ≡ knows.records
+    records_are = ap (λ (w : Walked). w.records) knows.over.own.log.scanned
 
-    module _ (l : Layout) (same : l ≡ log.layout) (mid new : Moment) (first : Wears old mid) (second : Wears mid new) where
-      pub copy_stands : (bytes : List ℕ) → home_of l new.image page ≡ Some bytes → StandsInCopy log page old.image bytes
-      copy_stands bytes is =
-          let at_end : StandsAtHome log.layout page new.image bytes = home_stands log.layout page new.image bytes (subst (λ (k : Layout). home_of k new.image page ≡ Some bytes) same is) in
-          inr (none, stood_at_home (open_damage old.windows) log.layout page old.image mid.image bytes first.image (stood_at_home (open_damage mid.windows) log.layout page mid.image new.image bytes second.image at_end))
+    laid : AllLaid log.layout log.anchor (weak_of knows.windows) at.image (records_by log.layout at.image log.anchor)
+    laid = subst (AllLaid log.layout log.anchor (weak_of knows.windows) at.image) (sym records_are) knows.over.own.laid
 
-      pub copies_lost : (fault : LoadFault) → LostCause (AreHomesOf l page) new.image fault → LostCause (AreCopies log page) new.image fault
-      copies_lost fault lost = cause_as (AreHomesOf l page) (AreCopies log page) new.image fault (λ a b homes. inr (none, subst (λ (k : Layout). AreHomesOf k page a b) same homes)) lost
+    -- the page's slot is that in the last record that has it
+    found : (slot : Slot) → slice_index_or log.slots page None ≡ Some slot → slot_of log.layout log.anchor.third page (records_by log.layout at.image log.anchor) ≡ Some slot
+    found slot is =
+        let long : page < length log.slots = subst (λ (n : ℕ). page < n) (sym knows.shape.table) lt in
+        ap (slot_of log.layout log.anchor.third page) records_are ∙ sym (knows.over.indexed.slots page long) ∙ is
 
-      module _ (calm : IsCalm old.windows) (knows : KnowsImages log old.image) where
-        calm_end : new.image ≡ old.image
-        calm_end = calm_worn mid.windows mid.image new.image (subst IsCalm (sym first.windows) calm) second.image ∙ calm_worn old.windows old.image mid.image calm first.image
+    pub logged_newest : (bytes : List ℕ) → StandsAt (slice_index_or log.slots page None) at.image bytes → newest_by log at.image page ≡ Some bytes
+    logged_newest bytes s =
+        let slot : Slot = record { place = s.a; copy = s.b; number = s.lies.number } in
+        let last = given_is log.layout log.anchor knows.shape.third (weak_of knows.windows) knows.apart at.image at.image (worn_refl (weak_of knows.windows) at.image) laid page slot (found slot s.lies.is) bytes s.stands in
+        in_layout at.image ∙ ap (λ (o : Option (List ℕ)). option_or o (home_of log.layout at.image page)) last
 
-        newest_end : newest_by log old.image page ≡ home_of l new.image page
-        newest_end = unlogged_newest knows ∙ (λ k. home_of (sym same k) (sym calm_end k) page)
+    pub logged_lost : (new : Image) → IsWorn (open_damage at.windows) at.image new → (fault : LoadFault) → LostCause (AreLogged log page) new fault → IsDevice fault
+    logged_lost new worn (Device s) lost = tt
+    logged_lost new worn (Lost a b) lost =
+        let slot : Slot = record { place = a; copy = b; number = lost.copies.lies.number } in
+        absurd (never_lost log.layout log.anchor knows.shape.third (weak_of knows.windows) knows.apart at.image new (open_is_weak at.windows knows.windows at.image new knows.ends worn) laid page slot (found slot lost.copies.lies.is) lost.first lost.second)
 
-        pub home_newest : (bytes : List ℕ) → home_of l new.image page ≡ Some bytes → newest_by log old.image page ≡ Some bytes
-        home_newest bytes is = newest_end ∙ is
+    -- where the log has none it is that at home
+    home_is : IsUnlogged log page → newest_by log at.image page ≡ home_of log.layout at.image page
+    home_is none = in_layout at.image ∙ ap (λ (o : Option (List ℕ)). option_or o (home_of log.layout at.image page)) (none (records_by log.layout at.image log.anchor) (subst (IsIndexed log) (sym records_are) knows.over.indexed))
 
-        pub home_lost : (fault : LoadFault) → LostCause (AreHomesOf l page) new.image fault → IsSome (newest_by log old.image page) → IsDevice fault
-        home_lost fault lost some = lost_home l page new.image fault lost (subst IsSome newest_end some)
+    some_home : IsUnlogged log page → IsSome (home_of log.layout at.image page)
+    some_home none = subst IsSome (home_is none) (subst IsSome (sym (known_newest log at knows page ∙ ap (λ (b : Bool). cond b (Some (get_or knows.disk page [])) None) (lt-ltb page log.layout.pages lt))) refl)
+
+-- ---- where the log has no image
+
+module _ (log : LogValue) (page : ℕ) (none : IsUnlogged log page) (l : Layout) (same : l ≡ log.layout) (old mid new : Moment) (first : Wears old mid) (second : Wears mid new) where
+  pub copy_stands : (bytes : List ℕ) → home_of l new.image page ≡ Some bytes → StandsInCopy log page old.image bytes
+  copy_stands bytes is =
+      let at_end : StandsAtHome log.layout page new.image bytes = home_stands log.layout page new.image bytes (subst (λ (k : Layout). home_of k new.image page ≡ Some bytes) same is) in
+      inr (none, stood_at_home (open_damage old.windows) log.layout page old.image mid.image bytes first.image (stood_at_home (open_damage mid.windows) log.layout page mid.image new.image bytes second.image at_end))
+
+  pub copies_lost : (fault : LoadFault) → LostCause (AreHomesOf l page) new.image fault → LostCause (AreCopies log page) new.image fault
+  copies_lost fault lost = cause_as (AreHomesOf l page) (AreCopies log page) new.image fault (λ a b homes. inr (none, subst (λ (k : Layout). AreHomesOf k page a b) same homes)) lost
+
+  module _ (lt : page < log.layout.pages) (knows : KnowsPages log old) where
+    worn : Wears old new
+    worn = wears_on old mid new first second
+
+    known : KnowsPages log new
+    known = knows_worn log old new worn.image worn.windows knows
+
+    pub home_newest : (bytes : List ℕ) → home_of l new.image page ≡ Some bytes → newest_by log old.image page ≡ Some bytes
+    home_newest bytes is =
+        sym (newest_worn log old new page worn.image worn.windows knows) ∙ home_is log page lt new known none ∙ subst (λ (k : Layout). home_of k new.image page ≡ Some bytes) same is
+
+    pub home_lost : (fault : LoadFault) → LostCause (AreHomesOf l page) new.image fault → IsDevice fault
+    home_lost fault lost = lost_home l page new.image fault lost (subst (λ (k : Layout). IsSome (home_of k new.image page)) (sym same) (some_home log page lt new known none))

@@ -4,10 +4,6 @@ use Rattle.std.specs.Prelude.{Result, Ok, Err, OnOk, OnErr}
 use Rattle.log_thirds.specs.LogValue.{LogValue}
 use Rattle.std.proofs.lemmas.Bool.{le-leb, lt-ltb, lt-leb, le-ltb}
 use Rattle.fsd_formats.specs.Record.{record_len}
-use Rattle.sector_disk.specs.declared.machine.LoadFault.{LoadFault}
-use Rattle.sector_disk.specs.declared.machine.LoadFault.TheVariants.{Device, Lost}
-use Rattle.sector_disk.specs.Machine.{Report}
-use Rattle.group_commit.specs.Entering.{HomeCause, RecordCause}
 use Rattle.group_commit.specs.Room.{goes_before}
 
 -- ---- where a record goes
@@ -34,9 +30,3 @@ on_ok_both P Q R (Err e) both p q = tt
 pub on_err_any : {T E : Type 0} (P : Type 0) (r : Result T E) → P → OnErr r P
 on_err_any P (Ok x) is = tt
 on_err_any P (Err e) is = is
-
--- ---- why there is none
-
-pub record_cause : (log : LogValue) (n : ℕ) (old new : Report) → goes_before log n ≡ false → (fault : LoadFault) → HomeCause old new fault → RecordCause log n old new fault
-record_cause log n old new enters (Device place) cause = cause
-record_cause log n old new enters (Lost a b) cause = enters

@@ -1,11 +1,10 @@
 -- A force that makes room before it writes its record.
 use Rattle.std.specs.Prelude.{Ok}
-use Rattle.std.proofs.Common.{◌≡◌, ◌⊎◌, ℕ, ◌≤◌, Bool, List, sym, subst, ◌∙◌, arith, inl, inr, ⊎_elim}
+use Rattle.std.proofs.Common.{◌≡◌, ℕ, ◌≤◌, Bool, List, sym, subst, ◌∙◌, arith, inl, inr}
 use Rattle.volume_layout.specs.declared.layout.Layout.{Layout}
 use Rattle.volume_layout.specs.Layout.{plan, map_start}
 use Rattle.fsd_formats.specs.Record.{Stamp}
 use Rattle.sector_disk.specs.declared.sector.Sector.{Sector}
-use Rattle.sector_disk.specs.declared.sector.Sector.TheVariants.{Damaged}
 use Rattle.sector_disk.specs.declared.sector.WeakRun.{WeakRun}
 use Rattle.sector_disk.specs.Image.{Windows, AreShort, open_damage, sector_at}
 use Rattle.sector_disk.specs.Machine.{Moment}

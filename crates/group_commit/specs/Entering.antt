@@ -1,5 +1,5 @@
 -- A force that comes round to the log's first third.
-use Rattle.std.specs.Prelude.{◌≡◌, ⊤, false, ℕ, ◌<◌, ◌≤◌, List, [], ◌∷◌, Ok}
+use Rattle.std.specs.Prelude.{◌≡◌, ⊤, false, ℕ, ◌<◌, List, [], ◌∷◌, Ok}
 use Rattle.volume_layout.specs.declared.layout.Layout.{Layout}
 use Rattle.volume_layout.specs.Layout.{plan, home_a, home_b}
 use Rattle.sector_disk.specs.declared.sector.Sector.TheVariants.{Whole}
@@ -8,7 +8,7 @@ use Rattle.sector_disk.specs.Image.{sector_at}
 use Rattle.sector_disk.specs.Damage.{LostCause}
 use Rattle.sector_disk.specs.declared.machine.LoadFault.{LoadFault}
 use Rattle.sector_disk.specs.declared.machine.LoadFault.TheVariants.{Device, Lost}
-use Rattle.sector_disk.specs.Machine.{Moment, Holds, Report, DeviceFault}
+use Rattle.sector_disk.specs.Machine.{Moment, Holds}
 use Rattle.fsd_log.specs.Scan.{Placed}
 use Rattle.fsd_files.specs.Disk.{Image}
 use Rattle.fsd_sound.specs.Laid.{HasOwnLog}
@@ -60,15 +60,19 @@ pub record IsEntered (log : LogValue) (records : List Placed) (disk : List (List
   pub over : OwnsLog (moved log) (records_moved log.layout records) disk windows new.image
   pub outside : KeepsOutside log.layout old new
 
--- a failed call of the disk is told; a lost image's cause lies on the disk
-abbrev pub HomeCause : Report → Report → LoadFault → Type 0
-HomeCause old new (Device place) = DeviceFault old new place
-HomeCause old new (Lost a b) = ⊤
+-- Whatever pages the old moment shows over this log, the left one shows them too, and only log, anchors and homes change.
+abbrev pub ShowsStill : LogValue → Moment → Moment → Type 0
+ShowsStill log old left = (records : List Placed) (disk : List (List ℕ)) (windows : List WeakRun) → MayHome log windows old → OwnsLog log records disk windows old.image → Shows log.layout windows disk old left
 
--- a failed call of the disk is told; an image is lost only where the record enters the first third
-abbrev pub RecordCause : LogValue → (n : ℕ) → Report → Report → LoadFault → Type 0
-RecordCause log n old new (Device place) = DeviceFault old new place
-RecordCause log n old new (Lost a b) = goes_before log n ≡ false
+-- The same while a page of the first third goes home, of which the log was entered at an older moment.
+abbrev pub ShowsHoming : LogValue → (page : ℕ) → Moment → Moment → Type 0
+ShowsHoming log page now left = (records : List Placed) (disk : List (List ℕ)) (windows : List WeakRun) (old : Moment) (n : ℕ) → MayHome log windows old → LastLiesIn log records log.anchor.third page
+    → IsHoming log records disk windows old n now → Shows log.layout windows disk old left
+
+-- an image is lost only where the record enters the first third
+abbrev pub RecordCause : LogValue → (n : ℕ) → LoadFault → Type 0
+RecordCause log n (Device place) = ⊤
+RecordCause log n (Lost a b) = goes_before log n ≡ false
 
 -- both sectors of a page's last image are damaged
 abbrev pub LosesLogged : LogValue → Image → LoadFault → Type 0

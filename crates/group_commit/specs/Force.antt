@@ -1,5 +1,5 @@
 -- What a force makes of the pages, the log and the disk.
-use Rattle.std.specs.Prelude.{◌≡◌, ◌⊎◌, ℕ, ◌+◌, ◌≤◌, ◌<◌, List, [], ◌∷◌, length}
+use Rattle.std.specs.Prelude.{◌≡◌, ◌⊎◌, ℕ, ◌+◌, ◌≤◌, ◌<◌, List, [], ◌∷◌, length, Option, Some, None}
 use Rattle.volume_layout.specs.declared.layout.Layout.{Layout}
 use Rattle.volume_layout.specs.Layout.{home_a, home_b, map_start, InLog}
 use Rattle.sector_disk.specs.declared.sector.WeakRun.{WeakRun}
@@ -65,6 +65,11 @@ pub record Commits (l : Layout) (runs : List WeakRun) (disk now : List (List ℕ
 pub record Committed (log : LogValue) (s : ResidentValue) (windows : List WeakRun) (i : Image) : Type 0 where
   pub records : List Placed
   pub stands : StandsOver log records s.pages s windows i
+
+-- the place of the call of the disk that failed
+abbrev pub force_failed_at : ForceFault → Option ℕ
+force_failed_at (Device place) = Some place
+force_failed_at (Lost a b) = None
 
 -- the same as a fault of what is read
 abbrev pub as_load : ForceFault → LoadFault

@@ -11,7 +11,8 @@ use Rattle.fsd_sound.specs.Sound.{EndIn, weak_of}
 use Rattle.log_thirds.specs.LogValue.{LogValue, FitsLayout}
 use Rattle.log_thirds.specs.Append.{stamp_now}
 use Rattle.group_commit.specs.Resident.{ResidentValue, stamped}
-use Rattle.group_commit.specs.Force.{StandsOver}
+use Rattle.group_commit.specs.Force.{StandsOver, Commits, stamped_by}
+use Rattle.group_commit.specs.Newest.{KnowsImages}
 use Rattle.fsd_sound.specs.Windows.{IsApart}
 
 -- The log may take this record of the pages that wait, and the weak run is narrow.
@@ -30,3 +31,8 @@ pub record MayForce (log : LogValue) (s : ResidentValue) (images : List ℕ) (re
   pub apart : IsApart (weak_of windows)
   pub ends : EndIn old.windows windows
   pub over : StandsOver log records disk s windows old.image
+
+-- Whatever pages the old moment shows over this log, the left one shows them, or these with the ones that wait stamped.
+abbrev pub ForceLeaves : LogValue → ResidentValue → Moment → Moment → Type 0
+ForceLeaves log s old left = (windows : List WeakRun) (records : List Placed) (disk : List (List ℕ)) → EndIn old.windows windows → StandsOver log records disk s windows old.image → KnowsImages log old.image
+    → Commits log.layout windows disk (stamped_by log s) old left

@@ -2,14 +2,15 @@
 ghost use Rattle.std.specs.Prelude.{◌≡◌, ◌≢◌, true, false, ◌<◌, ◌≤◌, ◌+◌, ◌*◌, ◌^◌, ℕ, List, length, Some, None, slice_index_or, IfErr, OnOk, OnErr};
 ghost use Rattle.sector_disk.specs.Damage.{IsDevice};
 ghost use Rattle.sector_disk.specs.declared.sector.WeakRun.{WeakRun};
-ghost use Rattle.sector_disk.specs.Machine.{Moment, UsesDisk, Trusts, OnlyWrites, LeavesOnly, wrote};
+ghost use Rattle.sector_disk.specs.Calls.{WritesDisk, device_in, load_failed_at};
+ghost use Rattle.sector_disk.specs.Machine.{Moment, wrote};
 ghost use Rattle.fsd_log.specs.Images.{last_image};
 ghost use Rattle.fsd_log.specs.Scan.{Placed, HasRoom};
 ghost use Rattle.log_thirds.specs.Append.{LastLiesIn};
 ghost use Rattle.log_thirds.specs.Moving.{moved, records_moved, EndsInLastThird};
 ghost use Rattle.log_thirds.specs.Append.{stamp_now};
 ghost use Rattle.group_commit.specs.Room.{goes_before, log_before, pages_in_first, sectors_before};
-ghost use Rattle.group_commit.specs.Entering.{HasRoomNow, Shows, OwnsLog, IsHoming, IsEntered, MayHome, HomeCause, RecordCause, LosesLogged};
+ghost use Rattle.group_commit.specs.Entering.{HasRoomNow, ShowsHoming, ShowsStill, OwnsLog, IsHoming, IsEntered, MayHome, LosesLogged};
 
 use log_thirds::{Log, Place};
 use sector_disk::{LoadFault, Machine};
@@ -20,16 +21,8 @@ fn home_page<M: Machine>(m: &mut M, log: &Log, page: u32) -> Result<(), LoadFaul
     requires page { page < log.now.layout.pages }
     requires slot { slice_index_or log.now.slots page None ≢ None }
     requires sectors { log.now.layout.sectors ≤ (M.report m.old).sectors }
-    ensures fault { IfErr result (HomeCause (M.report m.old) (M.report m.new)) }
-    ensures uses { UsesDisk (M.report m.old) (M.report m.new) }
-    ensures trust { Trusts (M.tells m.old) (M.tells m.new) (M.honest m.old) (M.honest m.new) }
-    ensures ledger { M.tells m.new → OnlyWrites (M.ledger m.old) (M.ledger m.new) }
+    ensures disk { WritesDisk M.Machine (device_in load_failed_at result) (ShowsHoming log.now page) m.old m.new }
     ensures counted { OnOk result (M.tells m.new → M.ledger m.new ≡ wrote (M.ledger m.old) 2) }
-    ensures quiet { M.honest m.new → (M.now m.new).said ≡ (M.now m.old).said }
-    ensures windows { M.honest m.new → (M.now m.new).windows ≡ (M.now m.old).windows }
-    ensures any_moment { (records : List Placed) (disk : List (List ℕ)) (windows : List WeakRun) (old : Moment) (n : ℕ) → M.honest m.new → MayHome log.now windows old →
-        LastLiesIn log.now records log.now.anchor.third page → IsHoming log.now records disk windows old n (M.now m.old) →
-        LeavesOnly M.moment M.left_since m.old m.new (Shows log.now.layout windows disk old) }
     ensures done { OnOk result ((records : List Placed) (disk : List (List ℕ)) (windows : List WeakRun) (old : Moment) (n : ℕ) → M.honest m.new → MayHome log.now windows old →
         LastLiesIn log.now records log.now.anchor.third page → ((q : ℕ) → n ≤ q → q < page → LastLiesIn log.now records log.now.anchor.third q → ⊥) →
         IsHoming log.now records disk windows old n (M.now m.old) → IsHoming log.now records disk windows old (page + 1) (M.now m.new)) }
@@ -53,15 +46,8 @@ fn home_third<M: Machine>(m: &mut M, log: &Log, third: u32) -> Result<(), LoadFa
     requires first { third ≡ log.now.anchor.third }
     requires low { third < 3 }
     requires sectors { log.now.layout.sectors ≤ (M.report m.old).sectors }
-    ensures fault { IfErr result (HomeCause (M.report m.old) (M.report m.new)) }
-    ensures uses { UsesDisk (M.report m.old) (M.report m.new) }
-    ensures trust { Trusts (M.tells m.old) (M.tells m.new) (M.honest m.old) (M.honest m.new) }
-    ensures ledger { M.tells m.new → OnlyWrites (M.ledger m.old) (M.ledger m.new) }
+    ensures disk { WritesDisk M.Machine (device_in load_failed_at result) (ShowsStill log.now) m.old m.new }
     ensures counted { OnOk result (M.tells m.new → M.ledger m.new ≡ wrote (M.ledger m.old) (2 * pages_in_first log.now)) }
-    ensures quiet { M.honest m.new → (M.now m.new).said ≡ (M.now m.old).said }
-    ensures windows { M.honest m.new → (M.now m.new).windows ≡ (M.now m.old).windows }
-    ensures any_moment { (records : List Placed) (disk : List (List ℕ)) (windows : List WeakRun) → M.honest m.new → MayHome log.now windows (M.now m.old) →
-        OwnsLog log.now records disk windows (M.now m.old).image → LeavesOnly M.moment M.left_since m.old m.new (Shows log.now.layout windows disk (M.now m.old)) }
     ensures done { OnOk result ((records : List Placed) (disk : List (List ℕ)) (windows : List WeakRun) → M.honest m.new → MayHome log.now windows (M.now m.old) →
         OwnsLog log.now records disk windows (M.now m.old).image → IsHoming log.now records disk windows (M.now m.old) log.now.layout.pages (M.now m.new)) }
     ensures lost { IfErr result (λ fault. M.honest m.new → LosesLogged log.now (M.now m.new).image fault) }
@@ -86,15 +72,8 @@ pub(crate) fn enter_third<M: Machine>(m: &mut M, log: &mut Log, third: u32) -> R
     requires first { third ≡ log.old.anchor.third }
     requires ends { EndsInLastThird log.old }
     requires sectors { log.old.layout.sectors ≤ (M.report m.old).sectors }
-    ensures fault { IfErr result (HomeCause (M.report m.old) (M.report m.new)) }
-    ensures uses { UsesDisk (M.report m.old) (M.report m.new) }
-    ensures trust { Trusts (M.tells m.old) (M.tells m.new) (M.honest m.old) (M.honest m.new) }
-    ensures ledger { M.tells m.new → OnlyWrites (M.ledger m.old) (M.ledger m.new) }
+    ensures disk { WritesDisk M.Machine (device_in load_failed_at result) (ShowsStill log.old) m.old m.new }
     ensures counted { OnOk result (M.tells m.new → M.ledger m.new ≡ wrote (M.ledger m.old) (2 * pages_in_first log.old + 2)) }
-    ensures quiet { M.honest m.new → (M.now m.new).said ≡ (M.now m.old).said }
-    ensures windows { M.honest m.new → (M.now m.new).windows ≡ (M.now m.old).windows }
-    ensures any_moment { (records : List Placed) (disk : List (List ℕ)) (windows : List WeakRun) → M.honest m.new → MayHome log.old windows (M.now m.old) →
-        OwnsLog log.old records disk windows (M.now m.old).image → LeavesOnly M.moment M.left_since m.old m.new (Shows log.old.layout windows disk (M.now m.old)) }
     ensures done { OnOk result ((records : List Placed) (disk : List (List ℕ)) (windows : List WeakRun) → M.honest m.new → MayHome log.old windows (M.now m.old) →
         OwnsLog log.old records disk windows (M.now m.old).image → IsEntered log.old records disk windows (M.now m.old) (M.now m.new)) }
     ensures lost { IfErr result (λ fault. M.honest m.new → LosesLogged log.old (M.now m.new).image fault) }
@@ -116,15 +95,8 @@ pub(crate) fn enter_third<M: Machine>(m: &mut M, log: &mut Log, third: u32) -> R
 pub fn make_room<M: Machine>(m: &mut M, log: &mut Log, count: u32) -> Result<(), LoadFault>
     requires few { count ≤ 96 }
     requires sectors { log.old.layout.sectors ≤ (M.report m.old).sectors }
-    ensures fault { IfErr result (RecordCause log.old count (M.report m.old) (M.report m.new)) }
-    ensures uses { UsesDisk (M.report m.old) (M.report m.new) }
-    ensures trust { Trusts (M.tells m.old) (M.tells m.new) (M.honest m.old) (M.honest m.new) }
-    ensures ledger { M.tells m.new → OnlyWrites (M.ledger m.old) (M.ledger m.new) }
+    ensures disk { WritesDisk M.Machine (device_in load_failed_at result) (ShowsStill log.old) m.old m.new }
     ensures counted { OnOk result (M.tells m.new → (M.ledger m.new).written ≡ (M.ledger m.old).written + sectors_before log.old count) }
-    ensures quiet { M.honest m.new → (M.now m.new).said ≡ (M.now m.old).said }
-    ensures windows { M.honest m.new → (M.now m.new).windows ≡ (M.now m.old).windows }
-    ensures any_moment { (records : List Placed) (disk : List (List ℕ)) (windows : List WeakRun) → M.honest m.new → MayHome log.old windows (M.now m.old) →
-        OwnsLog log.old records disk windows (M.now m.old).image → LeavesOnly M.moment M.left_since m.old m.new (Shows log.old.layout windows disk (M.now m.old)) }
     ensures done { OnOk result ((records : List Placed) (disk : List (List ℕ)) (windows : List WeakRun) → M.honest m.new → MayHome log.old windows (M.now m.old) →
         OwnsLog log.old records disk windows (M.now m.old).image → HasRoomNow log.new disk windows (M.now m.old) (M.now m.new)) }
     ensures lost { IfErr result (λ fault. M.honest m.new → LosesLogged log.old (M.now m.new).image fault) }

@@ -31,7 +31,7 @@ pub struct Group;
 ghost use Rattle.std.specs.Prelude.{◌≡◌, ◌⊎◌, ◌<◌, ◌≤◌, ◌^◌, ◌-◌, ◌+◌, ◌*◌, ℕ, true, List, [], length, IsTrue, IfOk, IfErr, OnOk, OnErr};
 ghost use Rattle.sector_disk.specs.Damage.{IsDevice};
 ghost use Rattle.sector_disk.specs.declared.sector.WeakRun.{WeakRun};
-ghost use Rattle.sector_disk.specs.Machine.{UsesDisk, Trusts, OnlyWrites, LeavesOnly};
+ghost use Rattle.sector_disk.specs.Calls.{WritesDisk, device_in, load_failed_at};
 ghost use Rattle.fsd_formats.specs.Record.{are_pages, record_len};
 ghost use Rattle.fsd_log.specs.Scan.{Placed};
 ghost use Rattle.fsd_sound.specs.Sound.{EndIn};
@@ -39,7 +39,8 @@ ghost use Rattle.log_thirds.specs.Append.{stamp_now, log_with};
 ghost use Rattle.group_commit.specs.Resident.{AreImages, stamped};
 ghost use Rattle.group_commit.specs.Room.{goes_before, log_before, sectors_before};
 ghost use Rattle.group_commit.specs.Entering.{RecordCause, LosesLogged};
-ghost use Rattle.group_commit.specs.Force.{sectors_written, stamped_by, log_forced, StandsOver, Commits, Committed, as_load};
+ghost use Rattle.group_commit.specs.Force.{sectors_written, stamped_by, log_forced, StandsOver, Committed, as_load, force_failed_at};
+ghost use Rattle.group_commit.specs.Forces.{ForceLeaves};
 ghost use Rattle.group_commit.specs.Newest.{KnowsImages};
 
 // Stamps these pages, makes room for their record, and writes it.
@@ -56,12 +57,8 @@ fn write_pages<M: Machine>(
     requires numbered { log.old.head.number < 2 ^ 32 - 1 }
     requires sectors { log.old.layout.sectors ≤ (M.report m.old).sectors }
     requires long { length room.old ≡ 49152 }
-    ensures fault { IfErr result (RecordCause log.old (length dirty.now) (M.report m.old) (M.report m.new)) }
-    ensures uses { UsesDisk (M.report m.old) (M.report m.new) }
-    ensures trust { Trusts (M.tells m.old) (M.tells m.new) (M.honest m.old) (M.honest m.new) }
-    ensures ledger { M.tells m.new → OnlyWrites (M.ledger m.old) (M.ledger m.new) }
-    ensures quiet { M.honest m.new → (M.now m.new).said ≡ (M.now m.old).said }
-    ensures windows { M.honest m.new → (M.now m.new).windows ≡ (M.now m.old).windows }
+    ensures disk { WritesDisk M.Machine (device_in load_failed_at result) (ForceLeaves log.old (record { pages = pages.old; dirty = dirty.now })) m.old m.new }
+    ensures cause { IfErr result (RecordCause log.old (length dirty.now)) }
     ensures counted { OnOk result (M.tells m.new → (M.ledger m.new).written ≡ (M.ledger m.old).written + (sectors_before log.old (length dirty.now) + record_len (length dirty.now))) }
     ensures counted_err { OnErr result (goes_before log.old (length dirty.now) ≡ true → M.tells m.new → M.ledger m.new ≡ M.ledger m.old) }
     ensures stamps { pages.new ≡ stamped (stamp_now log.old) dirty.now pages.old }
@@ -72,11 +69,6 @@ fn write_pages<M: Machine>(
         M.honest m.new → EndIn (M.now m.old).windows windows →
         StandsOver log.old records disk (record { pages = pages.old; dirty = dirty.now }) windows (M.now m.old).image →
         KnowsImages log.old (M.now m.old).image → IsDevice fault) }
-    ensures any_moment { (windows : List WeakRun) (records : List Placed) (disk : List (List ℕ)) →
-        M.honest m.new → EndIn (M.now m.old).windows windows →
-        StandsOver log.old records disk (record { pages = pages.old; dirty = dirty.now }) windows (M.now m.old).image →
-        KnowsImages log.old (M.now m.old).image →
-        LeavesOnly M.moment M.left_since m.old m.new (Commits log.old.layout windows disk (stamped (stamp_now log.old) dirty.now pages.old) (M.now m.old)) }
     ensures done { OnOk result ((windows : List WeakRun) (records : List Placed) (disk : List (List ℕ)) →
         M.honest m.new → EndIn (M.now m.old).windows windows →
         StandsOver log.old records disk (record { pages = pages.old; dirty = dirty.now }) windows (M.now m.old).image →
@@ -122,12 +114,9 @@ impl Group {
         requires numbered { log.old.head.number < 2 ^ 32 - 1 }
         requires sectors { log.old.layout.sectors ≤ (M.report m.old).sectors }
 
-        ensures fault { IfErr result (λ fault. RecordCause log.old (length pages.old.dirty) (M.report m.old) (M.report m.new) (as_load fault)) }
-        ensures uses { UsesDisk (M.report m.old) (M.report m.new) }
-        ensures trust { Trusts (M.tells m.old) (M.tells m.new) (M.honest m.old) (M.honest m.new) }
-        ensures ledger { M.tells m.new → OnlyWrites (M.ledger m.old) (M.ledger m.new) }
-        ensures quiet { M.honest m.new → (M.now m.new).said ≡ (M.now m.old).said }
-        ensures windows { M.honest m.new → (M.now m.new).windows ≡ (M.now m.old).windows }
+        // At each moment the disk shows the pages as they were or as they are now.
+        ensures disk { WritesDisk M.Machine (device_in force_failed_at result) (ForceLeaves log.old pages.old) m.old m.new }
+        ensures cause { IfErr result (λ fault. RecordCause log.old (length pages.old.dirty) (as_load fault)) }
 
         ensures pages { IfOk result (λ forced. forced.pages ≡ length pages.old.dirty) }
         ensures counted { OnOk result (M.tells m.new → (M.ledger m.new).written ≡ (M.ledger m.old).written + sectors_written log.old pages.old.dirty) }
@@ -148,13 +137,6 @@ impl Group {
             M.honest m.new → EndIn (M.now m.old).windows windows →
             StandsOver log.old records disk pages.old windows (M.now m.old).image →
             KnowsImages log.old (M.now m.old).image → IsDevice (as_load fault)) }
-
-        // At each moment the disk shows the pages as they were or as they are now.
-        ensures any_moment { (windows : List WeakRun) (records : List Placed) (disk : List (List ℕ)) →
-            M.honest m.new → EndIn (M.now m.old).windows windows →
-            StandsOver log.old records disk pages.old windows (M.now m.old).image →
-            KnowsImages log.old (M.now m.old).image →
-            LeavesOnly M.moment M.left_since m.old m.new (Commits log.old.layout windows disk (stamped_by log.old pages.old) (M.now m.old)) }
 
         // At the end it shows them as they are now.
         ensures done { OnOk result ((windows : List WeakRun) (records : List Placed) (disk : List (List ℕ)) →

@@ -2,21 +2,26 @@
 ghost use Rattle.std.specs.Prelude.{◌≡◌, ◌<◌, ◌↔◌, ℕ, List, Some, IsFalse};
 ghost use Rattle.run_table.specs.Space.{contains};
 ghost use Rattle.sector_disk.specs.declared.sector.WeakRun.{WeakRun};
+ghost use Rattle.sector_disk.specs.Image.{AreShort};
+ghost use Rattle.sector_disk.specs.Machine.{Moment};
 ghost use Rattle.fsd_log.specs.Scan.{Placed};
 ghost use Rattle.fsd_files.specs.Disk.{Image};
 ghost use Rattle.fsd_sound.specs.Mounted.{image_at};
+ghost use Rattle.fsd_sound.specs.Sound.{EndIn};
 ghost use Rattle.log_thirds.specs.Append.{IsIndexed};
-ghost use Rattle.log_thirds.specs.LogValue.{LogValue};
+ghost use Rattle.log_thirds.specs.LogValue.{LogValue, FitsLayout};
 ghost use Rattle.group_commit.specs.Force.{StandsOver};
-ghost use Rattle.group_commit.specs.Newest.{newest_by, KnowsImages};
+ghost use Rattle.group_commit.specs.Newest.{newest_by, KnowsImages, KnowsPages};
 ghost use Rattle.group_commit.specs.Resident.{ResidentValue};
 
 /// On the disk below the pages in memory each page has a newest image, which is the one that the disk shows; of a page that
-/// does not wait it is the one in memory. So no page is lost where nothing wears. And a log knows that disk's images exactly
-/// where it is indexed by the disk's records.
+/// does not wait it is the one in memory. A log knows that disk's images exactly where it is indexed by the disk's records, and
+/// then it knows the pages too, in a window of the machine.
 pub fn pages_are_newest()
     ensures knows { (log : LogValue) (records : List Placed) (disk : List (List ℕ)) (s : ResidentValue) (windows : List WeakRun) (i : Image) →
         StandsOver log records disk s windows i → KnowsImages log i ↔ IsIndexed log records }
+    ensures pages { (log : LogValue) (records : List Placed) (disk : List (List ℕ)) (s : ResidentValue) (windows : List WeakRun) (at : Moment) →
+        FitsLayout log → AreShort at.windows → EndIn at.windows windows → StandsOver log records disk s windows at.image → IsIndexed log records → KnowsPages log at }
     ensures shown { (log : LogValue) (records : List Placed) (disk : List (List ℕ)) (s : ResidentValue) (windows : List WeakRun) (i : Image) (page : ℕ) →
         StandsOver log records disk s windows i → page < log.layout.pages → newest_by log i page ≡ Some (image_at disk page) }
     ensures in_memory { (log : LogValue) (records : List Placed) (disk : List (List ℕ)) (s : ResidentValue) (windows : List WeakRun) (i : Image) (page : ℕ) →

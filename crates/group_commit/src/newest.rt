@@ -1,8 +1,7 @@
 //! The newest image of each page.
 ghost use Rattle.std.specs.Prelude.{◌≡◌, ◌<◌, ◌≤◌, Some, IfErr, OnOk};
 ghost use Rattle.sector_disk.specs.Damage.{LostCause};
-ghost use Rattle.sector_disk.specs.Machine.{UsesDisk, Trusts, Wears, LeavesOnly};
-ghost use Rattle.page_cache.specs.Source.{LoadCause};
+ghost use Rattle.sector_disk.specs.Calls.{OnlyReads, device_in, load_failed_at};
 ghost use Rattle.fsd_sound.specs.Homes.{home_of, AreHomesOf};
 
 use log_thirds::Log;
@@ -53,27 +52,22 @@ fn load_home<M: Machine>(
     requires page { page < l.now.pages }
     requires sectors { l.now.sectors ≤ (M.report m.old).sectors }
 
-    ensures fault { IfErr result (LoadCause (M.report m.old) (M.report m.new)) }
-    ensures uses { UsesDisk (M.report m.old) (M.report m.new) }
-    ensures trust { Trusts (M.tells m.old) (M.tells m.new) (M.honest m.old) (M.honest m.new) }
-    ensures ledger { M.tells m.new → M.ledger m.new ≡ M.ledger m.old }
-    ensures worn { M.honest m.new → Wears (M.now m.old) (M.now m.new) }
-    ensures any_moment { M.honest m.new → LeavesOnly M.moment M.left_since m.old m.new (Wears (M.now m.old)) }
+    ensures reads { OnlyReads M.Machine (device_in load_failed_at result) m.old m.new }
     ensures shown { OnOk result (M.honest m.new → home_of l.now (M.now m.new).image page ≡ Some buf.new) }
     ensures lost { IfErr result (λ fault. M.honest m.new → LostCause (AreHomesOf l.now page) (M.now m.new).image fault) }
 {
-    match read_home(m, l, page, buf) {
-        Ok(Seen::Whole) => Ok(()),
-        Ok(Seen::Damaged) => Err(LoadFault::Lost {
+    match read_home(m, l, page, buf)? {
+        Seen::Whole => Ok(()),
+        Seen::Damaged => Err(LoadFault::Lost {
             a: l.home_a(page),
             b: l.home_b(page),
         }),
-        Err(failed) => Err(LoadFault::Device(failed.place)),
     }
 }
 
 impl<'a> PageSource for Newest<'a> {
-    ghost use Rattle.group_commit.specs.Newest.{newest_by, KnowsImages, AreCopies, StandsInCopy};
+    ghost use Rattle.group_commit.specs.Newest.{newest_by, KnowsPages, AreCopies, StandsInCopy};
+    ghost use Rattle.group_commit.specs.KnownLaws.{knows_worn, newest_worn};
 
     ghost pages = { λ log. log.layout.pages };
 
@@ -81,11 +75,15 @@ impl<'a> PageSource for Newest<'a> {
 
     ghost newest = { newest_by };
 
-    ghost knows = { KnowsImages };
+    ghost knows = { KnowsPages };
 
     ghost copies = { AreCopies };
 
     ghost stands = { StandsInCopy };
+
+    ghost wears = { knows_worn };
+
+    ghost stays = { newest_worn };
 
     fn load<M: Machine>(&self, m: &mut M, page: u32, buf: &mut [u8; 512]) -> Result<(), LoadFault> {
         if self.log.image_of(m, page, buf)? {

@@ -1,11 +1,9 @@
 -- Anchors that are read.
-use Rattle.std.proofs.Common.{◌≡◌, ℕ, ◌≤◌, true, List, Option, Some, None, sym, ap, ◌∙◌, subst}
+use Rattle.std.proofs.Common.{◌≡◌, ℕ, ◌≤◌, true, List, Option, Some, None, sym, subst}
 use Rattle.std.specs.Prelude.{IfSome, if◌then◌else◌, Bool, false}
 use Rattle.fsd_formats.specs.declared.anchor.Anchor.{Anchor}
 use Rattle.fsd_formats.specs.Anchors.{read_anchor}
-use Rattle.sector_disk.specs.Machine.{Moment}
-use Rattle.fsd_log.specs.Scan.{anchor_in, is_newer, newer_of}
-use Rattle.log_thirds.specs.Reading.{ReadWorn, SeesCopy}
+use Rattle.fsd_log.specs.Scan.{is_newer, newer_of}
 use Rattle.fsd_log.proofs.AnchorLaws.{read_epoch, read_first, read_third}
 
 pub epoch_read : (bytes : List ℕ) (o : Option Anchor) → o ≡ read_anchor bytes → IfSome o (λ a. 1 ≤ a.epoch)
@@ -32,6 +30,3 @@ newer_so P a b o is one two = subst (λ (x : Option Anchor). IfSome x P) (sym is
     of_both None b one two = two
     of_both (Some x) None one two = one
     of_both (Some x) (Some y) one two = either (is_newer y x) x y one two
-
-pub copy_seen : (old : Moment) (place : ℕ) (o : Option (List ℕ)) (bytes : List ℕ) (anchor : Option Anchor) → o ≡ Some bytes → ReadWorn old place o → anchor ≡ read_anchor bytes → SeesCopy old place anchor
-copy_seen old place o bytes anchor is read copy = record { bytes = o; read = read; copy = copy ∙ ap anchor_in (sym is) }

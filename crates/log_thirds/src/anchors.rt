@@ -1,10 +1,10 @@
 //! Which anchor the disk gives.
-ghost use Rattle.std.specs.Prelude.{◌≡◌, ◌<◌, ◌≤◌, ◌+◌, List, Some, None, IfSome, IfErr, IfOk, OnOk, OnErr};
-ghost use Rattle.sector_disk.specs.Calls.{OnlyReads, device_in};
+ghost use Rattle.std.specs.Prelude.{◌≡◌, ◌<◌, ◌≤◌, ◌+◌, List, Some, None, IfSome, IfOk, OnOk, OnErr};
+ghost use Rattle.sector_disk.specs.Calls.{OnlyReads, WritesDisk, device_in, failed_at};
 ghost use Rattle.sector_disk.specs.declared.sector.Sector.{Sector};
 ghost use Rattle.sector_disk.specs.Image.{stand, IsWorn, open_damage};
 ghost use Rattle.log_thirds.specs.Seen.{AnchorsOn, ReadsAnchor};
-ghost use Rattle.sector_disk.specs.Machine.{Moment, DeviceFault, UsesDisk, Trusts, LeavesOnly, Holds, OnlyWrites, wrote};
+ghost use Rattle.sector_disk.specs.Machine.{Holds, wrote};
 ghost use Rattle.fsd_formats.specs.Anchors.{anchor_bytes};
 ghost use Rattle.fsd_log.specs.Scan.{is_newer, newer_of};
 ghost use Rattle.log_thirds.specs.Append.{StandsInPart};
@@ -14,7 +14,7 @@ ghost use Rattle.log_thirds.specs.Reading.{SeesCopy, SeesAnchor, read_failed_at}
 use crate::reading::ReadFault;
 use fsd_formats::Anchor;
 use log_record::{anchor_bytes, read_anchor};
-use sector_disk::{Failed, Machine, read_sector};
+use sector_disk::{Failed, Machine, read_sector, write_sectors};
 
 // Whether an anchor is newer than another: by epoch, and then by the first number.
 fn is_newer(a: &Anchor, b: &Anchor) -> bool
@@ -71,19 +71,12 @@ fn write_copy<M: Machine>(m: &mut M, place: u32, anchor: &Anchor) -> Result<(), 
     requires third { anchor.now.third ≤ 2 }
     requires first { 1 ≤ anchor.now.first }
     requires in_range { place < (M.report m.old).sectors }
-    ensures fault { IfErr result (λ failed. DeviceFault (M.report m.old) (M.report m.new) failed.place) }
-    ensures uses { UsesDisk (M.report m.old) (M.report m.new) }
-    ensures trust { Trusts (M.tells m.old) (M.tells m.new) (M.honest m.old) (M.honest m.new) }
-    ensures ledger { OnOk result (M.tells m.new → M.ledger m.new ≡ wrote (M.ledger m.old) 1) }
-    ensures ledger_err { OnErr result (M.tells m.new → M.ledger m.new ≡ M.ledger m.old) }
-    ensures quiet { M.honest m.new → (M.now m.new).said ≡ (M.now m.old).said }
-    ensures windows { M.honest m.new → (M.now m.new).windows ≡ (M.now m.old).windows }
-    ensures torn { M.honest m.new → LeavesOnly M.moment M.left_since m.old m.new (StandsInPart place (anchor_bytes anchor.now) 1 (M.now m.old)) }
+    ensures writes { WritesDisk M.Machine (device_in failed_at result) (StandsInPart place (anchor_bytes anchor.now) 1) m.old m.new }
+    ensures counted { OnOk result (M.tells m.new → M.ledger m.new ≡ wrote (M.ledger m.old) 1) }
+    ensures counted_err { OnErr result (M.tells m.new → M.ledger m.new ≡ M.ledger m.old) }
     ensures done { OnOk result (M.honest m.new → Holds (M.now m.old) (stand (M.now m.old).image place (anchor_bytes anchor.now) 1) (M.now m.new)) }
 {
-    let bytes = anchor_bytes(anchor);
-    m.write(place, &bytes)?;
-    Ok(())
+    write_sectors(m, place, &anchor_bytes(anchor))
 }
 
 /// Writes an anchor to its first place, and then to its second.
@@ -92,15 +85,9 @@ pub(crate) fn write_anchor<M: Machine>(m: &mut M, anchor: &Anchor) -> Result<(),
     requires third { anchor.now.third ≤ 2 }
     requires first { 1 ≤ anchor.now.first }
     requires in_range { 12 < (M.report m.old).sectors }
-    ensures fault { IfErr result (λ failed. DeviceFault (M.report m.old) (M.report m.new) failed.place) }
-    ensures uses { UsesDisk (M.report m.old) (M.report m.new) }
-    ensures trust { Trusts (M.tells m.old) (M.tells m.new) (M.honest m.old) (M.honest m.new) }
-    ensures ledger { M.tells m.new → OnlyWrites (M.ledger m.old) (M.ledger m.new) }
+    ensures writes { WritesDisk M.Machine (device_in failed_at result) (AnchorsIn anchor.now) m.old m.new }
     ensures counted { OnOk result (M.tells m.new → M.ledger m.new ≡ wrote (M.ledger m.old) 2) }
     ensures most { M.tells m.new → (M.ledger m.new).written ≤ (M.ledger m.old).written + 2 }
-    ensures quiet { M.honest m.new → (M.now m.new).said ≡ (M.now m.old).said }
-    ensures windows { M.honest m.new → (M.now m.new).windows ≡ (M.now m.old).windows }
-    ensures any_moment { M.honest m.new → LeavesOnly M.moment M.left_since m.old m.new (AnchorsIn anchor.now (M.now m.old)) }
     ensures done { OnOk result (M.honest m.new → Holds (M.now m.old) (with_anchors anchor.now (M.now m.old).image 1 1) (M.now m.new)) }
 {
     write_copy(m, 8, anchor)?;

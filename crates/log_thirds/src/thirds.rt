@@ -10,7 +10,7 @@ use crate::slots::{Slot, clear, drop_in, least_in, no_slots, note};
 use crate::write::write_record;
 use fsd_formats::Anchor;
 use log_record::RECORD_BYTES;
-use sector_disk::{Failed, LoadFault, Machine};
+use sector_disk::{Failed, LoadFault, Machine, write_sectors};
 use std::alloc::Global;
 use std::marker::Model;
 use volume_layout::Layout;
@@ -62,12 +62,12 @@ impl Model for Log {
 
 impl Log {
     ghost use Rattle.std.specs.Prelude.{◌≡◌, ◌≤◌, ◌<◌, ◌↔◌, ◌+◌, ◌-◌, ◌*◌, ◌^◌, ◌++◌, ◌∷◌, [], List, ℕ, length, Some, None, Ok, Err, true, false, if◌then◌else◌, slice_index_or, IsTrue, IfErr, IfOk, IfSome, IfNone, OnOk, OnErr};
-    ghost use Rattle.sector_disk.specs.Calls.{OnlyReads, device_in, load_failed_at};
+    ghost use Rattle.sector_disk.specs.Calls.{OnlyReads, WritesDisk, device_in, failed_at, load_failed_at};
     ghost use Rattle.sector_disk.specs.Damage.{IsDevice, LostCause};
     ghost use Rattle.sector_disk.specs.declared.sector.Sector.{Sector};
     ghost use Rattle.sector_disk.specs.Image.{stand, IsWorn, open_damage};
     ghost use Rattle.log_thirds.specs.Seen.{ScansOn, LogOn};
-    ghost use Rattle.sector_disk.specs.Machine.{DeviceFault, UsesDisk, Trusts, LeavesOnly, Holds, Wears, OnlyWrites, wrote};
+    ghost use Rattle.sector_disk.specs.Machine.{LeavesOnly, Holds, wrote};
     ghost use Rattle.fsd_formats.specs.Record.{are_pages, AreStamped};
     ghost use Rattle.fsd_log.specs.Laid.{laid_bytes, slices};
     ghost use Rattle.fsd_log.specs.Scan.{Placed, HasRoom, spot_for, place_of};
@@ -312,23 +312,16 @@ impl Log {
     /// it found none. Where it fails, some first ones of these sectors may stand.
     pub fn complete_last<M: Machine>(&self, m: &mut M) -> Result<(), Failed>
         requires sectors { self.now.layout.sectors ≤ (M.report m.old).sectors }
-        ensures fault { IfErr result (λ failed. DeviceFault (M.report m.old) (M.report m.new) failed.place) }
-        ensures uses { UsesDisk (M.report m.old) (M.report m.new) }
-        ensures trust { Trusts (M.tells m.old) (M.tells m.new) (M.honest m.old) (M.honest m.new) }
-        ensures ledger { M.tells m.new → OnlyWrites (M.ledger m.old) (M.ledger m.new) }
+        ensures writes { WritesDisk M.Machine (device_in failed_at result) (StandsInPart self.now.copies.place self.now.copies.bytes (copies_count self.now.copies)) m.old m.new }
         ensures counted { OnOk result (M.tells m.new → M.ledger m.new ≡ wrote (M.ledger m.old) (copies_count self.now.copies)) }
         ensures counted_err { OnErr result (M.tells m.new → M.ledger m.new ≡ M.ledger m.old) }
         ensures few { copies_count self.now.copies ≤ 97 }
-        ensures quiet { M.honest m.new → (M.now m.new).said ≡ (M.now m.old).said }
-        ensures windows { M.honest m.new → (M.now m.new).windows ≡ (M.now m.old).windows }
-        ensures any_moment { M.honest m.new → LeavesOnly M.moment M.left_since m.old m.new (StandsInPart self.now.copies.place self.now.copies.bytes (copies_count self.now.copies) (M.now m.old)) }
         ensures done { OnOk result (M.honest m.new → Holds (M.now m.old) (stand (M.now m.old).image self.now.copies.place self.now.copies.bytes (copies_count self.now.copies)) (M.now m.new)) }
     {
         if self.copies.is_empty() {
             return Ok(());
         }
-        m.write(self.copies_at, self.copies.as_slice())?;
-        Ok(())
+        write_sectors(m, self.copies_at, self.copies.as_slice())
     }
 
     // Where a place on the tape lies on the disk.
@@ -354,14 +347,11 @@ impl Log {
         requires room { HasRoom self.old.layout (length pages.now) self.old.head }
         requires numbered { self.old.head.number < 2 ^ 32 - 1 }
         requires sectors { self.old.layout.sectors ≤ (M.report m.old).sectors }
-        ensures fault { IfErr result (λ failed. DeviceFault (M.report m.old) (M.report m.new) failed.place) }
-        ensures uses { UsesDisk (M.report m.old) (M.report m.new) }
-        ensures trust { Trusts (M.tells m.old) (M.tells m.new) (M.honest m.old) (M.honest m.new) }
-        ensures ledger { M.tells m.new → OnlyWrites (M.ledger m.old) (M.ledger m.new) }
+        ensures writes { WritesDisk M.Machine (device_in failed_at result)
+            (StandsInPart (place_of self.old.layout self.old.anchor.third (spot_for self.old.layout (length pages.now) self.old.head).at)
+            (laid_bytes (stamp_now self.old) pages.now images.now) (2 * length pages.now + 5)) m.old m.new }
         ensures counted { OnOk result (M.tells m.new → M.ledger m.new ≡ wrote (M.ledger m.old) (2 * length pages.now + 5)) }
         ensures counted_err { OnErr result (M.tells m.new → M.ledger m.new ≡ M.ledger m.old) }
-        ensures quiet { M.honest m.new → (M.now m.new).said ≡ (M.now m.old).said }
-        ensures windows { M.honest m.new → (M.now m.new).windows ≡ (M.now m.old).windows }
         ensures worn_moment { (records : List Placed) → M.honest m.new → IsLogWorn self.old records (M.now m.old)
             → LeavesOnly M.moment M.left_since m.old m.new (AppendsWorn self.old records pages.now images.now (M.now m.old)) }
         ensures worn_done { OnOk result ((records : List Placed) → M.honest m.new → IsNarrow (M.now m.old) → IsLogWorn self.old records (M.now m.old)
@@ -398,15 +388,9 @@ impl Log {
     pub fn new_epoch<M: Machine>(&mut self, m: &mut M) -> Result<(), Failed>
         requires epoch { self.old.anchor.epoch < 2 ^ 32 - 1 }
         requires sectors { self.old.layout.sectors ≤ (M.report m.old).sectors }
-        ensures fault { IfErr result (λ failed. DeviceFault (M.report m.old) (M.report m.new) failed.place) }
-        ensures uses { UsesDisk (M.report m.old) (M.report m.new) }
-        ensures trust { Trusts (M.tells m.old) (M.tells m.new) (M.honest m.old) (M.honest m.new) }
-        ensures ledger { M.tells m.new → OnlyWrites (M.ledger m.old) (M.ledger m.new) }
+        ensures writes { WritesDisk M.Machine (device_in failed_at result) (AnchorsIn (next_epoch self.old)) m.old m.new }
         ensures counted { OnOk result (M.tells m.new → M.ledger m.new ≡ wrote (M.ledger m.old) 2) }
         ensures most { M.tells m.new → (M.ledger m.new).written ≤ (M.ledger m.old).written + 2 }
-        ensures quiet { M.honest m.new → (M.now m.new).said ≡ (M.now m.old).said }
-        ensures windows { M.honest m.new → (M.now m.new).windows ≡ (M.now m.old).windows }
-        ensures any_moment { M.honest m.new → LeavesOnly M.moment M.left_since m.old m.new (AnchorsIn (next_epoch self.old) (M.now m.old)) }
         ensures done { OnOk result (M.honest m.new → Holds (M.now m.old) (with_anchors (next_epoch self.old) (M.now m.old).image 1 1) (M.now m.new)) }
         ensures past { OnOk result (self.new ≡ in_next_epoch self.old) }
         ensures kept { OnErr result (self.new ≡ self.old) }
@@ -435,15 +419,9 @@ impl Log {
     pub fn move_anchor<M: Machine>(&mut self, m: &mut M) -> Result<(), Failed>
         requires ends { EndsInLastThird self.old }
         requires sectors { self.old.layout.sectors ≤ (M.report m.old).sectors }
-        ensures fault { IfErr result (λ failed. DeviceFault (M.report m.old) (M.report m.new) failed.place) }
-        ensures uses { UsesDisk (M.report m.old) (M.report m.new) }
-        ensures trust { Trusts (M.tells m.old) (M.tells m.new) (M.honest m.old) (M.honest m.new) }
-        ensures ledger { M.tells m.new → OnlyWrites (M.ledger m.old) (M.ledger m.new) }
+        ensures writes { WritesDisk M.Machine (device_in failed_at result) (AnchorsIn (moved_anchor self.old)) m.old m.new }
         ensures counted { OnOk result (M.tells m.new → M.ledger m.new ≡ wrote (M.ledger m.old) 2) }
         ensures most { M.tells m.new → (M.ledger m.new).written ≤ (M.ledger m.old).written + 2 }
-        ensures quiet { M.honest m.new → (M.now m.new).said ≡ (M.now m.old).said }
-        ensures windows { M.honest m.new → (M.now m.new).windows ≡ (M.now m.old).windows }
-        ensures any_moment { M.honest m.new → LeavesOnly M.moment M.left_since m.old m.new (AnchorsIn (moved_anchor self.old) (M.now m.old)) }
         ensures done { OnOk result (M.honest m.new → Holds (M.now m.old) (with_anchors (moved_anchor self.old) (M.now m.old).image 1 1) (M.now m.new)) }
         ensures worn_moment { (records : List Placed) → M.honest m.new → IsIndexed self.old records → IsLogWorn self.old records (M.now m.old)
             → LeavesOnly M.moment M.left_since m.old m.new (MovesWorn self.old records (M.now m.old)) }

@@ -9,16 +9,21 @@ use Rattle.sector_disk.specs.declared.sector.Sector.TheVariants.{Damaged}
 use Rattle.sector_disk.specs.declared.sector.WeakRun.{WeakRun}
 use Rattle.sector_disk.specs.Damage.{AreLost, LostCause, IsDevice}
 use Rattle.sector_disk.specs.Image.{sector_at}
-use Rattle.sector_disk.specs.Machine.{Report, Ledger, UsesDisk, OnlyWrites}
+use Rattle.sector_disk.specs.Calls.{load_failed_at}
 use Rattle.fsd_files.specs.Disk.{Image}
 use Rattle.fsd_sound.specs.Sound.{ShowsPages, weak_of}
 use Rattle.fsd_sound.specs.Windows.{IsNarrow}
 use Rattle.fsd_sound.proofs.TwinLaws.{twin_a, twin_b}
 use Rattle.mount_recover.specs.declared.fault.MountFault.{MountFault}
 use Rattle.mount_recover.specs.declared.fault.MountFault.TheVariants.{NotVolume, Device, Memory, Lost, NoAnchor, Unsound, WornOut}
-use Rattle.mount_recover.specs.Finding.{IsExcuse}
+use Rattle.log_thirds.specs.declared.fault.LogFault.{LogFault}
+use Rattle.log_thirds.specs.declared.fault.LogFault.TheVariants as log
+use Rattle.log_thirds.specs.Reading.{log_failed_at}
+use Rattle.mount_recover.specs.Finding.{IsExcuse, mount_fault_of}
 use Rattle.mount_recover.specs.Lost.{AreHomes, LostIn}
-use Rattle.mount_recover.specs.Mending.{load_fault_of, MendCause, AreRoots}
+use Rattle.sector_disk.specs.Machine.{Moment, Wears}
+use Rattle.mount_recover.specs.Recover.{IsNotUnsound, LeavesAll, device_of_mount}
+use Rattle.mount_recover.specs.Mending.{load_fault_of, IsLoadFault, AreRoots}
 
 pub if_err_more : {T : Type 0} (r : Result T MountFault) (P Q : MountFault → Type 0) → ((fault : MountFault) → P fault → Q fault) → IfErr r P → IfErr r Q
 if_err_more (Ok x) P Q more p = tt
@@ -52,14 +57,14 @@ loaded AreCopies image (load.Device s) lost = tt
 loaded AreCopies image (load.Lost a b) lost = lost
 
 -- where none of these can be lost
-pub cause_excused : (AreCopies : ℕ → ℕ → Type 0) (image : Image) (old new : Report) (fault : MountFault) → ((a b : ℕ) → AreLost AreCopies image a b → ⊥) → MendCause old new fault → LostIn AreCopies image fault → IsExcuse fault
-cause_excused AreCopies image old new (Device s) none cause lost = tt
-cause_excused AreCopies image old new (Lost a b) none cause lost = none a b lost
-cause_excused AreCopies image old new NotVolume none cause lost = absurd cause
-cause_excused AreCopies image old new Memory none cause lost = tt
-cause_excused AreCopies image old new NoAnchor none cause lost = absurd cause
-cause_excused AreCopies image old new (Unsound s) none cause lost = absurd cause
-cause_excused AreCopies image old new WornOut none cause lost = tt
+pub cause_excused : (AreCopies : ℕ → ℕ → Type 0) (image : Image) (fault : MountFault) → ((a b : ℕ) → AreLost AreCopies image a b → ⊥) → IsLoadFault fault → LostIn AreCopies image fault → IsExcuse fault
+cause_excused AreCopies image (Device s) none cause lost = tt
+cause_excused AreCopies image (Lost a b) none cause lost = none a b lost
+cause_excused AreCopies image NotVolume none cause lost = absurd cause
+cause_excused AreCopies image Memory none cause lost = tt
+cause_excused AreCopies image NoAnchor none cause lost = absurd cause
+cause_excused AreCopies image (Unsound s) none cause lost = absurd cause
+cause_excused AreCopies image WornOut none cause lost = tt
 
 module _ (l : Layout) (windows : List WeakRun) (narrow : IsNarrow (weak_of windows)) (choices : List (List (List ℕ))) (i : Image) (shows : ShowsPages l windows choices i) where
   -- of a page one home is whole
@@ -84,13 +89,53 @@ pub handed_up : {T : Type 0} (P : MountFault → Type 0) (r : Result T MountFaul
 handed_up P (Ok x) fault is holds = tt
 handed_up P (Err told) fault is holds = subst P (sym is) holds
 
--- ---- calls one behind another
+-- a fault of a load, of which the place is told
+pub load_told : (fault : LoadFault) (told : MountFault) → told ≡ load_fault_of fault → device_of_mount told ≡ load_failed_at fault
+load_told (load.Device s) told is = ap device_of_mount is
+load_told (load.Lost a b) told is = ap device_of_mount is
 
-pub uses_none : (a : Report) → UsesDisk a a
-uses_none a = record { sectors = refl; disk = omega arith; input = refl; output = refl }
+pub is_load : (fault : LoadFault) (told : MountFault) → told ≡ load_fault_of fault → IsLoadFault told
+is_load (load.Device s) told is = subst IsLoadFault (sym is) tt
+is_load (load.Lost a b) told is = subst IsLoadFault (sym is) tt
 
-pub writes_none : (a : Ledger) → OnlyWrites a a
-writes_none a = record { input = refl; attaches = refl }
+pub scan_told : (fault : LogFault) (told : MountFault) → told ≡ mount_fault_of fault → device_of_mount told ≡ log_failed_at fault
+scan_told (log.Device s) told is = ap device_of_mount is
+scan_told log.Memory told is = ap device_of_mount is
+scan_told log.NoAnchor told is = ap device_of_mount is
+scan_told log.WornOut told is = ap device_of_mount is
 
-pub writes_on : (a b c : Ledger) → OnlyWrites a b → OnlyWrites b c → OnlyWrites a c
-writes_on a b c first second = record { input = second.input ∙ first.input; attaches = second.attaches ∙ first.attaches }
+-- ---- what a mount does not say
+
+pub scan_sound : (fault : LogFault) (told : MountFault) → told ≡ mount_fault_of fault → IsNotUnsound told
+scan_sound (log.Device s) told is = subst IsNotUnsound (sym is) tt
+scan_sound log.Memory told is = subst IsNotUnsound (sym is) tt
+scan_sound log.NoAnchor told is = subst IsNotUnsound (sym is) tt
+scan_sound log.WornOut told is = subst IsNotUnsound (sym is) tt
+
+pub load_sound : (fault : MountFault) → IsLoadFault fault → IsNotUnsound fault
+load_sound (Device s) load = tt
+load_sound (Lost a b) load = tt
+load_sound NotVolume load = tt
+load_sound Memory load = tt
+load_sound NoAnchor load = tt
+load_sound (Unsound s) load = load
+load_sound WornOut load = tt
+
+-- what is only worn is left, whatever the fault
+pub worn_left : (old new : Moment) (fault : MountFault) → Wears old new → LeavesAll fault old new
+worn_left old new (Device s) worn = tt
+worn_left old new (Lost a b) worn = tt
+worn_left old new NotVolume worn = worn
+worn_left old new Memory worn = worn
+worn_left old new NoAnchor worn = worn
+worn_left old new (Unsound s) worn = worn
+worn_left old new WornOut worn = worn
+
+pub load_left : (old new : Moment) (fault : MountFault) → IsLoadFault fault → LeavesAll fault old new
+load_left old new (Device s) load = tt
+load_left old new (Lost a b) load = tt
+load_left old new NotVolume load = absurd load
+load_left old new Memory load = absurd load
+load_left old new NoAnchor load = absurd load
+load_left old new (Unsound s) load = absurd load
+load_left old new WornOut load = absurd load

@@ -35,9 +35,9 @@ use Rattle.log_thirds.proofs.ImageLaws.{logged_by}
 use Rattle.fsd_sound.specs.Windows.{IsNarrow, IsApart}
 use Rattle.mount_recover.specs.declared.fault.MountFault.{MountFault}
 use Rattle.mount_recover.specs.declared.fault.MountFault.TheVariants.{NotVolume, Device, Memory, Lost, NoAnchor, Unsound, WornOut}
-use Rattle.mount_recover.specs.Finding.{IsFound, NotFoundFor, IsNotFound, FindCause, IsExcuse}
+use Rattle.mount_recover.specs.Finding.{IsFound, NotFoundFor, IsNotFound, IsExcuse}
 use Rattle.mount_recover.specs.Lost.{AreOfLog, AreHomes, AreLoggedOn, AreHomesOn, AreCopiesOn, HasRoot, LostIn}
-use Rattle.mount_recover.specs.Mending.{MendCause, AreOfAll, KeepsData, Keeps, IsSeen, Completed, Stays, Settled, Begins}
+use Rattle.mount_recover.specs.Mending.{IsLoadFault, AreOfAll, KeepsData, Keeps, IsSeen, Completed, Stays, Settled, Begins}
 use Rattle.mount_recover.specs.Recover.{last_epoch, IsRefusedFor, ShowsVolume}
 use Rattle.mount_recover.specs.Replay.{HasLastCopies, KeepsMap, IsCompletedFrom, Replays}
 use Rattle.fsd_sound.proofs.WindowLaws.{short_apart}
@@ -201,14 +201,14 @@ module _ (sectors : ℕ) (l : Layout) (windows : List WeakRun) (choices : List (
 -- ---- what is lost
 
 -- what is refused before the log is read is not lost
-pub none_found : (AreCopies : ℕ → ℕ → Type 0) (image : Image) (old new : Rattle.sector_disk.specs.Machine.Report) (fault : MountFault) → FindCause old new fault → LostIn AreCopies image fault
-none_found AreCopies image old new NotVolume cause = tt
-none_found AreCopies image old new (Device s) cause = tt
-none_found AreCopies image old new Memory cause = tt
-none_found AreCopies image old new (Lost a b) cause = absurd cause
-none_found AreCopies image old new NoAnchor cause = tt
-none_found AreCopies image old new (Unsound s) cause = tt
-none_found AreCopies image old new WornOut cause = tt
+pub none_found : (AreCopies : ℕ → ℕ → Type 0) (image : Image) (sectors : ℕ) (old : Moment) (fault : MountFault) → IsNotFound sectors fault old → LostIn AreCopies image fault
+none_found AreCopies image sectors old NotVolume not = tt
+none_found AreCopies image sectors old (Device s) not = tt
+none_found AreCopies image sectors old Memory not = tt
+none_found AreCopies image sectors old (Lost a b) not = absurd not.why
+none_found AreCopies image sectors old NoAnchor not = tt
+none_found AreCopies image sectors old (Unsound s) not = tt
+none_found AreCopies image sectors old WornOut not = tt
 
 module _ (sectors : ℕ) (l : Layout) (log : LogValue) (old one : Moment) (same : log.layout ≡ l) (root : HasRoot sectors old.image l) (is : IsFound sectors l log old one) where
   as_old : IsCalm old.windows → is.seen ≡ old.image
@@ -250,14 +250,14 @@ module _ (sectors : ℕ) (l : Layout) (log : LogValue) (old one : Moment) (same 
 
 -- ---- why it is refused
 
-pub mend_refused : (sectors : ℕ) (l : Layout) (log : LogValue) (old one : Moment) (a b : Rattle.sector_disk.specs.Machine.Report) → log.anchor.epoch < last_epoch → IsFound sectors l log old one → (fault : MountFault) → MendCause a b fault → IsRefusedFor sectors fault old
-mend_refused sectors l log old one a b fits is (Lost x y) cause = record { seen = is.seen; from = is.from; why = record { layout = l; anchor = log.anchor; found = record { root = is.root; anchor = is.knows.taken }; epoch = fits } }
-mend_refused sectors l log old one a b fits is (Device s) cause = record { seen = is.seen; from = is.from; why = tt }
-mend_refused sectors l log old one a b fits is Memory cause = record { seen = is.seen; from = is.from; why = tt }
-mend_refused sectors l log old one a b fits is NotVolume cause = absurd cause
-mend_refused sectors l log old one a b fits is NoAnchor cause = absurd cause
-mend_refused sectors l log old one a b fits is (Unsound s) cause = absurd cause
-mend_refused sectors l log old one a b fits is WornOut cause = absurd cause
+pub mend_refused : (sectors : ℕ) (l : Layout) (log : LogValue) (old one : Moment) → log.anchor.epoch < last_epoch → IsFound sectors l log old one → (fault : MountFault) → IsLoadFault fault → IsRefusedFor sectors fault old
+mend_refused sectors l log old one fits is (Lost a b) cause = record { seen = is.seen; from = is.from; why = record { layout = l; anchor = log.anchor; found = record { root = is.root; anchor = is.knows.taken }; epoch = fits } }
+mend_refused sectors l log old one fits is (Device s) cause = record { seen = is.seen; from = is.from; why = tt }
+mend_refused sectors l log old one fits is Memory cause = record { seen = is.seen; from = is.from; why = tt }
+mend_refused sectors l log old one fits is NotVolume cause = absurd cause
+mend_refused sectors l log old one fits is NoAnchor cause = absurd cause
+mend_refused sectors l log old one fits is (Unsound s) cause = absurd cause
+mend_refused sectors l log old one fits is WornOut cause = absurd cause
 
 -- ---- the map and the data
 

@@ -2,7 +2,7 @@
 use Rattle.std.specs.Prelude.{◌≡◌, ⊤, ℕ, Some, None, IsSome}
 use Rattle.volume_layout.specs.declared.layout.Layout.{Layout}
 use Rattle.sector_disk.specs.Image.{IsWorn, open_damage}
-use Rattle.sector_disk.specs.Machine.{Report, Moment, DeviceFault}
+use Rattle.sector_disk.specs.Machine.{Moment}
 use Rattle.fsd_files.specs.Disk.{Image}
 use Rattle.fsd_sound.specs.Roots.{root_of}
 use Rattle.fsd_sound.specs.Anchors.{anchor_of}
@@ -19,16 +19,6 @@ mount_fault_of (log.Device s) = Device s
 mount_fault_of log.Memory = Memory
 mount_fault_of log.NoAnchor = NoAnchor
 mount_fault_of log.WornOut = WornOut
-
--- the disk failed, where it is said to, and nothing is Lost or Unsound
-abbrev pub FindCause : Report → Report → MountFault → Type 0
-FindCause old new (Device s) = DeviceFault old new s
-FindCause old new NotVolume = ⊤
-FindCause old new NoAnchor = ⊤
-FindCause old new WornOut = ⊤
-FindCause old new Memory = ⊤
-FindCause old new (Lost a b) = ⊥
-FindCause old new (Unsound s) = ⊥
 
 -- what a refusal says of the image; a fault of the disk and want of memory say nothing
 abbrev pub NotFoundFor : ℕ → Image → MountFault → Type 0

@@ -6,7 +6,7 @@ use Rattle.volume_layout.specs.Root.{root_bytes}
 use Rattle.sector_disk.specs.declared.sector.Sector.TheVariants.{Whole}
 use Rattle.sector_disk.specs.declared.sector.WeakRun.{WeakRun}
 use Rattle.sector_disk.specs.Image.{sector_at, IsWorn, open_damage}
-use Rattle.sector_disk.specs.Machine.{Moment, Holds, Report, DeviceFault}
+use Rattle.sector_disk.specs.Machine.{Moment, Holds}
 use Rattle.sector_disk.specs.declared.machine.LoadFault.{LoadFault}
 use Rattle.sector_disk.specs.declared.machine.LoadFault.TheVariants as load
 use Rattle.fsd_log.specs.Images.{last_image}
@@ -31,15 +31,15 @@ abbrev pub load_fault_of : LoadFault → MountFault
 load_fault_of (load.Device s) = Device s
 load_fault_of (load.Lost a b) = Lost a b
 
--- the disk failed, where it is said to, or what stands twice is lost
-abbrev pub MendCause : Report → Report → MountFault → Type 0
-MendCause old new (Device s) = DeviceFault old new s
-MendCause old new (Lost a b) = ⊤
-MendCause old new NotVolume = ⊥
-MendCause old new Memory = ⊥
-MendCause old new NoAnchor = ⊥
-MendCause old new (Unsound s) = ⊥
-MendCause old new WornOut = ⊥
+-- a fault of a load, and no other
+abbrev pub IsLoadFault : MountFault → Type 0
+IsLoadFault (Device s) = ⊤
+IsLoadFault (Lost a b) = ⊤
+IsLoadFault NotVolume = ⊥
+IsLoadFault Memory = ⊥
+IsLoadFault NoAnchor = ⊥
+IsLoadFault (Unsound s) = ⊥
+IsLoadFault WornOut = ⊥
 
 -- the two copies of a page, in the log or at home
 abbrev pub AreOfVolume : Layout → LogValue → ℕ → ℕ → Type 0

@@ -1,12 +1,12 @@
 -- What a mount finds of an image, why it is refused, and what it leaves.
-use Rattle.std.specs.Prelude.{◌≡◌, ⊤, ℕ, ◌+◌, ◌*◌, ◌-◌, ◌^◌, ◌<◌, ◌≤◌, List, [], Some, None, IsSome, Ok}
+use Rattle.std.specs.Prelude.{◌≡◌, ⊤, ℕ, ◌+◌, ◌*◌, ◌-◌, ◌^◌, ◌<◌, ◌≤◌, List, [], Option, Some, None, IsSome, Ok}
 use Rattle.volume_layout.specs.declared.layout.Layout.{Layout}
 use Rattle.volume_layout.specs.Layout.{plan}
 use Rattle.fsd_formats.specs.declared.anchor.Anchor.{Anchor}
 use Rattle.fsd_formats.specs.Anchors.{anchor_bytes}
 use Rattle.sector_disk.specs.declared.sector.WeakRun.{WeakRun}
 use Rattle.sector_disk.specs.Image.{IsWorn, open_damage}
-use Rattle.sector_disk.specs.Machine.{Report, Moment, DeviceFault, Wears}
+use Rattle.sector_disk.specs.Machine.{Moment, Wears}
 use Rattle.fsd_log.specs.Scan.{start}
 use Rattle.fsd_files.specs.Disk.{Image, Has}
 use Rattle.fsd_sound.specs.Roots.{root_of}
@@ -90,11 +90,15 @@ LeavesAll (Device s) old new = ⊤
 LeavesAll (Lost a b) old new = ⊤
 LeavesAll fault old new = Wears old new
 
--- the disk failed, where it is said to
-abbrev pub HasFault : Report → Report → MountFault → Type 0
-HasFault old new (Device s) = DeviceFault old new s
-HasFault old new (Unsound s) = ⊥
-HasFault old new fault = ⊤
+-- the place of the call of the disk that failed, if one did
+abbrev pub device_of_mount : MountFault → Option ℕ
+device_of_mount (Device s) = Some s
+device_of_mount other = None
+
+-- it is not said that the name table is unsound
+abbrev pub IsNotUnsound : MountFault → Type 0
+IsNotUnsound (Unsound s) = ⊥
+IsNotUnsound fault = ⊤
 
 -- The moment's image shows pages of a volume with this layout, however the present run wears.
 pub record ShowsVolume (sectors : ℕ) (l : Layout) (windows : List WeakRun) (choices : List (List (List ℕ))) (now : Moment) : Type 0 where

@@ -1,9 +1,10 @@
 // A mount up to `healing`: the last record is completed before anything is written behind the log.
-ghost use Rattle.std.specs.Prelude.{◌≡◌, ◌+◌, ◌≤◌, ℕ, List, Ok, IsSome, IfErr, OnOk, OnErr};
+ghost use Rattle.std.specs.Prelude.{◌≡◌, ◌+◌, ◌≤◌, ℕ, List, Ok, IsSome, OnOk};
 ghost use Rattle.volume_layout.specs.Layout.{plan};
 ghost use Rattle.volume_layout.specs.declared.layout.Layout.{Layout as Plan};
 ghost use Rattle.sector_disk.specs.declared.sector.WeakRun.{WeakRun as Run};
-ghost use Rattle.sector_disk.specs.Machine.{DeviceFault, UsesDisk, Trusts, OnlyWrites, LeavesOnly};
+ghost use Rattle.sector_disk.specs.Calls.{HealsDisk, device_in, failed_at};
+ghost use Rattle.sector_disk.specs.Machine.{LeavesOnly};
 ghost use Rattle.fsd_files.specs.Disk.{Image};
 ghost use Rattle.mount_recover.specs.Mending.{IsSeen, KnowsLog, KeepsData, Completed};
 ghost use Rattle.mount_recover.specs.Replay.{Replays};
@@ -17,12 +18,8 @@ use sector_disk::{Failed, Machine};
 pub(crate) fn complete<M: Machine>(m: &mut M, log: &Log) -> Result<(), Failed>
     requires sectors { log.now.layout.sectors ≤ (M.report m.old).sectors }
 
-    ensures fault { IfErr result (λ failed. DeviceFault (M.report m.old) (M.report m.new) failed.place) }
-    ensures uses { UsesDisk (M.report m.old) (M.report m.new) }
-    ensures trust { Trusts (M.tells m.old) (M.tells m.new) (M.honest m.old) (M.honest m.new) }
-    ensures ledger { M.tells m.new → OnlyWrites (M.ledger m.old) (M.ledger m.new) }
+    ensures disk { HealsDisk M.Machine (device_in failed_at result) m.old m.new }
     ensures most { M.tells m.new → (M.ledger m.new).written ≤ (M.ledger m.old).written + 97 }
-    ensures quiet { M.honest m.new → (M.now m.new).said ≡ (M.now m.old).said }
     ensures present { M.honest m.new → (M.now m.new).windows.present ≡ (M.now m.old).windows.present }
     ensures named { OnOk result (M.honest m.new → IsSome (M.now m.new).windows.next) }
 

@@ -1,10 +1,11 @@
 // The beginning of a new epoch, when all that stands twice is mended.
-ghost use Rattle.std.specs.Prelude.{◌≡◌, ◌+◌, ◌-◌, ◌<◌, ◌≤◌, ◌^◌, ℕ, List, Ok, IsSome, IfErr, OnOk, OnErr};
+ghost use Rattle.std.specs.Prelude.{◌≡◌, ◌+◌, ◌-◌, ◌<◌, ◌≤◌, ◌^◌, ℕ, List, Ok, IsSome, OnOk, OnErr};
 ghost use Rattle.volume_layout.specs.declared.layout.Layout.{Layout as Plan};
 ghost use Rattle.volume_layout.specs.Layout.{plan};
 ghost use Rattle.sector_disk.specs.declared.sector.WeakRun.{WeakRun as Run};
 ghost use Rattle.sector_disk.specs.Image.{settled};
-ghost use Rattle.sector_disk.specs.Machine.{Moment as At, DeviceFault, UsesDisk, Trusts, OnlyWrites, LeavesOnly};
+ghost use Rattle.sector_disk.specs.Calls.{HealsDisk, device_in, failed_at};
+ghost use Rattle.sector_disk.specs.Machine.{Moment as At, LeavesOnly};
 ghost use Rattle.log_thirds.specs.Anchoring.{in_next_epoch};
 ghost use Rattle.mount_recover.specs.Mending.{IsCompleted, IsMended, Begins, KeepsFrom};
 ghost use Rattle.mount_recover.specs.Recover.{HasAnchors};
@@ -19,12 +20,8 @@ pub(crate) fn begin_epoch<M: Machine>(m: &mut M, log: &mut Log) -> Result<(), Fa
     requires epoch { log.old.anchor.epoch < 2 ^ 32 - 1 }
     requires sectors { log.old.layout.sectors ≤ (M.report m.old).sectors }
 
-    ensures fault { IfErr result (λ failed. DeviceFault (M.report m.old) (M.report m.new) failed.place) }
-    ensures uses { UsesDisk (M.report m.old) (M.report m.new) }
-    ensures trust { Trusts (M.tells m.old) (M.tells m.new) (M.honest m.old) (M.honest m.new) }
-    ensures ledger { M.tells m.new → OnlyWrites (M.ledger m.old) (M.ledger m.new) }
+    ensures disk { HealsDisk M.Machine (device_in failed_at result) m.old m.new }
     ensures most { M.tells m.new → (M.ledger m.new).written ≤ (M.ledger m.old).written + 2 }
-    ensures quiet { M.honest m.new → (M.now m.new).said ≡ (M.now m.old).said }
     ensures windows { OnOk result (M.honest m.new → (M.now m.new).windows ≡ settled (M.now m.old).windows.present (M.now m.old).windows.next) }
     ensures windows_err { OnErr result (M.honest m.new → (M.now m.new).windows ≡ (M.now m.old).windows) }
     ensures past { OnOk result (log.new ≡ in_next_epoch log.old) }

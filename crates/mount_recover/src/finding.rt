@@ -1,9 +1,10 @@
 // What a mount finds before it writes: the root, and the log behind the newer anchor.
 ghost use Rattle.std.specs.Prelude.{◌≡◌, ◌-◌, ◌<◌, ◌≤◌, ◌^◌, Ok, IfOk, IfErr};
 ghost use Rattle.volume_layout.specs.Layout.{plan};
-ghost use Rattle.sector_disk.specs.Machine.{UsesDisk, Trusts, Wears, LeavesOnly};
+ghost use Rattle.sector_disk.specs.Calls.{OnlyReads, device_in};
 ghost use Rattle.mount_recover.specs.Lost.{HasRoot};
-ghost use Rattle.mount_recover.specs.Finding.{mount_fault_of, FindCause, IsFound, IsNotFound};
+ghost use Rattle.mount_recover.specs.Finding.{mount_fault_of, IsFound, IsNotFound};
+ghost use Rattle.mount_recover.specs.Recover.{IsNotUnsound, device_of_mount};
 
 use crate::fault::MountFault;
 use crate::root::find_root;
@@ -38,12 +39,8 @@ pub(crate) fn find_volume<M: Machine>(
 ) -> Result<Found, MountFault>
     requires { sectors ≡ (M.report m.old).sectors }
 
-    ensures fault { IfErr result (FindCause (M.report m.old) (M.report m.new)) }
-    ensures uses { UsesDisk (M.report m.old) (M.report m.new) }
-    ensures trust { Trusts (M.tells m.old) (M.tells m.new) (M.honest m.old) (M.honest m.new) }
-    ensures ledger { M.tells m.new → M.ledger m.new ≡ M.ledger m.old }
-    ensures worn { M.honest m.new → Wears (M.now m.old) (M.now m.new) }
-    ensures any_moment { M.honest m.new → LeavesOnly M.moment M.left_since m.old m.new (Wears (M.now m.old)) }
+    ensures reads { OnlyReads M.Machine (device_in device_of_mount result) m.old m.new }
+    ensures sound { IfErr result IsNotUnsound }
     ensures room { IfOk result (λ found. found.layout.sectors ≤ sectors) }
     ensures layout { IfOk result (λ found. found.log.layout ≡ found.layout) }
     ensures planned { IfOk result (λ found. plan found.layout.sectors found.layout.third found.layout.pages ≡ Ok found.layout) }

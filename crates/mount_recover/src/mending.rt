@@ -3,7 +3,8 @@
 ghost use Rattle.std.specs.Prelude.{◌≡◌, ◌+◌, ◌*◌, ◌<◌, ◌≤◌, ℕ, List, Ok, Some, None, IfErr, OnOk};
 ghost use Rattle.volume_layout.specs.Layout.{plan};
 ghost use Rattle.sector_disk.specs.declared.sector.WeakRun.{WeakRun as Run};
-ghost use Rattle.sector_disk.specs.Machine.{Moment as At, DeviceFault, UsesDisk, Trusts, OnlyWrites, LeavesOnly};
+ghost use Rattle.sector_disk.specs.Calls.{HealsDisk, device_in};
+ghost use Rattle.sector_disk.specs.Machine.{Moment as At, LeavesOnly};
 ghost use Rattle.fsd_log.specs.Images.{last_image};
 ghost use Rattle.fsd_log.specs.Scan.{Placed};
 ghost use Rattle.fsd_files.specs.Disk.{Image};
@@ -13,7 +14,8 @@ ghost use Rattle.log_thirds.specs.Append.{IsCalm as IsCalmNow};
 ghost use Rattle.log_thirds.specs.LogValue.{LogValue};
 ghost use Rattle.mount_recover.specs.Finding.{IsExcuse};
 ghost use Rattle.mount_recover.specs.Lost.{AreHomes, LostIn};
-ghost use Rattle.mount_recover.specs.Mending.{load_fault_of, MendCause, AreOfVolume, AreOfAll, AreRoots, IsCompleted, IsMending, IsMended, Stays, Keeps, KeepsFrom};
+ghost use Rattle.mount_recover.specs.Mending.{load_fault_of, IsLoadFault, AreOfVolume, AreOfAll, AreRoots, IsCompleted, IsMending, IsMended, Stays, Keeps, KeepsFrom};
+ghost use Rattle.mount_recover.specs.Recover.{device_of_mount};
 ghost use Rattle.mount_recover.specs.Showing.{GivesPages, ChangesHome, HasNoRoot, IsShowing, LosesNone, LosesHome, shows_of};
 
 use crate::fault::MountFault;
@@ -42,10 +44,8 @@ fn home_logged<M: Machine>(
     requires page { page < l.now.pages }
     requires room { l.now.sectors ≤ (M.report m.old).sectors }
 
-    ensures fault { IfErr result (MendCause (M.report m.old) (M.report m.new)) }
-    ensures uses { UsesDisk (M.report m.old) (M.report m.new) }
-    ensures trust { Trusts (M.tells m.old) (M.tells m.new) (M.honest m.old) (M.honest m.new) }
-    ensures ledger { M.tells m.new → OnlyWrites (M.ledger m.old) (M.ledger m.new) }
+    ensures disk { HealsDisk M.Machine (device_in device_of_mount result) m.old m.new }
+    ensures load { IfErr result IsLoadFault }
     ensures most { M.tells m.new → (M.ledger m.new).written ≤ (M.ledger m.old).written + 2 }
     ensures keeps { M.honest m.new → Keeps l.now (M.now m.old) (M.now m.new) }
     ensures any_moment { (windows : List Run) (choices : List (List (List ℕ))) (log : LogValue) (first : At) (c : IsCompleted l.now windows choices log first) → M.honest m.new →
@@ -69,10 +69,8 @@ fn heal_home<M: Machine>(m: &mut M, l: &Layout, page: u32) -> Result<(), MountFa
     requires page { page < l.now.pages }
     requires room { l.now.sectors ≤ (M.report m.old).sectors }
 
-    ensures fault { IfErr result (MendCause (M.report m.old) (M.report m.new)) }
-    ensures uses { UsesDisk (M.report m.old) (M.report m.new) }
-    ensures trust { Trusts (M.tells m.old) (M.tells m.new) (M.honest m.old) (M.honest m.new) }
-    ensures ledger { M.tells m.new → OnlyWrites (M.ledger m.old) (M.ledger m.new) }
+    ensures disk { HealsDisk M.Machine (device_in device_of_mount result) m.old m.new }
+    ensures load { IfErr result IsLoadFault }
     ensures most { M.tells m.new → (M.ledger m.new).written ≤ (M.ledger m.old).written + 1 }
     ensures keeps { M.honest m.new → Keeps l.now (M.now m.old) (M.now m.new) }
     ensures any_moment { (windows : List Run) (choices : List (List (List ℕ))) (log : LogValue) (first : At) (c : IsCompleted l.now windows choices log first) → M.honest m.new →
@@ -100,10 +98,8 @@ fn mend_page<M: Machine>(m: &mut M, l: &Layout, log: &Log, page: u32) -> Result<
     requires page { page < l.now.pages }
     requires room { l.now.sectors ≤ (M.report m.old).sectors }
 
-    ensures fault { IfErr result (MendCause (M.report m.old) (M.report m.new)) }
-    ensures uses { UsesDisk (M.report m.old) (M.report m.new) }
-    ensures trust { Trusts (M.tells m.old) (M.tells m.new) (M.honest m.old) (M.honest m.new) }
-    ensures ledger { M.tells m.new → OnlyWrites (M.ledger m.old) (M.ledger m.new) }
+    ensures disk { HealsDisk M.Machine (device_in device_of_mount result) m.old m.new }
+    ensures load { IfErr result IsLoadFault }
     ensures most { M.tells m.new → (M.ledger m.new).written ≤ (M.ledger m.old).written + 2 }
     ensures keeps { M.honest m.new → Keeps l.now (M.now m.old) (M.now m.new) }
     ensures any_moment { (windows : List Run) (choices : List (List (List ℕ))) (first : At) (c : IsCompleted l.now windows choices log.now first) → M.honest m.new →
@@ -134,10 +130,8 @@ fn mend_pages<M: Machine>(m: &mut M, l: &Layout, log: &Log) -> Result<(), MountF
     requires planned { plan l.now.sectors l.now.third l.now.pages ≡ Ok l.now }
     requires room { l.now.sectors ≤ (M.report m.old).sectors }
 
-    ensures fault { IfErr result (MendCause (M.report m.old) (M.report m.new)) }
-    ensures uses { UsesDisk (M.report m.old) (M.report m.new) }
-    ensures trust { Trusts (M.tells m.old) (M.tells m.new) (M.honest m.old) (M.honest m.new) }
-    ensures ledger { M.tells m.new → OnlyWrites (M.ledger m.old) (M.ledger m.new) }
+    ensures disk { HealsDisk M.Machine (device_in device_of_mount result) m.old m.new }
+    ensures load { IfErr result IsLoadFault }
     ensures most { M.tells m.new → (M.ledger m.new).written ≤ (M.ledger m.old).written + 2 * l.now.pages }
     ensures keeps { M.honest m.new → Keeps l.now (M.now m.old) (M.now m.new) }
     ensures any_moment { (windows : List Run) (choices : List (List (List ℕ))) (c : IsCompleted l.now windows choices log.now (M.now m.old)) → M.honest m.new →
@@ -160,10 +154,8 @@ fn mend_roots<M: Machine>(m: &mut M, l: &Layout) -> Result<(), MountFault>
     requires planned { plan l.now.sectors l.now.third l.now.pages ≡ Ok l.now }
     requires room { l.now.sectors ≤ (M.report m.old).sectors }
 
-    ensures fault { IfErr result (MendCause (M.report m.old) (M.report m.new)) }
-    ensures uses { UsesDisk (M.report m.old) (M.report m.new) }
-    ensures trust { Trusts (M.tells m.old) (M.tells m.new) (M.honest m.old) (M.honest m.new) }
-    ensures ledger { M.tells m.new → OnlyWrites (M.ledger m.old) (M.ledger m.new) }
+    ensures disk { HealsDisk M.Machine (device_in device_of_mount result) m.old m.new }
+    ensures load { IfErr result IsLoadFault }
     ensures most { M.tells m.new → (M.ledger m.new).written ≤ (M.ledger m.old).written + 2 }
     ensures keeps { M.honest m.new → Keeps l.now (M.now m.old) (M.now m.new) }
     ensures any_moment { (windows : List Run) (choices : List (List (List ℕ))) (log : LogValue) (first : At) (c : IsCompleted l.now windows choices log first) → M.honest m.new →
@@ -190,10 +182,8 @@ pub(crate) fn mend<M: Machine>(m: &mut M, l: &Layout, log: &Log) -> Result<(), M
     requires planned { plan l.now.sectors l.now.third l.now.pages ≡ Ok l.now }
     requires room { l.now.sectors ≤ (M.report m.old).sectors }
 
-    ensures fault { IfErr result (MendCause (M.report m.old) (M.report m.new)) }
-    ensures uses { UsesDisk (M.report m.old) (M.report m.new) }
-    ensures trust { Trusts (M.tells m.old) (M.tells m.new) (M.honest m.old) (M.honest m.new) }
-    ensures ledger { M.tells m.new → OnlyWrites (M.ledger m.old) (M.ledger m.new) }
+    ensures disk { HealsDisk M.Machine (device_in device_of_mount result) m.old m.new }
+    ensures load { IfErr result IsLoadFault }
     ensures most { M.tells m.new → (M.ledger m.new).written ≤ (M.ledger m.old).written + (2 * l.now.pages + 2) }
     ensures keeps { M.honest m.new → Keeps l.now (M.now m.old) (M.now m.new) }
     ensures any_moment { (windows : List Run) (choices : List (List (List ℕ))) (c : IsCompleted l.now windows choices log.now (M.now m.old)) → M.honest m.new →

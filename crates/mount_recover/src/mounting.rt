@@ -4,11 +4,12 @@ ghost use Rattle.volume_layout.specs.declared.layout.Layout.{Layout as Plan};
 ghost use Rattle.volume_layout.specs.Layout.{plan};
 ghost use Rattle.sector_disk.specs.declared.sector.WeakRun.{WeakRun as Run};
 ghost use Rattle.sector_disk.specs.Image.{IsCalm};
-ghost use Rattle.sector_disk.specs.Machine.{UsesDisk, Trusts, OnlyWrites, LeavesOnly};
+ghost use Rattle.sector_disk.specs.Calls.{HealsDisk, device_in};
+ghost use Rattle.sector_disk.specs.Machine.{LeavesOnly};
 ghost use Rattle.fsd_formats.specs.declared.anchor.Anchor.{Anchor as Named};
 ghost use Rattle.fsd_sound.specs.Anchors.{anchor_of};
 ghost use Rattle.mount_recover.specs.Lost.{AreCopiesOn, HasRoot, LeavesMap, LostIn, LosesShown, StandAsShown, WritesMost};
-ghost use Rattle.mount_recover.specs.Recover.{IsSettledIn, IsFreshLog, IsRefusedFor, LeavesAll, HasAnchors, HasFault, ShowsVolume, writes_most};
+ghost use Rattle.mount_recover.specs.Recover.{IsSettledIn, IsFreshLog, IsRefusedFor, LeavesAll, HasAnchors, IsNotUnsound, ShowsVolume, device_of_mount, writes_most};
 ghost use Rattle.mount_recover.specs.Finding.{IsExcuse};
 ghost use Rattle.mount_recover.specs.Replay.{KeepsMap, Replays, IsReplayed};
 
@@ -35,14 +36,11 @@ pub struct Settled {
 pub fn recover<M: Machine>(alloc: Global, m: &mut M, sectors: u32) -> Result<Settled, MountFault>
     requires { sectors ≡ (M.report m.old).sectors }
 
-    // A fault of the disk is told only where there was one, and Unsound never.
-    ensures fault { IfErr result (HasFault (M.report m.old) (M.report m.new)) }
-    ensures uses { UsesDisk (M.report m.old) (M.report m.new) }
-    ensures trust { Trusts (M.tells m.old) (M.tells m.new) (M.honest m.old) (M.honest m.new) }
-    ensures ledger { M.tells m.new → OnlyWrites (M.ledger m.old) (M.ledger m.new) }
+    ensures disk { HealsDisk M.Machine (device_in device_of_mount result) m.old m.new }
+    // It never says that the name table is unsound.
+    ensures sound { IfErr result IsNotUnsound }
     ensures counted { IfOk result (λ settled. M.tells m.new → (M.ledger m.new).written ≤ (M.ledger m.old).written + writes_most settled.layout.pages) }
     ensures counted_err { OnErr result (M.tells m.new → M.honest m.new → WritesMost sectors (M.now m.old) (M.ledger m.old) (M.ledger m.new)) }
-    ensures quiet { M.honest m.new → (M.now m.new).said ≡ (M.now m.old).said }
     ensures room { IfOk result (λ settled. settled.layout.sectors ≤ sectors) }
     ensures planned { IfOk result (λ settled. plan settled.layout.sectors settled.layout.third settled.layout.pages ≡ Ok settled.layout) }
     ensures log { IfOk result (λ settled. IsFreshLog settled.layout settled.log) }

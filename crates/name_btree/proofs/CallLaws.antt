@@ -14,8 +14,8 @@ use Rattle.fsd_table.proofs.VisitLaws.{tree_told}
 use Rattle.fsd_forest.proofs.LowLaws.{all_within}
 use Rattle.name_page.specs.declared.pages.Pages.{Ghosts}
 use Rattle.name_page.specs.Looks.{OnlyReaches, OnlyWalks, OnlyEdits}
-use Rattle.name_page.specs.Pages.{Step, free_count, is_spare, renewed, with_images, with_refusal}
-use Rattle.name_page.proofs.LookLaws.{reaches_still, reaches_walks, walks_edits, edits_then}
+use Rattle.name_page.specs.Pages.{Step, free_count, is_spare, IsOuter, renewed, with_images, with_refusal}
+use Rattle.name_page.proofs.LookLaws.{Joins, reaches_still, reaches_walks, walks_edits, edits_then}
 use Rattle.name_btree.specs.declared.calls.Call.{Call}
 use Rattle.name_btree.specs.declared.fault.TreeFault.{TreeFault}
 use Rattle.name_btree.specs.declared.fault.TreeFault.TheVariants.{Pages, Broken}
@@ -72,47 +72,41 @@ table_used s height t none =
 
 -- ---- a fault of a table
 
-pub excuse_map : (Outer Outer' : Refusal → Type 0) (s : Step) (call : Call) → ((refusal : Refusal) → Outer refusal → Outer' refusal) → (fault : TreeFault) → IsExcused Outer s call fault → IsExcused Outer' s call fault
-excuse_map Outer Outer' s call more (Broken page) h = h
-excuse_map Outer Outer' s call more (Pages refusal) (inl x) = inl (more refusal x)
-excuse_map Outer Outer' s call more (Pages refusal) (inr x) = inr x
-
-pub excused : {D : Type 0} (P : Ghosts D) (call : Call) (a b : D) (height : ℕ) → P.trusted b → IsTable (P.step b) height → (fault : TreeFault) → FailsTable P a b fault → IsExcused (P.causes a b) (P.step b) call fault
-excused P call a b height t is (Broken page) h = table_used (P.step b) height is (barred_tree (P.step b) page (inl (h t)))
-excused P call a b height t is (Pages refusal) h = by h.1
+pub excused : {D : Type 0} (P : Ghosts D) (call : Call) (b : D) (height : ℕ) → P.trusted b → IsTable (P.step b) height → (fault : TreeFault) → FailsTable P b fault → IsExcused (P.step b) call fault
+excused P call b height t is (Broken page) h = table_used (P.step b) height is (barred_tree (P.step b) page (inl (h t)))
+excused P call b height t is (Pages refusal) h = by h.1
   where
-    by : IsCaused (P.causes a b) (P.step b) (λ page. P.trusted b → BarsTable (P.step b) page) refusal → IsExcused (P.causes a b) (P.step b) call (Pages refusal)
+    by : IsCaused (P.step b) (λ page. P.trusted b → BarsTable (P.step b) page) refusal → IsExcused (P.step b) call (Pages refusal)
     by (inl x) = inl x
     by (inr x) = absurd (table_used (P.step b) height is (barred_tree (P.step b) x.0 (x.2 t)))
 
 -- too few pages are spare, or a fault of the table
-pub insert_excused : {D : Type 0} (P : Ghosts D) (call : Call) → TakesPages call → (a b : D) (r : Result (Unit {0}) TreeFault) → OnErr r (OnlyWalks P a b)
-    → (let free = free_count (P.step a) in (r ≡ Err (Pages (NameTableFull free))) ↔ (free < 8)) → IfErr r (FailsSpare P (free_count (P.step a)) a b) → P.trusted b → (height : ℕ) → IsTable (P.step b) height → IfErr r (IsExcused (P.causes a b) (P.step b) call)
-insert_excused P call takes a b (Ok done) walks full h t height is = tt
-insert_excused P call takes a b (Err fault) walks full (inl h) t height is = excused P call a b height t is fault h
-insert_excused P call takes a b (Err fault) walks full (inr h) t height is =
+pub insert_excused : {D : Type 0} (P : Ghosts D) (call : Call) → TakesPages call → (told : Option Refusal) (a b : D) (r : Result (Unit {0}) TreeFault) → OnErr r (OnlyWalks P told a b)
+    → (let free = free_count (P.step a) in (r ≡ Err (Pages (NameTableFull free))) ↔ (free < 8)) → IfErr r (FailsSpare P (free_count (P.step a)) b) → P.trusted b → (height : ℕ) → IsTable (P.step b) height → IfErr r (IsExcused (P.step b) call)
+insert_excused P call takes told a b (Ok done) walks full h t height is = tt
+insert_excused P call takes told a b (Err fault) walks full (inl h) t height is = excused P call b height t is fault h
+insert_excused P call takes told a b (Err fault) walks full (inr h) t height is =
     let same : free_count (P.step a) ≡ free_count (P.step b) = sym (ap (λ (spares : List Bool). count_by (λ spare. spare) spares) walks.spares) in
     let few : free_count (P.step a) < 8 = full.0 (ap (λ (f : TreeFault). Err f) h.0) in
-    subst (IsExcused (P.causes a b) (P.step b) call) (sym h.0) (inr (takes, ap NameTableFull same, subst (λ (free : ℕ). free < 8) same few))
+    subst (IsExcused (P.step b) call) (sym h.0) (inr (takes, ap NameTableFull same, subst (λ (free : ℕ). free < 8) same few))
 
-pub table_excused : {D : Type 0} (P : Ghosts D) (call : Call) (a b : D) (r : Result (Unit {0}) TreeFault) → IfErr r (FailsTable P a b) → P.trusted b → (height : ℕ) → IsTable (P.step b) height → IfErr r (IsExcused (P.causes a b) (P.step b) call)
-table_excused P call a b (Ok done) h t height is = tt
-table_excused P call a b (Err fault) h t height is = excused P call a b height t is fault h
+pub table_excused : {D : Type 0} (P : Ghosts D) (call : Call) (b : D) (r : Result (Unit {0}) TreeFault) → IfErr r (FailsTable P b) → P.trusted b → (height : ℕ) → IsTable (P.step b) height → IfErr r (IsExcused (P.step b) call)
+table_excused P call b (Ok done) h t height is = tt
+table_excused P call b (Err fault) h t height is = excused P call b height t is fault h
 
 -- ---- one call, in a step of its own
 
 -- a step begins, and the pages stay
 pub record Begins {D : Type 0} (P : Ghosts D) (a mid : D) : Type 0 where
-  pub outside : P.outside a mid
   pub spares : (P.step mid).spares ≡ (P.step a).spares
   pub stays : P.trusted mid → (P.step mid).images ≡ (P.step a).images
 
-pub begins_renewed : {D : Type 0} (P : Ghosts D) (a mid : D) → P.outside a mid → (P.trusted mid → (P.step mid).images ≡ (P.step a).images) → P.step mid ≡ renewed (with_images (P.step mid).images (P.step a)) → Begins P a mid
-begins_renewed P a mid outside stays is = record { outside = outside; spares = ap (λ (s : Step). s.spares) is; stays = stays }
+pub begins_renewed : {D : Type 0} (P : Ghosts D) (a mid : D) → (P.trusted mid → (P.step mid).images ≡ (P.step a).images) → P.step mid ≡ renewed (with_images (P.step mid).images (P.step a)) → Begins P a mid
+begins_renewed P a mid stays is = record { spares = ap (λ (s : Step). s.spares) is; stays = stays }
 
 -- a step that is refused
-pub begins_refused : {D : Type 0} (P : Ghosts D) (a new : D) (call : Call) (refusal : Refusal) → (P.trusted new → (P.step new).images ≡ (P.step a).images) → P.step new ≡ with_refusal refusal (with_images (P.step new).images (P.step a)) → P.causes a new refusal
-    → P.trusted new → (height : ℕ) → IsTable (P.step a) height → Carries (P.causes a new) (table_of (P.step a).images height) call (Err (Pages refusal)) (P.step new)
+pub begins_refused : {D : Type 0} (P : Ghosts D) (a new : D) (call : Call) (refusal : Refusal) → (P.trusted new → (P.step new).images ≡ (P.step a).images) → P.step new ≡ with_refusal refusal (with_images (P.step new).images (P.step a)) → IsOuter refusal
+    → P.trusted new → (height : ℕ) → IsTable (P.step a) height → Carries (table_of (P.step a).images height) call (Err (Pages refusal)) (P.step new)
 begins_refused P a new call refusal stays is cause t height table = (
   inl cause,
   record {
@@ -122,50 +116,47 @@ begins_refused P a new call refusal stays is cause t height table = (
   },
 )
 
-module _ {D : Type 0} (P : Ghosts D) (trust : (x y : D) → P.outside x y → P.trusted y → P.trusted x) (later : (x y z : D) (refusal : Refusal) → P.outside x y → P.causes y z refusal → P.causes x z refusal) (a mid new : D) (begun : Begins P a mid) where
-  outside : P.outside a mid
-  outside = begun.outside
-
+module _ {D : Type 0} (P : Ghosts D) (a mid new : D) (begun : Begins P a mid) where
   same : P.trusted mid → (height : ℕ) → table_of (P.step mid).images height ≡ table_of (P.step a).images height
   same t height = same_entries (P.step a) (P.step mid) height (begun.stays t)
 
-  kept : OnlyWalks P mid new → P.trusted new → (height : ℕ) → IsTable (P.step a) height → IsTable (P.step new) height
+  kept : {refusal : Option Refusal} → OnlyWalks P refusal mid new → P.trusted new → (height : ℕ) → IsTable (P.step a) height → IsTable (P.step new) height
   kept w t height is =
       same_table (P.step mid) (P.step new) height (w.stays t) w.spares (same_table (P.step a) (P.step mid) height (begun.stays (w.trust t)) begun.spares is)
 
-  kept_has : OnlyWalks P mid new → P.trusted new → (height : ℕ) → IsTable (P.step a) height → HasTable (P.step new) (table_of (P.step a).images height)
+  kept_has : {refusal : Option Refusal} → OnlyWalks P refusal mid new → P.trusted new → (height : ℕ) → IsTable (P.step a) height → HasTable (P.step new) (table_of (P.step a).images height)
   kept_has w t height is = record { height = height; is = kept w t height is; table_is = same_entries (P.step mid) (P.step new) height (w.stays t) ∙ same (w.trust t) height }
 
   -- a look-up
-  pub looks_up : (call : Call) → ((table : List Entry) → made_of table call ≡ table) → (r : Result (Option Entry) TreeFault) → OnlyReaches P mid new
+  pub looks_up : {refusal : Option Refusal} (call : Call) → ((table : List Entry) → made_of table call ≡ table) → (r : Result (Option Entry) TreeFault) → OnlyReaches P refusal mid new
       → IfOk r (λ found. P.trusted new → (height : ℕ) → IsTree (P.step mid).images height → found ≡ answer_of (table_of (P.step mid).images height) call)
-      → IfErr r (HasCause (P.causes mid new) (P.step new) (BreaksTable (P.step new).images) (BarsTable (P.step new)))
-      → P.trusted new → (height : ℕ) → IsTable (P.step a) height → Carries (P.causes a new) (table_of (P.step a).images height) call r (P.step new)
+      → IfErr r (HasCause (P.step new) (BreaksTable (P.step new).images) (BarsTable (P.step new)))
+      → P.trusted new → (height : ℕ) → IsTable (P.step a) height → Carries (table_of (P.step a).images height) call r (P.step new)
   looks_up call stays (Ok found) x ok err t height is =
-      let w : OnlyWalks P mid new = reaches_walks P mid new x in
+      let w = reaches_walks P mid new x in
       let tree : IsTree (P.step mid).images height = (same_table (P.step a) (P.step mid) height (begun.stays (w.trust t)) begun.spares is).tree in (
         ok t height tree ∙ ap (λ (table : List Entry). answer_of table call) (same (w.trust t) height),
         subst (HasTable (P.step new)) (sym (stays (table_of (P.step a).images height))) (kept_has w t height is),
       )
   looks_up call stays (Err fault) x ok err t height is =
-      let w : OnlyWalks P mid new = reaches_walks P mid new x in (
-        excuse_map (P.causes mid new) (P.causes a new) (P.step new) call (λ refusal x. later a mid new refusal outside x) fault (excused P call mid new height t (kept w t height is) fault (cause_map (P.causes mid new) (P.causes mid new) (P.step new) (BreaksTable (P.step new).images) (λ page. P.trusted new → BreaksTable (P.step new).images page)
-            (BarsTable (P.step new)) (λ page. P.trusted new → BarsTable (P.step new) page) (λ refusal x. x) (λ page x trusted. x) (λ page x trusted. x) fault err)),
+      let w = reaches_walks P mid new x in (
+        excused P call new height t (kept w t height is) fault (cause_map (P.step new) (BreaksTable (P.step new).images) (λ page. P.trusted new → BreaksTable (P.step new).images page)
+            (BarsTable (P.step new)) (λ page. P.trusted new → BarsTable (P.step new) page) (λ page x trusted. x) (λ page x trusted. x) fault err),
         kept_has w t height is,
       )
 
   -- a change
-  pub changes_to : (call : Call) → ((table : List Entry) → None ≡ answer_of table call) → (r : Result (Unit {0}) TreeFault) → OnlyEdits P mid new → OnErr r (OnlyWalks P mid new)
+  pub changes_to : {refusal : Option Refusal} (call : Call) → ((table : List Entry) → None ≡ answer_of table call) → (r : Result (Unit {0}) TreeFault) → OnlyEdits P refusal mid new → OnErr r (OnlyWalks P refusal mid new)
       → OnOk r (P.trusted new → (height : ℕ) → IsTable (P.step mid) height → HasTable (P.step new) (made_of (table_of (P.step mid).images height) call))
-      → (P.trusted new → (height : ℕ) → IsTable (P.step new) height → IfErr r (IsExcused (P.causes mid new) (P.step new) call))
-      → P.trusted new → (height : ℕ) → IsTable (P.step a) height → Carries (P.causes a new) (table_of (P.step a).images height) call (without_answer r) (P.step new)
+      → (P.trusted new → (height : ℕ) → IsTable (P.step new) height → IfErr r (IsExcused (P.step new) call))
+      → P.trusted new → (height : ℕ) → IsTable (P.step a) height → Carries (table_of (P.step a).images height) call (without_answer r) (P.step new)
   changes_to call answers (Ok done) x err ok excuse t height is =
       let made = ok t height (same_table (P.step a) (P.step mid) height (begun.stays (x.trust t)) begun.spares is) in (
         answers (table_of (P.step a).images height),
         subst (λ (table : List Entry). HasTable (P.step new) (made_of table call)) (same (x.trust t) height) made,
       )
   changes_to call answers (Err fault) x err ok excuse t height is = (
-    excuse_map (P.causes mid new) (P.causes a new) (P.step new) call (λ refusal x. later a mid new refusal outside x) fault (excuse t height (kept err t height is)),
+    excuse t height (kept err t height is),
     kept_has err t height is,
   )
 
@@ -186,10 +177,10 @@ allows_at table (d ∷ before) c behind h = allows_at (made_of table d) before c
 -- so many calls were made
 pub record IsSoFar {D : Type 0} (P : Ghosts D) (old now : D) (calls : List Call) (answers : List (Option Entry)) (i : ℕ) : Type 0 where
   pub whole : length answers ≡ length calls
-  pub edits : OnlyEdits P old now
+  pub edits : OnlyEdits P None old now
   pub runs : P.trusted now → (height : ℕ) → IsTable (P.step old) height → Runs (table_of (P.step old).images height) (take i calls) (take i answers) (P.step now)
 
-pub none_so_far : {D : Type 0} (P : Ghosts D) (a : D) (calls : List Call) (answers : List (Option Entry)) → P.outside a a → length answers ≡ length calls → IsSoFar P a a calls answers 0
+pub none_so_far : {D : Type 0} (P : Ghosts D) (a : D) (calls : List Call) (answers : List (Option Entry)) → P.outside None a a → length answers ≡ length calls → IsSoFar P a a calls answers 0
 none_so_far P a calls answers still whole = record {
   whole = whole;
   edits = walks_edits P a a (reaches_walks P a a (reaches_still P a still));
@@ -212,22 +203,22 @@ module _ {D : Type 0} (P : Ghosts D) (old now : D) (calls : List Call) (answers 
       let allowed : Allows (after table (take i calls)) c = allows_at table (take i calls) c (drop (i + 1) calls) (subst (AllowsAll table) parts p.allows) in
       subst (λ (xs : List Entry). Allows xs c) (sym (one_table (P.step now).images height r.makes.height tree r.makes.is.tree ∙ r.makes.table_is)) allowed
 
-  module _ (new : D) (law : (a b c : D) → P.outside a b → P.outside b c → P.outside a c) (edits : OnlyEdits P now new) where
+  module _ (new : D) (trust : P.trusted new → P.trusted now) where
     -- what was carried out, of the table that the calls before made
-    carried : (r : Result (Option Entry) TreeFault) → (P.trusted new → (height : ℕ) → IsTable (P.step now) height → Carries (P.causes now new) (table_of (P.step now).images height) c r (P.step new))
-        → P.trusted new → (height : ℕ) → IsTable (P.step old) height → Carries (P.causes now new) (after (table_of (P.step old).images height) (take i calls)) c r (P.step new)
+    carried : (r : Result (Option Entry) TreeFault) → (P.trusted new → (height : ℕ) → IsTable (P.step now) height → Carries (table_of (P.step now).images height) c r (P.step new))
+        → P.trusted new → (height : ℕ) → IsTable (P.step old) height → Carries (after (table_of (P.step old).images height) (take i calls)) c r (P.step new)
     carried r h t height is =
-        let ran = so.runs (edits.trust t) height is in
-        subst (λ (table : List Entry). Carries (P.causes now new) table c r (P.step new)) ran.makes.table_is (h t ran.makes.height ran.makes.is)
+        let ran = so.runs (trust t) height is in
+        subst (λ (table : List Entry). Carries table c r (P.step new)) ran.makes.table_is (h t ran.makes.height ran.makes.is)
 
-    pub one_so_far : (answer : Option Entry) → (P.trusted new → (height : ℕ) → IsTable (P.step now) height → Carries (P.causes now new) (table_of (P.step now).images height) c (Ok answer) (P.step new)) → IsSoFar P old new calls (slice_set answers i answer) (i + 1)
-    one_so_far answer h = record {
+    pub one_so_far : (law : Joins P) → OnlyEdits P None now new → (answer : Option Entry) → (P.trusted new → (height : ℕ) → IsTable (P.step now) height → Carries (table_of (P.step now).images height) c (Ok answer) (P.step new)) → IsSoFar P old new calls (slice_set answers i answer) (i + 1)
+    one_so_far law edits answer h = record {
       whole = length-set answers i answer ∙ so.whole;
       edits = edits_then P law old now new so.edits edits;
       runs = λ t height is.
           let table = table_of (P.step old).images height in
           let did = carried (Ok answer) h t height is in
-          let ran = so.runs (edits.trust t) height is in
+          let ran = so.runs (trust t) height is in
           record {
             answers_are =
                 take_more_set answers i answer (omega (arith, there, so.whole))
@@ -239,12 +230,12 @@ module _ {D : Type 0} (P : Ghosts D) (old now : D) (calls : List Call) (answers 
           };
     }
 
-    pub stops_here : (later : (x y z : D) (refusal : Refusal) → P.outside x y → P.causes y z refusal → P.causes x z refusal) (fault : TreeFault)
-        → (P.trusted new → (height : ℕ) → IsTable (P.step now) height → Carries (P.causes now new) (table_of (P.step now).images height) c (Err fault) (P.step new))
-        → P.trusted new → (height : ℕ) → IsTable (P.step old) height → StopsAt (P.causes old new) (table_of (P.step old).images height) calls answers fault (P.step new)
-    stops_here later fault h t height is =
+    pub stops_here : (fault : TreeFault)
+        → (P.trusted new → (height : ℕ) → IsTable (P.step now) height → Carries (table_of (P.step now).images height) c (Err fault) (P.step new))
+        → P.trusted new → (height : ℕ) → IsTable (P.step old) height → StopsAt (table_of (P.step old).images height) calls answers fault (P.step new)
+    stops_here fault h t height is =
         let did = carried (Err fault) h t height is in
-        let ran = so.runs (edits.trust t) height is in
+        let ran = so.runs (trust t) height is in
         let long : length (take i calls) ≡ i = length-take-le i calls (omega (arith, there)) in
         record {
           before = take i calls;
@@ -252,7 +243,7 @@ module _ {D : Type 0} (P : Ghosts D) (old now : D) (calls : List Call) (answers 
           behind = drop (i + 1) calls;
           parts = parts;
           ran = record { answers_are = ap (λ (n : ℕ). take n answers) long ∙ ran.answers_are; makes = did.1 };
-          excuse = excuse_map (P.causes now new) (P.causes old new) (P.step new) c (λ refusal x. later old now new refusal so.edits.outside x) fault did.0;
+          excuse = did.0;
         }
 
 -- all calls were made

@@ -8,19 +8,18 @@ use Rattle.fsd_table.specs.declared.child.Child.{Child}
 use Rattle.fsd_table.specs.Pages.{page_at, content_fits}
 use Rattle.fsd_table.specs.Table.{visit_of, IsVisited}
 use Rattle.fsd_table.proofs.BreakLaws.{misfit_breaks}
-use Rattle.name_page.specs.Pages.{Step, home_of, IsBarred}
+use Rattle.name_page.specs.Pages.{Step, home_of, IsOuter, IsBarred}
 use Rattle.name_page.specs.Looks.{Agrees}
 use Rattle.name_btree.specs.declared.fault.TreeFault.{TreeFault}
 use Rattle.name_btree.specs.declared.fault.TreeFault.TheVariants.{Pages, Broken}
 use Rattle.name_btree.specs.Fault.{IsCaused, HasCause, FailsBy, Never, BarsTable, BarsPage}
 
-module _ (Outer Outer' : Refusal → Type 0) (s : Step) (Breaks Breaks' Bars Bars' : ℕ → Type 0)
-    (outer : (refusal : Refusal) → Outer refusal → Outer' refusal) (breaks : (page : ℕ) → Breaks page → Breaks' page) (bars : (page : ℕ) → Bars page → Bars' page) where
-  pub caused_map : (refusal : Refusal) → IsCaused Outer s Bars refusal → IsCaused Outer' s Bars' refusal
-  caused_map refusal (inl x) = inl (outer refusal x)
+module _ (s : Step) (Breaks Breaks' Bars Bars' : ℕ → Type 0) (breaks : (page : ℕ) → Breaks page → Breaks' page) (bars : (page : ℕ) → Bars page → Bars' page) where
+  pub caused_map : (refusal : Refusal) → IsCaused s Bars refusal → IsCaused s Bars' refusal
+  caused_map refusal (inl x) = inl x
   caused_map refusal (inr x) = inr (x.0, x.1, bars x.0 x.2)
 
-  pub cause_map : (fault : TreeFault) → HasCause Outer s Breaks Bars fault → HasCause Outer' s Breaks' Bars' fault
+  pub cause_map : (fault : TreeFault) → HasCause s Breaks Bars fault → HasCause s Breaks' Bars' fault
   cause_map (Pages refusal) h = (h.0, caused_map refusal h.1)
   cause_map (Broken page) h = breaks page h
 
@@ -34,25 +33,25 @@ bars_table s depth c v page h = subst (BarsTable s) (sym h.0) (barred s depth c 
 
 -- ---- what was reached shows the fault
 
-pub fails_by_map : (Outer Outer' : Refusal → Type 0) (s : Step) (B B' : List (List ℕ) → ℕ → Type 0) → ((refusal : Refusal) → Outer refusal → Outer' refusal) → ((images : List (List ℕ)) (page : ℕ) → Agrees images s → B images page → B' images page)
-    → (fault : TreeFault) → FailsBy Outer s B fault → FailsBy Outer' s B' fault
-fails_by_map Outer Outer' s B B' outer more (Broken page) h = λ images is. more images page is (h images is)
-fails_by_map Outer Outer' s B B' outer more (Pages refusal) h = (h.0, by h.1)
+pub fails_by_map : (s : Step) (B B' : List (List ℕ) → ℕ → Type 0) → ((images : List (List ℕ)) (page : ℕ) → Agrees images s → B images page → B' images page)
+    → (fault : TreeFault) → FailsBy s B fault → FailsBy s B' fault
+fails_by_map s B B' more (Broken page) h = λ images is. more images page is (h images is)
+fails_by_map s B B' more (Pages refusal) h = (h.0, by h.1)
   where
-    Cause : (Refusal → Type 0) → (List (List ℕ) → ℕ → Type 0) → Type 0
-    Cause O C = O refusal ⊎ ((page : ℕ) × (refusal ≡ Unsound (home_of s page)) × IsBarred s page × ((images : List (List ℕ)) → Agrees images s → page_at images page ≡ None → C images page))
+    Cause : (List (List ℕ) → ℕ → Type 0) → Type 0
+    Cause C = IsOuter refusal ⊎ ((page : ℕ) × (refusal ≡ Unsound (home_of s page)) × IsBarred s page × ((images : List (List ℕ)) → Agrees images s → page_at images page ≡ None → C images page))
 
-    by : Cause Outer B → Cause Outer' B'
-    by (inl x) = inl (outer refusal x)
+    by : Cause B → Cause B'
+    by (inl x) = inl x
     by (inr x) = inr (x.0, x.1, x.2, λ images is none. more images x.0 is (x.3 images is none))
 
 -- a page that is refused
-pub fails_at : (Outer : Refusal → Type 0) (s : Step) (page : ℕ) (B : List (List ℕ) → ℕ → Type 0) → ((images : List (List ℕ)) → Agrees images s → page_at images page ≡ None → B images page)
-    → (fault : TreeFault) → HasCause Outer s Never (BarsPage s page) fault → FailsBy Outer s B fault
-fails_at Outer s page B breaks (Broken other) h = absurd h
-fails_at Outer s page B breaks (Pages refusal) h = (h.0, by h.1)
+pub fails_at : (s : Step) (page : ℕ) (B : List (List ℕ) → ℕ → Type 0) → ((images : List (List ℕ)) → Agrees images s → page_at images page ≡ None → B images page)
+    → (fault : TreeFault) → HasCause s Never (BarsPage s page) fault → FailsBy s B fault
+fails_at s page B breaks (Broken other) h = absurd h
+fails_at s page B breaks (Pages refusal) h = (h.0, by h.1)
   where
-    by : IsCaused Outer s (BarsPage s page) refusal → Outer refusal ⊎ ((other : ℕ) × (refusal ≡ Unsound (home_of s other)) × IsBarred s other × ((images : List (List ℕ)) → Agrees images s → page_at images other ≡ None → B images other))
+    by : IsCaused s (BarsPage s page) refusal → IsOuter refusal ⊎ ((other : ℕ) × (refusal ≡ Unsound (home_of s other)) × IsBarred s other × ((images : List (List ℕ)) → Agrees images s → page_at images other ≡ None → B images other))
     by (inl x) = inl x
     by (inr x) = inr (page, subst (λ (p : ℕ). refusal ≡ Unsound (home_of s p)) x.2.0 x.1, x.2.1, λ images is none. breaks images is none)
 
@@ -64,8 +63,8 @@ pub if_err_more : {X : Type 0} (r : Result X TreeFault) (P Q : TreeFault → Typ
 if_err_more (Ok x) P Q f h = tt
 if_err_more (Err fault) P Q f h = f fault h
 
-pub broken_by : (Outer : Refusal → Type 0) (s : Step) (B : List (List ℕ) → ℕ → Type 0) (fault : TreeFault) → (page : ℕ) → fault ≡ Broken page → ((images : List (List ℕ)) → Agrees images s → B images page) → FailsBy Outer s B fault
-broken_by Outer s B fault page is h = subst (FailsBy Outer s B) (sym is) h
+pub broken_by : (s : Step) (B : List (List ℕ) → ℕ → Type 0) (fault : TreeFault) → (page : ℕ) → fault ≡ Broken page → ((images : List (List ℕ)) → Agrees images s → B images page) → FailsBy s B fault
+broken_by s B fault page is h = subst (FailsBy s B) (sym is) h
 
 pub on_err_same : {X D : Type 0} (r : Result X TreeFault) (P : D → Type 0) (a b : D) → P a → OnErr r (b ≡ a) → OnErr r (P b)
 on_err_same (Ok x) P a b h is = tt
@@ -78,5 +77,5 @@ pub same_err : (a b : TreeFault) → the_err a ≡ the_err b → a ≡ b
 same_err a b e = cc
 
 -- a page that is named breaks what the fault says
-pub broken_is : (Outer : Refusal → Type 0) (s : Step) (Breaks Bars : ℕ → Type 0) (fault : TreeFault) (page : ℕ) → fault ≡ Broken page → HasCause Outer s Breaks Bars fault → Breaks page
-broken_is Outer s Breaks Bars fault page is h = subst (HasCause Outer s Breaks Bars) is h
+pub broken_is : (s : Step) (Breaks Bars : ℕ → Type 0) (fault : TreeFault) (page : ℕ) → fault ≡ Broken page → HasCause s Breaks Bars fault → Breaks page
+broken_is s Breaks Bars fault page is h = subst (HasCause s Breaks Bars) is h

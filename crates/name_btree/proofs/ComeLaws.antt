@@ -5,7 +5,6 @@ use Rattle.std.specs.List.{flat_map}
 use Rattle.std.proofs.lemmas.Bool.{cases_lt}
 use Rattle.std.proofs.lemmas.List.{append-nil, length-set, map-append}
 use Rattle.std.proofs.lemmas.List.Concat.{flat_map-append}
-use Rattle.fsd_bytes.specs.declared.refusal.Refusal.{Refusal}
 use Rattle.fsd_formats.specs.declared.entry.Entry.{Entry}
 use Rattle.fsd_formats.specs.declared.page.Separator.{Separator}
 use Rattle.fsd_formats.specs.NamePage.{Content, Leaf, Interior}
@@ -145,28 +144,28 @@ comes_first pages level marks is whole clear =
 
 -- ---- faults
 
-module _ {D : Type 0} (P : Ghosts D) (later : (a b c : D) (refusal : Refusal) → P.outside a b → P.causes b c refusal → P.causes a c refusal) (a b new : D) (before : P.outside a b) (fault : TreeFault) where
+module _ {D : Type 0} (P : Ghosts D) (new : D) (fault : TreeFault) where
   -- a walk of these children that is among the walk of those
   pub walk_map : (level level' : ℕ) (cs cs' : List Child) (marks marks' : List Bool) → (P.trusted new → ComesTo (P.step new).images level cs marks → ComesTo (P.step new).images level' cs' marks')
-      → FailsWalk P b new level' cs' marks' fault → FailsWalk P a new level cs marks fault
+      → FailsWalk P new level' cs' marks' fault → FailsWalk P new level cs marks fault
   walk_map level level' cs cs' marks marks' comes h =
       let s = P.step new in
-      cause_map (P.causes b new) (P.causes a new) s (λ page. P.trusted new → BreaksWalk level' s.images cs' marks' page) (λ page. P.trusted new → BreaksWalk level s.images cs marks page)
-      (λ page. P.trusted new → BarsWalk s level' cs' marks' page) (λ page. P.trusted new → BarsWalk s level cs marks page) (λ r x. later a b new r before x) (λ page x t w. x t (comes t w)) (λ page x t w. x t (comes t w)) fault h
+      cause_map s (λ page. P.trusted new → BreaksWalk level' s.images cs' marks' page) (λ page. P.trusted new → BreaksWalk level s.images cs marks page)
+      (λ page. P.trusted new → BarsWalk s level' cs' marks' page) (λ page. P.trusted new → BarsWalk s level cs marks page) (λ page x t w. x t (comes t w)) (λ page x t w. x t (comes t w)) fault h
 
   -- the page itself
-  pub walk_here : (level : ℕ) (c : Child) (marks : List Bool) → HasCause (P.causes b new) (P.step new) (IsMisfit (P.step new).images c) (BarsPage (P.step new) c.page) fault → FailsWalk P a new level (c ∷ []) marks fault
+  pub walk_here : (level : ℕ) (c : Child) (marks : List Bool) → HasCause (P.step new) (IsMisfit (P.step new).images c) (BarsPage (P.step new) c.page) fault → FailsWalk P new level (c ∷ []) marks fault
   walk_here level c marks h =
       let s = P.step new in
-      cause_map (P.causes b new) (P.causes a new) s (IsMisfit s.images c) (λ page. P.trusted new → BreaksWalk level s.images (c ∷ []) marks page)
-      (BarsPage s c.page) (λ page. P.trusted new → BarsWalk s level (c ∷ []) marks page) (λ r x. later a b new r before x)
+      cause_map s (IsMisfit s.images c) (λ page. P.trusted new → BreaksWalk level s.images (c ∷ []) marks page)
+      (BarsPage s c.page) (λ page. P.trusted new → BarsWalk s level (c ∷ []) marks page)
       (λ page x t w. subst (BreaksTable s.images) (sym x.0) (misfit_breaks s.images w.depth c (comes_visited level s.images c marks w) x.1))
       (λ page x t w. bars_table s w.depth c (comes_visited level s.images c marks w) page x) fault h
 
   pub walk_whole : (level : ℕ) (c : Child) (marks : List Bool) → (P.trusted new → IsTopLevel (P.step new).images level) → c ≡ top → length marks ≡ length (P.step new).images → AreMarksOf [] marks
-      → FailsWalk P b new level (c ∷ []) marks fault → FailsTable P a new fault
+      → FailsWalk P new level (c ∷ []) marks fault → FailsTable P new fault
   walk_whole level c marks is at whole clear h =
       let s = P.step new in
       let comes : P.trusted new → ComesTo s.images level (c ∷ []) marks = λ t. subst (λ (d : Child). ComesTo s.images level (d ∷ []) marks) (sym at) (comes_first s.images level marks (is t) whole clear) in
-      cause_map (P.causes b new) (P.causes a new) s (λ page. P.trusted new → BreaksWalk level s.images (c ∷ []) marks page) (λ page. P.trusted new → BreaksTable s.images page)
-      (λ page. P.trusted new → BarsWalk s level (c ∷ []) marks page) (λ page. P.trusted new → BarsTable s page) (λ r x. later a b new r before x) (λ page x t. x t (comes t)) (λ page x t. x t (comes t)) fault h
+      cause_map s (λ page. P.trusted new → BreaksWalk level s.images (c ∷ []) marks page) (λ page. P.trusted new → BreaksTable s.images page)
+      (λ page. P.trusted new → BarsWalk s level (c ∷ []) marks page) (λ page. P.trusted new → BarsTable s page) (λ page x t. x t (comes t)) (λ page x t. x t (comes t)) fault h

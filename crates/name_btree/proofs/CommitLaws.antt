@@ -1,5 +1,5 @@
 -- What a step knows once a draft is written.
-use Rattle.std.proofs.Common.{◌≡◌, ℕ, zero, suc, ◌+◌, ◌≤◌, Bool, true, false, List, [], ◌∷◌, length, get_or, refl, ap, ◌∙◌, arith}
+use Rattle.std.proofs.Common.{◌≡◌, ℕ, zero, suc, ◌+◌, ◌≤◌, Bool, true, false, List, [], ◌∷◌, length, get_or, None, refl, ap, ◌∙◌, arith}
 use Rattle.std.specs.Prelude.{slice_set}
 use Rattle.name_page.specs.Pages.{Step, reaches, changes, is_spare, with_page, with_spare}
 use Rattle.name_btree.specs.declared.draft.Sheet.{Sheet}
@@ -58,7 +58,7 @@ pub commit_home : (pages : List ℕ) (sheets : List Sheet) (step : Step) → (fr
 commit_home pages sheets step = (freed_leaves pages (committed sheets step)).home_a ∙ (committed_leaves sheets step).home_a
 
 -- a draft that is written
-pub commit_edits : {D : Type 0} (P : Ghosts D) (a b : D) (pages : List ℕ) (sheets : List Sheet) → P.outside a b → (P.trusted b → P.trusted a) → P.step b ≡ freed pages (committed sheets (P.step a)) → (P.step b).images ≡ drafted sheets (P.step a).images → OnlyEdits P a b
+pub commit_edits : {D : Type 0} (P : Ghosts D) (a b : D) (pages : List ℕ) (sheets : List Sheet) → P.outside None a b → (P.trusted b → P.trusted a) → P.step b ≡ freed pages (committed sheets (P.step a)) → (P.step b).images ≡ drafted sheets (P.step a).images → OnlyEdits P None a b
 commit_edits P a b pages sheets outside trust is images = record {
   count = ap length images ∙ drafted_length sheets (P.step a).images;
   home_a = ap (λ (s : Step). s.home_a) is ∙ commit_home pages sheets (P.step a);

@@ -17,6 +17,7 @@ mod InsertLaws
 pub mod LastLaws
 mod LeafGrowthLaws
 pub mod LeafTreeLaws
+pub mod LookupLaws
 mod MapLaws
 pub mod MarkLaws
 pub mod MendLaws

@@ -1,38 +1,44 @@
 -- Entries that are taken out one after another, and one that is put in then.
-use Rattle.std.proofs.Common.{◌≡◌, ℕ, ◌+◌, ◌*◌, ◌≤◌, Bool, ◌||◌, List, [], ◌∷◌, ◌++◌, length, refl, sym, ap, subst, ◌∙◌, arith}
+use Rattle.std.proofs.Common.{◌≡◌, ℕ, ◌+◌, ◌*◌, ◌≤◌, Bool, ◌||◌, List, [], ◌∷◌, ◌++◌, length, Option, None, refl, sym, ap, subst, ◌∙◌, arith}
 use Rattle.std.specs.Prelude.{◌==◌}
 use Rattle.std.specs.List.{AllByRecursion}
 use Rattle.std.proofs.lemmas.List.Folds.{list_any-append}
 use Rattle.std.proofs.lemmas.Bool.{false_from_ne_true}
 use Rattle.run_table.specs.Space.{contains, all_differ}
 use Rattle.fsd_bytes.specs.declared.key.Key.{Key}
+use Rattle.fsd_bytes.specs.declared.refusal.Refusal.{Refusal}
 use Rattle.fsd_formats.specs.declared.entry.Entry.{Entry}
 use Rattle.fsd_table.specs.Tree.{pages_of, table_of, IsTree}
 use Rattle.fsd_forest.specs.Forest.{Disjoint, count_of}
 use Rattle.fsd_forest.proofs.CountLaws.{count_append, count_nothing, there_counts, differ_counts}
-use Rattle.name_page.specs.Pages.{reaches}
+use Rattle.name_page.specs.Pages.{reaches, Keeps, with_images, with_promise}
 use Rattle.name_page.specs.Edits.{without}
 use Rattle.name_btree.specs.declared.draft.Draft.{Draft}
 use Rattle.name_btree.specs.declared.draft.Sheet.{Sheet}
 use Rattle.name_btree.specs.Draft.{drafted, IsDraft, RemovesFrom}
 use Rattle.name_page.specs.declared.pages.Pages.{Ghosts}
-use Rattle.name_page.specs.Looks.{OnlyReaches, Shows}
-use Rattle.name_page.proofs.LookLaws.{reaches_still, reaches_then, agrees_before}
+use Rattle.name_page.specs.Looks.{OnlyReaches, OnlyWalks, Shows}
+use Rattle.name_page.proofs.LookLaws.{Joins, Trusts, reaches_still, reaches_then, reaches_walks, walks_then, spare_walks, agrees_before}
 use Rattle.name_btree.specs.Fault.{IsNoTree}
 use Rattle.name_btree.specs.Map.{without_all, HasLeft, LeavesTree}
+
+-- pages that are promised, and then some that are reached
+pub promised_walks : {D : Type 0} (P : Ghosts D) {refusal : Option Refusal} (law : Joins P) (trust : Trusts P) (a b c : D) (n : ℕ) → P.outside None a b → Keeps (P.step a) (P.step b).images
+    → (P.trusted b → (P.step b).images ≡ (P.step a).images) → P.step b ≡ with_promise n (with_images (P.step b).images (P.step a)) → OnlyReaches P refusal b c → OnlyWalks P refusal a c
+promised_walks P law trust a b c n outside kept stays is x = walks_then P law a b c (spare_walks P a b n outside (trust a b None outside) kept stays is) (reaches_walks P b c x)
 
 -- ---- entries that are taken out
 
 -- the draft, once the entries with some keys were taken out
 pub record IsCleared {D : Type 0} (P : Ghosts D) (old now : D) (d : Draft) (keys : List Key) (n : ℕ) : Type 0 where
-  pub calls : OnlyReaches P old now
+  pub calls : OnlyReaches P None old now
   pub reaches : reaches (P.step old) ≤ reaches (P.step now) + 12 * n
   pub draft : IsDraft (P.step now) d
   pub room : length d.sheets.items ≤ 8 * n
   pub free : length d.freed.items ≤ 6 * n
   pub left : Shows (P.step now) (λ pages. LeavesTree pages d keys)
 
-pub cleared_none : {D : Type 0} (P : Ghosts D) (a : D) (d : Draft) → P.outside a a → d.sheets.items ≡ [] → d.freed.items ≡ [] → IsCleared P a a d [] 0
+pub cleared_none : {D : Type 0} (P : Ghosts D) (a : D) (d : Draft) → P.outside None a a → d.sheets.items ≡ [] → d.freed.items ≡ [] → IsCleared P a a d [] 0
 cleared_none P a d still sheets freed = record {
   calls = reaches_still P a still;
   reaches = omega arith;
@@ -83,7 +89,7 @@ left_more images d d2 keys key left r height tree =
       freed = λ page. more.2 page ∙ ap (λ (v : Bool). v || contains went page) (h.freed page) ∙ sym (list_any-append (λ t. t == page) h.went went);
     }
 
-pub cleared_more : {D : Type 0} (P : Ghosts D) (law : (a b c : D) → P.outside a b → P.outside b c → P.outside a c) (old now new : D) (d d2 : Draft) (keys : List Key) (key : Key) (n : ℕ) → IsCleared P old now d keys n → OnlyReaches P now new
+pub cleared_more : {D : Type 0} (P : Ghosts D) (law : Joins P) (old now new : D) (d d2 : Draft) (keys : List Key) (key : Key) (n : ℕ) → IsCleared P old now d keys n → OnlyReaches P None now new
     → reaches (P.step now) ≤ reaches (P.step new) + 12 → IsDraft (P.step new) d2 → length d2.sheets.items ≤ length d.sheets.items + 8 → length d2.freed.items ≤ length d.freed.items + 6
     → Shows (P.step new) (λ pages. RemovesFrom pages d d2 key) → IsCleared P old new d2 (keys ++ key ∷ []) (n + 1)
 cleared_more P law old now new d d2 keys key n c calls reaches draft sheets freed removes = record {

@@ -110,7 +110,7 @@ not_not : (b : Bool) → not (not b) ≡ b
 not_not true = refl
 not_not false = refl
 
-after_is : (before : Option Key) (key : Key) → is_after before key ≡ not (is_before (after_cut before) key)
+pub after_is : (before : Option Key) (key : Key) → is_after before key ≡ not (is_before (after_cut before) key)
 after_is None key = refl
 after_is (Some k) key = sym (not_not (is_gt (key_cmp key k)) ∙ greater key k)
 

@@ -1,5 +1,5 @@
 -- What is drafted over what was reached, whatever the other pages have.
-use Rattle.std.proofs.Common.{◌≡◌, inl, inr, ℕ, ◌<◌, List, [], ◌∷◌, length, refl, sym, ap, subst, ◌∙◌, arith}
+use Rattle.std.proofs.Common.{◌≡◌, inl, inr, ℕ, ◌<◌, List, [], ◌∷◌, length, None, refl, sym, ap, subst, ◌∙◌, arith}
 use Rattle.std.specs.List.{AllByRecursion}
 use Rattle.fsd_formats.specs.declared.entry.Entry.{Entry}
 use Rattle.fsd_formats.specs.declared.page.Separator.{Separator}
@@ -111,7 +111,7 @@ takes_looked images a b same x = takes_none (with_images images a) (with_images 
 
 -- pages that were taken, and nothing else
 pub takes_only : {D : Type 0} (P : Ghosts D) (a b : D) (images : List (List ℕ)) (came : List ℕ) → length images ≡ length (P.step a).images → Takes (with_images images (P.step a)) (with_images images (P.step b)) came
-    → P.outside a b → (P.trusted b → P.trusted a) → (P.step b).images ≡ (P.step a).images → (P.step b).home_a ≡ (P.step a).home_a → OnlyTakes P a b
+    → P.outside None a b → (P.trusted b → P.trusted a) → (P.step b).images ≡ (P.step a).images → (P.step b).home_a ≡ (P.step a).home_a → OnlyTakes P None a b
 takes_only P a b images came same t outside trust kept home = record {
   edits = record { count = ap length kept; home_a = home; most_reached = t.most_reached; most_changed = t.most_changed; outside = outside; trust = trust };
   stays = λ trusted. kept;

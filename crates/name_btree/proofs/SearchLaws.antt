@@ -7,7 +7,7 @@ use Rattle.std.proofs.lemmas.List.{append-nil, length-set, length-replicate, get
 use Rattle.std.proofs.lemmas.Option.{slice_get-get_or}
 use Rattle.run_table.specs.Space.{all_differ}
 use Rattle.fsd_bytes.specs.declared.refusal.Refusal.{Refusal}
-use Rattle.fsd_bytes.specs.declared.refusal.Refusal.TheVariants.{Device, Lost, Memory, Unsound, NameTableFull}
+use Rattle.fsd_bytes.specs.declared.refusal.Refusal.TheVariants.{Unsound, NameTableFull}
 use Rattle.fsd_formats.specs.NamePage.{read_page}
 use Rattle.fsd_table.specs.Pages.{page_at}
 use Rattle.fsd_table.specs.Table.{Visit, visits, visits_below, max_height, top, BreaksTable}
@@ -24,7 +24,7 @@ use Rattle.name_page.proofs.LookLaws.{agrees_now}
 use Rattle.name_page.proofs.NodeLaws.{past_end}
 use Rattle.name_btree.specs.declared.fault.TreeFault.{TreeFault}
 use Rattle.name_btree.specs.declared.fault.TreeFault.TheVariants.{Pages, Broken}
-use Rattle.name_btree.specs.Fault.{IsCaused, HasCause, FailsBy, BarsTable, FailsTable, FailsTree, IsNoTree, IsNoUsedTree, is_inner}
+use Rattle.name_btree.specs.Fault.{outer_of, IsCaused, HasCause, FailsBy, BarsTable, FailsTable, FailsTree, IsNoTree, IsNoUsedTree, is_inner}
 use Rattle.name_btree.specs.Walk.{AreMarksOf}
 use Rattle.name_btree.proofs.CauseLaws.{cause_map}
 use Rattle.name_btree.proofs.SetLaws.{set_at, set_other, at_other}
@@ -75,47 +75,40 @@ barred_tree s page (inr h) = λ height t used.
     let spare : is_spare s.spares page ≡ true = h.0 in
     cc
 
-pub fails_tree : {D : Type 0} (P : Ghosts D) (a new : D) (fault : TreeFault) (Outer' : Refusal → Type 0) → ((refusal : Refusal) → P.causes a new refusal → Outer' refusal)
-    → HasCause (P.causes a new) (P.step new) (BreaksTable (P.step new).images) (BarsTable (P.step new)) fault
-    → HasCause Outer' (P.step new) (λ page. P.trusted new → IsNoUsedTree (P.step new)) (λ page. P.trusted new → IsNoUsedTree (P.step new)) fault
-fails_tree P a new fault Outer' outer h =
+pub fails_tree : {D : Type 0} (P : Ghosts D) (new : D) (fault : TreeFault) → HasCause (P.step new) (BreaksTable (P.step new).images) (BarsTable (P.step new)) fault → FailsTree P new fault
+fails_tree P new fault h =
     let s = P.step new in
-    cause_map (P.causes a new) Outer' s (BreaksTable s.images) (λ page. P.trusted new → IsNoUsedTree s) (BarsTable s) (λ page. P.trusted new → IsNoUsedTree s) outer
+    cause_map s (BreaksTable s.images) (λ page. P.trusted new → IsNoUsedTree s) (BarsTable s) (λ page. P.trusted new → IsNoUsedTree s)
     (λ page x t. barred_tree s page (inl x)) (λ page x t. barred_tree s page x) fault h
 
 -- ---- the search
 
-module _ {D : Type 0} (P : Ghosts D) (outer : (a b : D) (refusal : Refusal) → P.causes a b refusal → IsOuter refusal) (first old : D) where
-  pub inner_broken : (fault : TreeFault) → FailsTree P first old fault → is_inner fault ≡ true → P.trusted old → IsNoUsedTree (P.step old)
+module _ {D : Type 0} (P : Ghosts D) (old : D) where
+  pub inner_broken : (fault : TreeFault) → FailsTree P old fault → is_inner fault ≡ true → P.trusted old → IsNoUsedTree (P.step old)
   inner_broken (Broken page) h is = h
   inner_broken (Pages refusal) h is = by h.1
     where
-      not_inner : (r x : Refusal) → r ≡ x → is_inner (Pages x) ≡ false → is_inner (Pages r) ≡ true → ⊥
-      not_inner r x same out is = let both : true ≡ false = sym is ∙ ap (λ (y : Refusal). is_inner (Pages y)) same ∙ out in cc
-
       outside : (r : Refusal) → IsOuter r → is_inner (Pages r) ≡ true → ⊥
-      outside r (inl h) is = not_inner r (Device h.0) h.1 refl is
-      outside r (inr (inl h)) is = not_inner r (Lost h.0 h.1) h.2 refl is
-      outside r (inr (inr h)) is = not_inner r Memory h refl is
+      outside (Unsound s) h is = let no : None ≡ Some (Unsound s) = h in cc
+      outside r h is = let no : false ≡ true = is in cc
 
-      by : IsCaused (P.causes first old) (P.step old) (λ page. P.trusted old → IsNoUsedTree (P.step old)) refusal → P.trusted old → IsNoUsedTree (P.step old)
-      by (inl x) = absurd (outside refusal (outer first old refusal x) is)
+      by : IsCaused (P.step old) (λ page. P.trusted old → IsNoUsedTree (P.step old)) refusal → P.trusted old → IsNoUsedTree (P.step old)
+      by (inl x) = absurd (outside refusal x is)
       by (inr x) = x.2
 
-  pub outer_fails : (fault : TreeFault) → FailsTree P first old fault → is_inner fault ≡ false → FailsTable P first old fault
+  pub outer_fails : (fault : TreeFault) → FailsTree P old fault → is_inner fault ≡ false → FailsTable P old fault
   outer_fails (Broken page) h is = absurd (let same : true ≡ false = is in cc)
   outer_fails (Pages refusal) h is = (h.0, by h.1)
     where
-      by : IsCaused (P.causes first old) (P.step old) (λ page. P.trusted old → IsNoUsedTree (P.step old)) refusal → IsCaused (P.causes first old) (P.step old) (λ page. P.trusted old → BarsTable (P.step old) page) refusal
+      by : IsCaused (P.step old) (λ page. P.trusted old → IsNoUsedTree (P.step old)) refusal → IsCaused (P.step old) (λ page. P.trusted old → BarsTable (P.step old) page) refusal
       by (inl x) = inl x
       by (inr x) = absurd (let same : true ≡ false = sym (ap (λ (r : Refusal). is_inner (Pages r)) x.1) ∙ is in cc)
 
--- a fault that is handed on, since an earlier state
-pub fails_since : {D : Type 0} (P : Ghosts D) (later : (a b c : D) (refusal : Refusal) → P.outside a b → P.causes b c refusal → P.causes a c refusal) (first old new : D) (fault : TreeFault) → P.outside first old → FailsTable P old new fault → FailsTable P first new fault
-fails_since P later first old new fault before h =
-    let s = P.step new in
-    cause_map (P.causes old new) (P.causes first new) s (λ page. P.trusted new → BreaksTable s.images page) (λ page. P.trusted new → BreaksTable s.images page) (λ page. P.trusted new → BarsTable s page) (λ page. P.trusted new → BarsTable s page)
-    (λ r x. later first old new r before x) (λ page x. x) (λ page x. x) fault h
+-- a fault of the pages tells nothing from outside
+pub inner_untold : (fault : TreeFault) → is_inner fault ≡ true → outer_of fault ≡ None
+inner_untold (Broken page) is = refl
+inner_untold (Pages (Unsound s)) is = refl
+inner_untold (Pages refusal) is = absurd (let no : false ≡ true = is in cc)
 
 -- ---- a page that is refused, as if the grammar refused it
 
@@ -153,11 +146,11 @@ module _ (s : Step) (page : ℕ) (spare : is_spare s.spares page ≡ true) where
       (kept_below s.images blanked (height - 1) top keep t.subtree).entries
 
 -- what was reached shows no tree of which this is so
-pub shown_with : {D : Type 0} (P : Ghosts D) (Outer : Refusal → Type 0) (new : D) (Q : List Entry → Type 0) (fault : TreeFault) → FailsBy Outer (P.step new) (λ images page. (height : ℕ) → IsTree images height → Q (table_of images height) → ⊥) fault
+pub shown_with : {D : Type 0} (P : Ghosts D) (new : D) (Q : List Entry → Type 0) (fault : TreeFault) → FailsBy (P.step new) (λ images page. (height : ℕ) → IsTree images height → Q (table_of images height) → ⊥) fault
     → (P.trusted new → (height : ℕ) → IsTree (P.step new).images height → Q (table_of (P.step new).images height))
-    → HasCause Outer (P.step new) (λ page. P.trusted new → IsNoUsedTree (P.step new)) (λ page. P.trusted new → IsNoUsedTree (P.step new)) fault
-shown_with P Outer new Q (Broken page) h is = λ t height tree used. h (P.step new).images (agrees_now (P.step new)) height tree (is t height tree)
-shown_with P Outer new Q (Pages refusal) h is = (h.0, by h.1)
+    → FailsTree P new fault
+shown_with P new Q (Broken page) h is = λ t height tree used. h (P.step new).images (agrees_now (P.step new)) height tree (is t height tree)
+shown_with P new Q (Pages refusal) h is = (h.0, by h.1)
   where
     s : Step
     s = P.step new
@@ -170,29 +163,24 @@ shown_with P Outer new Q (Pages refusal) h is = (h.0, by h.1)
         f (blanked s page spare) (blanked_agrees s page spare) (blanked_none s page spare) height (blanked_tree s page spare height tree used) (subst Q (sym (blanked_table s page spare height tree used)) (is t height tree))
     bars t page (inr none) f = λ height tree used. f s.images (agrees_now s) none height tree (is t height tree)
 
-    by : Outer refusal ⊎ ((page : ℕ) × (refusal ≡ Unsound (home_of s page)) × IsBarred s page × ((images : List (List ℕ)) → Agrees images s → page_at images page ≡ None → Never images))
-        → IsCaused Outer s (λ page. P.trusted new → IsNoUsedTree s) refusal
+    by : IsOuter refusal ⊎ ((page : ℕ) × (refusal ≡ Unsound (home_of s page)) × IsBarred s page × ((images : List (List ℕ)) → Agrees images s → page_at images page ≡ None → Never images))
+        → IsCaused s (λ page. P.trusted new → IsNoUsedTree s) refusal
     by (inl x) = inl x
     by (inr x) = inr (x.0, x.1, λ t. bars t x.0 x.2 x.3)
 
 -- such a fault is no want of spare pages
-pub not_full : {D : Type 0} (P : Ghosts D) (outer : (a b : D) (refusal : Refusal) → P.causes a b refusal → IsOuter refusal) (a b : D) (n : ℕ) → FailsTable P a b (Pages (NameTableFull n)) → ⊥
-not_full P outer a b n h = by h.1
+pub not_full : {D : Type 0} (P : Ghosts D) (b : D) (n : ℕ) → FailsTable P b (Pages (NameTableFull n)) → ⊥
+not_full P b n h = by h.1
   where
-    out : IsOuter (NameTableFull n) → ⊥
-    out (inl x) = let no = x.1 in absurd cc
-    out (inr (inl x)) = let no = x.2 in absurd cc
-    out (inr (inr x)) = absurd cc
-
-    by : IsCaused (P.causes a b) (P.step b) (λ page. P.trusted b → BarsTable (P.step b) page) (NameTableFull n) → ⊥
-    by (inl x) = out (outer a b (NameTableFull n) x)
+    by : IsCaused (P.step b) (λ page. P.trusted b → BarsTable (P.step b) page) (NameTableFull n) → ⊥
+    by (inl x) = let no : None ≡ Some (NameTableFull n) = x in cc
     by (inr x) = let no = x.1 in absurd cc
 
 -- what was reached shows no tree
-pub shown_tree : {D : Type 0} (P : Ghosts D) (Outer : Refusal → Type 0) (new : D) (fault : TreeFault) → FailsBy Outer (P.step new) (λ images page. IsNoTree images) fault
-    → HasCause Outer (P.step new) (λ page. P.trusted new → IsNoUsedTree (P.step new)) (λ page. P.trusted new → IsNoUsedTree (P.step new)) fault
-shown_tree P Outer new (Broken page) h = λ t height tree used. h (P.step new).images (agrees_now (P.step new)) height tree
-shown_tree P Outer new (Pages refusal) h = (h.0, by h.1)
+pub shown_tree : {D : Type 0} (P : Ghosts D) (new : D) (fault : TreeFault) → FailsBy (P.step new) (λ images page. IsNoTree images) fault
+    → FailsTree P new fault
+shown_tree P new (Broken page) h = λ t height tree used. h (P.step new).images (agrees_now (P.step new)) height tree
+shown_tree P new (Pages refusal) h = (h.0, by h.1)
   where
     s : Step
     s = P.step new
@@ -201,7 +189,7 @@ shown_tree P Outer new (Pages refusal) h = (h.0, by h.1)
     bars page (inl spare) f = λ height tree used. f (blanked s page spare) (blanked_agrees s page spare) (blanked_none s page spare) height (blanked_tree s page spare height tree used)
     bars page (inr none) f = λ height tree used. f s.images (agrees_now s) none height tree
 
-    by : Outer refusal ⊎ ((page : ℕ) × (refusal ≡ Unsound (home_of s page)) × IsBarred s page × ((images : List (List ℕ)) → Agrees images s → page_at images page ≡ None → IsNoTree images))
-        → IsCaused Outer s (λ page. P.trusted new → IsNoUsedTree s) refusal
+    by : IsOuter refusal ⊎ ((page : ℕ) × (refusal ≡ Unsound (home_of s page)) × IsBarred s page × ((images : List (List ℕ)) → Agrees images s → page_at images page ≡ None → IsNoTree images))
+        → IsCaused s (λ page. P.trusted new → IsNoUsedTree s) refusal
     by (inl x) = inl x
     by (inr x) = inr (x.0, x.1, λ t. bars x.0 x.2 x.3)

@@ -1,7 +1,6 @@
 -- The level of page 0, and the walk below it.
 use Rattle.std.proofs.Common.{◌≡◌, ℕ, zero, suc, ◌+◌, ◌-◌, ◌≤◌, ◌<◌, Bool, List, [], Some, sym, subst, arith, zero-add}
 use Rattle.std.specs.Prelude.{slice_get}
-use Rattle.fsd_bytes.specs.declared.refusal.Refusal.{Refusal}
 use Rattle.fsd_formats.specs.declared.entry.Entry.{Entry}
 use Rattle.fsd_formats.specs.declared.page.Separator.{Separator}
 use Rattle.fsd_formats.specs.NamePage.{Leaf, Interior}
@@ -53,11 +52,11 @@ down_too_long pages i c long on = too_deep_breaks pages (i + 1) c on.0 (deeper i
     deeper : (n : ℕ) → max_height ≤ n → max_height < n + 1
     deeper n h = omega arith
 
-pub down_breaks : {D : Type 0} (P : Ghosts D) (later : (a b c : D) (refusal : Refusal) → P.outside a b → P.causes b c refusal → P.causes a c refusal) (a b new : D) (fault : TreeFault) (i : ℕ) (c : Child)
-    → P.outside a b → (P.trusted new → IsDown (P.step new).images i c) → HasCause (P.causes b new) (P.step new) (IsMisfit (P.step new).images c) (BarsPage (P.step new) c.page) fault → FailsTable P a new fault
-down_breaks P later a b new fault i c before on h =
+pub down_breaks : {D : Type 0} (P : Ghosts D) (new : D) (fault : TreeFault) (i : ℕ) (c : Child)
+    → (P.trusted new → IsDown (P.step new).images i c) → HasCause (P.step new) (IsMisfit (P.step new).images c) (BarsPage (P.step new) c.page) fault → FailsTable P new fault
+down_breaks P new fault i c on h =
     let s = P.step new in
-    cause_map (P.causes b new) (P.causes a new) s (IsMisfit s.images c) (λ page. P.trusted new → BreaksTable s.images page) (BarsPage s c.page) (λ page. P.trusted new → BarsTable s page) (λ r x. later a b new r before x)
+    cause_map s (IsMisfit s.images c) (λ page. P.trusted new → BreaksTable s.images page) (BarsPage s c.page) (λ page. P.trusted new → BarsTable s page)
     (λ page x t. subst (BreaksTable s.images) (sym x.0) (misfit_breaks s.images (i + 1) c (on t).0 x.1)) (λ page x t. bars_table s (i + 1) c (on t).0 page x) fault h
 
 -- ---- the whole

@@ -4,7 +4,6 @@ use Rattle.std.specs.Prelude.{IfSome}
 use Rattle.std.specs.List.{AllByRecursion}
 use Rattle.fsd_forest.specs.Ways.{end_of}
 use Rattle.fsd_bytes.specs.declared.key.Key.{Key}
-use Rattle.fsd_bytes.specs.declared.refusal.Refusal.{Refusal}
 use Rattle.fsd_formats.specs.declared.page.Separator.{Separator}
 use Rattle.fsd_formats.specs.NamePage.{Interior}
 use Rattle.fsd_table.specs.declared.child.Child.{Child}
@@ -70,24 +69,24 @@ visited_down before pages above0 start above w first separators at low on h =
 
 -- ---- faults
 
-module _ (Outer : Refusal → Type 0) (s : Step) where
+module _ (s : Step) where
   pub misfit_below : (fault : TreeFault) (above0 : ℕ) (start : Child) (above : ℕ) (w : Way) → IsVisitedWay s.images above0 start above w
-      → HasCause Outer s (IsMisfit s.images w.child) (BarsPage s w.child.page) fault → HasCause Outer s (BreaksBelow s.images above0 start) (BarsBelow s above0 start) fault
+      → HasCause s (IsMisfit s.images w.child) (BarsPage s w.child.page) fault → HasCause s (BreaksBelow s.images above0 start) (BarsBelow s above0 start) fault
   misfit_below fault above0 start above w on h =
-      cause_map Outer Outer s (IsMisfit s.images w.child) (BreaksBelow s.images above0 start) (BarsPage s w.child.page) (BarsBelow s above0 start) (λ refusal x. x)
+      cause_map s (IsMisfit s.images w.child) (BreaksBelow s.images above0 start) (BarsPage s w.child.page) (BarsBelow s above0 start)
       (λ page x v. subst (BreaksTable s.images) (sym x.0) (misfit_breaks s.images (above + 1) w.child (on v).0 x.1)) (λ page x v. bars_table s (above + 1) w.child (on v).0 page x) fault h
 
   -- below page 0
-  pub top_breaks : (fault : TreeFault) (c : Child) → c ≡ top → HasCause Outer s (BreaksBelow s.images 0 c) (BarsBelow s 0 c) fault → HasCause Outer s (BreaksTable s.images) (BarsTable s) fault
+  pub top_breaks : (fault : TreeFault) (c : Child) → c ≡ top → HasCause s (BreaksBelow s.images 0 c) (BarsBelow s 0 c) fault → HasCause s (BreaksTable s.images) (BarsTable s) fault
   top_breaks fault c is h =
       let v : IsVisited s.images 1 c = subst (IsVisited s.images 1) (sym is) (visited_top s.images) in
-      cause_map Outer Outer s (BreaksBelow s.images 0 c) (BreaksTable s.images) (BarsBelow s 0 c) (BarsTable s) (λ refusal x. x) (λ page x. x v) (λ page x. x v) fault h
+      cause_map s (BreaksBelow s.images 0 c) (BreaksTable s.images) (BarsBelow s 0 c) (BarsTable s) (λ page x. x v) (λ page x. x v) fault h
 
   -- below a child beside the way
-  pub neighbour_breaks : (fault : TreeFault) (n : Neighbour) → HasCause Outer s (BreaksBelow s.images n.above n.child) (BarsBelow s n.above n.child) fault
-      → HasCause Outer s (BreaksBeside s.images n) (BarsBeside s n) fault
+  pub neighbour_breaks : (fault : TreeFault) (n : Neighbour) → HasCause s (BreaksBelow s.images n.above n.child) (BarsBelow s n.above n.child) fault
+      → HasCause s (BreaksBeside s.images n) (BarsBeside s n) fault
   neighbour_breaks fault n h =
-      cause_map Outer Outer s (BreaksBelow s.images n.above n.child) (BreaksBeside s.images n) (BarsBelow s n.above n.child) (BarsBeside s n) (λ refusal x. x) (λ page x is. x is.1) (λ page x is. x is.1) fault h
+      cause_map s (BreaksBelow s.images n.above n.child) (BreaksBeside s.images n) (BarsBelow s n.above n.child) (BarsBeside s n) (λ page x is. x is.1) (λ page x is. x is.1) fault h
 
 pub deep_below : (pages : List (List ℕ)) (above0 : ℕ) (start : Child) (above : ℕ) (w : Way) → IsVisitedWay pages above0 start above w → max_height ≤ above → BreaksBelow pages above0 start w.child.page
 deep_below pages above0 start above w on deep v = too_deep_breaks pages (above + 1) w.child (on v).0 (deeper above deep)
@@ -95,18 +94,18 @@ deep_below pages above0 start above w on deep v = too_deep_breaks pages (above +
     deeper : (n : ℕ) → max_height ≤ n → max_height < n + 1
     deeper n h = omega arith
 
-found_beside : (pages : List (List ℕ)) (c : Child) (found : Found) → c ≡ top → HasNeighbours pages 0 c found → IfSome found.previous (IsNeighbour pages) × IfSome found.next (IsNeighbour pages)
+pub found_beside : (pages : List (List ℕ)) (c : Child) (found : Found) → c ≡ top → HasNeighbours pages 0 c found → IfSome found.previous (IsNeighbour pages) × IfSome found.next (IsNeighbour pages)
 found_beside pages c found is beside = beside (subst (IsVisited pages 1) (sym is) (visited_top pages))
 
-module _ (Outer Outer' : Refusal → Type 0) (s : Step) (c : Child) (found : Found) (is : c ≡ top) (beside : HasNeighbours s.images 0 c found) (outer : (refusal : Refusal) → Outer refusal → Outer' refusal) (n : Neighbour) (fault : TreeFault)
-    (h : HasCause Outer s (BreaksBeside s.images n) (BarsBeside s n) fault) where
-  beside_breaks : IsNeighbour s.images n → HasCause Outer' s (BreaksTable s.images) (BarsTable s) fault
-  beside_breaks there = cause_map Outer Outer' s (BreaksBeside s.images n) (BreaksTable s.images) (BarsBeside s n) (BarsTable s) outer (λ page x. x there) (λ page x. x there) fault h
+module _ (s : Step) (c : Child) (found : Found) (is : c ≡ top) (beside : HasNeighbours s.images 0 c found) (n : Neighbour) (fault : TreeFault)
+    (h : HasCause s (BreaksBeside s.images n) (BarsBeside s n) fault) where
+  beside_breaks : IsNeighbour s.images n → HasCause s (BreaksTable s.images) (BarsTable s) fault
+  beside_breaks there = cause_map s (BreaksBeside s.images n) (BreaksTable s.images) (BarsBeside s n) (BarsTable s) (λ page x. x there) (λ page x. x there) fault h
 
-  pub next_breaks : found.next ≡ Some n → HasCause Outer' s (BreaksTable s.images) (BarsTable s) fault
+  pub next_breaks : found.next ≡ Some n → HasCause s (BreaksTable s.images) (BarsTable s) fault
   next_breaks at = beside_breaks (subst (λ (o : Option Neighbour). IfSome o (IsNeighbour s.images)) at (found_beside s.images c found is beside).1)
 
-  pub previous_breaks : found.previous ≡ Some n → HasCause Outer' s (BreaksTable s.images) (BarsTable s) fault
+  pub previous_breaks : found.previous ≡ Some n → HasCause s (BreaksTable s.images) (BarsTable s) fault
   previous_breaks at = beside_breaks (subst (λ (o : Option Neighbour). IfSome o (IsNeighbour s.images)) at (found_beside s.images c found is beside).0)
 
 pub root_above : (pages : List (List ℕ)) (n : Neighbour) → IsNeighbour pages n → HasChildren pages top

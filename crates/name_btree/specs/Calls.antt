@@ -1,17 +1,18 @@
 -- A list of calls, beside a map from keys to entries.
 use Rattle.std.specs.Prelude.{◌≡◌, ◌<◌, ◌⊎◌, ℕ, ⊤, List, [], ◌∷◌, ◌++◌, Option, None, Result, Ok, Err, IsTrue, map, take, length}
-use Rattle.fsd_bytes.specs.declared.refusal.Refusal.{Refusal}
 use Rattle.fsd_bytes.specs.declared.refusal.Refusal.TheVariants.{NameTableFull}
 use Rattle.fsd_formats.specs.declared.entry.Entry.{Entry}
 use Rattle.fsd_formats.specs.NamePage.{is_entry, FitsEntry}
 use Rattle.fsd_table.specs.Tree.{table_of}
 use Rattle.name_page.specs.Edits.{put, with_entry, without}
 use Rattle.name_page.specs.Lookups.{entry_with, entry_after, highest_of}
-use Rattle.name_page.specs.Pages.{Step, free_count}
+use Rattle.name_page.specs.Pages.{Step, free_count, IsOuter}
 use Rattle.name_btree.specs.declared.calls.Call.{Call}
 use Rattle.name_btree.specs.declared.calls.Call.TheVariants.{Find, Highest, NextAfter, Insert, Remove, Replace}
 use Rattle.name_btree.specs.declared.fault.TreeFault.{TreeFault}
 use Rattle.name_btree.specs.declared.fault.TreeFault.TheVariants.{Pages, Broken}
+use Rattle.name_btree.specs.declared.lookup.FoundEntry.{FoundEntry}
+use Rattle.name_btree.specs.Lookup.{entry_of}
 use Rattle.name_btree.specs.Map.{IsTable, HasTable, without_all}
 use Rattle.name_btree.specs.Replace.{HasAsLong}
 
@@ -71,14 +72,14 @@ TakesPages (Insert entry gone) = ⊤
 TakesPages other = ⊥
 
 -- the refusal came from outside, or too few pages are spare for an insert
-abbrev pub IsExcused : (Outer : Refusal → Type 0) → Step → Call → TreeFault → Type 0
-IsExcused Outer s call (Pages refusal) = Outer refusal ⊎ (TakesPages call × (refusal ≡ NameTableFull (free_count s)) × (free_count s < 8))
-IsExcused Outer s call (Broken page) = ⊥
+abbrev pub IsExcused : Step → Call → TreeFault → Type 0
+IsExcused s call (Pages refusal) = IsOuter refusal ⊎ (TakesPages call × (refusal ≡ NameTableFull (free_count s)) × (free_count s < 8))
+IsExcused s call (Broken page) = ⊥
 
 -- the map's answer, and the changed table; or an excuse, and the table as it was
-abbrev pub Carries : (Outer : Refusal → Type 0) → List Entry → Call → Result (Option Entry) TreeFault → Step → Type 0
-Carries Outer table call (Ok answer) s = (answer ≡ answer_of table call) × HasTable s (made_of table call)
-Carries Outer table call (Err fault) s = IsExcused Outer s call fault × HasTable s table
+abbrev pub Carries : List Entry → Call → Result (Option Entry) TreeFault → Step → Type 0
+Carries table call (Ok answer) s = (answer ≡ answer_of table call) × HasTable s (made_of table call)
+Carries table call (Err fault) s = IsExcused s call fault × HasTable s table
 
 -- the map's answers, and the table that the calls make
 pub record Runs (table : List Entry) (calls : List Call) (answers : List (Option Entry)) (s : Step) : Type 0 where
@@ -86,18 +87,23 @@ pub record Runs (table : List Entry) (calls : List Call) (answers : List (Option
   pub makes : HasTable s (after table calls)
 
 -- one of the calls has an excuse, and those before it were made
-pub record StopsAt (Outer : Refusal → Type 0) (table : List Entry) (calls : List Call) (answers : List (Option Entry)) (fault : TreeFault) (s : Step) : Type 0 where
+pub record StopsAt (table : List Entry) (calls : List Call) (answers : List (Option Entry)) (fault : TreeFault) (s : Step) : Type 0 where
   pub before : List Call
   pub call : Call
   pub behind : List Call
   pub parts : calls ≡ before ++ call ∷ behind
   pub ran : Runs table before (take (length before) answers) s
-  pub excuse : IsExcused Outer s call fault
+  pub excuse : IsExcused s call fault
 
 -- all calls were made, or one of them failed
-abbrev pub RunsTo : (Outer : Refusal → Type 0) → List Entry → List Call → List (Option Entry) → Result (Unit {0}) TreeFault → Step → Type 0
-RunsTo Outer table calls answers (Ok done) s = Runs table calls answers s
-RunsTo Outer table calls answers (Err fault) s = StopsAt Outer table calls answers fault s
+abbrev pub RunsTo : List Entry → List Call → List (Option Entry) → Result (Unit {0}) TreeFault → Step → Type 0
+RunsTo table calls answers (Ok done) s = Runs table calls answers s
+RunsTo table calls answers (Err fault) s = StopsAt table calls answers fault s
+
+-- an answer without the leaf that has it
+abbrev pub without_page : Result (Option FoundEntry) TreeFault → Result (Option Entry) TreeFault
+without_page (Ok found) = Ok (entry_of found)
+without_page (Err fault) = Err fault
 
 -- a change that is done answers nothing
 abbrev pub without_answer : Result (Unit {0}) TreeFault → Result (Option Entry) TreeFault

@@ -1,5 +1,5 @@
 -- Why a call of the table fails.
-use Rattle.std.specs.Prelude.{◌≡◌, ℕ, ◌+◌, ◌⊎◌, Bool, true, false, List, Some, None}
+use Rattle.std.specs.Prelude.{◌≡◌, ℕ, ◌+◌, ◌⊎◌, Bool, true, false, List, Option, Some, None, Result, Ok, Err}
 use Rattle.std.specs.List.{Contains, AllByRecursion}
 use Rattle.fsd_bytes.specs.declared.refusal.Refusal.{Refusal}
 use Rattle.fsd_bytes.specs.declared.refusal.Refusal.TheVariants.{Unsound, NameTableFull}
@@ -9,20 +9,29 @@ use Rattle.fsd_table.specs.Table.{Visit, visits, IsVisited, BreaksTable}
 use Rattle.fsd_table.specs.Tree.{IsTree, pages_of}
 use Rattle.name_page.specs.Looks.{Agrees}
 use Rattle.name_page.specs.declared.pages.Pages.{Ghosts}
-use Rattle.name_page.specs.Pages.{Step, home_of, is_spare, IsBarred}
+use Rattle.name_page.specs.Pages.{Step, home_of, is_spare, outer_refusal, IsOuter, IsBarred}
 use Rattle.name_btree.specs.Descent.{IsNeighbour}
 use Rattle.name_btree.specs.declared.descent.Neighbour.{Neighbour}
 use Rattle.name_btree.specs.declared.fault.TreeFault.{TreeFault}
 use Rattle.name_btree.specs.declared.fault.TreeFault.TheVariants.{Pages, Broken}
 
+-- the refusal from outside that a fault tells, and a result
+abbrev pub outer_of : TreeFault → Option Refusal
+outer_of (Pages refusal) = outer_refusal refusal
+outer_of (Broken page) = None
+
+abbrev pub outer_told : {T : Type 0} → Result T TreeFault → Option Refusal
+outer_told (Ok x) = None
+outer_told (Err fault) = outer_of fault
+
 -- the refusal came from outside, or it names a page that may be refused
-abbrev pub IsCaused : (Outer : Refusal → Type 0) → Step → (Bars : ℕ → Type 0) → Refusal → Type 0
-IsCaused Outer s Bars refusal = Outer refusal ⊎ ((page : ℕ) × (refusal ≡ Unsound (home_of s page)) × Bars page)
+abbrev pub IsCaused : Step → (Bars : ℕ → Type 0) → Refusal → Type 0
+IsCaused s Bars refusal = IsOuter refusal ⊎ ((page : ℕ) × (refusal ≡ Unsound (home_of s page)) × Bars page)
 
 -- the pages gave this refusal, and it has its cause, or the page breaks something
-abbrev pub HasCause : (Outer : Refusal → Type 0) → Step → (Breaks Bars : ℕ → Type 0) → TreeFault → Type 0
-HasCause Outer s Breaks Bars (Pages refusal) = (s.refusal ≡ Some refusal) × IsCaused Outer s Bars refusal
-HasCause Outer s Breaks Bars (Broken page) = Breaks page
+abbrev pub HasCause : Step → (Breaks Bars : ℕ → Type 0) → TreeFault → Type 0
+HasCause s Breaks Bars (Pages refusal) = (s.refusal ≡ Some refusal) × IsCaused s Bars refusal
+HasCause s Breaks Bars (Broken page) = Breaks page
 
 -- a path from page 0 reaches the page
 abbrev pub IsOnWay : List (List ℕ) → ℕ → Type 0
@@ -33,22 +42,22 @@ abbrev pub BarsTable : Step → ℕ → Type 0
 BarsTable s page = BreaksTable s.images page ⊎ ((is_spare s.spares page ≡ true) × IsOnWay s.images page)
 
 -- why a call of the table fails: where the outside is trusted, the page that it names breaks the table, or is spare
-abbrev pub FailsTable : {D : Type 0} (P : Ghosts D) (old new : D) → TreeFault → Type 0
-FailsTable P old new = HasCause (P.causes old new) (P.step new) (λ page. P.trusted new → BreaksTable (P.step new).images page) (λ page. P.trusted new → BarsTable (P.step new) page)
+abbrev pub FailsTable : {D : Type 0} (P : Ghosts D) (new : D) → TreeFault → Type 0
+FailsTable P new = HasCause (P.step new) (λ page. P.trusted new → BreaksTable (P.step new).images page) (λ page. P.trusted new → BarsTable (P.step new) page)
 
 -- the same of an insert, where so many pages are spare
-abbrev pub FailsSpare : {D : Type 0} (P : Ghosts D) (free : ℕ) (old new : D) → TreeFault → Type 0
-FailsSpare P free old new fault = FailsTable P old new fault ⊎ ((fault ≡ Pages (NameTableFull free)) × ((P.step new).refusal ≡ Some (NameTableFull free)))
+abbrev pub FailsSpare : {D : Type 0} (P : Ghosts D) (free : ℕ) (new : D) → TreeFault → Type 0
+FailsSpare P free new fault = FailsTable P new fault ⊎ ((fault ≡ Pages (NameTableFull free)) × ((P.step new).refusal ≡ Some (NameTableFull free)))
 
 -- this page may not be reached
 abbrev pub BarsPage : Step → (page : ℕ) → ℕ → Type 0
 BarsPage s page other = (other ≡ page) × IsBarred s page
 
 -- what was reached shows that a page breaks something; where a page was refused, it does so once the grammar refuses it
-abbrev pub FailsBy : (Outer : Refusal → Type 0) → Step → (Breaks : List (List ℕ) → ℕ → Type 0) → TreeFault → Type 0
-FailsBy Outer s Breaks (Pages refusal) =
-    (s.refusal ≡ Some refusal) × (Outer refusal ⊎ ((page : ℕ) × (refusal ≡ Unsound (home_of s page)) × IsBarred s page × ((images : List (List ℕ)) → Agrees images s → page_at images page ≡ None → Breaks images page)))
-FailsBy Outer s Breaks (Broken page) = (images : List (List ℕ)) → Agrees images s → Breaks images page
+abbrev pub FailsBy : Step → (Breaks : List (List ℕ) → ℕ → Type 0) → TreeFault → Type 0
+FailsBy s Breaks (Pages refusal) =
+    (s.refusal ≡ Some refusal) × (IsOuter refusal ⊎ ((page : ℕ) × (refusal ≡ Unsound (home_of s page)) × IsBarred s page × ((images : List (List ℕ)) → Agrees images s → page_at images page ≡ None → Breaks images page)))
+FailsBy s Breaks (Broken page) = (images : List (List ℕ)) → Agrees images s → Breaks images page
 
 -- no page breaks anything
 abbrev pub Never : ℕ → Type 0
@@ -73,8 +82,8 @@ is_inner (Pages other) = false
 is_inner (Broken page) = true
 
 -- where the outside is trusted, the pages are none, whichever page was met
-abbrev pub FailsTree : {D : Type 0} (P : Ghosts D) (old new : D) → TreeFault → Type 0
-FailsTree P old new = HasCause (P.causes old new) (P.step new) (λ page. P.trusted new → IsNoUsedTree (P.step new)) (λ page. P.trusted new → IsNoUsedTree (P.step new))
+abbrev pub FailsTree : {D : Type 0} (P : Ghosts D) (new : D) → TreeFault → Type 0
+FailsTree P new = HasCause (P.step new) (λ page. P.trusted new → IsNoUsedTree (P.step new)) (λ page. P.trusted new → IsNoUsedTree (P.step new))
 
 -- where a path reaches the child below so many pages, this page breaks the table
 abbrev pub BreaksBelow : List (List ℕ) → (above : ℕ) → Child → ℕ → Type 0

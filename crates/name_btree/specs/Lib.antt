@@ -3,6 +3,7 @@ pub mod Descent
 pub mod Draft
 pub mod Fault
 pub mod Grown
+pub mod Lookup
 pub mod Map
 pub mod Remove
 pub mod Replace

@@ -84,9 +84,9 @@ abbrev pub BarsWalk : Step → (level : ℕ) → List Child → List Bool → �
 BarsWalk s level cs marks page = ComesTo s.images level cs marks → BarsTable s page
 
 -- why the walk over these children fails
-abbrev pub FailsWalk : {D : Type 0} (P : Ghosts D) (old new : D) → (level : ℕ) → List Child → List Bool → TreeFault → Type 0
-FailsWalk P old new level cs marks =
-    HasCause (P.causes old new) (P.step new) (λ page. P.trusted new → BreaksWalk level (P.step new).images cs marks page) (λ page. P.trusted new → BarsWalk (P.step new) level cs marks page)
+abbrev pub FailsWalk : {D : Type 0} (P : Ghosts D) (new : D) → (level : ℕ) → List Child → List Bool → TreeFault → Type 0
+FailsWalk P new level cs marks =
+    HasCause (P.step new) (λ page. P.trusted new → BreaksWalk level (P.step new).images cs marks page) (λ page. P.trusted new → BarsWalk (P.step new) level cs marks page)
 
 -- ---- the whole
 

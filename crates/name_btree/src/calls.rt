@@ -2,14 +2,15 @@
 ghost use Rattle.std.specs.Prelude.{◌≡◌, ◌≤◌, ℕ, length};
 ghost use Rattle.std.specs.List.{AllByRecursion};
 ghost use Rattle.fsd_table.specs.Tree.{IsTree, table_of};
-ghost use Rattle.name_btree.specs.Calls.{Allows, Carries, IsFormed, Permits, RunsTo, without_answer};
+ghost use Rattle.name_btree.specs.Calls.{Allows, Carries, IsFormed, Permits, RunsTo, without_answer, without_page};
+ghost use Rattle.name_btree.specs.Fault.{outer_told};
 ghost use Rattle.name_btree.specs.Map.{IsTable};
 ghost use Rattle.name_page.specs.declared.pages.TheConstants.{MOST_CHANGED, MOST_REACHED};
 ghost use Rattle.name_page.specs.Looks.{OnlyEdits};
 
 use crate::fault::TreeFault;
 use crate::inserting::insert;
-use crate::lookup::{find, highest, next_after};
+use crate::lookup::{FoundEntry, find, highest, next_after};
 use crate::removing::remove;
 use crate::renewing::RenewedPages;
 use crate::replacing::replace_same_size;
@@ -44,22 +45,33 @@ fn without_answer(done: Result<(), TreeFault>) -> Result<Option<Entry>, TreeFaul
     }
 }
 
+// The entry that was found.
+fn without_page(found: Result<Option<FoundEntry>, TreeFault>) -> Result<Option<Entry>, TreeFault>
+    ensures { result ≡ without_page found }
+{
+    match found {
+        Ok(Some(found)) => Ok(Some(found.entry)),
+        Ok(None) => Ok(None),
+        Err(fault) => Err(fault),
+    }
+}
+
 // Makes one call, in a step of its own, with the whole leave to change.
 fn carry_out<T: RenewedPages>(t: &mut T, call: &Call) -> Result<Option<Entry>, TreeFault>
     requires reached { MOST_REACHED ≤ (T.step t.old).most_reached }
     requires changed { MOST_CHANGED ≤ (T.step t.old).most_changed }
     requires formed { IsFormed call.now }
     requires allowed { T.trusted t.old → (height : ℕ) → IsTree (T.step t.old).images height → Allows (table_of (T.step t.old).images height) call.now }
-    ensures calls { OnlyEdits T.Pages t.old t.new }
-    ensures carried { T.trusted t.new → (height : ℕ) → IsTable (T.step t.old) height → Carries (T.causes t.old t.new) (table_of (T.step t.old).images height) call.now result (T.step t.new) }
+    ensures calls { OnlyEdits T.Pages (outer_told result) t.old t.new }
+    ensures carried { T.trusted t.new → (height : ℕ) → IsTable (T.step t.old) height → Carries (table_of (T.step t.old).images height) call.now result (T.step t.new) }
 {
     if let Err(refusal) = t.begin() {
         return Err(TreeFault::Pages(refusal));
     }
     match call {
-        Call::Find(key) => find(t, key),
-        Call::Highest(name) => highest(t, name),
-        Call::NextAfter(key) => next_after(t, key.as_ref()),
+        Call::Find(key) => without_page(find(t, key)),
+        Call::Highest(name) => without_page(highest(t, name)),
+        Call::NextAfter(key) => without_page(next_after(t, key.as_ref())),
         Call::Insert(entry, gone) => without_answer(insert(t, entry, gone)),
         Call::Remove(key) => without_answer(remove(t, key)),
         Call::Replace(entry) => without_answer(replace_same_size(t, entry)),
@@ -79,8 +91,8 @@ pub fn run<T: RenewedPages>(
     requires changed { MOST_CHANGED ≤ (T.step t.old).most_changed }
     requires formed { AllByRecursion IsFormed calls.now }
     requires table { T.trusted t.old → Permits (T.step t.old) calls.now }
-    ensures calls { OnlyEdits T.Pages t.old t.new }
-    ensures run { T.trusted t.new → (height : ℕ) → IsTable (T.step t.old) height → RunsTo (T.causes t.old t.new) (table_of (T.step t.old).images height) calls.now answers.new result (T.step t.new) }
+    ensures calls { OnlyEdits T.Pages (outer_told result) t.old t.new }
+    ensures run { T.trusted t.new → (height : ℕ) → IsTable (T.step t.old) height → RunsTo (table_of (T.step t.old).images height) calls.now answers.new result (T.step t.new) }
 {
     for (i, call) in calls.iter().enumerate() {
         answers[i] = carry_out(t, call)?;

@@ -3,7 +3,7 @@ ghost use Rattle.std.specs.Prelude.{◌≡◌, ◌+◌, ◌<◌, ◌≤◌, ℕ,
 ghost use Rattle.fsd_table.specs.Pages.{page_at, content_fits};
 ghost use Rattle.name_page.specs.Node.{content_of};
 ghost use Rattle.name_btree.specs.Still.{HasRefusal};
-ghost use Rattle.name_btree.specs.Fault.{HasCause, IsMisfit, Never, BarsPage};
+ghost use Rattle.name_btree.specs.Fault.{outer_told, HasCause, IsMisfit, Never, BarsPage};
 ghost use Rattle.name_page.specs.Looks.{OnlyReaches};
 ghost use Rattle.name_page.specs.Pages.{reaches, is_spare, IsReached};
 
@@ -15,12 +15,12 @@ use name_page::{Node, Pages, node_fits, node_in};
 pub(crate) fn node_at<T: Pages>(t: &mut T, page: u32) -> Result<Node, TreeFault>
     requires more { 0 < reaches (T.step t.old) }
     requires within { page < length (T.step t.old).images }
-    ensures calls { OnlyReaches T.Pages t.old t.new }
+    ensures calls { OnlyReaches T.Pages (outer_told result) t.old t.new }
     ensures reaches { reaches (T.step t.old) ≤ reaches (T.step t.new) + 1 }
     ensures reached { OnOk result (IsReached (T.step t.new) page) }
     ensures used { OnOk result (is_spare (T.step t.old).spares page ≡ false) }
     ensures node { IfOk result (λ node. page_at (T.step t.new).images page ≡ Some (content_of node)) }
-    ensures fault { IfErr result (HasCause (T.causes t.old t.new) (T.step t.new) Never (BarsPage (T.step t.new) page)) }
+    ensures fault { IfErr result (HasCause (T.step t.new) Never (BarsPage (T.step t.new) page)) }
     ensures refused { IfErr result (HasRefusal (T.step t.old) (T.step t.new)) }
 {
     match t.reach(page) {
@@ -32,13 +32,13 @@ pub(crate) fn node_at<T: Pages>(t: &mut T, page: u32) -> Result<Node, TreeFault>
 /// Reaches a child, whose keys are to stand between its bounds.
 pub(crate) fn child_node<T: Pages>(t: &mut T, child: &Child) -> Result<Node, TreeFault>
     requires { 0 < reaches (T.step t.old) }
-    ensures calls { OnlyReaches T.Pages t.old t.new }
+    ensures calls { OnlyReaches T.Pages (outer_told result) t.old t.new }
     ensures reaches { reaches (T.step t.old) ≤ reaches (T.step t.new) + 1 }
     ensures reached { OnOk result (IsReached (T.step t.new) child.now.page) }
     ensures used { OnOk result (is_spare (T.step t.old).spares child.now.page ≡ false) }
     ensures node { IfOk result (λ node. page_at (T.step t.new).images child.now.page ≡ Some (content_of node)) }
     ensures fits { IfOk result (λ node. content_fits child.now.low child.now.high (Some (content_of node)) ≡ true) }
-    ensures fault { IfErr result (HasCause (T.causes t.old t.new) (T.step t.new) (IsMisfit (T.step t.new).images child.now) (BarsPage (T.step t.new) child.now.page)) }
+    ensures fault { IfErr result (HasCause (T.step t.new) (IsMisfit (T.step t.new).images child.now) (BarsPage (T.step t.new) child.now.page)) }
     ensures refused { IfErr result (HasRefusal (T.step t.old) (T.step t.new)) }
 {
     if child.page >= t.count() {

@@ -1,12 +1,14 @@
 //! The way to a leaf.
-ghost use Rattle.std.specs.Prelude.{◌≡◌, ◌+◌, ◌-◌, ◌<◌, ◌≤◌, ℕ, IfOk, IfErr, Some, length, drop, slice_get, true, false};
+ghost use Rattle.std.specs.List.{AllByRecursion};
+ghost use Rattle.std.specs.Prelude.{◌≡◌, ◌+◌, ◌-◌, ◌<◌, ◌≤◌, ℕ, IfOk, IfErr, IfSome, Some, length, drop, slice_get, true, false};
 ghost use Rattle.fsd_formats.specs.NamePage.{Leaf};
 ghost use Rattle.fsd_table.specs.declared.child.Child.{Child};
-ghost use Rattle.fsd_table.specs.Pages.{children, page_at};
+ghost use Rattle.fsd_table.specs.Pages.{children, not_below, page_at};
 ghost use Rattle.fsd_forest.specs.Ways.{end_of};
 ghost use Rattle.name_page.specs.Cut.{is_before};
 ghost use Rattle.name_btree.specs.Descent.{way_to, IsPlace, HasNeighbours};
-ghost use Rattle.name_btree.specs.Fault.{HasCause, BreaksBelow, BarsBelow};
+ghost use Rattle.name_btree.specs.Fault.{outer_told, HasCause, BreaksBelow, BarsBelow};
+ghost use Rattle.name_btree.specs.Lookup.{BeginsBehind, IsBelow};
 ghost use Rattle.name_btree.specs.Replace.{IsLeafAt};
 ghost use Rattle.name_page.specs.Looks.{OnlyReaches, Shows};
 ghost use Rattle.name_page.specs.Pages.{reaches, is_spare, IsReached};
@@ -126,15 +128,18 @@ pub(crate) fn leaf_below<T: Pages>(
     cut: &Cut,
 ) -> Result<Found, TreeFault>
     requires { 6 ≤ reaches (T.step t.old) }
-    ensures calls { OnlyReaches T.Pages t.old t.new }
+    ensures calls { OnlyReaches T.Pages (outer_told result) t.old t.new }
     ensures reaches { reaches (T.step t.old) ≤ reaches (T.step t.new) + 6 }
     ensures reached { IfOk result (λ found. IsReached (T.step t.new) found.page) }
     ensures used { IfOk result (λ found. is_spare (T.step t.old).spares found.page ≡ false) }
     ensures leaf { IfOk result (λ found. page_at (T.step t.new).images found.page ≡ Some (Leaf found.entries)) }
+    ensures way { IfOk result (λ found. Shows (T.step t.new) (λ pages. IsBelow pages above start found.page)) }
+    ensures least { IfOk result (λ found. AllByRecursion (λ e. not_below start.low e.key ≡ true) found.entries) }
+    ensures next { IfOk result (λ found. IfSome found.next (BeginsBehind (is_before cut.now))) }
     ensures at { IfOk result (λ found. Shows (T.step t.new) (λ pages. IsLeafAt cut.now pages start found)) }
     ensures place { IfOk result (λ found. Shows (T.step t.new) (λ pages. IsPlace (is_before cut.now) pages start found)) }
     ensures beside { IfOk result (λ found. Shows (T.step t.new) (λ pages. HasNeighbours pages above start found)) }
-    ensures fault { IfErr result (HasCause (T.causes t.old t.new) (T.step t.new) (BreaksBelow (T.step t.new).images above start) (BarsBelow (T.step t.new) above start)) }
+    ensures fault { IfErr result (HasCause (T.step t.new) (BreaksBelow (T.step t.new).images above start) (BarsBelow (T.step t.new) above start)) }
 {
     let mut way = Way {
         child: start,

@@ -7,7 +7,7 @@ ghost use Rattle.fsd_formats.specs.NamePage.{Leaf, Interior, is_page, FitsEntry,
 ghost use Rattle.fsd_table.specs.Pages.{page_at, content_fits};
 ghost use Rattle.name_btree.specs.declared.draft.Sheet.{Sheet};
 ghost use Rattle.name_btree.specs.Draft.{IsDraft, with_freed, drafted, committed, freed, last_sheet, AreSheets, MayGo, IsDrafted};
-ghost use Rattle.name_btree.specs.Fault.{FailsBy, IsMisfit};
+ghost use Rattle.name_btree.specs.Fault.{outer_told, FailsBy, IsMisfit};
 ghost use Rattle.name_btree.specs.Grown.{Takes};
 ghost use Rattle.name_page.specs.Node.{content_of};
 ghost use Rattle.name_page.specs.declared.pages.TheConstants.{MOST_CHANGED};
@@ -60,7 +60,7 @@ fn last_sheet(sheets: &[Sheet], page: u32) -> Option<[u8; 512]>
 fn write_sheet<T: Pages>(t: &mut T, sheet: &Sheet)
     requires reached { IsReached (T.step t.old) sheet.now.page }
     requires more { MayChange (T.step t.old) sheet.now.page }
-    ensures outside { T.outside t.old t.new }
+    ensures outside { T.outside None t.old t.new }
     ensures step { T.step t.new ≡ with_page sheet.now.page sheet.now.image (T.step t.old) }
 {
     *t.change(sheet.page) = sheet.image;
@@ -69,7 +69,7 @@ fn write_sheet<T: Pages>(t: &mut T, sheet: &Sheet)
 fn write_sheets<T: Pages>(t: &mut T, sheets: &[Sheet])
     requires sheets { AreSheets (T.step t.old) sheets.now }
     requires more { length sheets.now ≤ changes (T.step t.old) }
-    ensures outside { T.outside t.old t.new }
+    ensures outside { T.outside None t.old t.new }
     ensures step { T.step t.new ≡ committed sheets.now (T.step t.old) }
 {
     for sheet in sheets {
@@ -80,7 +80,7 @@ fn write_sheets<T: Pages>(t: &mut T, sheets: &[Sheet])
 fn free_pages<T: Pages>(t: &mut T, pages: &[u32])
     requires pages { AllByRecursion (MayGo (T.step t.old)) pages.now }
     requires apart { all_differ pages.now ≡ true }
-    ensures outside { T.outside t.old t.new }
+    ensures outside { T.outside None t.old t.new }
     ensures step { T.step t.new ≡ freed pages.now (T.step t.old) }
 {
     for page in pages {
@@ -92,7 +92,7 @@ fn free_pages<T: Pages>(t: &mut T, pages: &[u32])
 pub(crate) fn take_page<T: Pages>(t: &mut T) -> u32
     requires promised { 0 < (T.step t.old).promised }
     requires more { 0 < changes (T.step t.old) }
-    ensures outside { T.outside t.old t.new }
+    ensures outside { T.outside None t.old t.new }
     ensures takes { Takes (T.step t.old) (T.step t.new) (result ∷ []) }
     ensures home { (T.step t.new).home_a ≡ (T.step t.old).home_a }
     ensures reached { (T.step t.new).reached ≡ (T.step t.old).reached }
@@ -117,13 +117,13 @@ impl Draft {
         requires more { 0 < reaches (T.step t.old) }
         requires within { page < length (T.step t.old).images }
         requires sheets { AreSheets (T.step t.old) self.now.sheets.items }
-        ensures calls { OnlyReaches T.Pages t.old t.new }
+        ensures calls { OnlyReaches T.Pages (outer_told result) t.old t.new }
         ensures reaches { reaches (T.step t.old) ≤ reaches (T.step t.new) + 1 }
         ensures reached { OnOk result (IsReached (T.step t.new) page) }
         ensures sheets { AreSheets (T.step t.new) self.now.sheets.items }
         ensures used { OnOk result (is_spare (T.step t.old).spares page ≡ false) }
         ensures node { IfOk result (λ node. Shows (T.step t.new) (λ pages. page_at (drafted self.now.sheets.items pages) page ≡ Some (content_of node))) }
-        ensures fault { IfErr result (FailsBy (T.causes t.old t.new) (T.step t.new) (λ pages other. (other ≡ page) × (page_at (drafted self.now.sheets.items pages) page ≡ None))) }
+        ensures fault { IfErr result (FailsBy (T.step t.new) (λ pages other. (other ≡ page) × (page_at (drafted self.now.sheets.items pages) page ≡ None))) }
     {
         match last_sheet(self.sheets.as_slice(), page) {
             Some(image) => Ok(node_in(&image)),
@@ -135,14 +135,14 @@ impl Draft {
     pub(crate) fn child_node<T: Pages>(&self, t: &mut T, child: &Child) -> Result<Node, TreeFault>
         requires more { 0 < reaches (T.step t.old) }
         requires sheets { AreSheets (T.step t.old) self.now.sheets.items }
-        ensures calls { OnlyReaches T.Pages t.old t.new }
+        ensures calls { OnlyReaches T.Pages (outer_told result) t.old t.new }
         ensures reaches { reaches (T.step t.old) ≤ reaches (T.step t.new) + 1 }
         ensures reached { OnOk result (IsReached (T.step t.new) child.now.page) }
         ensures sheets { AreSheets (T.step t.new) self.now.sheets.items }
         ensures used { OnOk result (is_spare (T.step t.old).spares child.now.page ≡ false) }
         ensures node { IfOk result (λ node. Shows (T.step t.new) (λ pages. page_at (drafted self.now.sheets.items pages) child.now.page ≡ Some (content_of node))) }
         ensures fits { IfOk result (λ node. content_fits child.now.low child.now.high (Some (content_of node)) ≡ true) }
-        ensures fault { IfErr result (FailsBy (T.causes t.old t.new) (T.step t.new) (λ pages. IsMisfit (drafted self.now.sheets.items pages) child.now)) }
+        ensures fault { IfErr result (FailsBy (T.step t.new) (λ pages. IsMisfit (drafted self.now.sheets.items pages) child.now)) }
     {
         if child.page >= t.count() {
             return Err(TreeFault::Broken(child.page));
@@ -213,7 +213,7 @@ impl Draft {
         requires more { length self.now.sheets.items ≤ changes (T.step t.old) }
         requires freed { AllByRecursion (MayGo (T.step t.old)) self.now.freed.items }
         requires apart { all_differ self.now.freed.items ≡ true }
-        ensures outside { T.outside t.old t.new }
+        ensures outside { T.outside None t.old t.new }
         ensures step { T.step t.new ≡ freed self.now.freed.items (committed self.now.sheets.items (T.step t.old)) }
         ensures images { (T.step t.new).images ≡ drafted self.now.sheets.items (T.step t.old).images }
     {

@@ -1,5 +1,5 @@
 //! What is put into a page, which is parted where it is too much for one.
-ghost use Rattle.std.specs.Prelude.{◌≡◌, ◌+◌, ◌<◌, ◌≤◌, length, true, false};
+ghost use Rattle.std.specs.Prelude.{◌≡◌, ◌+◌, ◌<◌, ◌≤◌, None, length, true, false};
 ghost use Rattle.std.specs.List.{AllByRecursion};
 ghost use Rattle.fsd_formats.specs.NamePage.{FitsEntry, FitsSeparator};
 ghost use Rattle.name_btree.specs.Draft.{drafted, AreSheets};
@@ -24,7 +24,7 @@ fn front_page<T: Pages>(t: &mut T, page: u32) -> u32
     requires more { most_parted page ≤ changes (T.step t.old) }
     requires reached { IsReached (T.step t.old) page }
     requires used { is_spare (T.step t.old).spares page ≡ false }
-    ensures outside { T.outside t.old t.new }
+    ensures outside { T.outside None t.old t.new }
     ensures takes { Takes (T.step t.old) (T.step t.new) (front_came page result) }
     ensures promised { 0 < (T.step t.new).promised }
     ensures more { 0 < changes (T.step t.new) }
@@ -53,7 +53,7 @@ pub(crate) fn grow_leaf<T: Pages>(
     requires used { is_spare (T.step t.old).spares page ≡ false }
     requires entries { FitsTwoLeaves page entries.now.items }
     requires fits { AllByRecursion FitsEntry entries.now.items }
-    ensures outside { T.outside t.old t.new }
+    ensures outside { T.outside None t.old t.new }
     ensures grown { Over (T.step t.old) (λ pages. IsGrown (with_images pages (T.step t.old)) (with_images pages (T.step t.new)) draft.old.sheets.items draft.new.sheets.items page result) }
     ensures leaves { Over (T.step t.old) (λ pages. AreLeavesOf (drafted draft.new.sheets.items pages) page entries.now.items result) }
     ensures freed { draft.new.freed.items ≡ draft.old.freed.items }
@@ -94,7 +94,7 @@ pub(crate) fn grow_ways<T: Pages>(
     requires used { is_spare (T.step t.old).spares page ≡ false }
     requires separators { FitsTwoInteriors (length (T.step t.old).images) page first separators.now.items }
     requires fits { AllByRecursion FitsSeparator separators.now.items }
-    ensures outside { T.outside t.old t.new }
+    ensures outside { T.outside None t.old t.new }
     ensures grown { Over (T.step t.old) (λ pages. IsGrown (with_images pages (T.step t.old)) (with_images pages (T.step t.new)) draft.old.sheets.items draft.new.sheets.items page result) }
     ensures interiors { Over (T.step t.old) (λ pages. AreInteriorsOf (drafted draft.new.sheets.items pages) page first separators.now.items result) }
     ensures freed { draft.new.freed.items ≡ draft.old.freed.items }

@@ -7,7 +7,7 @@ ghost use Rattle.fsd_forest.specs.Ways.{child_between};
 ghost use Rattle.fsd_table.specs.Pages.{page_at, keys_fit, entry_keys};
 ghost use Rattle.fsd_table.specs.Tree.{IsTree, table_of};
 ghost use Rattle.name_btree.specs.Draft.{drafted, AreSheets, IsDraft};
-ghost use Rattle.name_btree.specs.Fault.{FailsBy, FailsSpare, IsNoTree};
+ghost use Rattle.name_btree.specs.Fault.{outer_told, FailsBy, FailsSpare, IsNoTree};
 ghost use Rattle.name_btree.specs.Grown.{Over, most_parted, most_taken, IsGrown, IsAboveGrown, IsSound, IsDivided, Grows, Inserts, BreaksGrowth, BreaksNew};
 ghost use Rattle.name_btree.specs.Map.{IsTable, HasTable, LeavesTree, without_all};
 ghost use Rattle.name_page.specs.Edits.{with_entry};
@@ -37,14 +37,14 @@ pub fn insert<T: Pages>(t: &mut T, entry: &Entry, gone: &ArrayVec<Key, 2>) -> Re
     requires entry { IsTrue (is_entry entry.now) }
     requires fits { FitsEntry entry.now }
     requires new { T.trusted t.old → (height : ℕ) → IsTree (T.step t.old).images height → entry_with entry.now.key (without_all gone.now.items (table_of (T.step t.old).images height)) ≡ None }
-    ensures calls { OnlyEdits T.Pages t.old t.new }
-    ensures kept { OnErr result (OnlyWalks T.Pages t.old t.new) }
+    ensures calls { OnlyEdits T.Pages (outer_told result) t.old t.new }
+    ensures kept { OnErr result (OnlyWalks T.Pages (outer_told result) t.old t.new) }
     ensures reaches { reaches (T.step t.old) ≤ reaches (T.step t.new) + 30 }
     ensures changes { changes (T.step t.old) ≤ changes (T.step t.new) + 36 }
     ensures taken { free_count (T.step t.old) ≤ free_count (T.step t.new) + 7 }
     ensures inserted { OnOk result (T.trusted t.new → (height : ℕ) → IsTable (T.step t.old) height → HasTable (T.step t.new) (with_entry entry.now (without_all gone.now.items (table_of (T.step t.old).images height)))) }
     ensures full { let free = free_count (T.step t.old) in (result ≡ Err (TreeFault.Pages (NameTableFull free))) ↔ (free < 8) }
-    ensures fault { IfErr result (FailsSpare T.Pages (free_count (T.step t.old)) t.old t.new) }
+    ensures fault { IfErr result (FailsSpare T.Pages (free_count (T.step t.old)) t.new) }
 {
     if let Err(refusal) = t.spare(8) {
         return Err(TreeFault::Pages(refusal));
@@ -66,12 +66,12 @@ fn remove_all<T: Pages>(t: &mut T, draft: &mut Draft, gone: &[Key]) -> Result<()
     requires few { length gone.now ≤ 2 }
     requires sheets { draft.old.sheets.items ≡ [] }
     requires freed { draft.old.freed.items ≡ [] }
-    ensures calls { OnlyReaches T.Pages t.old t.new }
+    ensures calls { OnlyReaches T.Pages (outer_told result) t.old t.new }
     ensures reaches { reaches (T.step t.old) ≤ reaches (T.step t.new) + 24 }
     ensures draft { OnOk result (IsDraft (T.step t.new) draft.new) }
     ensures room { OnOk result (length draft.new.sheets.items ≤ 16) }
     ensures left { OnOk result (Shows (T.step t.new) (λ pages. LeavesTree pages draft.new gone.now)) }
-    ensures fault { IfErr result (FailsBy (T.causes t.old t.new) (T.step t.new) (λ pages page. IsNoTree pages)) }
+    ensures fault { IfErr result (FailsBy (T.step t.new) (λ pages page. IsNoTree pages)) }
 {
     for key in gone {
         remove_in(t, draft, key)?;
@@ -88,14 +88,14 @@ fn insert_in<T: Pages>(t: &mut T, draft: &mut Draft, entry: &Entry) -> Result<()
     requires draft { IsDraft (T.step t.old) draft.old }
     requires entry { is_entry entry.now ≡ true }
     requires fits { FitsEntry entry.now }
-    ensures calls { OnlyTakes T.Pages t.old t.new }
-    ensures failed { OnErr result (OnlyReaches T.Pages t.old t.new) }
+    ensures calls { OnlyTakes T.Pages (outer_told result) t.old t.new }
+    ensures failed { OnErr result (OnlyReaches T.Pages (outer_told result) t.old t.new) }
     ensures reaches { reaches (T.step t.old) ≤ reaches (T.step t.new) + 6 }
     ensures draft { OnOk result (IsDraft (T.step t.new) draft.new) }
     ensures room { OnOk result (length draft.new.sheets.items ≤ length draft.old.sheets.items + 13) }
     ensures freed { OnOk result (draft.new.freed.items ≡ draft.old.freed.items) }
     ensures inserted { OnOk result (Shows (T.step t.new) (λ pages. Inserts entry.now (with_images pages (T.step t.old)) (with_images pages (T.step t.new)) (drafted draft.old.sheets.items pages) (drafted draft.new.sheets.items pages))) }
-    ensures fault { IfErr result (FailsBy (T.causes t.old t.new) (T.step t.new) (λ pages. BreaksNew entry.now (drafted draft.old.sheets.items pages))) }
+    ensures fault { IfErr result (FailsBy (T.step t.new) (λ pages. BreaksNew entry.now (drafted draft.old.sheets.items pages))) }
 {
     match insert_below(t, draft, &top(), entry, 5)? {
         Grown::Whole => Ok(()),
@@ -123,8 +123,8 @@ fn insert_below<T: Pages>(
     requires inside { is_inside child.now entry.now.key ≡ true }
     requires entry { is_entry entry.now ≡ true }
     requires fits { FitsEntry entry.now }
-    ensures calls { OnlyTakes T.Pages t.old t.new }
-    ensures failed { OnErr result (OnlyReaches T.Pages t.old t.new) }
+    ensures calls { OnlyTakes T.Pages (outer_told result) t.old t.new }
+    ensures failed { OnErr result (OnlyReaches T.Pages (outer_told result) t.old t.new) }
     ensures reaches { reaches (T.step t.old) ≤ reaches (T.step t.new) + levels + 1 }
     ensures room { OnOk result (length draft.new.sheets.items ≤ length draft.old.sheets.items + 2 * levels + 2) }
     ensures sheets { OnOk result (AreSheets (T.step t.new) draft.new.sheets.items) }
@@ -132,7 +132,7 @@ fn insert_below<T: Pages>(
     ensures reached { OnOk result (IsReached (T.step t.new) child.now.page) }
     ensures used { OnOk result (is_spare (T.step t.new).spares child.now.page ≡ false) }
     ensures grown { IfOk result (λ grown. Shows (T.step t.new) (λ pages. Grows entry.now (with_images pages (T.step t.old)) (with_images pages (T.step t.new)) (drafted draft.old.sheets.items pages) (drafted draft.new.sheets.items pages) levels child.now grown)) }
-    ensures fault { IfErr result (FailsBy (T.causes t.old t.new) (T.step t.new) (λ pages. BreaksGrowth entry.now (drafted draft.old.sheets.items pages) levels child.now)) }
+    ensures fault { IfErr result (FailsBy (T.step t.new) (λ pages. BreaksGrowth entry.now (drafted draft.old.sheets.items pages) levels child.now)) }
 {
     match draft.child_node(t, child)? {
         Node::Leaf(entries) => insert_here(t, draft, child, &entries, entry),
@@ -169,7 +169,7 @@ fn grow_above<T: Pages>(
     requires place { i ≤ length ways.now.1 }
     requires sound { IsSound (T.step t.old) below }
     requires divided { IsDivided (child_between ways.now.0 above.now.low above.now.high (take i ways.now.1) (drop i ways.now.1)) below }
-    ensures calls { OnlyTakes T.Pages t.old t.new }
+    ensures calls { OnlyTakes T.Pages None t.old t.new }
     ensures grown { Over (T.step t.old) (λ pages. IsGrown (with_images pages (T.step t.old)) (with_images pages (T.step t.new)) draft.old.sheets.items draft.new.sheets.items above.now.page result) }
     ensures above { Over (T.step t.old) (λ pages. IsAboveGrown (drafted draft.old.sheets.items pages) (drafted draft.new.sheets.items pages) above.now.page ways.now.0 ways.now.1 i below result) }
     ensures freed { draft.new.freed.items ≡ draft.old.freed.items }
@@ -204,7 +204,8 @@ fn insert_here<T: Pages>(
     requires entry { is_entry entry.now ≡ true }
     requires fits { FitsEntry entry.now }
     ensures failed { OnErr result (t.new ≡ t.old) }
-    ensures calls { OnlyTakes T.Pages t.old t.new }
+    ensures untold { outer_told result ≡ None }
+    ensures calls { OnlyTakes T.Pages (outer_told result) t.old t.new }
     ensures grown { IfOk result (λ grown. Over (T.step t.old) (λ pages. IsGrown (with_images pages (T.step t.old)) (with_images pages (T.step t.new)) draft.old.sheets.items draft.new.sheets.items child.now.page grown)) }
     ensures grows { IfOk result (λ grown. Shows (T.step t.old) (λ pages. Grows entry.now (with_images pages (T.step t.old)) (with_images pages (T.step t.new)) (drafted draft.old.sheets.items pages) (drafted draft.new.sheets.items pages) 0 child.now grown)) }
     ensures freed { draft.new.freed.items ≡ draft.old.freed.items }

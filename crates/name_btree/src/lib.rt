@@ -26,7 +26,7 @@ mod writing;
 pub use calls::{Call, run};
 pub use fault::TreeFault;
 pub use inserting::insert;
-pub use lookup::{find, highest, next_after};
+pub use lookup::{FoundEntry, find, highest, next_after};
 pub use removing::remove;
 pub use renewing::RenewedPages;
 pub use replacing::replace_same_size;
@@ -144,7 +144,7 @@ mod tests {
         for (last, version) in [(b'a', 1), (b'b', 5), (b'c', 0), (b'q', 4)] {
             t.rest();
             let found = highest(&mut t, &name(last))?;
-            assert_eq!(rt; found.map_or(0, |e| e.key.version), version);
+            assert_eq!(rt; found.map_or(0, |f| f.entry.key.version), version);
         }
         Ok(())
     }
@@ -163,7 +163,7 @@ mod tests {
         ] {
             t.rest();
             let found = next_after(&mut t, last.as_ref())?;
-            last = found.map(|e| e.key);
+            last = found.map(|f| f.entry.key);
             assert_eq!(rt; last, Some(key(letter, version)));
         }
         t.rest();
@@ -181,7 +181,7 @@ mod tests {
             return Ok(false);
         };
         t.renew();
-        if entry_len(&old) != entry_len(entry) {
+        if entry_len(&old.entry) != entry_len(entry) {
             return Ok(false);
         }
         replace_same_size(t, entry)?;
@@ -198,7 +198,10 @@ mod tests {
             assert_eq!(rt; replace(&mut t, &entry)?, stands);
             t.rest();
             let found = find(&mut t, &entry.key)?;
-            assert_eq!(rt; found.map(|e| e.keep), if stands { Some(7) } else { None });
+            assert_eq!(rt;
+                found.map(|f| f.entry.keep),
+                if stands { Some(7) } else { None }
+            );
         }
         Ok(())
     }

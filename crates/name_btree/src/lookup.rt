@@ -1,12 +1,15 @@
 //! Looking up entries.
-ghost use Rattle.std.specs.Prelude.{◌≡◌, ◌+◌, ◌<◌, ◌≤◌, ℕ, IfOk, IfErr, Some, None, length, find, drop, take, not, if◌then◌else◌};
+ghost use Rattle.std.specs.Prelude.{◌≡◌, ◌+◌, ◌<◌, ◌≤◌, ℕ, IfOk, IfErr, IfSome, Some, None, length, find, drop, take, true, not, if◌then◌else◌};
 ghost use Rattle.std.specs.Option.{option_copied};
+ghost use Rattle.fsd_formats.specs.NamePage.{is_entry, FitsEntry};
+ghost use Rattle.fsd_table.specs.Pages.{not_below};
 ghost use Rattle.fsd_table.specs.Table.{top, BreaksTable};
 ghost use Rattle.fsd_table.specs.Tree.{IsTree, table_of};
 ghost use Rattle.name_page.specs.Cut.{after_cut, is_before};
 ghost use Rattle.name_btree.specs.Descent.{BeginsWith, EndsWith};
-ghost use Rattle.name_btree.specs.Fault.{HasCause, BreaksBeside, BarsBeside, BarsTable};
-ghost use Rattle.name_page.specs.Lookups.{entry_with, entry_after, highest_of, last_that, same_name};
+ghost use Rattle.name_btree.specs.Fault.{outer_told, HasCause, BreaksBeside, BarsBeside, BarsTable};
+ghost use Rattle.name_page.specs.Lookups.{entry_with, entry_after, highest_of, last_that, same_name, is_after};
+ghost use Rattle.name_btree.specs.Lookup.{entry_of, StandsIn, IsLedTo, IsLedBeside};
 ghost use Rattle.name_page.specs.declared.pages.TheConstants.{MOST_REACHED};
 ghost use Rattle.name_page.specs.Looks.{OnlyReaches, Shows};
 ghost use Rattle.name_page.specs.Pages.{reaches};
@@ -17,6 +20,13 @@ use fsd_bytes::{FileName, Key};
 use fsd_formats::Entry;
 use fsd_table::Child;
 use name_page::{Cut, Entries, Pages};
+
+/// An entry, and the leaf that it was found in.
+#[derive(Drop)]
+pub struct FoundEntry {
+    pub entry: Entry,
+    pub page: u32,
+}
 
 // Page 0, below which all pages stand.
 pub(crate) fn top() -> Child
@@ -30,7 +40,8 @@ pub(crate) fn top() -> Child
 }
 
 pub(crate) fn entry_in(entries: &Entries, key: &Key) -> Option<Entry>
-    ensures { result ≡ entry_with key.now entries.now }
+    ensures with { result ≡ entry_with key.now entries.now }
+    ensures fits { IfSome result FitsEntry }
 {
     for i in 0..entries.len() {
         if entries.compare(i, key).is_eq() {
@@ -41,20 +52,32 @@ pub(crate) fn entry_in(entries: &Entries, key: &Key) -> Option<Entry>
 }
 
 /// The entry with this key.
-pub fn find<T: Pages>(t: &mut T, key: &Key) -> Result<Option<Entry>, TreeFault>
+pub fn find<T: Pages>(t: &mut T, key: &Key) -> Result<Option<FoundEntry>, TreeFault>
     requires { MOST_REACHED ≤ reaches (T.step t.old) }
-    ensures calls { OnlyReaches T.Pages t.old t.new }
+    ensures calls { OnlyReaches T.Pages (outer_told result) t.old t.new }
     ensures reaches { reaches (T.step t.old) ≤ reaches (T.step t.new) + 6 }
-    ensures found { IfOk result (λ found. T.trusted t.new → (height : ℕ) → IsTree (T.step t.old).images height → found ≡ entry_with key.now (table_of (T.step t.old).images height)) }
-    ensures fault { IfErr result (HasCause (T.causes t.old t.new) (T.step t.new) (BreaksTable (T.step t.new).images) (BarsTable (T.step t.new))) }
+    ensures there { IfOk result (λ found. IfSome found (StandsIn (T.step t.new))) }
+    ensures way { IfOk result (λ found. IfSome found (IsLedTo (T.step t.new))) }
+    ensures entry { IfOk result (λ found. IfSome found (λ f. is_entry f.entry ≡ true)) }
+    ensures fits { IfOk result (λ found. IfSome found (λ f. FitsEntry f.entry)) }
+    ensures key { IfOk result (λ found. IfSome found (λ f. f.entry.key ≡ key.now)) }
+    ensures found { IfOk result (λ found. T.trusted t.new → (height : ℕ) → IsTree (T.step t.old).images height → entry_of found ≡ entry_with key.now (table_of (T.step t.old).images height)) }
+    ensures fault { IfErr result (HasCause (T.step t.new) (BreaksTable (T.step t.new).images) (BarsTable (T.step t.new))) }
 {
     let found = leaf_below(t, top(), 0, &Cut::UpTo(key.copied()))?;
-    Ok(entry_in(&found.entries, key))
+    match entry_in(&found.entries, key) {
+        Some(entry) => Ok(Some(FoundEntry {
+            entry,
+            page: found.page,
+        })),
+        None => Ok(None),
+    }
 }
 
 // The first entry behind a place between keys.
 fn first_behind(entries: &Entries, cut: &Cut) -> Option<Entry>
-    ensures { result ≡ find (λ e. not (is_before cut.now e.key)) entries.now }
+    ensures first { result ≡ find (λ e. not (is_before cut.now e.key)) entries.now }
+    ensures fits { IfSome result FitsEntry }
 {
     for i in 0..entries.len() {
         let entry = entries.get(i);
@@ -67,7 +90,8 @@ fn first_behind(entries: &Entries, cut: &Cut) -> Option<Entry>
 
 // The last entry before a place between keys.
 fn last_before(entries: &Entries, cut: &Cut) -> Option<Entry>
-    ensures { result ≡ last_that (λ e. is_before cut.now e.key) entries.now }
+    ensures last { result ≡ last_that (λ e. is_before cut.now e.key) entries.now }
+    ensures fits { IfSome result FitsEntry }
 {
     for i in (0..entries.len()).rev() {
         let entry = entries.get(i);
@@ -78,46 +102,59 @@ fn last_before(entries: &Entries, cut: &Cut) -> Option<Entry>
     None
 }
 
-// The entry, if it has the name.
-fn named(entry: Entry, name: &FileName) -> Option<Entry>
-    ensures { result ≡ (if same_name entry.key.name name.now then Some entry else None) }
+// What was found, if it has the name.
+fn named(found: FoundEntry, name: &FileName) -> Option<FoundEntry>
+    ensures { result ≡ (if same_name found.entry.key.name name.now then Some found else None) }
 {
-    if entry.key.name.cmp(name).is_eq() {
-        Some(entry)
+    if found.entry.key.name.cmp(name).is_eq() {
+        Some(found)
     } else {
         None
     }
 }
 
 // The first entry below a child beside the way.
-fn first_below<T: Pages>(t: &mut T, next: Neighbour) -> Result<Entry, TreeFault>
+fn first_below<T: Pages>(t: &mut T, next: Neighbour) -> Result<FoundEntry, TreeFault>
     requires { 6 ≤ reaches (T.step t.old) }
-    ensures calls { OnlyReaches T.Pages t.old t.new }
+    ensures calls { OnlyReaches T.Pages (outer_told result) t.old t.new }
     ensures reaches { reaches (T.step t.old) ≤ reaches (T.step t.new) + 6 }
-    ensures first { IfOk result (λ first. Shows (T.step t.new) (λ pages. BeginsWith pages next.child first)) }
-    ensures fault { IfErr result (HasCause (T.causes t.old t.new) (T.step t.new) (BreaksBeside (T.step t.new).images next) (BarsBeside (T.step t.new) next)) }
+    ensures there { IfOk result (StandsIn (T.step t.new)) }
+    ensures way { IfOk result (IsLedBeside (T.step t.new) next) }
+    ensures fits { IfOk result (λ first. FitsEntry first.entry) }
+    ensures least { IfOk result (λ first. not_below next.child.low first.entry.key ≡ true) }
+    ensures first { IfOk result (λ first. Shows (T.step t.new) (λ pages. BeginsWith pages next.child first.entry)) }
+    ensures fault { IfErr result (HasCause (T.step t.new) (BreaksBeside (T.step t.new).images next) (BarsBeside (T.step t.new) next)) }
 {
     let found = leaf_below(t, next.child, next.above, &Cut::Start)?;
     if found.entries.len() == 0 {
         return Err(TreeFault::Broken(found.page));
     }
-    Ok(found.entries.get(0))
+    Ok(FoundEntry {
+        entry: found.entries.get(0),
+        page: found.page,
+    })
 }
 
 // The last entry below a child beside the way.
-fn last_below<T: Pages>(t: &mut T, previous: Neighbour) -> Result<Entry, TreeFault>
+fn last_below<T: Pages>(t: &mut T, previous: Neighbour) -> Result<FoundEntry, TreeFault>
     requires { 6 ≤ reaches (T.step t.old) }
-    ensures calls { OnlyReaches T.Pages t.old t.new }
+    ensures calls { OnlyReaches T.Pages (outer_told result) t.old t.new }
     ensures reaches { reaches (T.step t.old) ≤ reaches (T.step t.new) + 6 }
-    ensures last { IfOk result (λ last. Shows (T.step t.new) (λ pages. EndsWith pages previous.child last)) }
-    ensures fault { IfErr result (HasCause (T.causes t.old t.new) (T.step t.new) (BreaksBeside (T.step t.new).images previous) (BarsBeside (T.step t.new) previous)) }
+    ensures there { IfOk result (StandsIn (T.step t.new)) }
+    ensures way { IfOk result (IsLedBeside (T.step t.new) previous) }
+    ensures fits { IfOk result (λ last. FitsEntry last.entry) }
+    ensures last { IfOk result (λ last. Shows (T.step t.new) (λ pages. EndsWith pages previous.child last.entry)) }
+    ensures fault { IfErr result (HasCause (T.step t.new) (BreaksBeside (T.step t.new).images previous) (BarsBeside (T.step t.new) previous)) }
 {
     let found = leaf_below(t, previous.child, previous.above, &Cut::End)?;
     let count = found.entries.len();
     if count == 0 {
         return Err(TreeFault::Broken(found.page));
     }
-    Ok(found.entries.get(count - 1))
+    Ok(FoundEntry {
+        entry: found.entries.get(count - 1),
+        page: found.page,
+    })
 }
 
 // The place behind a key, or before all.
@@ -131,18 +168,24 @@ fn cut_after(after: Option<&Key>) -> Cut
 }
 
 /// The entry with the least later key. Any key is later than none.
-pub fn next_after<T: Pages>(t: &mut T, after: Option<&Key>) -> Result<Option<Entry>, TreeFault>
+pub fn next_after<T: Pages>(t: &mut T, after: Option<&Key>) -> Result<Option<FoundEntry>, TreeFault>
     requires { MOST_REACHED ≤ reaches (T.step t.old) }
-    ensures calls { OnlyReaches T.Pages t.old t.new }
+    ensures calls { OnlyReaches T.Pages (outer_told result) t.old t.new }
     ensures reaches { reaches (T.step t.old) ≤ reaches (T.step t.new) + 12 }
+    ensures there { IfOk result (λ found. IfSome found (StandsIn (T.step t.new))) }
+    ensures way { IfOk result (λ found. IfSome found (IsLedTo (T.step t.new))) }
+    ensures entry { IfOk result (λ found. IfSome found (λ f. is_entry f.entry ≡ true)) }
+    ensures fits { IfOk result (λ found. IfSome found (λ f. FitsEntry f.entry)) }
+    ensures later { IfOk result (λ found. IfSome found (λ f. is_after (option_copied after.entry) f.entry.key ≡ true)) }
     ensures found { IfOk result (λ found. T.trusted t.new → (height : ℕ) → IsTree (T.step t.old).images height
-        → found ≡ entry_after (option_copied after.entry) (table_of (T.step t.old).images height)) }
-    ensures fault { IfErr result (HasCause (T.causes t.old t.new) (T.step t.new) (BreaksTable (T.step t.new).images) (BarsTable (T.step t.new))) }
+        → entry_of found ≡ entry_after (option_copied after.entry) (table_of (T.step t.old).images height)) }
+    ensures fault { IfErr result (HasCause (T.step t.new) (BreaksTable (T.step t.new).images) (BarsTable (T.step t.new))) }
 {
     let cut = cut_after(after);
     let found = leaf_below(t, top(), 0, &cut)?;
     if let Some(entry) = first_behind(&found.entries, &cut) {
-        return Ok(Some(entry));
+        let page = found.page;
+        return Ok(Some(FoundEntry { entry, page }));
     }
     match found.next {
         Some(next) => Ok(Some(first_below(t, next)?)),
@@ -151,17 +194,23 @@ pub fn next_after<T: Pages>(t: &mut T, after: Option<&Key>) -> Result<Option<Ent
 }
 
 /// The entry with the highest version of a name.
-pub fn highest<T: Pages>(t: &mut T, name: &FileName) -> Result<Option<Entry>, TreeFault>
+pub fn highest<T: Pages>(t: &mut T, name: &FileName) -> Result<Option<FoundEntry>, TreeFault>
     requires { MOST_REACHED ≤ reaches (T.step t.old) }
-    ensures calls { OnlyReaches T.Pages t.old t.new }
+    ensures calls { OnlyReaches T.Pages (outer_told result) t.old t.new }
     ensures reaches { reaches (T.step t.old) ≤ reaches (T.step t.new) + 12 }
-    ensures found { IfOk result (λ found. T.trusted t.new → (height : ℕ) → IsTree (T.step t.old).images height → found ≡ highest_of name.now (table_of (T.step t.old).images height)) }
-    ensures fault { IfErr result (HasCause (T.causes t.old t.new) (T.step t.new) (BreaksTable (T.step t.new).images) (BarsTable (T.step t.new))) }
+    ensures there { IfOk result (λ found. IfSome found (StandsIn (T.step t.new))) }
+    ensures way { IfOk result (λ found. IfSome found (IsLedTo (T.step t.new))) }
+    ensures entry { IfOk result (λ found. IfSome found (λ f. is_entry f.entry ≡ true)) }
+    ensures fits { IfOk result (λ found. IfSome found (λ f. FitsEntry f.entry)) }
+    ensures name { IfOk result (λ found. IfSome found (λ f. f.entry.key.name ≡ name.now)) }
+    ensures found { IfOk result (λ found. T.trusted t.new → (height : ℕ) → IsTree (T.step t.old).images height → entry_of found ≡ highest_of name.now (table_of (T.step t.old).images height)) }
+    ensures fault { IfErr result (HasCause (T.step t.new) (BreaksTable (T.step t.new).images) (BarsTable (T.step t.new))) }
 {
     let cut = Cut::Named(name.copied());
     let found = leaf_below(t, top(), 0, &cut)?;
     if let Some(entry) = last_before(&found.entries, &cut) {
-        return Ok(named(entry, name));
+        let page = found.page;
+        return Ok(named(FoundEntry { entry, page }, name));
     }
     match found.previous {
         Some(previous) => Ok(named(last_below(t, previous)?, name)),

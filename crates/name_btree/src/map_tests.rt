@@ -122,7 +122,10 @@ fn in_order(rt: &impl Abort, t: &mut VecPages, map: &Versions) -> Result<(), Fai
     let mut last = None;
     for entry in map.values() {
         t.rest();
-        assert_eq!(rt; next_after(t, last.as_ref())?, Some(entry.copied()));
+        assert_eq!(rt;
+            next_after(t, last.as_ref())?.map(|f| f.entry),
+            Some(entry.copied())
+        );
         last = Some(entry.key.copied());
     }
     t.rest();
@@ -133,12 +136,21 @@ fn in_order(rt: &impl Abort, t: &mut VecPages, map: &Versions) -> Result<(), Fai
 // What is looked up is what the map has.
 fn look_up(rt: &impl Abort, t: &mut VecPages, map: &Versions, key: Key) -> Result<(), Fail> {
     t.rest();
-    assert_eq!(rt; find(t, &key)?, map.get(&key).map(|entry| entry.copied()));
+    assert_eq!(rt;
+        find(t, &key)?.map(|f| f.entry),
+        map.get(&key).map(|entry| entry.copied())
+    );
     t.rest();
-    assert_eq!(rt; highest(t, &key.name)?, highest_in(map, &key.name));
+    assert_eq!(rt;
+        highest(t, &key.name)?.map(|f| f.entry),
+        highest_in(map, &key.name)
+    );
     t.rest();
     let after = Some(key);
-    assert_eq!(rt; next_after(t, after.as_ref())?, next_in(map, &after));
+    assert_eq!(rt;
+        next_after(t, after.as_ref())?.map(|f| f.entry),
+        next_in(map, &after)
+    );
     Ok(())
 }
 
@@ -256,7 +268,7 @@ fn replace(
         return Ok(());
     };
     t.renew();
-    if entry_len(&old) != entry_len(&entry) {
+    if entry_len(&old.entry) != entry_len(&entry) {
         return Ok(());
     }
     replace_same_size(t, &entry)?;

@@ -2,7 +2,7 @@
 ghost use Rattle.std.specs.Prelude.{◌≡◌, ◌+◌, ◌*◌, ◌≤◌, ℕ, OnOk, OnErr, IfOk, IfErr, length, true};
 ghost use Rattle.fsd_table.specs.Tree.{table_of};
 ghost use Rattle.name_btree.specs.Draft.{drafted, IsDraft, RemovesFrom};
-ghost use Rattle.name_btree.specs.Fault.{FailsBy, FailsTable, IsNoTree};
+ghost use Rattle.name_btree.specs.Fault.{outer_told, FailsBy, FailsTable, IsNoTree};
 ghost use Rattle.name_btree.specs.Map.{IsTable, HasTable};
 ghost use Rattle.name_btree.specs.Remove.{IsTrimmedBelow, BreaksAround, IsRootLeft};
 ghost use Rattle.name_btree.specs.Trim.{MayHave, IsLeft, sheets_below};
@@ -26,13 +26,13 @@ use name_page::{Cut, Node, Pages, entries_without, ways_before};
 pub fn remove<T: Pages>(t: &mut T, key: &Key) -> Result<(), TreeFault>
     requires more { MOST_REACHED ≤ reaches (T.step t.old) }
     requires changes { MOST_CHANGED ≤ changes (T.step t.old) }
-    ensures calls { OnlyEdits T.Pages t.old t.new }
-    ensures kept { OnErr result (OnlyWalks T.Pages t.old t.new) }
+    ensures calls { OnlyEdits T.Pages (outer_told result) t.old t.new }
+    ensures kept { OnErr result (OnlyWalks T.Pages (outer_told result) t.old t.new) }
     ensures reaches { reaches (T.step t.old) ≤ reaches (T.step t.new) + 12 }
     ensures changes { changes (T.step t.old) ≤ changes (T.step t.new) + 8 }
     ensures taken { (page : ℕ) → is_spare (T.step t.old).spares page ≡ true → is_spare (T.step t.new).spares page ≡ true }
     ensures removed { OnOk result (T.trusted t.new → (height : ℕ) → IsTable (T.step t.old) height → HasTable (T.step t.new) (without key.now (table_of (T.step t.old).images height))) }
-    ensures fault { IfErr result (FailsTable T.Pages t.old t.new) }
+    ensures fault { IfErr result (FailsTable T.Pages t.new) }
 {
     let mut draft = Draft::new();
     if let Err(fault) = remove_in(t, &mut draft, key) {
@@ -48,13 +48,13 @@ pub(crate) fn remove_in<T: Pages>(t: &mut T, draft: &mut Draft, key: &Key) -> Re
     requires draft { IsDraft (T.step t.old) draft.old }
     requires room { length draft.old.sheets.items ≤ 32 }
     requires free { length draft.old.freed.items ≤ 14 }
-    ensures calls { OnlyReaches T.Pages t.old t.new }
+    ensures calls { OnlyReaches T.Pages (outer_told result) t.old t.new }
     ensures reaches { reaches (T.step t.old) ≤ reaches (T.step t.new) + 12 }
     ensures draft { OnOk result (IsDraft (T.step t.new) draft.new) }
     ensures sheets { OnOk result (length draft.new.sheets.items ≤ length draft.old.sheets.items + 8) }
     ensures freed { OnOk result (length draft.new.freed.items ≤ length draft.old.freed.items + 6) }
     ensures removed { OnOk result (Shows (T.step t.new) (λ pages. RemovesFrom pages draft.old draft.new key.now)) }
-    ensures fault { IfErr result (FailsBy (T.causes t.old t.new) (T.step t.new) (λ pages page. IsNoTree (drafted draft.old.sheets.items pages))) }
+    ensures fault { IfErr result (FailsBy (T.step t.new) (λ pages page. IsNoTree (drafted draft.old.sheets.items pages))) }
 {
     match remove_below(t, draft, &top(), key, 5)? {
         Trimmed::Whole => Ok(()),
@@ -76,7 +76,7 @@ fn remove_below<T: Pages>(
     requires draft { IsDraft (T.step t.old) draft.old }
     requires room { length draft.old.sheets.items + levels ≤ 38 }
     requires free { length draft.old.freed.items + levels ≤ 20 }
-    ensures calls { OnlyReaches T.Pages t.old t.new }
+    ensures calls { OnlyReaches T.Pages (outer_told result) t.old t.new }
     ensures reaches { reaches (T.step t.old) ≤ reaches (T.step t.new) + (2 * levels + 1) }
     ensures draft { OnOk result (IsDraft (T.step t.new) draft.new) }
     ensures sheets { IfOk result (λ left. length draft.new.sheets.items ≤ length draft.old.sheets.items + sheets_below levels left) }
@@ -85,7 +85,7 @@ fn remove_below<T: Pages>(
     ensures left { IfOk result (IsLeft (length (T.step t.old).images) child.now) }
     ensures root { IfOk result (IsRootLeft child.now.page) }
     ensures trimmed { IfOk result (λ left. Shows (T.step t.new) (λ pages. IsTrimmedBelow key.now (drafted draft.old.sheets.items pages) (drafted draft.new.sheets.items pages) draft.old.freed.items draft.new.freed.items levels child.now left)) }
-    ensures fault { IfErr result (FailsBy (T.causes t.old t.new) (T.step t.new) (λ pages. BreaksAround key.now (drafted draft.old.sheets.items pages) levels child.now)) }
+    ensures fault { IfErr result (FailsBy (T.step t.new) (λ pages. BreaksAround key.now (drafted draft.old.sheets.items pages) levels child.now)) }
 {
     match draft.child_node(t, child)? {
         Node::Leaf(entries) => {

@@ -2,7 +2,7 @@
 ghost use Rattle.std.specs.Prelude.{◌≡◌, ◌≤◌, ◌+◌, ℕ, IsTrue, IfErr, OnErr, OnOk, true, false, map};
 ghost use Rattle.fsd_formats.specs.NamePage.{is_entry, FitsEntry};
 ghost use Rattle.fsd_table.specs.Tree.{IsTree, table_of};
-ghost use Rattle.name_btree.specs.Fault.{FailsTable};
+ghost use Rattle.name_btree.specs.Fault.{outer_told, FailsTable};
 ghost use Rattle.name_btree.specs.Map.{IsTable, HasTable};
 ghost use Rattle.name_page.specs.Edits.{put};
 ghost use Rattle.name_btree.specs.Replace.{HasAsLong, HasEdit, WritesOne};
@@ -37,14 +37,14 @@ pub fn replace_same_size<T: Pages>(t: &mut T, entry: &Entry) -> Result<(), TreeF
     requires entry { IsTrue (is_entry entry.now) }
     requires fits { FitsEntry entry.now }
     requires present { T.trusted t.old → (height : ℕ) → IsTree (T.step t.old).images height → HasAsLong entry.now (table_of (T.step t.old).images height) }
-    ensures calls { OnlyEdits T.Pages t.old t.new }
-    ensures kept { OnErr result (OnlyWalks T.Pages t.old t.new) }
+    ensures calls { OnlyEdits T.Pages (outer_told result) t.old t.new }
+    ensures kept { OnErr result (OnlyWalks T.Pages (outer_told result) t.old t.new) }
     ensures written { OnOk result (WritesOne T.Pages t.old t.new) }
     ensures reaches { reaches (T.step t.old) ≤ reaches (T.step t.new) + 6 }
     // Of each tree, also beside pages that are not spare, comes one of the same height and pages.
     ensures tree { OnOk result (T.trusted t.new → (height : ℕ) → IsTree (T.step t.old).images height → HasEdit (map (put entry.now)) (T.step t.old).images (T.step t.new).images height) }
     ensures replaced { OnOk result (T.trusted t.new → (height : ℕ) → IsTable (T.step t.old) height → HasTable (T.step t.new) (map (put entry.now) (table_of (T.step t.old).images height))) }
-    ensures fault { IfErr result (FailsTable T.Pages t.old t.new) }
+    ensures fault { IfErr result (FailsTable T.Pages t.new) }
 {
     let found = match leaf_below(t, top(), 0, &Cut::UpTo(entry.key.copied())) {
         Ok(found) => found,

@@ -1,6 +1,6 @@
 //! The search for the page that breaks a table.
 ghost use Rattle.std.specs.Prelude.{◌≡◌, ◌<◌, ◌≤◌};
-ghost use Rattle.name_btree.specs.Fault.{FailsTable, FailsTree, IsNoUsedTree, is_inner};
+ghost use Rattle.name_btree.specs.Fault.{outer_of, FailsTable, FailsTree, IsNoUsedTree, is_inner};
 ghost use Rattle.name_page.specs.Looks.{OnlyWalks};
 ghost use Rattle.name_page.specs.Pages.{reaches};
 
@@ -13,9 +13,9 @@ use name_page::Pages;
 // one, the pages were other ones before, and page 0 is named.
 fn search<T: Pages>(t: &mut T) -> TreeFault
     requires more { 0 < (T.step t.old).most_reached }
-    ensures calls { OnlyWalks T.Pages t.old t.new }
+    ensures calls { OnlyWalks T.Pages (outer_of result) t.old t.new }
     ensures reaches { reaches (T.step t.old) ≤ reaches (T.step t.new) }
-    ensures cause { (T.trusted t.old → IsNoUsedTree (T.step t.old)) → FailsTable T.Pages t.old t.new result }
+    ensures cause { (T.trusted t.old → IsNoUsedTree (T.step t.old)) → FailsTable T.Pages t.new result }
 {
     let mut reached = [false; 4096];
     let pages = t.count() as usize;
@@ -46,9 +46,9 @@ fn is_inner(fault: TreeFault) -> bool
 /// searched for and named.
 pub(crate) fn fault_of<T: Pages>(t: &mut T, fault: TreeFault) -> TreeFault
     requires more { 0 < (T.step t.old).most_reached }
-    ensures calls { OnlyWalks T.Pages t.old t.new }
+    ensures calls { (first : T) → OnlyWalks T.Pages (outer_of fault) first t.old → OnlyWalks T.Pages (outer_of result) first t.new }
     ensures reaches { reaches (T.step t.old) ≤ reaches (T.step t.new) }
-    ensures cause { (first : T) → T.outside first t.old → FailsTree T.Pages first t.old fault → FailsTable T.Pages first t.new result }
+    ensures cause { FailsTree T.Pages t.old fault → FailsTable T.Pages t.new result }
 {
     if is_inner(fault) { search(t) } else { fault }
 }

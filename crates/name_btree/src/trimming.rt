@@ -7,7 +7,7 @@ ghost use Rattle.fsd_formats.specs.NamePage as grammar;
 ghost use Rattle.fsd_table.specs.Pages.{page_at, children, entry_keys, separator_keys};
 ghost use Rattle.name_btree.specs.declared.trimming.Trimmed.TheVariants.{Whole};
 ghost use Rattle.name_btree.specs.Draft.{drafted, IsDraft, IsDrafted, with_freed};
-ghost use Rattle.name_btree.specs.Fault.{FailsBy};
+ghost use Rattle.name_btree.specs.Fault.{outer_told, FailsBy};
 ghost use Rattle.name_btree.specs.Remove.{IsRootLeft};
 ghost use Rattle.name_btree.specs.Trim.{IsFreeOrNone, used_by, child_of, AreEntries, AreWays, MayHave, IsOpened, AreFewEntries, AreFewWays, IsLeafPut, AreWaysPut, IsPair, pair_fits, IsBetween, separators_joined, separators_shared, AreLeavesMended, AreWaysMended, entries_at, ways_at, first_at, right_at, is_behind, LeafIsMended, WayIsMended, HasNoLeaf, HasNoWays, IsLeft, IsMended, IsUnlike, IsTakenOver};
 ghost use Rattle.name_page.specs.declared.node.Node.TheVariants.{Free};
@@ -286,11 +286,11 @@ pub(crate) fn mend_leaf<T: Pages>(
     requires within { i ≤ length ways.now.1 }
     requires below { MayHave (T.step t.old) (child_of above.now ways.now.0 ways.now.1 i).page }
     requires few { AreFewEntries (child_of above.now ways.now.0 ways.now.1 i) few.now.items }
-    ensures calls { OnlyReaches T.Pages t.old t.new }
+    ensures calls { OnlyReaches T.Pages (outer_told result) t.old t.new }
     ensures reaches { reaches (T.step t.old) ≤ reaches (T.step t.new) + 1 }
     ensures draft { OnOk result (IsDraft (T.step t.new) draft.new) }
     ensures mended { IfOk result (λ left. Shows (T.step t.new) (λ pages. LeafIsMended (with_images pages (T.step t.new)) draft.old draft.new above.now ways.now.0 ways.now.1 i few.now.items left)) }
-    ensures fault { IfErr result (FailsBy (T.causes t.old t.new) (T.step t.new) (λ pages. HasNoLeaf (drafted draft.old.sheets.items pages) (children ways.now.0 above.now.low above.now.high ways.now.1) i)) }
+    ensures fault { IfErr result (FailsBy (T.step t.new) (λ pages. HasNoLeaf (drafted draft.old.sheets.items pages) (children ways.now.0 above.now.low above.now.high ways.now.1) i)) }
 {
     let neighbour = child_at(ways, neighbour_of(i), above);
     match draft.child_node(t, &neighbour)? {
@@ -402,11 +402,11 @@ pub(crate) fn mend_ways<T: Pages>(
     requires within { i ≤ length ways.now.1 }
     requires below { MayHave (T.step t.old) (child_of above.now ways.now.0 ways.now.1 i).page }
     requires few { AreFewWays (length (T.step t.old).images) (child_of above.now ways.now.0 ways.now.1 i) first few.now.items }
-    ensures calls { OnlyReaches T.Pages t.old t.new }
+    ensures calls { OnlyReaches T.Pages (outer_told result) t.old t.new }
     ensures reaches { reaches (T.step t.old) ≤ reaches (T.step t.new) + 1 }
     ensures draft { OnOk result (IsDraft (T.step t.new) draft.new) }
     ensures mended { IfOk result (λ left. Shows (T.step t.new) (λ pages. WayIsMended (with_images pages (T.step t.new)) draft.old draft.new above.now ways.now.0 ways.now.1 i first few.now.items left)) }
-    ensures fault { IfErr result (FailsBy (T.causes t.old t.new) (T.step t.new) (λ pages. HasNoWays (drafted draft.old.sheets.items pages) above.now ways.now.0 ways.now.1 i few.now.items)) }
+    ensures fault { IfErr result (FailsBy (T.step t.new) (λ pages. HasNoWays (drafted draft.old.sheets.items pages) above.now ways.now.0 ways.now.1 i few.now.items)) }
 {
     let neighbour = child_at(ways, neighbour_of(i), above);
     let pair = pair_with(ways, i, above);
@@ -440,11 +440,11 @@ pub(crate) fn trim_above<T: Pages>(
     requires within { i ≤ length ways.now.1 }
     requires below { MayHave (T.step t.old) (child_of above.now ways.now.0 ways.now.1 i).page }
     requires left { IsLeft (length (T.step t.old).images) (child_of above.now ways.now.0 ways.now.1 i) below }
-    ensures calls { OnlyReaches T.Pages t.old t.new }
+    ensures calls { OnlyReaches T.Pages (outer_told result) t.old t.new }
     ensures reaches { reaches (T.step t.old) ≤ reaches (T.step t.new) + 1 }
     ensures draft { OnOk result (IsDraft (T.step t.new) draft.new) }
     ensures mended { IfOk result (λ left. Shows (T.step t.new) (λ pages. IsMended (with_images pages (T.step t.new)) draft.old draft.new above.now ways.now.0 ways.now.1 i below left)) }
-    ensures fault { IfErr result (FailsBy (T.causes t.old t.new) (T.step t.new) (λ pages. IsUnlike (drafted draft.old.sheets.items pages) above.now ways.now.0 ways.now.1 i below)) }
+    ensures fault { IfErr result (FailsBy (T.step t.new) (λ pages. IsUnlike (drafted draft.old.sheets.items pages) above.now ways.now.0 ways.now.1 i below)) }
 {
     match below {
         Trimmed::Whole => Ok(Trimmed::Whole),
@@ -482,11 +482,11 @@ pub(crate) fn take_over<T: Pages>(t: &mut T, draft: &mut Draft, child: u32) -> R
     requires draft { IsDraft (T.step t.old) draft.old }
     requires top { MayHave (T.step t.old) 0 }
     requires within { child < length (T.step t.old).images }
-    ensures calls { OnlyReaches T.Pages t.old t.new }
+    ensures calls { OnlyReaches T.Pages (outer_told result) t.old t.new }
     ensures reaches { reaches (T.step t.old) ≤ reaches (T.step t.new) + 1 }
     ensures draft { OnOk result (IsDraft (T.step t.new) draft.new) }
     ensures taken { OnOk result (Shows (T.step t.new) (λ pages. IsTakenOver (with_images pages (T.step t.new)) draft.old draft.new child)) }
-    ensures fault { IfErr result (FailsBy (T.causes t.old t.new) (T.step t.new) (λ pages page. IsFreeOrNone (page_at (drafted draft.old.sheets.items pages) child))) }
+    ensures fault { IfErr result (FailsBy (T.step t.new) (λ pages page. IsFreeOrNone (page_at (drafted draft.old.sheets.items pages) child))) }
 {
     let node = draft.node_at(t, child)?;
     if let Node::Free = node {

@@ -1,7 +1,7 @@
 //! The walk over all pages that page 0 leads to.
 ghost use Rattle.std.specs.Prelude.{◌≡◌, ◌<◌, ◌≤◌, IfOk, IfErr, [], ◌∷◌, Some, true, length, not, slice_get, slice_set, if◌then◌else◌};
 ghost use Rattle.fsd_table.specs.Pages.{children};
-ghost use Rattle.name_btree.specs.Fault.{FailsTable};
+ghost use Rattle.name_btree.specs.Fault.{outer_told, FailsTable};
 ghost use Rattle.name_btree.specs.Still.{HasRefusal};
 ghost use Rattle.name_btree.specs.Walk.{AreMarksOf, is_marked, IsWalked, AreWalked, FailsWalk, IsTopLevel, IsCounted};
 ghost use Rattle.name_page.specs.Looks.{OnlyWalks};
@@ -51,10 +51,10 @@ fn is_new(reached: &mut [bool], page: u32) -> bool
 // The level of page 0, down the first children.
 pub(crate) fn top_level<T: Pages>(t: &mut T) -> Result<u32, TreeFault>
     requires { 0 < (T.step t.old).most_reached }
-    ensures calls { OnlyWalks T.Pages t.old t.new }
+    ensures calls { OnlyWalks T.Pages (outer_told result) t.old t.new }
     ensures low { IfOk result (λ level. level ≤ 5) }
     ensures level { IfOk result (λ level. T.trusted t.new → IsTopLevel (T.step t.old).images level) }
-    ensures fault { IfErr result (FailsTable T.Pages t.old t.new) }
+    ensures fault { IfErr result (FailsTable T.Pages t.new) }
     ensures refused { IfErr result (HasRefusal (rested (T.step t.new)) (T.step t.new)) }
 {
     let mut child = top();
@@ -79,9 +79,9 @@ fn walk_below<T: Pages>(
 ) -> Result<u32, TreeFault>
     requires more { 0 < (T.step t.old).most_reached }
     requires level { level ≤ 5 }
-    ensures calls { OnlyWalks T.Pages t.old t.new }
+    ensures calls { OnlyWalks T.Pages (outer_told result) t.old t.new }
     ensures walked { IfOk result (λ count. T.trusted t.new → IsWalked (T.step t.old).spares level (T.step t.old).images child.now reached.old reached.new count) }
-    ensures fault { IfErr result (FailsWalk T.Pages t.old t.new level (child.now ∷ []) reached.old) }
+    ensures fault { IfErr result (FailsWalk T.Pages t.new level (child.now ∷ []) reached.old) }
     ensures refused { IfErr result (HasRefusal (rested (T.step t.new)) (T.step t.new)) }
 {
     if !is_new(reached, child.page) {
@@ -106,9 +106,9 @@ fn walk_children<T: Pages>(
     requires more { 0 < (T.step t.old).most_reached }
     requires level { level ≤ 4 }
     requires few { length ways.now.1 ≤ 9 }
-    ensures calls { OnlyWalks T.Pages t.old t.new }
+    ensures calls { OnlyWalks T.Pages (outer_told result) t.old t.new }
     ensures walked { IfOk result (λ count. T.trusted t.new → AreWalked (T.step t.old).spares level (T.step t.old).images (children ways.now.0 above.now.low above.now.high ways.now.1) reached.old reached.new count) }
-    ensures fault { IfErr result (FailsWalk T.Pages t.old t.new level (children ways.now.0 above.now.low above.now.high ways.now.1) reached.old) }
+    ensures fault { IfErr result (FailsWalk T.Pages t.new level (children ways.now.0 above.now.low above.now.high ways.now.1) reached.old) }
     ensures refused { IfErr result (HasRefusal (rested (T.step t.new)) (T.step t.new)) }
 {
     let mut count = 0u32;
@@ -127,9 +127,9 @@ pub fn walk<T: Pages>(t: &mut T, reached: &mut [bool]) -> Result<u32, TreeFault>
     requires more { 0 < (T.step t.old).most_reached }
     requires whole { length reached.old ≡ length (T.step t.old).images }
     requires clear { AreMarksOf [] reached.old }
-    ensures calls { OnlyWalks T.Pages t.old t.new }
+    ensures calls { OnlyWalks T.Pages (outer_told result) t.old t.new }
     ensures counted { IfOk result (λ count. T.trusted t.new → IsCounted (T.step t.old) reached.new count) }
-    ensures fault { IfErr result (FailsTable T.Pages t.old t.new) }
+    ensures fault { IfErr result (FailsTable T.Pages t.new) }
     ensures refused { IfErr result (HasRefusal (rested (T.step t.new)) (T.step t.new)) }
 {
     let level = top_level(t)?;

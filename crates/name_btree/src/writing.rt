@@ -1,5 +1,5 @@
 //! Changing a page.
-ghost use Rattle.std.specs.Prelude.{◌≡◌, true};
+ghost use Rattle.std.specs.Prelude.{◌≡◌, None, true};
 ghost use Rattle.std.specs.List.{AllByRecursion};
 ghost use Rattle.fsd_formats.specs.NamePage.{Leaf, is_page, FitsEntry};
 ghost use Rattle.name_btree.specs.Replace.{IsWritten};
@@ -14,7 +14,7 @@ pub(crate) fn put_leaf<T: Pages>(t: &mut T, page: u32, entries: &[Entry])
     requires more { MayChange (T.step t.old) page }
     requires accepted { is_page page 0 (Leaf entries.now) ≡ true }
     requires fits { AllByRecursion FitsEntry entries.now }
-    ensures outside { T.outside t.old t.new }
+    ensures outside { T.outside None t.old t.new }
     ensures written { IsWritten (T.step t.old) (T.step t.new) page (Leaf entries.now) }
 {
     write_entries(page, entries, t.change(page));

@@ -1,11 +1,20 @@
 -- Calls that only reach pages, one after another, and what the pages show.
-use Rattle.std.proofs.Common.{◌≡◌, ℕ, Bool, false, List, length, Option, Some, refl, ap, subst, ◌∙◌}
+use Rattle.std.proofs.Common.{◌≡◌, ℕ, Bool, false, List, length, Option, Some, None, refl, ap, subst, ◌∙◌}
 use Rattle.std.specs.Prelude.{slice_get, option_and_then}
+use Rattle.fsd_bytes.specs.declared.refusal.Refusal.{Refusal}
 use Rattle.fsd_formats.specs.NamePage.{Content, read_page}
 use Rattle.fsd_table.specs.Pages.{page_at}
 use Rattle.name_page.specs.declared.pages.Pages.{Ghosts}
 use Rattle.name_page.specs.Pages.{Step, is_spare, IsReached, Keeps, with_images, with_promise, rested}
 use Rattle.name_page.specs.Looks.{Looks, OnlyReaches, OnlyWalks, OnlyEdits, OnlyTakes, Agrees, Shows}
+
+-- what happens outside happens in all, and what is trusted then was before
+module _ {D : Type 0} (P : Ghosts D) where
+  abbrev pub Joins : Type 0
+  Joins = (a b c : D) (refusal : Option Refusal) → P.outside None a b → P.outside refusal b c → P.outside refusal a c
+
+  abbrev pub Trusts : Type 0
+  Trusts = (a b : D) (refusal : Option Refusal) → P.outside refusal a b → P.trusted b → P.trusted a
 
 pub looks_then : (a b c : Step) → Looks a b → Looks b c → Looks a c
 looks_then a b c x y = record {
@@ -23,21 +32,21 @@ looks_then a b c x y = record {
 pub looks_still : (a : Step) → Looks a a
 looks_still a = record { count = refl; images = λ page is. refl; reached = λ page is. is; spares = refl; home_a = refl; changed = refl; promised = refl; most_reached = refl; most_changed = refl }
 
-pub reaches_still : {D : Type 0} (P : Ghosts D) (a : D) → P.outside a a → OnlyReaches P a a
+pub reaches_still : {D : Type 0} (P : Ghosts D) (a : D) → P.outside None a a → OnlyReaches P None a a
 reaches_still P a still = record { looks = looks_still (P.step a); outside = still; trust = λ t. t; stays = λ t. refl }
 
-pub reaches_then : {D : Type 0} (P : Ghosts D) (law : (a b c : D) → P.outside a b → P.outside b c → P.outside a c) (a b c : D) → OnlyReaches P a b → OnlyReaches P b c → OnlyReaches P a c
+pub reaches_then : {D : Type 0} (P : Ghosts D) {refusal : Option Refusal} (law : Joins P) (a b c : D) → OnlyReaches P None a b → OnlyReaches P refusal b c → OnlyReaches P refusal a c
 reaches_then P law a b c x y = record {
   looks = looks_then (P.step a) (P.step b) (P.step c) x.looks y.looks;
-  outside = law a b c x.outside y.outside;
+  outside = law a b c _ x.outside y.outside;
   trust = λ t. x.trust (y.trust t);
   stays = λ t. y.stays t ∙ x.stays (y.trust t);
 }
 
-pub reaches_walks : {D : Type 0} (P : Ghosts D) (a b : D) → OnlyReaches P a b → OnlyWalks P a b
+pub reaches_walks : {D : Type 0} (P : Ghosts D) {refusal : Option Refusal} (a b : D) → OnlyReaches P refusal a b → OnlyWalks P refusal a b
 reaches_walks P a b x = record { count = x.looks.count; spares = x.looks.spares; home_a = x.looks.home_a; changed = x.looks.changed; most_reached = x.looks.most_reached; most_changed = x.looks.most_changed; outside = x.outside; trust = x.trust; stays = x.stays }
 
-pub rest_walks : {D : Type 0} (P : Ghosts D) (a b : D) → P.outside a b → (P.trusted b → P.trusted a) → P.step b ≡ rested (P.step a) → OnlyWalks P a b
+pub rest_walks : {D : Type 0} (P : Ghosts D) (a b : D) → P.outside None a b → (P.trusted b → P.trusted a) → P.step b ≡ rested (P.step a) → OnlyWalks P None a b
 rest_walks P a b outside trust is = record {
   count = ap (λ (s : Step). length s.images) is;
   spares = ap (λ (s : Step). s.spares) is;
@@ -50,7 +59,7 @@ rest_walks P a b outside trust is = record {
   stays = λ t. ap (λ (s : Step). s.images) is;
 }
 
-pub walks_then : {D : Type 0} (P : Ghosts D) (law : (a b c : D) → P.outside a b → P.outside b c → P.outside a c) (a b c : D) → OnlyWalks P a b → OnlyWalks P b c → OnlyWalks P a c
+pub walks_then : {D : Type 0} (P : Ghosts D) {refusal : Option Refusal} (law : Joins P) (a b c : D) → OnlyWalks P None a b → OnlyWalks P refusal b c → OnlyWalks P refusal a c
 walks_then P law a b c x y = record {
   count = y.count ∙ x.count;
   spares = y.spares ∙ x.spares;
@@ -58,21 +67,21 @@ walks_then P law a b c x y = record {
   changed = y.changed ∙ x.changed;
   most_reached = y.most_reached ∙ x.most_reached;
   most_changed = y.most_changed ∙ x.most_changed;
-  outside = law a b c x.outside y.outside;
+  outside = law a b c _ x.outside y.outside;
   trust = λ t. x.trust (y.trust t);
   stays = λ t. y.stays t ∙ x.stays (y.trust t);
 }
 
-pub walks_edits : {D : Type 0} (P : Ghosts D) (a b : D) → OnlyWalks P a b → OnlyEdits P a b
+pub walks_edits : {D : Type 0} (P : Ghosts D) {refusal : Option Refusal} (a b : D) → OnlyWalks P refusal a b → OnlyEdits P refusal a b
 walks_edits P a b x = record { count = x.count; home_a = x.home_a; most_reached = x.most_reached; most_changed = x.most_changed; outside = x.outside; trust = x.trust }
 
-pub edits_then : {D : Type 0} (P : Ghosts D) (law : (a b c : D) → P.outside a b → P.outside b c → P.outside a c) (a b c : D) → OnlyEdits P a b → OnlyEdits P b c → OnlyEdits P a c
+pub edits_then : {D : Type 0} (P : Ghosts D) {refusal : Option Refusal} (law : Joins P) (a b c : D) → OnlyEdits P None a b → OnlyEdits P refusal b c → OnlyEdits P refusal a c
 edits_then P law a b c x y = record {
   count = y.count ∙ x.count;
   home_a = y.home_a ∙ x.home_a;
   most_reached = y.most_reached ∙ x.most_reached;
   most_changed = y.most_changed ∙ x.most_changed;
-  outside = law a b c x.outside y.outside;
+  outside = law a b c _ x.outside y.outside;
   trust = λ t. x.trust (y.trust t);
 }
 
@@ -91,7 +100,7 @@ pub shows_now : (P : List (List ℕ) → Type 0) (s : Step) → Shows s P → P 
 shows_now P s h = h s.images (agrees_now s)
 
 -- where the outside is trusted, of the images before
-pub shows_trusted : {D : Type 0} (G : Ghosts D) (P : List (List ℕ) → Type 0) (a b : D) → OnlyReaches G a b → Shows (G.step b) P → G.trusted b → P (G.step a).images
+pub shows_trusted : {D : Type 0} (G : Ghosts D) {refusal : Option Refusal} (P : List (List ℕ) → Type 0) (a b : D) → OnlyReaches G refusal a b → Shows (G.step b) P → G.trusted b → P (G.step a).images
 shows_trusted G P a b x h t = subst P (x.stays t) (shows_now P (G.step b) h)
 
 -- what a page has that was reached
@@ -105,19 +114,19 @@ pub shows_at : (s : Step) (page : ℕ) (x : Content) → IsReached s page → is
 shows_at s page x is used at images h = agrees_at s images page is used h ∙ at
 
 -- a step that begins and only reaches pages
-pub rest_reaches : {D : Type 0} (P : Ghosts D) (law : (a b c : D) → P.outside a b → P.outside b c → P.outside a c) (trust : (a b : D) → P.outside a b → P.trusted b → P.trusted a) (a b c : D)
-    → P.outside a b → P.step b ≡ rested (P.step a) → OnlyReaches P b c → OnlyWalks P a c
-rest_reaches P law trust a b c outside is x = walks_then P law a b c (rest_walks P a b outside (trust a b outside) is) (reaches_walks P b c x)
+pub rest_reaches : {D : Type 0} (P : Ghosts D) {refusal : Option Refusal} (law : Joins P) (trust : Trusts P) (a b c : D)
+    → P.outside None a b → P.step b ≡ rested (P.step a) → OnlyReaches P refusal b c → OnlyWalks P refusal a c
+rest_reaches P law trust a b c outside is x = walks_then P law a b c (rest_walks P a b outside (trust a b None outside) is) (reaches_walks P b c x)
 
 -- ---- pages that are taken
 
-pub reaches_edits : {D : Type 0} (P : Ghosts D) (a b : D) → OnlyReaches P a b → OnlyEdits P a b
+pub reaches_edits : {D : Type 0} (P : Ghosts D) {refusal : Option Refusal} (a b : D) → OnlyReaches P refusal a b → OnlyEdits P refusal a b
 reaches_edits P a b x = walks_edits P a b (reaches_walks P a b x)
 
-pub reaches_takes : {D : Type 0} (P : Ghosts D) (a b : D) → OnlyReaches P a b → OnlyTakes P a b
+pub reaches_takes : {D : Type 0} (P : Ghosts D) {refusal : Option Refusal} (a b : D) → OnlyReaches P refusal a b → OnlyTakes P refusal a b
 reaches_takes P a b x = record { edits = reaches_edits P a b x; stays = x.stays; agrees = λ images is. agrees_before (P.step a) (P.step b) images x.looks is }
 
-pub takes_takes : {D : Type 0} (P : Ghosts D) (law : (a b c : D) → P.outside a b → P.outside b c → P.outside a c) (a b c : D) → OnlyTakes P a b → OnlyTakes P b c → OnlyTakes P a c
+pub takes_takes : {D : Type 0} (P : Ghosts D) {refusal : Option Refusal} (law : Joins P) (a b c : D) → OnlyTakes P None a b → OnlyTakes P refusal b c → OnlyTakes P refusal a c
 takes_takes P law a b c x y = record {
   edits = edits_then P law a b c x.edits y.edits;
   stays = λ t. y.stays t ∙ x.stays (y.edits.trust t);
@@ -125,8 +134,8 @@ takes_takes P law a b c x y = record {
 }
 
 -- pages that are promised
-pub spare_walks : {D : Type 0} (P : Ghosts D) (a b : D) (n : ℕ) → P.outside a b → (P.trusted b → P.trusted a) → Keeps (P.step a) (P.step b).images → (P.trusted b → (P.step b).images ≡ (P.step a).images)
-    → P.step b ≡ with_promise n (with_images (P.step b).images (P.step a)) → OnlyWalks P a b
+pub spare_walks : {D : Type 0} (P : Ghosts D) {refusal : Option Refusal} (a b : D) (n : ℕ) → P.outside refusal a b → (P.trusted b → P.trusted a) → Keeps (P.step a) (P.step b).images → (P.trusted b → (P.step b).images ≡ (P.step a).images)
+    → P.step b ≡ with_promise n (with_images (P.step b).images (P.step a)) → OnlyWalks P refusal a b
 spare_walks P a b n outside trust kept stays is = record {
   count = kept.count;
   spares = ap (λ (s : Step). s.spares) is;

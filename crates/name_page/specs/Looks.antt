@@ -1,5 +1,6 @@
 -- What a call leaves of the pages that only reaches some.
-use Rattle.std.specs.Prelude.{◌≡◌, ℕ, false, List, length, slice_get}
+use Rattle.std.specs.Prelude.{◌≡◌, ℕ, false, List, Option, length, slice_get}
+use Rattle.fsd_bytes.specs.declared.refusal.Refusal.{Refusal}
 use Rattle.name_page.specs.declared.pages.Pages.{Ghosts}
 use Rattle.name_page.specs.Pages.{Step, is_spare, IsReached}
 
@@ -15,32 +16,32 @@ pub record Looks (old new : Step) : Type 0 where
   pub most_reached : new.most_reached ≡ old.most_reached
   pub most_changed : new.most_changed ≡ old.most_changed
 
--- the same of the pages, with what happened outside
-pub record OnlyReaches {D : Type 0} (P : Ghosts D) (old new : D) : Type 0 where
+-- the same of the pages, with what happened outside, and the refusal from there that was the last
+pub record OnlyReaches {D : Type 0} (P : Ghosts D) (refusal : Option Refusal) (old new : D) : Type 0 where
   pub looks : Looks (P.step old) (P.step new)
-  pub outside : P.outside old new
+  pub outside : P.outside refusal old new
   pub trust : P.trusted new → P.trusted old
   pub stays : P.trusted new → (P.step new).images ≡ (P.step old).images
 
 -- the same where steps have ended in between
-pub record OnlyWalks {D : Type 0} (P : Ghosts D) (old new : D) : Type 0 where
+pub record OnlyWalks {D : Type 0} (P : Ghosts D) (refusal : Option Refusal) (old new : D) : Type 0 where
   pub count : length (P.step new).images ≡ length (P.step old).images
   pub spares : (P.step new).spares ≡ (P.step old).spares
   pub home_a : (P.step new).home_a ≡ (P.step old).home_a
   pub changed : (P.step new).changed ≡ (P.step old).changed
   pub most_reached : (P.step new).most_reached ≡ (P.step old).most_reached
   pub most_changed : (P.step new).most_changed ≡ (P.step old).most_changed
-  pub outside : P.outside old new
+  pub outside : P.outside refusal old new
   pub trust : P.trusted new → P.trusted old
   pub stays : P.trusted new → (P.step new).images ≡ (P.step old).images
 
 -- what stays where pages were changed too
-pub record OnlyEdits {D : Type 0} (P : Ghosts D) (old new : D) : Type 0 where
+pub record OnlyEdits {D : Type 0} (P : Ghosts D) (refusal : Option Refusal) (old new : D) : Type 0 where
   pub count : length (P.step new).images ≡ length (P.step old).images
   pub home_a : (P.step new).home_a ≡ (P.step old).home_a
   pub most_reached : (P.step new).most_reached ≡ (P.step old).most_reached
   pub most_changed : (P.step new).most_changed ≡ (P.step old).most_changed
-  pub outside : P.outside old new
+  pub outside : P.outside refusal old new
   pub trust : P.trusted new → P.trusted old
 
 -- images that have what the step has reached, but for pages that are spare
@@ -49,8 +50,8 @@ pub record Agrees (images : List (List ℕ)) (s : Step) : Type 0 where
   pub reached : (page : ℕ) → IsReached s page → is_spare s.spares page ≡ false → slice_get images page ≡ slice_get s.images page
 
 -- what stays where pages were reached, and then some were taken
-pub record OnlyTakes {D : Type 0} (P : Ghosts D) (old new : D) : Type 0 where
-  pub edits : OnlyEdits P old new
+pub record OnlyTakes {D : Type 0} (P : Ghosts D) (refusal : Option Refusal) (old new : D) : Type 0 where
+  pub edits : OnlyEdits P refusal old new
   pub stays : P.trusted new → (P.step new).images ≡ (P.step old).images
   pub agrees : (images : List (List ℕ)) → Agrees images (P.step new) → Agrees images (P.step old)
 

@@ -1,5 +1,5 @@
 -- The pages of a name table, as the tree sees them, and what a step over them has done.
-use Rattle.std.specs.Prelude.{◌≡◌, ◌⊎◌, ◌<◌, ℕ, ◌+◌, ◌-◌, ◌%◌, ◌^◌, Bool, true, false, ◌==◌, ◌||◌, if◌then◌else◌, IsTrue, slice_get, List, [], ◌∷◌, ◌++◌, Option, Some, None, length, count_by, slice_set, slice_index_or}
+use Rattle.std.specs.Prelude.{◌≡◌, ◌⊎◌, ◌<◌, ℕ, ◌+◌, ◌-◌, ◌%◌, ◌^◌, Bool, true, false, ◌==◌, ◌||◌, if◌then◌else◌, IsTrue, slice_get, List, [], ◌∷◌, ◌++◌, Option, Some, None, Result, Ok, Err, length, count_by, slice_set, slice_index_or}
 use Rattle.std.specs.List.{list_any}
 use Rattle.fsd_bytes.specs.declared.refusal.Refusal.{Refusal}
 use Rattle.fsd_bytes.specs.declared.refusal.Refusal.TheVariants.{Device, Lost, Unsound, Memory, NameTableFull}
@@ -56,21 +56,32 @@ MayChange s page = is_one_of s.changed page ≡ false → 0 < changes s
 
 -- ---- why pages are refused
 
--- what has its cause outside: the disk, or want of memory
+-- the refusal, where its cause is outside: the disk, or want of memory
+abbrev pub outer_refusal : Refusal → Option Refusal
+outer_refusal (Device s) = Some (Device s)
+outer_refusal (Lost a b) = Some (Lost a b)
+outer_refusal Memory = Some Memory
+outer_refusal other = None
+
+-- that of a result
+abbrev pub outer_in : {T : Type 0} → Result T Refusal → Option Refusal
+outer_in (Ok x) = None
+outer_in (Err refusal) = outer_refusal refusal
+
 abbrev pub IsOuter : Refusal → Type 0
-IsOuter refusal = ((s : ℕ) × (refusal ≡ Device s)) ⊎ (((a b : ℕ) × (refusal ≡ Lost a b)) ⊎ (refusal ≡ Memory))
+IsOuter refusal = outer_refusal refusal ≡ Some refusal
 
 -- the page is spare, or the grammar refuses what it has
 abbrev pub IsBarred : Step → ℕ → Type 0
 IsBarred s page = (is_spare s.spares page ≡ true) ⊎ (page_at s.images page ≡ None)
 
--- the refusals of a page that is reached, where those with this cause come from outside
-abbrev pub IsReachRefusal : (Refusal → Type 0) → Step → ℕ → Refusal → Type 0
-IsReachRefusal Outer s page refusal = Outer refusal ⊎ ((refusal ≡ Unsound (home_of s page)) × IsBarred s page)
+-- the refusals of a page that is reached
+abbrev pub IsReachRefusal : Step → ℕ → Refusal → Type 0
+IsReachRefusal s page refusal = IsOuter refusal ⊎ ((refusal ≡ Unsound (home_of s page)) × IsBarred s page)
 
 -- the refusals of so many spare pages
-abbrev pub IsSpareRefusal : (Refusal → Type 0) → (free n : ℕ) → Refusal → Type 0
-IsSpareRefusal Outer free n refusal = Outer refusal ⊎ ((refusal ≡ NameTableFull free) × (free < n))
+abbrev pub IsSpareRefusal : (free n : ℕ) → Refusal → Type 0
+IsSpareRefusal free n refusal = IsOuter refusal ⊎ ((refusal ≡ NameTableFull free) × (free < n))
 
 -- ---- what the calls make of a step
 

@@ -1,10 +1,10 @@
 //! The pages of a name table, which are reached and changed in steps.
-ghost use Rattle.std.specs.Prelude.{◌≡◌, ◌≢◌, ◌↔◌, ◌<◌, ◌≤◌, ℕ, List, Some, Err, true, false, IsSome, OnOk, IfErr, slice_get, length};
+ghost use Rattle.std.specs.Prelude.{◌≡◌, ◌≢◌, ◌↔◌, ◌<◌, ◌≤◌, ℕ, List, Option, Some, None, Err, true, false, IsSome, OnOk, IfErr, slice_get, length};
 ghost use Rattle.std.specs.Borrow.{sem};
 ghost use Rattle.fsd_bytes.specs.declared.refusal.Refusal.{Refusal};
 ghost use Rattle.fsd_table.specs.Pages.{page_at};
 ghost use Rattle.name_page.specs.Lends.{LendsPage};
-ghost use Rattle.name_page.specs.Pages.{is_spare, free_count, home_of, reaches, changes, Step, IsReached, IsOuter, IsReachRefusal, IsSpareRefusal, Keeps, MayChange, with_images, with_refusal, with_reached, with_promise, with_page, with_taken, with_spare, rested};
+ghost use Rattle.name_page.specs.Pages.{is_spare, free_count, home_of, reaches, changes, Step, IsReached, IsReachRefusal, IsSpareRefusal, Keeps, MayChange, outer_in, with_images, with_refusal, with_reached, with_promise, with_page, with_taken, with_spare, rested};
 
 use fsd_bytes::Refusal;
 
@@ -32,11 +32,9 @@ pub trait Pages {
     /// The outside gave pages as it is to, so far.
     ghost trusted: { Self → Type 0 };
 
-    /// What has happened outside, between an old state and a new one.
-    ghost outside: { Self → Self → Type 0 };
-
-    /// What has happened outside, between an old state and a new one, is the cause of a refusal.
-    ghost causes: { Self → Self → Refusal → Type 0 };
+    /// What has happened outside between an old state and a new one, of which the last call was refused so by the outside,
+    /// or none was.
+    ghost outside: { Option Refusal → Self → Self → Type 0 };
 
     /// The number of pages of the table.
     fn count(&self) -> u32
@@ -46,7 +44,7 @@ pub trait Pages {
     fn reach(&mut self, page: u32) -> Result<(), Refusal>
         requires more { 0 < reaches (step self.old) }
         requires within { page < length (step self.old).images }
-        ensures outside { outside self.old self.new }
+        ensures outside { outside (outer_in result) self.old self.new }
         ensures kept { Keeps (step self.old) (step self.new).images }
         ensures stays { trusted self.new → (step self.new).images ≡ (step self.old).images }
         ensures step { OnOk result (step self.new ≡ with_reached page (with_images (step self.new).images (step self.old))) }
@@ -55,17 +53,17 @@ pub trait Pages {
         ensures used { OnOk result (is_spare (step self.old).spares page ≡ false) }
         ensures spare { is_spare (step self.old).spares page ≡ true → result ≡ Err (Refusal.Unsound (home_of (step self.old) page)) }
         ensures refused { IfErr result (λ refusal. step self.new ≡ with_refusal refusal (with_images (step self.new).images (step self.old))) }
-        ensures cause { IfErr result (IsReachRefusal (causes self.old self.new) (step self.new) page) };
+        ensures cause { IfErr result (IsReachRefusal (step self.new) page) };
 
     /// Promises so many pages that may be taken, in place of what was promised before.
     fn spare(&mut self, n: u32) -> Result<(), Refusal>
-        ensures outside { outside self.old self.new }
+        ensures outside { outside (outer_in result) self.old self.new }
         ensures kept { Keeps (step self.old) (step self.new).images }
         ensures stays { trusted self.new → (step self.new).images ≡ (step self.old).images }
         ensures step { OnOk result (step self.new ≡ with_promise n (with_images (step self.new).images (step self.old))) }
         ensures full { let free = free_count (step self.old) in (result ≡ Err (Refusal.NameTableFull free)) ↔ (free < n) }
         ensures refused { IfErr result (λ refusal. step self.new ≡ with_refusal refusal (with_images (step self.new).images (step self.old))) }
-        ensures cause { IfErr result (IsSpareRefusal (causes self.old self.new) (free_count (step self.old)) n) };
+        ensures cause { IfErr result (IsSpareRefusal (free_count (step self.old)) n) };
 
     /// The bytes of a page that was reached.
     fn look(&self, page: u32) -> &[u8; 512]
@@ -83,7 +81,7 @@ pub trait Pages {
     fn take(&mut self) -> u32
         requires promised { 0 < (step self.old).promised }
         requires more { 0 < changes (step self.old) }
-        ensures outside { outside self.old self.new }
+        ensures outside { outside None self.old self.new }
         ensures spare { is_spare (step self.old).spares result ≡ true }
         ensures step { step self.new ≡ with_taken result (step self.old) }
         ensures reached { IsReached (step self.new) result };
@@ -93,34 +91,28 @@ pub trait Pages {
         requires reached { IsReached (step self.old) page }
         requires used { is_spare (step self.old).spares page ≡ false }
         requires root { page ≢ 0 }
-        ensures outside { outside self.old self.new }
+        ensures outside { outside None self.old self.new }
         ensures step { step self.new ≡ with_spare page (step self.old) };
 
     /// Ends the step. The next one may reach as many pages again.
     fn rest(&mut self)
-        ensures outside { outside self.old self.new }
+        ensures outside { outside None self.old self.new }
         ensures step { step self.new ≡ rested (step self.old) };
 
     /// What the step knows once the bytes that were lent have come back.
     ghost changed: { (s : Self) (page : ℕ) (bytes : List ℕ) → step (written s page bytes) ≡ with_page page bytes (step s) };
 
     /// Where bytes are written nothing is called.
-    ghost quiet: { (s : Self) (page : ℕ) (bytes : List ℕ) → outside s (written s page bytes) };
+    ghost quiet: { (s : Self) (page : ℕ) (bytes : List ℕ) → outside None s (written s page bytes) };
 
     /// Where nothing is called nothing happens.
-    ghost still: { (s : Self) → outside s s };
+    ghost still: { (s : Self) → outside None s s };
 
-    /// What happens one after the other happens in all.
-    ghost then: { (a b c : Self) → outside a b → outside b c → outside a c };
+    /// What happens one after the other happens in all, and the outside refuses last.
+    ghost then: { (a b c : Self) (refusal : Option Refusal) → outside None a b → outside refusal b c → outside refusal a c };
 
     /// Trust that is lost does not come back.
-    ghost trust: { (a b : Self) → outside a b → trusted b → trusted a };
-
-    /// What happened before takes no cause away.
-    ghost later: { (a b c : Self) (refusal : Refusal) → outside a b → causes b c refusal → causes a c refusal };
-
-    /// Only the disk and want of memory refuse from outside.
-    ghost outer: { (a b : Self) (refusal : Refusal) → causes a b refusal → IsOuter refusal };
+    ghost trust: { (a b : Self) (refusal : Option Refusal) → outside refusal a b → trusted b → trusted a };
 
     /// A table has at most 4096 pages.
     ghost small: { (s : Self) → length (step s).images ≤ 4096 };

@@ -79,7 +79,7 @@ impl VecPages {
 }
 
 impl Pages for VecPages {
-    ghost use Rattle.std.specs.Prelude.{refl, ⊤};
+    ghost use Rattle.std.specs.Prelude.{refl, ⊤, None};
     ghost use Rattle.name_page.specs.VecPages.{written};
     ghost use Rattle.name_page.specs.declared.pages.TheConstants.{MOST_CHANGED, MOST_REACHED};
 
@@ -89,23 +89,17 @@ impl Pages for VecPages {
 
     ghost trusted = { λ s. ⊤ };
 
-    ghost outside = { λ a b. ⊤ };
-
-    ghost causes = { λ a b refusal. ⊥ };
+    ghost outside = { λ refusal a b. refusal ≡ None };
 
     ghost changed = { λ s page bytes. refl };
 
-    ghost quiet = { λ s page bytes. tt };
+    ghost quiet = { λ s page bytes. refl };
 
-    ghost still = { λ s. tt };
+    ghost still = { λ s. refl };
 
-    ghost then = { λ a b c x y. tt };
+    ghost then = { λ a b c refusal x y. y };
 
-    ghost trust = { λ a b x y. tt };
-
-    ghost later = { λ a b c refusal x cause. cause };
-
-    ghost outer = { λ a b refusal cause. absurd cause };
+    ghost trust = { λ a b refusal x y. tt };
 
     ghost small = { λ s. s.small };
 

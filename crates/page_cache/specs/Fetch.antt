@@ -1,8 +1,7 @@
 -- Why a page was not fetched.
-use Rattle.std.specs.Prelude.{⊤, ℕ, List}
+use Rattle.std.specs.Prelude.{⊤, ℕ, List, Option, Some, None}
 use Rattle.sector_disk.specs.declared.sector.Sector.{Sector}
 use Rattle.sector_disk.specs.Damage.{AreLost}
-use Rattle.sector_disk.specs.Machine.{Report, DeviceFault}
 use Rattle.sector_disk.specs.declared.machine.LoadFault.{LoadFault}
 use Rattle.sector_disk.specs.declared.machine.LoadFault.TheVariants.{Device as LoadDevice, Lost as LoadLost}
 use Rattle.page_cache.specs.declared.fault.CacheFault.{CacheFault}
@@ -13,11 +12,11 @@ abbrev pub fault_of : LoadFault → CacheFault
 fault_of (LoadDevice place) = Device place
 fault_of (LoadLost a b) = Lost a b
 
--- the disk failed, where it is said to
-abbrev pub FetchCause : Report → Report → CacheFault → Type 0
-FetchCause old new (Device place) = DeviceFault old new place
-FetchCause old new Memory = ⊤
-FetchCause old new (Lost a b) = ⊤
+-- the place of the call of the disk that failed, if one did
+abbrev pub fetch_failed_at : CacheFault → Option ℕ
+fetch_failed_at (Device place) = Some place
+fetch_failed_at Memory = None
+fetch_failed_at (Lost a b) = None
 
 -- both copies are damaged, where they are said to be
 abbrev pub LostCause : (ℕ → ℕ → Type 0) → List Sector → CacheFault → Type 0

@@ -43,12 +43,11 @@ impl Model for Cache {
 }
 
 impl Cache {
-    ghost use Rattle.std.specs.Prelude.{◌<◌, ◌≤◌, ◌≢◌, ◌⊎◌, ◌+◌, ◌-◌, ◌^◌, ℕ, List, Option, Ok, Some, None, true, IsTrue, slice_get, IsSome, IfSome, IfOk, IfErr, OnOk, OnErr, length, option_map};
+    ghost use Rattle.std.specs.Prelude.{◌<◌, ◌≤◌, ◌≢◌, ◌⊎◌, ◌+◌, ◌-◌, ◌^◌, ℕ, List, Option, Ok, Some, None, true, IsTrue, slice_get, IfSome, IfOk, IfErr, OnOk, OnErr, length, option_map};
     ghost use Rattle.std.specs.Borrow.{sem};
-    ghost use Rattle.sector_disk.specs.Image.{IsCalm};
-    ghost use Rattle.sector_disk.specs.Machine.{UsesDisk, Trusts, Wears, LeavesOnly};
+    ghost use Rattle.sector_disk.specs.Calls.{OnlyReads, device_in};
     ghost use Rattle.page_cache.specs.Cache.{held, bytes_of, pins_of, busy, frame_for, is_one_of, IsResident, IsCache, KeepsNewest, no_pages, used, entered, with_pins, with_dirty, cleaned};
-    ghost use Rattle.page_cache.specs.Fetch.{FetchCause, LostCause, IsNotLost};
+    ghost use Rattle.page_cache.specs.Fetch.{fetch_failed_at, LostCause, IsNotLost};
     ghost use Rattle.page_cache.specs.Lends.{LendsBytes, LendsFrames};
 
     /// A cache of so many frames, with no page in memory.
@@ -84,20 +83,14 @@ impl Cache {
         ensures frame { held self.old page ≡ None → IfOk result (λ frame. frame ≡ frame_for self.old) }
         ensures entered { held self.old page ≡ None → OnOk result ((bytes : List ℕ) × (self.new ≡ entered page bytes self.old)) }
         ensures whole { held self.old page ≡ None → OnOk result (M.honest m.new → IfSome (bytes_of self.new page) (S.stands source.now page (M.now m.old).image)) }
-        ensures given { held self.old page ≡ None → OnOk result (M.honest m.new → IsCalm (M.now m.old).windows → S.knows source.now (M.now m.old).image →
+        ensures given { held self.old page ≡ None → OnOk result (M.honest m.new → S.knows source.now (M.now m.old) →
             S.newest source.now (M.now m.old).image page ≡ bytes_of self.new page) }
-        ensures newest { OnOk result (M.honest m.new → IsCalm (M.now m.old).windows → S.knows source.now (M.now m.old).image →
+        ensures newest { OnOk result (M.honest m.new → S.knows source.now (M.now m.old) →
             KeepsNewest (S.newest source.now (M.now m.old).image) self.old self.new) }
 
-        ensures fault { IfErr result (FetchCause (M.report m.old) (M.report m.new)) }
-        ensures uses { UsesDisk (M.report m.old) (M.report m.new) }
-        ensures trust { Trusts (M.tells m.old) (M.tells m.new) (M.honest m.old) (M.honest m.new) }
-        ensures ledger { M.tells m.new → M.ledger m.new ≡ M.ledger m.old }
-        ensures worn { M.honest m.new → Wears (M.now m.old) (M.now m.new) }
-        ensures any_moment { M.honest m.new → LeavesOnly M.moment M.left_since m.old m.new (Wears (M.now m.old)) }
+        ensures reads { OnlyReads M.Machine (device_in fetch_failed_at result) m.old m.new }
         ensures lost { IfErr result (λ fault. M.honest m.new → LostCause (S.copies source.now page) (M.now m.new).image fault) }
-        ensures never_lost { IfErr result (λ fault. M.honest m.new → IsCalm (M.now m.old).windows → S.knows source.now (M.now m.old).image →
-            IsSome (S.newest source.now (M.now m.old).image page) → IsNotLost fault) }
+        ensures never_lost { IfErr result (λ fault. M.honest m.new → S.knows source.now (M.now m.old) → IsNotLost fault) }
         ensures kept { OnErr result (self.new ≡ self.old) }
         ensures busy { busy self.new ≡ busy self.old }
         ensures frames { self.new.frames ≡ self.old.frames }
@@ -134,20 +127,14 @@ impl Cache {
         ensures frame { IfOk result (λ frame. frame ≡ frame_for self.old) }
         ensures entered { OnOk result ((bytes : List ℕ) × (self.new ≡ entered page bytes self.old)) }
         ensures whole { OnOk result (M.honest m.new → IfSome (bytes_of self.new page) (S.stands source.now page (M.now m.old).image)) }
-        ensures given { OnOk result (M.honest m.new → IsCalm (M.now m.old).windows → S.knows source.now (M.now m.old).image →
+        ensures given { OnOk result (M.honest m.new → S.knows source.now (M.now m.old) →
             S.newest source.now (M.now m.old).image page ≡ bytes_of self.new page) }
-        ensures newest { OnOk result (M.honest m.new → IsCalm (M.now m.old).windows → S.knows source.now (M.now m.old).image →
+        ensures newest { OnOk result (M.honest m.new → S.knows source.now (M.now m.old) →
             KeepsNewest (S.newest source.now (M.now m.old).image) self.old self.new) }
 
-        ensures fault { IfErr result (FetchCause (M.report m.old) (M.report m.new)) }
-        ensures uses { UsesDisk (M.report m.old) (M.report m.new) }
-        ensures trust { Trusts (M.tells m.old) (M.tells m.new) (M.honest m.old) (M.honest m.new) }
-        ensures ledger { M.tells m.new → M.ledger m.new ≡ M.ledger m.old }
-        ensures worn { M.honest m.new → Wears (M.now m.old) (M.now m.new) }
-        ensures any_moment { M.honest m.new → LeavesOnly M.moment M.left_since m.old m.new (Wears (M.now m.old)) }
+        ensures reads { OnlyReads M.Machine (device_in fetch_failed_at result) m.old m.new }
         ensures lost { IfErr result (λ fault. M.honest m.new → LostCause (S.copies source.now page) (M.now m.new).image fault) }
-        ensures never_lost { IfErr result (λ fault. M.honest m.new → IsCalm (M.now m.old).windows → S.knows source.now (M.now m.old).image →
-            IsSome (S.newest source.now (M.now m.old).image page) → IsNotLost fault) }
+        ensures never_lost { IfErr result (λ fault. M.honest m.new → S.knows source.now (M.now m.old) → IsNotLost fault) }
         ensures kept { OnErr result (self.new ≡ self.old) }
         ensures busy { busy self.new ≡ busy self.old }
         ensures frames { self.new.frames ≡ self.old.frames }

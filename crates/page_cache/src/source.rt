@@ -1,10 +1,10 @@
 //! Where pages come from.
-ghost use Rattle.std.specs.Prelude.{◌≡◌, ◌<◌, ◌≤◌, ℕ, List, Option, Some, IsSome, IfErr, OnOk};
+ghost use Rattle.std.specs.Prelude.{◌≡◌, ◌<◌, ◌≤◌, ℕ, List, Option, Some, IfErr, OnOk};
 ghost use Rattle.sector_disk.specs.declared.sector.Sector.{Sector};
+ghost use Rattle.sector_disk.specs.Calls.{OnlyReads, device_in, load_failed_at};
 ghost use Rattle.sector_disk.specs.Damage.{IsDevice, LostCause};
-ghost use Rattle.sector_disk.specs.Image.{IsCalm};
-ghost use Rattle.sector_disk.specs.Machine.{UsesDisk, Trusts, Wears, LeavesOnly};
-ghost use Rattle.page_cache.specs.Source.{LoadCause};
+ghost use Rattle.sector_disk.specs.Image.{IsWorn, open_damage};
+ghost use Rattle.sector_disk.specs.Machine.{Moment};
 
 use sector_disk::{LoadFault, Machine};
 
@@ -19,8 +19,8 @@ pub trait PageSource {
     /// The newest image of a page that this image of a disk has, if it has one.
     ghost newest: { Self → List Sector → (page : ℕ) → Option (List ℕ) };
 
-    /// What it knows of its pages is so on this image of a disk.
-    ghost knows: { Self → List Sector → Type 0 };
+    /// What it knows of its pages is so on the disk of this moment, however its windows wear it.
+    ghost knows: { Self → Moment → Type 0 };
 
     /// The sectors `a` and `b` are the two copies of a page.
     ghost copies: { Self → (page a b : ℕ) → Type 0 };
@@ -33,20 +33,20 @@ pub trait PageSource {
         requires page { page < pages self.now }
         requires sectors { sectors self.now ≤ (M.report m.old).sectors }
 
-        ensures fault { IfErr result (LoadCause (M.report m.old) (M.report m.new)) }
-        ensures uses { UsesDisk (M.report m.old) (M.report m.new) }
-        ensures trust { Trusts (M.tells m.old) (M.tells m.new) (M.honest m.old) (M.honest m.new) }
-        ensures ledger { M.tells m.new → M.ledger m.new ≡ M.ledger m.old }
-        ensures worn { M.honest m.new → Wears (M.now m.old) (M.now m.new) }
-        ensures any_moment { M.honest m.new → LeavesOnly M.moment M.left_since m.old m.new (Wears (M.now m.old)) }
+        ensures reads { OnlyReads M.Machine (device_in load_failed_at result) m.old m.new }
 
-        // Also where sectors wear, what it gives stood in one of the copies, and a page is lost only where both are damaged.
+        // What it gives stood in one of the copies, and a page is lost only where both are damaged.
         ensures whole { OnOk result (M.honest m.new → stands self.now page (M.now m.old).image buf.new) }
         ensures lost { IfErr result (λ fault. M.honest m.new → LostCause (copies self.now page) (M.now m.new).image fault) }
 
-        // Where nothing wears it gives the newest image, and a page that has one is not lost.
-        ensures newest { OnOk result (M.honest m.new → IsCalm (M.now m.old).windows → knows self.now (M.now m.old).image →
-            newest self.now (M.now m.old).image page ≡ Some buf.new) }
-        ensures never_lost { IfErr result (λ fault. M.honest m.new → IsCalm (M.now m.old).windows → knows self.now (M.now m.old).image →
-            IsSome (newest self.now (M.now m.old).image page) → IsDevice fault) };
+        // From a disk of which it knows it gives the newest image, and no page is lost.
+        ensures newest { OnOk result (M.honest m.new → knows self.now (M.now m.old) → newest self.now (M.now m.old).image page ≡ Some buf.new) }
+        ensures never_lost { IfErr result (λ fault. M.honest m.new → knows self.now (M.now m.old) → IsDevice fault) };
+
+    /// What it knows stays so where the disk wears.
+    ghost wears: { (s : Self) (old new : Moment) → IsWorn (open_damage old.windows) old.image new.image → new.windows ≡ old.windows → knows s old → knows s new };
+
+    /// So does the newest image of each page.
+    ghost stays: { (s : Self) (old new : Moment) (page : ℕ) → IsWorn (open_damage old.windows) old.image new.image → new.windows ≡ old.windows → knows s old →
+        newest s new.image page ≡ newest s old.image page };
 }

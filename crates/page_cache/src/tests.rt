@@ -13,7 +13,7 @@ use std::test::Fail;
 struct Numbered;
 
 impl PageSource for Numbered {
-    ghost use Rattle.std.specs.Prelude.{◌≡◌, ◌%◌, ℕ, List, Some, replicate, ⊤};
+    ghost use Rattle.std.specs.Prelude.{◌≡◌, ◌%◌, ℕ, List, Some, replicate, ⊤, refl};
 
     ghost pages = { λ _. 4096 };
 
@@ -26,6 +26,10 @@ impl PageSource for Numbered {
     ghost copies = { λ _ _ _ _. ⊤ };
 
     ghost stands = { λ _ page _ bytes. bytes ≡ replicate 512 (page % 256) };
+
+    ghost wears = { λ _ old new worn windows knows. knows };
+
+    ghost stays = { λ _ old new page worn windows knows. refl };
 
     fn load<M: Machine>(&self, m: &mut M, page: u32, buf: &mut [u8; 512]) -> Result<(), LoadFault> {
         *buf = [(page % 256) as u8; 512];

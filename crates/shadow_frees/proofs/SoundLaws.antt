@@ -9,8 +9,9 @@ use Rattle.run_table.specs.RunTable.{sectors_of}
 use Rattle.run_table.specs.Space.{contains, where_free, runs_of}
 use Rattle.sector_set.specs.Area.{Area, area, without, together, AreIn, AreOut, IsOwn, left_of}
 use Rattle.sector_set.proofs.AreaLaws.{free_passes}
-use Rattle.sector_set.proofs.CountLaws.{split_where}
-use Rattle.shadow_frees.specs.Waits.{AreApart, AreSound}
+use Rattle.sector_set.proofs.CountLaws.{split_where, no_more_than}
+use Rattle.sector_set.proofs.FreeLaws.{where_same, contains_where}
+use Rattle.shadow_frees.specs.Waits.{AreApart, AreSound, waits, waiting_sectors}
 use Rattle.shadow_frees.specs.Readers.{Slots, Agrees, has_sector, is_held, unheld, with_held, IsVersion, IsSlot}
 use Rattle.sector_set.proofs.MeetLaws.{none_any, all_any}
 use Rattle.shadow_frees.proofs.HeldLaws.{agrees_back, own_of, has_where}
@@ -249,8 +250,10 @@ sound_committed removed kept unfinished left new slots sound r is = record {
 
 -- ---- how many wait
 
-pub few_waiting : (removed kept unfinished : Area) (slots : Slots) → IsOwn removed → IsOwn kept → IsOwn unfinished → AreSound removed kept unfinished slots → length removed.sectors + length kept.sectors + length unfinished.sectors ≤ removed.to - removed.from
-few_waiting removed kept unfinished slots r k u sound =
+-- those that wait are the three sets together
+pub all_waiting : (removed kept unfinished : Area) (slots : Slots) → IsOwn removed → IsOwn kept → IsOwn unfinished → AreSound removed kept unfinished slots
+    → length (waiting_sectors (record { removed = removed; kept = kept; unfinished = unfinished; held = slots })) ≡ length removed.sectors + length kept.sectors + length unfinished.sectors
+all_waiting removed kept unfinished slots r k u sound =
     let one : Area = area removed.from removed.to (λ s. contains removed.sectors s || contains kept.sectors s) in
     let apart : AreApart one unfinished = record {
       from = sound.removed_unfinished.from;
@@ -260,7 +263,18 @@ few_waiting removed kept unfinished slots r k u sound =
         | inr e ↦ sound.kept_unfinished.apart s e
       ];
     } in
-    omega (arith, both removed kept r k sound.removed_kept, few one unfinished (own_of removed.from removed.to _ one refl) u apart)
+    let same : where_free (waits (record { removed = removed; kept = kept; unfinished = unfinished; held = slots })) removed.from removed.to ≡ where_free (λ s. contains one.sectors s || contains unfinished.sectors s) removed.from removed.to =
+    where_same _ _ removed.from removed.to (λ s low high. regrouped (contains removed.sectors s) (contains kept.sectors s) (contains unfinished.sectors s)
+    ∙ ap (λ (b : Bool). b || contains unfinished.sectors s) (sym (contains_where (λ t. contains removed.sectors t || contains kept.sectors t) removed.from removed.to s low high))) in
+    omega (arith, ap length same, both removed kept r k sound.removed_kept, both one unfinished (own_of removed.from removed.to _ one refl) u apart)
+  where
+    regrouped : (a b c : Bool) → (a || (b || c)) ≡ ((a || b) || c)
+    regrouped true b c = refl
+    regrouped false b c = refl
+
+pub few_waiting : (removed kept unfinished : Area) (slots : Slots) → IsOwn removed → IsOwn kept → IsOwn unfinished → AreSound removed kept unfinished slots → length removed.sectors + length kept.sectors + length unfinished.sectors ≤ removed.to - removed.from
+few_waiting removed kept unfinished slots r k u sound =
+    omega (arith, all_waiting removed kept unfinished slots r k u sound, no_more_than (waits (record { removed = removed; kept = kept; unfinished = unfinished; held = slots })) removed.from removed.to)
 
 -- ---- those that nobody holds
 

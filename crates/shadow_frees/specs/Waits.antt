@@ -1,8 +1,8 @@
 -- Sectors that belong to no version and are not free yet.
-use Rattle.std.specs.Prelude.{ℕ, ◌-◌, ◌≡◌, List, [], ◌∷◌, Option, Some, None, IsTrue, IsFalse}
+use Rattle.std.specs.Prelude.{ℕ, ◌-◌, ◌≡◌, Bool, ◌||◌, List, [], ◌∷◌, Option, Some, None, IsTrue, IsFalse}
 use Rattle.run_table.specs.declared.run.Run.{Run}
 use Rattle.run_table.specs.RunTable.{run_of}
-use Rattle.run_table.specs.Space.{contains}
+use Rattle.run_table.specs.Space.{contains, where_free}
 use Rattle.sector_set.specs.Area.{Area, without, AreOut, IsOwn}
 use Rattle.shadow_frees.specs.Readers.{Slots, AreSlots}
 
@@ -13,6 +13,14 @@ pub record Waits : Type 0 where
   pub kept : Area
   pub unfinished : Area
   pub held : Slots
+
+-- whether a sector waits
+abbrev pub waits : Waits → ℕ → Bool
+waits w s = contains w.removed.sectors s || (contains w.kept.sectors s || contains w.unfinished.sectors s)
+
+-- the sectors that wait, in order
+abbrev pub waiting_sectors : Waits → List ℕ
+waiting_sectors w = where_free (waits w) w.removed.from w.removed.to
 
 -- these sectors do not wait, and each is named once
 abbrev pub AreIdle : Waits → List Run → Type 0

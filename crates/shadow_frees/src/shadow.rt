@@ -4,7 +4,7 @@ ghost use Rattle.std.specs.List.{list_any};
 ghost use Rattle.run_table.specs.Space.{contains};
 ghost use Rattle.sector_set.specs.Area.{area, without, together, AreIn, AreOut};
 ghost use Rattle.shadow_frees.specs.Readers.{is_empty, Agrees, AreUnheld, unheld, with_held, given_back};
-ghost use Rattle.shadow_frees.specs.Waits.{AreIdle, AreSound, run_between, left_after, left_kept};
+ghost use Rattle.shadow_frees.specs.Waits.{AreIdle, AreSound, run_between, left_after, left_kept, waiting_sectors, waits};
 
 use crate::readers;
 use run_table::Runs;
@@ -189,7 +189,7 @@ impl Shadow {
 
     /// How many sectors wait.
     pub fn waiting(&self) -> Waiting
-        ensures all { result.all ≡ length self.now.removed.sectors + length self.now.kept.sectors + length self.now.unfinished.sectors }
+        ensures all { result.all ≡ length (waiting_sectors self.now) }
         ensures removed { result.removed ≡ length self.now.removed.sectors }
         ensures once { AreSound self.now.removed self.now.kept self.now.unfinished self.now.held }
     {
@@ -205,7 +205,7 @@ impl Shadow {
     pub fn waits(&self, s: u32) -> bool
         requires from { self.now.removed.from ≤ s }
         requires to { s < self.now.removed.to }
-        ensures { result ≡ (contains self.now.removed.sectors s || (contains self.now.kept.sectors s || contains self.now.unfinished.sectors s)) }
+        ensures { result ≡ waits self.now s }
     {
         self.removed.contains(s) || self.kept.contains(s) || self.unfinished.contains(s)
     }

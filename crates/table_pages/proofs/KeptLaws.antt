@@ -2,10 +2,14 @@
 use Rattle.std.proofs.Common.{◌≡◌, ◌⊎◌, inl, inr, ℕ, ◌+◌, ◌-◌, ◌<◌, ◌≤◌, Bool, true, false, ◌||◌, List, [], ◌∷◌, ◌++◌, length, get_or, Option, Some, None, IsSome, refl, sym, ap, ◌∙◌, subst, arith, eqb-true, eq-eqb, length-append, length-set}
 use Rattle.std.specs.Prelude.{IsTrue, nat_eq, count_by, slice_get, slice_set}
 use Rattle.std.specs.Option.{option_or}
+use Rattle.std.proofs.Math.Logic.{∥∥₁_elim}
+use Rattle.std.proofs.Props.{props}
 use Rattle.std.proofs.lemmas.Bool.{true≢false}
 use Rattle.std.proofs.lemmas.List.{get_or-set_same, get_or-set_other}
+use Rattle.fsd_bytes.specs.declared.refusal.Refusal.{Refusal}
 use Rattle.sector_disk.specs.declared.machine.Machine.{Ghosts as MachineGhosts}
-use Rattle.sector_disk.specs.Machine.{Moment}
+use Rattle.sector_disk.specs.Machine.{Wears}
+use Rattle.sector_disk.proofs.Holding.{wears_none, wears_on}
 use Rattle.page_cache.specs.declared.source.PageSource.{Ghosts as SourceGhosts}
 use Rattle.page_cache.specs.Cache.{CacheValue, IsResident, AreNewest, newest, bytes_of, pins_of, is_one_of, with_pins, with_dirty}
 use Rattle.page_cache.proofs.Entries.{by_bool, key_flips, same_key}
@@ -18,7 +22,7 @@ use Rattle.table_pages.specs.Sparing.{AreSpare, SparesOnly}
 use Rattle.table_pages.specs.Kept.{IsKept, images_of}
 use Rattle.table_pages.proofs.PinLaws.{count_append, count_single, set_only, set_pins, only_there}
 use Rattle.table_pages.proofs.SpareLaws.{one_of_count, pins_newest, kept_pins}
-use Rattle.table_pages.specs.ReadLaws.{trusted_before}
+use Rattle.table_pages.proofs.LastLaws.{Lasts, knows_on, same_newest}
 use Rattle.table_pages.specs.ImageLaws.{image_same, images_same}
 
 -- ---- free pages
@@ -53,10 +57,10 @@ spare_given free page spares lt h = record {
   once = h.once;
 }
 
-module _ {D E : Type 0} (M : MachineGhosts D) (S : SourceGhosts E) (source : E) where
+module _ {D E : Type 0} (M : MachineGhosts D) (S : SourceGhosts E) (source : E) (first : D) (had : CacheValue) where
   -- ---- what is reached
 
-  module _ (m : D) (c : CacheValue) (free : List Bool) (reached spares : List ℕ) (promised : ℕ) (h : IsKept M S m c source free reached spares promised) where
+  module _ (m : D) (c : CacheValue) (free : List Bool) (reached spares : List ℕ) (promised : ℕ) (h : IsKept M S first had m c source free reached spares promised) where
     -- a page that the step has reached, or that is dirty, is in the cache, and is dirty or pinned
     pub reached_busy : (page : ℕ) → IsTrue (is_one_of reached page || is_one_of c.dirty page) → (is_one_of c.dirty page ≡ true) ⊎ (0 < pins_of c page)
     reached_busy page is = by_bool (is_one_of reached page)
@@ -87,7 +91,7 @@ module _ {D E : Type 0} (M : MachineGhosts D) (S : SourceGhosts E) (source : E) 
 
     -- ---- pages are fetched
 
-    module _ (m' : D) (c' : CacheValue) (fetches : FetchesOnly M S source m m' c c') where
+    module _ (refusal : Option Refusal) (m' : D) (c' : CacheValue) (fetches : FetchesOnly M S source refusal m m' c c') where
       pub fetched_bytes : (page : ℕ) → IsTrue (is_one_of reached page || is_one_of c.dirty page) → bytes_of c' page ≡ bytes_of c page
       fetched_bytes page is = fetches.brings.keeps page (reached_there page is) (reached_busy page is)
 
@@ -101,23 +105,32 @@ module _ {D E : Type 0} (M : MachineGhosts D) (S : SourceGhosts E) (source : E) 
           by_bytes a None same there = absurd (true≢false (sym there))
           by_bytes a (Some x) same there = ap (λ (o : Option (List ℕ)). option_or o (given_by M S source m' page)) same
 
-      -- and all do where the outside is trusted
-      pub fetched_images : IsTrusted M S source m' → images_of (newest c' (given_by M S source m')) (length free) ≡ images_of (newest c (given_by M S source m)) (length free)
-      fetched_images t =
-          let before = trusted_before M S source m m' fetches.reads t in
-          let same : (q : ℕ) → given_by M S source m' q ≡ given_by M S source m q = λ q. ap (λ (x : Moment). S.newest source x.image q) before.1 in
-          let clean : AreNewest (given_by M S source m') c = λ q there not. h.clean before.0 q there not ∙ sym (same q) in
-          images_same (newest c (given_by M S source m)) (newest c' (given_by M S source m')) (length free)
-          (λ q. (fetches.newest t clean).1 q ∙ ap (λ (o : Option (List ℕ)). option_or (bytes_of c q) o) (same q))
+      -- where the outside is trusted it was before, and what is not dirty is what the source has then
+      still : Lasts S → IsTrusted M S source first had m' → Wears (M.now first) (M.now m) → AreNewest (given_by M S source m') c' × ((q : ℕ) → newest c' (given_by M S source m') q ≡ newest c (given_by M S source m) q)
+      still lasts t was =
+          let back = fetches.reads.trust.honest t.honest in
+          let worn = fetches.reads.worn t.honest in
+          let known = knows_on S lasts source (M.now first) (M.now m) was t.knows in
+          let same = same_newest S lasts source (M.now m) (M.now m') worn known in
+          let keeps = fetches.newest t.honest known (h.clean (record { honest = back; knows = t.knows; clean = t.clean })) in (
+            subst (λ (source : ℕ → Option (List ℕ)). AreNewest source c') (sym same) keeps.0,
+            λ q. ap (λ (source : ℕ → Option (List ℕ)). newest c' source q) same ∙ keeps.1 q,
+          )
+
+      -- and all images do where the outside is trusted
+      pub fetched_images : Lasts S → IsTrusted M S source first had m' → images_of (newest c' (given_by M S source m')) (length free) ≡ images_of (newest c (given_by M S source m)) (length free)
+      fetched_images lasts t =
+          ∥∥₁_elim (h.worn (fetches.reads.trust.honest t.honest)) (Prim.hlevel props)
+          (λ was. images_same (newest c (given_by M S source m)) (newest c' (given_by M S source m')) (length free) (still lasts t was).1)
 
       -- it is still kept, with the pins that are told
-      pub kept_fetched : (spares' : List ℕ) (promised' : ℕ) → ((q : ℕ) → pins_of c' q ≡ count_by (nat_eq q) (reached ++ spares')) → length spares' ≤ 16 → AreSpare free spares' → promised' ≤ length spares'
-          → IsKept M S m' c' source free reached spares' promised'
-      kept_fetched spares' promised' pins few are enough = record {
+      pub kept_fetched : Lasts S → (spares' : List ℕ) (promised' : ℕ) → ((q : ℕ) → pins_of c' q ≡ count_by (nat_eq q) (reached ++ spares')) → length spares' ≤ 16 → AreSpare free spares' → promised' ≤ length spares'
+          → IsKept M S first had m' c' source free reached spares' promised'
+      kept_fetched lasts spares' promised' pins few are enough = record {
         pages = h.pages;
         small = h.small;
         sectors = (let same = fetches.reads.uses.sectors in let le = h.sectors in omega (arith, same, le));
-        frames = (let same = fetches.brings.frames in let le = h.frames in omega (arith, same, le));
+        frames = (let same = fetches.fills.frames in let le = h.frames in omega (arith, same, le));
         few_reached = h.few_reached;
         few_spares = few;
         pins = pins;
@@ -127,18 +140,16 @@ module _ {D E : Type 0} (M : MachineGhosts D) (S : SourceGhosts E) (source : E) 
             bytes_resident c' q (subst (λ o. IsSome o) (sym (fetches.brings.keeps q there (inl was))) (resident_bytes c q there));
         are_spare = are;
         enough = enough;
-        clean = λ t.
-            let before = trusted_before M S source m m' fetches.reads t in
-            let clean : AreNewest (given_by M S source m') c = λ q there not. h.clean before.0 q there not ∙ sym (ap (λ (x : Moment). S.newest source x.image q) before.1) in
-            (fetches.newest t clean).0;
+        worn = λ now. ∥∥₁_elim (h.worn (fetches.reads.trust.honest now)) (Prim.hlevel props) (λ was. ∣ wears_on (M.now first) (M.now m) (M.now m') was (fetches.reads.worn now) ∣₁);
+        clean = λ t. ∥∥₁_elim (h.worn (fetches.reads.trust.honest t.honest)) (Prim.hlevel props) (λ was. (still lasts t was).0);
       }
 
-      pub kept_brought : ((q : ℕ) → pins_of c' q ≡ pins_of c q) → IsKept M S m' c' source free reached spares promised
-      kept_brought pins = kept_fetched spares promised (λ q. pins q ∙ h.pins q) h.few_spares h.are_spare h.enough
+      pub kept_brought : Lasts S → ((q : ℕ) → pins_of c' q ≡ pins_of c q) → IsKept M S first had m' c' source free reached spares promised
+      kept_brought lasts pins = kept_fetched lasts spares promised (λ q. pins q ∙ h.pins q) h.few_spares h.are_spare h.enough
 
-    pub kept_spares : (m' : D) (c' : CacheValue) (spares' : List ℕ) (promised' : ℕ) → SparesOnly M S source free m m' c c' spares spares' → length spares' ≤ 16 → promised' ≤ length spares'
-        → IsKept M S m' c' source free reached spares' promised'
-    kept_spares m' c' spares' promised' only few enough = kept_fetched m' c' only.fetches spares' promised' at few only.spares enough
+    pub kept_spares : Lasts S → (refusal : Option Refusal) (m' : D) (c' : CacheValue) (spares' : List ℕ) (promised' : ℕ) → SparesOnly M S source free refusal m m' c c' spares spares' → length spares' ≤ 16 → promised' ≤ length spares'
+        → IsKept M S first had m' c' source free reached spares' promised'
+    kept_spares lasts refusal m' c' spares' promised' only few enough = kept_fetched refusal m' c' only.fetches lasts spares' promised' at few only.spares enough
       where
         at : (q : ℕ) → pins_of c' q ≡ count_by (nat_eq q) (reached ++ spares')
         at q =
@@ -148,7 +159,7 @@ module _ {D E : Type 0} (M : MachineGhosts D) (S : SourceGhosts E) (source : E) 
     -- ---- pins are set
 
     pub kept_set : (c' : CacheValue) (reached' spares' : List ℕ) (promised' : ℕ) → OnlyPins c c' → ((q : ℕ) → pins_of c' q ≡ count_by (nat_eq q) (reached' ++ spares')) → length reached' ≤ 80 → length spares' ≤ 16
-        → AreSpare free spares' → promised' ≤ length spares' → IsKept M S m c' source free reached' spares' promised'
+        → AreSpare free spares' → promised' ≤ length spares' → IsKept M S first had m c' source free reached' spares' promised'
     kept_set c' reached' spares' promised' only pins few more are enough = record {
       pages = h.pages;
       small = h.small;
@@ -160,10 +171,11 @@ module _ {D E : Type 0} (M : MachineGhosts D) (S : SourceGhosts E) (source : E) 
       dirty = λ q is. only_there c c' only q (h.dirty q (ap (λ (ds : List ℕ). is_one_of ds q) (sym only.dirty) ∙ is));
       are_spare = are;
       enough = enough;
+      worn = h.worn;
       clean = λ t. (pins_newest (given_by M S source m) c c' only (h.clean t)).0;
     }
 
-    pub kept_reached : (c' : CacheValue) (page : ℕ) → c' ≡ with_pins page (pins_of c page + 1) c → IsResident c page → length reached < 80 → IsKept M S m c' source free (reached ++ page ∷ []) spares promised
+    pub kept_reached : (c' : CacheValue) (page : ℕ) → c' ≡ with_pins page (pins_of c page + 1) c → IsResident c page → length reached < 80 → IsKept M S first had m c' source free (reached ++ page ∷ []) spares promised
     kept_reached c' page set there few =
         kept_set c' (reached ++ page ∷ []) spares promised (set_only c c' page (pins_of c page + 1) set) at (let long = length-append reached (page ∷ []) in omega (arith, long, few)) h.few_spares h.are_spare h.enough
       where
@@ -173,10 +185,10 @@ module _ {D E : Type 0} (M : MachineGhosts D) (S : SourceGhosts E) (source : E) 
             let parts = count_append q reached spares in let more = count_append q reached (page ∷ []) in let all = count_append q (reached ++ page ∷ []) spares in let last = count_single q page in
             omega (arith, now, was, parts, more, all, last)
 
-    pub kept_unreached : (c' : CacheValue) → OnlyPins c c' → ((q : ℕ) → pins_of c' q + count_by (nat_eq q) reached ≡ pins_of c q) → IsKept M S m c' source free [] spares promised
+    pub kept_unreached : (c' : CacheValue) → OnlyPins c c' → ((q : ℕ) → pins_of c' q + count_by (nat_eq q) reached ≡ pins_of c q) → IsKept M S first had m c' source free [] spares promised
     kept_unreached c' only pins = kept_set c' [] spares promised only (λ q. let now = pins q in let was = h.pins q in let parts = count_append q reached spares in omega (arith, now, was, parts)) (omega arith) h.few_spares h.are_spare h.enough
 
-    pub kept_unspared : (c' : CacheValue) → OnlyPins c c' → ((q : ℕ) → pins_of c' q + count_by (nat_eq q) spares ≡ pins_of c q) → IsKept M S m c' source free reached [] 0
+    pub kept_unspared : (c' : CacheValue) → OnlyPins c c' → ((q : ℕ) → pins_of c' q + count_by (nat_eq q) spares ≡ pins_of c q) → IsKept M S first had m c' source free reached [] 0
     kept_unspared c' only pins =
         kept_set c' reached [] 0 only
         (λ q. let now = pins q in let was = h.pins q in let parts = count_append q reached spares in let none = count_append q reached [] in omega (arith, now, was, parts, none))
@@ -184,7 +196,7 @@ module _ {D E : Type 0} (M : MachineGhosts D) (S : SourceGhosts E) (source : E) 
 
     -- ---- a page becomes dirty
 
-    pub kept_dirty : (page : ℕ) → IsResident c page → IsKept M S m (with_dirty page c) source free reached spares promised
+    pub kept_dirty : (page : ℕ) → IsResident c page → IsKept M S first had m (with_dirty page c) source free reached spares promised
     kept_dirty page there = record {
       pages = h.pages;
       small = h.small;
@@ -196,6 +208,7 @@ module _ {D E : Type 0} (M : MachineGhosts D) (S : SourceGhosts E) (source : E) 
       dirty = λ q is. at q (one_dirty c page q is);
       are_spare = h.are_spare;
       enough = h.enough;
+      worn = h.worn;
       clean = λ t. (dirtied_newest page c (given_by M S source m) (h.clean t)).0;
     }
       where
@@ -205,7 +218,7 @@ module _ {D E : Type 0} (M : MachineGhosts D) (S : SourceGhosts E) (source : E) 
 
     -- ---- the free pages change
 
-    pub kept_free : (free' : List Bool) → length free' ≡ length free → AreSpare free' spares → IsKept M S m c source free' reached spares promised
+    pub kept_free : (free' : List Bool) → length free' ≡ length free → AreSpare free' spares → IsKept M S first had m c source free' reached spares promised
     kept_free free' same are = record {
       pages = h.pages ∙ sym same;
       small = (let le = h.small in omega (arith, same, le));
@@ -217,17 +230,18 @@ module _ {D E : Type 0} (M : MachineGhosts D) (S : SourceGhosts E) (source : E) 
       dirty = h.dirty;
       are_spare = are;
       enough = h.enough;
+      worn = h.worn;
       clean = h.clean;
     }
 
-    pub kept_given : (page : ℕ) → page < length free → IsKept M S m c source (slice_set free page true) reached spares promised
+    pub kept_given : (page : ℕ) → page < length free → IsKept M S first had m c source (slice_set free page true) reached spares promised
     kept_given page lt = kept_free (slice_set free page true) (length-set free page true) (spare_given free page spares lt h.are_spare)
 
   -- ---- before the first step
 
-  pub kept_at_first : (m : D) (c : CacheValue) (free : List Bool) → S.pages source ≡ length free → length free ≤ 4096 → S.sectors source ≤ (M.report m).sectors → 192 ≤ c.frames → ((q : ℕ) → pins_of c q ≡ 0)
-      → ((q : ℕ) → is_one_of c.dirty q ≡ true → IsResident c q) → (IsTrusted M S source m → AreNewest (given_by M S source m) c) → IsKept M S m c source free [] [] 0
-  kept_at_first m c free pages small sectors frames pins dirty clean = record {
+  pub kept_at_first : (free : List Bool) → S.pages source ≡ length free → length free ≤ 4096 → S.sectors source ≤ (M.report first).sectors → 192 ≤ had.frames → ((q : ℕ) → pins_of had q ≡ 0)
+      → ((q : ℕ) → is_one_of had.dirty q ≡ true → IsResident had q) → IsKept M S first had first had source free [] [] 0
+  kept_at_first free pages small sectors frames pins dirty = record {
     pages = pages;
     small = small;
     sectors = sectors;
@@ -238,12 +252,13 @@ module _ {D E : Type 0} (M : MachineGhosts D) (S : SourceGhosts E) (source : E) 
     dirty = dirty;
     are_spare = record { are = λ q is. absurd (true≢false (sym is)); once = λ q. omega arith };
     enough = omega arith;
-    clean = clean;
+    worn = λ h. ∣ wears_none (M.now first) ∣₁;
+    clean = λ t. t.clean;
   }
 
   -- ---- a page is taken
 
-  module _ (m : D) (c c' : CacheValue) (free : List Bool) (reached : List ℕ) (page : ℕ) (rest : List ℕ) (promised : ℕ) (h : IsKept M S m c source free reached (page ∷ rest) (promised + 1)) where
+  module _ (m : D) (c c' : CacheValue) (free : List Bool) (reached : List ℕ) (page : ℕ) (rest : List ℕ) (promised : ℕ) (h : IsKept M S first had m c source free reached (page ∷ rest) (promised + 1)) where
     abbrev unpinned : CacheValue
     unpinned = with_pins page (pins_of c page - 1) c
 
@@ -272,12 +287,12 @@ module _ {D E : Type 0} (M : MachineGhosts D) (S : SourceGhosts E) (source : E) 
         let head : one (nat_eq q page) ≡ 0 = ap one (key_flips page q false t) in
         omega (arith, here, was, parts, all, parts', head))
 
-    pub kept_taken : c' ≡ with_dirty page unpinned → IsKept M S m c' source (slice_set free page false) reached rest promised
+    pub kept_taken : c' ≡ with_dirty page unpinned → IsKept M S first had m c' source (slice_set free page false) reached rest promised
     kept_taken set =
         let few = h.enough in
         let long = h.few_spares in
         let left = spare_left free page rest h.are_spare in
-        let first = kept_set m c free reached (page ∷ rest) (promised + 1) h unpinned reached rest promised taken_only taken_pins h.few_reached (omega (arith, long)) left (omega (arith, few)) in
-        let second = kept_free m unpinned free reached rest promised first (slice_set free page false) (length-set free page false) (spare_taken free page rest h.are_spare) in
-        let third = kept_dirty m unpinned (slice_set free page false) reached rest promised second page (only_there c unpinned taken_only page taken_there) in
-        subst (λ (x : CacheValue). IsKept M S m x source (slice_set free page false) reached rest promised) (sym set) third
+        let unpinned_kept = kept_set m c free reached (page ∷ rest) (promised + 1) h unpinned reached rest promised taken_only taken_pins h.few_reached (omega (arith, long)) left (omega (arith, few)) in
+        let taken = kept_free m unpinned free reached rest promised unpinned_kept (slice_set free page false) (length-set free page false) (spare_taken free page rest h.are_spare) in
+        let dirtied = kept_dirty m unpinned (slice_set free page false) reached rest promised taken page (only_there c unpinned taken_only page taken_there) in
+        subst (λ (x : CacheValue). IsKept M S first had m x source (slice_set free page false) reached rest promised) (sym set) dirtied

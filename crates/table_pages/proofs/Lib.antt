@@ -1,3 +1,4 @@
+pub mod LastLaws
 pub mod BringLaws
 pub mod PinLaws
 pub mod SpareLaws

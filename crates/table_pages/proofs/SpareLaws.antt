@@ -1,24 +1,28 @@
 -- Free pages that are kept in the cache, one more after another.
-use Rattle.std.proofs.Common.{◌≡◌, ℕ, Option, IsSome, suc, ◌+◌, ◌<◌, ◌≤◌, Bool, true, false, List, [], ◌∷◌, ◌++◌, length, get_or, refl, sym, ap, ◌∙◌, subst, arith, eqb-true, eq-eqb}
+use Rattle.std.proofs.Common.{◌≡◌, inl, ℕ, Option, None, IsSome, suc, ◌+◌, ◌<◌, ◌≤◌, Bool, true, false, List, [], ◌∷◌, ◌++◌, length, get_or, refl, sym, ap, ◌∙◌, subst, arith, eqb-true, eq-eqb}
 use Rattle.std.specs.Prelude.{nat_eq, nat_le, count_by, slice_index_or, remove}
 use Rattle.std.proofs.lemmas.Bool.{true≢false, or_parts}
 use Rattle.std.proofs.lemmas.Bool.Decides.{nat_tests}
 use Rattle.std.proofs.lemmas.List.Folds.{list_any-append}
 use Rattle.std.proofs.lemmas.List.Sums.{count_by-le-length}
 use Rattle.std.specs.Option.{option_or}
-use Rattle.sector_disk.specs.Machine.{Moment}
+use Rattle.fsd_bytes.specs.declared.refusal.Refusal.{Refusal}
+use Rattle.sector_disk.specs.Calls.{OnlyReads}
+use Rattle.sector_disk.proofs.CallLaws as calls
 use Rattle.sector_disk.specs.declared.machine.Machine.{Ghosts as MachineGhosts}
 use Rattle.page_cache.specs.declared.source.PageSource.{Ghosts as SourceGhosts}
-use Rattle.page_cache.specs.Cache.{CacheValue, IsResident, KeepsNewest, pins_of, is_one_of, with_pins}
+use Rattle.page_cache.specs.Cache.{CacheValue, IsResident, KeepsNewest, bytes_of, pins_of, is_one_of, with_dirty, with_pins}
 use Rattle.page_cache.proofs.Entries.{by_bool, key_flips}
 use Rattle.page_cache.proofs.BusyLaws.{count_cons, one}
-use Rattle.page_cache.proofs.KeepLaws.{bytes_resident, resident_bytes}
-use Rattle.table_pages.specs.Reads.{OnlyReads}
+use Rattle.page_cache.proofs.KeepLaws.{bytes_resident, pinned_bytes, resident_bytes}
+use Rattle.page_cache.proofs.WrittenLaws.{still_dirty}
+use Rattle.table_pages.specs.Reads.{Fills, LosesFor, device_of}
 use Rattle.table_pages.specs.Bringing.{HasRoom, OnlyPins, Brings, given_by, FetchesOnly}
 use Rattle.table_pages.specs.Sparing.{AreSpare, SparesOnly}
 use Rattle.table_pages.proofs.PinLaws.{count_append, count_single, set_only, set_pins}
 use Rattle.table_pages.proofs.BringLaws.{brings_still, brings_then}
-use Rattle.table_pages.specs.ReadLaws.{reads_then, trusted_before}
+use Rattle.table_pages.proofs.LastLaws.{Lasts, knows_on, same_newest}
+use Rattle.table_pages.specs.ReadLaws.{fills_still, fills_then}
 
 -- ---- so many pages are free at most as stand in a list of all of them
 
@@ -102,42 +106,59 @@ pins_newest source old new only clean = (
 )
 
 pub pinned_brings : (old new : CacheValue) → OnlyPins old new → ((q : ℕ) → pins_of old q ≤ pins_of new q) → Brings old new
-pinned_brings old new only more = record { frames = only.frames; dirty = only.dirty; pins = more; keeps = λ q there busy. only.bytes q }
+pinned_brings old new only more = record { dirty = only.dirty; pins = more; keeps = λ q there busy. only.bytes q }
 
 pub newest_then : (source : ℕ → Option (List ℕ)) (a b c : CacheValue) → KeepsNewest source a b → KeepsNewest source b c → KeepsNewest source a c
 newest_then source a b c x y clean =
     let first = x clean in let second = y first.0 in (second.0, λ q. second.1 q ∙ first.1 q)
 
 module _ {D E : Type 0} (M : MachineGhosts D) (S : SourceGhosts E) (source : E) where
-  pub fetches_then : (m1 m2 m3 : D) (a b c : CacheValue) → FetchesOnly M S source m1 m2 a b → FetchesOnly M S source m2 m3 b c → FetchesOnly M S source m1 m3 a c
-  fetches_then m1 m2 m3 a b c x y = record {
-    reads = reads_then M m1 m2 m3 x.reads y.reads;
+  pub pinned_fills : (m : D) (old new : CacheValue) → OnlyPins old new → Fills M S source m m old new
+  pinned_fills m old new only = record {
+    frames = only.frames;
+    dirty = λ q is. ap (λ (ds : List ℕ). is_one_of ds q) only.dirty ∙ is;
+    stood = λ h q bytes out is. inl (sym (only.bytes q) ∙ is);
+  }
+
+  pub taken_fills : (m : D) (old new : CacheValue) (page n : ℕ) → new ≡ with_dirty page (with_pins page n old) → Fills M S source m m old new
+  taken_fills m old new page n set = record {
+    frames = ap (λ (c : CacheValue). c.frames) set;
+    dirty = λ q is. ap (λ (c : CacheValue). is_one_of c.dirty q) set ∙ still_dirty (with_pins page n old) page q is;
+    stood = λ h q bytes out is. inl (sym (ap (λ (c : CacheValue). bytes_of c q) set ∙ pinned_bytes page n old q) ∙ is);
+  }
+
+  pub fetches_then : Lasts S → (refusal : Option Refusal) (m1 m2 m3 : D) (a b c : CacheValue) → FetchesOnly M S source None m1 m2 a b → FetchesOnly M S source refusal m2 m3 b c → FetchesOnly M S source refusal m1 m3 a c
+  fetches_then lasts refusal m1 m2 m3 a b c x y = record {
+    reads = calls.reads_then x.reads y.reads;
+    loses = y.loses;
+    fills = fills_then M S source m1 m2 m3 a b c y.reads.trust.honest x.reads.worn x.fills y.fills;
     brings = brings_then a b c x.brings y.brings;
-    newest = λ t.
-        let before = trusted_before M S source m2 m3 y.reads t in
-        let first = x.newest before.0 in
-        newest_then (given_by M S source m3) a b c
-        (subst (λ (at : Moment). KeepsNewest (λ q. S.newest source at.image q) a b) (sym before.1) first)
-        (y.newest t);
+    newest = λ h knows.
+        let back = y.reads.trust.honest h in
+        let worn = x.reads.worn back in
+        newest_then (given_by M S source m1) a b c (x.newest back knows)
+        (subst (λ (source : ℕ → Option (List ℕ)). KeepsNewest source b c) (same_newest S lasts source (M.now m1) (M.now m2) worn knows) (y.newest h (knows_on S lasts source (M.now m1) (M.now m2) worn knows)));
   }
 
   -- then pins are set
-  pub fetches_pins : (m1 m2 : D) (a b c : CacheValue) → FetchesOnly M S source m1 m2 a b → OnlyPins b c → ((q : ℕ) → pins_of b q ≤ pins_of c q) → FetchesOnly M S source m1 m2 a c
-  fetches_pins m1 m2 a b c x only more = record {
+  pub fetches_pins : (refusal : Option Refusal) (m1 m2 : D) (a b c : CacheValue) → FetchesOnly M S source refusal m1 m2 a b → OnlyPins b c → ((q : ℕ) → pins_of b q ≤ pins_of c q) → FetchesOnly M S source refusal m1 m2 a c
+  fetches_pins refusal m1 m2 a b c x only more = record {
     reads = x.reads;
+    loses = x.loses;
+    fills = fills_then M S source m1 m2 m2 a b c (λ h. h) x.reads.worn x.fills (pinned_fills m2 b c only);
     brings = brings_then a b c x.brings (pinned_brings b c only more);
-    newest = λ t. newest_then (given_by M S source m2) a b c (x.newest t) (pins_newest (given_by M S source m2) b c only);
+    newest = λ h knows. newest_then (given_by M S source m1) a b c (x.newest h knows) (pins_newest (given_by M S source m1) b c only);
   }
 
-  -- no call at all
-  pub fetches_still : (m : D) (c : CacheValue) → OnlyReads M m m → FetchesOnly M S source m m c c
-  fetches_still m c reads = record { reads = reads; brings = brings_still c; newest = λ t clean. (clean, λ q. refl) }
+  -- no call at all, where memory is short or nothing was asked of the outside
+  pub fetches_still : (refusal : Option Refusal) (m : D) (c : CacheValue) → OnlyReads M (device_of refusal) m m → LosesFor M S source refusal m → FetchesOnly M S source refusal m m c c
+  fetches_still refusal m c reads loses = record { reads = reads; loses = loses; fills = fills_still M S source m c; brings = brings_still c; newest = λ h knows clean. (clean, λ q. refl) }
 
 -- ---- room
 
-pub room_same : (k : ℕ) (old new : CacheValue) → Brings old new → ((q : ℕ) → pins_of new q ≡ pins_of old q) → HasRoom k old → HasRoom k new
-room_same k old new brings pins room = record {
-  frames = (let same = brings.frames in let enough = room.frames in omega (arith, same, enough));
+pub room_same : (k : ℕ) (old new : CacheValue) → new.frames ≡ old.frames → ((q : ℕ) → pins_of new q ≡ pins_of old q) → HasRoom k old → HasRoom k new
+room_same k old new same pins room = record {
+  frames = (let enough = room.frames in omega (arith, same, enough));
   keep = room.keep;
   pins = λ q. pins q ∙ room.pins q;
   few = room.few;
@@ -181,17 +202,17 @@ kept_pins old new page set there q =
     let head : one (nat_eq q page) ≡ 0 = ap one (key_flips page q false t) in
     omega (arith, here, head))
 
-module _ {D E : Type 0} (M : MachineGhosts D) (S : SourceGhosts E) (source : E) (free : List Bool) where
+module _ {D E : Type 0} (M : MachineGhosts D) (S : SourceGhosts E) (source : E) (free : List Bool) (refusal : Option Refusal) where
   -- nothing more is kept
-  pub spares_same : (m1 m2 : D) (a b : CacheValue) (spares : List ℕ) → FetchesOnly M S source m1 m2 a b → ((q : ℕ) → pins_of b q ≡ pins_of a q) → AreSpare free spares → SparesOnly M S source free m1 m2 a b spares spares
+  pub spares_same : (m1 m2 : D) (a b : CacheValue) (spares : List ℕ) → FetchesOnly M S source refusal m1 m2 a b → ((q : ℕ) → pins_of b q ≡ pins_of a q) → AreSpare free spares → SparesOnly M S source free refusal m1 m2 a b spares spares
   spares_same m1 m2 a b spares fetches pins are = record { fetches = fetches; pins = λ q. ap (λ (n : ℕ). n + count_by (nat_eq q) spares) (pins q); spares = are }
 
   -- one page more is kept
-  pub spares_more : (m1 m2 : D) (a b c : CacheValue) (spares : List ℕ) (page : ℕ) → FetchesOnly M S source m1 m2 a b → ((q : ℕ) → pins_of b q ≡ pins_of a q)
+  pub spares_more : (m1 m2 : D) (a b c : CacheValue) (spares : List ℕ) (page : ℕ) → FetchesOnly M S source refusal m1 m2 a b → ((q : ℕ) → pins_of b q ≡ pins_of a q)
       → c ≡ with_pins page (pins_of b page + 1) b → IsResident b page → AreSpare free spares → slice_index_or free page false ≡ true → is_one_of spares page ≡ false
-      → SparesOnly M S source free m1 m2 a c spares (spares ++ page ∷ [])
+      → SparesOnly M S source free refusal m1 m2 a c spares (spares ++ page ∷ [])
   spares_more m1 m2 a b c spares page fetches pins set there are is beside = record {
-    fetches = fetches_pins M S source m1 m2 a b c fetches (set_only b c page (pins_of b page + 1) set) (λ q. let more = kept_pins b c page set there q in omega (arith, more));
+    fetches = fetches_pins M S source refusal m1 m2 a b c fetches (set_only b c page (pins_of b page + 1) set) (λ q. let more = kept_pins b c page set there q in omega (arith, more));
     pins = λ q.
         let more = kept_pins b c page set there q in let same = pins q in
         let parts = count_append q spares (page ∷ []) in let last = count_single q page in
@@ -199,13 +220,13 @@ module _ {D E : Type 0} (M : MachineGhosts D) (S : SourceGhosts E) (source : E) 
     spares = spare_more free spares page are is beside;
   }
 
-  pub spares_then : (m1 m2 m3 : D) (a b c : CacheValue) (xs ys zs : List ℕ) → SparesOnly M S source free m1 m2 a b xs ys → SparesOnly M S source free m2 m3 b c ys zs → SparesOnly M S source free m1 m3 a c xs zs
-  spares_then m1 m2 m3 a b c xs ys zs x y = record {
-    fetches = fetches_then M S source m1 m2 m3 a b c x.fetches y.fetches;
+  pub spares_then : Lasts S → (m1 m2 m3 : D) (a b c : CacheValue) (xs ys zs : List ℕ) → SparesOnly M S source free None m1 m2 a b xs ys → SparesOnly M S source free refusal m2 m3 b c ys zs → SparesOnly M S source free refusal m1 m3 a c xs zs
+  spares_then lasts m1 m2 m3 a b c xs ys zs x y = record {
+    fetches = fetches_then M S source lasts refusal m1 m2 m3 a b c x.fetches y.fetches;
     pins = λ q. let one = x.pins q in let two = y.pins q in omega (arith, one, two);
     spares = y.spares;
   }
 
   -- no call at all
-  pub spares_still : (m : D) (c : CacheValue) (spares : List ℕ) → OnlyReads M m m → AreSpare free spares → SparesOnly M S source free m m c c spares spares
-  spares_still m c spares reads are = record { fetches = fetches_still M S source m c reads; pins = λ q. refl; spares = are }
+  pub spares_still : (m : D) (c : CacheValue) (spares : List ℕ) → OnlyReads M (device_of refusal) m m → LosesFor M S source refusal m → AreSpare free spares → SparesOnly M S source free refusal m m c c spares spares
+  spares_still m c spares reads loses are = record { fetches = fetches_still M S source refusal m c reads loses; pins = λ q. refl; spares = are }

@@ -4,6 +4,7 @@ use Rattle.std.specs.Prelude.{slice_get, slice_index_or, slice_set, option_and_t
 use Rattle.std.specs.Option.{option_or}
 use Rattle.std.proofs.Props.{props}
 use Rattle.std.proofs.lemmas.Bool.{true≢false}
+use Rattle.fsd_bytes.specs.declared.refusal.Refusal.{Refusal}
 use Rattle.fsd_formats.specs.NamePage.{read_page}
 use Rattle.fsd_table.specs.Pages.{page_at}
 use Rattle.sector_disk.specs.declared.machine.Machine.{Ghosts as MachineGhosts}
@@ -59,19 +60,19 @@ module _ {D E : Type 0} {M : MachineGhosts D} {S : SourceGhosts E} (t : Table D 
   within_pages page lt = let free = within_free page lt in let same = t.kept.pages in omega (arith, free, same)
 
   pub there : (page : ℕ) → IsReached (step_of t) page → IsResident t.cache.now page
-  there page is = reached_there M S t.source.now t.m.now t.cache.now t.free.now t.reached.items t.spares.items t.promised t.kept page is.1
+  there page is = reached_there M S t.source.now t.made_over.value t.made_with.value t.m.now t.cache.now t.free.now t.reached.items t.spares.items t.promised t.kept page is.1
 
   -- what was reached stays while pages are fetched
-  pub fetched_keeps : (m' : D) (c' : CacheValue) → FetchesOnly M S t.source.now t.m.now m' t.cache.now c' → Keeps (step_of t) (images_of (newest c' (given_by M S t.source.now m')) (length t.free.now))
-  fetched_keeps m' c' fetches = record {
+  pub fetched_keeps : (refusal : Option Refusal) (m' : D) (c' : CacheValue) → FetchesOnly M S t.source.now refusal t.m.now m' t.cache.now c' → Keeps (step_of t) (images_of (newest c' (given_by M S t.source.now m')) (length t.free.now))
+  fetched_keeps refusal m' c' fetches = record {
     count = image_count (newest c' (given_by M S t.source.now m')) (length t.free.now) ∙ sym (image_count (newest t.cache.now source) (length t.free.now));
-    reached = λ q is. fetched_image M S t.source.now t.m.now t.cache.now t.free.now t.reached.items t.spares.items t.promised t.kept m' c' fetches q is.1;
+    reached = λ q is. fetched_image M S t.source.now t.made_over.value t.made_with.value t.m.now t.cache.now t.free.now t.reached.items t.spares.items t.promised t.kept refusal m' c' fetches q is.1;
   }
 
   -- ---- a table with a page written
 
   abbrev Kept : CacheValue → Type 0
-  Kept c = IsKept M S t.m.now c t.source.now t.free.now t.reached.items t.spares.items t.promised
+  Kept c = IsKept M S t.made_over.value t.made_with.value t.m.now c t.source.now t.free.now t.reached.items t.spares.items t.promised
 
   kept_prop : (c : CacheValue) (a b : Kept c) → a ≡ b
   kept_prop c = Prim.hlevel props

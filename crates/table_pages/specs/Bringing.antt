@@ -1,23 +1,20 @@
 -- What is left where pages are brought into the cache, and why one is not brought.
-use Rattle.std.specs.Prelude.{◌≡◌, ◌⊎◌, ⊤, ℕ, ◌+◌, ◌%◌, ◌^◌, ◌<◌, ◌≤◌, Bool, true, false, List, Option, None, length, count_by, nat_eq, slice_index_or, option_and_then}
+use Rattle.std.specs.Prelude.{◌≡◌, ◌⊎◌, ℕ, ◌+◌, ◌%◌, ◌^◌, ◌<◌, ◌≤◌, Bool, true, false, List, Option, None, length, count_by, nat_eq, slice_index_or, option_and_then}
 use Rattle.fsd_bytes.specs.declared.refusal.Refusal.{Refusal}
 use Rattle.fsd_bytes.specs.declared.refusal.Refusal.TheVariants.{Device, Lost, Memory}
 use Rattle.fsd_formats.specs.NamePage.{Content, read_page}
 use Rattle.sector_disk.specs.declared.machine.Machine.{Ghosts as MachineGhosts}
-use Rattle.sector_disk.specs.Damage.{AreLost}
-use Rattle.sector_disk.specs.Image.{IsCalm}
-use Rattle.sector_disk.specs.Machine.{DeviceFault}
+use Rattle.sector_disk.specs.Calls.{OnlyReads}
 use Rattle.page_cache.specs.declared.fault.CacheFault.{CacheFault}
 use Rattle.page_cache.specs.declared.fault.CacheFault.TheVariants.{Device as CacheDevice, Memory as CacheMemory, Lost as CacheLost}
 use Rattle.page_cache.specs.declared.source.PageSource.{Ghosts as SourceGhosts}
-use Rattle.page_cache.specs.Cache.{CacheValue, IsResident, KeepsNewest, bytes_of, pins_of, is_one_of}
-use Rattle.table_pages.specs.Reads.{OnlyReads}
+use Rattle.page_cache.specs.Cache.{CacheValue, IsResident, AreNewest, KeepsNewest, bytes_of, pins_of, is_one_of}
+use Rattle.table_pages.specs.Reads.{device_of, LosesFor, Fills}
 
 -- ---- the cache
 
 -- No page is less pinned, none becomes dirty or clean, and what is dirty or pinned has its bytes.
 pub record Brings (old new : CacheValue) : Type 0 where
-  pub frames : new.frames ≡ old.frames
   pub dirty : new.dirty ≡ old.dirty
   pub pins : (page : ℕ) → pins_of old page ≤ pins_of new page
   pub keeps : (page : ℕ) → IsResident old page → (is_one_of old.dirty page ≡ true) ⊎ (0 < pins_of old page) → bytes_of new page ≡ bytes_of old page
@@ -38,34 +35,24 @@ pub record OnlyPins (old new : CacheValue) : Type 0 where
 -- ---- with what happens outside
 
 module _ {D E : Type 0} (M : MachineGhosts D) (S : SourceGhosts E) (source : E) where
-  -- the machine is honest, nothing wears, and what the source knows is so on its disk
-  pub record IsTrusted (m : D) : Type 0 where
-    pub honest : M.honest m
-    pub calm : IsCalm (M.now m).windows
-    pub knows : S.knows source (M.now m).image
-
   -- what the source would give now
   abbrev pub given_by : D → ℕ → Option (List ℕ)
   given_by m page = S.newest source (M.now m).image page
 
-  -- pages were read from the source into the cache
-  pub record FetchesOnly (m m' : D) (old new : CacheValue) : Type 0 where
-    pub reads : OnlyReads M m m'
+  -- The machine is honest; on the disk of another, from which it has gone on, what the source knows was so, and what was not
+  -- dirty in a cache there was what the source has.
+  pub record IsTrusted (first : D) (cache : CacheValue) (m : D) : Type 0 where
+    pub honest : M.honest m
+    pub knows : S.knows source (M.now first)
+    pub clean : AreNewest (given_by first) cache
+
+  -- pages were read from the source into the cache, until the outside refused one so, if it did
+  pub record FetchesOnly (refusal : Option Refusal) (m m' : D) (old new : CacheValue) : Type 0 where
+    pub reads : OnlyReads M (device_of refusal) m m'
+    pub loses : LosesFor M S source refusal m'
+    pub fills : Fills M S source m m' old new
     pub brings : Brings old new
-    pub newest : IsTrusted m' → KeepsNewest (given_by m') old new
-
-  -- both copies of a page of the source are damaged
-  pub record LosesPage (m : D) (a b : ℕ) : Type 0 where
-    pub page : ℕ
-    pub within : page < S.pages source
-    pub lost : M.honest m → AreLost (S.copies source page) (M.now m).image a b
-
-  -- the outside refused a page: the disk failed, both copies are lost, or memory is short
-  abbrev pub OuterCause : D → D → Refusal → Type 0
-  OuterCause old new (Device place) = DeviceFault (M.report old) (M.report new) place
-  OuterCause old new (Lost a b) = LosesPage new a b
-  OuterCause old new Memory = ⊤
-  OuterCause old new other = ⊥
+    pub newest : M.honest m' → S.knows source (M.now m) → KeepsNewest (given_by m) old new
 
 -- the refusal that a fault of the cache is
 abbrev pub refusal_for : CacheFault → Refusal

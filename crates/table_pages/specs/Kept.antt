@@ -4,6 +4,7 @@ use Rattle.std.proofs.Common.{◌∙◌}
 use Rattle.std.specs.List.{range_with_len}
 use Rattle.std.specs.Option.{unwrap_or}
 use Rattle.sector_disk.specs.declared.machine.Machine.{Ghosts as MachineGhosts}
+use Rattle.sector_disk.specs.Machine.{Wears}
 use Rattle.page_cache.specs.declared.source.PageSource.{Ghosts as SourceGhosts}
 use Rattle.page_cache.specs.Cache.{CacheValue, IsResident, AreNewest, is_one_of, pins_of, with_written}
 use Rattle.page_cache.proofs.WrittenLaws.{pins_written, dirty_written, clean_written}
@@ -15,19 +16,18 @@ unfoldable pub images_of : (ℕ → Option (List ℕ)) → (count : ℕ) → Lis
 images_of image count = map (λ page. unwrap_or (image page) []) (range_with_len 0 count)
 
 -- A table can be made over these: the source has as many pages as can be free; the disk is large enough for it, and the cache
--- for a step; no page is pinned. Where the outside is trusted, what is not dirty is what the source has.
+-- for a step; no page is pinned.
 pub record IsReady {D E : Type 0} (M : MachineGhosts D) (S : SourceGhosts E) (m : D) (cache : CacheValue) (source : E) (free : List Bool) : Type 0 where
   pub pages : S.pages source ≡ length free
   pub small : length free ≤ 4096
   pub sectors : S.sectors source ≤ (M.report m).sectors
   pub frames : 192 ≤ cache.frames
   pub unpinned : (page : ℕ) → pins_of cache page ≡ 0
-  pub clean : IsTrusted M S source m → AreNewest (given_by M S source m) cache
 
 -- The source has as many pages as can be free; the disk is large enough for it. The pages that were reached and the free
--- ones that are kept are pinned, and no others; those that are dirty are in the cache. Where the outside is trusted, what
--- is not dirty is what the source has.
-pub record IsKept {D E : Type 0} (M : MachineGhosts D) (S : SourceGhosts E) (m : D) (cache : CacheValue) (source : E) (free : List Bool) (reached spares : List ℕ) (promised : ℕ) : Type 0 where
+-- ones that are kept are pinned, and no others; those that are dirty are in the cache. The disk was only worn since the
+-- table was made; where the outside is trusted, what is not dirty is what the source has.
+pub record IsKept {D E : Type 0} (M : MachineGhosts D) (S : SourceGhosts E) (first : D) (had : CacheValue) (m : D) (cache : CacheValue) (source : E) (free : List Bool) (reached spares : List ℕ) (promised : ℕ) : Type 0 where
   pub pages : S.pages source ≡ length free
   pub small : length free ≤ 4096
   pub sectors : S.sectors source ≤ (M.report m).sectors
@@ -38,12 +38,13 @@ pub record IsKept {D E : Type 0} (M : MachineGhosts D) (S : SourceGhosts E) (m :
   pub dirty : (page : ℕ) → is_one_of cache.dirty page ≡ true → IsResident cache page
   pub are_spare : AreSpare free spares
   pub enough : promised ≤ length spares
-  pub clean : IsTrusted M S source m → AreNewest (given_by M S source m) cache
+  pub worn : M.honest m → ∥ Wears (M.now first) (M.now m) ∥₁
+  pub clean : IsTrusted M S source first had m → AreNewest (given_by M S source m) cache
 
 -- so it is where a page is written
-pub kept_written : {D E : Type 0} (M : MachineGhosts D) (S : SourceGhosts E) (m : D) (cache : CacheValue) (source : E) (free : List Bool) (reached spares : List ℕ) (promised : ℕ) → IsKept M S m cache source free reached spares promised
-    → (page : ℕ) (bytes : List ℕ) → IsKept M S m (with_written page bytes cache) source free reached spares promised
-kept_written M S m cache source free reached spares promised h page bytes = record {
+pub kept_written : {D E : Type 0} (M : MachineGhosts D) (S : SourceGhosts E) (first : D) (had : CacheValue) (m : D) (cache : CacheValue) (source : E) (free : List Bool) (reached spares : List ℕ) (promised : ℕ) → IsKept M S first had m cache source free reached spares promised
+    → (page : ℕ) (bytes : List ℕ) → IsKept M S first had m (with_written page bytes cache) source free reached spares promised
+kept_written M S first had m cache source free reached spares promised h page bytes = record {
   pages = h.pages;
   small = h.small;
   sectors = h.sectors;
@@ -54,5 +55,6 @@ kept_written M S m cache source free reached spares promised h page bytes = reco
   dirty = dirty_written page bytes cache h.dirty;
   are_spare = h.are_spare;
   enough = h.enough;
+  worn = h.worn;
   clean = λ t. clean_written page bytes cache (given_by M S source m) (h.clean t);
 }

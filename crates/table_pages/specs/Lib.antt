@@ -4,6 +4,5 @@ pub mod Sparing
 pub mod Kept
 pub mod ReadLaws
 pub mod ImageLaws
-pub mod CauseLaws
 pub mod Table
 pub mod TableLaws

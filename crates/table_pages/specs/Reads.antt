@@ -1,12 +1,41 @@
--- What calls that only read the disk leave.
-use Rattle.std.specs.Prelude.{◌≡◌}
-use Rattle.sector_disk.specs.Machine.{UsesDisk, Trusts, Wears, LeavesOnly}
-use Rattle.sector_disk.specs.declared.machine.Machine.{Ghosts}
+-- What pages that are read from a source leave of the machine and of the cache.
+use Rattle.std.specs.Prelude.{◌≡◌, ◌⊎◌, ⊤, ℕ, ◌<◌, false, true, List, Option, Some, None}
+use Rattle.fsd_bytes.specs.declared.refusal.Refusal.{Refusal}
+use Rattle.fsd_bytes.specs.declared.refusal.Refusal.TheVariants.{Device, Lost}
+use Rattle.sector_disk.specs.declared.machine.Machine.{Ghosts as MachineGhosts}
+use Rattle.sector_disk.specs.declared.sector.Sector.{Sector}
+use Rattle.sector_disk.specs.Damage.{AreLost}
+use Rattle.sector_disk.specs.Image.{IsWorn, open_damage}
+use Rattle.sector_disk.specs.Machine.{Moment}
+use Rattle.page_cache.specs.declared.source.PageSource.{Ghosts as SourceGhosts}
+use Rattle.page_cache.specs.Cache.{CacheValue, bytes_of, is_one_of}
 
--- Sectors were read, and nothing else: a stop at any moment of it leaves what was there, worn.
-pub record OnlyReads {D : Type 0} (M : Ghosts D) (old new : D) : Type 0 where
-  pub uses : UsesDisk (M.report old) (M.report new)
-  pub trust : Trusts (M.tells old) (M.tells new) (M.honest old) (M.honest new)
-  pub ledger : M.tells new → M.ledger new ≡ M.ledger old
-  pub worn : M.honest new → Wears (M.now old) (M.now new)
-  pub any_moment : M.honest new → LeavesOnly M.moment M.left_since old new (Wears (M.now old))
+-- the place of the call of the disk that failed, where the outside refused so
+abbrev pub device_of : Option Refusal → Option ℕ
+device_of (Some (Device place)) = Some place
+device_of other = None
+
+module _ {D E : Type 0} (M : MachineGhosts D) (S : SourceGhosts E) (source : E) where
+  -- both copies of a page of the source are damaged
+  pub record LosesPage (m : D) (a b : ℕ) : Type 0 where
+    pub page : ℕ
+    pub within : page < S.pages source
+    pub lost : M.honest m → AreLost (S.copies source page) (M.now m).image a b
+
+  -- so it is where the outside refused a page as lost
+  abbrev pub LosesFor : Option Refusal → D → Type 0
+  LosesFor (Some (Lost a b)) m = LosesPage m a b
+  LosesFor other m = ⊤
+
+  -- the bytes stood whole in one of a page's two copies, as the disk of this moment was worn since
+  pub record Stood (from : Moment) (page : ℕ) (bytes : List ℕ) : Type 0 where
+    pub image : List Sector
+    pub worn : IsWorn (open_damage from.windows) from.image image
+    pub stands : S.stands source page image bytes
+
+  -- No page becomes clean. One that is not dirty has the bytes that it had in the cache, or such as stood in one of its copies.
+  pub record Fills (m m' : D) (old new : CacheValue) : Type 0 where
+    pub frames : new.frames ≡ old.frames
+    pub dirty : (page : ℕ) → is_one_of old.dirty page ≡ true → is_one_of new.dirty page ≡ true
+    pub stood : M.honest m' → (page : ℕ) (bytes : List ℕ) → is_one_of new.dirty page ≡ false → bytes_of new page ≡ Some bytes
+        → (bytes_of old page ≡ Some bytes) ⊎ Stood (M.now m) page bytes

@@ -1,12 +1,14 @@
 -- A table over a cache as the tree sees it.
 use Rattle.std.specs.Prelude.{◌≡◌, ℕ, Bool, List, [], Option, None, length}
 use Rattle.std.specs.Borrow.{MutBor}
+use Rattle.fsd_bytes.specs.declared.refusal.Refusal.{Refusal}
 use Rattle.sector_disk.specs.declared.machine.Machine.{Ghosts as MachineGhosts}
 use Rattle.page_cache.specs.declared.source.PageSource.{Ghosts as SourceGhosts}
-use Rattle.page_cache.specs.Cache.{CacheValue, newest, with_written}
+use Rattle.page_cache.specs.Cache.{CacheValue, AreNewest, newest, with_written}
 use Rattle.name_page.specs.Pages.{Step}
-use Rattle.table_pages.specs.Reads.{OnlyReads}
-use Rattle.table_pages.specs.Bringing.{given_by}
+use Rattle.sector_disk.specs.Calls.{OnlyReads}
+use Rattle.table_pages.specs.Reads.{device_of, LosesFor, Fills}
+use Rattle.table_pages.specs.Bringing.{IsTrusted, given_by}
 use Rattle.table_pages.specs.Kept.{IsReady, images_of, kept_written}
 use Rattle.table_pages.specs.declared.table.Table.{Table}
 
@@ -33,23 +35,38 @@ module _ {D E : Type 0} {M : MachineGhosts D} {S : SourceGhosts E} where
 
   -- the table with the bytes of one of its pages written
   abbrev pub written : Table D E M S → ℕ → List ℕ → Table D E M S
-  written t page bytes = record t { cache = record t.cache { now = with_written page bytes t.cache.now }; kept = kept_written M S t.m.now t.cache.now t.source.now t.free.now t.reached.items t.spares.items t.promised t.kept page bytes }
+  written t page bytes = record t { cache = record t.cache { now = with_written page bytes t.cache.now }; kept = kept_written M S t.made_over.value t.made_with.value t.m.now t.cache.now t.source.now t.free.now t.reached.items t.spares.items t.promised t.kept page bytes }
 
-  -- over the same machine, cache, source and free pages, of which the disk was read, and nothing else
-  pub record ReadsOnly (old new : Table D E M S) : Type 0 where
-    pub reads : OnlyReads M old.m.now new.m.now
+  -- Over the same machine, cache, source and free pages, where pages were read from the disk, and nothing else, until the
+  -- outside refused one so, if it did.
+  pub record ReadsOnly (refusal : Option Refusal) (old new : Table D E M S) : Type 0 where
+    pub reads : OnlyReads M (device_of refusal) old.m.now new.m.now
+    pub loses : LosesFor M S new.source.now refusal new.m.now
+    pub fills : Fills M S old.source.now old.m.now new.m.now old.cache.now new.cache.now
     pub source : new.source.now ≡ old.source.now
     pub machine : new.m.ghost_name ≡ old.m.ghost_name
     pub cache : new.cache.ghost_name ≡ old.cache.ghost_name
     pub free : new.free.ghost_name ≡ old.free.ghost_name
+    pub made_over : new.made_over.value ≡ old.made_over.value
+    pub made_with : new.made_with.value ≡ old.made_with.value
 
-  -- it is over these
+  -- trusted since it was made
+  abbrev pub Trusted : Table D E M S → Type 0
+  Trusted t = IsTrusted M S t.source.now t.made_over.value t.made_with.value t.m.now
+
+  -- it was made over these
   pub record IsOver (m : MutBor D) (cache : MutBor CacheValue) (source : E) (free : MutBor (List Bool)) (t : Table D E M S) : Type 0 where
     pub machine : t.m ≡ m
     pub cached : t.cache ≡ cache
     pub from : t.source.now ≡ source
     pub spared : t.free ≡ free
+    pub made_over : t.made_over.value ≡ m.now
+    pub made_with : t.made_with.value ≡ cache.now
 
   -- no page is pinned any more, and another table can be made over the same
   abbrev pub IsAtRest : Table D E M S → Type 0
   IsAtRest t = IsReady M S t.m.now t.cache.now t.source.now t.free.now
+
+  -- what is not dirty is what the source has
+  abbrev pub IsClean : Table D E M S → Type 0
+  IsClean t = AreNewest (given_by M S t.source.now t.m.now) t.cache.now

@@ -1,17 +1,22 @@
 -- A table over a cache as pages: the laws of its `impl`.
-use Rattle.std.proofs.Common.{◌≡◌, ℕ, ◌≤◌, List, length, refl, sym, ap, ◌∙◌, subst, arith}
+use Rattle.std.proofs.Common.{◌≡◌, inl, ℕ, ◌≤◌, false, true, List, Option, None, length, refl, sym, ap, ◌∙◌, subst, arith, eqb-true}
+use Rattle.std.specs.Prelude.{nat_eq}
+use Rattle.std.proofs.lemmas.Bool.{true≢false}
 use Rattle.fsd_bytes.specs.declared.refusal.Refusal.{Refusal}
 use Rattle.sector_disk.specs.Machine.{Moment}
 use Rattle.sector_disk.specs.declared.machine.Machine.{Ghosts as MachineGhosts}
+use Rattle.sector_disk.proofs.CallLaws as calls
 use Rattle.page_cache.specs.declared.source.PageSource.{Ghosts as SourceGhosts}
-use Rattle.page_cache.specs.Cache.{newest}
-use Rattle.name_page.specs.Pages.{IsOuter, with_page}
-use Rattle.table_pages.specs.Bringing.{IsTrusted, OuterCause, given_by}
-use Rattle.table_pages.specs.Table.{step_of, written, ReadsOnly}
+use Rattle.page_cache.specs.Cache.{CacheValue, AreNewest, newest, is_one_of, with_written}
+use Rattle.page_cache.proofs.Entries.{by_bool}
+use Rattle.page_cache.proofs.WrittenLaws.{bytes_beside, now_dirty, still_dirty}
+use Rattle.name_page.specs.Pages.{with_page}
+use Rattle.table_pages.specs.Reads.{Fills}
+use Rattle.table_pages.specs.Bringing.{given_by}
+use Rattle.table_pages.specs.Table.{step_of, written, ReadsOnly, Trusted}
 use Rattle.table_pages.specs.declared.table.Table.{Table}
-use Rattle.table_pages.specs.ReadLaws as read
+use Rattle.table_pages.specs.ReadLaws.{fills_still, fills_then}
 use Rattle.table_pages.specs.ImageLaws.{image_count, images_written}
-use Rattle.table_pages.specs.CauseLaws as law
 
 module _ {D E : Type 0} {M : MachineGhosts D} {S : SourceGhosts E} where
   pub step_written : (t : Table D E M S) (page : ℕ) (bytes : List ℕ) → step_of (written t page bytes) ≡ with_page page bytes (step_of t)
@@ -19,33 +24,73 @@ module _ {D E : Type 0} {M : MachineGhosts D} {S : SourceGhosts E} where
       ap (λ (images : List (List ℕ)). record (step_of (written t page bytes)) { images = images })
       (images_written page bytes t.cache.now (given_by M S t.source.now t.m.now) (length t.free.now))
 
+  -- a page that is written is dirty, and the others stay
+  fills_written : (source : E) (m : D) (page : ℕ) (bytes : List ℕ) (c : CacheValue) → Fills M S source m m c (with_written page bytes c)
+  fills_written source m page bytes c = record {
+    frames = refl;
+    dirty = λ q is. still_dirty c page q is;
+    stood = λ h q was out is. inl (sym (bytes_beside page bytes c q (beside q out)) ∙ is);
+  }
+    where
+      beside : (q : ℕ) → is_one_of (with_written page bytes c).dirty q ≡ false → nat_eq page q ≡ false
+      beside q out = by_bool (nat_eq page q)
+          (λ t. absurd (true≢false (sym (subst (λ (k : ℕ). is_one_of (with_written page bytes c).dirty k ≡ true) (eqb-true page q t) (now_dirty c page)) ∙ out)))
+          (λ t. t)
+
   module _ (only_now : (m : D) (c : Moment) → M.honest m → M.left_since m (M.moment m) c → c ≡ M.now m) where
-    pub reads_still : (t : Table D E M S) → ReadsOnly t t
-    reads_still t = record { reads = read.reads_still M only_now t.m.now; source = refl; machine = refl; cache = refl; free = refl }
+    pub reads_still : (t : Table D E M S) → ReadsOnly None t t
+    reads_still t = record {
+      reads = calls.reads_none t.m.now (λ c h left. only_now t.m.now c h left);
+      loses = tt;
+      fills = fills_still M S t.source.now t.m.now t.cache.now;
+      source = refl;
+      machine = refl;
+      cache = refl;
+      free = refl;
+      made_over = refl;
+      made_with = refl;
+    }
 
-    pub reads_written : (t : Table D E M S) (page : ℕ) (bytes : List ℕ) → ReadsOnly t (written t page bytes)
-    reads_written t page bytes = record { reads = read.reads_still M only_now t.m.now; source = refl; machine = refl; cache = refl; free = refl }
+    pub reads_written : (t : Table D E M S) (page : ℕ) (bytes : List ℕ) → ReadsOnly None t (written t page bytes)
+    reads_written t page bytes = record {
+      reads = calls.reads_none t.m.now (λ c h left. only_now t.m.now c h left);
+      loses = tt;
+      fills = fills_written t.source.now t.m.now page bytes t.cache.now;
+      source = refl;
+      machine = refl;
+      cache = refl;
+      free = refl;
+      made_over = refl;
+      made_with = refl;
+    }
 
-  pub reads_then : (a b c : Table D E M S) → ReadsOnly a b → ReadsOnly b c → ReadsOnly a c
-  reads_then a b c x y = record {
-    reads = read.reads_then M a.m.now b.m.now c.m.now x.reads y.reads;
+  pub reads_then : (a b c : Table D E M S) (refusal : Option Refusal) → ReadsOnly None a b → ReadsOnly refusal b c → ReadsOnly refusal a c
+  reads_then a b c refusal x y = record {
+    reads = calls.reads_then x.reads y.reads;
+    loses = y.loses;
+    fills = fills_then M S a.source.now a.m.now b.m.now c.m.now a.cache.now b.cache.now c.cache.now y.reads.trust.honest x.reads.worn x.fills
+        (subst (λ (source : E). Fills M S source b.m.now c.m.now b.cache.now c.cache.now) x.source y.fills);
     source = y.source ∙ x.source;
     machine = y.machine ∙ x.machine;
     cache = y.cache ∙ x.cache;
     free = y.free ∙ x.free;
+    made_over = y.made_over ∙ x.made_over;
+    made_with = y.made_with ∙ x.made_with;
   }
 
-  pub trusted_earlier : (a b : Table D E M S) → ReadsOnly a b → IsTrusted M S b.source.now b.m.now → IsTrusted M S a.source.now a.m.now
-  trusted_earlier a b x t = (read.trusted_before M S a.source.now a.m.now b.m.now x.reads (subst (λ (source : E). IsTrusted M S source b.m.now) x.source t)).0
-
-  pub later_cause : (a b c : Table D E M S) (refusal : Refusal) → ReadsOnly a b → OuterCause M S c.source.now b.m.now c.m.now refusal → OuterCause M S c.source.now a.m.now c.m.now refusal
-  later_cause a b c refusal x cause = law.cause_later M S c.source.now a.m.now b.m.now c.m.now refusal x.reads cause
+  pub trusted_earlier : (a b : Table D E M S) (refusal : Option Refusal) → ReadsOnly refusal a b → Trusted b → Trusted a
+  trusted_earlier a b refusal x t =
+      record {
+        honest = x.reads.trust.honest t.honest;
+        knows = subst (λ (source : E). S.knows source (M.now a.made_over.value)) x.source (subst (λ (first : D). S.knows b.source.now (M.now first)) x.made_over t.knows);
+        clean =
+            subst (λ (source : E). AreNewest (given_by M S source a.made_over.value) a.made_with.value) x.source
+            (subst (λ (first : D). AreNewest (given_by M S b.source.now first) a.made_with.value) x.made_over
+            (subst (AreNewest (given_by M S b.source.now b.made_over.value)) x.made_with t.clean));
+      }
 
   pub few_images : (t : Table D E M S) → length (step_of t).images ≤ 4096
   few_images t = let count = image_count (newest t.cache.now (given_by M S t.source.now t.m.now)) (length t.free.now) in let few = t.kept.small in omega (arith, count, few)
 
   pub as_many : (t : Table D E M S) → length (step_of t).spares ≡ length (step_of t).images
   as_many t = sym (image_count (newest t.cache.now (given_by M S t.source.now t.m.now)) (length t.free.now))
-
-  pub outer_cause : (a b : Table D E M S) (refusal : Refusal) → OuterCause M S b.source.now a.m.now b.m.now refusal → IsOuter refusal
-  outer_cause a b refusal cause = law.cause_outer M S b.source.now a.m.now b.m.now refusal cause

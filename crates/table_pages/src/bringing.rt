@@ -3,8 +3,9 @@ ghost use Rattle.std.specs.Prelude.{◌≡◌, ◌⊎◌, ℕ, ◌+◌, ◌-◌,
 ghost use Rattle.arrayvec.specs.ArrayVec.{array_vec_len};
 ghost use Rattle.fsd_bytes.specs.declared.refusal.Refusal.{Refusal};
 ghost use Rattle.fsd_bytes.specs.declared.refusal.Refusal.TheVariants.{Unsound};
+ghost use Rattle.name_page.specs.Pages.{IsOuter, outer_in};
 ghost use Rattle.page_cache.specs.Cache.{IsResident, pins_of, with_pins};
-ghost use Rattle.table_pages.specs.Bringing.{HasRoom, OnlyPins, FetchesOnly, OuterCause, IsRefused, content_in, home_in, refusal_for};
+ghost use Rattle.table_pages.specs.Bringing.{HasRoom, OnlyPins, FetchesOnly, IsRefused, content_in, home_in, refusal_for};
 
 use crate::free::FreePages;
 use arrayvec::ArrayVec;
@@ -33,10 +34,10 @@ pub fn bring<M: Machine, S: PageSource>(
     requires page { page < S.pages source.now }
     requires sectors { S.sectors source.now ≤ (M.report m.old).sectors }
     requires room { HasRoom 1 cache.old }
-    ensures fetches { FetchesOnly M.Machine S.PageSource source.now m.old m.new cache.old cache.new }
+    ensures fetches { FetchesOnly M.Machine S.PageSource source.now (outer_in result) m.old m.new cache.old cache.new }
     ensures pins { (q : ℕ) → pins_of cache.new q ≡ pins_of cache.old q }
     ensures there { OnOk result (IsResident cache.new page) }
-    ensures cause { IfErr result (OuterCause M.Machine S.PageSource source.now m.old m.new) }
+    ensures cause { IfErr result IsOuter }
 {
     let _whole = cache.dirty_list();
     match cache.fetch(m, page, source) {
@@ -66,14 +67,13 @@ pub fn bring_used<M: Machine, S: PageSource>(
     requires page { page < S.pages source.now }
     requires sectors { S.sectors source.now ≤ (M.report m.old).sectors }
     requires room { HasRoom 1 cache.old }
-    ensures fetches { FetchesOnly M.Machine S.PageSource source.now m.old m.new cache.old cache.new }
+    ensures fetches { FetchesOnly M.Machine S.PageSource source.now (outer_in result) m.old m.new cache.old cache.new }
     ensures pins { (q : ℕ) → pins_of cache.new q ≡ pins_of cache.old q }
     ensures there { OnOk result (IsResident cache.new page) }
     ensures used { OnOk result (slice_index_or free.now page false ≡ false) }
     ensures accepted { OnOk result (IsSome (content_in cache.new (length free.now) page)) }
     ensures spare { slice_index_or free.now page false ≡ true → result ≡ Err (Unsound (home_in home_a page)) }
-    ensures cause { IfErr result (λ refusal. OuterCause M.Machine S.PageSource source.now m.old m.new refusal
-        ⊎ ((refusal ≡ Unsound (home_in home_a page)) × IsRefused free.now cache.new page)) }
+    ensures cause { IfErr result (λ refusal. IsOuter refusal ⊎ ((refusal ≡ Unsound (home_in home_a page)) × IsRefused free.now cache.new page)) }
 {
     if free.has(page) {
         return Err(Refusal::Unsound(home_a.wrapping_add(page)));

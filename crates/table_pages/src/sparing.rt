@@ -2,8 +2,9 @@
 ghost use Rattle.std.specs.Prelude.{◌≡◌, ◌⊎◌, ℕ, ◌+◌, ◌-◌, ◌^◌, ◌<◌, ◌≤◌, ◌↔◌, ◌++◌, ◌∷◌, [], Bool, Err, true, false, IfSome, IfNone, IfErr, OnOk, OnErr, IsSome, length, count_by, nat_eq, slice_index_or, slice_set};
 ghost use Rattle.fsd_bytes.specs.declared.refusal.Refusal.{Refusal};
 ghost use Rattle.fsd_bytes.specs.declared.refusal.Refusal.TheVariants.{NameTableFull};
+ghost use Rattle.name_page.specs.Pages.{IsOuter, outer_in};
 ghost use Rattle.page_cache.specs.Cache.{IsResident, pins_of, is_one_of, with_pins, with_dirty};
-ghost use Rattle.table_pages.specs.Bringing.{HasRoom, FetchesOnly, OuterCause};
+ghost use Rattle.table_pages.specs.Bringing.{HasRoom, FetchesOnly};
 ghost use Rattle.table_pages.specs.Sparing.{AreSpare, SparesOnly};
 
 use crate::bringing::{bring, keep};
@@ -43,12 +44,12 @@ fn add_spare<M: Machine, S: PageSource>(
     requires spares { AreSpare free.now spares.old.items }
     requires few { length spares.old.items < 16 }
     requires more { length spares.old.items < count_by (λ free. free) free.now }
-    ensures only { SparesOnly M.Machine S.PageSource source.now free.now m.old m.new cache.old cache.new spares.old.items spares.new.items }
+    ensures only { SparesOnly M.Machine S.PageSource source.now free.now (outer_in result) m.old m.new cache.old cache.new spares.old.items spares.new.items }
     ensures room { HasRoom (16 - length spares.new.items) cache.new }
     ensures added { OnOk result (length spares.new.items ≡ length spares.old.items + 1) }
     ensures few { length spares.new.items ≤ 16 }
     ensures more { length spares.old.items ≤ length spares.new.items }
-    ensures cause { IfErr result (OuterCause M.Machine S.PageSource source.now m.old m.new) }
+    ensures cause { IfErr result IsOuter }
 {
     let page = spare_beside(free, spares.as_slice()).unwrap();
     bring(m, cache, source, page)?;
@@ -72,11 +73,11 @@ fn add_spares<M: Machine, S: PageSource>(
     requires few { length spares.old.items ≤ 16 }
     requires most { n ≤ 16 }
     requires enough { n ≤ count_by (λ free. free) free.now }
-    ensures only { SparesOnly M.Machine S.PageSource source.now free.now m.old m.new cache.old cache.new spares.old.items spares.new.items }
+    ensures only { SparesOnly M.Machine S.PageSource source.now free.now (outer_in result) m.old m.new cache.old cache.new spares.old.items spares.new.items }
     ensures few { length spares.new.items ≤ 16 }
     ensures more { length spares.old.items ≤ length spares.new.items }
     ensures kept { OnOk result (n ≤ length spares.new.items) }
-    ensures cause { IfErr result (OuterCause M.Machine S.PageSource source.now m.old m.new) }
+    ensures cause { IfErr result IsOuter }
 {
     for _ in spares.len() as u32..n {
         add_spare(m, cache, source, free, spares)?;
@@ -98,13 +99,12 @@ pub fn spare_pages<M: Machine, S: PageSource>(
     requires room { HasRoom (16 - length spares.old.items) cache.old }
     requires spares { AreSpare free.now spares.old.items }
     requires few { length spares.old.items ≤ 16 }
-    ensures only { SparesOnly M.Machine S.PageSource source.now free.now m.old m.new cache.old cache.new spares.old.items spares.new.items }
+    ensures only { SparesOnly M.Machine S.PageSource source.now free.now (outer_in result) m.old m.new cache.old cache.new spares.old.items spares.new.items }
     ensures few { length spares.new.items ≤ 16 }
     ensures more { length spares.old.items ≤ length spares.new.items }
     ensures kept { OnOk result (n ≤ length spares.new.items) }
     ensures full { let count = count_by (λ free. free) free.now in (result ≡ Err (NameTableFull count)) ↔ (count < n) }
-    ensures cause { IfErr result (λ refusal. OuterCause M.Machine S.PageSource source.now m.old m.new refusal
-        ⊎ (let count = count_by (λ free. free) free.now in (refusal ≡ NameTableFull count) × (count < n))) }
+    ensures cause { IfErr result (λ refusal. IsOuter refusal ⊎ (let count = count_by (λ free. free) free.now in (refusal ≡ NameTableFull count) × (count < n))) }
 {
     let count = free.count();
     if count < n {

@@ -10,6 +10,7 @@ use fsd_bytes::Refusal;
 use name_page::{MOST_REACHED, Pages};
 use page_cache::{Cache, PageSource};
 use sector_disk::Machine;
+use std::snapshot::Snapshot;
 
 /// The pages of a name table over a cache of at least 192 frames. A page that is changed waits in the cache until a force
 /// has written it: at most 96 do, and what is left of them is the leave to change.
@@ -25,7 +26,10 @@ pub struct Table<'a, M: Machine, S: PageSource> {
     spares: ArrayVec<u32, MOST_SPARE>,
     promised: u32,
     refusal: Option<Refusal>,
-    ghost kept: { IsKept M.Machine S.PageSource m.now cache.now source.now free.now reached.items spares.items promised },
+    // The machine and the cache as they were when the table was made.
+    made_over: Snapshot<M>,
+    made_with: Snapshot<Cache>,
+    ghost kept: { IsKept M.Machine S.PageSource made_over.value made_with.value m.now cache.now source.now free.now reached.items spares.items promised },
 }
 
 impl<'a, M: Machine, S: PageSource> Table<'a, M, S> {
@@ -46,6 +50,8 @@ impl<'a, M: Machine, S: PageSource> Table<'a, M, S> {
         ensures step { step_of result ≡ begun (given_by M.Machine S.PageSource source.now m.old) cache.old free.old home_a }
     {
         let _whole = cache.dirty_list();
+        let made_over = Snapshot::of(&*m);
+        let made_with = Snapshot::of(&*cache);
         Table {
             m,
             cache,
@@ -56,27 +62,27 @@ impl<'a, M: Machine, S: PageSource> Table<'a, M, S> {
             spares: ArrayVec::new(),
             promised: 0,
             refusal: None,
+            made_over,
+            made_with,
         }
     }
 }
 
 impl<'a, M: Machine, S: PageSource> Pages for Table<'a, M, S> {
-    ghost use Rattle.std.specs.Prelude.{refl};
+    ghost use Rattle.std.specs.Prelude.{refl, None};
     ghost use Rattle.std.proofs.Common.{ap, ◌∙◌, subst, sym};
     ghost use Rattle.name_page.specs.Pages.{Step, rested};
-    ghost use Rattle.table_pages.specs.Bringing.{IsTrusted, OuterCause};
-    ghost use Rattle.table_pages.specs.Table.{step_of, written, ReadsOnly, IsAtRest};
-    ghost use Rattle.table_pages.specs.TableLaws.{step_written, reads_written, reads_still, reads_then, trusted_earlier, later_cause, outer_cause, few_images, as_many};
+    ghost use Rattle.table_pages.specs.Bringing.{OnlyPins};
+    ghost use Rattle.table_pages.specs.Table.{step_of, written, ReadsOnly, Trusted, IsAtRest, IsClean};
+    ghost use Rattle.table_pages.specs.TableLaws.{step_written, reads_written, reads_still, reads_then, trusted_earlier, few_images, as_many};
 
     ghost step = { step_of };
 
     ghost written = { written };
 
-    ghost trusted = { λ t. IsTrusted M.Machine S.PageSource t.source.now t.m.now };
+    ghost trusted = { Trusted };
 
     ghost outside = { ReadsOnly };
-
-    ghost causes = { λ a b refusal. OuterCause M.Machine S.PageSource b.source.now a.m.now b.m.now refusal };
 
     ghost changed = { step_written };
 
@@ -87,10 +93,6 @@ impl<'a, M: Machine, S: PageSource> Pages for Table<'a, M, S> {
     ghost then = { reads_then };
 
     ghost trust = { trusted_earlier };
-
-    ghost later = { later_cause };
-
-    ghost outer = { outer_cause };
 
     ghost small = { few_images };
 
@@ -159,9 +161,12 @@ impl<'a, M: Machine, S: PageSource> Pages for Table<'a, M, S> {
     }
 
     fn rest(&mut self)
-        ensures outside { ReadsOnly self.old self.new }
+        ensures outside { ReadsOnly None self.old self.new }
         ensures step { step_of self.new ≡ rested (step_of self.old) }
+        ensures machine { self.new.m.now ≡ self.old.m.now }
+        ensures cache { OnlyPins self.old.cache.now self.new.cache.now }
         ensures ready { IsAtRest self.new }
+        ensures clean { Trusted self.new → IsClean self.new }
     {
         self.promised = 0;
         self.refusal = None;

@@ -1,8 +1,9 @@
 -- Why a call of a volume tells something as lost or as unsound, over an honest machine and any image.
-use Rattle.std.specs.Prelude.{◌≡◌, ◌⊎◌, ⊤, ℕ, ◌<◌, List, [], ◌∷◌, Option, Some, None, IsTrue, Result, IfErr, ◌||◌}
+use Rattle.std.specs.Prelude.{◌≡◌, ◌⊎◌, ⊤, ℕ, ◌<◌, List, [], ◌∷◌, length, Bool, not, ◌&&◌, ◌||◌, Option, Some, None, IsTrue, IfSome, Result, IfErr, slice_index_or}
 use Rattle.std.specs.List.{list_any, Contains}
 use Rattle.volume_layout.specs.Layout.{home_a}
-use Rattle.run_table.specs.RunTable.{sectors_of}
+use Rattle.run_table.specs.declared.run.Run.{Run}
+use Rattle.run_table.specs.RunTable.{same_runs, sectors_of}
 use Rattle.run_table.specs.Space.{contains}
 use Rattle.fsd_bytes.specs.declared.refusal.Refusal.{Refusal}
 use Rattle.fsd_bytes.specs.declared.refusal.Refusal.TheVariants as Why
@@ -20,7 +21,6 @@ use Rattle.fsd_files.specs.Volume.{is_in}
 use Rattle.fsd_sound.specs.Homes.{AreHomesOf}
 use Rattle.fsd_sound.specs.Mounted.{image_at}
 use Rattle.log_thirds.specs.Images.{LiesAt}
-use Rattle.log_thirds.specs.Slots.{slot_of}
 use Rattle.volume_contract.specs.State.{State}
 
 -- ---- what is lost
@@ -28,7 +28,7 @@ use Rattle.volume_contract.specs.State.{State}
 -- the sectors are the two copies of the page: its own and the copy in the last record that has it, or its homes where none has
 abbrev pub AreCopiesOf : State → (page a b : ℕ) → Type 0
 AreCopiesOf s page a b =
-    let slot = slot_of s.layout s.anchor.third page s.records in
+    let slot = slice_index_or s.slots page None in
     LiesAt slot a b ⊎ ((slot ≡ None) × AreHomesOf s.layout page a b)
 
 -- so they are of some page, before the call or behind a force that it made
@@ -39,37 +39,55 @@ pub record AreCopies (old new : State) (a b : ℕ) : Type 0 where
 
 -- ---- what is unsound
 
--- The bytes stand in one of the page's two copies, as the image was worn meanwhile.
-pub record StandsInCopy (s : State) (now : Moment) (page : ℕ) (bytes : List ℕ) : Type 0 where
-  pub seen : Image
-  pub worn : IsWorn (open_damage now.windows) now.image seen
+-- The bytes stand whole in one of the page's two copies.
+pub record StandsInCopy (s : State) (i : Image) (page : ℕ) (bytes : List ℕ) : Type 0 where
   pub a : ℕ
   pub b : ℕ
   pub copies : AreCopiesOf s page a b
-  pub whole : (sector_at seen a ≡ Whole bytes) ⊎ (sector_at seen b ≡ Whole bytes)
+  pub whole : (sector_at i a ≡ Whole bytes) ⊎ (sector_at i b ≡ Whole bytes)
 
--- A call meets each page that these reach from page 0 as it was resident when the call began, or as it stands on the disk.
-abbrev pub Meets : State → (resident : ℕ → Option (List ℕ)) → Moment → List (List ℕ) → Type 0
-Meets s resident now pages = (visit : Visit) → Contains (visits pages) visit →
-    (resident visit.page ≡ Some (image_at pages visit.page)) ⊎ StandsInCopy s now visit.page (image_at pages visit.page)
+-- the same of an image that the call passed: as it began, or behind a force that it made
+abbrev pub StoodInCopy : (old new : State) → (before now : Moment) → (page : ℕ) → (bytes : List ℕ) → Type 0
+StoodInCopy old new before now page bytes =
+    (seen : Image) × ((IsWorn (open_damage before.windows) before.image seen × StandsInCopy old seen page bytes) ⊎ (IsWorn (open_damage now.windows) seen now.image × StandsInCopy new seen page bytes))
 
--- the entry has a sector that is free or waits
+-- A page that a call has read: it was in memory as the call began, or stood in a copy.
+pub record IsRead (old new : State) (resident : ℕ → Option (List ℕ)) (before now : Moment) (page : ℕ) (bytes : List ℕ) : Type 0 where
+  pub within : page < old.layout.pages
+  pub source : (resident page ≡ Some bytes) ⊎ StoodInCopy old new before now page bytes
+
+-- a reader holds a version with one of these sectors, in other runs
+abbrev pub meets_held : List (List Run) → List Run → Bool
+meets_held held runs = list_any (λ other. not (same_runs other runs) && list_any (contains (sectors_of other)) (sectors_of runs)) held
+
+-- the entry has a sector that is free or waits, or one of a held version whose runs are not the very same
 abbrev pub HasUntaken : State → Entry → Type 0
-HasUntaken s e = IsTrue (list_any (λ t. is_in (s.free ∷ []) t || contains s.waiting t) (sectors_of e.runs))
+HasUntaken s e = IsTrue (list_any (λ t. is_in (s.free ∷ []) t || contains s.waiting t) (sectors_of e.runs) || meets_held s.held e.runs)
 
 -- The page at this home breaks the table that the pages are; or it is reached, and stands in the list of free name pages or has an
--- entry with a sector that is free or waits.
+-- entry with a sector that no entry may have.
 pub record BreaksMounted (s : State) (pages : List (List ℕ)) (place : ℕ) : Type 0 where
   pub visit : Visit
   pub reached : Contains (visits pages) visit
   pub home : place ≡ home_a s.layout visit.page
   pub how : Breaks s.layout pages visit.page ⊎ (IsTrue (contains s.free_pages visit.page) ⊎ ((e : Entry) × Contains (entries_of visit.content) e × HasUntaken s e))
 
+-- so many pages, with the bytes of those that were read
+pub record HaveRead (s : State) (read : ℕ → Option (List ℕ)) (pages : List (List ℕ)) : Type 0 where
+  pub size : length pages ≡ s.layout.pages
+  pub same : (page : ℕ) → IfSome (read page) (λ bytes. image_at pages page ≡ bytes)
+
+-- Some pages were read. Whatever the others have, the page at this home breaks the table.
+pub record ShowsBreak (old new : State) (resident : ℕ → Option (List ℕ)) (before now : Moment) (place : ℕ) : Type 0 where
+  pub read : ℕ → Option (List ℕ)
+  pub are_read : (page : ℕ) → IfSome (read page) (IsRead old new resident before now page)
+  pub breaks : (pages : List (List ℕ)) → HaveRead old read pages → BreaksMounted old pages place
+
 -- ---- both
 
 abbrev pub HasCause : (old new : State) → (resident : ℕ → Option (List ℕ)) → (before now : Moment) → Refusal → Type 0
 HasCause old new resident before now (Why.Lost a b) = AreLost (AreCopies old new) now.image a b
-HasCause old new resident before now (Why.Unsound s) = (pages : List (List ℕ)) × Meets old resident before pages × BreaksMounted old pages s
+HasCause old new resident before now (Why.Unsound s) = ShowsBreak old new resident before now s
 HasCause old new resident before now why = ⊤
 
 -- so it is of a refusal, where the machine kept to its promise

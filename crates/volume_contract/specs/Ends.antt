@@ -8,6 +8,7 @@ use Rattle.fsd_bytes.specs.Keys.{key_lt}
 use Rattle.fsd_formats.specs.declared.entry.Entry.{Entry}
 use Rattle.fsd_formats.specs.NamePage.{sectors_for}
 use Rattle.sector_disk.specs.Machine.{Moment}
+use Rattle.fsd_log.specs.Scan.{Placed}
 use Rattle.fsd_files.specs.Answers.{HasLeader, Met, Outcome, entry_of}
 use Rattle.fsd_files.specs.Disk.{Image, Sectors}
 use Rattle.fsd_files.specs.Files.{File, Change}
@@ -58,7 +59,7 @@ pub record Unchanged (k after : Known) : Type 0 where
   pub windows : after.windows ≡ k.windows
   pub changes : after.changes ≡ k.changes
 
-module _ {S : Type 0} (state : S → State) (has : S → Mounted → Type 0) where
+module _ {S : Type 0} (state : S → State) (has : S → Mounted → List Placed → Type 0) where
   -- it is down, since a force failed at this place, or it stands unchanged
   abbrev pub DownOr : ℕ → Known → S → Moment → Type 0
   DownOr place k new now = ((state new).down ≡ Some place) ⊎ ((after : Known) × Unchanged k after × Stands state has new after now)

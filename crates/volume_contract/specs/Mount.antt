@@ -8,6 +8,7 @@ use Rattle.sector_disk.specs.declared.sector.WeakRun.{WeakRun}
 use Rattle.sector_disk.specs.Calls.{DiskFaults, Since}
 use Rattle.sector_disk.specs.Image.{IsWorn, in_run, open_damage, sector_at}
 use Rattle.sector_disk.specs.Machine.{Ledger, Moment, OnlyWrites, Trusts, UsesDisk, Wears}
+use Rattle.fsd_log.specs.Scan.{Placed}
 use Rattle.fsd_table.specs.Breaks.{Breaks}
 use Rattle.fsd_table.specs.Table.{told_in}
 use Rattle.fsd_files.specs.Disk.{Image, Sectors, SectorWorn}
@@ -113,12 +114,12 @@ pub record ShowsVolume (sectors : ℕ) (i : Image) (l : Layout) (pages : List (L
   pub found : IsVolume sectors i l anchor
   pub shows : shown l i ≡ Some pages
 
-module _ {S : Type 0} (state : S → State) (has : S → Mounted → Type 0) where
-  -- The volume has the pages that the image shows in memory: they are a table, and none of them breaks it.
+module _ {S : Type 0} (state : S → State) (has : S → Mounted → List Placed → Type 0) where
+  -- The volume has the pages that the image shows in memory, and no records: they are a table, and none of them breaks it.
   pub record MountsShown (sectors : ℕ) (i : Image) (volume : S) : Type 0 where
     pub mounted : Mounted
     pub shows : ShowsVolume sectors i (state volume).layout mounted.pages
-    pub holds : has volume mounted
+    pub holds : has volume mounted []
     pub fits : Fits (state volume) mounted
     pub told : told_in mounted.pages ≡ Some (telling_of mounted.volume)
     pub whole : (page : ℕ) → Breaks (state volume).layout mounted.pages page → ⊥
@@ -190,7 +191,7 @@ abbrev pub FailsFor : {T : Type 0} → (MountFault → Type 0) → Result T Moun
 FailsFor P (Ok x) = ⊥
 FailsFor P (Err fault) = P fault
 
-module _ {S : Type 0} (state : S → State) (has : S → Mounted → Type 0) where
+module _ {S : Type 0} (state : S → State) (has : S → Mounted → List Placed → Type 0) where
   abbrev pub Mounts : Known → Moment → Result S MountFault → Type 0
   Mounts k new (Ok volume) = Stands state has volume k new
   Mounts k new (Err fault) = Excuses fault

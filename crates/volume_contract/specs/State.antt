@@ -1,11 +1,10 @@
 -- A volume as its caller knows it: what it tells over any machine, and what it is where the machine kept to its promise.
-use Rattle.std.specs.Prelude.{◌≡◌, ◌⊎◌, ℕ, suc, ◌+◌, ◌-◌, ◌*◌, ◌<◌, ◌≤◌, Bool, false, not, ◌&&◌, ◌||◌, List, [], ◌∷◌, length, Option, Some, None, IsSome, Result, Ok, Err, IsFalse, is_none, nat_le, nat_lt, ◌==◌, if◌then◌else◌, count_by}
-use Rattle.std.specs.List.{range_with_len}
+use Rattle.std.specs.Prelude.{◌≡◌, ◌⊎◌, ℕ, suc, ◌+◌, ◌-◌, ◌*◌, ◌<◌, ◌≤◌, Bool, false, not, ◌&&◌, ◌||◌, List, [], length, Option, Some, None, IsSome, Result, Ok, Err, IsFalse, is_none, nat_le, nat_lt, ◌==◌, if◌then◌else◌, count_by, replicate}
 use Rattle.fsd_bytes.specs.declared.key.Serial.{Serial}
 use Rattle.fsd_bytes.specs.declared.refusal.Refusal.{Refusal}
 use Rattle.fsd_bytes.specs.declared.refusal.Refusal.TheVariants as Why
 use Rattle.volume_layout.specs.declared.layout.Layout.{Layout}
-use Rattle.volume_layout.specs.Layout.{data_start, home_a}
+use Rattle.volume_layout.specs.Layout.{data_start, home_a, third_start}
 use Rattle.run_table.specs.declared.run.Run.{Run}
 use Rattle.run_table.specs.RunTable.{sectors_of}
 use Rattle.run_table.specs.Space.{contains, pick, where_free}
@@ -22,24 +21,27 @@ use Rattle.fsd_sound.specs.Anchors.{fresh_anchor}
 use Rattle.fsd_sound.specs.Mounted.{Mounted, IsMounted, most_waiting}
 use Rattle.fsd_sound.specs.Shown.{records_by}
 use Rattle.fsd_sound.specs.Sound.{EndIn, IsSound, is_home}
+use Rattle.log_thirds.specs.declared.slots.Slot.{Slot}
+use Rattle.log_thirds.specs.Slots.{lies_in}
 use Rattle.fsd_runs.specs.Runs.{last_count}
 
 -- ---- over any machine
 
--- The layout, the serial that the next creation draws, the log's anchor, records and end, the pages that wait for a force, the free
--- runs now and once a force has ended, the sectors that wait, whether some of them wait for a force, the free name pages, the number
--- of versions, and the place of the force that failed.
+-- The layout, the serial that the next creation draws, the log's anchor and end, the slot of each page's last image in it, the pages
+-- that wait for a force, the free runs now and once a force has ended, the sectors that wait, whether some of them wait for a force,
+-- the runs of the versions that readers hold, the free name pages, the number of versions, and the place of the force that failed.
 pub record State : Type 0 where
   pub layout : Layout
   pub serial : Serial
   pub anchor : Anchor
   pub head : Head
-  pub records : List Placed
+  pub slots : List (Option Slot)
   pub dirty : List ℕ
   pub free : List Run
   pub freed : List Run
   pub waiting : List ℕ
   pub waits : Bool
+  pub held : List (List Run)
   pub free_pages : List ℕ
   pub versions : ℕ
   pub down : Option ℕ
@@ -60,11 +62,12 @@ forces_for_place s need = is_none (pick s.free need) && s.waits
 pub record IsNew (s : State) : Type 0 where
   pub anchor : s.anchor ≡ fresh_anchor s.serial.epoch
   pub head : s.head ≡ start s.layout 1
-  pub records : s.records ≡ []
+  pub slots : s.slots ≡ replicate s.layout.pages None
   pub count : s.serial.count ≡ 1
   pub dirty : s.dirty ≡ []
   pub waiting : s.waiting ≡ []
   pub waits : s.waits ≡ false
+  pub held : s.held ≡ []
   pub freed : s.freed ≡ s.free
   pub up : s.down ≡ None
 
@@ -82,6 +85,7 @@ downs (Err why) = downs_for why
 pub record GoesOn (place : Option ℕ) (old new : State) : Type 0 where
   pub layout : new.layout ≡ old.layout
   pub epoch : new.serial.epoch ≡ old.serial.epoch
+  pub held : new.held ≡ old.held
   pub down : (new.down ≡ old.down) ⊎ (IsSome place × (new.down ≡ place))
 
 -- every page that isn't a free one is in memory
@@ -95,18 +99,18 @@ abbrev pub numbered : State → ℕ
 numbered s = if length s.dirty == 0 then s.head.number else suc s.head.number
 
 -- a force has ended, with its log here: nothing waits for one, and what did is free
-abbrev pub forced_state : State → (anchor : Anchor) → (head : Head) → (records : List Placed) → (waiting : List ℕ) → State
-forced_state s anchor head records waiting = record s { anchor = anchor; head = head; records = records; dirty = []; free = s.freed; waiting = waiting; waits = false }
+abbrev pub forced_state : State → (anchor : Anchor) → (head : Head) → (slots : List (Option Slot)) → (waiting : List ℕ) → State
+forced_state s anchor head slots waiting = record s { anchor = anchor; head = head; slots = slots; dirty = []; free = s.freed; waiting = waiting; waits = false }
 
 -- A force has ended: it has numbered one record, and none where no page waited.
 pub record IsForced (old new : State) : Type 0 where
-  pub is : new ≡ forced_state old new.anchor new.head new.records new.waiting
+  pub is : new ≡ forced_state old new.anchor new.head new.slots new.waiting
   pub number : new.head.number ≡ numbered old
   pub idle : old.dirty ≡ [] → new ≡ old
 
 -- A force has failed: it is down with that place, its log left where it failed, and all else as it was.
 pub record IsDownAt (place : ℕ) (old new : State) : Type 0 where
-  pub is : new ≡ record old { anchor = new.anchor; head = new.head; records = new.records; down = Some place }
+  pub is : new ≡ record old { anchor = new.anchor; head = new.head; slots = new.slots; down = Some place }
 
 -- What a call that has answered Ok has drawn and numbered: a serial, where it makes a version; a record, where a force came.
 pub record HasCounted (draws forces : Bool) (old new : State) : Type 0 where
@@ -115,14 +119,9 @@ pub record HasCounted (draws forces : Bool) (old new : State) : Type 0 where
 
 -- ---- sectors that a call writes
 
--- a page's last record among these lies in the log's first third
-abbrev pub last_in_first : ℕ → Bool → List Placed → ℕ → Bool
-last_in_first third found [] page = found
-last_in_first third found (r ∷ records) page = last_in_first third (if contains r.entry.pages page then nat_lt r.at third else found) records page
-
--- how many pages have to go home before the first third is entered again
+-- how many pages have to go home before the first third is entered again: those whose last image lies in it
 abbrev pub homed : State → ℕ
-homed s = count_by (last_in_first s.layout.third false s.records) (range_with_len 0 s.layout.pages)
+homed s = count_by (lies_in (third_start s.layout s.anchor.third) s.layout.third) s.slots
 
 -- the next record would be laid in the anchor's first third
 abbrev pub enters_again : State → Bool
@@ -170,17 +169,17 @@ pub record Fits (s : State) (m : Mounted) : Type 0 where
   pub freed : free_runs (forced m.volume) ≡ s.freed
   pub waiting : where_free (waits m.volume) (data_start m.volume.layout) m.volume.layout.sectors ≡ s.waiting
   pub waits : not (length m.volume.removed == 0) ≡ s.waits
+  pub held : m.volume.held ≡ s.held
   pub pages_free : pages_free m.volume ≡ length s.free_pages
   pub versions : length m.volume.files ≡ s.versions
   pub up : s.down ≡ None
 
--- The volume is mounted on the disk of this moment, and its records are those that the disk's log has.
-pub record Stands {S : Type 0} (state : S → State) (has : S → Mounted → Type 0) (s : S) (k : Known) (now : Moment) : Type 0 where
+-- The volume is mounted on the disk of this moment, and what it has in memory is of it and of the records that the disk's log has.
+pub record Stands {S : Type 0} (state : S → State) (has : S → Mounted → List Placed → Type 0) (s : S) (k : Known) (now : Moment) : Type 0 where
   pub fits : Fits (state s) k.mounted
-  pub holds : has s k.mounted
+  pub holds : has s k.mounted (records_by k.mounted.volume.layout now.image k.mounted.anchor)
   pub ends : EndIn now.windows k.windows
   pub disk : IsMounted k.mounted k.windows k.changes (forced_of k) now.image
-  pub records : records_by k.mounted.volume.layout now.image k.mounted.anchor ≡ (state s).records
 
 -- The disk is worn since, in the same windows; what is said may differ.
 pub record Ages (old new : Moment) : Type 0 where
@@ -206,7 +205,7 @@ pub record LeavesSound (k : Known) (may : Sectors) (old left : Moment) : Type 0 
   pub touches : Touches may old left
 
 -- what a stop leaves of a call over a mounted volume that writes only there
-abbrev pub Leaves : {S : Type 0} → (state : S → State) → (has : S → Mounted → Type 0) → S → Sectors → Moment → Moment → Type 0
+abbrev pub Leaves : {S : Type 0} → (state : S → State) → (has : S → Mounted → List Placed → Type 0) → S → Sectors → Moment → Moment → Type 0
 Leaves state has s may old left = (k : Known) → Stands state has s k old → LeavesSound k may old left
 
 -- the runs that a put takes: those that are picked now, or once a force has ended

@@ -11,6 +11,7 @@ ghost use Rattle.run_table.specs.RunTable.{total};
 ghost use Rattle.fsd_bytes.specs.declared.refusal.Refusal.TheVariants as Why;
 ghost use Rattle.fsd_bytes.specs.Keys.{key_cmp};
 ghost use Rattle.fsd_formats.specs.NamePage.{sectors_for};
+ghost use Rattle.fsd_log.specs.Scan.{Placed};
 ghost use Rattle.fsd_files.specs.Files.{Change};
 ghost use Rattle.fsd_files.specs.Replies.{Forced as IsForced, Deleted};
 ghost use Rattle.fsd_files.specs.Answers.{entry_of, entry_reply, next_reply, put_outcome, delete_outcome, keep_outcome, force_outcome};
@@ -52,8 +53,8 @@ pub trait Files<M: Machine>: Sized {
     /// The pages that are in memory.
     ghost resident: { Self → ℕ → Option (List ℕ) };
 
-    /// What it has in memory is of this one.
-    ghost holds: { Self → Mounted → Type 0 };
+    /// What it has in memory is of this one, whose log has these records.
+    ghost holds: { Self → Mounted → List Placed → Type 0 };
 
     /// Mounts the volume of an image with so many sectors.
     fn mount(alloc: Global, m: &mut M, sectors: u32) -> Result<Self, MountFault>
@@ -218,5 +219,5 @@ pub trait Files<M: Machine>: Sized {
     ghost wears: { (s : Self) (k : Known) (old new : Moment) → AreShort old.windows → Ages old new → Stands state holds s k old → Stands state holds s k new };
 
     /// The pages in memory are those of what it has there.
-    ghost shows: { (s : Self) (mounted : Mounted) (page : ℕ) (bytes : List ℕ) → holds s mounted → resident s page ≡ Some bytes → image_at mounted.pages page ≡ bytes };
+    ghost shows: { (s : Self) (mounted : Mounted) (records : List Placed) (page : ℕ) (bytes : List ℕ) → holds s mounted records → resident s page ≡ Some bytes → image_at mounted.pages page ≡ bytes };
 }

@@ -1,5 +1,6 @@
 -- A group of commands, with the force behind it.
 use Rattle.std.proofs.Common.{◌≡◌, ℕ, ◌≤◌, Bool, true, false, List, [], ◌∷◌, ◌++◌, length, Some, refl, sym, ◌∙◌, ap, subst, arith, append_assoc}
+use Rattle.fsd_log.specs.Scan.{Placed}
 use Rattle.std.specs.Prelude.{IfOk, Result, Ok, Err}
 use Rattle.std.proofs.lemmas.List.{append-nil, take_all}
 use Rattle.volume_layout.specs.declared.layout.Layout.{Layout}
@@ -54,7 +55,7 @@ module _ (H : Sectors) (P Q : Moment → Type 0) (wider : (c : Moment) → P c �
     goes_wider (said ++ e.says (answer met v command).0) goes.0 (answer met v command).1 mets commands goes.2,
   )
 
-module _ {S D : Type 0} (state : S → State) (has : S → Mounted → Type 0) (M : Ghosts D) (e : Errand) (says : e.says ≡ reply_text) (k : Known) (from : Moment) (commands : List Command) (a m b : D) (w : S)
+module _ {S D : Type 0} (state : S → State) (has : S → Mounted → List Placed → Type 0) (M : Ghosts D) (e : Errand) (says : e.says ≡ reply_text) (k : Known) (from : Moment) (commands : List Command) (a m b : D) (w : S)
     (since : Since M m b) (later : M.moment a ≤ M.moment m) where
   module _ (run : Result (Unit {0}) End) (ran : RunsFrom state has M e k from commands a m w run) where
     abbrev turns : List Turn
@@ -105,7 +106,7 @@ worn_is (Stopped Ends.WornOut) is = refl
 worn_is (Stopped fault) is = cc is
 worn_is Output is = cc is
 
-module _ {S D : Type 0} (state : S → State) (has : S → Mounted → Type 0) (M : Ghosts D) (e : Errand) (k : Known) (from : Moment) (commands : List Command) where
+module _ {S D : Type 0} (state : S → State) (has : S → Mounted → List Placed → Type 0) (M : Ghosts D) (e : Errand) (k : Known) (from : Moment) (commands : List Command) where
   -- all were done
   pub group_all : e.says ≡ reply_text → (a m b : D) (w : S) → Since M m b → M.moment a ≤ M.moment m → RunsFrom state has M e k from commands a m w (Ok tt) → (result : Result Bool End) → IfOk result (λ x. x ≡ true)
       → ((x : Known) → Stands state has w x (M.now m) → ClosesAndSays M x (e.says Reply.Forced) m b (unit_of result)) → IsGroup M e k from commands a b result

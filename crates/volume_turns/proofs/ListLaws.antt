@@ -1,5 +1,6 @@
 -- A list takes the entries in the order of their keys.
 use Rattle.std.proofs.Common.{◌≡◌, ℕ, suc, ◌+◌, Bool, true, false, cond, List, [], ◌∷◌, ◌++◌, length, Option, Some, None, Ordering, refl, sym, ◌∙◌, ap, subst, arith, append_assoc, length-append}
+use Rattle.fsd_log.specs.Scan.{Placed}
 use Rattle.std.specs.Prelude.{T, option_map, Result, Err}
 use Rattle.std.specs.List.{AllByRecursion, last_or}
 use Rattle.std.specs.FinMap.{is_sorted}
@@ -166,7 +167,7 @@ module _ (pattern : Pattern) (s : Files) (entries : List Entry) (lists : Lists s
         no_more (r ∷ rest) none = absurd (cc none)
 
 -- the files of a volume that stands
-pub files_in_order : {S : Type 0} (state : S → State) (has : S → Mounted → Type 0) (v : S) (k : Known) (now : Moment) → Stands state has v k now → T (is_sorted key_cmp (volume_of k).files)
+pub files_in_order : {S : Type 0} (state : S → State) (has : S → Mounted → List Placed → Type 0) (v : S) (k : Known) (now : Moment) → Stands state has v k now → T (is_sorted key_cmp (volume_of k).files)
 files_in_order state has v k now stands = subst (λ (s : Files). T (is_sorted key_cmp s)) (sym stands.disk.files) (after_in_order k.changes)
 
 pub listed_none : (pattern : Pattern) (entries : List Entry) → AreListed pattern entries 0 None []

@@ -1,5 +1,6 @@
 -- One command by itself.
 use Rattle.std.proofs.Common.{◌≡◌, ℕ, zero, suc, ◌≤◌, Bool, false, List, [], ◌∷◌, ◌++◌, length, take, Option, Some, refl, sym, ◌∙◌, ap, subst, arith}
+use Rattle.fsd_log.specs.Scan.{Placed}
 use Rattle.std.specs.Prelude.{IsTrue, Result, Ok, Err, OnOk, IfErr}
 use Rattle.std.proofs.lemmas.List.{append-nil}
 use Rattle.volume_layout.specs.declared.layout.Layout.{Layout}
@@ -44,7 +45,7 @@ device_ends : (why : Refusal) → IsDevice why → EndsAtOnce (close_fault why)
 device_ends (Why.Device s) is = tt
 device_ends why is = absurd is
 
-module _ {S D : Type 0} (state : S → State) (has : S → Mounted → Type 0) (M : Ghosts D) (v : S) (a m b : D) (k : Known) (stands : Stands state has v k (M.now a)) (text : List ℕ) (may : ℕ → Bool) (fault : Option ℕ)
+module _ {S D : Type 0} (state : S → State) (has : S → Mounted → List Placed → Type 0) (M : Ghosts D) (v : S) (a m b : D) (k : Known) (stands : Stands state has v k (M.now a)) (text : List ℕ) (may : ℕ → Bool) (fault : Option ℕ)
     (disk : WritesDisk M fault (Leaves state has v may) a m) (honest : M.honest m) where
   closing : (left : Moment) → Leaves state has v may (M.now a) left → InClose k text (M.now a) left
   closing left leaves =
@@ -101,7 +102,7 @@ plain = generated 0 0
 never : (met : Met) (v : Volume) (c : Command) → IsTrue (plain.forces (answer met v c).0) → (answer met v c).1.unforced ≡ 0
 never met v c is = cc is
 
-module _ {S D : Type 0} (state : S → State) (has : S → Mounted → Type 0) (M : Ghosts D)
+module _ {S D : Type 0} (state : S → State) (has : S → Mounted → List Placed → Type 0) (M : Ghosts D)
     (wears : (s : S) (k : Known) (old new : Moment) → AreShort old.windows → Ages old new → Stands state has s k old → Stands state has s k new)
     (short : (m : D) → M.honest m → AreShort (M.now m).windows)
     (counts_now : (m : D) (t : ℕ) → M.honest m → t ≤ M.moment m → M.left_since m t (M.now m))

@@ -1,5 +1,6 @@
 -- How a command by itself ends, by how its mount ended.
 use Rattle.std.proofs.Common.{◌≡◌, inl, inr, ℕ, ◌≤◌, List, [], ◌∷◌, length, refl, sym, ◌∙◌, subst, arith}
+use Rattle.fsd_log.specs.Scan.{Placed}
 use Rattle.std.specs.Prelude.{Result, Ok, Err}
 use Rattle.std.proofs.lemmas.List.{append-nil}
 use Rattle.volume_layout.specs.declared.layout.Layout.{Layout}
@@ -25,7 +26,7 @@ use Rattle.volume_turns.specs.Turns.{InRun}
 use Rattle.volume_turns.proofs.MountLaws.{mounted_alone, once_mounted, nothing_said, stop_of}
 use Rattle.volume_turns.proofs.TurnLaws.{in_before}
 
-module _ {S D : Type 0} (state : S → State) (has : S → Mounted → Type 0) (M : Ghosts D) (l : Layout) (windows : List WeakRun) (h : List Change) (f : ℕ) where
+module _ {S D : Type 0} (state : S → State) (has : S → Mounted → List Placed → Type 0) (M : Ghosts D) (l : Layout) (windows : List WeakRun) (h : List Change) (f : ℕ) where
   before_only : (old left : Moment) → SoundBefore l windows h f old left → LeftBefore l windows h f old left
   before_only old left x = record { present = x.present; part = []; said = x.said ∙ sym (append-nil old.said); fault = nothing_said; sound = x.sound }
 

@@ -1,5 +1,6 @@
 -- What a whole version's reading says.
 use Rattle.std.proofs.Common.{◌≡◌, inl, inr, ◌-◌, ℕ, Bool, false, List, [], ◌∷◌, ◌++◌, length, take, drop, Option, Some, None, refl, sym, ◌∙◌, ap, subst, arith}
+use Rattle.fsd_log.specs.Scan.{Placed}
 use Rattle.std.specs.Prelude.{IfSome, Result, Ok, Err, min}
 use Rattle.std.specs.List.{AllByRecursion}
 use Rattle.std.specs.FinMap.{find}
@@ -105,7 +106,7 @@ got_by key None (Some e) i j old new why len reads = absurd reads
 got_by key (Some file) None i j old new why len reads = absurd reads
 got_by key (Some file) (Some e) i j old new why len reads = absurd reads
 
-module _ {S : Type 0} (state : S → State) (has : S → Mounted → Type 0) (key : Key) (old new : S) (k : Known) (before now : Moment) where
+module _ {S : Type 0} (state : S → State) (has : S → Mounted → List Placed → Type 0) (key : Key) (old new : S) (k : Known) (before now : Moment) where
   abbrev file_at : Option File
   file_at = find key_cmp key (volume_of k).files
 
@@ -139,7 +140,7 @@ module _ {S : Type 0} (state : S → State) (has : S → Mounted → Type 0) (ke
 
 -- ---- the look-up before it
 
-module _ {S : Type 0} (state : S → State) (has : S → Mounted → Type 0) (key : Key) (old mid new : S) (k : Known) (before at now : Moment) (may : ℕ → Bool) (worn : IsWorn may before.image at.image) where
+module _ {S : Type 0} (state : S → State) (has : S → Mounted → List Placed → Type 0) (key : Key) (old mid new : S) (k : Known) (before at now : Moment) (may : ℕ → Bool) (worn : IsWorn may before.image at.image) where
   answered_earlier : (after : Known) (reply : Reply) → IsAnswered (Word.Get key) (state mid) k after at.image now.image reply → IsAnswered (Word.Get key) (state old) k after before.image now.image reply
   answered_earlier after reply is = record {
     met = is.met;
@@ -168,7 +169,7 @@ none_such None is = refl
 none_such (Some e) is = cc is
 
 -- a version that isn't there, or a fault from outside
-pub unfound_does : {S : Type 0} (state : S → State) (has : S → Mounted → Type 0) (key : Key) (old new : S) (k : Known) (before now : Moment) (why : Refusal) → Stands state has new k now → Looks (entry_reply (volume_of k) key) (found_one (Err why)) → Does state has (Word.Get key) old new k before now (ended_by why)
+pub unfound_does : {S : Type 0} (state : S → State) (has : S → Mounted → List Placed → Type 0) (key : Key) (old new : S) (k : Known) (before now : Moment) (why : Refusal) → Stands state has new k now → Looks (entry_reply (volume_of k) key) (found_one (Err why)) → Does state has (Word.Get key) old new k before now (ended_by why)
 unfound_does state has key old new k before now (Why.Device s) stands looks = tt
 unfound_does state has key old new k before now Why.Memory stands looks = tt
 unfound_does state has key old new k before now Why.NoSuch stands looks =

@@ -1,5 +1,6 @@
 -- A command and its reply, and the commands behind it.
 use Rattle.std.proofs.Common.{◌≡◌, ℕ, suc, ◌+◌, ◌≤◌, Bool, List, [], ◌∷◌, ◌++◌, length, take, Option, refl, sym, ◌∙◌, ap, subst, arith, append_assoc, length-append}
+use Rattle.fsd_log.specs.Scan.{Placed}
 use Rattle.std.specs.Prelude.{IsTrue, Result, Ok, Err, OnOk, IfErr}
 use Rattle.std.specs.List.{list_any}
 use Rattle.std.proofs.lemmas.List.{append-nil}
@@ -38,7 +39,7 @@ find_earlier : (may : ℕ → Bool) (i j k : Image) → IsWorn may i j → (v : 
 find_earlier may i j k worn v (Word.Get key) met find = some_earlier may i j worn k (entry_of key v.entries) met.damaged find
 find_earlier may i j k worn v command met find = tt
 
-module _ {S D : Type 0} (state : S → State) (has : S → Mounted → Type 0) (M : Ghosts D)
+module _ {S D : Type 0} (state : S → State) (has : S → Mounted → List Placed → Type 0) (M : Ghosts D)
     (wears : (s : S) (k : Known) (old new : Moment) → AreShort old.windows → Ages old new → Stands state has s k old → Stands state has s k new)
     (short : (m : D) → M.honest m → AreShort (M.now m).windows)
     (counts_now : (m : D) (t : ℕ) → M.honest m → t ≤ M.moment m → M.left_since m t (M.now m)) (e : Errand)
@@ -199,7 +200,7 @@ follows_then M a b c x y = record {
   later = λ h. let p = x.later (y.honest h) in let q = y.later h in omega (arith, p, q);
 }
 
-module _ {S D : Type 0} (state : S → State) (has : S → Mounted → Type 0) (M : Ghosts D) (e : Errand) where
+module _ {S D : Type 0} (state : S → State) (has : S → Mounted → List Placed → Type 0) (M : Ghosts D) (e : Errand) where
   pub runs_nil : (v : S) (a : D) → ((s : S) (k : Known) (old new : Moment) → AreShort old.windows → Ages old new → Stands state has s k old → Stands state has s k new)
       → (M.honest a → (left : Moment) → M.left_since a (M.moment a) left → left ≡ M.now a) → (M.honest a → (from : Moment) → Ages from (M.now a) → AreShort from.windows) → Runs state has M e [] v a v a (Ok tt)
   runs_nil v a wears only short honest k from stood aged =

@@ -1,5 +1,6 @@
 -- What a command's answer says, by how the volume's call ended.
 use Rattle.std.proofs.Common.{◌≡◌, Bool, List, [], ◌++◌, refl, sym, ◌∙◌, ap, ℕ, length}
+use Rattle.fsd_log.specs.Scan.{Placed}
 use Rattle.std.specs.Prelude.{IsTrue, IsFalse, Result, Err}
 use Rattle.fsd_bytes.specs.declared.key.Key.{Key}
 use Rattle.fsd_bytes.specs.declared.refusal.Refusal.{Refusal}
@@ -41,7 +42,7 @@ same_read_device key Why.WornOut up = refl
 same_read_device key Why.Memory up = refl
 same_read_device key why up = refl
 
-module _ {S : Type 0} (state : S → State) (has : S → Mounted → Type 0) where
+module _ {S : Type 0} (state : S → State) (has : S → Mounted → List Placed → Type 0) where
   pub less_touched : (s : S) (may : ℕ → Bool) (old left : Moment) → Leaves state has s may old left → Stays state has s old left
   less_touched s may old left leaves k stands = let l = leaves k stands in record { sound = l.sound; windows = l.windows; said = l.said }
 

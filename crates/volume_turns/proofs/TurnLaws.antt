@@ -8,7 +8,7 @@ use Rattle.volume_layout.specs.declared.layout.Layout.{Layout}
 use Rattle.fsd_formats.specs.declared.anchor.Anchor.{Anchor}
 use Rattle.sector_disk.specs.declared.sector.WeakRun.{WeakRun}
 use Rattle.sector_disk.specs.Machine.{Moment}
-use Rattle.fsd_log.specs.Scan.{Head, Walked, newer_of, is_newer}
+use Rattle.fsd_log.specs.Scan.{Head, Walked, newer_of, is_newer, Placed}
 use Rattle.fsd_table.specs.Table.{Telling, told_in}
 use Rattle.fsd_files.specs.Disk.{in_runs}
 use Rattle.fsd_files.specs.Files.{Change, after}
@@ -48,7 +48,7 @@ some_is a b (Some x) is own = let same : x ≡ b = cc is in sym same ∙ own
 low_test : (n m : ℕ) → n ≤ m → IsTrue (nat_le n m)
 low_test n m le = le-leb n m le
 
-module _ {S : Type 0} (state : S → State) (has : S → Mounted → Type 0) (s : S) (k : Known) (now : Moment) (stands : Stands state has s k now) where
+module _ {S : Type 0} (state : S → State) (has : S → Mounted → List Placed → Type 0) (s : S) (k : Known) (now : Moment) (stands : Stands state has s k now) where
   own_anchor : IfSome (anchor_of now.image) (λ b. b ≡ k.mounted.anchor)
   own_anchor = let own = stands.disk.over.own.own in newer_own k.mounted.anchor (anchor_at now.image 8) (anchor_at now.image 12) own.0 own.1
 

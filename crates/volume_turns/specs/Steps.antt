@@ -1,5 +1,6 @@
 -- One command over a mounted volume: what it answers, and what it leaves.
-use Rattle.std.specs.Prelude.{◌≡◌, ⊤, ℕ, ◌++◌, Option, Some, None, Result, Ok, Err, IsTrue, IsFalse}
+use Rattle.std.specs.Prelude.{◌≡◌, ⊤, ℕ, List, ◌++◌, Option, Some, None, Result, Ok, Err, IsTrue, IsFalse}
+use Rattle.fsd_log.specs.Scan.{Placed}
 use Rattle.fsd_bytes.specs.declared.key.Key.{Key}
 use Rattle.fsd_bytes.specs.declared.refusal.Refusal.{Refusal}
 use Rattle.fsd_bytes.specs.declared.refusal.Refusal.TheVariants as Why
@@ -61,7 +62,7 @@ pub record StaysSound (k : Known) (old left : Moment) : Type 0 where
   pub windows : left.windows ≡ old.windows
   pub said : left.said ≡ old.said
 
-abbrev pub Stays : {S : Type 0} → (state : S → State) → (has : S → Mounted → Type 0) → S → Moment → Moment → Type 0
+abbrev pub Stays : {S : Type 0} → (state : S → State) → (has : S → Mounted → List Placed → Type 0) → S → Moment → Moment → Type 0
 Stays state has s old left = (k : Known) → Stands state has s k old → StaysSound k old left
 
 -- ---- how a command ends
@@ -80,7 +81,7 @@ pub record IsRefusedWorn (command : Command) (s : State) : Type 0 where
   pub may : IsTrue (may_wear_out command)
   pub worn : IsTrue (is_worn s)
 
-module _ {S : Type 0} (state : S → State) (has : S → Mounted → Type 0) where
+module _ {S : Type 0} (state : S → State) (has : S → Mounted → List Placed → Type 0) where
   abbrev pub Does : Command → (old new : S) → Known → (before now : Moment) → Result Answer Fault → Type 0
   Does command old new k before now (Ok a) = (after : Known) × IsAnswered command (state old) k after before.image now.image (reply_of a) × Stands state has new after now
   Does command old new k before now (Err (Ends.Device s)) = ⊤

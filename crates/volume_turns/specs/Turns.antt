@@ -1,5 +1,6 @@
 -- Commands one after another over a mounted volume, each with its reply said: what a stop leaves, and how they end.
 use Rattle.std.specs.Prelude.{◌≡◌, ⊤, ℕ, suc, ◌+◌, ◌≤◌, List, ◌∷◌, ◌++◌, length, take, slice_get, Option, None, Result, Ok, Err, IsTrue}
+use Rattle.fsd_log.specs.Scan.{Placed}
 use Rattle.std.specs.List.{list_any}
 use Rattle.sector_disk.specs.declared.machine.Machine.{Ghosts}
 use Rattle.sector_disk.specs.Machine.{Moment, Report, Rose, LeavesOnly, Wears}
@@ -72,7 +73,7 @@ pub record Said (turns : List Turn) (old now : Moment) : Type 0 where
 abbrev pub turn_by : Errand → Known → Command → Met → Turn
 turn_by e k command met = turn_of e (answered_so command (answer met (volume_of k) command).0)
 
-module _ {S : Type 0} (state : S → State) (has : S → Mounted → Type 0) where
+module _ {S : Type 0} (state : S → State) (has : S → Mounted → List Placed → Type 0) where
   -- The commands that were begun are answered and said, and the volume stands behind them.
   pub record StandsBehind (e : Errand) (k : Known) (mets : List Met) (commands : List Command) (s : S) (old now : Moment) : Type 0 where
     pub after : Known

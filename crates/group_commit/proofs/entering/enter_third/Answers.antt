@@ -1,10 +1,8 @@
 use Rattle.std.proofs.Common.{subst, arith}
-use Rattle.sector_disk.proofs.Moments.{leaves_more, then_on}
-use Rattle.log_thirds.specs.Anchoring.{AnchorsIn}
+use Rattle.sector_disk.proofs.CallLaws.{writes_then}
 use Rattle.log_thirds.specs.Append.{IsIndexed, IsLogWorn}
 use Rattle.log_thirds.specs.LogValue.{LogValue}
-use Rattle.log_thirds.specs.Moving.{moved_anchor, records_moved}
-use Rattle.group_commit.specs.Entering.{Shows}
+use Rattle.log_thirds.specs.Moving.{records_moved}
 use Rattle.group_commit.proofs.EnterLaws.{moving_shows, entered}
 use Rattle.group_commit.proofs.HomingLaws.{homing_log}
 use Rattle.group_commit.proofs.entering.enter_third.Goals as goal
@@ -12,29 +10,21 @@ use Rattle.group_commit.proofs.entering.enter_third.Goals as goal
 pub home_third-requires-clause-low : goal.home_third-requires-clause-low
 home_third-requires-clause-low g c = omega (arith, c.layout-layout.ensures.shape.third, c.requires.first)
 
-pub returns-in-Ok-clause-any_moment : goal.returns-in-Ok-clause-any_moment
-returns-in-Ok-clause-any_moment g c records disk windows h may over =
+pub returns-in-Ok-clause-disk : goal.returns-in-Ok-clause-disk
+returns-in-Ok-clause-disk g c =
     let M = g.M.Machine in
-    let log = c.args.log.now in
-    let old = M.now c.args.m.now in
-    let mid = M.now c.home_third.new.m in
-    let h1 = c.move_anchor.ensures.trust.honest h in
-    let at = c.in_ok-home_third.ensures.done records disk windows h1 may over in
-    then_on M.moment M.left_since c.args.m.now c.home_third.new.m c.move_anchor.new.m (Shows log.layout windows disk old) (c.home_third.ensures.any_moment records disk windows h1 may over)
-    (leaves_more M.moment M.left_since c.home_third.new.m c.move_anchor.new.m (AnchorsIn (moved_anchor log) mid) (Shows log.layout windows disk old)
-    (λ left part. moving_shows log records disk windows old may c.requires.ends mid at left part) (c.move_anchor.ensures.any_moment h))
+    let first = c.in_ok-home_third.ensures in
+    let writes = c.in-Ok.ensures.writes in
+    writes_then first.disk writes (λ h left so. so) (λ h left part records disk windows may over.
+    moving_shows c.args.log.now records disk windows (M.now c.args.m.now) may c.requires.ends (M.now c.home_third.new.m) (first.done records disk windows (writes.trust.honest h) may over) left part)
 
-pub returns-in-Err-clause-any_moment : goal.returns-in-Err-clause-any_moment
-returns-in-Err-clause-any_moment g c records disk windows h may over =
+pub returns-in-Err-clause-disk : goal.returns-in-Err-clause-disk
+returns-in-Err-clause-disk g c =
     let M = g.M.Machine in
-    let log = c.args.log.now in
-    let old = M.now c.args.m.now in
-    let mid = M.now c.home_third.new.m in
-    let h1 = c.move_anchor.ensures.trust.honest h in
-    let at = c.in_ok-home_third.ensures.done records disk windows h1 may over in
-    then_on M.moment M.left_since c.args.m.now c.home_third.new.m c.move_anchor.new.m (Shows log.layout windows disk old) (c.home_third.ensures.any_moment records disk windows h1 may over)
-    (leaves_more M.moment M.left_since c.home_third.new.m c.move_anchor.new.m (AnchorsIn (moved_anchor log) mid) (Shows log.layout windows disk old)
-    (λ left part. moving_shows log records disk windows old may c.requires.ends mid at left part) (c.move_anchor.ensures.any_moment h))
+    let first = c.in_ok-home_third.ensures in
+    let writes = c.in-Err.ensures.writes in
+    writes_then first.disk writes (λ h left so. so) (λ h left part records disk windows may over.
+    moving_shows c.args.log.now records disk windows (M.now c.args.m.now) may c.requires.ends (M.now c.home_third.new.m) (first.done records disk windows (writes.trust.honest h) may over) left part)
 
 pub returns-in-Ok-clause-done : goal.returns-in-Ok-clause-done
 returns-in-Ok-clause-done g c records disk windows h may over =
@@ -42,7 +32,7 @@ returns-in-Ok-clause-done g c records disk windows h may over =
     let log = c.args.log.now in
     let old = M.now c.args.m.now in
     let mid = M.now c.home_third.new.m in
-    let h1 = c.move_anchor.ensures.trust.honest h in
+    let h1 = c.in-Ok.ensures.writes.trust.honest h in
     let at = c.in_ok-home_third.ensures.done records disk windows h1 may over in
     let new = M.now c.move_anchor.new.m in
     let stands = homing_log log records disk windows old may log.layout.pages mid at in

@@ -1,49 +1,58 @@
 use Rattle.std.proofs.Common.{rules, ◌≡◌, length, None, Ok, subst}
 use Rattle.volume_layout.specs.declared.layout.Layout.{Layout}
-use Rattle.sector_disk.specs.Machine.{Wears, Holds}
-use Rattle.sector_disk.proofs.Moments.{leaves_more, then_on}
+use Rattle.sector_disk.specs.Machine.{Holds}
+use Rattle.sector_disk.proofs.CallLaws.{reads_as_writes, reads_then_writes}
+use Rattle.sector_disk.proofs.Holding.{wears_none}
 use Rattle.fsd_log.specs.Images.{last_image}
-use Rattle.log_thirds.proofs.ReadingLaws.{wears_here}
 use Rattle.twin_home.specs.Home.{HomesIn, with_homes}
-use Rattle.group_commit.specs.Entering.{Shows}
 use Rattle.group_commit.proofs.HomingLaws.{slot_gives, slot_not_lost, image_is, still, stays, homes_stay, homes_next}
 use Rattle.group_commit.proofs.entering.home_page.Goals as goal
 
-pub returns-in-Ok-clause-any_moment : goal.returns-in-Ok-clause-any_moment
-returns-in-Ok-clause-any_moment g c records disk windows old n h may lies at =
+pub returns-in-Ok-clause-disk : goal.returns-in-Ok-clause-disk
+returns-in-Ok-clause-disk g c =
     let M = g.M.Machine in
     let log = c.args.log.now in
     let now = M.now c.args.m.now in
     let read = M.now c.image_of.new.m in
     let buf = c.image_of.new.buf in
-    let h1 = c.write_home.ensures.writes.trust.honest h in
     let long : length c.image_of.new.buf ≡ 512 = search rules in
-    let given = slot_gives log records disk windows old may n now at c.args.page c.image_of.new.buf (wears_here now) (c.in-Ok-true.ensures.whole (λ i. Ok (c.in-Ok-true.field-0-test i)) h1) in
+    let reads = c.in-Ok-true.ensures.reads in
+    let writes = c.in-Ok.ensures.writes in
+    reads_then_writes reads writes (λ h left wears records disk windows old n may lies at. stays log records disk windows old may n now at left wears)
+    (λ h left homes records disk windows old n may lies at.
+    let h1 = writes.trust.honest h in
+    let given = slot_gives log records disk windows old may n now at c.args.page c.image_of.new.buf (wears_none now) (c.in-Ok-true.ensures.whole (λ i. Ok (c.in-Ok-true.field-0-test i)) h1) in
     let logged : last_image c.args.page records ≡ None → ⊥ = λ none. absurd (cc (none, given)) in
-    let later = still log records disk windows old may n now at read (c.image_of.ensures.worn h1) in
-    then_on M.moment M.left_since c.args.m.now c.image_of.new.m c.write_home.new.m (Shows log.layout windows disk old)
-    (leaves_more M.moment M.left_since c.args.m.now c.image_of.new.m (Wears now) (Shows log.layout windows disk old) (λ left wears. stays log records disk windows old may n now at left wears) (c.image_of.ensures.any_moment h1))
-    (leaves_more M.moment M.left_since c.image_of.new.m c.write_home.new.m (HomesIn c.layout.result.now c.args.page buf read) (Shows log.layout windows disk old)
-    (λ left homes. homes_stay log records disk windows old may n read later c.args.page c.requires.page buf long logged left
-    (subst (λ (k : Layout). HomesIn k c.args.page c.image_of.new.buf read left) c.layout.ensures.value homes)) (c.write_home.ensures.writes.any_moment h))
+    homes_stay log records disk windows old may n read (still log records disk windows old may n now at read (reads.worn h1)) c.args.page c.requires.page buf long logged left
+    (subst (λ (k : Layout). HomesIn k c.args.page c.image_of.new.buf read left) c.layout.ensures.value homes))
 
-pub returns-in-Err-write_home-clause-any_moment : goal.returns-in-Err-write_home-clause-any_moment
-returns-in-Err-write_home-clause-any_moment g c records disk windows old n h may lies at =
+pub returns-in-Err-write_home-clause-disk : goal.returns-in-Err-write_home-clause-disk
+returns-in-Err-write_home-clause-disk g c =
     let M = g.M.Machine in
     let log = c.args.log.now in
     let now = M.now c.args.m.now in
     let read = M.now c.image_of.new.m in
     let buf = c.image_of.new.buf in
-    let h1 = c.write_home.ensures.writes.trust.honest h in
     let long : length c.image_of.new.buf ≡ 512 = search rules in
-    let given = slot_gives log records disk windows old may n now at c.args.page c.image_of.new.buf (wears_here now) (c.in-Ok-true.ensures.whole (λ i. Ok (c.in-Ok-true.field-0-test i)) h1) in
+    let reads = c.in-Ok-true.ensures.reads in
+    let writes = c.in-Err-write_home.ensures.writes in
+    reads_then_writes reads writes (λ h left wears records disk windows old n may lies at. stays log records disk windows old may n now at left wears)
+    (λ h left homes records disk windows old n may lies at.
+    let h1 = writes.trust.honest h in
+    let given = slot_gives log records disk windows old may n now at c.args.page c.image_of.new.buf (wears_none now) (c.in-Ok-true.ensures.whole (λ i. Ok (c.in-Ok-true.field-0-test i)) h1) in
     let logged : last_image c.args.page records ≡ None → ⊥ = λ none. absurd (cc (none, given)) in
-    let later = still log records disk windows old may n now at read (c.image_of.ensures.worn h1) in
-    then_on M.moment M.left_since c.args.m.now c.image_of.new.m c.write_home.new.m (Shows log.layout windows disk old)
-    (leaves_more M.moment M.left_since c.args.m.now c.image_of.new.m (Wears now) (Shows log.layout windows disk old) (λ left wears. stays log records disk windows old may n now at left wears) (c.image_of.ensures.any_moment h1))
-    (leaves_more M.moment M.left_since c.image_of.new.m c.write_home.new.m (HomesIn c.layout.result.now c.args.page buf read) (Shows log.layout windows disk old)
-    (λ left homes. homes_stay log records disk windows old may n read later c.args.page c.requires.page buf long logged left
-    (subst (λ (k : Layout). HomesIn k c.args.page c.image_of.new.buf read left) c.layout.ensures.value homes)) (c.write_home.ensures.writes.any_moment h))
+    homes_stay log records disk windows old may n read (still log records disk windows old may n now at read (reads.worn h1)) c.args.page c.requires.page buf long logged left
+    (subst (λ (k : Layout). HomesIn k c.args.page c.image_of.new.buf read left) c.layout.ensures.value homes))
+
+pub returns-in-Ok-false-clause-disk : goal.returns-in-Ok-false-clause-disk
+returns-in-Ok-false-clause-disk g c =
+    let now = g.M.Machine.now c.args.m.now in
+    reads_as_writes c.in-Ok-false.ensures.reads (λ h left wears records disk windows old n may lies at. stays c.args.log.now records disk windows old may n now at left wears)
+
+pub returns-in-Err-clause-disk : goal.returns-in-Err-clause-disk
+returns-in-Err-clause-disk g c =
+    let now = g.M.Machine.now c.args.m.now in
+    reads_as_writes c.in-Err.ensures.reads (λ h left wears records disk windows old n may lies at. stays c.args.log.now records disk windows old may n now at left wears)
 
 pub returns-in-Ok-clause-done : goal.returns-in-Ok-clause-done
 returns-in-Ok-clause-done g c records disk windows old n h may lies between at =
@@ -52,20 +61,13 @@ returns-in-Ok-clause-done g c records disk windows old n h may lies between at =
     let now = M.now c.args.m.now in
     let read = M.now c.image_of.new.m in
     let buf = c.image_of.new.buf in
-    let h1 = c.write_home.ensures.writes.trust.honest h in
+    let h1 = c.in-Ok.ensures.writes.trust.honest h in
     let long : length c.image_of.new.buf ≡ 512 = search rules in
-    let given = slot_gives log records disk windows old may n now at c.args.page c.image_of.new.buf (wears_here now) (c.in-Ok-true.ensures.whole (λ i. Ok (c.in-Ok-true.field-0-test i)) h1) in
+    let given = slot_gives log records disk windows old may n now at c.args.page c.image_of.new.buf (wears_none now) (c.in-Ok-true.ensures.whole (λ i. Ok (c.in-Ok-true.field-0-test i)) h1) in
     let logged : last_image c.args.page records ≡ None → ⊥ = λ none. absurd (cc (none, given)) in
-    let later = still log records disk windows old may n now at read (c.image_of.ensures.worn h1) in
+    let later = still log records disk windows old may n now at read (c.in-Ok-true.ensures.reads.worn h1) in
     let holds = subst (λ (k : Layout). Holds read (with_homes k c.args.page c.image_of.new.buf read.image 1 1) (M.now c.write_home.new.m)) c.layout.ensures.value (c.in-Ok.ensures.done h) in
     homes_next log records disk windows old may n read later c.args.page c.requires.page buf long logged (image_is log records disk windows old may later.image later.over c.args.page buf c.requires.page given) between (M.now c.write_home.new.m) holds
-
-pub returns-in-Err-clause-any_moment : goal.returns-in-Err-clause-any_moment
-returns-in-Err-clause-any_moment g c records disk windows old n h may lies at =
-    let M = g.M.Machine in
-    let log = c.args.log.now in
-    let now = M.now c.args.m.now in
-    leaves_more M.moment M.left_since c.args.m.now c.image_of.new.m (Wears now) (Shows log.layout windows disk old) (λ left wears. stays log records disk windows old may n now at left wears) (c.image_of.ensures.any_moment h)
 
 pub returns-in-Err-clause-lost : goal.returns-in-Err-clause-lost
 returns-in-Err-clause-lost g c h = (c.args.page, c.in-Err.ensures.lost h)
@@ -75,4 +77,4 @@ returns-in-Err-clause-never_lost g c records disk windows old n h may at =
     let M = g.M.Machine in
     let log = c.args.log.now in
     let now = M.now c.args.m.now in
-    slot_not_lost log records disk windows old may n now at c.args.page (M.now c.image_of.new.m) (c.image_of.ensures.worn h) c.in-Err.fault (c.in-Err.ensures.lost h)
+    slot_not_lost log records disk windows old may n now at c.args.page (M.now c.image_of.new.m) (c.in-Err.ensures.reads.worn h) c.in-Err.fault (c.in-Err.ensures.lost h)

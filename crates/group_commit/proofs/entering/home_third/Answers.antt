@@ -3,13 +3,13 @@ use Rattle.volume_layout.specs.Layout.{third_start}
 use Rattle.sector_disk.specs.Damage.{IsDevice}
 use Rattle.sector_disk.specs.declared.sector.WeakRun.{WeakRun}
 use Rattle.sector_disk.specs.Machine.{wrote}
-use Rattle.sector_disk.proofs.Moments.{started, then_on}
-use Rattle.sector_disk.proofs.Holding.{trusts_on}
+use Rattle.sector_disk.specs.Calls.{load_failed_at}
+use Rattle.sector_disk.proofs.CallLaws.{told_up, writes_none, writes_then, writes_told}
+use Rattle.sector_disk.proofs.Holding.{wears_none}
 use Rattle.fsd_log.specs.Scan.{Placed}
-use Rattle.log_thirds.specs.Append.{IsLeastOfThird, NoneOfThird}
+use Rattle.log_thirds.specs.Append.{IsIndexed, IsLeastOfThird, NoneOfThird}
 use Rattle.log_thirds.specs.Slots.{IsLeastIn, NoneLiesIn}
-use Rattle.log_thirds.proofs.ReadingLaws.{uses_on, wears_here}
-use Rattle.group_commit.specs.Entering.{Shows, OwnsLog, MayHome}
+use Rattle.group_commit.specs.Entering.{ShowsStill, OwnsLog, MayHome}
 use Rattle.group_commit.proofs.CountLaws.{count_next, count_done, wrote_twice, wrote_none, handed_up}
 use Rattle.group_commit.proofs.HomingLaws.{begin, stays, all_homed}
 use Rattle.group_commit.proofs.entering.home_third.Goals as goal
@@ -21,16 +21,10 @@ loop-page-init g c =
     let log = c.args.log.now in
     record {
       inside = omega arith;
-      uses = record { sectors = refl; disk = omega arith; input = refl; output = refl };
-      trust = record { tells = λ t. t; honest = λ h. h };
-      ledger = λ t. record { input = refl; attaches = refl };
+      disk = writes_none c.args.m.now (λ left h at. g.met.M.Machine.only_now c.args.m.now left h at) (ShowsStill log)
+          (λ h records disk windows may over. stays log records disk windows old may 0 old (begin log records disk windows old may over) old (wears_none old));
       counted = λ t. wrote_none (M.ledger c.args.m.now) _ refl;
-      quiet = λ h. refl;
-      windows = λ h. refl;
       homing = λ records disk windows h may over. begin log records disk windows old may over;
-      moments = λ records disk windows h may over.
-          started M.moment M.left_since c.args.m.now old (Shows log.layout windows disk old) (λ left at. g.met.M.Machine.only_now c.args.m.now left h at)
-          (stays log records disk windows old may 0 old (begin log records disk windows old may over) old (wears_here old));
     }
 
 pub loop-page-preserved : goal.loop-page-preserved
@@ -39,39 +33,35 @@ loop-page-preserved g c =
     let old = M.now c.args.m.now in
     let log = c.args.log.now in
     let so_far = c.loop-page.invariant in
-    let back = c.home_page.ensures.trust.honest in
+    let writes = c.in_ok-home_page-in-Some.ensures.disk in
+    let back = writes.trust.honest in
     let page = c.in-Some.page in
     let slot = subst (λ (t : ℕ). IsLeastIn log.slots c.loop-page.from (third_start log.layout t) log.layout.third c.in-Some.page) c.requires.first c.in-Some.ensures.slot in
     let next = count_next log.slots c.loop-page.from (third_start log.layout log.anchor.third) log.layout.third c.in-Some.page slot in
-    let least : (records : List Placed) → Rattle.log_thirds.specs.Append.IsIndexed log records → IsLeastOfThird log records log.anchor.third c.loop-page.from c.in-Some.page =
+    let least : (records : List Placed) → IsIndexed log records → IsLeastOfThird log records log.anchor.third c.loop-page.from c.in-Some.page =
     λ records indexed. subst (λ (t : ℕ). IsLeastOfThird log records t c.loop-page.from c.in-Some.page) c.requires.first (c.in-Some.ensures.least records indexed) in
     record {
       inside = omega (arith, slot.there, c.layout-layout.ensures.shape.table);
-      uses = uses_on _ _ _ so_far.uses c.home_page.ensures.uses;
-      trust = trusts_on so_far.trust c.home_page.ensures.trust;
-      ledger = λ t. let was = so_far.ledger (c.home_page.ensures.trust.tells t) in let is = c.home_page.ensures.ledger t in record { input = is.input ∙ was.input; attaches = is.attaches ∙ was.attaches };
-      counted = λ t. c.in_ok-home_page-in-Some.ensures.counted t ∙ ap (λ x. wrote x 2) (so_far.counted (c.home_page.ensures.trust.tells t)) ∙ wrote_twice (M.ledger c.args.m.now) _ 2 _ (omega (arith, next));
-      quiet = λ h. c.home_page.ensures.quiet h ∙ so_far.quiet (back h);
-      windows = λ h. c.home_page.ensures.windows h ∙ so_far.windows (back h);
+      disk = writes_then so_far.disk writes (λ h left so. so) (λ h left shows records disk windows may over.
+          shows records disk windows old c.loop-page.from may ((least records over.indexed).lies) (so_far.homing records disk windows (writes.trust.honest h) may over));
+      counted = λ t. c.in_ok-home_page-in-Some.ensures.counted t ∙ ap (λ x. wrote x 2) (so_far.counted (writes.trust.tells t)) ∙ wrote_twice (M.ledger c.args.m.now) _ 2 _ (omega (arith, next));
       homing = λ records disk windows h may over.
           let is = least records over.indexed in
           c.in_ok-home_page-in-Some.ensures.done records disk windows old c.loop-page.from h may is.lies is.before (so_far.homing records disk windows (back h) may over);
-      moments = λ records disk windows h may over.
-          let is = least records over.indexed in
-          then_on M.moment M.left_since c.args.m.now c.loop-page.m c.home_page.new.m (Shows log.layout windows disk old) (so_far.moments records disk windows (back h) may over)
-          (c.home_page.ensures.any_moment records disk windows old c.loop-page.from h may is.lies (so_far.homing records disk windows (back h) may over));
     }
 
-pub returns-in_err-home_page-in-Some-clause-any_moment : goal.returns-in_err-home_page-in-Some-clause-any_moment
-returns-in_err-home_page-in-Some-clause-any_moment g c records disk windows h may over =
+pub returns-in_err-home_page-in-Some-clause-disk : goal.returns-in_err-home_page-in-Some-clause-disk
+returns-in_err-home_page-in-Some-clause-disk g c =
     let M = g.M.Machine in
     let old = M.now c.args.m.now in
     let log = c.args.log.now in
     let so_far = c.loop-page.invariant in
-    let h1 = c.home_page.ensures.trust.honest h in
-    let is = subst (λ (t : ℕ). IsLeastOfThird log records t c.loop-page.from c.in-Some.page) c.requires.first (c.in-Some.ensures.least records over.indexed) in
-    then_on M.moment M.left_since c.args.m.now c.loop-page.m c.home_page.new.m (Shows log.layout windows disk old) (so_far.moments records disk windows h1 may over)
-    (c.home_page.ensures.any_moment records disk windows old c.loop-page.from h may is.lies (so_far.homing records disk windows h1 may over))
+    let writes = c.in_err-home_page-in-Some.ensures.disk in
+    let least : (records : List Placed) → IsIndexed log records → IsLeastOfThird log records log.anchor.third c.loop-page.from c.in-Some.page =
+    λ records indexed. subst (λ (t : ℕ). IsLeastOfThird log records t c.loop-page.from c.in-Some.page) c.requires.first (c.in-Some.ensures.least records indexed) in
+    writes_told (told_up load_failed_at c.from_residual.result c.in_err-home_page-in-Some.field-0.0 c.from_residual.ensures.1)
+    (writes_then so_far.disk writes (λ h left so. so) (λ h left shows records disk windows may over.
+    shows records disk windows old c.loop-page.from may ((least records over.indexed).lies) (so_far.homing records disk windows (writes.trust.honest h) may over)))
 
 pub returns-in_err-home_page-in-Some-clause-never_lost : goal.returns-in_err-home_page-in-Some-clause-never_lost
 returns-in_err-home_page-in-Some-clause-never_lost g c =
@@ -81,7 +71,7 @@ returns-in_err-home_page-in-Some-clause-never_lost g c =
     let so_far = c.loop-page.invariant in
     handed_up (λ fault. (records : List Placed) (disk : List (List ℕ)) (windows : List WeakRun) → M.honest c.home_page.new.m → MayHome log windows old → OwnsLog log records disk windows old.image → IsDevice fault)
     c.from_residual.result c.in_err-home_page-in-Some.field-0.0 c.from_residual.ensures.1
-    (λ records disk windows h may over. c.in_err-home_page-in-Some.ensures.never_lost records disk windows old c.loop-page.from h may (so_far.homing records disk windows (c.home_page.ensures.trust.honest h) may over))
+    (λ records disk windows h may over. c.in_err-home_page-in-Some.ensures.never_lost records disk windows old c.loop-page.from h may (so_far.homing records disk windows (c.in_err-home_page-in-Some.ensures.disk.trust.honest h) may over))
 
 pub returns-in-None-clause-counted : goal.returns-in-None-clause-counted
 returns-in-None-clause-counted g c t =

@@ -1,23 +1,16 @@
 use Rattle.std.proofs.Common.{◌≡◌, ℕ, List, false, sym, subst}
-use Rattle.std.proofs.lemmas.Result.{IfErr-weaker}
 use Rattle.sector_disk.specs.declared.sector.WeakRun.{WeakRun}
-use Rattle.sector_disk.proofs.Moments.{started}
+use Rattle.sector_disk.proofs.CallLaws.{writes_none}
+use Rattle.sector_disk.proofs.Holding.{wears_none}
 use Rattle.fsd_log.specs.Scan.{Placed}
 use Rattle.log_thirds.specs.LogValue.{LogValue}
 use Rattle.log_thirds.specs.Moving.{moved, records_moved}
-use Rattle.log_thirds.proofs.ReadingLaws.{wears_here}
-use Rattle.group_commit.specs.Entering.{Shows, OwnsLog, IsEntered, HasRoomNow, MayHome}
+use Rattle.group_commit.specs.Entering.{ShowsStill, OwnsLog, IsEntered, HasRoomNow, MayHome}
 use Rattle.group_commit.specs.Force.{KeepsOutside}
 use Rattle.group_commit.proofs.HomingLaws.{begin, stays}
-use Rattle.group_commit.proofs.RoomLaws.{on_ok_both, on_err_any, first_again, record_cause}
+use Rattle.group_commit.proofs.RoomLaws.{on_ok_both, on_err_any, first_again}
 use Rattle.group_commit.specs.Room.{goes_before}
 use Rattle.group_commit.proofs.entering.make_room.Goals as goal
-
-pub returns-in-FirstThird-clause-fault : goal.returns-in-FirstThird-clause-fault
-returns-in-FirstThird-clause-fault g c =
-    let M = g.M.Machine in
-    let enters = first_again c.args.log.now c.args.count c.in-FirstThird.ensures.0.0 c.in-FirstThird.ensures.0.1 in
-    IfErr-weaker c.enter_third.result _ _ (record_cause c.args.log.now c.args.count (M.report c.args.m.now) (M.report c.enter_third.new.m) enters) c.enter_third.ensures.fault
 
 pub returns-in-FirstThird-clause-enters : goal.returns-in-FirstThird-clause-enters
 returns-in-FirstThird-clause-enters g c =
@@ -42,18 +35,16 @@ returns-in-FirstThird-clause-done g c =
     })
     c.enter_third.ensures.past c.enter_third.ensures.done
 
-pub returns-in-Here-clause-any_moment : goal.returns-in-Here-clause-any_moment
-returns-in-Here-clause-any_moment g c records disk windows h may over =
-    let M = g.M.Machine in
-    let old = M.now c.args.m.now in
+pub returns-in-Here-clause-disk : goal.returns-in-Here-clause-disk
+returns-in-Here-clause-disk g c =
+    let old = g.M.Machine.now c.args.m.now in
     let log = c.args.log.now in
-    started M.moment M.left_since c.args.m.now old (Shows log.layout windows disk old) (λ left at. g.met.M.Machine.only_now c.args.m.now left h at)
-    (stays log records disk windows old may 0 old (begin log records disk windows old may over) old (wears_here old))
+    writes_none c.args.m.now (λ left h at. g.met.M.Machine.only_now c.args.m.now left h at) (ShowsStill log)
+    (λ h records disk windows may over. stays log records disk windows old may 0 old (begin log records disk windows old may over) old (wears_none old))
 
-pub returns-in-NextThird-clause-any_moment : goal.returns-in-NextThird-clause-any_moment
-returns-in-NextThird-clause-any_moment g c records disk windows h may over =
-    let M = g.M.Machine in
-    let old = M.now c.args.m.now in
+pub returns-in-NextThird-clause-disk : goal.returns-in-NextThird-clause-disk
+returns-in-NextThird-clause-disk g c =
+    let old = g.M.Machine.now c.args.m.now in
     let log = c.args.log.now in
-    started M.moment M.left_since c.args.m.now old (Shows log.layout windows disk old) (λ left at. g.met.M.Machine.only_now c.args.m.now left h at)
-    (stays log records disk windows old may 0 old (begin log records disk windows old may over) old (wears_here old))
+    writes_none c.args.m.now (λ left h at. g.met.M.Machine.only_now c.args.m.now left h at) (ShowsStill log)
+    (λ h records disk windows may over. stays log records disk windows old may 0 old (begin log records disk windows old may over) old (wears_none old))

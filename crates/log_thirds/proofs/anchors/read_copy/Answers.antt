@@ -1,7 +1,4 @@
-use Rattle.log_thirds.proofs.AnchorLaws.{third_read, first_read, epoch_read, copy_seen}
-use Rattle.std.proofs.Common.{ap, sym, ◌∙◌}
-use Rattle.fsd_log.specs.Scan.{anchor_in}
-use Rattle.log_thirds.proofs.ReadingLaws.{read_shown, sees_shown}
+use Rattle.log_thirds.proofs.AnchorLaws.{third_read, first_read, epoch_read}
 use Rattle.log_thirds.proofs.anchors.read_copy.Goals as goal
 
 pub returns-in-Some-clause-third : goal.returns-in-Some-clause-third

@@ -1,33 +1,28 @@
-use Rattle.std.proofs.Common.{rules, ◌≡◌, List, ℕ, length}
-use Rattle.sector_disk.proofs.Moments.{started, goes_on}
+use Rattle.std.proofs.Common.{rules, ◌≡◌, ℕ, List, length, subst}
+use Rattle.std.specs.Prelude.{OnOk}
+use Rattle.sector_disk.specs.Image.{stand}
+use Rattle.sector_disk.specs.Machine.{Holds, wrote}
+use Rattle.sector_disk.proofs.CallLaws.{writes_more}
 use Rattle.fsd_formats.specs.Anchors.{anchor_bytes}
-use Rattle.log_thirds.proofs.WriteLaws.{torn_part, written_whole, nothing_part}
+use Rattle.log_thirds.proofs.WriteLaws.{torn_part, whole_sectors}
 use Rattle.log_thirds.proofs.anchors.write_copy.Goals as goal
 
-pub returns-in_err-write-clause-torn : goal.returns-in_err-write-clause-torn
-returns-in_err-write-clause-torn g c h1 =
+pub returns-clause-writes : goal.returns-clause-writes
+returns-clause-writes g c =
     let M = g.M.Machine in
-    let old = c.args.m.now in
-    let long : length c.anchor_bytes-bytes.result ≡ 512 = search rules in
-    let laid : List ℕ = anchor_bytes c.args.anchor.now in
-    let h0 = c.write.ensures.trust.honest h1 in
-    let start = started M.moment M.left_since old (M.now old) _ (λ l left. g.met.M.Machine.only_now old l h0 left) (nothing_part c.args.place laid 1 (M.now old)) in
-    goes_on M.moment M.left_since old old c.write.new.self _ _ start (c.write.ensures.time h1) (λ l torn. torn_part c.args.place c.anchor_bytes-bytes.result laid 1 c.anchor_bytes-bytes.ensures.bytes long (M.now old) l torn)
+    let long : length c.anchor_bytes.result ≡ 512 = search rules in
+    writes_more c.write_sectors.ensures.writes (λ h left torn. torn_part c.args.place c.anchor_bytes.result (anchor_bytes c.args.anchor.now) 1 c.anchor_bytes.ensures.bytes long (M.now c.args.m.now) left torn)
 
-pub returns-clause-torn : goal.returns-clause-torn
-returns-clause-torn g c h1 =
+pub returns-clause-counted : goal.returns-clause-counted
+returns-clause-counted g c =
     let M = g.M.Machine in
-    let old = c.args.m.now in
-    let long : length c.anchor_bytes-bytes.result ≡ 512 = search rules in
-    let laid : List ℕ = anchor_bytes c.args.anchor.now in
-    let h0 = c.write.ensures.trust.honest h1 in
-    let start = started M.moment M.left_since old (M.now old) _ (λ l left. g.met.M.Machine.only_now old l h0 left) (nothing_part c.args.place laid 1 (M.now old)) in
-    goes_on M.moment M.left_since old old c.write.new.self _ _ start (c.write.ensures.time h1) (λ l torn. torn_part c.args.place c.anchor_bytes-bytes.result laid 1 c.anchor_bytes-bytes.ensures.bytes long (M.now old) l torn)
+    let long : length c.anchor_bytes.result ≡ 512 = search rules in
+    subst (λ (k : ℕ). OnOk c.write_sectors.result (M.tells c.write_sectors.new.m → M.ledger c.write_sectors.new.m ≡ wrote (M.ledger c.args.m.now) k)) (whole_sectors c.anchor_bytes.result 1 long) c.write_sectors.ensures.counted
 
 pub returns-clause-done : goal.returns-clause-done
-returns-clause-done g c h1 =
+returns-clause-done g c =
     let M = g.M.Machine in
-    let old = c.args.m.now in
-    let long : length c.anchor_bytes-bytes.result ≡ 512 = search rules in
-    let laid : List ℕ = anchor_bytes c.args.anchor.now in
-    written_whole c.args.place c.anchor_bytes-bytes.result laid 1 c.anchor_bytes-bytes.ensures.bytes long (M.now old) (M.now c.write.new.self) (c.in_ok-write.ensures.written h1)
+    let old = M.now c.args.m.now in
+    let long : length c.anchor_bytes.result ≡ 512 = search rules in
+    subst (λ (b : List ℕ). OnOk c.write_sectors.result (M.honest c.write_sectors.new.m → Holds old (stand old.image c.args.place b 1) (M.now c.write_sectors.new.m))) c.anchor_bytes.ensures.bytes
+    (subst (λ (k : ℕ). OnOk c.write_sectors.result (M.honest c.write_sectors.new.m → Holds old (stand old.image c.args.place c.anchor_bytes.result k) (M.now c.write_sectors.new.m))) (whole_sectors c.anchor_bytes.result 1 long) c.write_sectors.ensures.done)

@@ -3,25 +3,40 @@ use Rattle.volume_layout.specs.declared.layout.Layout.{Layout}
 use Rattle.volume_layout.proofs.RootLaws.{planned_bounds}
 use Rattle.mount_recover.proofs.CalmLaws.{laid_again}
 use Rattle.sector_disk.specs.Machine.{Before}
+use Rattle.sector_disk.proofs.CallLaws.{heals_then, heals_told, told_up, turns, writes_as_heals}
 use Rattle.sector_disk.proofs.Moments.{goes_on, leaves_more}
+use Rattle.sector_disk.specs.Calls.{failed_at}
 use Rattle.log_thirds.specs.Append.{StandsInPart}
 use Rattle.log_thirds.specs.Copies.{copies_count}
 use Rattle.mount_recover.specs.Replay.{Replays}
 use Rattle.mount_recover.proofs.CompletingLaws.{part_replays, healing_replays, failed_replays, completed, data_stays, data_in_part}
 use Rattle.mount_recover.proofs.completing.complete.Goals as goal
 
+pub returns-in_err-complete_last-clause-disk : goal.returns-in_err-complete_last-clause-disk
+returns-in_err-complete_last-clause-disk g c = heals_told (told_up failed_at c.from_residual.result c.in_err-complete_last.field-0.0 c.from_residual.ensures.1) (writes_as_heals c.in_err-complete_last.ensures.writes)
+
+pub returns-in_err-healing-clause-disk : goal.returns-in_err-healing-clause-disk
+returns-in_err-healing-clause-disk g c =
+    let named = turns c.complete_last.new.m c.healing.new.self 0 _ c.in_err-healing.ensures.cause c.healing.ensures.sectors c.healing.ensures.trust c.healing.ensures.time c.healing.ensures.ledger (λ h. (c.in_err-healing.ensures.failed h).said) in
+    heals_told (told_up failed_at c.from_residual-in_err-healing.result c.in_err-healing.field-0.0 c.from_residual-in_err-healing.ensures.1) (heals_then (writes_as_heals c.in_ok-complete_last.ensures.writes) named)
+
+pub returns-clause-disk : goal.returns-clause-disk
+returns-clause-disk g c =
+    heals_then (writes_as_heals c.in_ok-complete_last.ensures.writes)
+    (turns c.complete_last.new.m c.healing.new.self 0 _ c.in_ok-healing.ensures.cause c.healing.ensures.sectors c.healing.ensures.trust c.healing.ensures.time c.healing.ensures.ledger (λ h. (c.in_ok-healing.ensures.named h).said))
+
 pub returns-in_err-complete_last-clause-any_moment : goal.returns-in_err-complete_last-clause-any_moment
 returns-in_err-complete_last-clause-any_moment g c l windows choices h planned same seen =
     let M = g.M.Machine in
     let log = c.args.log.now in let old = M.now c.args.m.now in
     leaves_more M.moment M.left_since c.args.m.now c.complete_last.new.m (StandsInPart log.copies.place log.copies.bytes (copies_count log.copies) old) (Replays l windows choices old)
-    (λ left part. part_replays l windows choices log old planned seen left part) (c.complete_last.ensures.any_moment h)
+    (λ left part. part_replays l windows choices log old planned seen left part) (c.complete_last.ensures.writes.any_moment h)
 
 pub returns-in_err-complete_last-clause-map : goal.returns-in_err-complete_last-clause-map
 returns-in_err-complete_last-clause-map g c l j h planned same knows =
     let M = g.M.Machine in
     let new = M.now c.complete_last.new.m in
-    let run = c.complete_last.ensures.any_moment h in
+    let run = c.complete_last.ensures.writes.any_moment h in
     data_in_part l c.args.log.now j knows (M.now c.args.m.now) new (run.each new (g.met.M.Machine.counts_now c.complete_last.new.m (M.moment c.args.m.now) h run.later))
 
 pub returns-in_err-healing-clause-any_moment : goal.returns-in_err-healing-clause-any_moment
@@ -30,7 +45,7 @@ returns-in_err-healing-clause-any_moment g c l windows choices h planned same se
     let log = c.args.log.now in let old = M.now c.args.m.now in let mid = M.now c.complete_last.new.m in let new = M.now c.healing.new.self in
     let h1 = c.healing.ensures.trust.honest h in
     let so_far = leaves_more M.moment M.left_since c.args.m.now c.complete_last.new.m (StandsInPart log.copies.place log.copies.bytes (copies_count log.copies) old) (Replays l windows choices old)
-    (λ left part. part_replays l windows choices log old planned seen left part) (c.complete_last.ensures.any_moment h1) in
+    (λ left part. part_replays l windows choices log old planned seen left part) (c.complete_last.ensures.writes.any_moment h1) in
     goes_on M.moment M.left_since c.args.m.now c.complete_last.new.m c.healing.new.self (Replays l windows choices old) (Before mid new) so_far (c.healing.ensures.time h)
     (λ left b. failed_replays l windows choices log old planned seen mid (c.in_ok-complete_last.ensures.done h1) new left (c.in_err-healing.ensures.failed h) b)
 
@@ -45,7 +60,7 @@ returns-clause-any_moment g c l windows choices h planned same seen =
     let log = c.args.log.now in let old = M.now c.args.m.now in let mid = M.now c.complete_last.new.m in let new = M.now c.healing.new.self in
     let h1 = c.healing.ensures.trust.honest h in
     let so_far = leaves_more M.moment M.left_since c.args.m.now c.complete_last.new.m (StandsInPart log.copies.place log.copies.bytes (copies_count log.copies) old) (Replays l windows choices old)
-    (λ left part. part_replays l windows choices log old planned seen left part) (c.complete_last.ensures.any_moment h1) in
+    (λ left part. part_replays l windows choices log old planned seen left part) (c.complete_last.ensures.writes.any_moment h1) in
     goes_on M.moment M.left_since c.args.m.now c.complete_last.new.m c.healing.new.self (Replays l windows choices old) (Before mid new) so_far (c.healing.ensures.time h)
     (λ left b. healing_replays l windows choices log old planned seen mid (c.in_ok-complete_last.ensures.done h1) new left (c.in_ok-healing.ensures.named h) b)
 
@@ -62,7 +77,7 @@ returns-clause-done g c l windows choices h planned same seen =
 pub returns-clause-given : goal.returns-clause-given
 returns-clause-given g c l h still planned same knows =
     let M = g.M.Machine in
-    let sized = g.met.M.Machine.sized c.args.m.now (c.complete_last.ensures.trust.honest (c.healing.ensures.trust.honest h)) in
+    let sized = g.met.M.Machine.sized c.args.m.now (c.complete_last.ensures.writes.trust.honest (c.healing.ensures.trust.honest h)) in
     let bounds = planned_bounds l planned in
     let long : 16 + 3 * l.third ≤ length (M.now c.args.m.now).image = omega (arith, sized, bounds.third_least, bounds.sectors_least, c.requires.sectors, ap (λ (k : Layout). k.sectors) same) in
     laid_again l c.args.log.now (M.now c.args.m.now) (M.now c.complete_last.new.m) (M.now c.healing.new.self) same knows still long (c.in_ok-complete_last.ensures.done (c.healing.ensures.trust.honest h)) (c.in_ok-healing.ensures.named h)

@@ -3,19 +3,34 @@ use Rattle.sector_disk.specs.Image.{settled}
 use Rattle.fsd_formats.specs.declared.anchor.Anchor.{Anchor}
 use Rattle.log_thirds.specs.LogValue.{LogValue}
 use Rattle.mount_recover.specs.Recover.{HasAnchors}
+use Rattle.sector_disk.proofs.CallLaws.{heals_then, heals_told, told_up, turns, writes_as_heals}
 use Rattle.sector_disk.proofs.Moments.{goes_on, leaves_more}
+use Rattle.sector_disk.specs.Calls.{failed_at}
 use Rattle.fsd_sound.specs.Anchors.{fresh_anchor}
 use Rattle.log_thirds.specs.Anchoring.{AnchorsIn}
 use Rattle.mount_recover.specs.Mending.{Begins}
 use Rattle.mount_recover.proofs.BeginningLaws.{data_in_part, data_renewed, anchors_stay, begins_before, begins_failed, replayed, anchors_stand}
 use Rattle.mount_recover.proofs.epoch.begin_epoch.Goals as goal
 
+pub returns-in_err-new_epoch-clause-disk : goal.returns-in_err-new_epoch-clause-disk
+returns-in_err-new_epoch-clause-disk g c = heals_told (told_up failed_at c.from_residual.result c.in_err-new_epoch.field-0.0 c.from_residual.ensures.1) (writes_as_heals c.in_err-new_epoch.ensures.writes)
+
+pub returns-in_err-settle-clause-disk : goal.returns-in_err-settle-clause-disk
+returns-in_err-settle-clause-disk g c =
+    let settled = turns c.new_epoch.new.m c.settle.new.self 0 _ c.in_err-settle.ensures.cause c.settle.ensures.sectors c.settle.ensures.trust c.settle.ensures.time c.settle.ensures.ledger (λ h. (c.in_err-settle.ensures.failed h).said) in
+    heals_told (told_up failed_at c.from_residual-in_err-settle.result c.in_err-settle.field-0.0 c.from_residual-in_err-settle.ensures.1) (heals_then (writes_as_heals c.in_ok-new_epoch.ensures.writes) settled)
+
+pub returns-clause-disk : goal.returns-clause-disk
+returns-clause-disk g c =
+    heals_then (writes_as_heals c.in_ok-new_epoch.ensures.writes)
+    (turns c.new_epoch.new.m c.settle.new.self 0 _ c.in_ok-settle.ensures.cause c.settle.ensures.sectors c.settle.ensures.trust c.settle.ensures.time c.settle.ensures.ledger (λ h. (c.in_ok-settle.ensures.settled h).said))
+
 pub returns-in_err-new_epoch-clause-any_moment : goal.returns-in_err-new_epoch-clause-any_moment
 returns-in_err-new_epoch-clause-any_moment g c l windows choices first is h planned some at =
     let M = g.M.Machine in
     let log = c.args.log.now in let now = M.now c.args.m.now in
     let fits : c.args.log.now.anchor.epoch + 1 < 2 ^ 32 = omega (arith, c.requires.epoch) in
-    leaves_more M.moment M.left_since c.args.m.now c.new_epoch.new.m (AnchorsIn (fresh_anchor (log.anchor.epoch + 1)) now) (Begins l windows choices first) (λ left anchors. inl (anchors_stay l windows choices log first is now at fits left anchors)) (c.new_epoch.ensures.any_moment h)
+    leaves_more M.moment M.left_since c.args.m.now c.new_epoch.new.m (AnchorsIn (fresh_anchor (log.anchor.epoch + 1)) now) (Begins l windows choices first) (λ left anchors. inl (anchors_stay l windows choices log first is now at fits left anchors)) (c.new_epoch.ensures.writes.any_moment h)
 
 pub returns-in_err-settle-clause-any_moment : goal.returns-in_err-settle-clause-any_moment
 returns-in_err-settle-clause-any_moment g c l windows choices first is h planned some at =
@@ -23,7 +38,7 @@ returns-in_err-settle-clause-any_moment g c l windows choices first is h planned
     let log = c.args.log.now in let now = M.now c.args.m.now in let mid = M.now c.new_epoch.new.m in let new = M.now c.settle.new.self in
     let fits : c.args.log.now.anchor.epoch + 1 < 2 ^ 32 = omega (arith, c.requires.epoch) in
     let h1 = c.settle.ensures.trust.honest h in
-    let so_far = leaves_more M.moment M.left_since c.args.m.now c.new_epoch.new.m (AnchorsIn (fresh_anchor (log.anchor.epoch + 1)) now) (Begins l windows choices first) (λ left anchors. inl (anchors_stay l windows choices log first is now at fits left anchors)) (c.new_epoch.ensures.any_moment h1) in
+    let so_far = leaves_more M.moment M.left_since c.args.m.now c.new_epoch.new.m (AnchorsIn (fresh_anchor (log.anchor.epoch + 1)) now) (Begins l windows choices first) (λ left anchors. inl (anchors_stay l windows choices log first is now at fits left anchors)) (c.new_epoch.ensures.writes.any_moment h1) in
     goes_on M.moment M.left_since c.args.m.now c.new_epoch.new.m c.settle.new.self (Begins l windows choices first) _ so_far (c.settle.ensures.time h)
     (λ left b. begins_failed l windows choices log first is now at fits mid (c.in_ok-new_epoch.ensures.done h1) new left (c.in_err-settle.ensures.failed h) b)
 
@@ -33,8 +48,8 @@ returns-clause-any_moment g c l windows choices first is h planned some at =
     let log = c.args.log.now in let now = M.now c.args.m.now in let mid = M.now c.new_epoch.new.m in let new = M.now c.settle.new.self in
     let fits : c.args.log.now.anchor.epoch + 1 < 2 ^ 32 = omega (arith, c.requires.epoch) in
     let h1 = c.settle.ensures.trust.honest h in
-    let short = g.met.M.Machine.short c.args.m.now (c.new_epoch.ensures.trust.honest h1) in
-    let so_far = leaves_more M.moment M.left_since c.args.m.now c.new_epoch.new.m (AnchorsIn (fresh_anchor (log.anchor.epoch + 1)) now) (Begins l windows choices first) (λ left anchors. inl (anchors_stay l windows choices log first is now at fits left anchors)) (c.new_epoch.ensures.any_moment h1) in
+    let short = g.met.M.Machine.short c.args.m.now (c.new_epoch.ensures.writes.trust.honest h1) in
+    let so_far = leaves_more M.moment M.left_since c.args.m.now c.new_epoch.new.m (AnchorsIn (fresh_anchor (log.anchor.epoch + 1)) now) (Begins l windows choices first) (λ left anchors. inl (anchors_stay l windows choices log first is now at fits left anchors)) (c.new_epoch.ensures.writes.any_moment h1) in
     goes_on M.moment M.left_since c.args.m.now c.new_epoch.new.m c.settle.new.self (Begins l windows choices first) _ so_far (c.settle.ensures.time h)
     (λ left b. begins_before l windows choices log first is now at fits mid (c.in_ok-new_epoch.ensures.done h1) short some new (c.in_ok-settle.ensures.settled h) left b)
 
@@ -44,14 +59,14 @@ returns-clause-done g c l windows choices first is h planned some at =
     let log = c.args.log.now in let now = M.now c.args.m.now in let mid = M.now c.new_epoch.new.m in let new = M.now c.settle.new.self in
     let fits : c.args.log.now.anchor.epoch + 1 < 2 ^ 32 = omega (arith, c.requires.epoch) in
     let h1 = c.settle.ensures.trust.honest h in
-    let short = g.met.M.Machine.short c.args.m.now (c.new_epoch.ensures.trust.honest h1) in
+    let short = g.met.M.Machine.short c.args.m.now (c.new_epoch.ensures.writes.trust.honest h1) in
     replayed l windows choices log first is now at fits mid (c.in_ok-new_epoch.ensures.done h1) short some new (c.in_ok-settle.ensures.settled h)
 
 pub returns-in_err-new_epoch-clause-body : goal.returns-in_err-new_epoch-clause-body
 returns-in_err-new_epoch-clause-body g c h =
     let M = g.M.Machine in
     let new = M.now c.new_epoch.new.m in
-    let run = c.new_epoch.ensures.any_moment h in
+    let run = c.new_epoch.ensures.writes.any_moment h in
     data_in_part (fresh_anchor (c.args.log.now.anchor.epoch + 1)) (M.now c.args.m.now) new (run.each new (g.met.M.Machine.counts_now c.new_epoch.new.m (M.moment c.args.m.now) h run.later))
 
 pub returns-in_err-settle-clause-body : goal.returns-in_err-settle-clause-body
@@ -69,7 +84,7 @@ returns-clause-anchors g c h wide some =
     let M = g.M.Machine in
     let now = M.now c.args.m.now in let mid = M.now c.new_epoch.new.m in let new = M.now c.settle.new.self in
     let h1 = c.settle.ensures.trust.honest h in
-    let sized = g.met.M.Machine.sized c.args.m.now (c.new_epoch.ensures.trust.honest h1) in
+    let sized = g.met.M.Machine.sized c.args.m.now (c.new_epoch.ensures.writes.trust.honest h1) in
     let done = c.in_ok-new_epoch.ensures.done h1 in
     let settles = c.in_ok-settle.ensures.settled h in
     subst (λ (a : Anchor). HasAnchors a (M.now c.settle.new.self)) (sym (ap (λ (log : LogValue). log.anchor) c.in_ok-new_epoch.ensures.past))

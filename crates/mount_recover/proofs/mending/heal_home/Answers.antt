@@ -1,14 +1,25 @@
 use Rattle.std.proofs.Common.{◌≤◌, length, sym, subst, arith}
 use Rattle.volume_layout.proofs.RootLaws.{planned_bounds}
+use Rattle.sector_disk.proofs.CallLaws.{heals_told, writes_as_heals}
 use Rattle.sector_disk.proofs.Moments.{leaves_more}
 use Rattle.twin_home.specs.Heal.{Heals}
 use Rattle.volume_layout.specs.Layout.{home_a, home_b}
 use Rattle.mount_recover.specs.Mending.{Stays}
 use Rattle.mount_recover.specs.Showing.{LosesHome}
 use Rattle.mount_recover.proofs.CalmLaws.{heal_changes, heal_loses}
+use Rattle.mount_recover.proofs.FaultLaws.{is_load, load_told}
 use Rattle.mount_recover.proofs.KeepsLaws.{keeps_heals}
 use Rattle.mount_recover.proofs.MendingLaws.{heals_stay, heals_next}
 use Rattle.mount_recover.proofs.mending.heal_home.Goals as goal
+
+pub returns-in-Err-clause-load : goal.returns-in-Err-clause-load
+returns-in-Err-clause-load g c = is_load c.in-Err.fault c.load_fault.result c.load_fault.ensures
+
+pub returns-in-Ok-clause-disk : goal.returns-in-Ok-clause-disk
+returns-in-Ok-clause-disk g c = writes_as_heals c.in-Ok.ensures.writes
+
+pub returns-in-Err-clause-disk : goal.returns-in-Err-clause-disk
+returns-in-Err-clause-disk g c = heals_told (load_told c.in-Err.fault c.load_fault.result c.load_fault.ensures) (writes_as_heals c.in-Err.ensures.writes)
 
 pub returns-in-Ok-clause-keeps : goal.returns-in-Ok-clause-keeps
 returns-in-Ok-clause-keeps g c h = let M = g.M.Machine in keeps_heals c.args.l.now c.args.page c.requires.page (M.now c.args.m.now) (M.now c.heal_page.new.m) (c.heal_page.ensures.writes.exit h)

@@ -1,6 +1,7 @@
 use Rattle.std.proofs.Common.{◌≤◌, length, arith}
 use Rattle.volume_layout.specs.Layout.{home_b}
 use Rattle.volume_layout.proofs.RootLaws.{planned_bounds}
+use Rattle.sector_disk.proofs.CallLaws.{writes_as_heals}
 use Rattle.sector_disk.proofs.Moments.{leaves_more}
 use Rattle.twin_home.specs.Home.{HomesIn}
 use Rattle.mount_recover.specs.Mending.{Stays}
@@ -8,6 +9,12 @@ use Rattle.mount_recover.proofs.CalmLaws.{homes_change}
 use Rattle.mount_recover.proofs.KeepsLaws.{keeps_homes}
 use Rattle.mount_recover.proofs.MendingLaws.{homes_stay, homes_next, logged_same, not_none}
 use Rattle.mount_recover.proofs.mending.home_logged.Goals as goal
+
+pub returns-in-Ok-clause-disk : goal.returns-in-Ok-clause-disk
+returns-in-Ok-clause-disk g c = writes_as_heals c.in-Ok.ensures.writes
+
+pub returns-in-Err-clause-disk : goal.returns-in-Err-clause-disk
+returns-in-Err-clause-disk g c = writes_as_heals c.in-Err.ensures.writes
 
 pub returns-in-Ok-clause-any_moment : goal.returns-in-Ok-clause-any_moment
 returns-in-Ok-clause-any_moment g c windows choices log first is h logged at =

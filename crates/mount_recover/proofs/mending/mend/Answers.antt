@@ -1,6 +1,7 @@
 use Rattle.std.proofs.Common.{◌≡◌, ◌<◌, ℕ, List}
 use Rattle.sector_disk.specs.declared.sector.WeakRun.{WeakRun}
 use Rattle.sector_disk.specs.Machine.{Moment}
+use Rattle.sector_disk.proofs.CallLaws.{heals_then, heals_told, told_up}
 use Rattle.sector_disk.proofs.Moments.{then_on}
 use Rattle.fsd_log.specs.Scan.{Placed}
 use Rattle.fsd_sound.specs.Homes.{home_of}
@@ -8,17 +9,27 @@ use Rattle.log_thirds.specs.Append.{IsCalm as IsCalmNow}
 use Rattle.log_thirds.specs.LogValue.{LogValue}
 use Rattle.twin_home.proofs.WriteLaws.{on_ok_more}
 use Rattle.mount_recover.specs.Finding.{IsExcuse}
-use Rattle.mount_recover.specs.Mending.{IsCompleted, IsMending, IsMended, Stays}
+use Rattle.mount_recover.specs.Mending.{IsLoadFault, IsCompleted, IsMending, IsMended, Stays}
+use Rattle.mount_recover.specs.Recover.{device_of_mount}
 use Rattle.mount_recover.specs.Showing.{GivesPages, HasNoRoot, LosesNone, shows_of}
 use Rattle.mount_recover.proofs.CalmLaws.{all_shown, excuse_loses, roots_kept, still_next}
 use Rattle.mount_recover.proofs.FaultLaws.{handed_up, if_err_more, ok_as}
 use Rattle.mount_recover.proofs.mending.mend.Goals as goal
 
+pub returns-in_err-mend_pages-clause-load : goal.returns-in_err-mend_pages-clause-load
+returns-in_err-mend_pages-clause-load g c = handed_up IsLoadFault c.from_residual.result c.in_err-mend_pages.field-0.0 c.from_residual.ensures.1 c.in_err-mend_pages.ensures.load
+
+pub returns-in_err-mend_pages-clause-disk : goal.returns-in_err-mend_pages-clause-disk
+returns-in_err-mend_pages-clause-disk g c = heals_told (told_up device_of_mount c.from_residual.result c.in_err-mend_pages.field-0.0 c.from_residual.ensures.1) c.in_err-mend_pages.ensures.disk
+
+pub returns-clause-disk : goal.returns-clause-disk
+returns-clause-disk g c = heals_then c.in_ok-mend_pages.ensures.disk c.mend_roots.ensures.disk
+
 pub returns-clause-any_moment : goal.returns-clause-any_moment
 returns-clause-any_moment g c windows choices is h =
     let M = g.M.Machine in
     let old = M.now c.args.m.now in
-    let h1 = c.mend_roots.ensures.trust.honest h in
+    let h1 = c.mend_roots.ensures.disk.trust.honest h in
     then_on M.moment M.left_since c.args.m.now c.mend_pages.new.m c.mend_roots.new.m (Stays c.args.l.now windows choices old) (c.mend_pages.ensures.any_moment windows choices is h1)
     (c.mend_roots.ensures.any_moment windows choices c.args.log.now old is h (c.in_ok-mend_pages.ensures.done windows choices is h1))
 
@@ -29,7 +40,7 @@ returns-clause-done g c =
     on_ok_more ((windows : List WeakRun) (choices : List (List (List ℕ))) (log : LogValue) (first : Moment) (is : IsCompleted l windows choices log first) → M.honest c.mend_roots.new.m → IsMending l windows choices log first is l.pages mid → IsMended l windows choices log first is new)
     ((windows : List WeakRun) (choices : List (List (List ℕ))) (is : IsCompleted l windows choices c.args.log.now old) → M.honest c.mend_roots.new.m → IsMended l windows choices c.args.log.now old is new)
     c.mend_roots.result
-    (λ done windows choices is h. done windows choices c.args.log.now old is h (c.in_ok-mend_pages.ensures.done windows choices is (c.mend_roots.ensures.trust.honest h)))
+    (λ done windows choices is h. done windows choices c.args.log.now old is h (c.in_ok-mend_pages.ensures.done windows choices is (c.mend_roots.ensures.disk.trust.honest h)))
     c.mend_roots.ensures.done
 
 pub returns-clause-never_lost : goal.returns-clause-never_lost
@@ -39,7 +50,7 @@ returns-clause-never_lost g c =
     if_err_more c.mend_roots.result
     (λ fault. (windows : List WeakRun) (choices : List (List (List ℕ))) (log : LogValue) (first : Moment) (is : IsCompleted l windows choices log first) → M.honest c.mend_roots.new.m → IsMending l windows choices log first is l.pages mid → IsExcuse fault)
     (λ fault. (windows : List WeakRun) (choices : List (List (List ℕ))) (is : IsCompleted l windows choices c.args.log.now old) → M.honest c.mend_roots.new.m → IsExcuse fault)
-    (λ fault excused windows choices is h. excused windows choices c.args.log.now old is h (c.in_ok-mend_pages.ensures.done windows choices is (c.mend_roots.ensures.trust.honest h)))
+    (λ fault excused windows choices is h. excused windows choices c.args.log.now old is h (c.in_ok-mend_pages.ensures.done windows choices is (c.mend_roots.ensures.disk.trust.honest h)))
     c.mend_roots.ensures.never_lost
 
 pub returns-clause-shown : goal.returns-clause-shown
@@ -49,7 +60,7 @@ returns-clause-shown g c =
     ok_as ((records : List Placed) → M.honest c.mend_roots.new.m → IsCalmNow old → GivesPages log records old.image → (page : ℕ) → page < l.pages → home_of l new.image page ≡ shows_of l records old.image page)
     c.mend_roots.result
     (λ records h still given.
-    let h1 = c.mend_roots.ensures.trust.honest h in
+    let h1 = c.mend_roots.ensures.disk.trust.honest h in
     all_shown l log records old mid (c.in_ok-mend_pages.ensures.shown records h1 still given) new (still_next old mid (c.mend_pages.ensures.keeps h1).windows still) (c.mend_roots.ensures.body h))
 
 pub returns-clause-not_shown : goal.returns-clause-not_shown
@@ -59,7 +70,7 @@ returns-clause-not_shown g c =
     if_err_more c.mend_roots.result (λ fault. M.honest c.mend_roots.new.m → IsCalmNow mid → (HasNoRoot mid.image → ⊥) → IsExcuse fault)
     (λ fault. (records : List Placed) → M.honest c.mend_roots.new.m → IsCalmNow old → GivesPages log records old.image → (HasNoRoot old.image → ⊥) → LosesNone l records old.image fault)
     (λ fault excused records h still given some.
-    let h1 = c.mend_roots.ensures.trust.honest h in
+    let h1 = c.mend_roots.ensures.disk.trust.honest h in
     excuse_loses l records old.image fault (excused h (still_next old mid (c.mend_pages.ensures.keeps h1).windows still) (λ none. some (roots_kept l log records old mid (c.in_ok-mend_pages.ensures.shown records h1 still given) none))))
     c.mend_roots.ensures.not_shown
 

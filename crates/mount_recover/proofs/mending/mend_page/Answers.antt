@@ -2,8 +2,9 @@ use Rattle.std.proofs.Common.{◌≡◌, ◌+◌, ℕ, Bool, List, Some, None, O
 use Rattle.std.specs.Prelude.{if◌then◌else◌}
 use Rattle.sector_disk.specs.declared.sector.WeakRun.{WeakRun}
 use Rattle.sector_disk.specs.Machine.{Moment, Wears}
+use Rattle.sector_disk.proofs.CallLaws.{heals_then, heals_told, reads_as_heals}
 use Rattle.sector_disk.proofs.Moments.{leaves_more, then_on}
-use Rattle.log_thirds.proofs.ReadingLaws.{wears_here}
+use Rattle.sector_disk.proofs.Holding.{wears_none}
 use Rattle.fsd_log.specs.Images.{last_image}
 use Rattle.fsd_log.specs.Scan.{Placed}
 use Rattle.fsd_files.specs.Disk.{Image}
@@ -14,23 +15,35 @@ use Rattle.log_thirds.specs.LogValue.{LogValue}
 use Rattle.twin_home.proofs.WriteLaws.{on_ok_more}
 use Rattle.mount_recover.specs.Finding.{IsExcuse}
 use Rattle.mount_recover.specs.Lost.{AreHomes, LostIn}
-use Rattle.mount_recover.specs.Mending.{MendCause, IsCompleted, IsMending, Stays}
+use Rattle.mount_recover.specs.Mending.{IsLoadFault, IsCompleted, IsMending, Stays}
 use Rattle.mount_recover.specs.Showing.{GivesPages, ChangesHome, IsShowing, LosesHome, LosesNone}
 use Rattle.mount_recover.proofs.CalmLaws.{still_worn, still_next, given_on, showing_next, at_home, in_log, loses_so, device_loses, excuse_loses}
-use Rattle.mount_recover.proofs.FaultLaws.{if_err_more, if_err_both, load_excused, cause_excused, homes_serve}
+use Rattle.mount_recover.proofs.FaultLaws.{if_err_more, if_err_both, load_excused, cause_excused, homes_serve, is_load, load_told}
 use Rattle.mount_recover.proofs.MendingLaws.{stays, still, not_none, narrow, stays_show}
 use Rattle.mount_recover.proofs.SlotLaws.{slot_gives, slot_not_lost, slot_none}
 use Rattle.mount_recover.proofs.mending.mend_page.Goals as goal
+
+pub returns-in-Err-clause-load : goal.returns-in-Err-clause-load
+returns-in-Err-clause-load g c = is_load c.in-Err.fault c.load_fault.result c.load_fault.ensures
+
+pub returns-in-Ok-true-clause-disk : goal.returns-in-Ok-true-clause-disk
+returns-in-Ok-true-clause-disk g c = heals_then (reads_as_heals c.in-Ok-true.ensures.reads) c.home_logged.ensures.disk
+
+pub returns-in-Ok-false-clause-disk : goal.returns-in-Ok-false-clause-disk
+returns-in-Ok-false-clause-disk g c = heals_then (reads_as_heals c.in-Ok-false.ensures.reads) c.heal_home.ensures.disk
+
+pub returns-in-Err-clause-disk : goal.returns-in-Err-clause-disk
+returns-in-Err-clause-disk g c = heals_told (load_told c.in-Err.fault c.load_fault.result c.load_fault.ensures) (reads_as_heals c.in-Err.ensures.reads)
 
 pub returns-in-Ok-true-clause-any_moment : goal.returns-in-Ok-true-clause-any_moment
 returns-in-Ok-true-clause-any_moment g c windows choices first is h at =
     let M = g.M.Machine in
     let l = c.args.l.now in let log = c.args.log.now in let now = M.now c.args.m.now in let read = M.now c.image_of.new.m in
-    let h1 = c.home_logged.ensures.trust.honest h in
-    let given = slot_gives l windows choices log first is c.requires.layout c.args.page c.requires.page now at c.image_of.new.buf (wears_here now) (c.in-Ok-true.ensures.whole (λ i. Ok (c.in-Ok-true.field-0-test i)) h1) in
+    let h1 = c.home_logged.ensures.disk.trust.honest h in
+    let given = slot_gives l windows choices log first is c.requires.layout c.args.page c.requires.page now at c.image_of.new.buf (wears_none now) (c.in-Ok-true.ensures.whole (λ i. Ok (c.in-Ok-true.field-0-test i)) h1) in
     then_on M.moment M.left_since c.args.m.now c.image_of.new.m c.home_logged.new.m (Stays l windows choices first)
-    (leaves_more M.moment M.left_since c.args.m.now c.image_of.new.m (Wears now) (Stays l windows choices first) (λ left wears. stays l windows choices log first is c.args.page c.requires.page now at left wears) (c.image_of.ensures.any_moment h1))
-    (c.home_logged.ensures.any_moment windows choices log first is h (λ none. not_none _ _ given none) (still l windows choices log first is c.args.page c.requires.page now at read (c.image_of.ensures.worn h1)))
+    (leaves_more M.moment M.left_since c.args.m.now c.image_of.new.m (Wears now) (Stays l windows choices first) (λ left wears. stays l windows choices log first is c.args.page c.requires.page now at left wears) (c.image_of.ensures.reads.any_moment h1))
+    (c.home_logged.ensures.any_moment windows choices log first is h (λ none. not_none _ _ given none) (still l windows choices log first is c.args.page c.requires.page now at read (c.image_of.ensures.reads.worn h1)))
 
 pub returns-in-Ok-true-clause-done : goal.returns-in-Ok-true-clause-done
 returns-in-Ok-true-clause-done g c =
@@ -41,20 +54,20 @@ returns-in-Ok-true-clause-done g c =
     ((windows : List WeakRun) (choices : List (List (List ℕ))) (first : Moment) (is : IsCompleted l windows choices log first) → M.honest c.home_logged.new.m → IsMending l windows choices log first is c.args.page now → IsMending l windows choices log first is (c.args.page + 1) new)
     c.home_logged.result
     (λ done windows choices first is h at.
-    let h1 = c.home_logged.ensures.trust.honest h in
+    let h1 = c.home_logged.ensures.disk.trust.honest h in
     done windows choices log first is h
-    (slot_gives l windows choices log first is c.requires.layout c.args.page c.requires.page now at c.image_of.new.buf (wears_here now) (c.in-Ok-true.ensures.whole (λ i. Ok (c.in-Ok-true.field-0-test i)) h1))
-    (still l windows choices log first is c.args.page c.requires.page now at read (c.image_of.ensures.worn h1)))
+    (slot_gives l windows choices log first is c.requires.layout c.args.page c.requires.page now at c.image_of.new.buf (wears_none now) (c.in-Ok-true.ensures.whole (λ i. Ok (c.in-Ok-true.field-0-test i)) h1))
+    (still l windows choices log first is c.args.page c.requires.page now at read (c.image_of.ensures.reads.worn h1)))
     c.home_logged.ensures.done
 
 pub returns-in-Ok-false-clause-any_moment : goal.returns-in-Ok-false-clause-any_moment
 returns-in-Ok-false-clause-any_moment g c windows choices first is h at =
     let M = g.M.Machine in
     let l = c.args.l.now in let log = c.args.log.now in let now = M.now c.args.m.now in let read = M.now c.image_of.new.m in
-    let h1 = c.heal_home.ensures.trust.honest h in
+    let h1 = c.heal_home.ensures.disk.trust.honest h in
     then_on M.moment M.left_since c.args.m.now c.image_of.new.m c.heal_home.new.m (Stays l windows choices first)
-    (leaves_more M.moment M.left_since c.args.m.now c.image_of.new.m (Wears now) (Stays l windows choices first) (λ left wears. stays l windows choices log first is c.args.page c.requires.page now at left wears) (c.image_of.ensures.any_moment h1))
-    (c.heal_home.ensures.any_moment windows choices log first is h (still l windows choices log first is c.args.page c.requires.page now at read (c.image_of.ensures.worn h1)))
+    (leaves_more M.moment M.left_since c.args.m.now c.image_of.new.m (Wears now) (Stays l windows choices first) (λ left wears. stays l windows choices log first is c.args.page c.requires.page now at left wears) (c.image_of.ensures.reads.any_moment h1))
+    (c.heal_home.ensures.any_moment windows choices log first is h (still l windows choices log first is c.args.page c.requires.page now at read (c.image_of.ensures.reads.worn h1)))
 
 pub returns-in-Ok-false-clause-done : goal.returns-in-Ok-false-clause-done
 returns-in-Ok-false-clause-done g c =
@@ -65,37 +78,37 @@ returns-in-Ok-false-clause-done g c =
     ((windows : List WeakRun) (choices : List (List (List ℕ))) (first : Moment) (is : IsCompleted l windows choices log first) → M.honest c.heal_home.new.m → IsMending l windows choices log first is c.args.page now → IsMending l windows choices log first is (c.args.page + 1) new)
     c.heal_home.result
     (λ done windows choices first is h at.
-    let h1 = c.heal_home.ensures.trust.honest h in
+    let h1 = c.heal_home.ensures.disk.trust.honest h in
     done windows choices log first is h
     (slot_none l windows choices log first is c.requires.layout c.args.page c.requires.page now at (c.in-Ok-false.ensures.nowhere (λ i. Ok (c.in-Ok-false.field-0-test i))))
-    (still l windows choices log first is c.args.page c.requires.page now at read (c.image_of.ensures.worn h1)))
+    (still l windows choices log first is c.args.page c.requires.page now at read (c.image_of.ensures.reads.worn h1)))
     c.heal_home.ensures.done
 
 pub returns-in-Ok-false-clause-never_lost : goal.returns-in-Ok-false-clause-never_lost
 returns-in-Ok-false-clause-never_lost g c =
     let M = g.M.Machine in
     let l = c.args.l.now in let log = c.args.log.now in let now = M.now c.args.m.now in let read = M.now c.image_of.new.m in let new = M.now c.heal_home.new.m in
-    if_err_both c.heal_home.result (MendCause (M.report c.image_of.new.m) (M.report c.heal_home.new.m)) (λ fault. M.honest c.heal_home.new.m → LostIn (AreHomes l) new.image fault)
+    if_err_both c.heal_home.result IsLoadFault (λ fault. M.honest c.heal_home.new.m → LostIn (AreHomes l) new.image fault)
     (λ fault. (windows : List WeakRun) (choices : List (List (List ℕ))) (first : Moment) (is : IsCompleted l windows choices log first) → M.honest c.heal_home.new.m → IsMending l windows choices log first is c.args.page now → IsExcuse fault)
     (λ fault cause lost windows choices first is h at.
-    let h1 = c.heal_home.ensures.trust.honest h in
-    let stays = c.heal_home.ensures.exit windows choices log first is h (still l windows choices log first is c.args.page c.requires.page now at read (c.image_of.ensures.worn h1)) in
-    cause_excused (AreHomes l) new.image (M.report c.image_of.new.m) (M.report c.heal_home.new.m) fault
+    let h1 = c.heal_home.ensures.disk.trust.honest h in
+    let stays = c.heal_home.ensures.exit windows choices log first is h (still l windows choices log first is c.args.page c.requires.page now at read (c.image_of.ensures.reads.worn h1)) in
+    cause_excused (AreHomes l) new.image fault
     (homes_serve l windows (narrow l windows choices log first is) choices new.image (stays_show l windows choices log first is new stays)) cause (lost h))
-    c.heal_home.ensures.fault c.heal_home.ensures.lost
+    c.heal_home.ensures.load c.heal_home.ensures.lost
 
 pub returns-in-Err-clause-any_moment : goal.returns-in-Err-clause-any_moment
 returns-in-Err-clause-any_moment g c windows choices first is h at =
     let M = g.M.Machine in
     let l = c.args.l.now in let log = c.args.log.now in let now = M.now c.args.m.now in
-    leaves_more M.moment M.left_since c.args.m.now c.image_of.new.m (Wears now) (Stays l windows choices first) (λ left wears. stays l windows choices log first is c.args.page c.requires.page now at left wears) (c.image_of.ensures.any_moment h)
+    leaves_more M.moment M.left_since c.args.m.now c.image_of.new.m (Wears now) (Stays l windows choices first) (λ left wears. stays l windows choices log first is c.args.page c.requires.page now at left wears) (c.image_of.ensures.reads.any_moment h)
 
 pub returns-in-Err-clause-never_lost : goal.returns-in-Err-clause-never_lost
 returns-in-Err-clause-never_lost g c windows choices first is h at =
     let M = g.M.Machine in
     let l = c.args.l.now in let log = c.args.log.now in let now = M.now c.args.m.now in
     subst IsExcuse (sym c.load_fault.ensures) (load_excused c.in-Err.fault
-    (slot_not_lost l windows choices log first is c.requires.layout c.args.page c.requires.page now at (M.now c.image_of.new.m) (c.image_of.ensures.worn h) c.in-Err.fault (c.in-Err.ensures.lost h)))
+    (slot_not_lost l windows choices log first is c.requires.layout c.args.page c.requires.page now at (M.now c.image_of.new.m) (c.image_of.ensures.reads.worn h) c.in-Err.fault (c.in-Err.ensures.lost h)))
 
 pub returns-in-Ok-true-clause-shown : goal.returns-in-Ok-true-clause-shown
 returns-in-Ok-true-clause-shown g c =
@@ -105,8 +118,8 @@ returns-in-Ok-true-clause-shown g c =
     ((records : List Placed) (first : Image) → M.honest c.home_logged.new.m → IsCalmNow now → GivesPages log records first → IsShowing l records first c.args.page now.image → IsShowing l records first (c.args.page + 1) new.image)
     c.home_logged.result
     (λ done records first h still given at.
-    let h1 = c.home_logged.ensures.trust.honest h in
-    let worn = c.image_of.ensures.worn h1 in
+    let h1 = c.home_logged.ensures.disk.trust.honest h in
+    let worn = c.image_of.ensures.reads.worn h1 in
     let same = still_worn now now.image read.image still worn.image in
     let here = subst (IsShowing l records first c.args.page) (sym same) at in
     let logged = c.in-Ok-true.ensures.given records h1 still given.indexed (given_on l log c.requires.layout records first now.image c.args.page at.front given) in
@@ -129,8 +142,8 @@ returns-in-Ok-false-clause-shown g c =
     ((records : List Placed) (first : Image) → M.honest c.heal_home.new.m → IsCalmNow now → GivesPages log records first → IsShowing l records first c.args.page now.image → IsShowing l records first (c.args.page + 1) new.image)
     c.heal_home.result
     (λ done records first h still given at.
-    let h1 = c.heal_home.ensures.trust.honest h in
-    let worn = c.image_of.ensures.worn h1 in
+    let h1 = c.heal_home.ensures.disk.trust.honest h in
+    let worn = c.image_of.ensures.reads.worn h1 in
     let here = subst (IsShowing l records first c.args.page) (sym (still_worn now now.image read.image still worn.image)) at in
     let none = c.in-Ok-false.ensures.nowhere (λ i. Ok (c.in-Ok-false.field-0-test i)) records given.indexed in
     showing_next l records first c.args.page c.requires.page read.image new.image here (home_of l read.image c.args.page) (done h (still_next now read worn.windows still)) (at_home l records first c.args.page c.requires.page read.image new.image here none))
@@ -143,8 +156,8 @@ returns-in-Ok-false-clause-not_shown g c =
     if_err_more c.heal_home.result (λ fault. M.honest c.heal_home.new.m → IsCalmNow read → LosesHome l c.args.page read.image fault)
     (λ fault. (records : List Placed) (first : Image) → M.honest c.heal_home.new.m → IsCalmNow now → GivesPages log records first → IsShowing l records first c.args.page now.image → LosesNone l records first fault)
     (λ fault loses records first h still given at.
-    let h1 = c.heal_home.ensures.trust.honest h in
-    let worn = c.image_of.ensures.worn h1 in
+    let h1 = c.heal_home.ensures.disk.trust.honest h in
+    let worn = c.image_of.ensures.reads.worn h1 in
     let here = subst (IsShowing l records first c.args.page) (sym (still_worn now now.image read.image still worn.image)) at in
     let none = c.in-Ok-false.ensures.nowhere (λ i. Ok (c.in-Ok-false.field-0-test i)) records given.indexed in
     loses_so l records first c.args.page c.requires.page read.image new.image here none fault (loses h (still_next now read worn.windows still)))

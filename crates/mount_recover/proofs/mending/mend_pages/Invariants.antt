@@ -1,6 +1,7 @@
-use Rattle.std.proofs.Common.{ℕ, ◌+◌, ◌*◌, ◌≤◌, List}
+use Rattle.std.proofs.Common.{ℕ, ◌+◌, ◌*◌, ◌≤◌, List, None}
 use Rattle.sector_disk.specs.declared.sector.WeakRun.{WeakRun}
-use Rattle.sector_disk.specs.Machine.{UsesDisk, Trusts, OnlyWrites, LeavesOnly}
+use Rattle.sector_disk.specs.Calls.{HealsDisk}
+use Rattle.sector_disk.specs.Machine.{LeavesOnly}
 use Rattle.fsd_log.specs.Scan.{Placed}
 use Rattle.log_thirds.specs.Append.{IsCalm as IsCalmNow}
 use Rattle.mount_recover.specs.Showing.{GivesPages, IsShowing}
@@ -9,9 +10,7 @@ use Rattle.mount_recover.proofs.mending.mend_pages.Given as goal
 
 abbrev pub invariant-loop-page : goal.invariant-loop-page
 invariant-loop-page g l = let M = g.M.Machine in let old = l.fn.m in record {
-  uses : UsesDisk (M.report old) (M.report l.m);
-  trust : Trusts (M.tells old) (M.tells l.m) (M.honest old) (M.honest l.m);
-  ledger : M.tells l.m → OnlyWrites (M.ledger old) (M.ledger l.m);
+  disk : HealsDisk M None old l.m;
   most : M.tells l.m → (M.ledger l.m).written ≤ (M.ledger old).written + 2 * l.page;
   keeps : M.honest l.m → Keeps l.l (M.now old) (M.now l.m);
   mending : (windows : List WeakRun) (choices : List (List (List ℕ))) (c : IsCompleted l.l windows choices l.log (M.now old)) → M.honest l.m → IsMending l.l windows choices l.log (M.now old) c l.page (M.now l.m);

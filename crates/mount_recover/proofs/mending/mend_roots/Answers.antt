@@ -1,15 +1,25 @@
 use Rattle.std.proofs.Common.{◌<◌, length, sym, subst, arith}
 use Rattle.volume_layout.proofs.RootLaws.{planned_bounds}
+use Rattle.sector_disk.proofs.CallLaws.{heals_told, writes_as_heals}
 use Rattle.sector_disk.proofs.Moments.{leaves_more}
 use Rattle.volume_layout.specs.Root.{root_bytes}
 use Rattle.twin_home.specs.Heal.{RootsIn}
 use Rattle.mount_recover.specs.Mending.{Stays, AreRoots}
 use Rattle.mount_recover.specs.Finding.{IsExcuse}
 use Rattle.mount_recover.proofs.CalmLaws.{roots_lose}
-use Rattle.mount_recover.proofs.FaultLaws.{load_excused, load_not_lost, roots_serve}
+use Rattle.mount_recover.proofs.FaultLaws.{load_excused, load_not_lost, is_load, load_told, roots_serve}
 use Rattle.mount_recover.proofs.KeepsLaws.{keeps_roots, roots_body}
 use Rattle.mount_recover.proofs.MendingLaws.{roots_stay, roots_done, narrow, stays_show}
 use Rattle.mount_recover.proofs.mending.mend_roots.Goals as goal
+
+pub returns-in-Err-clause-load : goal.returns-in-Err-clause-load
+returns-in-Err-clause-load g c = is_load c.in-Err.fault c.load_fault.result c.load_fault.ensures
+
+pub returns-in-Ok-clause-disk : goal.returns-in-Ok-clause-disk
+returns-in-Ok-clause-disk g c = writes_as_heals c.in-Ok.ensures.writes
+
+pub returns-in-Err-clause-disk : goal.returns-in-Err-clause-disk
+returns-in-Err-clause-disk g c = heals_told (load_told c.in-Err.fault c.load_fault.result c.load_fault.ensures) (writes_as_heals c.in-Err.ensures.writes)
 
 pub returns-in-Ok-clause-any_moment : goal.returns-in-Ok-clause-any_moment
 returns-in-Ok-clause-any_moment g c windows choices log first is h at =

@@ -1,4 +1,4 @@
-use Rattle.std.proofs.Common.{◌≡◌, ◌∙◌, ap, sym, subst, List, ℕ}
+use Rattle.std.proofs.Common.{◌≡◌, ◌∙◌, ap, subst, List, ℕ}
 use Rattle.fsd_table.specs.Table.{BreaksTable}
 use Rattle.fsd_table.specs.Tree.{IsTree}
 use Rattle.fsd_table.proofs.BreakLaws.{tree_unbroken}
@@ -15,5 +15,5 @@ replace_same_size-requires-clause-present c = λ trusted height tree.
     let page : ℕ = c.in-Err-Broken.field-0-0 in
     let same : after ≡ found = ap (λ (s : Step). s.images) c.renew.ensures in
     let s = vec.ghosts.step c.find.new.t in
-    let broken : BreaksTable found page = broken_is (vec.ghosts.causes c.rest.new.self c.find.new.t) s (BreaksTable s.images) (BarsTable s) c.in-Err-Broken.field-0 page c.in-Err-Broken.field-0-is c.in-Err-Broken.ensures.fault in
+    let broken : BreaksTable found page = broken_is s (BreaksTable s.images) (BarsTable s) c.in-Err-Broken.field-0 page c.in-Err-Broken.field-0-is c.in-Err-Broken.ensures.fault in
     absurd (tree_unbroken found height page (subst (λ (pages : List (List ℕ)). IsTree pages height) same tree) broken)

@@ -1,5 +1,6 @@
 use Rattle.std.proofs.Common.{◌≤◌, length, sym, arith}
 use Rattle.std.proofs.lemmas.Result.{err_from_is_err_and}
+use Rattle.name_page.proofs.LookLaws.{edits_then}
 use Rattle.name_btree.proofs.CallLaws.{none_so_far, next_allowed, one_so_far, stops_here, all_so_far}
 use Rattle.name_btree.proofs.calls.run.Goals as goal
 
@@ -20,7 +21,7 @@ pub loop-i-preserved : goal.loop-i-preserved
 loop-i-preserved g c =
     let e = c.in_ok-answers.ensures in
     one_so_far g.T.Pages c.args.t.now c.loop-i.t c.args.calls.now c.loop-i.answers c.loop-i.i c.index-calls-i.result c.loop-i-test.true (sym c.index-calls-i.is) c.loop-i.invariant
-    c.carry_out.new.t g.met.T.Pages.then e.calls c.in_ok-answers.field-0 e.carried
+    c.carry_out.new.t e.calls.trust g.met.T.Pages.then e.calls c.in_ok-answers.field-0 e.carried
 
 pub returns-clause-run : goal.returns-clause-run
 returns-clause-run g c =
@@ -31,6 +32,10 @@ pub returns-in_err-answers-clause-run : goal.returns-in_err-answers-clause-run
 returns-in_err-answers-clause-run g c =
     let p = err_from_is_err_and c.from_residual.result c.from_residual.ensures.1 in
     let e = c.in_err-answers.ensures in
-    let law = g.met.T.Pages in
     rw (p.1, p.2) (stops_here g.T.Pages c.args.t.now c.loop-i.t c.args.calls.now c.loop-i.answers c.loop-i.i c.index-calls-i.result c.loop-i-test.true (sym c.index-calls-i.is) c.loop-i.invariant
-    c.carry_out.new.t law.then e.calls law.later c.in_err-answers.field-0.0 e.carried)
+    c.carry_out.new.t e.calls.trust c.in_err-answers.field-0.0 e.carried)
+
+pub returns-in_err-answers-clause-calls : goal.returns-in_err-answers-clause-calls
+returns-in_err-answers-clause-calls g c =
+    let p = err_from_is_err_and c.from_residual.result c.from_residual.ensures.1 in
+    rw (p.1, p.2) (edits_then g.T.Pages g.met.T.Pages.then c.args.t.now c.loop-i.t c.carry_out.new.t c.loop-i.invariant.edits c.in_err-answers.ensures.calls)

@@ -1,19 +1,19 @@
-use Rattle.std.proofs.Common.{◌≡◌, ◌∙◌, ◌+◌, ◌-◌, sym, ap, subst, Bool, false, List, ℕ, Some, None, arith}
+use Rattle.std.proofs.Common.{◌≡◌, ◌∙◌, ◌+◌, ◌-◌, refl, sym, ap, subst, Bool, true, false, List, ℕ, Some, None, arith}
 use Rattle.std.proofs.lemmas.Result.{err_from_is_err_and}
 use Rattle.fsd_formats.specs.NamePage.{Leaf, Interior}
-use Rattle.fsd_table.specs.Pages.{page_at}
+use Rattle.fsd_table.specs.Pages.{page_at, content_fits}
+use Rattle.fsd_table.specs.Table.{visit_of}
 use Rattle.name_page.specs.declared.node.Node.{Node}
 use Rattle.name_btree.specs.declared.descent.Way.{Way}
 use Rattle.name_page.specs.Node.{content_of}
 use Rattle.name_page.specs.Cut.{is_before}
-use Rattle.name_btree.specs.Fault.{IsMisfit, BarsPage}
 use Rattle.name_page.proofs.LookLaws.{reaches_still, reaches_then, agrees_before, agrees_now, agrees_at}
 use Rattle.name_page.specs.Looks.{Agrees, Shows}
 use Rattle.name_page.specs.Pages.{is_spare}
 use Rattle.name_page.proofs.CutLaws.{cuts_monotone}
 use Rattle.name_btree.proofs.DescentLaws.{IsOnWay, way_begins, way_down, way_ends}
+use Rattle.name_btree.proofs.LookupLaws.{Narrows, way_narrows, leaf_least}
 use Rattle.name_btree.proofs.PathLaws.{IsPath, path_begins, path_down, path_ends}
-use Rattle.name_btree.proofs.CauseLaws.{cause_map}
 use Rattle.name_btree.proofs.VisitedLaws.{IsVisitedWay, visited_down, misfit_below, deep_below}
 use Rattle.name_btree.proofs.descent.leaf_below.Goals as goal
 
@@ -27,6 +27,7 @@ loop-above-init g c =
       most = omega arith;
       calls = reaches_still g.T.Pages c.args.t.now (g.met.T.Pages.still c.args.t.now);
       reaches = omega arith;
+      narrow = record { low = λ key h. h; next = tt };
       path = λ pages is. path_begins c.args.cut.now pages c.args.start;
       way = λ pages is. subst (λ (n : ℕ). IsOnWay before pages c.args.start n way) none (way_begins before pages c.args.start);
       visited = λ pages is v. (v, (tt, tt));
@@ -38,16 +39,13 @@ returns-in_err-child_node-clause-fault g c =
     let s = g.T.Pages.step new in
     let fault = c.in_err-child_node.field-0.0 in
     let on = c.loop-above.invariant.visited s.images (agrees_before (g.T.Pages.step c.loop-above.t) s s.images c.in_err-child_node.ensures.calls.looks (agrees_now s)) in
-    let Before = g.T.Pages.causes c.loop-above.t new in
-    let After = g.T.Pages.causes c.args.t.now new in
-    let Br = IsMisfit s.images c.loop-above.way.child in
-    let Ba = BarsPage s c.loop-above.way.child.page in
-    let h = cause_map Before After s Br Br Ba Ba (λ r x. g.met.T.Pages.later c.args.t.now c.loop-above.t new r c.loop-above.invariant.calls.outside x) (λ p x. x) (λ p x. x) fault c.in_err-child_node.ensures.fault in
     let p = err_from_is_err_and c.from_residual.result c.from_residual.ensures.1 in
-    rw (p.1, p.2) (misfit_below After s fault c.args.above c.args.start c.loop-above.above c.loop-above.way on h)
+    rw (p.1, p.2) (misfit_below s fault c.args.above c.args.start c.loop-above.above c.loop-above.way on c.in_err-child_node.ensures.fault)
 
 pub returns-in_err-child_node-clause-calls : goal.returns-in_err-child_node-clause-calls
-returns-in_err-child_node-clause-calls g c = reaches_then g.T.Pages g.met.T.Pages.then c.args.t.now c.loop-above.t c.child_node.new.t c.loop-above.invariant.calls c.in_err-child_node.ensures.calls
+returns-in_err-child_node-clause-calls g c =
+    let p = err_from_is_err_and c.from_residual.result c.from_residual.ensures.1 in
+    rw (p.1, p.2) (reaches_then g.T.Pages g.met.T.Pages.then c.args.t.now c.loop-above.t c.child_node.new.t c.loop-above.invariant.calls c.in_err-child_node.ensures.calls)
 
 pub returns-in-Leaf-clause-calls : goal.returns-in-Leaf-clause-calls
 returns-in-Leaf-clause-calls g c = reaches_then g.T.Pages g.met.T.Pages.then c.args.t.now c.loop-above.t c.child_node.new.t c.loop-above.invariant.calls c.in_ok-child_node.ensures.calls
@@ -71,6 +69,20 @@ returns-in-Leaf-clause-at g c = λ pages is.
     let at : page_at pages page ≡ Some (Leaf c.in-Leaf.entries) =
     agrees_at s pages page c.in_ok-child_node.ensures.reached used is ∙ c.in_ok-child_node.ensures.node ∙ ap (λ (n : Node). Some (content_of n)) c.in-Leaf.is in
     path_ends c.args.cut.now pages c.args.start c.loop-above.way c.in-Leaf.entries at (c.loop-above.invariant.path pages before)
+
+pub returns-in-Leaf-clause-way : goal.returns-in-Leaf-clause-way
+returns-in-Leaf-clause-way g c = λ pages is v.
+    let before = agrees_before (g.T.Pages.step c.loop-above.t) (g.T.Pages.step c.child_node.new.t) pages c.in_ok-child_node.ensures.calls.looks is in
+    let d = c.loop-above.way.child in
+    (visit_of pages (c.loop-above.above + 1) d, (c.loop-above.invariant.visited pages before v).0, refl)
+
+pub returns-in-Leaf-clause-least : goal.returns-in-Leaf-clause-least
+returns-in-Leaf-clause-least g c =
+    let w = c.loop-above.way in
+    leaf_least (is_before c.args.cut.now) w c.in-Leaf.entries c.args.start.low (subst (λ (n : Node). content_fits w.child.low w.child.high (Some (content_of n)) ≡ true) c.in-Leaf.is c.in_ok-child_node.ensures.fits) c.loop-above.invariant.narrow
+
+pub returns-in-Leaf-clause-next : goal.returns-in-Leaf-clause-next
+returns-in-Leaf-clause-next g c = c.loop-above.invariant.narrow.next
 
 pub returns-in-Leaf-clause-beside : goal.returns-in-Leaf-clause-beside
 returns-in-Leaf-clause-beside g c = λ pages is v.
@@ -99,6 +111,7 @@ loop-above-preserved g c =
       most = omega (arith, c.loop-above-test.true);
       calls = reaches_then g.T.Pages g.met.T.Pages.then c.args.t.now c.loop-above.t c.child_node.new.t c.loop-above.invariant.calls c.in_ok-child_node.ensures.calls;
       reaches = omega (arith, c.child_node.ensures.reaches, c.loop-above.invariant.reaches);
+      narrow = subst (Narrows before start.low) is (way_narrows before (above + 1) w ways.0 ways.1 start.low (subst (λ (n : Node). content_fits w.child.low w.child.high (Some (content_of n)) ≡ true) c.in-Interior.is c.in_ok-child_node.ensures.fits) c.loop-above.invariant.narrow);
       path = λ pages seen. subst (λ (x : Way). IsPath c.args.cut.now pages start x.child) is (path_down c.args.cut.now pages start (above + 1) w ways.0 ways.1 (at pages seen) (c.loop-above.invariant.path pages (old pages seen)));
       way = λ pages seen. subst (λ (n : ℕ). IsOnWay before pages start n new) one
           (subst (λ (x : Way). IsOnWay before pages start (gone + 1) x) is

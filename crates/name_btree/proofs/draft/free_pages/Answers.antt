@@ -39,7 +39,7 @@ loop-page-preserved g c =
     let p : ℕ = get_or pages i 0 in
     let more = ap (λ xs. freed xs step) (take_more pages i 0 (omega arith)) ∙ freed_push (take i pages) p step in
     record {
-      outside = g.met.T.Pages.then c.args.t.now c.loop-page.t c.give_back.new.self c.loop-page.invariant.outside c.give_back.ensures.outside;
+      outside = g.met.T.Pages.then c.args.t.now c.loop-page.t c.give_back.new.self _ c.loop-page.invariant.outside c.give_back.ensures.outside;
       step = c.give_back.ensures.step ∙ ap (with_spare p) c.loop-page.invariant.step ∙ sym more;
     }
 

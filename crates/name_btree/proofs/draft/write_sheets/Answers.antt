@@ -32,7 +32,7 @@ loop-sheet-preserved g c =
     let s : Sheet = get_or sheets i none in
     let more = ap (λ xs. committed xs step) (take_more sheets i none (omega arith)) ∙ committed_push (take i sheets) s step in
     record {
-      outside = g.met.T.Pages.then c.args.t.now c.loop-sheet.t c.write_sheet.new.t c.loop-sheet.invariant.outside c.write_sheet.ensures.outside;
+      outside = g.met.T.Pages.then c.args.t.now c.loop-sheet.t c.write_sheet.new.t _ c.loop-sheet.invariant.outside c.write_sheet.ensures.outside;
       step = c.write_sheet.ensures.step ∙ ap (with_page s.page s.image) c.loop-sheet.invariant.step ∙ sym more;
     }
 

@@ -82,4 +82,4 @@ pub returns-clause-interiors : goal.returns-clause-interiors
 returns-clause-interiors g c = λ pages same. (parted g c pages same).interiors
 
 pub returns-clause-outside : goal.returns-clause-outside
-returns-clause-outside g c = g.met.T.Pages.then c.args.t.now c.front_page-left.new.t c.take_page-right.new.t c.front_page-left.ensures.outside c.take_page-right.ensures.outside
+returns-clause-outside g c = g.met.T.Pages.then c.args.t.now c.front_page-left.new.t c.take_page-right.new.t _ c.front_page-left.ensures.outside c.take_page-right.ensures.outside

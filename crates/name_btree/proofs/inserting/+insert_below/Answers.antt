@@ -1,5 +1,6 @@
-use Rattle.std.proofs.Common.{◌≡◌, ◌∙◌, ◌-◌, ◌≤◌, ℕ, Bool, suc, List, Some, length, true, refl, sym, ap, subst, arith, rules}
+use Rattle.std.proofs.Common.{◌≡◌, ◌∙◌, ◌-◌, ◌≤◌, ℕ, Bool, suc, List, Option, Some, length, true, refl, sym, ap, subst, arith, rules}
 use Rattle.std.proofs.lemmas.Result.{err_from_is_err_and}
+use Rattle.fsd_bytes.specs.declared.refusal.Refusal.{Refusal}
 use Rattle.fsd_formats.specs.NamePage.{Leaf, Interior, is_page}
 use Rattle.fsd_forest.specs.Parts.{is_inside}
 use Rattle.fsd_table.specs.declared.child.Child.{Child}
@@ -12,7 +13,7 @@ use Rattle.name_page.specs.declared.node.Node.{Node}
 use Rattle.name_page.specs.Node.{content_of}
 use Rattle.name_btree.specs.declared.fault.TreeFault.TheVariants.{Broken}
 use Rattle.name_btree.specs.Draft.{drafted}
-use Rattle.name_btree.specs.Fault.{FailsBy, IsMisfit}
+use Rattle.name_btree.specs.Fault.{outer_told, FailsBy, IsMisfit}
 use Rattle.name_btree.specs.Grown.{most_taken, IsDivided, Grows, BreaksGrowth}
 use Rattle.name_btree.proofs.CauseLaws.{fails_by_map, broken_by, on_err_same}
 use Rattle.name_btree.proofs.DraftLaws.{drafted_length}
@@ -27,9 +28,8 @@ returns-in_err-entries-clause-fault g t c =
     let sheets = c.args.draft.now.sheets.items in
     let child = c.args.child.now in
     let new = c.child_node.new.t in
-    let Outer = g.T.Pages.causes c.args.t.now new in
     let p = err_from_is_err_and c.from_residual.result c.from_residual.ensures.1 in
-    rw (p.1, p.2) (fails_by_map Outer Outer (g.T.Pages.step new) (λ pages. IsMisfit (drafted sheets pages) child) (λ pages. BreaksGrowth c.args.entry.now (drafted sheets pages) c.args.levels child) (λ r x. x)
+    rw (p.1, p.2) (fails_by_map (g.T.Pages.step new) (λ pages. IsMisfit (drafted sheets pages) child) (λ pages. BreaksGrowth c.args.entry.now (drafted sheets pages) c.args.levels child)
     (λ images page is h. misfit_growth c.args.entry.now (drafted sheets images) c.args.levels child page h) c.in_err-entries.field-0.0 c.in_err-entries.ensures.fault)
 
 pub returns-then-below-eq0-clause-fault : goal.returns-then-below-eq0-clause-fault
@@ -68,11 +68,12 @@ insert_below-requires g t c κs within =
 pub returns-in_err-grown-in-Interior-clause-failed : goal.returns-in_err-grown-in-Interior-clause-failed
 returns-in_err-grown-in-Interior-clause-failed g t c =
     let p = err_from_is_err_and c.from_residual-in_err-grown-in-Interior.result c.from_residual-in_err-grown-in-Interior.ensures.1 in
-    rw p.1 (reaches_then g.T.Pages g.met.T.Pages.then c.args.t.now c.child_node.new.t c.insert_below.new.t c.in_ok-entries.ensures.calls c.in_err-grown-in-Interior.ensures.failed)
+    rw (p.1, p.2) (reaches_then g.T.Pages g.met.T.Pages.then c.args.t.now c.child_node.new.t c.insert_below.new.t c.in_ok-entries.ensures.calls c.in_err-grown-in-Interior.ensures.failed)
 
 pub returns-in_err-grown-in-Interior-clause-calls : goal.returns-in_err-grown-in-Interior-clause-calls
 returns-in_err-grown-in-Interior-clause-calls g t c =
-    reaches_takes g.T.Pages c.args.t.now c.insert_below.new.t (reaches_then g.T.Pages g.met.T.Pages.then c.args.t.now c.child_node.new.t c.insert_below.new.t c.in_ok-entries.ensures.calls c.in_err-grown-in-Interior.ensures.failed)
+    let p = err_from_is_err_and c.from_residual-in_err-grown-in-Interior.result c.from_residual-in_err-grown-in-Interior.ensures.1 in
+    rw (p.1, p.2) (reaches_takes g.T.Pages c.args.t.now c.insert_below.new.t (reaches_then g.T.Pages g.met.T.Pages.then c.args.t.now c.child_node.new.t c.insert_below.new.t c.in_ok-entries.ensures.calls c.in_err-grown-in-Interior.ensures.failed))
 
 pub returns-in_err-grown-in-Interior-clause-fault : goal.returns-in_err-grown-in-Interior-clause-fault
 returns-in_err-grown-in-Interior-clause-fault g t c =
@@ -89,8 +90,7 @@ returns-in_err-grown-in-Interior-clause-fault g t c =
     let calls = c.in_err-grown-in-Interior.ensures.failed in
     let up : suc (levels - 1) ≡ levels = omega (arith, c.if-levels-gt0.true) in
     let p = err_from_is_err_and c.from_residual-in_err-grown-in-Interior.result c.from_residual-in_err-grown-in-Interior.ensures.1 in
-    rw (p.1, p.2) (fails_by_map (G.causes c.child_node.new.t new) (G.causes c.args.t.now new) (G.step new) (λ pages. BreaksGrowth e (drafted sheets pages) (levels - 1) below) (λ pages. BreaksGrowth e (drafted sheets pages) levels child)
-    (λ r x. g.met.T.Pages.later c.args.t.now c.child_node.new.t new r c.in_ok-entries.ensures.calls.outside x)
+    rw (p.1, p.2) (fails_by_map (G.step new) (λ pages. BreaksGrowth e (drafted sheets pages) (levels - 1) below) (λ pages. BreaksGrowth e (drafted sheets pages) levels child)
     (λ images page agrees h.
     let before = agrees_before looked (G.step new) images calls.looks agrees in
     let pages = drafted sheets images in
@@ -137,7 +137,9 @@ returns-in-Leaf-clause-calls g t c =
 
 pub returns-in-Leaf-clause-failed : goal.returns-in-Leaf-clause-failed
 returns-in-Leaf-clause-failed g t c =
-    on_err_same c.insert_here.result (OnlyReaches g.T.Pages c.args.t.now) c.child_node.new.t c.insert_here.new.t c.in_ok-entries.ensures.calls c.insert_here.ensures.failed
+    let looked = c.child_node.new.t in
+    let quiet = subst (λ (refusal : Option Refusal). OnlyReaches g.T.Pages refusal c.args.t.now looked) (sym c.insert_here.ensures.untold) c.in_ok-entries.ensures.calls in
+    on_err_same c.insert_here.result (OnlyReaches g.T.Pages (outer_told c.insert_here.result) c.args.t.now) looked c.insert_here.new.t quiet c.insert_here.ensures.failed
 
 pub returns-in-Leaf-clause-grown : goal.returns-in-Leaf-clause-grown
 returns-in-Leaf-clause-grown g t c =
@@ -166,10 +168,9 @@ returns-in-Leaf-clause-fault g t c =
     let e = c.args.entry.now in
     let looked = G.step c.child_node.new.t in
     let last = G.step c.insert_here.new.t in
-    let Outer = G.causes c.args.t.now c.insert_here.new.t in
     let B : List (List ℕ) → ℕ → Type 0 = λ (pages : List (List ℕ)). BreaksGrowth e (drafted sheets pages) c.args.levels child in
-    err_grows c.insert_here.result (λ fault. (page : ℕ) × (fault ≡ Broken page) × Shows looked (λ pages. BreaksGrowth e (drafted sheets pages) 0 child page)) (FailsBy Outer last B)
-    (λ fault h. broken_by Outer last B fault h.0 h.1 (λ images agrees.
+    err_grows c.insert_here.result (λ fault. (page : ℕ) × (fault ≡ Broken page) × Shows looked (λ pages. BreaksGrowth e (drafted sheets pages) 0 child page)) (FailsBy last B)
+    (λ fault h. broken_by last B fault h.0 h.1 (λ images agrees.
     let before = c.insert_here.ensures.calls.agrees images agrees in
     let at : page_at (drafted sheets images) child.page ≡ Some (Leaf c.in-Leaf.entries) = c.in_ok-entries.ensures.node images before ∙ ap (λ (n : Node). Some (content_of n)) c.in-Leaf.is in
     leaf_growth e (drafted sheets images) c.args.levels child c.in-Leaf.entries h.0 at (h.2 images before))) c.insert_here.ensures.fault
@@ -238,3 +239,13 @@ returns-in_ok-grown-in-Interior-clause-used g t c =
     let upper = (c.grow_above.ensures.grown last.images agrees2.count).takes in
     let here = ap (λ (x : List Bool). is_spare x page) c.in_ok-entries.ensures.calls.looks.spares ∙ c.in_ok-entries.ensures.used in
     used_over between last _ page upper (used_over looked between _ page lower here)
+
+pub returns-in_err-entries-clause-failed : goal.returns-in_err-entries-clause-failed
+returns-in_err-entries-clause-failed g t c =
+    let p = err_from_is_err_and c.from_residual.result c.from_residual.ensures.1 in
+    rw (p.1, p.2) c.in_err-entries.ensures.calls
+
+pub returns-in_err-entries-clause-calls : goal.returns-in_err-entries-clause-calls
+returns-in_err-entries-clause-calls g t c =
+    let p = err_from_is_err_and c.from_residual.result c.from_residual.ensures.1 in
+    rw (p.1, p.2) (reaches_takes g.T.Pages c.args.t.now c.child_node.new.t c.in_err-entries.ensures.calls)

@@ -24,7 +24,7 @@ returns-in-Parted-clause-calls g c =
     let old = c.args.t.now in
     let new = c.grow_ways.new.t in
     let e = c.grow_ways.ensures in
-    takes_only G old new (G.step old).images _ refl (e.grown (G.step old).images refl).takes e.outside (g.met.T.Pages.trust old new e.outside) e.images e.home
+    takes_only G old new (G.step old).images _ refl (e.grown (G.step old).images refl).takes e.outside (g.met.T.Pages.trust old new _ e.outside) e.images e.home
 
 pub returns-in-Whole-clause-calls : goal.returns-in-Whole-clause-calls
 returns-in-Whole-clause-calls g c = reaches_takes g.T.Pages c.args.t.now c.args.t.now (reaches_still g.T.Pages c.args.t.now (g.met.T.Pages.still c.args.t.now))

@@ -7,17 +7,20 @@ use Rattle.fsd_formats.specs.declared.entry.Entry.{Entry}
 use Rattle.fsd_table.specs.Tree.{IsTree, table_of}
 use Rattle.name_page.specs.Lookups.{entry_with}
 use Rattle.name_page.specs.Looks.{OnlyWalks}
-use Rattle.name_page.proofs.LookLaws.{reaches_walks, spare_walks, walks_then, walks_edits, edits_then, agrees_now, agrees_before}
+use Rattle.name_page.proofs.LookLaws.{reaches_then, walks_edits, edits_then, agrees_now, agrees_before}
 use Rattle.name_btree.specs.declared.fault.TreeFault.TheVariants.{Pages}
-use Rattle.name_btree.specs.Fault.{FailsTree, FailsTable, IsNoTree}
+use Rattle.name_btree.specs.Fault.{outer_of, FailsTable}
 use Rattle.name_btree.proofs.CauseLaws.{fails_by_map, same_err}
 use Rattle.name_btree.proofs.SearchLaws.{shown_tree, shown_with, not_full}
 use Rattle.name_btree.specs.Draft.{drafted}
 use Rattle.name_btree.specs.Grown.{Inserts, BreaksNew}
 use Rattle.name_btree.specs.Map.{LeavesTree, HasLeft, without_all}
 use Rattle.name_btree.proofs.CommitLaws.{commit_reaches, commit_changes, commit_edits}
+use Rattle.name_btree.proofs.MapLaws.{promised_walks}
 use Rattle.name_btree.proofs.SpareLaws.{commit_free, inserted_table}
+use Rattle.name_btree.proofs.inserting.insert.Given as given
 use Rattle.name_btree.proofs.inserting.insert.Goals as goal
+use Rattle.name_btree.proofs.inserting.insert.Goals.{After-fault_of, After-fault_of-in-Err-insert_in}
 
 pub returns-clause-reaches : goal.returns-clause-reaches
 returns-clause-reaches g c =
@@ -72,7 +75,7 @@ returns-clause-inserted g c = λ trusted.
     let last = G.step s3 in
     let keys = c.args.gone.now.items in
     let d = c.remove_all.new.draft in
-    let t3 = law.trust s3 new c.commit.ensures.outside trusted in
+    let t3 = law.trust s3 new _ c.commit.ensures.outside trusted in
     let takes = c.in_default-insert_in.ensures.calls in
     let t2 = takes.edits.trust t3 in
     let calls = c.in_default-remove_all.ensures.calls in
@@ -98,172 +101,107 @@ returns-clause-calls g c =
     let s1 = c.spare.new.self in
     let s2 = c.remove_all.new.t in
     let sp = c.in_default.ensures in
-    let first : OnlyWalks G old s1 = spare_walks G old s1 8 sp.outside (law.trust old s1 sp.outside) sp.kept sp.stays sp.step in
-    let w2 : OnlyWalks G old s2 = walks_then G law.then old s1 s2 first (reaches_walks G s1 s2 c.in_default-remove_all.ensures.calls) in
+    let w2 = promised_walks G law.then law.trust old s1 s2 8 sp.outside sp.kept sp.stays sp.step c.in_default-remove_all.ensures.calls in
     let s3 = c.insert_in.new.t in
     let new = c.commit.new.t in
     let d = c.insert_in.new.draft in
     edits_then G law.then old s2 new (walks_edits G old s2 w2) (edits_then G law.then s2 s3 new c.in_default-insert_in.ensures.calls.edits
-    (commit_edits G s3 new d.freed.items d.sheets.items c.commit.ensures.outside (law.trust s3 new c.commit.ensures.outside) c.commit.ensures.step c.commit.ensures.images))
+    (commit_edits G s3 new d.freed.items d.sheets.items c.commit.ensures.outside (law.trust s3 new _ c.commit.ensures.outside) c.commit.ensures.step c.commit.ensures.images))
+
+-- the pages are walked, from the promise to the search for the fault
+walked_removing : (g : given.Over) (c : After-fault_of g) → OnlyWalks g.T.Pages (outer_of c.fault_of.result) c.args.t.now c.fault_of.new.t
+walked_removing g c =
+    let law = g.met.T.Pages in
+    let sp = c.in_default.ensures in
+    c.fault_of.ensures.calls c.args.t.now
+    (promised_walks g.T.Pages law.then law.trust c.args.t.now c.spare.new.self c.remove_all.new.t 8 sp.outside sp.kept sp.stays sp.step c.in-Err-remove_all.ensures.calls)
+
+fails_removing : (g : given.Over) (c : After-fault_of g) → FailsTable g.T.Pages c.fault_of.new.t c.fault_of.result
+fails_removing g c = c.fault_of.ensures.cause (shown_tree g.T.Pages c.remove_all.new.t c.in-Err-remove_all.fault c.in-Err-remove_all.ensures.fault)
+
+pub returns-in-Err-remove_all-clause-calls : goal.returns-in-Err-remove_all-clause-calls
+returns-in-Err-remove_all-clause-calls g c = walks_edits g.T.Pages c.args.t.now c.fault_of.new.t (walked_removing g (goal.at.returns-in-Err-remove_all-clause-calls g c).After-fault_of)
+
+pub returns-in-Err-remove_all-clause-kept : goal.returns-in-Err-remove_all-clause-kept
+returns-in-Err-remove_all-clause-kept g c = walked_removing g (goal.at.returns-in-Err-remove_all-clause-kept g c).After-fault_of
 
 pub returns-in-Err-remove_all-clause-fault : goal.returns-in-Err-remove_all-clause-fault
-returns-in-Err-remove_all-clause-fault g c =
-    let G = g.T.Pages in
-    let law = g.met.T.Pages in
-    let old = c.args.t.now in
-    let s1 = c.spare.new.self in
-    let s2 = c.remove_all.new.t in
-    let sp = c.in_default.ensures in
-    let first : OnlyWalks G old s1 = spare_walks G old s1 8 sp.outside (law.trust old s1 sp.outside) sp.kept sp.stays sp.step in
-    let w2 : OnlyWalks G old s2 = walks_then G law.then old s1 s2 first (reaches_walks G s1 s2 c.in-Err-remove_all.ensures.calls) in
-    let fault = c.in-Err-remove_all.fault in
-    let s = G.step s2 in
-    let mine = fails_by_map (G.causes s1 s2) (G.causes old s2) s (λ pages page. IsNoTree pages) (λ pages page. IsNoTree pages) (λ r x. law.later old s1 s2 r sp.outside x) (λ images page is h. h) fault c.in-Err-remove_all.ensures.fault in
-    let fails : FailsTree G old s2 fault = shown_tree G (G.causes old s2) s2 fault mine in
-    let f = c.fault_of in
-    let new = f.new.t in
-    inl (f.ensures.cause old w2.outside fails)
+returns-in-Err-remove_all-clause-fault g c = inl (fails_removing g (goal.at.returns-in-Err-remove_all-clause-fault g c).After-fault_of)
 
 pub returns-in-Err-remove_all-clause-full : goal.returns-in-Err-remove_all-clause-full
 returns-in-Err-remove_all-clause-full g c =
     let G = g.T.Pages in
-    let law = g.met.T.Pages in
     let old = c.args.t.now in
-    let s1 = c.spare.new.self in
-    let s2 = c.remove_all.new.t in
     let sp = c.in_default.ensures in
-    let first : OnlyWalks G old s1 = spare_walks G old s1 8 sp.outside (law.trust old s1 sp.outside) sp.kept sp.stays sp.step in
-    let w2 : OnlyWalks G old s2 = walks_then G law.then old s1 s2 first (reaches_walks G s1 s2 c.in-Err-remove_all.ensures.calls) in
-    let fault = c.in-Err-remove_all.fault in
-    let s = G.step s2 in
-    let mine = fails_by_map (G.causes s1 s2) (G.causes old s2) s (λ pages page. IsNoTree pages) (λ pages page. IsNoTree pages) (λ r x. law.later old s1 s2 r sp.outside x) (λ images page is h. h) fault c.in-Err-remove_all.ensures.fault in
-    let fails : FailsTree G old s2 fault = shown_tree G (G.causes old s2) s2 fault mine in
     let f = c.fault_of in
     let new = f.new.t in
-    let table = f.ensures.cause old w2.outside fails in
-    (λ is. absurd (not_full G law.outer old new (free_count (G.step old)) (subst (FailsTable G old new) (same_err f.result (Pages (NameTableFull (free_count (G.step old)))) is) table)), λ few. absurd (let h = c.in_default.is in let no = sp.full.1 few in cc))
+    let table = fails_removing g (goal.at.returns-in-Err-remove_all-clause-full g c).After-fault_of in
+    (λ is. absurd (not_full G new (free_count (G.step old)) (subst (FailsTable G new) (same_err f.result (Pages (NameTableFull (free_count (G.step old)))) is) table)), λ few. absurd (let h = c.in_default.is in let no = sp.full.1 few in cc))
 
-pub returns-in-Err-insert_in-clause-kept : goal.returns-in-Err-insert_in-clause-kept
-returns-in-Err-insert_in-clause-kept g c =
+walked_inserting : (g : given.Over) (c : After-fault_of-in-Err-insert_in g) → OnlyWalks g.T.Pages (outer_of c.fault_of-in-Err-insert_in.result) c.args.t.now c.fault_of-in-Err-insert_in.new.t
+walked_inserting g c =
     let G = g.T.Pages in
     let law = g.met.T.Pages in
     let old = c.args.t.now in
     let s1 = c.spare.new.self in
     let s2 = c.remove_all.new.t in
-    let sp = c.in_default.ensures in
-    let first : OnlyWalks G old s1 = spare_walks G old s1 8 sp.outside (law.trust old s1 sp.outside) sp.kept sp.stays sp.step in
-    let w2 : OnlyWalks G old s2 = walks_then G law.then old s1 s2 first (reaches_walks G s1 s2 c.in_default-remove_all.ensures.calls) in
     let s3 = c.insert_in.new.t in
+    let sp = c.in_default.ensures in
+    c.fault_of-in-Err-insert_in.ensures.calls old
+    (promised_walks G law.then law.trust old s1 s3 8 sp.outside sp.kept sp.stays sp.step (reaches_then G law.then s1 s2 s3 c.in_default-remove_all.ensures.calls c.in-Err-insert_in.ensures.failed))
+
+fails_inserting : (g : given.Over) (c : After-fault_of-in-Err-insert_in g) → FailsTable g.T.Pages c.fault_of-in-Err-insert_in.new.t c.fault_of-in-Err-insert_in.result
+fails_inserting g c =
+    let G = g.T.Pages in
+    let law = g.met.T.Pages in
+    let old = c.args.t.now in
+    let s1 = c.spare.new.self in
+    let s2 = c.remove_all.new.t in
+    let s3 = c.insert_in.new.t in
+    let sp = c.in_default.ensures in
     let calls = c.in-Err-insert_in.ensures.failed in
-    let w3 : OnlyWalks G old s3 = walks_then G law.then old s2 s3 w2 (reaches_walks G s2 s3 calls) in
+    let w = promised_walks G law.then law.trust old s1 s3 8 sp.outside sp.kept sp.stays sp.step (reaches_then G law.then s1 s2 s3 c.in_default-remove_all.ensures.calls calls) in
     let fault = c.in-Err-insert_in.fault in
     let s = G.step s3 in
     let e = c.args.entry.now in
     let keys = c.args.gone.now.items in
     let d = c.remove_all.new.draft in
     let Q : List Entry → Type 0 = λ (table : List Entry). entry_with e.key (without_all keys table) ≡ None in
-    let mine = fails_by_map (G.causes s2 s3) (G.causes old s3) s (λ pages. BreaksNew e (drafted d.sheets.items pages)) (λ images page. (height : ℕ) → IsTree images height → Q (table_of images height) → ⊥) (λ r x. law.later old s2 s3 r w2.outside x)
+    let mine = fails_by_map s (λ pages. BreaksNew e (drafted d.sheets.items pages)) (λ images page. (height : ℕ) → IsTree images height → Q (table_of images height) → ⊥)
     (λ images page agrees h height tree none.
     let before = agrees_before (G.step s2) s images calls.looks agrees in
     let left0 = c.in_default-remove_all.ensures.left images before height tree in
     let left = subst (λ (ks : List Key). HasLeft images d ks height) c.as_slice.ensures.value left0 in
     h left.height_after left.tree (ap (entry_with e.key) left.table ∙ none)) fault c.in-Err-insert_in.ensures.fault in
-    let fails : FailsTree G old s3 fault = shown_with G (G.causes old s3) s3 Q fault mine
-    (λ t height tree. let now = subst (λ (p : List (List ℕ)). IsTree p height) (w3.stays t) tree in ap (λ (p : List (List ℕ)). entry_with e.key (without_all keys (table_of p height))) (w3.stays t) ∙ c.requires.new (w3.trust t) height now) in
-    let f = c.fault_of-in-Err-insert_in in
-    let new = f.new.t in
-    walks_then G law.then old s3 new w3 f.ensures.calls
+    c.fault_of-in-Err-insert_in.ensures.cause (shown_with G s3 Q fault mine
+    (λ t height tree. let now = subst (λ (p : List (List ℕ)). IsTree p height) (w.stays t) tree in ap (λ (p : List (List ℕ)). entry_with e.key (without_all keys (table_of p height))) (w.stays t) ∙ c.requires.new (w.trust t) height now))
 
 pub returns-in-Err-insert_in-clause-calls : goal.returns-in-Err-insert_in-clause-calls
 returns-in-Err-insert_in-clause-calls g c =
-    let G = g.T.Pages in
-    let law = g.met.T.Pages in
-    let old = c.args.t.now in
-    let s1 = c.spare.new.self in
-    let s2 = c.remove_all.new.t in
-    let sp = c.in_default.ensures in
-    let first : OnlyWalks G old s1 = spare_walks G old s1 8 sp.outside (law.trust old s1 sp.outside) sp.kept sp.stays sp.step in
-    let w2 : OnlyWalks G old s2 = walks_then G law.then old s1 s2 first (reaches_walks G s1 s2 c.in_default-remove_all.ensures.calls) in
-    let s3 = c.insert_in.new.t in
-    let calls = c.in-Err-insert_in.ensures.failed in
-    let w3 : OnlyWalks G old s3 = walks_then G law.then old s2 s3 w2 (reaches_walks G s2 s3 calls) in
-    let fault = c.in-Err-insert_in.fault in
-    let s = G.step s3 in
-    let e = c.args.entry.now in
-    let keys = c.args.gone.now.items in
-    let d = c.remove_all.new.draft in
-    let Q : List Entry → Type 0 = λ (table : List Entry). entry_with e.key (without_all keys table) ≡ None in
-    let mine = fails_by_map (G.causes s2 s3) (G.causes old s3) s (λ pages. BreaksNew e (drafted d.sheets.items pages)) (λ images page. (height : ℕ) → IsTree images height → Q (table_of images height) → ⊥) (λ r x. law.later old s2 s3 r w2.outside x)
-    (λ images page agrees h height tree none.
-    let before = agrees_before (G.step s2) s images calls.looks agrees in
-    let left0 = c.in_default-remove_all.ensures.left images before height tree in
-    let left = subst (λ (ks : List Key). HasLeft images d ks height) c.as_slice.ensures.value left0 in
-    h left.height_after left.tree (ap (entry_with e.key) left.table ∙ none)) fault c.in-Err-insert_in.ensures.fault in
-    let fails : FailsTree G old s3 fault = shown_with G (G.causes old s3) s3 Q fault mine
-    (λ t height tree. let now = subst (λ (p : List (List ℕ)). IsTree p height) (w3.stays t) tree in ap (λ (p : List (List ℕ)). entry_with e.key (without_all keys (table_of p height))) (w3.stays t) ∙ c.requires.new (w3.trust t) height now) in
-    let f = c.fault_of-in-Err-insert_in in
-    let new = f.new.t in
-    walks_edits G old new (walks_then G law.then old s3 new w3 f.ensures.calls)
+    walks_edits g.T.Pages c.args.t.now c.fault_of-in-Err-insert_in.new.t (walked_inserting g (goal.at.returns-in-Err-insert_in-clause-calls g c).After-fault_of-in-Err-insert_in)
+
+pub returns-in-Err-insert_in-clause-kept : goal.returns-in-Err-insert_in-clause-kept
+returns-in-Err-insert_in-clause-kept g c = walked_inserting g (goal.at.returns-in-Err-insert_in-clause-kept g c).After-fault_of-in-Err-insert_in
+
+pub returns-in-Err-insert_in-clause-changes : goal.returns-in-Err-insert_in-clause-changes
+returns-in-Err-insert_in-clause-changes g c =
+    let w = walked_inserting g (goal.at.returns-in-Err-insert_in-clause-changes g c).After-fault_of-in-Err-insert_in in
+    omega (arith, ap length w.changed, w.most_changed)
+
+pub returns-in-Err-insert_in-clause-taken : goal.returns-in-Err-insert_in-clause-taken
+returns-in-Err-insert_in-clause-taken g c =
+    let w = walked_inserting g (goal.at.returns-in-Err-insert_in-clause-taken g c).After-fault_of-in-Err-insert_in in
+    omega (arith, ap (count_by (λ spare. spare)) w.spares)
 
 pub returns-in-Err-insert_in-clause-fault : goal.returns-in-Err-insert_in-clause-fault
-returns-in-Err-insert_in-clause-fault g c =
-    let G = g.T.Pages in
-    let law = g.met.T.Pages in
-    let old = c.args.t.now in
-    let s1 = c.spare.new.self in
-    let s2 = c.remove_all.new.t in
-    let sp = c.in_default.ensures in
-    let first : OnlyWalks G old s1 = spare_walks G old s1 8 sp.outside (law.trust old s1 sp.outside) sp.kept sp.stays sp.step in
-    let w2 : OnlyWalks G old s2 = walks_then G law.then old s1 s2 first (reaches_walks G s1 s2 c.in_default-remove_all.ensures.calls) in
-    let s3 = c.insert_in.new.t in
-    let calls = c.in-Err-insert_in.ensures.failed in
-    let w3 : OnlyWalks G old s3 = walks_then G law.then old s2 s3 w2 (reaches_walks G s2 s3 calls) in
-    let fault = c.in-Err-insert_in.fault in
-    let s = G.step s3 in
-    let e = c.args.entry.now in
-    let keys = c.args.gone.now.items in
-    let d = c.remove_all.new.draft in
-    let Q : List Entry → Type 0 = λ (table : List Entry). entry_with e.key (without_all keys table) ≡ None in
-    let mine = fails_by_map (G.causes s2 s3) (G.causes old s3) s (λ pages. BreaksNew e (drafted d.sheets.items pages)) (λ images page. (height : ℕ) → IsTree images height → Q (table_of images height) → ⊥) (λ r x. law.later old s2 s3 r w2.outside x)
-    (λ images page agrees h height tree none.
-    let before = agrees_before (G.step s2) s images calls.looks agrees in
-    let left0 = c.in_default-remove_all.ensures.left images before height tree in
-    let left = subst (λ (ks : List Key). HasLeft images d ks height) c.as_slice.ensures.value left0 in
-    h left.height_after left.tree (ap (entry_with e.key) left.table ∙ none)) fault c.in-Err-insert_in.ensures.fault in
-    let fails : FailsTree G old s3 fault = shown_with G (G.causes old s3) s3 Q fault mine
-    (λ t height tree. let now = subst (λ (p : List (List ℕ)). IsTree p height) (w3.stays t) tree in ap (λ (p : List (List ℕ)). entry_with e.key (without_all keys (table_of p height))) (w3.stays t) ∙ c.requires.new (w3.trust t) height now) in
-    let f = c.fault_of-in-Err-insert_in in
-    let new = f.new.t in
-    inl (f.ensures.cause old w3.outside fails)
+returns-in-Err-insert_in-clause-fault g c = inl (fails_inserting g (goal.at.returns-in-Err-insert_in-clause-fault g c).After-fault_of-in-Err-insert_in)
 
 pub returns-in-Err-insert_in-clause-full : goal.returns-in-Err-insert_in-clause-full
 returns-in-Err-insert_in-clause-full g c =
     let G = g.T.Pages in
-    let law = g.met.T.Pages in
     let old = c.args.t.now in
-    let s1 = c.spare.new.self in
-    let s2 = c.remove_all.new.t in
     let sp = c.in_default.ensures in
-    let first : OnlyWalks G old s1 = spare_walks G old s1 8 sp.outside (law.trust old s1 sp.outside) sp.kept sp.stays sp.step in
-    let w2 : OnlyWalks G old s2 = walks_then G law.then old s1 s2 first (reaches_walks G s1 s2 c.in_default-remove_all.ensures.calls) in
-    let s3 = c.insert_in.new.t in
-    let calls = c.in-Err-insert_in.ensures.failed in
-    let w3 : OnlyWalks G old s3 = walks_then G law.then old s2 s3 w2 (reaches_walks G s2 s3 calls) in
-    let fault = c.in-Err-insert_in.fault in
-    let s = G.step s3 in
-    let e = c.args.entry.now in
-    let keys = c.args.gone.now.items in
-    let d = c.remove_all.new.draft in
-    let Q : List Entry → Type 0 = λ (table : List Entry). entry_with e.key (without_all keys table) ≡ None in
-    let mine = fails_by_map (G.causes s2 s3) (G.causes old s3) s (λ pages. BreaksNew e (drafted d.sheets.items pages)) (λ images page. (height : ℕ) → IsTree images height → Q (table_of images height) → ⊥) (λ r x. law.later old s2 s3 r w2.outside x)
-    (λ images page agrees h height tree none.
-    let before = agrees_before (G.step s2) s images calls.looks agrees in
-    let left0 = c.in_default-remove_all.ensures.left images before height tree in
-    let left = subst (λ (ks : List Key). HasLeft images d ks height) c.as_slice.ensures.value left0 in
-    h left.height_after left.tree (ap (entry_with e.key) left.table ∙ none)) fault c.in-Err-insert_in.ensures.fault in
-    let fails : FailsTree G old s3 fault = shown_with G (G.causes old s3) s3 Q fault mine
-    (λ t height tree. let now = subst (λ (p : List (List ℕ)). IsTree p height) (w3.stays t) tree in ap (λ (p : List (List ℕ)). entry_with e.key (without_all keys (table_of p height))) (w3.stays t) ∙ c.requires.new (w3.trust t) height now) in
     let f = c.fault_of-in-Err-insert_in in
     let new = f.new.t in
-    let table = f.ensures.cause old w3.outside fails in
-    (λ is. absurd (not_full G law.outer old new (free_count (G.step old)) (subst (FailsTable G old new) (same_err f.result (Pages (NameTableFull (free_count (G.step old)))) is) table)), λ few. absurd (let h = c.in_default.is in let no = sp.full.1 few in cc))
+    let table = fails_inserting g (goal.at.returns-in-Err-insert_in-clause-full g c).After-fault_of-in-Err-insert_in in
+    (λ is. absurd (not_full G new (free_count (G.step old)) (subst (FailsTable G new) (same_err f.result (Pages (NameTableFull (free_count (G.step old)))) is) table)), λ few. absurd (let h = c.in_default.is in let no = sp.full.1 few in cc))

@@ -17,7 +17,7 @@ pub grow_leaf-requires-clause-entries : goal.grow_leaf-requires-clause-entries
 grow_leaf-requires-clause-entries g c =
     let pages = drafted c.args.draft.now.sheets.items (g.T.Pages.step c.args.t.now).images in
     let none = absent c.entry_in.result (sym c.is_some.ensures ∙ c.if-is_some.false) in
-    with_fits_two pages c.args.child.now.page c.args.entry.now c.args.entries.now c.entries_with-list.result.items (c.requires.leaf (g.T.Pages.step c.args.t.now).images (agrees_now (g.T.Pages.step c.args.t.now))) c.entries_with-list.ensures.entries c.requires.entry (sym c.entry_in.ensures ∙ none)
+    with_fits_two pages c.args.child.now.page c.args.entry.now c.args.entries.now c.entries_with-list.result.items (c.requires.leaf (g.T.Pages.step c.args.t.now).images (agrees_now (g.T.Pages.step c.args.t.now))) c.entries_with-list.ensures.entries c.requires.entry (sym c.entry_in.ensures.with ∙ none)
 
 pub returns-clause-grows : goal.returns-clause-grows
 returns-clause-grows g c = λ pages agrees.
@@ -30,7 +30,7 @@ returns-clause-calls g c =
     let old = c.args.t.now in
     let new = c.grow_leaf.new.t in
     let e = c.grow_leaf.ensures in
-    takes_only G old new (G.step old).images _ refl (e.grown (G.step old).images refl).takes e.outside (g.met.T.Pages.trust old new e.outside) e.images e.home
+    takes_only G old new (G.step old).images _ refl (e.grown (G.step old).images refl).takes e.outside (g.met.T.Pages.trust old new _ e.outside) e.images e.home
 
 pub returns-then-is_some-clause-calls : goal.returns-then-is_some-clause-calls
 returns-then-is_some-clause-calls g c = reaches_takes g.T.Pages c.args.t.now c.args.t.now (reaches_still g.T.Pages c.args.t.now (g.met.T.Pages.still c.args.t.now))

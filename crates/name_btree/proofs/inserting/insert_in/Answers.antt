@@ -17,9 +17,8 @@ returns-in_err-insert_below-clause-fault g c =
     let new = c.insert_below.new.t in
     let sheets = c.args.draft.now.sheets.items in
     let e = c.args.entry.now in
-    let Outer = g.T.Pages.causes c.args.t.now new in
     let p = err_from_is_err_and c.from_residual.result c.from_residual.ensures.1 in
-    rw (p.1, p.2) (fails_by_map Outer Outer (g.T.Pages.step new) (λ pages. BreaksGrowth e (drafted sheets pages) 5 c.top.result) (λ pages. BreaksNew e (drafted sheets pages)) (λ r x. x)
+    rw (p.1, p.2) (fails_by_map (g.T.Pages.step new) (λ pages. BreaksGrowth e (drafted sheets pages) 5 c.top.result) (λ pages. BreaksNew e (drafted sheets pages))
     (λ images page is h. growth_new e (drafted sheets images) c.top.result page c.top.ensures h) c.in_err-insert_below.field-0.0 c.in_err-insert_below.ensures.fault)
 
 pub returns-in-Whole-clause-inserted : goal.returns-in-Whole-clause-inserted
@@ -63,3 +62,13 @@ returns-in-Parted-clause-inserted g c = λ images agrees.
     let parted = subst (Grows e step last pages after 5 top) c.in-Parted.is at_top in
     let small : length pages ≤ 4096 = omega (arith, drafted_length old images, agrees.count, g.met.T.Pages.small c.insert_below.new.t) in
     inserts_parted e step last pages between c.put_ways.new.self.sheets.items c.in-Parted.left c.in-Parted.separator small parted (drafted_over last0 images agrees.count between c.put_ways.new.self.sheets.items 0 _ c.put_ways.ensures.sheets)
+
+pub returns-in_err-insert_below-clause-calls : goal.returns-in_err-insert_below-clause-calls
+returns-in_err-insert_below-clause-calls g c =
+    let p = err_from_is_err_and c.from_residual.result c.from_residual.ensures.1 in
+    rw (p.1, p.2) c.in_err-insert_below.ensures.calls
+
+pub returns-in_err-insert_below-clause-failed : goal.returns-in_err-insert_below-clause-failed
+returns-in_err-insert_below-clause-failed g c =
+    let p = err_from_is_err_and c.from_residual.result c.from_residual.ensures.1 in
+    rw (p.1, p.2) c.in_err-insert_below.ensures.failed

@@ -26,7 +26,9 @@ loop-key-preserved g c =
     (cleared_more g.T.Pages g.met.T.Pages.then c.args.t.now c.loop-key.t c.remove_in.new.t c.loop-key.draft c.remove_in.new.draft (take i keys) key i c.loop-key.invariant e.calls e.reaches e.draft e.sheets e.freed e.removed)
 
 pub returns-in_err-remove_in-clause-calls : goal.returns-in_err-remove_in-clause-calls
-returns-in_err-remove_in-clause-calls g c = reaches_then g.T.Pages g.met.T.Pages.then c.args.t.now c.loop-key.t c.remove_in.new.t c.loop-key.invariant.calls c.in_err-remove_in.ensures.calls
+returns-in_err-remove_in-clause-calls g c =
+    let p = err_from_is_err_and c.from_residual.result c.from_residual.ensures.1 in
+    rw (p.1, p.2) (reaches_then g.T.Pages g.met.T.Pages.then c.args.t.now c.loop-key.t c.remove_in.new.t c.loop-key.invariant.calls c.in_err-remove_in.ensures.calls)
 
 pub returns-in_err-remove_in-clause-fault : goal.returns-in_err-remove_in-clause-fault
 returns-in_err-remove_in-clause-fault g c =
@@ -36,7 +38,7 @@ returns-in_err-remove_in-clause-fault g c =
     let d = c.loop-key.draft in
     let i = c.loop-key.key-index in
     let p = err_from_is_err_and c.from_residual.result c.from_residual.ensures.1 in
-    rw (p.1, p.2) (fails_by_map (G.causes now new) (G.causes c.args.t.now new) (G.step new) (λ pages page. IsNoTree (drafted d.sheets.items pages)) (λ pages page. IsNoTree pages) (λ r x. g.met.T.Pages.later c.args.t.now now new r c.loop-key.invariant.calls.outside x)
+    rw (p.1, p.2) (fails_by_map (G.step new) (λ pages page. IsNoTree (drafted d.sheets.items pages)) (λ pages page. IsNoTree pages)
     (λ images page agrees h. left_tree images d (take i c.args.gone.now) (c.loop-key.invariant.left images (agrees_before (G.step now) (G.step new) images c.in_err-remove_in.ensures.calls.looks agrees)) h) c.in_err-remove_in.field-0.0 c.in_err-remove_in.ensures.fault)
 
 pub returns-clause-left : goal.returns-clause-left

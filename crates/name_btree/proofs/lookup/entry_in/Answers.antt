@@ -4,8 +4,8 @@ use Rattle.fsd_bytes.specs.Keys.{same_key}
 use Rattle.name_page.proofs.ListLaws.{find_more}
 use Rattle.name_btree.proofs.lookup.entry_in.Goals as goal
 
-pub returns-then-is_eq : goal.returns-then-is_eq
-returns-then-is_eq c =
+pub returns-then-is_eq-clause-with : goal.returns-then-is_eq-clause-with
+returns-then-is_eq-clause-with c =
     let key = c.args.key.now in
     let entries = c.args.entries.now in
     let e = c.compare.ensures.0 in

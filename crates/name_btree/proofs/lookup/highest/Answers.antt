@@ -1,13 +1,20 @@
-use Rattle.std.proofs.Common.{◌∙◌, sym, ap, subst, List, ℕ}
+use Rattle.std.proofs.Common.{◌≡◌, ◌∙◌, sym, ap, subst, List, ℕ, Option}
+use Rattle.std.specs.Prelude.{IfSome}
+use Rattle.std.proofs.lemmas.Option.{IfSome_then}
+use Rattle.fsd_formats.specs.declared.entry.Entry.{Entry}
+use Rattle.fsd_formats.specs.NamePage.{FitsEntry}
+use Rattle.name_btree.specs.declared.lookup.FoundEntry.{FoundEntry}
+use Rattle.name_btree.specs.Lookup.{IsLedBeside, IsLedTo, StandsIn}
+use Rattle.name_btree.proofs.LookupLaws.{last_contains, stands_in, good_entry, led_to, led_previous, if_named, named_entry, one_name}
 use Rattle.fsd_table.specs.declared.child.Child.{Child}
 use Rattle.name_page.specs.declared.cut.Cut.TheVariants.{Named}
 use Rattle.name_page.specs.Cut.{is_before}
 use Rattle.name_btree.specs.declared.descent.Neighbour.{Neighbour}
-use Rattle.name_page.specs.Looks.{OnlyReaches, Shows}
+use Rattle.name_page.specs.Looks.{Shows}
 use Rattle.name_page.proofs.LookLaws.{reaches_then, shows_trusted, agrees_before, agrees_now}
 use Rattle.name_btree.specs.Fault.{HasCause, BreaksBeside, BarsBeside}
 use Rattle.name_btree.specs.Descent.{IsPlace, EndsWith}
-use Rattle.name_page.specs.Lookups.{last_that}
+use Rattle.name_page.specs.Lookups.{last_that, same_name}
 use Rattle.name_btree.proofs.HighestLaws.{highest_in_leaf, highest_at_start, highest_in_previous}
 use Rattle.std.proofs.lemmas.Result.{err_from_is_err_and}
 use Rattle.name_btree.proofs.VisitedLaws.{top_breaks, previous_breaks}
@@ -23,8 +30,8 @@ returns-in-Some-clause-found g c = λ trusted height t.
     let by_name : List ℕ → Type 0 = λ (n : List ℕ). IsPlace (is_before (Named n)) pages c.top.result found in
     let by_top : Child → Type 0 = λ (d : Child). IsPlace (is_before (Named name)) pages d found in
     let place = subst by_top c.top.ensures (subst by_name c.copied.ensures seen) in
-    let last = ap (λ (n : List ℕ). last_that (λ x. is_before (Named n) x.key) found.entries) (sym c.copied.ensures) ∙ sym c.last_before.ensures ∙ c.in-Some.is in
-    c.named.ensures ∙ highest_in_leaf name pages found c.in-Some.entry place last height t
+    let last = ap (λ (n : List ℕ). last_that (λ x. is_before (Named n) x.key) found.entries) (sym c.copied.ensures) ∙ sym c.last_before.ensures.last ∙ c.in-Some.is in
+    named_entry (record { entry = c.in-Some.entry; page = c.in_ok-found.found.page }) (same_name c.in-Some.entry.key.name name) c.named.result c.named.ensures ∙ highest_in_leaf name pages found c.in-Some.entry place last height t
 
 pub returns-in_ok-last_below-in-Some-previous-clause-found : goal.returns-in_ok-last_below-in-Some-previous-clause-found
 returns-in_ok-last_below-in-Some-previous-clause-found g c = λ trusted height t.
@@ -37,14 +44,14 @@ returns-in_ok-last_below-in-Some-previous-clause-found g c = λ trusted height t
     let by_name : List ℕ → Type 0 = λ (n : List ℕ). IsPlace (is_before (Named n)) pages c.top.result found in
     let by_top : Child → Type 0 = λ (d : Child). IsPlace (is_before (Named name)) pages d found in
     let place = subst by_top c.top.ensures (subst by_name c.copied.ensures seen) in
-    let last = ap (λ (n : List ℕ). last_that (λ x. is_before (Named n) x.key) found.entries) (sym c.copied.ensures) ∙ sym c.last_before.ensures ∙ c.in_default.is in
-    let e = c.in_ok-last_below-in-Some-previous.field-0 in
+    let last = ap (λ (n : List ℕ). last_that (λ x. is_before (Named n) x.key) found.entries) (sym c.copied.ensures) ∙ sym c.last_before.ensures.last ∙ c.in_default.is in
+    let e = c.in_ok-last_below-in-Some-previous.field-0.entry in
     let new = c.last_below.new.t in
-    let both : OnlyReaches g.T.Pages c.args.t.now new = reaches_then g.T.Pages g.met.T.Pages.then c.args.t.now c.leaf_below.new.t new c.in_ok-found.ensures.calls second.calls in
+    let both = reaches_then g.T.Pages g.met.T.Pages.then c.args.t.now c.leaf_below.new.t new c.in_ok-found.ensures.calls second.calls in
     let B : Neighbour → Type 0 = λ (n : Neighbour). Shows (g.T.Pages.step new) (λ x. EndsWith x n.child e) in
     let here : B c.in-Some-previous.previous = subst B c.in-Some-previous.previous-is second.last in
     let end = shows_trusted g.T.Pages (λ x. EndsWith x c.in-Some-previous.previous.child e) c.args.t.now new both here trusted in
-    c.named-in-Some-previous.ensures ∙ highest_in_previous name pages found c.in-Some-previous.previous e c.in-Some-previous.is place end last height t
+    named_entry c.in_ok-last_below-in-Some-previous.field-0 (same_name e.key.name name) c.named-in-Some-previous.result c.named-in-Some-previous.ensures ∙ highest_in_previous name pages found c.in-Some-previous.previous e c.in-Some-previous.is place end last height t
 
 pub returns-in-None-clause-found : goal.returns-in-None-clause-found
 returns-in-None-clause-found g c = λ trusted height t.
@@ -56,14 +63,72 @@ returns-in-None-clause-found g c = λ trusted height t.
     let by_name : List ℕ → Type 0 = λ (n : List ℕ). IsPlace (is_before (Named n)) pages c.top.result found in
     let by_top : Child → Type 0 = λ (d : Child). IsPlace (is_before (Named name)) pages d found in
     let place = subst by_top c.top.ensures (subst by_name c.copied.ensures seen) in
-    let last = ap (λ (n : List ℕ). last_that (λ x. is_before (Named n) x.key) found.entries) (sym c.copied.ensures) ∙ sym c.last_before.ensures ∙ c.in_default.is in
+    let last = ap (λ (n : List ℕ). last_that (λ x. is_before (Named n) x.key) found.entries) (sym c.copied.ensures) ∙ sym c.last_before.ensures.last ∙ c.in_default.is in
     highest_at_start name pages found c.in-None.is place last height t
+
+pub returns-in-Some-clause-there : goal.returns-in-Some-clause-there
+returns-in-Some-clause-there g c =
+    let s = g.T.Pages.step c.leaf_below.new.t in
+    let e = c.in_ok-found.ensures in
+    let leaf = c.in_ok-found.found in
+    let f : FoundEntry = record { entry = c.in-Some.entry; page = leaf.page } in
+    if_named (StandsIn s) f (same_name f.entry.key.name c.args.name.now) c.named.result c.named.ensures (λ same. stands_in (g.T.Pages.step c.args.t.now) s leaf.page leaf.entries c.in-Some.entry e.reached e.used e.calls.looks.spares e.leaf
+    (last_contains (λ x. is_before (Named c.copied.result) x.key) leaf.entries c.in-Some.entry (sym c.last_before.ensures.last ∙ c.in-Some.is)))
+
+pub returns-in-Some-clause-way : goal.returns-in-Some-clause-way
+returns-in-Some-clause-way g c =
+    let s = g.T.Pages.step c.leaf_below.new.t in
+    let f : FoundEntry = record { entry = c.in-Some.entry; page = c.in_ok-found.found.page } in
+    if_named (IsLedTo s) f (same_name f.entry.key.name c.args.name.now) c.named.result c.named.ensures (λ same. led_to s c.top.result f c.top.ensures c.in_ok-found.ensures.way)
+
+pub returns-in-Some-clause-entry : goal.returns-in-Some-clause-entry
+returns-in-Some-clause-entry g c =
+    IfSome_then c.named.result (returns-in-Some-clause-there g c) (good_entry (g.T.Pages.step c.leaf_below.new.t))
+
+pub returns-in-Some-clause-fits : goal.returns-in-Some-clause-fits
+returns-in-Some-clause-fits g c =
+    let f : FoundEntry = record { entry = c.in-Some.entry; page = c.in_ok-found.found.page } in
+    if_named (λ x. FitsEntry x.entry) f (same_name f.entry.key.name c.args.name.now) c.named.result c.named.ensures (λ same. subst (λ (o : Option Entry). IfSome o FitsEntry) c.in-Some.is c.last_before.ensures.fits)
+
+pub returns-in-Some-clause-name : goal.returns-in-Some-clause-name
+returns-in-Some-clause-name g c =
+    let f : FoundEntry = record { entry = c.in-Some.entry; page = c.in_ok-found.found.page } in
+    if_named (λ x. x.entry.key.name ≡ c.args.name.now) f (same_name f.entry.key.name c.args.name.now) c.named.result c.named.ensures (one_name f.entry.key.name c.args.name.now)
+
+pub returns-in_ok-last_below-in-Some-previous-clause-there : goal.returns-in_ok-last_below-in-Some-previous-clause-there
+returns-in_ok-last_below-in-Some-previous-clause-there g c =
+    let f = c.in_ok-last_below-in-Some-previous.field-0 in
+    if_named (StandsIn (g.T.Pages.step c.last_below.new.t)) f (same_name f.entry.key.name c.args.name.now) c.named-in-Some-previous.result c.named-in-Some-previous.ensures (λ same. c.in_ok-last_below-in-Some-previous.ensures.there)
+
+pub returns-in_ok-last_below-in-Some-previous-clause-way : goal.returns-in_ok-last_below-in-Some-previous-clause-way
+returns-in_ok-last_below-in-Some-previous-clause-way g c =
+    let mid = g.T.Pages.step c.leaf_below.new.t in
+    let s = g.T.Pages.step c.last_below.new.t in
+    let f = c.in_ok-last_below-in-Some-previous.field-0 in
+    let second = c.in_ok-last_below-in-Some-previous.ensures in
+    let led = subst (λ (n : Neighbour). IsLedBeside s n f) c.in-Some-previous.previous-is second.way in
+    if_named (IsLedTo s) f (same_name f.entry.key.name c.args.name.now) c.named-in-Some-previous.result c.named-in-Some-previous.ensures
+    (λ same. led_previous mid s c.top.result c.in_ok-found.found c.top.ensures second.calls.looks c.in_ok-found.ensures.beside c.in-Some-previous.previous f led c.in-Some-previous.is)
+
+pub returns-in_ok-last_below-in-Some-previous-clause-entry : goal.returns-in_ok-last_below-in-Some-previous-clause-entry
+returns-in_ok-last_below-in-Some-previous-clause-entry g c =
+    IfSome_then c.named-in-Some-previous.result (returns-in_ok-last_below-in-Some-previous-clause-there g c) (good_entry (g.T.Pages.step c.last_below.new.t))
+
+pub returns-in_ok-last_below-in-Some-previous-clause-fits : goal.returns-in_ok-last_below-in-Some-previous-clause-fits
+returns-in_ok-last_below-in-Some-previous-clause-fits g c =
+    let f = c.in_ok-last_below-in-Some-previous.field-0 in
+    if_named (λ x. FitsEntry x.entry) f (same_name f.entry.key.name c.args.name.now) c.named-in-Some-previous.result c.named-in-Some-previous.ensures (λ same. c.in_ok-last_below-in-Some-previous.ensures.fits)
+
+pub returns-in_ok-last_below-in-Some-previous-clause-name : goal.returns-in_ok-last_below-in-Some-previous-clause-name
+returns-in_ok-last_below-in-Some-previous-clause-name g c =
+    let f = c.in_ok-last_below-in-Some-previous.field-0 in
+    if_named (λ x. x.entry.key.name ≡ c.args.name.now) f (same_name f.entry.key.name c.args.name.now) c.named-in-Some-previous.result c.named-in-Some-previous.ensures (one_name f.entry.key.name c.args.name.now)
 
 pub returns-in_err-found-clause-fault : goal.returns-in_err-found-clause-fault
 returns-in_err-found-clause-fault g c =
     let p = err_from_is_err_and c.from_residual.result c.from_residual.ensures.1 in
     let new = c.leaf_below.new.t in
-    rw (p.1, p.2) (top_breaks (g.T.Pages.causes c.args.t.now new) (g.T.Pages.step new) c.in_err-found.field-0.0 c.top.result c.top.ensures c.in_err-found.ensures.fault)
+    rw (p.1, p.2) (top_breaks (g.T.Pages.step new) c.in_err-found.field-0.0 c.top.result c.top.ensures c.in_err-found.ensures.fault)
 
 pub returns-in_err-last_below-in-Some-previous-clause-fault : goal.returns-in_err-last_below-in-Some-previous-clause-fault
 returns-in_err-last_below-in-Some-previous-clause-fault g c =
@@ -71,16 +136,22 @@ returns-in_err-last_below-in-Some-previous-clause-fault g c =
     let new = c.last_below.new.t in
     let s = g.T.Pages.step new in
     let fault = c.in_err-last_below-in-Some-previous.field-0.0 in
-    let Outer = g.T.Pages.causes mid new in
-    let P : Neighbour → Type 0 = λ (n : Neighbour). HasCause Outer s (BreaksBeside s.images n) (BarsBeside s n) fault in
+    let P : Neighbour → Type 0 = λ (n : Neighbour). HasCause s (BreaksBeside s.images n) (BarsBeside s n) fault in
     let h : P c.in-Some-previous.previous = subst P c.in-Some-previous.previous-is c.in_err-last_below-in-Some-previous.ensures.fault in
     let beside = c.in_ok-found.ensures.beside s.images (agrees_before (g.T.Pages.step mid) s s.images c.in_err-last_below-in-Some-previous.ensures.calls.looks (agrees_now s)) in
     let p = err_from_is_err_and c.from_residual-in_err-last_below-in-Some-previous.result c.from_residual-in_err-last_below-in-Some-previous.ensures.1 in
-    rw (p.1, p.2) (previous_breaks Outer (g.T.Pages.causes c.args.t.now new) s c.top.result c.in_ok-found.found c.top.ensures beside
-    (λ r x. g.met.T.Pages.later c.args.t.now mid new r c.in_ok-found.ensures.calls.outside x) c.in-Some-previous.previous fault h c.in-Some-previous.is)
+    rw (p.1, p.2) (previous_breaks s c.top.result c.in_ok-found.found c.top.ensures beside
+    c.in-Some-previous.previous fault h c.in-Some-previous.is)
 
 pub returns-in_ok-last_below-in-Some-previous-clause-calls : goal.returns-in_ok-last_below-in-Some-previous-clause-calls
 returns-in_ok-last_below-in-Some-previous-clause-calls g c = reaches_then g.T.Pages g.met.T.Pages.then c.args.t.now c.leaf_below.new.t c.last_below.new.t c.in_ok-found.ensures.calls c.in_ok-last_below-in-Some-previous.ensures.calls
 
 pub returns-in_err-last_below-in-Some-previous-clause-calls : goal.returns-in_err-last_below-in-Some-previous-clause-calls
-returns-in_err-last_below-in-Some-previous-clause-calls g c = reaches_then g.T.Pages g.met.T.Pages.then c.args.t.now c.leaf_below.new.t c.last_below.new.t c.in_ok-found.ensures.calls c.in_err-last_below-in-Some-previous.ensures.calls
+returns-in_err-last_below-in-Some-previous-clause-calls g c =
+    let p = err_from_is_err_and c.from_residual-in_err-last_below-in-Some-previous.result c.from_residual-in_err-last_below-in-Some-previous.ensures.1 in
+    rw (p.1, p.2) (reaches_then g.T.Pages g.met.T.Pages.then c.args.t.now c.leaf_below.new.t c.last_below.new.t c.in_ok-found.ensures.calls c.in_err-last_below-in-Some-previous.ensures.calls)
+
+pub returns-in_err-found-clause-calls : goal.returns-in_err-found-clause-calls
+returns-in_err-found-clause-calls g c =
+    let p = err_from_is_err_and c.from_residual.result c.from_residual.ensures.1 in
+    rw (p.1, p.2) c.in_err-found.ensures.calls

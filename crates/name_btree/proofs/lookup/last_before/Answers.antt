@@ -3,8 +3,8 @@ use Rattle.name_page.specs.Cut.{is_before}
 use Rattle.name_btree.proofs.LastLaws.{last_more}
 use Rattle.name_btree.proofs.lookup.last_before.Goals as goal
 
-pub returns-then-is_before : goal.returns-then-is_before
-returns-then-is_before c =
+pub returns-then-is_before-clause-last : goal.returns-then-is_before-clause-last
+returns-then-is_before-clause-last c =
     let some : 0 < c.loop-i.i = omega arith in
     let e = c.get-entry.result in
     let stops : is_before c.args.cut.now e.key ≡ true = cc in

@@ -1,4 +1,5 @@
-use Rattle.std.proofs.Common.{◌≡◌, ◌<◌, length, arith}
+use Rattle.std.proofs.Common.{◌≡◌, ◌<◌, ◌-◌, length, arith}
+use Rattle.name_btree.proofs.LookupLaws.{contains_at, stands_in}
 use Rattle.name_btree.proofs.NextLaws.{ends, empty_is, leaf_has_entries}
 use Rattle.std.proofs.lemmas.Result.{err_from_is_err_and}
 use Rattle.name_btree.proofs.VisitedLaws.{root_above, neighbour_breaks}
@@ -15,9 +16,24 @@ pub returns-in_err-found-clause-fault : goal.returns-in_err-found-clause-fault
 returns-in_err-found-clause-fault g c =
     let p = err_from_is_err_and c.from_residual.result c.from_residual.ensures.1 in
     let new = c.leaf_below.new.t in
-    rw (p.1, p.2) (neighbour_breaks (g.T.Pages.causes c.args.t.now new) (g.T.Pages.step new) c.in_err-found.field-0.0 c.args.previous c.in_err-found.ensures.fault)
+    rw (p.1, p.2) (neighbour_breaks (g.T.Pages.step new) c.in_err-found.field-0.0 c.args.previous c.in_err-found.ensures.fault)
 
 pub returns-clause-last : goal.returns-clause-last
 returns-clause-last g c = λ pages is.
     let some : 0 < c.len-count.result = omega arith in
     ends pages c.args.previous.child c.in_ok-found.found c.len-count.result c.get.result (c.in_ok-found.ensures.place pages is) c.len-count.ensures.value some c.get.ensures.there
+
+pub returns-in_err-found-clause-calls : goal.returns-in_err-found-clause-calls
+returns-in_err-found-clause-calls g c =
+    let p = err_from_is_err_and c.from_residual.result c.from_residual.ensures.1 in
+    rw (p.1, p.2) c.in_err-found.ensures.calls
+
+pub returns-clause-there : goal.returns-clause-there
+returns-clause-there g c =
+    let e = c.in_ok-found.ensures in
+    let leaf = c.in_ok-found.found in
+    stands_in (g.T.Pages.step c.args.t.now) (g.T.Pages.step c.leaf_below.new.t) leaf.page leaf.entries c.get.result e.reached e.used e.calls.looks.spares e.leaf
+    (contains_at leaf.entries (c.len-count.result - 1) c.get.result c.get.ensures.there)
+
+pub returns-clause-way : goal.returns-clause-way
+returns-clause-way g c = λ pages is there. c.in_ok-found.ensures.way pages is there.1

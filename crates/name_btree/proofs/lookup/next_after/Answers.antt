@@ -1,10 +1,16 @@
-use Rattle.std.proofs.Common.{◌∙◌, sym, subst, List, ℕ}
+use Rattle.std.proofs.Common.{◌≡◌, ◌∙◌, sym, subst, true, not, List, ℕ, Option}
+use Rattle.std.specs.Prelude.{IfSome}
+use Rattle.fsd_formats.specs.declared.entry.Entry.{Entry}
+use Rattle.fsd_formats.specs.NamePage.{FitsEntry}
+use Rattle.fsd_table.specs.Pages.{not_below}
+use Rattle.name_btree.specs.Lookup.{BeginsBehind, IsLedBeside}
+use Rattle.name_btree.proofs.LookupLaws.{find_contains, stands_in, good_entry, led_to, led_next, later_in_leaf, later_in_next}
 use Rattle.std.specs.Option.{option_copied}
 use Rattle.fsd_table.specs.declared.child.Child.{Child}
 use Rattle.fsd_table.specs.Table.{top}
 use Rattle.name_page.specs.Cut.{is_before}
 use Rattle.name_btree.specs.declared.descent.Neighbour.{Neighbour}
-use Rattle.name_page.specs.Looks.{OnlyReaches, Shows}
+use Rattle.name_page.specs.Looks.{Shows}
 use Rattle.name_page.proofs.LookLaws.{reaches_then, shows_trusted, agrees_before, agrees_now}
 use Rattle.name_btree.specs.Fault.{HasCause, BreaksBeside, BarsBeside}
 use Rattle.name_btree.specs.Descent.{IsPlace, BeginsWith}
@@ -22,7 +28,7 @@ returns-in-Some-clause-found g c = λ trusted.
     let seen : Q pages = shows_trusted g.T.Pages Q c.args.t.now c.leaf_below.new.t c.in_ok-found.ensures.calls c.in_ok-found.ensures.place trusted in
     let P : Child → Type 0 = λ (d : Child). IsPlace (is_before cut) pages d found in
     let place : P top = subst P c.top.ensures seen in
-    next_in_leaf (option_copied c.args.after) cut pages found c.in-Some.entry c.cut_after-cut.ensures place (sym c.first_behind.ensures ∙ c.in-Some.is)
+    next_in_leaf (option_copied c.args.after) cut pages found c.in-Some.entry c.cut_after-cut.ensures place (sym c.first_behind.ensures.first ∙ c.in-Some.is)
 
 pub returns-in_ok-first_below-in-Some-next-clause-found : goal.returns-in_ok-first_below-in-Some-next-clause-found
 returns-in_ok-first_below-in-Some-next-clause-found g c = λ trusted.
@@ -34,13 +40,13 @@ returns-in_ok-first_below-in-Some-next-clause-found g c = λ trusted.
     let seen : Q pages = shows_trusted g.T.Pages Q c.args.t.now c.leaf_below.new.t c.in_ok-found.ensures.calls c.in_ok-found.ensures.place (second.calls.trust trusted) in
     let P : Child → Type 0 = λ (d : Child). IsPlace (is_before cut) pages d found in
     let place : P top = subst P c.top.ensures seen in
-    let e = c.in_ok-first_below-in-Some-next.field-0 in
+    let e = c.in_ok-first_below-in-Some-next.field-0.entry in
     let new = c.first_below.new.t in
-    let both : OnlyReaches g.T.Pages c.args.t.now new = reaches_then g.T.Pages g.met.T.Pages.then c.args.t.now c.leaf_below.new.t new c.in_ok-found.ensures.calls second.calls in
+    let both = reaches_then g.T.Pages g.met.T.Pages.then c.args.t.now c.leaf_below.new.t new c.in_ok-found.ensures.calls second.calls in
     let B : Neighbour → Type 0 = λ (n : Neighbour). Shows (g.T.Pages.step new) (λ x. BeginsWith x n.child e) in
     let here : B c.in-Some-next.next = subst B c.in-Some-next.next-is second.first in
     let begin = shows_trusted g.T.Pages (λ x. BeginsWith x c.in-Some-next.next.child e) c.args.t.now new both here trusted in
-    next_in_next (option_copied c.args.after) cut pages found c.in-Some-next.next e c.cut_after-cut.ensures c.in-Some-next.is place begin (sym c.first_behind.ensures ∙ c.in_default.is)
+    next_in_next (option_copied c.args.after) cut pages found c.in-Some-next.next e c.cut_after-cut.ensures c.in-Some-next.is place begin (sym c.first_behind.ensures.first ∙ c.in_default.is)
 
 pub returns-in-None-clause-found : goal.returns-in-None-clause-found
 returns-in-None-clause-found g c = λ trusted.
@@ -51,13 +57,55 @@ returns-in-None-clause-found g c = λ trusted.
     let seen : Q pages = shows_trusted g.T.Pages Q c.args.t.now c.leaf_below.new.t c.in_ok-found.ensures.calls c.in_ok-found.ensures.place trusted in
     let P : Child → Type 0 = λ (d : Child). IsPlace (is_before cut) pages d found in
     let place : P top = subst P c.top.ensures seen in
-    next_at_end (option_copied c.args.after) cut pages found c.cut_after-cut.ensures c.in-None.is place (sym c.first_behind.ensures ∙ c.in_default.is)
+    next_at_end (option_copied c.args.after) cut pages found c.cut_after-cut.ensures c.in-None.is place (sym c.first_behind.ensures.first ∙ c.in_default.is)
+
+pub returns-in-Some-clause-there : goal.returns-in-Some-clause-there
+returns-in-Some-clause-there g c =
+    let e = c.in_ok-found.ensures in
+    let leaf = c.in_ok-found.found in
+    let cut = c.cut_after-cut.result in
+    stands_in (g.T.Pages.step c.args.t.now) (g.T.Pages.step c.leaf_below.new.t) leaf.page leaf.entries c.in-Some.entry e.reached e.used e.calls.looks.spares e.leaf
+    (find_contains (λ x. not (is_before cut x.key)) leaf.entries c.in-Some.entry (sym c.first_behind.ensures.first ∙ c.in-Some.is))
+
+pub returns-in-Some-clause-way : goal.returns-in-Some-clause-way
+returns-in-Some-clause-way g c = led_to (g.T.Pages.step c.leaf_below.new.t) c.top.result (record { entry = c.in-Some.entry; page = c.in_ok-found.found.page }) c.top.ensures c.in_ok-found.ensures.way
+
+pub returns-in-Some-clause-entry : goal.returns-in-Some-clause-entry
+returns-in-Some-clause-entry g c = good_entry (g.T.Pages.step c.leaf_below.new.t) (record { entry = c.in-Some.entry; page = c.in_ok-found.found.page }) (returns-in-Some-clause-there g c)
+
+pub returns-in-Some-clause-fits : goal.returns-in-Some-clause-fits
+returns-in-Some-clause-fits g c = subst (λ (o : Option Entry). IfSome o FitsEntry) c.in-Some.is c.first_behind.ensures.fits
+
+pub returns-in-Some-clause-later : goal.returns-in-Some-clause-later
+returns-in-Some-clause-later g c =
+    later_in_leaf (option_copied c.args.after) c.cut_after-cut.result c.in_ok-found.found.entries c.in-Some.entry c.cut_after-cut.ensures (sym c.first_behind.ensures.first ∙ c.in-Some.is)
+
+pub returns-in_ok-first_below-in-Some-next-clause-way : goal.returns-in_ok-first_below-in-Some-next-clause-way
+returns-in_ok-first_below-in-Some-next-clause-way g c =
+    let mid = g.T.Pages.step c.leaf_below.new.t in
+    let s = g.T.Pages.step c.first_below.new.t in
+    let f = c.in_ok-first_below-in-Some-next.field-0 in
+    let second = c.in_ok-first_below-in-Some-next.ensures in
+    let led = subst (λ (n : Neighbour). IsLedBeside s n f) c.in-Some-next.next-is second.way in
+    led_next mid s c.top.result c.in_ok-found.found c.top.ensures second.calls.looks c.in_ok-found.ensures.beside c.in-Some-next.next f led c.in-Some-next.is
+
+pub returns-in_ok-first_below-in-Some-next-clause-entry : goal.returns-in_ok-first_below-in-Some-next-clause-entry
+returns-in_ok-first_below-in-Some-next-clause-entry g c = good_entry (g.T.Pages.step c.first_below.new.t) c.in_ok-first_below-in-Some-next.field-0 c.in_ok-first_below-in-Some-next.ensures.there
+
+pub returns-in_ok-first_below-in-Some-next-clause-later : goal.returns-in_ok-first_below-in-Some-next-clause-later
+returns-in_ok-first_below-in-Some-next-clause-later g c =
+    let cut = c.cut_after-cut.result in
+    let n : Neighbour = c.in-Some-next.next in
+    let f = c.in_ok-first_below-in-Some-next.field-0 in
+    let begins = subst (λ (o : Option Neighbour). IfSome o (BeginsBehind (is_before cut))) c.in-Some-next.is c.in_ok-found.ensures.next in
+    let least = subst (λ (m : Neighbour). not_below m.child.low f.entry.key ≡ true) c.in-Some-next.next-is c.in_ok-first_below-in-Some-next.ensures.least in
+    later_in_next (option_copied c.args.after) cut n f.entry c.cut_after-cut.ensures begins least
 
 pub returns-in_err-found-clause-fault : goal.returns-in_err-found-clause-fault
 returns-in_err-found-clause-fault g c =
     let p = err_from_is_err_and c.from_residual.result c.from_residual.ensures.1 in
     let new = c.leaf_below.new.t in
-    rw (p.1, p.2) (top_breaks (g.T.Pages.causes c.args.t.now new) (g.T.Pages.step new) c.in_err-found.field-0.0 c.top.result c.top.ensures c.in_err-found.ensures.fault)
+    rw (p.1, p.2) (top_breaks (g.T.Pages.step new) c.in_err-found.field-0.0 c.top.result c.top.ensures c.in_err-found.ensures.fault)
 
 pub returns-in_err-first_below-in-Some-next-clause-fault : goal.returns-in_err-first_below-in-Some-next-clause-fault
 returns-in_err-first_below-in-Some-next-clause-fault g c =
@@ -65,16 +113,22 @@ returns-in_err-first_below-in-Some-next-clause-fault g c =
     let new = c.first_below.new.t in
     let s = g.T.Pages.step new in
     let fault = c.in_err-first_below-in-Some-next.field-0.0 in
-    let Outer = g.T.Pages.causes mid new in
-    let P : Neighbour → Type 0 = λ (n : Neighbour). HasCause Outer s (BreaksBeside s.images n) (BarsBeside s n) fault in
+    let P : Neighbour → Type 0 = λ (n : Neighbour). HasCause s (BreaksBeside s.images n) (BarsBeside s n) fault in
     let h : P c.in-Some-next.next = subst P c.in-Some-next.next-is c.in_err-first_below-in-Some-next.ensures.fault in
     let beside = c.in_ok-found.ensures.beside s.images (agrees_before (g.T.Pages.step mid) s s.images c.in_err-first_below-in-Some-next.ensures.calls.looks (agrees_now s)) in
     let p = err_from_is_err_and c.from_residual-in_err-first_below-in-Some-next.result c.from_residual-in_err-first_below-in-Some-next.ensures.1 in
-    rw (p.1, p.2) (next_breaks Outer (g.T.Pages.causes c.args.t.now new) s c.top.result c.in_ok-found.found c.top.ensures beside
-    (λ r x. g.met.T.Pages.later c.args.t.now mid new r c.in_ok-found.ensures.calls.outside x) c.in-Some-next.next fault h c.in-Some-next.is)
+    rw (p.1, p.2) (next_breaks s c.top.result c.in_ok-found.found c.top.ensures beside
+    c.in-Some-next.next fault h c.in-Some-next.is)
 
 pub returns-in_ok-first_below-in-Some-next-clause-calls : goal.returns-in_ok-first_below-in-Some-next-clause-calls
 returns-in_ok-first_below-in-Some-next-clause-calls g c = reaches_then g.T.Pages g.met.T.Pages.then c.args.t.now c.leaf_below.new.t c.first_below.new.t c.in_ok-found.ensures.calls c.in_ok-first_below-in-Some-next.ensures.calls
 
 pub returns-in_err-first_below-in-Some-next-clause-calls : goal.returns-in_err-first_below-in-Some-next-clause-calls
-returns-in_err-first_below-in-Some-next-clause-calls g c = reaches_then g.T.Pages g.met.T.Pages.then c.args.t.now c.leaf_below.new.t c.first_below.new.t c.in_ok-found.ensures.calls c.in_err-first_below-in-Some-next.ensures.calls
+returns-in_err-first_below-in-Some-next-clause-calls g c =
+    let p = err_from_is_err_and c.from_residual-in_err-first_below-in-Some-next.result c.from_residual-in_err-first_below-in-Some-next.ensures.1 in
+    rw (p.1, p.2) (reaches_then g.T.Pages g.met.T.Pages.then c.args.t.now c.leaf_below.new.t c.first_below.new.t c.in_ok-found.ensures.calls c.in_err-first_below-in-Some-next.ensures.calls)
+
+pub returns-in_err-found-clause-calls : goal.returns-in_err-found-clause-calls
+returns-in_err-found-clause-calls g c =
+    let p = err_from_is_err_and c.from_residual.result c.from_residual.ensures.1 in
+    rw (p.1, p.2) c.in_err-found.ensures.calls

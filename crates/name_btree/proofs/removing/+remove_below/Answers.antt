@@ -38,9 +38,8 @@ returns-in_err-entries-clause-fault g t c =
     let new = c.child_node.new.t in
     let sheets = c.args.draft.now.sheets.items in
     let child = c.args.child.now in
-    let Outer = g.T.Pages.causes c.args.t.now new in
     let p = err_from_is_err_and c.from_residual.result c.from_residual.ensures.1 in
-    rw (p.1, p.2) (fails_by_map Outer Outer (g.T.Pages.step new) (λ pages. IsMisfit (drafted sheets pages) child) (λ pages. BreaksAround c.args.key.now (drafted sheets pages) c.args.levels child) (λ r x. x)
+    rw (p.1, p.2) (fails_by_map (g.T.Pages.step new) (λ pages. IsMisfit (drafted sheets pages) child) (λ pages. BreaksAround c.args.key.now (drafted sheets pages) c.args.levels child)
     (λ images page is h. misfit_below c.args.key.now sheets c.args.levels child images page h) c.in_err-entries.field-0.0 c.in_err-entries.ensures.fault)
 
 pub entries_without-left-requires : goal.entries_without-left-requires
@@ -151,7 +150,8 @@ returns-in_ok-trimmed-in-Interior-clause-calls g t c =
 pub returns-in_err-trimmed-in-Interior-clause-calls : goal.returns-in_err-trimmed-in-Interior-clause-calls
 returns-in_err-trimmed-in-Interior-clause-calls g t c =
     let G = g.T.Pages in
-    reaches_then G g.met.T.Pages.then c.args.t.now c.child_node.new.t c.remove_below.new.t c.in_ok-entries.ensures.calls c.in_err-trimmed-in-Interior.ensures.calls
+    let p = err_from_is_err_and c.from_residual-in_err-trimmed-in-Interior.result c.from_residual-in_err-trimmed-in-Interior.ensures.1 in
+    rw (p.1, p.2) (reaches_then G g.met.T.Pages.then c.args.t.now c.child_node.new.t c.remove_below.new.t c.in_ok-entries.ensures.calls c.in_err-trimmed-in-Interior.ensures.calls)
 
 pub returns-in_ok-trimmed-in-Interior-clause-freed : goal.returns-in_ok-trimmed-in-Interior-clause-freed
 returns-in_ok-trimmed-in-Interior-clause-freed g t c =
@@ -226,8 +226,7 @@ returns-in_err-trimmed-in-Interior-clause-fault g t c =
     let below_child = c.child_at-below.result in
     let calls = c.in_err-trimmed-in-Interior.ensures.calls in
     let p = err_from_is_err_and c.from_residual-in_err-trimmed-in-Interior.result c.from_residual-in_err-trimmed-in-Interior.ensures.1 in
-    rw (p.1, p.2) (fails_by_map (G.causes c.child_node.new.t new) (G.causes c.args.t.now new) (G.step new) (λ pages. BreaksAround key (drafted draft.sheets.items pages) (c.args.levels - 1) below_child) (λ pages. BreaksAround key (drafted draft.sheets.items pages) c.args.levels child)
-    (λ r x. g.met.T.Pages.later c.args.t.now c.child_node.new.t new r c.in_ok-entries.ensures.calls.outside x)
+    rw (p.1, p.2) (fails_by_map (G.step new) (λ pages. BreaksAround key (drafted draft.sheets.items pages) (c.args.levels - 1) below_child) (λ pages. BreaksAround key (drafted draft.sheets.items pages) c.args.levels child)
     (λ images page agrees h.
     let agrees1 = agrees_before s1 (G.step new) images calls.looks agrees in
     let pages : List (List ℕ) = drafted draft.sheets.items images in
@@ -258,8 +257,8 @@ returns-in_ok-trimmed-in-Interior-clause-fault g t c =
     let first = reaches_then G law c.args.t.now c.child_node.new.t between c.in_ok-entries.ensures.calls c.in_ok-trimmed-in-Interior.ensures.calls in
     let A : List (List ℕ) → ℕ → Type 0 = λ (pages : List (List ℕ)). IsUnlike (drafted mid.sheets.items pages) child ways.0 ways.1 i below in
     let B : List (List ℕ) → ℕ → Type 0 = λ (pages : List (List ℕ)). BreaksAround key (drafted draft.sheets.items pages) c.args.levels child in
-    err_left c.trim_above.result (FailsBy (G.causes between new) s A) (FailsBy (G.causes c.args.t.now new) s B)
-    (λ fault h. fails_by_map (G.causes between new) (G.causes c.args.t.now new) s A B (λ r x. g.met.T.Pages.later c.args.t.now between new r first.outside x)
+    err_left c.trim_above.result (FailsBy s A) (FailsBy s B)
+    (λ fault h. fails_by_map s A B
     (λ images page agrees u.
     let agrees2 = agrees_before s2 s images c.trim_above.ensures.calls.looks agrees in
     let agrees1 = agrees_before s1 s2 images c.in_ok-trimmed-in-Interior.ensures.calls.looks agrees2 in
@@ -295,3 +294,8 @@ returns-in_ok-trimmed-in-Interior-clause-sheets g t c =
     ok_left c.trim_above.result (λ left. Shows s (λ pages. IsMended (with_images pages s) mid new child ways.0 ways.1 c.ways_before-i.result below left))
     (λ left. length new.sheets.items ≤ length c.args.draft.now.sheets.items + sheets_below c.args.levels left)
     (λ left m. omega (arith, mended_sheets (with_images s.images s) mid new child ways.0 ways.1 c.ways_before-i.result below left (length c.args.draft.now.sheets.items) c.args.levels c.if-levels-gt0.true c.in_ok-trimmed-in-Interior.ensures.sheets (m s.images (agrees_now s)))) c.trim_above.ensures.mended
+
+pub returns-in_err-entries-clause-calls : goal.returns-in_err-entries-clause-calls
+returns-in_err-entries-clause-calls g t c =
+    let p = err_from_is_err_and c.from_residual.result c.from_residual.ensures.1 in
+    rw (p.1, p.2) c.in_err-entries.ensures.calls

@@ -2,7 +2,7 @@ use Rattle.std.proofs.Common.{◌≡◌, ◌∙◌, ◌+◌, ◌≤◌, sym, ap,
 use Rattle.name_page.specs.Pages.{Step, reaches, changes, is_spare}
 use Rattle.name_btree.proofs.CommitLaws.{commit_edits, commit_reaches, commit_changes, freed_spare}
 use Rattle.name_btree.proofs.DraftLaws.{committed_spares}
-use Rattle.name_page.proofs.LookLaws.{reaches_walks, walks_then, walks_edits, edits_then, shows_trusted}
+use Rattle.name_page.proofs.LookLaws.{reaches_walks, walks_edits, edits_then, shows_trusted}
 use Rattle.name_btree.specs.Draft.{drafted, committed, freed, RemovesFrom}
 use Rattle.fsd_table.specs.Tree.{table_of}
 use Rattle.name_page.specs.Edits.{without}
@@ -44,7 +44,7 @@ returns-clause-removed g c = λ trusted height table.
     let between = G.step c.remove_in.new.t in
     let d = c.remove_in.new.draft in
     let calls = c.remove_in.ensures.calls in
-    let t = g.met.T.Pages.trust c.remove_in.new.t c.commit.new.t c.commit.ensures.outside trusted in
+    let t = g.met.T.Pages.trust c.remove_in.new.t c.commit.new.t _ c.commit.ensures.outside trusted in
     let removes = shows_trusted G (λ x. RemovesFrom x c.new-draft.result d c.args.key.now) c.args.t.now c.remove_in.new.t calls c.in_default.ensures.removed t in
     subst (λ (s : Step). HasTable s (without c.args.key.now (table_of old.images height))) (sym c.commit.ensures.step)
     (table_without old between c.args.key.now c.new-draft.result d c.new-draft.ensures.sheets c.new-draft.ensures.freed (calls.stays t) calls.looks.spares (g.met.T.Pages.flags c.args.t.now)
@@ -57,18 +57,18 @@ returns-clause-calls g c =
     let mid = c.remove_in.new.t in
     let new = c.commit.new.t in
     let d = c.remove_in.new.draft in
-    edits_then G law.then c.args.t.now mid new (walks_edits G c.args.t.now mid (reaches_walks G c.args.t.now mid c.remove_in.ensures.calls))
-    (commit_edits G mid new d.freed.items d.sheets.items c.commit.ensures.outside (law.trust mid new c.commit.ensures.outside) c.commit.ensures.step c.commit.ensures.images)
+    edits_then G law.then c.args.t.now mid new (walks_edits G c.args.t.now mid (reaches_walks G c.args.t.now mid c.in_default.ensures.calls))
+    (commit_edits G mid new d.freed.items d.sheets.items c.commit.ensures.outside (law.trust mid new _ c.commit.ensures.outside) c.commit.ensures.step c.commit.ensures.images)
 
 pub returns-in-Err-clause-kept : goal.returns-in-Err-clause-kept
 returns-in-Err-clause-kept g c =
     let G = g.T.Pages in
-    walks_then G g.met.T.Pages.then c.args.t.now c.remove_in.new.t c.fault_of.new.t (reaches_walks G c.args.t.now c.remove_in.new.t c.in-Err.ensures.calls) c.fault_of.ensures.calls
+    c.fault_of.ensures.calls c.args.t.now (reaches_walks G c.args.t.now c.remove_in.new.t c.in-Err.ensures.calls)
 
 pub returns-in-Err-clause-calls : goal.returns-in-Err-clause-calls
 returns-in-Err-clause-calls g c =
     let G = g.T.Pages in
-    walks_edits G c.args.t.now c.fault_of.new.t (walks_then G g.met.T.Pages.then c.args.t.now c.remove_in.new.t c.fault_of.new.t (reaches_walks G c.args.t.now c.remove_in.new.t c.in-Err.ensures.calls) c.fault_of.ensures.calls)
+    walks_edits G c.args.t.now c.fault_of.new.t (c.fault_of.ensures.calls c.args.t.now (reaches_walks G c.args.t.now c.remove_in.new.t c.in-Err.ensures.calls))
 
 pub returns-in-Err-clause-fault : goal.returns-in-Err-clause-fault
 returns-in-Err-clause-fault g c =
@@ -77,8 +77,7 @@ returns-in-Err-clause-fault g c =
     let mid = c.remove_in.new.t in
     let empty = c.new-draft.result in
     let fault = c.in-Err.fault in
-    let Outer = G.causes old mid in
-    let bare = fails_by_map Outer Outer (G.step mid) (λ pages page. IsNoTree (drafted empty.sheets.items pages)) (λ pages page. IsNoTree pages) (λ r x. x)
+    let bare = fails_by_map (G.step mid) (λ pages page. IsNoTree (drafted empty.sheets.items pages)) (λ pages page. IsNoTree pages)
     (λ images page is h. subst IsNoTree (ap (λ (xs : List Sheet). drafted xs images) c.new-draft.ensures.sheets) h) fault c.in-Err.ensures.fault in
-    let fails : FailsTree G old mid fault = shown_tree G Outer mid fault bare in
-    c.fault_of.ensures.cause old c.in-Err.ensures.calls.outside fails
+    let fails : FailsTree G mid fault = shown_tree G mid fault bare in
+    c.fault_of.ensures.cause fails

@@ -20,9 +20,8 @@ returns-in_err-remove_below-clause-fault g c =
     let new = c.remove_below.new.t in
     let key = c.args.key.now in
     let sheets = c.args.draft.now.sheets.items in
-    let Outer = g.T.Pages.causes c.args.t.now new in
     let p = err_from_is_err_and c.from_residual.result c.from_residual.ensures.1 in
-    rw (p.1, p.2) (fails_by_map Outer Outer (g.T.Pages.step new) (λ pages. BreaksAround key (drafted sheets pages) 5 c.top.result) (λ pages page. IsNoTree (drafted sheets pages)) (λ r x. x)
+    rw (p.1, p.2) (fails_by_map (g.T.Pages.step new) (λ pages. BreaksAround key (drafted sheets pages) 5 c.top.result) (λ pages page. IsNoTree (drafted sheets pages))
     (λ images page is h. around_breaks key (drafted sheets images) c.top.result page c.top.ensures h) c.in_err-remove_below.field-0.0 c.in_err-remove_below.ensures.fault)
 
 pub returns-in-Whole-clause-removed : goal.returns-in-Whole-clause-removed
@@ -88,10 +87,15 @@ returns-in-Interior-clause-fault g c =
     let is : only_of left ≡ Some only = ap only_of c.in-Interior.is in
     let A : List (List ℕ) → ℕ → Type 0 = λ (pages : List (List ℕ)) (page : ℕ). IsFreeOrNone (page_at (drafted mid.sheets.items pages) only) in
     let B : List (List ℕ) → ℕ → Type 0 = λ (pages : List (List ℕ)) (page : ℕ). IsNoTree (drafted draft.sheets.items pages) in
-    on_err_more c.take_over.result (FailsBy (G.causes c.remove_below.new.t new) s A) (FailsBy (G.causes c.args.t.now new) s B)
-    (λ fault h. fails_by_map (G.causes c.remove_below.new.t new) (G.causes c.args.t.now new) s A B (λ r x. g.met.T.Pages.later c.args.t.now c.remove_below.new.t new r c.in_ok-remove_below.ensures.calls.outside x)
+    on_err_more c.take_over.result (FailsBy s A) (FailsBy s B)
+    (λ fault h. fails_by_map s A B
     (λ images page agrees free height tree.
     let pages : List (List ℕ) = drafted draft.sheets.items images in
     let before = agrees_before between s images c.take_over.ensures.calls.looks agrees in
     let t0 = subst (λ (x : Child). IsTrimmedBelow key pages (drafted mid.sheets.items images) draft.freed.items mid.freed.items 5 x left) c.top.ensures (c.in_ok-remove_below.ensures.trimmed images before) in
     free_breaks key pages (drafted mid.sheets.items images) draft.freed.items mid.freed.items only left is t0 free height tree) fault h) c.take_over.ensures.fault
+
+pub returns-in_err-remove_below-clause-calls : goal.returns-in_err-remove_below-clause-calls
+returns-in_err-remove_below-clause-calls g c =
+    let p = err_from_is_err_and c.from_residual.result c.from_residual.ensures.1 in
+    rw (p.1, p.2) c.in_err-remove_below.ensures.calls

@@ -3,7 +3,7 @@ use Rattle.fsd_bytes.specs.declared.key.Key.{Key}
 use Rattle.fsd_formats.specs.declared.entry.Entry.{Entry}
 use Rattle.fsd_formats.specs.NamePage.{Leaf, is_page}
 use Rattle.fsd_table.specs.declared.child.Child.{Child}
-use Rattle.name_page.proofs.LookLaws.{reaches_walks, walks_then, walks_edits, shows_trusted}
+use Rattle.name_page.proofs.LookLaws.{reaches_walks, walks_edits, shows_trusted}
 use Rattle.name_page.specs.declared.cut.Cut.TheVariants.{UpTo}
 use Rattle.name_page.specs.Cut.{is_before}
 use Rattle.name_btree.specs.Descent.{IsPlace}
@@ -30,7 +30,7 @@ put_leaf-requires-clause-accepted g c =
 pub returns-in-Err-clause-calls : goal.returns-in-Err-clause-calls
 returns-in-Err-clause-calls g c =
     let G = g.T.Pages in
-    walks_edits G c.args.t.now c.fault_of.new.t (walks_then G g.met.T.Pages.then c.args.t.now c.leaf_below.new.t c.fault_of.new.t (reaches_walks G c.args.t.now c.leaf_below.new.t c.in-Err.ensures.calls) c.fault_of.ensures.calls)
+    walks_edits G c.args.t.now c.fault_of.new.t (c.fault_of.ensures.calls c.args.t.now (reaches_walks G c.args.t.now c.leaf_below.new.t c.in-Err.ensures.calls))
 
 pub returns-in-Err-clause-fault : goal.returns-in-Err-clause-fault
 returns-in-Err-clause-fault g c =
@@ -38,21 +38,21 @@ returns-in-Err-clause-fault g c =
     let law = g.met.T.Pages in
     let old = c.args.t.now in
     let mid = c.leaf_below.new.t in
-    let fails : FailsTree G old mid c.in-Err.fault =
-    fails_tree G old mid c.in-Err.fault (G.causes old mid) (λ r x. x) (top_breaks (G.causes old mid) (G.step mid) c.in-Err.fault c.top.result c.top.ensures c.in-Err.ensures.fault) in
-    c.fault_of.ensures.cause old c.in-Err.ensures.calls.outside fails
+    let fails : FailsTree G mid c.in-Err.fault =
+    fails_tree G mid c.in-Err.fault (top_breaks (G.step mid) c.in-Err.fault c.top.result c.top.ensures c.in-Err.ensures.fault) in
+    c.fault_of.ensures.cause fails
 
 pub returns-then-not-has_as_long-clause-kept : goal.returns-then-not-has_as_long-clause-kept
 returns-then-not-has_as_long-clause-kept g c =
     let G = g.T.Pages in
     let new = c.fault_of-then-not-has_as_long.new.t in
-    walks_then G g.met.T.Pages.then c.args.t.now c.leaf_below.new.t new (reaches_walks G c.args.t.now c.leaf_below.new.t c.in-Ok.ensures.calls) c.fault_of-then-not-has_as_long.ensures.calls
+    c.fault_of-then-not-has_as_long.ensures.calls c.args.t.now (reaches_walks G c.args.t.now c.leaf_below.new.t c.in-Ok.ensures.calls)
 
 pub returns-then-not-has_as_long-clause-calls : goal.returns-then-not-has_as_long-clause-calls
 returns-then-not-has_as_long-clause-calls g c =
     let G = g.T.Pages in
     let new = c.fault_of-then-not-has_as_long.new.t in
-    walks_edits G c.args.t.now new (walks_then G g.met.T.Pages.then c.args.t.now c.leaf_below.new.t new (reaches_walks G c.args.t.now c.leaf_below.new.t c.in-Ok.ensures.calls) c.fault_of-then-not-has_as_long.ensures.calls)
+    walks_edits G c.args.t.now new (c.fault_of-then-not-has_as_long.ensures.calls c.args.t.now (reaches_walks G c.args.t.now c.leaf_below.new.t c.in-Ok.ensures.calls))
 
 pub returns-then-not-has_as_long-clause-fault : goal.returns-then-not-has_as_long-clause-fault
 returns-then-not-has_as_long-clause-fault g c =
@@ -63,7 +63,7 @@ returns-then-not-has_as_long-clause-fault g c =
     let calls = c.in-Ok.ensures.calls in
     let found = c.in-Ok.found in
     let pages = (G.step old).images in
-    let fails : FailsTree G old mid (Broken found.page) = λ trusted.
+    let fails : FailsTree G mid (Broken found.page) = λ trusted.
     let P : List (List ℕ) → Type 0 = λ (x : List (List ℕ)). IsPlace (is_before (UpTo c.copied.result)) x c.top.result found in
     let seen : P pages = shows_trusted G P old mid calls c.in-Ok.ensures.place trusted in
     let by_key : Key → Type 0 = λ (k : Key). IsPlace (is_before (UpTo k)) pages c.top.result found in
@@ -71,7 +71,7 @@ returns-then-not-has_as_long-clause-fault g c =
     let place = subst by_top c.top.ensures (subst by_key c.copied.ensures seen) in
     let none = not_in_tree pages c.args.entry.now found place (c.has_as_long.ensures.not c.if-not-has_as_long.true) (c.requires.present (calls.trust trusted)) in
     λ height t used. none height (subst (λ (p : List (List ℕ)). IsTree p height) (calls.stays trusted) t) in
-    c.fault_of-then-not-has_as_long.ensures.cause old calls.outside fails
+    c.fault_of-then-not-has_as_long.ensures.cause fails
 
 pub returns-clause-tree : goal.returns-clause-tree
 returns-clause-tree g c = λ trusted.
@@ -82,7 +82,7 @@ returns-clause-tree g c = λ trusted.
     let new = c.put_leaf.new.t in
     let found = c.in-Ok.found in
     let calls = c.in-Ok.ensures.calls in
-    let t = law.trust mid new c.put_leaf.ensures.outside trusted in
+    let t = law.trust mid new _ c.put_leaf.ensures.outside trusted in
     let pages = (G.step old).images in
     let P : List (List ℕ) → Type 0 = λ (x : List (List ℕ)). IsLeafAt (UpTo c.copied.result) x c.top.result found in
     let seen : P pages = shows_trusted G P old mid calls c.in-Ok.ensures.at t in
@@ -101,7 +101,7 @@ returns-clause-replaced g c = λ trusted.
     let new = c.put_leaf.new.t in
     let found = c.in-Ok.found in
     let calls = c.in-Ok.ensures.calls in
-    let t = law.trust mid new c.put_leaf.ensures.outside trusted in
+    let t = law.trust mid new _ c.put_leaf.ensures.outside trusted in
     let pages = (G.step old).images in
     let P : List (List ℕ) → Type 0 = λ (x : List (List ℕ)). IsLeafAt (UpTo c.copied.result) x c.top.result found in
     let seen : P pages = shows_trusted G P old mid calls c.in-Ok.ensures.at t in

@@ -1,18 +1,27 @@
-use Rattle.std.proofs.Common.{◌≡◌, true, false}
-use Rattle.name_page.proofs.LookLaws.{reaches_still, reaches_walks}
+use Rattle.std.proofs.Common.{◌≡◌, Option, None, true, false, subst}
+use Rattle.fsd_bytes.specs.declared.refusal.Refusal.{Refusal}
+use Rattle.name_page.specs.Looks.{OnlyWalks}
+use Rattle.name_page.proofs.LookLaws.{walks_then}
 use Rattle.name_btree.specs.Fault.{is_inner}
-use Rattle.name_btree.proofs.SearchLaws.{inner_broken, outer_fails, fails_since}
+use Rattle.name_btree.proofs.SearchLaws.{inner_broken, inner_untold, outer_fails}
 use Rattle.name_btree.proofs.searching.fault_of.Goals as goal
 
-pub returns-then-is_inner-clause-cause : goal.returns-then-is_inner-clause-cause
-returns-then-is_inner-clause-cause g c = λ first before h.
+pub returns-then-is_inner-clause-calls : goal.returns-then-is_inner-clause-calls
+returns-then-is_inner-clause-calls g c = λ first before.
+    let G = g.T.Pages in
     let inner : is_inner c.args.fault ≡ true = cc in
-    fails_since g.T.Pages g.met.T.Pages.later first c.args.t.now c.search.new.t c.search.result before (c.search.ensures.cause (inner_broken g.T.Pages g.met.T.Pages.outer first c.args.t.now c.args.fault h inner))
+    let quiet : OnlyWalks G None first c.args.t.now = subst (λ (refusal : Option Refusal). OnlyWalks G refusal first c.args.t.now) (inner_untold c.args.fault inner) before in
+    walks_then G g.met.T.Pages.then first c.args.t.now c.search.new.t quiet c.search.ensures.calls
+
+pub returns-then-is_inner-clause-cause : goal.returns-then-is_inner-clause-cause
+returns-then-is_inner-clause-cause g c = λ fails.
+    let inner : is_inner c.args.fault ≡ true = cc in
+    c.search.ensures.cause (inner_broken g.T.Pages c.args.t.now c.args.fault fails inner)
 
 pub returns-else-is_inner-clause-cause : goal.returns-else-is_inner-clause-cause
-returns-else-is_inner-clause-cause g c = λ first before h.
+returns-else-is_inner-clause-cause g c = λ fails.
     let outer : is_inner c.args.fault ≡ false = cc in
-    outer_fails g.T.Pages g.met.T.Pages.outer first c.args.t.now c.args.fault h outer
+    outer_fails g.T.Pages c.args.t.now c.args.fault fails outer
 
 pub returns-else-is_inner-clause-calls : goal.returns-else-is_inner-clause-calls
-returns-else-is_inner-clause-calls g c = reaches_walks g.T.Pages c.args.t.now c.args.t.now (reaches_still g.T.Pages c.args.t.now (g.met.T.Pages.still c.args.t.now))
+returns-else-is_inner-clause-calls g c = λ first before. before

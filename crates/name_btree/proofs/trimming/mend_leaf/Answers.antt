@@ -1,4 +1,5 @@
 use Rattle.std.proofs.Common.{◌≡◌, ◌∙◌, sym, ap, subst, length, ℕ, Bool, List, Some, rules}
+use Rattle.std.proofs.lemmas.Result.{err_from_is_err_and}
 use Rattle.std.specs.Prelude.{slice_get}
 use Rattle.std.specs.List.{AllByRecursion}
 use Rattle.fsd_formats.specs.declared.entry.Entry.{Entry}
@@ -94,3 +95,8 @@ returns-in-Leaf-clause-mended g c = λ images agrees.
       has = c.in_ok-others.ensures.node images agrees ∙ ap (λ (n : Node). Some (content_of n)) c.in-Leaf.is;
       mended = leaves_over new images agrees.count draft c.put_leaves.new.draft above.page ways.0 ways.1 pair c.put_leaves.result _ put;
     }
+
+pub returns-in_err-others-clause-calls : goal.returns-in_err-others-clause-calls
+returns-in_err-others-clause-calls g c =
+    let p = err_from_is_err_and c.from_residual.result c.from_residual.ensures.1 in
+    rw (p.1, p.2) c.in_err-others.ensures.calls

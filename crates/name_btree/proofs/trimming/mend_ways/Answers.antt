@@ -1,4 +1,5 @@
 use Rattle.std.proofs.Common.{◌≡◌, ◌∙◌, ◌≤◌, Bool, true, sym, ap, subst, length, ℕ, List, Some, arith, rules}
+use Rattle.std.proofs.lemmas.Result.{err_from_is_err_and}
 use Rattle.std.specs.Prelude.{slice_get}
 use Rattle.fsd_formats.specs.declared.page.Separator.{Separator}
 use Rattle.fsd_formats.specs.NamePage.{Interior, is_page}
@@ -116,3 +117,8 @@ returns-in-Some-clause-mended g c = λ images agrees.
       behind = ap (λ (s : Separator). is_behind s.key (right_at c.args.i few others.1)) (sym same) ∙ c.in-Some.ensures.behind;
       mended = interiors_over new images agrees.count draft c.put_interiors.new.draft above.page ways.0 ways.1 pair c.put_interiors.result _ _ put;
     }
+
+pub returns-in_err-others-clause-calls : goal.returns-in_err-others-clause-calls
+returns-in_err-others-clause-calls g c =
+    let p = err_from_is_err_and c.from_residual.result c.from_residual.ensures.1 in
+    rw (p.1, p.2) c.in_err-others.ensures.calls

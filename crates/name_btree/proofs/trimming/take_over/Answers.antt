@@ -1,4 +1,5 @@
 use Rattle.std.proofs.Common.{◌≡◌, ◌∙◌, sym, ap, subst, length, ℕ, List, true, rules}
+use Rattle.std.proofs.lemmas.Result.{err_from_is_err_and}
 use Rattle.fsd_formats.specs.NamePage.{is_page}
 use Rattle.fsd_table.proofs.PageLaws.{at_is_page}
 use Rattle.name_page.specs.Node.{content_of}
@@ -42,3 +43,8 @@ returns-clause-taken g c = λ images agrees.
       now = drafted_over new images agrees.count before c.free.new.self.sheets.items 0 (content_of c.in_ok-node.node) put;
       freed = c.free.ensures.freed ∙ ap (with_freed c.args.child) c.put_on_top.ensures.freed;
     }
+
+pub returns-in_err-node-clause-calls : goal.returns-in_err-node-clause-calls
+returns-in_err-node-clause-calls g c =
+    let p = err_from_is_err_and c.from_residual.result c.from_residual.ensures.1 in
+    rw (p.1, p.2) c.in_err-node.ensures.calls

@@ -17,5 +17,5 @@ returns-in-Interior-clause-fault g c =
     let new = c.mend_ways.new.t in
     let ways = c.args.ways.now in
     let P : Trimmed → Type 0 = λ (x : Trimmed).
-    IfErr c.mend_ways.result (FailsBy (g.T.Pages.causes c.args.t.now new) (g.T.Pages.step new) (λ pages. IsUnlike (drafted c.args.draft.now.sheets.items pages) c.args.above.now ways.0 ways.1 c.args.i x)) in
+    IfErr c.mend_ways.result (FailsBy (g.T.Pages.step new) (λ pages. IsUnlike (drafted c.args.draft.now.sheets.items pages) c.args.above.now ways.0 ways.1 c.args.i x)) in
     subst P (sym c.in-Interior.is) c.mend_ways.ensures.fault

@@ -4,7 +4,6 @@ use Rattle.std.proofs.lemmas.Result.{err_from_is_err_and}
 use Rattle.fsd_formats.specs.NamePage.{Interior}
 use Rattle.fsd_table.specs.declared.child.Child.{Child}
 use Rattle.fsd_table.specs.Pages.{page_at, children, content_fits, keys_fit, separator_keys}
-use Rattle.name_page.specs.Looks.{OnlyWalks}
 use Rattle.name_page.specs.Pages.{Step, is_spare}
 use Rattle.name_page.proofs.LookLaws.{reaches_still, reaches_walks, rest_reaches, walks_then}
 use Rattle.name_page.specs.declared.node.Node.{Node}
@@ -46,7 +45,7 @@ walk_below-returns-in_default-clause-fault g t c = λ trusted.
 pub walk_below-returns-in_err-entries-clause-fault : goal.walk_below-returns-in_err-entries-clause-fault
 walk_below-returns-in_err-entries-clause-fault g t c =
     let p = err_from_is_err_and c.from_residual.result c.from_residual.ensures.1 in
-    rw (p.1, p.2) (walk_here g.T.Pages g.met.T.Pages.later c.args.t.now c.rest.new.self c.child_node.new.t c.rest.ensures.outside c.in_err-entries.field-0.0 c.args.level c.args.child.now c.args.reached.now c.in_err-entries.ensures.fault)
+    rw (p.1, p.2) (walk_here g.T.Pages c.child_node.new.t c.in_err-entries.field-0.0 c.args.level c.args.child.now c.args.reached.now c.in_err-entries.ensures.fault)
 
 pub walk_below-walk_children-requires : goal.walk_below-walk_children-requires
 walk_below-walk_children-requires g t c κs within =
@@ -56,7 +55,7 @@ walk_below-walk_children-requires g t c κs within =
     let law = g.met.T.Pages in
     let old = c.args.t.now in
     let mid = c.child_node.new.t in
-    let so : OnlyWalks G old mid = rest_reaches G law.then law.trust old c.rest.new.self mid c.rest.ensures.outside c.rest.ensures.step c.in_ok-entries.ensures.calls in
+    let so = rest_reaches G law.then law.trust old c.rest.new.self mid c.rest.ensures.outside c.rest.ensures.step c.in_ok-entries.ensures.calls in
     let pages = (G.step mid).images in
     let at : page_at pages child.page ≡ Some (Interior ways.0 ways.1) = c.in_ok-entries.ensures.node ∙ ap (λ (n : Node). Some (content_of n)) c.in-Interior.is in
     let few : length ways.1 ≤ 9 = few_separators pages child.page ways.0 ways.1 at in
@@ -70,7 +69,7 @@ walk_below-returns-in-Interior-clause-calls g t c =
     let law = g.met.T.Pages in
     let old = c.args.t.now in
     let mid = c.child_node.new.t in
-    let so : OnlyWalks G old mid = rest_reaches G law.then law.trust old c.rest.new.self mid c.rest.ensures.outside c.rest.ensures.step c.in_ok-entries.ensures.calls in
+    let so = rest_reaches G law.then law.trust old c.rest.new.self mid c.rest.ensures.outside c.rest.ensures.step c.in_ok-entries.ensures.calls in
     walks_then G law.then old mid c.walk_children.new.t so c.walk_children.ensures.calls
 
 pub walk_below-returns-in-Interior-clause-walked : goal.walk_below-returns-in-Interior-clause-walked
@@ -79,7 +78,7 @@ walk_below-returns-in-Interior-clause-walked g t c =
     let law = g.met.T.Pages in
     let old = c.args.t.now in
     let mid = c.child_node.new.t in
-    let so : OnlyWalks G old mid = rest_reaches G law.then law.trust old c.rest.new.self mid c.rest.ensures.outside c.rest.ensures.step c.in_ok-entries.ensures.calls in
+    let so = rest_reaches G law.then law.trust old c.rest.new.self mid c.rest.ensures.outside c.rest.ensures.step c.in_ok-entries.ensures.calls in
     let new = c.walk_children.new.t in
     let child = c.args.child.now in
     let ways = c.in-Interior.ways in
@@ -111,7 +110,7 @@ walk_below-returns-in-Interior-clause-fault g t c =
     let law = g.met.T.Pages in
     let old = c.args.t.now in
     let mid = c.child_node.new.t in
-    let so : OnlyWalks G old mid = rest_reaches G law.then law.trust old c.rest.new.self mid c.rest.ensures.outside c.rest.ensures.step c.in_ok-entries.ensures.calls in
+    let so = rest_reaches G law.then law.trust old c.rest.new.self mid c.rest.ensures.outside c.rest.ensures.step c.in_ok-entries.ensures.calls in
     let new = c.walk_children.new.t in
     let child = c.args.child.now in
     let ways = c.in-Interior.ways in
@@ -126,8 +125,8 @@ walk_below-returns-in-Interior-clause-fault g t c =
     let at : page_at pages child.page ≡ Some (Interior ways.0 ways.1) =
     ap (λ (p : List (List ℕ)). page_at p child.page) (c.walk_children.ensures.calls.stays trusted) ∙ c.in_ok-entries.ensures.node ∙ ap (λ (n : Node). Some (content_of n)) c.in-Interior.is in
     subst (ComesTo pages (level - 1) cs) (sym marks) (comes_below (level - 1) level pages child ways.0 ways.1 before up at w) in
-    err_more c.walk_children.result (FailsWalk G mid new (level - 1) cs c.is_new.new.reached) (FailsWalk G old new level (child ∷ []) before)
-    (λ fault h. walk_map G law.later old mid new so.outside fault level (level - 1) (child ∷ []) cs before c.is_new.new.reached comes h) c.walk_children.ensures.fault
+    err_more c.walk_children.result (FailsWalk G new (level - 1) cs c.is_new.new.reached) (FailsWalk G new level (child ∷ []) before)
+    (λ fault h. walk_map G new fault level (level - 1) (child ∷ []) cs before c.is_new.new.reached comes h) c.walk_children.ensures.fault
 
 pub walk_children-loop-i-init : goal.walk_children-loop-i-init
 walk_children-loop-i-init g t c = record {
@@ -136,7 +135,9 @@ walk_children-loop-i-init g t c = record {
 }
 
 pub walk_children-returns-in_err-more-clause-calls : goal.walk_children-returns-in_err-more-clause-calls
-walk_children-returns-in_err-more-clause-calls g t c = walks_then g.T.Pages g.met.T.Pages.then c.args.t.now c.loop-i.t c.walk_below.new.t c.loop-i.invariant.calls c.in_err-more.ensures.calls
+walk_children-returns-in_err-more-clause-calls g t c =
+    let p = err_from_is_err_and c.from_residual.result c.from_residual.ensures.1 in
+    rw (p.1, p.2) (walks_then g.T.Pages g.met.T.Pages.then c.args.t.now c.loop-i.t c.walk_below.new.t c.loop-i.invariant.calls c.in_err-more.ensures.calls)
 
 pub walk_children-returns-in_err-more-clause-fault : goal.walk_children-returns-in_err-more-clause-fault
 walk_children-returns-in_err-more-clause-fault g t c =
@@ -155,7 +156,7 @@ walk_children-returns-in_err-more-clause-fault g t c =
     let P : List (List ℕ) → Type 0 = λ (x : List (List ℕ)). AreWalked s.spares c.args.level x (take c.loop-i.i cs) c.args.reached.now c.loop-i.reached c.loop-i.count in
     comes_along s.spares c.args.level pages cs c.loop-i.i child c.args.reached.now c.loop-i.reached c.loop-i.count c.child_at-child.ensures (subst P (sym (all.stays trusted)) (c.loop-i.invariant.walked (calls.trust trusted))) w in
     let p = err_from_is_err_and c.from_residual.result c.from_residual.ensures.1 in
-    rw (p.1, p.2) (walk_map G g.met.T.Pages.later old c.loop-i.t new c.loop-i.invariant.calls.outside c.in_err-more.field-0.0 c.args.level c.args.level cs (child ∷ []) c.args.reached.now c.loop-i.reached comes c.in_err-more.ensures.fault)
+    rw (p.1, p.2) (walk_map G new c.in_err-more.field-0.0 c.args.level c.args.level cs (child ∷ []) c.args.reached.now c.loop-i.reached comes c.in_err-more.ensures.fault)
 
 pub walk_children-loop-i-preserved : goal.walk_children-loop-i-preserved
 walk_children-loop-i-preserved g t c =
@@ -190,3 +191,9 @@ walk_children-returns-clause-walked g t c = λ trusted.
     let all : length cs ≤ c.loop-i.i = omega (arith, length_of_children ways.0 above.low above.high ways.1, c.len-i-end.ensures.value, c.loop-i-test.false) in
     let P : List Child → Type 0 = λ (xs : List Child). AreWalked s.spares c.args.level s.images xs c.args.reached.now c.loop-i.reached c.loop-i.count in
     subst P (take_whole c.loop-i.i cs all) (c.loop-i.invariant.walked trusted)
+
+pub walk_below-returns-in_err-entries-clause-calls : goal.walk_below-returns-in_err-entries-clause-calls
+walk_below-returns-in_err-entries-clause-calls g t c =
+    let law = g.met.T.Pages in
+    let p = err_from_is_err_and c.from_residual.result c.from_residual.ensures.1 in
+    rw (p.1, p.2) (rest_reaches g.T.Pages law.then law.trust c.args.t.now c.rest.new.self c.child_node.new.t c.rest.ensures.outside c.rest.ensures.step c.in_err-entries.ensures.calls)

@@ -2,7 +2,6 @@ use Rattle.std.proofs.Common.{◌≡◌, ◌∙◌, ◌<◌, sym, ap, subst, Lis
 use Rattle.std.proofs.lemmas.Result.{err_from_is_err_and}
 use Rattle.fsd_formats.specs.NamePage.{Leaf, Interior}
 use Rattle.fsd_table.specs.Pages.{page_at}
-use Rattle.name_page.specs.Looks.{OnlyWalks}
 use Rattle.name_page.specs.Pages.{Step, reaches, rested}
 use Rattle.name_page.proofs.LookLaws.{reaches_still, reaches_walks, rest_reaches, walks_then}
 use Rattle.name_page.specs.declared.node.Node.{Node}
@@ -28,13 +27,12 @@ returns-in_err-child_node-clause-fault g c =
     let law = g.met.T.Pages in
     let old = c.args.t.now in
     let new = c.child_node.new.t in
-    let so : OnlyWalks G c.loop-level.t new = rest_reaches G law.then law.trust c.loop-level.t c.rest.new.self new c.rest.ensures.outside c.rest.ensures.step c.in_err-child_node.ensures.calls in
+    let so = rest_reaches G law.then law.trust c.loop-level.t c.rest.new.self new c.rest.ensures.outside c.rest.ensures.step c.in_err-child_node.ensures.calls in
     let all = walks_then G law.then old c.loop-level.t new c.loop-level.invariant.calls so in
     let child = c.loop-level.child in
     let on : G.trusted new → IsDown (G.step new).images c.loop-level.level child = λ t. subst (λ (p : List (List ℕ)). IsDown p c.loop-level.level child) (sym (all.stays t)) (c.loop-level.invariant.down (so.trust t)) in
     let p = err_from_is_err_and c.from_residual.result c.from_residual.ensures.1 in
-    rw (p.1, p.2) (down_breaks G law.later old c.rest.new.self new c.in_err-child_node.field-0.0 c.loop-level.level child
-    (law.then old c.loop-level.t c.rest.new.self c.loop-level.invariant.calls.outside c.rest.ensures.outside) on c.in_err-child_node.ensures.fault)
+    rw (p.1, p.2) (down_breaks G new c.in_err-child_node.field-0.0 c.loop-level.level child on c.in_err-child_node.ensures.fault)
 
 pub returns-in-Leaf-clause-level : goal.returns-in-Leaf-clause-level
 returns-in-Leaf-clause-level g c = λ t.
@@ -42,7 +40,7 @@ returns-in-Leaf-clause-level g c = λ t.
     let law = g.met.T.Pages in
     let old = c.args.t.now in
     let new = c.child_node.new.t in
-    let so : OnlyWalks G c.loop-level.t new = rest_reaches G law.then law.trust c.loop-level.t c.rest.new.self new c.rest.ensures.outside c.rest.ensures.step c.in_ok-child_node.ensures.calls in
+    let so = rest_reaches G law.then law.trust c.loop-level.t c.rest.new.self new c.rest.ensures.outside c.rest.ensures.step c.in_ok-child_node.ensures.calls in
     let all = walks_then G law.then old c.loop-level.t new c.loop-level.invariant.calls so in
     let pages = (G.step old).images in
     let page : ℕ = c.loop-level.child.page in
@@ -56,7 +54,7 @@ loop-level-preserved g c =
     let law = g.met.T.Pages in
     let old = c.args.t.now in
     let new = c.child_node.new.t in
-    let so : OnlyWalks G c.loop-level.t new = rest_reaches G law.then law.trust c.loop-level.t c.rest.new.self new c.rest.ensures.outside c.rest.ensures.step c.in_ok-child_node.ensures.calls in
+    let so = rest_reaches G law.then law.trust c.loop-level.t c.rest.new.self new c.rest.ensures.outside c.rest.ensures.step c.in_ok-child_node.ensures.calls in
     let all = walks_then G law.then old c.loop-level.t new c.loop-level.invariant.calls so in
     let pages = (G.step old).images in
     let child = c.loop-level.child in
@@ -68,3 +66,12 @@ loop-level-preserved g c =
           ap (λ (p : List (List ℕ)). page_at p child.page) (sym (all.stays t)) ∙ c.in_ok-child_node.ensures.node ∙ ap (λ (n : Node). Some (content_of n)) c.in-Interior.is in
           down_first pages c.loop-level.level child c.child_at-child.result ways.0 ways.1 at c.child_at-child.ensures c.loop-level-test.true (c.loop-level.invariant.down (so.trust t));
     }
+
+pub returns-in_err-child_node-clause-calls : goal.returns-in_err-child_node-clause-calls
+returns-in_err-child_node-clause-calls g c =
+    let G = g.T.Pages in
+    let law = g.met.T.Pages in
+    let new = c.child_node.new.t in
+    let so = rest_reaches G law.then law.trust c.loop-level.t c.rest.new.self new c.rest.ensures.outside c.rest.ensures.step c.in_err-child_node.ensures.calls in
+    let p = err_from_is_err_and c.from_residual.result c.from_residual.ensures.1 in
+    rw (p.1, p.2) (walks_then G law.then c.args.t.now c.loop-level.t new c.loop-level.invariant.calls so)

@@ -1,3 +1,4 @@
+use Rattle.std.proofs.Common.{None}
 use Rattle.name_page.specs.Looks.{OnlyWalks}
 use Rattle.name_btree.proofs.TopLaws.{IsDown}
 use Rattle.name_btree.proofs.walking.top_level.Given as goal
@@ -5,6 +6,6 @@ use Rattle.name_btree.proofs.walking.top_level.Given as goal
 -- so many levels down
 abbrev pub invariant-loop-level : goal.invariant-loop-level
 invariant-loop-level g l = record {
-  calls : OnlyWalks g.T.Pages l.fn.t l.t;
+  calls : OnlyWalks g.T.Pages None l.fn.t l.t;
   down : g.T.Pages.trusted l.t → IsDown (g.T.Pages.step l.fn.t).images l.level l.child;
 }

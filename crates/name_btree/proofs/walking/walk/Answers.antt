@@ -1,4 +1,5 @@
 use Rattle.std.proofs.Common.{◌≡◌, ◌∙◌, length, sym, subst, List, [], ◌∷◌, ℕ, Bool}
+use Rattle.std.proofs.lemmas.Result.{err_from_is_err_and}
 use Rattle.name_page.proofs.LookLaws.{walks_then}
 use Rattle.name_btree.specs.Fault.{FailsTable}
 use Rattle.name_btree.specs.Walk.{IsWalked, IsTopLevel, IsCounted, FailsWalk}
@@ -40,5 +41,10 @@ returns-clause-fault g c =
     let is : G.trusted new → IsTopLevel (G.step new).images level = λ trusted.
     subst (λ (x : List (List ℕ)). IsTopLevel x level) (sym (all.stays trusted)) (c.in_ok-level.ensures.level (c.walk_below.ensures.calls.trust trusted)) in
     let whole : length before ≡ length (G.step new).images = c.requires.whole ∙ sym all.count in
-    err_more c.walk_below.result (FailsWalk G mid new level (child ∷ []) before) (FailsTable G old new)
-    (λ fault h. walk_whole G g.met.T.Pages.later old mid new c.in_ok-level.ensures.calls.outside fault level child before is c.top.ensures whole c.requires.clear h) c.walk_below.ensures.fault
+    err_more c.walk_below.result (FailsWalk G new level (child ∷ []) before) (FailsTable G new)
+    (λ fault h. walk_whole G new fault level child before is c.top.ensures whole c.requires.clear h) c.walk_below.ensures.fault
+
+pub returns-in_err-level-clause-calls : goal.returns-in_err-level-clause-calls
+returns-in_err-level-clause-calls g c =
+    let p = err_from_is_err_and c.from_residual.result c.from_residual.ensures.1 in
+    rw (p.1, p.2) c.in_err-level.ensures.calls

@@ -1,11 +1,13 @@
-use Rattle.std.proofs.Common.{sym, subst}
-use Rattle.sector_disk.specs.Machine.{Moment}
-use Rattle.page_cache.specs.Cache.{KeepsNewest}
+use Rattle.std.proofs.Common.{sym, ap, subst}
+use Rattle.fsd_bytes.specs.declared.refusal.Refusal.{Refusal}
+use Rattle.sector_disk.specs.Calls.{device_in}
+use Rattle.sector_disk.proofs.CallLaws.{reads_told}
+use Rattle.page_cache.specs.Fetch.{fetch_failed_at}
 use Rattle.page_cache.proofs.FetchLaws.{Fetched, fetched_of, fetched_there}
 use Rattle.page_cache.proofs.KeepLaws.{fetched_pins}
-use Rattle.table_pages.specs.Reads.{OnlyReads}
-use Rattle.table_pages.proofs.BringLaws.{fetched_brings, room_busy}
-use Rattle.table_pages.specs.ReadLaws.{trusted_before}
+use Rattle.name_page.specs.Pages.{outer_refusal}
+use Rattle.table_pages.specs.Bringing.{FetchesOnly}
+use Rattle.table_pages.proofs.BringLaws.{fetched_brings, fetched_fills, refused_fetch, room_busy}
 use Rattle.table_pages.proofs.bringing.bring.Given as given
 use Rattle.table_pages.proofs.bringing.bring.Goals as goal
 
@@ -20,19 +22,25 @@ pub returns-in-Ok-clause-fetches : goal.returns-in-Ok-clause-fetches
 returns-in-Ok-clause-fetches g c =
     let M = g.M.Machine in
     let S = g.S.PageSource in
-    let source = c.args.source.now in
-    let old = c.args.m.now in
-    let new = c.fetch.new.m in
     let kept = c.fetch.ensures in
-    let reads : OnlyReads M old new = record { uses = kept.uses; trust = kept.trust; ledger = kept.ledger; worn = kept.worn; any_moment = kept.any_moment } in
     record {
-      reads = reads;
-      brings = fetched_brings c.args.page c.args.cache.now c.fetch.new.self c.dirty_list-whole.ensures.valid kept.frames (fetched g c);
-      newest = λ t.
-          let before = trusted_before M S source old new reads t in
-          let keeps = rw c.in-Ok.is at kept.newest in
-          subst (λ (x : Moment). KeepsNewest (λ q. S.newest source x.image q) c.args.cache.now c.fetch.new.self) (sym before.1) (keeps t.honest before.0.calm before.0.knows);
+      reads = reads_told (ap (device_in fetch_failed_at) (sym c.in-Ok.is)) kept.reads;
+      loses = tt;
+      fills = fetched_fills M S c.args.source.now c.args.m.now c.fetch.new.m c.args.page c.args.cache.now c.fetch.new.self c.dirty_list-whole.ensures.valid kept.frames (fetched g c)
+          (λ none. rw c.in-Ok.is at (kept.whole none));
+      brings = fetched_brings c.args.page c.args.cache.now c.fetch.new.self c.dirty_list-whole.ensures.valid (fetched g c);
+      newest = rw c.in-Ok.is at kept.newest;
     }
+
+pub returns-in-Err-clause-fetches : goal.returns-in-Err-clause-fetches
+returns-in-Err-clause-fetches g c =
+    let M = g.M.Machine in
+    let S = g.S.PageSource in
+    let kept = c.fetch.ensures in
+    let fault = c.in-Err.fault in
+    subst (λ (refusal : Refusal). FetchesOnly M S c.args.source.now (outer_refusal refusal) c.args.m.now c.fetch.new.m c.args.cache.now c.fetch.new.self) (sym c.refusal_of.ensures)
+    (refused_fetch M S c.args.source.now c.args.m.now c.fetch.new.m c.args.page c.args.cache.now c.fetch.new.self fault c.requires.page (rw c.in-Err.is at kept.kept)
+    (reads_told (ap (device_in fetch_failed_at) (sym c.in-Err.is)) kept.reads) (rw c.in-Err.is at kept.lost))
 
 pub returns-in-Ok-clause-pins : goal.returns-in-Ok-clause-pins
 returns-in-Ok-clause-pins g c = fetched_pins c.args.page c.args.cache.now c.fetch.new.self c.dirty_list-whole.ensures.valid (fetched g c)

@@ -1,19 +1,24 @@
 use Rattle.std.proofs.Common.{◌≡◌, List, ℕ, length, sym, subst, ap, ◌∙◌, arith, rules}
 use Rattle.std.proofs.lemmas.List.{nil_from_length, with_items_is}
-use Rattle.sector_disk.proofs.Moments.{started}
+use Rattle.sector_disk.proofs.CallLaws.{writes_none}
 use Rattle.group_commit.specs.Resident.{ResidentValue}
 use Rattle.sector_disk.specs.Damage.{IsDevice}
 use Rattle.group_commit.specs.Entering.{RecordCause, LosesLogged}
 use Rattle.group_commit.specs.Force.{stamped_by, Committed}
+use Rattle.group_commit.specs.Forces.{ForceLeaves}
 use Rattle.group_commit.proofs.CommitLaws.{idle_commits, idle_committed}
 use Rattle.group_commit.proofs.force.Group.force.Goals as goal
 
-pub returns-then-count-eq0-clause-any_moment : goal.returns-then-count-eq0-clause-any_moment
-returns-then-count-eq0-clause-any_moment g c windows records disk h ends over known =
-    let M = g.M.Machine in
+pub returns-then-count-eq0-clause-disk : goal.returns-then-count-eq0-clause-disk
+returns-then-count-eq0-clause-disk g c =
     let at = c.args.m.now in
-    started M.moment M.left_since at (M.now at) _ (λ left now. g.met.M.Machine.only_now at left h now)
-    (idle_commits c.args.log.now c.args.pages.now records disk (stamped_by c.args.log.now c.args.pages.now) windows (M.now at) over)
+    let log = c.args.log.now in
+    let pages = c.args.pages.now in
+    writes_none at (λ left h now. g.met.M.Machine.only_now at left h now) (ForceLeaves log pages)
+    (λ h windows records disk ends over known. idle_commits log pages records disk (stamped_by log pages) windows (g.M.Machine.now at) over)
+
+pub returns-in-Err-clause-cause : goal.returns-in-Err-clause-cause
+returns-in-Err-clause-cause g c = subst (RecordCause c.args.log.now (length c.args.pages.now.dirty)) (sym c.force_fault.ensures) (search rules)
 
 pub returns-then-count-eq0-clause-done : goal.returns-then-count-eq0-clause-done
 returns-then-count-eq0-clause-done g c windows records disk h ends over known =
@@ -30,11 +35,6 @@ returns-in-Ok-clause-done g c windows records disk h ends over known =
     let long : length pages ≡ c.pages.inside.pages.len = search rules in
     subst (λ (p : List (List ℕ)). Committed log (record { pages = p; dirty = c.clear.new.self.items }) windows image) (sym (with_items_is c.pages.inside.pages pages long))
     (subst (λ (d : List ℕ). Committed log (record { pages = pages; dirty = d }) windows image) (sym c.clear.ensures) done)
-
-pub returns-in-Err-clause-fault : goal.returns-in-Err-clause-fault
-returns-in-Err-clause-fault g c =
-    let M = g.M.Machine in
-    subst (RecordCause c.args.log.now (length c.args.pages.now.dirty) (M.report c.args.m.now) (M.report c.write_pages.new.m)) (sym c.force_fault.ensures) (search rules)
 
 pub returns-in-Err-clause-lost : goal.returns-in-Err-clause-lost
 returns-in-Err-clause-lost g c h = subst (LosesLogged c.args.log.now (g.M.Machine.now c.write_pages.new.m).image) (sym c.force_fault.ensures) (c.in-Err.ensures.lost h)

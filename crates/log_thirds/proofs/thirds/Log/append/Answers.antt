@@ -42,7 +42,7 @@ pub returns-in_err-write_record-clause-worn_moment : goal.returns-in_err-write_r
 returns-in_err-write_record-clause-worn_moment g c records h1 is_log =
     let M = g.M.Machine in
     let old = c.args.m.now in
-    let h0 = c.write_record.ensures.trust.honest h1 in
+    let h0 = c.write_record.ensures.writes.trust.honest h1 in
     let image = (M.now old).image in
     let sized = g.met.M.Machine.sized old h0 in
     let log = c.args.self.now in
@@ -67,13 +67,13 @@ returns-in_err-write_record-clause-worn_moment g c records h1 is_log =
     (λ left part. worn_appends log c.args.pages.now c.args.images.now (length (M.now old).image) may (M.now old) refl records is_log left
     (subst (λ (p : ℕ). StandsInPart p (laid_bytes (stamp_now log) c.args.pages.now c.args.images.now) (record_len (length c.args.pages.now)) (M.now old) left) place
     (subst (λ (s : Stamp). StandsInPart c.place-place.result (laid_bytes s c.args.pages.now c.args.images.now) (record_len (length c.args.pages.now)) (M.now old) left) (sym stamp) part)))
-    (c.write_record.ensures.torn h1)
+    (c.write_record.ensures.writes.any_moment h1)
 
 pub returns-clause-worn_moment : goal.returns-clause-worn_moment
 returns-clause-worn_moment g c records h1 is_log =
     let M = g.M.Machine in
     let old = c.args.m.now in
-    let h0 = c.write_record.ensures.trust.honest h1 in
+    let h0 = c.write_record.ensures.writes.trust.honest h1 in
     let image = (M.now old).image in
     let sized = g.met.M.Machine.sized old h0 in
     let log = c.args.self.now in
@@ -98,13 +98,13 @@ returns-clause-worn_moment g c records h1 is_log =
     (λ left part. worn_appends log c.args.pages.now c.args.images.now (length (M.now old).image) may (M.now old) refl records is_log left
     (subst (λ (p : ℕ). StandsInPart p (laid_bytes (stamp_now log) c.args.pages.now c.args.images.now) (record_len (length c.args.pages.now)) (M.now old) left) place
     (subst (λ (s : Stamp). StandsInPart c.place-place.result (laid_bytes s c.args.pages.now c.args.images.now) (record_len (length c.args.pages.now)) (M.now old) left) (sym stamp) part)))
-    (c.write_record.ensures.torn h1)
+    (c.write_record.ensures.writes.any_moment h1)
 
 pub returns-clause-worn_done : goal.returns-clause-worn_done
 returns-clause-worn_done g c records h1 narrow is_log =
     let M = g.M.Machine in
     let old = c.args.m.now in
-    let h0 = c.write_record.ensures.trust.honest h1 in
+    let h0 = c.write_record.ensures.writes.trust.honest h1 in
     let image = (M.now old).image in
     let sized = g.met.M.Machine.sized old h0 in
     let log = c.args.self.now in

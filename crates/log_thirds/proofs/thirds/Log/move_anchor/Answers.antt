@@ -38,11 +38,11 @@ returns-in_err-write_anchor-clause-worn_moment g c records h indexed stands =
       ends = c.requires.ends;
     } in
     let inside : 16 + 3 * log.layout.third ≤ log.layout.sectors = subst (λ (x : LogValue). 16 + 3 * x.layout.third ≤ x.layout.sectors) c.self.view_is c.self.invariant.inside in
-    let sized = g.met.M.Machine.sized c.args.m.now (c.write_anchor.ensures.trust.honest h) in
+    let sized = g.met.M.Machine.sized c.args.m.now (c.write_anchor.ensures.writes.trust.honest h) in
     let room : 16 ≤ length (M.now c.args.m.now).image = omega (arith, inside, sized, c.requires.sectors) in
     leaves_more M.moment M.left_since c.args.m.now c.write_anchor.new.m _ _
     (λ left part. moves_worn log records old left room (subst (λ (a : Anchor). AnchorsIn a old left) anchor part) stands may indexed.firsts)
-    (c.write_anchor.ensures.any_moment h)
+    (c.write_anchor.ensures.writes.any_moment h)
 
 pub returns-clause-worn_moment : goal.returns-clause-worn_moment
 returns-clause-worn_moment g c records h indexed stands =
@@ -63,11 +63,11 @@ returns-clause-worn_moment g c records h indexed stands =
       ends = c.requires.ends;
     } in
     let inside : 16 + 3 * log.layout.third ≤ log.layout.sectors = subst (λ (x : LogValue). 16 + 3 * x.layout.third ≤ x.layout.sectors) c.self.view_is c.self.invariant.inside in
-    let sized = g.met.M.Machine.sized c.args.m.now (c.write_anchor.ensures.trust.honest h) in
+    let sized = g.met.M.Machine.sized c.args.m.now (c.write_anchor.ensures.writes.trust.honest h) in
     let room : 16 ≤ length (M.now c.args.m.now).image = omega (arith, inside, sized, c.requires.sectors) in
     leaves_more M.moment M.left_since c.args.m.now c.write_anchor.new.m _ _
     (λ left part. moves_worn log records old left room (subst (λ (a : Anchor). AnchorsIn a old left) anchor part) stands may indexed.firsts)
-    (c.write_anchor.ensures.any_moment h)
+    (c.write_anchor.ensures.writes.any_moment h)
 
 pub returns-clause-worn_done : goal.returns-clause-worn_done
 returns-clause-worn_done g c records h indexed stands =
@@ -88,7 +88,7 @@ returns-clause-worn_done g c records h indexed stands =
       ends = c.requires.ends;
     } in
     let inside : 16 + 3 * log.layout.third ≤ log.layout.sectors = subst (λ (x : LogValue). 16 + 3 * x.layout.third ≤ x.layout.sectors) c.self.view_is c.self.invariant.inside in
-    let sized = g.met.M.Machine.sized c.args.m.now (c.write_anchor.ensures.trust.honest h) in
+    let sized = g.met.M.Machine.sized c.args.m.now (c.write_anchor.ensures.writes.trust.honest h) in
     let room : 16 ≤ length (M.now c.args.m.now).image = omega (arith, inside, sized, c.requires.sectors) in
     let by : c.third-third.result ≡ log.layout.third = c.third-third.ensures.value ∙ ap (λ (x : LogValue). x.layout.third) c.self.view_is in
     let long : length c.drop_in.new.slots ≡ length c.as_mut_slice.result.now = ap length c.drop_in.ensures ∙ length-map c.as_mut_slice.result.now (slot_outside c.third_start-start.result c.third-third.result) in

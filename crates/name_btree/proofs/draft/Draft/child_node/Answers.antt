@@ -21,7 +21,11 @@ returns-in_err-node-clause-fault g c =
     let new = g.T.Pages.step c.node_at.new.t in
     let sheets = c.args.self.now.sheets.items in
     let child = c.args.child.now in
-    let Outer = g.T.Pages.causes c.args.t.now c.node_at.new.t in
     let B : List (List ℕ) → ℕ → Type 0 = λ (pages : List (List ℕ)) (other : ℕ). (other ≡ child.page) × (page_at (drafted sheets pages) child.page ≡ None) in
     let p = err_from_is_err_and c.from_residual.result c.from_residual.ensures.1 in
-    rw (p.1, p.2) (fails_by_map Outer Outer new B (λ pages. IsMisfit (drafted sheets pages) child) (λ r x. x) (λ images page is h. (h.0, ap (content_fits child.low child.high) h.1)) c.in_err-node.field-0.0 c.in_err-node.ensures.fault)
+    rw (p.1, p.2) (fails_by_map new B (λ pages. IsMisfit (drafted sheets pages) child) (λ images page is h. (h.0, ap (content_fits child.low child.high) h.1)) c.in_err-node.field-0.0 c.in_err-node.ensures.fault)
+
+pub returns-in_err-node-clause-calls : goal.returns-in_err-node-clause-calls
+returns-in_err-node-clause-calls g c =
+    let p = err_from_is_err_and c.from_residual.result c.from_residual.ensures.1 in
+    rw (p.1, p.2) c.in_err-node.ensures.calls

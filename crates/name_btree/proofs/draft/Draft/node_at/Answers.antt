@@ -77,9 +77,8 @@ returns-in-None-clause-fault g c =
     let new = g.T.Pages.step c.node_at.new.t in
     let sheets = c.args.self.now.sheets.items in
     let page : ℕ = c.args.page in
-    let Outer = g.T.Pages.causes c.args.t.now c.node_at.new.t in
     let none : last_sheet page sheets ≡ None = ap (last_sheet page) (sym c.as_slice.ensures.value) ∙ sym c.in-None.ensures in
     let count = c.node_at.ensures.calls.looks.count in
     let B : List (List ℕ) → ℕ → Type 0 = λ (pages : List (List ℕ)) (other : ℕ). (other ≡ page) × (page_at (drafted sheets pages) page ≡ None) in
-    if_err_more c.node_at.result (HasCause Outer new Never (BarsPage new page)) (FailsBy Outer new B)
-    (λ fault h. fails_at Outer new page B (λ pages agrees out. (refl, drafted_at sheets pages page (subst (λ (n : ℕ). page < n) (sym (agrees.count ∙ count)) c.requires.within) ∙ ap (by_sheet page pages) none ∙ out)) fault h) c.node_at.ensures.fault
+    if_err_more c.node_at.result (HasCause new Never (BarsPage new page)) (FailsBy new B)
+    (λ fault h. fails_at new page B (λ pages agrees out. (refl, drafted_at sheets pages page (subst (λ (n : ℕ). page < n) (sym (agrees.count ∙ count)) c.requires.within) ∙ ap (by_sheet page pages) none ∙ out)) fault h) c.node_at.ensures.fault

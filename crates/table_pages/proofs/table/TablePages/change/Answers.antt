@@ -16,8 +16,8 @@ dirty-requires-clause-resident g c = there c.args.self.now c.args.page c.require
 pub invariant_of-self : goal.invariant_of-self
 invariant_of-self g c =
     let t = c.args.self.now in
-    let kept = kept_dirty g.M.Machine g.S.PageSource t.source.now t.m.now t.cache.now t.free.now t.reached.items t.spares.items t.promised t.kept c.args.page (there t c.args.page c.requires.reached) in
-    record { kept = subst (λ (x : CacheValue). IsKept g.M.Machine g.S.PageSource t.m.now x t.source.now t.free.now t.reached.items t.spares.items t.promised) (sym c.dirty.ensures.list) kept }
+    let kept = kept_dirty g.M.Machine g.S.PageSource t.source.now t.made_over.value t.made_with.value t.m.now t.cache.now t.free.now t.reached.items t.spares.items t.promised t.kept c.args.page (there t c.args.page c.requires.reached) in
+    record { kept = subst (λ (x : CacheValue). IsKept g.M.Machine g.S.PageSource t.made_over.value t.made_with.value t.m.now x t.source.now t.free.now t.reached.items t.spares.items t.promised) (sym c.dirty.ensures.list) kept }
 
 -- the page that is marked is written
 is : (g : given.Over) (c : After-dirty g) (w : List ℕ) → with_bytes c.args.page w c.dirty.new.self ≡ with_written c.args.page w c.args.self.now.cache.now
@@ -28,8 +28,8 @@ is g c w =
 pub invariant_of-self-lent : goal.invariant_of-self-lent
 invariant_of-self-lent g c = λ w.
     let t = c.args.self.now in
-    let kept = kept_written g.M.Machine g.S.PageSource t.m.now t.cache.now t.source.now t.free.now t.reached.items t.spares.items t.promised t.kept c.args.page w in
-    (subst (λ (x : CacheValue). IsKept g.M.Machine g.S.PageSource t.m.now x t.source.now t.free.now t.reached.items t.spares.items t.promised) (sym (is g (goal.at.invariant_of-self-lent g c).After-dirty w)) kept, tt)
+    let kept = kept_written g.M.Machine g.S.PageSource t.made_over.value t.made_with.value t.m.now t.cache.now t.source.now t.free.now t.reached.items t.spares.items t.promised t.kept c.args.page w in
+    (subst (λ (x : CacheValue). IsKept g.M.Machine g.S.PageSource t.made_over.value t.made_with.value t.m.now x t.source.now t.free.now t.reached.items t.spares.items t.promised) (sym (is g (goal.at.invariant_of-self-lent g c).After-dirty w)) kept, tt)
 
 pub returns : goal.returns
 returns g c =

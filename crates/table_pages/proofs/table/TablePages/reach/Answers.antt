@@ -1,12 +1,13 @@
-use Rattle.std.proofs.Common.{◌≡◌, inl, inr, ◌∙◌, ℕ, ◌+◌, List, length, true, refl, sym, ap, subst, arith}
+use Rattle.std.proofs.Common.{◌≡◌, inl, inr, ◌∙◌, ℕ, ◌+◌, List, None, length, true, refl, sym, ap, subst, arith}
 use Rattle.std.specs.Prelude.{IsSome, option_and_then}
 use Rattle.fsd_formats.specs.NamePage.{read_page}
 use Rattle.page_cache.specs.Cache.{IsResident, newest, pins_of}
-use Rattle.name_page.specs.Pages.{is_one_of}
+use Rattle.name_page.specs.Pages.{is_one_of, outer_in}
 use Rattle.name_page.proofs.StepLaws.{last_is_one}
 use Rattle.table_pages.specs.Bringing.{HasRoom, FetchesOnly, content_in, given_by}
 use Rattle.table_pages.specs.Kept.{IsKept}
 use Rattle.table_pages.specs.ImageLaws.{image_count}
+use Rattle.table_pages.proofs.LastLaws.{Lasts}
 use Rattle.table_pages.proofs.PinLaws.{set_only, only_there}
 use Rattle.table_pages.proofs.SpareLaws.{room_pins, kept_pins, fetches_pins}
 use Rattle.table_pages.proofs.KeptLaws.{kept_room, kept_brought, kept_reached, fetched_images}
@@ -15,11 +16,15 @@ use Rattle.table_pages.proofs.table.TablePages.reach.Given as given
 use Rattle.table_pages.proofs.table.TablePages.reach.Goals as goal
 use Rattle.table_pages.proofs.table.TablePages.reach.Goals.{After-bring_used, After-keep}
 
+-- what the source knows lasts
+lasts : (g : given.Over) → Lasts g.S.PageSource
+lasts g = record { knows = g.met.S.PageSource.wears; newest = g.met.S.PageSource.stays }
+
 room : (g : given.Over) (c : After-bring_used g) → HasRoom 1 c.args.self.now.cache.now
 room g c =
     let t = c.args.self.now in
     let more = c.requires.more in let few = t.kept.few_spares in
-    kept_room g.M.Machine g.S.PageSource t.source.now t.m.now t.cache.now t.free.now t.reached.items t.spares.items t.promised t.kept 1 (omega (arith, more, few))
+    kept_room g.M.Machine g.S.PageSource t.source.now t.made_over.value t.made_with.value t.m.now t.cache.now t.free.now t.reached.items t.spares.items t.promised t.kept 1 (omega (arith, more, few))
 
 pub bring_used-requires-clause-page : goal.bring_used-requires-clause-page
 bring_used-requires-clause-page g c = within_pages c.args.self.now c.args.page c.requires.within
@@ -28,15 +33,15 @@ pub bring_used-requires-clause-room : goal.bring_used-requires-clause-room
 bring_used-requires-clause-room g c =
     let t = c.args.self.now in
     let more = c.requires.more in let few = t.kept.few_spares in
-    kept_room g.M.Machine g.S.PageSource t.source.now t.m.now t.cache.now t.free.now t.reached.items t.spares.items t.promised t.kept 1 (omega (arith, more, few))
+    kept_room g.M.Machine g.S.PageSource t.source.now t.made_over.value t.made_with.value t.m.now t.cache.now t.free.now t.reached.items t.spares.items t.promised t.kept 1 (omega (arith, more, few))
 
 -- what is kept once the page is brought
 brought : (g : given.Over) (c : After-bring_used g) → let t = c.args.self.now in
-    IsKept g.M.Machine g.S.PageSource c.bring_used.new.m c.bring_used.new.cache t.source.now t.free.now t.reached.items t.spares.items t.promised
+    IsKept g.M.Machine g.S.PageSource t.made_over.value t.made_with.value c.bring_used.new.m c.bring_used.new.cache t.source.now t.free.now t.reached.items t.spares.items t.promised
 brought g c =
     let t = c.args.self.now in
-    kept_brought g.M.Machine g.S.PageSource t.source.now t.m.now t.cache.now t.free.now t.reached.items t.spares.items t.promised t.kept c.bring_used.new.m c.bring_used.new.cache
-    c.bring_used.ensures.fetches c.bring_used.ensures.pins
+    kept_brought g.M.Machine g.S.PageSource t.source.now t.made_over.value t.made_with.value t.m.now t.cache.now t.free.now t.reached.items t.spares.items t.promised t.kept (outer_in c.bring_used.result) c.bring_used.new.m c.bring_used.new.cache
+    c.bring_used.ensures.fetches (lasts g) c.bring_used.ensures.pins
 
 pub keep-requires : goal.keep-requires
 keep-requires g c =
@@ -50,32 +55,37 @@ invariant_of-self g c =
     let t = c.args.self.now in
     let mid = c.bring_used.new.cache in
     let more = c.requires.more in
-    let kept = kept_reached g.M.Machine g.S.PageSource t.source.now c.bring_used.new.m mid t.free.now t.reached.items t.spares.items t.promised
+    let kept = kept_reached g.M.Machine g.S.PageSource t.source.now t.made_over.value t.made_with.value c.bring_used.new.m mid t.free.now t.reached.items t.spares.items t.promised
     (brought g (goal.at.invariant_of-self g c).After-bring_used) c.keep.new.cache c.args.page c.keep.ensures.pinned c.in-Ok.ensures.there (omega (arith, more)) in
-    record { kept = subst (λ (reached : List ℕ). IsKept g.M.Machine g.S.PageSource c.bring_used.new.m c.keep.new.cache t.source.now t.free.now reached t.spares.items t.promised) (sym c.keep.ensures.noted) kept }
+    record { kept = subst (λ (reached : List ℕ). IsKept g.M.Machine g.S.PageSource t.made_over.value t.made_with.value c.bring_used.new.m c.keep.new.cache t.source.now t.free.now reached t.spares.items t.promised) (sym c.keep.ensures.noted) kept }
 
 pub invariant_of-self-in-Err : goal.invariant_of-self-in-Err
 invariant_of-self-in-Err g c = record { kept = brought g (goal.at.invariant_of-self-in-Err g c).After-bring_used }
 
 -- the page was brought and is pinned
-fetches : (g : given.Over) (c : After-keep g) → let t = c.args.self.now in FetchesOnly g.M.Machine g.S.PageSource t.source.now t.m.now c.bring_used.new.m t.cache.now c.keep.new.cache
+fetches : (g : given.Over) (c : After-keep g) → let t = c.args.self.now in FetchesOnly g.M.Machine g.S.PageSource t.source.now None t.m.now c.bring_used.new.m t.cache.now c.keep.new.cache
 fetches g c =
     let t = c.args.self.now in
     let mid = c.bring_used.new.cache in
     let page = c.args.page in
     let set = c.keep.ensures.pinned in
-    fetches_pins g.M.Machine g.S.PageSource t.source.now t.m.now c.bring_used.new.m t.cache.now mid c.keep.new.cache c.bring_used.ensures.fetches
+    fetches_pins g.M.Machine g.S.PageSource t.source.now None t.m.now c.bring_used.new.m t.cache.now mid c.keep.new.cache c.in-Ok.ensures.fetches
     (set_only mid c.keep.new.cache page (pins_of mid page + 1) set)
     (λ q. let more = kept_pins mid c.keep.new.cache page set c.in-Ok.ensures.there q in omega (arith, more))
 
+pub returns-in-Ok-clause-outside : goal.returns-in-Ok-clause-outside
+returns-in-Ok-clause-outside g c =
+    let all = fetches g (goal.at.returns-in-Ok-clause-outside g c).After-keep in
+    record { reads = all.reads; loses = all.loses; fills = all.fills; source = refl; machine = refl; cache = refl; free = refl; made_over = refl; made_with = refl }
+
 pub returns-in-Ok-clause-kept : goal.returns-in-Ok-clause-kept
-returns-in-Ok-clause-kept g c = fetched_keeps c.args.self.now c.bring_used.new.m c.keep.new.cache (fetches g (goal.at.returns-in-Ok-clause-kept g c).After-keep)
+returns-in-Ok-clause-kept g c = fetched_keeps c.args.self.now None c.bring_used.new.m c.keep.new.cache (fetches g (goal.at.returns-in-Ok-clause-kept g c).After-keep)
 
 pub returns-in-Ok-clause-stays : goal.returns-in-Ok-clause-stays
 returns-in-Ok-clause-stays g c = λ trusted.
     let t = c.args.self.now in
-    fetched_images g.M.Machine g.S.PageSource t.source.now t.m.now t.cache.now t.free.now t.reached.items t.spares.items t.promised t.kept c.bring_used.new.m c.keep.new.cache
-    (fetches g (goal.at.returns-in-Ok-clause-stays g c).After-keep) trusted
+    fetched_images g.M.Machine g.S.PageSource t.source.now t.made_over.value t.made_with.value t.m.now t.cache.now t.free.now t.reached.items t.spares.items t.promised t.kept None c.bring_used.new.m c.keep.new.cache
+    (fetches g (goal.at.returns-in-Ok-clause-stays g c).After-keep) (lasts g) trusted
 
 pub returns-in-Ok-clause-reached : goal.returns-in-Ok-clause-reached
 returns-in-Ok-clause-reached g c =
@@ -99,13 +109,13 @@ returns-in-Ok-clause-accepted g c =
     subst (λ o. IsSome o) (sym (is ∙ same)) c.in-Ok.ensures.accepted
 
 pub returns-in-Err-clause-kept : goal.returns-in-Err-clause-kept
-returns-in-Err-clause-kept g c = fetched_keeps c.args.self.now c.bring_used.new.m c.bring_used.new.cache c.bring_used.ensures.fetches
+returns-in-Err-clause-kept g c = fetched_keeps c.args.self.now (outer_in c.bring_used.result) c.bring_used.new.m c.bring_used.new.cache c.bring_used.ensures.fetches
 
 pub returns-in-Err-clause-stays : goal.returns-in-Err-clause-stays
 returns-in-Err-clause-stays g c = λ trusted.
     let t = c.args.self.now in
-    fetched_images g.M.Machine g.S.PageSource t.source.now t.m.now t.cache.now t.free.now t.reached.items t.spares.items t.promised t.kept c.bring_used.new.m c.bring_used.new.cache
-    c.bring_used.ensures.fetches trusted
+    fetched_images g.M.Machine g.S.PageSource t.source.now t.made_over.value t.made_with.value t.m.now t.cache.now t.free.now t.reached.items t.spares.items t.promised t.kept (outer_in c.bring_used.result) c.bring_used.new.m c.bring_used.new.cache
+    c.bring_used.ensures.fetches (lasts g) trusted
 
 pub returns-in-Err-clause-cause : goal.returns-in-Err-clause-cause
 returns-in-Err-clause-cause g c =

@@ -1,19 +1,26 @@
 use Rattle.std.proofs.Common.{◌-◌, length, arith}
+use Rattle.name_page.specs.Pages.{outer_in}
+use Rattle.table_pages.proofs.LastLaws.{Lasts}
 use Rattle.table_pages.proofs.KeptLaws.{kept_room, kept_spares, fetched_images}
 use Rattle.table_pages.proofs.StepLaws.{fetched_keeps}
+use Rattle.table_pages.proofs.table.TablePages.spare.Given as given
 use Rattle.table_pages.proofs.table.TablePages.spare.Goals as goal
+
+-- what the source knows lasts
+lasts : (g : given.Over) → Lasts g.S.PageSource
+lasts g = record { knows = g.met.S.PageSource.wears; newest = g.met.S.PageSource.stays }
 
 pub spare_pages-requires-clause-room : goal.spare_pages-requires-clause-room
 spare_pages-requires-clause-room g c =
     let t = c.args.self.now in
     let few = t.kept.few_spares in let most = t.kept.few_reached in
-    kept_room g.M.Machine g.S.PageSource t.source.now t.m.now t.cache.now t.free.now t.reached.items t.spares.items t.promised t.kept (16 - length t.spares.items) (omega (arith, few, most))
+    kept_room g.M.Machine g.S.PageSource t.source.now t.made_over.value t.made_with.value t.m.now t.cache.now t.free.now t.reached.items t.spares.items t.promised t.kept (16 - length t.spares.items) (omega (arith, few, most))
 
 pub invariant_of-self : goal.invariant_of-self
 invariant_of-self g c =
     let t = c.args.self.now in
     record {
-      kept = kept_spares g.M.Machine g.S.PageSource t.source.now t.m.now t.cache.now t.free.now t.reached.items t.spares.items t.promised t.kept c.spare_pages.new.m c.spare_pages.new.cache c.spare_pages.new.spares.items c.args.n
+      kept = kept_spares g.M.Machine g.S.PageSource t.source.now t.made_over.value t.made_with.value t.m.now t.cache.now t.free.now t.reached.items t.spares.items t.promised t.kept (lasts g) (outer_in c.spare_pages.result) c.spare_pages.new.m c.spare_pages.new.cache c.spare_pages.new.spares.items c.args.n
           c.spare_pages.ensures.only c.spare_pages.ensures.few c.in-Ok.ensures.kept;
     }
 
@@ -22,24 +29,24 @@ invariant_of-self-in-Err g c =
     let t = c.args.self.now in
     let was = t.kept.enough in let more = c.spare_pages.ensures.more in
     record {
-      kept = kept_spares g.M.Machine g.S.PageSource t.source.now t.m.now t.cache.now t.free.now t.reached.items t.spares.items t.promised t.kept c.spare_pages.new.m c.spare_pages.new.cache c.spare_pages.new.spares.items t.promised
+      kept = kept_spares g.M.Machine g.S.PageSource t.source.now t.made_over.value t.made_with.value t.m.now t.cache.now t.free.now t.reached.items t.spares.items t.promised t.kept (lasts g) (outer_in c.spare_pages.result) c.spare_pages.new.m c.spare_pages.new.cache c.spare_pages.new.spares.items t.promised
           c.spare_pages.ensures.only c.spare_pages.ensures.few (omega (arith, was, more));
     }
 
 pub returns-in-Ok-clause-kept : goal.returns-in-Ok-clause-kept
-returns-in-Ok-clause-kept g c = fetched_keeps c.args.self.now c.spare_pages.new.m c.spare_pages.new.cache c.spare_pages.ensures.only.fetches
+returns-in-Ok-clause-kept g c = fetched_keeps c.args.self.now (outer_in c.spare_pages.result) c.spare_pages.new.m c.spare_pages.new.cache c.spare_pages.ensures.only.fetches
 
 pub returns-in-Ok-clause-stays : goal.returns-in-Ok-clause-stays
 returns-in-Ok-clause-stays g c = λ trusted.
     let t = c.args.self.now in
-    fetched_images g.M.Machine g.S.PageSource t.source.now t.m.now t.cache.now t.free.now t.reached.items t.spares.items t.promised t.kept c.spare_pages.new.m c.spare_pages.new.cache
-    c.spare_pages.ensures.only.fetches trusted
+    fetched_images g.M.Machine g.S.PageSource t.source.now t.made_over.value t.made_with.value t.m.now t.cache.now t.free.now t.reached.items t.spares.items t.promised t.kept (outer_in c.spare_pages.result) c.spare_pages.new.m c.spare_pages.new.cache
+    c.spare_pages.ensures.only.fetches (lasts g) trusted
 
 pub returns-in-Err-clause-kept : goal.returns-in-Err-clause-kept
-returns-in-Err-clause-kept g c = fetched_keeps c.args.self.now c.spare_pages.new.m c.spare_pages.new.cache c.spare_pages.ensures.only.fetches
+returns-in-Err-clause-kept g c = fetched_keeps c.args.self.now (outer_in c.spare_pages.result) c.spare_pages.new.m c.spare_pages.new.cache c.spare_pages.ensures.only.fetches
 
 pub returns-in-Err-clause-stays : goal.returns-in-Err-clause-stays
 returns-in-Err-clause-stays g c = λ trusted.
     let t = c.args.self.now in
-    fetched_images g.M.Machine g.S.PageSource t.source.now t.m.now t.cache.now t.free.now t.reached.items t.spares.items t.promised t.kept c.spare_pages.new.m c.spare_pages.new.cache
-    c.spare_pages.ensures.only.fetches trusted
+    fetched_images g.M.Machine g.S.PageSource t.source.now t.made_over.value t.made_with.value t.m.now t.cache.now t.free.now t.reached.items t.spares.items t.promised t.kept (outer_in c.spare_pages.result) c.spare_pages.new.m c.spare_pages.new.cache
+    c.spare_pages.ensures.only.fetches (lasts g) trusted

@@ -1,0 +1,5 @@
+pub mod CountLaws
+pub mod PageLaws
+pub mod TableLaws
+pub mod TakenLaws
+pub mod WearLaws

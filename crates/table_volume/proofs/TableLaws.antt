@@ -1,0 +1,96 @@
+-- The table of a volume that stands over its disk: its pages are a tree, which a look-up reads as the volume's definitions answer.
+use Rattle.std.proofs.Common.{◌≡◌, inl, inr, ℕ, zero, suc, ◌+◌, ◌<◌, ◌≤◌, Bool, true, false, cond, not, List, [], ◌∷◌, length, map, Option, Some, None, refl, sym, ap, ◌∙◌, arith}
+use Rattle.std.specs.Prelude.{Contains, slice_index_or, ◌==◌}
+use Rattle.std.specs.List.{list_any, range_with_len}
+use Rattle.std.specs.Option.{unwrap_or}
+use Rattle.std.proofs.lemmas.Bool.{cases_lt, eq-eqb, or_left, or_right}
+use Rattle.volume_layout.specs.declared.layout.Layout.{Layout}
+use Rattle.sector_disk.specs.Machine.{Moment}
+use Rattle.fsd_bytes.specs.declared.key.Key.{Key}
+use Rattle.fsd_bytes.specs.Keys.{key_lt, same_key}
+use Rattle.fsd_formats.specs.declared.entry.Entry.{Entry}
+use Rattle.page_cache.specs.Cache.{IsCache, newest}
+use Rattle.name_page.specs.Lookups.{entry_with, entry_after}
+use Rattle.fsd_table.specs.Table.{BreaksTable, Telling, Visit, visits}
+use Rattle.fsd_table.specs.Tree.{IsTree, pages_of, table_of}
+use Rattle.fsd_table.proofs.ToldLaws.{broken_tells_nothing}
+use Rattle.fsd_table.proofs.TreeLaws.{told_tree}
+use Rattle.fsd_table.proofs.VisitLaws.{tree_told}
+use Rattle.fsd_files.specs.Answers.{entry_of, entry_after as entry_behind}
+use Rattle.fsd_sound.proofs.EachLaws.{items_by_place}
+use Rattle.group_commit.specs.Newest.{newest_by}
+use Rattle.group_commit.proofs.StandsLaws.{gives_disk}
+use Rattle.table_pages.specs.Kept.{images_of}
+use Rattle.volume_contract.specs.State.{Known, Stands}
+use Rattle.table_volume.specs.State.{Holds, state}
+use Rattle.table_volume.specs.Volume.{IsWhole, VolumeValue}
+use Rattle.table_volume.proofs.PageLaws.{over, page_read}
+
+-- ---- look-ups among entries
+
+with_is : (key : Key) (entries : List Entry) → entry_with key entries ≡ entry_of key entries
+with_is key [] = refl
+with_is key (e ∷ entries) = ap (λ (o : Option Entry). cond (same_key e.key key) (Some e) o) (with_is key entries)
+
+behind_is : (after : Option Key) (entries : List Entry) → entry_after after entries ≡ entry_behind after entries
+behind_is None [] = refl
+behind_is (Some key) [] = refl
+behind_is None (e ∷ entries) = refl
+behind_is (Some key) (e ∷ entries) = ap (λ (o : Option Entry). cond (key_lt key e.key) (Some e) o) (behind_is (Some key) entries)
+
+-- ---- a page that a path reaches
+
+any_visit : (page : ℕ) (all : List Visit) (v : Visit) (i : ℕ) → i < length all → slice_index_or all i v ≡ v → v.page ≡ page → list_any (λ visit. visit.page == page) all ≡ true
+any_visit page [] v i lt is at = absurd (omega arith)
+any_visit page (w ∷ all) v zero lt is at = or_left (w.page == page) _ (eq-eqb w.page page (ap (λ (x : Visit). x.page) is ∙ at))
+any_visit page (w ∷ all) v (suc i) lt is at = or_right (w.page == page) _ (any_visit page all v i (omega arith) is at)
+
+past_flags : (flags : List Bool) (page : ℕ) → length flags ≤ page → slice_index_or flags page false ≡ false
+past_flags [] page over = refl
+past_flags (f ∷ flags) zero over = absurd (omega arith)
+past_flags (f ∷ flags) (suc page) over = past_flags flags page (omega arith)
+
+-- ---- over the disk
+
+module _ (v : VolumeValue) (k : Known) (now : Moment) (whole : IsWhole v) (stands : Stands state Holds v k now) where
+  as_many : length v.free_pages ≡ length k.mounted.pages
+  as_many =
+      let at = over v k now whole stands in
+      let size : length stands.disk.disk ≡ v.log.layout.pages = (gives_disk v.log.layout v.log.anchor v.log.head stands.disk.records stands.disk.disk k.mounted.pages v.cache.dirty k.windows now.image at).size in
+      omega (arith, whole.pages, ap (λ (l : Layout). l.pages) whole.log, size, at.clean.size)
+
+  -- what is read of all pages
+  pub pages_read : IsCache v.cache → images_of (newest v.cache (newest_by v.log now.image)) (length v.free_pages) ≡ k.mounted.pages
+  unfolding images_of
+  pages_read cache =
+      ap (λ (n : ℕ). map (λ page. unwrap_or (newest v.cache (newest_by v.log now.image) page) []) (range_with_len 0 n)) as_many
+      ∙ items_by_place 0 k.mounted.pages [] (λ page. unwrap_or (newest v.cache (newest_by v.log now.image) page) []) (λ page lt.
+      let at : 0 + page ≡ page = omega arith in
+      let within : page < v.layout.pages = omega (arith, lt, as_many, whole.pages) in
+      ap (λ (n : ℕ). unwrap_or (newest v.cache (newest_by v.log now.image) n) []) at ∙ ap (λ (o : Option (List ℕ)). unwrap_or o []) (page_read v k now whole stands page within cache))
+
+  -- the pages are a tree of the volume's entries
+  pub is_tree : (height : ℕ) × IsTree k.mounted.pages height × (table_of k.mounted.pages height ≡ k.mounted.volume.entries)
+  is_tree =
+      let tree = told_tree k.mounted.pages _ stands.disk.in_memory in
+      let told = sym (tree_told k.mounted.pages tree.0 tree.1) ∙ stands.disk.in_memory in (
+        tree.0,
+        tree.1,
+        ap (λ (t : Telling). t.entries) (let same : record { entries = table_of k.mounted.pages tree.0; reached = length (pages_of k.mounted.pages tree.0) } ≡ record { entries = k.mounted.volume.entries; reached = k.mounted.volume.reached } = cc told in same),
+      )
+
+  -- none of them breaks it, and none that a path reaches is free
+  pub unbroken : (page : ℕ) → BreaksTable k.mounted.pages page → ⊥
+  unbroken page broken = absurd (cc (broken_tells_nothing k.mounted.pages page broken, stands.disk.in_memory))
+
+  pub not_spare : (visit : Visit) → Contains (visits k.mounted.pages) visit → slice_index_or v.free_pages visit.page false ≡ false
+  not_spare visit reached = elim (cases_lt visit.page v.layout.pages) [
+    | inl lt ↦ stands.holds.free_pages visit.page lt ∙ ap not (any_visit visit.page (visits k.mounted.pages) visit reached.0 reached.1 reached.2 refl)
+    | inr past ↦ past_flags v.free_pages visit.page (omega (arith, past, whole.pages))
+  ]
+
+  pub found_with : (key : Key) → (height : ℕ) × IsTree k.mounted.pages height × (entry_with key (table_of k.mounted.pages height) ≡ entry_of key k.mounted.volume.entries)
+  found_with key = (is_tree.0, is_tree.1, ap (entry_with key) is_tree.2 ∙ with_is key k.mounted.volume.entries)
+
+  pub found_behind : (after : Option Key) → (height : ℕ) × IsTree k.mounted.pages height × (entry_after after (table_of k.mounted.pages height) ≡ entry_behind after k.mounted.volume.entries)
+  found_behind after = (is_tree.0, is_tree.1, ap (entry_after after) is_tree.2 ∙ behind_is after k.mounted.volume.entries)

@@ -1,0 +1,3 @@
+pub mod State
+pub mod Taken
+pub mod Volume

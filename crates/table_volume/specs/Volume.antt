@@ -1,0 +1,52 @@
+-- A volume by its parts, and what holds of them over any machine.
+use Rattle.std.specs.Prelude.{◌≡◌, ℕ, Bool, List, [], Option, None, length, replicate, IsTrue, IsFalse}
+use Rattle.volume_layout.specs.declared.layout.Layout.{Layout}
+use Rattle.volume_layout.specs.Layout.{data_start}
+use Rattle.run_table.specs.Space.{contains}
+use Rattle.fsd_bytes.specs.declared.key.Serial.{Serial}
+use Rattle.sector_set.specs.Area.{Area, area}
+use Rattle.shadow_frees.specs.Waits.{Waits, waits}
+use Rattle.log_thirds.specs.LogValue.{LogValue}
+use Rattle.page_cache.specs.Cache.{CacheValue, pins_of}
+
+-- The layout, the free sectors, those that wait, the log, the pages in memory, a flag for each page whether it is free, the serial
+-- that the next creation draws, the number of versions, and the place of the force that failed.
+pub record VolumeValue : Type 0 where
+  pub layout : Layout
+  pub map : Area
+  pub shadow : Waits
+  pub log : LogValue
+  pub cache : CacheValue
+  pub free_pages : List Bool
+  pub serial : Serial
+  pub versions : ℕ
+  pub down : Option ℕ
+
+-- so many pages are in memory at most
+abbrev pub frames : ℕ
+frames = 256
+
+-- the set is of sectors of the data area
+abbrev pub IsOfData : Layout → Area → Type 0
+IsOfData l m = m ≡ area (data_start l) l.sectors (contains m.sectors)
+
+-- no reader holds a version, and no creation is unfinished
+pub record IsUnread (w : Waits) : Type 0 where
+  pub kept : w.kept.sectors ≡ []
+  pub unfinished : w.unfinished.sectors ≡ []
+  pub held : w.held ≡ replicate 8 None
+
+-- The map and the shadow are of the data area, and no free sector waits; the log is the layout's, in the epoch of the serials; each
+-- name page is free or not, and none is pinned.
+pub record IsWhole (v : VolumeValue) : Type 0 where
+  pub map : IsOfData v.layout v.map
+  pub removed : IsOfData v.layout v.shadow.removed
+  pub kept : IsOfData v.layout v.shadow.kept
+  pub unfinished : IsOfData v.layout v.shadow.unfinished
+  pub apart : (s : ℕ) → IsTrue (contains v.map.sectors s) → IsFalse (waits v.shadow s)
+  pub unread : IsUnread v.shadow
+  pub log : v.log.layout ≡ v.layout
+  pub epoch : v.serial.epoch ≡ v.log.anchor.epoch
+  pub pages : length v.free_pages ≡ v.layout.pages
+  pub room : v.cache.frames ≡ frames
+  pub unpinned : (page : ℕ) → pins_of v.cache page ≡ 0

@@ -1,0 +1,13 @@
+//! A volume whose files stand in a name table of many pages, which are read through a cache.
+#![tactic(auto)]
+
+mod counting;
+mod entries;
+mod laws;
+mod volume;
+
+pub use laws::{
+    entries_are_taken, pages_are_read, resident_pages_are_shown, untaken_entries_break,
+    volumes_wear,
+};
+pub use volume::Volume;

@@ -1,0 +1,37 @@
+//! A mounted volume.
+ghost use Rattle.std.specs.Prelude.{◌≡◌};
+
+use alloc_map::Map;
+use fsd_bytes::Serial;
+use log_thirds::Log;
+use page_cache::Cache;
+use shadow_frees::Shadow;
+use std::marker::Model;
+use table_pages::FreePages;
+use volume_layout::Layout;
+
+/// A mounted volume. The pages of its name table are read through a cache, and those that are changed wait there for a force.
+/// No more of its table is in memory than the cache has: an entry that is met is tested against the map and the shadow.
+#[derive(Drop)]
+pub struct Volume {
+    pub(crate) layout: Layout,
+    pub(crate) map: Map,
+    pub(crate) shadow: Shadow,
+    pub(crate) log: Log,
+    pub(crate) cache: Cache,
+    pub(crate) free_pages: FreePages,
+    pub(crate) serial: Serial,
+    pub(crate) versions: u32,
+    // Where a force has failed.
+    pub(crate) down: Option<u32>,
+}
+
+impl Model for Volume {
+    ghost use Rattle.table_volume.specs.Volume.{VolumeValue, IsWhole};
+
+    ghost Value = { VolumeValue };
+
+    ghost view = { λ v. record { layout = v.layout; map = v.map; shadow = v.shadow; log = v.log; cache = v.cache; free_pages = v.free_pages; serial = v.serial; versions = v.versions; down = v.down } };
+
+    ghost invariant = { λ v. IsWhole (record { layout = v.layout; map = v.map; shadow = v.shadow; log = v.log; cache = v.cache; free_pages = v.free_pages; serial = v.serial; versions = v.versions; down = v.down }) };
+}
