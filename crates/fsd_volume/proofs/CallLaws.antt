@@ -1,8 +1,7 @@
 -- What calls of the disk owe, one behind another.
-use Rattle.std.proofs.Common.{◌≡◌, ◌∙◌, ℕ, arith, refl, subst}
+use Rattle.std.proofs.Common.{◌∙◌, arith, refl, subst}
 use Rattle.sector_disk.specs.Image.{IsWorn, Windows, open_damage}
-use Rattle.sector_disk.specs.Machine.{Report, Ledger, UsesDisk, OnlyWrites, Moment, Wears, Elapses, LeavesOnly}
-use Rattle.sector_disk.proofs.Moments.{goes_on, leaves_more, started, then_on}
+use Rattle.sector_disk.specs.Machine.{Report, Ledger, UsesDisk, OnlyWrites, Moment, Wears}
 use Rattle.sector_disk.proofs.Wear.{worn_refl, worn_trans}
 
 pub uses_on : {a b c : Report} → UsesDisk a b → UsesDisk b c → UsesDisk a c

@@ -1,13 +1,11 @@
 -- Images that are laid one over another, worn.
-use Rattle.std.proofs.Common.{◌≡◌, ℕ, ◌+◌, ◌/◌, Bool, List, length, set, sym, ◌∙◌, ap, subst, arith, add-one}
+use Rattle.std.proofs.Common.{◌≡◌, ℕ, ◌+◌, ◌/◌, List, length, set, sym, ap, subst, arith, add-one}
 use Rattle.std.proofs.lemmas.List.{take_all}
 use Rattle.sector_disk.specs.declared.sector.Sector.{Sector}
 use Rattle.sector_disk.specs.declared.sector.Sector.TheVariants.{Whole}
-use Rattle.sector_disk.specs.Image.{IsWorn, Windows, open_damage, lay, stand, slice_of}
+use Rattle.sector_disk.specs.Image.{lay, stand, slice_of}
 use Rattle.sector_disk.specs.Machine.{Moment, Holds, Writes}
-use Rattle.sector_disk.proofs.Wear.{worn_trans, set_worn, lay_worn}
-use Rattle.sector_disk.specs.Image.{IsCalm}
-use Rattle.sector_disk.proofs.Calm.{calm_worn}
+use Rattle.sector_disk.proofs.Wear.{set_worn}
 use Rattle.sector_disk.proofs.Holding.{holds_now, holds_writes}
 use Rattle.sector_disk.specs.Image.{with_sector}
 use Rattle.version_data.proofs.LayLaws.{Monotone, holds_then}

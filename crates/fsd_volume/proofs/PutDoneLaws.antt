@@ -1,6 +1,6 @@
 -- What a put answers, and what the volume and its disk are then.
-use Rattle.std.proofs.Common.{◌≡◌, inl, inr, ℕ, suc, ◌+◌, ◌<◌, ◌≤◌, Bool, true, false, not, ◌&&◌, cond, nat_lt, List, [], ◌∷◌, ◌++◌, length, Option, Some, None, Result, Ok, Err, refl, sym, ap, subst, ◌∙◌, arith}
-use Rattle.std.specs.Prelude.{T, IsTrue, IsSome, IfSome, IfOk, slice_index_or}
+use Rattle.std.proofs.Common.{◌≡◌, ℕ, suc, ◌+◌, ◌<◌, ◌≤◌, Bool, true, false, not, ◌&&◌, cond, nat_lt, List, [], ◌∷◌, ◌++◌, length, Option, Some, None, Result, Ok, Err, refl, sym, ap, subst, ◌∙◌, arith}
+use Rattle.std.specs.Prelude.{T, IsTrue, IsSome, IfSome, IfOk}
 use Rattle.std.specs.List.{flat_map}
 use Rattle.std.specs.FinMap.{is_sorted}
 use Rattle.std.proofs.lemmas.Bool.{lt-ltb, le-ltb, both_ways}
@@ -32,7 +32,6 @@ use Rattle.fsd_volume.specs.OneLeaf.{IsOneLeaf, has_name, leaf_used, leaf_put_in
 use Rattle.fsd_files.specs.Replies.{Refused, Made}
 use Rattle.fsd_files.specs.Volume.{Volume, drawn, is_free, place_for, plans_of, entries_at, entries_without, free_runs}
 use Rattle.fsd_sound.specs.Mounted.{ChangesTo, image_at, SameTaken}
-use Rattle.fsd_sound.specs.Shown.{told}
 use Rattle.fsd_sound.proofs.MountedLaws.{still_mounted, still_records, still_told, drawn_mounted, drawn_records, change_mounted, change_records}
 use Rattle.log_thirds.specs.Append.{IsIndexed}
 use Rattle.fsd_volume.specs.Put.{names, placed, made_by, rewritten, AreNew, Enters, EntersOk, entered, PutSays, Puts, PutsOn}

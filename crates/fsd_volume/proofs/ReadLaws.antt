@@ -1,5 +1,5 @@
 -- What a read of a version answers, by what the read of its range does.
-use Rattle.std.proofs.Common.{◌≡◌, ◌∙◌, ℕ, ◌+◌, ◌≤◌, Option, Some, List, ◌++◌, length, take, drop, sym, ap, subst, arith, length-take}
+use Rattle.std.proofs.Common.{◌≡◌, ◌∙◌, ℕ, ◌+◌, ◌≤◌, Some, List, length, take, drop, sym, ap, subst, arith, length-take}
 use Rattle.std.specs.Prelude.{IfErr, IsErrAnd, Result, Ok, Err}
 use Rattle.std.proofs.lemmas.List.{length-drop, take_at}
 use Rattle.fsd_bytes.specs.declared.refusal.Refusal.{Refusal}
@@ -32,7 +32,7 @@ pub ends_so : (e : Entry) (from room : ℕ) (fault : DataFault) → ReadEnds (So
 ends_so e from room (Device place) = tt
 ends_so e from room (Damaged s) = tt
 
-pub damaged_so : {T : Type 0} (i j : Image) (e : Entry) (from room n : ℕ) (fault : DataFault) → n ≡ part_len e from room → NamesFirst i j e.runs from n fault → DamagedIn {T} i j (Some e) from room (Err (refusal_of fault))
+pub damaged_so : (i j : Image) (e : Entry) (from room n : ℕ) (fault : DataFault) → n ≡ part_len e from room → NamesFirst i j e.runs from n fault → DamagedIn {T = ℕ} i j (Some e) from room (Err (refusal_of fault))
 damaged_so i j e from room n (Device place) is names = tt
 damaged_so i j e from room n (Damaged s) is names = subst (λ (m : ℕ). NamesFirst i j e.runs from m (Damaged s)) is names
 

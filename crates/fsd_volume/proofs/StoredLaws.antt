@@ -1,21 +1,19 @@
 -- A version of the table: how many sectors it takes, and that they lie in the data area.
-use Rattle.std.proofs.Common.{◌≡◌, ℕ, zero, suc, ◌+◌, ◌^◌, ◌<◌, ◌≤◌, Bool, true, false, ◌&&◌, List, [], ◌∷◌, ◌++◌, length, Some, refl, sym, ap, subst, ◌∙◌, arith, cond}
-use Rattle.std.specs.Prelude.{IsTrue, nat_le, nat_lt, ◌==◌, All, slice_index_or, map}
+use Rattle.std.proofs.Common.{◌≡◌, ℕ, zero, suc, ◌+◌, ◌^◌, ◌<◌, ◌≤◌, Bool, true, false, ◌&&◌, List, [], ◌∷◌, length, Some, subst, arith, cond}
+use Rattle.std.specs.Prelude.{IsTrue, nat_le, nat_lt, All, slice_index_or, map}
 use Rattle.std.specs.List.{list_all, range_with_len}
-use Rattle.std.proofs.lemmas.Bool.{and_parts, leb-true, ltb-true, eqb-true}
-use Rattle.std.proofs.lemmas.List.{length-append}
-use Rattle.std.proofs.lemmas.List.Sums.{sum_by-cons}
+use Rattle.std.proofs.lemmas.Bool.{and_parts, ltb-true}
 use Rattle.volume_layout.specs.declared.layout.Layout.{Layout}
 use Rattle.volume_layout.specs.Layout.{data_start, is_data}
 use Rattle.volume_layout.proofs.RootLaws.{planned_bounds}
 use Rattle.fsd_bytes.specs.declared.key.Key.{Key}
-use Rattle.fsd_bytes.specs.Keys.{same_key, is_key}
+use Rattle.fsd_bytes.specs.Keys.{same_key}
 use Rattle.fsd_bytes.specs.Names.{is_between}
 use Rattle.run_table.specs.declared.run.Run.{Run}
-use Rattle.run_table.specs.RunTable.{sectors_of, total, are_runs, max_runs}
+use Rattle.run_table.specs.RunTable.{sectors_of}
 use Rattle.run_table.specs.Space.{contains}
 use Rattle.fsd_formats.specs.declared.entry.Entry.{Entry}
-use Rattle.fsd_formats.specs.NamePage.{is_entry, sectors_for, max_length, max_keep, Leaf, contents_of, are_ascending, room, least_used}
+use Rattle.fsd_formats.specs.NamePage.{is_entry, Leaf, contents_of, are_ascending, room, least_used}
 use Rattle.fsd_files.specs.Answers.{entry_of}
 use Rattle.fsd_files.specs.Volume.{plans_of}
 use Rattle.version_data.proofs.PlaceLaws.{entry_lengths, index_there}

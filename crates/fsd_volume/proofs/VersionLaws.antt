@@ -4,7 +4,7 @@ use Rattle.std.specs.Prelude.{IsTrue, IsFalse, IfSome, slice_get}
 use Rattle.std.specs.List.{AllZip}
 use Rattle.run_table.specs.RunTable.{sectors_of}
 use Rattle.run_table.specs.Space.{contains}
-use Rattle.sector_disk.specs.Image.{sector_at, IsCalm, Windows, open_damage}
+use Rattle.sector_disk.specs.Image.{sector_at, IsCalm, open_damage}
 use Rattle.sector_disk.specs.Machine.{Moment}
 use Rattle.sector_disk.proofs.Calm.{calm_nowhere}
 use Rattle.fsd_formats.specs.declared.entry.Entry.{Entry}

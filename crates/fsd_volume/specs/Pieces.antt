@@ -1,13 +1,8 @@
 -- What a read of a part of a version gives.
-use Rattle.std.specs.Prelude.{◌≡◌, ◌-◌, ◌≤◌, ℕ, List, length, min, take, drop, Option, Some, None, Result, Ok, Err, ⊤}
-use Rattle.fsd_bytes.specs.Bytes.{with_bytes}
+use Rattle.std.specs.Prelude.{◌≡◌, ◌-◌, ◌≤◌, ℕ, List, length, min, take, Option, Some, None, Result, Ok, Err, ⊤}
 use Rattle.fsd_bytes.specs.declared.refusal.Refusal.{Refusal}
 use Rattle.fsd_bytes.specs.declared.refusal.Refusal.TheVariants.{Damaged as DamagedSector, Device, NoSuch}
 use Rattle.run_table.specs.declared.run.Run.{Run}
-use Rattle.sector_disk.specs.declared.sector.Sector.TheVariants.{Whole, Damaged}
-use Rattle.sector_disk.specs.declared.machine.Seen.{Seen}
-use Rattle.sector_disk.specs.declared.machine.Seen.TheVariants.{Whole as SeenWhole, Damaged as SeenDamaged}
-use Rattle.sector_disk.specs.Image.{sector_at}
 use Rattle.fsd_formats.specs.declared.entry.Entry.{Entry}
 use Rattle.fsd_files.specs.Disk.{Image, Sectors}
 use Rattle.fsd_files.specs.Kept.{FirstDamaged, Got, Gives, KeptIn, range_sectors}

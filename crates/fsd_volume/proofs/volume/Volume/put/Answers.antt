@@ -1,5 +1,4 @@
 use Rattle.std.proofs.Common.{◌+◌, ◌<◌, ◌^◌, ℕ, List, [], Err, length, refl, sym, ap, subst, ◌∙◌, arith, rules}
-use Rattle.std.specs.Prelude.{slice_index_or}
 use Rattle.std.proofs.lemmas.Bool.{both_ways}
 use Rattle.std.proofs.lemmas.List.{append-nil}
 use Rattle.run_table.specs.RunTable.{sectors_of}
@@ -8,8 +7,6 @@ use Rattle.sector_disk.proofs.Moments.{started, leaves_more}
 use Rattle.sector_set.specs.Area.{Area}
 use Rattle.fsd_formats.specs.declared.entry.Entry.{Entry}
 use Rattle.fsd_formats.specs.NamePage.{sectors_for}
-use Rattle.fsd_files.specs.Answers.{HasLeader}
-use Rattle.fsd_files.specs.Disk.{Image, nowhere}
 use Rattle.fsd_files.specs.Files.{Change}
 use Rattle.fsd_volume.specs.OneLeaf.{leaf_put_outcome}
 use Rattle.fsd_files.specs.Volume.{drawn}
