@@ -1,8 +1,7 @@
 -- What calls of the disk owe, one behind another.
-use Rattle.std.proofs.Common.{◌≡◌, ◌∙◌, ℕ, arith, refl, subst}
+use Rattle.std.proofs.Common.{◌∙◌, arith, refl, subst}
 use Rattle.sector_disk.specs.Image.{IsWorn, Windows, open_damage}
-use Rattle.sector_disk.specs.Machine.{Report, Ledger, UsesDisk, OnlyWrites, Moment, Wears, Elapses, LeavesOnly}
-use Rattle.sector_disk.proofs.Moments.{goes_on, leaves_more, started, then_on}
+use Rattle.sector_disk.specs.Machine.{Report, Ledger, UsesDisk, OnlyWrites, Moment, Wears}
 use Rattle.sector_disk.proofs.Wear.{worn_refl, worn_trans}
 
 pub uses_on : {a b c : Report} → UsesDisk a b → UsesDisk b c → UsesDisk a c
@@ -25,17 +24,3 @@ wears_on {a} {b} {c} first second = record {
   windows = second.windows ∙ first.windows;
   said = second.said ∙ first.said;
 }
-
--- ---- moments of calls that only wear
-
-module _ {D : Type 0} (moment : D → ℕ) (left_since : D → ℕ → Moment → Type 0) where
-  pub no_call_wears : (old : D) (at : Moment) → ((c : Moment) → left_since old (moment old) c → c ≡ at) → LeavesOnly moment left_since old old (Wears at)
-  no_call_wears old at only = started moment left_since old at (Wears at) only (wears_same at)
-
-  pub call_wears : (old new : D) (at : Moment) → ((c : Moment) → left_since old (moment old) c → c ≡ at) → Elapses (moment old) (moment new) (left_since old) (left_since new) (Wears at)
-      → LeavesOnly moment left_since old new (Wears at)
-  call_wears old new at only time = goes_on moment left_since old old new (Wears at) (Wears at) (no_call_wears old at only) time (λ c wears. wears)
-
-  pub calls_wear : (old mid new : D) (at between : Moment) → LeavesOnly moment left_since old mid (Wears at) → Wears at between → LeavesOnly moment left_since mid new (Wears between)
-      → LeavesOnly moment left_since old new (Wears at)
-  calls_wear old mid new at between first worn second = then_on moment left_since old mid new (Wears at) first (leaves_more moment left_since mid new (Wears between) (Wears at) (λ c wears. wears_on worn wears) second)

@@ -12,7 +12,7 @@ use Rattle.sector_disk.specs.Machine.{Moment, Names, Settles, Holds}
 use Rattle.sector_disk.proofs.Wear.{length-lay, lay_in, lay_other, worn_trans, worn_damaged}
 use Rattle.fsd_sound.specs.Format.{IsFormatted, format_page}
 use Rattle.fsd_volume.specs.Formatting.{IsNew, Formats, with_pages, with_head, with_volume}
-use Rattle.fsd_volume.proofs.Laying.{holds_then, monotone_lay}
+use Rattle.version_data.proofs.LayLaws.{holds_then, monotone_lay}
 use Rattle.fsd_volume.proofs.HeadLaws.{monotone_head, length-head, head_behind, head_at, head_blank}
 
 module _ (l : Layout) (planned : plan l.sectors l.third l.pages ≡ Ok l) where

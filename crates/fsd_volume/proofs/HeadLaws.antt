@@ -14,7 +14,8 @@ use Rattle.sector_disk.specs.Image.{with_sector}
 use Rattle.sector_disk.specs.Machine.{Moment, Holds}
 use Rattle.fsd_volume.specs.Formatting.{with_head, with_blanks}
 use Rattle.std.specs.Prelude.{slice_set}
-use Rattle.fsd_volume.proofs.Laying.{holds_then, Monotone, monotone_lay, monotone_sector}
+use Rattle.version_data.proofs.LayLaws.{holds_then, Monotone, monotone_lay}
+use Rattle.fsd_volume.proofs.Laying.{monotone_sector}
 
 abbrev blanks_at : Sector → List Sector → ℕ → List Sector
 blanks_at b i first = lay i first (λ k. b) 3

@@ -1,33 +1,17 @@
 -- Images that are laid one over another, worn.
-use Rattle.std.proofs.Common.{◌≡◌, ℕ, ◌+◌, ◌/◌, Bool, List, length, set, sym, ◌∙◌, ap, subst, arith, add-one}
+use Rattle.std.proofs.Common.{◌≡◌, ℕ, ◌+◌, ◌/◌, List, length, set, sym, ap, subst, arith, add-one}
 use Rattle.std.proofs.lemmas.List.{take_all}
 use Rattle.sector_disk.specs.declared.sector.Sector.{Sector}
 use Rattle.sector_disk.specs.declared.sector.Sector.TheVariants.{Whole}
-use Rattle.sector_disk.specs.Image.{IsWorn, Windows, open_damage, lay, stand, slice_of}
+use Rattle.sector_disk.specs.Image.{lay, stand, slice_of}
 use Rattle.sector_disk.specs.Machine.{Moment, Holds, Writes}
-use Rattle.sector_disk.proofs.Wear.{worn_trans, set_worn, lay_worn}
-use Rattle.sector_disk.specs.Image.{IsCalm}
-use Rattle.sector_disk.proofs.Calm.{calm_worn}
+use Rattle.sector_disk.proofs.Wear.{set_worn}
 use Rattle.sector_disk.proofs.Holding.{holds_now, holds_writes}
 use Rattle.sector_disk.specs.Image.{with_sector}
-
--- what a call makes of an image it makes of a worn one, worn
-pub record Monotone (f : List Sector → List Sector) : Type 0 where
-  pub worn : (may : ℕ → Bool) (a b : List Sector) → IsWorn may a b → IsWorn may (f a) (f b)
-
--- one call behind another
-pub holds_then : (f : List Sector → List Sector) (old mid new : Moment) (a : List Sector) → Monotone f → Holds old a mid → Holds mid (f mid.image) new → Holds old (f a) new
-holds_then f old mid new a monotone first second = record {
-  worn = worn_trans (open_damage old.windows) _ _ _ (monotone.worn (open_damage old.windows) a mid.image first.worn) (subst (λ (w : Windows). IsWorn (open_damage w) (f mid.image) new.image) first.windows second.worn);
-  windows = second.windows ∙ first.windows;
-  said = second.said ∙ first.said;
-}
+use Rattle.version_data.proofs.LayLaws.{Monotone, holds_then}
 
 pub monotone_sector : (place : ℕ) (bytes : List ℕ) → Monotone (λ image. with_sector image place bytes)
 monotone_sector place bytes = record { worn = λ may a b worn. set_worn may a b place (Whole bytes) worn }
-
-pub monotone_lay : (first : ℕ) (sector : ℕ → Sector) (k : ℕ) → Monotone (λ image. lay image first sector k)
-monotone_lay first sector k = record { worn = λ may a b worn. lay_worn may a b first sector k worn }
 
 -- a write of one sector
 pub one_slice : (bytes : List ℕ) → length bytes ≡ 512 → slice_of bytes 0 ≡ bytes
@@ -48,7 +32,3 @@ holds_row old mid new first sector k bytes is so_far next =
     let more = holds_then (λ image. with_sector image (first + k) bytes) old mid new (lay old.image first sector k) (monotone_sector (first + k) bytes) so_far next in
     let here = subst (λ (x : Sector). Holds old (set (lay old.image first sector k) (first + k) x) new) is more in
     subst (λ (n : ℕ). Holds old (lay old.image first sector n) new) (sym (add-one k)) here
-
--- where no sector may wear, the image is what was laid
-pub calm_holds : (old new : Moment) (image : List Sector) → IsCalm old.windows → Holds old image new → new.image ≡ image
-calm_holds old new image calm holds = calm_worn old.windows image new.image calm holds.worn

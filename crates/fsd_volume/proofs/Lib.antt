@@ -13,16 +13,13 @@ pub mod MountEnds
 pub mod MountLaws
 pub mod MountMoments
 pub mod OneLeafLaws
-pub mod PieceLaws
 pub mod PlaceLaws
 pub mod PlanLaws
 pub mod PutDoneLaws
 pub mod PutLaws
 pub mod RefusalLaws
-pub mod RowLaws
+pub mod ReadLaws
 pub mod RunApartLaws
-pub mod SliceLaws
 pub mod StoredLaws
 pub mod TableLaws
 pub mod VersionLaws
-pub mod WritingLaws

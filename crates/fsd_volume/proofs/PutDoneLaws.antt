@@ -1,6 +1,6 @@
 -- What a put answers, and what the volume and its disk are then.
-use Rattle.std.proofs.Common.{◌≡◌, inl, inr, ℕ, suc, ◌+◌, ◌<◌, ◌≤◌, Bool, true, false, not, ◌&&◌, cond, nat_lt, List, [], ◌∷◌, ◌++◌, length, Option, Some, None, Result, Ok, Err, refl, sym, ap, subst, ◌∙◌, arith}
-use Rattle.std.specs.Prelude.{T, IsTrue, IsSome, IfSome, IfOk, slice_index_or}
+use Rattle.std.proofs.Common.{◌≡◌, ℕ, suc, ◌+◌, ◌<◌, ◌≤◌, Bool, true, false, not, ◌&&◌, cond, nat_lt, List, [], ◌∷◌, ◌++◌, length, Option, Some, None, Result, Ok, Err, refl, sym, ap, subst, ◌∙◌, arith}
+use Rattle.std.specs.Prelude.{T, IsTrue, IsSome, IfSome, IfOk}
 use Rattle.std.specs.List.{flat_map}
 use Rattle.std.specs.FinMap.{is_sorted}
 use Rattle.std.proofs.lemmas.Bool.{lt-ltb, le-ltb, both_ways}
@@ -20,7 +20,6 @@ use Rattle.run_table.specs.RunTable.{sectors_of, total}
 use Rattle.run_table.specs.Space.{contains, runs_of, pick, best}
 use Rattle.sector_disk.specs.Image.{sector_at, IsCalm}
 use Rattle.sector_disk.specs.Machine.{Moment}
-use Rattle.sector_disk.proofs.Calm.{calm_nowhere}
 use Rattle.fsd_formats.specs.declared.entry.Entry.{Entry}
 use Rattle.fsd_formats.specs.NamePage.{room, sectors_for, is_entry, FitsEntry}
 use Rattle.fsd_table.specs.Table.{one_leaf, told_in}
@@ -33,11 +32,10 @@ use Rattle.fsd_volume.specs.OneLeaf.{IsOneLeaf, has_name, leaf_used, leaf_put_in
 use Rattle.fsd_files.specs.Replies.{Refused, Made}
 use Rattle.fsd_files.specs.Volume.{Volume, drawn, is_free, place_for, plans_of, entries_at, entries_without, free_runs}
 use Rattle.fsd_sound.specs.Mounted.{ChangesTo, image_at, SameTaken}
-use Rattle.fsd_sound.specs.Shown.{told}
 use Rattle.fsd_sound.proofs.MountedLaws.{still_mounted, still_records, still_told, drawn_mounted, drawn_records, change_mounted, change_records}
 use Rattle.log_thirds.specs.Append.{IsIndexed}
 use Rattle.fsd_volume.specs.Put.{names, placed, made_by, rewritten, AreNew, Enters, EntersOk, entered, PutSays, Puts, PutsOn}
-use Rattle.fsd_volume.specs.Slices.{with_version, WritesIn}
+use Rattle.version_data.specs.Writing.{WritesIn}
 use Rattle.fsd_volume.specs.State.{State, StandsFor, IsKept, IsSpelled, IsMounted, StaysMounted, mounted_of, free_space}
 use Rattle.fsd_files.proofs.ChangeKept.{version_kept as all_kept}
 use Rattle.fsd_files.proofs.ChangeLaws.{put_changes}
@@ -48,7 +46,7 @@ use Rattle.fsd_files.proofs.ListingLaws.{lists_put, entries_without_none, entrie
 use Rattle.fsd_volume.proofs.PlaceLaws.{free_is, same_runs_free}
 use Rattle.fsd_volume.proofs.PlanLaws.{apart_put}
 use Rattle.fsd_volume.proofs.EnterLaws.{entry_of_put, table_put}
-use Rattle.fsd_volume.proofs.VersionLaws.{length-with_version, version_elsewhere, version_kept}
+use Rattle.fsd_volume.proofs.VersionLaws.{HasWritten, calm_elsewhere}
 
 -- the state whose next serial is drawn
 abbrev pub drawn_state : State → State
@@ -238,32 +236,28 @@ mounted_drawn s v windows h f i mounted = record {
 }
 
 -- the disk with the version in free sectors: all else stands
-pub version_on : (s : State) (v : Volume) (windows : List WeakRun) (h : List Change) (f : ℕ) (i : Image) (e : Entry) (bytes : List ℕ) → length (sectors_of e.runs) ≡ sectors_for (length bytes) → AreNew s.layout (plans_of s.entries) e.runs
-    → IsMounted s v windows h f i → IsMounted (drawn_state s) (drawn v) windows h f (with_version i e bytes)
-version_on s v windows h f i e bytes count new mounted =
-    mounted_drawn s v windows h f (with_version i e bytes)
-    (mounted_beside s v windows h f i (with_version i e bytes) e.runs new (length-with_version i e bytes count new.differ) (λ t absent. version_elsewhere i e bytes count new.differ t absent) mounted)
+pub version_on : (s : State) (v : Volume) (windows : List WeakRun) (h : List Change) (f : ℕ) (i j : Image) (e : Entry) (bytes : List ℕ) → HasWritten i j e bytes → AreNew s.layout (plans_of s.entries) e.runs
+    → IsMounted s v windows h f i → IsMounted (drawn_state s) (drawn v) windows h f j
+version_on s v windows h f i j e bytes written new mounted = mounted_drawn s v windows h f j (mounted_beside s v windows h f i j e.runs new written.size written.elsewhere mounted)
 
 -- at a moment of its writing, where no sector wears
 pub stays_mounted : (s : State) (v : Volume) (windows : List WeakRun) (h : List Change) (f : ℕ) (old left : Moment) (runs : List Run) → AreNew s.layout (plans_of s.entries) runs → IsCalm old.windows → IsMounted s v windows h f old.image
-    → WritesIn (sectors_of runs) old left → StaysMounted s v windows h f old left
+    → WritesIn (contains (sectors_of runs)) old left → StaysMounted s v windows h f old left
 stays_mounted s v windows h f old left runs new calm mounted writes = record {
-  mounted = mounted_beside s v windows h f old.image left.image runs new writes.size (λ t absent. elim (writes.others t absent) [ inl same ↦ same | inr hurt ↦ absurd (calm_nowhere old.windows.present old.windows.next t calm.present calm.next hurt.0) ]) mounted;
+  mounted = mounted_beside s v windows h f old.image left.image runs new writes.touches.size (λ t absent. calm_elsewhere (contains (sectors_of runs)) old left t calm writes absent) mounted;
   windows = writes.windows;
   said = writes.said;
 }
 
 -- what an entry needs to be entered
-pub record Enterable (s : State) (e : Entry) (bytes : List ℕ) (i : Image) : Type 0 where
+pub record Enterable (s : State) (e : Entry) : Type 0 where
   pub free : Area
   pub kept : IsKept s free
   pub good : IsTrue (is_entry e)
   pub fits : FitsEntry e
-  pub count : length (sectors_of e.runs) ≡ sectors_for (length bytes)
   pub new : AreNew s.layout (plans_of s.entries) e.runs
-  pub room : (k : ℕ) → k < length (sectors_of e.runs) → slice_index_or (sectors_of e.runs) k 0 < length i
 
-module _ (s : State) (v : Volume) (name bytes : List ℕ) (given : Option ℕ) (e : Entry) (entering : Entering s v name bytes given e) (i : Image) (may : Enterable s e bytes i) where
+module _ (s : State) (v : Volume) (name bytes : List ℕ) (given : Option ℕ) (e : Entry) (entering : Entering s v name bytes given e) (i j : Image) (written : HasWritten i j e bytes) (may : Enterable s e) where
   abbrev made_volume : Volume
   made_volume = volume_with (drawn v) name bytes given e.runs v.serial 1
 
@@ -284,18 +278,17 @@ module _ (s : State) (v : Volume) (name bytes : List ℕ) (given : Option ℕ) (
 
   -- the volume with the version stands on the disk
   pub entered_on : (windows : List WeakRun) (h : List Change) (f : ℕ) → names e.key.name s.entries ≡ false → leaf_used (entry_put e s.entries) ≤ room
-      → IsMounted s v windows h f i → IsMounted made_state made_volume windows (h ++ Change.Put name given bytes ∷ []) f (with_version i e bytes)
+      → IsMounted s v windows h f i → IsMounted made_state made_volume windows (h ++ Change.Put name given bytes ∷ []) f j
   entered_on windows h f none small mounted =
-      let j : Image = with_version i e bytes in
       let hurt = in_runs windows in
       let absent = has_is s v name bytes given e entering ∙ none in
       let stands = entered_stands s v name bytes given e entering absent in
-      let before = version_on s v windows h f i e bytes may.count may.new mounted in
+      let before = version_on s v windows h f i j e bytes written may.new mounted in
       let gone = keys_gone name bytes given v.files (is_same name) absent in
       let x : Entry = new_entry (drawn v) name bytes given e.runs v.serial in
       let entries = ap (λ (ks : List Key). entries_without ks (entry_put x v.entries)) gone ∙ entries_without_none (entry_put x v.entries) in
       let new_v : AreNew v.layout (plans_of v.entries) e.runs = subst (λ (l : Layout). AreNew l (plans_of v.entries) e.runs) (sym entering.stands.layout) (subst (λ (es : List Entry). AreNew s.layout (plans_of es) e.runs) (sym entering.stands.entries) may.new) in
-      let kept = all_kept hurt j (drawn v) name bytes given e.runs v.serial 1 entering.stands.lists before.on_disk.described.kept (version_kept i e bytes may.count may.new.differ hurt may.room) in
+      let kept = all_kept hurt j (drawn v) name bytes given e.runs v.serial 1 entering.stands.lists before.on_disk.described.kept (written.kept hurt) in
       let need = sectors_for (length bytes) in
       let place : place_for v need ≡ Some e.runs = ap (λ (rs : List Run). pick rs need) (same_runs_free s v entering.stands) ∙ entering.place in
       let sorted = subst (λ (fs : Files). T (is_sorted key_cmp fs)) (sym mounted.on_disk.files) (after_in_order h) in
@@ -322,20 +315,20 @@ module _ (s : State) (v : Volume) (name bytes : List ℕ) (given : Option ℕ) (
         indexed = subst (IsIndexed s.log) (sym (change_records (mounted_of (drawn_state s) (drawn v)) (mounted_of made_state made_volume) windows h f j (Change.Put name given bytes) before.on_disk changes)) before.indexed;
       }
 
-  pub puts_on : (windows : List WeakRun) (h : List Change) (f : ℕ) (j : Image) (new : State) (r : Result Key Refusal) → IsMounted s v windows h f i → j ≡ with_version i e bytes → Enters (drawn_state s) e new r
+  pub puts_on : (windows : List WeakRun) (h : List Change) (f : ℕ) (new : State) (r : Result Key Refusal) → IsMounted s v windows h f i → Enters (drawn_state s) e new r
       → PutsOn s v (leaf_put_outcome v name bytes given) windows h (made_by (Change.Put name given bytes) r) f new j r
-  puts_on windows h f j new r mounted is entered_so = record {
+  puts_on windows h f new r mounted entered_so = record {
     after = after_of s v name bytes given e entering r;
     says = says_entered s v name bytes given e entering new r entered_so;
-    mounted = subst (λ (x : Image). IsMounted new (after_of s v name bytes given e entering r) windows (h ++ made_by (Change.Put name given bytes) r) f x) (sym is) (by r entered_so);
+    mounted = by r entered_so;
   }
     where
-      unchanged : IsMounted (drawn_state s) (drawn v) windows (h ++ []) f (with_version i e bytes)
-      unchanged = subst (λ (g : List Change). IsMounted (drawn_state s) (drawn v) windows g f (with_version i e bytes)) (sym (append-nil h)) (version_on s v windows h f i e bytes may.count may.new mounted)
+      unchanged : IsMounted (drawn_state s) (drawn v) windows (h ++ []) f j
+      unchanged = subst (λ (g : List Change). IsMounted (drawn_state s) (drawn v) windows g f j) (sym (append-nil h)) (version_on s v windows h f i j e bytes written may.new mounted)
 
-      by : (q : Result Key Refusal) → Enters (drawn_state s) e new q → IsMounted new (after_of s v name bytes given e entering q) windows (h ++ made_by (Change.Put name given bytes) q) f (with_version i e bytes)
-      by (Ok key) ok = subst (λ (x : State). IsMounted x made_volume windows (h ++ Change.Put name given bytes ∷ []) f (with_version i e bytes)) (sym ok.now) (entered_on windows h f ok.absent ok.fits mounted)
-      by (Err Why.VersionsUsedUp) x = subst (λ (y : State). IsMounted y (drawn v) windows (h ++ []) f (with_version i e bytes)) (sym x.1) unchanged
-      by (Err (Why.NameTableFull full)) x = subst (λ (y : State). IsMounted y (drawn v) windows (h ++ []) f (with_version i e bytes)) (sym x.1.now) unchanged
-      by (Err Why.Memory) x = subst (λ (y : State). IsMounted y (drawn v) windows (h ++ []) f (with_version i e bytes)) (sym x) unchanged
+      by : (q : Result Key Refusal) → Enters (drawn_state s) e new q → IsMounted new (after_of s v name bytes given e entering q) windows (h ++ made_by (Change.Put name given bytes) q) f j
+      by (Ok key) ok = subst (λ (x : State). IsMounted x made_volume windows (h ++ Change.Put name given bytes ∷ []) f j) (sym ok.now) (entered_on windows h f ok.absent ok.fits mounted)
+      by (Err Why.VersionsUsedUp) x = subst (λ (y : State). IsMounted y (drawn v) windows (h ++ []) f j) (sym x.1) unchanged
+      by (Err (Why.NameTableFull full)) x = subst (λ (y : State). IsMounted y (drawn v) windows (h ++ []) f j) (sym x.1.now) unchanged
+      by (Err Why.Memory) x = subst (λ (y : State). IsMounted y (drawn v) windows (h ++ []) f j) (sym x) unchanged
       by (Err refusal) x = absurd x

@@ -1,5 +1,5 @@
 -- A put: the entry that it makes, its answer, and the disk then.
-use Rattle.std.proofs.Common.{◌≡◌, inl, inr, sym, subst, ◌∙◌, ◌*◌, ℕ, zero, suc, ◌+◌, ◌^◌, ◌<◌, ◌≤◌, Bool, true, false, cond, ◌&&◌, nat_le, nat_lt, List, [], ◌∷◌, length, Option, Some, None, Ok, refl, ap, arith}
+use Rattle.std.proofs.Common.{◌≡◌, inl, inr, sym, subst, ◌∙◌, ℕ, suc, ◌+◌, ◌^◌, ◌<◌, ◌≤◌, Bool, true, false, cond, ◌&&◌, nat_le, nat_lt, List, [], ◌∷◌, length, Option, Some, None, Ok, refl, ap, arith}
 use Rattle.std.specs.Prelude.{IsTrue, All, unwrap_or, ◌==◌}
 use Rattle.std.specs.List.{AllByRecursion, list_all}
 use Rattle.std.proofs.lemmas.Bool.{cases_lt, and_parts, and_from, le-leb, leb-true, ltb-false, eq-eqb}
@@ -20,7 +20,7 @@ use Rattle.run_table.specs.RunTable.{sectors_of}
 use Rattle.fsd_volume.specs.State.{State, IsKept, TakesRecord, free_space}
 use Rattle.fsd_volume.specs.Put.{IsWornOut, last_count, placed, placed_or}
 use Rattle.fsd_volume.proofs.PlaceLaws.{IsPlace, AreSome, picked_place}
-use Rattle.fsd_volume.proofs.StoredLaws.{IsStored, most_sectors, stored_runs, stored_below, stored_count}
+use Rattle.fsd_volume.proofs.StoredLaws.{IsStored, most_sectors, stored_runs, stored_below}
 use Rattle.fsd_bytes.specs.declared.refusal.Refusal.TheVariants.{KeepTooLarge, TooLong}
 use Rattle.fsd_files.specs.Answers.{size_fault, keep_given}
 
@@ -94,17 +94,6 @@ entry_fits l entries e most place good version keep serial length = record {
   runs = runs_fit e.runs place.few.some (stored_runs l e most (entry_stored l entries e place good)) (each_short (sectors_for e.length) e.runs place.few.some (omega (arith, place.count)) (omega arith));
 }
 
-first_and : (r : Run) (runs : List Run) → (1 ≤ r.length) × (r.length ≤ 65535) → All (λ q. (1 ≤ q.length) × (q.length ≤ 65535)) runs → All (λ q. (1 ≤ q.length) × (q.length ≤ 65535)) (r ∷ runs)
-first_and r runs one rest zero d lt = one
-first_and r runs one rest (suc k) d lt = rest k d (omega arith)
-
--- the runs as their writer asks for them
-pub runs_written : (need : ℕ) (runs : List Run) → AreSome runs → total runs ≡ need → need ≤ 65535 → All (λ r. (1 ≤ r.length) × (r.length ≤ 65535)) runs
-runs_written need [] some count few = λ k d lt. absurd (omega arith)
-runs_written need (r ∷ runs) some count few =
-    let all = total-cons r runs in
-    first_and r runs (some.0, omega (arith, all)) (runs_written (total runs) runs some.1 refl (omega (arith, all)))
-
 -- ---- what was chosen
 
 -- the entry of a put, whose runs were picked among the free sectors
@@ -147,17 +136,8 @@ module _ (s : State) (free : Area) (name bytes : List ℕ) (given : Option ℕ) 
   as_stored : IsStored s.layout e
   as_stored = record { entry = made.good; data_sectors = made.is.new.are_data }
 
-  pub chosen_ends : All (λ r. r.start + r.length ≤ 2 ^ 32) e.runs
-  chosen_ends = stored_runs s.layout e (most_sectors s.layout s.entries kept.table) as_stored
-
-  pub chosen_lengths : All (λ r. (1 ≤ r.length) × (r.length ≤ 65535)) e.runs
-  chosen_lengths = let sizes = sizes_fit (keep_given given) (length bytes) made.sizes in runs_written (sectors_for (length bytes)) e.runs made.is.few.some made.is.count (omega (arith, sizes.1))
-
   pub chosen_below : All (λ t. t < s.layout.sectors) (sectors_of e.runs)
   chosen_below = stored_below s.layout e (most_sectors s.layout s.entries kept.table) as_stored
-
-  pub chosen_count : length (sectors_of e.runs) ≡ sectors_for (length bytes)
-  chosen_count = stored_count s.layout e (most_sectors s.layout s.entries kept.table) as_stored ∙ ap sectors_for made.length
 
 -- ---- the log has a number
 

@@ -1,23 +1,22 @@
 -- A version of the table: how many sectors it takes, and that they lie in the data area.
-use Rattle.std.proofs.Common.{◌≡◌, ℕ, zero, suc, ◌+◌, ◌^◌, ◌<◌, ◌≤◌, Bool, true, false, ◌&&◌, List, [], ◌∷◌, ◌++◌, length, Some, refl, sym, ap, subst, ◌∙◌, arith, cond}
-use Rattle.std.specs.Prelude.{IsTrue, nat_le, nat_lt, ◌==◌, All, slice_index_or, map}
+use Rattle.std.proofs.Common.{◌≡◌, ℕ, zero, suc, ◌+◌, ◌^◌, ◌<◌, ◌≤◌, Bool, true, false, ◌&&◌, List, [], ◌∷◌, length, Some, subst, arith, cond}
+use Rattle.std.specs.Prelude.{IsTrue, nat_le, nat_lt, All, slice_index_or, map}
 use Rattle.std.specs.List.{list_all, range_with_len}
-use Rattle.std.proofs.lemmas.Bool.{and_parts, leb-true, ltb-true, eqb-true}
-use Rattle.std.proofs.lemmas.List.{length-append}
-use Rattle.std.proofs.lemmas.List.Sums.{sum_by-cons}
+use Rattle.std.proofs.lemmas.Bool.{and_parts, ltb-true}
 use Rattle.volume_layout.specs.declared.layout.Layout.{Layout}
 use Rattle.volume_layout.specs.Layout.{data_start, is_data}
 use Rattle.volume_layout.proofs.RootLaws.{planned_bounds}
 use Rattle.fsd_bytes.specs.declared.key.Key.{Key}
-use Rattle.fsd_bytes.specs.Keys.{same_key, is_key}
+use Rattle.fsd_bytes.specs.Keys.{same_key}
 use Rattle.fsd_bytes.specs.Names.{is_between}
 use Rattle.run_table.specs.declared.run.Run.{Run}
-use Rattle.run_table.specs.RunTable.{sectors_of, total, are_runs, max_runs}
+use Rattle.run_table.specs.RunTable.{sectors_of}
 use Rattle.run_table.specs.Space.{contains}
 use Rattle.fsd_formats.specs.declared.entry.Entry.{Entry}
-use Rattle.fsd_formats.specs.NamePage.{is_entry, sectors_for, max_length, max_keep, Leaf, contents_of, are_ascending, room, least_used}
+use Rattle.fsd_formats.specs.NamePage.{is_entry, Leaf, contents_of, are_ascending, room, least_used}
 use Rattle.fsd_files.specs.Answers.{entry_of}
 use Rattle.fsd_files.specs.Volume.{plans_of}
+use Rattle.version_data.proofs.PlaceLaws.{entry_lengths, index_there}
 use Rattle.fsd_volume.specs.State.{IsTable}
 use Rattle.fsd_volume.proofs.HomeLaws.{plans_in_data}
 use Rattle.fsd_files.proofs.KeptLaws.{first_there, rest_there, front_there, back_there, plan_sectors}
@@ -78,46 +77,11 @@ runs_end l runs most data_area k d lt short some =
     let below = ltb-true (r.start + 0) l.sectors (and_parts (nat_le (data_start l) (r.start + 0)) (nat_lt (r.start + 0) l.sectors) (data_area (r.start + 0) (run_there runs k 0 d lt some))).1 in
     omega (arith, below)
 
-pub index_there : (xs : List ℕ) (k d : ℕ) → k < length xs → IsTrue (contains xs (slice_index_or xs k d))
-index_there [] k d lt = absurd (omega arith)
-index_there (x ∷ xs) zero d lt = first_there x xs
-index_there (x ∷ xs) (suc k) d lt = rest_there x (slice_index_or xs k d) xs (index_there xs k d (omega arith))
-
-length-range : (start n : ℕ) → length (range_with_len start n) ≡ n
-length-range start zero = refl
-length-range start (suc n) = ap suc (length-range (start + 1) n)
-
-pub length-sectors_of : (runs : List Run) → length (sectors_of runs) ≡ total runs
-length-sectors_of [] = refl
-length-sectors_of (r ∷ runs) =
-    let first : length (range_with_len r.start r.length ++ sectors_of runs) ≡ r.length + total runs =
-    length-append (range_with_len r.start r.length) (sectors_of runs) ∙ ap (λ (n : ℕ). n + length (sectors_of runs)) (length-range r.start r.length) ∙ ap (λ (n : ℕ). r.length + n) (length-sectors_of runs) in
-    first ∙ sym (sum_by-cons (λ (q : Run). q.length) r runs)
-
-all_at : (p : Run → Bool) (runs : List Run) (k : ℕ) (d : Run) → IsTrue (list_all p runs) → k < length runs → IsTrue (p (slice_index_or runs k d))
-all_at p [] k d all lt = absurd (omega arith)
-all_at p (r ∷ runs) zero d all lt = (and_parts (p r) (list_all p runs) all).0
-all_at p (r ∷ runs) (suc k) d all lt = all_at p runs k d (and_parts (p r) (list_all p runs) all).1 (omega arith)
-
 module _ (l : Layout) (e : Entry) (most : l.sectors ≤ 2 ^ 24) (s : IsStored l e) where
-  parts_4 : IsTrue (is_key e.key && nat_le e.keep max_keep && nat_le e.length max_length && are_runs e.runs) × IsTrue (total e.runs == sectors_for e.length)
-  parts_4 = and_parts (is_key e.key && nat_le e.keep max_keep && nat_le e.length max_length && are_runs e.runs) (total e.runs == sectors_for e.length) s.entry
-
-  parts_3 : IsTrue (is_key e.key && nat_le e.keep max_keep && nat_le e.length max_length) × IsTrue (are_runs e.runs)
-  parts_3 = and_parts (is_key e.key && nat_le e.keep max_keep && nat_le e.length max_length) (are_runs e.runs) parts_4.0
-
-  pub stored_length : e.length ≤ max_length
-  stored_length = leb-true e.length max_length (and_parts (is_key e.key && nat_le e.keep max_keep) (nat_le e.length max_length) parts_3.0).1
-
-  pub stored_count : length (sectors_of e.runs) ≡ sectors_for e.length
-  stored_count = length-sectors_of e.runs ∙ eqb-true (total e.runs) (sectors_for e.length) parts_4.1
-
   pub stored_runs : All (λ r. r.start + r.length ≤ 2 ^ 32) e.runs
   stored_runs k d lt =
-      let each = all_at (λ r. is_between 1 65535 r.length) e.runs k d (and_parts (is_between 1 max_runs (length e.runs)) (list_all (λ r. is_between 1 65535 r.length) e.runs) parts_3.1).1 lt in
-      let n : ℕ = (slice_index_or e.runs k d).length in
-      let both = and_parts (nat_le 1 n) (nat_le n 65535) each in
-      runs_end l e.runs most s.data_sectors k d lt (leb-true n 65535 both.1) (leb-true 1 n both.0)
+      let each = entry_lengths e s.entry k d lt in
+      runs_end l e.runs most s.data_sectors k d lt each.1 each.0
 
   pub stored_below : All (λ t. t < l.sectors) (sectors_of e.runs)
   stored_below k d lt =

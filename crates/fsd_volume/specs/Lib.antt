@@ -6,6 +6,5 @@ pub mod OneLeaf
 pub mod Opening
 pub mod Pieces
 pub mod Put
-pub mod Slices
 pub mod State
 pub mod Table

@@ -1,26 +1,11 @@
--- What a read of a part of a sector, and of a range, gives.
-use Rattle.std.specs.Prelude.{◌≡◌, ◌-◌, ◌≤◌, ℕ, List, length, min, take, drop, Option, Some, None, Result, Ok, Err, ⊤}
-use Rattle.fsd_bytes.specs.Bytes.{with_bytes}
+-- What a read of a part of a version gives.
+use Rattle.std.specs.Prelude.{◌≡◌, ◌-◌, ◌≤◌, ℕ, List, length, min, take, Option, Some, None, Result, Ok, Err, ⊤}
 use Rattle.fsd_bytes.specs.declared.refusal.Refusal.{Refusal}
 use Rattle.fsd_bytes.specs.declared.refusal.Refusal.TheVariants.{Damaged as DamagedSector, Device, NoSuch}
 use Rattle.run_table.specs.declared.run.Run.{Run}
-use Rattle.sector_disk.specs.declared.sector.Sector.TheVariants.{Whole, Damaged}
-use Rattle.sector_disk.specs.declared.machine.Seen.{Seen}
-use Rattle.sector_disk.specs.declared.machine.Seen.TheVariants.{Whole as SeenWhole, Damaged as SeenDamaged}
-use Rattle.sector_disk.specs.Image.{sector_at}
 use Rattle.fsd_formats.specs.declared.entry.Entry.{Entry}
 use Rattle.fsd_files.specs.Disk.{Image, Sectors}
 use Rattle.fsd_files.specs.Kept.{FirstDamaged, Got, Gives, KeptIn, range_sectors}
-
--- the bytes of a whole sector that stand in the buffer from a place on
-pub record PartStands (i : Image) (place at to len : ℕ) (old new : List ℕ) : Type 0 where
-  pub bytes : List ℕ
-  pub whole : sector_at i place ≡ Whole bytes
-  pub stands : new ≡ with_bytes to (take len (drop at bytes)) old
-
-abbrev pub ShowsPart : Image → Image → (place at to len : ℕ) → List ℕ → List ℕ → Seen → Type 0
-ShowsPart i j place at to len old new SeenWhole = PartStands i place at to len old new
-ShowsPart i j place at to len old new SeenDamaged = sector_at j place ≡ Damaged
 
 -- all bytes of the range, or its first damaged sector
 abbrev pub GivesRange : {T : Type 0} → Image → Image → List ℕ → List Run → (from n : ℕ) → Result T Refusal → List ℕ → Type 0
@@ -33,12 +18,6 @@ GivesRange i j bytes runs from n (Err refusal) given = ⊥
 abbrev pub NamesDamaged : {T : Type 0} → Image → Image → List Run → (from n : ℕ) → Result T Refusal → Type 0
 NamesDamaged i j runs from n (Err (DamagedSector s)) = FirstDamaged i j (range_sectors runs from n) s
 NamesDamaged i j runs from n result = ⊤
-
--- the refusal is one that the data's sectors give
-abbrev pub OfData : Refusal → Type 0
-OfData (DamagedSector s) = ⊤
-OfData (Device s) = ⊤
-OfData refusal = ⊥
 
 -- how many bytes of a version there are from a place on, in a buffer of this length
 abbrev pub part_len : Entry → (from room : ℕ) → ℕ

@@ -6,11 +6,9 @@ mod formatting;
 mod laws;
 mod mounting;
 mod pages;
-mod pieces;
 mod putting;
 mod reading;
 mod sectors;
-mod slices;
 mod table;
 mod volume;
 

@@ -18,21 +18,18 @@ ghost use Rattle.fsd_volume.specs.Calls.{TellsDevice};
 ghost use Rattle.fsd_sound.specs.Sound.{EndIn};
 ghost use Rattle.group_commit.specs.Resident.{MayWait};
 ghost use Rattle.fsd_volume.specs.Put.{names, placed, made_by, with_leaf, AreNew, Enters, IsWornOut, Puts, PutsOn};
-ghost use Rattle.fsd_volume.specs.Slices.{with_version, WritesIn};
 ghost use Rattle.fsd_volume.specs.State.{StandsFor, TakesRecord, IsMounted, StaysMounted};
 
 use crate::Volume;
-use crate::sectors::write_sector;
-use crate::slices::write_slices;
 use alloc_map::{Map, NoPlace};
 use fsd_bytes::{FileName, Key, Refusal};
-use fsd_formats::{Entry, Leader};
+use fsd_formats::Entry;
 use group_commit::Resident;
-use leader_page::leader_bytes;
 use name_page::{entry_len, write_leaf};
 use run_table::Runs;
-use sector_disk::{Failed, Machine};
+use sector_disk::Machine;
 use std::cmp::Ordering;
+use version_data::write_version;
 
 // The bytes of a leaf that entries take.
 const LEAF_ROOM: usize = 488;
@@ -187,33 +184,6 @@ fn place(map: &Map, need: u32) -> Result<Runs, Refusal>
         Err(NoPlace::NoSpace { need, free }) => Err(Refusal::NoSpace { need, free }),
         Err(NoPlace::TooFragmented { need, best }) => Err(Refusal::TooFragmented { need, best }),
     }
-}
-
-// Writes the data of a version, then its leader.
-fn write_version<M: Machine>(m: &mut M, e: &Entry, bytes: &[u8]) -> Result<(), Failed>
-    requires runs { All (λ r. r.start + r.length ≤ 2 ^ 32) e.now.runs }
-    requires lengths { All (λ r. (1 ≤ r.length) × (r.length ≤ 65535)) e.now.runs }
-    requires in_range { All (λ s. s < (M.report m.old).sectors) (sectors_of e.now.runs) }
-    requires count { length (sectors_of e.now.runs) ≡ sectors_for (length bytes.now) }
-    requires most { length bytes.now ≤ max_length }
-    ensures fault { IfErr result (λ failed. DeviceFault (M.report m.old) (M.report m.new) failed.place) }
-    ensures uses { UsesDisk (M.report m.old) (M.report m.new) }
-    ensures trust { Trusts (M.tells m.old) (M.tells m.new) (M.honest m.old) (M.honest m.new) }
-    ensures ledger { M.tells m.new → OnlyWrites (M.ledger m.old) (M.ledger m.new) }
-    ensures quiet { M.honest m.new → (M.now m.new).said ≡ (M.now m.old).said }
-    ensures windows { M.honest m.new → (M.now m.new).windows ≡ (M.now m.old).windows }
-    ensures any_moment { M.honest m.new → LeavesOnly M.moment M.left_since m.old m.new (WritesIn (sectors_of e.now.runs) (M.now m.old)) }
-    ensures done { OnOk result (M.honest m.new → Holds (M.now m.old) (with_version (M.now m.old).image e.now bytes.now) (M.now m.new)) }
-{
-    write_slices(m, &e.runs, bytes)?;
-    let first = e.runs.sector(0).unwrap();
-    let leader = Leader {
-        serial: e.serial,
-        length: e.length,
-        runs: e.runs.copied(),
-    };
-    write_sector(m, first, &leader_bytes(&leader))?;
-    Ok(())
 }
 
 // Whether an entry has the name.

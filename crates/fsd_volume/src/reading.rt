@@ -10,11 +10,11 @@ ghost use Rattle.fsd_volume.specs.Calls.{TellsDevice};
 ghost use Rattle.fsd_volume.specs.Pieces.{DamagedIn, GivesPart, ReadEnds};
 
 use crate::Volume;
-use crate::pieces::read_range;
 use fsd_bytes::{Key, Refusal};
 use fsd_formats::Entry;
 use sector_disk::Machine;
 use std::cmp::Ordering;
+use version_data::read_range;
 
 impl Volume {
     /// The entry of a version.
@@ -65,10 +65,8 @@ impl Volume {
         }
         let room = buf.len().min(e.length as usize) as u32;
         let n = (e.length - from).min(room);
-        match read_range(m, &e.runs, from, n, buf) {
-            Ok(()) => Ok(n),
-            Err(refusal) => Err(refusal),
-        }
+        read_range(m, &e.runs, from, n, buf)?;
+        Ok(n)
     }
 }
 

@@ -1,4 +1,4 @@
-use Rattle.std.proofs.Common.{◌≡◌, ◌<◌, ◌^◌, [], length, false, Result, Ok, Err, refl, sym, ap, subst, ◌∙◌, eq-eqb, rules}
+use Rattle.std.proofs.Common.{◌≡◌, ◌<◌, ◌^◌, [], length, Result, Ok, Err, refl, sym, ap, subst, ◌∙◌, eq-eqb, rules}
 use Rattle.std.specs.Prelude.{OnErr}
 use Rattle.std.proofs.lemmas.Bool.{eqb-true, both_ways}
 use Rattle.std.proofs.lemmas.List.{nil_from_length}

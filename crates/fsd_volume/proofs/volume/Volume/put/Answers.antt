@@ -1,5 +1,4 @@
 use Rattle.std.proofs.Common.{◌+◌, ◌<◌, ◌^◌, ℕ, List, [], Err, length, refl, sym, ap, subst, ◌∙◌, arith, rules}
-use Rattle.std.specs.Prelude.{slice_index_or}
 use Rattle.std.proofs.lemmas.Bool.{both_ways}
 use Rattle.std.proofs.lemmas.List.{append-nil}
 use Rattle.run_table.specs.RunTable.{sectors_of}
@@ -8,18 +7,16 @@ use Rattle.sector_disk.proofs.Moments.{started, leaves_more}
 use Rattle.sector_set.specs.Area.{Area}
 use Rattle.fsd_formats.specs.declared.entry.Entry.{Entry}
 use Rattle.fsd_formats.specs.NamePage.{sectors_for}
-use Rattle.fsd_files.specs.Answers.{HasLeader}
-use Rattle.fsd_files.specs.Disk.{Image, nowhere}
 use Rattle.fsd_files.specs.Files.{Change}
 use Rattle.fsd_volume.specs.OneLeaf.{leaf_put_outcome}
 use Rattle.fsd_files.specs.Volume.{drawn}
 use Rattle.fsd_volume.specs.Put.{placed, made_by, IsWornOut, Puts, PutsOn}
-use Rattle.fsd_volume.specs.Slices.{with_version, WritesIn}
+use Rattle.run_table.specs.Space.{contains}
+use Rattle.version_data.specs.Writing.{WritesIn}
 use Rattle.fsd_volume.specs.State.{State, StandsFor, IsMounted, StaysMounted}
-use Rattle.fsd_volume.proofs.Laying.{calm_holds}
-use Rattle.fsd_volume.proofs.PutLaws.{IsChosen, chosen, chosen_ends, chosen_lengths, chosen_below, chosen_count, takes_record}
+use Rattle.fsd_volume.proofs.PutLaws.{IsChosen, chosen, chosen_below, takes_record}
 use Rattle.fsd_volume.proofs.PutDoneLaws.{place_refused, Entering, Enterable, puts_entered, puts_on, mounted_drawn, stays_mounted, drawn_state, made_listed, made_leader}
-use Rattle.fsd_volume.proofs.VersionLaws.{leader_stands}
+use Rattle.fsd_volume.proofs.VersionLaws.{written_calm}
 use Rattle.fsd_volume.proofs.volume.Volume.put.Goals as goal
 
 pub returns-in-Some-clause-any_moment : goal.returns-in-Some-clause-any_moment
@@ -70,8 +67,8 @@ returns-in-Err-clause-stands g c honest calm v windows h f ends mounted =
     subst (λ (s : State). PutsOn s v (leaf_put_outcome v c.args.name.now c.args.bytes.now c.args.keep) windows h [] f s image (Err c.in-Err.refusal)) c.self.view_is
     (record { after = v; says = place_refused state v c.args.name.now c.args.bytes.now c.args.keep c.in-Err.refusal here.stands fits place; mounted = so })
 
-pub write_version-requires-clause-runs : goal.write_version-requires-clause-runs
-write_version-requires-clause-runs g c =
+pub write_version-requires-clause-entry : goal.write_version-requires-clause-entry
+write_version-requires-clause-entry g c =
     let state : State = record { layout = c.self.inside.layout; entries = c.self.inside.entries.items; serial = c.self.inside.serial; log = c.self.inside.log; table = c.self.inside.pages } in
     let e : Entry = record { key = c.first_key.result; keep = c.unwrap_or.result; serial = c.self.inside.serial; length = length c.args.bytes.now; runs = c.in-Ok.runs } in
     let epoch : c.self.inside.serial.epoch < 2 ^ 32 = search rules in
@@ -79,10 +76,10 @@ write_version-requires-clause-runs g c =
     let is : IsChosen state c.args.name.now c.args.bytes.now c.args.keep e =
     chosen state c.self.inside.map c.args.name.now c.args.bytes.now c.args.keep c.first_key.result c.unwrap_or.result (1 + c.div_ceil.result) c.in-Ok.runs c.self.invariant (sym c.size_fault.ensures ∙ c.in_default.is)
     c.first_key.ensures.value c.first_key.ensures.key c.unwrap_or.ensures (ap (λ (n : ℕ). 1 + n) c.div_ceil.ensures) (sym c.place.ensures ∙ c.in-Ok.is) (epoch, count) in
-    chosen_ends state c.self.inside.map c.args.name.now c.args.bytes.now c.args.keep e c.self.invariant is
+    is.good
 
-pub write_version-requires-clause-lengths : goal.write_version-requires-clause-lengths
-write_version-requires-clause-lengths g c =
+pub write_version-requires-clause-differ : goal.write_version-requires-clause-differ
+write_version-requires-clause-differ g c =
     let state : State = record { layout = c.self.inside.layout; entries = c.self.inside.entries.items; serial = c.self.inside.serial; log = c.self.inside.log; table = c.self.inside.pages } in
     let e : Entry = record { key = c.first_key.result; keep = c.unwrap_or.result; serial = c.self.inside.serial; length = length c.args.bytes.now; runs = c.in-Ok.runs } in
     let epoch : c.self.inside.serial.epoch < 2 ^ 32 = search rules in
@@ -90,7 +87,7 @@ write_version-requires-clause-lengths g c =
     let is : IsChosen state c.args.name.now c.args.bytes.now c.args.keep e =
     chosen state c.self.inside.map c.args.name.now c.args.bytes.now c.args.keep c.first_key.result c.unwrap_or.result (1 + c.div_ceil.result) c.in-Ok.runs c.self.invariant (sym c.size_fault.ensures ∙ c.in_default.is)
     c.first_key.ensures.value c.first_key.ensures.key c.unwrap_or.ensures (ap (λ (n : ℕ). 1 + n) c.div_ceil.ensures) (sym c.place.ensures ∙ c.in-Ok.is) (epoch, count) in
-    chosen_lengths state c.self.inside.map c.args.name.now c.args.bytes.now c.args.keep e c.self.invariant is
+    is.is.new.differ
 
 pub write_version-requires-clause-in_range : goal.write_version-requires-clause-in_range
 write_version-requires-clause-in_range g c k d lt =
@@ -104,17 +101,6 @@ write_version-requires-clause-in_range g c k d lt =
     let below = chosen_below state c.self.inside.map c.args.name.now c.args.bytes.now c.args.keep e c.self.invariant is k d lt in
     let room = ap (λ (s : State). s.layout.sectors) c.self.view_is in
     omega (arith, below, room, c.requires)
-
-pub write_version-requires-clause-count : goal.write_version-requires-clause-count
-write_version-requires-clause-count g c =
-    let state : State = record { layout = c.self.inside.layout; entries = c.self.inside.entries.items; serial = c.self.inside.serial; log = c.self.inside.log; table = c.self.inside.pages } in
-    let e : Entry = record { key = c.first_key.result; keep = c.unwrap_or.result; serial = c.self.inside.serial; length = length c.args.bytes.now; runs = c.in-Ok.runs } in
-    let epoch : c.self.inside.serial.epoch < 2 ^ 32 = search rules in
-    let count : c.self.inside.serial.count < 2 ^ 32 = search rules in
-    let is : IsChosen state c.args.name.now c.args.bytes.now c.args.keep e =
-    chosen state c.self.inside.map c.args.name.now c.args.bytes.now c.args.keep c.first_key.result c.unwrap_or.result (1 + c.div_ceil.result) c.in-Ok.runs c.self.invariant (sym c.size_fault.ensures ∙ c.in_default.is)
-    c.first_key.ensures.value c.first_key.ensures.key c.unwrap_or.ensures (ap (λ (n : ℕ). 1 + n) c.div_ceil.ensures) (sym c.place.ensures ∙ c.in-Ok.is) (epoch, count) in
-    chosen_count state c.self.inside.map c.args.name.now c.args.bytes.now c.args.keep e c.self.invariant is
 
 pub enter-requires-clause-entry : goal.enter-requires-clause-entry
 enter-requires-clause-entry g c =
@@ -181,13 +167,10 @@ returns-in-Ok-write_version-clause-stands g c honest calm v windows h f ends mou
     let new = M.now c.write_version.new.m in
     let here = subst (λ (s : State). IsMounted s v windows h f old.image) (sym c.self.view_is) mounted in
     let entering : Entering state v c.args.name.now c.args.bytes.now c.args.keep e = record { stands = here.stands; fits = is.sizes; place = is.picked; key = is.key; keep = is.keep; serial = is.serial; length = is.length } in
-    let below = chosen_below state c.self.inside.map c.args.name.now c.args.bytes.now c.args.keep e c.self.invariant is in
-    let sized = g.met.M.Machine.sized c.args.m.now (c.write_version.ensures.trust.honest honest) in
-    let room : (k : ℕ) → k < length (sectors_of c.in-Ok.runs) → slice_index_or (sectors_of c.in-Ok.runs) k 0 < length old.image = λ k lt. let b = below k 0 lt in omega (arith, b, ap (λ (s : State). s.layout.sectors) c.self.view_is, c.requires, sized) in
-    let may : Enterable state e c.args.bytes.now old.image = record { free = c.self.inside.map; kept = c.self.invariant; good = is.good; fits = is.fits; count = chosen_count state c.self.inside.map c.args.name.now c.args.bytes.now c.args.keep e c.self.invariant is; new = is.is.new; room = room } in
-    let image = calm_holds old new (with_version old.image e c.args.bytes.now) calm (c.in-Ok-write_version.ensures.done honest) in
+    let may : Enterable state e = record { free = c.self.inside.map; kept = c.self.invariant; good = is.good; fits = is.fits; new = is.is.new } in
+    let written = written_calm old new e c.args.bytes.now calm (c.in-Ok-write_version.ensures.disk.exit honest) (c.in-Ok-write_version.ensures.done honest) in
     subst (λ (s : State). PutsOn s v (leaf_put_outcome v c.args.name.now c.args.bytes.now c.args.keep) windows h (made_by (Change.Put c.args.name.now c.args.keep c.args.bytes.now) c.enter.result) f c.enter.new.self new.image c.enter.result) c.self.view_is
-    (puts_on state v c.args.name.now c.args.bytes.now c.args.keep e entering old.image may windows h f new.image c.enter.new.self c.enter.result here image c.enter.ensures)
+    (puts_on state v c.args.name.now c.args.bytes.now c.args.keep e entering old.image new.image written may windows h f c.enter.new.self c.enter.result here c.enter.ensures)
 
 pub returns-in-Ok-write_version-clause-listed : goal.returns-in-Ok-write_version-clause-listed
 returns-in-Ok-write_version-clause-listed g c =
@@ -205,15 +188,8 @@ returns-in-Ok-write_version-clause-leader g c =
     chosen state c.self.inside.map c.args.name.now c.args.bytes.now c.args.keep c.first_key.result c.unwrap_or.result (1 + c.div_ceil.result) c.in-Ok.runs c.self.invariant (sym c.size_fault.ensures ∙ c.in_default.is)
     c.first_key.ensures.value c.first_key.ensures.key c.unwrap_or.ensures (ap (λ (n : ℕ). 1 + n) c.div_ceil.ensures) (sym c.place.ensures ∙ c.in-Ok.is) (epoch, count) in
     let M = g.M.Machine in
-    let below = chosen_below state c.self.inside.map c.args.name.now c.args.bytes.now c.args.keep e c.self.invariant is in
-    let long = chosen_count state c.self.inside.map c.args.name.now c.args.bytes.now c.args.keep e c.self.invariant is in
     made_leader (drawn_state state) e c.enter.new.self (M.now c.write_version.new.m).image c.enter.result c.enter.ensures
-    (λ honest calm.
-    let old = c.write_version.ensures.trust.honest honest in
-    let first = below 0 0 (omega (arith, long)) in
-    let room : slice_index_or (sectors_of c.in-Ok.runs) 0 0 < length (M.now c.args.m.now).image = omega (arith, first, ap (λ (s : State). s.layout.sectors) c.self.view_is, c.requires, g.met.M.Machine.sized c.args.m.now old) in
-    let image = calm_holds (M.now c.args.m.now) (M.now c.write_version.new.m) (with_version (M.now c.args.m.now).image e c.args.bytes.now) calm (c.in-Ok-write_version.ensures.done honest) in
-    subst (λ (x : Image). HasLeader nowhere x e) (sym image) (leader_stands (M.now c.args.m.now).image e c.args.bytes.now long is.is.new.differ room))
+    (λ honest calm. (written_calm (M.now c.args.m.now) (M.now c.write_version.new.m) e c.args.bytes.now calm (c.in-Ok-write_version.ensures.disk.exit honest) (c.in-Ok-write_version.ensures.done honest)).leader)
 
 pub returns-in-Ok-write_version-clause-any_moment : goal.returns-in-Ok-write_version-clause-any_moment
 returns-in-Ok-write_version-clause-any_moment g c honest calm v windows h f ends mounted =
@@ -228,8 +204,8 @@ returns-in-Ok-write_version-clause-any_moment g c honest calm v windows h f ends
     let old = M.now c.args.m.now in
     let here = subst (λ (s : State). IsMounted s v windows h f old.image) (sym c.self.view_is) mounted in
     subst (λ (s : State). LeavesOnly M.moment M.left_since c.args.m.now c.write_version.new.m (StaysMounted s v windows h f old)) c.self.view_is
-    (leaves_more M.moment M.left_since c.args.m.now c.write_version.new.m (WritesIn (sectors_of c.in-Ok.runs) old) (StaysMounted state v windows h f old)
-    (λ left writes. stays_mounted state v windows h f old left c.in-Ok.runs is.is.new calm here writes) (c.write_version.ensures.any_moment honest))
+    (leaves_more M.moment M.left_since c.args.m.now c.write_version.new.m (WritesIn (contains (sectors_of c.in-Ok.runs)) old) (StaysMounted state v windows h f old)
+    (λ left writes. stays_mounted state v windows h f old left c.in-Ok.runs is.is.new calm here writes) (c.write_version.ensures.disk.any_moment honest))
 
 pub returns-in-Err-write_version-clause-any_moment : goal.returns-in-Err-write_version-clause-any_moment
 returns-in-Err-write_version-clause-any_moment g c honest calm v windows h f ends mounted =
@@ -244,8 +220,8 @@ returns-in-Err-write_version-clause-any_moment g c honest calm v windows h f end
     let old = M.now c.args.m.now in
     let here = subst (λ (s : State). IsMounted s v windows h f old.image) (sym c.self.view_is) mounted in
     subst (λ (s : State). LeavesOnly M.moment M.left_since c.args.m.now c.write_version.new.m (StaysMounted s v windows h f old)) c.self.view_is
-    (leaves_more M.moment M.left_since c.args.m.now c.write_version.new.m (WritesIn (sectors_of c.in-Ok.runs) old) (StaysMounted state v windows h f old)
-    (λ left writes. stays_mounted state v windows h f old left c.in-Ok.runs is.is.new calm here writes) (c.write_version.ensures.any_moment honest))
+    (leaves_more M.moment M.left_since c.args.m.now c.write_version.new.m (WritesIn (contains (sectors_of c.in-Ok.runs)) old) (StaysMounted state v windows h f old)
+    (λ left writes. stays_mounted state v windows h f old left c.in-Ok.runs is.is.new calm here writes) (c.write_version.ensures.disk.any_moment honest))
 
 pub returns-in-Err-write_version-clause-stands : goal.returns-in-Err-write_version-clause-stands
 returns-in-Err-write_version-clause-stands g c honest calm v windows h f ends mounted =
@@ -260,8 +236,7 @@ returns-in-Err-write_version-clause-stands g c honest calm v windows h f ends mo
     let old = M.now c.args.m.now in
     let left = M.now c.write_version.new.m in
     let here = subst (λ (s : State). IsMounted s v windows h f old.image) (sym c.self.view_is) mounted in
-    let moments = c.write_version.ensures.any_moment honest in
-    let writes = moments.each left (g.met.M.Machine.counts_now c.write_version.new.m (M.moment c.args.m.now) honest moments.later) in
+    let writes = c.write_version.ensures.disk.exit honest in
     let stays = stays_mounted state v windows h f old left c.in-Ok.runs is.is.new calm here writes in
     let so = mounted_drawn state v windows h f left.image stays.mounted in
     record { after = drawn v; says = refl; mounted = subst (λ (hs : List Change). IsMounted (drawn_state state) (drawn v) windows hs f left.image) (sym (append-nil h)) so }
