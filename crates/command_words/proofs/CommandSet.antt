@@ -2,7 +2,7 @@
 use Rattle.std.proofs.Common.{◌≡◌, ◌<◌, ◌+◌, ℕ, zero, suc, List, [], ◌∷◌, ◌++◌, length, take, map, refl, ap, ap₂, ◌∙◌, false, arith, add-one}
 use Rattle.std.specs.List.{slice_index_or}
 use Rattle.clap.specs.Built.{AddsArg, AddsSubcommand}
-use Rattle.clap.specs.Simple.{App, Shape, app_of, shape_of, with_rule, with_subcommand}
+use Rattle.clap.specs.Simple.{App, Shape, app_of, with_rule, with_subcommand}
 use Rattle.std.specs.Borrow.{Bor}
 use Rattle.clap.specs.Walk.{Rule, Text, rule_of}
 use Rattle.fsd_runs.specs.Words.{positional, subcommand}

@@ -1,5 +1,5 @@
 -- A number of 64 bits, as std's parse reads it.
-use Rattle.std.proofs.Common.{◌≡◌, ◌&&◌, ◌<◌, ◌^◌, ℕ, Bool, true, false, cond, List, [], ◌∷◌, length, Option, Some, None, Result, Ok, Err, refl, sym, ap, ◌∙◌, nat_le, true≢false, arith}
+use Rattle.std.proofs.Common.{◌≡◌, ◌&&◌, ◌<◌, ◌^◌, ℕ, Bool, true, false, cond, List, [], ◌∷◌, length, Some, None, Ok, Err, refl, sym, ap, ◌∙◌, nat_le, true≢false, arith}
 use Rattle.std.specs.Prelude.{ok_or}
 use Rattle.std.proofs.lemmas.Bool.Decides.{nat_tests}
 use Rattle.std.proofs.lemmas.Str.Parse.{IsNumeralModel, numerals_by_value, parse_digits, tells_all_ascii_digits}
@@ -7,8 +7,8 @@ use Rattle.std.specs.Char.{is_ascii_digit}
 use Rattle.std.specs.List.{list_all}
 use Rattle.std.specs.Str.{all_ascii_digits}
 use Rattle.std.specs.Str.Parse.{ParsesUnsigned, digits_value}
+use Rattle.clap.proofs.WalkLemmas.{both as two}
 use Rattle.fsd_bytes.specs.Keys.{is_plain}
-use Rattle.fsd_texts.specs.declared.bad_line.Cause.{Cause}
 use Rattle.fsd_texts.specs.declared.bad_line.Cause.TheVariants.{BadNumber}
 use Rattle.fsd_runs.specs.Words.{max_u64, seed_in}
 
@@ -18,10 +18,6 @@ own = numerals_by_value (λ ds. all_ascii_digits ds ≡ true) tells_all_ascii_di
 same_test : (ds : List ℕ) → all_ascii_digits ds ≡ list_all is_ascii_digit ds
 same_test [] = refl
 same_test (d ∷ ds) = ap (λ (x : Bool). is_ascii_digit d && x) (same_test ds)
-
-two : (a b : Bool) → (a && b) ≡ true → (a ≡ true) × (b ≡ true)
-two true b e = (refl, e)
-two false b e = absurd (true≢false (sym e))
 
 some_digit : (ds : List ℕ) → is_plain ds ≡ true → 0 < length ds
 some_digit [] e = absurd (true≢false (sym e))

@@ -9,7 +9,6 @@ use Rattle.clap.specs.Takes.{takes}
 use Rattle.clap.specs.Faults.{fault_of, is_simple_and_free}
 use Rattle.clap.specs.declared.parser.matches.ArgMatches.TheViews.{out-SubCommand}
 use Rattle.clap.specs.declared.parser.matches.SubCommand.{SubCommand}
-use Rattle.fsd_runs.specs.declared.request.Request.{Request}
 use Rattle.fsd_runs.specs.declared.request.Request.TheVariants.{Outside}
 use Rattle.fsd_runs.specs.Words.{cfs, entered, image_in, path_of, request_of}
 use Rattle.command_words.proofs.TakenLaws.{taken_without_fault}

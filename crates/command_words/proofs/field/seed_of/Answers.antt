@@ -1,5 +1,5 @@
 use Rattle.std.proofs.Common.{rules}
-use Rattle.command_words.proofs.SeedLaws.{no_seed, seed_read, seed_refused}
+use Rattle.command_words.proofs.SeedLaws.{seed_read, seed_refused}
 use Rattle.command_words.proofs.field.seed_of.Goals as goal
 
 pub returns-in-Ok : goal.returns-in-Ok

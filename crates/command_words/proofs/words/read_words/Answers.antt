@@ -1,4 +1,4 @@
-use Rattle.std.proofs.Common.{◌≡◌, ◌∙◌, ap}
+use Rattle.std.proofs.Common.{◌∙◌, ap}
 use Rattle.clap.specs.Simple.{is_simple}
 use Rattle.fsd_runs.specs.Words.{entered, image_in}
 use Rattle.command_words.proofs.WordLaws.{is_set_free, path_refused, path_taken, request_refused, request_taken}
