@@ -1,0 +1,4 @@
+pub mod CommandSet
+pub mod SeedLaws
+pub mod TakenLaws
+pub mod WordLaws
