@@ -4,6 +4,7 @@
 mod counting;
 mod entries;
 mod laws;
+mod looking;
 mod volume;
 
 pub use laws::{
