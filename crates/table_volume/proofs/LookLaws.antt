@@ -23,15 +23,8 @@ use Rattle.table_pages.specs.ImageLaws.{image_at, image_count}
 use Rattle.table_pages.specs.Reads.{Fills, LosesFor, device_of}
 use Rattle.table_pages.specs.Table.{IsAtRest, IsClean, IsOver, ReadsOnly, Trusted, begun, step_of}
 use Rattle.table_pages.specs.declared.table.Table.{Table}
+use Rattle.table_volume.proofs.PageLaws.{in_memory}
 use Rattle.table_volume.specs.Looking.{FaultIn, FaultsOver, LooksOnly, images_by}
-
--- the bytes of a page in memory
-in_memory : (c : CacheValue) (page : ℕ) → IsResident c page → (bytes : List ℕ) × (bytes_of c page ≡ Some bytes)
-in_memory c page there = by (held c page) there
-  where
-    by : (o : Option Held) → IsSome o → (bytes : List ℕ) × (option_map (λ (h : Held). h.bytes) o ≡ Some bytes)
-    by None some = absurd (cc some)
-    by (Some h) some = (h.bytes, refl)
 
 fault_there : (s : Step) (f : TreeFault) → HasCause s (BreaksTable s.images) (BarsTable s) f → FaultIn s.images s.spares s.home_a f
 fault_there s (Pages refusal) cause = cause.1

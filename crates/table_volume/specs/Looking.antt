@@ -1,7 +1,8 @@
 -- What a look-up leaves of a cache, and why one fails.
-use Rattle.std.specs.Prelude.{◌≡◌, ◌⊎◌, ℕ, ◌<◌, Bool, true, List, Option, length}
+use Rattle.std.specs.Prelude.{◌≡◌, ◌⊎◌, ⊤, ℕ, ◌<◌, Bool, true, List, Option, length, Result, Ok, Err}
 use Rattle.fsd_bytes.specs.declared.refusal.Refusal.{Refusal}
-use Rattle.fsd_bytes.specs.declared.refusal.Refusal.TheVariants.{Unsound}
+use Rattle.fsd_bytes.specs.declared.refusal.Refusal.TheVariants.{Device, Memory, Unsound}
+use Rattle.fsd_formats.specs.declared.entry.Entry.{Entry}
 use Rattle.sector_disk.specs.declared.machine.Machine.{Ghosts as MachineGhosts}
 use Rattle.sector_disk.specs.Calls.{OnlyReads}
 use Rattle.page_cache.specs.declared.source.PageSource.{Ghosts as SourceGhosts}
@@ -14,6 +15,8 @@ use Rattle.name_page.specs.Pages.{IsOuter, is_spare}
 use Rattle.name_btree.specs.declared.fault.TreeFault.{TreeFault}
 use Rattle.name_btree.specs.declared.fault.TreeFault.TheVariants.{Pages, Broken}
 use Rattle.name_btree.specs.Fault.{IsOnWay}
+use Rattle.name_btree.specs.declared.lookup.FoundEntry.{FoundEntry}
+use Rattle.name_btree.specs.Lookup.{entry_of}
 
 -- the page breaks the table, or it is free and a path reaches it
 abbrev pub BarsPages : List (List ℕ) → List Bool → ℕ → Type 0
@@ -44,3 +47,21 @@ module _ {D E : Type 0} (M : MachineGhosts D) (S : SourceGhosts E) (source : E) 
   -- So it is of the pages by this cache and the source.
   pub record FaultsOver (m : D) (c : CacheValue) (free : List Bool) (home_a : ℕ) (fault : TreeFault) : Type 0 where
     pub cause : FaultIn (images_by m c (length free)) free home_a fault
+
+-- ---- what is told
+
+-- the refusal that a fault is
+abbrev pub refusal_in : (home_a : ℕ) → TreeFault → Refusal
+refusal_in home_a (Pages refusal) = refusal
+refusal_in home_a (Broken page) = Unsound (home_in home_a page)
+
+abbrev pub told : {T : Type 0} → (home_a : ℕ) → Result T TreeFault → Result T Refusal
+told home_a (Ok x) = Ok x
+told home_a (Err fault) = Err (refusal_in home_a fault)
+
+-- this entry is found, or a fault came from outside
+abbrev pub Finds : Option Entry → Result (Option FoundEntry) Refusal → Type 0
+Finds e (Ok found) = entry_of found ≡ e
+Finds e (Err (Device s)) = ⊤
+Finds e (Err Memory) = ⊤
+Finds e (Err other) = ⊥

@@ -3,6 +3,7 @@
 
 mod counting;
 mod entries;
+mod finding;
 mod laws;
 mod looking;
 mod volume;

@@ -6,9 +6,9 @@ ghost use Rattle.fsd_table.specs.Tree.{IsTree, table_of};
 ghost use Rattle.name_page.specs.Lookups.{entry_with};
 ghost use Rattle.name_btree.specs.Fault.{outer_told};
 ghost use Rattle.name_btree.specs.Lookup.{entry_of};
-ghost use Rattle.table_volume.specs.Looking.{FaultsOver, LooksOnly, images_by};
+ghost use Rattle.table_volume.specs.Looking.{FaultsOver, LooksOnly, images_by, told};
 
-use fsd_bytes::Key;
+use fsd_bytes::{Key, Refusal};
 use name_btree::{FoundEntry, TreeFault, find};
 use name_page::Pages;
 use page_cache::{Cache, PageSource};
@@ -45,4 +45,18 @@ pub(crate) fn find_in<M: Machine, S: PageSource>(
     table.rest();
     let_go(table);
     found
+}
+
+/// What was found, or the refusal that a fault is.
+pub(crate) fn told(
+    found: Result<Option<FoundEntry>, TreeFault>,
+    home_a: u32,
+) -> Result<Option<FoundEntry>, Refusal>
+    ensures { result ≡ told home_a found }
+{
+    match found {
+        Ok(found) => Ok(found),
+        Err(TreeFault::Pages(refusal)) => Err(refusal),
+        Err(TreeFault::Broken(page)) => Err(Refusal::Unsound(home_a.wrapping_add(page))),
+    }
 }
