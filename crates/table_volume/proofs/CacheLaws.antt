@@ -1,7 +1,8 @@
 -- A volume that stands over its disk knows the pages there, and stands with each of them that is brought into its cache.
-use Rattle.std.proofs.Common.{◌≡◌, inl, inr, ℕ, Bool, true, false, cond, List, Option, Some, None, refl, sym, ap, subst, ◌∙◌}
+use Rattle.std.proofs.Common.{◌≡◌, inl, inr, ℕ, ◌<◌, Bool, true, false, cond, List, Option, Some, None, refl, sym, ap, subst, ◌∙◌, arith}
 use Rattle.std.specs.Prelude.{IsSome, option_map}
 use Rattle.std.proofs.lemmas.Bool.{cases_lt, le-ltb}
+use Rattle.volume_layout.specs.declared.layout.Layout.{Layout}
 use Rattle.sector_disk.specs.Image.{AreShort}
 use Rattle.sector_disk.specs.Machine.{Moment}
 use Rattle.page_cache.specs.Cache.{AreNewest, CacheValue, Held, IsResident, bytes_of, held, is_one_of}
@@ -15,7 +16,7 @@ use Rattle.group_commit.proofs.StandsLaws.{page_in_memory, scanned}
 use Rattle.volume_contract.specs.State.{Known, Stands}
 use Rattle.table_volume.specs.State.{Holds, state}
 use Rattle.table_volume.specs.Volume.{IsWhole, VolumeValue}
-use Rattle.table_volume.proofs.PageLaws.{indexed, over}
+use Rattle.table_volume.proofs.PageLaws.{in_memory, indexed, over}
 
 module _ (v : VolumeValue) (k : Known) (now : Moment) (whole : IsWhole v) (stands : Stands state Holds v k now) where
   pub knows_pages : AreShort now.windows → KnowsPages v.log now
@@ -34,6 +35,14 @@ module _ (v : VolumeValue) (k : Known) (now : Moment) (whole : IsWhole v) (stand
           indexed = subst (IsIndexed v.log) (scanned v.log.layout v.log.anchor v.log.head stands.disk.records stands.disk.disk k.mounted.pages v.cache.dirty k.windows now.image at) (indexed v k now whole stands);
         };
       }
+
+  -- what it has in memory is the newest
+  pub newest_there : AreNewest (newest_by v.log now.image) v.cache
+  newest_there page there clean =
+      let has = in_memory v.cache page there in
+      let lt : page < v.log.layout.pages = omega (arith, stands.holds.inside page has.0 has.1, ap (λ (l : Layout). l.pages) whole.log) in
+      has.1 ∙ ap (λ (bytes : List ℕ). Some bytes) (sym (stands.holds.pages page has.0 has.1))
+      ∙ sym (in_layout v.log page lt now.image ∙ page_in_memory v.log.layout v.log.anchor v.log.head stands.disk.records stands.disk.disk k.mounted.pages v.cache.dirty k.windows now.image (over v k now whole stands) page lt clean)
 
   module _ (c : CacheValue) (dirty : c.dirty ≡ v.cache.dirty) (same : (page : ℕ) → is_one_of c.dirty page ≡ true → bytes_of c page ≡ bytes_of v.cache page) (clean : AreNewest (newest_by v.log now.image) c) where
     resident_by : (page : ℕ) (bytes : List ℕ) → bytes_of c page ≡ Some bytes → IsResident c page
@@ -61,6 +70,20 @@ module _ (v : VolumeValue) (k : Known) (now : Moment) (whole : IsWhole v) (stand
                   absurd (cc (given, none))
             ]
 
+    inside_there : (page : ℕ) (bytes : List ℕ) → bytes_of c page ≡ Some bytes → page < v.layout.pages
+    inside_there page bytes there = by (is_one_of c.dirty page) refl
+      where
+        by : (b : Bool) → is_one_of c.dirty page ≡ b → page < v.layout.pages
+        by true waits = stands.holds.inside page bytes (sym (same page waits) ∙ there)
+        by false rests =
+            elim (cases_lt page v.log.layout.pages) [
+              | inl lt ↦ omega (arith, lt, ap (λ (l : Layout). l.pages) whole.log)
+              | inr past ↦
+                  let given : newest_by v.log now.image page ≡ Some bytes = sym (clean page (resident_by page bytes there) rests) ∙ there in
+                  let none : newest_by v.log now.image page ≡ None = ap (λ (b : Bool). cond b (newest v.log.layout now.image (records_by v.log.layout now.image v.log.anchor) page) None) (le-ltb page v.log.layout.pages past) in
+                  absurd (cc (given, none))
+            ]
+
     pub filled : Stands state Holds (record v { cache = c }) k now
     filled = record {
       fits = record {
@@ -81,6 +104,7 @@ module _ (v : VolumeValue) (k : Known) (now : Moment) (whole : IsWhole v) (stand
       holds = record {
         planned = stands.holds.planned;
         pages = pages_there;
+        inside = inside_there;
         map = stands.holds.map;
         removed = stands.holds.removed;
         free_pages = stands.holds.free_pages;

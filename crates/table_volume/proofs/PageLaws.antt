@@ -31,8 +31,16 @@ use Rattle.table_volume.specs.Volume.{IsWhole, VolumeValue}
 
 -- ---- pages in memory
 
+-- the bytes of a page in memory
+pub in_memory : (c : CacheValue) (page : ℕ) → IsResident c page → (bytes : List ℕ) × (bytes_of c page ≡ Some bytes)
+in_memory c page there = by (held c page) there
+  where
+    by : (o : Option Held) → IsSome o → (bytes : List ℕ) × (option_map (λ (h : Held). h.bytes) o ≡ Some bytes)
+    by None some = absurd (cc some)
+    by (Some h) some = (h.bytes, refl)
+
 -- a page that has no frame isn't dirty
-clean_absent : (c : CacheValue) → IsCache c → (page : ℕ) → bytes_of c page ≡ None → IsFalse (contains c.dirty page)
+pub clean_absent : (c : CacheValue) → IsCache c → (page : ℕ) → bytes_of c page ≡ None → IsFalse (contains c.dirty page)
 clean_absent c is page none = out c.dirty is.waiting
   where
     no_frame : IsResident c page → ⊥

@@ -1,3 +1,4 @@
+pub mod Looking
 pub mod State
 pub mod Taken
 pub mod Volume

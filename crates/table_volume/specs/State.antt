@@ -66,6 +66,7 @@ is_reached pages page = list_any (λ visit. visit.page == page) (visits pages)
 pub record Holds (v : VolumeValue) (m : Mounted) (records : List Placed) : Type 0 where
   pub planned : plan v.layout.sectors v.layout.third v.layout.pages ≡ Ok v.layout
   pub pages : (page : ℕ) (bytes : List ℕ) → resident v page ≡ Some bytes → image_at m.pages page ≡ bytes
+  pub inside : (page : ℕ) (bytes : List ℕ) → resident v page ≡ Some bytes → page < v.layout.pages
   pub map : (s : ℕ) → contains v.map.sectors s ≡ is_free m.volume s
   pub removed : (s : ℕ) → contains v.shadow.removed.sectors s ≡ contains m.volume.removed s
   pub free_pages : (page : ℕ) → page < v.layout.pages → slice_index_or v.free_pages page false ≡ not (is_reached m.pages page)

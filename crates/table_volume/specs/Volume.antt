@@ -1,7 +1,7 @@
 -- A volume by its parts, and what holds of them over any machine.
-use Rattle.std.specs.Prelude.{◌≡◌, ℕ, Bool, List, [], Option, None, length, replicate, IsTrue, IsFalse}
+use Rattle.std.specs.Prelude.{◌≡◌, ℕ, Bool, List, [], Option, None, Ok, length, replicate, IsTrue, IsFalse}
 use Rattle.volume_layout.specs.declared.layout.Layout.{Layout}
-use Rattle.volume_layout.specs.Layout.{data_start}
+use Rattle.volume_layout.specs.Layout.{data_start, plan}
 use Rattle.run_table.specs.Space.{contains}
 use Rattle.fsd_bytes.specs.declared.key.Serial.{Serial}
 use Rattle.sector_set.specs.Area.{Area, area}
@@ -36,9 +36,10 @@ pub record IsUnread (w : Waits) : Type 0 where
   pub unfinished : w.unfinished.sectors ≡ []
   pub held : w.held ≡ replicate 8 None
 
--- The map and the shadow are of the data area, and no free sector waits; the log is the layout's, in the epoch of the serials; each
+-- The layout is one that is planned. The map and the shadow are of the data area, and no free sector waits; the log is the layout's, in the epoch of the serials; each
 -- name page is free or not, and none is pinned.
 pub record IsWhole (v : VolumeValue) : Type 0 where
+  pub planned : plan v.layout.sectors v.layout.third v.layout.pages ≡ Ok v.layout
   pub map : IsOfData v.layout v.map
   pub removed : IsOfData v.layout v.shadow.removed
   pub kept : IsOfData v.layout v.shadow.kept

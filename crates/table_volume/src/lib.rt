@@ -3,7 +3,9 @@
 
 mod counting;
 mod entries;
+mod finding;
 mod laws;
+mod looking;
 mod volume;
 
 pub use laws::{

@@ -1,0 +1,60 @@
+//! Entries that are found in the table.
+ghost use Rattle.std.specs.Prelude.{◌≡◌, ◌<◌, ◌≤◌, IfOk, IfErr, IfSome, IsTrue};
+ghost use Rattle.sector_disk.specs.Calls.{OnlyReads, device_in};
+ghost use Rattle.fsd_files.specs.Answers.{entry_of};
+ghost use Rattle.volume_contract.specs.Ends.{device_of};
+ghost use Rattle.volume_contract.specs.Order.{Follows, IsLookUp, entry_steps, is_idle};
+ghost use Rattle.volume_contract.specs.State.{Known, Stands, volume_of};
+ghost use Rattle.table_volume.specs.Looking.{Finds};
+ghost use Rattle.table_volume.specs.State.{Holds, state};
+
+use crate::Volume;
+use crate::looking::{find_in, told};
+use fsd_bytes::{Key, Refusal};
+use fsd_formats::Entry;
+use group_commit::Newest;
+use name_btree::FoundEntry;
+use sector_disk::Machine;
+
+impl Volume {
+    // The entry with this key in the table, with the page of its leaf.
+    fn find<M: Machine>(&mut self, m: &mut M, key: &Key) -> Result<Option<FoundEntry>, Refusal>
+        requires { self.old.layout.sectors ≤ (M.report m.old).sectors }
+        ensures disk { OnlyReads M.Machine (device_in device_of result) m.old m.new }
+        ensures cache { self.new ≡ record self.old { cache = self.new.cache } }
+        ensures dirty { self.new.cache.dirty ≡ self.old.cache.dirty }
+        ensures page { IfOk result (λ found. IfSome found (λ f. f.page < self.old.layout.pages)) }
+        ensures cause { IfErr result IsLookUp }
+        ensures stands { M.honest m.new → (k : Known) → Stands state Holds self.old k (M.now m.old) → Stands state Holds self.new k (M.now m.new) }
+        ensures found { M.honest m.new → (k : Known) → Stands state Holds self.old k (M.now m.old) → Finds (entry_of key.now (volume_of k).entries) result }
+    {
+        let _whole = self.cache.dirty_list();
+        let home_a = self.layout.home_a(0);
+        let source = Newest::over(&self.log, &self.layout);
+        let found = find_in(
+            m,
+            &mut self.cache,
+            &source,
+            home_a,
+            &mut self.free_pages,
+            key,
+        );
+        told(found, home_a)
+    }
+
+    /// The entry of a version.
+    pub fn entry<M: Machine>(&mut self, m: &mut M, key: &Key) -> Result<Entry, Refusal>
+        requires { (state self.old).layout.sectors ≤ (M.report m.old).sectors }
+        ensures order { Follows (entry_steps (state self.old)) result }
+        ensures disk { OnlyReads M.Machine (device_in device_of result) m.old m.new }
+        ensures state { state self.new ≡ state self.old }
+        ensures idle { IsTrue (is_idle (entry_steps (state self.old))) → m.new ≡ m.old }
+        ensures stands { M.honest m.new → (k : Known) → Stands state Holds self.old k (M.now m.old) → Stands state Holds self.new k (M.now m.new) }
+    {
+        self.is_up()?;
+        match self.find(m, key)? {
+            Some(found) => self.met_entry(found.entry, found.page),
+            None => Err(Refusal::NoSuch),
+        }
+    }
+}

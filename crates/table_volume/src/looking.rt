@@ -1,0 +1,62 @@
+//! Look-ups in a table over a cache.
+ghost use Rattle.std.specs.Prelude.{◌≡◌, ◌<◌, ℕ, IfOk, IfErr, IfSome, length};
+ghost use Rattle.table_pages.specs.Bringing.{IsTrusted};
+ghost use Rattle.table_pages.specs.Kept.{IsReady};
+ghost use Rattle.fsd_table.specs.Tree.{IsTree, table_of};
+ghost use Rattle.name_page.specs.Lookups.{entry_with};
+ghost use Rattle.name_btree.specs.Fault.{outer_told};
+ghost use Rattle.name_btree.specs.Lookup.{entry_of};
+ghost use Rattle.table_volume.specs.Looking.{FaultsOver, LooksOnly, images_by, told};
+
+use fsd_bytes::{Key, Refusal};
+use name_btree::{FoundEntry, TreeFault, find};
+use name_page::Pages;
+use page_cache::{Cache, PageSource};
+use sector_disk::Machine;
+use table_pages::{FreePages, Table};
+
+// Lets a table go.
+fn let_go<M: Machine, S: PageSource>(table: Table<'_, M, S>)
+    ensures machine { table.exit.0.now ≡ table.entry.m.now }
+    ensures cache { table.exit.1.0.now ≡ table.entry.cache.now }
+    ensures free { table.exit.1.1.1.1.0.now ≡ table.entry.free.now }
+{}
+
+/// The entry with this key, with the page of its leaf. `home_a` is the first sector of the homes A.
+pub(crate) fn find_in<M: Machine, S: PageSource>(
+    m: &mut M,
+    cache: &mut Cache,
+    source: &S,
+    home_a: u32,
+    free: &mut FreePages,
+    key: &Key,
+) -> Result<Option<FoundEntry>, TreeFault>
+    requires { IsReady M.Machine S.PageSource m.old cache.old source.now free.old }
+    ensures looks { LooksOnly M.Machine S.PageSource source.now (outer_told result) m.old m.new cache.old cache.new free.old }
+    ensures free { free.new ≡ free.old }
+    ensures page { IfOk result (λ found. IfSome found (λ f. f.page < length free.old)) }
+    ensures key { IfOk result (λ found. IfSome found (λ f. f.entry.key ≡ key.now)) }
+    ensures found { IfOk result (λ found. IsTrusted M.Machine S.PageSource source.now m.old cache.old m.new → (height : ℕ) →
+        let pages = images_by M.Machine S.PageSource source.now m.old cache.old (length free.old) in IsTree pages height → entry_of found ≡ entry_with key.now (table_of pages height)) }
+    ensures fault { IfErr result (FaultsOver M.Machine S.PageSource source.now m.new cache.new free.old home_a) }
+{
+    let mut table = Table::new(m, cache, source, home_a, free);
+    let found = find(&mut table, key);
+    table.rest();
+    let_go(table);
+    found
+}
+
+/// What was found, or the refusal that a fault is.
+pub(crate) fn told(
+    found: Result<Option<FoundEntry>, TreeFault>,
+    home_a: u32,
+) -> Result<Option<FoundEntry>, Refusal>
+    ensures { result ≡ told home_a found }
+{
+    match found {
+        Ok(found) => Ok(found),
+        Err(TreeFault::Pages(refusal)) => Err(refusal),
+        Err(TreeFault::Broken(page)) => Err(Refusal::Unsound(home_a.wrapping_add(page))),
+    }
+}
