@@ -53,6 +53,13 @@ impl Map {
         self.free.contains(s)
     }
 
+    /// Whether the sectors of runs are free, each named once.
+    pub fn are_free(&self, runs: &Runs) -> bool
+        ensures { IsTrue result ↔ AreIn self.now runs.now }
+    {
+        self.free.are_in(runs)
+    }
+
     /// Whether the sectors of runs are of the data area and none is free, each named once.
     pub fn are_taken(&self, runs: &Runs) -> bool
         ensures { IsTrue result ↔ AreOut self.now runs.now }

@@ -1,0 +1,38 @@
+-- Entries whose sectors are taken out of an area.
+use Rattle.std.specs.Prelude.{◌≡◌, ℕ, Bool, true, not, ◌&&◌, List, IsTrue}
+use Rattle.std.specs.List.{flat_map}
+use Rattle.volume_layout.specs.declared.layout.Layout.{Layout}
+use Rattle.volume_layout.specs.Layout.{data_start}
+use Rattle.run_table.specs.RunTable.{sectors_of}
+use Rattle.run_table.specs.Space.{contains, all_differ}
+use Rattle.fsd_formats.specs.declared.entry.Entry.{Entry}
+use Rattle.fsd_files.specs.Volume.{plans_of, is_in}
+use Rattle.fsd_table.specs.Breaks.{Breaks}
+use Rattle.fsd_table.specs.Tree.{IsTree}
+use Rattle.name_page.specs.declared.pages.Pages.{Ghosts}
+use Rattle.name_btree.specs.declared.fault.TreeFault.{TreeFault}
+use Rattle.name_btree.specs.declared.fault.TreeFault.TheVariants.{Broken}
+use Rattle.name_btree.specs.declared.lookup.FoundEntry.{FoundEntry}
+use Rattle.name_btree.specs.Fault.{HasCause, BarsTable}
+use Rattle.sector_set.specs.Area.{Area, area, AreIn}
+
+-- the whole data area
+abbrev pub whole_area : Layout → Area
+whole_area l = area (data_start l) l.sectors (λ s. true)
+
+-- the sectors of all entries differ and were in the area, and only they are gone
+pub record IsClaimed (old : Area) (entries : List Entry) (new : Area) : Type 0 where
+  pub differ : IsTrue (all_differ (flat_map sectors_of (plans_of entries)))
+  pub inside : (s : ℕ) → IsTrue (is_in (plans_of entries) s) → IsTrue (contains old.sectors s)
+  pub left : new ≡ area old.from old.to (λ s. contains old.sectors s && not (is_in (plans_of entries) s))
+
+-- the fault names the entry's page, and its sectors are not all in the area, each named once
+abbrev pub IsRefused : Area → FoundEntry → TreeFault → Type 0
+IsRefused old found fault = (fault ≡ Broken found.page) × (AreIn old found.entry.runs → ⊥)
+
+-- where the outside is trusted and the pages are a tree, the page breaks it by the sectors of its entries, or bars it
+abbrev pub FailsClaims : {D : Type 0} (P : Ghosts D) (old : Area) (new : D) → TreeFault → Type 0
+FailsClaims P old new =
+    HasCause (P.step new)
+    (λ page. P.trusted new → (l : Layout) → old ≡ whole_area l → (height : ℕ) → IsTree (P.step new).images height → Breaks l (P.step new).images page)
+    (λ page. P.trusted new → BarsTable (P.step new) page)
