@@ -27,6 +27,13 @@ each_in P (x ∷ xs) s all there = elim (or_cases (x == s) (contains xs s) there
   | inr more ↦ each_in P xs s all.1 more
 ]
 
+-- claims over images that stayed as they were
+pub claims_then : (l : Layout) (old free : Area) (was now : List (List ℕ)) → now ≡ was → old ≡ whole_area l → ((height : ℕ) → IsTree now height → IsClaimed old (table_of now height) free)
+    → (height : ℕ) → IsTree was height → IsClaimed (whole_area l) (table_of was height) free
+claims_then l old free was now same whole claims height tree =
+    subst (λ (m : Area). IsClaimed m (table_of was height) free) whole
+    (subst (λ (pages : List (List ℕ)). IsClaimed old (table_of pages height) free) same (claims height (subst (λ (pages : List (List ℕ)). IsTree pages height) (sym same) tree)))
+
 module _ (l : Layout) (step : Step) (marks : List Bool) (free : Area) (versions : ℕ) (counted : IsCounted step marks versions)
     (claims : (height : ℕ) → IsTree step.images height → IsClaimed (whole_area l) (table_of step.images height) free) where
   abbrev table : List Entry
