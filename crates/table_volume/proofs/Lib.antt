@@ -4,6 +4,7 @@ pub mod EntryLaws
 pub mod FindLaws
 pub mod LookLaws
 pub mod PageLaws
+pub mod ReadLaws
 pub mod TableLaws
 pub mod TakenLaws
 pub mod WearLaws
