@@ -22,11 +22,11 @@ use Rattle.fsd_sound.specs.Laid.{AllLaid}
 use Rattle.fsd_sound.specs.Shown.{newest, records_by}
 use Rattle.fsd_sound.specs.Sound.{weak_of}
 use Rattle.fsd_sound.proofs.WindowLaws.{open_is_weak}
-use Rattle.log_thirds.specs.Append.{IsIndexed}
 use Rattle.log_thirds.specs.Images.{AreLogged, StandsAt}
 use Rattle.log_thirds.specs.LogValue.{LogValue}
 use Rattle.log_thirds.specs.Slots.{slot_of}
 use Rattle.log_thirds.specs.declared.slots.Slot.{Slot}
+use Rattle.log_thirds.proofs.ImageLaws.{no_last_image}
 use Rattle.group_commit.specs.KnownLaws.{known_newest, knows_worn, newest_worn}
 use Rattle.group_commit.specs.Newest.{AreCopies, IsUnlogged, KnowsPages, StandsAtHome, StandsInCopy, newest_by}
 use Rattle.group_commit.proofs.GivenLaws.{given_is, never_lost}
@@ -76,7 +76,7 @@ module _ (log : LogValue) (page : ℕ) (lt : page < log.layout.pages) where
     laid = subst (AllLaid log.layout log.anchor (weak_of knows.windows) at.image) (sym records_are) knows.over.own.laid
 
     -- the page's slot is that in the last record that has it
-    found : (slot : Slot) → slice_index_or log.slots page None ≡ Some slot → slot_of log.layout log.anchor.third page (records_by log.layout at.image log.anchor) ≡ Some slot
+    found : (slot : Option Slot) → slice_index_or log.slots page None ≡ slot → slot_of log.layout log.anchor.third page (records_by log.layout at.image log.anchor) ≡ slot
     found slot is =
         let long : page < length log.slots = subst (λ (n : ℕ). page < n) (sym knows.shape.table) lt in
         ap (slot_of log.layout log.anchor.third page) records_are ∙ sym (knows.over.indexed.slots page long) ∙ is
@@ -84,18 +84,18 @@ module _ (log : LogValue) (page : ℕ) (lt : page < log.layout.pages) where
     pub logged_newest : (bytes : List ℕ) → StandsAt (slice_index_or log.slots page None) at.image bytes → newest_by log at.image page ≡ Some bytes
     logged_newest bytes s =
         let slot : Slot = record { place = s.a; copy = s.b; number = s.lies.number } in
-        let last = given_is log.layout log.anchor knows.shape.third (weak_of knows.windows) knows.apart at.image at.image (worn_refl (weak_of knows.windows) at.image) laid page slot (found slot s.lies.is) bytes s.stands in
+        let last = given_is log.layout log.anchor knows.shape.third (weak_of knows.windows) knows.apart at.image at.image (worn_refl (weak_of knows.windows) at.image) laid page slot (found (Some slot) s.lies.is) bytes s.stands in
         in_layout at.image ∙ ap (λ (o : Option (List ℕ)). option_or o (home_of log.layout at.image page)) last
 
     pub logged_lost : (new : Image) → IsWorn (open_damage at.windows) at.image new → (fault : LoadFault) → LostCause (AreLogged log page) new fault → IsDevice fault
     logged_lost new worn (Device s) lost = tt
     logged_lost new worn (Lost a b) lost =
         let slot : Slot = record { place = a; copy = b; number = lost.copies.lies.number } in
-        absurd (never_lost log.layout log.anchor knows.shape.third (weak_of knows.windows) knows.apart at.image new (open_is_weak at.windows knows.windows at.image new knows.ends worn) laid page slot (found slot lost.copies.lies.is) lost.first lost.second)
+        absurd (never_lost log.layout log.anchor knows.shape.third (weak_of knows.windows) knows.apart at.image new (open_is_weak at.windows knows.windows at.image new knows.ends worn) laid page slot (found (Some slot) lost.copies.lies.is) lost.first lost.second)
 
     -- where the log has none it is that at home
     home_is : IsUnlogged log page → newest_by log at.image page ≡ home_of log.layout at.image page
-    home_is none = in_layout at.image ∙ ap (λ (o : Option (List ℕ)). option_or o (home_of log.layout at.image page)) (none (records_by log.layout at.image log.anchor) (subst (IsIndexed log) (sym records_are) knows.over.indexed))
+    home_is none = in_layout at.image ∙ ap (λ (o : Option (List ℕ)). option_or o (home_of log.layout at.image page)) (no_last_image log.layout log.anchor.third page (records_by log.layout at.image log.anchor) (found None none))
 
     some_home : IsUnlogged log page → IsSome (home_of log.layout at.image page)
     some_home none = subst IsSome (home_is none) (subst IsSome (sym (known_newest log at knows page ∙ ap (λ (b : Bool). cond b (Some (get_or knows.disk page [])) None) (lt-ltb page log.layout.pages lt))) refl)

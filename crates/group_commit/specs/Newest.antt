@@ -6,7 +6,6 @@ use Rattle.sector_disk.specs.declared.sector.Sector.TheVariants.{Whole}
 use Rattle.sector_disk.specs.declared.sector.WeakRun.{WeakRun}
 use Rattle.sector_disk.specs.Image.{sector_at}
 use Rattle.sector_disk.specs.Machine.{Moment}
-use Rattle.fsd_log.specs.Images.{last_image}
 use Rattle.fsd_log.specs.Scan.{Placed}
 use Rattle.fsd_files.specs.Disk.{Image}
 use Rattle.fsd_sound.specs.Homes.{AreHomesOf}
@@ -39,9 +38,9 @@ pub record KnowsPages (log : LogValue) (at : Moment) : Type 0 where
 
 -- ---- the two copies of a page
 
--- the log knows of no record that has the page
+-- the log has no slot of the page
 abbrev pub IsUnlogged : LogValue → (page : ℕ) → Type 0
-IsUnlogged log page = (records : List Placed) → IsIndexed log records → last_image page records ≡ None
+IsUnlogged log page = slice_index_or log.slots page None ≡ None
 
 -- the sectors are the page's own and its copy in the log; or its two homes, where it is not logged
 abbrev pub AreCopies : LogValue → (page a b : ℕ) → Type 0

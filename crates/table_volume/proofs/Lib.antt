@@ -1,8 +1,10 @@
 pub mod CacheLaws
 pub mod CountLaws
+pub mod EntryLaws
 pub mod FindLaws
 pub mod LookLaws
 pub mod PageLaws
+pub mod ReadLaws
 pub mod TableLaws
 pub mod TakenLaws
 pub mod WearLaws

@@ -1,30 +1,58 @@
 -- What a table over a cache leaves where it was looked into.
-use Rattle.std.proofs.Common.{◌≡◌, ◌⊎◌, inl, inr, ℕ, ◌<◌, Bool, true, false, ◌||◌, List, length, Option, Some, None, Result, Ok, Err, refl, sym, ap, subst, ◌∙◌, arith}
-use Rattle.std.specs.Prelude.{IsSome, IsTrue, IfErr, IfOk, IfSome, option_map, slice_get}
+use Rattle.std.proofs.Common.{◌≡◌, ◌⊎◌, inl, inr, ℕ, zero, suc, ◌+◌, ◌<◌, Bool, true, false, ◌||◌, List, [], ◌∷◌, length, Option, Some, None, Result, Ok, Err, refl, sym, ap, subst, ◌∙◌, arith}
+use Rattle.std.specs.Prelude.{Contains, IsSome, IsTrue, IfErr, IfOk, IfSome, option_map, slice_get, slice_index_or}
+use Rattle.std.specs.List.{AllByRecursion, flat_map}
 use Rattle.std.specs.Borrow.{MutBor}
 use Rattle.std.specs.Option.{option_or}
 use Rattle.std.proofs.lemmas.Bool.{or_right}
 use Rattle.fsd_bytes.specs.declared.refusal.Refusal.{Refusal}
-use Rattle.fsd_table.specs.Table.{BreaksTable}
+use Rattle.fsd_formats.specs.NamePage.{Content, Leaf}
+use Rattle.fsd_table.specs.declared.child.Child.{Child}
+use Rattle.fsd_table.specs.Pages.{children_of, entries_of, page_at}
+use Rattle.fsd_table.specs.Table.{BreaksTable, Visit, max_height, top, visits, visits_below}
+use Rattle.fsd_table.proofs.BoundLaws.{all_append}
 use Rattle.sector_disk.specs.declared.machine.Machine.{Ghosts as MachineGhosts}
 use Rattle.sector_disk.specs.Calls.{OnlyReads}
 use Rattle.page_cache.specs.declared.source.PageSource.{Ghosts as SourceGhosts}
 use Rattle.page_cache.specs.Cache.{AreNewest, CacheValue, Held, IsResident, bytes_of, held, is_one_of, newest}
-use Rattle.name_page.specs.Looks.{Looks}
+use Rattle.name_page.specs.Looks.{Agrees, Looks}
 use Rattle.name_page.specs.Pages.{Step, rested}
+use Rattle.name_page.proofs.LookLaws.{agrees_at}
 use Rattle.name_btree.specs.declared.fault.TreeFault.{TreeFault}
 use Rattle.name_btree.specs.declared.fault.TreeFault.TheVariants.{Pages, Broken}
 use Rattle.name_btree.specs.Fault.{BarsTable, HasCause}
 use Rattle.name_btree.specs.declared.lookup.FoundEntry.{FoundEntry}
-use Rattle.name_btree.specs.Lookup.{StandsIn}
+use Rattle.name_btree.specs.Lookup.{IsLedTo, StandsIn}
 use Rattle.table_pages.specs.Bringing.{IsTrusted, OnlyPins, given_by}
 use Rattle.table_pages.specs.Kept.{IsReady, images_of}
 use Rattle.table_pages.specs.ImageLaws.{image_at, image_count}
 use Rattle.table_pages.specs.Reads.{Fills, LosesFor, device_of}
 use Rattle.table_pages.specs.Table.{IsAtRest, IsClean, IsOver, ReadsOnly, Trusted, begun, step_of}
 use Rattle.table_pages.specs.declared.table.Table.{Table}
+use Rattle.table_pages.proofs.KeptLaws.{reached_there}
 use Rattle.table_volume.proofs.PageLaws.{in_memory}
-use Rattle.table_volume.specs.Looking.{FaultIn, FaultsOver, LooksOnly, images_by}
+use Rattle.table_volume.specs.Looking.{FaultIn, FaultsOver, HavePages, LeadsTo, LooksOnly, images_by}
+
+-- ---- what a visited page has
+
+all_below : (P : Visit → Type 0) (f : Child → List Visit) → ((d : Child) → AllByRecursion P (f d)) → (cs : List Child) → AllByRecursion P (flat_map f cs)
+all_below P f each [] = tt
+all_below P f each (d ∷ cs) = all_append P (f d) (flat_map f cs) (each d) (all_below P f each cs)
+
+each_own : (pages : List (List ℕ)) (levels depth : ℕ) (c : Child) → AllByRecursion (λ v. v.content ≡ page_at pages v.page) (visits_below levels pages depth c)
+each_own pages zero depth c = tt
+each_own pages (suc levels) depth c = (refl, all_below (λ v. v.content ≡ page_at pages v.page) (visits_below levels pages (depth + 1)) (each_own pages levels (depth + 1)) (children_of c.low c.high (page_at pages c.page)))
+
+one_of : (P : Visit → Type 0) (vs : List Visit) (v : Visit) → AllByRecursion P vs → (i : ℕ) → i < length vs → slice_index_or vs i v ≡ v → P v
+one_of P [] v all i lt is = absurd (omega arith)
+one_of P (w ∷ vs) v all zero lt is = subst P is all.0
+one_of P (w ∷ vs) v all (suc i) lt is = one_of P vs v all.1 i (omega arith) is
+
+own_content : (pages : List (List ℕ)) (visit : Visit) → Contains (visits pages) visit → visit.content ≡ page_at pages visit.page
+unfolding visits
+own_content pages visit has = one_of (λ v. v.content ≡ page_at pages v.page) (visits pages) visit (each_own pages (suc max_height) 1 top) has.0 has.1 has.2
+
+-- ---- faults
 
 fault_there : (s : Step) (f : TreeFault) → HasCause s (BreaksTable s.images) (BarsTable s) f → FaultIn s.images s.spares s.home_a f
 fault_there s (Pages refusal) cause = cause.1
@@ -87,6 +115,32 @@ module _ {D E : Type 0} {M : MachineGhosts D} {S : SourceGhosts E} where
     pages_within (Err fault) there = tt
     pages_within (Ok None) there = tt
     pages_within (Ok (Some f)) there = within f.page there.reached.0
+
+    -- pages with what is in the cache in the end have what was reached
+    agrees : (pages : List (List ℕ)) → HavePages c.cache.now (length free.now) pages → Agrees pages (step_of b)
+    agrees pages have = record {
+      count = have.size ∙ sym (image_count (newest b.cache.now (given_by M S b.source.now b.m.now)) (length b.free.now) ∙ ap (λ (f : List Bool). length f) free_b);
+      reached = λ page is used.
+          let there = in_memory b.cache.now page (reached_there M S b.source.now b.made_over.value b.made_with.value b.m.now b.cache.now b.free.now b.reached.items b.spares.items b.promised b.kept page is.1) in
+          let lt : page < length free.now = within page is.0 in
+          let lt_b : page < length b.free.now = omega (arith, lt, ap (λ (f : List Bool). length f) free_b) in
+          have.same page there.0 lt (pins.bytes page ∙ there.1)
+          ∙ sym (image_at (newest b.cache.now (given_by M S b.source.now b.m.now)) (length b.free.now) page there.0 lt_b (ap (λ (o : Option (List ℕ)). option_or o (given_by M S b.source.now b.m.now page)) there.1));
+    }
+
+    leads : (f : FoundEntry) → StandsIn (step_of b) f → IsLedTo (step_of b) f → (pages : List (List ℕ)) → HavePages c.cache.now (length free.now) pages → LeadsTo pages f
+    leads f there way pages have =
+        let agree = agrees pages have in
+        let visit = way pages agree in
+        let content : visit.0.content ≡ Some (Leaf there.entries) =
+        own_content pages visit.0 visit.1 ∙ ap (page_at pages) visit.2 ∙ agrees_at (step_of b) pages f.page there.reached there.used agree ∙ there.leaf in
+        (visit.0, visit.1, visit.2, subst (λ (x : Option Content). Contains (entries_of x) f.entry) (sym content) there.there)
+
+    pub leads_left : (cache' : CacheValue) → cache' ≡ c.cache.now → (r : Result (Option FoundEntry) TreeFault) → IfOk r (λ found. IfSome found (StandsIn (step_of b))) → IfOk r (λ found. IfSome found (IsLedTo (step_of b)))
+        → IfOk r (λ found. IfSome found (λ f. (pages : List (List ℕ)) → HavePages cache' (length free.now) pages → LeadsTo pages f))
+    leads_left cache' left (Err fault) there way = tt
+    leads_left cache' left (Ok None) there way = tt
+    leads_left cache' left (Ok (Some f)) there way = λ pages have. leads f there way pages (subst (λ (x : CacheValue). HavePages x (length free.now) pages) left have)
 
     fault_last : (f : TreeFault) → HasCause (step_of b) (BreaksTable (step_of b).images) (BarsTable (step_of b)) f → FaultIn (images_by M S source c.m.now c.cache.now (length free.now)) free.now home_a f
     fault_last f cause =

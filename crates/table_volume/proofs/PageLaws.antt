@@ -21,7 +21,7 @@ use Rattle.fsd_sound.specs.Shown.{records_by}
 use Rattle.log_thirds.specs.Append.{IsIndexed}
 use Rattle.log_thirds.specs.Disk.{bytes_in, reads}
 use Rattle.log_thirds.specs.Images.{AreLogged}
-use Rattle.log_thirds.proofs.ImageLaws.{image_there}
+use Rattle.log_thirds.proofs.ImageLaws.{image_there, no_last_image}
 use Rattle.group_commit.specs.Newest.{AreCopies, IsUnlogged, newest_by}
 use Rattle.group_commit.proofs.NewestLaws.{in_layout}
 use Rattle.group_commit.proofs.StandsLaws.{page_newest, page_in_memory}
@@ -94,7 +94,8 @@ module _ (v : VolumeValue) (k : Known) (now : Moment) (whole : IsWhole v) (stand
     module _ (a b : ℕ) (first : sector_at now.image a ≡ Damaged) (second : sector_at now.image b ≡ Damaged) where
       homes_not_lost : IsUnlogged v.log page → AreHomesOf v.log.layout page a b → ⊥
       homes_not_lost none homes =
-          let at_home : newest_by v.log now.image page ≡ home_of v.log.layout now.image page = in_layout v.log page in_log_layout now.image ∙ ap (λ (o : Option (List ℕ)). option_or o (home_of v.log.layout now.image page)) (none (records_by v.log.layout now.image v.log.anchor) indexed) in
+          let inside : page < length v.log.slots = omega (arith, in_log_layout, stands.holds.fits.table) in
+          let at_home : newest_by v.log now.image page ≡ home_of v.log.layout now.image page = in_layout v.log page in_log_layout now.image ∙ ap (λ (o : Option (List ℕ)). option_or o (home_of v.log.layout now.image page)) (no_last_image v.log.layout v.log.anchor.third page (records_by v.log.layout now.image v.log.anchor) (sym (indexed.slots page inside) ∙ none)) in
           let gone : home_of v.log.layout now.image page ≡ None =
           λ i. either_copy (sector_bytes ((ap (sector_at now.image) (sym homes.first) ∙ first) i)) (sector_bytes ((ap (sector_at now.image) (sym homes.second) ∙ second) i)) in
           absurd (cc (on_disk, at_home, gone))

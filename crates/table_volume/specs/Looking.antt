@@ -1,22 +1,26 @@
 -- What a look-up leaves of a cache, and why one fails.
-use Rattle.std.specs.Prelude.{◌≡◌, ◌⊎◌, ⊤, ℕ, ◌<◌, Bool, true, List, Option, length, Result, Ok, Err}
+use Rattle.std.specs.Prelude.{◌≡◌, ◌⊎◌, ⊤, ℕ, ◌<◌, Bool, true, List, Option, Some, IfSome, Contains, length, slice_get, Result, Ok, Err}
 use Rattle.fsd_bytes.specs.declared.refusal.Refusal.{Refusal}
 use Rattle.fsd_bytes.specs.declared.refusal.Refusal.TheVariants.{Device, Memory, Unsound}
 use Rattle.fsd_formats.specs.declared.entry.Entry.{Entry}
 use Rattle.sector_disk.specs.declared.machine.Machine.{Ghosts as MachineGhosts}
 use Rattle.sector_disk.specs.Calls.{OnlyReads}
+use Rattle.sector_disk.specs.Machine.{Moment}
 use Rattle.page_cache.specs.declared.source.PageSource.{Ghosts as SourceGhosts}
 use Rattle.page_cache.specs.Cache.{AreNewest, CacheValue, bytes_of, is_one_of, newest}
 use Rattle.table_pages.specs.Bringing.{IsTrusted, given_by, home_in}
 use Rattle.table_pages.specs.Kept.{IsReady, images_of}
 use Rattle.table_pages.specs.Reads.{Fills, LosesFor, device_of}
-use Rattle.fsd_table.specs.Table.{BreaksTable}
+use Rattle.fsd_table.specs.Pages.{entries_of}
+use Rattle.fsd_table.specs.Table.{BreaksTable, Visit, visits}
 use Rattle.name_page.specs.Pages.{IsOuter, is_spare}
 use Rattle.name_btree.specs.declared.fault.TreeFault.{TreeFault}
 use Rattle.name_btree.specs.declared.fault.TreeFault.TheVariants.{Pages, Broken}
 use Rattle.name_btree.specs.Fault.{IsOnWay}
 use Rattle.name_btree.specs.declared.lookup.FoundEntry.{FoundEntry}
 use Rattle.name_btree.specs.Lookup.{entry_of}
+use Rattle.volume_contract.specs.Causes.{HaveRead, IsRead}
+use Rattle.volume_contract.specs.State.{State}
 
 -- the page breaks the table, or it is free and a path reaches it
 abbrev pub BarsPages : List (List ℕ) → List Bool → ℕ → Type 0
@@ -47,6 +51,23 @@ module _ {D E : Type 0} (M : MachineGhosts D) (S : SourceGhosts E) (source : E) 
   -- So it is of the pages by this cache and the source.
   pub record FaultsOver (m : D) (c : CacheValue) (free : List Bool) (home_a : ℕ) (fault : TreeFault) : Type 0 where
     pub cause : FaultIn (images_by m c (length free)) free home_a fault
+
+-- ---- what is shown by the pages that were read
+
+-- so many pages, with the bytes of those that the cache has
+pub record HavePages (c : CacheValue) (count : ℕ) (pages : List (List ℕ)) : Type 0 where
+  pub size : length pages ≡ count
+  pub same : (page : ℕ) (bytes : List ℕ) → page < count → bytes_of c page ≡ Some bytes → slice_get pages page ≡ Some bytes
+
+-- a path leads to the leaf at the page, which has the entry
+abbrev pub LeadsTo : List (List ℕ) → FoundEntry → Type 0
+LeadsTo pages f = (visit : Visit) × Contains (visits pages) visit × (visit.page ≡ f.page) × Contains (entries_of visit.content) f.entry
+
+-- Some pages were read. Whatever the others have, the entry is in the leaf.
+pub record ShowsEntry (old new : State) (resident : ℕ → Option (List ℕ)) (before now : Moment) (f : FoundEntry) : Type 0 where
+  pub read : ℕ → Option (List ℕ)
+  pub are_read : (page : ℕ) → IfSome (read page) (IsRead old new resident before now page)
+  pub leads : (pages : List (List ℕ)) → HaveRead old read pages → LeadsTo pages f
 
 -- ---- what is told
 

@@ -1,12 +1,12 @@
 //! Look-ups in a table over a cache.
-ghost use Rattle.std.specs.Prelude.{◌≡◌, ◌<◌, ℕ, IfOk, IfErr, IfSome, length};
+ghost use Rattle.std.specs.Prelude.{◌≡◌, ◌<◌, ℕ, List, IfOk, IfErr, IfSome, length};
 ghost use Rattle.table_pages.specs.Bringing.{IsTrusted};
 ghost use Rattle.table_pages.specs.Kept.{IsReady};
 ghost use Rattle.fsd_table.specs.Tree.{IsTree, table_of};
 ghost use Rattle.name_page.specs.Lookups.{entry_with};
 ghost use Rattle.name_btree.specs.Fault.{outer_told};
 ghost use Rattle.name_btree.specs.Lookup.{entry_of};
-ghost use Rattle.table_volume.specs.Looking.{FaultsOver, LooksOnly, images_by, told};
+ghost use Rattle.table_volume.specs.Looking.{FaultsOver, HavePages, LeadsTo, LooksOnly, images_by, told};
 
 use fsd_bytes::{Key, Refusal};
 use name_btree::{FoundEntry, TreeFault, find};
@@ -36,6 +36,7 @@ pub(crate) fn find_in<M: Machine, S: PageSource>(
     ensures free { free.new ≡ free.old }
     ensures page { IfOk result (λ found. IfSome found (λ f. f.page < length free.old)) }
     ensures key { IfOk result (λ found. IfSome found (λ f. f.entry.key ≡ key.now)) }
+    ensures way { IfOk result (λ found. IfSome found (λ f. (pages : List (List ℕ)) → HavePages cache.new (length free.old) pages → LeadsTo pages f)) }
     ensures found { IfOk result (λ found. IsTrusted M.Machine S.PageSource source.now m.old cache.old m.new → (height : ℕ) →
         let pages = images_by M.Machine S.PageSource source.now m.old cache.old (length free.old) in IsTree pages height → entry_of found ≡ entry_with key.now (table_of pages height)) }
     ensures fault { IfErr result (FaultsOver M.Machine S.PageSource source.now m.new cache.new free.old home_a) }

@@ -29,7 +29,7 @@ returns-then-branch-clause-newest g c h knows =
 -- ---- where the log has no image
 
 unlogged : (g : given.Over) (c : goal.After-load_home g) → IsUnlogged c.args.self.now c.args.page
-unlogged g c = subst (λ (x : LogValue). IsUnlogged x c.args.page) c.self.view_is (c.in_ok-image_of.ensures.nowhere (ap (λ (b : Bool). Ok b) c.if-branch.false))
+unlogged g c = subst (λ (x : LogValue). IsUnlogged x c.args.page) c.self.view_is (c.in_ok-image_of.ensures.absent.0 (ap (λ (b : Bool). Ok b) c.if-branch.false))
 
 same_layout : (g : given.Over) (c : goal.After-load_home g) → c.self.inside.layout ≡ c.args.self.now.layout
 same_layout g c = sym c.self.invariant ∙ ap (λ (x : LogValue). x.layout) c.self.view_is

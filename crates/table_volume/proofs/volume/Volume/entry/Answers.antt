@@ -1,0 +1,23 @@
+use Rattle.std.proofs.Common.{sym, ap, ◌∙◌}
+use Rattle.std.proofs.lemmas.Result.{err_from_is_err_and}
+use Rattle.fsd_files.specs.Answers.{entry_of as entry_in, entry_reply, found_or}
+use Rattle.name_btree.specs.Lookup.{entry_of}
+use Rattle.table_volume.proofs.EntryLaws.{entry_looked_up, fault_looked_up}
+use Rattle.table_volume.proofs.volume.Volume.entry.Goals as goal
+
+pub returns-in-None-clause-done : goal.returns-in-None-clause-done
+returns-in-None-clause-done g c = λ h k stands. ap found_or (sym (c.in_ok-found.ensures.found h k stands) ∙ ap entry_of c.in-None.is)
+
+pub returns-in-Some-clause-done : goal.returns-in-Some-clause-done
+returns-in-Some-clause-done g c = λ h k stands.
+    entry_looked_up c.find.new.self k.mounted.volume c.args.key.now c.in-Some.found.page c.in-Some.found.entry c.met_entry.result (sym (c.in_ok-found.ensures.found h k stands) ∙ ap entry_of c.in-Some.is) (c.find.ensures.taken h k stands) c.met_entry.ensures
+
+pub returns-in_err-found-clause-done : goal.returns-in_err-found-clause-done
+returns-in_err-found-clause-done g c =
+    let p = err_from_is_err_and c.from_residual-in_err-found.result c.from_residual-in_err-found.ensures.1 in
+    rw (p.1, p.2) (λ h k stands. fault_looked_up (entry_reply k.mounted.volume c.args.key.now) (entry_in c.args.key.now k.mounted.volume.entries) c.in_err-found.field-0.0 (c.in_err-found.ensures.found h k stands))
+
+pub returns-in_err-found-clause-lost : goal.returns-in_err-found-clause-lost
+returns-in_err-found-clause-lost g c =
+    let p = err_from_is_err_and c.from_residual-in_err-found.result c.from_residual-in_err-found.ensures.1 in
+    rw (p.1, p.2) (λ a b is h. c.in_err-found.ensures.lost a b (cc is) h)
