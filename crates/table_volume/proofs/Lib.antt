@@ -2,6 +2,7 @@ pub mod CacheLaws
 pub mod CountLaws
 pub mod FindLaws
 pub mod LookLaws
+pub mod NextLaws
 pub mod PageLaws
 pub mod TableLaws
 pub mod TakenLaws

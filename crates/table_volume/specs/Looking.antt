@@ -1,5 +1,5 @@
 -- What a look-up leaves of a cache, and why one fails.
-use Rattle.std.specs.Prelude.{◌≡◌, ◌⊎◌, ⊤, ℕ, ◌<◌, Bool, true, List, Option, length, Result, Ok, Err}
+use Rattle.std.specs.Prelude.{◌≡◌, ◌⊎◌, ⊤, ℕ, ◌<◌, Bool, true, List, Option, Some, None, length, Result, Ok, Err}
 use Rattle.fsd_bytes.specs.declared.refusal.Refusal.{Refusal}
 use Rattle.fsd_bytes.specs.declared.refusal.Refusal.TheVariants.{Device, Memory, Unsound}
 use Rattle.fsd_formats.specs.declared.entry.Entry.{Entry}
@@ -17,6 +17,9 @@ use Rattle.name_btree.specs.declared.fault.TreeFault.TheVariants.{Pages, Broken}
 use Rattle.name_btree.specs.Fault.{IsOnWay}
 use Rattle.name_btree.specs.declared.lookup.FoundEntry.{FoundEntry}
 use Rattle.name_btree.specs.Lookup.{entry_of}
+use Rattle.volume_contract.specs.Ends.{found_one}
+use Rattle.table_volume.specs.Taken.{met_entry}
+use Rattle.table_volume.specs.Volume.{VolumeValue}
 
 -- the page breaks the table, or it is free and a path reaches it
 abbrev pub BarsPages : List (List ℕ) → List Bool → ℕ → Type 0
@@ -65,3 +68,8 @@ Finds e (Ok found) = entry_of found ≡ e
 Finds e (Err (Device s)) = ⊤
 Finds e (Err Memory) = ⊤
 Finds e (Err other) = ⊥
+
+-- what was found, which is the table's only where its sectors are taken
+abbrev pub met_found : VolumeValue → Option FoundEntry → Result (Option Entry) Refusal
+met_found v None = Ok None
+met_found v (Some f) = found_one (met_entry v f.page f.entry)

@@ -6,6 +6,7 @@ mod entries;
 mod finding;
 mod laws;
 mod looking;
+mod next;
 mod volume;
 
 pub use laws::{
