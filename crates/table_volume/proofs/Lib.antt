@@ -1,5 +1,6 @@
 pub mod CacheLaws
 pub mod CountLaws
+pub mod EntryLaws
 pub mod FindLaws
 pub mod LookLaws
 pub mod NextLaws

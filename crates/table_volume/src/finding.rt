@@ -1,12 +1,13 @@
 //! Entries that are found in the table.
-ghost use Rattle.std.specs.Prelude.{◌≡◌, ◌<◌, ◌≤◌, IfOk, IfErr, IfSome, IsTrue};
+ghost use Rattle.std.specs.Prelude.{◌≡◌, ◌<◌, ◌≤◌, Contains, IfOk, IfErr, IfSome, IsTrue};
 ghost use Rattle.sector_disk.specs.Calls.{OnlyReads, device_in};
-ghost use Rattle.fsd_files.specs.Answers.{entry_of};
-ghost use Rattle.volume_contract.specs.Ends.{device_of};
+ghost use Rattle.fsd_files.specs.Answers.{entry_of, entry_reply};
+ghost use Rattle.volume_contract.specs.Ends.{Looks, device_of, found_one};
 ghost use Rattle.volume_contract.specs.Order.{Follows, IsLookUp, entry_steps, is_idle};
 ghost use Rattle.volume_contract.specs.State.{Known, Stands, volume_of};
 ghost use Rattle.table_volume.specs.Looking.{Finds};
 ghost use Rattle.table_volume.specs.State.{Holds, state};
+ghost use Rattle.table_volume.specs.Taken.{are_taken};
 
 use crate::Volume;
 use crate::looking::{find_in, told};
@@ -27,6 +28,7 @@ impl Volume {
         ensures cause { IfErr result IsLookUp }
         ensures stands { M.honest m.new → (k : Known) → Stands state Holds self.old k (M.now m.old) → Stands state Holds self.new k (M.now m.new) }
         ensures found { M.honest m.new → (k : Known) → Stands state Holds self.old k (M.now m.old) → Finds (entry_of key.now (volume_of k).entries) result }
+        ensures taken { M.honest m.new → (k : Known) → Stands state Holds self.old k (M.now m.old) → (e : Entry) → Contains (volume_of k).entries e → IsTrue (are_taken self.new e.runs) }
     {
         let _whole = self.cache.dirty_list();
         let home_a = self.layout.home_a(0);
@@ -50,6 +52,7 @@ impl Volume {
         ensures state { state self.new ≡ state self.old }
         ensures idle { IsTrue (is_idle (entry_steps (state self.old))) → m.new ≡ m.old }
         ensures stands { M.honest m.new → (k : Known) → Stands state Holds self.old k (M.now m.old) → Stands state Holds self.new k (M.now m.new) }
+        ensures done { M.honest m.new → (k : Known) → Stands state Holds self.old k (M.now m.old) → Looks (entry_reply (volume_of k) key.now) (found_one result) }
     {
         self.is_up()?;
         match self.find(m, key)? {
