@@ -19,14 +19,7 @@ use Rattle.table_volume.specs.Looking.{Finds, met_found}
 use Rattle.table_volume.specs.State.{Holds, state}
 use Rattle.table_volume.specs.Taken.{are_taken, down_fault}
 use Rattle.table_volume.specs.Volume.{IsWhole, VolumeValue}
-use Rattle.table_volume.proofs.TakenLaws.{entries_taken}
 use Rattle.table_volume.proofs.TableLaws.{behind_there}
-
--- the sectors of each entry of the table are taken
-pub each_taken : (v w : VolumeValue) → v ≡ w → IsWhole v → (k : Known) (now : Moment) → Stands state Holds w k now → (e : Entry) → Contains k.mounted.volume.entries e → IsTrue (are_taken v e.runs)
-each_taken v w is whole k now stands e has =
-    let here : Stands state Holds v k now = subst (λ (x : VolumeValue). Stands state Holds x k now) (sym is) stands in
-    entries_taken v k.mounted _ whole here.fits.layout here.holds here.disk.spaced here.disk.described.apart e has
 
 -- ---- the steps
 

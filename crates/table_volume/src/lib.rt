@@ -7,6 +7,7 @@ mod finding;
 mod laws;
 mod looking;
 mod next;
+mod reading;
 mod volume;
 
 pub use laws::{

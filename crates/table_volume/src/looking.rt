@@ -3,6 +3,7 @@ ghost use Rattle.std.specs.Prelude.{◌≡◌, ◌<◌, ℕ, IfOk, IfErr, IfSome
 ghost use Rattle.std.specs.Option.{option_copied};
 ghost use Rattle.table_pages.specs.Bringing.{IsTrusted};
 ghost use Rattle.table_pages.specs.Kept.{IsReady};
+ghost use Rattle.fsd_formats.specs.NamePage.{is_entry};
 ghost use Rattle.fsd_table.specs.Tree.{IsTree, table_of};
 ghost use Rattle.name_page.specs.Lookups.{entry_after, entry_with, highest_of, is_after};
 ghost use Rattle.name_btree.specs.Fault.{outer_told};
@@ -36,6 +37,7 @@ pub(crate) fn find_in<M: Machine, S: PageSource>(
     ensures looks { LooksOnly M.Machine S.PageSource source.now (outer_told result) m.old m.new cache.old cache.new free.old }
     ensures free { free.new ≡ free.old }
     ensures page { IfOk result (λ found. IfSome found (λ f. f.page < length free.old)) }
+    ensures entry { IfOk result (λ found. IfSome found (λ f. is_entry f.entry ≡ true)) }
     ensures key { IfOk result (λ found. IfSome found (λ f. f.entry.key ≡ key.now)) }
     ensures found { IfOk result (λ found. IsTrusted M.Machine S.PageSource source.now m.old cache.old m.new → (height : ℕ) →
         let pages = images_by M.Machine S.PageSource source.now m.old cache.old (length free.old) in IsTree pages height → entry_of found ≡ entry_with key.now (table_of pages height)) }

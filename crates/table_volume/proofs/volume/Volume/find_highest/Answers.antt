@@ -1,7 +1,7 @@
 use Rattle.fsd_files.specs.Answers.{highest_entry}
 use Rattle.name_page.specs.Lookups.{highest_of}
+use Rattle.table_volume.proofs.EntryLaws.{taken_there}
 use Rattle.table_volume.proofs.FindLaws.{finds_looked, stands_found}
-use Rattle.table_volume.proofs.NextLaws.{each_taken}
 use Rattle.table_volume.proofs.TableLaws.{found_highest}
 use Rattle.table_volume.proofs.volume.Volume.find_highest.Goals as goal
 
@@ -15,4 +15,4 @@ returns-clause-found g c =
     c.home_a-home_a.result c.highest_in-found.result c.told.result c.told.ensures c.highest_in-found.ensures.looks c.highest_in-found.ensures.fault c.highest_in-found.ensures.found
 
 pub returns-clause-taken : goal.returns-clause-taken
-returns-clause-taken g c = λ honest k stands e has. each_taken _ c.args.self.now c.self.view_is c.self.invariant k (g.M.Machine.now c.args.m.now) stands e has
+returns-clause-taken g c = λ honest k stands e has. taken_there _ c.args.self.now c.self.view_is c.self.invariant k (g.M.Machine.now c.args.m.now) stands e has

@@ -1,8 +1,8 @@
 use Rattle.std.specs.Option.{option_copied}
 use Rattle.fsd_files.specs.Answers.{entry_after as entry_behind}
 use Rattle.name_page.specs.Lookups.{entry_after}
+use Rattle.table_volume.proofs.EntryLaws.{taken_there}
 use Rattle.table_volume.proofs.FindLaws.{finds_looked, stands_found}
-use Rattle.table_volume.proofs.NextLaws.{each_taken}
 use Rattle.table_volume.proofs.TableLaws.{found_behind}
 use Rattle.table_volume.proofs.volume.Volume.find_next.Goals as goal
 
@@ -16,4 +16,4 @@ returns-clause-found g c =
     c.home_a-home_a.result c.next_in-found.result c.told.result c.told.ensures c.next_in-found.ensures.looks c.next_in-found.ensures.fault c.next_in-found.ensures.found
 
 pub returns-clause-taken : goal.returns-clause-taken
-returns-clause-taken g c = λ honest k stands e has. each_taken _ c.args.self.now c.self.view_is c.self.invariant k (g.M.Machine.now c.args.m.now) stands e has
+returns-clause-taken g c = λ honest k stands e has. taken_there _ c.args.self.now c.self.view_is c.self.invariant k (g.M.Machine.now c.args.m.now) stands e has
