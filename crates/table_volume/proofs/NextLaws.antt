@@ -1,24 +1,21 @@
 -- What is met of what a look-up has found.
-use Rattle.std.proofs.Common.{◌≡◌, inl, inr, ℕ, Bool, true, false, cond, List, Option, Some, None, Result, Ok, Err, sym, ap, subst}
+use Rattle.std.proofs.Common.{◌≡◌, inl, inr, ℕ, Bool, true, false, cond, List, Option, Some, None, Ok, Err, sym, ap, subst}
 use Rattle.std.specs.Prelude.{Contains, IfOk, IfSome, IsTrue, option_map}
 use Rattle.volume_layout.specs.Layout.{home_a}
-use Rattle.sector_disk.specs.Machine.{Moment}
 use Rattle.fsd_bytes.specs.declared.key.Key.{Key}
-use Rattle.fsd_bytes.specs.declared.refusal.Refusal.{Refusal}
 use Rattle.fsd_bytes.specs.declared.refusal.Refusal.TheVariants as Why
 use Rattle.fsd_formats.specs.declared.entry.Entry.{Entry}
 use Rattle.fsd_files.specs.Answers.{entry_after as entry_behind}
-use Rattle.fsd_files.specs.Replies.{Reply, Found}
+use Rattle.fsd_files.specs.Replies.{Found}
 use Rattle.name_page.specs.Lookups.{is_after}
 use Rattle.name_btree.specs.declared.lookup.FoundEntry.{FoundEntry}
 use Rattle.name_btree.specs.Lookup.{entry_of as found_entry}
 use Rattle.volume_contract.specs.Ends.{IsLater, Looks, found_one}
 use Rattle.volume_contract.specs.Order.{Follows, next_steps}
-use Rattle.volume_contract.specs.State.{Known, Stands, State}
-use Rattle.table_volume.specs.Looking.{Finds, met_found}
-use Rattle.table_volume.specs.State.{Holds, state}
+use Rattle.volume_contract.specs.State.{State}
+use Rattle.table_volume.specs.Looking.{met_found}
 use Rattle.table_volume.specs.Taken.{are_taken, down_fault}
-use Rattle.table_volume.specs.Volume.{IsWhole, VolumeValue}
+use Rattle.table_volume.specs.Volume.{VolumeValue}
 use Rattle.table_volume.proofs.TableLaws.{behind_there}
 
 -- ---- the steps
@@ -57,28 +54,3 @@ pub met_done : (v : VolumeValue) (found : Option FoundEntry) (after : Option Key
 met_done v None after entries finds taken = ap Found (sym finds)
 met_done v (Some f) after entries finds taken =
     subst (λ (b : Bool). Looks (Found (entry_behind after entries)) (found_one (cond b (Ok f.entry) (Err (Why.Unsound (home_a v.layout f.page)))))) (sym (taken f.entry (behind_there after entries f.entry (sym finds)))) (ap Found (sym finds))
-
--- what keeps a look-up from its answer is the disk, or a want of memory
-pub finds_cases : (P : Refusal → Type 0) → ((s : ℕ) → P (Why.Device s)) → P Why.Memory → (e : Option Entry) (r : Refusal) → Finds e (Err r) → P r
-finds_cases P device memory e Why.NoSuch h = absurd h
-finds_cases P device memory e (Why.TooLong n) h = absurd h
-finds_cases P device memory e (Why.NoSpace need free) h = absurd h
-finds_cases P device memory e (Why.TooFragmented need best) h = absurd h
-finds_cases P device memory e (Why.NameTableFull free) h = absurd h
-finds_cases P device memory e Why.VersionsUsedUp h = absurd h
-finds_cases P device memory e (Why.KeepTooLarge n) h = absurd h
-finds_cases P device memory e (Why.Damaged s) h = absurd h
-finds_cases P device memory e (Why.Device s) h = device s
-finds_cases P device memory e (Why.Down s) h = absurd h
-finds_cases P device memory e (Why.Lost a b) h = absurd h
-finds_cases P device memory e (Why.Unsound s) h = absurd h
-finds_cases P device memory e Why.WornOut h = absurd h
-finds_cases P device memory e Why.Memory h = memory
-finds_cases P device memory e (Why.BadClient n) h = absurd h
-finds_cases P device memory e (Why.Busy n) h = absurd h
-finds_cases P device memory e (Why.Idle n) h = absurd h
-finds_cases P device memory e (Why.Short declared got) h = absurd h
-finds_cases P device memory e (Why.Long declared got) h = absurd h
-
-pub looks_refused : (reply : Reply) (e : Option Entry) (r : Refusal) → Finds e (Err r) → Looks reply (Err r)
-looks_refused reply e r h = finds_cases (λ (x : Refusal). Looks reply (Err x)) (λ s. tt) tt e r h

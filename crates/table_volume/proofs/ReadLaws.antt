@@ -1,6 +1,6 @@
 -- What a read of a version answers.
-use Rattle.std.proofs.Common.{◌≡◌, inl, inr, ℕ, zero, suc, ◌+◌, ◌-◌, ◌^◌, ◌<◌, ◌≤◌, Bool, true, false, cond, List, [], ◌∷◌, length, min, Option, Some, None, Result, Ok, Err, refl, sym, ap, subst, ◌∙◌, arith}
-use Rattle.std.specs.Prelude.{⊤, All, Contains, IfErr, IfOk, IsErrAnd, IsTrue, nat_le, nat_lt, option_map, slice_index_or}
+use Rattle.std.proofs.Common.{◌≡◌, inl, inr, ℕ, zero, suc, ◌+◌, ◌^◌, ◌<◌, ◌≤◌, Bool, true, false, cond, List, [], ◌∷◌, length, Option, Some, None, Result, Ok, Err, refl, sym, ap, subst, ◌∙◌, arith}
+use Rattle.std.specs.Prelude.{⊤, All, IfErr, IfOk, IsErrAnd, IsTrue, nat_le, nat_lt, option_map, slice_index_or}
 use Rattle.std.specs.FinMap.{find}
 use Rattle.std.specs.List.{AllByRecursion, list_all, range_with_len}
 use Rattle.std.specs.Ordering.{eq_by_cmp}
@@ -28,8 +28,8 @@ use Rattle.version_data.specs.declared.fault.DataFault.{DataFault}
 use Rattle.version_data.specs.declared.fault.DataFault.TheVariants.{Device, Damaged}
 use Rattle.version_data.specs.Reading.{GivesRange, NamesFirst, data_failed_at, refusal_of}
 use Rattle.version_data.proofs.PlaceLaws.{entry_lengths, index_there}
-use Rattle.volume_contract.specs.Ends.{Gives, Looks, Reads, count_in, device_of, found_one}
-use Rattle.volume_contract.specs.Order.{Comes, Follows, IsData, Step, Through, entry_steps, is_idle, read_steps}
+use Rattle.volume_contract.specs.Ends.{Gives, Looks, Reads, count_in, device_of}
+use Rattle.volume_contract.specs.Order.{Follows, IsData, Step, Through, entry_steps, is_idle, read_steps}
 use Rattle.volume_contract.specs.State.{State}
 use Rattle.table_volume.specs.Taken.{are_taken, is_taken, met_entry}
 use Rattle.table_volume.specs.Volume.{VolumeValue}
@@ -74,22 +74,9 @@ module _ (v : VolumeValue) (e : Entry) (taken : are_taken v e.runs ≡ true) whe
 
 -- ---- the steps
 
-pub comes_read : (s : State) (r : Refusal) → Comes (entry_steps s) r → Comes (read_steps s) r
-comes_read s r (inl down) = inl down
-comes_read s r (inr (up, inl look)) = inr (up, inl look)
-comes_read s r (inr (up, inr (t, inl none))) = inr (up, inr (t, inl none))
-comes_read s r (inr (up, inr (t, inr (u, none)))) = absurd none
-
 pub data_read : (s : State) (r : Result ℕ Refusal) → Through (entry_steps s) → IfErr r IsData → Follows (read_steps s) r
 data_read s (Ok n) through cause = (through.0, (tt, (tt, (tt, tt))))
 data_read s (Err why) through cause = inr (through.0, inr (tt, inr (tt, inl cause)))
-
-idle_both : (down : Option ℕ) → is_idle (Step.Test (option_map Why.Down down) ∷ Step.LookUp ∷ Step.Asks Why.NoSuch ∷ Step.Data ∷ []) ≡ true → is_idle (Step.Test (option_map Why.Down down) ∷ Step.LookUp ∷ Step.Asks Why.NoSuch ∷ []) ≡ true
-idle_both None idle = absurd (cc idle)
-idle_both (Some s) idle = refl
-
-pub idle_read : (s : State) → is_idle (read_steps s) ≡ true → is_idle (entry_steps s) ≡ true
-idle_read s idle = idle_both s.down idle
 
 busy : (down : Option ℕ) → option_map Why.Down down ≡ None → is_idle (Step.Test (option_map Why.Down down) ∷ Step.LookUp ∷ Step.Asks Why.NoSuch ∷ Step.Data ∷ []) ≡ true → ⊥
 busy None up idle = absurd (cc idle)
@@ -116,10 +103,6 @@ data_device (Damaged s) = refl
 pub damaged_reads : (i j : Image) (file : File) (e : Entry) (from n : ℕ) (old new : List ℕ) (fault : DataFault) → n ≡ count_in e.length from (length old) → NamesFirst i j e.runs from n fault → Reads i j (Some file) (Some e) from old new (Err (refusal_of fault))
 damaged_reads i j file e from n old new (Device place) is names = tt
 damaged_reads i j file e from n old new (Damaged s) is names = subst (λ (c : ℕ). FirstDamaged i j (range_sectors e.runs from c) s) is names
-
--- past the end there are none
-pub reads_past : (i : Image) (file : File) (e : Entry) (from : ℕ) (buf : List ℕ) → e.length ≤ from → e.length ≡ length file.bytes → Gives i file e from buf buf 0
-reads_past i file e from buf past len = record { len = len; count = omega (arith, past); whole = tt; bytes = refl }
 
 pub reads_range : (i : Image) (hurt : Sectors) (file : File) (e : Entry) (from n : ℕ) (old new : List ℕ) → n ≡ count_in e.length from (length old) → from ≤ e.length → e.length ≡ length file.bytes → KeptIn i hurt file.bytes e.runs
     → GivesRange i e.runs from n old new → Gives i file e from old new n

@@ -20,7 +20,11 @@ use sector_disk::Machine;
 
 impl Volume {
     /// The entry with this key in the table, with the page of its leaf.
-    pub(crate) fn find<M: Machine>(&mut self, m: &mut M, key: &Key) -> Result<Option<FoundEntry>, Refusal>
+    pub(crate) fn find<M: Machine>(
+        &mut self,
+        m: &mut M,
+        key: &Key,
+    ) -> Result<Option<FoundEntry>, Refusal>
         requires { self.old.layout.sectors ≤ (M.report m.old).sectors }
         ensures disk { OnlyReads M.Machine (device_in device_of result) m.old m.new }
         ensures cache { self.new ≡ record self.old { cache = self.new.cache } }

@@ -67,12 +67,7 @@ impl Volume {
 }
 
 // Reads bytes of a version from a place on, as many as there are and the buffer has room for, and answers how many.
-fn read_version<M: Machine>(
-    m: &mut M,
-    e: &Entry,
-    from: u32,
-    buf: &mut [u8],
-) -> Result<u32, Refusal>
+fn read_version<M: Machine>(m: &mut M, e: &Entry, from: u32, buf: &mut [u8]) -> Result<u32, Refusal>
     requires good { is_entry e.now ≡ true }
     requires runs { All (λ r. r.start + r.length ≤ 2 ^ 32) e.now.runs }
     requires within { All (λ s. s < (M.report m.old).sectors) (sectors_of e.now.runs) }

@@ -1,4 +1,4 @@
-use Rattle.std.proofs.Common.{◌≡◌, length, Some, Err, sym, ap, subst, ◌∙◌, arith}
+use Rattle.std.proofs.Common.{◌≡◌, Some, arith}
 use Rattle.std.specs.Prelude.{IfErr}
 use Rattle.sector_disk.specs.Calls.{device_in}
 use Rattle.sector_disk.proofs.CallLaws.{reads_told}

@@ -1,14 +1,11 @@
-use Rattle.std.proofs.Common.{ℕ, Option, Some, None, Result, Ok, Err, sym, ap, subst, ◌∙◌}
+use Rattle.std.proofs.Common.{sym, subst}
 use Rattle.std.specs.Prelude.{IfOk}
 use Rattle.std.specs.Option.{option_copied}
-use Rattle.fsd_bytes.specs.declared.refusal.Refusal.{Refusal}
-use Rattle.fsd_formats.specs.declared.entry.Entry.{Entry}
 use Rattle.fsd_files.specs.Answers.{next_reply}
-use Rattle.fsd_files.specs.Replies.{Found}
 use Rattle.volume_contract.specs.Ends.{IsLater, Looks}
 use Rattle.volume_contract.specs.Order.{Follows, next_steps}
 use Rattle.table_volume.specs.State.{state}
-use Rattle.table_volume.proofs.NextLaws.{looks_refused, met_done, met_later, met_order, up_by}
+use Rattle.table_volume.proofs.NextLaws.{met_done, met_later, met_order, up_by}
 use Rattle.table_volume.proofs.volume.Volume.next_after.Goals as goal
 
 pub returns-clause-order : goal.returns-clause-order

@@ -1,11 +1,10 @@
-use Rattle.std.proofs.Common.{Ok, Err, sym, ap, subst, ◌∙◌, arith}
+use Rattle.std.proofs.Common.{arith}
 use Rattle.std.specs.FinMap.{find}
 use Rattle.fsd_bytes.specs.Keys.{key_cmp}
 use Rattle.volume_contract.specs.Ends.{Reads}
 use Rattle.sector_disk.proofs.CallLaws.{reads_then}
 use Rattle.fsd_files.specs.Answers.{entry_of}
-use Rattle.volume_contract.specs.State.{Stands}
-use Rattle.table_volume.specs.State.{Holds, state}
+use Rattle.table_volume.specs.State.{state}
 use Rattle.table_volume.proofs.ReadLaws.{both_kept, busy_read, data_read, handed, reads_found, reads_refused}
 use Rattle.table_volume.proofs.WearLaws.{stands_worn}
 use Rattle.table_volume.proofs.volume.Volume.read.Goals as goal
