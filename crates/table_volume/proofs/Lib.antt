@@ -5,7 +5,7 @@ pub mod FindLaws
 pub mod LookLaws
 pub mod NextLaws
 pub mod PageLaws
-pub mod ReadLaws
+pub mod RangeLaws
 pub mod TableLaws
 pub mod TakenLaws
 pub mod WearLaws

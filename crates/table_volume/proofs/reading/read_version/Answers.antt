@@ -6,7 +6,7 @@ use Rattle.volume_contract.specs.Ends.{Reads, device_of}
 use Rattle.volume_contract.specs.Order.{IsData}
 use Rattle.version_data.specs.Reading.{data_failed_at, refusal_of}
 use Rattle.version_data.proofs.PlaceLaws.{entry_count, entry_length}
-use Rattle.table_volume.proofs.ReadLaws.{damaged_reads, data_device, data_is, handed, reads_range}
+use Rattle.table_volume.proofs.RangeLaws.{damaged_reads, data_device, data_is, handed, reads_range}
 use Rattle.table_volume.proofs.reading.read_version.Goals as goal
 
 pub read_range-requires-clause-end : goal.read_range-requires-clause-end

@@ -5,7 +5,7 @@ use Rattle.volume_contract.specs.Ends.{Reads}
 use Rattle.sector_disk.proofs.CallLaws.{reads_then}
 use Rattle.fsd_files.specs.Answers.{entry_of}
 use Rattle.table_volume.specs.State.{state}
-use Rattle.table_volume.proofs.ReadLaws.{both_kept, busy_read, data_read, handed, reads_found, reads_refused}
+use Rattle.table_volume.proofs.RangeLaws.{both_kept, busy_read, data_read, handed, reads_found, reads_refused}
 use Rattle.table_volume.proofs.WearLaws.{stands_worn}
 use Rattle.table_volume.proofs.volume.Volume.read.Goals as goal
 

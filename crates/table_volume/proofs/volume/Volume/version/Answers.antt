@@ -8,7 +8,7 @@ use Rattle.fsd_files.specs.Answers.{found_or}
 use Rattle.name_btree.specs.Lookup.{entry_of}
 use Rattle.table_volume.specs.Volume.{VolumeValue}
 use Rattle.table_volume.proofs.EntryLaws.{entry_looked_up}
-use Rattle.table_volume.proofs.ReadLaws.{met_good, taken_below, taken_runs}
+use Rattle.table_volume.proofs.RangeLaws.{met_good, taken_below, taken_runs}
 use Rattle.table_volume.proofs.volume.Volume.version.Goals as goal
 
 pub returns-in-None-clause-done : goal.returns-in-None-clause-done
