@@ -1,5 +1,5 @@
 -- What a look-up in a volume's table leaves of the volume, and what it tells, where the volume stands.
-use Rattle.std.proofs.Common.{◌≡◌, ◌⊎◌, inl, inr, ℕ, Bool, true, false, List, length, Option, Some, None, Result, Ok, Err, refl, sym, ap, subst, ◌∙◌, arith}
+use Rattle.std.proofs.Common.{◌≡◌, inl, inr, ℕ, Bool, true, false, List, length, Option, Some, None, Result, Ok, Err, refl, sym, ap, subst, ◌∙◌, arith}
 use Rattle.std.specs.Prelude.{IfErr, IfOk, slice_index_or}
 use Rattle.std.proofs.lemmas.Bool.{both_ways}
 use Rattle.volume_layout.specs.declared.layout.Layout.{Layout}
@@ -134,28 +134,34 @@ module _ {D : Type 0} (M : MachineGhosts D) (short : (m : D) → M.honest m → 
       (stands_after M short m m' v whole cached c refusal (subst (λ (l : LogValue). LooksOnly M by_log.ghosts l refusal m m' v.cache c v.free_pages) of_log looks) honest k
       (subst (λ (x : VolumeValue). Stands state Holds x k (M.now m)) (sym is) stands))
 
-  module _ (key : Key) where
-    -- the entry with the key, as the pages have it
-    abbrev FindsIn : LogValue → Option FoundEntry → Type 0
-    FindsIn l found = IsTrusted M by_log.ghosts l m v.cache m' → (height : ℕ) → IsTree (images_by M by_log.ghosts l m v.cache (length v.free_pages)) height
-        → found_entry found ≡ entry_with key (table_of (images_by M by_log.ghosts l m v.cache (length v.free_pages)) height)
+  -- the entry that is looked up so, as the pages have it
+  abbrev pub FindsIn : (look : List Entry → Option Entry) → LogValue → Option FoundEntry → Type 0
+  FindsIn look l found = IsTrusted M by_log.ghosts l m v.cache m' → (height : ℕ) → IsTree (images_by M by_log.ghosts l m v.cache (length v.free_pages)) height
+      → found_entry found ≡ look (table_of (images_by M by_log.ghosts l m v.cache (length v.free_pages)) height)
 
-    found_there : (k : Known) → Stands state Holds v k (M.now m) → IsTrusted M by_log.ghosts v.log m v.cache m' → (r : Result (Option FoundEntry) TreeFault) → IfOk r (FindsIn v.log)
-        → IfOk r (λ found. found_entry found ≡ entry_of key k.mounted.volume.entries)
-    found_there k stands trust (Err f) one = tt
-    found_there k stands trust (Ok found) one =
-        let tree = found_with v k (M.now m) whole stands key in
-        let there : (height : ℕ) → IsTree k.mounted.pages height → found_entry found ≡ entry_with key (table_of k.mounted.pages height) =
-        subst (λ (images : List (List ℕ)). (height : ℕ) → IsTree images height → found_entry found ≡ entry_with key (table_of images height)) (pages_read v k (M.now m) whole stands cached) (one trust) in
-        there tree.0 tree.1 ∙ tree.2
+  -- whatever is looked up in the tree that the pages are
+  module _ (look : List Entry → Option Entry) (e : Known → Option Entry)
+      (there : (k : Known) → Stands state Holds v k (M.now m) → (height : ℕ) × IsTree k.mounted.pages height × (look (table_of k.mounted.pages height) ≡ e k)) where
+    looked_there : (k : Known) → Stands state Holds v k (M.now m) → IsTrusted M by_log.ghosts v.log m v.cache m' → (r : Result (Option FoundEntry) TreeFault) → IfOk r (FindsIn look v.log)
+        → IfOk r (λ found. found_entry found ≡ e k)
+    looked_there k stands trust (Err f) one = tt
+    looked_there k stands trust (Ok found) one =
+        let tree = there k stands in
+        let by : (height : ℕ) → IsTree k.mounted.pages height → found_entry found ≡ look (table_of k.mounted.pages height) =
+        subst (λ (images : List (List ℕ)). (height : ℕ) → IsTree images height → found_entry found ≡ look (table_of images height)) (pages_read v k (M.now m) whole stands cached) (one trust) in
+        by tree.0 tree.1 ∙ tree.2
 
-    pub finds_found : (home_a : ℕ) (r : Result (Option FoundEntry) TreeFault) (result : Result (Option FoundEntry) Refusal) → result ≡ told home_a r → LooksOnly M by_log.ghosts log (outer_told r) m m' v.cache c v.free_pages
-        → IfErr r (FaultsOver M by_log.ghosts log m' c v.free_pages home_a) → IfOk r (FindsIn log) → M.honest m' → (k : Known) → Stands state Holds w k (M.now m) → Finds (entry_of key k.mounted.volume.entries) result
-    finds_found home_a r result told_is looks faults finds honest k stands =
+    pub finds_looked : (home_a : ℕ) (r : Result (Option FoundEntry) TreeFault) (result : Result (Option FoundEntry) Refusal) → result ≡ told home_a r → LooksOnly M by_log.ghosts log (outer_told r) m m' v.cache c v.free_pages
+        → IfErr r (FaultsOver M by_log.ghosts log m' c v.free_pages home_a) → IfOk r (FindsIn look log) → M.honest m' → (k : Known) → Stands state Holds w k (M.now m) → Finds (e k) result
+    finds_looked home_a r result told_is looks faults finds honest k stands =
         let looks_by : LooksOnly M by_log.ghosts v.log (outer_told r) m m' v.cache c v.free_pages = subst (λ (l : LogValue). LooksOnly M by_log.ghosts l (outer_told r) m m' v.cache c v.free_pages) of_log looks in
         let faults_by : IfErr r (FaultsOver M by_log.ghosts v.log m' c v.free_pages home_a) = subst (λ (l : LogValue). IfErr r (FaultsOver M by_log.ghosts l m' c v.free_pages home_a)) of_log faults in
-        let finds_by : IfOk r (FindsIn v.log) = subst (λ (l : LogValue). IfOk r (FindsIn l)) of_log finds in
+        let finds_by : IfOk r (FindsIn look v.log) = subst (λ (l : LogValue). IfOk r (FindsIn look l)) of_log finds in
         let here : Stands state Holds v k (M.now m) = subst (λ (x : VolumeValue). Stands state Holds x k (M.now m)) (sym is) stands in
-        subst (Finds (entry_of key k.mounted.volume.entries)) (sym told_is)
-        (finds_told M short m m' v whole cached c honest k here (entry_of key k.mounted.volume.entries) home_a r looks_by faults_by
-        (found_there k here (trusted M short m m' v whole cached c (outer_told r) looks_by honest k here) r finds_by))
+        subst (Finds (e k)) (sym told_is)
+        (finds_told M short m m' v whole cached c honest k here (e k) home_a r looks_by faults_by
+        (looked_there k here (trusted M short m m' v whole cached c (outer_told r) looks_by honest k here) r finds_by))
+
+  pub finds_found : (key : Key) (home_a : ℕ) (r : Result (Option FoundEntry) TreeFault) (result : Result (Option FoundEntry) Refusal) → result ≡ told home_a r → LooksOnly M by_log.ghosts log (outer_told r) m m' v.cache c v.free_pages
+      → IfErr r (FaultsOver M by_log.ghosts log m' c v.free_pages home_a) → IfOk r (FindsIn (entry_with key) log) → M.honest m' → (k : Known) → Stands state Holds w k (M.now m) → Finds (entry_of key k.mounted.volume.entries) result
+  finds_found key = finds_looked (entry_with key) (λ k. entry_of key k.mounted.volume.entries) (λ k stands. found_with v k (M.now m) whole stands key)

@@ -3,8 +3,10 @@ pub mod CountLaws
 pub mod EntryLaws
 pub mod FindLaws
 pub mod LookLaws
+pub mod NextLaws
 pub mod PageLaws
 pub mod ReadLaws
+pub mod RangeLaws
 pub mod TableLaws
 pub mod TakenLaws
 pub mod WearLaws

@@ -1,22 +1,25 @@
 -- The table of a volume that stands over its disk: its pages are a tree, which a look-up reads as the volume's definitions answer.
-use Rattle.std.proofs.Common.{◌≡◌, inl, inr, ℕ, zero, suc, ◌+◌, ◌<◌, ◌≤◌, Bool, true, false, cond, not, List, [], ◌∷◌, length, map, Option, Some, None, refl, sym, ap, ◌∙◌, arith}
+use Rattle.std.proofs.Common.{◌≡◌, inl, inr, ℕ, zero, suc, ◌+◌, ◌<◌, ◌≤◌, Bool, true, false, cond, not, List, [], ◌∷◌, length, map, filter, Option, Some, None, refl, sym, ap, ◌∙◌, arith}
 use Rattle.std.specs.Prelude.{Contains, slice_index_or, ◌==◌}
-use Rattle.std.specs.List.{list_any, range_with_len}
-use Rattle.std.specs.Option.{unwrap_or}
+use Rattle.std.specs.List.{last_or, list_any, range_with_len}
+use Rattle.std.specs.Option.{option_or, unwrap_or}
 use Rattle.std.proofs.lemmas.Bool.{cases_lt, eq-eqb, or_left, or_right}
+use Rattle.std.proofs.lemmas.Cmp.{nat_list_eq_equiv}
+use Rattle.std.proofs.lemmas.Map.Text.{is_eq-slice_cmp}
 use Rattle.volume_layout.specs.declared.layout.Layout.{Layout}
 use Rattle.sector_disk.specs.Machine.{Moment}
 use Rattle.fsd_bytes.specs.declared.key.Key.{Key}
+use Rattle.fsd_bytes.specs.Bytes.{same_bytes}
 use Rattle.fsd_bytes.specs.Keys.{key_lt, same_key}
 use Rattle.fsd_formats.specs.declared.entry.Entry.{Entry}
 use Rattle.page_cache.specs.Cache.{IsCache, newest}
-use Rattle.name_page.specs.Lookups.{entry_with, entry_after}
+use Rattle.name_page.specs.Lookups.{entry_with, entry_after, highest_of, same_name}
 use Rattle.fsd_table.specs.Table.{BreaksTable, Telling, Visit, visits}
 use Rattle.fsd_table.specs.Tree.{IsTree, pages_of, table_of}
 use Rattle.fsd_table.proofs.ToldLaws.{broken_tells_nothing}
 use Rattle.fsd_table.proofs.TreeLaws.{told_tree}
 use Rattle.fsd_table.proofs.VisitLaws.{tree_told}
-use Rattle.fsd_files.specs.Answers.{entry_of, entry_after as entry_behind}
+use Rattle.fsd_files.specs.Answers.{entry_of, entry_after as entry_behind, highest_entry}
 use Rattle.fsd_sound.proofs.EachLaws.{items_by_place}
 use Rattle.group_commit.specs.Newest.{newest_by}
 use Rattle.group_commit.proofs.StandsLaws.{gives_disk}
@@ -37,6 +40,41 @@ behind_is None [] = refl
 behind_is (Some key) [] = refl
 behind_is None (e ∷ entries) = refl
 behind_is (Some key) (e ∷ entries) = ap (λ (o : Option Entry). cond (key_lt key e.key) (Some e) o) (behind_is (Some key) entries)
+
+-- the last entry of a name, from the front and from the back
+same_name_is : (a name : List ℕ) → same_name a name ≡ same_bytes name a
+same_name_is a name = is_eq-slice_cmp a name ∙ nat_list_eq_equiv.symm a name
+
+or_last : (o : Option Entry) → o ≡ option_or o None
+or_last None = refl
+or_last (Some e) = refl
+
+last_is : (name : List ℕ) (entries : List Entry) (o : Option Entry) → option_or (highest_of name entries) o ≡ last_or o (filter (λ e. same_bytes name e.key.name) entries)
+last_is name [] o = refl
+last_is name (e ∷ entries) o = by (same_name e.key.name name) (same_bytes name e.key.name) (same_name_is e.key.name name) (highest_of name entries) (last_is name entries)
+  where
+    by : (b c : Bool) → b ≡ c → (last : Option Entry) → ((p : Option Entry) → option_or last p ≡ last_or p (filter (λ x. same_bytes name x.key.name) entries))
+        → option_or (option_or last (cond b (Some e) None)) o ≡ last_or o (cond c (e ∷ filter (λ x. same_bytes name x.key.name) entries) (filter (λ x. same_bytes name x.key.name) entries))
+    by true false is last rest = absurd (cc is)
+    by false true is last rest = absurd (cc is)
+    by true true is None rest = rest (Some e)
+    by true true is (Some x) rest = rest (Some e)
+    by false false is None rest = rest o
+    by false false is (Some x) rest = rest o
+
+highest_is : (name : List ℕ) (entries : List Entry) → highest_of name entries ≡ highest_entry name entries
+highest_is name entries = or_last (highest_of name entries) ∙ last_is name entries None
+
+-- one that is found is an entry
+pub behind_there : (after : Option Key) (entries : List Entry) (e : Entry) → entry_behind after entries ≡ Some e → Contains entries e
+behind_there None [] e is = absurd (cc is)
+behind_there (Some key) [] e is = absurd (cc is)
+behind_there None (x ∷ entries) e is = let same : x ≡ e = cc is in (zero, omega arith, same)
+behind_there (Some key) (x ∷ entries) e is = by (key_lt key x.key) is (behind_there (Some key) entries e)
+  where
+    by : (b : Bool) → cond b (Some x) (entry_behind (Some key) entries) ≡ Some e → (entry_behind (Some key) entries ≡ Some e → Contains entries e) → Contains (x ∷ entries) e
+    by true here rest = let same : x ≡ e = cc here in (zero, omega arith, same)
+    by false here rest = let there = rest here in (suc there.0, omega (arith, there.1), there.2)
 
 -- ---- a page that a path reaches
 
@@ -94,3 +132,6 @@ module _ (v : VolumeValue) (k : Known) (now : Moment) (whole : IsWhole v) (stand
 
   pub found_behind : (after : Option Key) → (height : ℕ) × IsTree k.mounted.pages height × (entry_after after (table_of k.mounted.pages height) ≡ entry_behind after k.mounted.volume.entries)
   found_behind after = (is_tree.0, is_tree.1, ap (entry_after after) is_tree.2 ∙ behind_is after k.mounted.volume.entries)
+
+  pub found_highest : (name : List ℕ) → (height : ℕ) × IsTree k.mounted.pages height × (highest_of name (table_of k.mounted.pages height) ≡ highest_entry name k.mounted.volume.entries)
+  found_highest name = (is_tree.0, is_tree.1, ap (highest_of name) is_tree.2 ∙ highest_is name k.mounted.volume.entries)

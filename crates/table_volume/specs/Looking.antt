@@ -1,5 +1,5 @@
 -- What a look-up leaves of a cache, and why one fails.
-use Rattle.std.specs.Prelude.{◌≡◌, ◌⊎◌, ⊤, ℕ, ◌<◌, Bool, true, List, Option, Some, IfSome, Contains, length, slice_get, Result, Ok, Err}
+use Rattle.std.specs.Prelude.{◌≡◌, ◌⊎◌, ⊤, ℕ, ◌<◌, Bool, true, List, Option, Some, IfSome, Contains, length, slice_get, Result, Ok, Err, None}
 use Rattle.fsd_bytes.specs.declared.refusal.Refusal.{Refusal}
 use Rattle.fsd_bytes.specs.declared.refusal.Refusal.TheVariants.{Device, Memory, Unsound}
 use Rattle.fsd_formats.specs.declared.entry.Entry.{Entry}
@@ -21,6 +21,9 @@ use Rattle.name_btree.specs.declared.lookup.FoundEntry.{FoundEntry}
 use Rattle.name_btree.specs.Lookup.{entry_of}
 use Rattle.volume_contract.specs.Causes.{HaveRead, IsRead}
 use Rattle.volume_contract.specs.State.{State}
+use Rattle.volume_contract.specs.Ends.{found_one}
+use Rattle.table_volume.specs.Taken.{met_entry}
+use Rattle.table_volume.specs.Volume.{VolumeValue}
 
 -- the page breaks the table, or it is free and a path reaches it
 abbrev pub BarsPages : List (List ℕ) → List Bool → ℕ → Type 0
@@ -86,3 +89,8 @@ Finds e (Ok found) = entry_of found ≡ e
 Finds e (Err (Device s)) = ⊤
 Finds e (Err Memory) = ⊤
 Finds e (Err other) = ⊥
+
+-- what was found, which is the table's only where its sectors are taken
+abbrev pub met_found : VolumeValue → Option FoundEntry → Result (Option Entry) Refusal
+met_found v None = Ok None
+met_found v (Some f) = found_one (met_entry v f.page f.entry)

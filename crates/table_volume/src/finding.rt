@@ -1,7 +1,8 @@
 //! Entries that are found in the table.
-ghost use Rattle.std.specs.Prelude.{◌≡◌, ◌<◌, ◌≤◌, ℕ, Contains, Err, IfOk, IfErr, IfSome, IsTrue};
+ghost use Rattle.std.specs.Prelude.{◌≡◌, ◌<◌, ◌≤◌, ℕ, Contains, Err, IfOk, IfErr, IfSome, IsTrue, true};
 ghost use Rattle.sector_disk.specs.Calls.{OnlyReads, device_in};
 ghost use Rattle.sector_disk.specs.Damage.{AreLost};
+ghost use Rattle.fsd_formats.specs.NamePage.{is_entry};
 ghost use Rattle.fsd_files.specs.Answers.{entry_of, entry_reply};
 ghost use Rattle.volume_contract.specs.Causes.{AreCopies};
 ghost use Rattle.volume_contract.specs.Ends.{Looks, device_of, found_one};
@@ -20,13 +21,18 @@ use name_btree::FoundEntry;
 use sector_disk::Machine;
 
 impl Volume {
-    // The entry with this key in the table, with the page of its leaf.
-    fn find<M: Machine>(&mut self, m: &mut M, key: &Key) -> Result<Option<FoundEntry>, Refusal>
+    /// The entry with this key in the table, with the page of its leaf.
+    pub(crate) fn find<M: Machine>(
+        &mut self,
+        m: &mut M,
+        key: &Key,
+    ) -> Result<Option<FoundEntry>, Refusal>
         requires { self.old.layout.sectors ≤ (M.report m.old).sectors }
         ensures disk { OnlyReads M.Machine (device_in device_of result) m.old m.new }
         ensures cache { self.new ≡ record self.old { cache = self.new.cache } }
         ensures dirty { self.new.cache.dirty ≡ self.old.cache.dirty }
         ensures page { IfOk result (λ found. IfSome found (λ f. f.page < self.old.layout.pages)) }
+        ensures entry { IfOk result (λ found. IfSome found (λ f. is_entry f.entry ≡ true)) }
         ensures cause { IfErr result IsLookUp }
         ensures stands { M.honest m.new → (k : Known) → Stands state Holds self.old k (M.now m.old) → Stands state Holds self.new k (M.now m.new) }
         ensures found { M.honest m.new → (k : Known) → Stands state Holds self.old k (M.now m.old) → Finds (entry_of key.now (volume_of k).entries) result }

@@ -6,6 +6,8 @@ mod entries;
 mod finding;
 mod laws;
 mod looking;
+mod next;
+mod reading;
 mod volume;
 
 pub use laws::{

@@ -1,0 +1,19 @@
+use Rattle.std.specs.Option.{option_copied}
+use Rattle.fsd_files.specs.Answers.{entry_after as entry_behind}
+use Rattle.name_page.specs.Lookups.{entry_after}
+use Rattle.table_volume.proofs.EntryLaws.{taken_there}
+use Rattle.table_volume.proofs.FindLaws.{finds_looked, stands_found}
+use Rattle.table_volume.proofs.TableLaws.{found_behind}
+use Rattle.table_volume.proofs.volume.Volume.find_next.Goals as goal
+
+pub returns-clause-stands : goal.returns-clause-stands
+returns-clause-stands g c = stands_found g.M.Machine g.met.M.Machine.short c.args.m.now c.next_in-found.new.m _ c.args.self.now c.self.view_is c.self.invariant c.dirty_list-whole.ensures.valid c.next_in-found.new.cache c.over-source.result c.over-source.ensures c.next_in-found.new.free _ c.next_in-found.ensures.looks c.next_in-found.ensures.free
+
+pub returns-clause-found : goal.returns-clause-found
+returns-clause-found g c =
+    finds_looked g.M.Machine g.met.M.Machine.short c.args.m.now c.next_in-found.new.m _ c.args.self.now c.self.view_is c.self.invariant c.dirty_list-whole.ensures.valid c.next_in-found.new.cache c.over-source.result c.over-source.ensures
+    (entry_after (option_copied c.args.after)) (λ k. entry_behind (option_copied c.args.after) k.mounted.volume.entries) (λ k stands. found_behind _ k _ c.self.invariant stands (option_copied c.args.after))
+    c.home_a-home_a.result c.next_in-found.result c.told.result c.told.ensures c.next_in-found.ensures.looks c.next_in-found.ensures.fault c.next_in-found.ensures.found
+
+pub returns-clause-taken : goal.returns-clause-taken
+returns-clause-taken g c = λ honest k stands e has. taken_there _ c.args.self.now c.self.view_is c.self.invariant k (g.M.Machine.now c.args.m.now) stands e has

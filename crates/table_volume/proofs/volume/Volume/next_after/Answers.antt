@@ -1,0 +1,20 @@
+use Rattle.std.proofs.Common.{sym, subst}
+use Rattle.std.specs.Prelude.{IfOk}
+use Rattle.std.specs.Option.{option_copied}
+use Rattle.fsd_files.specs.Answers.{next_reply}
+use Rattle.volume_contract.specs.Ends.{IsLater, Looks}
+use Rattle.volume_contract.specs.Order.{Follows, next_steps}
+use Rattle.table_volume.specs.State.{state}
+use Rattle.table_volume.proofs.NextLaws.{met_done, met_later, met_order, up_by}
+use Rattle.table_volume.proofs.volume.Volume.next_after.Goals as goal
+
+pub returns-clause-order : goal.returns-clause-order
+returns-clause-order g c = subst (Follows (next_steps (state c.args.self.now))) (sym c.met_found.ensures) (met_order (state c.args.self.now) c.find_next.new.self c.in_ok-found.found (up_by c.args.self.now.down (sym c.in_ok-is_up.ensures)))
+
+pub returns-clause-later : goal.returns-clause-later
+returns-clause-later g c = subst (λ r. IfOk r (IsLater (option_copied c.args.after))) (sym c.met_found.ensures) (met_later c.find_next.new.self c.in_ok-found.found (option_copied c.args.after) c.in_ok-found.ensures.later)
+
+pub returns-clause-done : goal.returns-clause-done
+returns-clause-done g c = λ h k stands.
+    subst (Looks (next_reply k.mounted.volume (option_copied c.args.after))) (sym c.met_found.ensures)
+    (met_done c.find_next.new.self c.in_ok-found.found (option_copied c.args.after) k.mounted.volume.entries (c.in_ok-found.ensures.found h k stands) (c.in_ok-found.ensures.taken h k stands))

@@ -1,0 +1,52 @@
+use Rattle.std.proofs.Common.{arith}
+use Rattle.std.specs.FinMap.{find}
+use Rattle.fsd_bytes.specs.Keys.{key_cmp}
+use Rattle.volume_contract.specs.Ends.{Reads}
+use Rattle.sector_disk.proofs.CallLaws.{reads_then}
+use Rattle.fsd_files.specs.Answers.{entry_of}
+use Rattle.table_volume.specs.State.{state}
+use Rattle.table_volume.proofs.RangeLaws.{both_kept, busy_read, data_read, handed, reads_found, reads_refused}
+use Rattle.table_volume.proofs.WearLaws.{stands_worn}
+use Rattle.table_volume.proofs.volume.Volume.read.Goals as goal
+
+pub read_version-requires-clause-within : goal.read_version-requires-clause-within
+read_version-requires-clause-within g c k d lt = omega (arith, c.in_ok-e.ensures.within k d lt, c.requires, c.version.ensures.disk.uses.sectors)
+
+pub returns-clause-order : goal.returns-clause-order
+returns-clause-order g c = data_read (state c.args.self.now) c.read_version.result c.in_ok-e.ensures.order c.read_version.ensures.cause
+
+pub returns-clause-disk : goal.returns-clause-disk
+returns-clause-disk g c = reads_then c.in_ok-e.ensures.disk c.read_version.ensures.disk
+
+pub returns-clause-idle : goal.returns-clause-idle
+returns-clause-idle g c = λ idle. absurd (busy_read (state c.args.self.now) c.in_ok-e.ensures.order idle)
+
+pub returns-clause-stands : goal.returns-clause-stands
+returns-clause-stands g c = λ h k stands.
+    let M = g.M.Machine in
+    let mid = c.version.new.m in
+    let wears = c.read_version.ensures.disk.worn h in
+    let back = c.read_version.ensures.disk.trust.honest h in
+    stands_worn c.version.new.self k (M.now mid) (M.now c.read_version.new.m) (g.met.M.Machine.short mid back) (record { image = wears.image; windows = wears.windows }) (c.in_ok-e.ensures.stands back k stands)
+
+pub returns-clause-done : goal.returns-clause-done
+returns-clause-done g c = λ h k stands.
+    let M = g.M.Machine in
+    let mid = c.version.new.m in
+    let back = c.read_version.ensures.disk.trust.honest h in
+    let wears = c.in_ok-e.ensures.disk.worn back in
+    let there = c.in_ok-e.ensures.stands back k stands in
+    reads_found _ (M.now c.args.m.now).image (M.now mid).image (M.now c.read_version.new.m).image wears.image _ _ (entry_of c.args.key.now k.mounted.volume.entries) c.in_ok-e.e c.args.from c.args.buf.now c.read_version.new.buf c.read_version.result
+    (c.in_ok-e.ensures.done back k stands) (both_kept (M.now mid).image _ c.args.key.now k.mounted.volume.files k.mounted.volume.entries there.disk.described.lists there.disk.described.kept)
+    (λ f len kept. c.read_version.ensures.gives h f _ len kept)
+
+pub returns-in_err-e-clause-done : goal.returns-in_err-e-clause-done
+returns-in_err-e-clause-done g c = λ h k stands.
+    let i = (g.M.Machine.now c.args.m.now).image in
+    let j = (g.M.Machine.now c.version.new.m).image in
+    let file = find key_cmp c.args.key.now k.mounted.volume.files in
+    let e = entry_of c.args.key.now k.mounted.volume.entries in
+    let there = c.in_err-e.ensures.stands h k stands in
+    handed (Reads i j file e c.args.from c.args.buf.now c.args.buf.now) c.from_residual.result c.in_err-e.field-0.0 c.from_residual.ensures.1
+    (reads_refused i j j _ file e c.args.from c.args.buf.now c.args.buf.now c.in_err-e.field-0.0 (c.in_err-e.ensures.done h k stands)
+    (both_kept j _ c.args.key.now k.mounted.volume.files k.mounted.volume.entries there.disk.described.lists there.disk.described.kept))

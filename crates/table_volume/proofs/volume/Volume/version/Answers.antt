@@ -1,0 +1,38 @@
+use Rattle.std.proofs.Common.{◌≡◌, ◌+◌, ◌^◌, ◌<◌, ◌≤◌, true, sym, ap, subst, ◌∙◌, arith}
+use Rattle.std.specs.Prelude.{All, IfOk, IfSome}
+use Rattle.volume_layout.proofs.RootLaws.{planned_bounds}
+use Rattle.run_table.specs.RunTable.{sectors_of}
+use Rattle.fsd_formats.specs.declared.entry.Entry.{Entry}
+use Rattle.fsd_formats.specs.NamePage.{is_entry}
+use Rattle.fsd_files.specs.Answers.{found_or}
+use Rattle.name_btree.specs.Lookup.{entry_of}
+use Rattle.table_volume.specs.Volume.{VolumeValue}
+use Rattle.table_volume.proofs.EntryLaws.{entry_looked_up}
+use Rattle.table_volume.proofs.RangeLaws.{met_good, taken_below, taken_runs}
+use Rattle.table_volume.proofs.volume.Volume.version.Goals as goal
+
+pub returns-in-None-clause-done : goal.returns-in-None-clause-done
+returns-in-None-clause-done g c = λ h k stands. ap found_or (sym (c.in_ok-found.ensures.found h k stands) ∙ ap entry_of c.in-None.is)
+
+pub returns-in-Some-clause-done : goal.returns-in-Some-clause-done
+returns-in-Some-clause-done g c = λ h k stands.
+    entry_looked_up c.find.new.self k.mounted.volume c.args.key.now c.in-Some.found.page c.in-Some.found.entry c.met_entry.result (sym (c.in_ok-found.ensures.found h k stands) ∙ ap entry_of c.in-Some.is) (c.find.ensures.taken h k stands) c.met_entry.ensures
+
+pub returns-in-Some-clause-good : goal.returns-in-Some-clause-good
+returns-in-Some-clause-good g c =
+    let good = subst (λ o. IfSome o (λ f. is_entry f.entry ≡ true)) c.in-Some.is c.in_ok-found.ensures.entry in
+    subst (λ r. IfOk r (λ e. is_entry e ≡ true)) (sym c.met_entry.ensures) (met_good (λ (e : Entry). is_entry e ≡ true) c.find.new.self c.in-Some.found.page c.in-Some.found.entry (λ taken. good))
+
+pub returns-in-Some-clause-runs : goal.returns-in-Some-clause-runs
+returns-in-Some-clause-runs g c =
+    let good = subst (λ o. IfSome o (λ f. is_entry f.entry ≡ true)) c.in-Some.is c.in_ok-found.ensures.entry in
+    let bounds = planned_bounds c.self.inside.layout c.self.invariant.planned in
+    let most : c.find.new.self.layout.sectors ≤ 2 ^ 24 = omega (arith, bounds.sectors_most, ap (λ (v : VolumeValue). v.layout.sectors) c.self.view_is, ap (λ (v : VolumeValue). v.layout.sectors) c.find.ensures.cache) in
+    subst (λ r. IfOk r (λ e. All (λ run. run.start + run.length ≤ 2 ^ 32) e.runs)) (sym c.met_entry.ensures)
+    (met_good (λ (e : Entry). All (λ run. run.start + run.length ≤ 2 ^ 32) e.runs) c.find.new.self c.in-Some.found.page c.in-Some.found.entry (λ taken. taken_runs c.find.new.self c.in-Some.found.entry taken most good))
+
+pub returns-in-Some-clause-within : goal.returns-in-Some-clause-within
+returns-in-Some-clause-within g c =
+    subst (λ r. IfOk r (λ e. All (λ s. s < c.args.self.now.layout.sectors) (sectors_of e.runs))) (sym c.met_entry.ensures)
+    (met_good (λ (e : Entry). All (λ s. s < c.args.self.now.layout.sectors) (sectors_of e.runs)) c.find.new.self c.in-Some.found.page c.in-Some.found.entry
+    (λ taken k d lt. omega (arith, taken_below c.find.new.self c.in-Some.found.entry taken k d lt, ap (λ (v : VolumeValue). v.layout.sectors) c.find.ensures.cache)))

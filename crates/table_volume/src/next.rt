@@ -1,0 +1,116 @@
+//! Entries by their order in the table.
+ghost use Rattle.std.specs.Prelude.{◌≡◌, ◌<◌, ◌≤◌, Contains, IfOk, IfErr, IfSome, IsTrue, option_map, true};
+ghost use Rattle.std.specs.Option.{option_copied};
+ghost use Rattle.sector_disk.specs.Calls.{OnlyReads, device_in};
+ghost use Rattle.fsd_formats.specs.declared.entry.Entry.{Entry as Listed};
+ghost use Rattle.fsd_files.specs.Answers.{entry_after, highest_entry, next_reply};
+ghost use Rattle.name_page.specs.Lookups.{is_after};
+ghost use Rattle.volume_contract.specs.Ends.{IsLater, Looks, device_of};
+ghost use Rattle.volume_contract.specs.Order.{Follows, IsLookUp, is_idle, next_steps};
+ghost use Rattle.volume_contract.specs.State.{Known, Stands, volume_of};
+ghost use Rattle.table_volume.specs.Looking.{Finds, met_found};
+ghost use Rattle.table_volume.specs.State.{Holds, state};
+ghost use Rattle.table_volume.specs.Taken.{are_taken};
+
+use crate::Volume;
+use crate::looking::{highest_in, next_in, told};
+use fsd_bytes::{FileName, Key, Refusal};
+use fsd_formats::Entry;
+use group_commit::Newest;
+use name_btree::FoundEntry;
+use sector_disk::Machine;
+
+impl Volume {
+    // The entry with the least later key, with the page of its leaf.
+    fn find_next<M: Machine>(
+        &mut self,
+        m: &mut M,
+        after: Option<&Key>,
+    ) -> Result<Option<FoundEntry>, Refusal>
+        requires { self.old.layout.sectors ≤ (M.report m.old).sectors }
+        ensures disk { OnlyReads M.Machine (device_in device_of result) m.old m.new }
+        ensures cache { self.new ≡ record self.old { cache = self.new.cache } }
+        ensures dirty { self.new.cache.dirty ≡ self.old.cache.dirty }
+        ensures page { IfOk result (λ found. IfSome found (λ f. f.page < self.old.layout.pages)) }
+        ensures later { IfOk result (λ found. IfSome found (λ f. is_after (option_copied after.entry) f.entry.key ≡ true)) }
+        ensures cause { IfErr result IsLookUp }
+        ensures stands { M.honest m.new → (k : Known) → Stands state Holds self.old k (M.now m.old) → Stands state Holds self.new k (M.now m.new) }
+        ensures found { M.honest m.new → (k : Known) → Stands state Holds self.old k (M.now m.old) → Finds (entry_after (option_copied after.entry) (volume_of k).entries) result }
+        ensures taken { M.honest m.new → (k : Known) → Stands state Holds self.old k (M.now m.old) → (e : Listed) → Contains (volume_of k).entries e → IsTrue (are_taken self.new e.runs) }
+    {
+        let _whole = self.cache.dirty_list();
+        let home_a = self.layout.home_a(0);
+        let source = Newest::over(&self.log, &self.layout);
+        let found = next_in(
+            m,
+            &mut self.cache,
+            &source,
+            home_a,
+            &mut self.free_pages,
+            after,
+        );
+        told(found, home_a)
+    }
+
+    /// The entry with the highest version of a name, with the page of its leaf.
+    pub(crate) fn find_highest<M: Machine>(
+        &mut self,
+        m: &mut M,
+        name: &FileName,
+    ) -> Result<Option<FoundEntry>, Refusal>
+        requires { self.old.layout.sectors ≤ (M.report m.old).sectors }
+        ensures disk { OnlyReads M.Machine (device_in device_of result) m.old m.new }
+        ensures cache { self.new ≡ record self.old { cache = self.new.cache } }
+        ensures dirty { self.new.cache.dirty ≡ self.old.cache.dirty }
+        ensures page { IfOk result (λ found. IfSome found (λ f. f.page < self.old.layout.pages)) }
+        ensures name { IfOk result (λ found. IfSome found (λ f. f.entry.key.name ≡ name.now)) }
+        ensures cause { IfErr result IsLookUp }
+        ensures stands { M.honest m.new → (k : Known) → Stands state Holds self.old k (M.now m.old) → Stands state Holds self.new k (M.now m.new) }
+        ensures found { M.honest m.new → (k : Known) → Stands state Holds self.old k (M.now m.old) → Finds (highest_entry name.now (volume_of k).entries) result }
+        ensures taken { M.honest m.new → (k : Known) → Stands state Holds self.old k (M.now m.old) → (e : Listed) → Contains (volume_of k).entries e → IsTrue (are_taken self.new e.runs) }
+    {
+        let _whole = self.cache.dirty_list();
+        let home_a = self.layout.home_a(0);
+        let source = Newest::over(&self.log, &self.layout);
+        let found = highest_in(
+            m,
+            &mut self.cache,
+            &source,
+            home_a,
+            &mut self.free_pages,
+            name,
+        );
+        told(found, home_a)
+    }
+
+    // What was found, which is the table's only where its sectors are taken.
+    fn met_found(&self, found: Option<FoundEntry>) -> Result<Option<Entry>, Refusal>
+        requires { IfSome found (λ f. f.page < self.now.layout.pages) }
+        ensures { result ≡ met_found self.now found }
+    {
+        match found {
+            Some(found) => Ok(Some(self.met_entry(found.entry, found.page)?)),
+            None => Ok(None),
+        }
+    }
+
+    /// The entry of the version with the least later key, if there is one.
+    pub fn next_after<M: Machine>(
+        &mut self,
+        m: &mut M,
+        after: Option<&Key>,
+    ) -> Result<Option<Entry>, Refusal>
+        requires { (state self.old).layout.sectors ≤ (M.report m.old).sectors }
+        ensures order { Follows (next_steps (state self.old)) result }
+        ensures disk { OnlyReads M.Machine (device_in device_of result) m.old m.new }
+        ensures state { state self.new ≡ state self.old }
+        ensures idle { IsTrue (is_idle (next_steps (state self.old))) → m.new ≡ m.old }
+        ensures later { IfOk result (IsLater (option_map (λ key. key.now) after.entry)) }
+        ensures stands { M.honest m.new → (k : Known) → Stands state Holds self.old k (M.now m.old) → Stands state Holds self.new k (M.now m.new) }
+        ensures done { M.honest m.new → (k : Known) → Stands state Holds self.old k (M.now m.old) → Looks (next_reply (volume_of k) (option_map (λ key. key.now) after.entry)) result }
+    {
+        self.is_up()?;
+        let found = self.find_next(m, after)?;
+        self.met_found(found)
+    }
+}

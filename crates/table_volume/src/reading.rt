@@ -1,0 +1,87 @@
+//! Bytes of versions.
+ghost use Rattle.std.specs.Prelude.{◌≡◌, ◌+◌, ◌^◌, ◌<◌, ◌≤◌, All, Some, IfOk, IfErr, IsTrue, length, true};
+ghost use Rattle.std.specs.FinMap.{find as file_of};
+ghost use Rattle.run_table.specs.RunTable.{sectors_of};
+ghost use Rattle.sector_disk.specs.Calls.{OnlyReads, device_in};
+ghost use Rattle.fsd_bytes.specs.Keys.{key_cmp};
+ghost use Rattle.fsd_formats.specs.NamePage.{is_entry};
+ghost use Rattle.fsd_files.specs.Answers.{entry_of, entry_reply};
+ghost use Rattle.fsd_files.specs.Disk.{Sectors};
+ghost use Rattle.fsd_files.specs.Files.{File};
+ghost use Rattle.fsd_files.specs.Kept.{KeptIn};
+ghost use Rattle.volume_contract.specs.Ends.{Looks, Reads, device_of, found_one};
+ghost use Rattle.volume_contract.specs.Order.{Follows, IsData, entry_steps, is_idle, read_steps};
+ghost use Rattle.volume_contract.specs.State.{Known, Stands, volume_of};
+ghost use Rattle.table_volume.specs.State.{Holds, state};
+
+use crate::Volume;
+use fsd_bytes::{Key, Refusal};
+use fsd_formats::Entry;
+use sector_disk::Machine;
+use version_data::read_range;
+
+impl Volume {
+    // The entry of a version, whose sectors lie on the disk.
+    fn version<M: Machine>(&mut self, m: &mut M, key: &Key) -> Result<Entry, Refusal>
+        requires { (state self.old).layout.sectors ≤ (M.report m.old).sectors }
+        ensures order { Follows (entry_steps (state self.old)) result }
+        ensures disk { OnlyReads M.Machine (device_in device_of result) m.old m.new }
+        ensures state { state self.new ≡ state self.old }
+        ensures idle { IsTrue (is_idle (entry_steps (state self.old))) → m.new ≡ m.old }
+        ensures good { IfOk result (λ e. is_entry e ≡ true) }
+        ensures runs { IfOk result (λ e. All (λ r. r.start + r.length ≤ 2 ^ 32) e.runs) }
+        ensures within { IfOk result (λ e. All (λ s. s < (state self.old).layout.sectors) (sectors_of e.runs)) }
+        ensures stands { M.honest m.new → (k : Known) → Stands state Holds self.old k (M.now m.old) → Stands state Holds self.new k (M.now m.new) }
+        ensures done { M.honest m.new → (k : Known) → Stands state Holds self.old k (M.now m.old) → Looks (entry_reply (volume_of k) key.now) (found_one result) }
+    {
+        let _ = &self.layout;
+        self.is_up()?;
+        match self.find(m, key)? {
+            Some(found) => self.met_entry(found.entry, found.page),
+            None => Err(Refusal::NoSuch),
+        }
+    }
+
+    /// Reads bytes of a version from a place on, as many as there are and the buffer has room for, and answers how many.
+    /// Where a sector of the range is damaged `buf` may have changed.
+    pub fn read<M: Machine>(
+        &mut self,
+        m: &mut M,
+        key: &Key,
+        from: u32,
+        buf: &mut [u8],
+    ) -> Result<u32, Refusal>
+        requires { (state self.old).layout.sectors ≤ (M.report m.old).sectors }
+        ensures order { Follows (read_steps (state self.old)) result }
+        ensures disk { OnlyReads M.Machine (device_in device_of result) m.old m.new }
+        ensures state { state self.new ≡ state self.old }
+        ensures idle { IsTrue (is_idle (read_steps (state self.old))) → m.new ≡ m.old }
+        ensures most { IfOk result (λ count. count ≤ length buf.old) }
+        ensures stands { M.honest m.new → (k : Known) → Stands state Holds self.old k (M.now m.old) → Stands state Holds self.new k (M.now m.new) }
+        ensures done { M.honest m.new → (k : Known) → Stands state Holds self.old k (M.now m.old) →
+            Reads (M.now m.old).image (M.now m.new).image (file_of key_cmp key.now (volume_of k).files) (entry_of key.now (volume_of k).entries) from buf.old buf.new result }
+    {
+        let e = self.version(m, key)?;
+        read_version(m, &e, from, buf)
+    }
+}
+
+// Reads bytes of a version from a place on, as many as there are and the buffer has room for, and answers how many.
+fn read_version<M: Machine>(m: &mut M, e: &Entry, from: u32, buf: &mut [u8]) -> Result<u32, Refusal>
+    requires good { is_entry e.now ≡ true }
+    requires runs { All (λ r. r.start + r.length ≤ 2 ^ 32) e.now.runs }
+    requires within { All (λ s. s < (M.report m.old).sectors) (sectors_of e.now.runs) }
+    ensures disk { OnlyReads M.Machine (device_in device_of result) m.old m.new }
+    ensures cause { IfErr result IsData }
+    ensures most { IfOk result (λ count. count ≤ length buf.old) }
+    ensures gives { M.honest m.new → (file : File) (hurt : Sectors) → e.now.length ≡ length file.bytes → KeptIn (M.now m.old).image hurt file.bytes e.now.runs →
+        Reads (M.now m.old).image (M.now m.new).image (Some file) (Some e.now) from buf.old buf.new result }
+{
+    if from >= e.length {
+        return Ok(0);
+    }
+    let room = buf.len().min(e.length as usize) as u32;
+    let n = (e.length - from).min(room);
+    read_range(m, &e.runs, from, n, buf)?;
+    Ok(n)
+}
