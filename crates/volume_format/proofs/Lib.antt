@@ -1,0 +1,4 @@
+pub mod FormatLaws
+pub mod HeadLaws
+pub mod Laying
+pub mod WriteLaws
