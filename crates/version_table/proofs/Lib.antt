@@ -1,0 +1,7 @@
+pub mod EditLaws
+pub mod EnterLaws
+pub mod MeetLaws
+pub mod OldestLaws
+pub mod PlanLaws
+pub mod StepLaws
+pub mod VersionLaws

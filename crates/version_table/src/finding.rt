@@ -1,5 +1,5 @@
 //! Versions that are looked up to be taken out or changed.
-ghost use Rattle.std.specs.Prelude.{◌≡◌, ◌<◌, ◌≤◌, ⊥, IfOk, IfErr, Some, None, true, length};
+ghost use Rattle.std.specs.Prelude.{◌≡◌, ◌<◌, ◌≤◌, IfOk, IfErr, Some, None, true, length};
 ghost use Rattle.fsd_files.specs.Answers.{entry_of, highest_entry};
 ghost use Rattle.fsd_formats.specs.NamePage.{is_entry, FitsEntry};
 ghost use Rattle.name_btree.specs.Lookup.{StandsIn, IsLedTo};

@@ -1,5 +1,5 @@
 //! What making a version is to do.
-ghost use Rattle.std.specs.Prelude.{◌≡◌, ◌<◌, ◌≤◌, ◌-◌, ◌^◌, ◌↔◌, ⊥, IfOk, IfErr, IfSome, IsNone, Some, length, option_map};
+ghost use Rattle.std.specs.Prelude.{◌≡◌, ◌<◌, ◌≤◌, ◌-◌, ◌^◌, ◌↔◌, IfOk, IfErr, IfSome, IsNone, Some, length, option_map};
 ghost use Rattle.std.specs.List.{AllByRecursion};
 ghost use Rattle.fsd_bytes.specs.Keys.{max_u32};
 ghost use Rattle.fsd_files.specs.Files.{keep_of, next_version};
