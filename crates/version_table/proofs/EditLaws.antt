@@ -1,5 +1,5 @@
 -- What comes and goes among entries in the order of their keys: the words of the table's edits are those of the files.
-use Rattle.std.proofs.Common.{◌≡◌, ℕ, Bool, true, false, cond, not, ◌&&◌, ◌||◌, List, [], ◌∷◌, ◌++◌, map, filter, Option, Some, None, refl, sym, ap, subst, ◌∙◌}
+use Rattle.std.proofs.Common.{◌≡◌, ℕ, Bool, true, false, cond, not, ◌||◌, List, [], ◌∷◌, ◌++◌, map, filter, Option, Some, refl, sym, ap, subst, ◌∙◌}
 use Rattle.std.specs.List.{list_any, AllByRecursion}
 use Rattle.std.specs.Ordering.{is_eq, is_gt, is_lt}
 use Rattle.std.specs.declared.cmp.Ordering.{Ordering}
@@ -9,10 +9,9 @@ use Rattle.std.specs.Ordering.{ordering_reverse}
 use Rattle.fsd_bytes.specs.declared.key.Key.{Key}
 use Rattle.fsd_bytes.specs.Keys.{key_cmp, key_lt, same_key}
 use Rattle.fsd_formats.specs.declared.entry.Entry.{Entry}
-use Rattle.fsd_formats.specs.NamePage.{are_ascending}
 use Rattle.fsd_table.specs.Pages.{entry_keys}
 use Rattle.fsd_table.proofs.BoundLaws.{Ascend, ascend_tail, all_weaker}
-use Rattle.fsd_table.proofs.KeyLaws.{keys_total, lt_lt, lt_itself, less}
+use Rattle.fsd_table.proofs.KeyLaws.{keys_total, lt_lt, less}
 use Rattle.fsd_files.specs.Answers.{entry_of, entry_put, entry_kept, entries_with_keep}
 use Rattle.fsd_files.specs.Volume.{entries_without}
 use Rattle.fsd_files.proofs.ListingLaws.{alike_is}
@@ -20,7 +19,7 @@ use Rattle.name_btree.specs.Map.{without_all}
 use Rattle.name_page.specs.declared.entries.Side.TheVariants.{Lesser, Greater as Above}
 use Rattle.name_page.specs.Edits.{beside, put, with_entry, without, is_on}
 use Rattle.name_page.specs.Lookups.{entry_with}
-use Rattle.name_page.proofs.PutLaws.{ascend_head, found_in, gt_unequal, lt_unequal, one_key, others_beside, put_beside, Others}
+use Rattle.name_page.proofs.PutLaws.{ascend_head, found_in, others_beside, put_beside, Others}
 use Rattle.name_page.proofs.SideLaws.{beside_none, beside_whole, ascend_cons}
 
 -- ---- keys above one

@@ -1,5 +1,5 @@
 -- What a version that comes, and one that gets another keep, make of the table.
-use Rattle.std.proofs.Common.{◌≡◌, ℕ, ◌≤◌, Bool, true, false, cond, List, [], ◌∷◌, length, map, filter, Option, Some, None, refl, sym, ap, subst, ◌∙◌, arith}
+use Rattle.std.proofs.Common.{◌≡◌, ℕ, Bool, true, false, cond, List, [], ◌∷◌, map, filter, Some, None, refl, sym, ap, subst, ◌∙◌}
 use Rattle.std.specs.Prelude.{OnOk, Result, Ok, Err}
 use Rattle.std.specs.List.{list_any}
 use Rattle.fsd_bytes.specs.declared.key.Key.{Key}
@@ -7,7 +7,6 @@ use Rattle.fsd_bytes.specs.declared.key.Serial.{Serial}
 use Rattle.fsd_bytes.specs.Keys.{same_key}
 use Rattle.run_table.specs.declared.run.Run.{Run}
 use Rattle.fsd_formats.specs.declared.entry.Entry.{Entry}
-use Rattle.fsd_formats.specs.NamePage.{entry_bytes}
 use Rattle.fsd_table.proofs.BoundLaws.{Ascend}
 use Rattle.fsd_table.proofs.EntryLaws.{length_entry}
 use Rattle.fsd_files.specs.Answers.{entries_with_keep, entry_of}

@@ -1,5 +1,6 @@
 pub mod EditLaws
 pub mod EnterLaws
+pub mod MakeLaws
 pub mod MeetLaws
 pub mod OldestLaws
 pub mod PlanLaws

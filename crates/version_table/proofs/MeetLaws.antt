@@ -1,10 +1,9 @@
 -- So many versions of a name were met, from the oldest on.
-use Rattle.std.proofs.Common.{◌≡◌, ◌⊎◌, inl, inr, ℕ, zero, suc, ◌+◌, ◌-◌, ◌≤◌, ◌<◌, min, List, [], ◌∷◌, ◌++◌, length, take, map, Option, Some, None, refl, sym, ap, subst, ◌∙◌, append_assoc, arith, length-append}
+use Rattle.std.proofs.Common.{◌≡◌, ◌⊎◌, inl, inr, ℕ, zero, suc, ◌+◌, ◌-◌, ◌≤◌, ◌<◌, min, List, [], ◌∷◌, ◌++◌, length, take, Some, None, refl, sym, ap, subst, ◌∙◌, append_assoc, arith, length-append}
 use Rattle.std.specs.List.{AllByRecursion}
-use Rattle.std.proofs.lemmas.List.{append-nil, take-append-le, take_min}
+use Rattle.std.proofs.lemmas.List.{take-append-le, take_min}
 use Rattle.fsd_bytes.specs.declared.key.Key.{Key}
 use Rattle.fsd_bytes.specs.Keys.{key_of}
-use Rattle.fsd_bytes.specs.declared.refusal.Refusal.{Refusal}
 use Rattle.fsd_formats.specs.declared.entry.Entry.{Entry}
 use Rattle.fsd_table.specs.Table.{top}
 use Rattle.fsd_table.specs.Tree.{IsTree, table_of}
@@ -34,7 +33,7 @@ take_twice [] ys = refl
 take_twice (x ∷ []) ys = refl
 take_twice (x ∷ y ∷ xs) ys = refl
 
-map_taken : (n : ℕ) (gs : List Leaving) → entries_left (take n gs) ≡ take n (entries_left gs)
+pub map_taken : (n : ℕ) (gs : List Leaving) → entries_left (take n gs) ≡ take n (entries_left gs)
 map_taken zero gs = refl
 map_taken (suc n) [] = refl
 map_taken (suc n) (g ∷ gs) = ap (λ (es : List Entry). g.entry ∷ es) (map_taken n gs)

@@ -1,5 +1,5 @@
 -- What a table's entries are, and that a next version is new.
-use Rattle.std.proofs.Common.{◌≡◌, ℕ, zero, suc, ◌+◌, ◌≤◌, Bool, true, false, cond, ◌&&◌, ◌||◌, List, [], ◌∷◌, ◌++◌, length, take, map, filter, Option, Some, None, refl, sym, ap, subst, ◌∙◌, arith}
+use Rattle.std.proofs.Common.{◌≡◌, ℕ, zero, suc, ◌≤◌, Bool, true, false, cond, ◌&&◌, ◌||◌, List, [], ◌∷◌, length, take, map, filter, Option, Some, None, refl, sym, ap, subst, ◌∙◌}
 use Rattle.std.specs.Prelude.{T, ◌==◌, nat_le, option_map, replicate}
 use Rattle.std.specs.List.{AllByRecursion, flat_map, list_all, list_any}
 use Rattle.std.specs.declared.cmp.Ordering.TheVariants.{Equal}
@@ -19,12 +19,12 @@ use Rattle.fsd_formats.specs.NamePage.{Content, Free, Leaf, Interior, are_ascend
 use Rattle.fsd_table.specs.declared.child.Child.{Child}
 use Rattle.fsd_table.specs.Pages.{children_of, entries_of, entry_keys, page_at}
 use Rattle.fsd_table.specs.Tree.{entries_below}
-use Rattle.fsd_table.proofs.BoundLaws.{Ascend, ascend_tail, all_weaker}
+use Rattle.fsd_table.proofs.BoundLaws.{Ascend, ascend_tail}
 use Rattle.fsd_table.proofs.KeyLaws.{keys_total}
 use Rattle.fsd_table.proofs.PageLaws.{at_is_page}
 use Rattle.fsd_files.specs.Answers.{entry_of, highest_entry}
 use Rattle.fsd_files.specs.Files.{File, Files, highest, keep_of, new_keep, new_key, next_version, version_of}
-use Rattle.fsd_files.specs.Kept.{IsEntryOf, Lists}
+use Rattle.fsd_files.specs.Kept.{Lists}
 use Rattle.fsd_files.proofs.FreshLaws.{new_key_is_new}
 use Rattle.fsd_files.proofs.ListingLaws.{BothOrNone, highest_both}
 use Rattle.name_page.proofs.PutLaws.{ascend_head, lt_unequal, one_key}

@@ -1,16 +1,13 @@
 -- A step that begins, and what holds of the table before it.
-use Rattle.std.proofs.Common.{◌≡◌, ℕ, ◌-◌, List, ◌∷◌, [], length, Bool, not, Option, None, refl, sym, ap, subst, ◌∙◌}
-use Rattle.std.specs.Prelude.{◌<◌, IfOk, OnErr, Result, Ok, Err}
+use Rattle.std.proofs.Common.{◌≡◌, ℕ, ◌-◌, List, length, Bool, not, Option, sym, ap, subst, ◌∙◌}
+use Rattle.std.specs.Prelude.{◌<◌, IfOk, Result, Ok}
 use Rattle.run_table.specs.Space.{contains}
-use Rattle.fsd_bytes.specs.declared.refusal.Refusal.{Refusal}
 use Rattle.fsd_formats.specs.declared.entry.Entry.{Entry}
 use Rattle.fsd_table.specs.Tree.{IsTree, pages_of, table_of}
 use Rattle.fsd_table.proofs.BoundLaws.{Ascend, entries_ascend}
 use Rattle.fsd_table.specs.Table.{top}
 use Rattle.name_page.specs.declared.pages.Pages.{Ghosts}
-use Rattle.name_page.specs.Looks.{OnlyEdits, OnlyReaches, OnlyWalks}
 use Rattle.name_page.specs.Pages.{Step, is_spare, rested}
-use Rattle.name_page.proofs.LookLaws.{Joins, Trusts, edits_then, rest_walks, walks_edits, walks_then}
 use Rattle.name_btree.specs.declared.fault.TreeFault.{TreeFault}
 use Rattle.name_btree.specs.Map.{HasTable, IsTable}
 use Rattle.name_btree.specs.declared.lookup.FoundEntry.{FoundEntry}

@@ -1,7 +1,7 @@
 -- The versions of a name, met one after another, and those that go.
-use Rattle.std.proofs.Common.{◌≡◌, ◌⊎◌, inl, inr, ℕ, zero, suc, ◌+◌, ◌-◌, ◌<◌, ◌≤◌, min, Bool, true, false, cond, not, ◌&&◌, ◌||◌, List, [], ◌∷◌, ◌++◌, length, take, map, filter, Option, Some, None, refl, sym, ap, subst, ◌∙◌, arith, length-append}
-use Rattle.std.specs.Prelude.{find, ◌==◌, IfSome, T, option_map, unwrap_or}
-use Rattle.std.specs.List.{list_any, list_all, last_or, flat_map, AllByRecursion}
+use Rattle.std.proofs.Common.{◌≡◌, ℕ, zero, suc, ◌+◌, ◌-◌, ◌≤◌, min, Bool, true, false, cond, ◌&&◌, ◌||◌, List, [], ◌∷◌, ◌++◌, length, take, map, filter, Option, Some, None, refl, sym, ap, subst, ◌∙◌, arith, length-append}
+use Rattle.std.specs.Prelude.{◌==◌}
+use Rattle.std.specs.List.{list_any, last_or, AllByRecursion}
 use Rattle.std.specs.Option.{option_or}
 use Rattle.std.specs.Cmp.{nat_cmp_is}
 use Rattle.std.specs.Cmp.Lexicographic.{nat_list_cmp_total, slice_cmp}
@@ -10,22 +10,21 @@ use Rattle.std.specs.Ordering.{is_eq, is_lt, nat_cmp, ordering_then}
 use Rattle.std.proofs.lemmas.Cmp.{tied_itself}
 use Rattle.std.specs.declared.cmp.Ordering.{Ordering}
 use Rattle.std.specs.declared.cmp.Ordering.TheVariants.{Less, Equal, Greater}
-use Rattle.std.proofs.lemmas.Bool.{and_parts, and_from, eqb-false, false_from_ne_true, ne_eqb}
-use Rattle.std.proofs.lemmas.List.{take-take, take-append-le, take_all, length-map, length-take-le}
-use Rattle.std.proofs.lemmas.List.Folds.{list_all-append}
+use Rattle.std.proofs.lemmas.Bool.{eqb-false, false_from_ne_true, ne_eqb}
+use Rattle.std.proofs.lemmas.List.{take-take, take-append-le, length-map}
 use Rattle.fsd_bytes.specs.Bytes.{same_bytes}
 use Rattle.fsd_bytes.proofs.SameLaws.{same_is, is_same}
 use Rattle.fsd_bytes.specs.declared.key.Key.{Key}
-use Rattle.fsd_bytes.specs.Keys.{key_cmp, key_lt, key_of, same_key, is_key}
+use Rattle.fsd_bytes.specs.Keys.{key_lt, key_of, same_key}
 use Rattle.fsd_formats.specs.declared.entry.Entry.{Entry}
 use Rattle.fsd_table.specs.Pages.{entry_keys}
-use Rattle.fsd_table.proofs.BoundLaws.{Ascend, ascend_tail, all_weaker}
+use Rattle.fsd_table.proofs.BoundLaws.{Ascend, ascend_tail}
 use Rattle.fsd_table.proofs.KeyLaws.{keys_total, lt_lt, lt_itself}
 use Rattle.fsd_files.specs.Answers.{highest_entry}
 use Rattle.fsd_files.specs.Files.{gone}
 use Rattle.fsd_files.specs.Volume.{entries_at}
-use Rattle.name_page.specs.Lookups.{entry_after, is_after, last_that, same_name}
-use Rattle.name_page.proofs.PutLaws.{ascend_head, gt_unequal, lt_unequal, one_key}
+use Rattle.name_page.specs.Lookups.{entry_after, last_that, same_name}
+use Rattle.name_page.proofs.PutLaws.{ascend_head, gt_unequal, lt_unequal}
 use Rattle.version_table.specs.Versions.{oldest_beyond, versions_behind, versions_of}
 use Rattle.version_table.proofs.EditLaws.{AllAbove}
 

@@ -94,11 +94,13 @@ fn meet_oldest<T: Pages>(t: &mut T, name: &FileName, most: u32) -> Result<Oldest
         version: 0,
     };
     for _ in 0..most {
-        let Some(found) = next_version(t, &last)? else {
-            return Ok(oldest);
-        };
-        last = found.entry.key.copied();
-        oldest.add(found);
+        match next_version(t, &last)? {
+            Some(found) => {
+                last = found.entry.key.copied();
+                oldest.add(found);
+            }
+            None => return Ok(oldest),
+        }
     }
     Ok(oldest)
 }

@@ -66,16 +66,17 @@ pub fn plan_version<T: Pages>(
         Ok(highest) => highest,
         Err(fault) => return Err(VersionFault::Table(fault)),
     };
-    let Some((version, keep)) = next_of(highest, given) else {
-        return Err(VersionFault::VersionsUsedUp);
+    let next = match next_of(highest, given) {
+        Some(next) => next,
+        None => return Err(VersionFault::VersionsUsedUp),
     };
-    match meet_leaving(t, name, keep) {
+    match meet_leaving(t, name, next.1) {
         Ok(gone) => Ok(Plan {
             key: Key {
                 name: name.copied(),
-                version,
+                version: next.0,
             },
-            keep,
+            keep: next.1,
             gone,
         }),
         Err(fault) => Err(VersionFault::Table(fault)),
