@@ -4,11 +4,13 @@
 mod editing;
 mod fault;
 mod finding;
+mod laws;
 mod oldest;
 mod planning;
 
 pub use editing::{enter, set_keep, take_out};
 pub use fault::VersionFault;
 pub use finding::{newest, version_at};
+pub use laws::{next_versions_are_those_of_puts, tables_are_files_entries};
 pub use oldest::Leaving;
 pub use planning::{Plan, plan_version};
