@@ -204,6 +204,6 @@ kept_is e keep xs asc there =
     ∙ put_beside (record e { keep = keep }) at.left (e ∷ []) at.right others.0 others.1
     ∙ ap (λ (y : Entry). at.left ++ (y ∷ at.right)) (put_is_kept e keep)
     ∙ sym (
-      ap (entries_with_keep e.key keep) at.parts ∙ kept_append e.key keep at.left (e ∷ at.right)
-      ∙ (λ i. kept_others e.key keep at.left others.0 i ++ (entry_kept (same_key e.key e.key) keep e ∷ kept_others e.key keep at.right others.1 i))
+    ap (entries_with_keep e.key keep) at.parts ∙ kept_append e.key keep at.left (e ∷ at.right)
+    ∙ (λ i. kept_others e.key keep at.left others.0 i ++ (entry_kept (same_key e.key e.key) keep e ∷ kept_others e.key keep at.right others.1 i))
     )

@@ -78,7 +78,7 @@ each_found [] asc = tt
 each_found (x ∷ xs) asc = (
   ap (λ (b : Bool). cond b (Some x) (entry_of x.key xs)) (ap is_eq (tied_itself keys_total x.key)),
   both (λ (e : Entry). key_lt x.key e.key ≡ true) (λ (e : Entry). entry_of e.key xs ≡ Some e) (λ (e : Entry). entry_of e.key (x ∷ xs) ≡ Some e) xs
-    (λ e lt found. ap (λ (b : Bool). cond b (Some x) (entry_of e.key xs)) (lt_unequal x.key e.key lt) ∙ found) (ascend_head x.key xs asc) (each_found xs (ascend_tail x.key (entry_keys xs) asc)),
+      (λ e lt found. ap (λ (b : Bool). cond b (Some x) (entry_of e.key xs)) (lt_unequal x.key e.key lt) ∙ found) (ascend_head x.key xs asc) (each_found xs (ascend_tail x.key (entry_keys xs) asc)),
 )
 
 pub each_kept : (P : Entry → Type 0) (test : Entry → Bool) (xs : List Entry) → AllByRecursion P xs → AllByRecursion P (filter test xs)
@@ -163,5 +163,5 @@ pub new_stays : {X : Type 0} (f : X → Entry) (key : Key) (xs : List Entry) (gs
 new_stays f key xs [] fresh all = refl
 new_stays f key xs (g ∷ gs) fresh all =
     let other : same_key key (f g).key ≡ false = false_from_ne_true (same_key key (f g).key) (λ same.
-      let no : None ≡ Some (f g) = sym fresh ∙ ap (λ (k : Key). entry_of k xs) (one_key key (f g).key same) ∙ all.0 in cc) in
+    let no : None ≡ Some (f g) = sym fresh ∙ ap (λ (k : Key). entry_of k xs) (one_key key (f g).key same) ∙ all.0 in cc) in
     ap (λ (b : Bool). b || list_any (same_key key) (map (λ g. (f g).key) gs)) other ∙ new_stays f key xs gs fresh all.1

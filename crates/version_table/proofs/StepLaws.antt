@@ -42,8 +42,8 @@ module _ {D : Type 0} (P : Ghosts D) (a b c : D) (is : P.step b ≡ rested (P.st
       → IfOk r (λ found. P.trusted c → (height : ℕ) → IsTree (P.step b).images height → found_entry found ≡ look (table_of (P.step b).images height)) → OfTable P a c (λ table. words table ≡ found_entry o)
   found_rested look words same r o is_ok h =
       of_rested (λ (table : List Entry). words table ≡ found_entry o) (λ trusted height tree.
-        let there = subst (λ (x : Result (Option FoundEntry) TreeFault). IfOk x (λ found. P.trusted c → (height : ℕ) → IsTree (P.step b).images height → found_entry found ≡ look (table_of (P.step b).images height))) is_ok h in
-        sym (there trusted height tree ∙ same (table_of (P.step b).images height)))
+      let there = subst (λ (x : Result (Option FoundEntry) TreeFault). IfOk x (λ found. P.trusted c → (height : ℕ) → IsTree (P.step b).images height → found_entry found ≡ look (table_of (P.step b).images height))) is_ok h in
+      sym (there trusted height tree ∙ same (table_of (P.step b).images height)))
 
   -- what is needed of it
   pub for_rested : (Holds : List Entry → Type 0) → OfTable P a a Holds → (P.trusted b → P.trusted a) → P.trusted b → (height : ℕ) → IsTree (P.step b).images height → Holds (table_of (P.step b).images height)

@@ -157,10 +157,10 @@ same_both a b = by (same_name a b) refl (same_bytes b a) refl
     by true is true be = refl
     by false is false be = refl
     by true is false be = absurd (
-      let one : a ≡ b = slice_cmp-IsAntisymmetric nat_cmp-IsAntisymmetric a b (equal (slice_cmp nat_cmp a b) is) in
-      let no : false ≡ true = sym be ∙ ap (same_bytes b) one ∙ is_same b in
-      cc
-    )
+        let one : a ≡ b = slice_cmp-IsAntisymmetric nat_cmp-IsAntisymmetric a b (equal (slice_cmp nat_cmp a b) is) in
+        let no : false ≡ true = sym be ∙ ap (same_bytes b) one ∙ is_same b in
+        cc
+        )
     by false is true be = absurd (let no : true ≡ false = sym (named a b (sym (same_is b a be))) ∙ is in cc)
 
 pub highest_is : (name : List ℕ) (table : List Entry) → last_that (λ e. same_name e.key.name name) table ≡ highest_entry name table

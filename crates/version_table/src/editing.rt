@@ -50,24 +50,24 @@ pub fn enter<T: Pages>(
     t: &mut T,
     plan: &Plan,
     serial: Serial,
-    length: u32,
+    bytes: u32,
     runs: Runs,
 ) -> Result<(), TreeFault>
     requires more { MOST_REACHED ≤ (T.step t.old).most_reached }
     requires changes { MOST_CHANGED ≤ changes (T.step t.old) }
-    requires entry { IsTrue (is_entry (planned_entry plan.now serial length runs)) }
-    requires fits { FitsEntry (planned_entry plan.now serial length runs) }
+    requires entry { IsTrue (is_entry (planned_entry plan.now serial bytes runs)) }
+    requires fits { FitsEntry (planned_entry plan.now serial bytes runs) }
     requires ready { OfTable T.Pages t.old t.old (IsReady plan.now) }
     ensures calls { OnlyEdits T.Pages (outer_told result) t.old t.new }
     ensures kept { OnErr result (OnlyWalks T.Pages (outer_told result) t.old t.new) }
     ensures changes { changes (T.step t.old) ≤ changes (T.step t.new) + 36 }
     ensures taken { free_count (T.step t.old) ≤ free_count (T.step t.new) + 7 }
-    ensures among { 0 < Rattle.std.specs.Prelude.length (T.step t.old).images → IfErr result (IsAmong (Rattle.std.specs.Prelude.length (T.step t.old).images)) }
-    ensures entered { OnOk result (MakesTable T.Pages t.old t.new (with_planned plan.now (planned_entry plan.now serial length runs))) }
+    ensures among { 0 < length (T.step t.old).images → IfErr result (IsAmong (length (T.step t.old).images)) }
+    ensures entered { OnOk result (MakesTable T.Pages t.old t.new (with_planned plan.now (planned_entry plan.now serial bytes runs))) }
     ensures full { let free = free_count (T.step t.old) in (result ≡ Err (TreeFault.Pages (NameTableFull free))) ↔ (free < 8) }
     ensures fault { IfErr result (FailsSpare T.Pages (free_count (T.step t.old)) t.new) }
 {
-    let entry = planned_entry(plan, serial, length, runs);
+    let entry = planned_entry(plan, serial, bytes, runs);
     let gone = keys_left(plan);
     t.rest();
     insert(t, &entry, &gone)

@@ -18,7 +18,7 @@ insert-requires-clause-new g c =
     let entry = c.planned_entry-entry.result in
     let keys = c.keys_left-gone.result.items in
     for_rested P a b b c.rest.ensures.step (λ (table : List Entry). entry_with entry.key (without_all keys table) ≡ None)
-    (λ trusted height tree. planned_new plan c.args.serial c.args.length c.args.runs entry c.planned_entry-entry.ensures keys c.keys_left-gone.ensures (table_of (P.step a).images height) (tree_ascends (P.step a).images height tree)
+    (λ trusted height tree. planned_new plan c.args.serial c.args.bytes c.args.runs entry c.planned_entry-entry.ensures keys c.keys_left-gone.ensures (table_of (P.step a).images height) (tree_ascends (P.step a).images height tree)
     (c.requires.ready trusted height tree)) (g.met.T.Pages.trust a b None c.rest.ensures.outside)
 
 pub returns-clause-entered : goal.returns-clause-entered
@@ -30,6 +30,6 @@ returns-clause-entered g c =
     let entry = c.planned_entry-entry.result in
     let keys = c.keys_left-gone.result.items in
     let e = c.insert.ensures in
-    on_ok c.insert.result (makes_rested P a b c.insert.new.t c.rest.ensures.step (with_planned plan (planned_entry plan c.args.serial c.args.length c.args.runs)) (λ (table : List Entry). with_entry entry (without_all keys table))
-      (λ height tree trusted. planned_made plan c.args.serial c.args.length c.args.runs entry c.planned_entry-entry.ensures keys c.keys_left-gone.ensures (table_of (P.step a).images height) (tree_ascends (P.step a).images height tree)
-      (c.requires.ready (g.met.T.Pages.trust a b None c.rest.ensures.outside (e.calls.trust trusted)) height tree))) e.inserted
+    on_ok c.insert.result (makes_rested P a b c.insert.new.t c.rest.ensures.step (with_planned plan (planned_entry plan c.args.serial c.args.bytes c.args.runs)) (λ (table : List Entry). with_entry entry (without_all keys table))
+    (λ height tree trusted. planned_made plan c.args.serial c.args.bytes c.args.runs entry c.planned_entry-entry.ensures keys c.keys_left-gone.ensures (table_of (P.step a).images height) (tree_ascends (P.step a).images height tree)
+    (c.requires.ready (g.met.T.Pages.trust a b None c.rest.ensures.outside (e.calls.trust trusted)) height tree))) e.inserted

@@ -29,5 +29,5 @@ returns-clause-set g c =
     let copy = c.copied-entry.result in
     let e = c.replace_same_size.ensures in
     on_ok c.replace_same_size.result (makes_rested P a b c.replace_same_size.new.t c.rest.ensures.step (entries_with_keep version.key keep) (map (put (record copy { keep = keep })))
-      (λ height tree trusted. copy_kept version copy keep (table_of (P.step a).images height) c.copied-entry.ensures (tree_ascends (P.step a).images height tree)
-      (c.requires.there (g.met.T.Pages.trust a b None c.rest.ensures.outside (e.calls.trust trusted)) height tree))) e.replaced
+    (λ height tree trusted. copy_kept version copy keep (table_of (P.step a).images height) c.copied-entry.ensures (tree_ascends (P.step a).images height tree)
+    (c.requires.there (g.met.T.Pages.trust a b None c.rest.ensures.outside (e.calls.trust trusted)) height tree))) e.replaced

@@ -13,4 +13,4 @@ returns-clause-taken_out g c =
     let a = c.args.t.now in
     let key = c.args.key.now in
     on_ok c.remove.result (makes_rested P a c.rest.new.self c.remove.new.t c.rest.ensures.step (entries_without (key ∷ [])) (without key)
-      (λ height tree trusted. without_one key (table_of (P.step a).images height) (tree_ascends (P.step a).images height tree))) c.remove.ensures.removed
+    (λ height tree trusted. without_one key (table_of (P.step a).images height) (tree_ascends (P.step a).images height tree))) c.remove.ensures.removed

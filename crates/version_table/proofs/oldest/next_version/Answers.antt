@@ -39,15 +39,15 @@ returns-in-Some-clause-found g c =
     let P = g.T.Pages in
     let key = c.args.key.now in
     of_rested P c.args.t.now c.rest.new.self c.next_after.new.t c.rest.ensures.step (λ (table : List Entry). IsFirst key table c.named.result) (λ trusted height tree.
-      let pages = (P.step c.rest.new.self).images in
-      let found : entry_after (Some key) (table_of pages height) ≡ Some c.in-Some.found.entry = sym (c.in_ok-found.ensures.found trusted height tree) ∙ ap entry_of c.in-Some.is in
-      next_named key c.in-Some.found c.named.result (table_of pages height) (tree_ascends pages height tree) c.named.ensures found)
+    let pages = (P.step c.rest.new.self).images in
+    let found : entry_after (Some key) (table_of pages height) ≡ Some c.in-Some.found.entry = sym (c.in_ok-found.ensures.found trusted height tree) ∙ ap entry_of c.in-Some.is in
+    next_named key c.in-Some.found c.named.result (table_of pages height) (tree_ascends pages height tree) c.named.ensures found)
 
 pub returns-in-None-clause-found : goal.returns-in-None-clause-found
 returns-in-None-clause-found g c =
     let P = g.T.Pages in
     let key = c.args.key.now in
     of_rested P c.args.t.now c.rest.new.self c.next_after.new.t c.rest.ensures.step (λ (table : List Entry). versions_behind key table ≡ []) (λ trusted height tree.
-      let pages = (P.step c.rest.new.self).images in
-      let found : entry_after (Some key) (table_of pages height) ≡ None = sym (c.in_ok-found.ensures.found trusted height tree) ∙ ap entry_of c.in-None.is in
-      next_none key (table_of pages height) (tree_ascends pages height tree) found)
+    let pages = (P.step c.rest.new.self).images in
+    let found : entry_after (Some key) (table_of pages height) ≡ None = sym (c.in_ok-found.ensures.found trusted height tree) ∙ ap entry_of c.in-None.is in
+    next_none key (table_of pages height) (tree_ascends pages height tree) found)
