@@ -70,6 +70,10 @@ pub record HasImages (log : LogValue) (dirty room : List ℕ) (pages : List (Lis
 abbrev pub RecordLeaves : LogValue → (dirty room : List ℕ) → Moment → Moment → Type 0
 RecordLeaves log dirty room old left = (pages : List (List ℕ)) → HasImages log dirty room pages → ForceLeaves log (record { pages = pages; dirty = dirty }) old left
 
--- whatever pages agree with the cache, a force of them leaves this
+-- whatever pages agree with the cache, a force of these ones leaves this
+abbrev pub FramesLeave : LogValue → CacheValue → (dirty : List ℕ) → Moment → Moment → Type 0
+FramesLeave log c dirty old left = (pages : List (List ℕ)) → AgreesWith log.layout c pages → ForceLeaves log (record { pages = pages; dirty = dirty }) old left
+
+-- so of all that are dirty
 abbrev pub CacheLeaves : LogValue → CacheValue → Moment → Moment → Type 0
-CacheLeaves log c old left = (pages : List (List ℕ)) → AgreesWith log.layout c pages → ForceLeaves log (with_waiting c pages) old left
+CacheLeaves log c = FramesLeave log c (ascending_of c.dirty)

@@ -2,20 +2,20 @@
 ghost use Rattle.std.specs.Prelude.{◌≡◌, ◌⊎◌, ◌<◌, ◌≤◌, ◌^◌, ◌-◌, ◌+◌, ℕ, true, List, [], length, take, ◌*◌, IsTrue, IfSome, IfOk, IfErr, OnOk, OnErr};
 ghost use Rattle.sector_disk.specs.Damage.{IsDevice};
 ghost use Rattle.sector_disk.specs.declared.sector.WeakRun.{WeakRun};
-ghost use Rattle.sector_disk.specs.Calls.{WritesDisk, device_in};
+ghost use Rattle.sector_disk.specs.Calls.{WritesDisk, device_in, load_failed_at};
 ghost use Rattle.fsd_log.specs.Scan.{Placed};
 ghost use Rattle.fsd_sound.specs.Sound.{EndIn};
 ghost use Rattle.run_table.specs.Space.{contains};
-ghost use Rattle.fsd_formats.specs.Record.{AreStamped, are_pages};
+ghost use Rattle.fsd_formats.specs.Record.{AreStamped, are_pages, record_len};
 ghost use Rattle.fsd_log.specs.Laid.{slices};
-ghost use Rattle.log_thirds.specs.Append.{stamp_now};
+ghost use Rattle.log_thirds.specs.Append.{stamp_now, log_with};
 ghost use Rattle.page_cache.specs.Cache.{IsCache, IsResident, bytes_of, cleaned};
-ghost use Rattle.group_commit.specs.Resident.{IsImageOf};
+ghost use Rattle.group_commit.specs.Resident.{IsImageOf, stamped};
 ghost use Rattle.group_commit.specs.Room.{goes_before, log_before, sectors_before};
 ghost use Rattle.group_commit.specs.Entering.{RecordCause, LosesLogged};
 ghost use Rattle.group_commit.specs.Force.{sectors_written, stamped_by, log_forced, StandsOver, Committed, as_load, force_failed_at};
 ghost use Rattle.group_commit.specs.Newest.{KnowsImages};
-ghost use Rattle.group_commit.specs.Cached.{AgreesWith, AreWaiting, CacheLeaves, HasImages, ascending_of, stamped_for, stamped_frames, with_waiting};
+ghost use Rattle.group_commit.specs.Cached.{AgreesWith, AreWaiting, CacheLeaves, FramesLeave, HasImages, ascending_of, stamped_for, stamped_frames, with_waiting};
 
 use crate::force::{ForceFault, Forced, Group, force_fault};
 use crate::frames::{lay_frames, stamp_frames};
@@ -24,7 +24,7 @@ use crate::room::RecordRoom;
 use crate::waiting::ascending;
 use log_thirds::Log;
 use page_cache::Cache;
-use sector_disk::Machine;
+use sector_disk::{LoadFault, Machine};
 
 // Stamps the frames of these pages for the log's next record, and lays their images.
 fn lay_record(log: &Log, cache: &mut Cache, waiting: &[u32], room: &mut RecordRoom)
@@ -38,6 +38,100 @@ fn lay_record(log: &Log, cache: &mut Cache, waiting: &[u32], room: &mut RecordRo
 {
     stamp_frames(cache, waiting, log.epoch(), log.next_number());
     lay_frames(cache, waiting, room.images.as_mut_slice());
+}
+
+// Writes the record of these pages from the frames of the cache, which are stamped first.
+fn write_frames<M: Machine>(
+    m: &mut M,
+    log: &mut Log,
+    cache: &mut Cache,
+    waiting: &[u32],
+    room: &mut RecordRoom,
+) -> Result<(), LoadFault>
+    requires valid { IsCache cache.old }
+    requires accepted { IsTrue (are_pages log.old.layout.pages waiting.now) }
+    requires images { (page : ℕ) → contains waiting.now page ≡ true → IfSome (bytes_of cache.old page) (IsImageOf page) }
+    requires inside { (page : ℕ) → contains waiting.now page ≡ true → IsResident cache.old page }
+    requires numbered { log.old.head.number < 2 ^ 32 - 1 }
+    requires sectors { log.old.layout.sectors ≤ (M.report m.old).sectors }
+    ensures disk { WritesDisk M.Machine (device_in load_failed_at result) (FramesLeave log.old cache.old waiting.now) m.old m.new }
+    ensures cause { IfErr result (RecordCause log.old (length waiting.now)) }
+    ensures counted { OnOk result (M.tells m.new → (M.ledger m.new).written ≡ (M.ledger m.old).written + (sectors_before log.old (length waiting.now) + record_len (length waiting.now))) }
+    ensures counted_err { OnErr result (goes_before log.old (length waiting.now) ≡ true → M.tells m.new → M.ledger m.new ≡ M.ledger m.old) }
+    ensures cache { cache.new ≡ stamped_frames (stamp_now log.old) waiting.now cache.old }
+    ensures past { OnOk result (log.new ≡ log_with (log_before log.old (length waiting.now)) waiting.now) }
+    ensures past_err { OnErr result ((log.new ≡ log.old) ⊎ ((log.new ≡ log_before log.old (length waiting.now)) × (M.tells m.new → (M.ledger m.new).written ≡ (M.ledger m.old).written + sectors_before log.old (length waiting.now)))) }
+    ensures lost { IfErr result (λ fault. M.honest m.new → LosesLogged log.old (M.now m.new).image fault) }
+    ensures never_lost { IfErr result (λ fault. (pages : List (List ℕ)) (windows : List WeakRun) (records : List Placed) (disk : List (List ℕ)) →
+        AgreesWith log.old.layout cache.old pages → M.honest m.new → EndIn (M.now m.old).windows windows →
+        StandsOver log.old records disk (record { pages = pages; dirty = waiting.now }) windows (M.now m.old).image →
+        KnowsImages log.old (M.now m.old).image → IsDevice fault) }
+    ensures done { OnOk result ((pages : List (List ℕ)) (windows : List WeakRun) (records : List Placed) (disk : List (List ℕ)) →
+        AgreesWith log.old.layout cache.old pages → M.honest m.new → EndIn (M.now m.old).windows windows →
+        StandsOver log.old records disk (record { pages = pages; dirty = waiting.now }) windows (M.now m.old).image →
+        KnowsImages log.old (M.now m.old).image →
+        Committed log.new (record { pages = stamped (stamp_now log.old) waiting.now pages; dirty = [] }) windows (M.now m.new).image) }
+    ensures knows { OnOk result ((pages : List (List ℕ)) (windows : List WeakRun) (records : List Placed) (disk : List (List ℕ)) →
+        AgreesWith log.old.layout cache.old pages → M.honest m.new → EndIn (M.now m.old).windows windows →
+        StandsOver log.old records disk (record { pages = pages; dirty = waiting.now }) windows (M.now m.old).image →
+        KnowsImages log.old (M.now m.old).image → KnowsImages log.new (M.now m.new).image) }
+{
+    lay_record(log, cache, waiting, room);
+    write_record(m, log, waiting, room.images.as_slice())
+}
+
+// The same of all that are dirty, where these are they; where none is, nothing.
+fn force_waiting<M: Machine>(
+    m: &mut M,
+    log: &mut Log,
+    cache: &mut Cache,
+    waiting: &[u32],
+    room: &mut RecordRoom,
+) -> Result<Forced, ForceFault>
+    requires valid { IsCache cache.old }
+    requires are { waiting.now ≡ ascending_of cache.old.dirty }
+    requires waiting { AreWaiting log.old.layout.pages cache.old }
+    requires numbered { log.old.head.number < 2 ^ 32 - 1 }
+    requires sectors { log.old.layout.sectors ≤ (M.report m.old).sectors }
+    ensures disk { WritesDisk M.Machine (device_in force_failed_at result) (CacheLeaves log.old cache.old) m.old m.new }
+    ensures cause { IfErr result (λ fault. RecordCause log.old (length cache.old.dirty) (as_load fault)) }
+    ensures pages { IfOk result (λ forced. forced.pages ≡ length cache.old.dirty) }
+    ensures counted { OnOk result (M.tells m.new → (M.ledger m.new).written ≡ (M.ledger m.old).written + sectors_written log.old cache.old.dirty) }
+    ensures counted_err { OnErr result (goes_before log.old (length cache.old.dirty) ≡ true → M.tells m.new → M.ledger m.new ≡ M.ledger m.old) }
+    ensures idle { cache.old.dirty ≡ [] → m.new ≡ m.old }
+    ensures cache { OnOk result (cache.new ≡ cleaned (stamped_for log.old cache.old)) }
+    ensures cache_err { OnErr result (cache.new ≡ stamped_for log.old cache.old) }
+    ensures log { OnOk result (log.new ≡ log_forced log.old (ascending_of cache.old.dirty)) }
+    ensures log_err { OnErr result ((log.new ≡ log.old) ⊎ ((log.new ≡ log_before log.old (length cache.old.dirty)) × (M.tells m.new → (M.ledger m.new).written ≡ (M.ledger m.old).written + sectors_before log.old (length cache.old.dirty)))) }
+    ensures layout { log.new.layout ≡ log.old.layout }
+    ensures lost { IfErr result (λ fault. M.honest m.new → LosesLogged log.old (M.now m.new).image (as_load fault)) }
+    ensures never_lost { IfErr result (λ fault. (pages : List (List ℕ)) (windows : List WeakRun) (records : List Placed) (disk : List (List ℕ)) →
+        AgreesWith log.old.layout cache.old pages → M.honest m.new → EndIn (M.now m.old).windows windows →
+        StandsOver log.old records disk (with_waiting cache.old pages) windows (M.now m.old).image →
+        KnowsImages log.old (M.now m.old).image → IsDevice (as_load fault)) }
+    ensures done { OnOk result ((pages : List (List ℕ)) (windows : List WeakRun) (records : List Placed) (disk : List (List ℕ)) →
+        AgreesWith log.old.layout cache.old pages → M.honest m.new → EndIn (M.now m.old).windows windows →
+        StandsOver log.old records disk (with_waiting cache.old pages) windows (M.now m.old).image →
+        KnowsImages log.old (M.now m.old).image →
+        Committed log.new (record { pages = stamped_by log.old (with_waiting cache.old pages); dirty = [] }) windows (M.now m.new).image) }
+    ensures knows { OnOk result ((pages : List (List ℕ)) (windows : List WeakRun) (records : List Placed) (disk : List (List ℕ)) →
+        AgreesWith log.old.layout cache.old pages → M.honest m.new → EndIn (M.now m.old).windows windows →
+        StandsOver log.old records disk (with_waiting cache.old pages) windows (M.now m.old).image →
+        KnowsImages log.old (M.now m.old).image → KnowsImages log.new (M.now m.new).image) }
+{
+    let count = waiting.len();
+    if count == 0 {
+        return Ok(Forced { pages: 0 });
+    }
+    match write_frames(m, log, cache, waiting, room) {
+        Ok(()) => {
+            cache.cleaned();
+            Ok(Forced {
+                pages: count as u32,
+            })
+        }
+        Err(fault) => Err(force_fault(fault)),
+    }
 }
 
 impl Group {
@@ -94,19 +188,6 @@ impl Group {
             KnowsImages log.old (M.now m.old).image → KnowsImages log.new (M.now m.new).image) }
     {
         let waiting = ascending(cache.dirty_list().as_slice());
-        let count = waiting.len();
-        if count == 0 {
-            return Ok(Forced { pages: 0 });
-        }
-        lay_record(log, cache, waiting.as_slice(), room);
-        match write_record(m, log, waiting.as_slice(), room.images.as_slice()) {
-            Ok(()) => {
-                cache.cleaned();
-                Ok(Forced {
-                    pages: count as u32,
-                })
-            }
-            Err(fault) => Err(force_fault(fault)),
-        }
+        force_waiting(m, log, cache, waiting.as_slice(), room)
     }
 }

@@ -1,6 +1,4 @@
 //! Room for the images of one record.
-ghost use Rattle.std.specs.Prelude.{◌≡◌};
-
 use std::alloc::{AllocError, Global};
 use std::marker::Model;
 
@@ -11,7 +9,7 @@ pub struct RecordRoom {
 }
 
 impl Model for RecordRoom {
-    ghost use Rattle.std.specs.Prelude.{ℕ, List, length};
+    ghost use Rattle.std.specs.Prelude.{◌≡◌, ℕ, List, length};
 
     ghost Value = { List ℕ };
 
@@ -21,11 +19,11 @@ impl Model for RecordRoom {
 }
 
 impl RecordRoom {
-    ghost use Rattle.std.specs.Prelude.{IfOk, replicate};
+    ghost use Rattle.std.specs.Prelude.{◌≡◌, IfOk, length};
 
     /// Room with nothing in it.
     pub fn new(alloc: Global) -> Result<RecordRoom, AllocError>
-        ensures { IfOk result (λ r. r ≡ replicate 49152 0) }
+        ensures { IfOk result (λ r. length r ≡ 49152) }
     {
         let images = vec![in alloc; 0u8; 49_152]?;
         Ok(RecordRoom { images })
