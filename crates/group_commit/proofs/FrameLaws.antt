@@ -96,6 +96,10 @@ module _ (stamp : Stamp) where
   pub stamped_none : (c : CacheValue) → stamped_frames stamp [] c ≡ c
   stamped_none c = λ i. record c { resident = entries_none c.resident i }
 
+  -- the same pages in another order
+  pub stamped_same : (xs ys : List ℕ) (c : CacheValue) → ((p : ℕ) → is_one_of xs p ≡ is_one_of ys p) → stamped_frames stamp xs c ≡ stamped_frames stamp ys c
+  stamped_same xs ys c same = λ i. record c { resident = map (λ e. (e.0, held_stamped stamp (same e.0 i) e.1)) c.resident }
+
   -- a page more is stamped
   pub stamped_one : (xs : List ℕ) (page : ℕ) (bytes : List ℕ) (c d : CacheValue) → IsCache c → is_one_of xs page ≡ false → d ≡ stamped_frames stamp xs c → bytes_of d page ≡ Some bytes
       → with_bytes page (with_stamp stamp bytes) d ≡ stamped_frames stamp (xs ++ page ∷ []) c

@@ -1,4 +1,5 @@
 pub mod AllLaidLaws
+pub mod CachedLaws
 pub mod CommitLaws
 pub mod CountLaws
 pub mod EnterLaws

@@ -90,6 +90,7 @@ fn force_waiting<M: Machine>(
 ) -> Result<Forced, ForceFault>
     requires valid { IsCache cache.old }
     requires are { waiting.now ≡ ascending_of cache.old.dirty }
+    requires few { length waiting.now ≤ 96 }
     requires waiting { AreWaiting log.old.layout.pages cache.old }
     requires numbered { log.old.head.number < 2 ^ 32 - 1 }
     requires sectors { log.old.layout.sectors ≤ (M.report m.old).sectors }
