@@ -1,7 +1,5 @@
 -- A force of the dirty pages of a cache.
-use Rattle.std.proofs.Common.{◌≡◌, ℕ, suc, ◌+◌, ◌<◌, ◌≤◌, true, List, [], ◌∷◌, length, refl, sym, ap, subst, ◌∙◌, arith}
-use Rattle.std.specs.List.{AllByRecursion, IsDistinct}
-use Rattle.std.specs.Prelude.{nat_eq}
+use Rattle.std.proofs.Common.{◌≡◌, ℕ, ◌+◌, ◌≤◌, true, List, [], ◌∷◌, length, refl, sym, ap, subst, ◌∙◌, arith}
 use Rattle.run_table.specs.Space.{contains}
 use Rattle.sector_disk.specs.declared.sector.WeakRun.{WeakRun}
 use Rattle.sector_disk.specs.Machine.{Moment}
@@ -11,7 +9,7 @@ use Rattle.fsd_files.specs.Disk.{Image}
 use Rattle.log_thirds.specs.LogValue.{LogValue}
 use Rattle.log_thirds.specs.Append.{stamp_now, log_with}
 use Rattle.page_cache.specs.Cache.{CacheValue, IsCache, IsResident, cleaned, is_one_of}
-use Rattle.group_commit.specs.Cached.{AreWaiting, IsWaiting, CacheLeaves, ascending_of, stamped_for, stamped_frames, with_waiting}
+use Rattle.group_commit.specs.Cached.{AreWaiting, CacheLeaves, ascending_of, stamped_for, stamped_frames, with_waiting}
 use Rattle.group_commit.specs.Force.{Committed, StandsOver, log_forced, sectors_written, stamped_by}
 use Rattle.group_commit.specs.Resident.{stamped}
 use Rattle.group_commit.specs.Room.{log_before, sectors_before}

@@ -1,19 +1,16 @@
 -- What stamps do to the frames of a cache, and how their images lie.
-use Rattle.std.proofs.Common.{◌≡◌, ◌⊎◌, inl, inr, ℕ, zero, suc, ◌+◌, ◌*◌, ◌<◌, ◌≤◌, Bool, true, false, cond, ◌||◌, List, [], ◌∷◌, ◌++◌, length, map, take, get_or, option_map, Option, Some, None, IsSome, IfSome, refl, sym, ap, subst, ◌∙◌, arith, eqb-true}
-use Rattle.std.specs.Prelude.{nat_eq, nat_lt, ◌==◌, ◌&&◌}
-use Rattle.std.specs.List.{AllByRecursion, IsDistinct, flat_map, list_any}
+use Rattle.std.proofs.Common.{◌≡◌, ℕ, zero, suc, ◌<◌, Bool, true, false, cond, ◌||◌, List, [], ◌∷◌, ◌++◌, length, map, take, get_or, option_map, Option, Some, None, IsSome, refl, sym, ap, subst, ◌∙◌, arith, eqb-true}
+use Rattle.std.specs.Prelude.{nat_eq, nat_lt}
+use Rattle.std.specs.List.{AllByRecursion, IsDistinct}
 use Rattle.std.specs.Option.{option_map_or}
 use Rattle.std.specs.Map.{keys_of, lookup}
-use Rattle.std.proofs.lemmas.Bool.{and_parts, ltb-true, cases_lt}
-use Rattle.std.proofs.lemmas.List.{take_more}
+use Rattle.std.proofs.lemmas.Bool.{and_parts, ltb-true}
 use Rattle.std.proofs.lemmas.Map.Keys.{IsDistinct-head, IsDistinct-tail}
-use Rattle.run_table.specs.Space.{contains}
 use Rattle.fsd_formats.specs.Record.{Stamp, ascending}
 use Rattle.page_cache.specs.Cache.{CacheValue, Held, IsCache, IsResident, altered, bytes_of, held, is_one_of, with_bytes}
-use Rattle.page_cache.proofs.Entries.{by_bool, same_key, key_flips}
+use Rattle.page_cache.proofs.Entries.{by_bool}
 use Rattle.group_commit.specs.Cached.{frame_bytes, held_stamped, stamped_frames}
 use Rattle.group_commit.specs.Resident.{with_stamp}
-use Rattle.group_commit.proofs.ImageLaws.{not_later}
 
 -- ---- one page more in a list
 
@@ -65,28 +62,28 @@ module _ (stamp : Stamp) where
   entries_more xs page bytes [] d out has = refl
   entries_more xs page bytes (x ∷ es) d out has = by_bool (nat_eq page x.0)
       (λ t.
-        let new : is_one_of xs x.0 ≡ false = subst (λ (q : ℕ). is_one_of xs q ≡ false) (eqb-true page x.0 t) out in
-        let old : held_stamped stamp (is_one_of xs x.0) x.1 ≡ x.1 = ap (λ (b : Bool). held_stamped stamp b x.1) new in
-        let found : Some (held_stamped stamp (is_one_of xs x.0) x.1).bytes ≡ Some bytes = rw t at has in
-        let same : x.1.bytes ≡ bytes = sym (ap (λ (h : Held). h.bytes) old) ∙ some_is _ _ found in
-        let here : cond (nat_eq page x.0) (record (held_stamped stamp (is_one_of xs x.0) x.1) { bytes = with_stamp stamp bytes }) (held_stamped stamp (is_one_of xs x.0) x.1) ≡ held_stamped stamp (is_one_of (xs ++ page ∷ []) x.0) x.1 =
-        ap (λ (b : Bool). cond b (record (held_stamped stamp (is_one_of xs x.0) x.1) { bytes = with_stamp stamp bytes }) (held_stamped stamp (is_one_of xs x.0) x.1)) t
-        ∙ (λ i. record (old i) { bytes = with_stamp stamp (sym same i) })
-        ∙ ap (λ (b : Bool). held_stamped stamp b x.1) (sym (one_same xs page x.0 t)) in
-        let others = rest_other xs page (λ h. record h { bytes = with_stamp stamp bytes }) es (all_as x.0 page t (keys_of es) (IsDistinct-head nat_eq x.0 (keys_of es) d)) in
-        λ i. (x.0, here i) ∷ others i)
+      let new : is_one_of xs x.0 ≡ false = subst (λ (q : ℕ). is_one_of xs q ≡ false) (eqb-true page x.0 t) out in
+      let old : held_stamped stamp (is_one_of xs x.0) x.1 ≡ x.1 = ap (λ (b : Bool). held_stamped stamp b x.1) new in
+      let found : Some (held_stamped stamp (is_one_of xs x.0) x.1).bytes ≡ Some bytes = rw t at has in
+      let same : x.1.bytes ≡ bytes = sym (ap (λ (h : Held). h.bytes) old) ∙ some_is _ _ found in
+      let here : cond (nat_eq page x.0) (record (held_stamped stamp (is_one_of xs x.0) x.1) { bytes = with_stamp stamp bytes }) (held_stamped stamp (is_one_of xs x.0) x.1) ≡ held_stamped stamp (is_one_of (xs ++ page ∷ []) x.0) x.1 =
+      ap (λ (b : Bool). cond b (record (held_stamped stamp (is_one_of xs x.0) x.1) { bytes = with_stamp stamp bytes }) (held_stamped stamp (is_one_of xs x.0) x.1)) t
+      ∙ (λ i. record (old i) { bytes = with_stamp stamp (sym same i) })
+      ∙ ap (λ (b : Bool). held_stamped stamp b x.1) (sym (one_same xs page x.0 t)) in
+      let others = rest_other xs page (λ h. record h { bytes = with_stamp stamp bytes }) es (all_as x.0 page t (keys_of es) (IsDistinct-head nat_eq x.0 (keys_of es) d)) in
+      λ i. (x.0, here i) ∷ others i)
       (λ t.
-        let here : cond (nat_eq page x.0) (record (held_stamped stamp (is_one_of xs x.0) x.1) { bytes = with_stamp stamp bytes }) (held_stamped stamp (is_one_of xs x.0) x.1) ≡ held_stamped stamp (is_one_of (xs ++ page ∷ []) x.0) x.1 =
-        ap (λ (b : Bool). cond b (record (held_stamped stamp (is_one_of xs x.0) x.1) { bytes = with_stamp stamp bytes }) (held_stamped stamp (is_one_of xs x.0) x.1)) t
-        ∙ ap (λ (b : Bool). held_stamped stamp b x.1) (sym (one_other xs page x.0 t)) in
-        let others = entries_more xs page bytes es (IsDistinct-tail nat_eq x.0 (keys_of es) d) out (rw t at has) in
-        λ i. (x.0, here i) ∷ others i)
+      let here : cond (nat_eq page x.0) (record (held_stamped stamp (is_one_of xs x.0) x.1) { bytes = with_stamp stamp bytes }) (held_stamped stamp (is_one_of xs x.0) x.1) ≡ held_stamped stamp (is_one_of (xs ++ page ∷ []) x.0) x.1 =
+      ap (λ (b : Bool). cond b (record (held_stamped stamp (is_one_of xs x.0) x.1) { bytes = with_stamp stamp bytes }) (held_stamped stamp (is_one_of xs x.0) x.1)) t
+      ∙ ap (λ (b : Bool). held_stamped stamp b x.1) (sym (one_other xs page x.0 t)) in
+      let others = entries_more xs page bytes es (IsDistinct-tail nat_eq x.0 (keys_of es) d) out (rw t at has) in
+      λ i. (x.0, here i) ∷ others i)
 
   entries_lookup : (xs : List ℕ) (q : ℕ) (es : List (ℕ × Held)) → lookup (nat_eq q) (entries xs es) ≡ option_map (held_stamped stamp (is_one_of xs q)) (lookup (nat_eq q) es)
   entries_lookup xs q [] = refl
   entries_lookup xs q (x ∷ es) = by_bool (nat_eq q x.0)
       (λ t. let same : q ≡ x.0 = eqb-true q x.0 t in
-        rw t (ap (λ (k : ℕ). Some (held_stamped stamp (is_one_of xs k) x.1)) (sym same)))
+      rw t (ap (λ (k : ℕ). Some (held_stamped stamp (is_one_of xs k) x.1)) (sym same)))
       (λ t. rw t (entries_lookup xs q es))
 
   entries_none : (es : List (ℕ × Held)) → entries [] es ≡ es

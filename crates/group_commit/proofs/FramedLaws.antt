@@ -1,5 +1,5 @@
 -- The images of frames that are stamped are those of a record.
-use Rattle.std.proofs.Common.{◌≡◌, ◌⊎◌, inl, inr, ℕ, ◌+◌, ◌*◌, ◌<◌, ◌≤◌, true, List, [], ◌++◌, length, map, take, drop, get_or, Option, Some, IfSome, sym, ap, subst, ◌∙◌, arith}
+use Rattle.std.proofs.Common.{◌≡◌, ◌⊎◌, inl, inr, ℕ, ◌+◌, ◌<◌, ◌≤◌, true, List, ◌++◌, length, map, take, drop, get_or, Option, Some, IfSome, sym, ap, subst, ◌∙◌, arith}
 use Rattle.std.specs.List.{flat_map}
 use Rattle.std.proofs.lemmas.Bool.{cases_lt}
 use Rattle.std.proofs.lemmas.List.{length-append, length-drop, length-take-le, take_all}
@@ -29,7 +29,6 @@ sector_before stamp bytes long = by (cases_lt (length bytes) 16)
 module _ (stamp read : Stamp) (fits : FitsStamp read) (same : read ≡ stamp) (count : ℕ) (xs : List ℕ) (are : are_pages count xs ≡ true) (c d : CacheValue) (made : d ≡ stamped_frames read xs c)
     (there : (p : ℕ) → contains xs p ≡ true → IsResident c p) (images_are : (p : ℕ) → contains xs p ≡ true → IfSome (bytes_of c p) (IsImageOf p))
     (whole : (k : ℕ) → k < length xs → length (frame_bytes d (get_or xs k 0)) ≡ 512) (images : List ℕ) (laid : images ≡ flat_map (frame_bytes d) xs) where
-
   bytes_is : (p : ℕ) → contains xs p ≡ true → frame_bytes d p ≡ with_stamp read (frame_bytes c p)
   bytes_is p is = ap (λ (v : CacheValue). frame_bytes v p) made ∙ bytes_then read xs c p is (there p is)
 

@@ -1,5 +1,6 @@
 pub mod AllLaidLaws
 pub mod CachedLaws
+pub mod CleanLaws
 pub mod CommitLaws
 pub mod CountLaws
 pub mod EnterLaws

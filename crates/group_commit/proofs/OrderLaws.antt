@@ -1,5 +1,5 @@
 -- Pages in ascending order: they are the same ones, and a record may have them.
-use Rattle.std.proofs.Common.{◌≡◌, ◌≢◌, inl, inr, ℕ, zero, suc, ◌+◌, ◌<◌, ◌≤◌, Bool, true, false, cond, ◌||◌, List, [], ◌∷◌, ◌++◌, length, replicate, take, get_or, refl, sym, ap, subst, ◌∙◌, arith, eqb-true}
+use Rattle.std.proofs.Common.{◌≡◌, inl, inr, ℕ, zero, suc, ◌+◌, ◌<◌, ◌≤◌, Bool, true, false, cond, ◌||◌, List, [], ◌∷◌, ◌++◌, length, replicate, take, get_or, refl, sym, ap, subst, ◌∙◌, arith, eqb-true}
 use Rattle.std.specs.Prelude.{nat_eq, nat_lt, ◌==◌}
 use Rattle.std.specs.List.{AllByRecursion, IsDistinct}
 use Rattle.std.proofs.lemmas.List.{length-replicate, take_more}
@@ -7,7 +7,7 @@ use Rattle.std.proofs.lemmas.Map.Keys.{IsDistinct-head, IsDistinct-tail}
 use Rattle.run_table.specs.Space.{contains}
 use Rattle.fsd_formats.specs.Record.{are_pages}
 use Rattle.page_cache.specs.Cache.{is_one_of}
-use Rattle.page_cache.proofs.Entries.{by_bool, same_key, key_flips}
+use Rattle.page_cache.proofs.Entries.{by_bool, same_key}
 use Rattle.group_commit.specs.Cached.{ascending_of, put_among}
 use Rattle.group_commit.specs.Resident.{AreDirty, with_page}
 use Rattle.group_commit.proofs.WaitLaws.{grows, still_dirty}

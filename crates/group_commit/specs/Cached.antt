@@ -1,5 +1,5 @@
 -- The dirty pages of a cache, and what a force makes of them.
-use Rattle.std.specs.Prelude.{◌≡◌, ℕ, ◌*◌, ◌<◌, Bool, true, cond, List, [], ◌∷◌, length, map, take, Option, Some, None, IfSome}
+use Rattle.std.specs.Prelude.{◌≡◌, ℕ, ◌*◌, ◌<◌, Bool, true, cond, List, [], ◌∷◌, length, map, take, Some, IfSome}
 use Rattle.std.specs.Option.{option_map_or}
 use Rattle.volume_layout.specs.declared.layout.Layout.{Layout}
 use Rattle.fsd_formats.specs.Record.{Stamp}

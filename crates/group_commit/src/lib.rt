@@ -16,7 +16,7 @@ mod waiting;
 
 pub use entering::make_room;
 pub use force::{ForceFault, Forced, Group};
-pub use laws::pages_are_newest;
+pub use laws::{clean_frames_are_newest, pages_are_newest};
 pub use newest::Newest;
 pub use resident::Resident;
 pub use room::RecordRoom;

@@ -1,12 +1,9 @@
-use Rattle.std.proofs.Common.{◌≡◌, ◌<◌, ◌≤◌, ◌+◌, ◌⊎◌, ℕ, true, List, [], length, sym, ap, subst, ◌∙◌, arith, rules}
-use Rattle.std.specs.Prelude.{OnErr, IfErr}
+use Rattle.std.proofs.Common.{◌≡◌, ◌≤◌, ◌+◌, ◌⊎◌, ℕ, List, length, sym, ap, subst, ◌∙◌, arith, rules}
 use Rattle.fsd_formats.specs.Record.{record_len}
-use Rattle.log_thirds.specs.LogValue.{LogValue}
 use Rattle.log_thirds.specs.Append.{stamp_now}
-use Rattle.page_cache.specs.Cache.{CacheValue, cleaned}
-use Rattle.sector_disk.specs.Damage.{IsDevice}
-use Rattle.sector_disk.proofs.CallLaws.{writes_more, writes_none}
-use Rattle.group_commit.specs.Cached.{CacheLeaves, FramesLeave, ascending_of, stamped_frames}
+use Rattle.page_cache.specs.Cache.{cleaned}
+use Rattle.sector_disk.proofs.CallLaws.{writes_none}
+use Rattle.group_commit.specs.Cached.{CacheLeaves, ascending_of}
 use Rattle.group_commit.specs.Entering.{RecordCause, LosesLogged}
 use Rattle.group_commit.specs.Force.{log_forced}
 use Rattle.group_commit.specs.Room.{goes_before, log_before, sectors_before}

@@ -1,4 +1,4 @@
-use Rattle.std.proofs.Common.{◌≡◌, ◌*◌, ℕ, List, take, length, get_or, sym, ap, subst, ◌∙◌, arith, rules}
+use Rattle.std.proofs.Common.{◌≡◌, ◌*◌, ℕ, List, take, length, get_or, sym, subst, rules}
 use Rattle.std.proofs.lemmas.List.{with_items_is}
 use Rattle.fsd_formats.specs.Record.{AreStamped, Stamp}
 use Rattle.fsd_log.specs.Borne.{FitsStamp}

@@ -1,4 +1,4 @@
-use Rattle.std.proofs.Common.{◌≡◌, ◌*◌, ℕ, List, length, take, sym, ap, subst, ◌∙◌, rules}
+use Rattle.std.proofs.Common.{rules}
 use Rattle.sector_disk.proofs.CallLaws.{writes_more}
 use Rattle.group_commit.specs.Cached.{HasImages}
 use Rattle.group_commit.proofs.ResultLaws.{if_err_more, on_ok_more}

@@ -1,5 +1,4 @@
 use Rattle.std.proofs.Common.{◌≡◌, ◌*◌, ◌+◌, ◌<◌, ◌≤◌, ◌⊎◌, inl, inr, ℕ, List, [], take, length, get_or, Option, sym, ap, subst, ◌∙◌, arith}
-use Rattle.std.specs.List.{flat_map}
 use Rattle.std.specs.Option.{option_map_or}
 use Rattle.std.proofs.lemmas.Bool.{cases_lt}
 use Rattle.fsd_bytes.specs.Bytes.{with_bytes}
@@ -15,8 +14,7 @@ loop-k-preserved c =
     let page : ℕ = get_or c.args.pages.now c.loop-k.k 0 in
     let is : frame_bytes c.args.cache.now page ≡ c.bytes.result.now = ap (λ (o : Option (List ℕ)). option_map_or (λ bytes. bytes) o []) c.bytes.ensures in
     let long : length (frame_bytes c.args.cache.now page) ≡ 512 = ap length is ∙ c.put_image.ensures.whole in
-    let step = laid_step_of f pages k c.loop-k.room c.loop-k-test.true long (omega (arith, c.requires.fits, c.loop-k.auto.room)) c.loop-k.invariant.0 in
-    (
+    let step = laid_step_of f pages k c.loop-k.room c.loop-k-test.true long (omega (arith, c.requires.fits, c.loop-k.auto.room)) c.loop-k.invariant.0 in (
       ap (take (512 * (k + 1))) (c.put_image.ensures.laid ∙ ap (λ (bytes : List ℕ). with_bytes (512 * k) bytes c.loop-k.room) (sym is)) ∙ step,
       λ j lt. by_last c.args.pages.now k j long lt c.loop-k.invariant.1 (cases_lt j k),
     )

@@ -1,4 +1,4 @@
-use Rattle.std.proofs.Common.{◌≡◌, ◌*◌, ◌≤◌, ℕ, true, List, [], length, map, take, sym, ap, subst, ◌∙◌, arith}
+use Rattle.std.proofs.Common.{◌≡◌, ◌*◌, ◌≤◌, ℕ, List, [], length, map, take, sym, ap, subst, ◌∙◌, arith}
 use Rattle.std.proofs.lemmas.List.{length-take-le}
 use Rattle.volume_layout.specs.declared.layout.Layout.{Layout}
 use Rattle.fsd_formats.specs.Record.{Stamp, are_pages, record_len, AreStamped}
@@ -6,7 +6,6 @@ use Rattle.fsd_log.specs.Laid.{laid_bytes, slices}
 use Rattle.fsd_sound.specs.Mounted.{image_at}
 use Rattle.sector_disk.specs.Damage.{IsDevice}
 use Rattle.group_commit.proofs.CountLaws.{handed_up}
-use Rattle.fsd_log.specs.Borne.{FitsStamp}
 use Rattle.fsd_log.specs.Scan.{Placed, place_of, spot_for}
 use Rattle.sector_disk.specs.declared.sector.WeakRun.{WeakRun}
 use Rattle.sector_disk.specs.Calls.{load_failed_at}
@@ -25,7 +24,7 @@ use Rattle.group_commit.specs.Force.{StandsOver, Committed}
 use Rattle.group_commit.specs.Cached.{HasImages, RecordLeaves}
 use Rattle.group_commit.specs.Newest.{KnowsImages}
 use Rattle.group_commit.specs.Resident.{ResidentValue, stamped}
-use Rattle.group_commit.proofs.ImageLaws.{IsRecordOf, record_laid}
+use Rattle.group_commit.proofs.ImageLaws.{IsRecordOf}
 use Rattle.group_commit.proofs.RoundLaws.{may_home, owns, making, stands, commits_on, ends_then}
 use Rattle.group_commit.proofs.ForceLaws.{MayForceHere, force_here, commits, committed, log_in_window}
 use Rattle.group_commit.proofs.StandsLaws.{knows_log}
