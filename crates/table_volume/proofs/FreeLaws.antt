@@ -1,14 +1,16 @@
 -- What waited for a force becomes free, run by run.
-use Rattle.std.proofs.Common.{◌≡◌, inl, inr, ℕ, ◌<◌, ◌≤◌, Bool, true, false, not, ◌&&◌, ◌||◌, List, [], ◌∷◌, refl, sym, ap, ◌∙◌, arith}
+use Rattle.std.proofs.Common.{◌≡◌, inl, inr, ℕ, ◌<◌, ◌≤◌, Bool, true, false, not, ◌&&◌, ◌||◌, List, [], ◌∷◌, refl, sym, ap, ◌∙◌, arith, replicate, None}
 use Rattle.std.specs.Prelude.{IsTrue, IsFalse}
 use Rattle.std.proofs.lemmas.Bool.{cases_lt}
 use Rattle.run_table.specs.declared.run.Run.{Run}
 use Rattle.run_table.specs.RunTable.{sectors_of}
 use Rattle.run_table.specs.Space.{contains, where_free}
 use Rattle.sector_set.specs.Area.{Area, AreIn, AreOut, IsOwn, area, together, without}
+use Rattle.std.proofs.lemmas.List.{nil_from_length}
+use Rattle.sector_set.proofs.CountLaws.{none_where}
 use Rattle.sector_set.proofs.AreaLaws.{free_passes, free_within}
 use Rattle.sector_set.proofs.FreeLaws.{contains_where, contains_where_outside, where_same}
-use Rattle.shadow_frees.specs.Readers.{is_held, unheld}
+use Rattle.shadow_frees.specs.Readers.{Slots, is_held, unheld, with_held}
 use Rattle.shadow_frees.specs.Waits.{Waits, run_between}
 
 -- So far: the free sectors and those that nobody holds of the ones that wait are the same together, and none is both.
@@ -20,6 +22,7 @@ pub record Frees (map0 : Area) (w0 : Waits) (map : Area) (w : Waits) : Type 0 wh
   pub last : w.removed.to ≡ map0.to
   pub held : w.held ≡ w0.held
   pub unfinished : w.unfinished ≡ w0.unfinished
+  pub kept : w0.held ≡ replicate 8 None → w0.kept.sectors ≡ [] → w.kept ≡ w0.kept
   pub apart : (s : ℕ) → contains map.sectors s ≡ true → contains w.removed.sectors s ≡ false
   pub same : (s : ℕ) → (contains map.sectors s || contains (unheld w.held w.removed).sectors s) ≡ (contains map0.sectors s || contains (unheld w0.held w0.removed).sectors s)
 
@@ -32,6 +35,7 @@ frees_first map w own from to apart = record {
   last = to;
   held = refl;
   unfinished = refl;
+  kept = λ free none. refl;
   apart = apart;
   same = λ s. refl;
 }
@@ -60,6 +64,22 @@ step_tests false true false false in_a = refl
 step_tests false false true false in_a = refl
 step_tests false false false false in_a = refl
 
+-- ---- where no reader holds a version
+
+nothing : (from to : ℕ) → where_free (λ s. false) from to ≡ []
+nothing from to = nil_from_length (where_free (λ s. false) from to) (none_where from to)
+
+and_false : (b : Bool) → (b && false) ≡ false
+and_false true = refl
+and_false false = refl
+
+pub still_kept : (kept removed : Area) → kept.sectors ≡ [] → with_held (replicate 8 None) kept removed ≡ kept
+still_kept kept removed none =
+    let same : where_free (λ s. contains kept.sectors s || contains removed.sectors s && is_held (replicate 8 None) s) kept.from kept.to ≡ where_free (λ s. false) kept.from kept.to =
+    where_same (λ s. contains kept.sectors s || contains removed.sectors s && is_held (replicate 8 None) s) (λ s. false) kept.from kept.to
+    (λ s low high. ap (λ (xs : List ℕ). contains xs s || (contains removed.sectors s && false)) none ∙ and_false (contains removed.sectors s)) in
+    λ i. record { from = kept.from; to = kept.to; sectors = (same ∙ nothing kept.from kept.to ∙ sym none) i }
+
 -- ---- a run more
 
 module _ (map0 : Area) (w0 : Waits) (map : Area) (w : Waits) (so : Frees map0 w0 map w) (p : ℕ × ℕ) (given : AreIn (unheld w.held w.removed) (run_between p ∷ [])) where
@@ -76,7 +96,7 @@ module _ (map0 : Area) (w0 : Waits) (map : Area) (w : Waits) (so : Frees map0 w0
     differ = given.differ;
   }
 
-  module _ (v : Waits) (removed : v.removed ≡ without (unheld w.held w.removed) runs) (held : v.held ≡ w.held) (unfinished : v.unfinished ≡ w.unfinished) where
+  module _ (v : Waits) (removed : v.removed ≡ without (unheld w.held w.removed) runs) (held : v.held ≡ w.held) (unfinished : v.unfinished ≡ w.unfinished) (kept : v.kept ≡ with_held w.held w.kept w.removed) where
     abbrev next : Area
     next = together map runs
 
@@ -182,6 +202,9 @@ module _ (map0 : Area) (w0 : Waits) (map : Area) (w : Waits) (so : Frees map0 w0
         (λ low high. in_removed_now s low high ∙ apart_tests s (contains map.sectors s) (contains (sectors_of runs) s) (contains w.removed.sectors s) (is_held w.held s) (so.apart s) (sym (within_next s low high) ∙ is))
         (λ out. absurd (let e = gone_next s out in cc (is, e)))
 
+    kept_still : w.held ≡ replicate 8 None → w.kept.sectors ≡ [] → with_held w.held w.kept w.removed ≡ w.kept
+    kept_still free none = ap (λ (slots : Slots). with_held slots w.kept w.removed) free ∙ still_kept w.kept w.removed none
+
     pub frees_next : Frees map0 w0 (together map runs) v
     frees_next = record {
       own = own_next;
@@ -191,6 +214,7 @@ module _ (map0 : Area) (w0 : Waits) (map : Area) (w : Waits) (so : Frees map0 w0
       last = ap (λ (a : Area). a.to) removed ∙ so.last;
       held = held ∙ so.held;
       unfinished = unfinished ∙ so.unfinished;
+      kept = λ free none. kept ∙ kept_still (so.held ∙ free) (ap (λ (a : Area). a.sectors) (so.kept free none) ∙ none) ∙ so.kept free none;
       apart = apart_next;
       same = λ s. same_next s ∙ so.same s;
     }
@@ -207,3 +231,8 @@ module _ (map0 : Area) (w0 : Waits) (map : Area) (w : Waits) (so : Frees map0 w0
 
   pub none_left : (v : Area) → v ≡ unheld w.held w.removed → v ≡ record { from = map0.from; to = map0.to; sectors = [] }
   none_left v is = is ∙ (λ i. record { from = so.first i; to = so.last i; sectors = none i })
+
+  pub kept_all : (v : Area) → v ≡ with_held w.held w.kept w.removed → w0.held ≡ replicate 8 None → w0.kept.sectors ≡ [] → v ≡ w0.kept
+  kept_all v is free empty =
+      is ∙ ap (λ (slots : Slots). with_held slots w.kept w.removed) (so.held ∙ free)
+      ∙ still_kept w.kept w.removed (ap (λ (a : Area). a.sectors) (so.kept free empty) ∙ empty) ∙ so.kept free empty

@@ -1,5 +1,5 @@
 //! What a force makes free.
-ghost use Rattle.std.specs.Prelude.{◌≡◌, ◌<◌, ◌||◌, ◌∷◌, [], ℕ, IsFalse, IsTrue};
+ghost use Rattle.std.specs.Prelude.{◌≡◌, ◌<◌, ◌||◌, ◌∷◌, [], ℕ, None, replicate, IsFalse, IsTrue};
 ghost use Rattle.run_table.specs.Space.{contains};
 ghost use Rattle.sector_set.specs.Area.{AreOut, IsOwn, area, together};
 ghost use Rattle.shadow_frees.specs.Readers.{unheld};
@@ -31,6 +31,7 @@ pub(crate) fn free_committed(map: &mut Map, shadow: &mut Shadow)
     requires apart { (s : ℕ) → IsTrue (contains map.old.sectors s) → IsFalse (contains shadow.old.removed.sectors s) }
     ensures map { map.new ≡ area map.old.from map.old.to (λ s. contains map.old.sectors s || contains (unheld shadow.old.held shadow.old.removed).sectors s) }
     ensures removed { shadow.new.removed ≡ record { from = map.old.from; to = map.old.to; sectors = [] } }
+    ensures kept { shadow.old.held ≡ replicate 8 None → shadow.old.kept.sectors ≡ [] → shadow.new.kept ≡ shadow.old.kept }
     ensures unfinished { shadow.new.unfinished ≡ shadow.old.unfinished }
     ensures held { shadow.new.held ≡ shadow.old.held }
 {
