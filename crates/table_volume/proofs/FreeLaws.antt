@@ -66,7 +66,7 @@ step_tests false false false false in_a = refl
 
 -- ---- where no reader holds a version
 
-nothing : (from to : ℕ) → where_free (λ s. false) from to ≡ []
+pub nothing : (from to : ℕ) → where_free (λ s. false) from to ≡ []
 nothing from to = nil_from_length (where_free (λ s. false) from to) (none_where from to)
 
 and_false : (b : Bool) → (b && false) ≡ false

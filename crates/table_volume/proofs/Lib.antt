@@ -1,6 +1,7 @@
 pub mod CacheLaws
 pub mod CountLaws
 pub mod FindLaws
+pub mod ForcedLaws
 pub mod FreeLaws
 pub mod LookLaws
 pub mod PageLaws
