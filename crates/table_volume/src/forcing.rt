@@ -1,5 +1,6 @@
 //! The force of a volume.
 ghost use Rattle.std.specs.Prelude.{◌≡◌, ◌≤◌, IfOk, IsTrue, length};
+ghost use Rattle.volume_contract.specs.State.{GoesOn, downs};
 ghost use Rattle.volume_contract.specs.Order.{Follows, force_steps, is_idle};
 ghost use Rattle.table_volume.specs.Forcing.{force_refusal, place_of};
 ghost use Rattle.table_volume.specs.State.{state};
@@ -37,6 +38,7 @@ impl Volume {
         requires { (state self.old).layout.sectors ≤ (M.report m.old).sectors }
         ensures order { Follows (force_steps (state self.old)) result }
         ensures pages { IfOk result (λ forced. forced.pages ≡ length (state self.old).dirty) }
+        ensures state { GoesOn (downs result) (state self.old) (state self.new) }
         ensures idle { IsTrue (is_idle (force_steps (state self.old))) → m.new ≡ m.old }
     {
         self.is_up()?;
@@ -55,5 +57,16 @@ impl Volume {
                 Err(force_refusal(fault))
             }
         }
+    }
+
+    /// A force, as time goes on.
+    pub fn tick<M: Machine>(&mut self, m: &mut M) -> Result<Forced, Refusal>
+        requires { (state self.old).layout.sectors ≤ (M.report m.old).sectors }
+        ensures order { Follows (force_steps (state self.old)) result }
+        ensures pages { IfOk result (λ forced. forced.pages ≡ length (state self.old).dirty) }
+        ensures state { GoesOn (downs result) (state self.old) (state self.new) }
+        ensures idle { IsTrue (is_idle (force_steps (state self.old))) → m.new ≡ m.old }
+    {
+        self.force(m)
     }
 }
