@@ -24,7 +24,7 @@ use Rattle.name_btree.specs.Fault.{BarsTable, HasCause}
 use Rattle.name_btree.specs.declared.lookup.FoundEntry.{FoundEntry}
 use Rattle.name_btree.specs.Lookup.{IsLedTo, StandsIn}
 use Rattle.table_pages.specs.Bringing.{IsTrusted, OnlyPins, given_by}
-use Rattle.table_pages.specs.Kept.{IsReady, images_of}
+use Rattle.table_pages.specs.Kept.{IsReady}
 use Rattle.table_pages.specs.ImageLaws.{image_at, image_count}
 use Rattle.table_pages.specs.Reads.{Fills, LosesFor, device_of}
 use Rattle.table_pages.specs.Table.{IsAtRest, IsClean, IsOver, ReadsOnly, Trusted, begun, step_of}
