@@ -1,5 +1,5 @@
-use Rattle.name_btree.proofs.OnesLaws.{AreOnes}
-use Rattle.name_btree.proofs.map_tests.plain.some_runs.Given as goal
+use Rattle.table_tests.proofs.OnesLaws.{AreOnes}
+use Rattle.table_tests.proofs.plain.some_runs.Given as goal
 
 -- a run for each number before
 abbrev pub invariant-loop-i : goal.invariant-loop-i

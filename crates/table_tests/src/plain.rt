@@ -1,4 +1,4 @@
-//! What the table is to have: std's ordered map, and versions to put into it.
+//! Versions to put into a table, numbers to draw them by, and std's ordered map, which has what the table is to have.
 ghost use Rattle.std.specs.Prelude.{◌≡◌, ◌≤◌, ◌*◌, IfSome, true};
 ghost use Rattle.std.specs.List.{AllByRecursion};
 ghost use Rattle.run_table.specs.RunTable.{are_runs, total, FitsRun};
@@ -10,13 +10,27 @@ use name_page::Entry;
 use run_table::{Run, Runs};
 use std::collections::BTreeMap;
 
-pub(crate) type Versions = BTreeMap<Key, Entry>;
+pub type Versions = BTreeMap<Key, Entry>;
 
-// The name of 40 bytes with this number.
-pub(crate) fn name(i: u32) -> FileName {
+/// The next number of a fixed sequence.
+pub fn next(seed: &mut u64) -> u32 {
+    *seed = seed
+        .wrapping_mul(6_364_136_223_846_793_005)
+        .wrapping_add(1_442_695_040_888_963_407);
+    ((*seed >> 32) & 0xffff_ffff) as u32
+}
+
+fn digit(i: u32) -> u8 {
+    b'0' + (i % 10) as u8
+}
+
+/// The name of 40 bytes with this number, of which four digits count.
+pub fn name(i: u32) -> FileName {
     let mut bytes = [b'n'; 40];
-    bytes[38] = b'0' + (i / 10 % 10) as u8;
-    bytes[39] = b'0' + (i % 10) as u8;
+    bytes[36] = digit(i / 1000);
+    bytes[37] = digit(i / 100);
+    bytes[38] = digit(i / 10);
+    bytes[39] = digit(i);
     FileName::parse(&bytes).unwrap_or_default()
 }
 
@@ -37,8 +51,8 @@ fn some_runs(more: u32) -> Runs
     runs
 }
 
-// A version in one run more than `more`.
-pub(crate) fn entry(key: &Key, keep: u32, more: u32) -> Option<Entry>
+/// A version in one run more than `more`.
+pub fn entry(key: &Key, keep: u32, more: u32) -> Option<Entry>
     requires keep { keep ≤ 999 }
     requires more { more ≤ 7 }
     ensures entry { IfSome result (λ e. is_entry e ≡ true) }
@@ -59,8 +73,8 @@ pub(crate) fn entry(key: &Key, keep: u32, more: u32) -> Option<Entry>
     }
 }
 
-// The entry with the least later key.
-pub(crate) fn next_in(map: &Versions, after: &Option<Key>) -> Option<Entry> {
+/// The entry with the least later key.
+pub fn next_in(map: &Versions, after: &Option<Key>) -> Option<Entry> {
     for (key, entry) in map {
         let is_later = match after {
             Some(before) => before.cmp(key).is_lt(),
@@ -73,8 +87,8 @@ pub(crate) fn next_in(map: &Versions, after: &Option<Key>) -> Option<Entry> {
     None
 }
 
-// The entry with the highest version of a name.
-pub(crate) fn highest_in(map: &Versions, name: &FileName) -> Option<Entry> {
+/// The entry with the highest version of a name.
+pub fn highest_in(map: &Versions, name: &FileName) -> Option<Entry> {
     let mut highest = None;
     for (key, entry) in map {
         if key.name.cmp(name).is_eq() {
@@ -84,8 +98,8 @@ pub(crate) fn highest_in(map: &Versions, name: &FileName) -> Option<Entry> {
     highest
 }
 
-// How many versions a name has.
-pub(crate) fn count_in(map: &Versions, name: &FileName) -> u32 {
+/// How many versions a name has.
+pub fn count_in(map: &Versions, name: &FileName) -> u32 {
     let mut count = 0u32;
     for key in map.keys() {
         if key.name.cmp(name).is_eq() {
@@ -95,8 +109,8 @@ pub(crate) fn count_in(map: &Versions, name: &FileName) -> u32 {
     count
 }
 
-// The oldest versions of a name, so many and two at most.
-pub(crate) fn oldest_in(map: &Versions, name: &FileName, many: u32) -> ArrayVec<Key, 2> {
+/// The oldest versions of a name, so many and two at most.
+pub fn oldest_in(map: &Versions, name: &FileName, many: u32) -> ArrayVec<Key, 2> {
     let mut oldest = ArrayVec::new();
     for key in map.keys() {
         if oldest.len() < 2 && oldest.len() < many as usize && key.name.cmp(name).is_eq() {
