@@ -115,6 +115,16 @@ fn shrink(
     Ok(())
 }
 
+// What a walk answers, and the pages that it has marked.
+fn walked(
+    alloc: Global,
+    desk: &mut Desk,
+) -> Result<(Result<u32, TreeFault>, Vec<bool>), AllocError> {
+    let mut marks = vec![in alloc; false; desk.count() as usize]?;
+    let counted = desk.walk(&mut marks);
+    Ok((counted, marks))
+}
+
 // A walk marks the same pages in both, and counts as many entries.
 fn same_walk(
     rt: &impl Abort,
@@ -122,10 +132,10 @@ fn same_walk(
     desk: &mut Desk,
     pages: &mut VecPages,
 ) -> Result<(), Fail> {
-    let mut marks = vec![in alloc; false; desk.count() as usize]?;
     let mut want = vec![in alloc; false; pages.count() as usize]?;
     let counted = walk(pages, &mut want);
-    assert_eq!(rt; desk.walk(&mut marks), counted);
+    let (answer, marks) = walked(alloc, desk)?;
+    assert_eq!(rt; answer, counted);
     assert_eq!(rt; marks, want);
     Ok(())
 }
@@ -180,8 +190,8 @@ fn failed_walk(
     call: u64,
 ) -> Result<(Desk, u32, Vec<bool>), Fail> {
     let mut desk = desk.again(alloc, &[Event::FailCall { call, stand: 0 }])?;
-    let mut marks = vec![in alloc; false; desk.count() as usize]?;
-    let Err(TreeFault::Pages(Refusal::Device(place))) = desk.walk(&mut marks) else {
+    let (counted, marks) = walked(alloc, &mut desk)?;
+    let Err(TreeFault::Pages(Refusal::Device(place))) = counted else {
         return Err(Fail::new("no read has failed"));
     };
     same_walk(rt, alloc, &mut desk, pages)?;
