@@ -52,8 +52,10 @@ fn replace<T: Pages>(t: &mut T, entry: &Entry) -> Answer
         return Ok(None);
     }
     t.rest();
-    replace_same_size(t, entry)?;
-    Ok(Some((old.entry, old.page)))
+    match replace_same_size(t, entry) {
+        Ok(()) => Ok(Some((old.entry, old.page))),
+        Err(fault) => Err(fault),
+    }
 }
 
 /// Makes a call, with the whole leave to reach pages and to change them.

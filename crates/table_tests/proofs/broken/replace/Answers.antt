@@ -1,4 +1,4 @@
-use Rattle.std.proofs.Common.{◌≡◌, ◌∙◌, ap, subst, List, ℕ}
+use Rattle.std.proofs.Common.{◌≡◌, ap, subst, List, ℕ}
 use Rattle.fsd_table.specs.Table.{BreaksTable}
 use Rattle.fsd_table.specs.Tree.{IsTree}
 use Rattle.fsd_table.proofs.BreakLaws.{tree_unbroken}

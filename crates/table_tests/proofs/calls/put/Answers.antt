@@ -12,4 +12,4 @@ insert-requires-clause-new g c = λ trusted.
     let found = law.trust c.find.new.t c.rest.new.self _ c.rest.ensures.outside trusted in
     let same : after ≡ before = ap (λ (s : Step). s.images) c.rest.ensures.step ∙ c.in_ok-found.ensures.calls.stays found in
     still_new before after c.args.entry.now.key c.args.gone.now.items same
-    (none_found before c.args.entry.now.key c.in_ok-found.field-0 (sym c.is_some.ensures ∙ c.if-is_some.false) (c.in_ok-found.ensures.found found))
+    (none_found before c.args.entry.now.key c.in_ok-found.found (sym c.is_some.ensures ∙ c.if-is_some.false) (c.in_ok-found.ensures.found found))

@@ -17,14 +17,14 @@ replace_same_size-requires-clause-present g c = λ trusted.
     let long : length (entry_bytes old.entry) ≡ length (entry_bytes c.args.entry.now) = sym c.entry_len.ensures.value ∙ c.if-entry_len.false ∙ c.entry_len-2.ensures.value in
     still_as_long before after c.args.entry.now c.in_ok-old.field-0 old same c.in-Some.is (found.found is) long
 
-pub returns-in_err-replace_same_size : goal.returns-in_err-replace_same_size
-returns-in_err-replace_same_size g c =
+pub returns-in-Ok : goal.returns-in-Ok
+returns-in-Ok g c =
     let law = g.met.T.Pages in
     law.then c.args.t.now c.find.new.t c.replace_same_size.new.t _ c.in_ok-old.ensures.calls.outside
-    (law.then c.find.new.t c.rest.new.self c.replace_same_size.new.t _ c.rest.ensures.outside c.in_err-replace_same_size.ensures.calls.outside)
+    (law.then c.find.new.t c.rest.new.self c.replace_same_size.new.t _ c.rest.ensures.outside c.in-Ok.ensures.calls.outside)
 
-pub returns : goal.returns
-returns g c =
+pub returns-in-Err : goal.returns-in-Err
+returns-in-Err g c =
     let law = g.met.T.Pages in
     law.then c.args.t.now c.find.new.t c.replace_same_size.new.t _ c.in_ok-old.ensures.calls.outside
-    (law.then c.find.new.t c.rest.new.self c.replace_same_size.new.t _ c.rest.ensures.outside c.replace_same_size.ensures.calls.outside)
+    (law.then c.find.new.t c.rest.new.self c.replace_same_size.new.t _ c.rest.ensures.outside c.in-Err.ensures.calls.outside)
