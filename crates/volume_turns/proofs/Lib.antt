@@ -9,3 +9,7 @@ pub mod MountLaws
 pub mod OneShotLaws
 pub mod GroupLaws
 pub mod LineLaws
+pub mod HaltLaws
+pub mod WholeLaws
+pub mod CountLaws
+pub mod GroupEndLaws

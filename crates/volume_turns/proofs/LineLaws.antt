@@ -54,24 +54,24 @@ first_of : (turns : List Turn) → length turns ≡ 1 → IsSome (slice_get turn
 first_of [] one = cc one
 first_of (t ∷ turns) one = refl
 
-next_fault : (o : Option Turn) → IsSome o → (part : List ℕ) → SaysFault part → SaysNext o part
+pub next_fault : (o : Option Turn) → IsSome o → (part : List ℕ) → SaysFault part → SaysNext o part
 next_fault None some part fault = cc some
 next_fault (Some t) some part fault = inr fault
 
 -- ---- faults
 
-at_once_ends : (why : Fault) → EndsAtOnce why → MayEnd why
+pub at_once_ends : (why : Fault) → EndsAtOnce why → MayEnd why
 at_once_ends (Ends.Device s) once = tt
 at_once_ends Ends.Memory once = tt
 at_once_ends why once = absurd once
 
-excused : (i : Image) (fault : MountFault) → ExcusesOf i fault → MayEnd (fault_of fault)
+pub excused : (i : Image) (fault : MountFault) → ExcusesOf i fault → MayEnd (fault_of fault)
 excused i (Refused.Device s) why = tt
 excused i Refused.Memory why = tt
 excused i Refused.WornOut why = tt
 excused i fault why = absurd why
 
-said_ends : (why said : Fault) → MayEnd why → IsSaidFor why said → MayEnd said
+pub said_ends : (why said : Fault) → MayEnd why → IsSaidFor why said → MayEnd said
 said_ends why said may (inl is) = subst MayEnd (sym is) may
 said_ends why said may (inr is) = subst MayEnd (sym is) tt
 

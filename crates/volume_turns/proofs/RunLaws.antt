@@ -7,7 +7,7 @@ use Rattle.std.proofs.lemmas.List.{append-nil}
 use Rattle.sector_disk.specs.declared.machine.Machine.{Ghosts}
 use Rattle.sector_disk.specs.declared.sector.WeakRun.{WeakRun}
 use Rattle.sector_disk.specs.Image.{IsWorn, open_damage, AreShort}
-use Rattle.sector_disk.specs.Machine.{Moment, Report, LeavesOnly, UsesDisk, Utters}
+use Rattle.sector_disk.specs.Machine.{Moment, Report, LeavesOnly, UsesDisk, Utters, Wears}
 use Rattle.sector_disk.proofs.Moments.{started, then_on, leaves_more}
 use Rattle.fsd_files.specs.Answers.{Met, Outcome, entry_of}
 use Rattle.fsd_files.specs.Disk.{Image, Sectors, in_runs}
@@ -15,6 +15,7 @@ use Rattle.fsd_files.specs.Files.{Change}
 use Rattle.fsd_files.specs.Replies.{Reply}
 use Rattle.fsd_files.specs.Volume.{Volume, HasReach}
 use Rattle.fsd_sound.specs.Mounted.{Mounted}
+use Rattle.fsd_sound.specs.Sound.{IsSound}
 use Rattle.fsd_sound.proofs.MountedLaws.{mounted_sound, mounted_tells, mounted_reach}
 use Rattle.fsd_texts.specs.declared.command.Command.{Command}
 use Rattle.fsd_texts.specs.declared.command.Command.TheVariants as Word
@@ -32,7 +33,7 @@ use Rattle.volume_contract.specs.State.{State, Ages, Known, volume_of, forced_of
 use Rattle.volume_turns.specs.Steps.{Does, IsAnswered, Stays, device_told}
 use Rattle.volume_turns.specs.Turns.{Carries, Follows, InRun, RunsFrom, Runs, Steps, StepsBy, StepsOk, StandsBehind, EndsBy, Said, SaysAll, Unsaid, Behind, Told, Unheard, device_end, turn_by}
 use Rattle.volume_turns.proofs.ReadLaws.{some_earlier}
-use Rattle.volume_turns.proofs.TurnLaws.{in_before, in_saying, in_behind, enough_from, worn_state, state_worn}
+use Rattle.volume_turns.proofs.TurnLaws.{in_before, in_saying, in_behind, enough_from, said_before, said_more, said_nothing, worn_state, state_worn}
 
 -- what is found, from an earlier image on
 find_earlier : (may : ℕ → Bool) (i j k : Image) → IsWorn may i j → (v : Volume) (command : Command) (met : Met) → MayFind j k v command met → MayFind i k v command met
@@ -113,7 +114,7 @@ module _ {S D : Type 0} (state : S → State) (has : S → Mounted → List Plac
         pub in_both : (rest : List Turn) → LeavesOnly M.moment M.left_since a b (InRun k (turn ∷ rest) (M.now a))
         in_both rest = then_on M.moment M.left_since a m b (InRun k (turn ∷ rest) (M.now a)) (before_it (turn ∷ rest)) (leaves_more M.moment M.left_since m b (Utters (e.says reply) (M.now m)) (InRun k (turn ∷ rest) (M.now a)) (saying rest) run)
 
-        pub step_ok : SaysAll (e.says reply) (M.now m) (M.now b) → StepsOk state has M e k from command a b w
+        unfoldable pub step_ok : SaysAll (e.says reply) (M.now m) (M.now b) → StepsOk state has M e k from command a b w
         step_ok says = record {
           met = is.met;
           after = after;
@@ -128,13 +129,18 @@ module _ {S D : Type 0} (state : S → State) (has : S → Mounted → List Plac
           moments = in_both;
         }
 
+        worn_after : Wears (M.now m) (M.now b) → IsSound after.mounted.volume.layout after.windows after.changes (forced_of after) (M.now b).image
+        worn_after worn =
+            let at = wears w after (M.now m) (M.now b) (short m honest) (record { image = worn.image; windows = worn.windows }) stands in
+            mounted_sound after.mounted after.windows after.changes (forced_of after) (M.now b).image at.disk
+
         -- it was not said
         pub step_unsaid : (end : End) → Unsaid (M.now m) (M.now b) end → (more : List Command) → RunsFrom state has M e k from (command ∷ more) a b w (Err end)
         step_unsaid (Stopped Ends.Memory) unsaid more = record {
           mets = is.met ∷ [];
           goes = λ t le. ((M.now m).image, step_is t le, tt);
           moments = in_both;
-          ends = (tt, record { whole = 0; most = omega arith; said = unsaid.said ∙ disk.quiet honest ∙ sym (append-nil (M.now a).said) });
+          ends = (tt, said_before k after turn [] behind_it.layout behind_it.windows behind_it.changes (forced_of after) behind_it.least (M.now a) (M.now b) (unsaid.windows ∙ disk.windows honest) (worn_after unsaid) (unsaid.said ∙ disk.quiet honest));
         }
         step_unsaid Output unsaid more = record { mets = is.met ∷ []; goes = λ t le. ((M.now m).image, step_is t le, tt); moments = in_both; ends = tt }
         step_unsaid (Stopped fault) unsaid more = absurd unsaid
@@ -151,13 +157,13 @@ module _ {S D : Type 0} (state : S → State) (has : S → Mounted → List Plac
       mets = [];
       goes = λ t le. tt;
       moments = before_it;
-      ends = (tt, record { whole = 0; most = omega arith; said = disk.quiet honest ∙ sym (append-nil (M.now a).said) });
+      ends = (tt, said_nothing k (M.now a) (M.now m) (disk.exit honest k stood));
     }
     step_fault Ends.Memory does more = record {
       mets = [];
       goes = λ t le. tt;
       moments = before_it;
-      ends = (tt, record { whole = 0; most = omega arith; said = disk.quiet honest ∙ sym (append-nil (M.now a).said) });
+      ends = (tt, said_nothing k (M.now a) (M.now m) (disk.exit honest k stood));
     }
     step_fault Ends.WornOut does more = record {
       mets = [];
@@ -201,7 +207,7 @@ follows_then M a b c x y = record {
 }
 
 module _ {S D : Type 0} (state : S → State) (has : S → Mounted → List Placed → Type 0) (M : Ghosts D) (e : Errand) where
-  pub runs_nil : (v : S) (a : D) → ((s : S) (k : Known) (old new : Moment) → AreShort old.windows → Ages old new → Stands state has s k old → Stands state has s k new)
+  unfoldable pub runs_nil : (v : S) (a : D) → ((s : S) (k : Known) (old new : Moment) → AreShort old.windows → Ages old new → Stands state has s k old → Stands state has s k new)
       → (M.honest a → (left : Moment) → M.left_since a (M.moment a) left → left ≡ M.now a) → (M.honest a → (from : Moment) → Ages from (M.now a) → AreShort from.windows) → Runs state has M e [] v a v a (Ok tt)
   runs_nil v a wears only short honest k from stood aged =
       let now = wears v k from (M.now a) (short honest from aged) aged stood in
@@ -268,13 +274,8 @@ module _ {S D : Type 0} (state : S → State) (has : S → Mounted → List Plac
         stands = x.stands;
       }
 
-      said_behind : Said (turns_begun e rest.mets (volume_of ok.after) commands) (M.now m) (M.now b) → Said (this_turn ∷ turns) (M.now a) (M.now b)
-      said_behind x = record {
-        whole = suc x.whole;
-        most = let long = ap (λ (ts : List Turn). length ts) same_turns in let most = x.most in omega (arith, long, most);
-        said = x.said ∙ ap (λ (y : List ℕ). y ++ said_in (take x.whole (turns_begun e rest.mets (volume_of ok.after) commands))) ok.said
-            ∙ append_assoc (M.now a).said this_turn.said (said_in (take x.whole (turns_begun e rest.mets (volume_of ok.after) commands))) ∙ ap (λ (ts : List Turn). (M.now a).said ++ (this_turn.said ++ said_in (take x.whole ts))) same_turns;
-      }
+      said_behind : Said ok.after (turns_begun e rest.mets (volume_of ok.after) commands) (M.now m) (M.now b) → Said k (this_turn ∷ turns) (M.now a) (M.now b)
+      said_behind x = said_more k ok.after this_turn turns ok.carries (M.now a) (M.now m) (M.now b) ok.open_windows ok.said (subst (λ (ts : List Turn). Said ok.after ts (M.now m) (M.now b)) same_turns x)
 
       ends : (r : Result (Unit {0}) End) → EndsBy state has e ok.after rest.mets commands z (M.now m) (M.now b) r → EndsBy state has e k (ok.met ∷ rest.mets) (command ∷ commands) z (M.now a) (M.now b) r
       ends (Ok x) is = (ap (λ (n : ℕ). suc n) is.0, stands_behind is.1)
@@ -282,7 +283,7 @@ module _ {S D : Type 0} (state : S → State) (has : S → Mounted → List Plac
       ends (Err Output) is = tt
       ends (Err (Stopped fault)) is = (is.0, said_behind is.1)
 
-      pub from_both : RunsFrom state has M e k from (command ∷ commands) a b z result
+      unfoldable pub from_both : RunsFrom state has M e k from (command ∷ commands) a b z result
       from_both = record { mets = ok.met ∷ rest.mets; goes = goes; moments = moments; ends = ends result rest.ends }
 
     pub runs_then : Runs state has M e (command ∷ commands) v a z b result

@@ -3,13 +3,14 @@ use Rattle.std.specs.Prelude.{◌≡◌, ◌⊎◌, ⊤, ℕ, ◌<◌, ◌≤◌
 use Rattle.fsd_bytes.specs.declared.refusal.Refusal.{Refusal}
 use Rattle.fsd_bytes.specs.declared.refusal.Refusal.TheVariants as Why
 use Rattle.sector_disk.specs.declared.machine.Machine.{Ghosts}
+use Rattle.sector_disk.specs.Image.{AllWorn}
 use Rattle.sector_disk.specs.Machine.{Moment, LeavesOnly}
 use Rattle.fsd_files.specs.Answers.{Met}
 use Rattle.fsd_files.specs.Disk.{Image, in_runs}
 use Rattle.fsd_files.specs.Volume.{Volume}
 use Rattle.fsd_sound.specs.Mounted.{telling_of}
 use Rattle.fsd_sound.specs.Shown.{told}
-use Rattle.fsd_sound.specs.Sound.{IsSound}
+use Rattle.fsd_sound.specs.Sound.{IsSound, weak_of}
 use Rattle.fsd_texts.specs.declared.command.Command.{Command}
 use Rattle.fsd_texts.specs.declared.fault.Fault.{Fault}
 use Rattle.fsd_texts.specs.declared.fault.Fault.TheVariants as Ends
@@ -58,16 +59,17 @@ pub record InClose (k : Known) (text : List ℕ) (old left : Moment) : Type 0 wh
   pub said : left.said ≡ old.said ++ take heard text
   pub all : 0 < heard → forced ≡ length k.changes
 
--- All is said.
+-- All is said. The disk's own table is the volume's, however it wears.
 pub record SaysClosed (k : Known) (text : List ℕ) (old new : Moment) : Type 0 where
   pub windows : new.windows ≡ old.windows
   pub said : new.said ≡ old.said ++ text
   pub sound : IsSound k.mounted.volume.layout k.windows k.changes (length k.changes) new.image
   pub tells : told k.mounted.volume.layout new.image ≡ Some (telling_of (volume_of k))
+  pub lasts : AllWorn (weak_of k.windows) (λ j. told k.mounted.volume.layout j ≡ Some (telling_of (volume_of k))) new.image
 
 abbrev pub EndsClosed : Known → List ℕ → (old new : Moment) → Result (Unit {0}) End → Type 0
 EndsClosed k text old new (Ok x) = SaysClosed k text old new
-EndsClosed k text old new (Err (Stopped fault)) = EndsAtOnce fault × (new.said ≡ old.said)
+EndsClosed k text old new (Err (Stopped fault)) = EndsAtOnce fault × (new.said ≡ old.said) × InClose k text old new
 EndsClosed k text old new (Err Output) = ⊤
 
 pub record ClosesAndSays {D : Type 0} (M : Ghosts D) (k : Known) (text : List ℕ) (a b : D) (result : Result (Unit {0}) End) : Type 0 where
@@ -81,12 +83,13 @@ abbrev pub unit_of : {T : Type 0} → Result T End → Result (Unit {0}) End
 unit_of (Ok x) = Ok tt
 unit_of (Err end) = Err end
 
--- All is said, and all is forced: the disk's own table is that of the volume behind it.
+-- All is said, and all is forced: the disk's own table is that of the volume behind it, however it wears.
 pub record IsDone (k : Known) (turns : List Turn) (after : Volume) (old new : Moment) : Type 0 where
   pub windows : new.windows ≡ old.windows
   pub said : new.said ≡ old.said ++ said_in turns
   pub sound : IsSound k.mounted.volume.layout k.windows (k.changes ++ changes_in turns) (length (k.changes ++ changes_in turns)) new.image
   pub tells : told k.mounted.volume.layout new.image ≡ Some (telling_of after)
+  pub lasts : AllWorn (weak_of k.windows) (λ j. told k.mounted.volume.layout j ≡ Some (telling_of after)) new.image
 
 -- the status of its reply
 abbrev pub status_alone : Command → List Met → Volume → ℕ

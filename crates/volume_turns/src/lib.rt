@@ -4,14 +4,17 @@
 
 mod answer;
 mod commands;
+mod generate;
 mod group;
 mod line;
 mod listing;
 mod once;
+mod tally;
 mod turns;
 mod whole;
 
 pub use answer::Answer;
+pub use generate::run_generate;
 pub use group::group_run;
 pub use once::{alone, one_shot};
 pub use turns::{End, Says};

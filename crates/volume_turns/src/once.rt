@@ -24,7 +24,7 @@ use std::alloc::Global;
 use volume_contract::Files;
 
 // Why a close has failed.
-fn close_fault(why: Refusal) -> Fault
+pub(crate) fn close_fault(why: Refusal) -> Fault
     ensures { result ≡ close_fault why }
 {
     match why {
@@ -108,7 +108,7 @@ pub fn alone<M: Machine, V: Files<M> + Drop, T: Says>(
 }
 
 // What a refused mount says.
-fn fault_of(fault: MountFault) -> Fault
+pub(crate) fn fault_of(fault: MountFault) -> Fault
     ensures { result ≡ fault_of fault }
 {
     match fault {

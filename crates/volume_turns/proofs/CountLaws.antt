@@ -1,0 +1,157 @@
+-- Commands that are counted as they are done.
+use Rattle.std.proofs.Common.{◌≡◌, ℕ, zero, suc, ◌+◌, ◌≤◌, List, [], ◌∷◌, ◌++◌, length, Option, refl, sym, ◌∙◌, ap, subst, arith}
+use Rattle.fsd_log.specs.Scan.{Placed}
+use Rattle.std.specs.Prelude.{IsTrue, Result, Ok, Err, IfOk}
+use Rattle.std.specs.List.{sum_by}
+use Rattle.std.proofs.lemmas.List.{append-nil}
+use Rattle.std.proofs.lemmas.List.Sums.{sum_by-cons}
+use Rattle.sector_disk.specs.declared.machine.Machine.{Ghosts}
+use Rattle.sector_disk.specs.Calls.{Since, WritesDisk}
+use Rattle.sector_disk.specs.Image.{AreShort, open_damage}
+use Rattle.sector_disk.specs.Machine.{LeavesOnly, Moment, Utters}
+use Rattle.sector_disk.proofs.Moments.{started}
+use Rattle.sector_disk.proofs.Wear.{worn_refl}
+use Rattle.fsd_files.specs.Answers.{Met}
+use Rattle.fsd_files.specs.Replies.{Reply}
+use Rattle.fsd_files.specs.Volume.{Volume}
+use Rattle.fsd_sound.specs.Mounted.{Mounted}
+use Rattle.fsd_sound.proofs.MountedLaws.{mounted_sound}
+use Rattle.fsd_texts.specs.declared.command.Command.{Command}
+use Rattle.fsd_texts.specs.declared.fault.Fault.{Fault}
+use Rattle.fsd_texts.specs.declared.fault.Fault.TheVariants as Ends
+use Rattle.fsd_texts.specs.declared.line.Line.{Line}
+use Rattle.fsd_texts.specs.declared.line.Line.TheVariants as Says
+use Rattle.fsd_texts.specs.Generator.{made_from, next_state}
+use Rattle.fsd_runs.specs.Commands.{answer}
+use Rattle.fsd_runs.specs.Errands.{Answered, answered_so, bytes_moved, generated_line, is_deleted, is_kept, is_made, is_read, is_refused}
+use Rattle.fsd_runs.specs.Runs.{answered}
+use Rattle.volume_contract.specs.State.{State, Ages, Known, Stands, forced_of, volume_of}
+use Rattle.volume_turns.specs.declared.turns.End.{End}
+use Rattle.volume_turns.specs.declared.turns.End.TheVariants.{Fault as Stopped}
+use Rattle.volume_turns.specs.Generate.{CountedRun, CountedStep, RunsCounted, StepsCounted, StepsCountedBy, silent}
+use Rattle.volume_turns.specs.Once.{unit_of}
+use Rattle.volume_turns.specs.Steps.{Does, IsAnswered, Stays}
+use Rattle.volume_turns.specs.Tally.{Counting, all_counted, counted, counting_line, nothing}
+use Rattle.volume_turns.specs.Turns.{Follows, InRun, Runs, RunsFrom, SaysAll, Steps, StepsOk}
+use Rattle.volume_turns.proofs.RunLaws.{from_both, reply_is, runs_nil, step_fault, step_ok, step_unsaid}
+use Rattle.volume_turns.proofs.TurnLaws.{in_before, said_nothing}
+
+-- ---- counts
+
+-- a field that grows by something with each
+field_is : (f : Counting → ℕ) (g : Answered → ℕ) → ((t : Counting) (p : Answered) → f (counted t p) ≡ f t + g p) → (t : Counting) (done : List Answered) → f (all_counted t done) ≡ f t + sum_by g done
+field_is f g grows t [] = omega arith
+field_is f g grows t (p ∷ done) =
+    let rest = field_is f g grows (counted t p) done in
+    let one = grows t p in
+    let sum = sum_by-cons g p done in
+    omega (arith, rest, one, sum)
+
+-- from none on
+sum_is : (f : Counting → ℕ) (g : Answered → ℕ) → ((t : Counting) (p : Answered) → f (counted t p) ≡ f t + g p) → f nothing ≡ 0 → (done : List Answered) → f (all_counted nothing done) ≡ sum_by g done
+sum_is f g grows none done = let all = field_is f g grows nothing done in omega (arith, all, none)
+
+count_is : (t : Counting) (done : List Answered) → (all_counted t done).count ≡ t.count + length done
+count_is t [] = omega arith
+count_is t (p ∷ done) = let rest = count_is (counted t p) done in omega (arith, rest)
+
+pub line_is : (done : List Answered) → counting_line (all_counted nothing done) ≡ generated_line done
+line_is done =
+    let t = all_counted nothing done in
+    let made = sum_is (λ x. x.made) (λ p. is_made p.reply) (λ t p. refl) refl done in
+    let deleted = sum_is (λ x. x.deleted) (λ p. is_deleted p.reply) (λ t p. refl) refl done in
+    let kept = sum_is (λ x. x.kept) (λ p. is_kept p.reply) (λ t p. refl) refl done in
+    let read = sum_is (λ x. x.read) (λ p. is_read p.reply) (λ t p. refl) refl done in
+    let bytes = sum_is (λ x. x.bytes) (λ p. bytes_moved p.command p.reply) (λ t p. refl) refl done in
+    let refused = sum_is (λ x. x.refused) (λ p. is_refused p.reply) (λ t p. refl) refl done in
+    let count : t.count ≡ length done = let all = count_is nothing done in omega (arith, all) in
+    ap (λ (n : ℕ). Says.Generated n t.made t.deleted t.kept t.read t.bytes t.refused) count
+    ∙ ap (λ (n : ℕ). Says.Generated (length done) n t.deleted t.kept t.read t.bytes t.refused) made
+    ∙ ap (λ (n : ℕ). Says.Generated (length done) (sum_by (λ p. is_made p.reply) done) n t.kept t.read t.bytes t.refused) deleted
+    ∙ ap (λ (n : ℕ). Says.Generated (length done) (sum_by (λ p. is_made p.reply) done) (sum_by (λ p. is_deleted p.reply) done) n t.read t.bytes t.refused) kept
+    ∙ ap (λ (n : ℕ). Says.Generated (length done) (sum_by (λ p. is_made p.reply) done) (sum_by (λ p. is_deleted p.reply) done) (sum_by (λ p. is_kept p.reply) done) n t.bytes t.refused) read
+    ∙ ap (λ (n : ℕ). Says.Generated (length done) (sum_by (λ p. is_made p.reply) done) (sum_by (λ p. is_deleted p.reply) done) (sum_by (λ p. is_kept p.reply) done) (sum_by (λ p. is_read p.reply) done) n t.refused) bytes
+    ∙ ap (λ (n : ℕ). Says.Generated (length done) (sum_by (λ p. is_made p.reply) done) (sum_by (λ p. is_deleted p.reply) done) (sum_by (λ p. is_kept p.reply) done) (sum_by (λ p. is_read p.reply) done) (sum_by (λ p. bytes_moved p.command p.reply) done) n) refused
+
+-- so many commands are made up
+pub made_length : (count i x : ℕ) → length (made_from count i x) ≡ count
+made_length zero i x = refl
+made_length (suc count) i x = ap (λ (n : ℕ). suc n) (made_length count (i + 1) (next_state x))
+
+never : (met : Met) (v : Volume) (c : Command) → IsTrue (silent.forces (answer met v c).0) → (answer met v c).1.unforced ≡ 0
+never met v c is = cc is
+
+-- ---- one command, and nothing said
+
+module _ {S D : Type 0} (state : S → State) (has : S → Mounted → List Placed → Type 0) (M : Ghosts D)
+    (wears : (s : S) (k : Known) (old new : Moment) → AreShort old.windows → Ages old new → Stands state has s k old → Stands state has s k new)
+    (short : (m : D) → M.honest m → AreShort (M.now m).windows)
+    (counts_now : (m : D) (t : ℕ) → M.honest m → t ≤ M.moment m → M.left_since m t (M.now m))
+    (command : Command) (v w : S) (a m : D) (k : Known) (from : Moment) (stood_from : Stands state has v k from) (aged : Ages from (M.now a)) (stood : Stands state has v k (M.now a))
+    (fault : Option ℕ) (disk : WritesDisk M fault (Stays state has v) a m) (layout : (state w).layout ≡ (state v).layout) (honest : M.honest m) where
+  still : Since M m m
+  still t left le was = was
+
+  module _ (only : (left : Moment) → M.left_since m (M.moment m) left → left ≡ M.now m) (after : Known) (reply : Reply) (is : IsAnswered command (state v) k after (M.now a).image (M.now m).image reply) (stands : Stands state has w after (M.now m)) where
+    run : LeavesOnly M.moment M.left_since m m (Utters (silent.says reply) (M.now m))
+    run = started M.moment M.left_since m (M.now m) (Utters (silent.says reply) (M.now m)) only (record { image = worn_refl (open_damage (M.now m).windows) (M.now m).image; windows = refl; heard = 0; said = sym (append-nil (M.now m).said) })
+
+    pub counted_step : (t u : Counting) → u ≡ counted t (answered_so command reply) → CountedStep state has M k from command a m w t u
+    unfolding step_ok
+    counted_step t u counts = record {
+      step = step_ok state has M wears short counts_now silent never command v w a m m k from stood_from aged stood fault disk layout honest still after reply is stands run
+          (record { ages = record { image = worn_refl (open_damage (M.now m).windows) (M.now m).image; windows = refl }; said = sym (append-nil (M.now m).said) });
+      counts = counts ∙ ap (λ (r : Reply). counted t (answered_so command r)) (sym (reply_is state has M wears short counts_now silent never command v w a m m k from stood_from aged stood fault disk layout honest still after reply is stands));
+    }
+
+    -- its bytes have no sum
+    pub counted_none : (why : Fault) → why ≡ Ends.Memory → (more : List Command) → RunsFrom state has M silent k from (command ∷ more) a m w (Err (Stopped why))
+    counted_none why is_memory more = subst (λ (x : Fault). RunsFrom state has M silent k from (command ∷ more) a m w (Err (Stopped x))) (sym is_memory)
+        (step_unsaid state has M wears short counts_now silent never command v w a m m k from stood_from aged stood fault disk layout honest still after reply is stands run (Stopped Ends.Memory)
+        (record { image = worn_refl (open_damage (M.now m).windows) (M.now m).image; windows = refl; said = refl }) more)
+
+  pub counted_fault : (why : Fault) → Does state has command v w k (M.now a) (M.now m) (Err why) → (more : List Command) → RunsFrom state has M silent k from (command ∷ more) a m w (Err (Stopped why))
+  counted_fault why does more = step_fault state has M wears short counts_now silent never command v w a m m k from stood_from aged stood fault disk layout honest still why does more
+
+-- ---- one after another
+
+module _ {S D : Type 0} (state : S → State) (has : S → Mounted → List Placed → Type 0) (M : Ghosts D) where
+  pub counted_nil : (v : S) (a : D) → ((s : S) (k : Known) (old new : Moment) → AreShort old.windows → Ages old new → Stands state has s k old → Stands state has s k new)
+      → (M.honest a → (left : Moment) → M.left_since a (M.moment a) left → left ≡ M.now a) → (M.honest a → (from : Moment) → Ages from (M.now a) → AreShort from.windows) → (t : Counting) → RunsCounted state has M [] v a v a t (Ok t)
+  unfolding runs_nil
+  counted_nil v a wears only short t honest k from stood aged = record { ran = runs_nil state has M silent v a wears only short honest k from stood aged; counts = refl }
+
+  pub counted_then : (command : Command) (commands : List Command) (v w z : S) (a m b : D) (t u : Counting) (result : Result Counting End) → Follows M m b → (M.honest m → M.moment a ≤ M.moment m)
+      → StepsCounted state has M command v a w m t (Ok u) → RunsCounted state has M commands w m z b u result → RunsCounted state has M (command ∷ commands) v a z b t result
+  unfolding from_both
+  counted_then command commands v w z a m b t u result follows later steps runs honest k from stood aged =
+      let one : CountedStep state has M k from command a m w t u = steps (follows.honest honest) k from stood aged in
+      let rest : CountedRun state has M one.step.after one.step.mid commands m b z u result = runs honest one.step.after one.step.mid one.step.stands one.step.ages in
+      record {
+        ran = from_both state has M silent command commands v w z a m b (unit_of result) follows later (λ h x f s g. (steps h x f s g).step) (λ h x f s g. (runs h x f s g).ran) honest k from stood aged;
+        counts = on result one rest rest.counts;
+      }
+    where
+      on : (r : Result Counting End) (one : CountedStep state has M k from command a m w t u) (rest : CountedRun state has M one.step.after one.step.mid commands m b z u result)
+          → IfOk r (λ x. x ≡ all_counted u (answered rest.ran.mets (volume_of one.step.after) commands))
+          → IfOk r (λ x. x ≡ all_counted t (answered (one.step.met ∷ rest.ran.mets) (volume_of k) (command ∷ commands)))
+      on (Ok x) one rest is = is ∙ ap (λ (y : Volume). all_counted u (answered rest.ran.mets y commands)) one.step.is
+          ∙ ap (λ (y : Counting). all_counted y (answered rest.ran.mets (answer one.step.met (volume_of k) command).1 commands)) one.counts
+      on (Err end) one rest is = tt
+
+  -- one that ends them
+  pub counted_stop : (commands : List Command) (v z : S) (a b : D) (t : Counting) (end : End) → Runs state has M silent commands v a z b (Err end) → RunsCounted state has M commands v a z b t (Err end)
+  counted_stop commands v z a b t end runs honest k from stood aged = record { ran = runs honest k from stood aged; counts = tt }
+
+  -- memory was refused for the next of them
+  pub counted_refused : (commands : List Command) (v : S) (a : D) → ((s : S) (k : Known) (old new : Moment) → AreShort old.windows → Ages old new → Stands state has s k old → Stands state has s k new)
+      → (M.honest a → (left : Moment) → M.left_since a (M.moment a) left → left ≡ M.now a) → (M.honest a → (from : Moment) → Ages from (M.now a) → AreShort from.windows) → Runs state has M silent commands v a v a (Err (Stopped Ends.Memory))
+  counted_refused commands v a wears only short honest k from stood aged =
+      let now = wears v k from (M.now a) (short honest from aged) aged stood in
+      let sound = mounted_sound k.mounted k.windows k.changes (forced_of k) (M.now a).image now.disk in
+      record {
+        mets = [];
+        goes = λ t le. tt;
+        moments = λ rest. started M.moment M.left_since a (M.now a) (InRun k rest (M.now a)) (only honest) (in_before k rest (M.now a) (M.now a) (record { sound = sound; windows = refl; said = refl }));
+        ends = (tt, said_nothing k (M.now a) (M.now a) (record { sound = sound; windows = refl; said = refl }));
+      }
