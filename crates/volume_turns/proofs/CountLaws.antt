@@ -8,7 +8,8 @@ use Rattle.std.proofs.lemmas.List.Sums.{sum_by-cons}
 use Rattle.sector_disk.specs.declared.machine.Machine.{Ghosts}
 use Rattle.sector_disk.specs.Calls.{Since, WritesDisk}
 use Rattle.sector_disk.specs.Image.{AreShort, open_damage}
-use Rattle.sector_disk.specs.Machine.{LeavesOnly, Moment, Utters}
+use Rattle.sector_disk.specs.Machine.{LeavesOnly, Moment, Report, Utters}
+use Rattle.sector_disk.proofs.CallLaws.{faults_then}
 use Rattle.sector_disk.proofs.Moments.{started}
 use Rattle.sector_disk.proofs.Wear.{worn_refl}
 use Rattle.fsd_files.specs.Answers.{Met}
@@ -27,13 +28,13 @@ use Rattle.fsd_runs.specs.Errands.{Answered, answered_so, bytes_moved, generated
 use Rattle.fsd_runs.specs.Runs.{answered}
 use Rattle.volume_contract.specs.State.{State, Ages, Known, Stands, forced_of, volume_of}
 use Rattle.volume_turns.specs.declared.turns.End.{End}
-use Rattle.volume_turns.specs.declared.turns.End.TheVariants.{Fault as Stopped}
+use Rattle.volume_turns.specs.declared.turns.End.TheVariants.{Fault as Stopped, Output}
 use Rattle.volume_turns.specs.Generate.{CountedRun, CountedStep, RunsCounted, StepsCounted, StepsCountedBy, silent}
 use Rattle.volume_turns.specs.Once.{unit_of}
 use Rattle.volume_turns.specs.Steps.{Does, IsAnswered, Stays}
 use Rattle.volume_turns.specs.Tally.{Counting, all_counted, counted, counting_line, nothing}
-use Rattle.volume_turns.specs.Turns.{Follows, InRun, Runs, RunsFrom, SaysAll, Steps, StepsOk}
-use Rattle.volume_turns.proofs.RunLaws.{from_both, reply_is, runs_nil, step_fault, step_ok, step_unsaid}
+use Rattle.volume_turns.specs.Turns.{Follows, InRun, Told, Unheard, device_end, Runs, RunsFrom, SaysAll, Steps, StepsOk}
+use Rattle.volume_turns.proofs.RunLaws.{from_both, from_both_mets, reply_is, runs_nil, runs_nil_mets, step_fault, step_ok, step_ok_met, step_unsaid}
 use Rattle.volume_turns.proofs.TurnLaws.{in_before, said_nothing}
 
 -- ---- counts
@@ -78,6 +79,11 @@ pub made_length : (count i x : ℕ) → length (made_from count i x) ≡ count
 made_length zero i x = refl
 made_length (suc count) i x = ap (λ (n : ℕ). suc n) (made_length count (i + 1) (next_state x))
 
+-- none is left
+pub none_left : (commands : List Command) → length commands ≡ 0 → commands ≡ []
+none_left [] none = refl
+none_left (c ∷ commands) none = cc none
+
 never : (met : Met) (v : Volume) (c : Command) → IsTrue (silent.forces (answer met v c).0) → (answer met v c).1.unforced ≡ 0
 never met v c is = cc is
 
@@ -96,12 +102,17 @@ module _ {S D : Type 0} (state : S → State) (has : S → Mounted → List Plac
     run : LeavesOnly M.moment M.left_since m m (Utters (silent.says reply) (M.now m))
     run = started M.moment M.left_since m (M.now m) (Utters (silent.says reply) (M.now m)) only (record { image = worn_refl (open_damage (M.now m).windows) (M.now m).image; windows = refl; heard = 0; said = sym (append-nil (M.now m).said) })
 
+    says : SaysAll (silent.says reply) (M.now m) (M.now m)
+    says = record { ages = record { image = worn_refl (open_damage (M.now m).windows) (M.now m).image; windows = refl }; said = sym (append-nil (M.now m).said) }
+
+    met_is : (step_ok state has M wears short counts_now silent never command v w a m m k from stood_from aged stood fault disk layout honest still after reply is stands run says).met ≡ is.met
+    met_is = step_ok_met state has M wears short counts_now silent never command v w a m m k from stood_from aged stood fault disk layout honest still after reply is stands run says
+
     pub counted_step : (t u : Counting) → u ≡ counted t (answered_so command reply) → CountedStep state has M k from command a m w t u
-    unfolding step_ok
     counted_step t u counts = record {
-      step = step_ok state has M wears short counts_now silent never command v w a m m k from stood_from aged stood fault disk layout honest still after reply is stands run
-          (record { ages = record { image = worn_refl (open_damage (M.now m).windows) (M.now m).image; windows = refl }; said = sym (append-nil (M.now m).said) });
-      counts = counts ∙ ap (λ (r : Reply). counted t (answered_so command r)) (sym (reply_is state has M wears short counts_now silent never command v w a m m k from stood_from aged stood fault disk layout honest still after reply is stands));
+      step = step_ok state has M wears short counts_now silent never command v w a m m k from stood_from aged stood fault disk layout honest still after reply is stands run says;
+      counts = counts ∙ ap (λ (r : Reply). counted t (answered_so command r)) (sym (reply_is state has M wears short counts_now silent never command v w a m m k from stood_from aged stood fault disk layout honest still after reply is stands))
+          ∙ ap (λ (x : Met). counted t (answered_so command (answer x (volume_of k) command).0)) (sym met_is);
     }
 
     -- its bytes have no sum
@@ -118,18 +129,22 @@ module _ {S D : Type 0} (state : S → State) (has : S → Mounted → List Plac
 module _ {S D : Type 0} (state : S → State) (has : S → Mounted → List Placed → Type 0) (M : Ghosts D) where
   pub counted_nil : (v : S) (a : D) → ((s : S) (k : Known) (old new : Moment) → AreShort old.windows → Ages old new → Stands state has s k old → Stands state has s k new)
       → (M.honest a → (left : Moment) → M.left_since a (M.moment a) left → left ≡ M.now a) → (M.honest a → (from : Moment) → Ages from (M.now a) → AreShort from.windows) → (t : Counting) → RunsCounted state has M [] v a v a t (Ok t)
-  unfolding runs_nil
-  counted_nil v a wears only short t honest k from stood aged = record { ran = runs_nil state has M silent v a wears only short honest k from stood aged; counts = refl }
+  counted_nil v a wears only short t honest k from stood aged = record {
+    ran = runs_nil state has M silent v a wears only short honest k from stood aged;
+    counts = ap (λ (mets : List Met). all_counted t (answered mets (volume_of k) [])) (sym (runs_nil_mets state has M silent v a wears only short honest k from stood aged));
+  }
 
   pub counted_then : (command : Command) (commands : List Command) (v w z : S) (a m b : D) (t u : Counting) (result : Result Counting End) → Follows M m b → (M.honest m → M.moment a ≤ M.moment m)
       → StepsCounted state has M command v a w m t (Ok u) → RunsCounted state has M commands w m z b u result → RunsCounted state has M (command ∷ commands) v a z b t result
-  unfolding from_both
   counted_then command commands v w z a m b t u result follows later steps runs honest k from stood aged =
       let one : CountedStep state has M k from command a m w t u = steps (follows.honest honest) k from stood aged in
       let rest : CountedRun state has M one.step.after one.step.mid commands m b z u result = runs honest one.step.after one.step.mid one.step.stands one.step.ages in
+      let took : Runs state has M silent commands w m z b (unit_of result) = λ h x f s g. (runs h x f s g).ran in
+      let step : Steps state has M silent command v a w m (Ok tt) = λ h x f s g. (steps h x f s g).step in
       record {
-        ran = from_both state has M silent command commands v w z a m b (unit_of result) follows later (λ h x f s g. (steps h x f s g).step) (λ h x f s g. (runs h x f s g).ran) honest k from stood aged;
-        counts = on result one rest rest.counts;
+        ran = from_both state has M silent command commands v w z a m b (unit_of result) follows later step took honest k from stood aged;
+        counts = subst (λ (mets : List Met). IfOk result (λ x. x ≡ all_counted t (answered mets (volume_of k) (command ∷ commands)))) (sym (from_both_mets state has M silent command commands v w z a m b (unit_of result) follows later step took honest k from stood aged))
+            (on result one rest rest.counts);
       }
     where
       on : (r : Result Counting End) (one : CountedStep state has M k from command a m w t u) (rest : CountedRun state has M one.step.after one.step.mid commands m b z u result)
@@ -155,3 +170,29 @@ module _ {S D : Type 0} (state : S → State) (has : S → Mounted → List Plac
         moments = λ rest. started M.moment M.left_since a (M.now a) (InRun k rest (M.now a)) (only honest) (in_before k rest (M.now a) (M.now a) (record { sound = sound; windows = refl; said = refl }));
         ends = (tt, said_nothing k (M.now a) (M.now a) (record { sound = sound; windows = refl; said = refl }));
       }
+
+-- ---- what is counted of faults
+
+unheard_on : {T : Type 0} (a b c : Report) → a.output_faults ≤ b.output_faults → (r : Result T End) → Unheard b c r → Unheard a c r
+unheard_on a b c later (Err Output) rose = omega (arith, later, rose)
+unheard_on a b c later (Err (Stopped fault)) rose = tt
+unheard_on a b c later (Ok u) rose = tt
+
+pub told_more : {T U : Type 0} (a b c : Report) (u : U) (r : Result T End) → Told {T = U} a b (Ok u) → Told {T = T} b c r → Told {T = T} a c r
+told_more a b c u r x y = record {
+  sectors = y.sectors ∙ x.sectors;
+  disk = faults_then (device_end r) a b c x.disk y.disk;
+  input = y.input ∙ x.input;
+  later = let p = x.later in let q = y.later in omega (arith, p, q);
+  output = unheard_on a b c x.later r y.output;
+}
+
+pub told_all : {T U : Type 0} (a b : Report) (t : T) (u : U) → Told {T = T} a b (Ok t) → Told {T = U} a b (Ok u)
+told_all a b t u x = record { sectors = x.sectors; disk = x.disk; input = x.input; later = x.later; output = tt }
+
+pub told_end : {T U : Type 0} (a b : Report) (end : End) → Told {T = T} a b (Err end) → Told {T = U} a b (Err end)
+told_end a b (Stopped fault) x = record { sectors = x.sectors; disk = x.disk; input = x.input; later = x.later; output = tt }
+told_end a b Output x = record { sectors = x.sectors; disk = x.disk; input = x.input; later = x.later; output = x.output }
+
+pub told_none : (a : Report) → Told {T = Unit {0}} a a (Ok tt)
+told_none a = record { sectors = refl; disk = (refl, refl); input = refl; later = omega arith; output = tt }

@@ -114,7 +114,7 @@ module _ {S D : Type 0} (state : S → State) (has : S → Mounted → List Plac
         pub in_both : (rest : List Turn) → LeavesOnly M.moment M.left_since a b (InRun k (turn ∷ rest) (M.now a))
         in_both rest = then_on M.moment M.left_since a m b (InRun k (turn ∷ rest) (M.now a)) (before_it (turn ∷ rest)) (leaves_more M.moment M.left_since m b (Utters (e.says reply) (M.now m)) (InRun k (turn ∷ rest) (M.now a)) (saying rest) run)
 
-        unfoldable pub step_ok : SaysAll (e.says reply) (M.now m) (M.now b) → StepsOk state has M e k from command a b w
+        pub step_ok : SaysAll (e.says reply) (M.now m) (M.now b) → StepsOk state has M e k from command a b w
         step_ok says = record {
           met = is.met;
           after = after;
@@ -128,6 +128,10 @@ module _ {S D : Type 0} (state : S → State) (has : S → Mounted → List Plac
           said = says.said ∙ ap (λ (x : List ℕ). x ++ e.says reply) (disk.quiet honest) ∙ ap (λ (x : List ℕ). (M.now a).said ++ x) said_is;
           moments = in_both;
         }
+
+        pub step_ok_met : (says : SaysAll (e.says reply) (M.now m) (M.now b)) → (step_ok says).met ≡ is.met
+        unfolding step_ok
+        step_ok_met says = refl
 
         worn_after : Wears (M.now m) (M.now b) → IsSound after.mounted.volume.layout after.windows after.changes (forced_of after) (M.now b).image
         worn_after worn =
@@ -207,7 +211,7 @@ follows_then M a b c x y = record {
 }
 
 module _ {S D : Type 0} (state : S → State) (has : S → Mounted → List Placed → Type 0) (M : Ghosts D) (e : Errand) where
-  unfoldable pub runs_nil : (v : S) (a : D) → ((s : S) (k : Known) (old new : Moment) → AreShort old.windows → Ages old new → Stands state has s k old → Stands state has s k new)
+  pub runs_nil : (v : S) (a : D) → ((s : S) (k : Known) (old new : Moment) → AreShort old.windows → Ages old new → Stands state has s k old → Stands state has s k new)
       → (M.honest a → (left : Moment) → M.left_since a (M.moment a) left → left ≡ M.now a) → (M.honest a → (from : Moment) → Ages from (M.now a) → AreShort from.windows) → Runs state has M e [] v a v a (Ok tt)
   runs_nil v a wears only short honest k from stood aged =
       let now = wears v k from (M.now a) (short honest from aged) aged stood in
@@ -218,6 +222,11 @@ module _ {S D : Type 0} (state : S → State) (has : S → Mounted → List Plac
             (in_before k rest (M.now a) (M.now a) (record { sound = mounted_sound k.mounted k.windows k.changes (forced_of k) (M.now a).image now.disk; windows = refl; said = refl }));
         ends = (refl, record { after = k; is = refl; windows = refl; changes = sym (append-nil k.changes); said = sym (append-nil (M.now a).said); open_windows = refl; layout = refl; least = omega arith; forced = λ any. absurd (cc any); stands = now });
       }
+
+  pub runs_nil_mets : (v : S) (a : D) (wears : (s : S) (k : Known) (old new : Moment) → AreShort old.windows → Ages old new → Stands state has s k old → Stands state has s k new) (only : M.honest a → (left : Moment) → M.left_since a (M.moment a) left → left ≡ M.now a)
+      (short : M.honest a → (from : Moment) → Ages from (M.now a) → AreShort from.windows) (honest : M.honest a) (k : Known) (from : Moment) (stood : Stands state has v k from) (aged : Ages from (M.now a)) → (runs_nil v a wears only short honest k from stood aged).mets ≡ []
+  unfolding runs_nil
+  runs_nil_mets v a wears only short honest k from stood aged = refl
 
   module _ (command : Command) (commands : List Command) (v w z : S) (a m b : D) (result : Result (Unit {0}) End) (follows : Follows M m b) (later : M.honest m → M.moment a ≤ M.moment m)
       (steps : Steps state has M e command v a w m (Ok tt)) (runs : Runs state has M e commands w m z b result) where
@@ -283,8 +292,12 @@ module _ {S D : Type 0} (state : S → State) (has : S → Mounted → List Plac
       ends (Err Output) is = tt
       ends (Err (Stopped fault)) is = (is.0, said_behind is.1)
 
-      unfoldable pub from_both : RunsFrom state has M e k from (command ∷ commands) a b z result
+      pub from_both : RunsFrom state has M e k from (command ∷ commands) a b z result
       from_both = record { mets = ok.met ∷ rest.mets; goes = goes; moments = moments; ends = ends result rest.ends }
+
+      pub from_both_mets : from_both.mets ≡ (steps (follows.honest honest) k from stood aged).met ∷ (let one = steps (follows.honest honest) k from stood aged in (runs honest one.after one.mid one.stands one.ages).mets)
+      unfolding from_both ok rest
+      from_both_mets = refl
 
     pub runs_then : Runs state has M e (command ∷ commands) v a z b result
     runs_then honest k from stood aged = from_both honest k from stood aged

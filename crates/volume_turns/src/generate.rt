@@ -46,6 +46,7 @@ fn do_counted<M: Machine, V: Files<M>>(
     ensures trust { Trusts (M.tells m.old) (M.tells m.new) (M.honest m.old) (M.honest m.new) }
     ensures since { M.honest m.new → Since M.Machine m.old m.new }
     ensures later { M.honest m.new → M.moment m.old ≤ M.moment m.new }
+    ensures counts { IfOk result (λ t. t.count ≡ tally.now.count + 1) }
     ensures steps { StepsCounted V.state V.holds M.Machine c.now v.old m.old v.new m.new tally.now result }
 {
     match commands::answer(alloc, v, m, c) {
