@@ -1,5 +1,5 @@
 -- Commands that are counted as they are done.
-use Rattle.std.proofs.Common.{◌≡◌, ℕ, zero, suc, ◌+◌, ◌≤◌, List, [], ◌∷◌, ◌++◌, length, Option, refl, sym, ◌∙◌, ap, subst, arith}
+use Rattle.std.proofs.Common.{◌≡◌, ℕ, zero, suc, ◌+◌, ◌≤◌, List, [], ◌∷◌, ◌++◌, length, Bool, true, false, Option, Some, None, refl, sym, ◌∙◌, ap, subst, arith}
 use Rattle.fsd_log.specs.Scan.{Placed}
 use Rattle.std.specs.Prelude.{IsTrue, Result, Ok, Err, IfOk}
 use Rattle.std.specs.List.{sum_by}
@@ -24,16 +24,18 @@ use Rattle.fsd_texts.specs.declared.line.Line.{Line}
 use Rattle.fsd_texts.specs.declared.line.Line.TheVariants as Says
 use Rattle.fsd_texts.specs.Generator.{made_from, next_state}
 use Rattle.fsd_runs.specs.Commands.{answer}
-use Rattle.fsd_runs.specs.Errands.{Answered, answered_so, bytes_moved, generated_line, is_deleted, is_kept, is_made, is_read, is_refused}
+use Rattle.fsd_runs.specs.Errands.{Answered, answered_so, bytes_moved, forced_turn, generated_line, is_deleted, is_kept, is_made, is_read, is_refused}
 use Rattle.fsd_runs.specs.Runs.{answered}
 use Rattle.volume_contract.specs.State.{State, Ages, Known, Stands, forced_of, volume_of}
 use Rattle.volume_turns.specs.declared.turns.End.{End}
 use Rattle.volume_turns.specs.declared.turns.End.TheVariants.{Fault as Stopped, Output}
-use Rattle.volume_turns.specs.Generate.{CountedRun, CountedStep, RunsCounted, StepsCounted, StepsCountedBy, silent}
-use Rattle.volume_turns.specs.Once.{unit_of}
+use Rattle.volume_turns.specs.Generate.{CountedGroup, CountedRun, CountedStep, RunsCounted, StepsCounted, StepsCountedBy, silent}
+use Rattle.volume_turns.specs.Group.{is_worn_end}
+use Rattle.volume_turns.specs.Once.{ClosesAndSays, unit_of}
 use Rattle.volume_turns.specs.Steps.{Does, IsAnswered, Stays}
 use Rattle.volume_turns.specs.Tally.{Counting, all_counted, counted, counting_line, nothing}
 use Rattle.volume_turns.specs.Turns.{Follows, InRun, Told, Unheard, device_end, Runs, RunsFrom, SaysAll, Steps, StepsOk}
+use Rattle.volume_turns.proofs.GroupLaws.{group_all, group_all_mets, group_stop, group_worn}
 use Rattle.volume_turns.proofs.RunLaws.{from_both, from_both_mets, reply_is, runs_nil, runs_nil_mets, step_fault, step_ok, step_ok_met, step_unsaid}
 use Rattle.volume_turns.proofs.TurnLaws.{in_before, said_nothing}
 
@@ -170,6 +172,31 @@ module _ {S D : Type 0} (state : S → State) (has : S → Mounted → List Plac
         moments = λ rest. started M.moment M.left_since a (M.now a) (InRun k rest (M.now a)) (only honest) (in_before k rest (M.now a) (M.now a) (record { sound = sound; windows = refl; said = refl }));
         ends = (tt, said_nothing k (M.now a) (M.now a) (record { sound = sound; windows = refl; said = refl }));
       }
+
+-- ---- with the force behind them
+
+module _ {S D : Type 0} (state : S → State) (has : S → Mounted → List Placed → Type 0) (M : Ghosts D) (k : Known) (commands : List Command) (a m b : D) (w : S) (since : Since M m b) (later : M.moment a ≤ M.moment m) where
+  abbrev Closing : Result (Option Counting) End → Type 0
+  Closing result = (x : Known) → Stands state has w x (M.now m) → ClosesAndSays M x forced_turn.said m b (unit_of result)
+
+  some_same : (t u : Counting) → Some t ≡ Some u → t ≡ u
+  some_same t u is = cc is
+
+  pub counted_all : (tally : Counting) → CountedRun state has M k (M.now a) commands a m w nothing (Ok tally) → (result : Result (Option Counting) End) → IfOk result (λ x. x ≡ Some tally) → Closing result → CountedGroup M k commands a b result
+  counted_all tally run (Ok None) same closes = absurd (cc same)
+  counted_all tally run (Ok (Some t)) same closes = record {
+    group = group_all state has M silent k (M.now a) commands a m b w since later run.ran (Ok true) refl closes;
+    counts = some_same t tally same ∙ run.counts ∙ ap (λ (mets : List Met). all_counted nothing (answered mets (volume_of k) commands)) (sym (group_all_mets state has M silent k (M.now a) commands a m b w since later run.ran (Ok true) refl closes));
+  }
+  counted_all tally run (Err end) same closes = record { group = group_all state has M silent k (M.now a) commands a m b w since later run.ran (Err end) tt closes; counts = tt }
+
+  pub counted_worn : (end : End) → is_worn_end end ≡ true → RunsFrom state has M silent k (M.now a) commands a m w (Err end) → (result : Result (Option Counting) End) → IfOk result (λ x. x ≡ None) → Closing result → CountedGroup M k commands a b result
+  counted_worn end worn ran (Ok (Some t)) same closes = absurd (cc same)
+  counted_worn end worn ran (Ok None) same closes = record { group = group_worn state has M silent k (M.now a) commands a m b w since later end worn ran (Ok false) refl closes; counts = tt }
+  counted_worn end worn ran (Err other) same closes = record { group = group_worn state has M silent k (M.now a) commands a m b w since later end worn ran (Err other) tt closes; counts = tt }
+
+  pub counted_broken : (end : End) → is_worn_end end ≡ false → RunsFrom state has M silent k (M.now a) commands a m w (Err end) → CountedGroup M k commands a m (Err end)
+  counted_broken end other ran = record { group = group_stop state has M silent k (M.now a) commands a m w end other ran; counts = tt }
 
 -- ---- what is counted of faults
 

@@ -21,6 +21,7 @@ use Rattle.fsd_sound.specs.Sound.{EndIn, IsSound, weak_of}
 use Rattle.fsd_sound.proofs.MoreLaws.{wear_sound}
 use Rattle.fsd_sound.proofs.WindowLaws.{open_is_weak}
 use Rattle.fsd_texts.specs.declared.command.Command.{Command}
+use Rattle.fsd_texts.specs.declared.fault.Fault.{Fault}
 use Rattle.fsd_texts.specs.declared.fault.Fault.TheVariants as Ends
 use Rattle.fsd_texts.specs.declared.line.Line.{Line}
 use Rattle.fsd_texts.specs.Text.{memory_text, text}
@@ -31,11 +32,12 @@ use Rattle.fsd_runs.specs.Leaves.{IsBroken, IsUnsaid, SaysNext}
 use Rattle.fsd_runs.specs.Runs.{Goes, answered, behind, changes_in, forced_in, said_in, turns_begun, turns_of, turn_of}
 use Rattle.volume_contract.specs.State.{Known, forced_of, volume_of}
 use Rattle.volume_turns.specs.Group.{turns_behind}
-use Rattle.volume_turns.specs.Line.{is_unsaid}
+use Rattle.volume_turns.specs.declared.turns.End.TheVariants.{Fault as Stopped, Output}
+use Rattle.volume_turns.specs.Line.{EndsWith, UttersFault, is_unsaid}
 use Rattle.volume_turns.specs.Once.{IsDone}
-use Rattle.volume_turns.specs.Turns.{InRun, Said, SaysAll}
-use Rattle.volume_turns.specs.Whole.{EndsLast, Halted, UttersLast}
-use Rattle.volume_turns.proofs.HaltLaws.{said_halts, says_part}
+use Rattle.volume_turns.specs.Turns.{EndsAtOnce, InRun, Said, SaysAll, Told}
+use Rattle.volume_turns.specs.Whole.{EndsLast, Finishes, Halted, SaysOut, UttersLast}
+use Rattle.volume_turns.proofs.HaltLaws.{broken_ends, broken_moments, said_halts, said_halts_whole, says_part}
 use Rattle.volume_turns.proofs.LineLaws.{next_fault}
 use Rattle.volume_turns.proofs.TurnLaws.{forced_most, says_nothing, take_front}
 
@@ -125,6 +127,10 @@ module _ (k : Known) (front : List Turn) (line : Line) (after : Volume) (old mid
   halted : Halted k turns old mid
   halted = said_halts k front t [] refl old mid (said_done k front after old mid d)
 
+  whole_is : halted.whole ≡ length front
+  unfolding halted said_done
+  whole_is = said_halts_whole k front t [] refl old mid (said_done k front after old mid d)
+
   ends_mid : EndIn mid.windows k.windows
   ends_mid = subst (λ (w : Windows). EndIn w k.windows) (sym d.windows) ends
 
@@ -158,7 +164,7 @@ module _ (k : Known) (front : List Turn) (line : Line) (after : Volume) (old mid
 
   in_some : (left : Moment) → Utters t.said mid left → (heard : ℕ) → left.said ≡ mid.said ++ take heard t.said → heard < length t.said → InRun k turns old left
   in_some left utters heard said short_of = says_part k turns old mid halted short ends (take heard t.said) left utters.image utters.windows said
-      (subst (λ (o : Option Turn). SaysNext o (take heard t.said)) (sym (slice_last front t)) (inl (heard, short_of, refl)))
+      (subst (λ (n : ℕ). SaysNext (slice_get turns n) (take heard t.said)) (sym whole_is) (subst (λ (o : Option Turn). SaysNext o (take heard t.said)) (sym (slice_last front t)) (inl (heard, short_of, refl))))
 
   pub on_last : (left : Moment) → UttersLast line mid left → InRun k turns old left
   on_last left (inl utters) = ⊎_elim (λ few. in_some left utters utters.heard utters.said few) (λ long. in_all left utters (utters.said ∙ ap (λ (b : List ℕ). mid.said ++ b) (take_all utters.heard t.said long))) (cases_lt utters.heard (length t.said))
@@ -204,3 +210,54 @@ module _ {D : Type 0} (M : Ghosts D) (request : Request) (before : Report) (k : 
   last_ends (inl six) = inr (inl (unsaid six))
   last_ends (inr (inl said)) = inl (said.0, done_last k front line after (M.now a) (M.now m) d short ends (M.now b) said.1)
   last_ends (inr (inr memory)) = inr (inr (refused memory.0 memory.1))
+
+  -- the errand is done, and its last line is said
+  pub finishes_last : (e : Errand) (Last : Volume → Image → Type 0) (mets : List Met) → turns_of e mets (volume_of k) ≡ front ++ line_turn line ∷ []
+      → ((t : ℕ) → t ≤ M.moment a → Goes (in_runs k.windows) (M.left_since b t) Last e (M.now a).said (M.now a).image (volume_of k) mets e.commands)
+      → length mets ≡ length e.commands → gives ≡ (e.ends (answered mets (volume_of k) e.commands)).status → after ≡ behind mets (volume_of k) e.commands → EndsLast line gives (M.now m) (M.now b) status → Finishes M request e Last before k a b status
+  finishes_last e Last mets is goes through gives_is after_is ended = record {
+    mets = mets;
+    goes = goes;
+    moments = subst (λ (ts : List Turn). LeavesOnly M.moment M.left_since a b (InRun k ts (M.now a))) (sym is) last_moments;
+    ends = by (last_ends ended);
+  }
+    where
+      by : ((status ≡ gives) × IsDone k (front ++ line_turn line ∷ []) after (M.now a) (M.now b)) ⊎ (IsUnsaid before (M.report b) status ⊎ IsBroken request before (M.report b) (front ++ line_turn line ∷ []) (M.now a) (M.now b) status)
+          → SaysOut e k mets (M.now a) (M.now b) status ⊎ (IsUnsaid before (M.report b) status ⊎ IsBroken request before (M.report b) (turns_of e mets (volume_of k)) (M.now a) (M.now b) status)
+      by (inl done) = inl (record {
+        through = through;
+        gives = done.0 ∙ gives_is;
+        done = subst (λ (ts : List Turn). IsDone k ts (behind mets (volume_of k) e.commands) (M.now a) (M.now b)) (sym is) (subst (λ (v : Volume). IsDone k (front ++ line_turn line ∷ []) v (M.now a) (M.now b)) after_is done.1);
+      })
+      by (inr (inl u)) = inr (inl u)
+      by (inr (inr x)) = inr (inr (subst (λ (ts : List Turn). IsBroken request before (M.report b) ts (M.now a) (M.now b) status) (sym is) x))
+
+-- a fault has ended it at once
+halted_behind : (k : Known) (front : List Turn) (through : Bool) (more : List Turn) (old now : Moment) → Said k front old now → Halted k (front ++ turns_behind through more) old now
+halted_behind k front true more old now said = said_halts k front forced_turn more refl old now said
+halted_behind k front false more old now said = said_halts k front blank [] refl old now said
+
+pub finishes_broken : {D T : Type 0} (M : Ghosts D) (request : Request) (before : Report) (k : Known) (front : List Turn) (through : Bool) (more : List Turn) (a m b : D) → LeavesOnly M.moment M.left_since a m (InRun k (front ++ turns_behind through more) (M.now a)) → Said k front (M.now a) (M.now m)
+    → AreShort (M.now m).windows → EndIn (M.now a).windows k.windows → (why : Fault) → EndsAtOnce why → Told {T = T} before (M.report m) (Err (Stopped why)) → (status : ℕ) → LeavesDisk M false (is_unsaid status) (UttersFault why) m b → M.honest b → EndsWith why (M.now m) (M.now b) status
+    → (e : Errand) (Last : Volume → Image → Type 0) (mets : List Met) → turns_of e mets (volume_of k) ≡ front ++ turns_behind through more
+    → ((t : ℕ) → t ≤ M.moment a → Goes (in_runs k.windows) (M.left_since b t) Last e (M.now a).said (M.now a).image (volume_of k) mets e.commands) → Finishes M request e Last before k a b status
+finishes_broken M request before k front through more a m b moments said short ends why once told status says honest ended e Last mets is goes =
+    let turns = front ++ turns_behind through more in
+    let halted = halted_behind k front through more (M.now a) (M.now m) said in
+    record {
+      mets = mets;
+      goes = goes;
+      moments = subst (λ (ts : List Turn). LeavesOnly M.moment M.left_since a b (InRun k ts (M.now a))) (sym is) (broken_moments M request before k turns a m b moments halted short ends why once told status says honest ended);
+      ends = inr (subst (λ (ts : List Turn). IsUnsaid before (M.report b) status ⊎ IsBroken request before (M.report b) ts (M.now a) (M.now b) status) (sym is) (broken_ends M request before k turns a m b moments halted short ends why once told status says honest ended));
+    }
+
+-- the output has failed
+pub finishes_unsaid : {D T : Type 0} (M : Ghosts D) (request : Request) (before : Report) (k : Known) (turns : List Turn) (a b : D) → LeavesOnly M.moment M.left_since a b (InRun k turns (M.now a)) → Told {T = T} before (M.report b) (Err Output)
+    → (e : Errand) (Last : Volume → Image → Type 0) (mets : List Met) → turns_of e mets (volume_of k) ≡ turns
+    → ((t : ℕ) → t ≤ M.moment a → Goes (in_runs k.windows) (M.left_since b t) Last e (M.now a).said (M.now a).image (volume_of k) mets e.commands) → Finishes M request e Last before k a b 6
+finishes_unsaid M request before k turns a b moments told e Last mets is goes = record {
+  mets = mets;
+  goes = goes;
+  moments = subst (λ (ts : List Turn). LeavesOnly M.moment M.left_since a b (InRun k ts (M.now a))) (sym is) moments;
+  ends = inr (inl (record { ends = refl; rose = told.output }));
+}

@@ -59,6 +59,10 @@ said_halts k turns t more none old now x =
       sound = subst (λ (h : List Change). IsSound k.mounted.volume.layout k.windows (k.changes ++ h) x.forced now.image) (sym (changes_within turns t more none x.whole x.most)) x.sound;
     }
 
+pub said_halts_whole : (k : Known) (turns : List Turn) (t : Turn) (more : List Turn) (none : t.changes ≡ []) (old now : Moment) (x : Said k turns old now) → (said_halts k turns t more none old now x).whole ≡ x.whole
+unfolding said_halts
+said_halts_whole k turns t more none old now x = refl
+
 -- ---- while a text is said there
 
 module _ (k : Known) (turns : List Turn) (old mid : Moment) (halted : Halted k turns old mid) (short : AreShort mid.windows) (ends : EndIn old.windows k.windows) where

@@ -13,3 +13,4 @@ pub mod HaltLaws
 pub mod WholeLaws
 pub mod CountLaws
 pub mod GroupEndLaws
+pub mod GenerateLaws

@@ -36,7 +36,7 @@ use Rattle.volume_turns.specs.Turns.{InRun}
 use Rattle.volume_turns.proofs.TurnLaws.{newer_own, forced_none, says_nothing}
 
 -- the same, said of equals
-sound_to : (l l2 : Layout) (w w2 : List WeakRun) (h h2 : List Change) (f f2 : ℕ) (i : Image) → l ≡ l2 → w ≡ w2 → h ≡ h2 → f ≡ f2 → IsSound l w h f i → IsSound l2 w2 h2 f2 i
+pub sound_to : (l l2 : Layout) (w w2 : List WeakRun) (h h2 : List Change) (f f2 : ℕ) (i : Image) → l ≡ l2 → w ≡ w2 → h ≡ h2 → f ≡ f2 → IsSound l w h f i → IsSound l2 w2 h2 f2 i
 sound_to l l2 w w2 h h2 f f2 i el ew eh ef sound =
     subst (λ (x : Layout). IsSound x w2 h2 f2 i) el (subst (λ (x : List WeakRun). IsSound l x h2 f2 i) ew (subst (λ (x : List Change). IsSound l w x f2 i) eh (subst (λ (x : ℕ). IsSound l w h x i) ef sound)))
 

@@ -1,5 +1,5 @@
 -- What a whole run leaves: its mount, and what it did over the mounted volume.
-use Rattle.std.proofs.Common.{◌≡◌, ◌⊎◌, inl, inr, Bool, ℕ, suc, ◌+◌, ◌≤◌, List, [], ◌∷◌, ◌++◌, length, take, Option, Some, None, refl, sym, ◌∙◌, ap, subst, arith, length-append}
+use Rattle.std.proofs.Common.{◌≡◌, ◌⊎◌, inl, inr, Bool, false, ℕ, suc, ◌+◌, ◌≤◌, List, [], ◌∷◌, ◌++◌, length, take, Option, Some, None, refl, sym, ◌∙◌, ap, subst, arith, length-append}
 use Rattle.fsd_log.specs.Scan.{Placed}
 use Rattle.std.specs.Prelude.{IsSome, Result, Ok, Err, slice_get}
 use Rattle.std.proofs.lemmas.Bool.{eq-eqb}
@@ -264,8 +264,8 @@ module _ {S D : Type 0} (state : S → State) (has : S → Mounted → List Plac
     abbrev k : Known
     k = e.known
 
-    abbrev turns : List Turn
-    turns = turns_of (errand_of request input) [] (volume_of k)
+    abbrev all_turns : List Turn
+    all_turns = turns_of (errand_of request input) [] (volume_of k)
 
     sound : IsSound k.mounted.volume.layout k.windows k.changes (forced_of k) (M.now m).image
     sound =
@@ -273,10 +273,10 @@ module _ {S D : Type 0} (state : S → State) (has : S → Mounted → List Plac
         let all : length k.changes ≡ forced_of k = let none = e.settled.fresh.unforced in omega (arith, none) in
         subst (λ (x : ℕ). IsSound k.mounted.volume.layout k.windows k.changes x (M.now m).image) all (mounted_sound k.mounted k.windows k.changes (length k.changes) (M.now m).image mounted)
 
-    moments : LeavesOnly M.moment M.left_since m m (InRun k turns (M.now m))
-    moments = started M.moment M.left_since m (M.now m) (InRun k turns (M.now m)) only (in_before k turns (M.now m) (M.now m) (record { sound = sound; windows = refl; said = refl }))
+    moments : LeavesOnly M.moment M.left_since m m (InRun k all_turns (M.now m))
+    moments = started M.moment M.left_since m (M.now m) (InRun k all_turns (M.now m)) only (in_before k all_turns (M.now m) (M.now m) (record { sound = sound; windows = refl; said = refl }))
 
-    halted : Halted k turns (M.now m) (M.now m)
+    halted : Halted k all_turns (M.now m) (M.now m)
     halted = record {
       windows = refl;
       whole = 0;
@@ -285,7 +285,7 @@ module _ {S D : Type 0} (state : S → State) (has : S → Mounted → List Plac
       forced = forced_of k;
       least = omega arith;
       enough = λ any. absurd (cc any);
-      sound = sound_more k.mounted.volume.layout k.windows k.changes (changes_in (take 1 turns)) (forced_of k) (M.now m).image sound;
+      sound = sound_more k.mounted.volume.layout k.windows k.changes (changes_in (take 1 all_turns)) (forced_of k) (M.now m).image sound;
     }
 
     ends_k : EndIn (M.now m).windows k.windows
@@ -306,8 +306,8 @@ module _ {S D : Type 0} (state : S → State) (has : S → Mounted → List Plac
       finishes = record {
         mets = [];
         goes = λ t le. tt;
-        moments = broken_moments M request (M.report a) k turns m m b moments halted short ends_k why once told_is status says honest ended;
-        ends = inr (broken_ends M request (M.report a) k turns m m b moments halted short ends_k why once told_is status says honest ended);
+        moments = broken_moments M request (M.report a) k all_turns m m b moments halted short ends_k why once told_is status says honest ended;
+        ends = inr (broken_ends M request (M.report a) k all_turns m m b moments halted short ends_k why once told_is status says honest ended);
       };
     }
 

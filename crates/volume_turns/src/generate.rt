@@ -123,6 +123,7 @@ fn close_forced<M: Machine, V: Files<M>>(alloc: Global, v: V, m: &mut M) -> Resu
     ensures told { Told (M.report m.old) (M.report m.new) result }
     ensures trust { Trusts (M.tells m.old) (M.tells m.new) (M.honest m.old) (M.honest m.new) }
     ensures since { M.honest m.new → Since M.Machine m.old m.new }
+    ensures later { M.honest m.new → M.moment m.old ≤ M.moment m.new }
     ensures closes { M.honest m.new → (k : Known) → Stands V.state V.holds v k (M.now m.old) → ClosesAndSays M.Machine k forced_turn.said m.old m.new result }
 {
     match v.close(m) {
@@ -142,6 +143,7 @@ fn force_behind<M: Machine, V: Files<M>>(
     ensures told { Told (M.report m.old) (M.report m.new) result }
     ensures trust { Trusts (M.tells m.old) (M.tells m.new) (M.honest m.old) (M.honest m.new) }
     ensures since { M.honest m.new → Since M.Machine m.old m.new }
+    ensures later { M.honest m.new → M.moment m.old ≤ M.moment m.new }
     ensures same { IfOk result (λ x. x ≡ tally) }
     ensures closes { M.honest m.new → (k : Known) → Stands V.state V.holds v k (M.now m.old) → ClosesAndSays M.Machine k forced_turn.said m.old m.new (unit_of result) }
 {
@@ -164,6 +166,7 @@ fn make_group<M: Machine, V: Files<M> + Drop>(
     ensures told { Told (M.report m.old) (M.report m.new) result }
     ensures trust { Trusts (M.tells m.old) (M.tells m.new) (M.honest m.old) (M.honest m.new) }
     ensures since { M.honest m.new → Since M.Machine m.old m.new }
+    ensures later { M.honest m.new → M.moment m.old ≤ M.moment m.new }
     ensures group { M.honest m.new → (k : Known) → Stands V.state V.holds v k (M.now m.old) → CountedGroup M.Machine k (made_up seed count) m.old m.new result }
 {
     let mut v = v;

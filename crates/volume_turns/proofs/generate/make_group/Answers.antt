@@ -1,30 +1,47 @@
-use Rattle.std.proofs.Common.{rules, ◌≡◌, ◌≤◌, ◌<◌, ◌+◌, ◌^◌, ◌-◌, ℕ, List, None, OnOk, IfOk, IfSome, ◌*◌, length, ◌/◌, ◌%◌, Bool, true, false, nat_eq, nat_lt, [], ◌∷◌, ◌++◌, slice_index_or, slice_set, bit_and, bit_or, Fits, w8, w32, w64, Bor, MutBor}
-use Rattle.sector_disk.specs.declared.sector.WeakRun.{WeakRun}
-use Rattle.sector_disk.specs.Calls.{Since}
-use Rattle.sector_disk.specs.Machine.{LeavesOnly, Trusts}
-use Rattle.volume_layout.specs.declared.layout.Layout.{Layout as Plan}
-use Rattle.fsd_files.specs.Files.{Change}
+use Rattle.std.proofs.Common.{sym, ◌∙◌, refl, arith}
+use Rattle.sector_disk.specs.Image.{open_damage}
+use Rattle.sector_disk.proofs.Wear.{worn_refl}
 use Rattle.fsd_texts.specs.Generator.{made_up}
-use Rattle.fsd_runs.specs.Errands.{forced_turn}
-use Rattle.fsd_runs.specs.Leaves.{LeavesRun}
-use Rattle.fsd_runs.specs.declared.request.Request.TheVariants.{Generate}
-use Rattle.volume_contract.specs.Mount.{IsSoundAt}
-use Rattle.volume_contract.specs.State.{Known, Stands}
-use Rattle.volume_turns.specs.Generate.{CountedGroup, Draws, RunsCounted, StepsCounted}
-use Rattle.volume_turns.specs.Once.{ClosesAndSays, unit_of}
-use Rattle.volume_turns.specs.Tally.{nothing}
-use Rattle.volume_turns.specs.Turns.{Told}
-use Rattle.volume_turns.specs.Whole.{RunsOut}
+use Rattle.volume_turns.proofs.CountLaws.{counted_all, counted_broken, counted_worn}
 use Rattle.volume_turns.proofs.generate.make_group.Goals as goal
 
--- src/generate.rt:155:1
 pub returns-in-Ok-clause-group : goal.returns-in-Ok-clause-group
-returns-in-Ok-clause-group g c = ?
+returns-in-Ok-clause-group g c honest k stands =
+    let V = g.V.Files in
+    let M = g.M.Machine in
+    let now = M.now c.args.m.now in
+    let done = c.force_behind in
+    let back = done.ensures.trust.honest honest in
+    counted_all V.state V.holds M k (made_up c.args.seed c.args.count) c.args.m.now c.make_up.new.m done.new.m c.make_up.new.v (done.ensures.since honest) (c.make_up.ensures.later back) c.in-Ok.tally
+    (c.in-Ok.ensures.runs back k now stands (record { image = worn_refl (open_damage now.windows) now.image; windows = refl })) done.result done.ensures.same (λ x at. done.ensures.closes honest x at)
 
--- src/generate.rt:155:1
 pub returns-then-is_worn_end-clause-group : goal.returns-then-is_worn_end-clause-group
-returns-then-is_worn_end-clause-group g c = ?
+returns-then-is_worn_end-clause-group g c honest k stands =
+    let V = g.V.Files in
+    let M = g.M.Machine in
+    let now = M.now c.args.m.now in
+    let done = c.force_behind-then-is_worn_end in
+    let back = done.ensures.trust.honest honest in
+    counted_worn V.state V.holds M k (made_up c.args.seed c.args.count) c.args.m.now c.make_up.new.m done.new.m c.make_up.new.v (done.ensures.since honest) (c.make_up.ensures.later back) c.in-Err.end (sym c.is_worn_end.ensures ∙ c.if-is_worn_end.true)
+    (c.in-Err.ensures.runs back k now stands (record { image = worn_refl (open_damage now.windows) now.image; windows = refl })).ran done.result done.ensures.same (λ x at. done.ensures.closes honest x at)
 
--- src/generate.rt:155:1
 pub returns-else-is_worn_end-clause-group : goal.returns-else-is_worn_end-clause-group
-returns-else-is_worn_end-clause-group g c = ?
+returns-else-is_worn_end-clause-group g c honest k stands =
+    let V = g.V.Files in
+    let M = g.M.Machine in
+    let now = M.now c.args.m.now in
+    let m = c.make_up.new.m in
+    counted_broken V.state V.holds M k (made_up c.args.seed c.args.count) c.args.m.now m m c.make_up.new.v (λ t left le was. was) (c.make_up.ensures.later honest) c.in-Err.end (sym c.is_worn_end.ensures ∙ c.if-is_worn_end.false)
+    (c.in-Err.ensures.runs honest k now stands (record { image = worn_refl (open_damage now.windows) now.image; windows = refl })).ran
+
+pub returns-in-Ok-clause-later : goal.returns-in-Ok-clause-later
+returns-in-Ok-clause-later g c h =
+    let x = c.make_up.ensures.later (c.force_behind.ensures.trust.honest h) in
+    let y = c.force_behind.ensures.later h in
+    omega (arith, x, y)
+
+pub returns-then-is_worn_end-clause-later : goal.returns-then-is_worn_end-clause-later
+returns-then-is_worn_end-clause-later g c h =
+    let x = c.make_up.ensures.later (c.force_behind-then-is_worn_end.ensures.trust.honest h) in
+    let y = c.force_behind-then-is_worn_end.ensures.later h in
+    omega (arith, x, y)
