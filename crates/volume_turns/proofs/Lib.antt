@@ -14,3 +14,4 @@ pub mod WholeLaws
 pub mod CountLaws
 pub mod GroupEndLaws
 pub mod GenerateLaws
+pub mod InputLaws

@@ -41,18 +41,18 @@ use Rattle.volume_turns.proofs.RunLaws.{before_it, behind_it, step_is, volume_is
 
 -- ---- the end of a volume
 
-device_ends : (why : Refusal) → IsDevice why → EndsAtOnce (close_fault why)
+pub device_ends : (why : Refusal) → IsDevice why → EndsAtOnce (close_fault why)
 device_ends (Why.Device s) is = tt
 device_ends why is = absurd is
 
 module _ {S D : Type 0} (state : S → State) (has : S → Mounted → List Placed → Type 0) (M : Ghosts D) (v : S) (a m b : D) (k : Known) (stands : Stands state has v k (M.now a)) (text : List ℕ) (may : ℕ → Bool) (fault : Option ℕ)
     (disk : WritesDisk M fault (Leaves state has v may) a m) (honest : M.honest m) where
-  closing : (left : Moment) → Leaves state has v may (M.now a) left → InClose k text (M.now a) left
+  pub closing : (left : Moment) → Leaves state has v may (M.now a) left → InClose k text (M.now a) left
   closing left leaves =
       let l = leaves k stands in
       record { windows = l.windows; forced = forced_of k; least = omega arith; sound = l.sound; heard = 0; said = l.said ∙ sym (append-nil (M.now a).said); all = λ some. absurd (omega (arith, some)) }
 
-  close_moments : LeavesOnly M.moment M.left_since a m (InClose k text (M.now a))
+  pub close_moments : LeavesOnly M.moment M.left_since a m (InClose k text (M.now a))
   close_moments = leaves_more M.moment M.left_since a m (Leaves state has v may (M.now a)) (InClose k text (M.now a)) closing (disk.any_moment honest)
 
   pub close_failed : (why : Refusal) → IsDevice why → ClosesAndSays M k text a m (Err (Stopped (close_fault why)))
