@@ -1,5 +1,5 @@
 -- Commands that are counted as they are done.
-use Rattle.std.proofs.Common.{◌≡◌, ℕ, zero, suc, ◌+◌, ◌≤◌, List, [], ◌∷◌, ◌++◌, length, Bool, true, false, Option, Some, None, refl, sym, ◌∙◌, ap, subst, arith}
+use Rattle.std.proofs.Common.{◌≡◌, ℕ, zero, suc, ◌+◌, ◌≤◌, List, [], ◌∷◌, length, true, false, Option, Some, None, refl, sym, ◌∙◌, ap, subst, arith}
 use Rattle.fsd_log.specs.Scan.{Placed}
 use Rattle.std.specs.Prelude.{IsTrue, Result, Ok, Err, IfOk}
 use Rattle.std.specs.List.{sum_by}
@@ -20,7 +20,6 @@ use Rattle.fsd_sound.proofs.MountedLaws.{mounted_sound}
 use Rattle.fsd_texts.specs.declared.command.Command.{Command}
 use Rattle.fsd_texts.specs.declared.fault.Fault.{Fault}
 use Rattle.fsd_texts.specs.declared.fault.Fault.TheVariants as Ends
-use Rattle.fsd_texts.specs.declared.line.Line.{Line}
 use Rattle.fsd_texts.specs.declared.line.Line.TheVariants as Says
 use Rattle.fsd_texts.specs.Generator.{made_from, next_state}
 use Rattle.fsd_runs.specs.Commands.{answer}
@@ -29,12 +28,12 @@ use Rattle.fsd_runs.specs.Runs.{answered}
 use Rattle.volume_contract.specs.State.{State, Ages, Known, Stands, forced_of, volume_of}
 use Rattle.volume_turns.specs.declared.turns.End.{End}
 use Rattle.volume_turns.specs.declared.turns.End.TheVariants.{Fault as Stopped, Output}
-use Rattle.volume_turns.specs.Generate.{CountedGroup, CountedRun, CountedStep, RunsCounted, StepsCounted, StepsCountedBy, silent}
+use Rattle.volume_turns.specs.Generate.{CountedGroup, CountedRun, CountedStep, RunsCounted, StepsCounted, silent}
 use Rattle.volume_turns.specs.Group.{is_worn_end}
 use Rattle.volume_turns.specs.Once.{ClosesAndSays, unit_of}
 use Rattle.volume_turns.specs.Steps.{Does, IsAnswered, Stays}
 use Rattle.volume_turns.specs.Tally.{Counting, all_counted, counted, counting_line, nothing}
-use Rattle.volume_turns.specs.Turns.{Follows, InRun, Told, Unheard, device_end, Runs, RunsFrom, SaysAll, Steps, StepsOk}
+use Rattle.volume_turns.specs.Turns.{Follows, InRun, Told, Unheard, device_end, Runs, RunsFrom, SaysAll, Steps}
 use Rattle.volume_turns.proofs.GroupLaws.{group_all, group_all_mets, group_stop, group_worn}
 use Rattle.volume_turns.proofs.RunLaws.{from_both, from_both_mets, reply_is, runs_nil, runs_nil_mets, step_fault, step_ok, step_ok_met, step_unsaid}
 use Rattle.volume_turns.proofs.TurnLaws.{in_before, said_nothing}

@@ -1,11 +1,11 @@
 -- What commands that are made up leave, from the mounted volume to the last line.
-use Rattle.std.proofs.Common.{◌≡◌, ◌⊎◌, inl, inr, ℕ, suc, ◌≤◌, Bool, true, false, List, [], ◌∷◌, ◌++◌, length, take, Option, Some, None, refl, sym, ◌∙◌, ap, subst, arith, append_assoc}
-use Rattle.std.specs.Prelude.{◌==◌, if◌then◌else◌, not, IfSome, IsSome, IsTrue, Result, Ok, Err, slice_get}
+use Rattle.std.proofs.Common.{◌≡◌, ℕ, ◌≤◌, Bool, true, false, List, [], ◌∷◌, ◌++◌, length, take, Some, None, refl, sym, ◌∙◌, ap, subst, arith, append_assoc}
+use Rattle.std.specs.Prelude.{◌==◌, if◌then◌else◌, IsSome, IsTrue, Result, Ok, Err, slice_get}
 use Rattle.std.proofs.lemmas.Bool.{eq-eqb, eqb-true}
 use Rattle.sector_disk.specs.declared.machine.Machine.{Ghosts}
 use Rattle.sector_disk.specs.Calls.{LeavesDisk, Since}
 use Rattle.sector_disk.specs.Image.{AreShort}
-use Rattle.sector_disk.specs.Machine.{LeavesOnly, Moment, Report}
+use Rattle.sector_disk.specs.Machine.{LeavesOnly}
 use Rattle.fsd_files.specs.Answers.{Met}
 use Rattle.fsd_files.specs.Disk.{Image, in_runs}
 use Rattle.fsd_files.specs.Volume.{Volume}
@@ -16,20 +16,19 @@ use Rattle.fsd_texts.specs.declared.fault.Fault.TheVariants as Ends
 use Rattle.fsd_texts.specs.declared.line.Line.{Line}
 use Rattle.fsd_texts.specs.declared.line.Line.TheVariants as Says
 use Rattle.fsd_texts.specs.Generator.{made_up}
-use Rattle.fsd_runs.specs.declared.request.Request.{Request}
 use Rattle.fsd_runs.specs.declared.request.Request.TheVariants.{Generate}
 use Rattle.fsd_runs.specs.Errands.{Answered, Ending, Turn, blank, cut_ending, errand_of, forced_turn, generated_line, group_ending, line_turn}
 use Rattle.fsd_runs.specs.Runs.{Goes, IsWornOut, answered, behind, turns_begun, turns_of}
 use Rattle.volume_contract.specs.State.{Known, volume_of}
 use Rattle.volume_turns.specs.declared.turns.End.{End}
 use Rattle.volume_turns.specs.declared.turns.End.TheVariants.{Fault as Stopped, Output}
-use Rattle.volume_turns.specs.Generate.{CountedGroup, silent}
+use Rattle.volume_turns.specs.Generate.{silent}
 use Rattle.volume_turns.specs.Group.{CutsOff, EndsGroup, IsGroup, WornIf, is_through, turns_behind}
 use Rattle.volume_turns.specs.Line.{EndsWith, UttersFault, is_unsaid}
 use Rattle.volume_turns.specs.Once.{IsDone}
 use Rattle.volume_turns.specs.Tally.{Counting, all_counted, counting_line, nothing}
 use Rattle.volume_turns.specs.Turns.{EndsAtOnce, InRun, Said, Told}
-use Rattle.volume_turns.specs.Whole.{EndsLast, Halted, RunsOut, UttersLast}
+use Rattle.volume_turns.specs.Whole.{EndsLast, RunsOut, UttersLast}
 use Rattle.volume_turns.proofs.CountLaws.{line_is}
 use Rattle.volume_turns.proofs.GroupEndLaws.{answered_cut, behind_cut, ended_as, finishes_broken, finishes_last, finishes_unsaid, goes_cut, goes_length, goes_within, turns_are}
 use Rattle.volume_turns.proofs.GroupLaws.{goes_wider}

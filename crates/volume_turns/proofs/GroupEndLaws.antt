@@ -1,13 +1,11 @@
 -- How a group that was done goes on to the last line of its run.
-use Rattle.std.proofs.Common.{◌≡◌, ◌⊎◌, inl, inr, ⊎_elim, ℕ, zero, suc, ◌+◌, ◌<◌, ◌≤◌, Bool, true, false, List, [], ◌∷◌, ◌++◌, length, map, take, Option, Some, None, refl, sym, ◌∙◌, ap, subst, arith, append_assoc, length-append}
-use Rattle.std.specs.Prelude.{◌==◌, if◌then◌else◌, IsSome, IsTrue, Result, Ok, Err, slice_get}
-use Rattle.std.specs.List.{list_any}
-use Rattle.std.proofs.lemmas.Bool.{cases_lt, eq-eqb, eqb-true}
+use Rattle.std.proofs.Common.{◌≡◌, ◌⊎◌, inl, inr, ⊎_elim, ℕ, suc, ◌<◌, ◌≤◌, Bool, true, false, List, [], ◌∷◌, ◌++◌, length, map, take, Option, Some, refl, sym, ◌∙◌, ap, subst, arith, append_assoc, length-append}
+use Rattle.std.specs.Prelude.{◌==◌, if◌then◌else◌, IsSome, Err, slice_get}
+use Rattle.std.proofs.lemmas.Bool.{cases_lt, eq-eqb}
 use Rattle.std.proofs.lemmas.List.{append-nil, take_all}
 use Rattle.sector_disk.specs.declared.machine.Machine.{Ghosts}
-use Rattle.sector_disk.specs.declared.sector.WeakRun.{WeakRun}
-use Rattle.sector_disk.specs.Calls.{Counts, LeavesDisk, Since}
-use Rattle.sector_disk.specs.Image.{AllWorn, AreShort, Windows, open_damage}
+use Rattle.sector_disk.specs.Calls.{Counts, LeavesDisk}
+use Rattle.sector_disk.specs.Image.{AreShort, Windows}
 use Rattle.sector_disk.specs.Machine.{LeavesOnly, Moment, Report, Rose, Utters}
 use Rattle.sector_disk.proofs.Moments.{leaves_more, then_on}
 use Rattle.sector_disk.proofs.Wear.{AllWorn-worn}
@@ -29,8 +27,8 @@ use Rattle.fsd_runs.specs.Commands.{answer}
 use Rattle.fsd_runs.specs.declared.request.Request.{Request}
 use Rattle.fsd_runs.specs.Errands.{Answered, answered_so, Ending, Errand, Turn, blank, forced_turn, line_turn}
 use Rattle.fsd_runs.specs.Leaves.{IsBroken, IsUnsaid, SaysNext}
-use Rattle.fsd_runs.specs.Runs.{Goes, answered, behind, changes_in, forced_in, said_in, turns_begun, turns_of, turn_of}
-use Rattle.volume_contract.specs.State.{Known, forced_of, volume_of}
+use Rattle.fsd_runs.specs.Runs.{Goes, answered, behind, changes_in, said_in, turns_begun, turns_of, turn_of}
+use Rattle.volume_contract.specs.State.{Known, volume_of}
 use Rattle.volume_turns.specs.Group.{turns_behind}
 use Rattle.volume_turns.specs.declared.turns.End.TheVariants.{Fault as Stopped, Output}
 use Rattle.volume_turns.specs.Line.{EndsWith, UttersFault, is_unsaid}

@@ -1,6 +1,6 @@
 -- A run that stands between two turns, and the line that is said then.
-use Rattle.std.proofs.Common.{◌≡◌, ◌⊎◌, inl, inr, ⊎_elim, ℕ, zero, suc, ◌+◌, ◌<◌, ◌≤◌, Bool, false, List, [], ◌∷◌, ◌++◌, length, take, Option, Some, None, refl, sym, ◌∙◌, ap, subst, arith, append_assoc}
-use Rattle.std.specs.Prelude.{IsSome, IsTrue, Result, Err, slice_get}
+use Rattle.std.proofs.Common.{◌≡◌, ◌⊎◌, inl, inr, ℕ, zero, suc, ◌+◌, ◌≤◌, Bool, false, List, [], ◌∷◌, ◌++◌, length, take, refl, sym, ◌∙◌, ap, subst, arith, append_assoc}
+use Rattle.std.specs.Prelude.{IsSome, IsTrue, Err, slice_get}
 use Rattle.std.specs.List.{list_any}
 use Rattle.std.proofs.lemmas.Bool.{eq-eqb}
 use Rattle.sector_disk.specs.declared.machine.Machine.{Ghosts}
@@ -20,7 +20,7 @@ use Rattle.fsd_runs.specs.Leaves.{IsBroken, IsOutside, IsUnsaid, SaysNext}
 use Rattle.fsd_runs.specs.Runs.{changes_in, forced_in, said_in}
 use Rattle.volume_contract.specs.State.{Known}
 use Rattle.volume_turns.specs.declared.turns.End.TheVariants.{Fault as Stopped}
-use Rattle.volume_turns.specs.Line.{EndsWith, IsSaidFor, UttersFault, is_unsaid}
+use Rattle.volume_turns.specs.Line.{EndsWith, UttersFault, is_unsaid}
 use Rattle.volume_turns.specs.Turns.{EndsAtOnce, InRun, Said, SaysAll, Told}
 use Rattle.volume_turns.specs.Whole.{Halted}
 use Rattle.volume_turns.proofs.LineLaws.{at_once_ends, next_fault, said_ends}

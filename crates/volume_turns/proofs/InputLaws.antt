@@ -1,21 +1,21 @@
 -- What a version of the input's bytes leaves: it is one command, or the input is too long.
-use Rattle.std.proofs.Common.{◌≡◌, ◌⊎◌, inl, inr, ℕ, ◌<◌, ◌≤◌, Bool, true, false, List, [], ◌∷◌, ◌++◌, length, take, Option, Some, None, refl, sym, ◌∙◌, ap, subst, arith}
+use Rattle.std.proofs.Common.{◌≡◌, ◌⊎◌, inl, inr, ℕ, ◌<◌, ◌≤◌, Bool, true, false, List, [], ◌∷◌, ◌++◌, length, Option, Some, None, refl, sym, ◌∙◌, ap, subst, arith}
 use Rattle.fsd_log.specs.Scan.{Placed}
-use Rattle.std.specs.Prelude.{if◌then◌else◌, nat_lt, IsSome, Result, Ok, Err, slice_get}
+use Rattle.std.specs.Prelude.{if◌then◌else◌, nat_lt, IsSome, Err, slice_get}
 use Rattle.std.proofs.lemmas.Bool.{lt-ltb, ltb-true}
 use Rattle.std.proofs.lemmas.List.{append-nil}
 use Rattle.volume_layout.specs.declared.layout.Layout.{Layout}
 use Rattle.sector_disk.specs.declared.machine.Machine.{Ghosts}
 use Rattle.sector_disk.specs.declared.sector.WeakRun.{WeakRun}
 use Rattle.sector_disk.specs.Calls.{LeavesDisk, WritesDisk}
-use Rattle.sector_disk.specs.Image.{AreShort, open_damage}
+use Rattle.sector_disk.specs.Image.{AreShort}
 use Rattle.sector_disk.specs.Machine.{LeavesOnly, Moment, Report}
 use Rattle.sector_disk.proofs.Moments.{leaves_more}
 use Rattle.sector_disk.proofs.Wear.{AllWorn-here}
 use Rattle.fsd_bytes.specs.declared.refusal.Refusal.{Refusal}
 use Rattle.fsd_bytes.specs.declared.refusal.Refusal.TheVariants as Why
 use Rattle.fsd_files.specs.Answers.{Met}
-use Rattle.fsd_files.specs.Disk.{Image, in_runs}
+use Rattle.fsd_files.specs.Disk.{in_runs}
 use Rattle.fsd_files.specs.Files.{Change}
 use Rattle.fsd_files.specs.Volume.{Volume}
 use Rattle.fsd_sound.specs.Mounted.{Mounted, telling_of}
@@ -28,12 +28,12 @@ use Rattle.fsd_texts.specs.declared.fault.Fault.TheVariants as Ends
 use Rattle.fsd_texts.specs.declared.line.Line.TheVariants as Says
 use Rattle.fsd_texts.specs.Script.{max_input}
 use Rattle.fsd_runs.specs.declared.request.Request.TheVariants.{One, Put}
-use Rattle.fsd_runs.specs.Errands.{Cut, Errand, MayCut, Turn, alone, blank, errand_of, line_turn, nothing_but}
+use Rattle.fsd_runs.specs.Errands.{Cut, Errand, MayCut, Turn, alone, errand_of, line_turn, nothing_but}
 use Rattle.fsd_runs.specs.Leaves.{IsBroken, IsOutside, IsReplied, IsUnsaid, LeavesMounted, LeavesRun, LeavesUnmounted, Left, LeftSince}
-use Rattle.fsd_runs.specs.Runs.{Goes, IsCutAt, answered, behind, errand_in, run_turns, turns_of}
+use Rattle.fsd_runs.specs.Runs.{Goes, IsCutAt, answered, behind, errand_in, turns_of}
 use Rattle.volume_contract.specs.Ends.{Closes, device_of}
 use Rattle.volume_contract.specs.Order.{IsDevice}
-use Rattle.volume_contract.specs.State.{State, Known, Leaves, Stands, forced_of, volume_of}
+use Rattle.volume_contract.specs.State.{State, Known, Leaves, Stands, volume_of}
 use Rattle.volume_turns.specs.declared.turns.End.TheVariants.{Fault as Stopped}
 use Rattle.volume_turns.specs.Line.{EndsWith, UttersFault, is_unsaid}
 use Rattle.volume_turns.specs.Once.{InClose, IsDone, close_fault}

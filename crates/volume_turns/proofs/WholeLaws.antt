@@ -1,7 +1,7 @@
 -- What a whole run leaves: its mount, and what it did over the mounted volume.
-use Rattle.std.proofs.Common.{◌≡◌, ◌⊎◌, inl, inr, Bool, false, ℕ, suc, ◌+◌, ◌≤◌, List, [], ◌∷◌, ◌++◌, length, take, Option, Some, None, refl, sym, ◌∙◌, ap, subst, arith, length-append}
+use Rattle.std.proofs.Common.{◌≡◌, ◌⊎◌, inl, inr, Bool, false, ℕ, ◌+◌, ◌≤◌, List, [], ◌∷◌, ◌++◌, length, take, Option, Some, None, refl, sym, ◌∙◌, ap, subst, arith, length-append}
 use Rattle.fsd_log.specs.Scan.{Placed}
-use Rattle.std.specs.Prelude.{IsSome, Result, Ok, Err, slice_get}
+use Rattle.std.specs.Prelude.{IsSome, Ok, Err, slice_get}
 use Rattle.std.proofs.lemmas.Bool.{eq-eqb}
 use Rattle.std.proofs.lemmas.List.{append-nil}
 use Rattle.volume_layout.specs.declared.layout.Layout.{Layout}
@@ -11,7 +11,7 @@ use Rattle.sector_disk.specs.Calls.{Counts, DiskFaults, LeavesDisk, Since}
 use Rattle.sector_disk.specs.Image.{AreShort, Windows}
 use Rattle.sector_disk.specs.Machine.{LeavesOnly, Moment, Report, Rose, UsesDisk}
 use Rattle.sector_disk.proofs.Moments.{leaves_more, started, then_on}
-use Rattle.fsd_files.specs.Disk.{Image, in_runs}
+use Rattle.fsd_files.specs.Disk.{in_runs}
 use Rattle.fsd_files.specs.Files.{Change}
 use Rattle.fsd_files.specs.Volume.{Volume}
 use Rattle.fsd_sound.specs.Mounted.{Mounted, telling_of}
@@ -29,16 +29,16 @@ use Rattle.fsd_texts.specs.Text.{fault_text}
 use Rattle.fsd_runs.specs.declared.request.Request.{Request}
 use Rattle.fsd_runs.specs.declared.request.Request.TheVariants.{Put}
 use Rattle.fsd_runs.specs.Errands.{Cut, Turn, blank, errand_of, fault_status}
-use Rattle.fsd_runs.specs.Leaves.{CutCause, IsBroken, IsOutside, IsReplied, IsSpent, IsUnsaid, Left, LeavesRun, LeftBefore, LeftSince, MayEnd}
-use Rattle.fsd_runs.specs.Runs.{Goes, IsCutAt, IsThrough, Run, behind, changes_in, errand_in, run_end, run_status, run_turns, said_in, turns_of}
+use Rattle.fsd_runs.specs.Leaves.{CutCause, IsBroken, IsOutside, IsReplied, IsSpent, IsUnsaid, Left, LeavesRun, LeftBefore, LeftSince}
+use Rattle.fsd_runs.specs.Runs.{Goes, IsCutAt, IsThrough, Run, changes_in, errand_in, run_end, run_status, run_turns, said_in, turns_of}
 use Rattle.volume_contract.specs.Mount.{EndsBefore, EndsSettled, Excuses, ExcusesOf, IsSoundAt, MountsSound, Settled, SoundBefore, SoundSince}
 use Rattle.volume_contract.specs.State.{State, Known, Stands, forced_of, volume_of}
 use Rattle.volume_turns.specs.declared.turns.End.TheVariants.{Fault as Stopped}
 use Rattle.volume_turns.specs.Line.{EndsWith, UttersFault, is_unsaid}
-use Rattle.volume_turns.specs.Once.{IsDone, fault_of}
+use Rattle.volume_turns.specs.Once.{fault_of}
 use Rattle.volume_turns.specs.Steps.{device_told}
 use Rattle.volume_turns.specs.Turns.{EndsAtOnce, InRun, SaysAll, Told}
-use Rattle.volume_turns.specs.Whole.{Finishes, Halted, RunsOut, SaysOut}
+use Rattle.volume_turns.specs.Whole.{Halted, RunsOut, SaysOut}
 use Rattle.volume_turns.proofs.HaltLaws.{broken_ends, broken_moments}
 use Rattle.volume_turns.proofs.LineLaws.{excused, said_ends}
 use Rattle.volume_turns.proofs.MountLaws.{before_left, known_length, nothing_said, run_left, since_left, sound_to, starts}

@@ -1,10 +1,10 @@
-use Rattle.std.proofs.Common.{◌≡◌, ℕ, suc, ◌+◌, List, [], ◌∷◌, length, Option, Some, None, Ok, Err, refl, sym, ◌∙◌, ap, subst, arith}
-use Rattle.std.specs.Prelude.{IfSome, Result}
+use Rattle.std.proofs.Common.{◌≡◌, ℕ, ◌+◌, List, length, Option, Ok, Err, refl, sym, ◌∙◌, ap, subst, arith}
+use Rattle.std.specs.Prelude.{IfSome}
 use Rattle.volume_layout.specs.declared.layout.Layout.{Layout}
 use Rattle.sector_disk.specs.Image.{AreShort, Windows}
 use Rattle.sector_disk.proofs.Holding.{trusts_on}
 use Rattle.fsd_texts.specs.declared.command.Command.{Command as Word}
-use Rattle.script_text.specs.Making.{Making, begun, made_left}
+use Rattle.script_text.specs.Making.{Making, made_left}
 use Rattle.volume_turns.specs.Generate.{Draws, RunsCounted}
 use Rattle.volume_turns.specs.Tally.{Counting, nothing}
 use Rattle.volume_turns.specs.Turns.{Follows}

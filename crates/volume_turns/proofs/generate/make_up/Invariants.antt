@@ -1,4 +1,4 @@
-use Rattle.std.proofs.Common.{◌≡◌, ℕ, ◌+◌, None, Ok, ◌≤◌, length}
+use Rattle.std.proofs.Common.{◌≡◌, ◌+◌, None, Ok, ◌≤◌, length}
 use Rattle.std.specs.Prelude.{Result}
 use Rattle.sector_disk.specs.Calls.{Since}
 use Rattle.sector_disk.specs.Machine.{Trusts}
