@@ -250,10 +250,10 @@ finishes_broken M request before k front through more a m b moments said short e
     }
 
 -- the output has failed
-pub finishes_unsaid : {D T : Type 0} (M : Ghosts D) (request : Request) (before : Report) (k : Known) (turns : List Turn) (a b : D) → LeavesOnly M.moment M.left_since a b (InRun k turns (M.now a)) → Told {T = T} before (M.report b) (Err Output)
-    → (e : Errand) (Last : Volume → Image → Type 0) (mets : List Met) → turns_of e mets (volume_of k) ≡ turns
+pub finishes_unsaid : {D T : Type 0} (M : Ghosts D) (request : Request) (before : Report) (k : Known) (said : List Turn) (a b : D) → LeavesOnly M.moment M.left_since a b (InRun k said (M.now a)) → Told {T = T} before (M.report b) (Err Output)
+    → (e : Errand) (Last : Volume → Image → Type 0) (mets : List Met) → turns_of e mets (volume_of k) ≡ said
     → ((t : ℕ) → t ≤ M.moment a → Goes (in_runs k.windows) (M.left_since b t) Last e (M.now a).said (M.now a).image (volume_of k) mets e.commands) → Finishes M request e Last before k a b 6
-finishes_unsaid M request before k turns a b moments told e Last mets is goes = record {
+finishes_unsaid M request before k said a b moments told e Last mets is goes = record {
   mets = mets;
   goes = goes;
   moments = subst (λ (ts : List Turn). LeavesOnly M.moment M.left_since a b (InRun k ts (M.now a))) (sym is) moments;

@@ -6,7 +6,6 @@ pub mod TurnLaws
 pub mod RunLaws
 pub mod OnceLaws
 pub mod MountLaws
-pub mod OneShotLaws
 pub mod GroupLaws
 pub mod LineLaws
 pub mod HaltLaws
@@ -15,3 +14,4 @@ pub mod CountLaws
 pub mod GroupEndLaws
 pub mod GenerateLaws
 pub mod InputLaws
+pub mod OneLaws

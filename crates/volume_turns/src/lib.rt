@@ -18,6 +18,6 @@ pub use answer::Answer;
 pub use generate::run_generate;
 pub use group::group_run;
 pub use input::run_put;
-pub use once::{alone, one_shot};
+pub use once::alone;
 pub use turns::{End, Says};
 pub use whole::run_one;
