@@ -7,7 +7,7 @@ ghost use Rattle.fsd_table.specs.Table.{top, BreaksTable};
 ghost use Rattle.fsd_table.specs.Tree.{IsTree, table_of};
 ghost use Rattle.name_page.specs.Cut.{after_cut, is_before};
 ghost use Rattle.name_btree.specs.Descent.{BeginsWith, EndsWith};
-ghost use Rattle.name_btree.specs.Fault.{outer_told, HasCause, BreaksBeside, BarsBeside, BarsTable, IsAmong};
+ghost use Rattle.name_btree.specs.Fault.{outer_told, HasCause, BreaksBeside, BarsBeside, BarsTable, IsAmong, IsOnWay, ShowsCause};
 ghost use Rattle.name_page.specs.Lookups.{entry_with, entry_after, highest_of, last_that, same_name, is_after};
 ghost use Rattle.name_btree.specs.Lookup.{entry_of, StandsIn, IsLedTo, IsLedBeside};
 ghost use Rattle.name_page.specs.declared.pages.TheConstants.{MOST_REACHED};
@@ -64,6 +64,7 @@ pub fn find<T: Pages>(t: &mut T, key: &Key) -> Result<Option<FoundEntry>, TreeFa
     ensures key { IfOk result (λ found. IfSome found (λ f. f.entry.key ≡ key.now)) }
     ensures found { IfOk result (λ found. T.trusted t.new → (height : ℕ) → IsTree (T.step t.old).images height → entry_of found ≡ entry_with key.now (table_of (T.step t.old).images height)) }
     ensures fault { IfErr result (HasCause (T.step t.new) (BreaksTable (T.step t.new).images) (BarsTable (T.step t.new))) }
+    ensures shown { IfErr result (ShowsCause (T.step t.new) BreaksTable IsOnWay) }
 {
     let found = leaf_below(t, top(), 0, &Cut::UpTo(key.copied()))?;
     match entry_in(&found.entries, key) {
