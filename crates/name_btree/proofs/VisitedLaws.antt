@@ -17,9 +17,10 @@ use Rattle.name_btree.specs.declared.descent.Found.{Found}
 use Rattle.name_btree.specs.declared.fault.TreeFault.{TreeFault}
 use Rattle.name_btree.specs.declared.fault.TreeFault.TheVariants.{Pages, Broken}
 use Rattle.name_btree.specs.Descent.{way_to, HasChildren, IsNeighbour, HasNeighbours}
-use Rattle.name_btree.specs.Fault.{HasCause, IsCaused, IsMisfit, IsOnWay, BreaksBelow, BreaksBeside, BarsBelow, BarsBeside, BarsTable, BarsPage, ShowsCause, ShowsMisfit}
+use Rattle.name_btree.specs.Fault.{HasCause, IsCaused, IsMisfit, IsBeside, IsOnWay, BreaksBelow, BreaksBeside, BarsBelow, BarsBeside, BarsTable, BarsPage, ShowsCause, ShowsMisfit}
 use Rattle.name_btree.specs.Lookup.{IsBelow}
-use Rattle.name_page.specs.Looks.{Shows}
+use Rattle.name_page.specs.Looks.{Looks, Shows}
+use Rattle.name_page.proofs.LookLaws.{agrees_before}
 use Rattle.name_page.specs.Pages.{Step, home_of}
 use Rattle.name_btree.proofs.CauseLaws.{cause_map, bars_table, shows_cause_map}
 
@@ -109,6 +110,12 @@ module _ (s : Step) where
   neighbour_breaks fault n h =
       cause_map s (BreaksBelow s.images n.above n.child) (BreaksBeside s.images n) (BarsBelow s n.above n.child) (BarsBeside s n) (λ page x is. x is.1) (λ page x is. x is.1) fault h
 
+  pub shown_beside : (fault : TreeFault) (n : Neighbour) → ShowsCause s (λ pages. BreaksBelow pages n.above n.child) (λ pages. IsBelow pages n.above n.child) fault
+      → ShowsCause s (λ pages. BreaksBeside pages n) (λ pages. IsBeside pages n) fault
+  shown_beside fault n h =
+      shows_cause_map s (λ pages. BreaksBelow pages n.above n.child) (λ pages. BreaksBeside pages n) (λ pages. IsBelow pages n.above n.child) (λ pages. IsBeside pages n)
+      (λ pages page agrees x is. x is.1) (λ pages page agrees x is. x is.1) fault h
+
 pub deep_below : (pages : List (List ℕ)) (above0 : ℕ) (start : Child) (above : ℕ) (w : Way) → IsVisitedWay pages above0 start above w → max_height ≤ above → BreaksBelow pages above0 start w.child.page
 deep_below pages above0 start above w on deep v = too_deep_breaks pages (above + 1) w.child (on v).0 (deeper above deep)
   where
@@ -131,6 +138,13 @@ module _ (s : Step) (c : Child) (found : Found) (is : c ≡ top) (beside : HasNe
 
   pub previous_breaks : found.previous ≡ Some n → HasCause s (BreaksTable s.images) (BarsTable s) fault
   previous_breaks at = beside_breaks (subst (λ (o : Option Neighbour). IfSome o (IsNeighbour s.images)) at (found_beside s.images c found is beside).0)
+
+pub shown_next : (mid s : Step) (c : Child) (found : Found) → c ≡ top → Looks mid s → Shows mid (λ pages. HasNeighbours pages 0 c found) → (n : Neighbour) → found.next ≡ Some n → (fault : TreeFault)
+    → ShowsCause s (λ pages. BreaksBeside pages n) (λ pages. IsBeside pages n) fault → ShowsCause s BreaksTable IsOnWay fault
+shown_next mid s c found is looks beside n at fault h =
+    let there : Shows s (λ pages. IsNeighbour pages n) =
+    λ pages agrees. subst (λ (o : Option Neighbour). IfSome o (IsNeighbour pages)) at (found_beside pages c found is (beside pages (agrees_before mid s pages looks agrees))).1 in
+    shows_cause_map s (λ pages. BreaksBeside pages n) BreaksTable (λ pages. IsBeside pages n) IsOnWay (λ pages page agrees x. x (there pages agrees)) (λ pages page agrees x. x (there pages agrees)) fault h
 
 pub root_above : (pages : List (List ℕ)) (n : Neighbour) → IsNeighbour pages n → HasChildren pages top
 root_above pages n is = above_visited pages (n.above + 1) n.child (omega (arith, is.0)) is.1

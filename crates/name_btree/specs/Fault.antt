@@ -103,6 +103,10 @@ BreaksBelow pages above c page = IsVisited pages (above + 1) c → BreaksTable p
 abbrev pub BreaksBeside : List (List ℕ) → Neighbour → ℕ → Type 0
 BreaksBeside pages n page = IsNeighbour pages n → BreaksTable pages page
 
+-- where a path reaches the neighbour, another reaches the page
+abbrev pub IsBeside : List (List ℕ) → Neighbour → ℕ → Type 0
+IsBeside pages n page = IsNeighbour pages n → IsOnWay pages page
+
 abbrev pub BarsBelow : Step → (above : ℕ) → Child → ℕ → Type 0
 BarsBelow s above start page = IsVisited s.images (above + 1) start → BarsTable s page
 
