@@ -5,11 +5,12 @@ ghost use Rattle.sector_disk.specs.Calls.{OnlyReads, device_in};
 ghost use Rattle.fsd_formats.specs.declared.entry.Entry.{Entry as Listed};
 ghost use Rattle.fsd_files.specs.Answers.{entry_after, highest_entry, next_reply};
 ghost use Rattle.name_page.specs.Lookups.{is_after};
+ghost use Rattle.volume_contract.specs.Causes.{Causes};
 ghost use Rattle.volume_contract.specs.Ends.{IsLater, Looks, device_of};
 ghost use Rattle.volume_contract.specs.Order.{Follows, IsLookUp, is_idle, next_steps};
 ghost use Rattle.volume_contract.specs.State.{Known, Stands, volume_of};
-ghost use Rattle.table_volume.specs.Looking.{Finds, met_found};
-ghost use Rattle.table_volume.specs.State.{Holds, state};
+ghost use Rattle.table_volume.specs.Looking.{Finds, ShowsEntry, met_found};
+ghost use Rattle.table_volume.specs.State.{Holds, resident, state};
 ghost use Rattle.table_volume.specs.Taken.{are_taken};
 
 use crate::Volume;
@@ -37,6 +38,8 @@ impl Volume {
         ensures stands { M.honest m.new → (k : Known) → Stands state Holds self.old k (M.now m.old) → Stands state Holds self.new k (M.now m.new) }
         ensures found { M.honest m.new → (k : Known) → Stands state Holds self.old k (M.now m.old) → Finds (entry_after (option_copied after.entry) (volume_of k).entries) result }
         ensures taken { M.honest m.new → (k : Known) → Stands state Holds self.old k (M.now m.old) → (e : Listed) → Contains (volume_of k).entries e → IsTrue (are_taken self.new e.runs) }
+        ensures causes { Causes M.Machine (resident self.old) (state self.old) (state self.new) m.old m.new result }
+        ensures shown { M.honest m.new → IfOk result (λ found. IfSome found (ShowsEntry (state self.old) (state self.new) (resident self.old) (M.now m.old) (M.now m.new))) }
     {
         let _whole = self.cache.dirty_list();
         let home_a = self.layout.home_a(0);
@@ -107,6 +110,7 @@ impl Volume {
         ensures idle { IsTrue (is_idle (next_steps (state self.old))) → m.new ≡ m.old }
         ensures later { IfOk result (IsLater (option_map (λ key. key.now) after.entry)) }
         ensures stands { M.honest m.new → (k : Known) → Stands state Holds self.old k (M.now m.old) → Stands state Holds self.new k (M.now m.new) }
+        ensures causes { Causes M.Machine (resident self.old) (state self.old) (state self.new) m.old m.new result }
         ensures done { M.honest m.new → (k : Known) → Stands state Holds self.old k (M.now m.old) → Looks (next_reply (volume_of k) (option_map (λ key. key.now) after.entry)) result }
     {
         self.is_up()?;

@@ -5,6 +5,7 @@ use Rattle.fsd_files.specs.Answers.{next_reply}
 use Rattle.volume_contract.specs.Ends.{IsLater, Looks}
 use Rattle.volume_contract.specs.Order.{Follows, next_steps}
 use Rattle.table_volume.specs.State.{state}
+use Rattle.table_volume.proofs.CauseLaws.{met_one_after}
 use Rattle.table_volume.proofs.NextLaws.{met_done, met_later, met_order, up_by}
 use Rattle.table_volume.proofs.volume.Volume.next_after.Goals as goal
 
@@ -18,3 +19,8 @@ pub returns-clause-done : goal.returns-clause-done
 returns-clause-done g c = λ h k stands.
     subst (Looks (next_reply k.mounted.volume (option_copied c.args.after))) (sym c.met_found.ensures)
     (met_done c.find_next.new.self c.in_ok-found.found (option_copied c.args.after) k.mounted.volume.entries (c.in_ok-found.ensures.found h k stands) (c.in_ok-found.ensures.taken h k stands))
+
+pub returns-clause-causes : goal.returns-clause-causes
+returns-clause-causes g c =
+    met_one_after g.M.Machine c.args.m.now c.find_next.new.m _ c.args.self.now c.self.view_is c.self.invariant _ (state c.find_next.new.self) c.find_next.new.self c.find_next.ensures.cache c.in_ok-found.found
+    (λ h. c.in_ok-found.ensures.shown h) c.met_found.result c.met_found.ensures
