@@ -1,4 +1,4 @@
-use Rattle.std.proofs.Common.{inl, Bool, List, length, length-set, refl, ap, ◌∙◌}
+use Rattle.std.proofs.Common.{inl, true, Bool, List, length, length-set, refl, ap, ◌∙◌}
 use Rattle.sector_disk.proofs.CallLaws.{reads_none}
 use Rattle.table_pages.specs.ReadLaws.{fills_still}
 use Rattle.table_pages.proofs.StepLaws.{given_free, within_free}

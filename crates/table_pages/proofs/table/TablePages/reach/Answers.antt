@@ -129,7 +129,7 @@ returns-in-Err-clause-cause g c =
 pub returns-in-Err-clause-outside : goal.returns-in-Err-clause-outside
 returns-in-Err-clause-outside g c =
     let t = c.args.self.now in
-    let all = c.bring_used.ensures.fetches in
+    let all = c.in-Err.ensures.fetches in
     record {
       reads = all.reads;
       loses = all.loses;

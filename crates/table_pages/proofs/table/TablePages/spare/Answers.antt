@@ -54,12 +54,12 @@ returns-in-Err-clause-stays g c = λ trusted.
 
 pub returns-in-Ok-clause-outside : goal.returns-in-Ok-clause-outside
 returns-in-Ok-clause-outside g c =
-    let all = c.spare_pages.ensures.only.fetches in
+    let all = c.in-Ok.ensures.only.fetches in
     record { reads = all.reads; loses = all.loses; fills = all.fills; source = refl; machine = refl; cache = refl; free = refl; made_over = refl; made_with = refl; count = refl; home_a = refl; taken = λ page is. inl is; barred = λ h place is. inl is }
 
 pub returns-in-Err-clause-outside : goal.returns-in-Err-clause-outside
 returns-in-Err-clause-outside g c =
-    let all = c.spare_pages.ensures.only.fetches in
+    let all = c.in-Err.ensures.only.fetches in
     record {
       reads = all.reads;
       loses = all.loses;
