@@ -1,6 +1,6 @@
 -- Why a call of a volume tells something as lost or as unsound.
 use Rattle.std.proofs.Common.{◌≡◌, ℕ, Bool, true, false, cond, List, Option, Some, None, Result, Ok, Err, refl, sym, ap, subst, ◌∙◌}
-use Rattle.std.specs.Prelude.{IfErr, IfSome, IsErrAnd}
+use Rattle.std.specs.Prelude.{IfErr, IfOk, IfSome, IsErrAnd}
 use Rattle.volume_layout.specs.Layout.{home_a}
 use Rattle.fsd_bytes.specs.declared.refusal.Refusal.{Refusal}
 use Rattle.fsd_bytes.specs.declared.refusal.Refusal.TheVariants as Why
@@ -90,25 +90,35 @@ handed_cause M resident old new m m' why (Err x) is cause = subst (λ (y : Refus
 
 -- an entry that is met
 module _ {D : Type 0} (M : MachineGhosts D) (m m' : D) (v w : VolumeValue) (is : v ≡ w) (whole : IsWhole v) (c : CacheValue) (new : State) where
-  pub met_cause : (f : FoundEntry) → (M.honest m' → ShowsEntry (state w) new (resident w) (M.now m) (M.now m') f) → Causes M (resident w) (state w) new m m' (met_entry w f.page f.entry)
+  met_cause : (f : FoundEntry) → (M.honest m' → ShowsEntry (state w) new (resident w) (M.now m) (M.now m') f) → Causes M (resident w) (state w) new m m' (met_entry w f.page f.entry)
   met_cause f shows = by (are_taken w f.entry.runs) refl
     where
       by : (b : Bool) → are_taken w f.entry.runs ≡ b → Causes M (resident w) (state w) new m m' (cond b (Ok f.entry) (Err (Why.Unsound (home_a w.layout f.page))))
       by true taken = tt
       by false untaken = λ honest. untaken_by v w is whole (M.now m) (M.now m') new f (shows honest) untaken
 
-  pub met_one_cause : (found : Option FoundEntry) → (M.honest m' → IfSome found (ShowsEntry (state w) new (resident w) (M.now m) (M.now m'))) → Causes M (resident w) (state w) new m m' (met_found w found)
-  met_one_cause None shows = tt
-  met_one_cause (Some f) shows = by (met_entry w f.page f.entry) (met_cause f shows)
-    where
-      by : (r : Result Entry Refusal) → Causes M (resident w) (state w) new m m' r → Causes M (resident w) (state w) new m m' (found_one r)
-      by (Ok e) cause = tt
-      by (Err why) cause = cause
+  -- by the volume that a look-up leaves
+  module _ (after : VolumeValue) (free : List Bool) (left : after ≡ record v { cache = c; free_pages = free }) where
+    pub met_left : (r : Result (Option FoundEntry) Refusal) → (M.honest m' → IfOk r (λ found. IfSome found (ShowsEntry (state w) new (resident w) (M.now m) (M.now m'))))
+        → IfOk r (λ found. IfSome found (λ f. Causes M (resident w) (state w) new m m' (met_entry after f.page f.entry)))
+    met_left (Err why) shows = tt
+    met_left (Ok None) shows = tt
+    met_left (Ok (Some f)) shows =
+        let here : met_entry after f.page f.entry ≡ met_entry w f.page f.entry = ap (λ (x : VolumeValue). met_entry x f.page f.entry) left ∙ ap (λ (x : VolumeValue). met_entry x f.page f.entry) is in
+        subst (λ (x : Result Entry Refusal). Causes M (resident w) (state w) new m m' x) (sym here) (met_cause f shows)
 
-  -- the same by the volume that a look-up leaves
-  module _ (after : VolumeValue) (left : after ≡ record w { cache = c }) where
-    pub met_after : (f : FoundEntry) → (M.honest m' → ShowsEntry (state w) new (resident w) (M.now m) (M.now m') f) → (r : Result Entry Refusal) → r ≡ met_entry after f.page f.entry → Causes M (resident w) (state w) new m m' r
-    met_after f shows r met = subst (λ (x : Result Entry Refusal). Causes M (resident w) (state w) new m m' x) (sym (met ∙ ap (λ (x : VolumeValue). met_entry x f.page f.entry) left)) (met_cause f shows)
+-- what is met of what was found
+pub met_one : {D : Type 0} (M : MachineGhosts D) (resident : ℕ → Option (List ℕ)) (old new : State) (m m' : D) (v : VolumeValue) (found : Option FoundEntry) → IfSome found (λ f. Causes M resident old new m m' (met_entry v f.page f.entry))
+    → Causes M resident old new m m' (met_found v found)
+met_one M resident old new m m' v None cause = tt
+met_one M resident old new m m' v (Some f) cause = by (met_entry v f.page f.entry) cause
+  where
+    by : (r : Result Entry Refusal) → Causes M resident old new m m' r → Causes M resident old new m m' (found_one r)
+    by (Ok e) cause = tt
+    by (Err why) cause = cause
 
-    pub met_one_after : (found : Option FoundEntry) → (M.honest m' → IfSome found (ShowsEntry (state w) new (resident w) (M.now m) (M.now m'))) → (r : Result (Option Entry) Refusal) → r ≡ met_found after found → Causes M (resident w) (state w) new m m' r
-    met_one_after found shows r met = subst (λ (x : Result (Option Entry) Refusal). Causes M (resident w) (state w) new m m' x) (sym (met ∙ ap (λ (x : VolumeValue). met_found x found) left)) (met_one_cause found shows)
+pub met_handed : {D : Type 0} (M : MachineGhosts D) (resident : ℕ → Option (List ℕ)) (old new : State) (m m' : D) (v : VolumeValue) (found : Option FoundEntry) (f : FoundEntry) → found ≡ Some f
+    → IfSome found (λ x. Causes M resident old new m m' (met_entry v x.page x.entry)) → (r : Result Entry Refusal) → r ≡ met_entry v f.page f.entry → Causes M resident old new m m' r
+met_handed M resident old new m m' v found f is cause r met =
+    let here : Causes M resident old new m m' (met_entry v f.page f.entry) = subst (λ (o : Option FoundEntry). IfSome o (λ x. Causes M resident old new m m' (met_entry v x.page x.entry))) is cause in
+    subst (λ (x : Result Entry Refusal). Causes M resident old new m m' x) (sym met) here

@@ -39,6 +39,9 @@ use Rattle.table_volume.proofs.VisitLaws.{own_content, refused_breaks, way_withi
 same_home : (count home_a page other : ℕ) → count ≤ 4096 → page < count → other < count → home_in home_a page ≡ home_in home_a other → other ≡ page
 same_home count home_a page other small lt lt' is = omega (arith, small, lt, lt', is)
 
+home_named : (home_a page place : ℕ) → Unsound (home_in home_a page) ≡ Unsound place → place ≡ home_in home_a page
+home_named home_a page place is = cc is
+
 -- ---- faults
 
 fault_there : (s : Step) (f : TreeFault) → HasCause s (BreaksTable s.images) (BarsTable s) f → FaultIn s.images s.spares s.home_a f
@@ -185,6 +188,11 @@ module _ {D E : Type 0} {M : MachineGhosts D} {S : SourceGhosts E} where
       ap (λ (f : List Bool). read_page page (length f) had.bytes) (sym free_b) ∙ had.none,
     )
 
+    abbrev How : ℕ → Type 0
+    How page = ((is_spare free.now page ≡ true) × ((pages : List (List ℕ)) → HavePages c.cache.now (length free.now) pages → IsOnWay pages page))
+        ⊎ (((pages : List (List ℕ)) → HavePages c.cache.now (length free.now) pages → BreaksTable pages page)
+        ⊎ ((bytes : List ℕ) × (page < length free.now) × Had M S source (M.now m.now) cache.now page bytes × ((pages : List (List ℕ)) → HaveOthers c.cache.now (length free.now) page bytes pages → BreaksTable pages page)))
+
     barred_how : (page : ℕ) → page < length free.now → IsBarred (step_of b) page → Shows (step_of b) (λ pages. IsOnWay pages page)
         → (slice_index_or b.free.now page false ≡ true) ⊎ ((is_one_of b.cache.now.dirty page ≡ true) ⊎ HadRefused M S a.source.now (M.now a.m.now) a.cache.now (length b.free.now) page)
         → (place : ℕ) → place ≡ home_in home_a page → ShowsPlace M S source (M.now m.now) cache.now c.cache.now free.now home_a place
@@ -193,26 +201,21 @@ module _ {D E : Type 0} {M : MachineGhosts D} {S : SourceGhosts E} where
         spared : is_spare (step_of b).spares page ≡ true → is_spare free.now page ≡ true
         spared is = ap (λ (f : List Bool). is_spare f page) (sym free_b) ∙ is
 
-        abbrev How : Type 0
-        How = ((is_spare free.now page ≡ true) × ((pages : List (List ℕ)) → HavePages c.cache.now (length free.now) pages → IsOnWay pages page))
-            ⊎ (((pages : List (List ℕ)) → HavePages c.cache.now (length free.now) pages → BreaksTable pages page)
-            ⊎ ((bytes : List ℕ) × (page < length free.now) × Had M S source (M.now m.now) cache.now page bytes × ((pages : List (List ℕ)) → HaveOthers c.cache.now (length free.now) page bytes pages → BreaksTable pages page)))
-
         unread : is_spare (step_of b).spares page ≡ false → IsBarred (step_of b) page → page_at (step_of b).images page ≡ None
         unread used (inl spare) = absurd (both_ways (is_spare (step_of b).spares page) used spare)
         unread used (inr none) = none
 
         beside : is_spare (step_of b).spares page ≡ false → was_reached page ≡ false
-            → (slice_index_or b.free.now page false ≡ true) ⊎ ((is_one_of b.cache.now.dirty page ≡ true) ⊎ HadRefused M S a.source.now (M.now a.m.now) a.cache.now (length b.free.now) page) → How
+            → (slice_index_or b.free.now page false ≡ true) ⊎ ((is_one_of b.cache.now.dirty page ≡ true) ⊎ HadRefused M S a.source.now (M.now a.m.now) a.cache.now (length b.free.now) page) → How page
         beside used out (inl free) = absurd (both_ways (is_spare (step_of b).spares page) used free)
         beside used out (inr (inl dirty)) = absurd (both_ways (was_reached page) out (or_right (among b.reached.items page) (among b.cache.now.dirty page) dirty))
         beside used out (inr (inr had)) = let was = was_had page had in inr (inr (was.0, lt, was.1, had_refused page was.0 out was.2 way))
 
-        at : is_spare (step_of b).spares page ≡ false → (x : Bool) → was_reached page ≡ x → How
+        at : is_spare (step_of b).spares page ≡ false → (x : Bool) → was_reached page ≡ x → How page
         at used true is = inr (inl (reached_refused page lt used is (unread used bars) way))
         at used false out = beside used out why
 
-        by : (x : Bool) → is_spare (step_of b).spares page ≡ x → How
+        by : (x : Bool) → is_spare (step_of b).spares page ≡ x → How page
         by true spare = inl (spared spare, λ pages have. way pages (agrees pages have))
         by false used = at used (was_reached page) refl
 
@@ -239,7 +242,7 @@ module _ {D E : Type 0} {M : MachineGhosts D} {S : SourceGhosts E} where
             place (place_is ∙ ap (λ (h : ℕ). home_in h x.0) home_b)
 
     shows_fault : (f : TreeFault) → HasCause (step_of b) (BreaksTable (step_of b).images) (BarsTable (step_of b)) f → ShowsCause (step_of b) BreaksTable IsOnWay f → ShowsFault M S source m.now c.m.now cache.now c.cache.now free.now home_a f
-    shows_fault (Broken page) cause shown = λ honest place is. record { page = page; home = cc is; how = inr (inl (λ pages have. shown pages (agrees pages have))) }
+    shows_fault (Broken page) cause shown = λ honest place is. record { page = page; home = home_named home_a page place is; how = inr (inl (λ pages have. shown pages (agrees pages have))) }
     shows_fault (Pages refused) cause shown = λ honest place is. refused_place honest refused cause.0 place is shown
 
     pub shown_left : (m' : D) (cache' : CacheValue) → m' ≡ c.m.now → cache' ≡ c.cache.now → {T : Type 0} → (r : Result T TreeFault) → IfErr r (HasCause (step_of b) (BreaksTable (step_of b).images) (BarsTable (step_of b)))

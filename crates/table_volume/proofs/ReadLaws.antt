@@ -3,6 +3,7 @@ use Rattle.std.proofs.Common.{◌≡◌, ◌⊎◌, inl, inr, ℕ, ◌<◌, Bool
 use Rattle.std.specs.Prelude.{Contains, IfErr, IfOk, IfSome, nat_eq, slice_get, slice_index_or}
 use Rattle.std.proofs.lemmas.Bool.{eq-eqb, eqb-true, lt-ltb, ltb-true}
 use Rattle.std.proofs.lemmas.Option.{slice_get-get_or}
+use Rattle.std.proofs.Math.Nat.{mod-eq_of_lt}
 use Rattle.volume_layout.specs.declared.layout.Layout.{Layout}
 use Rattle.volume_layout.specs.Layout.{home_a, home_b}
 use Rattle.volume_layout.proofs.RootLaws.{planned_bounds}
@@ -27,7 +28,7 @@ use Rattle.table_pages.specs.Bringing.{home_in}
 use Rattle.table_pages.specs.Reads.{Stood}
 use Rattle.volume_contract.specs.Causes.{BreaksMounted, HaveRead, IsRead, ShowsBreak, StandsInCopy, StoodInCopy}
 use Rattle.volume_contract.specs.State.{State}
-use Rattle.table_volume.specs.Looking.{Had, HaveOthers, HavePages, LeadsTo, LooksOnly, ShowsEntry, ShowsFault, ShowsPlace, told}
+use Rattle.table_volume.specs.Looking.{Had, HaveOthers, HavePages, LeadsTo, LooksOnly, ShowsEntry, ShowsFault, ShowsPlace, refusal_in, told}
 use Rattle.table_volume.specs.State.{resident, spare_pages, state}
 use Rattle.table_volume.specs.Taken.{are_taken}
 use Rattle.table_volume.specs.Volume.{IsWhole, VolumeValue}
@@ -106,7 +107,7 @@ module _ {D : Type 0} (M : MachineGhosts D) (m m' : D) (v : VolumeValue) (whole 
     home_told : (page : ℕ) → page < v.layout.pages → home_in home page ≡ home_a v.layout page
     home_told page lt =
         let bounds = planned_bounds v.layout whole.planned in
-        omega (arith, first, lt, bounds.pages_most, bounds.third_most)
+        mod-eq_of_lt (omega (arith, first, lt, bounds.pages_most, bounds.third_most)) ∙ omega (arith, first)
 
     -- the home of a page that a path reaches
     visit_home : (pages : List (List ℕ)) → length pages ≡ v.layout.pages → (visit : Visit) → Contains (visits pages) visit → visit.page ≡ shows.page → place ≡ home_a v.layout visit.page
@@ -180,7 +181,7 @@ module _ {D : Type 0} (M : MachineGhosts D) (m m' : D) (v : VolumeValue) (whole 
   unsound_found : (home : ℕ) → home ≡ home_a v.layout 0 → (r : Result (Option FoundEntry) TreeFault) (place : ℕ) → told home r ≡ Err (Why.Unsound place)
       → IfErr r (ShowsFault M by_log.ghosts v.log m m' v.cache c v.free_pages home) → ShowsBreak (state v) new (resident v) (M.now m) (M.now m') place
   unsound_found home first (Ok found) place is shown = absurd (cc is)
-  unsound_found home first (Err f) place is shown = unsound_shown home place first (shown honest place (cc is))
+  unsound_found home first (Err f) place is shown = let same : refusal_in home f ≡ Why.Unsound place = cc is in unsound_shown home place first (shown honest place same)
 
 -- so it is by the parts of a volume
 pub unsound_by : {D : Type 0} (M : MachineGhosts D) (m m' : D) (v w : VolumeValue) → v ≡ w → IsWhole v → (c : CacheValue) (log : LogValue) → log ≡ v.log → (new : State) (home : ℕ) → home ≡ home_a v.layout 0 → (r : Result (Option FoundEntry) TreeFault)

@@ -58,10 +58,11 @@ children_within n first low high (s ∷ separators) lt all =
 
 interior_within : (page n : ℕ) (low high : Option Key) (first : ℕ) (separators : List Separator) → is_page page n (Interior first separators) ≡ true → AllByRecursion (λ (d : Child). d.page < n) (children first low high separators)
 interior_within page n low high first separators is =
-    let a = and_parts (list_all (λ s. is_key s.key && nat_lt s.child n) separators) _ is in
-    let b = and_parts (are_ascending (map (λ s. s.key) separators)) _ a.1 in
-    let c = and_parts (nat_lt first n) (is_between (least_separators page) 9 (length separators)) b.1 in
-    children_within n first low high separators (ltb-true first n c.0) a.0
+    let all = list_all (λ s. is_key s.key && nat_lt s.child n) separators in
+    let ascend = are_ascending (map (λ s. s.key) separators) in
+    let a = and_parts (all && ascend && nat_lt first n) (is_between (least_separators page) 9 (length separators)) is in
+    let b = and_parts (all && ascend) (nat_lt first n) a.0 in
+    children_within n first low high separators (ltb-true first n b.1) (and_parts all ascend b.0).0
 
 below_within : (pages : List (List ℕ)) (page : ℕ) (low high : Option Key) (x : Option Content) → page_at pages page ≡ x → AllByRecursion (λ (d : Child). d.page < length pages) (children_of low high x)
 below_within pages page low high None at = tt

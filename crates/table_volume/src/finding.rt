@@ -7,9 +7,9 @@ ghost use Rattle.volume_contract.specs.Causes.{Causes};
 ghost use Rattle.volume_contract.specs.Ends.{Looks, device_of, found_one};
 ghost use Rattle.volume_contract.specs.Order.{Follows, IsLookUp, entry_steps, is_idle};
 ghost use Rattle.volume_contract.specs.State.{Known, Stands, volume_of};
-ghost use Rattle.table_volume.specs.Looking.{Finds, ShowsEntry};
+ghost use Rattle.table_volume.specs.Looking.{Finds};
 ghost use Rattle.table_volume.specs.State.{Holds, resident, state};
-ghost use Rattle.table_volume.specs.Taken.{are_taken};
+ghost use Rattle.table_volume.specs.Taken.{are_taken, met_entry};
 
 use crate::Volume;
 use crate::looking::{find_in, told};
@@ -37,7 +37,7 @@ impl Volume {
         ensures found { M.honest m.new → (k : Known) → Stands state Holds self.old k (M.now m.old) → Finds (entry_of key.now (volume_of k).entries) result }
         ensures taken { M.honest m.new → (k : Known) → Stands state Holds self.old k (M.now m.old) → (e : Entry) → Contains (volume_of k).entries e → IsTrue (are_taken self.new e.runs) }
         ensures causes { Causes M.Machine (resident self.old) (state self.old) (state self.new) m.old m.new result }
-        ensures shown { M.honest m.new → IfOk result (λ found. IfSome found (ShowsEntry (state self.old) (state self.new) (resident self.old) (M.now m.old) (M.now m.new))) }
+        ensures met { IfOk result (λ found. IfSome found (λ f. Causes M.Machine (resident self.old) (state self.old) (state self.new) m.old m.new (met_entry self.new f.page f.entry))) }
     {
         let _whole = self.cache.dirty_list();
         let home_a = self.layout.home_a(0);

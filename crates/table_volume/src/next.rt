@@ -9,9 +9,9 @@ ghost use Rattle.volume_contract.specs.Causes.{Causes};
 ghost use Rattle.volume_contract.specs.Ends.{IsLater, Looks, device_of};
 ghost use Rattle.volume_contract.specs.Order.{Follows, IsLookUp, is_idle, next_steps};
 ghost use Rattle.volume_contract.specs.State.{Known, Stands, volume_of};
-ghost use Rattle.table_volume.specs.Looking.{Finds, ShowsEntry, met_found};
+ghost use Rattle.table_volume.specs.Looking.{Finds, met_found};
 ghost use Rattle.table_volume.specs.State.{Holds, resident, state};
-ghost use Rattle.table_volume.specs.Taken.{are_taken};
+ghost use Rattle.table_volume.specs.Taken.{are_taken, met_entry};
 
 use crate::Volume;
 use crate::looking::{highest_in, next_in, told};
@@ -39,7 +39,7 @@ impl Volume {
         ensures found { M.honest m.new → (k : Known) → Stands state Holds self.old k (M.now m.old) → Finds (entry_after (option_copied after.entry) (volume_of k).entries) result }
         ensures taken { M.honest m.new → (k : Known) → Stands state Holds self.old k (M.now m.old) → (e : Listed) → Contains (volume_of k).entries e → IsTrue (are_taken self.new e.runs) }
         ensures causes { Causes M.Machine (resident self.old) (state self.old) (state self.new) m.old m.new result }
-        ensures shown { M.honest m.new → IfOk result (λ found. IfSome found (ShowsEntry (state self.old) (state self.new) (resident self.old) (M.now m.old) (M.now m.new))) }
+        ensures met { IfOk result (λ found. IfSome found (λ f. Causes M.Machine (resident self.old) (state self.old) (state self.new) m.old m.new (met_entry self.new f.page f.entry))) }
     {
         let _whole = self.cache.dirty_list();
         let home_a = self.layout.home_a(0);

@@ -2,10 +2,11 @@ use Rattle.std.proofs.Common.{sym, subst}
 use Rattle.std.specs.Prelude.{IfOk}
 use Rattle.std.specs.Option.{option_copied}
 use Rattle.fsd_files.specs.Answers.{next_reply}
+use Rattle.volume_contract.specs.Causes.{Causes}
 use Rattle.volume_contract.specs.Ends.{IsLater, Looks}
 use Rattle.volume_contract.specs.Order.{Follows, next_steps}
-use Rattle.table_volume.specs.State.{state}
-use Rattle.table_volume.proofs.CauseLaws.{met_one_after}
+use Rattle.table_volume.specs.State.{resident, state}
+use Rattle.table_volume.proofs.CauseLaws.{met_one}
 use Rattle.table_volume.proofs.NextLaws.{met_done, met_later, met_order, up_by}
 use Rattle.table_volume.proofs.volume.Volume.next_after.Goals as goal
 
@@ -22,5 +23,6 @@ returns-clause-done g c = λ h k stands.
 
 pub returns-clause-causes : goal.returns-clause-causes
 returns-clause-causes g c =
-    met_one_after g.M.Machine c.args.m.now c.find_next.new.m _ c.args.self.now c.self.view_is c.self.invariant _ (state c.find_next.new.self) c.find_next.new.self c.find_next.ensures.cache c.in_ok-found.found
-    (λ h. c.in_ok-found.ensures.shown h) c.met_found.result c.met_found.ensures
+    let w = c.args.self.now in
+    subst (λ r. Causes g.M.Machine (resident w) (state w) (state c.find_next.new.self) c.args.m.now c.find_next.new.m r) (sym c.met_found.ensures)
+    (met_one g.M.Machine (resident w) (state w) (state c.find_next.new.self) c.args.m.now c.find_next.new.m c.find_next.new.self c.in_ok-found.found c.in_ok-found.ensures.met)

@@ -7,9 +7,9 @@ use Rattle.fsd_formats.specs.declared.entry.Entry.{Entry}
 use Rattle.fsd_formats.specs.NamePage.{is_entry}
 use Rattle.fsd_files.specs.Answers.{found_or}
 use Rattle.name_btree.specs.Lookup.{entry_of}
-use Rattle.table_volume.specs.State.{state}
+use Rattle.table_volume.specs.State.{resident, state}
 use Rattle.table_volume.specs.Volume.{VolumeValue}
-use Rattle.table_volume.proofs.CauseLaws.{met_after}
+use Rattle.table_volume.proofs.CauseLaws.{met_handed}
 use Rattle.table_volume.proofs.EntryLaws.{entry_looked_up}
 use Rattle.table_volume.proofs.RangeLaws.{met_good, taken_below, taken_runs}
 use Rattle.table_volume.proofs.volume.Volume.version.Goals as goal
@@ -47,5 +47,6 @@ returns-in_err-found-clause-causes g c =
 
 pub returns-in-Some-clause-causes : goal.returns-in-Some-clause-causes
 returns-in-Some-clause-causes g c =
-    met_after g.M.Machine c.args.m.now c.find.new.m _ c.args.self.now c.self.view_is c.self.invariant _ (state c.find.new.self) c.find.new.self c.find.ensures.cache c.in-Some.found
-    (λ h. c.in-Some.ensures.shown h) c.met_entry.result c.met_entry.ensures
+    let w = c.args.self.now in
+    let new = state c.find.new.self in
+    met_handed g.M.Machine (resident w) (state w) new c.args.m.now c.find.new.m c.find.new.self _ c.in-Some.found c.in-Some.is c.in_ok-found.ensures.met c.met_entry.result c.met_entry.ensures
