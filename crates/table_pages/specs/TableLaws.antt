@@ -81,13 +81,13 @@ module _ {D E : Type 0} {M : MachineGhosts D} {S : SourceGhosts E} where
     home = bars.home ∙ ap (λ (n : ℕ). home_in n bars.page) (sym y.home_a);
     why = elim bars.why [
       | inl free ↦ elim (y.taken bars.page free) [
-          | inl still ↦ inl still
-          | inr dirty ↦ inr (inl dirty)
-        ]
+        | inl still ↦ inl still
+        | inr dirty ↦ inr (inl dirty)
+      ]
       | inr other ↦ elim other [
-          | inl dirty ↦ inr (inl (y.fills.dirty bars.page dirty))
-          | inr had ↦ inr (inr (record { bytes = had.bytes; had = had.had; none = subst (λ (n : ℕ). read_page bars.page n had.bytes ≡ None) (sym y.count) had.none }))
-        ]
+        | inl dirty ↦ inr (inl (y.fills.dirty bars.page dirty))
+        | inr had ↦ inr (inr (record { bytes = had.bytes; had = had.had; none = subst (λ (n : ℕ). read_page bars.page n had.bytes ≡ None) (sym y.count) had.none }))
+      ]
     ];
   }
 
@@ -99,11 +99,11 @@ module _ {D E : Type 0} {M : MachineGhosts D} {S : SourceGhosts E} where
     why = elim bars.why [
       | inl free ↦ inl free
       | inr other ↦ elim other [
-          | inl dirty ↦ inr (inl dirty)
-          | inr had ↦ inr (by_bool (is_one_of b.cache.now.dirty bars.page)
-              (λ t. inl (y.fills.dirty bars.page t))
-              (λ t. inr (record { bytes = had.bytes; had = was had.bytes t had.had; none = had.none })))
-        ]
+        | inl dirty ↦ inr (inl dirty)
+        | inr had ↦ inr (by_bool (is_one_of b.cache.now.dirty bars.page)
+            (λ t. inl (y.fills.dirty bars.page t))
+            (λ t. inr (record { bytes = had.bytes; had = was had.bytes t had.had; none = had.none })))
+      ]
     ];
   }
     where
@@ -132,9 +132,9 @@ module _ {D E : Type 0} {M : MachineGhosts D} {S : SourceGhosts E} where
     ];
     barred = λ h place is. elim (y.barred h place is) [
       | inl was ↦ elim (x.barred (y.reads.trust.honest h) place was) [
-          | inl first ↦ inl first
-          | inr bars ↦ inr (bars_later a b c refusal place y bars)
-        ]
+        | inl first ↦ inl first
+        | inr bars ↦ inr (bars_later a b c refusal place y bars)
+      ]
       | inr bars ↦ inr (bars_earlier a b c refusal place x y (y.reads.trust.honest h) bars)
     ];
   }

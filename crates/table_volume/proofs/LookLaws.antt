@@ -1,21 +1,18 @@
 -- What a table over a cache leaves where it was looked into.
-use Rattle.std.proofs.Common.{◌≡◌, ◌⊎◌, inl, inr, ℕ, zero, suc, ◌<◌, ◌≤◌, Bool, true, false, ◌||◌, List, [], ◌∷◌, length, Option, Some, None, Result, Ok, Err, refl, sym, ap, subst, ◌∙◌, arith}
-use Rattle.std.specs.Prelude.{Contains, IsSome, IsTrue, IfErr, IfOk, IfSome, nat_eq, option_and_then, slice_get, slice_index_or}
-use Rattle.std.specs.List.{AllByRecursion, flat_map}
+use Rattle.std.proofs.Common.{◌≡◌, ◌⊎◌, inl, inr, ℕ, ◌<◌, ◌≤◌, Bool, true, false, ◌||◌, List, length, Option, Some, None, Result, Ok, Err, refl, sym, ap, subst, ◌∙◌, arith}
+use Rattle.std.specs.Prelude.{Contains, IfErr, IfOk, IfSome, nat_eq, option_and_then, slice_get, slice_index_or}
 use Rattle.std.specs.Borrow.{MutBor}
 use Rattle.std.specs.Option.{option_or}
 use Rattle.std.proofs.lemmas.Bool.{both_ways, eqb-true, or_right}
 use Rattle.fsd_bytes.specs.declared.refusal.Refusal.{Refusal}
 use Rattle.fsd_bytes.specs.declared.refusal.Refusal.TheVariants.{Unsound}
 use Rattle.fsd_formats.specs.NamePage.{Content, Leaf, read_page}
-use Rattle.fsd_table.specs.declared.child.Child.{Child}
-use Rattle.fsd_table.specs.Pages.{children_of, entries_of, page_at}
-use Rattle.fsd_table.specs.Table.{BreaksTable, Visit, max_height, top, visits, visits_below}
-use Rattle.fsd_table.proofs.BoundLaws.{all_append}
+use Rattle.fsd_table.specs.Pages.{entries_of, page_at}
+use Rattle.fsd_table.specs.Table.{BreaksTable}
 use Rattle.sector_disk.specs.declared.machine.Machine.{Ghosts as MachineGhosts}
 use Rattle.sector_disk.specs.Calls.{OnlyReads}
 use Rattle.page_cache.specs.declared.source.PageSource.{Ghosts as SourceGhosts}
-use Rattle.page_cache.specs.Cache.{AreNewest, CacheValue, Held, IsResident, bytes_of, held, is_one_of, newest}
+use Rattle.page_cache.specs.Cache.{AreNewest, CacheValue, bytes_of, is_one_of, newest}
 use Rattle.name_page.specs.Looks.{Agrees, Looks, Shows}
 use Rattle.name_page.specs.Pages.{IsBarred, IsOuter, Step, home_of, is_one_of as among, is_spare, rested}
 use Rattle.name_page.proofs.LookLaws.{agrees_at, agrees_now}
@@ -25,7 +22,7 @@ use Rattle.name_btree.specs.Fault.{BarsTable, HasCause, IsOnWay, ShowsCause}
 use Rattle.name_btree.specs.declared.lookup.FoundEntry.{FoundEntry}
 use Rattle.name_btree.specs.Lookup.{IsLedTo, StandsIn}
 use Rattle.table_pages.specs.Bringing.{IsTrusted, OnlyPins, given_by, home_in}
-use Rattle.table_pages.specs.Kept.{IsReady, images_of}
+use Rattle.table_pages.specs.Kept.{IsReady}
 use Rattle.table_pages.specs.ImageLaws.{image_at, image_count}
 use Rattle.table_pages.specs.Reads.{Fills, HadRefused, LosesFor, device_of}
 use Rattle.table_pages.specs.Table.{BarsPlace, IsAtRest, IsClean, IsOver, ReadsOnly, Trusted, begun, step_of}
@@ -183,8 +180,8 @@ module _ {D E : Type 0} {M : MachineGhosts D} {S : SourceGhosts E} where
     was_had page had = (
       had.bytes,
       subst (λ (e : E). Had M S e (M.now m.now) cache.now page had.bytes) over.from
-        (subst (λ (x : MutBor D). Had M S a.source.now (M.now x.now) cache.now page had.bytes) over.machine
-        (subst (λ (x : MutBor CacheValue). Had M S a.source.now (M.now a.m.now) x.now page had.bytes) over.cached had.had)),
+          (subst (λ (x : MutBor D). Had M S a.source.now (M.now x.now) cache.now page had.bytes) over.machine
+          (subst (λ (x : MutBor CacheValue). Had M S a.source.now (M.now a.m.now) x.now page had.bytes) over.cached had.had)),
       ap (λ (f : List Bool). read_page page (length f) had.bytes) (sym free_b) ∙ had.none,
     )
 

@@ -1,5 +1,5 @@
 -- What a look-up has read of a volume's table, and what that shows.
-use Rattle.std.proofs.Common.{◌≡◌, ◌⊎◌, inl, inr, ℕ, ◌<◌, Bool, true, false, cond, nat_lt, List, [], length, get_or, Option, Some, None, Result, Ok, Err, refl, sym, ap, subst, ◌∙◌, arith}
+use Rattle.std.proofs.Common.{◌≡◌, ◌⊎◌, inl, inr, ℕ, ◌<◌, Bool, true, false, cond, nat_lt, List, [], length, Option, Some, None, Result, Ok, Err, refl, sym, ap, subst, ◌∙◌, arith}
 use Rattle.std.specs.Prelude.{Contains, IfErr, IfOk, IfSome, nat_eq, slice_get, slice_index_or}
 use Rattle.std.proofs.lemmas.Bool.{eq-eqb, eqb-true, lt-ltb, ltb-true}
 use Rattle.std.proofs.lemmas.Option.{slice_get-get_or}
@@ -173,9 +173,9 @@ module _ {D : Type 0} (M : MachineGhosts D) (m m' : D) (v : VolumeValue) (whole 
     unsound_shown = elim shows.how [
       | inl free ↦ record { read = read_now; are_read = all_read; breaks = λ pages have. freed pages have.size free.0 (free.1 pages (have_pages pages have)) }
       | inr other ↦ elim other [
-          | inl breaks ↦ record { read = read_now; are_read = all_read; breaks = λ pages have. broken pages have.size (breaks pages (have_pages pages have)) }
-          | inr x ↦ record { read = read_with x.0 x.1 x.2; are_read = all_with x.0 x.1 x.2; breaks = λ pages have. broken pages have.size (x.3 pages (have_others x.0 x.1 x.2 pages have)) }
-        ]
+        | inl breaks ↦ record { read = read_now; are_read = all_read; breaks = λ pages have. broken pages have.size (breaks pages (have_pages pages have)) }
+        | inr x ↦ record { read = read_with x.0 x.1 x.2; are_read = all_with x.0 x.1 x.2; breaks = λ pages have. broken pages have.size (x.3 pages (have_others x.0 x.1 x.2 pages have)) }
+      ]
     ]
 
   unsound_found : (home : ℕ) → home ≡ home_a v.layout 0 → (r : Result (Option FoundEntry) TreeFault) (place : ℕ) → told home r ≡ Err (Why.Unsound place)

@@ -1,5 +1,5 @@
 -- What paths from page 0 reach.
-use Rattle.std.proofs.Common.{◌≡◌, ℕ, zero, suc, ◌+◌, ◌<◌, ◌&&◌, Bool, true, List, [], ◌∷◌, length, Option, Some, None, refl, sym, ap, subst, ◌∙◌, arith}
+use Rattle.std.proofs.Common.{◌≡◌, ℕ, zero, suc, ◌+◌, ◌<◌, ◌&&◌, true, List, [], ◌∷◌, length, Option, Some, None, refl, ap, subst, ◌∙◌, arith}
 use Rattle.std.specs.Prelude.{Contains, map, nat_lt, slice_index_or}
 use Rattle.std.specs.List.{AllByRecursion, flat_map, list_all}
 use Rattle.std.proofs.lemmas.Bool.{and_parts, ltb-true}
@@ -79,7 +79,7 @@ each_within pages zero depth c lt = tt
 each_within pages (suc levels) depth c lt = (
   lt,
   each_below (λ v. v.page < length pages) (λ d. d.page < length pages) (visits_below levels pages (depth + 1)) (each_within pages levels (depth + 1)) (children_of c.low c.high (page_at pages c.page))
-    (below_within pages c.page c.low c.high (page_at pages c.page) refl),
+      (below_within pages c.page c.low c.high (page_at pages c.page) refl),
 )
 
 pub visit_within : (pages : List (List ℕ)) → 0 < length pages → (visit : Visit) → Contains (visits pages) visit → visit.page < length pages
