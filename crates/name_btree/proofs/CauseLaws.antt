@@ -12,7 +12,7 @@ use Rattle.name_page.specs.Pages.{Step, home_of, IsOuter, IsBarred}
 use Rattle.name_page.specs.Looks.{Agrees}
 use Rattle.name_btree.specs.declared.fault.TreeFault.{TreeFault}
 use Rattle.name_btree.specs.declared.fault.TreeFault.TheVariants.{Pages, Broken}
-use Rattle.name_btree.specs.Fault.{IsCaused, HasCause, FailsBy, Never, BarsTable, BarsPage}
+use Rattle.name_btree.specs.Fault.{IsCaused, HasCause, FailsBy, Never, BarsTable, BarsPage, ShowsCause, ShowsMisfit}
 
 module _ (s : Step) (Breaks Breaks' Bars Bars' : ℕ → Type 0) (breaks : (page : ℕ) → Breaks page → Breaks' page) (bars : (page : ℕ) → Bars page → Bars' page) where
   pub caused_map : (refusal : Refusal) → IsCaused s Bars refusal → IsCaused s Bars' refusal
@@ -44,6 +44,17 @@ fails_by_map s B B' more (Pages refusal) h = (h.0, by h.1)
     by : Cause B → Cause B'
     by (inl x) = inl x
     by (inr x) = inr (x.0, x.1, x.2, λ images is none. more images x.0 is (x.3 images is none))
+
+-- where no page is named
+pub none_shown : (s : Step) (c : Child) (fault : TreeFault) → HasCause s Never (BarsPage s c.page) fault → ShowsMisfit s c fault
+none_shown s c (Pages refusal) h = tt
+none_shown s c (Broken page) h = absurd h
+
+pub shows_cause_map : (s : Step) (B B' I I' : List (List ℕ) → ℕ → Type 0) → ((pages : List (List ℕ)) (page : ℕ) → Agrees pages s → B pages page → B' pages page)
+    → ((pages : List (List ℕ)) (page : ℕ) → Agrees pages s → I pages page → I' pages page) → (fault : TreeFault) → ShowsCause s B I fault → ShowsCause s B' I' fault
+shows_cause_map s B B' I I' breaks there (Broken page) h = λ pages agrees. breaks pages page agrees (h pages agrees)
+shows_cause_map s B B' I I' breaks there (Pages refusal) (inl outer) = inl outer
+shows_cause_map s B B' I I' breaks there (Pages refusal) (inr x) = inr (x.0, x.1, x.2, λ pages agrees. there pages x.0 agrees (x.3 pages agrees))
 
 -- a page that is refused
 pub fails_at : (s : Step) (page : ℕ) (B : List (List ℕ) → ℕ → Type 0) → ((images : List (List ℕ)) → Agrees images s → page_at images page ≡ None → B images page)

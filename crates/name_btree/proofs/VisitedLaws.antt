@@ -1,5 +1,6 @@
 -- What stands on the way to a leaf is reached by paths from page 0, and where it fits no table, breaks it.
-use Rattle.std.proofs.Common.{◌≡◌, ℕ, ◌+◌, ◌≤◌, ◌<◌, Bool, true, false, cond, List, [], ◌∷◌, Option, Some, sym, subst, arith}
+use Rattle.std.proofs.Common.{◌≡◌, inl, inr, ℕ, ◌+◌, ◌≤◌, ◌<◌, Bool, true, false, cond, List, [], ◌∷◌, Option, Some, refl, sym, subst, arith}
+use Rattle.fsd_bytes.specs.declared.refusal.Refusal.TheVariants.{Unsound}
 use Rattle.std.specs.Prelude.{IfSome}
 use Rattle.std.specs.List.{AllByRecursion}
 use Rattle.fsd_forest.specs.Ways.{end_of}
@@ -8,16 +9,20 @@ use Rattle.fsd_formats.specs.declared.page.Separator.{Separator}
 use Rattle.fsd_formats.specs.NamePage.{Interior}
 use Rattle.fsd_table.specs.declared.child.Child.{Child}
 use Rattle.fsd_table.specs.Pages.{page_at, children}
-use Rattle.fsd_table.specs.Table.{max_height, top, IsVisited, BreaksTable}
+use Rattle.fsd_table.specs.Table.{max_height, top, visit_of, IsVisited, BreaksTable}
 use Rattle.fsd_table.proofs.BreakLaws.{visited_top, visited_children, above_visited, misfit_breaks, too_deep_breaks}
 use Rattle.name_btree.specs.declared.descent.Way.{Way}
 use Rattle.name_btree.specs.declared.descent.Neighbour.{Neighbour}
 use Rattle.name_btree.specs.declared.descent.Found.{Found}
 use Rattle.name_btree.specs.declared.fault.TreeFault.{TreeFault}
+use Rattle.name_btree.specs.declared.fault.TreeFault.TheVariants.{Pages, Broken}
 use Rattle.name_btree.specs.Descent.{way_to, HasChildren, IsNeighbour, HasNeighbours}
-use Rattle.name_btree.specs.Fault.{HasCause, IsMisfit, BreaksBelow, BreaksBeside, BarsBelow, BarsBeside, BarsTable, BarsPage}
-use Rattle.name_page.specs.Pages.{Step}
-use Rattle.name_btree.proofs.CauseLaws.{cause_map, bars_table}
+use Rattle.name_btree.specs.Fault.{HasCause, IsCaused, IsMisfit, IsBeside, IsOnWay, BreaksBelow, BreaksBeside, BarsBelow, BarsBeside, BarsTable, BarsPage, ShowsCause, ShowsMisfit}
+use Rattle.name_btree.specs.Lookup.{IsBelow}
+use Rattle.name_page.specs.Looks.{Looks, Shows}
+use Rattle.name_page.proofs.LookLaws.{agrees_before}
+use Rattle.name_page.specs.Pages.{Step, home_of}
+use Rattle.name_btree.proofs.CauseLaws.{cause_map, bars_table, shows_cause_map}
 
 -- ---- one page
 
@@ -76,6 +81,23 @@ module _ (s : Step) where
       cause_map s (IsMisfit s.images w.child) (BreaksBelow s.images above0 start) (BarsPage s w.child.page) (BarsBelow s above0 start)
       (λ page x v. subst (BreaksTable s.images) (sym x.0) (misfit_breaks s.images (above + 1) w.child (on v).0 x.1)) (λ page x v. bars_table s (above + 1) w.child (on v).0 page x) fault h
 
+  -- whatever the other pages have
+  pub shown_below : (fault : TreeFault) (above0 : ℕ) (start : Child) (above : ℕ) (w : Way) → Shows s (λ pages. IsVisitedWay pages above0 start above w)
+      → HasCause s (IsMisfit s.images w.child) (BarsPage s w.child.page) fault → ShowsMisfit s w.child fault → ShowsCause s (λ pages. BreaksBelow pages above0 start) (λ pages. IsBelow pages above0 start) fault
+  shown_below (Broken page) above0 start above w on h misfit = λ pages agrees v.
+      let x = misfit pages agrees in
+      subst (BreaksTable pages) (sym x.0) (misfit_breaks pages (above + 1) w.child (on pages agrees v).0 x.1)
+  shown_below (Pages refusal) above0 start above w on h misfit = by h.1
+    where
+      by : IsCaused s (BarsPage s w.child.page) refusal → ShowsCause s (λ pages. BreaksBelow pages above0 start) (λ pages. IsBelow pages above0 start) (Pages refusal)
+      by (inl outer) = inl outer
+      by (inr x) = inr (w.child.page, subst (λ (p : ℕ). refusal ≡ Unsound (home_of s p)) x.2.0 x.1, x.2.1, λ pages agrees v. (visit_of pages (above + 1) w.child, (on pages agrees v).0, refl))
+
+  pub shown_top : (fault : TreeFault) (c : Child) → c ≡ top → ShowsCause s (λ pages. BreaksBelow pages 0 c) (λ pages. IsBelow pages 0 c) fault → ShowsCause s BreaksTable IsOnWay fault
+  shown_top fault c is h =
+      let v : (pages : List (List ℕ)) → IsVisited pages 1 c = λ pages. subst (IsVisited pages 1) (sym is) (visited_top pages) in
+      shows_cause_map s (λ pages. BreaksBelow pages 0 c) BreaksTable (λ pages. IsBelow pages 0 c) IsOnWay (λ pages page agrees x. x (v pages)) (λ pages page agrees x. x (v pages)) fault h
+
   -- below page 0
   pub top_breaks : (fault : TreeFault) (c : Child) → c ≡ top → HasCause s (BreaksBelow s.images 0 c) (BarsBelow s 0 c) fault → HasCause s (BreaksTable s.images) (BarsTable s) fault
   top_breaks fault c is h =
@@ -88,11 +110,20 @@ module _ (s : Step) where
   neighbour_breaks fault n h =
       cause_map s (BreaksBelow s.images n.above n.child) (BreaksBeside s.images n) (BarsBelow s n.above n.child) (BarsBeside s n) (λ page x is. x is.1) (λ page x is. x is.1) fault h
 
+  pub shown_beside : (fault : TreeFault) (n : Neighbour) → ShowsCause s (λ pages. BreaksBelow pages n.above n.child) (λ pages. IsBelow pages n.above n.child) fault
+      → ShowsCause s (λ pages. BreaksBeside pages n) (λ pages. IsBeside pages n) fault
+  shown_beside fault n h =
+      shows_cause_map s (λ pages. BreaksBelow pages n.above n.child) (λ pages. BreaksBeside pages n) (λ pages. IsBelow pages n.above n.child) (λ pages. IsBeside pages n)
+      (λ pages page agrees x is. x is.1) (λ pages page agrees x is. x is.1) fault h
+
 pub deep_below : (pages : List (List ℕ)) (above0 : ℕ) (start : Child) (above : ℕ) (w : Way) → IsVisitedWay pages above0 start above w → max_height ≤ above → BreaksBelow pages above0 start w.child.page
 deep_below pages above0 start above w on deep v = too_deep_breaks pages (above + 1) w.child (on v).0 (deeper above deep)
   where
     deeper : (n : ℕ) → max_height ≤ n → max_height < n + 1
     deeper n h = omega arith
+
+pub deep_shown : (s : Step) (above0 : ℕ) (start : Child) (above : ℕ) (w : Way) → Shows s (λ pages. IsVisitedWay pages above0 start above w) → max_height ≤ above → Shows s (λ pages. BreaksBelow pages above0 start w.child.page)
+deep_shown s above0 start above w on deep pages agrees = deep_below pages above0 start above w (on pages agrees) deep
 
 pub found_beside : (pages : List (List ℕ)) (c : Child) (found : Found) → c ≡ top → HasNeighbours pages 0 c found → IfSome found.previous (IsNeighbour pages) × IfSome found.next (IsNeighbour pages)
 found_beside pages c found is beside = beside (subst (IsVisited pages 1) (sym is) (visited_top pages))
@@ -107,6 +138,13 @@ module _ (s : Step) (c : Child) (found : Found) (is : c ≡ top) (beside : HasNe
 
   pub previous_breaks : found.previous ≡ Some n → HasCause s (BreaksTable s.images) (BarsTable s) fault
   previous_breaks at = beside_breaks (subst (λ (o : Option Neighbour). IfSome o (IsNeighbour s.images)) at (found_beside s.images c found is beside).0)
+
+pub shown_next : (mid s : Step) (c : Child) (found : Found) → c ≡ top → Looks mid s → Shows mid (λ pages. HasNeighbours pages 0 c found) → (n : Neighbour) → found.next ≡ Some n → (fault : TreeFault)
+    → ShowsCause s (λ pages. BreaksBeside pages n) (λ pages. IsBeside pages n) fault → ShowsCause s BreaksTable IsOnWay fault
+shown_next mid s c found is looks beside n at fault h =
+    let there : Shows s (λ pages. IsNeighbour pages n) =
+    λ pages agrees. subst (λ (o : Option Neighbour). IfSome o (IsNeighbour pages)) at (found_beside pages c found is (beside pages (agrees_before mid s pages looks agrees))).1 in
+    shows_cause_map s (λ pages. BreaksBeside pages n) BreaksTable (λ pages. IsBeside pages n) IsOnWay (λ pages page agrees x. x (there pages agrees)) (λ pages page agrees x. x (there pages agrees)) fault h
 
 pub root_above : (pages : List (List ℕ)) (n : Neighbour) → IsNeighbour pages n → HasChildren pages top
 root_above pages n is = above_visited pages (n.above + 1) n.child (omega (arith, is.0)) is.1

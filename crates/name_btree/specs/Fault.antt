@@ -7,7 +7,7 @@ use Rattle.fsd_table.specs.declared.child.Child.{Child}
 use Rattle.fsd_table.specs.Pages.{page_at, content_fits}
 use Rattle.fsd_table.specs.Table.{Visit, visits, IsVisited, BreaksTable}
 use Rattle.fsd_table.specs.Tree.{IsTree, pages_of}
-use Rattle.name_page.specs.Looks.{Agrees}
+use Rattle.name_page.specs.Looks.{Agrees, Shows}
 use Rattle.name_page.specs.declared.pages.Pages.{Ghosts}
 use Rattle.name_page.specs.Pages.{Step, home_of, is_spare, outer_refusal, IsOuter, IsBarred}
 use Rattle.name_btree.specs.Descent.{IsNeighbour}
@@ -59,6 +59,12 @@ FailsBy s Breaks (Pages refusal) =
     (s.refusal ≡ Some refusal) × (IsOuter refusal ⊎ ((page : ℕ) × (refusal ≡ Unsound (home_of s page)) × IsBarred s page × ((images : List (List ℕ)) → Agrees images s → page_at images page ≡ None → Breaks images page)))
 FailsBy s Breaks (Broken page) = (images : List (List ℕ)) → Agrees images s → Breaks images page
 
+-- Whatever the other pages have, what was reached shows that the page breaks something; where a page may not be reached, that it is
+-- on the way.
+abbrev pub ShowsCause : Step → (Breaks IsThere : List (List ℕ) → ℕ → Type 0) → TreeFault → Type 0
+ShowsCause s Breaks IsThere (Pages refusal) = IsOuter refusal ⊎ ((page : ℕ) × (refusal ≡ Unsound (home_of s page)) × IsBarred s page × Shows s (λ pages. IsThere pages page))
+ShowsCause s Breaks IsThere (Broken page) = Shows s (λ pages. Breaks pages page)
+
 -- no page breaks anything
 abbrev pub Never : ℕ → Type 0
 Never page = ⊥
@@ -66,6 +72,11 @@ Never page = ⊥
 -- the child is no page whose keys stand between its own
 abbrev pub IsMisfit : List (List ℕ) → Child → ℕ → Type 0
 IsMisfit pages c page = (page ≡ c.page) × (content_fits c.low c.high (page_at pages c.page) ≡ false)
+
+-- what was reached shows that a page that is named is no page whose keys stand between those of its child
+abbrev pub ShowsMisfit : Step → Child → TreeFault → Type 0
+ShowsMisfit s c (Pages refusal) = ⊤
+ShowsMisfit s c (Broken page) = Shows s (λ pages. IsMisfit pages c page)
 
 -- the pages are no tree
 abbrev pub IsNoTree : List (List ℕ) → Type 0
@@ -91,6 +102,10 @@ BreaksBelow pages above c page = IsVisited pages (above + 1) c → BreaksTable p
 
 abbrev pub BreaksBeside : List (List ℕ) → Neighbour → ℕ → Type 0
 BreaksBeside pages n page = IsNeighbour pages n → BreaksTable pages page
+
+-- where a path reaches the neighbour, another reaches the page
+abbrev pub IsBeside : List (List ℕ) → Neighbour → ℕ → Type 0
+IsBeside pages n page = IsNeighbour pages n → IsOnWay pages page
 
 abbrev pub BarsBelow : Step → (above : ℕ) → Child → ℕ → Type 0
 BarsBelow s above start page = IsVisited s.images (above + 1) start → BarsTable s page

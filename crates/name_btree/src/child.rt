@@ -3,7 +3,7 @@ ghost use Rattle.std.specs.Prelude.{◌≡◌, ◌+◌, ◌<◌, ◌≤◌, ℕ,
 ghost use Rattle.fsd_table.specs.Pages.{page_at, content_fits};
 ghost use Rattle.name_page.specs.Node.{content_of};
 ghost use Rattle.name_btree.specs.Still.{HasRefusal};
-ghost use Rattle.name_btree.specs.Fault.{outer_told, HasCause, IsMisfit, Never, BarsPage};
+ghost use Rattle.name_btree.specs.Fault.{outer_told, HasCause, IsMisfit, Never, BarsPage, ShowsMisfit};
 ghost use Rattle.name_page.specs.Looks.{OnlyReaches};
 ghost use Rattle.name_page.specs.Pages.{reaches, is_spare, IsReached};
 
@@ -39,6 +39,7 @@ pub(crate) fn child_node<T: Pages>(t: &mut T, child: &Child) -> Result<Node, Tre
     ensures node { IfOk result (λ node. page_at (T.step t.new).images child.now.page ≡ Some (content_of node)) }
     ensures fits { IfOk result (λ node. content_fits child.now.low child.now.high (Some (content_of node)) ≡ true) }
     ensures fault { IfErr result (HasCause (T.step t.new) (IsMisfit (T.step t.new).images child.now) (BarsPage (T.step t.new) child.now.page)) }
+    ensures shown { IfErr result (ShowsMisfit (T.step t.new) child.now) }
     ensures refused { IfErr result (HasRefusal (T.step t.old) (T.step t.new)) }
 {
     if child.page >= t.count() {

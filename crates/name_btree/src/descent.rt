@@ -7,7 +7,7 @@ ghost use Rattle.fsd_table.specs.Pages.{children, not_below, page_at};
 ghost use Rattle.fsd_forest.specs.Ways.{end_of};
 ghost use Rattle.name_page.specs.Cut.{is_before};
 ghost use Rattle.name_btree.specs.Descent.{way_to, IsPlace, HasNeighbours};
-ghost use Rattle.name_btree.specs.Fault.{outer_told, HasCause, BreaksBelow, BarsBelow};
+ghost use Rattle.name_btree.specs.Fault.{outer_told, HasCause, BreaksBelow, BarsBelow, ShowsCause};
 ghost use Rattle.name_btree.specs.Lookup.{BeginsBehind, IsBelow};
 ghost use Rattle.name_btree.specs.Replace.{IsLeafAt};
 ghost use Rattle.name_page.specs.Looks.{OnlyReaches, Shows};
@@ -140,6 +140,7 @@ pub(crate) fn leaf_below<T: Pages>(
     ensures place { IfOk result (λ found. Shows (T.step t.new) (λ pages. IsPlace (is_before cut.now) pages start found)) }
     ensures beside { IfOk result (λ found. Shows (T.step t.new) (λ pages. HasNeighbours pages above start found)) }
     ensures fault { IfErr result (HasCause (T.step t.new) (BreaksBelow (T.step t.new).images above start) (BarsBelow (T.step t.new) above start)) }
+    ensures shown { IfErr result (ShowsCause (T.step t.new) (λ pages. BreaksBelow pages above start) (λ pages. IsBelow pages above start)) }
 {
     let mut way = Way {
         child: start,

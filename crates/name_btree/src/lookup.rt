@@ -7,7 +7,7 @@ ghost use Rattle.fsd_table.specs.Table.{top, BreaksTable};
 ghost use Rattle.fsd_table.specs.Tree.{IsTree, table_of};
 ghost use Rattle.name_page.specs.Cut.{after_cut, is_before};
 ghost use Rattle.name_btree.specs.Descent.{BeginsWith, EndsWith};
-ghost use Rattle.name_btree.specs.Fault.{outer_told, HasCause, BreaksBeside, BarsBeside, BarsTable, IsAmong};
+ghost use Rattle.name_btree.specs.Fault.{outer_told, HasCause, BreaksBeside, BarsBeside, BarsTable, IsAmong, IsBeside, IsOnWay, ShowsCause};
 ghost use Rattle.name_page.specs.Lookups.{entry_with, entry_after, highest_of, last_that, same_name, is_after};
 ghost use Rattle.name_btree.specs.Lookup.{entry_of, StandsIn, IsLedTo, IsLedBeside};
 ghost use Rattle.name_page.specs.declared.pages.TheConstants.{MOST_REACHED};
@@ -64,6 +64,7 @@ pub fn find<T: Pages>(t: &mut T, key: &Key) -> Result<Option<FoundEntry>, TreeFa
     ensures key { IfOk result (λ found. IfSome found (λ f. f.entry.key ≡ key.now)) }
     ensures found { IfOk result (λ found. T.trusted t.new → (height : ℕ) → IsTree (T.step t.old).images height → entry_of found ≡ entry_with key.now (table_of (T.step t.old).images height)) }
     ensures fault { IfErr result (HasCause (T.step t.new) (BreaksTable (T.step t.new).images) (BarsTable (T.step t.new))) }
+    ensures shown { IfErr result (ShowsCause (T.step t.new) BreaksTable IsOnWay) }
 {
     let found = leaf_below(t, top(), 0, &Cut::UpTo(key.copied()))?;
     match entry_in(&found.entries, key) {
@@ -125,6 +126,7 @@ fn first_below<T: Pages>(t: &mut T, next: Neighbour) -> Result<FoundEntry, TreeF
     ensures least { IfOk result (λ first. not_below next.child.low first.entry.key ≡ true) }
     ensures first { IfOk result (λ first. Shows (T.step t.new) (λ pages. BeginsWith pages next.child first.entry)) }
     ensures fault { IfErr result (HasCause (T.step t.new) (BreaksBeside (T.step t.new).images next) (BarsBeside (T.step t.new) next)) }
+    ensures shown { IfErr result (ShowsCause (T.step t.new) (λ pages. BreaksBeside pages next) (λ pages. IsBeside pages next)) }
 {
     let found = leaf_below(t, next.child, next.above, &Cut::Start)?;
     if found.entries.len() == 0 {
@@ -182,6 +184,7 @@ pub fn next_after<T: Pages>(t: &mut T, after: Option<&Key>) -> Result<Option<Fou
     ensures found { IfOk result (λ found. T.trusted t.new → (height : ℕ) → IsTree (T.step t.old).images height
         → entry_of found ≡ entry_after (option_copied after.entry) (table_of (T.step t.old).images height)) }
     ensures fault { IfErr result (HasCause (T.step t.new) (BreaksTable (T.step t.new).images) (BarsTable (T.step t.new))) }
+    ensures shown { IfErr result (ShowsCause (T.step t.new) BreaksTable IsOnWay) }
 {
     let cut = cut_after(after);
     let found = leaf_below(t, top(), 0, &cut)?;

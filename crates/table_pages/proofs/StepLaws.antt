@@ -1,10 +1,12 @@
 -- The step of a table over a cache, after each call.
-use Rattle.std.proofs.Common.{◌≡◌, ◌⊎◌, inl, inr, ℕ, zero, suc, ◌-◌, ◌<◌, Bool, true, false, List, [], ◌∷◌, length, Option, Some, None, IsSome, refl, sym, ap, ◌∙◌, subst, arith, length-set}
-use Rattle.std.specs.Prelude.{slice_get, slice_index_or, slice_set, option_and_then}
+use Rattle.std.proofs.Common.{eqb-true, ◌≡◌, ◌⊎◌, inl, inr, ℕ, zero, suc, ◌-◌, ◌<◌, Bool, true, false, List, [], ◌∷◌, length, Option, Some, None, IsSome, refl, sym, ap, ◌∙◌, subst, arith, length-set}
+use Rattle.std.specs.Prelude.{nat_eq, slice_get, slice_index_or, slice_set, option_and_then}
 use Rattle.std.specs.Option.{option_or}
 use Rattle.std.proofs.Props.{props}
-use Rattle.std.proofs.lemmas.Bool.{true≢false}
+use Rattle.std.proofs.lemmas.Bool.{eqb-false, true≢false}
+use Rattle.std.proofs.lemmas.List.{get_or-set_other, get_or-set_same}
 use Rattle.fsd_bytes.specs.declared.refusal.Refusal.{Refusal}
+use Rattle.fsd_bytes.specs.declared.refusal.Refusal.TheVariants.{NameTableFull, Unsound}
 use Rattle.fsd_formats.specs.NamePage.{read_page}
 use Rattle.fsd_table.specs.Pages.{page_at}
 use Rattle.sector_disk.specs.declared.machine.Machine.{Ghosts as MachineGhosts}
@@ -12,11 +14,12 @@ use Rattle.page_cache.specs.declared.source.PageSource.{Ghosts as SourceGhosts}
 use Rattle.page_cache.specs.Cache.{CacheValue, IsResident, newest, bytes_of, pins_of, is_one_of, with_pins, with_dirty, with_written}
 use Rattle.page_cache.proofs.KeepLaws.{resident_bytes, pinned_bytes}
 use Rattle.page_cache.proofs.WrittenLaws.{now_dirty}
-use Rattle.name_page.specs.Pages.{Keeps, IsReached, with_taken, rested}
-use Rattle.table_pages.specs.Bringing.{OnlyPins, given_by, FetchesOnly, IsRefused, content_in}
+use Rattle.name_page.specs.Pages.{Keeps, IsOuter, IsReached, with_taken, rested}
+use Rattle.table_pages.specs.Bringing.{OnlyPins, given_by, home_in, FetchesOnly, IsRefused, content_in}
 use Rattle.table_pages.specs.Kept.{IsKept, images_of}
 use Rattle.table_pages.specs.ImageLaws.{image_count, image_at, images_same}
-use Rattle.table_pages.specs.Table.{step_of, written}
+use Rattle.table_pages.specs.Reads.{Fills, HadRefused}
+use Rattle.table_pages.specs.Table.{step_of, written, BarsPlace}
 use Rattle.table_pages.specs.declared.table.Table.{Table}
 use Rattle.table_pages.proofs.KeptLaws.{fetched_image, reached_there}
 
@@ -109,3 +112,51 @@ module _ {D E : Type 0} {M : MachineGhosts D} {S : SourceGhosts E} (t : Table D 
       let images = same_images t.cache.now new source (length t.free.now) (λ q. second.bytes q ∙ first.bytes q) in
       let dirty = second.dirty ∙ first.dirty in
       λ i. record (step_of t) { images = images i; changed = dirty i; reached = none i; promised = 0; refusal = None }
+
+-- ---- what is known of a page that is refused
+
+-- a page that was free is still free, or is the one that was taken
+pub still_free : (free new : List Bool) (page : ℕ) (dirty : ℕ → Bool) → new ≡ slice_set free page false → dirty page ≡ true → (q : ℕ) → slice_index_or free q false ≡ true → (slice_index_or new q false ≡ true) ⊎ (dirty q ≡ true)
+still_free free new page dirty set now q was = by (nat_eq page q) refl
+  where
+    by : (b : Bool) → nat_eq page q ≡ b → (slice_index_or new q false ≡ true) ⊎ (dirty q ≡ true)
+    by true same = inr (subst (λ (k : ℕ). dirty k ≡ true) (eqb-true page q same) now)
+    by false other = inl (ap (λ (f : List Bool). slice_index_or f q false) set ∙ get_or-set_other free page q false false (λ e. eqb-false page q other (sym e)) ∙ was)
+
+-- where one is given back all that were free are
+pub given_free : (free new : List Bool) (page : ℕ) → new ≡ slice_set free page true → (q : ℕ) → slice_index_or free q false ≡ true → slice_index_or new q false ≡ true
+given_free free new page set q was = by (nat_eq page q) refl
+  where
+    by : (b : Bool) → nat_eq page q ≡ b → slice_index_or new q false ≡ true
+    by true same =
+        let here : page ≡ q = eqb-true page q same in
+        ap (λ (f : List Bool). slice_index_or f q false) set ∙ ap (λ (k : ℕ). slice_index_or (slice_set free page true) k false) (sym here)
+        ∙ get_or-set_same free page true false (free_within free page (ap (λ (k : ℕ). slice_index_or free k false) here ∙ was))
+    by false other = ap (λ (f : List Bool). slice_index_or f q false) set ∙ get_or-set_other free page q true false (λ e. eqb-false page q other (sym e)) ∙ was
+
+-- want of free pages is none of a page that is unsound
+pub never_unsound : (r : Refusal) (count n : ℕ) → IsOuter r ⊎ ((r ≡ NameTableFull count) × (count < n)) → (place : ℕ) → r ≡ Unsound place → ⊥
+never_unsound r count n (inl outer) place is = absurd (cc (subst IsOuter is outer))
+never_unsound r count n (inr full) place is = absurd (cc (is, full.0))
+
+module _ {D E : Type 0} {M : MachineGhosts D} {S : SourceGhosts E} (a b : Table D E M S) (page : ℕ) (lt : page < length b.free.now) (fills : Fills M S a.source.now a.m.now b.m.now a.cache.now b.cache.now) (honest : M.honest b.m.now) where
+  read_there : (bytes : List ℕ) → bytes_of b.cache.now page ≡ Some bytes → content_in b.cache.now (length b.free.now) page ≡ None
+      → (is_one_of b.cache.now.dirty page ≡ true) ⊎ HadRefused M S a.source.now (M.now a.m.now) a.cache.now (length b.free.now) page
+  read_there bytes is none = by (is_one_of b.cache.now.dirty page) refl
+    where
+      by : (d : Bool) → is_one_of b.cache.now.dirty page ≡ d → (is_one_of b.cache.now.dirty page ≡ true) ⊎ HadRefused M S a.source.now (M.now a.m.now) a.cache.now (length b.free.now) page
+      by true waits = inl waits
+      by false rests = inr (record { bytes = bytes; had = fills.stood honest page bytes rests is; none = ap (λ (o : Option (List ℕ)). option_and_then (read_page page (length b.free.now)) o) (sym is) ∙ none })
+
+  why : IsRefused b.free.now b.cache.now page → (slice_index_or b.free.now page false ≡ true) ⊎ ((is_one_of b.cache.now.dirty page ≡ true) ⊎ HadRefused M S a.source.now (M.now a.m.now) a.cache.now (length b.free.now) page)
+  why (inl free) = inl free
+  why (inr bad) = by (bytes_of b.cache.now page) refl (resident_bytes b.cache.now page bad.0)
+    where
+      by : (o : Option (List ℕ)) → bytes_of b.cache.now page ≡ o → IsSome o → (slice_index_or b.free.now page false ≡ true) ⊎ ((is_one_of b.cache.now.dirty page ≡ true) ⊎ HadRefused M S a.source.now (M.now a.m.now) a.cache.now (length b.free.now) page)
+      by None is some = absurd (true≢false (sym some))
+      by (Some bytes) is some = inr (read_there bytes is bad.1)
+
+  -- one that is refused as unsound is barred
+  pub refused_bars : (r : Refusal) → IsOuter r ⊎ ((r ≡ Unsound (home_in b.home_a page)) × IsRefused b.free.now b.cache.now page) → (place : ℕ) → r ≡ Unsound place → BarsPlace a b place
+  refused_bars r (inl outer) place is = absurd (cc (subst IsOuter is outer))
+  refused_bars r (inr bad) place is = let home : place ≡ home_in b.home_a page = cc (is, bad.0) in record { page = page; within = lt; home = home; why = why bad.1 }

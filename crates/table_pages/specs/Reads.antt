@@ -2,6 +2,7 @@
 use Rattle.std.specs.Prelude.{◌≡◌, ◌⊎◌, ⊤, ℕ, ◌<◌, false, true, List, Option, Some, None}
 use Rattle.fsd_bytes.specs.declared.refusal.Refusal.{Refusal}
 use Rattle.fsd_bytes.specs.declared.refusal.Refusal.TheVariants.{Device, Lost}
+use Rattle.fsd_formats.specs.NamePage.{read_page}
 use Rattle.sector_disk.specs.declared.machine.Machine.{Ghosts as MachineGhosts}
 use Rattle.sector_disk.specs.declared.sector.Sector.{Sector}
 use Rattle.sector_disk.specs.Damage.{AreLost}
@@ -39,3 +40,9 @@ module _ {D E : Type 0} (M : MachineGhosts D) (S : SourceGhosts E) (source : E) 
     pub dirty : (page : ℕ) → is_one_of old.dirty page ≡ true → is_one_of new.dirty page ≡ true
     pub stood : M.honest m' → (page : ℕ) (bytes : List ℕ) → is_one_of new.dirty page ≡ false → bytes_of new page ≡ Some bytes
         → (bytes_of old page ≡ Some bytes) ⊎ Stood (M.now m) page bytes
+
+  -- the grammar refuses bytes that a page had in the cache, or in one of its copies, in a table of so many pages
+  pub record HadRefused (from : Moment) (old : CacheValue) (pages page : ℕ) : Type 0 where
+    pub bytes : List ℕ
+    pub had : (bytes_of old page ≡ Some bytes) ⊎ Stood from page bytes
+    pub none : read_page page pages bytes ≡ None

@@ -1,14 +1,15 @@
 -- A table over a cache as the tree sees it.
-use Rattle.std.specs.Prelude.{◌≡◌, ℕ, Bool, List, [], Option, None, length}
+use Rattle.std.specs.Prelude.{◌≡◌, ◌⊎◌, ℕ, ◌<◌, Bool, true, false, List, [], Option, Some, None, length, slice_index_or}
 use Rattle.std.specs.Borrow.{MutBor}
 use Rattle.fsd_bytes.specs.declared.refusal.Refusal.{Refusal}
+use Rattle.fsd_bytes.specs.declared.refusal.Refusal.TheVariants.{Unsound}
 use Rattle.sector_disk.specs.declared.machine.Machine.{Ghosts as MachineGhosts}
 use Rattle.page_cache.specs.declared.source.PageSource.{Ghosts as SourceGhosts}
-use Rattle.page_cache.specs.Cache.{CacheValue, AreNewest, newest, with_written}
+use Rattle.page_cache.specs.Cache.{CacheValue, AreNewest, is_one_of, newest, with_written}
 use Rattle.name_page.specs.Pages.{Step}
 use Rattle.sector_disk.specs.Calls.{OnlyReads}
-use Rattle.table_pages.specs.Reads.{device_of, LosesFor, Fills}
-use Rattle.table_pages.specs.Bringing.{IsTrusted, given_by}
+use Rattle.table_pages.specs.Reads.{device_of, LosesFor, Fills, HadRefused}
+use Rattle.table_pages.specs.Bringing.{IsTrusted, given_by, home_in}
 use Rattle.table_pages.specs.Kept.{IsReady, images_of, kept_written}
 use Rattle.table_pages.specs.declared.table.Table.{Table}
 
@@ -37,6 +38,13 @@ module _ {D E : Type 0} {M : MachineGhosts D} {S : SourceGhosts E} where
   abbrev pub written : Table D E M S → ℕ → List ℕ → Table D E M S
   written t page bytes = record t { cache = record t.cache { now = with_written page bytes t.cache.now }; kept = kept_written M S t.made_over.value t.made_with.value t.m.now t.cache.now t.source.now t.free.now t.reached.items t.spares.items t.promised t.kept page bytes }
 
+  -- The page whose home A is there is free, or is dirty; or the grammar refuses what it had in the cache, or in one of its copies.
+  pub record BarsPlace (old new : Table D E M S) (place : ℕ) : Type 0 where
+    pub page : ℕ
+    pub within : page < length new.free.now
+    pub home : place ≡ home_in new.home_a page
+    pub why : (slice_index_or new.free.now page false ≡ true) ⊎ ((is_one_of new.cache.now.dirty page ≡ true) ⊎ HadRefused M S old.source.now (M.now old.m.now) old.cache.now (length new.free.now) page)
+
   -- Over the same machine, cache, source and free pages, where pages were read from the disk, and nothing else, until the
   -- outside refused one so, if it did.
   pub record ReadsOnly (refusal : Option Refusal) (old new : Table D E M S) : Type 0 where
@@ -49,6 +57,10 @@ module _ {D E : Type 0} {M : MachineGhosts D} {S : SourceGhosts E} where
     pub free : new.free.ghost_name ≡ old.free.ghost_name
     pub made_over : new.made_over.value ≡ old.made_over.value
     pub made_with : new.made_with.value ≡ old.made_with.value
+    pub count : length new.free.now ≡ length old.free.now
+    pub home_a : new.home_a ≡ old.home_a
+    pub taken : (page : ℕ) → slice_index_or old.free.now page false ≡ true → (slice_index_or new.free.now page false ≡ true) ⊎ (is_one_of new.cache.now.dirty page ≡ true)
+    pub barred : M.honest new.m.now → (place : ℕ) → new.refusal ≡ Some (Unsound place) → (old.refusal ≡ Some (Unsound place)) ⊎ BarsPlace old new place
 
   -- trusted since it was made
   abbrev pub Trusted : Table D E M S → Type 0

@@ -1,21 +1,22 @@
 -- A table over a cache as pages: the laws of its `impl`.
-use Rattle.std.proofs.Common.{◌≡◌, inl, ℕ, ◌≤◌, false, true, List, Option, None, length, refl, sym, ap, ◌∙◌, subst, arith, eqb-true}
+use Rattle.std.proofs.Common.{◌≡◌, ◌⊎◌, inl, inr, ℕ, ◌≤◌, false, true, List, Option, Some, None, length, refl, sym, ap, ◌∙◌, subst, arith, eqb-true}
 use Rattle.std.specs.Prelude.{nat_eq}
 use Rattle.std.proofs.lemmas.Bool.{true≢false}
 use Rattle.fsd_bytes.specs.declared.refusal.Refusal.{Refusal}
+use Rattle.fsd_formats.specs.NamePage.{read_page}
 use Rattle.sector_disk.specs.Machine.{Moment}
 use Rattle.sector_disk.specs.declared.machine.Machine.{Ghosts as MachineGhosts}
 use Rattle.sector_disk.proofs.CallLaws as calls
 use Rattle.page_cache.specs.declared.source.PageSource.{Ghosts as SourceGhosts}
-use Rattle.page_cache.specs.Cache.{CacheValue, AreNewest, newest, is_one_of, with_written}
+use Rattle.page_cache.specs.Cache.{CacheValue, AreNewest, bytes_of, newest, is_one_of, with_written}
 use Rattle.page_cache.proofs.Entries.{by_bool}
 use Rattle.page_cache.proofs.WrittenLaws.{bytes_beside, now_dirty, still_dirty}
 use Rattle.name_page.specs.Pages.{with_page}
-use Rattle.table_pages.specs.Reads.{Fills}
-use Rattle.table_pages.specs.Bringing.{given_by}
-use Rattle.table_pages.specs.Table.{step_of, written, ReadsOnly, Trusted}
+use Rattle.table_pages.specs.Reads.{Fills, Stood}
+use Rattle.table_pages.specs.Bringing.{given_by, home_in}
+use Rattle.table_pages.specs.Table.{step_of, written, BarsPlace, ReadsOnly, Trusted}
 use Rattle.table_pages.specs.declared.table.Table.{Table}
-use Rattle.table_pages.specs.ReadLaws.{fills_still, fills_then}
+use Rattle.table_pages.specs.ReadLaws.{fills_still, fills_then, stood_before}
 use Rattle.table_pages.specs.ImageLaws.{image_count, images_written}
 
 module _ {D E : Type 0} {M : MachineGhosts D} {S : SourceGhosts E} where
@@ -49,6 +50,10 @@ module _ {D E : Type 0} {M : MachineGhosts D} {S : SourceGhosts E} where
       free = refl;
       made_over = refl;
       made_with = refl;
+      count = refl;
+      home_a = refl;
+      taken = λ page is. inl is;
+      barred = λ h place is. inl is;
     }
 
     pub reads_written : (t : Table D E M S) (page : ℕ) (bytes : List ℕ) → ReadsOnly None t (written t page bytes)
@@ -62,7 +67,50 @@ module _ {D E : Type 0} {M : MachineGhosts D} {S : SourceGhosts E} where
       free = refl;
       made_over = refl;
       made_with = refl;
+      count = refl;
+      home_a = refl;
+      taken = λ page is. inl is;
+      barred = λ h place is. inl is;
     }
+
+  -- a page that is barred stays so, and was so from an earlier table on
+  bars_later : (a b c : Table D E M S) (refusal : Option Refusal) (place : ℕ) → ReadsOnly refusal b c → BarsPlace a b place → BarsPlace a c place
+  bars_later a b c refusal place y bars = record {
+    page = bars.page;
+    within = omega (arith, bars.within, y.count);
+    home = bars.home ∙ ap (λ (n : ℕ). home_in n bars.page) (sym y.home_a);
+    why = elim bars.why [
+      | inl free ↦ elim (y.taken bars.page free) [
+        | inl still ↦ inl still
+        | inr dirty ↦ inr (inl dirty)
+      ]
+      | inr other ↦ elim other [
+        | inl dirty ↦ inr (inl (y.fills.dirty bars.page dirty))
+        | inr had ↦ inr (inr (record { bytes = had.bytes; had = had.had; none = subst (λ (n : ℕ). read_page bars.page n had.bytes ≡ None) (sym y.count) had.none }))
+      ]
+    ];
+  }
+
+  bars_earlier : (a b c : Table D E M S) (refusal : Option Refusal) (place : ℕ) → ReadsOnly None a b → ReadsOnly refusal b c → M.honest b.m.now → BarsPlace b c place → BarsPlace a c place
+  bars_earlier a b c refusal place x y honest bars = record {
+    page = bars.page;
+    within = bars.within;
+    home = bars.home;
+    why = elim bars.why [
+      | inl free ↦ inl free
+      | inr other ↦ elim other [
+        | inl dirty ↦ inr (inl dirty)
+        | inr had ↦ inr (by_bool (is_one_of b.cache.now.dirty bars.page)
+            (λ t. inl (y.fills.dirty bars.page t))
+            (λ t. inr (record { bytes = had.bytes; had = was had.bytes t had.had; none = had.none })))
+      ]
+    ];
+  }
+    where
+      was : (bytes : List ℕ) → is_one_of b.cache.now.dirty bars.page ≡ false → (bytes_of b.cache.now bars.page ≡ Some bytes) ⊎ Stood M S b.source.now (M.now b.m.now) bars.page bytes
+          → (bytes_of a.cache.now bars.page ≡ Some bytes) ⊎ Stood M S a.source.now (M.now a.m.now) bars.page bytes
+      was bytes out (inl had) = x.fills.stood honest bars.page bytes out had
+      was bytes out (inr stood) = inr (stood_before M S a.source.now (M.now a.m.now) (M.now b.m.now) bars.page bytes (x.reads.worn honest) (subst (λ (source : E). Stood M S source (M.now b.m.now) bars.page bytes) x.source stood))
 
   pub reads_then : (a b c : Table D E M S) (refusal : Option Refusal) → ReadsOnly None a b → ReadsOnly refusal b c → ReadsOnly refusal a c
   reads_then a b c refusal x y = record {
@@ -76,6 +124,19 @@ module _ {D E : Type 0} {M : MachineGhosts D} {S : SourceGhosts E} where
     free = y.free ∙ x.free;
     made_over = y.made_over ∙ x.made_over;
     made_with = y.made_with ∙ x.made_with;
+    count = y.count ∙ x.count;
+    home_a = y.home_a ∙ x.home_a;
+    taken = λ page is. elim (x.taken page is) [
+      | inl free ↦ y.taken page free
+      | inr dirty ↦ inr (y.fills.dirty page dirty)
+    ];
+    barred = λ h place is. elim (y.barred h place is) [
+      | inl was ↦ elim (x.barred (y.reads.trust.honest h) place was) [
+        | inl first ↦ inl first
+        | inr bars ↦ inr (bars_later a b c refusal place y bars)
+      ]
+      | inr bars ↦ inr (bars_earlier a b c refusal place x y (y.reads.trust.honest h) bars)
+    ];
   }
 
   pub trusted_earlier : (a b : Table D E M S) (refusal : Option Refusal) → ReadsOnly refusal a b → Trusted b → Trusted a

@@ -1,4 +1,5 @@
 pub mod CacheLaws
+pub mod CauseLaws
 pub mod CountLaws
 pub mod EntryLaws
 pub mod FindLaws
@@ -11,4 +12,5 @@ pub mod ReadLaws
 pub mod RangeLaws
 pub mod TableLaws
 pub mod TakenLaws
+pub mod VisitLaws
 pub mod WearLaws

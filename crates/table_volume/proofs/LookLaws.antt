@@ -1,56 +1,44 @@
 -- What a table over a cache leaves where it was looked into.
-use Rattle.std.proofs.Common.{◌≡◌, ℕ, zero, suc, ◌+◌, ◌<◌, Bool, true, List, [], ◌∷◌, length, Option, Some, None, Result, Ok, Err, refl, sym, ap, subst, ◌∙◌, arith}
-use Rattle.std.specs.Prelude.{Contains, IfErr, IfOk, IfSome, slice_get, slice_index_or}
+use Rattle.std.proofs.Common.{◌≡◌, ℕ, zero, suc, ◌+◌, ◌<◌, Bool, true, List, [], ◌∷◌, length, Option, Some, None, Result, Ok, Err, refl, sym, ap, subst, ◌∙◌, arith, ◌⊎◌, inl, inr, ◌≤◌, false, ◌||◌}
+use Rattle.std.specs.Prelude.{Contains, IfErr, IfOk, IfSome, slice_get, slice_index_or, nat_eq, option_and_then}
 use Rattle.std.specs.List.{AllByRecursion, flat_map}
 use Rattle.std.specs.Borrow.{MutBor}
 use Rattle.std.specs.Option.{option_or}
-use Rattle.std.proofs.lemmas.Bool.{or_right}
+use Rattle.std.proofs.lemmas.Bool.{both_ways, eqb-true, or_right}
 use Rattle.fsd_bytes.specs.declared.refusal.Refusal.{Refusal}
-use Rattle.fsd_formats.specs.NamePage.{Content, Leaf}
-use Rattle.fsd_table.specs.declared.child.Child.{Child}
-use Rattle.fsd_table.specs.Pages.{children_of, entries_of, page_at}
-use Rattle.fsd_table.specs.Table.{BreaksTable, Visit, max_height, top, visits, visits_below}
-use Rattle.fsd_table.proofs.BoundLaws.{all_append}
+use Rattle.fsd_bytes.specs.declared.refusal.Refusal.TheVariants.{Unsound}
+use Rattle.fsd_formats.specs.NamePage.{Content, Leaf, read_page}
+use Rattle.fsd_table.specs.Pages.{entries_of, page_at}
+use Rattle.fsd_table.specs.Table.{BreaksTable}
 use Rattle.sector_disk.specs.declared.machine.Machine.{Ghosts as MachineGhosts}
 use Rattle.sector_disk.specs.Calls.{OnlyReads}
 use Rattle.page_cache.specs.declared.source.PageSource.{Ghosts as SourceGhosts}
 use Rattle.page_cache.specs.Cache.{AreNewest, CacheValue, bytes_of, is_one_of, newest}
-use Rattle.name_page.specs.Looks.{Agrees, Looks}
-use Rattle.name_page.specs.Pages.{Step, rested}
-use Rattle.name_page.proofs.LookLaws.{agrees_at}
+use Rattle.name_page.specs.Looks.{Agrees, Looks, Shows}
+use Rattle.name_page.specs.Pages.{Step, rested, IsBarred, IsOuter, home_of, is_one_of as among, is_spare}
+use Rattle.name_page.proofs.LookLaws.{agrees_at, agrees_now}
 use Rattle.name_btree.specs.declared.fault.TreeFault.{TreeFault}
 use Rattle.name_btree.specs.declared.fault.TreeFault.TheVariants.{Pages, Broken}
-use Rattle.name_btree.specs.Fault.{BarsTable, HasCause}
+use Rattle.name_btree.specs.Fault.{BarsTable, HasCause, IsOnWay, ShowsCause}
 use Rattle.name_btree.specs.declared.lookup.FoundEntry.{FoundEntry}
 use Rattle.name_btree.specs.Lookup.{IsLedTo, StandsIn}
-use Rattle.table_pages.specs.Bringing.{IsTrusted, OnlyPins, given_by}
+use Rattle.table_pages.specs.Bringing.{IsTrusted, OnlyPins, given_by, home_in}
 use Rattle.table_pages.specs.Kept.{IsReady}
 use Rattle.table_pages.specs.ImageLaws.{image_at, image_count}
-use Rattle.table_pages.specs.Reads.{Fills, LosesFor, device_of}
-use Rattle.table_pages.specs.Table.{IsAtRest, IsClean, IsOver, ReadsOnly, Trusted, begun, step_of}
+use Rattle.table_pages.specs.Reads.{Fills, HadRefused, LosesFor, device_of}
+use Rattle.table_pages.specs.Table.{BarsPlace, IsAtRest, IsClean, IsOver, ReadsOnly, Trusted, begun, step_of}
 use Rattle.table_pages.specs.declared.table.Table.{Table}
 use Rattle.table_pages.proofs.KeptLaws.{reached_there}
 use Rattle.table_volume.proofs.PageLaws.{in_memory}
-use Rattle.table_volume.specs.Looking.{FaultIn, FaultsOver, HavePages, LeadsTo, LooksOnly, images_by}
+use Rattle.table_volume.specs.Looking.{FaultIn, FaultsOver, Had, HaveOthers, HavePages, LeadsTo, LooksOnly, ShowsFault, ShowsPlace, images_by}
+use Rattle.table_volume.proofs.VisitLaws.{own_content, refused_breaks, way_within}
 
--- ---- what a visited page has
+-- homes of pages of a table are not the same
+same_home : (count home_a page other : ℕ) → count ≤ 4096 → page < count → other < count → home_in home_a page ≡ home_in home_a other → other ≡ page
+same_home count home_a page other small lt lt' is = omega (arith, small, lt, lt', is)
 
-all_below : (P : Visit → Type 0) (f : Child → List Visit) → ((d : Child) → AllByRecursion P (f d)) → (cs : List Child) → AllByRecursion P (flat_map f cs)
-all_below P f each [] = tt
-all_below P f each (d ∷ cs) = all_append P (f d) (flat_map f cs) (each d) (all_below P f each cs)
-
-each_own : (pages : List (List ℕ)) (levels depth : ℕ) (c : Child) → AllByRecursion (λ v. v.content ≡ page_at pages v.page) (visits_below levels pages depth c)
-each_own pages zero depth c = tt
-each_own pages (suc levels) depth c = (refl, all_below (λ v. v.content ≡ page_at pages v.page) (visits_below levels pages (depth + 1)) (each_own pages levels (depth + 1)) (children_of c.low c.high (page_at pages c.page)))
-
-one_of : (P : Visit → Type 0) (vs : List Visit) (v : Visit) → AllByRecursion P vs → (i : ℕ) → i < length vs → slice_index_or vs i v ≡ v → P v
-one_of P [] v all i lt is = absurd (omega arith)
-one_of P (w ∷ vs) v all zero lt is = subst P is all.0
-one_of P (w ∷ vs) v all (suc i) lt is = one_of P vs v all.1 i (omega arith) is
-
-own_content : (pages : List (List ℕ)) (visit : Visit) → Contains (visits pages) visit → visit.content ≡ page_at pages visit.page
-unfolding visits
-own_content pages visit has = one_of (λ v. v.content ≡ page_at pages v.page) (visits pages) visit (each_own pages (suc max_height) 1 top) has.0 has.1 has.2
+home_named : (home_a page place : ℕ) → Unsound (home_in home_a page) ≡ Unsound place → place ≡ home_in home_a page
+home_named home_a page place is = cc is
 
 -- ---- faults
 
@@ -141,6 +129,126 @@ module _ {D E : Type 0} {M : MachineGhosts D} {S : SourceGhosts E} where
     leads_left cache' left (Err fault) there way = tt
     leads_left cache' left (Ok None) there way = tt
     leads_left cache' left (Ok (Some f)) there way = λ pages have. leads f there way pages (subst (λ (x : CacheValue). HavePages x (length free.now) pages) left have)
+
+    -- ---- what shows that a page breaks
+
+    home_b : (step_of b).home_a ≡ home_a
+    home_b = looks.home_a ∙ ap (λ (s : Step). s.home_a) begins
+
+    count_b : length (step_of b).images ≡ length free.now
+    count_b = image_count (newest b.cache.now (given_by M S b.source.now b.m.now)) (length b.free.now) ∙ ap (λ (f : List Bool). length f) free_b
+
+    -- the page was reached, or is dirty
+    abbrev was_reached : ℕ → Bool
+    was_reached page = among b.reached.items page || among b.cache.now.dirty page
+
+    -- pages with what is in the cache in the end have what was reached, whatever another page has
+    agrees_beside : (page : ℕ) (bytes : List ℕ) → was_reached page ≡ false → (pages : List (List ℕ)) → HaveOthers c.cache.now (length free.now) page bytes pages → Agrees pages (step_of b)
+    agrees_beside page bytes out pages have = record {
+      count = have.size ∙ sym count_b;
+      reached = λ q is used.
+          let there = in_memory b.cache.now q (reached_there M S b.source.now b.made_over.value b.made_with.value b.m.now b.cache.now b.free.now b.reached.items b.spares.items b.promised b.kept q is.1) in
+          let lt : q < length free.now = within q is.0 in
+          let lt_b : q < length b.free.now = omega (arith, lt, ap (λ (f : List Bool). length f) free_b) in
+          have.same q there.0 lt (other q is.1) (pins.bytes q ∙ there.1)
+          ∙ sym (image_at (newest b.cache.now (given_by M S b.source.now b.m.now)) (length b.free.now) q there.0 lt_b (ap (λ (o : Option (List ℕ)). option_or o (given_by M S b.source.now b.m.now q)) there.1));
+    }
+      where
+        other : (q : ℕ) → was_reached q ≡ true → nat_eq q page ≡ false
+        other q is = by (nat_eq q page) refl
+          where
+            by : (x : Bool) → nat_eq q page ≡ x → x ≡ false
+            by false e = refl
+            by true e = absurd (both_ways (was_reached page) out (subst (λ (n : ℕ). was_reached n ≡ true) (eqb-true q page e) is))
+
+    -- it was reached, and is refused by the grammar
+    reached_refused : (page : ℕ) → page < length free.now → is_spare (step_of b).spares page ≡ false → was_reached page ≡ true → page_at (step_of b).images page ≡ None → Shows (step_of b) (λ pages. IsOnWay pages page)
+        → (pages : List (List ℕ)) → HavePages c.cache.now (length free.now) pages → BreaksTable pages page
+    reached_refused page lt used is none way pages have =
+        let agree = agrees pages have in
+        refused_breaks pages page (way pages agree) (agrees_at (step_of b) pages page (omega (arith, lt, count_b), is) used agree ∙ none)
+
+    -- so are bytes that it had
+    had_refused : (page : ℕ) (bytes : List ℕ) → was_reached page ≡ false → read_page page (length free.now) bytes ≡ None → Shows (step_of b) (λ pages. IsOnWay pages page)
+        → (pages : List (List ℕ)) → HaveOthers c.cache.now (length free.now) page bytes pages → BreaksTable pages page
+    unfolding page_at
+    had_refused page bytes out none way pages have =
+        refused_breaks pages page (way pages (agrees_beside page bytes out pages have))
+        (ap (λ (n : ℕ). option_and_then (read_page page n) (slice_get pages page)) have.size ∙ ap (λ (o : Option (List ℕ)). option_and_then (read_page page (length free.now)) o) have.here ∙ none)
+
+    -- why it was refused
+    was_had : (page : ℕ) → HadRefused M S a.source.now (M.now a.m.now) a.cache.now (length b.free.now) page → (bytes : List ℕ) × Had M S source (M.now m.now) cache.now page bytes × (read_page page (length free.now) bytes ≡ None)
+    was_had page had = (
+      had.bytes,
+      subst (λ (e : E). Had M S e (M.now m.now) cache.now page had.bytes) over.from
+          (subst (λ (x : MutBor D). Had M S a.source.now (M.now x.now) cache.now page had.bytes) over.machine
+          (subst (λ (x : MutBor CacheValue). Had M S a.source.now (M.now a.m.now) x.now page had.bytes) over.cached had.had)),
+      ap (λ (f : List Bool). read_page page (length f) had.bytes) (sym free_b) ∙ had.none,
+    )
+
+    abbrev How : ℕ → Type 0
+    How page = ((is_spare free.now page ≡ true) × ((pages : List (List ℕ)) → HavePages c.cache.now (length free.now) pages → IsOnWay pages page))
+        ⊎ (((pages : List (List ℕ)) → HavePages c.cache.now (length free.now) pages → BreaksTable pages page)
+        ⊎ ((bytes : List ℕ) × (page < length free.now) × Had M S source (M.now m.now) cache.now page bytes × ((pages : List (List ℕ)) → HaveOthers c.cache.now (length free.now) page bytes pages → BreaksTable pages page)))
+
+    barred_how : (page : ℕ) → page < length free.now → IsBarred (step_of b) page → Shows (step_of b) (λ pages. IsOnWay pages page)
+        → (slice_index_or b.free.now page false ≡ true) ⊎ ((is_one_of b.cache.now.dirty page ≡ true) ⊎ HadRefused M S a.source.now (M.now a.m.now) a.cache.now (length b.free.now) page)
+        → (place : ℕ) → place ≡ home_in home_a page → ShowsPlace M S source (M.now m.now) cache.now c.cache.now free.now home_a place
+    barred_how page lt bars way why place home = record { page = page; home = home; how = by (is_spare (step_of b).spares page) refl }
+      where
+        spared : is_spare (step_of b).spares page ≡ true → is_spare free.now page ≡ true
+        spared is = ap (λ (f : List Bool). is_spare f page) (sym free_b) ∙ is
+
+        unread : is_spare (step_of b).spares page ≡ false → IsBarred (step_of b) page → page_at (step_of b).images page ≡ None
+        unread used (inl spare) = absurd (both_ways (is_spare (step_of b).spares page) used spare)
+        unread used (inr none) = none
+
+        beside : is_spare (step_of b).spares page ≡ false → was_reached page ≡ false
+            → (slice_index_or b.free.now page false ≡ true) ⊎ ((is_one_of b.cache.now.dirty page ≡ true) ⊎ HadRefused M S a.source.now (M.now a.m.now) a.cache.now (length b.free.now) page) → How page
+        beside used out (inl free) = absurd (both_ways (is_spare (step_of b).spares page) used free)
+        beside used out (inr (inl dirty)) = absurd (both_ways (was_reached page) out (or_right (among b.reached.items page) (among b.cache.now.dirty page) dirty))
+        beside used out (inr (inr had)) = let was = was_had page had in inr (inr (was.0, lt, was.1, had_refused page was.0 out was.2 way))
+
+        at : is_spare (step_of b).spares page ≡ false → (x : Bool) → was_reached page ≡ x → How page
+        at used true is = inr (inl (reached_refused page lt used is (unread used bars) way))
+        at used false out = beside used out why
+
+        by : (x : Bool) → is_spare (step_of b).spares page ≡ x → How page
+        by true spare = inl (spared spare, λ pages have. way pages (agrees pages have))
+        by false used = at used (was_reached page) refl
+
+    -- the page that is refused is the one that the outside has barred
+    same_page : (page other place : ℕ) → page < length b.free.now → other < length b.free.now → place ≡ home_in b.home_a page → place ≡ home_of (step_of b) other → other ≡ page
+    same_page page other place lt lt' is is' = same_home (length b.free.now) b.home_a page other b.kept.small lt lt' (sym is ∙ is')
+
+    refused_place : M.honest c.m.now → (refused : Refusal) → (step_of b).refusal ≡ Some refused → (place : ℕ) → refused ≡ Unsound place
+        → IsOuter refused ⊎ ((page : ℕ) × (refused ≡ Unsound (home_of (step_of b) page)) × IsBarred (step_of b) page × Shows (step_of b) (λ pages. IsOnWay pages page))
+        → ShowsPlace M S source (M.now m.now) cache.now c.cache.now free.now home_a place
+    refused_place honest refused told place is (inl outer) = absurd (cc (subst IsOuter is outer))
+    refused_place honest refused told place is (inr x) = by (outside.barred (subst M.honest machine honest) place (told ∙ ap (λ (r : Refusal). Some r) is))
+      where
+        place_is : place ≡ home_of (step_of b) x.0
+        place_is = cc (is, x.1)
+
+        by : (a.refusal ≡ Some (Unsound place)) ⊎ BarsPlace a b place → ShowsPlace M S source (M.now m.now) cache.now c.cache.now free.now home_a place
+        by (inl was) = absurd (cc (was, ap (λ (s : Step). s.refusal) begins))
+        by (inr bars) =
+            let lt : x.0 < length b.free.now = omega (arith, way_within (step_of b).images (omega (arith, bars.within, count_b, ap (λ (f : List Bool). length f) free_b)) x.0 (x.3 (step_of b).images (agrees_now (step_of b))), count_b, ap (λ (f : List Bool). length f) free_b) in
+            let same : x.0 ≡ bars.page = same_page bars.page x.0 place bars.within lt bars.home place_is in
+            barred_how x.0 (omega (arith, lt, ap (λ (f : List Bool). length f) free_b)) x.2 x.3
+            (subst (λ (page : ℕ). (slice_index_or b.free.now page false ≡ true) ⊎ ((is_one_of b.cache.now.dirty page ≡ true) ⊎ HadRefused M S a.source.now (M.now a.m.now) a.cache.now (length b.free.now) page)) (sym same) bars.why)
+            place (place_is ∙ ap (λ (h : ℕ). home_in h x.0) home_b)
+
+    shows_fault : (f : TreeFault) → HasCause (step_of b) (BreaksTable (step_of b).images) (BarsTable (step_of b)) f → ShowsCause (step_of b) BreaksTable IsOnWay f → ShowsFault M S source m.now c.m.now cache.now c.cache.now free.now home_a f
+    shows_fault (Broken page) cause shown = λ honest place is. record { page = page; home = home_named home_a page place is; how = inr (inl (λ pages have. shown pages (agrees pages have))) }
+    shows_fault (Pages refused) cause shown = λ honest place is. refused_place honest refused cause.0 place is shown
+
+    pub shown_left : (m' : D) (cache' : CacheValue) → m' ≡ c.m.now → cache' ≡ c.cache.now → {T : Type 0} → (r : Result T TreeFault) → IfErr r (HasCause (step_of b) (BreaksTable (step_of b).images) (BarsTable (step_of b)))
+        → IfErr r (ShowsCause (step_of b) BreaksTable IsOnWay) → IfErr r (ShowsFault M S source m.now m' cache.now cache' free.now home_a)
+    shown_left m' cache' left left_cache (Ok x) cause shown = tt
+    shown_left m' cache' left left_cache (Err f) cause shown =
+        subst (λ (n : D). ShowsFault M S source m.now n cache.now cache' free.now home_a f) (sym left)
+        (subst (λ (x : CacheValue). ShowsFault M S source m.now c.m.now cache.now x free.now home_a f) (sym left_cache) (shows_fault f cause shown))
 
     fault_last : (f : TreeFault) → HasCause (step_of b) (BreaksTable (step_of b).images) (BarsTable (step_of b)) f → FaultIn (images_by M S source c.m.now c.cache.now (length free.now)) free.now home_a f
     fault_last f cause =

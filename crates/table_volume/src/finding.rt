@@ -1,16 +1,15 @@
 //! Entries that are found in the table.
-ghost use Rattle.std.specs.Prelude.{◌≡◌, ◌<◌, ◌≤◌, ℕ, Contains, Err, IfOk, IfErr, IfSome, IsTrue, true};
+ghost use Rattle.std.specs.Prelude.{◌≡◌, ◌<◌, ◌≤◌, Contains, IfOk, IfErr, IfSome, IsTrue, true};
 ghost use Rattle.sector_disk.specs.Calls.{OnlyReads, device_in};
-ghost use Rattle.sector_disk.specs.Damage.{AreLost};
 ghost use Rattle.fsd_formats.specs.NamePage.{is_entry};
 ghost use Rattle.fsd_files.specs.Answers.{entry_of, entry_reply};
-ghost use Rattle.volume_contract.specs.Causes.{AreCopies};
+ghost use Rattle.volume_contract.specs.Causes.{Causes};
 ghost use Rattle.volume_contract.specs.Ends.{Looks, device_of, found_one};
 ghost use Rattle.volume_contract.specs.Order.{Follows, IsLookUp, entry_steps, is_idle};
 ghost use Rattle.volume_contract.specs.State.{Known, Stands, volume_of};
-ghost use Rattle.table_volume.specs.Looking.{Finds, ShowsEntry};
+ghost use Rattle.table_volume.specs.Looking.{Finds};
 ghost use Rattle.table_volume.specs.State.{Holds, resident, state};
-ghost use Rattle.table_volume.specs.Taken.{are_taken};
+ghost use Rattle.table_volume.specs.Taken.{are_taken, met_entry};
 
 use crate::Volume;
 use crate::looking::{find_in, told};
@@ -37,8 +36,8 @@ impl Volume {
         ensures stands { M.honest m.new → (k : Known) → Stands state Holds self.old k (M.now m.old) → Stands state Holds self.new k (M.now m.new) }
         ensures found { M.honest m.new → (k : Known) → Stands state Holds self.old k (M.now m.old) → Finds (entry_of key.now (volume_of k).entries) result }
         ensures taken { M.honest m.new → (k : Known) → Stands state Holds self.old k (M.now m.old) → (e : Entry) → Contains (volume_of k).entries e → IsTrue (are_taken self.new e.runs) }
-        ensures lost { (a b : ℕ) → result ≡ Err (Refusal.Lost a b) → M.honest m.new → AreLost (AreCopies (state self.old) (state self.new)) (M.now m.new).image a b }
-        ensures shown { M.honest m.new → IfOk result (λ found. IfSome found (ShowsEntry (state self.old) (state self.new) (resident self.old) (M.now m.old) (M.now m.new))) }
+        ensures causes { Causes M.Machine (resident self.old) (state self.old) (state self.new) m.old m.new result }
+        ensures met { IfOk result (λ found. IfSome found (λ f. Causes M.Machine (resident self.old) (state self.old) (state self.new) m.old m.new (met_entry self.new f.page f.entry))) }
     {
         let _whole = self.cache.dirty_list();
         let home_a = self.layout.home_a(0);
@@ -62,7 +61,7 @@ impl Volume {
         ensures state { state self.new ≡ state self.old }
         ensures idle { IsTrue (is_idle (entry_steps (state self.old))) → m.new ≡ m.old }
         ensures stands { M.honest m.new → (k : Known) → Stands state Holds self.old k (M.now m.old) → Stands state Holds self.new k (M.now m.new) }
-        ensures lost { (a b : ℕ) → result ≡ Err (Refusal.Lost a b) → M.honest m.new → AreLost (AreCopies (state self.old) (state self.new)) (M.now m.new).image a b }
+        ensures causes { Causes M.Machine (resident self.old) (state self.old) (state self.new) m.old m.new result }
         ensures done { M.honest m.new → (k : Known) → Stands state Holds self.old k (M.now m.old) → Looks (entry_reply (volume_of k) key.now) (found_one result) }
     {
         self.is_up()?;

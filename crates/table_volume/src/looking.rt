@@ -8,7 +8,7 @@ ghost use Rattle.fsd_table.specs.Tree.{IsTree, table_of};
 ghost use Rattle.name_page.specs.Lookups.{entry_after, entry_with, highest_of, is_after};
 ghost use Rattle.name_btree.specs.Fault.{outer_told};
 ghost use Rattle.name_btree.specs.Lookup.{entry_of};
-ghost use Rattle.table_volume.specs.Looking.{FaultsOver, HavePages, LeadsTo, LooksOnly, images_by, told};
+ghost use Rattle.table_volume.specs.Looking.{FaultsOver, HavePages, LeadsTo, LooksOnly, ShowsFault, images_by, told};
 
 use fsd_bytes::{FileName, Key, Refusal};
 use name_btree::{FoundEntry, TreeFault, find, highest, next_after};
@@ -43,6 +43,7 @@ pub(crate) fn find_in<M: Machine, S: PageSource>(
     ensures found { IfOk result (λ found. IsTrusted M.Machine S.PageSource source.now m.old cache.old m.new → (height : ℕ) →
         let pages = images_by M.Machine S.PageSource source.now m.old cache.old (length free.old) in IsTree pages height → entry_of found ≡ entry_with key.now (table_of pages height)) }
     ensures fault { IfErr result (FaultsOver M.Machine S.PageSource source.now m.new cache.new free.old home_a) }
+    ensures shown { IfErr result (ShowsFault M.Machine S.PageSource source.now m.old m.new cache.old cache.new free.old home_a) }
 {
     let mut table = Table::new(m, cache, source, home_a, free);
     let found = find(&mut table, key);
@@ -65,9 +66,11 @@ pub(crate) fn next_in<M: Machine, S: PageSource>(
     ensures free { free.new ≡ free.old }
     ensures page { IfOk result (λ found. IfSome found (λ f. f.page < length free.old)) }
     ensures later { IfOk result (λ found. IfSome found (λ f. is_after (option_copied after.entry) f.entry.key ≡ true)) }
+    ensures way { IfOk result (λ found. IfSome found (λ f. (pages : List (List ℕ)) → HavePages cache.new (length free.old) pages → LeadsTo pages f)) }
     ensures found { IfOk result (λ found. IsTrusted M.Machine S.PageSource source.now m.old cache.old m.new → (height : ℕ) →
         let pages = images_by M.Machine S.PageSource source.now m.old cache.old (length free.old) in IsTree pages height → entry_of found ≡ entry_after (option_copied after.entry) (table_of pages height)) }
     ensures fault { IfErr result (FaultsOver M.Machine S.PageSource source.now m.new cache.new free.old home_a) }
+    ensures shown { IfErr result (ShowsFault M.Machine S.PageSource source.now m.old m.new cache.old cache.new free.old home_a) }
 {
     let mut table = Table::new(m, cache, source, home_a, free);
     let found = next_after(&mut table, after);

@@ -5,12 +5,13 @@ ghost use Rattle.sector_disk.specs.Calls.{OnlyReads, device_in};
 ghost use Rattle.fsd_formats.specs.declared.entry.Entry.{Entry as Listed};
 ghost use Rattle.fsd_files.specs.Answers.{entry_after, highest_entry, next_reply};
 ghost use Rattle.name_page.specs.Lookups.{is_after};
+ghost use Rattle.volume_contract.specs.Causes.{Causes};
 ghost use Rattle.volume_contract.specs.Ends.{IsLater, Looks, device_of};
 ghost use Rattle.volume_contract.specs.Order.{Follows, IsLookUp, is_idle, next_steps};
 ghost use Rattle.volume_contract.specs.State.{Known, Stands, volume_of};
 ghost use Rattle.table_volume.specs.Looking.{Finds, met_found};
-ghost use Rattle.table_volume.specs.State.{Holds, state};
-ghost use Rattle.table_volume.specs.Taken.{are_taken};
+ghost use Rattle.table_volume.specs.State.{Holds, resident, state};
+ghost use Rattle.table_volume.specs.Taken.{are_taken, met_entry};
 
 use crate::Volume;
 use crate::looking::{highest_in, next_in, told};
@@ -37,6 +38,8 @@ impl Volume {
         ensures stands { M.honest m.new → (k : Known) → Stands state Holds self.old k (M.now m.old) → Stands state Holds self.new k (M.now m.new) }
         ensures found { M.honest m.new → (k : Known) → Stands state Holds self.old k (M.now m.old) → Finds (entry_after (option_copied after.entry) (volume_of k).entries) result }
         ensures taken { M.honest m.new → (k : Known) → Stands state Holds self.old k (M.now m.old) → (e : Listed) → Contains (volume_of k).entries e → IsTrue (are_taken self.new e.runs) }
+        ensures causes { Causes M.Machine (resident self.old) (state self.old) (state self.new) m.old m.new result }
+        ensures met { IfOk result (λ found. IfSome found (λ f. Causes M.Machine (resident self.old) (state self.old) (state self.new) m.old m.new (met_entry self.new f.page f.entry))) }
     {
         let _whole = self.cache.dirty_list();
         let home_a = self.layout.home_a(0);
@@ -107,6 +110,7 @@ impl Volume {
         ensures idle { IsTrue (is_idle (next_steps (state self.old))) → m.new ≡ m.old }
         ensures later { IfOk result (IsLater (option_map (λ key. key.now) after.entry)) }
         ensures stands { M.honest m.new → (k : Known) → Stands state Holds self.old k (M.now m.old) → Stands state Holds self.new k (M.now m.new) }
+        ensures causes { Causes M.Machine (resident self.old) (state self.old) (state self.new) m.old m.new result }
         ensures done { M.honest m.new → (k : Known) → Stands state Holds self.old k (M.now m.old) → Looks (next_reply (volume_of k) (option_map (λ key. key.now) after.entry)) result }
     {
         self.is_up()?;

@@ -9,10 +9,11 @@ ghost use Rattle.fsd_files.specs.Answers.{entry_of, entry_reply};
 ghost use Rattle.fsd_files.specs.Disk.{Sectors};
 ghost use Rattle.fsd_files.specs.Files.{File};
 ghost use Rattle.fsd_files.specs.Kept.{KeptIn};
+ghost use Rattle.volume_contract.specs.Causes.{Causes};
 ghost use Rattle.volume_contract.specs.Ends.{Looks, Reads, device_of, found_one};
 ghost use Rattle.volume_contract.specs.Order.{Follows, IsData, entry_steps, is_idle, read_steps};
 ghost use Rattle.volume_contract.specs.State.{Known, Stands, volume_of};
-ghost use Rattle.table_volume.specs.State.{Holds, state};
+ghost use Rattle.table_volume.specs.State.{Holds, resident, state};
 
 use crate::Volume;
 use fsd_bytes::{Key, Refusal};
@@ -32,6 +33,7 @@ impl Volume {
         ensures runs { IfOk result (λ e. All (λ r. r.start + r.length ≤ 2 ^ 32) e.runs) }
         ensures within { IfOk result (λ e. All (λ s. s < (state self.old).layout.sectors) (sectors_of e.runs)) }
         ensures stands { M.honest m.new → (k : Known) → Stands state Holds self.old k (M.now m.old) → Stands state Holds self.new k (M.now m.new) }
+        ensures causes { Causes M.Machine (resident self.old) (state self.old) (state self.new) m.old m.new result }
         ensures done { M.honest m.new → (k : Known) → Stands state Holds self.old k (M.now m.old) → Looks (entry_reply (volume_of k) key.now) (found_one result) }
     {
         let _ = &self.layout;
@@ -58,6 +60,7 @@ impl Volume {
         ensures idle { IsTrue (is_idle (read_steps (state self.old))) → m.new ≡ m.old }
         ensures most { IfOk result (λ count. count ≤ length buf.old) }
         ensures stands { M.honest m.new → (k : Known) → Stands state Holds self.old k (M.now m.old) → Stands state Holds self.new k (M.now m.new) }
+        ensures causes { Causes M.Machine (resident self.old) (state self.old) (state self.new) m.old m.new result }
         ensures done { M.honest m.new → (k : Known) → Stands state Holds self.old k (M.now m.old) →
             Reads (M.now m.old).image (M.now m.new).image (file_of key_cmp key.now (volume_of k).files) (entry_of key.now (volume_of k).entries) from buf.old buf.new result }
     {

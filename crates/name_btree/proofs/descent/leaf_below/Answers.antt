@@ -14,7 +14,7 @@ use Rattle.name_page.proofs.CutLaws.{cuts_monotone}
 use Rattle.name_btree.proofs.DescentLaws.{IsOnWay, way_begins, way_down, way_ends}
 use Rattle.name_btree.proofs.LookupLaws.{Narrows, way_narrows, leaf_least}
 use Rattle.name_btree.proofs.PathLaws.{IsPath, path_begins, path_down, path_ends}
-use Rattle.name_btree.proofs.VisitedLaws.{IsVisitedWay, visited_down, misfit_below, deep_below}
+use Rattle.name_btree.proofs.VisitedLaws.{IsVisitedWay, visited_down, misfit_below, shown_below, deep_below, deep_shown}
 use Rattle.name_btree.proofs.descent.leaf_below.Goals as goal
 
 pub loop-above-init : goal.loop-above-init
@@ -41,6 +41,13 @@ returns-in_err-child_node-clause-fault g c =
     let on = c.loop-above.invariant.visited s.images (agrees_before (g.T.Pages.step c.loop-above.t) s s.images c.in_err-child_node.ensures.calls.looks (agrees_now s)) in
     let p = err_from_is_err_and c.from_residual.result c.from_residual.ensures.1 in
     rw (p.1, p.2) (misfit_below s fault c.args.above c.args.start c.loop-above.above c.loop-above.way on c.in_err-child_node.ensures.fault)
+
+pub returns-in_err-child_node-clause-shown : goal.returns-in_err-child_node-clause-shown
+returns-in_err-child_node-clause-shown g c =
+    let s = g.T.Pages.step c.child_node.new.t in
+    let on : Shows s (λ pages. IsVisitedWay pages c.args.above c.args.start c.loop-above.above c.loop-above.way) = λ pages agrees. c.loop-above.invariant.visited pages (agrees_before (g.T.Pages.step c.loop-above.t) s pages c.in_err-child_node.ensures.calls.looks agrees) in
+    let p = err_from_is_err_and c.from_residual.result c.from_residual.ensures.1 in
+    rw (p.1, p.2) (shown_below s c.in_err-child_node.field-0.0 c.args.above c.args.start c.loop-above.above c.loop-above.way on c.in_err-child_node.ensures.fault c.in_err-child_node.ensures.shown)
 
 pub returns-in_err-child_node-clause-calls : goal.returns-in_err-child_node-clause-calls
 returns-in_err-child_node-clause-calls g c =
@@ -127,3 +134,6 @@ returns-clause-fault g c =
 
 pub returns-clause-reaches : goal.returns-clause-reaches
 returns-clause-reaches g c = omega (arith, c.loop-above.invariant.reaches, c.loop-above.invariant.most)
+
+pub returns-clause-shown : goal.returns-clause-shown
+returns-clause-shown g c = deep_shown (g.T.Pages.step c.loop-above.t) c.args.above c.args.start c.loop-above.above c.loop-above.way c.loop-above.invariant.visited c.loop-above-test.false

@@ -16,7 +16,7 @@ use Rattle.name_btree.specs.Fault.{BarsTable}
 use Rattle.name_btree.proofs.LookupLaws.{find_contains, stands_in, good_entry, led_to}
 use Rattle.name_btree.proofs.FindLaws.{entry_found}
 use Rattle.std.proofs.lemmas.Result.{err_from_is_err_and}
-use Rattle.name_btree.proofs.VisitedLaws.{top_breaks}
+use Rattle.name_btree.proofs.VisitedLaws.{shown_top, top_breaks}
 use Rattle.name_btree.proofs.WithinLaws.{fails_among}
 use Rattle.name_btree.proofs.lookup.find.Goals as goal
 
@@ -65,6 +65,11 @@ returns-in_err-found-clause-fault g c =
     let p = err_from_is_err_and c.from_residual.result c.from_residual.ensures.1 in
     let new = c.leaf_below.new.t in
     rw (p.1, p.2) (top_breaks (g.T.Pages.step new) c.in_err-found.field-0.0 c.top.result c.top.ensures c.in_err-found.ensures.fault)
+
+pub returns-in_err-found-clause-shown : goal.returns-in_err-found-clause-shown
+returns-in_err-found-clause-shown g c =
+    let p = err_from_is_err_and c.from_residual.result c.from_residual.ensures.1 in
+    rw (p.1, p.2) (shown_top (g.T.Pages.step c.leaf_below.new.t) c.in_err-found.field-0.0 c.top.result c.top.ensures c.in_err-found.ensures.shown)
 
 pub returns-in_err-found-clause-calls : goal.returns-in_err-found-clause-calls
 returns-in_err-found-clause-calls g c =

@@ -1,6 +1,6 @@
 use Rattle.std.proofs.Common.{rules}
 use Rattle.name_btree.specs.Fault.{outer_told}
-use Rattle.table_volume.proofs.LookLaws.{faults_left, leads_left, looks_left, pages_within}
+use Rattle.table_volume.proofs.LookLaws.{faults_left, leads_left, looks_left, pages_within, shown_left}
 use Rattle.table_volume.proofs.looking.find_in.Goals as goal
 
 pub returns-clause-looks : goal.returns-clause-looks
@@ -22,3 +22,8 @@ pub returns-clause-way : goal.returns-clause-way
 returns-clause-way g c =
     leads_left (outer_told c.find-found.result) _ _ c.args.source.now _ c.args.home_a c.new-table.result c.find-found.new.t c.rest.new.self c.new-table.ensures.over c.new-table.ensures.step c.find-found.ensures.calls.looks c.find-found.ensures.calls.outside c.rest.ensures.step c.rest.ensures.outside c.rest.ensures.machine c.rest.ensures.cache
     _ (search rules) c.find-found.result c.find-found.ensures.there c.find-found.ensures.way
+
+pub returns-clause-shown : goal.returns-clause-shown
+returns-clause-shown g c =
+    shown_left (outer_told c.find-found.result) _ _ c.args.source.now _ c.args.home_a c.new-table.result c.find-found.new.t c.rest.new.self c.new-table.ensures.over c.new-table.ensures.step c.find-found.ensures.calls.looks c.find-found.ensures.calls.outside c.rest.ensures.step c.rest.ensures.outside c.rest.ensures.machine c.rest.ensures.cache
+    _ _ (search rules) (search rules) c.find-found.result c.find-found.ensures.fault c.find-found.ensures.shown

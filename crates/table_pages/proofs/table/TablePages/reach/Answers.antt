@@ -1,5 +1,6 @@
 use Rattle.std.proofs.Common.{◌≡◌, inl, inr, ◌∙◌, ℕ, ◌+◌, List, None, length, true, refl, sym, ap, subst, arith}
 use Rattle.std.specs.Prelude.{IsSome, option_and_then}
+use Rattle.fsd_bytes.specs.declared.refusal.Refusal.TheVariants.{Unsound}
 use Rattle.fsd_formats.specs.NamePage.{read_page}
 use Rattle.page_cache.specs.Cache.{IsResident, newest, pins_of}
 use Rattle.name_page.specs.Pages.{is_one_of, outer_in}
@@ -11,7 +12,7 @@ use Rattle.table_pages.proofs.LastLaws.{Lasts}
 use Rattle.table_pages.proofs.PinLaws.{set_only, only_there}
 use Rattle.table_pages.proofs.SpareLaws.{room_pins, kept_pins, fetches_pins}
 use Rattle.table_pages.proofs.KeptLaws.{kept_room, kept_brought, kept_reached, fetched_images}
-use Rattle.table_pages.proofs.StepLaws.{within_free, within_pages, page_in, barred, fetched_keeps}
+use Rattle.table_pages.proofs.StepLaws.{within_free, within_pages, page_in, barred, fetched_keeps, refused_bars}
 use Rattle.table_pages.proofs.table.TablePages.reach.Given as given
 use Rattle.table_pages.proofs.table.TablePages.reach.Goals as goal
 use Rattle.table_pages.proofs.table.TablePages.reach.Goals.{After-bring_used, After-keep}
@@ -76,7 +77,7 @@ fetches g c =
 pub returns-in-Ok-clause-outside : goal.returns-in-Ok-clause-outside
 returns-in-Ok-clause-outside g c =
     let all = fetches g (goal.at.returns-in-Ok-clause-outside g c).After-keep in
-    record { reads = all.reads; loses = all.loses; fills = all.fills; source = refl; machine = refl; cache = refl; free = refl; made_over = refl; made_with = refl }
+    record { reads = all.reads; loses = all.loses; fills = all.fills; source = refl; machine = refl; cache = refl; free = refl; made_over = refl; made_with = refl; count = refl; home_a = refl; taken = λ page is. inl is; barred = λ h place is. inl is }
 
 pub returns-in-Ok-clause-kept : goal.returns-in-Ok-clause-kept
 returns-in-Ok-clause-kept g c = fetched_keeps c.args.self.now None c.bring_used.new.m c.keep.new.cache (fetches g (goal.at.returns-in-Ok-clause-kept g c).After-keep)
@@ -124,3 +125,23 @@ returns-in-Err-clause-cause g c =
       | inl outer ↦ inl outer
       | inr bad ↦ inr (bad.0, barred t.free.now c.bring_used.new.cache (given_by g.M.Machine g.S.PageSource t.source.now c.bring_used.new.m) c.args.page (within_free t c.args.page c.requires.within) bad.1)
     ]
+
+pub returns-in-Err-clause-outside : goal.returns-in-Err-clause-outside
+returns-in-Err-clause-outside g c =
+    let t = c.args.self.now in
+    let all = c.in-Err.ensures.fetches in
+    record {
+      reads = all.reads;
+      loses = all.loses;
+      fills = all.fills;
+      source = refl;
+      machine = refl;
+      cache = refl;
+      free = refl;
+      made_over = refl;
+      made_with = refl;
+      count = refl;
+      home_a = refl;
+      taken = λ page is. inl is;
+      barred = λ h place is. inr (refused_bars t _ c.args.page (within_free t c.args.page c.requires.within) all.fills h c.in-Err.refusal c.in-Err.ensures.cause place (let same : c.in-Err.refusal ≡ Unsound place = cc is in same));
+    }

@@ -1,4 +1,4 @@
-use Rattle.std.proofs.Common.{List, ℕ, [], refl, sym, subst, arith}
+use Rattle.std.proofs.Common.{inl, List, ℕ, [], refl, sym, subst, arith}
 use Rattle.sector_disk.proofs.CallLaws.{reads_none}
 use Rattle.table_pages.specs.Kept.{IsKept}
 use Rattle.table_pages.proofs.KeptLaws.{spare_pins, reached_pins, kept_unreached, kept_unspared}
@@ -66,6 +66,10 @@ returns-clause-outside g c =
       free = refl;
       made_over = refl;
       made_with = refl;
+      count = refl;
+      home_a = refl;
+      taken = λ page is. inl is;
+      barred = λ h place is. absurd (cc is);
     }
 
 pub returns-clause-step : goal.returns-clause-step

@@ -1,8 +1,9 @@
-use Rattle.std.proofs.Common.{◌-◌, length, arith}
+use Rattle.std.proofs.Common.{◌≡◌, ◌-◌, inl, length, refl, arith}
+use Rattle.fsd_bytes.specs.declared.refusal.Refusal.TheVariants.{Unsound}
 use Rattle.name_page.specs.Pages.{outer_in}
 use Rattle.table_pages.proofs.LastLaws.{Lasts}
 use Rattle.table_pages.proofs.KeptLaws.{kept_room, kept_spares, fetched_images}
-use Rattle.table_pages.proofs.StepLaws.{fetched_keeps}
+use Rattle.table_pages.proofs.StepLaws.{fetched_keeps, never_unsound}
 use Rattle.table_pages.proofs.table.TablePages.spare.Given as given
 use Rattle.table_pages.proofs.table.TablePages.spare.Goals as goal
 
@@ -50,3 +51,27 @@ returns-in-Err-clause-stays g c = λ trusted.
     let t = c.args.self.now in
     fetched_images g.M.Machine g.S.PageSource t.source.now t.made_over.value t.made_with.value t.m.now t.cache.now t.free.now t.reached.items t.spares.items t.promised t.kept (outer_in c.spare_pages.result) c.spare_pages.new.m c.spare_pages.new.cache
     c.spare_pages.ensures.only.fetches (lasts g) trusted
+
+pub returns-in-Ok-clause-outside : goal.returns-in-Ok-clause-outside
+returns-in-Ok-clause-outside g c =
+    let all = c.in-Ok.ensures.only.fetches in
+    record { reads = all.reads; loses = all.loses; fills = all.fills; source = refl; machine = refl; cache = refl; free = refl; made_over = refl; made_with = refl; count = refl; home_a = refl; taken = λ page is. inl is; barred = λ h place is. inl is }
+
+pub returns-in-Err-clause-outside : goal.returns-in-Err-clause-outside
+returns-in-Err-clause-outside g c =
+    let all = c.in-Err.ensures.only.fetches in
+    record {
+      reads = all.reads;
+      loses = all.loses;
+      fills = all.fills;
+      source = refl;
+      machine = refl;
+      cache = refl;
+      free = refl;
+      made_over = refl;
+      made_with = refl;
+      count = refl;
+      home_a = refl;
+      taken = λ page is. inl is;
+      barred = λ h place is. absurd (never_unsound c.in-Err.refusal _ _ c.in-Err.ensures.cause place (let same : c.in-Err.refusal ≡ Unsound place = cc is in same));
+    }

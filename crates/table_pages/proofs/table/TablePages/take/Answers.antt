@@ -1,4 +1,4 @@
-use Rattle.std.proofs.Common.{◌≡◌, ◌∙◌, ℕ, ◌+◌, ◌-◌, ◌∷◌, Bool, true, ◌||◌, List, sym, ap, subst, arith, refl}
+use Rattle.std.proofs.Common.{inl, length, length-set, false, ◌≡◌, ◌∙◌, ℕ, ◌+◌, ◌-◌, ◌∷◌, Bool, true, ◌||◌, List, sym, ap, subst, arith, refl}
 use Rattle.std.proofs.Math.Bool.{or-true}
 use Rattle.sector_disk.proofs.CallLaws.{reads_none}
 use Rattle.page_cache.specs.Cache.{is_one_of, pins_of}
@@ -7,7 +7,7 @@ use Rattle.name_page.specs.Pages.{is_one_of as among}
 use Rattle.table_pages.specs.Kept.{IsKept}
 use Rattle.table_pages.proofs.KeptLaws.{spare_pins, kept_taken}
 use Rattle.table_pages.proofs.SpareLaws.{taken_fills}
-use Rattle.table_pages.proofs.StepLaws.{taken_step, taken_reached}
+use Rattle.table_pages.proofs.StepLaws.{still_free, taken_step, taken_reached}
 use Rattle.table_pages.proofs.table.TablePages.take.Goals as goal
 
 pub take_spare-requires-clause-pinned : goal.take_spare-requires-clause-pinned
@@ -33,6 +33,8 @@ pub returns-clause-outside : goal.returns-clause-outside
 returns-clause-outside g c =
     let t = c.args.self.now in
     let page = c.take_spare.result in
+    let one : is_one_of t.spares.items page ≡ true = ap (λ (spares : List ℕ). is_one_of spares page) c.take_spare.ensures.first ∙ rw (same_key page) refl in
+    let at = taken_reached t page c.take_spare.new.cache c.take_spare.new.free c.take_spare.ensures.free c.take_spare.ensures.cache (t.kept.are_spare.are page one) in
     record {
       reads = reads_none t.m.now (λ left h was. g.met.M.Machine.only_now t.m.now left h was);
       loses = tt;
@@ -43,6 +45,10 @@ returns-clause-outside g c =
       free = refl;
       made_over = refl;
       made_with = refl;
+      count = ap (λ (f : List Bool). length f) c.take_spare.ensures.free ∙ length-set t.free.now page false;
+      home_a = refl;
+      taken = still_free t.free.now c.take_spare.new.free page (is_one_of c.take_spare.new.cache.dirty) c.take_spare.ensures.free at.1;
+      barred = λ h place is. inl is;
     }
 
 pub returns-clause-step : goal.returns-clause-step

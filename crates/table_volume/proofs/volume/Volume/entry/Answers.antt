@@ -2,6 +2,8 @@ use Rattle.std.proofs.Common.{sym, ap, ◌∙◌}
 use Rattle.std.proofs.lemmas.Result.{err_from_is_err_and}
 use Rattle.fsd_files.specs.Answers.{entry_of as entry_in, entry_reply, found_or}
 use Rattle.name_btree.specs.Lookup.{entry_of}
+use Rattle.table_volume.specs.State.{resident, state}
+use Rattle.table_volume.proofs.CauseLaws.{met_handed}
 use Rattle.table_volume.proofs.EntryLaws.{entry_looked_up, fault_looked_up}
 use Rattle.table_volume.proofs.volume.Volume.entry.Goals as goal
 
@@ -17,7 +19,13 @@ returns-in_err-found-clause-done g c =
     let p = err_from_is_err_and c.from_residual-in_err-found.result c.from_residual-in_err-found.ensures.1 in
     rw (p.1, p.2) (λ h k stands. fault_looked_up (entry_reply k.mounted.volume c.args.key.now) (entry_in c.args.key.now k.mounted.volume.entries) c.in_err-found.field-0.0 (c.in_err-found.ensures.found h k stands))
 
-pub returns-in_err-found-clause-lost : goal.returns-in_err-found-clause-lost
-returns-in_err-found-clause-lost g c =
+pub returns-in_err-found-clause-causes : goal.returns-in_err-found-clause-causes
+returns-in_err-found-clause-causes g c =
     let p = err_from_is_err_and c.from_residual-in_err-found.result c.from_residual-in_err-found.ensures.1 in
-    rw (p.1, p.2) (λ a b is h. c.in_err-found.ensures.lost a b (cc is) h)
+    rw (p.1, p.2) c.in_err-found.ensures.causes
+
+pub returns-in-Some-clause-causes : goal.returns-in-Some-clause-causes
+returns-in-Some-clause-causes g c =
+    let w = c.args.self.now in
+    let new = state c.find.new.self in
+    met_handed g.M.Machine (resident w) (state w) new c.args.m.now c.find.new.m c.find.new.self _ c.in-Some.found c.in-Some.is c.in_ok-found.ensures.met c.met_entry.result c.met_entry.ensures

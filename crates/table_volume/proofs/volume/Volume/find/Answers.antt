@@ -1,6 +1,9 @@
+use Rattle.std.proofs.Common.{refl}
+use Rattle.table_volume.specs.State.{resident, state}
+use Rattle.table_volume.proofs.CauseLaws.{causes_by, met_left}
 use Rattle.table_volume.proofs.EntryLaws.{lost_found, taken_there}
 use Rattle.table_volume.proofs.FindLaws.{finds_found, stands_found}
-use Rattle.table_volume.proofs.ReadLaws.{shows_by}
+use Rattle.table_volume.proofs.ReadLaws.{shows_by, unsound_by}
 use Rattle.table_volume.proofs.volume.Volume.find.Goals as goal
 
 pub returns-clause-stands : goal.returns-clause-stands
@@ -14,12 +17,22 @@ returns-clause-found g c =
 pub returns-clause-taken : goal.returns-clause-taken
 returns-clause-taken g c = λ h k stands e has. taken_there _ c.args.self.now c.self.view_is c.self.invariant k (g.M.Machine.now c.args.m.now) stands e has
 
-pub returns-clause-lost : goal.returns-clause-lost
-returns-clause-lost g c = λ a b is_lost h.
-    lost_found g.M.Machine c.args.m.now c.find_in-found.new.m _ c.args.self.now c.self.view_is c.self.invariant c.find_in-found.new.cache c.over-source.result c.over-source.ensures c.home_a-home_a.result a b
-    _ c.find_in-found.result c.told.result c.told.ensures c.find_in-found.ensures.looks is_lost h
+pub returns-clause-causes : goal.returns-clause-causes
+returns-clause-causes g c =
+    let M = g.M.Machine in
+    let w = c.args.self.now in
+    let log = c.over-source.ensures in
+    let looks = c.find_in-found.ensures.looks in
+    causes_by M (resident w) (state w) _ c.args.m.now c.find_in-found.new.m c.told.result
+    (λ a b is h. lost_found M c.args.m.now c.find_in-found.new.m _ w c.self.view_is c.self.invariant c.find_in-found.new.cache c.over-source.result log c.home_a-home_a.result a b
+    _ c.find_in-found.result c.told.result c.told.ensures looks is h)
+    (unsound_by M c.args.m.now c.find_in-found.new.m _ w c.self.view_is c.self.invariant c.find_in-found.new.cache c.over-source.result log _ c.home_a-home_a.result c.home_a-home_a.ensures.place
+    c.find_in-found.result c.told.result c.told.ensures looks c.find_in-found.ensures.shown)
 
-pub returns-clause-shown : goal.returns-clause-shown
-returns-clause-shown g c = λ h.
-    shows_by g.M.Machine c.args.m.now c.find_in-found.new.m _ c.args.self.now c.self.view_is c.self.invariant c.find_in-found.new.cache c.over-source.result c.over-source.ensures _ c.home_a-home_a.result
-    c.find_in-found.result c.told.result c.told.ensures c.find_in-found.ensures.looks h c.find_in-found.ensures.way
+pub returns-clause-met : goal.returns-clause-met
+returns-clause-met g c =
+    let M = g.M.Machine in
+    let w = c.args.self.now in
+    met_left M c.args.m.now c.find_in-found.new.m _ w c.self.view_is c.self.invariant c.find_in-found.new.cache _ _ c.find_in-found.new.free refl c.told.result
+    (λ h. shows_by M c.args.m.now c.find_in-found.new.m _ w c.self.view_is c.self.invariant c.find_in-found.new.cache c.over-source.result c.over-source.ensures _ c.home_a-home_a.result
+    c.find_in-found.result c.told.result c.told.ensures c.find_in-found.ensures.looks h c.find_in-found.ensures.way)

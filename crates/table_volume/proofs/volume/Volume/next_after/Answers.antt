@@ -2,9 +2,11 @@ use Rattle.std.proofs.Common.{sym, subst}
 use Rattle.std.specs.Prelude.{IfOk}
 use Rattle.std.specs.Option.{option_copied}
 use Rattle.fsd_files.specs.Answers.{next_reply}
+use Rattle.volume_contract.specs.Causes.{Causes}
 use Rattle.volume_contract.specs.Ends.{IsLater, Looks}
 use Rattle.volume_contract.specs.Order.{Follows, next_steps}
-use Rattle.table_volume.specs.State.{state}
+use Rattle.table_volume.specs.State.{resident, state}
+use Rattle.table_volume.proofs.CauseLaws.{met_one}
 use Rattle.table_volume.proofs.NextLaws.{met_done, met_later, met_order, up_by}
 use Rattle.table_volume.proofs.volume.Volume.next_after.Goals as goal
 
@@ -18,3 +20,9 @@ pub returns-clause-done : goal.returns-clause-done
 returns-clause-done g c = λ h k stands.
     subst (Looks (next_reply k.mounted.volume (option_copied c.args.after))) (sym c.met_found.ensures)
     (met_done c.find_next.new.self c.in_ok-found.found (option_copied c.args.after) k.mounted.volume.entries (c.in_ok-found.ensures.found h k stands) (c.in_ok-found.ensures.taken h k stands))
+
+pub returns-clause-causes : goal.returns-clause-causes
+returns-clause-causes g c =
+    let w = c.args.self.now in
+    subst (λ r. Causes g.M.Machine (resident w) (state w) (state c.find_next.new.self) c.args.m.now c.find_next.new.m r) (sym c.met_found.ensures)
+    (met_one g.M.Machine (resident w) (state w) (state c.find_next.new.self) c.args.m.now c.find_next.new.m c.find_next.new.self c.in_ok-found.found c.in_ok-found.ensures.met)

@@ -4,7 +4,8 @@ use Rattle.fsd_bytes.specs.Keys.{key_cmp}
 use Rattle.volume_contract.specs.Ends.{Reads}
 use Rattle.sector_disk.proofs.CallLaws.{reads_then}
 use Rattle.fsd_files.specs.Answers.{entry_of}
-use Rattle.table_volume.specs.State.{state}
+use Rattle.table_volume.specs.State.{resident, state}
+use Rattle.table_volume.proofs.CauseLaws.{data_causes, handed_cause}
 use Rattle.table_volume.proofs.RangeLaws.{both_kept, busy_read, data_read, handed, reads_found, reads_refused}
 use Rattle.table_volume.proofs.WearLaws.{stands_worn}
 use Rattle.table_volume.proofs.volume.Volume.read.Goals as goal
@@ -50,3 +51,11 @@ returns-in_err-e-clause-done g c = λ h k stands.
     handed (Reads i j file e c.args.from c.args.buf.now c.args.buf.now) c.from_residual.result c.in_err-e.field-0.0 c.from_residual.ensures.1
     (reads_refused i j j _ file e c.args.from c.args.buf.now c.args.buf.now c.in_err-e.field-0.0 (c.in_err-e.ensures.done h k stands)
     (both_kept j _ c.args.key.now k.mounted.volume.files k.mounted.volume.entries there.disk.described.lists there.disk.described.kept))
+
+pub returns-clause-causes : goal.returns-clause-causes
+returns-clause-causes g c =
+    data_causes g.M.Machine (resident c.args.self.now) (state c.args.self.now) (state c.version.new.self) c.args.m.now c.read_version.new.m c.read_version.result c.read_version.ensures.cause
+
+pub returns-in_err-e-clause-causes : goal.returns-in_err-e-clause-causes
+returns-in_err-e-clause-causes g c =
+    handed_cause g.M.Machine (resident c.args.self.now) (state c.args.self.now) (state c.version.new.self) c.args.m.now c.version.new.m c.in_err-e.field-0.0 c.from_residual.result c.from_residual.ensures.1 c.in_err-e.ensures.causes

@@ -1,4 +1,5 @@
 use Rattle.std.proofs.Common.{◌≡◌, ◌+◌, ◌^◌, ◌<◌, ◌≤◌, true, sym, ap, subst, ◌∙◌, arith}
+use Rattle.std.proofs.lemmas.Result.{err_from_is_err_and}
 use Rattle.std.specs.Prelude.{All, IfOk, IfSome}
 use Rattle.volume_layout.proofs.RootLaws.{planned_bounds}
 use Rattle.run_table.specs.RunTable.{sectors_of}
@@ -6,7 +7,9 @@ use Rattle.fsd_formats.specs.declared.entry.Entry.{Entry}
 use Rattle.fsd_formats.specs.NamePage.{is_entry}
 use Rattle.fsd_files.specs.Answers.{found_or}
 use Rattle.name_btree.specs.Lookup.{entry_of}
+use Rattle.table_volume.specs.State.{resident, state}
 use Rattle.table_volume.specs.Volume.{VolumeValue}
+use Rattle.table_volume.proofs.CauseLaws.{met_handed}
 use Rattle.table_volume.proofs.EntryLaws.{entry_looked_up}
 use Rattle.table_volume.proofs.RangeLaws.{met_good, taken_below, taken_runs}
 use Rattle.table_volume.proofs.volume.Volume.version.Goals as goal
@@ -36,3 +39,14 @@ returns-in-Some-clause-within g c =
     subst (λ r. IfOk r (λ e. All (λ s. s < c.args.self.now.layout.sectors) (sectors_of e.runs))) (sym c.met_entry.ensures)
     (met_good (λ (e : Entry). All (λ s. s < c.args.self.now.layout.sectors) (sectors_of e.runs)) c.find.new.self c.in-Some.found.page c.in-Some.found.entry
     (λ taken k d lt. omega (arith, taken_below c.find.new.self c.in-Some.found.entry taken k d lt, ap (λ (v : VolumeValue). v.layout.sectors) c.find.ensures.cache)))
+
+pub returns-in_err-found-clause-causes : goal.returns-in_err-found-clause-causes
+returns-in_err-found-clause-causes g c =
+    let p = err_from_is_err_and c.from_residual-in_err-found.result c.from_residual-in_err-found.ensures.1 in
+    rw (p.1, p.2) c.in_err-found.ensures.causes
+
+pub returns-in-Some-clause-causes : goal.returns-in-Some-clause-causes
+returns-in-Some-clause-causes g c =
+    let w = c.args.self.now in
+    let new = state c.find.new.self in
+    met_handed g.M.Machine (resident w) (state w) new c.args.m.now c.find.new.m c.find.new.self _ c.in-Some.found c.in-Some.is c.in_ok-found.ensures.met c.met_entry.result c.met_entry.ensures
