@@ -1,3 +1,5 @@
+pub mod HomeLaws
+pub mod Homes
 pub mod Looking
 pub mod State
 pub mod Taken

@@ -4,6 +4,7 @@
 mod counting;
 mod entries;
 mod finding;
+mod homes;
 mod laws;
 mod looking;
 mod volume;
