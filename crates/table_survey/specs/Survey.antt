@@ -13,7 +13,7 @@ use Rattle.name_btree.specs.declared.fault.TreeFault.{TreeFault}
 use Rattle.name_btree.specs.Fault.{HasCause, BarsTable}
 use Rattle.name_btree.specs.Walk.{AreMarksOf, IsUsed}
 use Rattle.sector_set.specs.Area.{Area, area}
-use Rattle.table_survey.specs.declared.surveying.Survey.{Survey}
+use Rattle.table_survey.specs.declared.surveying.TableCounts.{TableCounts}
 
 -- the pages that paths from page 0 reach
 abbrev pub visited : List (List ℕ) → List ℕ
@@ -21,7 +21,7 @@ visited pages = map (λ v. v.page) (visits pages)
 
 -- What the pages tell: those that are reached are marked and none of them is spare, the versions' sectors lie apart in the
 -- data area, and all others there are free.
-pub record IsSurveyed (l : Layout) (step : Step) (free : Area) (marks : List Bool) (s : Survey) : Type 0 where
+pub record IsSurveyed (l : Layout) (step : Step) (free : Area) (marks : List Bool) (s : TableCounts) : Type 0 where
   pub telling : Telling
   pub told : told_in step.images ≡ Some telling
   pub pages : telling.reached ≡ s.pages

@@ -5,4 +5,4 @@ mod claiming;
 mod marks;
 mod surveying;
 
-pub use surveying::{Survey, survey};
+pub use surveying::{TableCounts, survey};

@@ -15,9 +15,9 @@ use name_btree::{TreeFault, walk};
 use name_page::Pages;
 use volume_layout::Layout;
 
-/// What a whole table tells.
+/// How much a whole table tells.
 #[derive(Clone, Copy)]
-pub struct Survey {
+pub struct TableCounts {
     /// The pages that page 0 leads to, itself among them.
     pub pages: u32,
     pub versions: u32,
@@ -30,7 +30,7 @@ pub fn survey<T: Pages>(
     l: &Layout,
     map: &mut Map,
     reached: &mut [bool],
-) -> Result<Survey, TreeFault>
+) -> Result<TableCounts, TreeFault>
     requires more { MOST_REACHED ≤ (T.step t.old).most_reached }
     requires whole { length reached.old ≡ length (T.step t.old).images }
     requires clear { AreMarksOf [] reached.old }
@@ -44,5 +44,5 @@ pub fn survey<T: Pages>(
     let versions = walk(t, reached)?;
     claim_all(t, map)?;
     let pages = marked_count(reached);
-    Ok(Survey { pages, versions })
+    Ok(TableCounts { pages, versions })
 }
