@@ -3,6 +3,7 @@ pub mod CountLaws
 pub mod FindLaws
 pub mod LookLaws
 pub mod PageLaws
+pub mod SurveyLaws
 pub mod TableLaws
 pub mod TakenLaws
 pub mod WearLaws

@@ -7,6 +7,7 @@ mod finding;
 mod homes;
 mod laws;
 mod looking;
+mod surveying;
 mod volume;
 
 pub use laws::{

@@ -1,5 +1,5 @@
 //! The survey of a table over a cache.
-ghost use Rattle.std.specs.Prelude.{◌≡◌, IfOk, IfErr, [], length};
+ghost use Rattle.std.specs.Prelude.{◌≡◌, ◌<◌, ℕ, IfOk, IfErr, [], length};
 ghost use Rattle.fsd_table.specs.Breaks.{Breaks};
 ghost use Rattle.name_btree.specs.Fault.{outer_told};
 ghost use Rattle.name_btree.specs.Walk.{AreMarksOf};
@@ -36,6 +36,7 @@ pub(crate) fn survey_in<M: Machine, S: PageSource>(
 ) -> Result<TableCounts, TreeFault>
     requires ready { IsReady M.Machine S.PageSource m.old cache.old source.now free.old }
     requires whole { length marks.old ≡ length free.old }
+    requires some { 0 < length free.old }
     requires clear { AreMarksOf [] marks.old }
     requires map { map.old ≡ whole_area l.now }
     ensures only { SurveysOnly M.Machine S.PageSource source.now (outer_told result) m.old m.new cache.old cache.new (length free.old) }
