@@ -1,6 +1,8 @@
 pub mod HomeLaws
 pub mod Homes
 pub mod Looking
+pub mod Mounting
+pub mod Opening
 pub mod State
 pub mod Surveying
 pub mod Taken

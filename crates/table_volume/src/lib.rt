@@ -7,6 +7,8 @@ mod finding;
 mod homes;
 mod laws;
 mod looking;
+mod mounting;
+mod opening;
 mod surveying;
 mod volume;
 

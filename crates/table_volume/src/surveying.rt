@@ -16,6 +16,7 @@ use alloc_map::Map;
 use fsd_bytes::Refusal;
 use fsd_sound::MountFault;
 use name_btree::TreeFault;
+use name_page::Pages;
 use page_cache::{Cache, PageSource};
 use sector_disk::Machine;
 use table_pages::{FreePages, Table};
