@@ -1,7 +1,11 @@
+pub mod AssembleLaws
 pub mod CacheLaws
 pub mod CountLaws
 pub mod FindLaws
+pub mod HomeReadLaws
 pub mod LookLaws
+pub mod MountLaws
+pub mod OpeningLaws
 pub mod PageLaws
 pub mod SurveyLaws
 pub mod TableLaws

@@ -20,12 +20,16 @@ use Rattle.table_pages.specs.ImageLaws.{image_count}
 use Rattle.table_pages.specs.Reads.{Fills, LosesFor, device_of}
 use Rattle.table_pages.specs.Table.{IsAtRest, IsClean, IsOver, ReadsOnly, Trusted, begun, step_of}
 use Rattle.table_pages.specs.declared.table.Table.{Table}
-use Rattle.table_survey.specs.Survey.{IsSurveyed}
-use Rattle.table_survey.specs.declared.surveying.TableCounts.{TableCounts}
+use Rattle.table_volume.specs.Survey.{IsSurveyed}
+use Rattle.table_volume.specs.declared.stub.TableCounts.{TableCounts}
 use Rattle.table_volume.specs.Looking.{BarsPages, images_by}
 use Rattle.table_volume.specs.Surveying.{SurveyFails, SurveyFaultIn, SurveysOnly}
 
 module _ {D E : Type 0} {M : MachineGhosts D} {S : SourceGhosts E} where
+  -- a table has as many pages as can be free
+  pub as_long : (t : Table D E M S) → length (step_of t).images ≡ length t.free.now
+  as_long t = image_count (newest t.cache.now (given_by M S t.source.now t.m.now)) (length t.free.now)
+
   module _ (refusal : Option Refusal) (m : MutBor D) (cache : MutBor CacheValue) (source : E) (free : MutBor (List Bool)) (home_a : ℕ) (a b c : Table D E M S)
       (over : IsOver m cache source free a) (begins : step_of a ≡ begun (given_by M S source m.now) cache.now free.now home_a)
       (spares : (step_of b).spares ≡ (step_of a).spares) (home : (step_of b).home_a ≡ (step_of a).home_a) (changed : (step_of b).changed ≡ (step_of a).changed)
@@ -94,12 +98,12 @@ module _ {D E : Type 0} {M : MachineGhosts D} {S : SourceGhosts E} where
     pub told_of : (l : Layout) (map : Area) (marks : List Bool) (r : Result TableCounts TreeFault) → IfOk r (λ s. Trusted b → IsSurveyed l (step_of a) map marks s)
         → IfOk r (λ s. IsTrusted M S source m.now cache.now m' → IsSurveyed l (begun (given_by M S source m.now) cache.now free.now home_a) map marks s)
     told_of l map marks (Err f) told = tt
-    told_of l map marks (Ok s) told t = subst (λ (step : Step). IsSurveyed l step map marks s) begins (told (trusted_b t))
+    told_of l map marks (Ok s) told = λ t. subst (λ (step : Step). IsSurveyed l step map marks s) begins (told (trusted_b t))
 
     pub unbroken_of : (l : Layout) (r : Result TableCounts TreeFault) → IfOk r (λ s. Trusted b → (page : ℕ) → Breaks l (step_of a).images page → ⊥)
         → IfOk r (λ s. IsTrusted M S source m.now cache.now m' → (page : ℕ) → Breaks l (images_by M S source m.now cache.now (length free.now)) page → ⊥)
     unbroken_of l (Err f) none = tt
-    unbroken_of l (Ok s) none t page breaks = none (trusted_b t) page (subst (λ (images : List (List ℕ)). Breaks l images page) (sym images_first) breaks)
+    unbroken_of l (Ok s) none = λ t page breaks. none (trusted_b t) page (subst (λ (images : List (List ℕ)). Breaks l images page) (sym images_first) breaks)
 
     -- ---- why it fails
 
@@ -107,7 +111,7 @@ module _ {D E : Type 0} {M : MachineGhosts D} {S : SourceGhosts E} where
       count_first : length (step_of a).images ≡ length free.now
       count_first = ap (λ (images : List (List ℕ)). length images) images_first ∙ image_count (newest cache.now (given_by M S source m.now)) (length free.now)
 
-      Fault : TreeFault → Type 0
+      abbrev Fault : TreeFault → Type 0
       Fault f = SurveyFaultIn (IsTrusted M S source m.now cache.now m') l (images_by M S source m.now cache.now (length free.now)) free.now home_a f
 
       home_is : (step_of b).home_a ≡ home_a

@@ -9,6 +9,7 @@ mod laws;
 mod looking;
 mod mounting;
 mod opening;
+mod stub;
 mod surveying;
 mod volume;
 

@@ -1,5 +1,5 @@
 //! The mount of a volume.
-ghost use Rattle.std.specs.Prelude.{◌≡◌, ◌≤◌, ◌<◌, ◌×◌, ℕ, List, Ok, IfOk, IfErr};
+ghost use Rattle.std.specs.Prelude.{◌≡◌, ◌≤◌, ◌<◌, ℕ, List, Ok, IfOk, IfErr};
 ghost use Rattle.volume_layout.specs.Layout.{plan};
 ghost use Rattle.sector_disk.specs.Calls.{HealsDisk, OnlyReads, device_in};
 ghost use Rattle.fsd_sound.specs.Lost.{AreCopiesOn, AreHomes, LostIn};

@@ -1,5 +1,5 @@
 //! The opening of a name table: it is surveyed as it stands at home.
-ghost use Rattle.std.specs.Prelude.{◌≡◌, ◌≤◌, ◌<◌, ℕ, Bool, Ok, IfOk, IfErr, false, length, not, replicate, slice_index_or};
+ghost use Rattle.std.specs.Prelude.{◌≡◌, ◌≤◌, ◌<◌, ◌^◌, ℕ, Ok, IfOk, IfErr, false, length, not, replicate, slice_index_or};
 ghost use Rattle.volume_layout.specs.Layout.{plan};
 ghost use Rattle.sector_disk.specs.Calls.{OnlyReads, device_in};
 ghost use Rattle.fsd_sound.specs.Lost.{AreHomes, LostIn};
@@ -38,6 +38,14 @@ struct Room {
     marks: Vec<bool>,
 }
 
+// So many marks, none of which is set.
+fn no_marks(alloc: Global, pages: u32) -> Result<Vec<bool>, AllocError>
+    ensures { IfOk result (λ marks. marks.items ≡ replicate pages false) }
+{
+    let marks = vec![in alloc; false; pages as usize]?;
+    Ok(marks)
+}
+
 // The memory for the survey of a table.
 fn room_for(alloc: Global, l: &Layout) -> Result<Room, AllocError>
     requires { plan l.now.sectors l.now.third l.now.pages ≡ Ok l.now }
@@ -46,7 +54,7 @@ fn room_for(alloc: Global, l: &Layout) -> Result<Room, AllocError>
     let cache = Cache::new(alloc, FRAMES)?;
     let free_pages = FreePages::new(alloc, l.pages())?;
     let map = Map::from_runs(alloc, l.data_start(), l.sectors(), &[])?;
-    let marks = vec![in alloc; false; l.pages() as usize]?;
+    let marks = no_marks(alloc, l.pages())?;
     Ok(Room {
         cache,
         free_pages,

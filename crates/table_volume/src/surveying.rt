@@ -6,12 +6,14 @@ ghost use Rattle.name_btree.specs.Walk.{AreMarksOf};
 ghost use Rattle.table_pages.specs.Bringing.{IsTrusted, given_by};
 ghost use Rattle.table_pages.specs.Kept.{IsReady};
 ghost use Rattle.table_pages.specs.Table.{begun};
-ghost use Rattle.table_survey.specs.Claims.{whole_area};
-ghost use Rattle.table_survey.specs.Survey.{IsSurveyed};
+ghost use Rattle.table_volume.specs.Survey.{whole_area};
+ghost use Rattle.table_volume.specs.Survey.{IsSurveyed};
 ghost use Rattle.table_volume.specs.Looking.{images_by};
 ghost use Rattle.table_volume.specs.Surveying.{SurveyFails, SurveysOnly, mount_fault_for, mount_fault_in};
+ghost use Rattle.table_volume.specs.Volume.{IsOfData};
 
 use crate::looking::let_go;
+use crate::stub::{TableCounts, survey};
 use alloc_map::Map;
 use fsd_bytes::Refusal;
 use fsd_sound::MountFault;
@@ -20,7 +22,7 @@ use name_page::Pages;
 use page_cache::{Cache, PageSource};
 use sector_disk::Machine;
 use table_pages::{FreePages, Table};
-use table_survey::{TableCounts, survey};
+
 use volume_layout::Layout;
 
 /// Surveys the table of these pages: those that it reaches are marked, and the sectors of its entries taken out of the map.
@@ -42,6 +44,8 @@ pub(crate) fn survey_in<M: Machine, S: PageSource>(
     requires map { map.old ≡ whole_area l.now }
     ensures only { SurveysOnly M.Machine S.PageSource source.now (outer_told result) m.old m.new cache.old cache.new (length free.old) }
     ensures free { free.new ≡ free.old }
+    ensures area { IfOk result (λ s. IsOfData l.now map.new) }
+    ensures long { length marks.new ≡ length marks.old }
     ensures told { IfOk result (λ s. IsTrusted M.Machine S.PageSource source.now m.old cache.old m.new →
         IsSurveyed l.now (begun (given_by M.Machine S.PageSource source.now m.old) cache.old free.old home_a) map.new marks.new s) }
     ensures unbroken { IfOk result (λ s. IsTrusted M.Machine S.PageSource source.now m.old cache.old m.new → (page : ℕ) →

@@ -1,7 +1,11 @@
-use Rattle.std.proofs.Common.{rules}
+use Rattle.std.proofs.Common.{rules, List, Bool, length, ap, sym, ◌∙◌}
+use Rattle.std.specs.Borrow.{MutBor}
 use Rattle.name_btree.specs.Fault.{outer_told}
-use Rattle.table_volume.proofs.SurveyLaws.{fails_of, surveys_left, told_of, unbroken_of}
+use Rattle.table_volume.proofs.SurveyLaws.{as_long, fails_of, surveys_left, told_of, unbroken_of}
 use Rattle.table_volume.proofs.surveying.survey_in.Goals as goal
+
+pub survey-counts-requires-clause-whole : goal.survey-counts-requires-clause-whole
+survey-counts-requires-clause-whole g c = c.requires.whole ∙ sym (as_long c.new-table.result ∙ ap (λ (f : MutBor (List Bool)). length f.now) c.new-table.ensures.over.spared)
 
 pub returns-clause-only : goal.returns-clause-only
 returns-clause-only g c =

@@ -1,0 +1,40 @@
+-- What a whole table tells.
+use Rattle.std.specs.Prelude.{◌≡◌, ℕ, Bool, true, not, List, length, map, Some}
+use Rattle.std.specs.List.{AllByRecursion}
+use Rattle.volume_layout.specs.declared.layout.Layout.{Layout}
+use Rattle.volume_layout.specs.Layout.{data_start}
+use Rattle.fsd_files.specs.Space.{Apart}
+use Rattle.fsd_files.specs.Volume.{plans_of, is_in}
+use Rattle.fsd_table.specs.Breaks.{Breaks}
+use Rattle.fsd_table.specs.Table.{Telling, visits, told_in}
+use Rattle.name_page.specs.declared.pages.Pages.{Ghosts}
+use Rattle.name_page.specs.Pages.{Step}
+use Rattle.name_btree.specs.declared.fault.TreeFault.{TreeFault}
+use Rattle.name_btree.specs.Fault.{HasCause, BarsTable}
+use Rattle.name_btree.specs.Walk.{AreMarksOf, IsUsed}
+use Rattle.sector_set.specs.Area.{Area, area}
+use Rattle.table_volume.specs.declared.stub.TableCounts.{TableCounts}
+
+-- the pages that paths from page 0 reach
+-- the whole data area
+abbrev pub whole_area : Layout → Area
+whole_area l = area (data_start l) l.sectors (λ s. true)
+
+abbrev pub visited : List (List ℕ) → List ℕ
+visited pages = map (λ v. v.page) (visits pages)
+
+-- What the pages tell: those that are reached are marked and none of them is spare, the versions' sectors lie apart in the
+-- data area, and all others there are free.
+pub record IsSurveyed (l : Layout) (step : Step) (free : Area) (marks : List Bool) (s : TableCounts) : Type 0 where
+  pub telling : Telling
+  pub told : told_in step.images ≡ Some telling
+  pub pages : telling.reached ≡ s.pages
+  pub versions : length telling.entries ≡ s.versions
+  pub marked : AreMarksOf (visited step.images) marks
+  pub used : AllByRecursion (IsUsed step.spares) (visited step.images)
+  pub apart : Apart l (plans_of telling.entries)
+  pub left : free ≡ area (data_start l) l.sectors (λ sector. not (is_in (plans_of telling.entries) sector))
+
+-- why a survey fails: where the outside is trusted, the page that it names breaks the table, or is spare
+abbrev pub FailsSurvey : {D : Type 0} → Layout → (P : Ghosts D) (new : D) → TreeFault → Type 0
+FailsSurvey l P new = HasCause (P.step new) (λ page. P.trusted new → Breaks l (P.step new).images page) (λ page. P.trusted new → BarsTable (P.step new) page)
