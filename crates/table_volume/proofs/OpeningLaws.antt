@@ -1,7 +1,8 @@
 -- A name table that is surveyed as it stands at home.
 use Rattle.std.proofs.Common.{◌≡◌, ◌⊎◌, inl, inr, ⊎_elim, ℕ, ◌+◌, ◌%◌, ◌^◌, ◌<◌, ◌≤◌, Bool, true, false, not, ◌||◌, cond, List, [], ◌∷◌, length, map, replicate, get_or, Option, Some, None, Result, Ok, Err, refl, sym, ap, subst, ◌∙◌, arith}
-use Rattle.std.specs.Prelude.{IfErr, IfOk, IsSome, option_map, slice_get, slice_index_or, ◌==◌, nat_lt}
+use Rattle.std.specs.Prelude.{IfErr, IfOk, IsSome, ◌++◌, take, option_map, slice_get, slice_index_or, ◌==◌, nat_lt}
 use Rattle.std.specs.List.{list_any}
+use Rattle.std.proofs.Math.Seq.{take-append_seam}
 use Rattle.std.proofs.lemmas.Bool.{both_ways, cases_lt, true≢false}
 use Rattle.std.proofs.lemmas.List.{get_or-replicate, length-replicate, get_or_past}
 use Rattle.std.proofs.lemmas.Option.{get_or_from_slice_get, slice_get-get_or}
@@ -115,6 +116,10 @@ pub clear_marks : (marks : List Bool) (n : ℕ) → marks ≡ replicate n false 
 clear_marks marks n none page lt =
     let few : page < n = omega (arith, lt, ap (λ (flags : List Bool). length flags) none, length-replicate n false) in
     slice_get-get_or marks page false lt ∙ ap (λ (b : Bool). Some b) (ap (λ (flags : List Bool). get_or flags page false) none ∙ get_or-replicate n page false false few)
+
+-- marks that were written back
+pub still_marks : (marks rest : List Bool) (n : ℕ) → n ≡ length marks → take n (marks ++ rest) ≡ marks
+still_marks marks rest n same = ap (λ (k : ℕ). take k (marks ++ rest)) same ∙ take-append_seam marks rest
 
 none_spare : (free : List Bool) (n : ℕ) → free ≡ replicate n false → (page : ℕ) → page < n → slice_index_or free page false ≡ false
 none_spare free n none page lt = ap (λ (flags : List Bool). get_or flags page false) none ∙ get_or-replicate n page false false lt

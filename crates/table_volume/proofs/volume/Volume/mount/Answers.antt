@@ -22,7 +22,7 @@ returns-clause-refused g c =
     let settled = c.in_ok-settled.settled in
     let old = M.now c.args.m.now in
     err_more IsOpenFault (λ fault. M.honest c.open_settled.new.m → IsRefused c.args.sectors fault old) c.open_settled.result
-    (λ fault open honest. refused_open c.args.sectors settled.layout settled.log old c.in_ok-settled.ensures.epoch (c.in_ok-settled.ensures.found (c.open_settled.ensures.reads.trust.honest honest)) fault open) c.open_settled.ensures.cause
+    (λ fault cause honest. refused_open c.args.sectors settled.layout settled.log old c.in_ok-settled.ensures.epoch (c.in_ok-settled.ensures.found (c.open_settled.ensures.reads.trust.honest honest)) fault cause) c.open_settled.ensures.cause
 
 pub returns-clause-lost : goal.returns-clause-lost
 returns-clause-lost g c =
