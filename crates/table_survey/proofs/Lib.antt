@@ -1,0 +1,6 @@
+mod ClaimLaws
+mod FaultLaws
+mod PassLaws
+mod StepLaws
+mod SurveyLaws
+mod VisitLaws

@@ -1,11 +1,10 @@
 //! Taking the sectors of all entries out of a map.
-ghost use Rattle.std.specs.Prelude.{◌≡◌, ◌≤◌, ◌<◌, ℕ, IfOk, IfErr, OnOk, length, true};
-ghost use Rattle.fsd_formats.specs.NamePage.{is_entry};
+ghost use Rattle.std.specs.Prelude.{◌≡◌, ◌≤◌, ◌<◌, ℕ, IfOk, IfErr, OnOk, length};
 ghost use Rattle.fsd_table.specs.Tree.{IsTree, table_of};
 ghost use Rattle.name_page.specs.Looks.{OnlyWalks};
 ghost use Rattle.name_page.specs.declared.pages.TheConstants.{MOST_REACHED};
 ghost use Rattle.name_btree.specs.Fault.{outer_told, IsAmong};
-ghost use Rattle.sector_set.specs.Area.{AreIn, without};
+ghost use Rattle.sector_set.specs.Area.{AreIn, IsOwn, without};
 ghost use Rattle.table_survey.specs.Claims.{IsClaimed, FailsClaims, IsRefused};
 
 use alloc_map::Map;
@@ -15,10 +14,8 @@ use name_page::Pages;
 
 // Takes the sectors of one entry out of the map, where all are free and each is named once.
 fn claim(map: &mut Map, found: &FoundEntry) -> Result<(), TreeFault>
-    requires entry { is_entry found.now.entry ≡ true }
     ensures free { OnOk result (AreIn map.old found.now.entry.runs) }
     ensures taken { OnOk result (map.new ≡ without map.old found.now.entry.runs) }
-    ensures fewer { OnOk result (length map.new.sectors < length map.old.sectors) }
     ensures fault { IfErr result (IsRefused map.old found.now) }
 {
     if !map.are_free(&found.entry.runs) {
@@ -32,6 +29,7 @@ fn claim(map: &mut Map, found: &FoundEntry) -> Result<(), TreeFault>
 // entry has a sector.
 pub(crate) fn claim_all<T: Pages>(t: &mut T, map: &mut Map) -> Result<(), TreeFault>
     requires more { MOST_REACHED ≤ (T.step t.old).most_reached }
+    requires own { IsOwn map.old }
     ensures calls { OnlyWalks T.Pages (outer_told result) t.old t.new }
     ensures among { 0 < length (T.step t.old).images → IfErr result (IsAmong (length (T.step t.old).images)) }
     ensures claimed { IfOk result (λ done. T.trusted t.new → (height : ℕ) → IsTree (T.step t.old).images height → IsClaimed map.old (table_of (T.step t.old).images height) map.new) }
