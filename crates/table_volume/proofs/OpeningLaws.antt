@@ -42,8 +42,8 @@ use Rattle.table_pages.specs.Bringing.{IsTrusted, given_by, home_in}
 use Rattle.table_pages.specs.ImageLaws.{image_at, image_count}
 use Rattle.table_pages.specs.Reads.{LosesFor, device_of}
 use Rattle.table_pages.specs.Table.{begun}
-use Rattle.table_volume.specs.Survey.{IsSurveyed, visited}
-use Rattle.table_volume.specs.declared.stub.TableCounts.{TableCounts}
+use Rattle.table_survey.specs.Survey.{IsSurveyed, visited}
+use Rattle.table_survey.specs.declared.surveying.TableCounts.{TableCounts}
 use Rattle.volume_contract.specs.Mount.{BreaksAt}
 use Rattle.table_volume.specs.HomeLaws.{home_stays, homes_worn, in_homes, past_homes}
 use Rattle.table_volume.specs.Homes.{KnowsHomes, home_by}

@@ -20,8 +20,8 @@ use Rattle.table_pages.specs.ImageLaws.{image_count}
 use Rattle.table_pages.specs.Reads.{Fills, LosesFor, device_of}
 use Rattle.table_pages.specs.Table.{IsAtRest, IsClean, IsOver, ReadsOnly, Trusted, begun, step_of}
 use Rattle.table_pages.specs.declared.table.Table.{Table}
-use Rattle.table_volume.specs.Survey.{IsSurveyed}
-use Rattle.table_volume.specs.declared.stub.TableCounts.{TableCounts}
+use Rattle.table_survey.specs.Survey.{IsSurveyed}
+use Rattle.table_survey.specs.declared.surveying.TableCounts.{TableCounts}
 use Rattle.table_volume.specs.Looking.{BarsPages, images_by}
 use Rattle.table_volume.specs.Surveying.{SurveyFails, SurveyFaultIn, SurveysOnly}
 

@@ -4,7 +4,6 @@ pub mod Looking
 pub mod Mounting
 pub mod Opening
 pub mod State
-pub mod Survey
 pub mod Surveying
 pub mod Taken
 pub mod Volume

@@ -13,7 +13,7 @@ use Rattle.fsd_files.specs.Volume.{is_in, plans_of}
 use Rattle.fsd_sound.specs.Mounted.{image_at}
 use Rattle.fsd_sound.specs.declared.fault.MountFault.{MountFault}
 use Rattle.fsd_sound.specs.declared.fault.MountFault.TheVariants.{Device, Lost, Memory, Unsound}
-use Rattle.table_volume.specs.Survey.{whole_area}
+use Rattle.table_survey.specs.Claims.{whole_area}
 use Rattle.volume_contract.specs.Mount.{BreaksAt}
 use Rattle.table_volume.specs.Homes.{home_by}
 use Rattle.table_volume.specs.State.{is_reached}

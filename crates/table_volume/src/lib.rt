@@ -9,7 +9,6 @@ mod laws;
 mod looking;
 mod mounting;
 mod opening;
-mod stub;
 mod surveying;
 mod volume;
 

@@ -6,14 +6,13 @@ ghost use Rattle.name_btree.specs.Walk.{AreMarksOf};
 ghost use Rattle.table_pages.specs.Bringing.{IsTrusted, given_by};
 ghost use Rattle.table_pages.specs.Kept.{IsReady};
 ghost use Rattle.table_pages.specs.Table.{begun};
-ghost use Rattle.table_volume.specs.Survey.{whole_area};
-ghost use Rattle.table_volume.specs.Survey.{IsSurveyed};
+ghost use Rattle.table_survey.specs.Claims.{whole_area};
+ghost use Rattle.table_survey.specs.Survey.{IsSurveyed};
 ghost use Rattle.table_volume.specs.Looking.{images_by};
 ghost use Rattle.table_volume.specs.Surveying.{SurveyFails, SurveysOnly, mount_fault_for, mount_fault_in};
 ghost use Rattle.table_volume.specs.Volume.{IsOfData};
 
 use crate::looking::let_go;
-use crate::stub::{TableCounts, survey};
 use alloc_map::Map;
 use fsd_bytes::Refusal;
 use fsd_sound::MountFault;
@@ -22,6 +21,7 @@ use name_page::Pages;
 use page_cache::{Cache, PageSource};
 use sector_disk::Machine;
 use table_pages::{FreePages, Table};
+use table_survey::{TableCounts, survey};
 
 use volume_layout::Layout;
 

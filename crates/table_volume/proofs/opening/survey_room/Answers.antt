@@ -1,4 +1,4 @@
-use Rattle.std.proofs.Common.{◌≡◌, ◌<◌, ℕ, Bool, false, not, List, length, sym, ap, subst, ◌∙◌, arith}
+use Rattle.std.proofs.Common.{◌≡◌, ◌<◌, ℕ, Bool, false, not, None, List, length, sym, ap, subst, ◌∙◌, arith}
 use Rattle.std.specs.Prelude.{drop, slice_index_or}
 use Rattle.volume_layout.specs.declared.layout.Layout.{Layout}
 use Rattle.sector_disk.specs.declared.machine.Machine.{Ghosts as MachineGhosts}
@@ -11,7 +11,7 @@ use Rattle.table_pages.specs.Bringing.{IsTrusted, given_by}
 use Rattle.table_pages.specs.Reads.{LosesFor}
 use Rattle.table_pages.specs.Table.{begun}
 use Rattle.table_volume.specs.Looking.{images_by}
-use Rattle.table_volume.specs.Survey.{IsSurveyed}
+use Rattle.table_survey.specs.Survey.{IsSurveyed}
 use Rattle.table_volume.specs.Opening.{IsNoTable, IsOpened, home_pages}
 use Rattle.table_volume.specs.Surveying.{SurveyFails, SurveysOnly}
 use Rattle.table_volume.specs.contracts.homes.HomesPageSource.TheImpl as at_home
@@ -49,8 +49,8 @@ returns-in-Ok-clause-table g c honest knows =
     let many : c.args.room.marks.len ≡ length marks = omega (arith, c.as_mut_slice.ensures.len, c.in-Ok.ensures.long) in
     let same : c.as_slice.result.now ≡ marks = c.as_slice.ensures.value ∙ still_marks marks (drop (length marks) c.args.room.marks.items) c.args.room.marks.len many in
     let long = c.in-Ok.ensures.long ∙ as_many c.as_mut_slice.result.now l.pages (c.as_mut_slice.ensures.value ∙ fresh.marks) in
-    table_of M l c.requires.planned m m' room.cache c.survey_in-counts.new.cache fresh.cache room.free_pages fresh.free_pages c.home_a-home_a.result c.home_a-home_a.ensures.place honest knows _
-    (subst (λ (k : Layout). SurveysOnly M at_home.ghosts k _ m m' room.cache c.survey_in-counts.new.cache (length room.free_pages)) of_l c.in-Ok.ensures.only)
+    table_of M l c.requires.planned m m' room.cache c.survey_in-counts.new.cache fresh.cache room.free_pages fresh.free_pages c.home_a-home_a.result c.home_a-home_a.ensures.place honest knows None
+    (subst (λ (k : Layout). SurveysOnly M at_home.ghosts k None m m' room.cache c.survey_in-counts.new.cache (length room.free_pages)) of_l c.in-Ok.ensures.only)
     c.survey_in-counts.new.map marks c.free_unmarked.new.free c.in-Ok.counts
     (subst (λ (k : Layout). IsTrusted M at_home.ghosts k m room.cache m' → IsSurveyed l (begun (given_by M at_home.ghosts k m) room.cache room.free_pages c.home_a-home_a.result) c.survey_in-counts.new.map marks c.in-Ok.counts) of_l c.in-Ok.ensures.told)
     (subst (λ (k : Layout). IsTrusted M at_home.ghosts k m room.cache m' → (page : ℕ) → Breaks l (images_by M at_home.ghosts k m room.cache (length room.free_pages)) page → ⊥) of_l c.in-Ok.ensures.unbroken)
