@@ -1,16 +1,15 @@
 -- The volume that a mount assembles.
-use Rattle.std.proofs.Common.{◌≡◌, ℕ, zero, suc, ◌+◌, ◌-◌, Bool, true, false, ◌||◌, List, [], ◌∷◌, filter, replicate, Option, None, Ok, refl, sym, ap, subst, ◌∙◌}
-use Rattle.std.specs.Prelude.{IsFalse, slice_index_or}
+use Rattle.std.proofs.Common.{◌≡◌, ℕ, zero, suc, ◌+◌, ◌-◌, false, ◌||◌, List, [], filter, replicate, None, Ok, refl, sym, ap, ◌∙◌}
 use Rattle.std.specs.List.{range_with_len}
 use Rattle.volume_layout.specs.declared.layout.Layout.{Layout}
 use Rattle.volume_layout.specs.Layout.{data_start, plan}
 use Rattle.run_table.specs.Space.{contains, where_free}
-use Rattle.sector_set.specs.Area.{Area, area}
+use Rattle.sector_set.specs.Area.{area}
 use Rattle.shadow_frees.specs.Waits.{Waits, waits}
 use Rattle.log_thirds.specs.LogValue.{LogValue}
 use Rattle.table_volume.specs.Mounting.{assembled, no_area, none_waits}
 use Rattle.table_volume.specs.Opening.{IsOpened}
-use Rattle.table_volume.specs.Volume.{IsOfData, IsWhole, VolumeValue}
+use Rattle.table_volume.specs.Volume.{IsOfData, IsWhole}
 use Rattle.table_volume.specs.declared.opening.Opened.{Opened}
 
 -- ---- no sector

@@ -1,5 +1,5 @@
 -- A page that is read from home.
-use Rattle.std.proofs.Common.{◌≡◌, ℕ, ◌<◌, List, Option, Some, None, refl, sym, ap, subst, ◌∙◌}
+use Rattle.std.proofs.Common.{◌≡◌, ℕ, ◌<◌, List, Some, None, sym, subst, ◌∙◌}
 use Rattle.volume_layout.specs.declared.layout.Layout.{Layout}
 use Rattle.sector_disk.specs.declared.machine.Seen.{Seen}
 use Rattle.sector_disk.specs.declared.machine.Seen.TheVariants.{Whole, Damaged}

@@ -1,17 +1,16 @@
 -- What a mount answers.
-use Rattle.std.proofs.Common.{◌≡◌, inl, inr, ℕ, ◌+◌, ◌^◌, ◌<◌, Bool, true, false, not, ◌||◌, ◌&&◌, List, [], ◌∷◌, length, replicate, Option, Some, None, Result, Ok, Err, refl, sym, ap, subst, ◌∙◌, arith}
-use Rattle.std.specs.Prelude.{IfErr, IfOk, IsErrAnd, ◌==◌, slice_index_or}
+use Rattle.std.proofs.Common.{◌≡◌, inl, inr, ℕ, ◌^◌, ◌<◌, false, not, ◌||◌, ◌&&◌, List, [], length, replicate, Some, None, Result, Ok, Err, refl, sym, ap, subst, ◌∙◌, arith}
+use Rattle.std.specs.Prelude.{IfErr, IfOk, ◌==◌}
 use Rattle.std.proofs.Math.Bool.{or-false}
 use Rattle.std.proofs.lemmas.List.{ext_get_or, get_or-replicate, length-replicate}
 use Rattle.volume_layout.specs.declared.layout.Layout.{Layout}
 use Rattle.volume_layout.specs.Layout.{data_start}
 use Rattle.run_table.specs.Space.{contains, runs_of, where_free}
-use Rattle.sector_set.specs.Area.{Area, area}
+use Rattle.sector_set.specs.Area.{Area}
 use Rattle.sector_set.proofs.FreeLaws.{where_same}
 use Rattle.shadow_frees.specs.Readers.{is_held, unheld}
 use Rattle.shadow_frees.specs.Waits.{waits}
-use Rattle.sector_disk.specs.Damage.{AreLost}
-use Rattle.sector_disk.specs.Image.{IsCalm, IsWorn, open_damage}
+use Rattle.sector_disk.specs.Image.{IsCalm}
 use Rattle.sector_disk.specs.Machine.{Moment}
 use Rattle.sector_disk.proofs.Calm.{calm_worn}
 use Rattle.sector_disk.proofs.Damage.{lost_as}
@@ -23,7 +22,7 @@ use Rattle.fsd_sound.specs.declared.fault.MountFault.{MountFault}
 use Rattle.fsd_sound.specs.declared.fault.MountFault.TheVariants.{Device, Lost, Memory, NoAnchor, NotVolume, Unsound, WornOut}
 use Rattle.log_thirds.specs.LogValue.{LogValue}
 use Rattle.mount_recover.specs.Recover.{IsSettled, IsSettledIn}
-use Rattle.volume_contract.specs.Mount.{IsRefused, KeepsAll}
+use Rattle.volume_contract.specs.Mount.{IsRefused}
 use Rattle.volume_contract.specs.State.{IsNew}
 use Rattle.table_volume.specs.Mounting.{IsAssembled, assembled, no_area, opened_of}
 use Rattle.table_volume.specs.Opening.{IsOpenFault}

@@ -1,43 +1,38 @@
 -- A name table that is surveyed as it stands at home.
-use Rattle.std.proofs.Common.{◌≡◌, ◌⊎◌, inl, inr, ⊎_elim, ℕ, ◌+◌, ◌%◌, ◌^◌, ◌<◌, ◌≤◌, Bool, true, false, not, ◌||◌, cond, List, [], ◌∷◌, length, map, replicate, get_or, Option, Some, None, Result, Ok, Err, refl, sym, ap, subst, ◌∙◌, arith}
-use Rattle.std.specs.Prelude.{IfErr, IfOk, IsSome, ◌++◌, take, option_map, slice_get, slice_index_or, ◌==◌, nat_lt}
+use Rattle.std.proofs.Common.{◌≡◌, ◌⊎◌, inl, inr, ℕ, ◌+◌, ◌^◌, ◌<◌, ◌≤◌, Bool, false, not, ◌||◌, List, [], ◌∷◌, length, map, replicate, get_or, Option, Some, None, Ok, refl, sym, ap, subst, ◌∙◌, arith}
+use Rattle.std.specs.Prelude.{IsSome, ◌++◌, take, option_map, slice_index_or, ◌==◌}
 use Rattle.std.specs.List.{list_any}
 use Rattle.std.proofs.Math.Seq.{take-append_seam}
-use Rattle.std.proofs.lemmas.Bool.{both_ways, cases_lt, true≢false}
+use Rattle.std.proofs.lemmas.Bool.{cases_lt, true≢false}
 use Rattle.std.proofs.lemmas.List.{get_or-replicate, length-replicate, get_or_past}
 use Rattle.std.proofs.lemmas.Option.{get_or_from_slice_get, slice_get-get_or}
 use Rattle.std.proofs.Math.Nat.{mod-eq_of_lt}
 use Rattle.fsd_bytes.specs.declared.refusal.Refusal.{Refusal}
 use Rattle.fsd_bytes.specs.declared.refusal.Refusal.TheVariants as Why
 use Rattle.volume_layout.specs.declared.layout.Layout.{Layout}
-use Rattle.volume_layout.specs.Layout.{home_a, home_b, plan}
+use Rattle.volume_layout.specs.Layout.{home_a, plan}
 use Rattle.volume_layout.proofs.RootLaws.{planned_bounds}
 use Rattle.run_table.specs.Space.{contains}
 use Rattle.sector_set.specs.Area.{Area}
 use Rattle.sector_disk.specs.declared.machine.Machine.{Ghosts as MachineGhosts}
-use Rattle.sector_disk.specs.declared.sector.Sector.TheVariants.{Damaged}
-use Rattle.sector_disk.specs.Calls.{OnlyReads, device_in}
+use Rattle.sector_disk.specs.Calls.{OnlyReads}
 use Rattle.sector_disk.specs.declared.machine.LoadFault.TheVariants as load
-use Rattle.sector_disk.specs.Damage.{AreLost}
-use Rattle.sector_disk.specs.Image.{sector_at}
-use Rattle.sector_disk.specs.Machine.{Moment, Wears}
+use Rattle.sector_disk.specs.Machine.{Wears}
 use Rattle.fsd_table.specs.Breaks.{Breaks}
-use Rattle.fsd_table.specs.Table.{BreaksTable, Visit, told_in, visits}
-use Rattle.fsd_files.specs.Disk.{Image, bytes_of as sector_bytes, either_copy}
-use Rattle.fsd_sound.specs.Homes.{AreHomesOf, home_of}
+use Rattle.fsd_table.specs.Table.{Visit, told_in, visits}
 use Rattle.fsd_sound.specs.Lost.{AreHomes, LostIn}
 use Rattle.fsd_sound.specs.Mounted.{image_at as page_in}
 use Rattle.fsd_sound.specs.Mounting.{device_of_mount}
 use Rattle.fsd_sound.specs.declared.fault.MountFault.{MountFault}
 use Rattle.fsd_sound.specs.declared.fault.MountFault.TheVariants as Fault
-use Rattle.name_page.specs.Pages.{IsOuter, is_spare, outer_refusal}
+use Rattle.name_page.specs.Pages.{outer_refusal}
 use Rattle.name_btree.specs.declared.fault.TreeFault.{TreeFault}
 use Rattle.name_btree.specs.declared.fault.TreeFault.TheVariants.{Pages, Broken}
-use Rattle.name_btree.specs.Fault.{outer_of, outer_told}
+use Rattle.name_btree.specs.Fault.{outer_of}
 use Rattle.name_btree.proofs.WithinLaws.{broken_within}
 use Rattle.name_btree.specs.Walk.{AreMarksOf}
 use Rattle.group_commit.proofs.NewestLaws.{lost_home}
-use Rattle.page_cache.specs.Cache.{AreNewest, CacheValue, Held, IsResident, bytes_of, held, is_one_of, newest, no_pages}
+use Rattle.page_cache.specs.Cache.{CacheValue, Held, IsResident, bytes_of, held, is_one_of, newest, no_pages}
 use Rattle.table_pages.specs.Bringing.{IsTrusted, given_by, home_in}
 use Rattle.table_pages.specs.ImageLaws.{image_at, image_count}
 use Rattle.table_pages.specs.Reads.{LosesFor, device_of}
@@ -45,7 +40,7 @@ use Rattle.table_pages.specs.Table.{begun}
 use Rattle.table_survey.specs.Survey.{IsSurveyed, visited}
 use Rattle.table_survey.specs.declared.surveying.TableCounts.{TableCounts}
 use Rattle.volume_contract.specs.Mount.{BreaksAt}
-use Rattle.table_volume.specs.HomeLaws.{home_stays, homes_worn, in_homes, past_homes}
+use Rattle.table_volume.specs.HomeLaws.{home_stays, past_homes}
 use Rattle.table_volume.specs.Homes.{KnowsHomes, home_by}
 use Rattle.table_volume.specs.Looking.{BarsPages, images_by}
 use Rattle.table_volume.specs.Opening.{IsNoTable, IsOpenFault, IsTableOf, home_pages}
@@ -53,7 +48,6 @@ use Rattle.table_volume.specs.State.{is_reached}
 use Rattle.table_volume.specs.Surveying.{SurveyFails, SurveyFaultIn, SurveysOnly, mount_fault_for, mount_fault_in}
 use Rattle.table_volume.specs.Volume.{frames}
 use Rattle.table_volume.specs.contracts.homes.HomesPageSource.TheImpl as at_home
-use Rattle.table_volume.specs.declared.opening.Opened.{Opened}
 
 -- ---- the fault of a mount that a refusal is
 

@@ -1,5 +1,5 @@
 -- What a table over a cache leaves where it was surveyed.
-use Rattle.std.proofs.Common.{◌≡◌, ◌⊎◌, inl, inr, ℕ, ◌<◌, Bool, true, false, List, length, Option, Some, None, Result, Ok, Err, refl, sym, ap, subst, ◌∙◌, arith}
+use Rattle.std.proofs.Common.{◌≡◌, inl, inr, ℕ, ◌<◌, Bool, List, length, Option, None, Result, Ok, Err, sym, ap, subst, ◌∙◌, arith}
 use Rattle.std.specs.Prelude.{IfErr, IfOk}
 use Rattle.std.specs.Borrow.{MutBor}
 use Rattle.fsd_bytes.specs.declared.refusal.Refusal.{Refusal}
@@ -9,7 +9,7 @@ use Rattle.fsd_table.specs.Breaks.{Breaks}
 use Rattle.sector_disk.specs.declared.machine.Machine.{Ghosts as MachineGhosts}
 use Rattle.sector_disk.specs.Calls.{OnlyReads}
 use Rattle.page_cache.specs.declared.source.PageSource.{Ghosts as SourceGhosts}
-use Rattle.page_cache.specs.Cache.{AreNewest, CacheValue, newest, pins_of}
+use Rattle.page_cache.specs.Cache.{AreNewest, CacheValue, newest}
 use Rattle.name_page.specs.Pages.{Step, rested}
 use Rattle.name_btree.specs.declared.fault.TreeFault.{TreeFault}
 use Rattle.name_btree.specs.declared.fault.TreeFault.TheVariants.{Pages, Broken}
@@ -17,7 +17,7 @@ use Rattle.name_btree.specs.Fault.{BarsTable, HasCause, IsAmong, IsCaused}
 use Rattle.sector_set.specs.Area.{Area}
 use Rattle.table_pages.specs.Bringing.{IsTrusted, OnlyPins, given_by, home_in}
 use Rattle.table_pages.specs.ImageLaws.{image_count}
-use Rattle.table_pages.specs.Reads.{Fills, LosesFor, device_of}
+use Rattle.table_pages.specs.Reads.{LosesFor, device_of}
 use Rattle.table_pages.specs.Table.{IsAtRest, IsClean, IsOver, ReadsOnly, Trusted, begun, step_of}
 use Rattle.table_pages.specs.declared.table.Table.{Table}
 use Rattle.table_survey.specs.Survey.{IsSurveyed}

@@ -1,13 +1,12 @@
 -- The volume that a mount makes.
-use Rattle.std.specs.Prelude.{◌≡◌, ℕ, false, List, [], None, replicate}
+use Rattle.std.specs.Prelude.{◌≡◌, false, None, replicate}
 use Rattle.volume_layout.specs.declared.layout.Layout.{Layout}
 use Rattle.volume_layout.specs.Layout.{data_start}
 use Rattle.sector_set.specs.Area.{Area, area}
 use Rattle.shadow_frees.specs.Waits.{Waits}
-use Rattle.fsd_files.specs.Disk.{Image}
 use Rattle.log_thirds.specs.LogValue.{FitsLayout, LogValue}
 use Rattle.mount_recover.specs.Recover.{IsFreshLog}
-use Rattle.table_volume.specs.Opening.{IsOpened, IsTableOf}
+use Rattle.table_volume.specs.Opening.{IsOpened}
 use Rattle.table_volume.specs.Volume.{VolumeValue}
 use Rattle.table_volume.specs.declared.opening.Opened.{Opened}
 

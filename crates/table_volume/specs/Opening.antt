@@ -1,5 +1,5 @@
 -- What a mount has of a name table once it is surveyed as it stands at home.
-use Rattle.std.specs.Prelude.{◌≡◌, ⊤, ◌<◌, ℕ, Bool, false, not, List, [], Some, length, replicate, slice_index_or}
+use Rattle.std.specs.Prelude.{◌≡◌, ⊤, ◌<◌, ℕ, false, not, List, [], Some, length, replicate, slice_index_or}
 use Rattle.volume_layout.specs.declared.layout.Layout.{Layout}
 use Rattle.volume_layout.specs.Layout.{data_start}
 use Rattle.sector_set.specs.Area.{area}

@@ -1,7 +1,6 @@
 use Rattle.std.proofs.Common.{◌≡◌, ◌<◌, ℕ, Bool, false, not, None, List, length, sym, ap, subst, ◌∙◌, arith}
 use Rattle.std.specs.Prelude.{drop, slice_index_or}
 use Rattle.volume_layout.specs.declared.layout.Layout.{Layout}
-use Rattle.sector_disk.specs.declared.machine.Machine.{Ghosts as MachineGhosts}
 use Rattle.page_cache.specs.Cache.{CacheValue}
 use Rattle.name_btree.specs.Fault.{outer_of}
 use Rattle.fsd_sound.specs.Lost.{AreHomes, LostIn}
@@ -12,11 +11,10 @@ use Rattle.table_pages.specs.Reads.{LosesFor}
 use Rattle.table_pages.specs.Table.{begun}
 use Rattle.table_volume.specs.Looking.{images_by}
 use Rattle.table_survey.specs.Survey.{IsSurveyed}
-use Rattle.table_volume.specs.Opening.{IsNoTable, IsOpened, home_pages}
+use Rattle.table_volume.specs.Opening.{IsNoTable, home_pages}
 use Rattle.table_volume.specs.Surveying.{SurveyFails, SurveysOnly}
 use Rattle.table_volume.specs.contracts.homes.HomesPageSource.TheImpl as at_home
 use Rattle.table_volume.proofs.OpeningLaws.{as_many, clear_marks, still_marks, lost_told, no_table, table_of}
-use Rattle.table_volume.proofs.opening.survey_room.Given as given
 use Rattle.table_volume.proofs.opening.survey_room.Goals as goal
 
 pub survey_in-counts-requires-clause-clear : goal.survey_in-counts-requires-clause-clear
