@@ -1,5 +1,5 @@
 //! The survey of a whole table.
-ghost use Rattle.std.specs.Prelude.{◌≡◌, ◌≤◌, ◌<◌, ℕ, IfOk, IfErr, [], length, true};
+ghost use Rattle.std.specs.Prelude.{◌≡◌, ◌≤◌, ◌<◌, ℕ, IfOk, IfErr, [], length, true, count_by};
 ghost use Rattle.fsd_table.specs.Breaks.{Breaks};
 ghost use Rattle.name_page.specs.Looks.{OnlyWalks};
 ghost use Rattle.name_page.specs.declared.pages.TheConstants.{MOST_REACHED};
@@ -43,6 +43,7 @@ pub fn survey<T: Pages>(
     ensures told { IfOk result (λ s. T.trusted t.new → IsSurveyed l.now (T.step t.old) map.new reached.new s) }
     ensures unbroken { IfOk result (λ s. T.trusted t.new → (page : ℕ) → Breaks l.now (T.step t.old).images page → ⊥) }
     ensures area { IfOk result (λ s. map.new ≡ area (data_start l.now) l.now.sectors (contains map.new.sectors)) }
+    ensures counted { IfOk result (λ s. s.pages ≡ count_by (λ mark. mark) reached.new) }
     ensures fault { IfErr result (FailsSurvey l.now T.Pages t.new) }
 {
     let versions = walk(t, reached)?;

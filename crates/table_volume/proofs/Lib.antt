@@ -1,7 +1,9 @@
 pub mod AssembleLaws
 pub mod CacheLaws
+pub mod CalmLaws
 pub mod CountLaws
 pub mod FindLaws
+pub mod FreshLaws
 pub mod HomeReadLaws
 pub mod LookLaws
 pub mod MountLaws

@@ -101,11 +101,15 @@ module _ (sectors : ℕ) (l : Layout) (log : LogValue) (old : Moment) (in_epoch 
   refused_open NoAnchor open_fault = absurd open_fault
   refused_open WornOut open_fault = absurd open_fault
 
+-- where nothing wears, what was seen is the image
+pub settled_in : (sectors : ℕ) (l : Layout) (log : LogValue) (old : Moment) → IsCalm old.windows → IsSettledIn sectors l log old → IsSettled sectors old.image l log
+settled_in sectors l log old calm is = subst (λ (i : Image). IsSettled sectors i l log) (calm_worn old.windows old.image is.seen calm is.from) is.settled
+
 -- ---- what it loses
 
 module _ (sectors : ℕ) (l : Layout) (log : LogValue) (old : Moment) (image : Image) (root : HasRoot sectors old.image l) (is : IsSettledIn sectors l log old) where
   calm_root : IsCalm old.windows → root_of sectors old.image ≡ Some l
-  calm_root calm = (subst (λ (i : Image). IsSettled sectors i l log) (calm_worn old.windows old.image is.seen calm is.from) is.settled).found.root
+  calm_root calm = (settled_in sectors l log old calm is).found.root
 
   pub home_lost : (fault : MountFault) → LostIn (AreHomes l) image fault → LostIn (AreCopiesOn sectors old) image fault
   home_lost (Lost a b) lost = lost_as (AreHomes l) a b (AreCopiesOn sectors old) image (λ homes. inr (inl (record { layout = l; root = root; homes = homes; calm = calm_root }))) lost

@@ -1,9 +1,10 @@
 -- A name table that is surveyed as it stands at home.
-use Rattle.std.proofs.Common.{◌≡◌, ◌⊎◌, inl, inr, ℕ, ◌+◌, ◌^◌, ◌<◌, ◌≤◌, Bool, false, not, ◌||◌, List, [], ◌∷◌, length, map, replicate, get_or, Option, Some, None, Ok, refl, sym, ap, subst, ◌∙◌, arith}
-use Rattle.std.specs.Prelude.{IsSome, ◌++◌, take, option_map, slice_index_or, ◌==◌}
+use Rattle.std.proofs.Common.{true, cond, suc, ◌≡◌, ◌⊎◌, inl, inr, ℕ, ◌+◌, ◌^◌, ◌<◌, ◌≤◌, Bool, false, not, ◌||◌, List, [], ◌∷◌, length, map, replicate, get_or, Option, Some, None, Ok, refl, sym, ap, subst, ◌∙◌, arith}
+use Rattle.std.specs.Prelude.{count_by, IsSome, ◌++◌, take, option_map, slice_index_or, ◌==◌}
 use Rattle.std.specs.List.{list_any}
 use Rattle.std.proofs.Math.Seq.{take-append_seam}
 use Rattle.std.proofs.lemmas.Bool.{cases_lt, true≢false}
+use Rattle.std.proofs.lemmas.List.Sums.{sum_by-cons}
 use Rattle.std.proofs.lemmas.List.{get_or-replicate, length-replicate, get_or_past}
 use Rattle.std.proofs.lemmas.Option.{get_or_from_slice_get, slice_get-get_or}
 use Rattle.std.proofs.Math.Nat.{mod-eq_of_lt}
@@ -121,6 +122,22 @@ none_spare free n none page lt = ap (λ (flags : List Bool). get_or flags page f
 pub as_many : (free : List Bool) (n : ℕ) → free ≡ replicate n false → length free ≡ n
 as_many free n none = ap (λ (flags : List Bool). length flags) none ∙ length-replicate n false
 
+-- there are as many flags as are set in the one list or in the other
+others : (xs ys : List Bool) → length ys ≡ length xs → ((i : ℕ) → i < length xs → slice_index_or ys i false ≡ not (slice_index_or xs i false)) → count_by (λ b. b) ys + count_by (λ b. b) xs ≡ length xs
+others [] [] long each = refl
+others [] (y ∷ ys) long each = absurd (omega (arith, long))
+others (x ∷ xs) [] long each = absurd (omega (arith, long))
+others (x ∷ xs) (y ∷ ys) long each = by x y (each 0 (omega arith)) (others xs ys (omega (arith, long)) (λ i lt. each (suc i) (omega (arith, lt))))
+  where
+    counts : (b : Bool) (bs : List Bool) → count_by (λ b. b) (b ∷ bs) ≡ cond b 1 0 + count_by (λ b. b) bs
+    counts b bs = sum_by-cons (λ (c : Bool). cond c 1 0) b bs
+
+    by : (a b : Bool) → b ≡ not a → count_by (λ b. b) ys + count_by (λ b. b) xs ≡ length xs → count_by (λ b. b) (b ∷ ys) + count_by (λ b. b) (a ∷ xs) ≡ suc (length xs)
+    by true false e rest = omega (arith, rest, counts false ys, counts true xs)
+    by false true e rest = omega (arith, rest, counts true ys, counts false xs)
+    by true true e rest = absurd (cc e)
+    by false false e rest = absurd (cc e)
+
 any_page : (page : ℕ) (vs : List Visit) → list_any (λ t. t == page) (map (λ v. v.page) vs) ≡ list_any (λ v. v.page == page) vs
 any_page page [] = refl
 any_page page (v ∷ vs) = ap (λ (b : Bool). (v.page == page) || b) (any_page page vs)
@@ -169,9 +186,9 @@ module _ {D : Type 0} (M : MachineGhosts D) (l : Layout) (planned : plan l.secto
     memory page bytes there = get_or_from_slice_get (home_pages l (M.now m).image) page bytes [] (image_at (home_by l (M.now m).image) l.pages page bytes (inside page bytes there) (from_home page bytes there))
 
     pub table_of : (area : Area) (marks spare : List Bool) (s : TableCounts) → (IsTrusted M at_home.ghosts l m c0 m' → IsSurveyed l (begun (given_by M at_home.ghosts l m) c0 free first) area marks s)
-        → (IsTrusted M at_home.ghosts l m c0 m' → (page : ℕ) → Breaks l (images_by M at_home.ghosts l m c0 (length free)) page → ⊥) → length marks ≡ l.pages → ((page : ℕ) → page < length marks → slice_index_or spare page false ≡ not (slice_index_or marks page false))
+        → (IsTrusted M at_home.ghosts l m c0 m' → (page : ℕ) → Breaks l (images_by M at_home.ghosts l m c0 (length free)) page → ⊥) → s.pages ≡ count_by (λ b. b) marks → length marks ≡ l.pages → length spare ≡ length marks → ((page : ℕ) → page < length marks → slice_index_or spare page false ≡ not (slice_index_or marks page false))
         → IsTableOf l (home_pages l (M.now m).image) (record { cache = c; free_pages = spare; map = area; versions = s.versions })
-    table_of area marks spare s surveyed unbroken long spares = let t = surveyed trusted in record {
+    table_of area marks spare s surveyed unbroken counted long as_long spares = let t = surveyed trusted in record {
       telling = t.telling;
       told = subst (λ (ps : List (List ℕ)). told_in ps ≡ Some t.telling) pages_are t.told;
       whole = λ page breaks. unbroken trusted page (subst (λ (ps : List (List ℕ)). Breaks l ps page) (sym pages_are) breaks);
@@ -179,6 +196,7 @@ module _ {D : Type 0} (M : MachineGhosts D) (l : Layout) (planned : plan l.secto
       apart = t.apart;
       map = t.left;
       free_pages = λ page lt. let within : page < length marks = omega (arith, lt, long) in spares page within ∙ ap (λ (b : Bool). not b) (reached page within);
+      spare = let all = others marks spare as_long spares in omega (arith, all, long, counted, t.pages);
       inside = inside;
       memory = memory;
     }

@@ -1,5 +1,5 @@
 -- What a mount has of a name table once it is surveyed as it stands at home.
-use Rattle.std.specs.Prelude.{◌≡◌, ⊤, ◌<◌, ℕ, false, not, List, [], Some, length, replicate, slice_index_or}
+use Rattle.std.specs.Prelude.{◌≡◌, ⊤, ◌<◌, ◌+◌, ℕ, false, not, List, [], Some, length, replicate, slice_index_or, count_by}
 use Rattle.volume_layout.specs.declared.layout.Layout.{Layout}
 use Rattle.volume_layout.specs.Layout.{data_start}
 use Rattle.sector_set.specs.Area.{area}
@@ -62,6 +62,7 @@ pub record IsTableOf (l : Layout) (pages : List (List ℕ)) (o : Opened) : Type 
   pub apart : Apart l (plans_of telling.entries)
   pub map : o.map ≡ area (data_start l) l.sectors (λ s. not (is_in (plans_of telling.entries) s))
   pub free_pages : (page : ℕ) → page < l.pages → slice_index_or o.free_pages page false ≡ not (is_reached pages page)
+  pub spare : count_by (λ free. free) o.free_pages + telling.reached ≡ l.pages
   pub inside : (page : ℕ) (bytes : List ℕ) → bytes_of o.cache page ≡ Some bytes → page < l.pages
   pub memory : (page : ℕ) (bytes : List ℕ) → bytes_of o.cache page ≡ Some bytes → image_at pages page ≡ bytes
 

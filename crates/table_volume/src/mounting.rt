@@ -1,19 +1,21 @@
 //! The mount of a volume.
 ghost use Rattle.std.specs.Prelude.{◌≡◌, ◌≤◌, ◌<◌, ℕ, List, Ok, IfOk, IfErr};
 ghost use Rattle.volume_layout.specs.Layout.{plan};
+ghost use Rattle.sector_disk.specs.Image.{IsCalm};
 ghost use Rattle.sector_disk.specs.Calls.{HealsDisk, OnlyReads, device_in};
 ghost use Rattle.fsd_sound.specs.Lost.{AreCopiesOn, AreHomes, LostIn};
 ghost use Rattle.fsd_sound.specs.Mounting.{device_of_mount};
 ghost use Rattle.fsd_sound.specs.declared.fault.MountFault.TheVariants.{Memory};
 ghost use Rattle.mount_recover.specs.Recover.{IsFreshLog};
-ghost use Rattle.volume_contract.specs.Mount.{IsFound, IsRefused, KeepsAll};
+ghost use Rattle.volume_contract.specs.Mount.{IsFound, IsRefused, KeepsAll, MountsCalm};
 ghost use Rattle.volume_contract.specs.State.{IsNew};
 ghost use Rattle.table_volume.specs.Homes.{KnowsHomes};
-ghost use Rattle.table_volume.specs.Mounting.{IsAssembled, assembled, opened_of};
+ghost use Rattle.table_volume.specs.Mounting.{IsAssembled, OpensCalm, opened_of};
 ghost use Rattle.table_volume.specs.Opening.{IsNoTable, IsOpenFault, IsOpened, IsTableOf, home_pages};
-ghost use Rattle.table_volume.specs.State.{state};
+ghost use Rattle.table_volume.specs.State.{Holds, state};
 
 use crate::Volume;
+use crate::homes::read_homes;
 use crate::opening::{Opened, open_table};
 use fsd_bytes::Serial;
 use fsd_sound::MountFault;
@@ -38,10 +40,28 @@ impl Volume {
         ensures refused { IfErr result (λ fault. M.honest m.new → IsRefused sectors fault (M.now m.old)) }
         ensures unchanged { IfErr result (λ fault. M.honest m.new → KeepsAll fault (M.now m.old) (M.now m.new)) }
         ensures lost { IfErr result (λ fault. M.honest m.new → LostIn (AreCopiesOn sectors (M.now m.old)) (M.now m.new).image fault) }
+
+        // Where nothing wears, an image is mounted as it shows its table, and refused for it exactly where a page breaks.
+        ensures calm { M.honest m.new → IsCalm (M.now m.old).windows → IsCalm (M.now m.new).windows → MountsCalm state Holds sectors (M.now m.old).image result }
     {
         let settled = recover(alloc, m, sectors)?;
-        open_settled(alloc, m, settled)
+        open_read(alloc, m, settled)
     }
+}
+
+// The volume that has settled, once each page was read at home and its table is surveyed.
+fn open_read<M: Machine>(alloc: Global, m: &mut M, settled: Settled) -> Result<Volume, MountFault>
+    requires planned { plan settled.layout.sectors settled.layout.third settled.layout.pages ≡ Ok settled.layout }
+    requires sectors { settled.layout.sectors ≤ (M.report m.old).sectors }
+    requires log { IsFreshLog settled.layout settled.log }
+    ensures reads { OnlyReads M.Machine (device_in device_of_mount result) m.old m.new }
+    ensures assembled { IfOk result (IsAssembled settled.layout settled.log) }
+    ensures cause { IfErr result IsOpenFault }
+    ensures lost { IfErr result (λ fault. M.honest m.new → LostIn (AreHomes settled.layout) (M.now m.new).image fault) }
+    ensures calm { M.honest m.new → IsCalm (M.now m.old).windows → OpensCalm settled.layout (M.now m.old) result }
+{
+    read_homes(m, &settled.layout)?;
+    open_settled(alloc, m, settled)
 }
 
 // The volume that has settled, once its table is surveyed.

@@ -1,5 +1,5 @@
 //! The survey of a table over a cache.
-ghost use Rattle.std.specs.Prelude.{◌≡◌, ◌<◌, ℕ, IfOk, IfErr, [], length};
+ghost use Rattle.std.specs.Prelude.{◌≡◌, ◌<◌, ℕ, IfOk, IfErr, [], length, count_by};
 ghost use Rattle.fsd_table.specs.Breaks.{Breaks};
 ghost use Rattle.name_btree.specs.Fault.{outer_told};
 ghost use Rattle.name_btree.specs.Walk.{AreMarksOf};
@@ -22,7 +22,6 @@ use page_cache::{Cache, PageSource};
 use sector_disk::Machine;
 use table_pages::{FreePages, Table};
 use table_survey::{TableCounts, survey};
-
 use volume_layout::Layout;
 
 /// Surveys the table of these pages: those that it reaches are marked, and the sectors of its entries taken out of the map.
@@ -45,6 +44,7 @@ pub(crate) fn survey_in<M: Machine, S: PageSource>(
     ensures only { SurveysOnly M.Machine S.PageSource source.now (outer_told result) m.old m.new cache.old cache.new (length free.old) }
     ensures free { free.new ≡ free.old }
     ensures area { IfOk result (λ s. IsOfData l.now map.new) }
+    ensures counted { IfOk result (λ s. s.pages ≡ count_by (λ mark. mark) marks.new) }
     ensures long { length marks.new ≡ length marks.old }
     ensures told { IfOk result (λ s. IsTrusted M.Machine S.PageSource source.now m.old cache.old m.new →
         IsSurveyed l.now (begun (given_by M.Machine S.PageSource source.now m.old) cache.old free.old home_a) map.new marks.new s) }

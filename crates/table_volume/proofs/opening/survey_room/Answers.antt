@@ -52,7 +52,7 @@ returns-in-Ok-clause-table g c honest knows =
     c.survey_in-counts.new.map marks c.free_unmarked.new.free c.in-Ok.counts
     (subst (λ (k : Layout). IsTrusted M at_home.ghosts k m room.cache m' → IsSurveyed l (begun (given_by M at_home.ghosts k m) room.cache room.free_pages c.home_a-home_a.result) c.survey_in-counts.new.map marks c.in-Ok.counts) of_l c.in-Ok.ensures.told)
     (subst (λ (k : Layout). IsTrusted M at_home.ghosts k m room.cache m' → (page : ℕ) → Breaks l (images_by M at_home.ghosts k m room.cache (length room.free_pages)) page → ⊥) of_l c.in-Ok.ensures.unbroken)
-    long (subst (λ (xs : List Bool). (page : ℕ) → page < length xs → slice_index_or c.free_unmarked.new.free page false ≡ not (slice_index_or xs page false)) same c.free_unmarked.ensures.free)
+    c.in-Ok.ensures.counted long (c.free_unmarked.ensures.count ∙ ap (λ (xs : List Bool). length xs) same) (subst (λ (xs : List Bool). (page : ℕ) → page < length xs → slice_index_or c.free_unmarked.new.free page false ≡ not (slice_index_or xs page false)) same c.free_unmarked.ensures.free)
 
 pub returns-in-Err-clause-lost : goal.returns-in-Err-clause-lost
 returns-in-Err-clause-lost g c honest =
