@@ -1,5 +1,7 @@
 -- The volume that a mount assembles.
-use Rattle.std.proofs.Common.{◌≡◌, ℕ, zero, suc, ◌+◌, ◌-◌, false, ◌||◌, List, [], filter, replicate, None, Ok, refl, sym, ap, ◌∙◌}
+use Rattle.std.proofs.Common.{inl, ◌≡◌, ℕ, zero, suc, ◌+◌, ◌-◌, false, ◌||◌, List, [], filter, replicate, None, Ok, refl, sym, ap, ◌∙◌}
+use Rattle.std.proofs.lemmas.Bool.{true≢false}
+use Rattle.page_cache.specs.Cache.{is_one_of}
 use Rattle.std.specs.List.{range_with_len}
 use Rattle.volume_layout.specs.declared.layout.Layout.{Layout}
 use Rattle.volume_layout.specs.Layout.{data_start, plan}
@@ -68,4 +70,7 @@ module _ (l : Layout) where
       pages = opened.pages;
       room = opened.frames_are;
       unpinned = opened.unpinned;
+      waiting = λ up page dirty. absurd (true≢false (sym dirty ∙ ap (λ (d : List ℕ). is_one_of d page) opened.dirty));
+      numbered = λ up. inl opened.dirty;
+      still = λ none. none_of_area;
     }

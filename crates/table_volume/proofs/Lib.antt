@@ -3,6 +3,8 @@ pub mod CacheLaws
 pub mod CalmLaws
 pub mod CountLaws
 pub mod FindLaws
+pub mod ForcedLaws
+pub mod FreeLaws
 pub mod FreshLaws
 pub mod HomeReadLaws
 pub mod LookLaws

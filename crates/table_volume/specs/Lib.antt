@@ -1,3 +1,4 @@
+pub mod Forcing
 pub mod HomeLaws
 pub mod Homes
 pub mod Looking

@@ -19,6 +19,7 @@ use crate::homes::read_homes;
 use crate::opening::{Opened, open_table};
 use fsd_bytes::Serial;
 use fsd_sound::MountFault;
+use group_commit::RecordRoom;
 use mount_recover::{Settled, recover};
 use sector_disk::Machine;
 use shadow_frees::Shadow;
@@ -103,6 +104,9 @@ fn assemble(alloc: Global, settled: Settled, opened: Opened) -> Result<Volume, M
     let Ok(shadow) = Shadow::new(alloc, layout.data_start(), layout.sectors()) else {
         return Err(MountFault::Memory);
     };
+    let Ok(room) = RecordRoom::new(alloc) else {
+        return Err(MountFault::Memory);
+    };
     let _fits = log.layout();
     let serial = Serial {
         epoch: log.epoch(),
@@ -114,6 +118,7 @@ fn assemble(alloc: Global, settled: Settled, opened: Opened) -> Result<Volume, M
         shadow,
         log,
         cache,
+        room,
         free_pages,
         serial,
         versions,
