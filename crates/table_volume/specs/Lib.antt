@@ -1,5 +1,10 @@
 pub mod Forcing
+pub mod HomeLaws
+pub mod Homes
 pub mod Looking
+pub mod Mounting
+pub mod Opening
 pub mod State
+pub mod Surveying
 pub mod Taken
 pub mod Volume

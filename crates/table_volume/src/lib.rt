@@ -6,10 +6,14 @@ mod entries;
 mod finding;
 mod forcing;
 mod freeing;
+mod homes;
 mod laws;
 mod looking;
 mod next;
 mod reading;
+mod mounting;
+mod opening;
+mod surveying;
 mod volume;
 
 pub use laws::{

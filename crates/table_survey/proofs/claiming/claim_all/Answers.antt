@@ -1,4 +1,4 @@
-use Rattle.std.proofs.Common.{◌≡◌, ◌∙◌, ◌<◌, ◌≤◌, ℕ, List, Option, Some, length, true, sym, ap, subst, arith}
+use Rattle.std.proofs.Common.{◌≡◌, ◌∙◌, ◌<◌, ◌≤◌, ℕ, List, Option, Some, length, true, refl, sym, ap, subst, arith}
 use Rattle.std.specs.Prelude.{IfSome}
 use Rattle.std.specs.Option.{option_copied}
 use Rattle.std.proofs.lemmas.Result.{err_from_is_err_and}
@@ -17,7 +17,8 @@ use Rattle.name_btree.specs.declared.lookup.FoundEntry.{FoundEntry}
 use Rattle.name_btree.specs.Fault.{outer_of, IsAmong, IsOnWay}
 use Rattle.name_btree.specs.Lookup.{entry_of, StandsIn, IsLedTo}
 use Rattle.name_btree.proofs.WithinLaws.{among_since}
-use Rattle.sector_set.specs.Area.{Area, IsOwn}
+use Rattle.run_table.specs.Space.{contains}
+use Rattle.sector_set.specs.Area.{Area, IsOwn, area}
 use Rattle.table_survey.specs.Claims.{FailsClaims}
 use Rattle.table_survey.proofs.ClaimLaws.{without_own, entry_fewer}
 use Rattle.table_survey.proofs.PassLaws.{IsPassed, passed_none, passed_more, passed_all}
@@ -32,6 +33,8 @@ loop-found-init g c =
     record {
       calls = reaches_walks G t t (reaches_still G t (g.met.T.Pages.still t));
       own = c.requires.own;
+      from = refl;
+      to = refl;
       pass = λ trusted height tree. passed_none (table_of (G.step t).images height) c.args.map.now c.requires.own (entries_ascend _ (G.step t).images top tree.subtree);
     }
 
@@ -87,6 +90,11 @@ returns-in_default-clause-claimed g c = λ trusted height tree.
     let all = walks_then G law.then old c.loop-found.t new c.loop-found.invariant.calls so in
     let is = found_then G old c.rest.new.self new c.loop-found.after _ c.as_ref.ensures.value c.in_ok-found.field-0 all look.calls look.found trusted height tree in
     passed_all (table_of (G.step old).images height) c.args.map.now c.loop-found.after c.loop-found.map (c.loop-found.invariant.pass (so.trust trusted) height tree) (sym is ∙ ap entry_of c.in_default.is)
+
+pub returns-in_default-clause-area : goal.returns-in_default-clause-area
+returns-in_default-clause-area g c =
+    let now = c.loop-found.map in
+    c.loop-found.invariant.own ∙ ap (λ (n : ℕ). area n now.to (contains now.sectors)) c.loop-found.invariant.from ∙ ap (λ (n : ℕ). area c.args.map.now.from n (contains now.sectors)) c.loop-found.invariant.to
 
 -- ---- the sectors are not all there
 
@@ -167,6 +175,8 @@ loop-found-preserved g c =
     record {
       calls = all;
       own = subst (λ (m : Area). IsOwn m) (sym taken) (without_own now e.runs);
+      from = ap (λ (m : Area). m.from) taken ∙ c.loop-found.invariant.from;
+      to = ap (λ (m : Area). m.to) taken ∙ c.loop-found.invariant.to;
       pass = λ trusted height tree.
           let table = table_of (G.step old).images height in
           let is = found_then G old c.rest.new.self new c.loop-found.after _ c.as_ref.ensures.value c.in_ok-found.field-0 all look.calls look.found trusted height tree in

@@ -1,11 +1,17 @@
-use Rattle.std.proofs.Common.{◌∙◌, sym, subst}
-use Rattle.sector_set.specs.Area.{Area, IsOwn}
+use Rattle.std.proofs.Common.{◌∙◌, sym, ap, subst}
+use Rattle.run_table.specs.Space.{contains}
+use Rattle.sector_set.specs.Area.{Area, IsOwn, area}
 use Rattle.table_survey.proofs.ClaimLaws.{whole_own}
 use Rattle.table_survey.proofs.SurveyLaws.{claims_then, surveyed, unbroken}
 use Rattle.table_survey.proofs.surveying.survey.Goals as goal
 
 pub claim_all-requires-clause-own : goal.claim_all-requires-clause-own
 claim_all-requires-clause-own g c = subst (λ (m : Area). IsOwn m) (sym c.requires.map) (whole_own c.args.l.now)
+
+pub returns-clause-area : goal.returns-clause-area
+returns-clause-area g c =
+    let new = c.claim_all.new.map in
+    c.in_ok-claim_all.ensures.area ∙ ap (λ (m : Area). area m.from m.to (contains new.sectors)) c.requires.map
 
 pub returns-clause-told : goal.returns-clause-told
 returns-clause-told g c = λ trusted.

@@ -1,0 +1,76 @@
+-- The volume that a mount assembles.
+use Rattle.std.proofs.Common.{inl, ◌≡◌, ℕ, zero, suc, ◌+◌, ◌-◌, false, ◌||◌, List, [], filter, replicate, None, Ok, refl, sym, ap, ◌∙◌}
+use Rattle.std.proofs.lemmas.Bool.{true≢false}
+use Rattle.page_cache.specs.Cache.{is_one_of}
+use Rattle.std.specs.List.{range_with_len}
+use Rattle.volume_layout.specs.declared.layout.Layout.{Layout}
+use Rattle.volume_layout.specs.Layout.{data_start, plan}
+use Rattle.run_table.specs.Space.{contains, where_free}
+use Rattle.sector_set.specs.Area.{area}
+use Rattle.shadow_frees.specs.Waits.{Waits, waits}
+use Rattle.log_thirds.specs.LogValue.{LogValue}
+use Rattle.table_volume.specs.Mounting.{assembled, no_area, none_waits}
+use Rattle.table_volume.specs.Opening.{IsOpened}
+use Rattle.table_volume.specs.Volume.{IsOfData, IsWhole}
+use Rattle.table_volume.specs.declared.opening.Opened.{Opened}
+
+-- ---- no sector
+
+none_filtered : (a n : ℕ) → filter (λ s. false) (range_with_len a n) ≡ []
+none_filtered a zero = refl
+none_filtered a (suc n) = none_filtered (a + 1) n
+
+pub none_free : (from to : ℕ) → where_free (λ s. false) from to ≡ []
+none_free from to = none_filtered from (to - from)
+
+module _ (l : Layout) where
+  pub none_of_area : (no_area l).sectors ≡ []
+  none_of_area = none_free (data_start l) l.sectors
+
+  none_of_data : IsOfData l (no_area l)
+  none_of_data = ap (λ (xs : List ℕ). area (data_start l) l.sectors (contains xs)) (sym none_of_area)
+
+  pub none_wait : (s : ℕ) → waits (none_waits l) s ≡ false
+  none_wait s = ap (λ (xs : List ℕ). contains xs s || (contains xs s || contains xs s)) none_of_area
+
+  -- ---- the parts
+
+  pub no_waits : (w : Waits) (a b : ℕ) → a ≡ data_start l → b ≡ l.sectors → w.removed ≡ area a b (λ s. false) → w.kept ≡ area a b (λ s. false) → w.unfinished ≡ area a b (λ s. false) → w.held ≡ replicate 8 None → w ≡ none_waits l
+  no_waits w a b start end removed kept unfinished held =
+      let same : area a b (λ s. false) ≡ no_area l = ap (λ (n : ℕ). area n b (λ s. false)) start ∙ ap (λ (n : ℕ). area (data_start l) n (λ s. false)) end in
+      let r = removed ∙ same in let k = kept ∙ same in let u = unfinished ∙ same in
+      λ i. record { removed = r i; kept = k i; unfinished = u i; held = held i }
+
+  module _ (log : LogValue) (o : Opened) where
+    pub made : (w : Waits) (epoch : ℕ) → w ≡ none_waits l → epoch ≡ log.anchor.epoch
+        → record { layout = l; map = o.map; shadow = w; log = log; cache = o.cache; free_pages = o.free_pages; serial = record { epoch = epoch; count = 1 }; versions = o.versions; down = None } ≡ assembled l log o
+    made w epoch none same = λ i. record {
+      layout = l;
+      map = o.map;
+      shadow = none i;
+      log = log;
+      cache = o.cache;
+      free_pages = o.free_pages;
+      serial = record { epoch = same i; count = 1 };
+      versions = o.versions;
+      down = None;
+    }
+
+    pub whole_assembled : plan l.sectors l.third l.pages ≡ Ok l → log.layout ≡ l → IsOpened l o → IsWhole (assembled l log o)
+    whole_assembled planned layout opened = record {
+      planned = planned;
+      map = opened.map;
+      removed = none_of_data;
+      kept = none_of_data;
+      unfinished = none_of_data;
+      apart = λ s there. none_wait s;
+      unread = record { kept = none_of_area; unfinished = none_of_area; held = refl };
+      log = layout;
+      epoch = refl;
+      pages = opened.pages;
+      room = opened.frames_are;
+      unpinned = opened.unpinned;
+      waiting = λ up page dirty. absurd (true≢false (sym dirty ∙ ap (λ (d : List ℕ). is_one_of d page) opened.dirty));
+      numbered = λ up. inl opened.dirty;
+      still = λ none. none_of_area;
+    }

@@ -1,0 +1,156 @@
+-- A mount where nothing wears.
+use Rattle.std.proofs.Common.{◌≡◌, inl, inr, ℕ, ◌+◌, ◌<◌, List, [], length, map, Option, Some, None, Result, Ok, Err, refl, sym, ap, subst, ◌∙◌, arith}
+use Rattle.std.specs.Prelude.{IfErr, IfOk, IsErrAnd, IsSome, option_and_then}
+use Rattle.std.specs.Option.{unwrap_or}
+use Rattle.std.proofs.lemmas.Bool.{cases_lt}
+use Rattle.std.proofs.lemmas.List.{length-map}
+use Rattle.sector_disk.proofs.Wear.{worn_refl}
+use Rattle.fsd_formats.specs.declared.entry.Entry.{Entry}
+use Rattle.fsd_table.specs.Breaks.{Breaks}
+use Rattle.table_volume.specs.Mounting.{OpensCalm}
+use Rattle.volume_layout.specs.declared.layout.Layout.{Layout}
+use Rattle.volume_layout.specs.Layout.{plan}
+use Rattle.sector_disk.specs.declared.machine.LoadFault.TheVariants as load
+use Rattle.sector_disk.specs.Image.{IsCalm, open_damage}
+use Rattle.sector_disk.specs.Machine.{Moment, Wears}
+use Rattle.sector_disk.proofs.Calm.{calm_wears, calm_worn}
+use Rattle.fsd_files.specs.Disk.{Image}
+use Rattle.fsd_files.specs.Files.{Files}
+use Rattle.fsd_sound.specs.Homes.{home_of}
+use Rattle.fsd_sound.specs.Lost.{AreHomes, LosesShown, LostIn}
+use Rattle.fsd_sound.specs.Shown.{all_pages, newest, records_by, shown_by}
+use Rattle.fsd_sound.proofs.EachLaws.{all_in_range, each_of_all}
+use Rattle.fsd_sound.specs.declared.fault.MountFault.{MountFault}
+use Rattle.fsd_sound.specs.declared.fault.MountFault.TheVariants.{Device, Lost, Memory, NoAnchor, NotVolume, Unsound, WornOut}
+use Rattle.group_commit.proofs.NewestLaws.{lost_home}
+use Rattle.log_thirds.specs.LogValue.{LogValue}
+use Rattle.mount_recover.specs.Lost.{StandAsShown}
+use Rattle.mount_recover.specs.Recover.{IsNotUnsound, IsSettled}
+use Rattle.table_pages.specs.Kept.{images_of}
+use Rattle.volume_contract.specs.Mount.{MountsCalm, MountsShown, ShowsVolume}
+use Rattle.table_volume.specs.HomeLaws.{in_homes}
+use Rattle.table_volume.specs.Homes.{IsUnread, KnowsHomes, home_by}
+use Rattle.table_volume.specs.Mounting.{IsAssembled, fresh_mounted, opened_of}
+use Rattle.table_volume.specs.Opening.{IsNoTable, IsTableOf, home_pages}
+use Rattle.table_volume.specs.State.{Holds, state}
+use Rattle.table_volume.specs.Volume.{VolumeValue}
+use Rattle.table_volume.proofs.FreshLaws.{fresh_fits, fresh_holds}
+
+-- ---- what is there stays there
+
+some_is : {A : Type 0} (o : Option A) → IsSome o → (x : A) × (o ≡ Some x)
+some_is None some = absurd (cc some)
+some_is (Some x) some = (x, refl)
+
+pub calm_knows : (l : Layout) (at : Moment) → IsCalm at.windows → ((page : ℕ) → page < l.pages → IsSome (home_of l at.image page)) → KnowsHomes l at
+calm_knows l at calm there page lt =
+    let is = some_is (home_of l at.image page) (there page lt) in
+    record { bytes = is.0; stays = λ i worn. ap (λ (j : Image). home_of l j page) (calm_worn at.windows at.image i calm worn) ∙ is.1 }
+
+module _ (l : Layout) (old mid new : Moment) (calm : IsCalm old.windows) (first : Wears old mid) (then : Wears old new) (n : ℕ) where
+  -- one page more
+  pub more_there : ((page : ℕ) → page < n → IsSome (home_of l mid.image page)) → IsSome (home_of l new.image n) → (page : ℕ) → page < n + 1 → IsSome (home_of l new.image page)
+  more_there there here page lt = elim (cases_lt page n) [
+    | inl before ↦ subst (λ (at : Moment). IsSome (home_of l at.image page)) (calm_wears old mid calm first ∙ sym (calm_wears old new calm then)) (there page before)
+    | inr from ↦ let same : n ≡ page = omega (arith, from, lt) in subst (λ (k : ℕ). IsSome (home_of l new.image k)) same here
+  ]
+
+-- ---- the pages at home are those that the image shows
+
+module _ (sectors : ℕ) (l : Layout) (log : LogValue) (i : Image) (at : Moment) (is : IsSettled sectors i l log) (stand : StandAsShown l is.anchor i at.image) where
+  pub lost_shown : (fault : MountFault) → IsUnread fault → LostIn (AreHomes l) at.image fault → LosesShown sectors i fault
+  lost_shown (Lost a b) unread lost =
+      let page = lost.copies.page in
+      let out : IsSome (home_of l at.image page) → ⊥ = λ some. lost_home l page at.image (load.Lost a b) (record { copies = lost.copies.homes; first = lost.first; second = lost.second }) some in
+      record { layout = l; anchor = is.anchor; found = is.found; page = page; within = lost.copies.within; homes = lost.copies.homes; none = sym (stand page lost.copies.within) ∙ none (home_of l at.image page) out }
+    where
+      none : (o : Option (List ℕ)) → (IsSome o → ⊥) → o ≡ None
+      none None out = refl
+      none (Some x) out = absurd (out refl)
+  lost_shown (Device s) unread lost = tt
+  lost_shown Memory unread lost = tt
+  lost_shown NotVolume unread lost = tt
+  lost_shown NoAnchor unread lost = tt
+  lost_shown (Unsound s) unread lost = tt
+  lost_shown WornOut unread lost = tt
+
+  module _ (knows : KnowsHomes l at) (calm : IsCalm at.windows) where
+    at_home : (page : ℕ) → page < l.pages → newest l i (records_by l i is.anchor) page ≡ Some (unwrap_or (home_by l at.image page) [])
+    at_home page lt =
+        let k = knows page lt in
+        let there : home_of l at.image page ≡ Some k.bytes = k.stays at.image (worn_refl (open_damage at.windows) at.image) in
+        sym (stand page lt) ∙ there ∙ ap (λ (o : Option (List ℕ)). Some (unwrap_or o [])) (sym (in_homes l at.image page lt ∙ there))
+
+    shown_pages : shown_by l i is.anchor ≡ Some (home_pages l at.image)
+    unfolding images_of
+    shown_pages = each_of_all (newest l i (records_by l i is.anchor)) (λ page. unwrap_or (home_by l at.image page) []) (all_pages l)
+        (all_in_range (λ page. newest l i (records_by l i is.anchor) page ≡ Some (unwrap_or (home_by l at.image page) [])) 0 l.pages (λ page from lt. at_home page (omega (arith, lt))))
+
+    pub shows : ShowsVolume sectors i l (home_pages l at.image)
+    shows = record { anchor = is.anchor; found = is.found; shows = ap (option_and_then (shown_by l i)) is.found.anchor ∙ shown_pages }
+
+    no_table_shown : (fault : MountFault) → IsNoTable l (home_pages l at.image) fault → MountsCalm state Holds sectors i (Err fault)
+    no_table_shown (Unsound s) fails = (l, home_pages l at.image, shows, fails)
+    no_table_shown (Device s) fails = tt
+    no_table_shown Memory fails = tt
+    no_table_shown (Lost a b) fails = absurd fails
+    no_table_shown NotVolume fails = absurd fails
+    no_table_shown NoAnchor fails = absurd fails
+    no_table_shown WornOut fails = absurd fails
+
+    module _ (planned : plan l.sectors l.third l.pages ≡ Ok l) where
+      table_shown : (v : VolumeValue) → IsAssembled l log v → IsTableOf l (home_pages l at.image) (opened_of v) → MountsShown state Holds sectors i v
+      table_shown v a t =
+          let pages = home_pages l at.image in
+          let files : Files = map (λ (e : Entry). (e.key, record { bytes = []; keep = 0 })) t.telling.entries in
+          let count : length files ≡ length t.telling.entries = length-map t.telling.entries (λ (e : Entry). (e.key, record { bytes = []; keep = 0 })) in
+          let same : l ≡ (state v).layout = ap (λ (x : VolumeValue). x.layout) (sym a.is) in
+          record {
+            mounted = fresh_mounted l log pages t.telling files;
+            shows = subst (λ (k : Layout). ShowsVolume sectors i k pages) same shows;
+            holds = fresh_holds l planned log v a pages t files count;
+            fits = fresh_fits l planned log v a pages t files count;
+            told = t.told;
+            whole = subst (λ (k : Layout). (page : ℕ) → Breaks k pages page → ⊥) same t.whole;
+          }
+
+module _ (sectors : ℕ) (l : Layout) (planned : plan l.sectors l.third l.pages ≡ Ok l) (log : LogValue) (i : Image) (at new : Moment) (same : new.image ≡ at.image) (is : IsSettled sectors i l log) (stand : StandAsShown l is.anchor i at.image) (calm : IsCalm at.windows) where
+  pub mounts_calm : (r : Result VolumeValue MountFault) → IfOk r (IsAssembled l log) → IfErr r (λ fault. LostIn (AreHomes l) new.image fault) → OpensCalm l at r → MountsCalm state Holds sectors i r
+  mounts_calm (Ok v) a lost opens = table_shown sectors l log i at is stand opens.0 calm planned v a opens.1
+  mounts_calm (Err fault) a lost (inl unread) = unread_calm fault unread (lost_shown sectors l log i at is stand fault unread (subst (λ (j : Image). LostIn (AreHomes l) j fault) same lost))
+    where
+      unread_calm : (f : MountFault) → IsUnread f → LosesShown sectors i f → MountsCalm state Holds sectors i (Err f)
+      unread_calm (Unsound s) un loses = absurd un
+      unread_calm (Device s) un loses = tt
+      unread_calm Memory un loses = tt
+      unread_calm (Lost a b) un loses = loses
+      unread_calm NotVolume un loses = tt
+      unread_calm NoAnchor un loses = tt
+      unread_calm WornOut un loses = tt
+  mounts_calm (Err fault) a lost (inr opens) = no_table_shown sectors l log i at is stand opens.0 calm fault opens.1
+
+-- ---- what fails before
+
+pub fails_calm : (sectors : ℕ) (i : Image) (fault : MountFault) → IsNotUnsound fault → LosesShown sectors i fault → MountsCalm state Holds sectors i (Err fault)
+fails_calm sectors i (Unsound s) sound loses = absurd sound
+fails_calm sectors i (Device s) sound loses = tt
+fails_calm sectors i Memory sound loses = tt
+fails_calm sectors i (Lost a b) sound loses = loses
+fails_calm sectors i NotVolume sound loses = tt
+fails_calm sectors i NoAnchor sound loses = tt
+fails_calm sectors i WornOut sound loses = tt
+
+pub calm_handed : (sectors : ℕ) (i : Image) (r : Result VolumeValue MountFault) (fault : MountFault) → IsErrAnd r (λ told. told ≡ fault) → MountsCalm state Holds sectors i (Err fault) → MountsCalm state Holds sectors i r
+calm_handed sectors i (Ok v) fault is fails = absurd is
+calm_handed sectors i (Err told) fault is fails = subst (λ (f : MountFault). MountsCalm state Holds sectors i (Err f)) (sym is) fails
+
+-- ---- the parts of an opening
+
+pub opens_handed : (l : Layout) (at : Moment) (r : Result VolumeValue MountFault) (fault : MountFault) → IsErrAnd r (λ told. told ≡ fault) → IsUnread fault → OpensCalm l at r
+opens_handed l at (Ok v) fault is unread = absurd is
+opens_handed l at (Err told) fault is unread = inl (subst IsUnread (sym is) unread)
+
+module _ (l : Layout) (old mid : Moment) (same : mid ≡ old) (knows : KnowsHomes l old) where
+  pub opens : (r : Result VolumeValue MountFault) → IfOk r (λ v. KnowsHomes l mid → IsTableOf l (home_pages l mid.image) (opened_of v)) → IfErr r (λ fault. KnowsHomes l mid → IsNoTable l (home_pages l mid.image) fault) → OpensCalm l old r
+  opens (Ok v) table fails = (knows, subst (λ (x : Moment). KnowsHomes l x → IsTableOf l (home_pages l x.image) (opened_of v)) same table knows)
+  opens (Err fault) table fails = inr (knows, subst (λ (x : Moment). KnowsHomes l x → IsNoTable l (home_pages l x.image) fault) same fails knows)

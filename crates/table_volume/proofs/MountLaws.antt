@@ -1,0 +1,121 @@
+-- What a mount answers.
+use Rattle.std.proofs.Common.{◌≡◌, inl, inr, ℕ, ◌^◌, ◌<◌, false, not, ◌||◌, ◌&&◌, List, [], length, replicate, Some, None, Result, Ok, Err, refl, sym, ap, subst, ◌∙◌, arith}
+use Rattle.std.specs.Prelude.{IfErr, IfOk, ◌==◌}
+use Rattle.std.proofs.Math.Bool.{or-false}
+use Rattle.std.proofs.lemmas.List.{ext_get_or, get_or-replicate, length-replicate}
+use Rattle.volume_layout.specs.declared.layout.Layout.{Layout}
+use Rattle.volume_layout.specs.Layout.{data_start}
+use Rattle.run_table.specs.Space.{contains, runs_of, where_free}
+use Rattle.sector_set.specs.Area.{Area}
+use Rattle.sector_set.proofs.FreeLaws.{where_same}
+use Rattle.shadow_frees.specs.Readers.{is_held, unheld}
+use Rattle.shadow_frees.specs.Waits.{waits}
+use Rattle.sector_disk.specs.Image.{IsCalm}
+use Rattle.sector_disk.specs.Machine.{Moment}
+use Rattle.sector_disk.proofs.Calm.{calm_worn}
+use Rattle.sector_disk.proofs.Damage.{lost_as}
+use Rattle.fsd_files.specs.Disk.{Image}
+use Rattle.fsd_sound.specs.Lost.{AreCopiesOn, AreHomes, LostIn}
+use Rattle.fsd_sound.specs.Mounting.{HasRoot}
+use Rattle.fsd_sound.specs.Roots.{root_of}
+use Rattle.fsd_sound.specs.declared.fault.MountFault.{MountFault}
+use Rattle.fsd_sound.specs.declared.fault.MountFault.TheVariants.{Device, Lost, Memory, NoAnchor, NotVolume, Unsound, WornOut}
+use Rattle.log_thirds.specs.LogValue.{LogValue}
+use Rattle.mount_recover.specs.Recover.{IsSettled, IsSettledIn}
+use Rattle.volume_contract.specs.Mount.{IsRefused}
+use Rattle.volume_contract.specs.State.{IsNew}
+use Rattle.table_volume.specs.Mounting.{IsAssembled, assembled, no_area, opened_of}
+use Rattle.table_volume.specs.Opening.{IsOpenFault}
+use Rattle.table_volume.specs.State.{freed_sectors, state}
+use Rattle.table_volume.specs.Volume.{VolumeValue}
+use Rattle.table_volume.specs.declared.opening.Opened.{Opened}
+use Rattle.table_volume.proofs.AssembleLaws.{none_free, none_of_area, none_wait}
+
+-- ---- results
+
+pub ok_more : {T E : Type 0} (P Q : T → Type 0) (r : Result T E) → ((x : T) → P x → Q x) → IfOk r P → IfOk r Q
+ok_more P Q (Ok x) more p = more x p
+ok_more P Q (Err fault) more p = tt
+
+pub err_more : {T E : Type 0} (P Q : E → Type 0) (r : Result T E) → ((fault : E) → P fault → Q fault) → IfErr r P → IfErr r Q
+err_more P Q (Ok x) more p = tt
+err_more P Q (Err fault) more p = more fault p
+
+-- what holds of what was opened holds of the volume with it
+pub opened_as : (Q : Opened → Type 0) (o : Opened) (r : Result VolumeValue MountFault) → Q o → IfOk r (λ v. opened_of v ≡ o) → IfOk r (λ v. Q (opened_of v))
+opened_as Q o (Ok v) holds is = subst Q (sym is) holds
+opened_as Q o (Err fault) holds is = tt
+
+-- ---- a new volume
+
+module _ (l : Layout) (log : LogValue) (v : VolumeValue) (a : IsAssembled l log v) where
+  w : VolumeValue
+  w = assembled l log (opened_of v)
+
+  slots : log.slots ≡ replicate l.pages None
+  slots =
+      let many : length log.slots ≡ l.pages = a.fits.table ∙ ap (λ (k : Layout). k.pages) a.fresh.layout in
+      ext_get_or None log.slots (replicate l.pages None) (many ∙ sym (length-replicate l.pages None))
+      (λ page lt. let within : page < l.pages = omega (arith, lt, many) in a.fresh.indexed.slots page lt ∙ sym (get_or-replicate l.pages page None None within))
+
+  none_unheld : (unheld (replicate 8 None) (no_area l)).sectors ≡ []
+  none_unheld =
+      where_same (λ s. contains (no_area l).sectors s && not (is_held (replicate 8 None) s)) (λ s. false) (data_start l) l.sectors (λ s from to. ap (λ (xs : List ℕ). contains xs s && not (is_held (replicate 8 None) s)) (none_of_area l))
+      ∙ none_free (data_start l) l.sectors
+
+  freed : freed_sectors (assembled l log (opened_of v)) ≡ v.map.sectors
+  freed =
+      let own = a.opened.map in
+      where_same (λ s. contains v.map.sectors s || contains (unheld (replicate 8 None) (no_area l)).sectors s) (contains v.map.sectors) v.map.from v.map.to
+      (λ s from to. ap (λ (xs : List ℕ). contains v.map.sectors s || contains xs s) none_unheld ∙ or-false (contains v.map.sectors s))
+      ∙ ap (λ (n : ℕ). where_free (contains v.map.sectors) n v.map.to) (ap (λ (m : Area). m.from) own)
+      ∙ ap (λ (n : ℕ). where_free (contains v.map.sectors) (data_start l) n) (ap (λ (m : Area). m.to) own)
+      ∙ sym (ap (λ (m : Area). m.sectors) own)
+
+  new_state : IsNew (state (assembled l log (opened_of v)))
+  new_state = record {
+    anchor = a.fresh.anchor;
+    head = a.fresh.head;
+    slots = slots;
+    count = refl;
+    dirty = a.opened.dirty;
+    waiting = where_same (waits (assembled l log (opened_of v)).shadow) (λ s. false) (data_start l) l.sectors (λ s from to. none_wait l s) ∙ none_free (data_start l) l.sectors;
+    waits = ap (λ (xs : List ℕ). not (length xs == 0)) (none_of_area l);
+    held = refl;
+    freed = ap runs_of freed;
+    up = refl;
+  }
+
+  pub is_new : IsNew (state v)
+  is_new = subst (λ (x : VolumeValue). IsNew (state x)) (sym a.is) new_state
+
+-- ---- why it is refused
+
+module _ (sectors : ℕ) (l : Layout) (log : LogValue) (old : Moment) (in_epoch : log.anchor.epoch < 2 ^ 32) (is : IsSettledIn sectors l log old) where
+  pub refused_open : (fault : MountFault) → IsOpenFault fault → IsRefused sectors fault old
+  refused_open (Device s) open_fault = record { seen = is.seen; from = is.from; why = tt }
+  refused_open Memory open_fault = record { seen = is.seen; from = is.from; why = tt }
+  refused_open (Lost a b) open_fault = record { seen = is.seen; from = is.from; why = record { layout = l; anchor = is.settled.anchor; found = is.settled.found; epoch = omega (arith, is.settled.epoch, in_epoch) } }
+  refused_open (Unsound s) open_fault = record { seen = is.seen; from = is.from; why = record { layout = l; anchor = is.settled.anchor; found = is.settled.found; epoch = omega (arith, is.settled.epoch, in_epoch) } }
+  refused_open NotVolume open_fault = absurd open_fault
+  refused_open NoAnchor open_fault = absurd open_fault
+  refused_open WornOut open_fault = absurd open_fault
+
+-- where nothing wears, what was seen is the image
+pub settled_in : (sectors : ℕ) (l : Layout) (log : LogValue) (old : Moment) → IsCalm old.windows → IsSettledIn sectors l log old → IsSettled sectors old.image l log
+settled_in sectors l log old calm is = subst (λ (i : Image). IsSettled sectors i l log) (calm_worn old.windows old.image is.seen calm is.from) is.settled
+
+-- ---- what it loses
+
+module _ (sectors : ℕ) (l : Layout) (log : LogValue) (old : Moment) (image : Image) (root : HasRoot sectors old.image l) (is : IsSettledIn sectors l log old) where
+  calm_root : IsCalm old.windows → root_of sectors old.image ≡ Some l
+  calm_root calm = (settled_in sectors l log old calm is).found.root
+
+  pub home_lost : (fault : MountFault) → LostIn (AreHomes l) image fault → LostIn (AreCopiesOn sectors old) image fault
+  home_lost (Lost a b) lost = lost_as (AreHomes l) a b (AreCopiesOn sectors old) image (λ homes. inr (inl (record { layout = l; root = root; homes = homes; calm = calm_root }))) lost
+  home_lost NotVolume lost = tt
+  home_lost (Device s) lost = tt
+  home_lost Memory lost = tt
+  home_lost NoAnchor lost = tt
+  home_lost (Unsound s) lost = tt
+  home_lost WornOut lost = tt

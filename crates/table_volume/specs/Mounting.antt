@@ -1,0 +1,77 @@
+-- The volume that a mount makes.
+use Rattle.std.specs.Prelude.{◌≡◌, ◌⊎◌, ℕ, false, List, [], None, Result, Ok, Err, replicate}
+use Rattle.volume_layout.specs.declared.layout.Layout.{Layout}
+use Rattle.volume_layout.specs.Layout.{data_start}
+use Rattle.sector_set.specs.Area.{Area, area}
+use Rattle.shadow_frees.specs.Waits.{Waits}
+use Rattle.sector_disk.specs.Machine.{Moment}
+use Rattle.fsd_sound.specs.declared.fault.MountFault.{MountFault}
+use Rattle.table_volume.specs.Homes.{IsUnread, KnowsHomes}
+use Rattle.fsd_files.specs.Files.{Files}
+use Rattle.fsd_sound.specs.Mounted.{Mounted}
+use Rattle.fsd_table.specs.Table.{Telling}
+use Rattle.log_thirds.specs.LogValue.{FitsLayout, LogValue}
+use Rattle.mount_recover.specs.Recover.{IsFreshLog}
+use Rattle.table_volume.specs.Opening.{IsNoTable, IsOpened, IsTableOf, home_pages}
+use Rattle.table_volume.specs.Volume.{VolumeValue}
+use Rattle.table_volume.specs.declared.opening.Opened.{Opened}
+
+-- no sector of the data area
+abbrev pub no_area : Layout → Area
+no_area l = area (data_start l) l.sectors (λ s. false)
+
+-- nothing waits, and no reader holds anything
+abbrev pub none_waits : Layout → Waits
+none_waits l = record { removed = no_area l; kept = no_area l; unfinished = no_area l; held = replicate 8 None }
+
+-- with what was opened, and a log of its epoch
+abbrev pub assembled : Layout → LogValue → Opened → VolumeValue
+assembled l log o = record {
+  layout = l;
+  map = o.map;
+  shadow = none_waits l;
+  log = log;
+  cache = o.cache;
+  free_pages = o.free_pages;
+  serial = record { epoch = log.anchor.epoch; count = 1 };
+  versions = o.versions;
+  down = None;
+}
+
+-- the volume of these pages, which tell this of these files, with nothing logged yet and nothing that waits
+abbrev pub fresh_mounted : Layout → LogValue → List (List ℕ) → Telling → Files → Mounted
+fresh_mounted l log pages telling files = record {
+  volume = record {
+    layout = l;
+    files = files;
+    entries = telling.entries;
+    removed = [];
+    held = [];
+    drafts = [];
+    reached = telling.reached;
+    unforced = 0;
+    serial = record { epoch = log.anchor.epoch; count = 1 };
+  };
+  pages = pages;
+  dirty = [];
+  anchor = log.anchor;
+  head = log.head;
+  slices = [];
+  bytes = [];
+}
+
+-- what of a volume was opened
+abbrev pub opened_of : VolumeValue → Opened
+opened_of v = record { cache = v.cache; free_pages = v.free_pages; map = v.map; versions = v.versions }
+
+-- where nothing wears: the pages at home are known and a table, or no table; or one couldn't be read
+abbrev pub OpensCalm : Layout → Moment → Result VolumeValue MountFault → Type 0
+OpensCalm l at (Ok v) = KnowsHomes l at × IsTableOf l (home_pages l at.image) (opened_of v)
+OpensCalm l at (Err fault) = IsUnread fault ⊎ (KnowsHomes l at × IsNoTable l (home_pages l at.image) fault)
+
+-- The volume of this layout and this log, in which nothing is logged yet, with what was opened.
+pub record IsAssembled (l : Layout) (log : LogValue) (v : VolumeValue) : Type 0 where
+  pub is : v ≡ assembled l log (opened_of v)
+  pub fresh : IsFreshLog l log
+  pub fits : FitsLayout log
+  pub opened : IsOpened l (opened_of v)

@@ -1,0 +1,127 @@
+//! The mount of a volume.
+ghost use Rattle.std.specs.Prelude.{◌≡◌, ◌≤◌, ◌<◌, ℕ, List, Ok, IfOk, IfErr};
+ghost use Rattle.volume_layout.specs.Layout.{plan};
+ghost use Rattle.sector_disk.specs.Image.{IsCalm};
+ghost use Rattle.sector_disk.specs.Calls.{HealsDisk, OnlyReads, device_in};
+ghost use Rattle.fsd_sound.specs.Lost.{AreCopiesOn, AreHomes, LostIn};
+ghost use Rattle.fsd_sound.specs.Mounting.{device_of_mount};
+ghost use Rattle.fsd_sound.specs.declared.fault.MountFault.TheVariants.{Memory};
+ghost use Rattle.mount_recover.specs.Recover.{IsFreshLog};
+ghost use Rattle.volume_contract.specs.Mount.{IsFound, IsRefused, KeepsAll, MountsCalm};
+ghost use Rattle.volume_contract.specs.State.{IsNew};
+ghost use Rattle.table_volume.specs.Homes.{KnowsHomes};
+ghost use Rattle.table_volume.specs.Mounting.{IsAssembled, OpensCalm, opened_of};
+ghost use Rattle.table_volume.specs.Opening.{IsNoTable, IsOpenFault, IsOpened, IsTableOf, home_pages};
+ghost use Rattle.table_volume.specs.State.{Holds, state};
+
+use crate::Volume;
+use crate::homes::read_homes;
+use crate::opening::{Opened, open_table};
+use fsd_bytes::Serial;
+use fsd_sound::MountFault;
+use group_commit::RecordRoom;
+use mount_recover::{Settled, recover};
+use sector_disk::Machine;
+use shadow_frees::Shadow;
+use std::alloc::Global;
+
+impl Volume {
+    /// Mounts the volume of an image with so many sectors: what its log has goes home, its next epoch begins with an empty log, and its
+    /// name table is surveyed. Where the mount fails or is stopped, the disk can be mounted again.
+    pub fn mount<M: Machine>(alloc: Global, m: &mut M, sectors: u32) -> Result<Volume, MountFault>
+        requires { sectors ≡ (M.report m.old).sectors }
+
+        ensures disk { HealsDisk M.Machine (device_in device_of_mount result) m.old m.new }
+        ensures room { IfOk result (λ volume. (state volume).layout.sectors ≤ sectors) }
+        ensures planned { IfOk result (λ volume. let l = (state volume).layout in plan l.sectors l.third l.pages ≡ Ok l) }
+        ensures fresh { IfOk result (λ volume. IsNew (state volume)) }
+
+        // Each answer but a fault of the disk and want of memory says what the image was, as it was seen.
+        ensures found { IfOk result (λ volume. M.honest m.new → IsFound sectors (state volume) (M.now m.old)) }
+        ensures refused { IfErr result (λ fault. M.honest m.new → IsRefused sectors fault (M.now m.old)) }
+        ensures unchanged { IfErr result (λ fault. M.honest m.new → KeepsAll fault (M.now m.old) (M.now m.new)) }
+        ensures lost { IfErr result (λ fault. M.honest m.new → LostIn (AreCopiesOn sectors (M.now m.old)) (M.now m.new).image fault) }
+
+        // Where nothing wears, an image is mounted as it shows its table, and refused for it exactly where a page breaks.
+        ensures calm { M.honest m.new → IsCalm (M.now m.old).windows → IsCalm (M.now m.new).windows → MountsCalm state Holds sectors (M.now m.old).image result }
+    {
+        let settled = recover(alloc, m, sectors)?;
+        open_read(alloc, m, settled)
+    }
+}
+
+// The volume that has settled, once each page was read at home and its table is surveyed.
+fn open_read<M: Machine>(alloc: Global, m: &mut M, settled: Settled) -> Result<Volume, MountFault>
+    requires planned { plan settled.layout.sectors settled.layout.third settled.layout.pages ≡ Ok settled.layout }
+    requires sectors { settled.layout.sectors ≤ (M.report m.old).sectors }
+    requires log { IsFreshLog settled.layout settled.log }
+    ensures reads { OnlyReads M.Machine (device_in device_of_mount result) m.old m.new }
+    ensures assembled { IfOk result (IsAssembled settled.layout settled.log) }
+    ensures cause { IfErr result IsOpenFault }
+    ensures lost { IfErr result (λ fault. M.honest m.new → LostIn (AreHomes settled.layout) (M.now m.new).image fault) }
+    ensures calm { M.honest m.new → IsCalm (M.now m.old).windows → OpensCalm settled.layout (M.now m.old) result }
+{
+    read_homes(m, &settled.layout)?;
+    open_settled(alloc, m, settled)
+}
+
+// The volume that has settled, once its table is surveyed.
+fn open_settled<M: Machine>(
+    alloc: Global,
+    m: &mut M,
+    settled: Settled,
+) -> Result<Volume, MountFault>
+    requires planned { plan settled.layout.sectors settled.layout.third settled.layout.pages ≡ Ok settled.layout }
+    requires sectors { settled.layout.sectors ≤ (M.report m.old).sectors }
+    requires log { IsFreshLog settled.layout settled.log }
+    ensures reads { OnlyReads M.Machine (device_in device_of_mount result) m.old m.new }
+    ensures assembled { IfOk result (IsAssembled settled.layout settled.log) }
+    ensures cause { IfErr result IsOpenFault }
+    ensures lost { IfErr result (λ fault. M.honest m.new → LostIn (AreHomes settled.layout) (M.now m.new).image fault) }
+    ensures table { IfOk result (λ volume. M.honest m.new → KnowsHomes settled.layout (M.now m.old) → IsTableOf settled.layout (home_pages settled.layout (M.now m.old).image) (opened_of volume)) }
+    ensures no_table { IfErr result (λ fault. M.honest m.new → KnowsHomes settled.layout (M.now m.old) → IsNoTable settled.layout (home_pages settled.layout (M.now m.old).image) fault) }
+{
+    let opened = open_table(alloc, m, &settled.layout)?;
+    assemble(alloc, settled, opened)
+}
+
+// The volume with what was opened; nothing waits.
+fn assemble(alloc: Global, settled: Settled, opened: Opened) -> Result<Volume, MountFault>
+    requires planned { plan settled.layout.sectors settled.layout.third settled.layout.pages ≡ Ok settled.layout }
+    requires log { IsFreshLog settled.layout settled.log }
+    requires opened { IsOpened settled.layout opened }
+    ensures assembled { IfOk result (IsAssembled settled.layout settled.log) }
+    ensures is { IfOk result (λ volume. opened_of volume ≡ opened) }
+    ensures memory { IfErr result (λ fault. fault ≡ Memory) }
+{
+    let Settled { layout, log } = settled;
+    let Opened {
+        cache,
+        free_pages,
+        map,
+        versions,
+    } = opened;
+    let Ok(shadow) = Shadow::new(alloc, layout.data_start(), layout.sectors()) else {
+        return Err(MountFault::Memory);
+    };
+    let Ok(room) = RecordRoom::new(alloc) else {
+        return Err(MountFault::Memory);
+    };
+    let _fits = log.layout();
+    let serial = Serial {
+        epoch: log.epoch(),
+        count: 1,
+    };
+    Ok(Volume {
+        layout,
+        map,
+        shadow,
+        log,
+        cache,
+        room,
+        free_pages,
+        serial,
+        versions,
+        down: None,
+    })
+}
