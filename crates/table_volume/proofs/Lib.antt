@@ -1,8 +1,11 @@
 pub mod CacheLaws
+pub mod ChangeLaws
 pub mod CountLaws
 pub mod FindLaws
+pub mod FlagLaws
 pub mod LookLaws
 pub mod PageLaws
+pub mod SpaceLaws
 pub mod TableLaws
 pub mod TakenLaws
 pub mod WearLaws
