@@ -1,0 +1,57 @@
+-- A step that begins, and what holds of the table before it.
+use Rattle.std.proofs.Common.{◌≡◌, ℕ, ◌-◌, List, length, Bool, not, Option, sym, ap, subst, ◌∙◌}
+use Rattle.std.specs.Prelude.{◌<◌, IfOk, Result, Ok}
+use Rattle.run_table.specs.Space.{contains}
+use Rattle.fsd_formats.specs.declared.entry.Entry.{Entry}
+use Rattle.fsd_table.specs.Tree.{IsTree, pages_of, table_of}
+use Rattle.fsd_table.proofs.BoundLaws.{Ascend, entries_ascend}
+use Rattle.fsd_table.specs.Table.{top}
+use Rattle.name_page.specs.declared.pages.Pages.{Ghosts}
+use Rattle.name_page.specs.Pages.{Step, is_spare, rested}
+use Rattle.name_btree.specs.declared.fault.TreeFault.{TreeFault}
+use Rattle.name_btree.specs.Map.{HasTable, IsTable}
+use Rattle.name_btree.specs.declared.lookup.FoundEntry.{FoundEntry}
+use Rattle.name_btree.specs.Lookup.{entry_of as found_entry}
+use Rattle.version_table.specs.Table.{MakesTable, OfTable}
+
+-- the keys of a tree ascend
+pub tree_ascends : (pages : List (List ℕ)) (height : ℕ) → IsTree pages height → Ascend (table_of pages height)
+tree_ascends pages height tree = entries_ascend (height - 1) pages top tree.subtree
+
+-- a table stays one where its pages stay, and the same of them are spare
+same_table : (a b : Step) (height : ℕ) → b.images ≡ a.images → b.spares ≡ a.spares → IsTable a height → IsTable b height
+same_table a b height images spares t = record {
+  tree = subst (λ (p : List (List ℕ)). IsTree p height) (sym images) t.tree;
+  spare = λ page low.
+      ap (λ (s : List Bool). is_spare s page) spares
+      ∙ t.spare page (subst (λ (p : List (List ℕ)). page < length p) images low)
+      ∙ ap (λ (p : List (List ℕ)). not (contains (pages_of p height) page)) (sym images);
+}
+
+module _ {D : Type 0} (P : Ghosts D) (a b c : D) (is : P.step b ≡ rested (P.step a)) where
+  same_images : (P.step b).images ≡ (P.step a).images
+  same_images = ap (λ (s : Step). s.images) is
+
+  -- what holds of the table as the step begins
+  pub of_rested : (Holds : List Entry → Type 0) → (P.trusted c → (height : ℕ) → IsTree (P.step b).images height → Holds (table_of (P.step b).images height)) → OfTable P a c Holds
+  of_rested Holds h trusted height tree =
+      subst (λ (pages : List (List ℕ)). Holds (table_of pages height)) same_images (h trusted height (subst (λ (pages : List (List ℕ)). IsTree pages height) (sym same_images) tree))
+
+  -- what was found there
+  pub found_rested : (look : List Entry → Option Entry) (words : List Entry → Option Entry) → ((table : List Entry) → look table ≡ words table) → (r : Result (Option FoundEntry) TreeFault) (o : Option FoundEntry) → r ≡ Ok o
+      → IfOk r (λ found. P.trusted c → (height : ℕ) → IsTree (P.step b).images height → found_entry found ≡ look (table_of (P.step b).images height)) → OfTable P a c (λ table. words table ≡ found_entry o)
+  found_rested look words same r o is_ok h =
+      of_rested (λ (table : List Entry). words table ≡ found_entry o) (λ trusted height tree.
+      let there = subst (λ (x : Result (Option FoundEntry) TreeFault). IfOk x (λ found. P.trusted c → (height : ℕ) → IsTree (P.step b).images height → found_entry found ≡ look (table_of (P.step b).images height))) is_ok h in
+      sym (there trusted height tree ∙ same (table_of (P.step b).images height)))
+
+  -- what is needed of it
+  pub for_rested : (Holds : List Entry → Type 0) → OfTable P a a Holds → (P.trusted b → P.trusted a) → P.trusted b → (height : ℕ) → IsTree (P.step b).images height → Holds (table_of (P.step b).images height)
+  for_rested Holds h trust trusted height tree =
+      subst (λ (pages : List (List ℕ)). Holds (table_of pages height)) (sym same_images) (h (trust trusted) height (subst (λ (pages : List (List ℕ)). IsTree pages height) same_images tree))
+
+  pub makes_rested : (edit made : List Entry → List Entry) → ((height : ℕ) → IsTree (P.step a).images height → P.trusted c → made (table_of (P.step a).images height) ≡ edit (table_of (P.step a).images height))
+      → (P.trusted c → (height : ℕ) → IsTable (P.step b) height → HasTable (P.step c) (made (table_of (P.step b).images height))) → MakesTable P a c edit
+  makes_rested edit made same h trusted height table =
+      let old : IsTable (P.step b) height = same_table (P.step a) (P.step b) height same_images (ap (λ (s : Step). s.spares) is) table in
+      subst (HasTable (P.step c)) (ap (λ (pages : List (List ℕ)). made (table_of pages height)) same_images ∙ same height table.tree trusted) (h trusted height old)

@@ -1,0 +1,33 @@
+use Rattle.std.proofs.Common.{List, None, map}
+use Rattle.fsd_formats.specs.declared.entry.Entry.{Entry}
+use Rattle.fsd_files.specs.Answers.{entries_with_keep}
+use Rattle.fsd_table.specs.Tree.{table_of}
+use Rattle.name_btree.specs.Replace.{HasAsLong}
+use Rattle.name_page.specs.Edits.{put}
+use Rattle.version_table.proofs.EnterLaws.{as_long, copy_kept, on_ok}
+use Rattle.version_table.proofs.StepLaws.{for_rested, makes_rested, tree_ascends}
+use Rattle.version_table.proofs.editing.set_keep.Goals as goal
+
+pub replace_same_size-requires-clause-present : goal.replace_same_size-requires-clause-present
+replace_same_size-requires-clause-present g c =
+    let P = g.T.Pages in
+    let a = c.args.t.now in
+    let b = c.rest.new.self in
+    let keep = c.args.keep in
+    let version = c.args.version.now in
+    let copy = c.copied-entry.result in
+    for_rested P a b b c.rest.ensures.step (λ (table : List Entry). HasAsLong (record copy { keep = keep }) table)
+    (λ trusted height tree. as_long version copy keep (table_of (P.step a).images height) c.copied-entry.ensures (c.requires.there trusted height tree)) (g.met.T.Pages.trust a b None c.rest.ensures.outside)
+
+pub returns-clause-set : goal.returns-clause-set
+returns-clause-set g c =
+    let P = g.T.Pages in
+    let a = c.args.t.now in
+    let b = c.rest.new.self in
+    let keep = c.args.keep in
+    let version = c.args.version.now in
+    let copy = c.copied-entry.result in
+    let e = c.replace_same_size.ensures in
+    on_ok c.replace_same_size.result (makes_rested P a b c.replace_same_size.new.t c.rest.ensures.step (entries_with_keep version.key keep) (map (put (record copy { keep = keep })))
+    (λ height tree trusted. copy_kept version copy keep (table_of (P.step a).images height) c.copied-entry.ensures (tree_ascends (P.step a).images height tree)
+    (c.requires.there (g.met.T.Pages.trust a b None c.rest.ensures.outside (e.calls.trust trusted)) height tree))) e.replaced

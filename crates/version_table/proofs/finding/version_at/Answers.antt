@@ -1,0 +1,16 @@
+use Rattle.std.proofs.Common.{◌∙◌, Ok, None, Some, ap}
+use Rattle.fsd_files.specs.Answers.{entry_of}
+use Rattle.name_page.specs.Lookups.{entry_with}
+use Rattle.version_table.proofs.EditLaws.{with_is}
+use Rattle.version_table.proofs.StepLaws.{found_rested}
+use Rattle.version_table.proofs.finding.version_at.Goals as goal
+
+pub returns-in-Ok-Some-clause-found : goal.returns-in-Ok-Some-clause-found
+returns-in-Ok-Some-clause-found g c =
+    let key = c.args.key.now in
+    found_rested g.T.Pages c.args.t.now c.rest.new.self c.find.new.t c.rest.ensures.step (entry_with key) (entry_of key) (with_is key) c.find.result (Some c.in-Ok-Some.found) (c.in-Ok-Some.is ∙ ap Ok c.in-Ok-Some.field-0-is) c.find.ensures.found
+
+pub returns-in-Ok-None-clause-fault : goal.returns-in-Ok-None-clause-fault
+returns-in-Ok-None-clause-fault g c =
+    let key = c.args.key.now in
+    found_rested g.T.Pages c.args.t.now c.rest.new.self c.find.new.t c.rest.ensures.step (entry_with key) (entry_of key) (with_is key) c.find.result None (c.in-Ok-None.is ∙ ap Ok c.in-Ok-None.field-0-is) c.find.ensures.found

@@ -1,0 +1,30 @@
+-- Why no version is found or planned.
+use Rattle.std.specs.Prelude.{ℕ, ⊤, Option, None, Result, Ok, Err}
+use Rattle.fsd_bytes.specs.declared.refusal.Refusal.{Refusal}
+use Rattle.fsd_table.specs.Table.{BreaksTable}
+use Rattle.name_page.specs.declared.pages.Pages.{Ghosts}
+use Rattle.name_btree.specs.Fault.{HasCause, BarsTable, IsAmong, outer_of}
+use Rattle.version_table.specs.declared.fault.VersionFault.{VersionFault}
+use Rattle.version_table.specs.declared.fault.VersionFault.TheVariants.{Table, NoSuch, VersionsUsedUp}
+
+-- the refusal from outside that a fault tells, and a result
+abbrev pub outer_in : VersionFault → Option Refusal
+outer_in (Table fault) = outer_of fault
+outer_in NoSuch = None
+outer_in VersionsUsedUp = None
+
+abbrev pub outer_met : {T : Type 0} → Result T VersionFault → Option Refusal
+outer_met (Ok x) = None
+outer_met (Err fault) = outer_in fault
+
+-- a page that is named is one of so many
+abbrev pub IsInside : ℕ → VersionFault → Type 0
+IsInside pages (Table fault) = IsAmong pages fault
+IsInside pages NoSuch = ⊤
+IsInside pages VersionsUsedUp = ⊤
+
+-- the look-up failed and has its cause, or there is no such version, or the numbers are used up
+abbrev pub FailsLook : {D : Type 0} (P : Ghosts D) (new : D) (Absent UsedUp : Type 0) → VersionFault → Type 0
+FailsLook P new Absent UsedUp (Table fault) = HasCause (P.step new) (BreaksTable (P.step new).images) (BarsTable (P.step new)) fault
+FailsLook P new Absent UsedUp NoSuch = Absent
+FailsLook P new Absent UsedUp VersionsUsedUp = UsedUp

@@ -1,0 +1,5 @@
+pub mod Fault
+pub mod Met
+pub mod Plan
+pub mod Table
+pub mod Versions

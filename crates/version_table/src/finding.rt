@@ -1,0 +1,56 @@
+//! Versions that are looked up to be taken out or changed.
+ghost use Rattle.std.specs.Prelude.{◌≡◌, ◌<◌, ◌≤◌, IfOk, IfErr, Some, None, true, length};
+ghost use Rattle.fsd_files.specs.Answers.{entry_of, highest_entry};
+ghost use Rattle.fsd_formats.specs.NamePage.{is_entry, FitsEntry};
+ghost use Rattle.name_btree.specs.Lookup.{StandsIn, IsLedTo};
+ghost use Rattle.name_page.specs.declared.pages.TheConstants.{MOST_REACHED};
+ghost use Rattle.name_page.specs.Looks.{OnlyWalks};
+ghost use Rattle.version_table.specs.Fault.{outer_met, FailsLook, IsInside};
+ghost use Rattle.version_table.specs.Table.{OfTable};
+
+use crate::fault::VersionFault;
+use fsd_bytes::{FileName, Key};
+use name_btree::{FoundEntry, find, highest};
+use name_page::Pages;
+
+/// The version with a key, in a step of its own.
+pub fn version_at<T: Pages>(t: &mut T, key: &Key) -> Result<FoundEntry, VersionFault>
+    requires { MOST_REACHED ≤ (T.step t.old).most_reached }
+    ensures walks { OnlyWalks T.Pages (outer_met result) t.old t.new }
+    ensures among { 0 < length (T.step t.old).images → IfErr result (IsInside (length (T.step t.old).images)) }
+    ensures there { IfOk result (StandsIn (T.step t.new)) }
+    ensures way { IfOk result (IsLedTo (T.step t.new)) }
+    ensures entry { IfOk result (λ found. is_entry found.entry ≡ true) }
+    ensures fits { IfOk result (λ found. FitsEntry found.entry) }
+    ensures key { IfOk result (λ found. found.entry.key ≡ key.now) }
+    ensures found { IfOk result (λ found. OfTable T.Pages t.old t.new (λ table. entry_of key.now table ≡ Some found.entry)) }
+    ensures fault { IfErr result (FailsLook T.Pages t.new (OfTable T.Pages t.old t.new (λ table. entry_of key.now table ≡ None)) ⊥) }
+{
+    t.rest();
+    match find(t, key) {
+        Ok(Some(found)) => Ok(found),
+        Ok(None) => Err(VersionFault::NoSuch),
+        Err(fault) => Err(VersionFault::Table(fault)),
+    }
+}
+
+/// The highest version of a name, in a step of its own.
+pub fn newest<T: Pages>(t: &mut T, name: &FileName) -> Result<FoundEntry, VersionFault>
+    requires { MOST_REACHED ≤ (T.step t.old).most_reached }
+    ensures walks { OnlyWalks T.Pages (outer_met result) t.old t.new }
+    ensures among { 0 < length (T.step t.old).images → IfErr result (IsInside (length (T.step t.old).images)) }
+    ensures there { IfOk result (StandsIn (T.step t.new)) }
+    ensures way { IfOk result (IsLedTo (T.step t.new)) }
+    ensures entry { IfOk result (λ found. is_entry found.entry ≡ true) }
+    ensures fits { IfOk result (λ found. FitsEntry found.entry) }
+    ensures name { IfOk result (λ found. found.entry.key.name ≡ name.now) }
+    ensures found { IfOk result (λ found. OfTable T.Pages t.old t.new (λ table. highest_entry name.now table ≡ Some found.entry)) }
+    ensures fault { IfErr result (FailsLook T.Pages t.new (OfTable T.Pages t.old t.new (λ table. highest_entry name.now table ≡ None)) ⊥) }
+{
+    t.rest();
+    match highest(t, name) {
+        Ok(Some(found)) => Ok(found),
+        Ok(None) => Err(VersionFault::NoSuch),
+        Err(fault) => Err(VersionFault::Table(fault)),
+    }
+}

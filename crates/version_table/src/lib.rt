@@ -1,0 +1,16 @@
+//! The versions of a name table: what making one, taking one out and changing a keep do to it.
+#![tactic(auto)]
+
+mod editing;
+mod fault;
+mod finding;
+mod laws;
+mod oldest;
+mod planning;
+
+pub use editing::{enter, set_keep, take_out};
+pub use fault::VersionFault;
+pub use finding::{newest, version_at};
+pub use laws::{next_versions_are_those_of_puts, tables_are_files_entries};
+pub use oldest::Leaving;
+pub use planning::{Plan, plan_version};
