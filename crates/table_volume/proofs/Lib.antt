@@ -3,6 +3,7 @@ pub mod ChangeLaws
 pub mod CountLaws
 pub mod FindLaws
 pub mod FlagLaws
+pub mod GoneLaws
 pub mod LookLaws
 pub mod PageLaws
 pub mod SpaceLaws
