@@ -35,7 +35,7 @@ module _ (v w : VolumeValue) (k : Known) (now : Moment) (c : Change) (volume : V
   abbrev next : Known
   next = known_after k c volume pages w.cache.dirty
 
-  module _ (same : IsSameVolume v w) (changed : IsAfter c (in_runs k.windows) now.image (volume_of k) volume) (makes : MakesPages v w k.mounted.pages pages height) (entries : table_of pages height ≡ volume.entries) (reached : volume.reached ≡ length (pages_of pages height)) (space : HasSpace w volume) where
+  module _ (same : IsSameVolume v w) (changed : IsAfter c (in_runs k.windows) now.image (volume_of k) volume) (makes : MakesPages v.cache w.cache w.free_pages k.mounted.pages pages height) (entries : table_of pages height ≡ volume.entries) (reached : volume.reached ≡ length (pages_of pages height)) (space : HasSpace w volume) where
     same_layout : volume.layout ≡ w.layout
     same_layout = changed.changes.layout ∙ stands.fits.layout ∙ sym same.layout
 
@@ -86,7 +86,7 @@ module _ (v w : VolumeValue) (k : Known) (now : Moment) (c : Change) (volume : V
     holds = record {
       planned = whole.planned;
       pages = makes.there;
-      inside = makes.inside;
+      inside = λ page bytes there. omega (arith, makes.inside page bytes there, whole.pages);
       map = space.map;
       removed = space.removed;
       free_pages = λ page lt. makes.free page (omega (arith, lt, whole.pages, size)) ∙ ap not (sym (reached_is pages height page makes.tree));

@@ -1,10 +1,14 @@
 pub mod CacheLaws
 pub mod ChangeLaws
 pub mod CountLaws
+pub mod DeleteLaws
+pub mod EditLaws
 pub mod FindLaws
 pub mod FlagLaws
 pub mod GoneLaws
+pub mod KeepLaws
 pub mod LookLaws
+pub mod MadeLaws
 pub mod PageLaws
 pub mod SpaceLaws
 pub mod TableLaws

@@ -1,7 +1,7 @@
 -- What one change more makes of a volume.
-use Rattle.std.specs.Prelude.{◌≡◌, ℕ, ◌+◌, ◌<◌, ◌≤◌, not, false, List, [], ◌∷◌, ◌++◌, length, Option, Some, IsFalse, slice_index_or}
+use Rattle.std.specs.Prelude.{◌≡◌, ℕ, Bool, ◌+◌, ◌<◌, ◌≤◌, not, false, List, [], ◌∷◌, ◌++◌, length, Option, Some, IsFalse, slice_index_or}
 use Rattle.run_table.specs.Space.{contains}
-use Rattle.page_cache.specs.Cache.{bytes_of}
+use Rattle.page_cache.specs.Cache.{CacheValue, bytes_of}
 use Rattle.fsd_table.specs.Tree.{IsTree, pages_of}
 use Rattle.fsd_files.specs.Disk.{Image, Sectors}
 use Rattle.fsd_files.specs.Files.{Change, step}
@@ -22,14 +22,14 @@ pub record IsAfter (c : Change) (hurt : Sectors) (i : Image) (old new : Volume) 
 
 -- A tree of this height stands in the pages now, and all others are free. Those that differ are dirty, as are those that were, and
 -- at most 40 more.
-pub record MakesPages (old new : VolumeValue) (pages now : List (List ℕ)) (height : ℕ) : Type 0 where
+pub record MakesPages (old new : CacheValue) (flags : List Bool) (pages now : List (List ℕ)) (height : ℕ) : Type 0 where
   pub tree : IsTree now height
-  pub free : (page : ℕ) → page < length now → slice_index_or new.free_pages page false ≡ not (contains (pages_of now height) page)
-  pub there : (page : ℕ) (bytes : List ℕ) → bytes_of new.cache page ≡ Some bytes → image_at now page ≡ bytes
-  pub inside : (page : ℕ) (bytes : List ℕ) → bytes_of new.cache page ≡ Some bytes → page < new.layout.pages
-  pub still : (page : ℕ) → IsFalse (contains new.cache.dirty page) → IsFalse (contains old.cache.dirty page)
-  pub few : length new.cache.dirty ≤ length old.cache.dirty + most_changed
-  pub clean : AgreeOutside new.cache.dirty pages now
+  pub free : (page : ℕ) → page < length now → slice_index_or flags page false ≡ not (contains (pages_of now height) page)
+  pub there : (page : ℕ) (bytes : List ℕ) → bytes_of new page ≡ Some bytes → image_at now page ≡ bytes
+  pub inside : (page : ℕ) (bytes : List ℕ) → bytes_of new page ≡ Some bytes → page < length flags
+  pub still : (page : ℕ) → IsFalse (contains new.dirty page) → IsFalse (contains old.dirty page)
+  pub few : length new.dirty ≤ length old.dirty + most_changed
+  pub clean : AgreeOutside new.dirty pages now
 
 -- Its free sectors and those that wait for a force are the volume's, and so are its serial and its count of versions.
 pub record HasSpace (v : VolumeValue) (m : Volume) : Type 0 where

@@ -1,4 +1,5 @@
 pub mod Changing
+pub mod Editing
 pub mod Looking
 pub mod State
 pub mod Taken

@@ -1,6 +1,7 @@
 //! A volume whose files stand in a name table of many pages, which are read through a cache.
 #![tactic(auto)]
 
+mod changing;
 mod counting;
 mod entries;
 mod finding;

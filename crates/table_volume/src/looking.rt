@@ -15,8 +15,8 @@ use page_cache::{Cache, PageSource};
 use sector_disk::Machine;
 use table_pages::{FreePages, Table};
 
-// Lets a table go.
-fn let_go<M: Machine, S: PageSource>(table: Table<'_, M, S>)
+/// Lets a table go.
+pub(crate) fn let_go<M: Machine, S: PageSource>(table: Table<'_, M, S>)
     ensures machine { table.exit.0.now ≡ table.entry.m.now }
     ensures cache { table.exit.1.0.now ≡ table.entry.cache.now }
     ensures free { table.exit.1.1.1.1.0.now ≡ table.entry.free.now }
