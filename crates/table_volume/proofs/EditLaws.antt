@@ -1,8 +1,10 @@
 -- What a table over a cache leaves where it was edited.
 use Rattle.std.proofs.Common.{◌≡◌, ℕ, ◌+◌, ◌-◌, ◌<◌, ◌≤◌, Bool, List, length, Option, None, refl, sym, ap, subst, ◌∙◌, arith}
-use Rattle.std.specs.Prelude.{Result, Ok, Err, OnOk, not}
+use Rattle.std.specs.Prelude.{Result, Ok, Err, IfOk, OnOk, Some, not}
 use Rattle.std.specs.Borrow.{MutBor}
 use Rattle.run_table.specs.Space.{contains}
+use Rattle.fsd_bytes.specs.declared.key.Key.{Key}
+use Rattle.fsd_files.specs.Answers.{entries_with_keep, highest_entry}
 use Rattle.fsd_bytes.specs.declared.refusal.Refusal.{Refusal}
 use Rattle.fsd_formats.specs.declared.entry.Entry.{Entry}
 use Rattle.fsd_table.specs.Tree.{IsTree, pages_of, table_of}
@@ -10,7 +12,7 @@ use Rattle.sector_disk.specs.declared.machine.Machine.{Ghosts as MachineGhosts}
 use Rattle.sector_disk.specs.Calls.{OnlyReads}
 use Rattle.page_cache.specs.declared.source.PageSource.{Ghosts as SourceGhosts}
 use Rattle.page_cache.specs.Cache.{AreNewest, CacheValue, bytes_of, is_one_of, newest}
-use Rattle.name_page.specs.Pages.{Step, is_spare, rested}
+use Rattle.name_page.specs.Pages.{Step, is_spare, rested, with_one}
 use Rattle.name_btree.specs.Map.{HasTable, IsTable}
 use Rattle.table_pages.specs.Bringing.{IsTrusted, OnlyPins, given_by}
 use Rattle.table_pages.specs.Kept.{IsReady}
@@ -18,11 +20,11 @@ use Rattle.table_pages.specs.ImageLaws.{image_count}
 use Rattle.table_pages.specs.Reads.{Fills, LosesFor, device_of}
 use Rattle.table_pages.specs.Table.{IsAtRest, IsClean, IsOver, ReadsOnly, Trusted, begun, step_of}
 use Rattle.table_pages.specs.declared.table.Table.{Table}
-use Rattle.table_volume.specs.Editing.{DirtiesAtMost, EditsOnly, EditsTable, as_step}
+use Rattle.table_volume.specs.Editing.{ChangesOne, DirtiesAtMost, DirtiesOne, EditsOnly, EditsTable, SetsKeep, SetsKeepIn, as_step}
 use Rattle.table_volume.specs.Looking.{images_by}
 
 -- a table is one by its pages and their flags alone
-same_table : (a b : Step) (height : ℕ) → b.images ≡ a.images → b.spares ≡ a.spares → IsTable a height → IsTable b height
+pub same_table : (a b : Step) (height : ℕ) → b.images ≡ a.images → b.spares ≡ a.spares → IsTable a height → IsTable b height
 same_table a b height images spares t = record {
   tree = subst (λ (p : List (List ℕ)). IsTree p height) (sym images) t.tree;
   spare = λ page low.
@@ -117,6 +119,30 @@ module _ {D E : Type 0} {M : MachineGhosts D} {S : SourceGhosts E} where
         subst (HasTable (as_step after c.free.now)) (ap (λ (p : List (List ℕ)). edit (table_of p height)) images)
         (same_entries (step_of b) (as_step after c.free.now) (edit (table_of (step_of a).images height)) images_last flags_last made) }
 
+    sets_keep : (name : List ℕ) (keep : ℕ) (key : Key) → (Trusted b → (height : ℕ) → IsTable (step_of a) height → SetsKeep (step_of a) (step_of b) name keep key height)
+        → SetsKeepIn M S source m.now c.m.now cache.now c.cache.now free.now c.free.now name keep key
+    sets_keep name keep key makes = record { sets = λ t height table.
+        let images : (step_of a).images ≡ images_by M S source m.now cache.now (length free.now) = ap (λ (s : Step). s.images) begins in
+        let flags : (step_of a).spares ≡ free.now = ap (λ (s : Step). s.spares) begins in
+        let before : List (List ℕ) = images_by M S source m.now cache.now (length free.now) in
+        let after : List (List ℕ) = images_by M S source c.m.now c.cache.now (length c.free.now) in
+        let made = makes (trusted_b t) height (same_table (as_step before free.now) (step_of a) height images flags table) in
+        record {
+          entry = made.entry;
+          highest = ap (λ (p : List (List ℕ)). highest_entry name (table_of p height)) (sym images) ∙ made.highest;
+          key_is = made.key_is;
+          set = subst (HasTable (as_step after c.free.now)) (ap (λ (p : List (List ℕ)). entries_with_keep made.entry.key keep (table_of p height)) images)
+              (same_entries (step_of b) (as_step after c.free.now) (entries_with_keep made.entry.key keep (table_of (step_of a).images height)) images_last flags_last made.set);
+        } }
+
+    pub one_left : {T F : Type 0} (cache' : CacheValue) → cache' ≡ c.cache.now → (r : Result T F) → IfOk r (λ x. ChangesOne (step_of a) (step_of b)) → IfOk r (λ x. DirtiesOne (length free.now) cache.now cache')
+    one_left cache' left_cache (Err fault) one = tt
+    one_left cache' left_cache (Ok x) one = record {
+      page = one.page;
+      there = omega (arith, one.there, image_count (newest a.cache.now (given_by M S a.source.now a.m.now)) (length a.free.now), ap (λ (f : MutBor (List Bool)). length f.now) over.spared);
+      changed = ap (λ (x : CacheValue). x.dirty) left_cache ∙ pins.dirty ∙ one.changed ∙ ap (λ (x : MutBor CacheValue). with_one x.now.dirty one.page) over.cached;
+    }
+
     -- how many more are dirty
     pub changes_left : (cache' : CacheValue) → cache' ≡ c.cache.now → (more : ℕ) → 96 - length a.cache.now.dirty ≤ 96 - length b.cache.now.dirty + more → DirtiesAtMost more cache.now cache'
     changes_left cache' left_cache more fewer = record {
@@ -139,3 +165,11 @@ module _ {D E : Type 0} {M : MachineGhosts D} {S : SourceGhosts E} where
           subst (λ (n : D). EditsTable M S source m.now n cache.now cache' free.now free' edit) (sym left)
           (subst (λ (x : CacheValue). EditsTable M S source m.now c.m.now cache.now x free.now free' edit) (sym left_cache)
           (subst (λ (f : List Bool). EditsTable M S source m.now c.m.now cache.now c.cache.now free.now f edit) (sym left_free) (edits_table edit makes)))
+
+      pub sets_left : {F : Type 0} (r : Result Key F) (name : List ℕ) (keep : ℕ) → IfOk r (λ key. Trusted b → (height : ℕ) → IsTable (step_of a) height → SetsKeep (step_of a) (step_of b) name keep key height)
+          → IfOk r (SetsKeepIn M S source m.now m' cache.now cache' free.now free' name keep)
+      sets_left (Err fault) name keep makes = tt
+      sets_left (Ok key) name keep makes =
+          subst (λ (n : D). SetsKeepIn M S source m.now n cache.now cache' free.now free' name keep key) (sym left)
+          (subst (λ (x : CacheValue). SetsKeepIn M S source m.now c.m.now cache.now x free.now free' name keep key) (sym left_cache)
+          (subst (λ (f : List Bool). SetsKeepIn M S source m.now c.m.now cache.now c.cache.now free.now f name keep key) (sym left_free) (sets_keep name keep key makes)))

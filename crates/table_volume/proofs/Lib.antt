@@ -6,6 +6,7 @@ pub mod EditLaws
 pub mod FindLaws
 pub mod FlagLaws
 pub mod GoneLaws
+pub mod HighestLaws
 pub mod KeepLaws
 pub mod LookLaws
 pub mod MadeLaws

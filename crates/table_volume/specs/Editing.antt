@@ -1,5 +1,5 @@
 -- What an edit of the table leaves of a cache.
-use Rattle.std.specs.Prelude.{◌≡◌, ℕ, ◌+◌, ◌-◌, ◌≤◌, Bool, List, Option, length}
+use Rattle.std.specs.Prelude.{◌≡◌, ℕ, ◌+◌, ◌-◌, ◌<◌, ◌≤◌, Bool, List, Option, Some, length}
 use Rattle.fsd_bytes.specs.declared.refusal.Refusal.{Refusal}
 use Rattle.fsd_formats.specs.declared.entry.Entry.{Entry}
 use Rattle.sector_disk.specs.declared.machine.Machine.{Ghosts as MachineGhosts}
@@ -7,7 +7,9 @@ use Rattle.sector_disk.specs.Calls.{OnlyReads}
 use Rattle.page_cache.specs.declared.source.PageSource.{Ghosts as SourceGhosts}
 use Rattle.page_cache.specs.Cache.{AreNewest, CacheValue}
 use Rattle.fsd_table.specs.Tree.{table_of}
-use Rattle.name_page.specs.Pages.{Step, first_step}
+use Rattle.fsd_bytes.specs.declared.key.Key.{Key}
+use Rattle.fsd_files.specs.Answers.{entries_with_keep, highest_entry}
+use Rattle.name_page.specs.Pages.{Step, first_step, with_one}
 use Rattle.name_btree.specs.Map.{HasTable, IsTable}
 use Rattle.table_pages.specs.Bringing.{IsTrusted, given_by}
 use Rattle.table_pages.specs.Kept.{IsReady}
@@ -38,3 +40,31 @@ module _ {D E : Type 0} (M : MachineGhosts D) (S : SourceGhosts E) (source : E) 
 -- Of the 96 pages that may be dirty at most so many are left fewer.
 pub record DirtiesAtMost (more : ℕ) (old new : CacheValue) : Type 0 where
   pub few : 96 - length old.dirty ≤ 96 - length new.dirty + more
+
+-- ---- another keep
+
+-- At most one page more was changed, and none has become spare or was taken.
+pub record ChangesOne (old new : Step) : Type 0 where
+  pub page : ℕ
+  pub there : page < length old.images
+  pub spares : new.spares ≡ old.spares
+  pub changed : new.changed ≡ with_one old.changed page
+
+-- The highest version of a name, whose key this is, has the keep.
+pub record SetsKeep (old new : Step) (name : List ℕ) (keep : ℕ) (key : Key) (height : ℕ) : Type 0 where
+  pub entry : Entry
+  pub highest : highest_entry name (table_of old.images height) ≡ Some entry
+  pub key_is : entry.key ≡ key
+  pub set : HasTable new (entries_with_keep entry.key keep (table_of old.images height))
+
+-- the same in a cache: at most one page more is dirty, one of so many
+pub record DirtiesOne (count : ℕ) (old new : CacheValue) : Type 0 where
+  pub page : ℕ
+  pub there : page < count
+  pub changed : new.dirty ≡ with_one old.dirty page
+
+-- Where the outside is trusted, the highest version of a name has the keep.
+pub record SetsKeepIn {D E : Type 0} (M : MachineGhosts D) (S : SourceGhosts E) (source : E) (m m' : D) (old new : CacheValue) (free flags : List Bool) (name : List ℕ) (keep : ℕ) (key : Key) : Type 0 where
+  pub sets : IsTrusted M S source m old m' → (height : ℕ) →
+      let before = as_step (images_by M S source m old (length free)) free in
+      IsTable before height → SetsKeep before (as_step (images_by M S source m' new (length flags)) flags) name keep key height
