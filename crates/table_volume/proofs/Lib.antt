@@ -7,6 +7,7 @@ pub mod FindLaws
 pub mod FlagLaws
 pub mod GoneLaws
 pub mod HighestLaws
+pub mod KeepEnds
 pub mod KeepLaws
 pub mod LookLaws
 pub mod MadeLaws

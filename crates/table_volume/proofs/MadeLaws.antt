@@ -61,7 +61,7 @@ resident_by c page bytes there = by (held c page) there
 
 module _ {D : Type 0} (M : MachineGhosts D) (short : (m : D) → M.honest m → AreShort (M.now m).windows) (m m' : D) (v : VolumeValue) (whole : IsWhole v) (cached : IsCache v.cache) (c : CacheValue) (flags : List Bool)
     (refusal : Option Refusal) (edits : EditsOnly M by_log.ghosts v.log refusal m m' v.cache c v.free_pages flags) (honest : M.honest m') (k : Known) (stands : Stands state Holds v k (M.now m)) where
-  trusted : IsTrusted M by_log.ghosts v.log m v.cache m'
+  pub trusted : IsTrusted M by_log.ghosts v.log m v.cache m'
   trusted = record {
     honest = honest;
     knows = knows_pages v k (M.now m) whole stands (short m (edits.reads.trust.honest honest));
@@ -102,6 +102,15 @@ module _ {D : Type 0} (M : MachineGhosts D) (short : (m : D) → M.honest m → 
               let lt : page < length flags = omega (arith, stands.holds.inside page old there, whole.pages, edits.size) in
               let shown : image_at pages_now page ≡ new = image_by (newest c source) (length flags) page lt ∙ ap (λ (o : Option (List ℕ)). unwrap_or (option_or o (source page)) []) is in
               is ∙ ap (λ (bytes : List ℕ). Some bytes) (sym shown ∙ ap (λ (images : List (List ℕ)). image_at images page) pages ∙ stands.holds.pages page old there) ∙ sym there
+
+  -- what it was before
+  pub table_was : (images : List (List ℕ)) → images ≡ k.mounted.pages → IsTable (as_step images v.free_pages) (is_tree v k (M.now m) whole stands).0
+  table_was images same =
+      let tree = is_tree v k (M.now m) whole stands in
+      subst (λ (pages : List (List ℕ)). IsTable (as_step pages v.free_pages) tree.0) (sym same) (record {
+        tree = tree.1;
+        spare = λ page lt. stands.holds.free_pages page (omega (arith, lt, as_many v k (M.now m) whole stands, whole.pages)) ∙ ap not (reached_is k.mounted.pages tree.0 page tree.1);
+      })
 
   -- ---- which pages differ
 
@@ -148,17 +157,6 @@ module _ {D : Type 0} (M : MachineGhosts D) (short : (m : D) → M.honest m → 
     -- ---- the table
 
     module _ (edit : List Entry → List Entry) (makes : EditsTable M by_log.ghosts v.log m m' v.cache c v.free_pages flags edit) where
-      height : ℕ
-      height = (is_tree v k (M.now m) whole stands).0
-
-      table_was : (images : List (List ℕ)) → images ≡ k.mounted.pages → IsTable (as_step images v.free_pages) (is_tree v k (M.now m) whole stands).0
-      table_was images same =
-          let tree = is_tree v k (M.now m) whole stands in
-          subst (λ (pages : List (List ℕ)). IsTable (as_step pages v.free_pages) tree.0) (sym same) (record {
-            tree = tree.1;
-            spare = λ page lt. stands.holds.free_pages page (omega (arith, lt, as_many v k (M.now m) whole stands, whole.pages)) ∙ ap not (reached_is k.mounted.pages tree.0 page tree.1);
-          })
-
       pub has_table : HasTable (as_step pages_now flags) (edit k.mounted.volume.entries)
       has_table =
           let tree = is_tree v k (M.now m) whole stands in
