@@ -1,5 +1,5 @@
 -- What an edit of the table leaves of a cache.
-use Rattle.std.specs.Prelude.{◌≡◌, ℕ, ◌+◌, ◌-◌, ◌<◌, ◌≤◌, Bool, List, Option, Some, length}
+use Rattle.std.specs.Prelude.{◌≡◌, ℕ, ◌+◌, ◌-◌, ◌<◌, ◌≤◌, Bool, List, Option, Some, Result, Ok, Err, length}
 use Rattle.fsd_bytes.specs.declared.refusal.Refusal.{Refusal}
 use Rattle.fsd_formats.specs.declared.entry.Entry.{Entry}
 use Rattle.sector_disk.specs.declared.machine.Machine.{Ghosts as MachineGhosts}
@@ -14,7 +14,10 @@ use Rattle.name_btree.specs.Map.{HasTable, IsTable}
 use Rattle.table_pages.specs.Bringing.{IsTrusted, given_by}
 use Rattle.table_pages.specs.Kept.{IsReady}
 use Rattle.table_pages.specs.Reads.{Fills, LosesFor, device_of}
-use Rattle.table_volume.specs.Looking.{images_by}
+use Rattle.fsd_bytes.specs.declared.refusal.Refusal.TheVariants as Why
+use Rattle.version_table.specs.declared.fault.VersionFault.{VersionFault}
+use Rattle.version_table.specs.declared.fault.VersionFault.TheVariants.{Table, NoSuch, VersionsUsedUp}
+use Rattle.table_volume.specs.Looking.{images_by, refusal_in}
 
 -- pages with these flags, before anything is done
 abbrev pub as_step : List (List ℕ) → List Bool → Step
@@ -68,3 +71,15 @@ pub record SetsKeepIn {D E : Type 0} (M : MachineGhosts D) (S : SourceGhosts E) 
   pub sets : IsTrusted M S source m old m' → (height : ℕ) →
       let before = as_step (images_by M S source m old (length free)) free in
       IsTable before height → SetsKeep before (as_step (images_by M S source m' new (length flags)) flags) name keep key height
+
+-- ---- what is told
+
+-- the refusal that a fault is
+abbrev pub refusal_of : (home_a : ℕ) → VersionFault → Refusal
+refusal_of home_a (Table fault) = refusal_in home_a fault
+refusal_of home_a NoSuch = Why.NoSuch
+refusal_of home_a VersionsUsedUp = Why.VersionsUsedUp
+
+abbrev pub told_of : {T : Type 0} → (home_a : ℕ) → Result T VersionFault → Result T Refusal
+told_of home_a (Ok x) = Ok x
+told_of home_a (Err fault) = Err (refusal_of home_a fault)

@@ -5,6 +5,7 @@ mod changing;
 mod counting;
 mod entries;
 mod finding;
+mod keeping;
 mod laws;
 mod looking;
 mod volume;
