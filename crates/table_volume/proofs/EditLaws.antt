@@ -1,6 +1,6 @@
 -- What a table over a cache leaves where it was edited.
 use Rattle.std.proofs.Common.{◌≡◌, ℕ, ◌+◌, ◌-◌, ◌<◌, ◌≤◌, Bool, List, length, Option, None, refl, sym, ap, subst, ◌∙◌, arith}
-use Rattle.std.specs.Prelude.{Result, Ok, Err, IfOk, OnOk, Some, not}
+use Rattle.std.specs.Prelude.{Result, Ok, Err, IfOk, OnErr, OnOk, Some, not}
 use Rattle.std.specs.Borrow.{MutBor}
 use Rattle.run_table.specs.Space.{contains}
 use Rattle.fsd_bytes.specs.declared.key.Key.{Key}
@@ -20,7 +20,7 @@ use Rattle.table_pages.specs.ImageLaws.{image_count}
 use Rattle.table_pages.specs.Reads.{Fills, LosesFor, device_of}
 use Rattle.table_pages.specs.Table.{IsAtRest, IsClean, IsOver, ReadsOnly, Trusted, begun, step_of}
 use Rattle.table_pages.specs.declared.table.Table.{Table}
-use Rattle.table_volume.specs.Editing.{ChangesOne, DirtiesAtMost, DirtiesOne, EditsOnly, EditsTable, SetsKeep, SetsKeepIn, as_step}
+use Rattle.table_volume.specs.Editing.{ChangesNone, ChangesOne, DirtiesAtMost, DirtiesOne, EditsOnly, EditsTable, SetsKeep, SetsKeepIn, StaysIn, as_step}
 use Rattle.table_volume.specs.Looking.{images_by}
 
 -- a table is one by its pages and their flags alone
@@ -143,6 +143,13 @@ module _ {D E : Type 0} {M : MachineGhosts D} {S : SourceGhosts E} where
       changed = ap (λ (x : CacheValue). x.dirty) left_cache ∙ pins.dirty ∙ one.changed ∙ ap (λ (x : MutBor CacheValue). with_one x.now.dirty one.page) over.cached;
     }
 
+    stays_only : ChangesNone (Trusted b) (step_of a) (step_of b) → StaysIn M S source m.now c.m.now cache.now c.cache.now free.now c.free.now
+    stays_only none = record {
+      dirty = pins.dirty ∙ none.changed ∙ ap (λ (x : MutBor CacheValue). x.now.dirty) over.cached;
+      same_flags = flags_last ∙ none.spares ∙ ap (λ (s : Step). s.spares) begins;
+      images = λ t. images_last ∙ none.images (trusted_b t) ∙ ap (λ (s : Step). s.images) begins;
+    }
+
     -- how many more are dirty
     pub changes_left : (cache' : CacheValue) → cache' ≡ c.cache.now → (more : ℕ) → 96 - length a.cache.now.dirty ≤ 96 - length b.cache.now.dirty + more → DirtiesAtMost more cache.now cache'
     changes_left cache' left_cache more fewer = record {
@@ -173,3 +180,10 @@ module _ {D E : Type 0} {M : MachineGhosts D} {S : SourceGhosts E} where
           subst (λ (n : D). SetsKeepIn M S source m.now n cache.now cache' free.now free' name keep key) (sym left)
           (subst (λ (x : CacheValue). SetsKeepIn M S source m.now c.m.now cache.now x free.now free' name keep key) (sym left_cache)
           (subst (λ (f : List Bool). SetsKeepIn M S source m.now c.m.now cache.now c.cache.now free.now f name keep key) (sym left_free) (sets_keep name keep key makes)))
+
+      pub stays_left : {T F : Type 0} (r : Result T F) → OnErr r (ChangesNone (Trusted b) (step_of a) (step_of b)) → OnErr r (StaysIn M S source m.now m' cache.now cache' free.now free')
+      stays_left (Ok x) none = tt
+      stays_left (Err fault) none =
+          subst (λ (n : D). StaysIn M S source m.now n cache.now cache' free.now free') (sym left)
+          (subst (λ (x : CacheValue). StaysIn M S source m.now c.m.now cache.now x free.now free') (sym left_cache)
+          (subst (λ (f : List Bool). StaysIn M S source m.now c.m.now cache.now c.cache.now free.now f) (sym left_free) (stays_only none)))

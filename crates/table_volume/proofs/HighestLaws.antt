@@ -3,6 +3,7 @@ use Rattle.std.proofs.Common.{◌≡◌, ℕ, List, [], ◌∷◌, filter, Optio
 use Rattle.std.specs.Prelude.{IfSome}
 use Rattle.std.specs.List.{AllByRecursion, last_or}
 use Rattle.fsd_bytes.specs.Bytes.{same_bytes}
+use Rattle.fsd_bytes.specs.declared.refusal.Refusal.{Refusal}
 use Rattle.fsd_formats.specs.declared.entry.Entry.{Entry}
 use Rattle.fsd_table.specs.Tree.{IsTree, table_of}
 use Rattle.fsd_table.proofs.BoundLaws.{Ascend}
@@ -13,7 +14,7 @@ use Rattle.name_btree.specs.Map.{HasTable, IsTable}
 use Rattle.version_table.specs.Table.{MakesTable, OfTable}
 use Rattle.version_table.proofs.PlanLaws.{each_found, each_kept}
 use Rattle.version_table.proofs.StepLaws.{tree_ascends}
-use Rattle.table_volume.specs.Editing.{SetsKeep}
+use Rattle.table_volume.specs.Editing.{ChangesNone, SetsKeep}
 use Rattle.table_volume.proofs.EditLaws.{same_table}
 
 last_one : (P : Entry → Type 0) (o : Option Entry) (xs : List Entry) → IfSome o P → AllByRecursion P xs → IfSome (last_or o xs) P
@@ -43,3 +44,15 @@ module _ {D : Type 0} (P : Ghosts D) (old now : D) (walks : OnlyWalks P None old
         key_is = refl;
         set = subst (HasTable (P.step new)) (ap (λ (pages : List (List ℕ)). entries_with_keep e.key keep (table_of pages height)) same) (makes trusted height (same_table (P.step old) (P.step now) height same walks.spares table));
       }
+
+-- ---- no edit
+
+pub none_walked : {D : Type 0} (P : Ghosts D) (refusal : Option Refusal) (a b : D) → OnlyWalks P refusal a b → ChangesNone (P.trusted b) (P.step a) (P.step b)
+none_walked P refusal a b walks = record { changed = walks.changed; spares = walks.spares; images = walks.stays }
+
+pub none_after : {D : Type 0} (P : Ghosts D) (refusal : Option Refusal) (a b c : D) → OnlyWalks P None a b → OnlyWalks P refusal b c → ChangesNone (P.trusted c) (P.step a) (P.step c)
+none_after P refusal a b c first then = record {
+  changed = then.changed ∙ first.changed;
+  spares = then.spares ∙ first.spares;
+  images = λ trusted. then.stays trusted ∙ first.stays (then.trust trusted);
+}

@@ -72,6 +72,20 @@ pub record SetsKeepIn {D E : Type 0} (M : MachineGhosts D) (S : SourceGhosts E) 
       let before = as_step (images_by M S source m old (length free)) free in
       IsTable before height → SetsKeep before (as_step (images_by M S source m' new (length flags)) flags) name keep key height
 
+-- ---- no edit
+
+-- No page was changed, has become spare or was taken; where they are trusted the pages stay.
+pub record ChangesNone (trusted : Type 0) (old new : Step) : Type 0 where
+  pub changed : new.changed ≡ old.changed
+  pub spares : new.spares ≡ old.spares
+  pub images : trusted → new.images ≡ old.images
+
+-- The same in a cache.
+pub record StaysIn {D E : Type 0} (M : MachineGhosts D) (S : SourceGhosts E) (source : E) (m m' : D) (old new : CacheValue) (free flags : List Bool) : Type 0 where
+  pub dirty : new.dirty ≡ old.dirty
+  pub same_flags : flags ≡ free
+  pub images : IsTrusted M S source m old m' → images_by M S source m' new (length flags) ≡ images_by M S source m old (length free)
+
 -- ---- what is told
 
 -- the refusal that a fault is

@@ -1,5 +1,5 @@
 //! Edits of a table over a cache.
-ghost use Rattle.std.specs.Prelude.{◌≤◌, ◌∷◌, [], ℕ, IfOk, OnOk, length};
+ghost use Rattle.std.specs.Prelude.{◌≤◌, ◌∷◌, [], ℕ, IfOk, OnErr, OnOk, length};
 ghost use Rattle.fsd_files.specs.Volume.{entries_without};
 ghost use Rattle.name_btree.specs.Fault.{outer_told};
 ghost use Rattle.name_btree.specs.Map.{IsTable};
@@ -8,7 +8,7 @@ ghost use Rattle.name_page.specs.Looks.{OnlyEdits};
 ghost use Rattle.name_page.specs.Pages.{changes};
 ghost use Rattle.version_table.specs.Fault.{outer_met};
 ghost use Rattle.table_pages.specs.Kept.{IsReady};
-ghost use Rattle.table_volume.specs.Editing.{ChangesOne, DirtiesAtMost, DirtiesOne, EditsOnly, EditsTable, SetsKeep, SetsKeepIn};
+ghost use Rattle.table_volume.specs.Editing.{ChangesNone, ChangesOne, DirtiesAtMost, DirtiesOne, EditsOnly, EditsTable, SetsKeep, SetsKeepIn, StaysIn};
 
 use crate::looking::let_go;
 use fsd_bytes::{FileName, Key};
@@ -42,11 +42,13 @@ pub(crate) fn take_out_in<M: Machine, S: PageSource>(
 }
 
 // Gives the highest version of a name another keep of at most 999, and answers its key.
+#[tactic(auto, using(crate::proofs::HighestLaws::none_walked, crate::proofs::HighestLaws::none_after))]
 fn keep_at<T: Pages>(t: &mut T, name: &FileName, keep: u32) -> Result<Key, VersionFault>
     requires more { MOST_REACHED ≤ (T.step t.old).most_reached }
     requires changes { MOST_CHANGED ≤ changes (T.step t.old) }
     requires keep { keep ≤ 999 }
     ensures calls { OnlyEdits T.Pages (outer_met result) t.old t.new }
+    ensures kept { OnErr result (ChangesNone (T.trusted t.new) (T.step t.old) (T.step t.new)) }
     ensures one { IfOk result (λ key. ChangesOne (T.step t.old) (T.step t.new)) }
     ensures set { IfOk result (λ key. T.trusted t.new → (height : ℕ) → IsTable (T.step t.old) height → SetsKeep (T.step t.old) (T.step t.new) name.now keep key height) }
 {
@@ -72,6 +74,7 @@ pub(crate) fn set_keep_in<M: Machine, S: PageSource>(
     requires room { length cache.old.dirty ≤ 56 }
     requires keep { keep ≤ 999 }
     ensures edits { EditsOnly M.Machine S.PageSource source.now (outer_met result) m.old m.new cache.old cache.new free.old free.new }
+    ensures kept { OnErr result (StaysIn M.Machine S.PageSource source.now m.old m.new cache.old cache.new free.old free.new) }
     ensures one { IfOk result (λ key. DirtiesOne (length free.old) cache.old cache.new) }
     ensures set { IfOk result (SetsKeepIn M.Machine S.PageSource source.now m.old m.new cache.old cache.new free.old free.new name.now keep) }
 {

@@ -1,5 +1,5 @@
 //! Keeps of versions.
-ghost use Rattle.std.specs.Prelude.{◌≡◌, ◌≤◌, ◌∷◌, [], IfOk, length};
+ghost use Rattle.std.specs.Prelude.{◌≡◌, ◌≤◌, ◌∷◌, [], IfErr, IfOk, length};
 ghost use Rattle.sector_disk.specs.Calls.{OnlyReads, device_in};
 ghost use Rattle.fsd_files.specs.Answers.{keep_outcome};
 ghost use Rattle.fsd_files.specs.Files.{Change};
@@ -42,6 +42,7 @@ impl Volume {
         ensures cache { self.new ≡ record self.old { cache = self.new.cache; free_pages = self.new.free_pages } }
         ensures answered { M.honest m.new → (k : Known) → Stands state Holds self.old k (M.now m.old) →
             IfOk result (λ key. Answered state Holds (λ met. keep_outcome met (volume_of k) name.now keep) (Kept key keep) (Change.SetKeep name.now keep ∷ []) k self.new (M.now m.new)) }
+        ensures unchanged { M.honest m.new → (k : Known) → Stands state Holds self.old k (M.now m.old) → IfErr result (λ why. Stands state Holds self.new k (M.now m.new)) }
     {
         let _whole = self.cache.dirty_list();
         let home_a = self.layout.home_a(0);
@@ -55,6 +56,7 @@ impl Volume {
             name,
             keep,
         );
+        let _after = self.cache.dirty_list();
         told(kept, home_a)
     }
 }
