@@ -1,30 +1,26 @@
 -- A volume that stands stands after one change more, once its pages are those of the table that the change makes.
-use Rattle.std.proofs.Common.{◌≡◌, ℕ, suc, ◌+◌, ◌-◌, ◌<◌, ◌≤◌, Bool, not, List, [], ◌∷◌, ◌++◌, length, Option, Some, refl, sym, ap, subst, ◌∙◌, arith, length-append}
-use Rattle.std.specs.Prelude.{Ok, IsFalse, slice_index_or}
+use Rattle.std.proofs.Common.{◌≡◌, ℕ, ◌+◌, ◌-◌, not, List, [], ◌∷◌, ◌++◌, length, Some, refl, sym, ap, subst, ◌∙◌, arith, length-append}
+use Rattle.std.specs.Prelude.{IsFalse}
 use Rattle.std.specs.List.{AllZip}
 use Rattle.volume_layout.specs.declared.layout.Layout.{Layout}
-use Rattle.volume_layout.specs.Layout.{plan}
 use Rattle.run_table.specs.declared.run.Run.{Run}
 use Rattle.run_table.specs.Space.{contains}
 use Rattle.sector_disk.specs.Machine.{Moment}
-use Rattle.fsd_formats.specs.declared.anchor.Anchor.{Anchor}
-use Rattle.fsd_formats.specs.declared.entry.Entry.{Entry}
-use Rattle.fsd_log.specs.Scan.{Placed, Head}
 use Rattle.fsd_table.specs.Table.{Telling, told_in}
-use Rattle.fsd_table.specs.Tree.{IsTree, pages_of, table_of}
+use Rattle.fsd_table.specs.Tree.{pages_of, table_of}
 use Rattle.fsd_table.proofs.VisitLaws.{tree_told}
 use Rattle.fsd_files.specs.Disk.{in_runs}
-use Rattle.fsd_files.specs.Files.{Change, Files, after, step}
+use Rattle.fsd_files.specs.Files.{Change, Files, step}
 use Rattle.fsd_files.specs.Kept.{KeptIn, data_sectors}
 use Rattle.fsd_files.specs.Volume.{Volume}
 use Rattle.fsd_files.proofs.HistoryLaws.{after_one_more}
-use Rattle.fsd_sound.specs.Mounted.{AgreeOutside, ChangesTo, HasOpen, IsMounted, Mounted, Wrote, telling_of}
+use Rattle.fsd_sound.specs.Mounted.{ChangesTo, IsMounted, Wrote, telling_of}
 use Rattle.fsd_sound.specs.Shown.{records_by}
 use Rattle.fsd_sound.proofs.MountedLaws.{change_mounted}
 use Rattle.log_thirds.specs.Append.{IsIndexed}
 use Rattle.log_thirds.specs.LogValue.{FitsLayout, LogValue}
 use Rattle.volume_contract.specs.State.{Fits, Known, Stands, forced_of, volume_of}
-use Rattle.table_volume.specs.Changing.{HasSpace, IsAfter, IsSameVolume, MakesPages, known_after, mounted_after}
+use Rattle.table_volume.specs.Changing.{HasSpace, IsAfter, IsSameVolume, MakesPages, known_after}
 use Rattle.table_volume.specs.State.{Holds, held_runs, state}
 use Rattle.table_volume.specs.Volume.{IsWhole, VolumeValue}
 use Rattle.table_volume.proofs.FlagLaws.{free_flags, reached_is}

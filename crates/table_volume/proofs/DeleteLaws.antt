@@ -1,5 +1,5 @@
 -- A volume that stands stands without a version, once its table was edited in the cache.
-use Rattle.std.proofs.Common.{◌≡◌, ℕ, ◌+◌, ◌-◌, ◌<◌, ◌≤◌, Bool, true, false, cond, not, List, [], ◌∷◌, filter, length, Option, Some, None, refl, sym, ap, subst, ◌∙◌, arith}
+use Rattle.std.proofs.Common.{◌≡◌, ℕ, ◌+◌, ◌-◌, ◌<◌, ◌≤◌, Bool, true, false, cond, not, List, [], ◌∷◌, filter, length, Some, None, refl, sym, ap, subst, ◌∙◌, arith}
 use Rattle.std.specs.List.{list_any}
 use Rattle.sector_disk.specs.declared.machine.Machine.{Ghosts as MachineGhosts}
 use Rattle.sector_disk.specs.Image.{AreShort}
@@ -10,12 +10,12 @@ use Rattle.sector_set.specs.Area.{Area, together}
 use Rattle.shadow_frees.specs.Waits.{Waits}
 use Rattle.fsd_formats.specs.declared.entry.Entry.{Entry}
 use Rattle.fsd_table.specs.Table.{top}
-use Rattle.fsd_table.specs.Tree.{pages_of, table_of}
+use Rattle.fsd_table.specs.Tree.{pages_of}
 use Rattle.fsd_table.proofs.BoundLaws.{Ascend, entries_ascend}
 use Rattle.fsd_files.specs.Answers.{deleted, entry_of}
 use Rattle.fsd_files.specs.Disk.{in_runs}
 use Rattle.fsd_files.specs.Files.{Change, Files}
-use Rattle.fsd_files.specs.Kept.{IsEntryOf, Lists}
+use Rattle.fsd_files.specs.Kept.{Lists}
 use Rattle.fsd_files.specs.Volume.{Volume, entries_at, entries_without}
 use Rattle.page_cache.specs.Cache.{CacheValue, IsCache, is_one_of}
 use Rattle.fsd_sound.specs.Mounted.{most_changed}

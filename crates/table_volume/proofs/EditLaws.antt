@@ -1,6 +1,6 @@
 -- What a table over a cache leaves where it was edited.
-use Rattle.std.proofs.Common.{◌≡◌, ℕ, ◌+◌, ◌-◌, ◌<◌, ◌≤◌, Bool, List, length, Option, None, refl, sym, ap, subst, ◌∙◌, arith}
-use Rattle.std.specs.Prelude.{Result, Ok, Err, IfOk, OnErr, OnOk, Some, not}
+use Rattle.std.proofs.Common.{◌≡◌, ℕ, ◌+◌, ◌-◌, ◌<◌, ◌≤◌, Bool, List, length, Option, None, sym, ap, subst, ◌∙◌, arith}
+use Rattle.std.specs.Prelude.{Result, Ok, Err, IfOk, OnErr, OnOk, not}
 use Rattle.std.specs.Borrow.{MutBor}
 use Rattle.run_table.specs.Space.{contains}
 use Rattle.fsd_bytes.specs.declared.key.Key.{Key}
@@ -11,7 +11,7 @@ use Rattle.fsd_table.specs.Tree.{IsTree, pages_of, table_of}
 use Rattle.sector_disk.specs.declared.machine.Machine.{Ghosts as MachineGhosts}
 use Rattle.sector_disk.specs.Calls.{OnlyReads}
 use Rattle.page_cache.specs.declared.source.PageSource.{Ghosts as SourceGhosts}
-use Rattle.page_cache.specs.Cache.{AreNewest, CacheValue, bytes_of, is_one_of, newest}
+use Rattle.page_cache.specs.Cache.{AreNewest, CacheValue, is_one_of, newest}
 use Rattle.name_page.specs.Pages.{Step, is_spare, rested, with_one}
 use Rattle.name_btree.specs.Map.{HasTable, IsTable}
 use Rattle.table_pages.specs.Bringing.{IsTrusted, OnlyPins, given_by}
@@ -110,30 +110,34 @@ module _ {D E : Type 0} {M : MachineGhosts D} {S : SourceGhosts E} where
 
     edits_table : (edit : List Entry → List Entry) → (Trusted b → (height : ℕ) → IsTable (step_of a) height → HasTable (step_of b) (edit (table_of (step_of a).images height)))
         → EditsTable M S source m.now c.m.now cache.now c.cache.now free.now c.free.now edit
-    edits_table edit makes = record { makes = λ t height table.
-        let images : (step_of a).images ≡ images_by M S source m.now cache.now (length free.now) = ap (λ (s : Step). s.images) begins in
-        let flags : (step_of a).spares ≡ free.now = ap (λ (s : Step). s.spares) begins in
-        let before : List (List ℕ) = images_by M S source m.now cache.now (length free.now) in
-        let after : List (List ℕ) = images_by M S source c.m.now c.cache.now (length c.free.now) in
-        let made = makes (trusted_b t) height (same_table (as_step before free.now) (step_of a) height images flags table) in
-        subst (HasTable (as_step after c.free.now)) (ap (λ (p : List (List ℕ)). edit (table_of p height)) images)
-        (same_entries (step_of b) (as_step after c.free.now) (edit (table_of (step_of a).images height)) images_last flags_last made) }
+    edits_table edit makes = record {
+      makes = λ t height table.
+          let images : (step_of a).images ≡ images_by M S source m.now cache.now (length free.now) = ap (λ (s : Step). s.images) begins in
+          let flags : (step_of a).spares ≡ free.now = ap (λ (s : Step). s.spares) begins in
+          let before : List (List ℕ) = images_by M S source m.now cache.now (length free.now) in
+          let after : List (List ℕ) = images_by M S source c.m.now c.cache.now (length c.free.now) in
+          let made = makes (trusted_b t) height (same_table (as_step before free.now) (step_of a) height images flags table) in
+          subst (HasTable (as_step after c.free.now)) (ap (λ (p : List (List ℕ)). edit (table_of p height)) images)
+          (same_entries (step_of b) (as_step after c.free.now) (edit (table_of (step_of a).images height)) images_last flags_last made);
+    }
 
     sets_keep : (name : List ℕ) (keep : ℕ) (key : Key) → (Trusted b → (height : ℕ) → IsTable (step_of a) height → SetsKeep (step_of a) (step_of b) name keep key height)
         → SetsKeepIn M S source m.now c.m.now cache.now c.cache.now free.now c.free.now name keep key
-    sets_keep name keep key makes = record { sets = λ t height table.
-        let images : (step_of a).images ≡ images_by M S source m.now cache.now (length free.now) = ap (λ (s : Step). s.images) begins in
-        let flags : (step_of a).spares ≡ free.now = ap (λ (s : Step). s.spares) begins in
-        let before : List (List ℕ) = images_by M S source m.now cache.now (length free.now) in
-        let after : List (List ℕ) = images_by M S source c.m.now c.cache.now (length c.free.now) in
-        let made = makes (trusted_b t) height (same_table (as_step before free.now) (step_of a) height images flags table) in
-        record {
-          entry = made.entry;
-          highest = ap (λ (p : List (List ℕ)). highest_entry name (table_of p height)) (sym images) ∙ made.highest;
-          key_is = made.key_is;
-          set = subst (HasTable (as_step after c.free.now)) (ap (λ (p : List (List ℕ)). entries_with_keep made.entry.key keep (table_of p height)) images)
-              (same_entries (step_of b) (as_step after c.free.now) (entries_with_keep made.entry.key keep (table_of (step_of a).images height)) images_last flags_last made.set);
-        } }
+    sets_keep name keep key makes = record {
+      sets = λ t height table.
+          let images : (step_of a).images ≡ images_by M S source m.now cache.now (length free.now) = ap (λ (s : Step). s.images) begins in
+          let flags : (step_of a).spares ≡ free.now = ap (λ (s : Step). s.spares) begins in
+          let before : List (List ℕ) = images_by M S source m.now cache.now (length free.now) in
+          let after : List (List ℕ) = images_by M S source c.m.now c.cache.now (length c.free.now) in
+          let made = makes (trusted_b t) height (same_table (as_step before free.now) (step_of a) height images flags table) in
+          record {
+            entry = made.entry;
+            highest = ap (λ (p : List (List ℕ)). highest_entry name (table_of p height)) (sym images) ∙ made.highest;
+            key_is = made.key_is;
+            set = subst (HasTable (as_step after c.free.now)) (ap (λ (p : List (List ℕ)). entries_with_keep made.entry.key keep (table_of p height)) images)
+                (same_entries (step_of b) (as_step after c.free.now) (entries_with_keep made.entry.key keep (table_of (step_of a).images height)) images_last flags_last made.set);
+          };
+    }
 
     pub one_left : {T F : Type 0} (cache' : CacheValue) → cache' ≡ c.cache.now → (r : Result T F) → IfOk r (λ x. ChangesOne (step_of a) (step_of b)) → IfOk r (λ x. DirtiesOne (length free.now) cache.now cache')
     one_left cache' left_cache (Err fault) one = tt

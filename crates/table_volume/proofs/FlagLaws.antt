@@ -1,5 +1,5 @@
 -- The flags of a volume's name pages, where all pages beside its tree are free.
-use Rattle.std.proofs.Common.{◌≡◌, ℕ, ◌+◌, ◌-◌, ◌<◌, ◌≤◌, Bool, true, false, not, ◌||◌, List, [], ◌∷◌, ◌++◌, length, filter, map, inl, inr, refl, sym, ap, subst, ◌∙◌, arith}
+use Rattle.std.proofs.Common.{◌≡◌, ℕ, ◌+◌, ◌-◌, ◌<◌, Bool, true, false, not, ◌||◌, List, [], ◌∷◌, length, filter, map, inl, inr, refl, sym, ap, subst, ◌∙◌, arith}
 use Rattle.std.specs.Prelude.{slice_index_or, ◌==◌}
 use Rattle.std.specs.List.{AllByRecursion, list_any}
 use Rattle.std.proofs.lemmas.Bool.{eqb-true, or_cases}
@@ -9,8 +9,8 @@ use Rattle.run_table.specs.Space.{contains, where_free}
 use Rattle.sector_set.proofs.CountLaws.{count_of_list, split_where}
 use Rattle.sector_set.proofs.FreeLaws.{where_same}
 use Rattle.fsd_forest.proofs.LowLaws.{all_within}
-use Rattle.fsd_table.specs.Table.{Visit, max_height, top, visits, visits_below}
-use Rattle.fsd_table.specs.Tree.{IsSubtree, IsTree, pages_below, pages_of}
+use Rattle.fsd_table.specs.Table.{Visit, top, visits, visits_below}
+use Rattle.fsd_table.specs.Tree.{IsTree, pages_of}
 use Rattle.fsd_table.proofs.VisitLaws.{visited_pages}
 use Rattle.table_volume.specs.State.{is_reached}
 

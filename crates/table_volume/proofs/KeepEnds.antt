@@ -3,16 +3,15 @@ use Rattle.std.proofs.Common.{◌≡◌, ◌⊎◌, inl, inr, ℕ, ◌+◌, ◌<
 use Rattle.std.proofs.lemmas.Bool.{both_ways, eqb-true, le-ltb, or_cases}
 use Rattle.std.proofs.lemmas.List.Folds.{list_any-append}
 use Rattle.std.specs.Prelude.{IfErr, IfOk, OnErr, Result, Ok, Err, ◌==◌}
-use Rattle.std.specs.List.{list_any}
 use Rattle.sector_disk.specs.declared.machine.Machine.{Ghosts as MachineGhosts}
 use Rattle.sector_disk.specs.Image.{AreShort}
 use Rattle.fsd_bytes.specs.declared.key.Key.{Key}
 use Rattle.fsd_formats.specs.declared.entry.Entry.{Entry}
 use Rattle.fsd_formats.specs.NamePage.{max_keep}
-use Rattle.fsd_table.specs.Table.{Telling, told_in}
+use Rattle.fsd_table.specs.Table.{Telling}
 use Rattle.fsd_table.specs.Tree.{IsTree, pages_of, table_of}
 use Rattle.fsd_table.proofs.VisitLaws.{tree_told}
-use Rattle.fsd_files.specs.Answers.{Outcome, entries_with_keep, highest_entry, keep_outcome, keep_set, refused}
+use Rattle.fsd_files.specs.Answers.{entries_with_keep, highest_entry, keep_outcome, keep_set, refused}
 use Rattle.fsd_bytes.specs.declared.refusal.Refusal.{Refusal}
 use Rattle.fsd_bytes.specs.declared.refusal.Refusal.TheVariants.{KeepTooLarge}
 use Rattle.log_thirds.specs.LogValue.{LogValue}
@@ -23,7 +22,7 @@ use Rattle.fsd_files.specs.Replies.{Kept}
 use Rattle.page_cache.specs.Cache.{CacheValue, IsCache, bytes_of, is_one_of}
 use Rattle.name_page.specs.Pages.{with_one}
 use Rattle.name_btree.specs.Map.{HasTable, IsTable}
-use Rattle.fsd_sound.specs.Mounted.{forces_by_itself, most_changed}
+use Rattle.fsd_sound.specs.Mounted.{most_changed}
 use Rattle.group_commit.specs.contracts.newest.NewestPageSource.TheImpl as by_log
 use Rattle.volume_contract.specs.Ends.{Answered}
 use Rattle.volume_contract.specs.State.{Known, Stands, volume_of}

@@ -1,36 +1,27 @@
 -- A volume that stands stands with another keep of a version, once its table was edited in the cache.
-use Rattle.std.proofs.Common.{◌≡◌, ℕ, ◌+◌, ◌-◌, ◌<◌, ◌≤◌, Bool, true, false, cond, not, nat_lt, List, [], ◌∷◌, filter, length, Option, Some, None, refl, sym, ap, subst, ◌∙◌, arith}
-use Rattle.std.specs.List.{list_any}
+use Rattle.std.proofs.Common.{◌≡◌, ℕ, ◌+◌, ◌<◌, ◌≤◌, Bool, true, false, nat_lt, List, [], ◌∷◌, length, Some, None, refl, sym, ◌∙◌, arith}
 use Rattle.sector_disk.specs.declared.machine.Machine.{Ghosts as MachineGhosts}
 use Rattle.sector_disk.specs.Image.{AreShort}
 use Rattle.fsd_bytes.specs.declared.key.Key.{Key}
-use Rattle.fsd_bytes.specs.Keys.{same_key}
-use Rattle.run_table.specs.Space.{contains}
-use Rattle.sector_set.specs.Area.{Area, together}
-use Rattle.shadow_frees.specs.Waits.{Waits}
 use Rattle.fsd_formats.specs.declared.entry.Entry.{Entry}
-use Rattle.fsd_table.specs.Table.{top}
-use Rattle.fsd_table.specs.Tree.{pages_of, table_of}
-use Rattle.fsd_table.proofs.BoundLaws.{Ascend, entries_ascend}
+use Rattle.fsd_table.specs.Tree.{pages_of}
 use Rattle.fsd_formats.specs.NamePage.{max_keep}
 use Rattle.table_volume.proofs.DeleteLaws.{as_many_files}
 use Rattle.fsd_files.specs.Answers.{entries_with_keep, highest_entry, keep_set}
 use Rattle.fsd_files.specs.Disk.{in_runs}
-use Rattle.fsd_files.specs.Files.{Change, Files}
-use Rattle.fsd_files.specs.Kept.{IsEntryOf, Lists}
-use Rattle.fsd_files.specs.Volume.{Volume, entries_at, entries_without}
+use Rattle.fsd_files.specs.Files.{Change}
+use Rattle.fsd_files.specs.Volume.{Volume}
 use Rattle.page_cache.specs.Cache.{CacheValue, IsCache, is_one_of}
 use Rattle.fsd_sound.specs.Mounted.{most_changed}
 use Rattle.group_commit.specs.contracts.newest.NewestPageSource.TheImpl as by_log
 use Rattle.volume_contract.specs.State.{Known, Stands, volume_of}
 use Rattle.table_volume.specs.Changing.{known_after}
 use Rattle.table_volume.specs.Editing.{EditsOnly, EditsTable}
-use Rattle.table_volume.specs.State.{Holds, held_runs, state}
+use Rattle.table_volume.specs.State.{Holds, state}
 use Rattle.table_volume.specs.Volume.{IsWhole, VolumeValue}
 use Rattle.table_volume.proofs.ChangeLaws.{stands_changed}
 use Rattle.table_volume.proofs.GoneLaws.{after_kept, kept_free}
 use Rattle.table_volume.proofs.MadeLaws.{has_table, pages_made, pages_now, worn}
-use Rattle.table_volume.proofs.TableLaws.{is_tree}
 
 -- another keep leaves as many entries
 as_many_kept : (key : Key) (keep : ℕ) (entries : List Entry) → length (entries_with_keep key keep entries) ≡ length entries

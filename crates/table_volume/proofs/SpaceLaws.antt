@@ -1,6 +1,6 @@
 -- What a volume tells of its sectors is what it is of, where no reader holds a version and no creation is unfinished.
-use Rattle.std.proofs.Common.{◌≡◌, ℕ, suc, ◌<◌, ◌≤◌, Bool, true, false, not, ◌&&◌, ◌||◌, List, [], ◌∷◌, length, refl, sym, ap, subst, ◌∙◌, arith}
-use Rattle.std.specs.Prelude.{IsTrue, ◌==◌}
+use Rattle.std.proofs.Common.{◌≡◌, ℕ, suc, ◌<◌, ◌≤◌, Bool, true, false, not, ◌&&◌, ◌||◌, List, [], ◌∷◌, length, refl, sym, ap, ◌∙◌, arith}
+use Rattle.std.specs.Prelude.{◌==◌}
 use Rattle.std.proofs.lemmas.Bool.{eq-eqb, ne_eqb, or_left}
 use Rattle.volume_layout.specs.declared.layout.Layout.{Layout}
 use Rattle.volume_layout.specs.Layout.{data_start, is_data}
@@ -85,7 +85,7 @@ module _ (v : VolumeValue) (m : Volume) (whole : IsWhole v) (layout : m.layout �
       let to : s < v.shadow.removed.to = omega (arith, high, ap (λ (a : Area). a.to) whole.removed) in
       let loose : contains (unheld v.shadow.held v.shadow.removed).sectors s ≡ contains v.shadow.removed.sectors s =
       contains_where (λ t. contains v.shadow.removed.sectors t && not (is_held v.shadow.held t)) v.shadow.removed.from v.shadow.removed.to s from to
-          ∙ unheld_by (contains v.shadow.removed.sectors s) (is_held v.shadow.held s) nobody in
+      ∙ unheld_by (contains v.shadow.removed.sectors s) (is_held v.shadow.held s) nobody in
       by_volume ∙ (λ i. sym (map s) i || sym (loose ∙ removed s) i)
 
   pub same_freed : free_runs (forced m) ≡ runs_of (freed_sectors v)
@@ -99,7 +99,7 @@ module _ (v : VolumeValue) (m : Volume) (whole : IsWhole v) (layout : m.layout �
   same_waiting =
       let alone : (s : ℕ) → waits v.shadow s ≡ contains v.shadow.removed.sectors s =
       λ s. alone_by (contains v.shadow.removed.sectors s) (contains v.shadow.kept.sectors s) (contains v.shadow.unfinished.sectors s)
-          (ap (λ (xs : List ℕ). contains xs s) whole.unread.kept) (ap (λ (xs : List ℕ). contains xs s) whole.unread.unfinished) in
+      (ap (λ (xs : List ℕ). contains xs s) whole.unread.kept) (ap (λ (xs : List ℕ). contains xs s) whole.unread.unfinished) in
       ap (λ (l : Layout). where_free (waits_of m) (data_start l) l.sectors) layout
       ∙ where_same (waits_of m) (waits v.shadow) (data_start v.layout) v.layout.sectors (λ s low high. waits_is s ∙ sym (alone s ∙ removed s))
       ∙ ap (λ (a : Area). where_free (waits v.shadow) a.from a.to) (sym whole.removed)

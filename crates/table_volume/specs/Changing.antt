@@ -1,5 +1,5 @@
 -- What one change more makes of a volume.
-use Rattle.std.specs.Prelude.{◌≡◌, ℕ, Bool, ◌+◌, ◌<◌, ◌≤◌, not, false, List, [], ◌∷◌, ◌++◌, length, Option, Some, IsFalse, slice_index_or}
+use Rattle.std.specs.Prelude.{◌≡◌, ℕ, Bool, ◌+◌, ◌<◌, ◌≤◌, not, false, List, [], ◌∷◌, ◌++◌, length, Some, IsFalse, slice_index_or}
 use Rattle.run_table.specs.Space.{contains}
 use Rattle.page_cache.specs.Cache.{CacheValue, bytes_of}
 use Rattle.fsd_table.specs.Tree.{IsTree, pages_of}

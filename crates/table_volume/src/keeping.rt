@@ -34,7 +34,12 @@ fn told(done: Result<Key, VersionFault>, home_a: u32) -> Result<Key, Refusal>
 
 impl Volume {
     // Gives a name's highest version another keep, where no force comes first.
-    fn keep_now<M: Machine>(&mut self, m: &mut M, name: &FileName, keep: u32) -> Result<Key, Refusal>
+    fn keep_now<M: Machine>(
+        &mut self,
+        m: &mut M,
+        name: &FileName,
+        keep: u32,
+    ) -> Result<Key, Refusal>
         requires sectors { self.old.layout.sectors ≤ (M.report m.old).sectors }
         requires room { length self.old.cache.dirty ≤ 56 }
         requires keep { keep ≤ 999 }
