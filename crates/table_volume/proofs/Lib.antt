@@ -17,6 +17,16 @@ pub mod RangeLaws
 pub mod MountLaws
 pub mod OpeningLaws
 pub mod SurveyLaws
+pub mod ChangeLaws
+pub mod DeleteLaws
+pub mod EditLaws
+pub mod FlagLaws
+pub mod GoneLaws
+pub mod HighestLaws
+pub mod KeepEnds
+pub mod KeepLaws
+pub mod MadeLaws
+pub mod SpaceLaws
 pub mod TableLaws
 pub mod TakenLaws
 pub mod VisitLaws

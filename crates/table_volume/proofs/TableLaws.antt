@@ -91,7 +91,7 @@ past_flags (f ∷ flags) (suc page) over = past_flags flags page (omega arith)
 -- ---- over the disk
 
 module _ (v : VolumeValue) (k : Known) (now : Moment) (whole : IsWhole v) (stands : Stands state Holds v k now) where
-  as_many : length v.free_pages ≡ length k.mounted.pages
+  pub as_many : length v.free_pages ≡ length k.mounted.pages
   as_many =
       let at = over v k now whole stands in
       let size : length stands.disk.disk ≡ v.log.layout.pages = (gives_disk v.log.layout v.log.anchor v.log.head stands.disk.records stands.disk.disk k.mounted.pages v.cache.dirty k.windows now.image at).size in

@@ -1,12 +1,14 @@
 //! A volume whose files stand in a name table of many pages, which are read through a cache.
 #![tactic(auto)]
 
+mod changing;
 mod counting;
 mod entries;
 mod finding;
 mod forcing;
 mod freeing;
 mod homes;
+mod keeping;
 mod laws;
 mod looking;
 mod next;
