@@ -9,3 +9,4 @@ pub mod MountLaws
 pub mod OneShotLaws
 pub mod GroupLaws
 pub mod LineLaws
+pub mod StatusLaws

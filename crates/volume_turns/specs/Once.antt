@@ -6,6 +6,7 @@ use Rattle.sector_disk.specs.declared.machine.Machine.{Ghosts}
 use Rattle.sector_disk.specs.Machine.{Moment, LeavesOnly}
 use Rattle.fsd_files.specs.Answers.{Met}
 use Rattle.fsd_files.specs.Disk.{Image, in_runs}
+use Rattle.fsd_files.specs.Replies.{Reply}
 use Rattle.fsd_files.specs.Volume.{Volume}
 use Rattle.fsd_sound.specs.Mounted.{telling_of}
 use Rattle.fsd_sound.specs.Shown.{told}
@@ -13,7 +14,7 @@ use Rattle.fsd_sound.specs.Sound.{IsSound}
 use Rattle.fsd_texts.specs.declared.command.Command.{Command}
 use Rattle.fsd_texts.specs.declared.fault.Fault.{Fault}
 use Rattle.fsd_texts.specs.declared.fault.Fault.TheVariants as Ends
-use Rattle.fsd_runs.specs.Errands.{Turn, alone, alone_ending}
+use Rattle.fsd_runs.specs.Errands.{Turn, alone, alone_ending, reply_status}
 use Rattle.fsd_runs.specs.Runs.{Goes, IsThrough, Run, Starts, Stood, answered, behind, changes_in, run_end, run_status, run_turns, said_in, turns_of}
 use Rattle.fsd_runs.specs.Leaves.{IsReplied, Left, LeftBefore, LeftSince, RaisesEpoch}
 use Rattle.fsd_runs.specs.declared.request.Request.{Request}
@@ -87,6 +88,10 @@ pub record IsDone (k : Known) (turns : List Turn) (after : Volume) (old new : Mo
   pub said : new.said ≡ old.said ++ said_in turns
   pub sound : IsSound k.mounted.volume.layout k.windows (k.changes ++ changes_in turns) (length (k.changes ++ changes_in turns)) new.image
   pub tells : told k.mounted.volume.layout new.image ≡ Some (telling_of after)
+
+-- the status of a reply
+abbrev pub IsStatusOfReply : ℕ → Type 0
+IsStatusOfReply status = (reply : Reply) × (status ≡ reply_status reply)
 
 -- the status of its reply
 abbrev pub status_alone : Command → List Met → Volume → ℕ

@@ -1,0 +1,3 @@
+mod AnchorLaws
+mod FormatLaws
+mod OpeningLaws

@@ -1,0 +1,4 @@
+pub mod Ending
+pub mod Formatting
+pub mod Opening
+pub mod Replies
