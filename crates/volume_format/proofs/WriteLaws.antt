@@ -1,14 +1,16 @@
 -- Calls that write sectors one after another, and what they count.
-use Rattle.std.proofs.Common.{◌≡◌, ℕ, ◌+◌, ◌/◌, ◌<◌, ◌≤◌, List, length, Option, None, sym, subst, ap, ◌∙◌, arith}
-use Rattle.std.specs.Prelude.{IsTrue, Result, Ok, Err, OnOk}
+use Rattle.std.proofs.Common.{◌≡◌, ℕ, ◌+◌, ◌/◌, ◌<◌, ◌≤◌, List, length, Option, None, subst, ap, ◌∙◌, arith}
+use Rattle.std.proofs.lemmas.Bool.{or_left, or_right}
+use Rattle.std.specs.Prelude.{IsTrue, ◌||◌, Result, Ok, Err, OnOk}
+use Rattle.volume_layout.specs.declared.layout.Layout.{Layout}
+use Rattle.volume_layout.specs.Layout.{home_a, home_b}
 use Rattle.sector_disk.specs.declared.machine.Machine.{Ghosts}
 use Rattle.sector_disk.specs.Calls.{WritesDisk}
-use Rattle.sector_disk.specs.Machine.{Ledger, Moment, Tears, Writes, Holds, wrote}
-use Rattle.sector_disk.specs.Image.{with_sector}
+use Rattle.sector_disk.specs.Machine.{Ledger, Tears, wrote}
 use Rattle.sector_disk.proofs.CallLaws.{writes_more}
 use Rattle.version_data.specs.Writing.{WritesIn, WroteMost}
-use Rattle.version_data.proofs.WritingLaws.{in_run_all, in_run_at, run_written, tears_in, wrote_most, wrote_most_on}
-use Rattle.volume_format.specs.Formatting.{row}
+use Rattle.version_data.proofs.WritingLaws.{in_run_all, in_run_at, run_written, writes_in_more, tears_in, wrote_most}
+use Rattle.volume_format.specs.Formatting.{format_writes, row}
 
 pub on_ok : {T E : Type 0} {P Q : Type 0} (r : Result T E) → (P → Q) → OnOk r P → OnOk r Q
 on_ok (Ok x) more holds = more holds
@@ -34,6 +36,11 @@ row_within first n at count le s is =
 module _ {D : Type 0} {M : Ghosts D} {a b c : D} where
   pub one_written : {fault : Option ℕ} (first n at : ℕ) → at < n → WritesDisk M None (WritesIn (row first n)) a b → WritesDisk M fault (WritesIn (row (first + at) 1)) b c → WritesDisk M fault (WritesIn (row first n)) a c
   one_written first n at lt so_far next = run_written (row (first + at) 1) (row first n) (row_within first n at 1 (omega (arith, lt))) so_far next
+
+pub head_one : {D : Type 0} {M : Ghosts D} {a b c : D} {fault : Option ℕ} (place : ℕ) → place < 16 → WritesDisk M None (WritesIn (row 0 16)) a b → WritesDisk M fault (WritesIn (row place 1)) b c → WritesDisk M fault (WritesIn (row 0 16)) a c
+head_one place lt so_far next =
+    let here : place ≡ 0 + place = omega arith in
+    run_written (row place 1) (row 0 16) (λ s is. row_within 0 16 place 1 (omega (arith, lt)) s (subst (λ (p : ℕ). IsTrue (row p 1 s)) here is)) so_far next
 
 pub one_counted : {most : ℕ} (old mid new : Ledger) (k : ℕ) → k < most → mid ≡ wrote old k → new ≡ mid → WroteMost most old new
 one_counted {most} old mid new k lt so_far same = wrote_most old new k most (same ∙ so_far) (omega (arith, lt))
@@ -61,9 +68,3 @@ module _ {D : Type 0} {M : Ghosts D} {a b c : D} where
 
   pub head_written : {fault : Option ℕ} (l : Layout) → WritesDisk M None (WritesIn (format_writes l)) a b → WritesDisk M fault (WritesIn (row 0 16)) b c → WritesDisk M fault (WritesIn (format_writes l)) a c
   head_written l so_far next = run_written (row 0 16) (format_writes l) (head_within l) so_far next
-
--- ---- with the turns of the windows
-
-either : (x y z : Bool) → (IsTrue x → IsTrue (y || z)) → (a b : Sector) → SectorWorn x a b → SectorWorn (y || z) a b
-either x y z more a b (inl same) = inl same
-either x y z more a b (inr hurt) = inr (more hurt.0, hurt.1)

@@ -1,5 +1,5 @@
 -- A new image, and what a format makes of it.
-use Rattle.std.specs.Prelude.{◌≡◌, ℕ, ◌+◌, ◌*◌, ◌||◌, ◌==◌, List, [], ◌∷◌, Some, None, IsFalse, slice_index_or, if◌then◌else◌}
+use Rattle.std.specs.Prelude.{◌≡◌, ℕ, ◌+◌, ◌||◌, ◌==◌, List, [], ◌∷◌, Some, None, IsFalse, slice_index_or, if◌then◌else◌}
 use Rattle.fsd_bytes.specs.Bytes.{sector}
 use Rattle.volume_layout.specs.declared.layout.Layout.{Layout}
 use Rattle.volume_layout.specs.Layout.{home_a, home_b}
@@ -8,7 +8,7 @@ use Rattle.fsd_formats.specs.Anchors.{anchor_bytes}
 use Rattle.sector_disk.specs.declared.sector.Sector.{Sector}
 use Rattle.sector_disk.specs.declared.sector.Sector.TheVariants.{Whole, Damaged}
 use Rattle.sector_disk.specs.declared.sector.WeakRun.{WeakRun}
-use Rattle.sector_disk.specs.Image.{in_run, lay, open_damage, sector_at, with_sector}
+use Rattle.sector_disk.specs.Image.{in_run, lay, open_damage, sector_at}
 use Rattle.sector_disk.specs.Machine.{Moment}
 use Rattle.fsd_files.specs.Disk.{Sectors, SectorWorn}
 use Rattle.version_data.specs.Writing.{lay_at}

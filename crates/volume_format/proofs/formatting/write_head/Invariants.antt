@@ -1,4 +1,4 @@
-use Rattle.std.proofs.Common.{◌≡◌, ◌≤◌, None}
+use Rattle.std.proofs.Common.{◌≡◌, None}
 use Rattle.sector_disk.specs.Calls.{WritesDisk}
 use Rattle.sector_disk.specs.Machine.{Holds, wrote}
 use Rattle.version_data.specs.Writing.{WritesIn}

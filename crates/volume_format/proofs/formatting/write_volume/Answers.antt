@@ -1,8 +1,8 @@
-use Rattle.std.proofs.Common.{◌≡◌, arith}
-use Rattle.sector_disk.proofs.CallLaws.{writes_told, writes_more}
+use Rattle.std.proofs.Common.{arith}
+use Rattle.sector_disk.proofs.CallLaws.{writes_told}
 use Rattle.version_data.proofs.WritingLaws.{failed_told}
 use Rattle.volume_format.proofs.FormatLaws.{fits, some_page, volume_laid}
-use Rattle.volume_format.proofs.WriteLaws.{on_ok}
+use Rattle.volume_format.proofs.WriteLaws.{copies_written, head_written, on_ok, pages_written}
 use Rattle.volume_format.proofs.formatting.write_volume.Goals as goal
 
 pub home_a-requires : goal.home_a-requires
@@ -32,7 +32,7 @@ returns-clause-done g c =
 
 pub returns-in_err-write_pages-clause-disk : goal.returns-in_err-write_pages-clause-disk
 returns-in_err-write_pages-clause-disk g c =
-    writes_told (failed_told c.from_residual-in_err-write_pages.result c.in_err-write_pages.field-0.0 c.from_residual-in_err-write_pages.ensures.1)
+    writes_told (failed_told c.from_residual.result c.in_err-write_pages.field-0.0 c.from_residual.ensures.1)
     (pages_written c.args.l.now c.home_a.result c.pages-pages.result c.home_a.ensures.place c.pages-pages.ensures.value c.in_err-write_pages.ensures.disk)
 
 pub returns-in_err-write_pages-2-clause-disk : goal.returns-in_err-write_pages-2-clause-disk
