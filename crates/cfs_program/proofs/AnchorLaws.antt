@@ -15,9 +15,9 @@ use Rattle.fsd_sound.proofs.AnchorFacts.{anchor_read, newer_one}
 
 -- what a copy reads as after wear it read as before
 kept_at : (may : ℕ → Bool) (i j : Image) (s : ℕ) (a : Anchor) → IsWorn may i j → anchor_at j s ≡ Some a → anchor_at i s ≡ Some a
-kept_at may i j s a worn is = elim worn.each s [
+kept_at may i j s a worn is = elim (worn.each s) [
   | inl same ↦ subst (λ (x : Sector). option_and_then read_anchor (bytes_of x) ≡ Some a) same is
-  | inr (open, damaged) ↦ let none : None ≡ Some a = subst (λ (x : Sector). option_and_then read_anchor (bytes_of x) ≡ Some a) damaged is in cc
+  | inr (weak, damaged) ↦ let none : None ≡ Some a = subst (λ (x : Sector). option_and_then read_anchor (bytes_of x) ≡ Some a) damaged is in cc
 ]
 
 -- no copy is of a later epoch

@@ -1,5 +1,6 @@
 -- A format on a new image, and its line.
 use Rattle.std.proofs.Common.{◌≡◌, ◌⊎◌, inl, inr, ℕ, zero, suc, ◌≤◌, List, [], ◌∷◌, ◌++◌, None, replicate, refl, ap, subst, sym, ◌∙◌, arith}
+use Rattle.std.specs.Prelude.{Result, Ok, Err, OnOk}
 use Rattle.std.specs.List.{last_or}
 use Rattle.sector_disk.specs.declared.sector.Sector.{Sector}
 use Rattle.sector_disk.specs.declared.sector.Sector.TheVariants.{Damaged}
@@ -14,7 +15,11 @@ use Rattle.fsd_sound.proofs.FormatSoundLaws.{format_is_sound}
 use Rattle.fsd_sound.proofs.SoundLaws.{sound_still}
 use Rattle.fsd_sound.proofs.WindowLaws.{windows_are_narrow}
 use Rattle.volume_format.specs.Formatting.{Formats, IsNew}
-use Rattle.cfs_program.specs.Formatting.{HoldsVolume, IsUntouched, MakesVolume}
+use Rattle.volume_layout.specs.declared.fault.LayoutFault.{LayoutFault}
+use Rattle.fsd_texts.specs.declared.line.Line.{Line}
+use Rattle.fsd_texts.specs.Text.{memory_text, text}
+use Rattle.cfs_program.specs.Ending.{EndsAs, UttersLine}
+use Rattle.cfs_program.specs.Formatting.{HoldsVolume, IsUntouched, MakesVolume, SaysFor, SaysFormat}
 
 sector_at-replicate : (count s : ℕ) → sector_at (replicate count Damaged) s ≡ Damaged
 sector_at-replicate zero s = refl
@@ -55,3 +60,21 @@ holds_on l between after holds still =
       sound = formatted_sound l holds.run after.image holds.short formatted;
       windows = still.windows ∙ holds.windows;
     }
+
+pub made_of : {E : Type 0} (l : Layout) (count : ℕ) (old mid new : Moment) (H : Type 0) (result : Result (Unit {0}) E) → (H → AreShort new.windows) → (H → Makes count old mid)
+    → OnOk result (H → IsNew mid → Formats l mid new) → OnOk result (H → MakesVolume l old new)
+made_of l count old mid new H (Ok x) short makes done = λ h. volume_made l count old mid new (short h) (makes h) (done h)
+made_of l count old mid new H (Err e) short makes done = tt
+
+-- ---- its line
+
+pub untouched_by : (line : Line) (old new : Moment) → UttersLine line old new → IsUntouched old new
+untouched_by line old new (said, which, utters) = record { image = utters.image; windows = utters.windows }
+
+pub format_said : (planned : Result Layout LayoutFault) (place : ℕ) (line : Line) (status : ℕ) (old mid new : Moment) (result : ℕ) → mid.said ≡ old.said → SaysFor planned place status (text line)
+    → (result ≡ 6) ⊎ EndsAs line status mid new result → SaysFormat planned place old new result
+format_said planned place line status old mid new result quiet for (inl six) = inl six
+format_said planned place line status old mid new result quiet for (inr (inl (is, all))) =
+    inr (text line, subst (λ (n : ℕ). SaysFor planned place n (text line)) (sym is) for, all.said ∙ ap (λ (s : List ℕ). s ++ text line) quiet)
+format_said planned place line status old mid new result quiet for (inr (inr (seven, all))) =
+    inr (memory_text, inr (inr (seven, refl)), all.said ∙ ap (λ (s : List ℕ). s ++ memory_text) quiet)

@@ -1,3 +1,4 @@
 mod AnchorLaws
+mod EndedLaws
 mod FormatLaws
 mod OpeningLaws
