@@ -1,17 +1,16 @@
 -- The last epoch, of an image that was worn.
-use Rattle.std.proofs.Common.{◌≡◌, ◌⊎◌, inl, inr, ℕ, ◌<◌, ◌≤◌, ◌^◌, if◌then◌else◌, Bool, true, false, List, Option, Some, None, nat_lt, ◌==◌, ◌||◌, ◌&&◌, refl, sym, ◌∙◌, ap, subst, arith}
+use Rattle.std.proofs.Common.{◌≡◌, ◌⊎◌, inl, inr, ℕ, ◌<◌, ◌≤◌, ◌^◌, if◌then◌else◌, Bool, true, false, List, Option, Some, None, nat_lt, ◌==◌, ◌||◌, ◌&&◌, refl, ◌∙◌, subst, arith}
 use Rattle.std.specs.Prelude.{IfSome, option_and_then}
 use Rattle.std.proofs.lemmas.Bool.{and_parts, eqb-true, ltb-true, ltb-false, or_parts}
 use Rattle.sector_disk.specs.declared.sector.Sector.{Sector}
-use Rattle.sector_disk.specs.declared.sector.Sector.TheVariants.{Damaged}
-use Rattle.sector_disk.specs.Image.{IsWorn, sector_at}
+use Rattle.sector_disk.specs.Image.{IsWorn}
 use Rattle.fsd_formats.specs.declared.anchor.Anchor.{Anchor}
 use Rattle.fsd_formats.specs.Anchors.{read_anchor}
 use Rattle.fsd_files.specs.Disk.{Image, bytes_at, bytes_of}
 use Rattle.fsd_log.specs.Scan.{anchor_in, is_newer, newer_of}
 use Rattle.fsd_sound.specs.Anchors.{anchor_at, anchor_of}
 use Rattle.fsd_sound.specs.Mounting.{last_epoch}
-use Rattle.fsd_sound.proofs.AnchorFacts.{anchor_read, newer_one}
+use Rattle.fsd_sound.proofs.AnchorFacts.{anchor_read}
 
 -- what a copy reads as after wear it read as before
 kept_at : (may : ℕ → Bool) (i j : Image) (s : ℕ) (a : Anchor) → IsWorn may i j → anchor_at j s ≡ Some a → anchor_at i s ≡ Some a

@@ -1,13 +1,12 @@
 -- A run that is ended by a fault before its mount.
-use Rattle.std.proofs.Common.{◌≡◌, ◌⊎◌, inl, inr, ℕ, ◌≤◌, Bool, false, List, [], ◌∷◌, ◌++◌, take, Option, refl, sym, ◌∙◌, ap, subst, arith}
-use Rattle.std.specs.Prelude.{IsSome}
+use Rattle.std.proofs.Common.{◌≡◌, ◌⊎◌, inl, inr, ℕ, ◌≤◌, Bool, false, List, [], ◌∷◌, ◌++◌, take, refl, sym, ◌∙◌, ap, subst, arith}
 use Rattle.std.proofs.lemmas.Bool.{eq-eqb}
 use Rattle.volume_layout.specs.declared.layout.Layout.{Layout}
 use Rattle.sector_disk.specs.declared.machine.Machine.{Ghosts}
 use Rattle.sector_disk.specs.declared.sector.WeakRun.{WeakRun}
 use Rattle.sector_disk.specs.Calls.{Counts, LeavesDisk}
 use Rattle.sector_disk.specs.Image.{AreShort, Windows}
-use Rattle.sector_disk.specs.Machine.{Before, Elapses, LeavesOnly, Moment, Report, Rose, Wears}
+use Rattle.sector_disk.specs.Machine.{Before, Elapses, LeavesOnly, Moment, Rose, Wears}
 use Rattle.sector_disk.proofs.Moments.{goes_on, leaves_more, started, then_on}
 use Rattle.fsd_files.specs.Files.{Change}
 use Rattle.fsd_sound.specs.Sound.{EndIn}
@@ -18,7 +17,7 @@ use Rattle.fsd_texts.specs.declared.line.Line.TheVariants as Lines
 use Rattle.fsd_texts.specs.Text.{fault_text}
 use Rattle.fsd_runs.specs.declared.request.Request.{Request}
 use Rattle.fsd_runs.specs.Errands.{blank, fault_status}
-use Rattle.fsd_runs.specs.Leaves.{IsBroken, IsOutside, IsSpent, IsUnsaid, LeavesRun, LeavesUnmounted, LeftBefore, MayEnd, SaysFault}
+use Rattle.fsd_runs.specs.Leaves.{IsBroken, IsOutside, IsSpent, IsUnsaid, LeavesRun, LeftBefore, MayEnd, SaysFault}
 use Rattle.volume_turns.specs.Status.{IsOneStatus}
 use Rattle.cfs_program.specs.Ending.{EndsAs, IsStatusAs, IsTextFor, UttersLine, is_unsaid}
 use Rattle.cfs_program.specs.Opening.{IsSoundDisk}

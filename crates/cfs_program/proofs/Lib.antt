@@ -2,3 +2,4 @@ mod AnchorLaws
 mod EndedLaws
 mod FormatLaws
 mod OpeningLaws
+mod ProgramLaws

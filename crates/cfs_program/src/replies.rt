@@ -49,7 +49,13 @@ fn text_of(alloc: Global, answer: &Answer) -> Result<Vec<u8>, AllocError>
         Answer::Refused(why) => line_text(alloc, &Line::Refused(*why)),
         Answer::Made { key, sectors } => {
             let key = key.copied();
-            line_text(alloc, &Line::Made { key, sectors: *sectors })
+            line_text(
+                alloc,
+                &Line::Made {
+                    key,
+                    sectors: *sectors,
+                },
+            )
         }
         Answer::Deleted(key) => line_text(alloc, &Line::Deleted(key.copied())),
         Answer::Kept { key, keep } => {
@@ -60,7 +66,13 @@ fn text_of(alloc: Global, answer: &Answer) -> Result<Vec<u8>, AllocError>
         Answer::Bytes { key, bytes } => bytes_text(alloc, key, bytes.as_slice()),
         Answer::Damaged { key, sector } => {
             let key = key.copied();
-            line_text(alloc, &Line::Damaged { key, sector: *sector })
+            line_text(
+                alloc,
+                &Line::Damaged {
+                    key,
+                    sector: *sector,
+                },
+            )
         }
         Answer::Forced => line_text(alloc, &Line::Forced),
         Answer::Counts(stat) => line_text(alloc, &stat_line(stat)),
