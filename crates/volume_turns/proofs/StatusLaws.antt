@@ -1,15 +1,19 @@
 -- The status of a run that a fault has ended, over any machine.
-use Rattle.std.proofs.Common.{◌≡◌, ◌⊎◌, inl, inr, ℕ, ◌≤◌, Bool, false, sym, ◌∙◌, subst, arith}
-use Rattle.std.specs.Prelude.{Result, Err}
+use Rattle.std.proofs.Common.{◌≡◌, inl, inr, ℕ, ◌≤◌, Bool, false, Option, None, refl, sym, ◌∙◌, subst, arith}
+use Rattle.std.specs.Prelude.{Err}
 use Rattle.std.proofs.lemmas.Bool.{eq-eqb}
-use Rattle.sector_disk.specs.Calls.{Counts, SparesDisk}
-use Rattle.sector_disk.specs.Machine.{Report, Rose}
+use Rattle.sector_disk.specs.Calls.{Counts, DiskFaults, SparesDisk}
+use Rattle.sector_disk.specs.Machine.{Report, Rose, UsesDisk}
+use Rattle.fsd_sound.specs.declared.fault.MountFault.{MountFault}
+use Rattle.fsd_sound.specs.declared.fault.MountFault.TheVariants as Refused
+use Rattle.fsd_sound.specs.Mounting.{device_of_mount}
+use Rattle.volume_turns.specs.Once.{fault_of}
 use Rattle.fsd_texts.specs.declared.fault.Fault.{Fault}
 use Rattle.fsd_texts.specs.declared.fault.Fault.TheVariants as Ends
 use Rattle.volume_turns.specs.declared.turns.End.TheVariants.{Fault as Stopped}
 use Rattle.volume_turns.specs.Line.{IsStatusFor, is_unsaid}
 use Rattle.volume_turns.specs.Status.{CountsRun, IsOneStatus}
-use Rattle.volume_turns.specs.Steps.{IsOfVolume}
+use Rattle.volume_turns.specs.Steps.{IsOfVolume, device_told}
 use Rattle.volume_turns.specs.Turns.{Told}
 
 pub fault_is_one : (why : Fault) (status : ℕ) → IsOfVolume why → IsStatusFor why status → IsOneStatus status
@@ -43,3 +47,45 @@ module _ (a m b : Report) (status : ℕ) (spares : SparesDisk false (is_unsaid s
     input = spares.input ∙ told.input;
     output = output_counted told.later;
   }
+
+-- ---- behind a mount, or by its fault
+
+pub counts_after : (a m b : Report) (status : ℕ) → UsesDisk a m → DiskFaults None a m → CountsRun m b status → CountsRun a b status
+counts_after a m b status uses none counts = record {
+  sectors = counts.sectors ∙ uses.sectors;
+  disk = λ four. subst (λ (n : ℕ). Rose n b.disk_faults) none.0 (counts.disk four);
+  input = counts.input ∙ uses.input;
+  output = λ six. subst (λ (n : ℕ). Rose n b.output_faults) uses.output (counts.output six);
+}
+
+of_mount : (fault : MountFault) → IsOfVolume (fault_of fault)
+of_mount Refused.NotVolume = tt
+of_mount Refused.NoAnchor = tt
+of_mount (Refused.Lost x y) = tt
+of_mount (Refused.Unsound s) = tt
+of_mount (Refused.Device s) = tt
+of_mount Refused.Memory = tt
+of_mount Refused.WornOut = tt
+
+pub mount_of_volume : (fault : MountFault) (why : Fault) → why ≡ fault_of fault → IsOfVolume why
+mount_of_volume fault why is = subst IsOfVolume (sym is) (of_mount fault)
+
+same_device : (fault : MountFault) → device_of_mount fault ≡ device_told (fault_of fault)
+same_device Refused.NotVolume = refl
+same_device Refused.NoAnchor = refl
+same_device (Refused.Lost x y) = refl
+same_device (Refused.Unsound s) = refl
+same_device (Refused.Device s) = refl
+same_device Refused.Memory = refl
+same_device Refused.WornOut = refl
+
+pub mount_counts : (a m b : Report) (status : ℕ) → SparesDisk false (is_unsaid status) m b → (fault : MountFault) → UsesDisk a m → DiskFaults (device_of_mount fault) a m → IsStatusFor (fault_of fault) status → CountsRun a b status
+mount_counts a m b status spares fault uses faults for =
+    let output = uses.output in
+    fault_counts a m b status spares (fault_of fault) (record {
+      sectors = uses.sectors;
+      disk = subst (λ (o : Option ℕ). DiskFaults o a m) (same_device fault) faults;
+      input = uses.input;
+      later = omega (arith, output);
+      output = tt;
+    }) for
