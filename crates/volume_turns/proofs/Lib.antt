@@ -8,6 +8,7 @@ pub mod OnceLaws
 pub mod MountLaws
 pub mod GroupLaws
 pub mod LineLaws
+pub mod StatusLaws
 pub mod HaltLaws
 pub mod WholeLaws
 pub mod CountLaws

@@ -1,4 +1,5 @@
 pub mod Listing
+pub mod Status
 pub mod Steps
 pub mod Turns
 pub mod Once

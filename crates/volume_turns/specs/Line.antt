@@ -22,3 +22,7 @@ is_unsaid status = status == 6
 -- the output failed, or the line is said whole, and its status given
 abbrev pub EndsWith : Fault → (old new : Moment) → ℕ → Type 0
 EndsWith why old new status = (status ≡ 6) ⊎ ((said : Fault) × IsSaidFor why said × (status ≡ fault_status said) × SaysAll (fault_text said) old new)
+
+-- the status of this fault, or of refused memory, or of an output that failed
+abbrev pub IsStatusFor : Fault → ℕ → Type 0
+IsStatusFor why status = (status ≡ fault_status why) ⊎ ((status ≡ 7) ⊎ (status ≡ 6))

@@ -45,6 +45,12 @@ abbrev pub read_ended_by : Key → Refusal → Result Answer Fault
 read_ended_by key (Why.Damaged s) = Ok (Said.Damaged key s)
 read_ended_by key why = ended_by why
 
+-- a fault of a volume or of its mount, and none of the input
+abbrev pub IsOfVolume : Fault → Type 0
+IsOfVolume Ends.Input = ⊥
+IsOfVolume Ends.InputTooLong = ⊥
+IsOfVolume fault = ⊤
+
 -- the place of the call of the disk that failed
 abbrev pub device_told : Fault → Option ℕ
 device_told (Ends.Device s) = Some s

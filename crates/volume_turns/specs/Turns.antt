@@ -19,7 +19,7 @@ use Rattle.fsd_runs.specs.Leaves.{SaysNext}
 use Rattle.volume_turns.specs.declared.turns.End.{End}
 use Rattle.volume_turns.specs.declared.turns.End.TheVariants.{Fault as Stopped, Output}
 use Rattle.sector_disk.specs.Calls.{DiskFaults, Since}
-use Rattle.volume_turns.specs.Steps.{device_told}
+use Rattle.volume_turns.specs.Steps.{IsOfVolume, device_told}
 use Rattle.volume_contract.specs.State.{State, Ages, Known, volume_of, forced_of, Stands}
 
 -- A moment of a run of these turns over a volume that stands so: some are said whole, and a part of what comes next. The disk is
@@ -63,6 +63,11 @@ abbrev pub EndsAtOnce : Fault → Type 0
 EndsAtOnce (Ends.Device s) = ⊤
 EndsAtOnce Ends.Memory = ⊤
 EndsAtOnce fault = ⊥
+
+-- an end by a fault that is none of the input, or by the output
+abbrev pub IsEndOfVolume : End → Type 0
+IsEndOfVolume (Stopped fault) = IsOfVolume fault
+IsEndOfVolume Output = ⊤
 
 -- What was said is whole turns, and not all that were begun, or no more were. The disk is sound for the changes of these and of the
 -- one behind them, where one was begun.

@@ -1,6 +1,6 @@
 //! What a command answers.
-ghost use Rattle.std.specs.Prelude.{◌≡◌};
-ghost use Rattle.volume_turns.specs.Steps.{ended_by, read_ended_by};
+ghost use Rattle.std.specs.Prelude.{◌≡◌, IfErr};
+ghost use Rattle.volume_turns.specs.Steps.{IsOfVolume, ended_by, read_ended_by};
 
 use fsd_bytes::{Key, Refusal};
 use fsd_formats::Entry;
@@ -23,7 +23,8 @@ pub enum Answer {
 
 // A refusal is said, or ends the run.
 pub(crate) fn ended_by(why: Refusal) -> Result<Answer, Fault>
-    ensures { result ≡ ended_by why }
+    ensures is { result ≡ ended_by why }
+    ensures fault { IfErr result IsOfVolume }
 {
     match why {
         Refusal::Device(s) => Err(Fault::Device(s)),
@@ -38,7 +39,8 @@ pub(crate) fn ended_by(why: Refusal) -> Result<Answer, Fault>
 
 // So it is of a read, whose damaged sector is said.
 pub(crate) fn read_ended_by(key: &Key, why: Refusal) -> Result<Answer, Fault>
-    ensures { result ≡ read_ended_by key.now why }
+    ensures is { result ≡ read_ended_by key.now why }
+    ensures fault { IfErr result IsOfVolume }
 {
     match why {
         Refusal::Damaged(sector) => Ok(Answer::Damaged {

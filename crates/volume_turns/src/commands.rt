@@ -1,11 +1,11 @@
 //! One command over a mounted volume.
-ghost use Rattle.std.specs.Prelude.{◌≡◌, ◌≤◌, length, None, OnOk, IfSome};
+ghost use Rattle.std.specs.Prelude.{◌≡◌, ◌≤◌, length, None, OnOk, IfErr, IfSome};
 ghost use Rattle.fsd_formats.specs.NamePage.{max_length, sectors_for};
 ghost use Rattle.fsd_files.specs.Answers.{entry_of};
 ghost use Rattle.fsd_texts.specs.declared.command.Command.TheVariants as Word;
 ghost use Rattle.sector_disk.specs.Calls.{OnlyReads, WritesDisk};
 ghost use Rattle.volume_contract.specs.State.{Known, Stands, volume_of};
-ghost use Rattle.volume_turns.specs.Steps.{Does, Stays, device_by};
+ghost use Rattle.volume_turns.specs.Steps.{Does, IsOfVolume, Stays, device_by};
 
 use crate::answer::{Answer, ended_by, read_ended_by};
 use crate::listing::list;
@@ -28,6 +28,7 @@ pub(crate) fn put<M: Machine, V: Files<M>>(
     ensures layout { (V.state v.new).layout ≡ (V.state v.old).layout }
     ensures up { OnOk result ((V.state v.new).down ≡ None) }
     ensures disk { WritesDisk M.Machine (device_by result) (Stays V.state V.holds v.old) m.old m.new }
+    ensures fault { IfErr result IsOfVolume }
     ensures done { M.honest m.new → (k : Known) → Stands V.state V.holds v.old k (M.now m.old) →
         Does V.state V.holds (Word.Put name.now bytes.now keep) v.old v.new k (M.now m.old) (M.now m.new) result }
 {
@@ -51,6 +52,7 @@ pub(crate) fn delete<M: Machine, V: Files<M>>(
     ensures layout { (V.state v.new).layout ≡ (V.state v.old).layout }
     ensures up { OnOk result ((V.state v.new).down ≡ None) }
     ensures disk { WritesDisk M.Machine (device_by result) (Stays V.state V.holds v.old) m.old m.new }
+    ensures fault { IfErr result IsOfVolume }
     ensures done { M.honest m.new → (k : Known) → Stands V.state V.holds v.old k (M.now m.old) →
         Does V.state V.holds (Word.Delete key.now) v.old v.new k (M.now m.old) (M.now m.new) result }
 {
@@ -72,6 +74,7 @@ pub(crate) fn set_keep<M: Machine, V: Files<M>>(
     ensures layout { (V.state v.new).layout ≡ (V.state v.old).layout }
     ensures up { OnOk result ((V.state v.new).down ≡ None) }
     ensures disk { WritesDisk M.Machine (device_by result) (Stays V.state V.holds v.old) m.old m.new }
+    ensures fault { IfErr result IsOfVolume }
     ensures done { M.honest m.new → (k : Known) → Stands V.state V.holds v.old k (M.now m.old) →
         Does V.state V.holds (Word.Keep name.now keep) v.old v.new k (M.now m.old) (M.now m.new) result }
 {
@@ -88,6 +91,7 @@ pub(crate) fn force<M: Machine, V: Files<M>>(v: &mut V, m: &mut M) -> Result<Ans
     ensures layout { (V.state v.new).layout ≡ (V.state v.old).layout }
     ensures up { OnOk result ((V.state v.new).down ≡ None) }
     ensures disk { WritesDisk M.Machine (device_by result) (Stays V.state V.holds v.old) m.old m.new }
+    ensures fault { IfErr result IsOfVolume }
     ensures done { M.honest m.new → (k : Known) → Stands V.state V.holds v.old k (M.now m.old) →
         Does V.state V.holds Word.Force v.old v.new k (M.now m.old) (M.now m.new) result }
 {
@@ -104,6 +108,7 @@ pub(crate) fn tick<M: Machine, V: Files<M>>(v: &mut V, m: &mut M) -> Result<Answ
     ensures layout { (V.state v.new).layout ≡ (V.state v.old).layout }
     ensures up { OnOk result ((V.state v.new).down ≡ None) }
     ensures disk { WritesDisk M.Machine (device_by result) (Stays V.state V.holds v.old) m.old m.new }
+    ensures fault { IfErr result IsOfVolume }
     ensures done { M.honest m.new → (k : Known) → Stands V.state V.holds v.old k (M.now m.old) →
         Does V.state V.holds Word.Tick v.old v.new k (M.now m.old) (M.now m.new) result }
 {
@@ -125,6 +130,7 @@ pub(crate) fn get<M: Machine, V: Files<M>>(
     ensures layout { (V.state v.new).layout ≡ (V.state v.old).layout }
     ensures up { OnOk result ((V.state v.new).down ≡ None) }
     ensures disk { WritesDisk M.Machine (device_by result) (Stays V.state V.holds v.old) m.old m.new }
+    ensures fault { IfErr result IsOfVolume }
     ensures done { M.honest m.new → (k : Known) → Stands V.state V.holds v.old k (M.now m.old) →
         Does V.state V.holds (Word.Get key.now) v.old v.new k (M.now m.old) (M.now m.new) result }
 {
@@ -147,6 +153,7 @@ fn read_whole<M: Machine, V: Files<M>>(
     ensures layout { (V.state v.new).layout ≡ (V.state v.old).layout }
     ensures up { OnOk result ((V.state v.new).down ≡ None) }
     ensures disk { OnlyReads M.Machine (device_by result) m.old m.new }
+    ensures fault { IfErr result IsOfVolume }
     ensures done { M.honest m.new → (k : Known) → Stands V.state V.holds v.old k (M.now m.old) → IfSome (entry_of key.now (volume_of k).entries) (λ e. e.length ≡ length) →
         Does V.state V.holds (Word.Get key.now) v.old v.new k (M.now m.old) (M.now m.new) result }
 {
@@ -174,6 +181,7 @@ pub(crate) fn answer<M: Machine, V: Files<M>>(
     ensures layout { (V.state v.new).layout ≡ (V.state v.old).layout }
     ensures up { OnOk result ((V.state v.new).down ≡ None) }
     ensures disk { WritesDisk M.Machine (device_by result) (Stays V.state V.holds v.old) m.old m.new }
+    ensures fault { IfErr result IsOfVolume }
     ensures done { M.honest m.new → (k : Known) → Stands V.state V.holds v.old k (M.now m.old) →
         Does V.state V.holds c.now v.old v.new k (M.now m.old) (M.now m.new) result }
 {
@@ -193,6 +201,7 @@ pub(crate) fn answer<M: Machine, V: Files<M>>(
 fn count<M: Machine, V: Files<M>>(v: &mut V, m: &mut M) -> Result<Answer, Fault>
     ensures same { v.new ≡ v.old }
     ensures disk { WritesDisk M.Machine (device_by result) (Stays V.state V.holds v.old) m.old m.new }
+    ensures fault { IfErr result IsOfVolume }
     ensures done { M.honest m.new → (k : Known) → Stands V.state V.holds v.old k (M.now m.old) →
         Does V.state V.holds Word.Stat v.old v.new k (M.now m.old) (M.now m.new) result }
 {

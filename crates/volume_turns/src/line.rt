@@ -4,7 +4,7 @@ ghost use Rattle.sector_disk.specs.Calls.{LeavesDisk, Since};
 ghost use Rattle.sector_disk.specs.Machine.{LeavesOnly, Trusts, Utters};
 ghost use Rattle.fsd_texts.specs.Text.{fault_text, text};
 ghost use Rattle.fsd_runs.specs.Errands.{fault_status};
-ghost use Rattle.volume_turns.specs.Line.{EndsWith, UttersFault, is_unsaid};
+ghost use Rattle.volume_turns.specs.Line.{EndsWith, IsStatusFor, UttersFault, is_unsaid};
 ghost use Rattle.volume_turns.specs.Turns.{SaysAll, Told, Unsaid};
 ghost use Rattle.volume_turns.specs.Whole.{EndsLast, UttersLast};
 
@@ -30,6 +30,8 @@ fn fault_status(fault: Fault) -> u8
 /// Says the line of a fault, or that memory was refused for it, and gives the status; 6 where the output fails.
 pub(crate) fn end_with<M: Machine>(alloc: Global, m: &mut M, why: Fault) -> u8
     ensures says { LeavesDisk M.Machine false (is_unsaid result) (UttersFault why) m.old m.new }
+    ensures ledger { M.tells m.new → M.ledger m.new ≡ M.ledger m.old }
+    ensures status { IsStatusFor why result }
     ensures ends { M.honest m.new → EndsWith why (M.now m.old) (M.now m.new) result }
 {
     let mut text = Bytes::new(alloc);
@@ -43,6 +45,8 @@ pub(crate) fn end_with<M: Machine>(alloc: Global, m: &mut M, why: Fault) -> u8
 fn say_as<M: Machine>(m: &mut M, text: &[u8], said: Fault) -> u8
     requires { text.now ≡ fault_text said }
     ensures says { LeavesDisk M.Machine false (is_unsaid result) (Utters (fault_text said)) m.old m.new }
+    ensures ledger { M.tells m.new → M.ledger m.new ≡ M.ledger m.old }
+    ensures status { IsStatusFor said result }
     ensures ends { M.honest m.new → (result ≡ 6) ⊎ ((result ≡ fault_status said) × SaysAll (fault_text said) (M.now m.old) (M.now m.new)) }
 {
     match m.say(text) {

@@ -1,17 +1,17 @@
 //! One command by itself over a mounted volume, to its reply.
-ghost use Rattle.std.specs.Prelude.{◌≡◌, ◌≤◌, ℕ, List, None, IfOk, false};
+ghost use Rattle.std.specs.Prelude.{◌≡◌, ◌≤◌, ℕ, List, None, IfErr, IfOk, false};
 ghost use Rattle.sector_disk.specs.declared.sector.WeakRun.{WeakRun};
-ghost use Rattle.sector_disk.specs.Machine.{LeavesOnly, Trusts};
+ghost use Rattle.sector_disk.specs.Machine.{LeavesOnly, OnlyWrites, Trusts};
 ghost use Rattle.volume_layout.specs.declared.layout.Layout.{Layout as Plan};
 ghost use Rattle.fsd_files.specs.Files.{Change};
 ghost use Rattle.fsd_runs.specs.Commands.{reply_alone};
 ghost use Rattle.fsd_runs.specs.Errands.{reply_status};
 ghost use Rattle.sector_disk.specs.Calls.{Since};
 ghost use Rattle.volume_contract.specs.Mount.{IsSoundAt};
-ghost use Rattle.volume_turns.specs.Once.{ClosesAndSays, IsAlone, close_fault, fault_of, unit_of};
+ghost use Rattle.volume_turns.specs.Once.{ClosesAndSays, IsAlone, IsStatusOfReply, close_fault, fault_of, unit_of};
 ghost use Rattle.volume_contract.specs.State.{Known, Stands, is_worn, volume_of};
 ghost use Rattle.volume_turns.specs.Steps.{reply_of};
-ghost use Rattle.volume_turns.specs.Turns.{Told};
+ghost use Rattle.volume_turns.specs.Turns.{IsEndOfVolume, Told};
 
 use crate::answer::Answer;
 use crate::commands;
@@ -44,6 +44,8 @@ pub(crate) fn close_and_say<M: Machine, V: Files<M>, T: Says>(
     requires room { (V.state v).layout.sectors ≤ (M.report m.old).sectors }
     ensures told { Told (M.report m.old) (M.report m.new) result }
     ensures trust { Trusts (M.tells m.old) (M.tells m.new) (M.honest m.old) (M.honest m.new) }
+    ensures ledger { M.tells m.new → OnlyWrites (M.ledger m.old) (M.ledger m.new) }
+    ensures fault { IfErr result IsEndOfVolume }
     ensures since { M.honest m.new → Since M.Machine m.old m.new }
     ensures later { M.honest m.new → M.moment m.old ≤ M.moment m.new }
     ensures closes { M.honest m.new → (k : Known) → Stands V.state V.holds v k (M.now m.old) → ClosesAndSays M.Machine k (T.errand.says (reply_of answer.now)) m.old m.new result }
@@ -76,6 +78,8 @@ fn close_as<M: Machine, V: Files<M>, T: Says>(
     ensures status { IfOk result (λ status. status ≡ reply_status (reply_of answer.now)) }
     ensures told { Told (M.report m.old) (M.report m.new) result }
     ensures trust { Trusts (M.tells m.old) (M.tells m.new) (M.honest m.old) (M.honest m.new) }
+    ensures ledger { M.tells m.new → OnlyWrites (M.ledger m.old) (M.ledger m.new) }
+    ensures fault { IfErr result IsEndOfVolume }
     ensures since { M.honest m.new → Since M.Machine m.old m.new }
     ensures later { M.honest m.new → M.moment m.old ≤ M.moment m.new }
     ensures closes { M.honest m.new → (k : Known) → Stands V.state V.holds v k (M.now m.old) → ClosesAndSays M.Machine k (T.errand.says (reply_of answer.now)) m.old m.new (unit_of result) }
@@ -99,6 +103,9 @@ pub fn alone<M: Machine, V: Files<M> + Drop, T: Says>(
     requires says { T.errand.says ≡ reply_alone }
     ensures told { Told (M.report m.old) (M.report m.new) result }
     ensures trust { Trusts (M.tells m.old) (M.tells m.new) (M.honest m.old) (M.honest m.new) }
+    ensures ledger { M.tells m.new → OnlyWrites (M.ledger m.old) (M.ledger m.new) }
+    ensures fault { IfErr result IsEndOfVolume }
+    ensures status { IfOk result IsStatusOfReply }
     ensures since { M.honest m.new → Since M.Machine m.old m.new }
     ensures later { M.honest m.new → M.moment m.old ≤ M.moment m.new }
     ensures does { M.honest m.new → (k : Known) → (volume_of k).unforced ≡ 0 → Stands V.state V.holds v k (M.now m.old) → IsAlone M.Machine c.now k m.old m.new result }

@@ -8,7 +8,7 @@ ghost use Rattle.fsd_runs.specs.Commands.{answer};
 ghost use Rattle.fsd_runs.specs.Errands.{Errand};
 ghost use Rattle.sector_disk.specs.Calls.{Since};
 ghost use Rattle.volume_turns.specs.Steps.{reply_of};
-ghost use Rattle.volume_turns.specs.Turns.{Runs, Steps, SaysAll, Told, Unsaid};
+ghost use Rattle.volume_turns.specs.Turns.{IsEndOfVolume, Runs, Steps, SaysAll, Told, Unsaid};
 
 use crate::answer::Answer;
 use crate::commands;
@@ -40,6 +40,8 @@ pub trait Says {
 pub(crate) fn say<M: Machine, T: Says>(alloc: Global, m: &mut M, answer: &Answer) -> Result<(), End>
     ensures told { Told (M.report m.old) (M.report m.new) result }
     ensures trust { Trusts (M.tells m.old) (M.tells m.new) (M.honest m.old) (M.honest m.new) }
+    ensures ledger { M.tells m.new → M.ledger m.new ≡ M.ledger m.old }
+    ensures fault { IfErr result IsEndOfVolume }
     ensures since { M.honest m.new → Since M.Machine m.old m.new }
     ensures moments { M.honest m.new → LeavesOnly M.moment M.left_since m.old m.new (Utters (T.errand.says (reply_of answer.now)) (M.now m.old)) }
     ensures said { OnOk result (M.honest m.new → SaysAll (T.errand.says (reply_of answer.now)) (M.now m.old) (M.now m.new)) }

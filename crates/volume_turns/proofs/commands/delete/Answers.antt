@@ -28,7 +28,7 @@ returns-in-Err-clause-disk g c =
     let V = g.V.Files in
     let v = c.args.v.now in
     let s = V.state v in
-    subst (λ (f : Option ℕ). WritesDisk g.M.Machine f (Stays V.state V.holds v) c.args.m.now c.delete.new.m) (same_device c.in-Err.why (delete_down s c.requires.up c.in-Err.why c.in-Err.ensures.order) ∙ ap (λ (r : Result Answer Fault). device_by r) (sym c.ended_by.ensures))
+    subst (λ (f : Option ℕ). WritesDisk g.M.Machine f (Stays V.state V.holds v) c.args.m.now c.delete.new.m) (same_device c.in-Err.why (delete_down s c.requires.up c.in-Err.why c.in-Err.ensures.order) ∙ ap (λ (r : Result Answer Fault). device_by r) (sym c.ended_by.ensures.is))
     (writes_more c.in-Err.ensures.disk (λ h left. less_touched V.state V.holds v (force_writes s.layout) (g.M.Machine.now c.args.m.now) left))
 
 pub returns-in-Ok-clause-done : goal.returns-in-Ok-clause-done
@@ -48,7 +48,7 @@ returns-in-Err-clause-done g c h k stands =
     let s = V.state c.args.v.now in
     let why = c.in-Err.why in
     let order = c.in-Err.ensures.order in
-    subst (λ (r : Result Answer Fault). Does V.state V.holds (Word.Delete c.args.key.now) c.args.v.now c.delete.new.self k (M.now c.args.m.now) (M.now c.delete.new.m) r) (sym c.ended_by.ensures)
+    subst (λ (r : Result Answer Fault). Does V.state V.holds (Word.Delete c.args.key.now) c.args.v.now c.delete.new.self k (M.now c.args.m.now) (M.now c.delete.new.m) r) (sym c.ended_by.ensures.is)
     (refused_does V.state V.holds (Word.Delete c.args.key.now) c.args.v.now c.delete.new.self k (M.now c.args.m.now) (M.now c.delete.new.m) (λ met. delete_outcome met (volume_of k) c.args.key.now) (λ met. refl) (λ met. tt) why refl
     (λ other may. delete_unworn s c.requires.up why order other)
     (λ is. record { may = refl; worn = delete_worn s c.requires.up (subst (λ (x : Refusal). Comes (down s ∷ delete_all s) x) is order) })

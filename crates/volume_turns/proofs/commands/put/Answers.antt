@@ -47,7 +47,7 @@ returns-in-Err-clause-disk g c =
     let keep = c.args.keep in
     let size = size_fault (keep_given keep) (length bytes) in
     let down = never_down s c.requires.up size (put_rest s (sectors_for (length bytes))) (size_never (keep_given keep) (length bytes)) (put_never s (sectors_for (length bytes))) c.in-Err.why c.in-Err.ensures.order in
-    subst (λ (f : Option ℕ). WritesDisk g.M.Machine f (Stays V.state V.holds v) c.args.m.now c.put.new.m) (same_device c.in-Err.why down ∙ ap (λ (r : Result Answer Fault). device_by r) (sym c.ended_by.ensures))
+    subst (λ (f : Option ℕ). WritesDisk g.M.Machine f (Stays V.state V.holds v) c.args.m.now c.put.new.m) (same_device c.in-Err.why down ∙ ap (λ (r : Result Answer Fault). device_by r) (sym c.ended_by.ensures.is))
     (writes_more c.in-Err.ensures.disk (λ h left. less_touched V.state V.holds v (put_writes s (sectors_for (length bytes))) (g.M.Machine.now c.args.m.now) left))
 
 pub returns-in-Err-clause-done : goal.returns-in-Err-clause-done
@@ -65,7 +65,7 @@ returns-in-Err-clause-done g c h k stands =
     let sizes = size_never (keep_given keep) (length bytes) in
     let others = put_never s (sectors_for (length bytes)) in
     let order = c.in-Err.ensures.order in
-    subst (λ (r : Result Answer Fault). Does V.state V.holds command c.args.v.now c.put.new.self k (M.now c.args.m.now) (M.now c.put.new.m) r) (sym c.ended_by.ensures)
+    subst (λ (r : Result Answer Fault). Does V.state V.holds command c.args.v.now c.put.new.self k (M.now c.args.m.now) (M.now c.put.new.m) r) (sym c.ended_by.ensures.is)
     (refused_does V.state V.holds command c.args.v.now c.put.new.self k (M.now c.args.m.now) (M.now c.put.new.m) (λ met. put_outcome met (volume_of k) name bytes keep) (λ met. refl) (λ met. tt) why refl
     (λ other may. unworn_by s c.requires.up size rest sizes others why order other (is_no_fault size may))
     (λ is. let w = worn_by s c.requires.up size rest sizes others (subst (λ (x : Refusal). Comes (steps_of s size rest) x) is order) in record { may = no_fault_is size w.0; worn = w.1 })

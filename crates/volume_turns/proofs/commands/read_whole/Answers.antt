@@ -31,7 +31,7 @@ returns-in-Ok-read-clause-done g c h k stands len =
 pub returns-in-Err-clause-disk : goal.returns-in-Err-clause-disk
 returns-in-Err-clause-disk g c =
     let s = g.V.Files.state c.args.v.now in
-    subst (λ (f : Option ℕ). OnlyReads g.M.Machine f c.args.m.now c.read.new.m) (same_read_device c.args.key.now c.in-Err.why (read_down s c.requires.up c.in-Err.why c.in-Err.ensures.order) ∙ ap (λ (r : Result Answer Fault). device_by r) (sym c.read_ended_by.ensures)) c.in-Err.ensures.disk
+    subst (λ (f : Option ℕ). OnlyReads g.M.Machine f c.args.m.now c.read.new.m) (same_read_device c.args.key.now c.in-Err.why (read_down s c.requires.up c.in-Err.why c.in-Err.ensures.order) ∙ ap (λ (r : Result Answer Fault). device_by r) (sym c.read_ended_by.ensures.is)) c.in-Err.ensures.disk
 
 pub returns-in-Err-clause-done : goal.returns-in-Err-clause-done
 returns-in-Err-clause-done g c h k stands len =
@@ -40,5 +40,5 @@ returns-in-Err-clause-done g c h k stands len =
     let e = entry_of c.args.key.now (volume_of k).entries in
     let size : length c.as_mut_slice.result.now ≡ c.args.length = omega (arith, c.in-Ok.ensures.len, c.as_mut_slice.ensures.len) in
     let lens = subst (λ (n : ℕ). IfSome e (λ x. x.length ≡ n)) (sym size) len in
-    subst (λ (r : Result Answer Fault). Does V.state V.holds (Word.Get c.args.key.now) c.args.v.now c.read.new.self k (M.now c.args.m.now) (M.now c.read.new.m) r) (sym c.read_ended_by.ensures)
+    subst (λ (r : Result Answer Fault). Does V.state V.holds (Word.Get c.args.key.now) c.args.v.now c.read.new.self k (M.now c.args.m.now) (M.now c.read.new.m) r) (sym c.read_ended_by.ensures.is)
     (unread_does V.state V.holds c.args.key.now c.args.v.now c.read.new.self k (M.now c.args.m.now) (M.now c.read.new.m) c.as_mut_slice.result.now c.read.new.buf c.in-Err.why lens (c.in-Err.ensures.stands h k stands) (c.in-Err.ensures.done h k stands))

@@ -29,7 +29,7 @@ returns-in-Err-clause-disk g c =
     let V = g.V.Files in
     let v = c.args.v.now in
     let s = V.state v in
-    subst (λ (f : Option ℕ). WritesDisk g.M.Machine f (Stays V.state V.holds v) c.args.m.now c.set_keep.new.m) (same_device c.in-Err.why (never_down s c.requires.up (cond (nat_lt max_keep c.args.keep) (Some (Why.KeepTooLarge c.args.keep)) None) (edit_rest s) (keep_never c.args.keep) (edit_never s) c.in-Err.why c.in-Err.ensures.order) ∙ ap (λ (r : Result Answer Fault). device_by r) (sym c.ended_by.ensures))
+    subst (λ (f : Option ℕ). WritesDisk g.M.Machine f (Stays V.state V.holds v) c.args.m.now c.set_keep.new.m) (same_device c.in-Err.why (never_down s c.requires.up (cond (nat_lt max_keep c.args.keep) (Some (Why.KeepTooLarge c.args.keep)) None) (edit_rest s) (keep_never c.args.keep) (edit_never s) c.in-Err.why c.in-Err.ensures.order) ∙ ap (λ (r : Result Answer Fault). device_by r) (sym c.ended_by.ensures.is))
     (writes_more c.in-Err.ensures.disk (λ h left. less_touched V.state V.holds v (force_writes s.layout) (g.M.Machine.now c.args.m.now) left))
 
 pub returns-in-Ok-clause-done : goal.returns-in-Ok-clause-done
@@ -48,7 +48,7 @@ returns-in-Err-clause-done g c h k stands =
     let s = V.state c.args.v.now in
     let why = c.in-Err.why in
     let order = c.in-Err.ensures.order in
-    subst (λ (r : Result Answer Fault). Does V.state V.holds (Word.Keep c.args.name.now c.args.keep) c.args.v.now c.set_keep.new.self k (M.now c.args.m.now) (M.now c.set_keep.new.m) r) (sym c.ended_by.ensures)
+    subst (λ (r : Result Answer Fault). Does V.state V.holds (Word.Keep c.args.name.now c.args.keep) c.args.v.now c.set_keep.new.self k (M.now c.args.m.now) (M.now c.set_keep.new.m) r) (sym c.ended_by.ensures.is)
     (refused_does V.state V.holds (Word.Keep c.args.name.now c.args.keep) c.args.v.now c.set_keep.new.self k (M.now c.args.m.now) (M.now c.set_keep.new.m) (λ met. keep_outcome met (volume_of k) c.args.name.now c.args.keep) (λ met. refl) (λ met. tt) why refl
     (λ other may. unworn_by s c.requires.up (cond (nat_lt max_keep c.args.keep) (Some (Why.KeepTooLarge c.args.keep)) None) (edit_rest s) (keep_never c.args.keep) (edit_never s) why order other (keep_fits (nat_lt max_keep c.args.keep) (Why.KeepTooLarge c.args.keep) may))
     (λ is. let w = worn_by s c.requires.up (cond (nat_lt max_keep c.args.keep) (Some (Why.KeepTooLarge c.args.keep)) None) (edit_rest s) (keep_never c.args.keep) (edit_never s) (subst (λ (x : Refusal). Comes (steps_of s (cond (nat_lt max_keep c.args.keep) (Some (Why.KeepTooLarge c.args.keep)) None) (edit_rest s)) x) is order) in record { may = fits_keep (nat_lt max_keep c.args.keep) (Why.KeepTooLarge c.args.keep) w.0; worn = w.1 })

@@ -24,7 +24,7 @@ returns-in-Err-clause-disk g c =
     let V = g.V.Files in
     let v = c.args.v.now in
     let s = V.state v in
-    subst (λ (f : Option ℕ). WritesDisk g.M.Machine f (Stays V.state V.holds v) c.args.m.now c.tick.new.m) (same_device c.in-Err.why (force_down s c.requires.up _ c.in-Err.why c.in-Err.ensures.order) ∙ ap (λ (r : Result Answer Fault). device_by r) (sym c.ended_by.ensures))
+    subst (λ (f : Option ℕ). WritesDisk g.M.Machine f (Stays V.state V.holds v) c.args.m.now c.tick.new.m) (same_device c.in-Err.why (force_down s c.requires.up _ c.in-Err.why c.in-Err.ensures.order) ∙ ap (λ (r : Result Answer Fault). device_by r) (sym c.ended_by.ensures.is))
     (writes_more c.in-Err.ensures.disk (λ h left. less_touched V.state V.holds v (force_writes s.layout) (g.M.Machine.now c.args.m.now) left))
 
 pub returns-in-Ok-clause-done : goal.returns-in-Ok-clause-done
@@ -38,5 +38,5 @@ pub returns-in-Err-clause-done : goal.returns-in-Err-clause-done
 returns-in-Err-clause-done g c h k stands =
     let V = g.V.Files in
     let M = g.M.Machine in
-    subst (λ (r : Result Answer Fault). Does V.state V.holds Word.Tick c.args.v.now c.tick.new.self k (M.now c.args.m.now) (M.now c.tick.new.m) r) (sym c.ended_by.ensures)
+    subst (λ (r : Result Answer Fault). Does V.state V.holds Word.Tick c.args.v.now c.tick.new.self k (M.now c.args.m.now) (M.now c.tick.new.m) r) (sym c.ended_by.ensures.is)
     (force_does V.state V.holds Word.Tick c.args.v.now c.tick.new.self k (M.now c.args.m.now) (M.now c.tick.new.m) (λ met. force_outcome (volume_of k)) Reply.Forced c.in-Err.why (c.in-Err.ensures.done h k stands))

@@ -44,12 +44,12 @@ returns-in-Err-clause-disk g c =
     let v = c.args.v.now in
     let disk = c.in-Err.ensures.disk in
     let up = λ (t : ℕ) (is : c.in-Err.why ≡ Why.Down t). subst IsLookUp is c.in-Err.ensures.refusal in
-    subst (λ (f : Option ℕ). WritesDisk M f (Stays V.state V.holds v) c.args.m.now c.collect.new.m) (same_device c.in-Err.why up ∙ ap (λ (r : Result Answer Fault). device_by r) (sym c.ended_by.ensures))
+    subst (λ (f : Option ℕ). WritesDisk M f (Stays V.state V.holds v) c.args.m.now c.collect.new.m) (same_device c.in-Err.why up ∙ ap (λ (r : Result Answer Fault). device_by r) (sym c.ended_by.ensures.is))
     (reads_as_writes disk (λ h left worn. wear_stays V.state V.holds v (M.now c.args.m.now) left (λ k. g.met.V.Files.wears v k (M.now c.args.m.now) left (g.met.M.Machine.short c.args.m.now (disk.trust.honest h)) (record { image = worn.image; windows = worn.windows })) worn))
 
 pub returns-in-Err-clause-done : goal.returns-in-Err-clause-done
 returns-in-Err-clause-done g c h k stands =
     let V = g.V.Files in
     let M = g.M.Machine in
-    subst (λ (r : Result Answer Fault). Does V.state V.holds (Word.List c.args.pattern.now) c.args.v.now c.collect.new.v k (M.now c.args.m.now) (M.now c.collect.new.m) r) (sym c.ended_by.ensures)
+    subst (λ (r : Result Answer Fault). Does V.state V.holds (Word.List c.args.pattern.now) c.args.v.now c.collect.new.v k (M.now c.args.m.now) (M.now c.collect.new.m) r) (sym c.ended_by.ensures.is)
     (outside_does V.state V.holds (Word.List c.args.pattern.now) c.args.v.now c.collect.new.v k (M.now c.args.m.now) (M.now c.collect.new.m) c.in-Err.why (c.in-Err.ensures.done h k stands))

@@ -1,7 +1,8 @@
 use Rattle.std.proofs.Common.{ℕ, Err, subst, arith}
 use Rattle.volume_turns.specs.declared.turns.End.{End}
 use Rattle.volume_turns.specs.Once.{IsAlone}
-use Rattle.volume_turns.specs.Turns.{Told}
+use Rattle.volume_turns.specs.Turns.{IsEndOfVolume, Told}
+use Rattle.volume_turns.proofs.StatusLaws.{fault_counts, fault_is_one}
 use Rattle.volume_turns.proofs.OneLaws.{one_broken, one_said, one_unsaid}
 use Rattle.volume_turns.proofs.whole.one_on.Goals as goal
 
@@ -33,3 +34,13 @@ returns-in-Err-Output-clause-runs g c h rest k none stands =
     let b = c.alone.new.m in
     one_unsaid M c.args.c.now rest k a b (subst (λ (e : End). IsAlone M c.args.c.now k a b (Err e)) c.in-Err-Output.field-0-is (c.in-Err-Output.ensures.does h k none stands))
     (subst (λ (e : End). Told {T = ℕ} (M.report a) (M.report b) (Err e)) c.in-Err-Output.field-0-is c.in-Err-Output.ensures.told)
+
+pub returns-in-Err-Fault-clause-status : goal.returns-in-Err-Fault-clause-status
+returns-in-Err-Fault-clause-status g c = fault_is_one c.in-Err-Fault.why c.end_with.result (subst IsEndOfVolume c.in-Err-Fault.field-0-is c.in-Err-Fault.ensures.fault) c.end_with.ensures.status
+
+pub returns-in-Err-Fault-clause-counts : goal.returns-in-Err-Fault-clause-counts
+returns-in-Err-Fault-clause-counts g c =
+    let M = g.M.Machine in
+    let a = M.report c.args.m.now in
+    let p = M.report c.alone.new.m in
+    fault_counts a p (M.report c.end_with.new.m) c.end_with.result c.end_with.ensures.says.spares c.in-Err-Fault.why (subst (λ (e : End). Told {T = ℕ} a p (Err e)) c.in-Err-Fault.field-0-is c.in-Err-Fault.ensures.told) c.end_with.ensures.status

@@ -1,0 +1,80 @@
+-- A format on a new image, and its line.
+use Rattle.std.proofs.Common.{◌≡◌, ◌⊎◌, inl, inr, ℕ, zero, suc, ◌≤◌, List, [], ◌∷◌, ◌++◌, None, replicate, refl, ap, subst, sym, ◌∙◌, arith}
+use Rattle.std.specs.Prelude.{Result, Ok, Err, OnOk}
+use Rattle.std.specs.List.{last_or}
+use Rattle.sector_disk.specs.declared.sector.Sector.{Sector}
+use Rattle.sector_disk.specs.declared.sector.Sector.TheVariants.{Damaged}
+use Rattle.sector_disk.specs.declared.sector.WeakRun.{WeakRun}
+use Rattle.sector_disk.specs.Image.{AreShort, IsShort, IsWorn, Windows, in_run, open_damage, sector_at}
+use Rattle.sector_disk.specs.Machine.{Makes, Moment}
+use Rattle.sector_disk.proofs.Wear.{worn_trans}
+use Rattle.volume_layout.specs.declared.layout.Layout.{Layout}
+use Rattle.fsd_sound.specs.Format.{IsFormattedIn}
+use Rattle.fsd_sound.specs.Sound.{IsSound}
+use Rattle.fsd_sound.proofs.FormatSoundLaws.{format_is_sound}
+use Rattle.fsd_sound.proofs.SoundLaws.{sound_still}
+use Rattle.fsd_sound.proofs.WindowLaws.{windows_are_narrow}
+use Rattle.volume_format.specs.Formatting.{Formats, IsNew}
+use Rattle.volume_layout.specs.declared.fault.LayoutFault.{LayoutFault}
+use Rattle.fsd_texts.specs.declared.line.Line.{Line}
+use Rattle.fsd_texts.specs.Text.{memory_text, text}
+use Rattle.cfs_program.specs.Ending.{EndsAs, UttersLine}
+use Rattle.cfs_program.specs.Formatting.{HoldsVolume, IsUntouched, MakesVolume, SaysFor, SaysFormat}
+
+sector_at-replicate : (count s : ℕ) → sector_at (replicate count Damaged) s ≡ Damaged
+sector_at-replicate zero s = refl
+sector_at-replicate (suc count) zero = refl
+sector_at-replicate (suc count) (suc s) = sector_at-replicate count s
+
+formatted_sound : (l : Layout) (run : WeakRun) (i : List Sector) → IsShort run → IsFormattedIn l run i → IsSound l (run ∷ []) [] 0 i
+formatted_sound l run i short f =
+    let few : run.count ≤ 3 = omega (arith, short) in
+    let narrow = windows_are_narrow (run ∷ []) (last_or None (run ∷ [])) refl few in
+    sound_still l (run ∷ []) narrow [] 0 f.written i f.worn (format_is_sound l (run ∷ []) narrow f.written f.formatted)
+
+pub volume_made : (l : Layout) (count : ℕ) (old mid new : Moment) → AreShort new.windows → Makes count old mid → (IsNew mid → Formats l mid new) → MakesVolume l old new
+volume_made l count old mid new are_short made done =
+    let formats = done (record {
+      damaged = λ s. ap (λ (i : List Sector). sector_at i s) made.image ∙ sector_at-replicate count s;
+      windows = made.windows;
+    }) in
+    let short : IsShort formats.run = (subst (λ (w : Windows). AreShort w) formats.windows are_short).present in
+    record {
+      holds = record { run = formats.run; short = short; formatted = formats.formatted; sound = formatted_sound l formats.run new.image short formats.formatted; windows = formats.windows };
+      said = formats.said ∙ made.said;
+    }
+
+-- an empty volume in its own window is still one after what that window may wear
+pub holds_on : (l : Layout) (between after : Moment) → HoldsVolume l between → IsUntouched between after → HoldsVolume l after
+holds_on l between after holds still =
+    let may = λ (w : Windows). IsWorn (open_damage w) between.image after.image in
+    let formatted : IsFormattedIn l holds.run after.image = record {
+      written = holds.formatted.written;
+      formatted = holds.formatted.formatted;
+      worn = worn_trans (in_run holds.run) holds.formatted.written between.image after.image holds.formatted.worn (subst may holds.windows still.image);
+    } in
+    record {
+      run = holds.run;
+      short = holds.short;
+      formatted = formatted;
+      sound = formatted_sound l holds.run after.image holds.short formatted;
+      windows = still.windows ∙ holds.windows;
+    }
+
+pub made_of : {E : Type 0} (l : Layout) (count : ℕ) (old mid new : Moment) (H : Type 0) (result : Result (Unit {0}) E) → (H → AreShort new.windows) → (H → Makes count old mid)
+    → OnOk result (H → IsNew mid → Formats l mid new) → OnOk result (H → MakesVolume l old new)
+made_of l count old mid new H (Ok x) short makes done = λ h. volume_made l count old mid new (short h) (makes h) (done h)
+made_of l count old mid new H (Err e) short makes done = tt
+
+-- ---- its line
+
+pub untouched_by : (line : Line) (old new : Moment) → UttersLine line old new → IsUntouched old new
+untouched_by line old new (said, which, utters) = record { image = utters.image; windows = utters.windows }
+
+pub format_said : (planned : Result Layout LayoutFault) (place : ℕ) (line : Line) (status : ℕ) (old mid new : Moment) (result : ℕ) → mid.said ≡ old.said → SaysFor planned place status (text line)
+    → (result ≡ 6) ⊎ EndsAs line status mid new result → SaysFormat planned place old new result
+format_said planned place line status old mid new result quiet for (inl six) = inl six
+format_said planned place line status old mid new result quiet for (inr (inl (is, all))) =
+    inr (text line, subst (λ (n : ℕ). SaysFor planned place n (text line)) (sym is) for, all.said ∙ ap (λ (s : List ℕ). s ++ text line) quiet)
+format_said planned place line status old mid new result quiet for (inr (inr (seven, all))) =
+    inr (memory_text, inr (inr (seven, refl)), all.said ∙ ap (λ (s : List ℕ). s ++ memory_text) quiet)

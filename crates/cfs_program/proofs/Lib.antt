@@ -1,0 +1,5 @@
+mod AnchorLaws
+mod EndedLaws
+mod FormatLaws
+mod OpeningLaws
+mod ProgramLaws

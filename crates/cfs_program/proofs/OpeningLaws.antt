@@ -1,0 +1,204 @@
+-- A run behind the attach of its image.
+use Rattle.std.proofs.Common.{◌≡◌, ◌⊎◌, inl, inr, ℕ, ◌^◌, ◌-◌, min, List, [], ◌∷◌, ◌++◌, length, take, Option, Some, refl, sym, ◌∙◌, ap, subst, arith}
+use Rattle.std.specs.Prelude.{IsSome}
+use Rattle.std.proofs.lemmas.List.{append-nil}
+use Rattle.volume_layout.specs.declared.layout.Layout.{Layout}
+use Rattle.volume_layout.proofs.RootLaws.{planned_bounds}
+use Rattle.sector_disk.specs.declared.machine.Machine.{Ghosts}
+use Rattle.sector_disk.specs.declared.sector.WeakRun.{WeakRun}
+use Rattle.sector_disk.specs.Image.{AreShort, Windows, open_damage}
+use Rattle.sector_disk.specs.Machine.{Before, Elapses, Finds, LeavesOnly, Moment, Report, Rose, Wears}
+use Rattle.sector_disk.proofs.Moments.{goes_on, leaves_more, started, then_on}
+use Rattle.sector_disk.proofs.Wear.{worn_trans}
+use Rattle.fsd_files.specs.Files.{Change}
+use Rattle.fsd_files.specs.Disk.{in_runs}
+use Rattle.fsd_sound.specs.Sound.{weak_of}
+use Rattle.fsd_sound.proofs.MoreLaws.{wear_sound}
+use Rattle.fsd_sound.proofs.WindowLaws.{open_is_weak}
+use Rattle.fsd_texts.specs.declared.fault.Fault.{Fault}
+use Rattle.fsd_texts.specs.declared.fault.Fault.TheVariants as Ends
+use Rattle.fsd_texts.specs.Text.{fault_text}
+use Rattle.fsd_runs.specs.declared.request.Request.{Request}
+use Rattle.fsd_runs.specs.declared.request.Request.TheVariants.{Put}
+use Rattle.fsd_runs.specs.Errands.{Cut, Turn}
+use Rattle.fsd_runs.specs.Leaves.{CutCause, IsBroken, IsOutside, IsReplied, IsSpent, IsUnsaid, LeavesMounted, LeavesRun, LeavesUnmounted, Left, LeftBefore, LeftSince, SaysFault}
+use Rattle.fsd_runs.specs.Runs.{Goes, IsCutAt, IsThrough, Run, errand_in, run_end, run_status, run_turns, said_in}
+use Rattle.volume_contract.specs.Mount.{IsSoundAt}
+use Rattle.cfs_program.specs.Opening.{IsSoundDisk}
+use Rattle.cfs_program.proofs.AnchorLaws.{last_before}
+
+-- the counts of faults are the same
+pub record SameFaults (a b : Report) : Type 0 where
+  pub disk : b.disk_faults ≡ a.disk_faults
+  pub input : b.input_faults ≡ a.input_faults
+  pub output : b.output_faults ≡ a.output_faults
+
+rose_on : (a b c : ℕ) → b ≡ a → Rose b c → Rose a c
+rose_on a b c same rose = subst (λ (n : ℕ). Rose n c) same rose
+
+outside_on : (request : Request) (a b c : Report) (why : Fault) → SameFaults a b → IsOutside request b c why → IsOutside request a c why
+outside_on request a b c (Ends.Device s) same out = record { rose = rose_on a.disk_faults b.disk_faults c.disk_faults same.disk out.rose; told = out.told }
+outside_on request a b c Ends.Memory same out = tt
+outside_on (Put name keep) a b c Ends.Input same out = rose_on a.input_faults b.input_faults c.input_faults same.input out
+outside_on request a b c other same out = absurd out
+
+cause_on : (cut : Cut) (input rest : List ℕ) (a b c : Report) → SameFaults a b → CutCause cut input rest b c → CutCause cut input rest a c
+cause_on (Some (k, Ends.Input)) input rest a b c same cause = record { rose = rose_on a.input_faults b.input_faults c.input_faults same.input cause.rose; taken = cause.taken; all = cause.all; commands = cause.commands }
+cause_on cut input rest a b c same cause = tt
+
+-- an image of a sound disk that was worn
+nothing_said : SaysFault []
+nothing_said = (Ends.Memory, 0, tt, refl)
+
+module _ (l : Layout) (windows : List WeakRun) (h : List Change) (f : ℕ) (old : Moment) (sound : IsSoundDisk l windows h f old) (short : AreShort old.windows) where
+  pub left_start : LeftBefore l windows h f old old
+  left_start = record { present = refl; part = []; said = sym (append-nil old.said); fault = nothing_said; sound = sound.sound }
+
+  pub left_worn : (left : Moment) → Wears old left → LeftBefore l windows h f old left
+  left_worn left worn = record {
+    present = ap (λ (w : Windows). w.present) worn.windows;
+    part = [];
+    said = worn.said ∙ sym (append-nil old.said);
+    fault = nothing_said;
+    sound = wear_sound l windows h f old.windows old.image left.image short sound.ends worn.image sound.sound;
+  }
+
+  -- the attach has found the image
+  module _ (at : Moment) (found : Finds old at) where
+    present : at.windows.present ≡ old.windows.present
+    present = ap (λ (w : Windows). w.present) found.windows
+
+    pub left_found : LeftBefore l windows h f old at
+    left_found = record {
+      present = present;
+      part = [];
+      said = found.said ∙ sym (append-nil old.said);
+      fault = nothing_said;
+      sound = wear_sound l windows h f old.windows old.image at.image short sound.ends found.image sound.sound;
+    }
+
+    pub left_attach : (left : Moment) → Before old at left → LeftBefore l windows h f old left
+    left_attach left (inl wears) = left_worn left wears
+    left_attach left (inr is) = subst (λ (m : Moment). LeftBefore l windows h f old m) (sym is) left_found
+
+    pub before_on : (left : Moment) → LeftBefore l windows h f at left → LeftBefore l windows h f old left
+    before_on left x = record { present = x.present ∙ present; part = x.part; said = x.said ∙ ap (λ (s : List ℕ). s ++ x.part) found.said; fault = x.fault; sound = x.sound }
+
+    pub since_on : (n : ℕ) (turns : List Turn) (left : Moment) → LeftSince l windows h n turns at left → LeftSince l windows h n turns old left
+    since_on n turns left x = record {
+      run = x.run;
+      present = x.present;
+      whole = x.whole;
+      part = x.part;
+      said = x.said ∙ ap (λ (s : List ℕ). s ++ (said_in (take x.whole turns) ++ x.part)) found.said;
+      next = x.next;
+      forced = x.forced;
+      enough = x.enough;
+      sound = x.sound;
+    }
+
+    pub left_on : (n : ℕ) (turns : List Turn) (left : Moment) → Left l windows h f n turns at left → Left l windows h f n turns old left
+    left_on n turns left (inl x) = inl (before_on left x)
+    left_on n turns left (inr x) = inr (since_on n turns left x)
+
+    -- the disk that the mount finds
+    pub sound_found : (count : ℕ) → count ≡ min (length at.image) (2 ^ 32 - 1) → IsSoundAt count l windows h f at
+    sound_found count size =
+        let most = (planned_bounds l sound.planned).sectors_most in
+        let long = left_found.sound.readable.roots.fits in record {
+          planned = sound.planned;
+          fits = omega (arith, size, most, long);
+          ends = record { last = sound.ends.last ∙ sym present; some = subst (λ (w : Option WeakRun). IsSome w) (sym present) sound.ends.some };
+          sound = left_found.sound;
+        }
+
+    spent_on : (new : Moment) (status : ℕ) → IsSpent at new status → IsSpent old new status
+    spent_on new status x =
+        let was = last_before (open_damage old.windows) old.image at.image x.anchor found.image x.taken x.last in
+        record { anchor = was.0; taken = was.1; last = was.2; ends = x.ends; said = x.said ∙ ap (λ (s : List ℕ). s ++ fault_text Ends.WornOut) found.said }
+
+    module _ (request : Request) (a b c : Report) (same : SameFaults a b) (new : Moment) (status : ℕ) where
+      unsaid_on : IsUnsaid b c status → IsUnsaid a c status
+      unsaid_on x = record { ends = x.ends; rose = rose_on a.output_faults b.output_faults c.output_faults same.output x.rose }
+
+      broken_on : (turns : List Turn) → IsBroken request b c turns at new status → IsBroken request a c turns old new status
+      broken_on turns x = record {
+        why = x.why;
+        outside = outside_on request a b c x.why same x.outside;
+        ends = x.ends;
+        says = record { whole = x.says.whole; more = x.says.more; said = x.says.said ∙ ap (λ (s : List ℕ). s ++ (said_in (take x.says.whole turns) ++ fault_text x.why)) found.said };
+      }
+
+      failed_on : (turns : List Turn) → IsUnsaid b c status ⊎ IsBroken request b c turns at new status → IsUnsaid a c status ⊎ IsBroken request a c turns old new status
+      failed_on turns (inl x) = inl (unsaid_on x)
+      failed_on turns (inr x) = inr (broken_on turns x)
+
+      spent_or : (turns : List Turn) → IsSpent at new status ⊎ (IsUnsaid b c status ⊎ IsBroken request b c turns at new status) → IsSpent old new status ⊎ (IsUnsaid a c status ⊎ IsBroken request a c turns old new status)
+      spent_or turns (inl x) = inl (spent_on new status x)
+      spent_or turns (inr x) = inr (failed_on turns x)
+
+-- ---- the whole
+
+module _ {D : Type 0} (M : Ghosts D) (request : Request) (input rest : List ℕ) (l : Layout) (windows : List WeakRun) (h : List Change) (f : ℕ) (a b c : D) (status : ℕ)
+    (sound : IsSoundDisk l windows h f (M.now a)) (short : AreShort (M.now a).windows) (only : (left : Moment) → M.left_since a (M.moment a) left → left ≡ M.now a)
+    (time : Elapses (M.moment a) (M.moment b) (M.left_since a) (M.left_since b) (Before (M.now a) (M.now b))) (found : Finds (M.now a) (M.now b)) (same : SameFaults (M.report a) (M.report b)) where
+  attached : LeavesOnly M.moment M.left_since a b (LeftBefore l windows h f (M.now a))
+  attached = goes_on M.moment M.left_since a a b (LeftBefore l windows h f (M.now a)) (Before (M.now a) (M.now b))
+      (started M.moment M.left_since a (M.now a) (LeftBefore l windows h f (M.now a)) only (left_start l windows h f (M.now a) sound short)) time (left_attach l windows h f (M.now a) sound short (M.now b) found)
+
+  opened_unmounted : LeavesUnmounted request l windows h f (λ P. LeavesOnly M.moment M.left_since b c P) (M.report b) (M.report c) (M.now b) (M.now c) status
+      → LeavesUnmounted request l windows h f (λ P. LeavesOnly M.moment M.left_since a c P) (M.report a) (M.report c) (M.now a) (M.now c) status
+  opened_unmounted u = record {
+    moments = then_on M.moment M.left_since a b c (LeftBefore l windows h f (M.now a)) attached
+        (leaves_more M.moment M.left_since b c (LeftBefore l windows h f (M.now b)) (LeftBefore l windows h f (M.now a)) (before_on l windows h f (M.now a) sound short (M.now b) found) u.moments);
+    exit = before_on l windows h f (M.now a) sound short (M.now b) found (M.now c) u.exit;
+    ends = spent_or l windows h f (M.now a) sound short (M.now b) found request (M.report a) (M.report b) (M.report c) same (M.now c) status _ u.ends;
+  }
+
+  module _ (m : LeavesMounted request input rest l windows h f (M.left_since c) (λ P. LeavesOnly M.moment M.left_since b c P) (M.report b) (M.report c) (M.now b) (M.now c) status) where
+    abbrev turns : List Turn
+    turns = run_turns m.run
+
+    abbrev run_is : Run request input (windows ++ m.next ∷ []) (M.left_since c m.at) (M.now a).said m.volume m.from
+    run_is = record {
+      cut = m.run.cut;
+      may = m.run.may;
+      before = m.run.before;
+      mets = m.run.mets;
+      goes = subst (λ (base : List ℕ). Goes (in_runs (windows ++ m.next ∷ [])) (M.left_since c m.at) (IsCutAt m.run.cut) (errand_in request input m.run.cut) base m.from m.volume m.run.mets (errand_in request input m.run.cut).commands) found.said m.run.goes;
+    }
+
+    replied_on : IsReplied l windows h m.count turns (run_status m.run) (run_end m.run) (M.now b) (M.now c) status → IsReplied l windows h m.count turns (run_status m.run) (run_end m.run) (M.now a) (M.now c) status
+    replied_on x = record { ends = x.ends; said = x.said ∙ ap (λ (s : List ℕ). s ++ said_in turns) found.said; run = x.run; settled = x.settled; sound = x.sound; tells = x.tells }
+
+    ends_on : (IsThrough m.run × IsReplied l windows h m.count turns (run_status m.run) (run_end m.run) (M.now b) (M.now c) status) ⊎ (IsUnsaid (M.report b) (M.report c) status ⊎ IsBroken request (M.report b) (M.report c) turns (M.now b) (M.now c) status)
+        → (IsThrough run_is × IsReplied l windows h m.count (run_turns run_is) (run_status run_is) (run_end run_is) (M.now a) (M.now c) status) ⊎ (IsUnsaid (M.report a) (M.report c) status ⊎ IsBroken request (M.report a) (M.report c) (run_turns run_is) (M.now a) (M.now c) status)
+    ends_on (inl (through, replied)) = inl (through, replied_on replied)
+    ends_on (inr failed) = inr (failed_on l windows h f (M.now a) sound short (M.now b) found request (M.report a) (M.report b) (M.report c) same (M.now c) status turns failed)
+
+    opened_mounted : LeavesMounted request input rest l windows h f (M.left_since c) (λ P. LeavesOnly M.moment M.left_since a c P) (M.report a) (M.report c) (M.now a) (M.now c) status
+    opened_mounted = record {
+      count = m.count;
+      prefix = m.prefix;
+      next = m.next;
+      at = m.at;
+      from = m.from;
+      stood = record { moment = m.stood.moment; passed = m.stood.passed; image = m.stood.image; so_far = m.stood.so_far ∙ found.said };
+      settled = m.settled;
+      raised = record { left = m.raised.left; worn = worn_trans (weak_of windows) (M.now a).image (M.now b).image m.raised.left (open_is_weak (M.now a).windows windows (M.now a).image (M.now b).image sound.ends found.image) m.raised.worn; next = m.raised.next };
+      volume = m.volume;
+      starts = m.starts;
+      run = run_is;
+      cause = cause_on m.run.cut input rest (M.report a) (M.report b) (M.report c) same m.cause;
+      moments = then_on M.moment M.left_since a b c (Left l windows h f m.count turns (M.now a))
+          (leaves_more M.moment M.left_since a b (LeftBefore l windows h f (M.now a)) (Left l windows h f m.count turns (M.now a)) (λ left x. inl x) attached)
+          (leaves_more M.moment M.left_since b c (Left l windows h f m.count turns (M.now b)) (Left l windows h f m.count turns (M.now a)) (left_on l windows h f (M.now a) sound short (M.now b) found m.count turns) m.moments);
+      later = λ left was. since_on l windows h f (M.now a) sound short (M.now b) found m.count turns left (m.later left was);
+      exit = since_on l windows h f (M.now a) sound short (M.now b) found m.count turns (M.now c) m.exit;
+      ends = ends_on m.ends;
+    }
+
+  pub opened_run : LeavesRun request input rest l windows h f (M.left_since c) (λ P. LeavesOnly M.moment M.left_since b c P) (M.report b) (M.report c) (M.now b) (M.now c) status
+      → LeavesRun request input rest l windows h f (M.left_since c) (λ P. LeavesOnly M.moment M.left_since a c P) (M.report a) (M.report c) (M.now a) (M.now c) status
+  opened_run (inl u) = inl (opened_unmounted u)
+  opened_run (inr m) = inr (opened_mounted m)

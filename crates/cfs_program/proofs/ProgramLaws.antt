@@ -1,0 +1,302 @@
+-- What is told of each kind of request.
+use Rattle.std.proofs.Common.{◌≡◌, ◌⊎◌, inl, inr, ℕ, Bool, false, List, [], ◌∷◌, ◌++◌, refl, sym, ◌∙◌, ap, subst, arith}
+use Rattle.std.specs.Prelude.{Result, Ok, Err, IsFalse, IsTrue}
+use Rattle.std.proofs.lemmas.Bool.{eq-eqb}
+use Rattle.std.proofs.lemmas.List.{append-nil}
+use Rattle.volume_layout.specs.declared.layout.Layout.{Layout}
+use Rattle.volume_layout.specs.declared.fault.LayoutFault.{LayoutFault}
+use Rattle.volume_layout.specs.Layout.{plan}
+use Rattle.sector_disk.specs.declared.machine.Machine.{Ghosts}
+use Rattle.sector_disk.specs.declared.sector.WeakRun.{WeakRun}
+use Rattle.sector_disk.specs.Calls.{Counts, LeavesDisk, SparesDisk}
+use Rattle.sector_disk.specs.Image.{AreShort}
+use Rattle.sector_disk.specs.Machine.{Ledger, LeavesOnly, Moment, Report, Rose, Trusts}
+use Rattle.sector_disk.proofs.Holding.{wears_none}
+use Rattle.fsd_files.specs.Files.{Change}
+use Rattle.fsd_texts.specs.declared.bad_line.Cause.{Cause}
+use Rattle.fsd_texts.specs.declared.command.Command.{Command}
+use Rattle.fsd_texts.specs.declared.fault.Fault.{Fault}
+use Rattle.fsd_texts.specs.declared.fault.Fault.TheVariants as Ends
+use Rattle.fsd_texts.specs.declared.line.Line.{Line}
+use Rattle.fsd_texts.specs.declared.line.Line.TheVariants as Lines
+use Rattle.fsd_texts.specs.Text.{memory_text}
+use Rattle.fsd_files.specs.Replies.{Reply, Refused, DamagedAt}
+use Rattle.fsd_runs.specs.declared.request.Request.{Request}
+use Rattle.fsd_runs.specs.declared.request.Request.TheVariants.{Outside, BadField, Format, Put, One, Script, Generate}
+use Rattle.fsd_runs.specs.Errands.{IfMounts, fault_status, reply_status}
+use Rattle.fsd_runs.specs.Leaves.{LeavesRun}
+use Rattle.volume_turns.specs.Status.{IsOneStatus}
+use Rattle.volume_turns.specs.Steps.{IsOfVolume}
+use Rattle.cfs_program.specs.Ending.{EndsAs, IsStatusAs, UttersLine, is_unsaid}
+use Rattle.cfs_program.specs.Formatting.{AsksAll, AsksAtMost, CountsFaults, IsFormatStatus, IsMadeBy, IsUntouched, SaysFormat, SparesUnplanned, format_status, plan_asks}
+use Rattle.cfs_program.specs.Opening.{IsSoundDisk, is_from_outside, mount_asks}
+use Rattle.cfs_program.specs.Program.{LeavesInput, Ran, SaysAnswer, SaysLine, SparesImage, complete_statuses, fault_statuses, field_line, input_for, is_one_of, plan_faults}
+use Rattle.cfs_program.proofs.EndedLaws.{ended_run}
+use Rattle.cfs_program.proofs.FormatLaws.{untouched_by}
+
+one_at : (statuses : List ℕ) (n result : ℕ) → result ≡ n → IsTrue (is_one_of statuses n) → IsTrue (is_one_of statuses result)
+one_at statuses n result is has = subst (λ (x : ℕ). IsTrue (is_one_of statuses x)) (sym is) has
+
+-- ---- a line alone
+
+line_status : (result : ℕ) → IsStatusAs 2 result → IsTrue (is_one_of (2 ∷ 7 ∷ 6 ∷ []) result)
+line_status result (inl two) = one_at (2 ∷ 7 ∷ 6 ∷ []) 2 result two refl
+line_status result (inr (inl seven)) = one_at (2 ∷ 7 ∷ 6 ∷ []) 7 result seven refl
+line_status result (inr (inr six)) = one_at (2 ∷ 7 ∷ 6 ∷ []) 6 result six refl
+
+line_complete : (result : ℕ) → IsStatusAs 2 result → (result ≡ 6 → ⊥) → IsTrue (is_one_of (2 ∷ 7 ∷ []) result)
+line_complete result (inl two) said = one_at (2 ∷ 7 ∷ []) 2 result two refl
+line_complete result (inr (inl seven)) said = one_at (2 ∷ 7 ∷ []) 7 result seven refl
+line_complete result (inr (inr six)) said = absurd (said six)
+
+line_not : (n status result : ℕ) → IsStatusAs status result → (n ≡ status → ⊥) → (n ≡ 7 → ⊥) → (n ≡ 6 → ⊥) → result ≡ n → ⊥
+line_not n status result (inl is) a b c at = a (sym at ∙ is)
+line_not n status result (inr (inl seven)) a b c at = b (sym at ∙ seven)
+line_not n status result (inr (inr six)) a b c at = c (sym at ∙ six)
+
+line_says : (line : Line) (old new : Moment) (result : ℕ) → (result ≡ 6) ⊎ EndsAs line 2 old new result → SaysLine line 2 old new result
+line_says line old new result (inl six) = inl six
+line_says line old new result (inr (inl (is, all))) = inr (inl (is, all.said))
+line_says line old new result (inr (inr (seven, all))) = inr (inr (seven, all.said))
+
+output_rose : (a b : Report) (result : ℕ) → SparesDisk false (is_unsaid result) a b → result ≡ 6 → Rose a.output_faults b.output_faults
+output_rose a b result spares six = subst (λ (x : Bool). Counts x a.output_faults b.output_faults) (eq-eqb result 6 six) spares.output
+
+module _ {D : Type 0} (M : Ghosts D) (path : List ℕ) (a b : D) (line : Line) (result : ℕ) (says : LeavesDisk M false (is_unsaid result) (UttersLine line) a b) (ledger : M.tells b → M.ledger b ≡ M.ledger a)
+    (status : IsStatusAs 2 result) (ends : M.honest b → (result ≡ 6) ⊎ EndsAs line 2 (M.now a) (M.now b) result) where
+  unasked : M.tells b → (M.ledger b).attaches ≡ (M.ledger a).attaches
+  unasked t = ap (λ (x : Ledger). x.attaches) (ledger t)
+
+  pub ran_outside : line ≡ Lines.Usage → Ran M Outside path a b result
+  ran_outside is = record {
+    status = line_status result status;
+    complete = λ none. line_complete result status (λ six. none.output (output_rose (M.report a) (M.report b) result says.spares six));
+    device = λ four. absurd (line_not 4 2 result status (λ e. omega (arith, e)) (λ e. omega (arith, e)) (λ e. omega (arith, e)) four);
+    output = output_rose (M.report a) (M.report b) result says.spares;
+    attaches = λ t. inr (unasked t);
+    attached = λ zero t. unasked t ∙ sym (append-nil (M.ledger a).attaches);
+    taken = λ t. ap (λ (x : Ledger). x.input) (ledger t);
+    trust = says.trust;
+    says = λ h. subst (λ (x : Line). SaysLine x 2 (M.now a) (M.now b) result) is (line_says line (M.now a) (M.now b) result (ends h));
+    image = λ none h. line_not 0 2 result status (λ e. omega (arith, e)) (λ e. omega (arith, e)) (λ e. omega (arith, e)) none;
+    untouched = λ h. untouched_by line (M.now a) (M.now b) (says.exit h);
+    leaves = λ h l windows changes f sound. tt;
+  }
+
+  pub ran_field : (cause : Cause) → line ≡ field_line cause → Ran M (BadField cause) path a b result
+  ran_field cause is = record {
+    status = line_status result status;
+    complete = λ none. line_complete result status (λ six. none.output (output_rose (M.report a) (M.report b) result says.spares six));
+    device = λ four. absurd (line_not 4 2 result status (λ e. omega (arith, e)) (λ e. omega (arith, e)) (λ e. omega (arith, e)) four);
+    output = output_rose (M.report a) (M.report b) result says.spares;
+    attaches = λ t. inr (unasked t);
+    attached = λ zero t. unasked t ∙ sym (append-nil (M.ledger a).attaches);
+    taken = λ t. ap (λ (x : Ledger). x.input) (ledger t);
+    trust = says.trust;
+    says = λ h. subst (λ (x : Line). SaysLine x 2 (M.now a) (M.now b) result) is (line_says line (M.now a) (M.now b) result (ends h));
+    image = λ none h. line_not 0 2 result status (λ e. omega (arith, e)) (λ e. omega (arith, e)) (λ e. omega (arith, e)) none;
+    untouched = λ h. untouched_by line (M.now a) (M.now b) (says.exit h);
+    leaves = λ h l windows changes f sound. tt;
+  }
+
+-- ---- refused memory, before anything is known of the words
+
+-- its status is one of each request
+seven_format : (planned : Result Layout LayoutFault) → IsTrue (is_one_of (format_status planned ∷ 7 ∷ []) 7) × IsTrue (is_one_of ((format_status planned ∷ 7 ∷ []) ++ plan_faults planned) 7)
+seven_format (Ok l) = (refl, refl)
+seven_format (Err why) = (refl, refl)
+
+six_format : (planned : Result Layout LayoutFault) → IsTrue (is_one_of ((format_status planned ∷ 7 ∷ []) ++ plan_faults planned) 6)
+six_format (Ok l) = refl
+six_format (Err why) = refl
+
+seven_is : (request : Request) → IsTrue (is_one_of (complete_statuses request) 7) × IsTrue (is_one_of (complete_statuses request ++ fault_statuses request) 7)
+seven_is (Format n t p) = seven_format (plan n t p)
+seven_is Outside = (refl, refl)
+seven_is (BadField cause) = (refl, refl)
+seven_is (Put name keep) = (refl, refl)
+seven_is (One command) = (refl, refl)
+seven_is Script = (refl, refl)
+seven_is (Generate seed count) = (refl, refl)
+
+six_is : (request : Request) → IsTrue (is_one_of (complete_statuses request ++ fault_statuses request) 6)
+six_is (Format n t p) = six_format (plan n t p)
+six_is Outside = refl
+six_is (BadField cause) = refl
+six_is (Put name keep) = refl
+six_is (One command) = refl
+six_is Script = refl
+six_is (Generate seed count) = refl
+
+memory_status : (request : Request) (result : ℕ) → IsStatusAs 7 result → IsTrue (is_one_of (complete_statuses request ++ fault_statuses request) result)
+memory_status request result (inl seven) = one_at (complete_statuses request ++ fault_statuses request) 7 result seven (seven_is request).1
+memory_status request result (inr (inl seven)) = one_at (complete_statuses request ++ fault_statuses request) 7 result seven (seven_is request).1
+memory_status request result (inr (inr six)) = one_at (complete_statuses request ++ fault_statuses request) 6 result six (six_is request)
+
+memory_complete : (request : Request) (result : ℕ) → IsStatusAs 7 result → (result ≡ 6 → ⊥) → IsTrue (is_one_of (complete_statuses request) result)
+memory_complete request result (inl seven) said = one_at (complete_statuses request) 7 result seven (seven_is request).0
+memory_complete request result (inr (inl seven)) said = one_at (complete_statuses request) 7 result seven (seven_is request).0
+memory_complete request result (inr (inr six)) said = absurd (said six)
+
+-- all that is said is that
+abbrev SaysMemory : (old new : Moment) → ℕ → Type 0
+SaysMemory old new result = (result ≡ 6) ⊎ ((result ≡ 7) × (new.said ≡ old.said ++ memory_text))
+
+memory_said : (old new : Moment) (result : ℕ) → (result ≡ 6) ⊎ EndsAs (Lines.Ended Ends.Memory) 7 old new result → SaysMemory old new result
+memory_said old new result (inl six) = inl six
+memory_said old new result (inr (inl (seven, all))) = inr (seven, all.said)
+memory_said old new result (inr (inr (seven, all))) = inr (seven, all.said)
+
+memory_line : (line : Line) (old new : Moment) (result : ℕ) → SaysMemory old new result → SaysLine line 2 old new result
+memory_line line old new result (inl six) = inl six
+memory_line line old new result (inr said) = inr (inr said)
+
+memory_format : (planned : Result Layout LayoutFault) (place : ℕ) (old new : Moment) (result : ℕ) → SaysMemory old new result → SaysFormat planned place old new result
+memory_format planned place old new result (inl six) = inl six
+memory_format planned place old new result (inr (seven, said)) = inr (memory_text, inr (inr (seven, refl)), said)
+
+memory_says : (request : Request) (place : ℕ) (old new : Moment) (result : ℕ) → SaysMemory old new result → SaysAnswer request place old new result
+memory_says Outside place old new result said = memory_line Lines.Usage old new result said
+memory_says (BadField cause) place old new result said = memory_line (field_line cause) old new result said
+memory_says (Format n t p) place old new result said = memory_format (plan n t p) place old new result said
+memory_says request place old new result said = tt
+
+spares_plan : (planned : Result Layout LayoutFault) (old new : Moment) → IsUntouched old new → SparesUnplanned planned old new
+spares_plan (Ok l) old new still = tt
+spares_plan (Err why) old new still = still
+
+spares_image : (request : Request) (old new : Moment) → IsUntouched old new → SparesImage request old new
+spares_image Outside old new still = still
+spares_image (BadField cause) old new still = still
+spares_image (Format n t p) old new still = spares_plan (plan n t p) old new still
+spares_image request old new still = tt
+
+if_mounts : (request : Request) (P : Type 0) → P → IfMounts request P
+if_mounts (Put name keep) P p = p
+if_mounts (One command) P p = p
+if_mounts Script P p = p
+if_mounts (Generate seed count) P p = p
+if_mounts request P p = tt
+
+input_left : (request : Request) (old new : List ℕ) → new ≡ old → LeavesInput request old new
+input_left (Put name keep) old new same = tt
+input_left Script old new same = tt
+input_left (One command) old new same = same
+input_left (Generate seed count) old new same = same
+input_left Outside old new same = same
+input_left (BadField cause) old new same = same
+input_left (Format n t p) old new same = same
+
+module _ {D : Type 0} (M : Ghosts D) (request : Request) (path : List ℕ) (a b : D) (result : ℕ) (says : LeavesDisk M false (is_unsaid result) (UttersLine (Lines.Ended Ends.Memory)) a b)
+    (ledger : M.tells b → M.ledger b ≡ M.ledger a) (status : IsStatusAs 7 result) (ends : M.honest b → (result ≡ 6) ⊎ EndsAs (Lines.Ended Ends.Memory) 7 (M.now a) (M.now b) result)
+    (short : M.honest a → AreShort (M.now a).windows) (only : M.honest a → (left : Moment) → M.left_since a (M.moment a) left → left ≡ M.now a) where
+  not_zero : result ≡ 0 → ⊥
+  not_zero = line_not 0 7 result status (λ e. omega (arith, e)) (λ e. omega (arith, e)) (λ e. omega (arith, e))
+
+  pub ran_memory : Ran M request path a b result
+  ran_memory = record {
+    status = memory_status request result status;
+    complete = λ none. memory_complete request result status (λ six. none.output (output_rose (M.report a) (M.report b) result says.spares six));
+    device = λ four. absurd (line_not 4 7 result status (λ e. omega (arith, e)) (λ e. omega (arith, e)) (λ e. omega (arith, e)) four);
+    output = output_rose (M.report a) (M.report b) result says.spares;
+    attaches = λ t. inr (ap (λ (x : Ledger). x.attaches) (ledger t));
+    attached = λ zero t. absurd (not_zero zero);
+    taken = λ t. input_left request (M.ledger a).input (M.ledger b).input (ap (λ (x : Ledger). x.input) (ledger t));
+    trust = says.trust;
+    says = λ h. memory_says request (M.report b).fault_place (M.now a) (M.now b) result (memory_said (M.now a) (M.now b) result (ends h));
+    image = λ zero h. absurd (not_zero zero);
+    untouched = λ h. spares_image request (M.now a) (M.now b) (untouched_by (Lines.Ended Ends.Memory) (M.now a) (M.now b) (says.exit h));
+    leaves = λ h l windows changes f sound. if_mounts request _ (ended_run M request (input_for request (M.ledger a).input) (M.ledger b).input l windows changes f a a b Ends.Memory tt result sound
+        (short (says.trust.honest h)) (only (says.trust.honest h)) (record { later = omega arith; nothing_else = λ t c le was. inl was; keeps = λ t c le was. was }) (wears_none (M.now a)) says h (ends h) tt (omega arith));
+  }
+
+-- ---- a format
+
+format_status_is : (planned : Result Layout LayoutFault) (result : ℕ) → IsFormatStatus planned result → IsTrue (is_one_of ((format_status planned ∷ 7 ∷ []) ++ plan_faults planned) result)
+format_status_is (Ok l) result (inl zero) = one_at (0 ∷ 7 ∷ 4 ∷ 6 ∷ []) 0 result zero refl
+format_status_is (Ok l) result (inr (inl seven)) = one_at (0 ∷ 7 ∷ 4 ∷ 6 ∷ []) 7 result seven refl
+format_status_is (Ok l) result (inr (inr (inl four))) = one_at (0 ∷ 7 ∷ 4 ∷ 6 ∷ []) 4 result four refl
+format_status_is (Ok l) result (inr (inr (inr six))) = one_at (0 ∷ 7 ∷ 4 ∷ 6 ∷ []) 6 result six refl
+format_status_is (Err why) result (inl one) = one_at (1 ∷ 7 ∷ 6 ∷ []) 1 result one refl
+format_status_is (Err why) result (inr (inl seven)) = one_at (1 ∷ 7 ∷ 6 ∷ []) 7 result seven refl
+format_status_is (Err why) result (inr (inr six)) = one_at (1 ∷ 7 ∷ 6 ∷ []) 6 result six refl
+
+format_complete : (planned : Result Layout LayoutFault) (result : ℕ) → IsFormatStatus planned result → (result ≡ 4 → ⊥) → (result ≡ 6 → ⊥) → IsTrue (is_one_of (format_status planned ∷ 7 ∷ []) result)
+format_complete (Ok l) result (inl zero) disk said = one_at (0 ∷ 7 ∷ []) 0 result zero refl
+format_complete (Ok l) result (inr (inl seven)) disk said = one_at (0 ∷ 7 ∷ []) 7 result seven refl
+format_complete (Ok l) result (inr (inr (inl four))) disk said = absurd (disk four)
+format_complete (Ok l) result (inr (inr (inr six))) disk said = absurd (said six)
+format_complete (Err why) result (inl one) disk said = one_at (1 ∷ 7 ∷ []) 1 result one refl
+format_complete (Err why) result (inr (inl seven)) disk said = one_at (1 ∷ 7 ∷ []) 7 result seven refl
+format_complete (Err why) result (inr (inr six)) disk said = absurd (said six)
+
+pub ran_format : {D : Type 0} (M : Ghosts D) (n t p : ℕ) (path : List ℕ) (a b : D) (result : ℕ) → IsFormatStatus (plan n t p) result → CountsFaults (M.report a) (M.report b) result
+    → (M.tells b → AsksAtMost (plan_asks (plan n t p) path) (M.ledger a) (M.ledger b)) → (result ≡ 0 → M.tells b → AsksAll (plan_asks (plan n t p) path) (M.ledger a) (M.ledger b))
+    → Trusts (M.tells a) (M.tells b) (M.honest a) (M.honest b) → (M.honest b → SaysFormat (plan n t p) (M.report b).fault_place (M.now a) (M.now b) result)
+    → (result ≡ 0 → M.honest b → IsMadeBy (plan n t p) (M.now b)) → (M.honest b → SparesUnplanned (plan n t p) (M.now a) (M.now b)) → Ran M (Format n t p) path a b result
+ran_format M n t p path a b result status counts asks asked trust says made untouched = record {
+  status = format_status_is (plan n t p) result status;
+  complete = λ none. format_complete (plan n t p) result status (λ four. none.disk (counts.disk four)) (λ six. none.output (counts.output six));
+  device = counts.disk;
+  output = counts.output;
+  attaches = λ t. (asks t).attaches;
+  attached = λ zero t. (asked zero t).attaches;
+  taken = λ t. (asks t).input;
+  trust = trust;
+  says = says;
+  image = made;
+  untouched = untouched;
+  leaves = λ h l windows changes f sound. tt;
+}
+
+-- ---- one command
+
+abbrev one_all : List ℕ
+one_all = 0 ∷ 1 ∷ 3 ∷ 7 ∷ 8 ∷ 9 ∷ 4 ∷ 6 ∷ []
+
+reply_is : (reply : Reply) → IsTrue (is_one_of (0 ∷ 1 ∷ 3 ∷ 7 ∷ 8 ∷ 9 ∷ []) (reply_status reply)) × IsTrue (is_one_of one_all (reply_status reply))
+reply_is (Refused why) = (refl, refl)
+reply_is (DamagedAt key s) = (refl, refl)
+reply_is other = (refl, refl)
+
+fault_is : (why : Fault) → IsOfVolume why → IsTrue (is_one_of one_all (fault_status why)) × ((fault_status why ≡ 4 → ⊥) → IsTrue (is_one_of (0 ∷ 1 ∷ 3 ∷ 7 ∷ 8 ∷ 9 ∷ []) (fault_status why)))
+fault_is Ends.NotVolume of = (refl, λ disk. refl)
+fault_is (Ends.Lost x y) of = (refl, λ disk. refl)
+fault_is Ends.NoAnchor of = (refl, λ disk. refl)
+fault_is (Ends.Unsound s) of = (refl, λ disk. refl)
+fault_is (Ends.Device s) of = (refl, λ disk. absurd (disk refl))
+fault_is Ends.Input of = absurd of
+fault_is Ends.InputTooLong of = absurd of
+fault_is Ends.Memory of = (refl, λ disk. refl)
+fault_is Ends.WornOut of = (refl, λ disk. refl)
+
+command_status : (result : ℕ) → IsOneStatus result → IsTrue (is_one_of one_all result)
+command_status result (inl (reply, is)) = one_at one_all (reply_status reply) result is (reply_is reply).1
+command_status result (inr (inl (why, of, is))) = one_at one_all (fault_status why) result is (fault_is why of).0
+command_status result (inr (inr six)) = one_at one_all 6 result six refl
+
+command_complete : (result : ℕ) → IsOneStatus result → (result ≡ 4 → ⊥) → (result ≡ 6 → ⊥) → IsTrue (is_one_of (0 ∷ 1 ∷ 3 ∷ 7 ∷ 8 ∷ 9 ∷ []) result)
+command_complete result (inl (reply, is)) disk said = one_at (0 ∷ 1 ∷ 3 ∷ 7 ∷ 8 ∷ 9 ∷ []) (reply_status reply) result is (reply_is reply).0
+command_complete result (inr (inl (why, of, is))) disk said = one_at (0 ∷ 1 ∷ 3 ∷ 7 ∷ 8 ∷ 9 ∷ []) (fault_status why) result is ((fault_is why of).1 (λ four. disk (is ∙ four)))
+command_complete result (inr (inr six)) disk said = absurd (said six)
+
+pub ran_command : {D : Type 0} (M : Ghosts D) (c : Command) (path : List ℕ) (a b : D) (result : ℕ) → IsOneStatus result → CountsFaults (M.report a) (M.report b) result
+    → (M.tells b → AsksAtMost (mount_asks path) (M.ledger a) (M.ledger b)) → (IsFalse (is_from_outside result) → M.tells b → AsksAll (mount_asks path) (M.ledger a) (M.ledger b))
+    → Trusts (M.tells a) (M.tells b) (M.honest a) (M.honest b)
+    → (M.honest b → (rest : List ℕ) (l : Layout) (windows : List WeakRun) (h : List Change) (f : ℕ) → IsSoundDisk l windows h f (M.now a) →
+    LeavesRun (One c) [] rest l windows h f (M.left_since b) (λ P. LeavesOnly M.moment M.left_since a b P) (M.report a) (M.report b) (M.now a) (M.now b) result)
+    → Ran M (One c) path a b result
+ran_command M c path a b result status counts asks asked trust leaves = record {
+  status = command_status result status;
+  complete = λ none. command_complete result status (λ four. none.disk (counts.disk four)) (λ six. none.output (counts.output six));
+  device = counts.disk;
+  output = counts.output;
+  attaches = λ t. (asks t).attaches;
+  attached = λ zero t. (asked (subst (λ (n : ℕ). IsFalse (is_from_outside n)) (sym zero) refl) t).attaches;
+  taken = λ t. (asks t).input;
+  trust = trust;
+  says = λ h. tt;
+  image = λ zero h. tt;
+  untouched = λ h. tt;
+  leaves = λ h l windows changes f sound. leaves h (M.ledger b).input l windows changes f sound;
+}

@@ -1,0 +1,23 @@
+use Rattle.std.proofs.Common.{◌≡◌, ℕ, inl, refl, ◌∙◌, ap}
+use Rattle.fsd_texts.specs.declared.line.Line.{Line}
+use Rattle.fsd_texts.specs.declared.line.Line.TheVariants as Lines
+use Rattle.fsd_texts.specs.Text.{format_line, text}
+use Rattle.std.specs.Prelude.{Ok, ◌-◌}
+use Rattle.cfs_program.proofs.FormatLaws.{format_said, holds_on, untouched_by}
+use Rattle.cfs_program.proofs.formatting.make.Goals as goal
+
+pub returns-in-Ok-clause-says : goal.returns-in-Ok-clause-says
+returns-in-Ok-clause-says g c h =
+    let M = g.M.Machine in
+    let sectors = c.sectors-sectors.ensures.value in
+    let start = c.data_start.ensures in
+    let line : Lines.Formatted c.sectors-sectors.result (c.sectors-sectors.result - c.data_start.result) ≡ format_line (Ok c.args.l.now) =
+    ap (λ (n : ℕ). Lines.Formatted n (n - c.data_start.result)) sectors ∙ ap (λ (n : ℕ). Lines.Formatted c.args.l.now.sectors (c.args.l.now.sectors - n)) start in
+    format_said (Ok c.args.l.now) (M.report c.end_with.new.m).fault_place (Lines.Formatted c.sectors-sectors.result (c.sectors-sectors.result - c.data_start.result)) 0 (M.now c.args.m.now) (M.now c.make_volume.new.m) (M.now c.end_with.new.m) c.end_with.result
+    (c.make_volume.ensures.quiet (c.end_with.ensures.says.trust.honest h)) (inl (refl, ap (λ (x : Line). text x) line)) (c.end_with.ensures.ends h)
+
+pub returns-in-Ok-clause-made : goal.returns-in-Ok-clause-made
+returns-in-Ok-clause-made g c zero h =
+    let M = g.M.Machine in
+    let says = c.end_with.ensures.says in
+    holds_on c.args.l.now (M.now c.make_volume.new.m) (M.now c.end_with.new.m) (c.in-Ok.ensures.made (says.trust.honest h)).holds (untouched_by (Lines.Formatted c.sectors-sectors.result (c.sectors-sectors.result - c.data_start.result)) (M.now c.make_volume.new.m) (M.now c.end_with.new.m) (says.exit h))

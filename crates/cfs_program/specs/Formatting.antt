@@ -1,0 +1,104 @@
+-- What the command `format` leaves.
+use Rattle.std.specs.Prelude.{◌≡◌, ◌⊎◌, ◌≤◌, ℕ, List, [], ◌∷◌, ◌++◌, Option, Some, None, Result, Ok, Err}
+use Rattle.sector_disk.specs.declared.machine.Attach.TheVariants.{New}
+use Rattle.sector_disk.specs.declared.sector.WeakRun.{WeakRun}
+use Rattle.sector_disk.specs.Calls.{DiskFaults}
+use Rattle.sector_disk.specs.Image.{IsShort, IsWorn, open_damage}
+use Rattle.sector_disk.specs.Machine.{Asked, Ledger, Moment, Report, Rose}
+use Rattle.volume_layout.specs.declared.layout.Layout.{Layout}
+use Rattle.volume_layout.specs.declared.fault.LayoutFault.{LayoutFault}
+use Rattle.fsd_sound.specs.Format.{IsFormattedIn}
+use Rattle.fsd_sound.specs.Sound.{IsSound}
+use Rattle.fsd_texts.specs.declared.fault.Fault.TheVariants as Ends
+use Rattle.fsd_texts.specs.Text.{fault_text, format_line, memory_text, text}
+
+-- ---- the image
+
+-- An empty volume stands, in a window of its own, and its disk is sound with no changes.
+pub record HoldsVolume (l : Layout) (moment : Moment) : Type 0 where
+  pub run : WeakRun
+  pub short : IsShort run
+  pub formatted : IsFormattedIn l run moment.image
+  pub sound : IsSound l (run ∷ []) [] 0 moment.image
+  pub windows : moment.windows ≡ record { present = Some run; next = None }
+
+-- It is made, and nothing is said of it.
+pub record MakesVolume (l : Layout) (old new : Moment) : Type 0 where
+  pub holds : HoldsVolume l new
+  pub said : new.said ≡ old.said
+
+-- the image after status 0: a volume of the plan's numbers
+abbrev pub IsMadeBy : Result Layout LayoutFault → Moment → Type 0
+IsMadeBy (Ok l) new = HoldsVolume l new
+IsMadeBy (Err why) new = ⊥
+
+-- Sectors were worn, and nothing else of the disk changed.
+pub record IsUntouched (old new : Moment) : Type 0 where
+  pub image : IsWorn (open_damage old.windows) old.image new.image
+  pub windows : new.windows ≡ old.windows
+
+-- a plan that is refused leaves the disk as it was
+abbrev pub SparesUnplanned : Result Layout LayoutFault → (old new : Moment) → Type 0
+SparesUnplanned (Ok l) old new = Unit {0}
+SparesUnplanned (Err why) old new = IsUntouched old new
+
+-- ---- attaches
+
+-- the attach that a format asks for: a new image, and none where the plan is refused
+abbrev pub plan_asks : Result Layout LayoutFault → List ℕ → List Asked
+plan_asks (Ok l) path = record { path = path; how = New l.sectors } ∷ []
+plan_asks (Err why) path = []
+
+-- these attaches were asked for, or none; the input is left
+pub record AsksAtMost (asks : List Asked) (old new : Ledger) : Type 0 where
+  pub input : new.input ≡ old.input
+  pub attaches : (new.attaches ≡ old.attaches ++ asks) ⊎ (new.attaches ≡ old.attaches)
+
+-- these were asked for; the input is left
+pub record AsksAll (asks : List Asked) (old new : Ledger) : Type 0 where
+  pub input : new.input ≡ old.input
+  pub attaches : new.attaches ≡ old.attaches ++ asks
+
+-- ---- statuses
+
+-- where nothing fails
+abbrev pub format_status : Result Layout LayoutFault → ℕ
+format_status (Ok l) = 0
+format_status (Err why) = 1
+
+-- where a call of the outside fails
+abbrev pub IsFaultOfPlan : Result Layout LayoutFault → ℕ → Type 0
+IsFaultOfPlan (Ok l) status = (status ≡ 4) ⊎ (status ≡ 6)
+IsFaultOfPlan (Err why) status = status ≡ 6
+
+-- the status of its line, or of refused memory, or of a call that failed
+abbrev pub IsFormatStatus : Result Layout LayoutFault → ℕ → Type 0
+IsFormatStatus planned status = (status ≡ format_status planned) ⊎ ((status ≡ 7) ⊎ IsFaultOfPlan planned status)
+
+-- Where the status tells a fault of the disk or of the output, this is counted; none of the input is.
+pub record CountsFaults (old new : Report) (status : ℕ) : Type 0 where
+  pub disk : status ≡ 4 → Rose old.disk_faults new.disk_faults
+  pub input : new.input_faults ≡ old.input_faults
+  pub output : status ≡ 6 → Rose old.output_faults new.output_faults
+
+-- Calls of the disk, an attach among them: a fault is counted and its place told, or there was none.
+pub record UsesAttach (fault : Option ℕ) (old new : Report) : Type 0 where
+  pub disk : old.disk_faults ≤ new.disk_faults
+  pub faults : DiskFaults fault old new
+  pub input : new.input_faults ≡ old.input_faults
+  pub output : new.output_faults ≡ old.output_faults
+
+-- ---- what is said
+
+-- the texts that may be said, by the place of the disk's last fault
+abbrev pub MaySay : Result Layout LayoutFault → (place : ℕ) → List ℕ → Type 0
+MaySay planned place bytes = (bytes ≡ text (format_line planned)) ⊎ ((bytes ≡ fault_text (Ends.Device place)) ⊎ (bytes ≡ memory_text))
+
+-- the whole text of what the status tells
+abbrev pub SaysFor : Result Layout LayoutFault → (place : ℕ) → (status : ℕ) → List ℕ → Type 0
+SaysFor planned place status bytes =
+    ((status ≡ format_status planned) × (bytes ≡ text (format_line planned))) ⊎ (((status ≡ 4) × (bytes ≡ fault_text (Ends.Device place))) ⊎ ((status ≡ 7) × (bytes ≡ memory_text)))
+
+-- All of it is said, but where the output failed.
+abbrev pub SaysFormat : Result Layout LayoutFault → (place : ℕ) → (old new : Moment) → ℕ → Type 0
+SaysFormat planned place old new status = (status ≡ 6) ⊎ ((bytes : List ℕ) × SaysFor planned place status bytes × (new.said ≡ old.said ++ bytes))

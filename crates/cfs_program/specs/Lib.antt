@@ -1,0 +1,5 @@
+pub mod Ending
+pub mod Formatting
+pub mod Opening
+pub mod Program
+pub mod Replies

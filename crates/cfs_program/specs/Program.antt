@@ -1,0 +1,139 @@
+-- What the program answers and leaves, by what its words ask for.
+use Rattle.std.specs.Prelude.{◌≡◌, ◌⊎◌, ⊤, ℕ, Bool, ◌==◌, List, [], ◌∷◌, ◌++◌, Result, Ok, Err, IsTrue}
+use Rattle.std.specs.List.{list_any}
+use Rattle.volume_layout.specs.declared.layout.Layout.{Layout}
+use Rattle.volume_layout.specs.declared.fault.LayoutFault.{LayoutFault}
+use Rattle.volume_layout.specs.Layout.{plan}
+use Rattle.sector_disk.specs.declared.machine.Machine.{Ghosts}
+use Rattle.sector_disk.specs.declared.sector.WeakRun.{WeakRun}
+use Rattle.sector_disk.specs.Machine.{Asked, LeavesOnly, Moment, Report, Rose, Trusts}
+use Rattle.fsd_files.specs.Files.{Change}
+use Rattle.fsd_texts.specs.declared.line.Line.{Line}
+use Rattle.fsd_texts.specs.declared.line.Line.TheVariants as Says
+use Rattle.fsd_texts.specs.Text.{memory_text, text}
+use Rattle.fsd_texts.specs.declared.bad_line.Cause.{Cause}
+use Rattle.fsd_runs.specs.declared.request.Request.{Request}
+use Rattle.fsd_runs.specs.declared.request.Request.TheVariants.{Outside, BadField, Format, Put, One, Script, Generate}
+use Rattle.fsd_runs.specs.Errands.{IfMounts}
+use Rattle.fsd_runs.specs.Leaves.{LeavesRun, NoneRose}
+use Rattle.cfs_program.specs.Formatting.{IsMadeBy, IsUntouched, SaysFormat, SparesUnplanned, format_status, plan_asks}
+use Rattle.cfs_program.specs.Opening.{IsSoundDisk, mount_asks}
+
+-- the requests that take the input, or make commands up
+abbrev pub IsLonger : Request → Type 0
+IsLonger (Put name keep) = ⊤
+IsLonger Script = ⊤
+IsLonger (Generate seed count) = ⊤
+IsLonger request = ⊥
+
+-- ---- statuses
+
+-- where no call of the outside fails
+abbrev pub complete_statuses : Request → List ℕ
+complete_statuses Outside = 2 ∷ 7 ∷ []
+complete_statuses (BadField cause) = 2 ∷ 7 ∷ []
+complete_statuses (Format n t p) = format_status (plan n t p) ∷ 7 ∷ []
+complete_statuses (Put name keep) = 0 ∷ 1 ∷ 3 ∷ 5 ∷ 7 ∷ 9 ∷ []
+complete_statuses (One command) = 0 ∷ 1 ∷ 3 ∷ 7 ∷ 8 ∷ 9 ∷ []
+complete_statuses Script = 0 ∷ 2 ∷ 3 ∷ 5 ∷ 7 ∷ 9 ∷ []
+complete_statuses (Generate seed count) = 0 ∷ 3 ∷ 7 ∷ 9 ∷ []
+
+abbrev pub plan_faults : Result Layout LayoutFault → List ℕ
+plan_faults (Ok l) = 4 ∷ 6 ∷ []
+plan_faults (Err why) = 6 ∷ []
+
+-- where one fails
+abbrev pub fault_statuses : Request → List ℕ
+fault_statuses Outside = 6 ∷ []
+fault_statuses (BadField cause) = 6 ∷ []
+fault_statuses (Format n t p) = plan_faults (plan n t p)
+fault_statuses (Put name keep) = 4 ∷ 5 ∷ 6 ∷ []
+fault_statuses Script = 4 ∷ 5 ∷ 6 ∷ []
+fault_statuses request = 4 ∷ 6 ∷ []
+
+abbrev pub is_one_of : List ℕ → ℕ → Bool
+is_one_of statuses status = list_any (λ s. s == status) statuses
+
+-- ---- attaches and input
+
+-- the attaches that a request asks for
+abbrev pub asks_of : Request → List ℕ → List Asked
+asks_of Outside path = []
+asks_of (BadField cause) path = []
+asks_of (Format n t p) path = plan_asks (plan n t p) path
+asks_of request path = mount_asks path
+
+-- all of them, or none
+abbrev pub AsksOrNot : List Asked → (old new : List Asked) → Type 0
+AsksOrNot asks old new = (new ≡ old ++ asks) ⊎ (new ≡ old)
+
+-- only a put and a script take input
+abbrev pub LeavesInput : Request → (old new : List ℕ) → Type 0
+LeavesInput (Put name keep) old new = ⊤
+LeavesInput Script old new = ⊤
+LeavesInput request old new = new ≡ old
+
+-- the input that a request is about
+abbrev pub input_for : Request → List ℕ → List ℕ
+input_for (Put name keep) input = input
+input_for Script input = input
+input_for request input = []
+
+-- ---- what is said
+
+-- the line of the first field that is refused
+abbrev pub field_line : Cause → Line
+field_line cause = Says.Bad (record { line = 0; cause = cause })
+
+-- The whole line is said and its status given, or both are those of refused memory; or the output failed.
+abbrev pub SaysLine : Line → ℕ → (old new : Moment) → ℕ → Type 0
+SaysLine line status old new result =
+    (result ≡ 6) ⊎ (((result ≡ status) × (new.said ≡ old.said ++ text line)) ⊎ ((result ≡ 7) × (new.said ≡ old.said ++ memory_text)))
+
+-- of the requests that mount nothing; place is that of the disk's last fault
+abbrev pub SaysAnswer : Request → (place : ℕ) → (old new : Moment) → ℕ → Type 0
+SaysAnswer Outside place old new result = SaysLine Says.Usage 2 old new result
+SaysAnswer (BadField cause) place old new result = SaysLine (field_line cause) 2 old new result
+SaysAnswer (Format n t p) place old new result = SaysFormat (plan n t p) place old new result
+SaysAnswer request place old new result = ⊤
+
+-- ---- the image
+
+-- after status 0
+abbrev pub HoldsAfter : Request → Moment → Type 0
+HoldsAfter Outside new = ⊥
+HoldsAfter (BadField cause) new = ⊥
+HoldsAfter (Format n t p) new = IsMadeBy (plan n t p) new
+HoldsAfter request new = ⊤
+
+-- a request that asks for no attach leaves the disk as it was
+abbrev pub SparesImage : Request → (old new : Moment) → Type 0
+SparesImage Outside old new = IsUntouched old new
+SparesImage (BadField cause) old new = IsUntouched old new
+SparesImage (Format n t p) old new = SparesUnplanned (plan n t p) old new
+SparesImage request old new = ⊤
+
+-- ---- a sound disk
+
+-- so a request that mounts its image leaves each sound disk
+abbrev pub LeavesSound : Request → (input rest : List ℕ) → (Past : ℕ → Moment → Type 0) → (Only : (Moment → Type 0) → Type 0) → (before after : Report) → (old new : Moment) → (result : ℕ) → Type 0
+LeavesSound request input rest Past Only before after old new result =
+    (l : Layout) (windows : List WeakRun) (h : List Change) (f : ℕ) → IsSoundDisk l windows h f old →
+    IfMounts request (LeavesRun request (input_for request input) rest l windows h f Past Only before after old new result)
+
+-- ---- the whole
+
+-- What the program does for a request, over any machine and over an honest one.
+pub record Ran {D : Type 0} (M : Ghosts D) (request : Request) (path : List ℕ) (a b : D) (result : ℕ) : Type 0 where
+  pub status : IsTrue (is_one_of (complete_statuses request ++ fault_statuses request) result)
+  pub complete : NoneRose (M.report a) (M.report b) → IsTrue (is_one_of (complete_statuses request) result)
+  pub device : result ≡ 4 → Rose (M.report a).disk_faults (M.report b).disk_faults
+  pub output : result ≡ 6 → Rose (M.report a).output_faults (M.report b).output_faults
+  pub attaches : M.tells b → AsksOrNot (asks_of request path) (M.ledger a).attaches (M.ledger b).attaches
+  pub attached : result ≡ 0 → M.tells b → (M.ledger b).attaches ≡ (M.ledger a).attaches ++ asks_of request path
+  pub taken : M.tells b → LeavesInput request (M.ledger a).input (M.ledger b).input
+  pub trust : Trusts (M.tells a) (M.tells b) (M.honest a) (M.honest b)
+  pub says : M.honest b → SaysAnswer request (M.report b).fault_place (M.now a) (M.now b) result
+  pub image : result ≡ 0 → M.honest b → HoldsAfter request (M.now b)
+  pub untouched : M.honest b → SparesImage request (M.now a) (M.now b)
+  pub leaves : M.honest b → LeavesSound request (M.ledger a).input (M.ledger b).input (M.left_since b) (λ P. LeavesOnly M.moment M.left_since a b P) (M.report a) (M.report b) (M.now a) (M.now b) result

@@ -1,0 +1,71 @@
+//! The command `format`.
+ghost use Rattle.std.specs.Prelude.{◌≡◌, Ok, OnOk};
+ghost use Rattle.sector_disk.specs.Calls.{device_in, failed_at};
+ghost use Rattle.sector_disk.specs.Machine.{Trusts};
+ghost use Rattle.volume_layout.specs.Layout.{plan};
+ghost use Rattle.cfs_program.specs.Formatting.{AsksAll, AsksAtMost, CountsFaults, IsFormatStatus, IsMadeBy, MakesVolume, SaysFormat, SparesUnplanned, UsesAttach, plan_asks};
+
+use crate::ending::end_with;
+use fsd_texts::{Fault, Line};
+use sector_disk::{Attach, Failed, Machine};
+use std::alloc::Global;
+use volume_format::format;
+use volume_layout::Layout;
+
+/// Makes an empty volume of these numbers of sectors, of sectors a third, and of name pages, says so or why not, and gives the
+/// status.
+pub fn run_format<M: Machine>(
+    alloc: Global,
+    m: &mut M,
+    path: &str,
+    sectors: u32,
+    third: u32,
+    pages: u32,
+) -> u8
+    ensures status { IsFormatStatus (plan sectors third pages) result }
+    ensures counts { CountsFaults (M.report m.old) (M.report m.new) result }
+    ensures asks { M.tells m.new → AsksAtMost (plan_asks (plan sectors third pages) path.now) (M.ledger m.old) (M.ledger m.new) }
+    ensures asked { result ≡ 0 → M.tells m.new → AsksAll (plan_asks (plan sectors third pages) path.now) (M.ledger m.old) (M.ledger m.new) }
+    ensures trust { Trusts (M.tells m.old) (M.tells m.new) (M.honest m.old) (M.honest m.new) }
+    ensures says { M.honest m.new → SaysFormat (plan sectors third pages) (M.report m.new).fault_place (M.now m.old) (M.now m.new) result }
+    ensures made { result ≡ 0 → M.honest m.new → IsMadeBy (plan sectors third pages) (M.now m.new) }
+    ensures untouched { M.honest m.new → SparesUnplanned (plan sectors third pages) (M.now m.old) (M.now m.new) }
+{
+    match Layout::plan(sectors, third, pages) {
+        Ok(l) => make(alloc, m, path, &l),
+        Err(fault) => end_with(alloc, m, &Line::Unplanned(fault), 1),
+    }
+}
+
+// Makes a volume of this layout, and says so.
+fn make<M: Machine>(alloc: Global, m: &mut M, path: &str, l: &Layout) -> u8
+    ensures status { IsFormatStatus (Ok l.now) result }
+    ensures counts { CountsFaults (M.report m.old) (M.report m.new) result }
+    ensures asks { M.tells m.new → AsksAtMost (plan_asks (Ok l.now) path.now) (M.ledger m.old) (M.ledger m.new) }
+    ensures asked { result ≡ 0 → M.tells m.new → AsksAll (plan_asks (Ok l.now) path.now) (M.ledger m.old) (M.ledger m.new) }
+    ensures trust { Trusts (M.tells m.old) (M.tells m.new) (M.honest m.old) (M.honest m.new) }
+    ensures says { M.honest m.new → SaysFormat (Ok l.now) (M.report m.new).fault_place (M.now m.old) (M.now m.new) result }
+    ensures made { result ≡ 0 → M.honest m.new → IsMadeBy (Ok l.now) (M.now m.new) }
+{
+    let sectors = l.sectors();
+    let free = sectors - l.data_start();
+    match make_volume(m, path, l) {
+        Ok(()) => end_with(alloc, m, &Line::Formatted { sectors, free }, 0),
+        Err(failed) => end_with(alloc, m, &Line::Ended(Fault::Device(failed.place)), 4),
+    }
+}
+
+// Makes a new image, and an empty volume on it.
+fn make_volume<M: Machine>(m: &mut M, path: &str, l: &Layout) -> Result<(), Failed>
+    ensures uses { UsesAttach (device_in failed_at result) (M.report m.old) (M.report m.new) }
+    ensures trust { Trusts (M.tells m.old) (M.tells m.new) (M.honest m.old) (M.honest m.new) }
+    ensures asks { M.tells m.new → AsksAtMost (plan_asks (Ok l.now) path.now) (M.ledger m.old) (M.ledger m.new) }
+    ensures asked { OnOk result (M.tells m.new → AsksAll (plan_asks (Ok l.now) path.now) (M.ledger m.old) (M.ledger m.new)) }
+    ensures quiet { M.honest m.new → (M.now m.new).said ≡ (M.now m.old).said }
+    ensures made { OnOk result (M.honest m.new → MakesVolume l.now (M.now m.old) (M.now m.new)) }
+{
+    match m.attach(path, Attach::New(l.sectors())) {
+        Ok(_) => format(m, l),
+        Err(failed) => Err(failed),
+    }
+}

@@ -1,0 +1,41 @@
+//! A command over the image that it names.
+ghost use Rattle.std.specs.Prelude.{◌≡◌, ℕ, List, [], IsFalse};
+ghost use Rattle.sector_disk.specs.declared.sector.WeakRun.{WeakRun};
+ghost use Rattle.sector_disk.specs.Machine.{LeavesOnly, Trusts};
+ghost use Rattle.volume_layout.specs.declared.layout.Layout.{Layout as Plan};
+ghost use Rattle.fsd_files.specs.Files.{Change};
+ghost use Rattle.fsd_runs.specs.Leaves.{LeavesRun};
+ghost use Rattle.fsd_runs.specs.declared.request.Request.TheVariants.{One};
+ghost use Rattle.volume_turns.specs.Status.{IsOneStatus};
+ghost use Rattle.cfs_program.specs.Formatting.{AsksAll, AsksAtMost, CountsFaults};
+ghost use Rattle.cfs_program.specs.Opening.{IsSoundDisk, is_from_outside, mount_asks};
+
+use crate::ending::end_with;
+use crate::replies::Alone;
+use fsd_texts::{Command, Fault, Line};
+use sector_disk::{Attach, Machine};
+use std::alloc::Global;
+use volume_contract::Files;
+use volume_turns::run_one;
+
+/// Does one command over the volume of an image: its change is forced before its reply is said. A fault is said in its place. It
+/// gives the status.
+pub fn run_command<M: Machine, V: Files<M> + Drop>(
+    alloc: Global,
+    m: &mut M,
+    path: &str,
+    c: &Command,
+) -> u8
+    ensures status { IsOneStatus result }
+    ensures counts { CountsFaults (M.report m.old) (M.report m.new) result }
+    ensures asks { M.tells m.new → AsksAtMost (mount_asks path.now) (M.ledger m.old) (M.ledger m.new) }
+    ensures asked { IsFalse (is_from_outside result) → M.tells m.new → AsksAll (mount_asks path.now) (M.ledger m.old) (M.ledger m.new) }
+    ensures trust { Trusts (M.tells m.old) (M.tells m.new) (M.honest m.old) (M.honest m.new) }
+    ensures leaves { M.honest m.new → (rest : List ℕ) (l : Plan) (windows : List WeakRun) (h : List Change) (f : ℕ) → IsSoundDisk l windows h f (M.now m.old) →
+        LeavesRun (One c.now) [] rest l windows h f (M.left_since m.new) (LeavesOnly M.moment M.left_since m.old m.new) (M.report m.old) (M.report m.new) (M.now m.old) (M.now m.new) result }
+{
+    match m.attach(path, Attach::Old) {
+        Ok(sectors) => run_one::<M, V, Alone>(alloc, m, sectors, c),
+        Err(failed) => end_with(alloc, m, &Line::Ended(Fault::Device(failed.place)), 4),
+    }
+}

@@ -1,0 +1,149 @@
+//! How replies are said.
+ghost use Rattle.std.specs.Prelude.{◌≡◌, ◌++◌, IfOk, length};
+ghost use Rattle.std.specs.List.{flat_map};
+ghost use Rattle.fsd_formats.specs.NamePage.{sectors_for};
+ghost use Rattle.fsd_runs.specs.Commands.{reply_alone, reply_text, version_line};
+ghost use Rattle.fsd_texts.specs.declared.line.Line.TheVariants as Lines;
+ghost use Rattle.fsd_texts.specs.Text.{newline, text};
+ghost use Rattle.volume_turns.specs.Steps.{reply_of};
+ghost use Rattle.cfs_program.specs.Replies.{alone_replies, script_replies};
+
+use fsd_bytes::Key;
+use fsd_formats::Entry;
+use fsd_texts::{Bytes, Line};
+use script_text::say_line;
+use std::alloc::{AllocError, Global};
+use volume_contract::Stat;
+use volume_turns::{Answer, Says};
+
+/// The replies of one command by itself: a get says the bytes alone.
+pub struct Alone;
+
+impl Says for Alone {
+    ghost errand = { alone_replies };
+
+    fn text(alloc: Global, answer: &Answer) -> Result<Vec<u8>, AllocError> {
+        match answer {
+            Answer::Bytes { bytes, .. } => Vec::from_slice(alloc, bytes.as_slice()),
+            _ => text_of(alloc, answer),
+        }
+    }
+}
+
+/// The replies of a script.
+pub struct Scripted;
+
+impl Says for Scripted {
+    ghost errand = { script_replies };
+
+    fn text(alloc: Global, answer: &Answer) -> Result<Vec<u8>, AllocError> {
+        text_of(alloc, answer)
+    }
+}
+
+// What a script says of an answer.
+fn text_of(alloc: Global, answer: &Answer) -> Result<Vec<u8>, AllocError>
+    ensures { IfOk result (λ said. said.items ≡ reply_text (reply_of answer.now)) }
+{
+    match answer {
+        Answer::Refused(why) => line_text(alloc, &Line::Refused(*why)),
+        Answer::Made { key, sectors } => {
+            let key = key.copied();
+            line_text(
+                alloc,
+                &Line::Made {
+                    key,
+                    sectors: *sectors,
+                },
+            )
+        }
+        Answer::Deleted(key) => line_text(alloc, &Line::Deleted(key.copied())),
+        Answer::Kept { key, keep } => {
+            let key = key.copied();
+            line_text(alloc, &Line::Kept { key, keep: *keep })
+        }
+        Answer::Listed(entries) => list_text(alloc, entries.as_slice()),
+        Answer::Bytes { key, bytes } => bytes_text(alloc, key, bytes.as_slice()),
+        Answer::Damaged { key, sector } => {
+            let key = key.copied();
+            line_text(
+                alloc,
+                &Line::Damaged {
+                    key,
+                    sector: *sector,
+                },
+            )
+        }
+        Answer::Forced => line_text(alloc, &Line::Forced),
+        Answer::Counts(stat) => line_text(alloc, &stat_line(stat)),
+    }
+}
+
+fn stat_line(stat: &Stat) -> Line
+    ensures { result ≡ Lines.Stat stat.now.free stat.now.waiting stat.now.pages_free stat.now.versions }
+{
+    Line::Stat {
+        free: stat.free,
+        waiting: stat.waiting,
+        pages: stat.pages_free,
+        versions: stat.versions,
+    }
+}
+
+// The text of one line.
+fn line_text(alloc: Global, line: &Line) -> Result<Vec<u8>, AllocError>
+    ensures { IfOk result (λ said. said.items ≡ text line.now) }
+{
+    let mut said = Bytes::new(alloc);
+    say_line(alloc, line, &mut said)?;
+    Vec::from_slice(alloc, said.as_slice())
+}
+
+// The versions, a line for each, and their number, which is one of 32 bits.
+fn list_text(alloc: Global, entries: &[Entry]) -> Result<Vec<u8>, AllocError>
+    ensures { IfOk result (λ said. said.items ≡ flat_map (λ e. text (version_line e)) entries.now ++ text (Lines.Listed (length entries.now))) }
+{
+    let Ok(count) = u32::try_from(entries.len()) else {
+        return Err(AllocError);
+    };
+    let mut said = versions_text(alloc, entries)?;
+    say_line(alloc, &Line::Listed(count), &mut said)?;
+    Vec::from_slice(alloc, said.as_slice())
+}
+
+fn versions_text(alloc: Global, entries: &[Entry]) -> Result<Bytes, AllocError>
+    ensures { IfOk result (λ said. said ≡ flat_map (λ e. text (version_line e)) entries.now) }
+{
+    let mut said = Bytes::new(alloc);
+    for e in entries {
+        say_line(alloc, &version_line(e), &mut said)?;
+    }
+    Ok(said)
+}
+
+// One version of a list.
+fn version_line(e: &Entry) -> Line
+    ensures { result ≡ version_line e.now }
+{
+    Line::Version {
+        key: e.key.copied(),
+        length: e.length,
+        sectors: 1 + e.length.div_ceil(512),
+        keep: e.keep,
+    }
+}
+
+// The bytes of a version behind the line that tells their number, which is one of 32 bits.
+fn bytes_text(alloc: Global, key: &Key, bytes: &[u8]) -> Result<Vec<u8>, AllocError>
+    ensures { IfOk result (λ said. said.items ≡ text (Lines.Bytes key.now (length bytes.now)) ++ bytes.now ++ newline) }
+{
+    let Ok(length) = u32::try_from(bytes.len()) else {
+        return Err(AllocError);
+    };
+    let key = key.copied();
+    let mut said = Bytes::new(alloc);
+    say_line(alloc, &Line::Bytes { key, length }, &mut said)?;
+    said.append(bytes)?;
+    said.append(b"\n")?;
+    Vec::from_slice(alloc, said.as_slice())
+}

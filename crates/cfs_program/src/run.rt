@@ -1,0 +1,52 @@
+//! What the program does for a request.
+ghost use Rattle.std.specs.Prelude.{◌≡◌, ℕ, List, None, IfSome};
+ghost use Rattle.fsd_runs.specs.declared.request.Request.{Request as Asked};
+ghost use Rattle.cfs_program.specs.Program.{IsLonger, Ran, field_line};
+
+use crate::ending::end_with;
+use crate::formatting::run_format;
+use crate::opening::run_command;
+use fsd_runs::Request;
+use fsd_texts::{BadLine, Cause, Fault, Line};
+use sector_disk::Machine;
+use std::alloc::Global;
+use volume_contract::Files;
+
+/// Does what is asked for of the image at a path, says the reply, and gives the exit status. It is None of a request that takes the
+/// input or makes commands up: then it has done nothing.
+pub fn run_request<M: Machine, V: Files<M> + Drop>(
+    alloc: Global,
+    m: &mut M,
+    request: &Request,
+    path: &str,
+) -> Option<u8>
+    ensures ran { IfSome result (λ status. Ran M.Machine request.now path.now m.old m.new status) }
+    ensures longer { result ≡ None → IsLonger request.now }
+    ensures idle { result ≡ None → m.new ≡ m.old }
+{
+    match request {
+        Request::Outside => Some(end_with(alloc, m, &Line::Usage, 2)),
+        Request::BadField(cause) => Some(end_with(alloc, m, &field_line(*cause), 2)),
+        Request::Format {
+            sectors,
+            third,
+            pages,
+        } => Some(run_format(alloc, m, path, *sectors, *third, *pages)),
+        Request::One(c) => Some(run_command::<M, V>(alloc, m, path, c)),
+        Request::Put { .. } | Request::Script | Request::Generate { .. } => None,
+    }
+}
+
+/// Says that memory was refused, before anything is done for a request, and gives the status.
+pub fn run_out_of_memory<M: Machine>(alloc: Global, m: &mut M) -> u8
+    ensures { (request : Asked) (path : List ℕ) → Ran M.Machine request path m.old m.new result }
+{
+    end_with(alloc, m, &Line::Ended(Fault::Memory), 7)
+}
+
+// The line of the first field that is refused.
+fn field_line(cause: Cause) -> Line
+    ensures { result ≡ field_line cause }
+{
+    Line::Bad(BadLine { line: 0, cause })
+}
