@@ -5,8 +5,10 @@ pub mod FindLaws
 pub mod LookLaws
 pub mod NextLaws
 pub mod PageLaws
+pub mod PlaceLaws
 pub mod ReadLaws
 pub mod RangeLaws
 pub mod TableLaws
 pub mod TakenLaws
 pub mod WearLaws
+pub mod WrittenLaws

@@ -1,4 +1,5 @@
 pub mod Looking
+pub mod Placing
 pub mod State
 pub mod Taken
 pub mod Volume

@@ -7,6 +7,8 @@ mod finding;
 mod laws;
 mod looking;
 mod next;
+mod placing;
+mod putting;
 mod reading;
 mod volume;
 
