@@ -6,8 +6,10 @@ pub mod LookLaws
 pub mod NextLaws
 pub mod PageLaws
 pub mod PlaceLaws
+pub mod PlaceSteps
 pub mod ReadLaws
 pub mod RangeLaws
+pub mod StoreLaws
 pub mod TableLaws
 pub mod TakenLaws
 pub mod WearLaws

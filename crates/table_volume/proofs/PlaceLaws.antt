@@ -1,12 +1,17 @@
 -- The place of a new version among the free sectors.
-use Rattle.std.proofs.Common.{◌≡◌, ℕ, zero, suc, ◌+◌, ◌-◌, ◌<◌, ◌≤◌, Bool, true, false, cond, nat_le, nat_lt, List, [], ◌∷◌, length, take, Option, Some, None, Result, Ok, Err, refl, sym, ap, subst, ◌∙◌, arith}
-use Rattle.std.specs.Prelude.{All, IsTrue, IfOk, IfSome, ◌==◌, find, slice_index_or}
-use Rattle.std.specs.List.{AllByRecursion}
-use Rattle.std.proofs.lemmas.Bool.{ltb-true, eqb-false}
+use Rattle.std.proofs.Common.{◌≡◌, ℕ, zero, suc, ◌+◌, ◌-◌, ◌<◌, ◌≤◌, Bool, true, false, cond, ◌&&◌, nat_le, nat_lt, List, [], ◌∷◌, length, take, Option, Some, None, Result, Ok, Err, refl, sym, ap, subst, ◌∙◌, arith}
+use Rattle.std.specs.Prelude.{All, IsTrue, IfSome, ◌==◌, find, slice_index_or}
+use Rattle.std.specs.List.{AllByRecursion, list_all}
+use Rattle.std.proofs.lemmas.Bool.{and_from, eq-eqb, eqb-false, le-leb, ltb-true}
+use Rattle.std.proofs.lemmas.List.Sums.{sum_by-cons}
+use Rattle.fsd_bytes.specs.Keys.{is_key}
+use Rattle.fsd_bytes.specs.Names.{is_between}
+use Rattle.fsd_formats.specs.declared.entry.Entry.{Entry}
+use Rattle.fsd_formats.specs.NamePage.{is_entry, max_keep, max_length, sectors_for}
 use Rattle.fsd_bytes.specs.declared.refusal.Refusal.{Refusal}
 use Rattle.fsd_bytes.specs.declared.refusal.Refusal.TheVariants.{NoSpace, TooFragmented}
 use Rattle.run_table.specs.declared.run.Run.{Run}
-use Rattle.run_table.specs.RunTable.{sectors_of, total, run_of}
+use Rattle.run_table.specs.RunTable.{are_runs, sectors_of, total, run_of}
 use Rattle.run_table.specs.Space.{contains, where_free, joined, runs_of, by_length, longest_first, cut_to, longest, best, picked, pick}
 use Rattle.run_table.proofs.ChoiceLaws.{total_of_pick, pick_none, pick_among}
 use Rattle.alloc_map.specs.NoPlace.{choice, picked_or}
@@ -23,7 +28,7 @@ use Rattle.fsd_files.proofs.CountLaws.{occurs, contains_occurs, occurs_contains,
 use Rattle.volume_contract.specs.State.{State}
 use Rattle.table_volume.specs.Placing.{IsPlace, place_now, place_or}
 use Rattle.table_volume.specs.State.{state}
-use Rattle.table_volume.specs.Volume.{IsOfData, VolumeValue}
+use Rattle.table_volume.specs.Volume.{IsOfData, IsWhole, VolumeValue}
 
 -- ---- what the code chooses is what the definitions do
 
@@ -58,6 +63,10 @@ placed_is v need = by (nat_lt (length free) need) refl
         ∙ ap (λ (b : Bool). Err (cond b (NoSpace need (total (runs_of free))) (TooFragmented need (best (runs_of free))))) (sym (ap (λ (n : ℕ). nat_lt n need) count ∙ e))
         ∙ ap (place_or (state v) need) (sym (few_none free need e))
     by false e = last (pick (runs_of free) need) e
+
+-- the same of a volume as its fields are
+pub chosen_is : {v w : VolumeValue} → v ≡ w → (need : ℕ) → with_refusal (choice v.map.sectors need) ≡ place_now (state w) need
+chosen_is {v = v} same need = placed_is v need ∙ ap (λ (x : VolumeValue). place_now (state x) need) same
 
 pub placed_ok : (s : State) (need : ℕ) (runs : List Run) → place_now s need ≡ Ok runs → pick s.free need ≡ Some runs
 placed_ok s need runs e = by (pick s.free need) e
@@ -152,13 +161,10 @@ picked_place l map need runs of_data one is =
       some = small.some;
     }
 
--- where the map has a place, it is one
-pub place_of : (l : Layout) (v : VolumeValue) (need : ℕ) → IsOfData l v.map → 1 ≤ need → IfOk (place_now (state v) need) (IsPlace v.map need)
-place_of l v need of_data one = by (pick (runs_of v.map.sectors) need) refl
-  where
-    by : (o : Option (List Run)) → pick (runs_of v.map.sectors) need ≡ o → IfOk (place_or (state v) need o) (IsPlace v.map need)
-    by None e = tt
-    by (Some runs) e = picked_place l v.map need runs of_data one e
+-- what the map chooses is a place
+pub chosen_place : {v w : VolumeValue} → v ≡ w → (need : ℕ) (runs : List Run) → IsWhole v → 1 ≤ need → choice v.map.sectors need ≡ Ok runs → IsPlace w.map need runs
+chosen_place {v = v} same need runs whole one is =
+    subst (λ (x : VolumeValue). IsPlace x.map need runs) same (picked_place v.layout v.map need runs whole.map one (placed_ok (state v) need runs (sym (placed_is v need) ∙ ap with_refusal is)))
 
 -- the sectors of such runs lie below the volume's end
 pub free_below : (l : Layout) (map : Area) (runs : List Run) → IsOfData l map → AreIn map runs → All (λ s. s < l.sectors) (sectors_of runs)
@@ -166,3 +172,32 @@ free_below l map runs of_data are k d lt =
     let s : ℕ = slice_index_or (sectors_of runs) k d in
     let there : IsTrue (contains (where_free (contains map.sectors) (data_start l) l.sectors) s) = subst (λ (m : Area). IsTrue (contains m.sectors s)) of_data (are.inside s (index_there (sectors_of runs) k d lt)) in
     (free_within (data_start l) l.sectors (contains map.sectors) s there).1
+
+-- ---- the version as it is written
+
+total-cons : (r : Run) (runs : List Run) → total (r ∷ runs) ≡ r.length + total runs
+total-cons r runs = sum_by-cons (λ (q : Run). q.length) r runs
+
+each_short : (most : ℕ) (runs : List Run) → AreSome runs → total runs ≤ most → most ≤ 65535 → list_all (λ r. is_between 1 65535 r.length) runs ≡ true
+each_short most [] some le few = refl
+each_short most (r ∷ runs) some le few =
+    let all = total-cons r runs in
+    and_from (is_between 1 65535 r.length) (list_all (λ q. is_between 1 65535 q.length) runs)
+    (and_from (nat_le 1 r.length) (nat_le r.length 65535) (le-leb 1 r.length some.0) (le-leb r.length 65535 (omega (arith, all))))
+    (each_short most runs some.1 (omega (arith, all)) few)
+
+some_run : (runs : List Run) → 1 ≤ total runs → 1 ≤ length runs
+some_run [] le = absurd (omega arith)
+some_run (r ∷ runs) le = omega arith
+
+-- an entry with such a place is one of the format
+pub entry_good : (map : Area) (e : Entry) → IsPlace map (sectors_for e.length) e.runs → IsTrue (is_key e.key) → e.keep ≤ max_keep → e.length ≤ max_length → IsTrue (is_entry e)
+entry_good map e place key keep most =
+    let few : sectors_for e.length ≤ 65535 = omega arith in
+    let runs : are_runs e.runs ≡ true = and_from (is_between 1 8 (length e.runs)) (list_all (λ r. is_between 1 65535 r.length) e.runs)
+    (and_from (nat_le 1 (length e.runs)) (nat_le (length e.runs) 8) (le-leb 1 (length e.runs) (some_run e.runs (omega (arith, place.count)))) (le-leb (length e.runs) 8 place.few))
+    (each_short (sectors_for e.length) e.runs place.some (omega (arith, place.count)) few) in
+    and_from (is_key e.key && nat_le e.keep max_keep && nat_le e.length max_length && are_runs e.runs) (total e.runs == sectors_for e.length)
+    (and_from (is_key e.key && nat_le e.keep max_keep && nat_le e.length max_length) (are_runs e.runs)
+    (and_from (is_key e.key && nat_le e.keep max_keep) (nat_le e.length max_length) (and_from (is_key e.key) (nat_le e.keep max_keep) key (le-leb e.keep max_keep keep)) (le-leb e.length max_length most)) runs)
+    (eq-eqb (total e.runs) (sectors_for e.length) place.count)

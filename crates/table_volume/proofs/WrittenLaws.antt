@@ -146,3 +146,13 @@ stands_drawn v k now stands = record {
   ends = stands.ends;
   disk = drawn_mounted k.mounted k.windows k.changes (forced_of k) now.image stands.disk;
 }
+
+-- ---- nothing is written
+
+pub leaves_still : (v : VolumeValue) (now : Moment) (may : Sectors) → Leaves state Holds v may now now
+leaves_still v now may k stands = record {
+  sound = mounted_sound k.mounted k.windows k.changes (forced_of k) now.image stands.disk;
+  windows = refl;
+  said = refl;
+  touches = record { size = refl; others = λ s out. inl refl };
+}
