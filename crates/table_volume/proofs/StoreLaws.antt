@@ -21,7 +21,7 @@ use Rattle.fsd_sound.specs.Sound.{IsSound}
 use Rattle.fsd_sound.proofs.MoreLaws.{sound_fewer}
 use Rattle.volume_contract.specs.Order.{Comes, Disk, Draw, Follows, Force, IsDeviceIn, Keeps, Passes, Step, Test, Through, is_idle, place, with_drawn}
 use Rattle.volume_contract.specs.State.{GoesOn, IsForced, Known, Leaves, LeavesSound, Stands, State, downs_for, force_writes, forced_of, forces_for_place, in_place, place_in, put_writes, volume_of}
-use Rattle.table_volume.specs.Placing.{EndsPlace, EndsStore, HasPlace, HasStored, Places, StandsDrawn, StandsFor, Stores, drawn_known, drawn_volume, place_steps, store_steps}
+use Rattle.table_volume.specs.Placing.{EndsPlace, EndsStore, HasPlace, HasStored, Places, StandsDrawn, StandsFor, Stores, drawn_known, place_steps, store_steps}
 use Rattle.table_volume.specs.State.{Holds, state}
 use Rattle.table_volume.specs.Volume.{VolumeValue}
 
@@ -188,8 +188,12 @@ module _ (v : VolumeValue) (need : ℕ) where
 
 -- ---- it stands
 
-pub drawn_stands : (need : ℕ) (k : Known) (m : VolumeValue) (now new : Moment) → (p : StandsFor need k m now) → Stands state Holds (drawn_volume m) (drawn_known p.after) new → StandsDrawn need k (drawn_volume m) new
-drawn_stands need k m now new p stands = record { after = drawn_known p.after; volume = ap drawn p.volume; windows = p.windows; changes = p.changes; stands = stands }
+pub drawn_stands : (need : ℕ) (k : Known) (m w : VolumeValue) (now new : Moment) → (p : StandsFor need k m now) → Stands state Holds w (drawn_known p.after) new → StandsDrawn need k w new
+drawn_stands need k m w now new p stands = record { after = drawn_known p.after; volume = ap drawn p.volume; windows = p.windows; changes = p.changes; stands = stands }
+
+pub ends_failed : (need : ℕ) (bytes : List ℕ) (within : Sectors) (k : Known) (new : VolumeValue) (now : Moment) (why : Refusal) → IsDeviceIn within why → StandsDrawn need k new now → EndsStore need bytes k new now (Err why)
+ends_failed need bytes within k new now (Why.Device s) fails stands = inr stands
+ends_failed need bytes within k new now why fails stands = absurd fails
 
 pub ends_refused : (need : ℕ) (bytes : List ℕ) (k : Known) (new : VolumeValue) (now : Moment) (why : Refusal) → EndsPlace need k new now (Err why) → EndsStore need bytes k new now (Err why)
 ends_refused need bytes k new now (Why.Device s) down = inl down
