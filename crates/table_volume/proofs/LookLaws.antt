@@ -1,6 +1,6 @@
 -- What a table over a cache leaves where it was looked into.
-use Rattle.std.proofs.Common.{◌≡◌, ◌⊎◌, inl, inr, ℕ, zero, suc, ◌+◌, ◌<◌, Bool, true, false, ◌||◌, List, [], ◌∷◌, length, Option, Some, None, Result, Ok, Err, refl, sym, ap, subst, ◌∙◌, arith}
-use Rattle.std.specs.Prelude.{Contains, IsSome, IsTrue, IfErr, IfOk, IfSome, option_map, slice_get, slice_index_or}
+use Rattle.std.proofs.Common.{◌≡◌, ℕ, zero, suc, ◌+◌, ◌<◌, Bool, true, List, [], ◌∷◌, length, Option, Some, None, Result, Ok, Err, refl, sym, ap, subst, ◌∙◌, arith}
+use Rattle.std.specs.Prelude.{Contains, IfErr, IfOk, IfSome, slice_get, slice_index_or}
 use Rattle.std.specs.List.{AllByRecursion, flat_map}
 use Rattle.std.specs.Borrow.{MutBor}
 use Rattle.std.specs.Option.{option_or}
@@ -14,7 +14,7 @@ use Rattle.fsd_table.proofs.BoundLaws.{all_append}
 use Rattle.sector_disk.specs.declared.machine.Machine.{Ghosts as MachineGhosts}
 use Rattle.sector_disk.specs.Calls.{OnlyReads}
 use Rattle.page_cache.specs.declared.source.PageSource.{Ghosts as SourceGhosts}
-use Rattle.page_cache.specs.Cache.{AreNewest, CacheValue, Held, IsResident, bytes_of, held, is_one_of, newest}
+use Rattle.page_cache.specs.Cache.{AreNewest, CacheValue, bytes_of, is_one_of, newest}
 use Rattle.name_page.specs.Looks.{Agrees, Looks}
 use Rattle.name_page.specs.Pages.{Step, rested}
 use Rattle.name_page.proofs.LookLaws.{agrees_at}
@@ -24,7 +24,7 @@ use Rattle.name_btree.specs.Fault.{BarsTable, HasCause}
 use Rattle.name_btree.specs.declared.lookup.FoundEntry.{FoundEntry}
 use Rattle.name_btree.specs.Lookup.{IsLedTo, StandsIn}
 use Rattle.table_pages.specs.Bringing.{IsTrusted, OnlyPins, given_by}
-use Rattle.table_pages.specs.Kept.{IsReady, images_of}
+use Rattle.table_pages.specs.Kept.{IsReady}
 use Rattle.table_pages.specs.ImageLaws.{image_at, image_count}
 use Rattle.table_pages.specs.Reads.{Fills, LosesFor, device_of}
 use Rattle.table_pages.specs.Table.{IsAtRest, IsClean, IsOver, ReadsOnly, Trusted, begun, step_of}

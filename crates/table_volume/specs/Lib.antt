@@ -1,3 +1,4 @@
+pub mod Forcing
 pub mod Looking
 pub mod Placing
 pub mod State
