@@ -70,10 +70,15 @@ pub stays : (s : State) → GoesOn None s s
 stays s = record { layout = refl; epoch = refl; held = refl; down = inl refl }
 
 goes_more : (place : Option ℕ) (s t : State) → GoesOn None s t → GoesOn place s t
-goes_more place s t goes = record { layout = goes.layout; epoch = goes.epoch; held = goes.held; down = elim goes.down [
-  | inl same ↦ inl same
-  | inr gone ↦ absurd (cc gone.0)
-] }
+goes_more place s t goes = record {
+  layout = goes.layout;
+  epoch = goes.epoch;
+  held = goes.held;
+  down = elim goes.down [
+    | inl same ↦ inl same
+    | inr gone ↦ absurd (cc gone.0)
+  ];
+}
 
 -- ---- without a force
 

@@ -80,10 +80,15 @@ module _ (s : State) (need : ℕ) where
 
   module _ (m : State) (runs : List Run) (places : Places need s m (Ok runs)) where
     goes : (p : Option ℕ) → GoesOn p s (with_drawn m)
-    goes p = record { layout = places.state.layout; epoch = places.state.epoch; held = places.state.held; down = elim places.state.down [
-      | inl same ↦ inl same
-      | inr gone ↦ absurd (cc gone.0)
-    ] }
+    goes p = record {
+      layout = places.state.layout;
+      epoch = places.state.epoch;
+      held = places.state.held;
+      down = elim places.state.down [
+        | inl same ↦ inl same
+        | inr gone ↦ absurd (cc gone.0)
+      ];
+    }
 
     same_may : may ≡ contains (sectors_of runs)
     same_may = ap in_place places.kept.place

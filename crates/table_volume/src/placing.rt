@@ -1,20 +1,12 @@
 //! Where new versions go.
-ghost use Rattle.std.specs.Prelude.{◌≡◌, ◌≤◌, IfOk, IfErr, IsTrue, MatchResult, None, length};
-ghost use Rattle.sector_disk.specs.Calls.{WritesDisk, device_in};
-ghost use Rattle.fsd_files.specs.Answers.{force_outcome};
-ghost use Rattle.fsd_files.specs.Replies.{Forced as IsForced};
-ghost use Rattle.volume_contract.specs.Ends.{EndsForce, device_of};
-ghost use Rattle.volume_contract.specs.Order.{Follows, Keeps, force_steps, is_idle};
-ghost use Rattle.volume_contract.specs.State.{Counted, GoesOn, IsForced as HasForced, Known, Leaves, Stands, downs, force_len, force_writes, volume_of};
-ghost use Rattle.table_volume.specs.Placing.{EndsPlace, IsPlace, Places, place_len, place_now, place_steps};
-ghost use Rattle.table_volume.specs.State.{Holds, state};
+ghost use Rattle.std.specs.Prelude.{◌≡◌, ◌≤◌, IfOk};
+ghost use Rattle.table_volume.specs.Placing.{IsPlace, place_now};
+ghost use Rattle.table_volume.specs.State.{state};
 
 use crate::Volume;
 use alloc_map::NoPlace;
 use fsd_bytes::Refusal;
 use run_table::Runs;
-use sector_disk::Machine;
-use volume_contract::Forced;
 
 impl Volume {
     // Where so many sectors go now.
@@ -37,42 +29,5 @@ impl Volume {
         ensures { result ≡ (state self.now).waits }
     {
         self.shadow.waiting().removed > 0
-    }
-
-    /// Where so many sectors go: behind a force, where there is no place and a sector waits for one. They stay free.
-    pub(crate) fn placed<M: Machine>(&mut self, m: &mut M, need: u32) -> Result<Runs, Refusal>
-        requires room { (state self.old).layout.sectors ≤ (M.report m.old).sectors }
-        requires some { 1 ≤ need }
-        requires up { self.old.down ≡ None }
-        ensures places { Places need (state self.old) (state self.new) result }
-        ensures free { IfOk result (IsPlace self.new.map need) }
-        ensures disk { WritesDisk M.Machine (device_in device_of result) (Leaves state Holds self.old (force_writes (state self.old).layout)) m.old m.new }
-        ensures counted { M.tells m.new → Counted result (place_len (state self.old) need) (M.ledger m.old) (M.ledger m.new) }
-        ensures idle { IsTrue (is_idle (place_steps (state self.old) need)) → m.new ≡ m.old }
-        ensures done { M.honest m.new → (k : Known) → Stands state Holds self.old k (M.now m.old) → EndsPlace need k self.new (M.now m.new) result }
-    {
-        let _ = &self.layout;
-        let place = self.chosen(need);
-        if place.is_ok() || !self.waits() {
-            return place;
-        }
-        self.force(m)?;
-        self.chosen(need)
-    }
-
-    fn force<M: Machine>(&mut self, m: &mut M) -> Result<Forced, Refusal>
-        requires { (state self.old).layout.sectors ≤ (M.report m.old).sectors }
-        ensures order { Follows (force_steps (state self.old)) result }
-        ensures disk { WritesDisk M.Machine (device_in device_of result) (Leaves state Holds self.old (force_writes (state self.old).layout)) m.old m.new }
-        ensures counted { M.tells m.new → Counted result (force_len (state self.old)) (M.ledger m.old) (M.ledger m.new) }
-        ensures pages { IfOk result (λ forced. forced.pages ≡ length (state self.old).dirty) }
-        ensures state { GoesOn (downs result) (state self.old) (state self.new) }
-        ensures idle { IsTrue (is_idle (force_steps (state self.old))) → m.new ≡ m.old }
-        ensures kept { MatchResult result (λ x. HasForced (state self.old) (state self.new)) (λ why. Keeps (force_steps (state self.old)) why (state self.old) (state self.new)) }
-        ensures done { M.honest m.new → (k : Known) → Stands state Holds self.old k (M.now m.old) →
-            EndsForce state Holds (λ met. force_outcome (volume_of k)) IsForced k self.new (M.now m.new) result }
-    {
-        let _ = m;
-        Ok(Forced { pages: 0 })
     }
 }

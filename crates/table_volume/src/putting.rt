@@ -1,5 +1,5 @@
 //! The making of versions.
-ghost use Rattle.std.specs.Prelude.{◌≡◌, ◌≤◌, ◌<◌, ◌+◌, ◌^◌, IfErr, IfOk, IsTrue, MatchResult, None, OnOk, Some, length};
+ghost use Rattle.std.specs.Prelude.{◌≡◌, ◌≤◌, ◌<◌, ◌+◌, ◌^◌, IfErr, IsTrue, MatchResult, None, OnOk, Some, length};
 ghost use Rattle.run_table.specs.RunTable.{sectors_of};
 ghost use Rattle.run_table.specs.Space.{contains};
 ghost use Rattle.sector_disk.specs.Calls.{WritesDisk, device_in};
@@ -9,9 +9,9 @@ ghost use Rattle.fsd_formats.specs.NamePage.{is_entry, max_length, sectors_for};
 ghost use Rattle.fsd_bytes.specs.Keys.{is_key};
 ghost use Rattle.fsd_files.specs.Answers.{HasVersion, keep_given, size_fault};
 ghost use Rattle.volume_contract.specs.Ends.{device_of};
-ghost use Rattle.volume_contract.specs.Order.{Follows, IsDeviceIn, is_idle};
-ghost use Rattle.volume_contract.specs.State.{Counted, Known, Leaves, Stands, is_worn, put_writes};
-ghost use Rattle.table_volume.specs.Placing.{EndsStore, IsPlace, Stores, drawn_known, drawn_volume, store_len, store_steps, test_steps};
+ghost use Rattle.volume_contract.specs.Order.{Follows, IsDeviceIn};
+ghost use Rattle.volume_contract.specs.State.{Counted, Known, Leaves, Stands, is_worn};
+ghost use Rattle.table_volume.specs.Placing.{IsPlace, drawn_known, drawn_volume, test_steps};
 ghost use Rattle.table_volume.specs.State.{Holds, state};
 
 use crate::Volume;
@@ -118,30 +118,5 @@ impl Volume {
             Ok(()) => Ok(()),
             Err(failed) => Err(Refusal::Device(failed.place)),
         }
-    }
-
-    /// Finds a place for a new version, and writes it there with the next serial: its sectors stay free.
-    pub(crate) fn stored<M: Machine>(
-        &mut self,
-        m: &mut M,
-        name: &FileName,
-        bytes: &[u8],
-    ) -> Result<Entry, Refusal>
-        requires room { (state self.old).layout.sectors ≤ (M.report m.old).sectors }
-        requires most { length bytes.now ≤ max_length }
-        requires up { self.old.down ≡ None }
-        requires serials { self.old.serial.count + 1 < 2 ^ 32 }
-        ensures stores { Stores (sectors_for (length bytes.now)) (state self.old) (state self.new) result }
-        ensures disk { WritesDisk M.Machine (device_in device_of result) (Leaves state Holds self.old (put_writes (state self.old) (sectors_for (length bytes.now)))) m.old m.new }
-        ensures counted { M.tells m.new → Counted result (store_len (state self.old) (sectors_for (length bytes.now))) (M.ledger m.old) (M.ledger m.new) }
-        ensures idle { IsTrue (is_idle (store_steps (state self.old) (sectors_for (length bytes.now)))) → m.new ≡ m.old }
-        ensures free { IfOk result (λ e. AreIn self.new.map e.runs) }
-        ensures done { M.honest m.new → (k : Known) → Stands state Holds self.old k (M.now m.old) → EndsStore (sectors_for (length bytes.now)) bytes.now k self.new (M.now m.new) result }
-    {
-        let length = bytes.len() as u32;
-        let runs = self.placed(m, 1 + length.div_ceil(512))?;
-        let draft = self.draft(name, length, runs);
-        self.written(m, &draft, bytes)?;
-        Ok(draft)
     }
 }
