@@ -5,6 +5,7 @@ pub mod FindLaws
 pub mod ForcedLaws
 pub mod FreeLaws
 pub mod LookLaws
+pub mod NewVersionLaws
 pub mod NextLaws
 pub mod PageLaws
 pub mod PlaceLaws
