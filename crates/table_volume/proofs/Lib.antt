@@ -10,8 +10,11 @@ pub mod FreeLaws
 pub mod FreshLaws
 pub mod HomeReadLaws
 pub mod LookLaws
+pub mod NewVersionLaws
 pub mod NextLaws
 pub mod PageLaws
+pub mod PlaceLaws
+pub mod PlaceSteps
 pub mod ReadLaws
 pub mod RangeLaws
 pub mod MountLaws
@@ -27,7 +30,9 @@ pub mod KeepEnds
 pub mod KeepLaws
 pub mod MadeLaws
 pub mod SpaceLaws
+pub mod StoreLaws
 pub mod TableLaws
 pub mod TakenLaws
 pub mod VisitLaws
 pub mod WearLaws
+pub mod WrittenLaws

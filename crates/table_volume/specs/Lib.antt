@@ -6,6 +6,7 @@ pub mod Editing
 pub mod Looking
 pub mod Mounting
 pub mod Opening
+pub mod Placing
 pub mod State
 pub mod Surveying
 pub mod Taken

@@ -12,6 +12,8 @@ mod keeping;
 mod laws;
 mod looking;
 mod next;
+mod placing;
+mod putting;
 mod reading;
 mod mounting;
 mod opening;

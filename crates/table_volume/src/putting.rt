@@ -1,0 +1,122 @@
+//! The making of versions.
+ghost use Rattle.std.specs.Prelude.{◌≡◌, ◌≤◌, ◌<◌, ◌+◌, ◌^◌, IfErr, IsTrue, MatchResult, None, OnOk, Some, length};
+ghost use Rattle.run_table.specs.RunTable.{sectors_of};
+ghost use Rattle.run_table.specs.Space.{contains};
+ghost use Rattle.sector_disk.specs.Calls.{WritesDisk, device_in};
+ghost use Rattle.sector_disk.specs.Image.{open_damage};
+ghost use Rattle.sector_set.specs.Area.{AreIn};
+ghost use Rattle.fsd_formats.specs.NamePage.{is_entry, max_length, sectors_for};
+ghost use Rattle.fsd_bytes.specs.Keys.{is_key};
+ghost use Rattle.fsd_files.specs.Answers.{HasVersion, keep_given, size_fault};
+ghost use Rattle.volume_contract.specs.Ends.{device_of};
+ghost use Rattle.volume_contract.specs.Order.{Follows, IsDeviceIn};
+ghost use Rattle.volume_contract.specs.State.{Counted, Known, Leaves, Stands, is_worn};
+ghost use Rattle.table_volume.specs.Placing.{IsPlace, drawn_known, drawn_volume, test_steps};
+ghost use Rattle.table_volume.specs.State.{Holds, state};
+
+use crate::Volume;
+use fsd_bytes::{FileName, Key, Refusal};
+use fsd_formats::Entry;
+use run_table::Runs;
+use sector_disk::Machine;
+use version_data::write_version;
+
+// The key of a name's first version.
+fn first_key(name: &FileName) -> Key
+    ensures { IsTrue (is_key result) }
+{
+    let _ = name.as_bytes();
+    Key {
+        name: name.copied(),
+        version: 1,
+    }
+}
+
+// That a version may have these sizes.
+fn sizes_fit(keep: Option<u32>, length: usize) -> Result<(), Refusal>
+    ensures { MatchResult result (λ x. size_fault (keep_given keep) length ≡ None) (λ why. size_fault (keep_given keep) length ≡ Some why) }
+{
+    if let Some(keep) = keep {
+        if keep > 999 {
+            return Err(Refusal::KeepTooLarge(keep));
+        }
+    }
+    if length > 4_193_792 {
+        return Err(Refusal::TooLong(length as u64));
+    }
+    Ok(())
+}
+
+impl Volume {
+    // Whether this mount has used up its serials or its record numbers.
+    fn is_worn(&self) -> bool
+        ensures { result ≡ is_worn (state self.now) }
+    {
+        self.serial.count >= 4_294_967_280 || self.log.next_number() >= 4_294_967_280
+    }
+
+    // That a put of these sizes may begin.
+    fn may_put(&self, keep: Option<u32>, length: usize) -> Result<(), Refusal>
+        ensures { Follows (test_steps (state self.now) keep length) result }
+    {
+        self.is_up()?;
+        sizes_fit(keep, length)?;
+        if self.is_worn() {
+            return Err(Refusal::WornOut);
+        }
+        Ok(())
+    }
+
+    // A new version as it is written: its number and its keep come with the look-up.
+    fn draft(&self, name: &FileName, length: u32, runs: Runs) -> Entry
+        requires most { length ≤ max_length }
+        requires place { IsPlace self.now.map (sectors_for length) runs }
+        ensures good { IsTrue (is_entry result) }
+        ensures serial { result.serial ≡ self.now.serial }
+        ensures length { result.length ≡ length }
+        ensures runs { result.runs ≡ runs }
+    {
+        Entry {
+            key: first_key(name),
+            keep: 0,
+            serial: self.serial,
+            length,
+            runs,
+        }
+    }
+
+    // The next serial is drawn.
+    fn draw(&mut self)
+        requires { self.old.serial.count + 1 < 2 ^ 32 }
+        ensures { self.new ≡ drawn_volume self.old }
+    {
+        self.serial.count += 1;
+    }
+
+    /// Draws the serial of a new version and writes its leader and its data into free sectors, which stay free.
+    pub(crate) fn written<M: Machine>(
+        &mut self,
+        m: &mut M,
+        draft: &Entry,
+        bytes: &[u8],
+    ) -> Result<(), Refusal>
+        requires room { (state self.old).layout.sectors ≤ (M.report m.old).sectors }
+        requires draft { IsTrue (is_entry draft.now) }
+        requires length { draft.now.length ≡ length bytes.now }
+        requires free { AreIn self.old.map draft.now.runs }
+        requires serials { self.old.serial.count + 1 < 2 ^ 32 }
+        ensures place { IfErr result (IsDeviceIn (contains (sectors_of draft.now.runs))) }
+        ensures disk { WritesDisk M.Machine (device_in device_of result) (Leaves state Holds self.old (contains (sectors_of draft.now.runs))) m.old m.new }
+        ensures counted { M.tells m.new → Counted result (sectors_for (length bytes.now)) (M.ledger m.old) (M.ledger m.new) }
+        ensures volume { self.new ≡ drawn_volume self.old }
+        ensures stands { M.honest m.new → (k : Known) → Stands state Holds self.old k (M.now m.old) → Stands state Holds self.new (drawn_known k) (M.now m.new) }
+        ensures done { OnOk result (M.honest m.new → HasVersion (open_damage (M.now m.new).windows) (M.now m.new).image bytes.now draft.now) }
+    {
+        let _ = &self.layout;
+        self.draw();
+        match write_version(m, draft, bytes) {
+            Ok(()) => Ok(()),
+            Err(failed) => Err(Refusal::Device(failed.place)),
+        }
+    }
+}
