@@ -2,7 +2,7 @@
 use Rattle.std.proofs.Common.{◌≡◌, ◌≢◌, ◌⊎◌, ℕ, suc, ◌*◌, ◌<◌, ◌≤◌, Bool, true, false, ◌&&◌, ◌||◌, nat_lt, List, [], ◌∷◌, ◌++◌, length, take, drop, set, map, refl, sym, ap, subst, ◌∙◌, append_assoc, eq-eqb, arith, inl, inr}
 use Rattle.std.specs.Prelude.{codes, ◌==◌}
 use Rattle.std.specs.Int.{w32, from_be_bytes}
-use Rattle.std.specs.List.{AllByRecursion, list_all}
+use Rattle.std.specs.List.{AllByRecursion, flat_map, list_all}
 use Rattle.std.proofs.lemmas.Bool.{and_parts, and_from, ltb-true, cases_eq}
 use Rattle.std.proofs.lemmas.Bool.Decides.{nat_tests}
 use Rattle.std.proofs.lemmas.Nat.{from_be_bytes-to_be_bytes_4}
@@ -168,23 +168,29 @@ module _ (stamp : Stamp) (fits : FitsStamp stamp) (page : ℕ) (bytes : List ℕ
 
 -- ---- the images of a record
 
-slices_laid : (pages : List (List ℕ)) (xs front : List ℕ) (k : ℕ) → length front ≡ 512 * k → ((p : ℕ) → contains xs p ≡ true → length (image_at pages p) ≡ 512)
-    → slices_from k (front ++ laid_images pages xs) (length xs) ≡ map (image_at pages) xs
-slices_laid pages [] front k long each = refl
-slices_laid pages (x ∷ xs) front k long each =
-    let image = image_at pages x in
-    let others = laid_images pages xs in
-    let size : length (image_at pages x) ≡ 512 = each x (contains_first x xs) in
-    let here : slice_of (front ++ (image_at pages x ++ laid_images pages xs)) k ≡ image_at pages x =
-    slice_behind front (image_at pages x ++ laid_images pages xs) k 0 k long (omega arith) ∙ slice_whole (image_at pages x) (laid_images pages xs) size in
-    let more : slices_from (suc k) (front ++ (image_at pages x ++ laid_images pages xs)) (length xs) ≡ map (image_at pages) xs =
-    ap (λ (b : List ℕ). slices_from (suc k) b (length xs)) (sym (append_assoc front (image_at pages x) (laid_images pages xs)))
-    ∙ slices_laid pages xs (front ++ image_at pages x) (suc k) (omega (arith, long, size, length-append front (image_at pages x))) (λ p is. each p (contains_more x xs p is)) in
-    λ i. here i ∷ more i
+module _ (f : ℕ → List ℕ) where
+  slices_of : (xs front : List ℕ) (k : ℕ) → length front ≡ 512 * k → ((p : ℕ) → contains xs p ≡ true → length (f p) ≡ 512) → slices_from k (front ++ flat_map f xs) (length xs) ≡ map f xs
+  slices_of [] front k long each = refl
+  slices_of (x ∷ xs) front k long each =
+      let size : length (f x) ≡ 512 = each x (contains_first x xs) in
+      let here : slice_of (front ++ (f x ++ flat_map f xs)) k ≡ f x = slice_behind front (f x ++ flat_map f xs) k 0 k long (omega arith) ∙ slice_whole (f x) (flat_map f xs) size in
+      let more : slices_from (suc k) (front ++ (f x ++ flat_map f xs)) (length xs) ≡ map f xs =
+      ap (λ (b : List ℕ). slices_from (suc k) b (length xs)) (sym (append_assoc front (f x) (flat_map f xs)))
+      ∙ slices_of xs (front ++ f x) (suc k) (omega (arith, long, size, length-append front (f x))) (λ p is. each p (contains_more x xs p is)) in
+      λ i. here i ∷ more i
 
-are_stamped : (stamp : Stamp) (pages : List (List ℕ)) (xs : List ℕ) → ((p : ℕ) → contains xs p ≡ true → bears p stamp (image_at pages p) ≡ true) → AreStamped stamp xs (map (image_at pages) xs)
-are_stamped stamp pages [] each = tt
-are_stamped stamp pages (x ∷ xs) each = (each x (contains_first x xs), are_stamped stamp pages xs (λ p is. each p (contains_more x xs p is)))
+  -- the bytes of pages, laid one after another, are cut into them
+  pub slices_laid : (xs : List ℕ) → ((p : ℕ) → contains xs p ≡ true → length (f p) ≡ 512) → slices (length xs) (flat_map f xs) ≡ map f xs
+  slices_laid xs each = slices_of xs [] 0 refl each
+
+  pub are_stamped : (stamp : Stamp) (xs : List ℕ) → ((p : ℕ) → contains xs p ≡ true → bears p stamp (f p) ≡ true) → AreStamped stamp xs (map f xs)
+  are_stamped stamp [] each = tt
+  are_stamped stamp (x ∷ xs) each = (each x (contains_first x xs), are_stamped stamp xs (λ p is. each p (contains_more x xs p is)))
+
+  -- others that are the same on these
+  pub map_same : (h : ℕ → List ℕ) (xs : List ℕ) → ((p : ℕ) → contains xs p ≡ true → f p ≡ h p) → map f xs ≡ map h xs
+  map_same h [] each = refl
+  map_same h (x ∷ xs) each = λ i. each x (contains_first x xs) i ∷ map_same h xs (λ p is. each p (contains_more x xs p is)) i
 
 -- what is laid, page by page
 pub record IsRecordOf (stamp : Stamp) (dirty : List ℕ) (pages : List (List ℕ)) (images : List ℕ) : Type 0 where
@@ -209,10 +215,10 @@ module _ (stamp : Stamp) (fits : FitsStamp stamp) (s : ResidentValue) (are : are
   record_of =
       let now = stamped stamp s.dirty s.pages in
       let slices_are : slices (length s.dirty) (laid_images (stamped stamp s.dirty s.pages) s.dirty) ≡ map (image_at (stamped stamp s.dirty s.pages)) s.dirty =
-      slices_laid (stamped stamp s.dirty s.pages) s.dirty [] 0 refl (λ p is. now_long p is) in
+      slices_laid (image_at (stamped stamp s.dirty s.pages)) s.dirty (λ p is. now_long p is) in
       record {
         slices_are = slices_are;
-        bear = subst (AreStamped stamp s.dirty) (sym slices_are) (are_stamped stamp (stamped stamp s.dirty s.pages) s.dirty (λ p is. now_bears p is));
+        bear = subst (AreStamped stamp s.dirty) (sym slices_are) (are_stamped (image_at (stamped stamp s.dirty s.pages)) stamp s.dirty (λ p is. now_bears p is));
       }
 
 -- the same, of what the code has read and made

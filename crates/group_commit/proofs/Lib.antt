@@ -1,13 +1,19 @@
 pub mod AllLaidLaws
+pub mod CachedLaws
+pub mod CleanLaws
 pub mod CommitLaws
 pub mod CountLaws
 pub mod EnterLaws
 pub mod ForceLaws
+pub mod FrameLaws
+pub mod FramedLaws
 mod GivenLaws
 pub mod HomingLaws
 pub mod ImageLaws
 pub mod NewestLaws
+pub mod OrderLaws
 pub mod PlaceLaws
+pub mod ResultLaws
 pub mod RoomLaws
 pub mod RoundLaws
 pub mod ShownLaws

@@ -1,6 +1,7 @@
 -- What stamps do to pages, and how their images lie.
 use Rattle.std.proofs.Common.{◌≡◌, ℕ, ◌+◌, ◌*◌, ◌<◌, ◌≤◌, List, [], ◌∷◌, ◌++◌, length, take, drop, set, get_or, refl, sym, ap, ◌∙◌, append_assoc, arith}
 use Rattle.std.proofs.lemmas.List.{take_at, take_more, length-append, length-take-le, append-nil}
+use Rattle.std.specs.List.{flat_map}
 use Rattle.std.proofs.lemmas.Grind.{flat_map-append}
 use Rattle.fsd_bytes.specs.Bytes.{with_bytes}
 use Rattle.fsd_formats.specs.Record.{Stamp}
@@ -27,17 +28,23 @@ take_image place image room long fits =
     ap (take (place + 512)) (sym (append_assoc (take place room) image (drop (place + length image) room)))
     ∙ take_at (take place room ++ image) (drop (place + length image) room) (place + 512) (omega (arith, length-append (take place room) image))
 
-laid_more : (pages : List (List ℕ)) (dirty : List ℕ) (k : ℕ) → k < length dirty → laid_images pages (take (k + 1) dirty) ≡ laid_images pages (take k dirty) ++ image_at pages (get_or dirty k 0)
-laid_more pages dirty k lt =
-    ap (laid_images pages) (take_more dirty k 0 lt)
-    ∙ flat_map-append (image_at pages) (take k dirty) (get_or dirty k 0 ∷ [])
-    ∙ ap (λ (x : List ℕ). laid_images pages (take k dirty) ++ x) (append-nil (image_at pages (get_or dirty k 0)))
+-- the bytes of some pages, one after another
+module _ (f : ℕ → List ℕ) where
+  laid_more : (dirty : List ℕ) (k : ℕ) → k < length dirty → flat_map f (take (k + 1) dirty) ≡ flat_map f (take k dirty) ++ f (get_or dirty k 0)
+  laid_more dirty k lt =
+      ap (flat_map f) (take_more dirty k 0 lt)
+      ∙ flat_map-append f (take k dirty) (get_or dirty k 0 ∷ [])
+      ∙ ap (λ (x : List ℕ). flat_map f (take k dirty) ++ x) (append-nil (f (get_or dirty k 0)))
+
+  pub laid_step_of : (dirty : List ℕ) (k : ℕ) (room : List ℕ) → k < length dirty → length (f (get_or dirty k 0)) ≡ 512 → 512 * length dirty ≤ length room → take (512 * k) room ≡ flat_map f (take k dirty)
+      → take (512 * (k + 1)) (with_bytes (512 * k) (f (get_or dirty k 0)) room) ≡ flat_map f (take (k + 1) dirty)
+  laid_step_of dirty k room lt long fits so_far =
+      let at : 512 * (k + 1) ≡ 512 * k + 512 = omega arith in
+      ap (λ (n : ℕ). take n (with_bytes (512 * k) (f (get_or dirty k 0)) room)) at
+      ∙ take_image (512 * k) (f (get_or dirty k 0)) room long (omega arith)
+      ∙ ap (λ (x : List ℕ). x ++ f (get_or dirty k 0)) so_far
+      ∙ sym (laid_more dirty k lt)
 
 pub laid_step : (pages : List (List ℕ)) (dirty : List ℕ) (k : ℕ) (room : List ℕ) → k < length dirty → length (image_at pages (get_or dirty k 0)) ≡ 512 → 512 * length dirty ≤ length room → take (512 * k) room ≡ laid_images pages (take k dirty)
     → take (512 * (k + 1)) (with_bytes (512 * k) (image_at pages (get_or dirty k 0)) room) ≡ laid_images pages (take (k + 1) dirty)
-laid_step pages dirty k room lt long fits so_far =
-    let at : 512 * (k + 1) ≡ 512 * k + 512 = omega arith in
-    ap (λ (n : ℕ). take n (with_bytes (512 * k) (image_at pages (get_or dirty k 0)) room)) at
-    ∙ take_image (512 * k) (image_at pages (get_or dirty k 0)) room long (omega arith)
-    ∙ ap (λ (x : List ℕ). x ++ image_at pages (get_or dirty k 0)) so_far
-    ∙ sym (laid_more pages dirty k lt)
+laid_step pages = laid_step_of (image_at pages)

@@ -1,3 +1,4 @@
+pub mod Cached
 pub mod Entering
 pub mod Force
 pub mod Forces

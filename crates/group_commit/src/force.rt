@@ -1,6 +1,6 @@
 //! The force of the pages that wait.
-use crate::entering::make_room;
 use crate::laying::{lay_images, stamp_pages};
+use crate::record::write_record;
 use crate::resident::Resident;
 use log_thirds::Log;
 use sector_disk::{LoadFault, Machine};
@@ -79,19 +79,13 @@ fn write_pages<M: Machine>(
         StandsOver log.old records disk (record { pages = pages.old; dirty = dirty.now }) windows (M.now m.old).image →
         KnowsImages log.old (M.now m.old).image → KnowsImages log.new (M.now m.new).image) }
 {
-    let layout = log.layout();
-    let _pages = layout.pages();
     stamp_pages(pages, dirty, log.epoch(), log.next_number());
-    make_room(m, log, dirty.len() as u32)?;
     lay_images(pages, dirty, room);
-    match log.append(m, dirty, &room[..512 * dirty.len()]) {
-        Ok(()) => Ok(()),
-        Err(failed) => Err(LoadFault::Device(failed.place)),
-    }
+    write_record(m, log, dirty, room)
 }
 
 // The fault as one of a force.
-fn force_fault(fault: LoadFault) -> ForceFault
+pub(crate) fn force_fault(fault: LoadFault) -> ForceFault
     ensures { as_load result ≡ fault }
 {
     match fault {

@@ -15,10 +15,11 @@ pub(crate) fn stamp_pages(pages: &mut [[u8; 512]], dirty: &[u32], epoch: u32, nu
     }
 }
 
-// Writes an image at a place.
-fn put_image(room: &mut [u8], place: usize, image: &[u8; 512])
+/// Writes an image at a place.
+pub(crate) fn put_image(room: &mut [u8], place: usize, image: &[u8; 512])
     requires { place + 512 ≤ length room.old }
-    ensures { room.new ≡ with_bytes place image.now room.old }
+    ensures laid { room.new ≡ with_bytes place image.now room.old }
+    ensures whole { length image.now ≡ 512 }
 {
     room[place..place + 512].copy_from_slice(image);
 }

@@ -2,15 +2,21 @@
 //! Of each page the newest image is read from the log, or from home.
 #![tactic(auto)]
 
+mod cached;
 mod entering;
 mod force;
+mod frames;
 mod laws;
 mod laying;
 mod newest;
+mod record;
 mod resident;
+mod room;
+mod waiting;
 
 pub use entering::make_room;
 pub use force::{ForceFault, Forced, Group};
-pub use laws::pages_are_newest;
+pub use laws::{clean_frames_are_newest, pages_are_newest};
 pub use newest::Newest;
 pub use resident::Resident;
+pub use room::RecordRoom;

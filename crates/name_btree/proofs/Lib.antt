@@ -24,7 +24,6 @@ pub mod MendLaws
 pub mod MendTreeLaws
 pub mod MendedLaws
 pub mod NextLaws
-mod OnesLaws
 pub mod OverLaws
 pub mod PairLaws
 mod PathLaws

@@ -3,6 +3,8 @@ pub mod CauseLaws
 pub mod CountLaws
 pub mod EntryLaws
 pub mod FindLaws
+pub mod ForcedLaws
+pub mod FreeLaws
 pub mod LookLaws
 pub mod NextLaws
 pub mod PageLaws

@@ -1,3 +1,4 @@
+pub mod Forcing
 pub mod Looking
 pub mod State
 pub mod Taken

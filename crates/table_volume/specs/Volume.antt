@@ -1,11 +1,12 @@
 -- A volume by its parts, and what holds of them over any machine.
-use Rattle.std.specs.Prelude.{◌≡◌, ℕ, Bool, List, [], Option, None, Ok, length, replicate, IsTrue, IsFalse}
+use Rattle.std.specs.Prelude.{◌≡◌, ◌⊎◌, ℕ, ◌<◌, ◌-◌, ◌^◌, Bool, List, [], Option, None, Ok, length, replicate, IsTrue, IsFalse}
 use Rattle.volume_layout.specs.declared.layout.Layout.{Layout}
 use Rattle.volume_layout.specs.Layout.{data_start, plan}
 use Rattle.run_table.specs.Space.{contains}
 use Rattle.fsd_bytes.specs.declared.key.Serial.{Serial}
 use Rattle.sector_set.specs.Area.{Area, area}
 use Rattle.shadow_frees.specs.Waits.{Waits, waits}
+use Rattle.group_commit.specs.Cached.{AreWaiting}
 use Rattle.log_thirds.specs.LogValue.{LogValue}
 use Rattle.page_cache.specs.Cache.{CacheValue, pins_of}
 
@@ -37,7 +38,8 @@ pub record IsUnread (w : Waits) : Type 0 where
   pub held : w.held ≡ replicate 8 None
 
 -- The layout is one that is planned. The map and the shadow are of the data area, and no free sector waits; the log is the layout's, in the epoch of the serials; each
--- name page is free or not, and none is pinned.
+-- name page is free or not, and none is pinned. Where it is not down, each dirty page is an image of itself, and the next record can be
+-- numbered; where none is dirty no sector waits for a force.
 pub record IsWhole (v : VolumeValue) : Type 0 where
   pub planned : plan v.layout.sectors v.layout.third v.layout.pages ≡ Ok v.layout
   pub map : IsOfData v.layout v.map
@@ -51,3 +53,6 @@ pub record IsWhole (v : VolumeValue) : Type 0 where
   pub pages : length v.free_pages ≡ v.layout.pages
   pub room : v.cache.frames ≡ frames
   pub unpinned : (page : ℕ) → pins_of v.cache page ≡ 0
+  pub waiting : v.down ≡ None → AreWaiting v.layout.pages v.cache
+  pub numbered : v.down ≡ None → (v.cache.dirty ≡ []) ⊎ (v.log.head.number < 2 ^ 32 - 1)
+  pub still : v.cache.dirty ≡ [] → v.shadow.removed.sectors ≡ []

@@ -4,6 +4,8 @@
 mod counting;
 mod entries;
 mod finding;
+mod forcing;
+mod freeing;
 mod laws;
 mod looking;
 mod next;

@@ -3,6 +3,7 @@ ghost use Rattle.std.specs.Prelude.{◌≡◌};
 
 use alloc_map::Map;
 use fsd_bytes::Serial;
+use group_commit::RecordRoom;
 use log_thirds::Log;
 use page_cache::Cache;
 use shadow_frees::Shadow;
@@ -19,6 +20,8 @@ pub struct Volume {
     pub(crate) shadow: Shadow,
     pub(crate) log: Log,
     pub(crate) cache: Cache,
+    // The images of the next record.
+    pub(crate) room: RecordRoom,
     pub(crate) free_pages: FreePages,
     pub(crate) serial: Serial,
     pub(crate) versions: u32,

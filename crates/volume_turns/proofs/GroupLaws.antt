@@ -3,10 +3,11 @@ use Rattle.std.proofs.Common.{◌≡◌, ℕ, ◌≤◌, Bool, true, false, List
 use Rattle.fsd_log.specs.Scan.{Placed}
 use Rattle.std.specs.Prelude.{⊤, not, IfOk, Result, Ok, Err}
 use Rattle.std.proofs.lemmas.Bool.{eq-eqb}
-use Rattle.std.proofs.lemmas.List.{append-nil, take_all}
+use Rattle.std.proofs.lemmas.List.{append-nil}
 use Rattle.volume_layout.specs.declared.layout.Layout.{Layout}
 use Rattle.sector_disk.specs.declared.machine.Machine.{Ghosts}
 use Rattle.sector_disk.specs.declared.sector.WeakRun.{WeakRun}
+use Rattle.sector_disk.specs.Image.{AllWorn}
 use Rattle.sector_disk.specs.Machine.{Moment, LeavesOnly}
 use Rattle.sector_disk.proofs.Moments.{then_on, leaves_more}
 use Rattle.fsd_files.specs.Answers.{Met}
@@ -16,7 +17,7 @@ use Rattle.fsd_files.specs.Volume.{Volume}
 use Rattle.fsd_files.specs.Replies.{Reply}
 use Rattle.fsd_sound.specs.Mounted.{Mounted, telling_of}
 use Rattle.fsd_sound.specs.Shown.{told}
-use Rattle.fsd_sound.specs.Sound.{IsSound}
+use Rattle.fsd_sound.specs.Sound.{IsSound, weak_of}
 use Rattle.fsd_texts.specs.declared.command.Command.{Command}
 use Rattle.fsd_texts.specs.declared.fault.Fault.TheVariants as Ends
 use Rattle.fsd_runs.specs.Commands.{reply_text, answer}
@@ -29,7 +30,7 @@ use Rattle.volume_turns.specs.Group.{IsGroup, CutsOff, EndsGroup, WornIf, is_thr
 use Rattle.volume_turns.specs.Once.{ClosesAndSays, EndsClosed, InClose, IsDone, SaysClosed, unit_of}
 use Rattle.volume_contract.specs.State.{State, Known, volume_of, Stands}
 use Rattle.volume_turns.specs.Turns.{Behind, InRun, RunsFrom, Said, StandsBehind}
-use Rattle.volume_turns.proofs.TurnLaws.{in_close}
+use Rattle.volume_turns.proofs.TurnLaws.{in_close, said_close}
 
 -- a list of turns with the one that says the force
 said_last : (turns : List Turn) → said_in (turns ++ forced_turn ∷ []) ≡ said_in turns ++ forced_turn.said
@@ -56,19 +57,13 @@ module _ (H : Sectors) (P Q : Moment → Type 0) (wider : (c : Moment) → P c �
     goes_wider (said ++ e.says (answer met v command).0) goes.0 (answer met v command).1 mets commands goes.2,
   )
 
-module _ {S D : Type 0} (state : S → State) (has : S → Mounted → List Placed → Type 0) (M : Ghosts D) (e : Errand) (says : e.says ≡ reply_text) (k : Known) (from : Moment) (commands : List Command) (a m b : D) (w : S)
+module _ {S D : Type 0} (state : S → State) (has : S → Mounted → List Placed → Type 0) (M : Ghosts D) (e : Errand) (k : Known) (from : Moment) (commands : List Command) (a m b : D) (w : S)
     (since : Since M m b) (later : M.moment a ≤ M.moment m) where
   module _ (run : Result (Unit {0}) End) (ran : RunsFrom state has M e k from commands a m w run) where
     abbrev turns : List Turn
     turns = turns_begun e ran.mets (volume_of k) commands
 
-    module _ (behind_it : StandsBehind state has e k ran.mets commands w (M.now a) (M.now m)) (result : Result Bool End) (closed : ClosesAndSays M behind_it.after (e.says Reply.Forced) m b (unit_of result)) where
-      text_is : e.says Reply.Forced ≡ forced_turn.said
-      text_is = ap (λ (f : Reply → List ℕ). f Reply.Forced) says
-
-      at_text : ClosesAndSays M behind_it.after forced_turn.said m b (unit_of result)
-      at_text = subst (λ (t : List ℕ). ClosesAndSays M behind_it.after t m b (unit_of result)) text_is closed
-
+    module _ (behind_it : StandsBehind state has e k ran.mets commands w (M.now a) (M.now m)) (result : Result Bool End) (at_text : ClosesAndSays M behind_it.after forced_turn.said m b (unit_of result)) where
       both : (more : List Turn) → LeavesOnly M.moment M.left_since a b (InRun k (turns ++ forced_turn ∷ more) (M.now a))
       both more = then_on M.moment M.left_since a m b (InRun k (turns ++ forced_turn ∷ more) (M.now a)) (ran.moments (forced_turn ∷ more))
           (leaves_more M.moment M.left_since m b (InClose behind_it.after forced_turn.said (M.now m)) (InRun k (turns ++ forced_turn ∷ more) (M.now a))
@@ -84,15 +79,18 @@ module _ {S D : Type 0} (state : S → State) (has : S → Mounted → List Plac
                 (subst (λ (x : List WeakRun). IsSound k.mounted.volume.layout x behind_it.after.changes (length behind_it.after.changes) (M.now b).image) behind_it.windows
                 (subst (λ (l : Layout). IsSound l behind_it.after.windows behind_it.after.changes (length behind_it.after.changes) (M.now b).image) behind_it.layout c.sound));
             tells = subst (λ (l : Layout). told l (M.now b).image ≡ Some (telling_of (behind ran.mets (volume_of k) commands))) behind_it.layout (c.tells ∙ ap (λ (x : Volume). Some (telling_of x)) behind_it.is);
+            lasts = subst (λ (x : List WeakRun). AllWorn (weak_of x) (λ j. told k.mounted.volume.layout j ≡ Some (telling_of (behind ran.mets (volume_of k) commands))) (M.now b).image) behind_it.windows
+                (subst (λ (l : Layout). AllWorn (weak_of behind_it.after.windows) (λ j. told l j ≡ Some (telling_of (behind ran.mets (volume_of k) commands))) (M.now b).image) behind_it.layout
+                (subst (λ (x : Volume). AllWorn (weak_of behind_it.after.windows) (λ j. told behind_it.after.mounted.volume.layout j ≡ Some (telling_of x)) (M.now b).image) behind_it.is c.lasts));
           }
 
-      said_all : (M.now b).said ≡ (M.now m).said → Said turns (M.now a) (M.now b)
-      said_all same = record { whole = length turns; most = omega arith; said = same ∙ behind_it.said ∙ ap (λ (x : List Turn). (M.now a).said ++ said_in x) (sym (take_all (length turns) turns (omega arith))) }
+      said_all : InClose behind_it.after forced_turn.said (M.now m) (M.now b) → (M.now b).said ≡ (M.now m).said → Said k turns (M.now a) (M.now b)
+      said_all c same = said_close k behind_it.after turns forced_turn [] refl behind_it.layout behind_it.windows behind_it.changes behind_it.least behind_it.forced (M.now a) (M.now m) (M.now b) behind_it.open_windows behind_it.said c same
 
       ends_by : (r : Result Bool End) (cut : Bool) → IfOk r (λ x. x ≡ not cut) → is_through cut ran.mets commands ≡ true → EndsClosed behind_it.after forced_turn.said (M.now m) (M.now b) (unit_of r) → EndsGroup e k cut ran.mets commands (M.now a) (M.now b) r
       ends_by (Ok x) cut same through c = (same, through, done c)
       ends_by (Err Output) cut same through c = tt
-      ends_by (Err (Stopped fault)) cut same through c = (c.0, said_all c.1)
+      ends_by (Err (Stopped fault)) cut same through c = (c.0, said_all c.2 c.1)
 
       pub group_done : (cut : Bool) → IfOk result (λ x. x ≡ not cut) → CutsOff cut ran.mets commands → is_through cut ran.mets commands ≡ true → ((v : Volume) (i : Image) → Behind run v i → WornIf cut v i) → IsGroup M e k from commands a b result
       group_done cut same before through last = record {
@@ -104,6 +102,10 @@ module _ {S D : Type 0} (state : S → State) (has : S → Mounted → List Plac
         ends = ends_by result cut same through at_text.ends;
       }
 
+-- the line of a force, as it is said
+pub at_forced : {D : Type 0} (M : Ghosts D) (x : Known) (e : Errand) (m b : D) (r : Result (Unit {0}) End) → e.says ≡ reply_text → ClosesAndSays M x (e.says Reply.Forced) m b r → ClosesAndSays M x forced_turn.said m b r
+at_forced M x e m b r says closed = subst (λ (f : Reply → List ℕ). ClosesAndSays M x (f Reply.Forced) m b r) says closed
+
 worn_is : (end : End) → is_worn_end end ≡ true → end ≡ Stopped Ends.WornOut
 worn_is (Stopped Ends.WornOut) is = refl
 worn_is (Stopped fault) is = cc is
@@ -111,18 +113,23 @@ worn_is Output is = cc is
 
 module _ {S D : Type 0} (state : S → State) (has : S → Mounted → List Placed → Type 0) (M : Ghosts D) (e : Errand) (k : Known) (from : Moment) (commands : List Command) where
   -- all were done
-  pub group_all : e.says ≡ reply_text → (a m b : D) (w : S) → Since M m b → M.moment a ≤ M.moment m → RunsFrom state has M e k from commands a m w (Ok tt) → (result : Result Bool End) → IfOk result (λ x. x ≡ true)
-      → ((x : Known) → Stands state has w x (M.now m) → ClosesAndSays M x (e.says Reply.Forced) m b (unit_of result)) → IsGroup M e k from commands a b result
-  group_all says a m b w since later ran result same closes =
-      group_done state has M e says k from commands a m b w since later (Ok tt) ran ran.ends.1 result (closes ran.ends.1.after ran.ends.1.stands) false same tt (eq-eqb (length ran.mets) (length commands) ran.ends.0) (λ v i is. tt)
+  pub group_all : (a m b : D) (w : S) → Since M m b → M.moment a ≤ M.moment m → RunsFrom state has M e k from commands a m w (Ok tt) → (result : Result Bool End) → IfOk result (λ x. x ≡ true)
+      → ((x : Known) → Stands state has w x (M.now m) → ClosesAndSays M x forced_turn.said m b (unit_of result)) → IsGroup M e k from commands a b result
+  group_all a m b w since later ran result same closes =
+      group_done state has M e k from commands a m b w since later (Ok tt) ran ran.ends.1 result (closes ran.ends.1.after ran.ends.1.stands) false same tt (eq-eqb (length ran.mets) (length commands) ran.ends.0) (λ v i is. tt)
+
+  pub group_all_mets : (a m b : D) (w : S) (since : Since M m b) (later : M.moment a ≤ M.moment m) (ran : RunsFrom state has M e k from commands a m w (Ok tt)) (result : Result Bool End) (same : IfOk result (λ x. x ≡ true))
+      (closes : (x : Known) → Stands state has w x (M.now m) → ClosesAndSays M x forced_turn.said m b (unit_of result)) → (group_all a m b w since later ran result same closes).mets ≡ ran.mets
+  unfolding group_all group_done
+  group_all_mets a m b w since later ran result same closes = refl
 
   -- it was cut off
-  pub group_worn : e.says ≡ reply_text → (a m b : D) (w : S) → Since M m b → M.moment a ≤ M.moment m → (end : End) → is_worn_end end ≡ true → RunsFrom state has M e k from commands a m w (Err end) → (result : Result Bool End) → IfOk result (λ x. x ≡ false)
-      → ((x : Known) → Stands state has w x (M.now m) → ClosesAndSays M x (e.says Reply.Forced) m b (unit_of result)) → IsGroup M e k from commands a b result
-  group_worn says a m b w since later end worn given result same closes = by (subst (λ (x : End). RunsFrom state has M e k from commands a m w (Err x)) (worn_is end worn) given)
+  pub group_worn : (a m b : D) (w : S) → Since M m b → M.moment a ≤ M.moment m → (end : End) → is_worn_end end ≡ true → RunsFrom state has M e k from commands a m w (Err end) → (result : Result Bool End) → IfOk result (λ x. x ≡ false)
+      → ((x : Known) → Stands state has w x (M.now m) → ClosesAndSays M x forced_turn.said m b (unit_of result)) → IsGroup M e k from commands a b result
+  group_worn a m b w since later end worn given result same closes = by (subst (λ (x : End). RunsFrom state has M e k from commands a m w (Err x)) (worn_is end worn) given)
     where
       by : RunsFrom state has M e k from commands a m w (Err (Stopped Ends.WornOut)) → IsGroup M e k from commands a b result
-      by ran = group_done state has M e says k from commands a m b w since later (Err (Stopped Ends.WornOut)) ran ran.ends.1 result (closes ran.ends.1.after ran.ends.1.stands) true same ran.ends.0 refl (λ v i is. is)
+      by ran = group_done state has M e k from commands a m b w since later (Err (Stopped Ends.WornOut)) ran ran.ends.1 result (closes ran.ends.1.after ran.ends.1.stands) true same ran.ends.0 refl (λ v i is. is)
 
   -- it was broken off
   module _ (a m : D) (w : S) (end : End) (ran : RunsFrom state has M e k from commands a m w (Err end)) where

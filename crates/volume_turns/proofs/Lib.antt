@@ -6,6 +6,12 @@ pub mod TurnLaws
 pub mod RunLaws
 pub mod OnceLaws
 pub mod MountLaws
-pub mod OneShotLaws
 pub mod GroupLaws
 pub mod LineLaws
+pub mod HaltLaws
+pub mod WholeLaws
+pub mod CountLaws
+pub mod GroupEndLaws
+pub mod GenerateLaws
+pub mod InputLaws
+pub mod OneLaws

@@ -1,16 +1,13 @@
 -- One command from the mount on.
-use Rattle.std.proofs.Common.{◌≡◌, ◌⊎◌, inl, inr, ℕ, suc, ◌+◌, ◌-◌, ◌≤◌, Bool, true, false, List, [], ◌∷◌, ◌++◌, length, take, Option, Some, None, refl, sym, ◌∙◌, ap, subst, arith, length-append}
-use Rattle.std.specs.Prelude.{Result, Ok, Err, slice_get, IfSome}
+use Rattle.std.proofs.Common.{◌≡◌, inl, ℕ, suc, ◌+◌, ◌-◌, ◌≤◌, Bool, true, false, List, [], ◌∷◌, ◌++◌, length, take, Option, Some, None, refl, sym, ◌∙◌, ap, subst, arith}
+use Rattle.std.specs.Prelude.{slice_get, IfSome}
 use Rattle.std.specs.List.{list_any}
 use Rattle.std.proofs.lemmas.List.{append-nil, length-take}
 use Rattle.volume_layout.specs.declared.layout.Layout.{Layout}
-use Rattle.sector_disk.specs.declared.machine.Machine.{Ghosts}
 use Rattle.sector_disk.specs.declared.sector.WeakRun.{WeakRun}
 use Rattle.sector_disk.specs.Image.{Windows}
-use Rattle.sector_disk.specs.Machine.{Moment, LeavesOnly}
-use Rattle.sector_disk.proofs.Moments.{then_on, leaves_more}
+use Rattle.sector_disk.specs.Machine.{Moment}
 use Rattle.fsd_formats.specs.declared.anchor.Anchor.{Anchor}
-use Rattle.fsd_files.specs.Answers.{Met}
 use Rattle.fsd_files.specs.Disk.{Image, in_runs}
 use Rattle.fsd_files.specs.Files.{Change, after}
 use Rattle.fsd_files.specs.Kept.{Describes}
@@ -20,23 +17,17 @@ use Rattle.fsd_sound.specs.Shown.{told}
 use Rattle.fsd_sound.specs.Sound.{IsSound, IsPrefixOf}
 use Rattle.fsd_sound.proofs.MoreLaws.{sound_more}
 use Rattle.fsd_sound.proofs.MountedLaws.{fresh_mounted, mounted_tells}
-use Rattle.fsd_texts.specs.declared.command.Command.{Command}
 use Rattle.fsd_texts.specs.declared.fault.Fault.TheVariants as Ends
-use Rattle.fsd_runs.specs.Errands.{Turn, alone}
-use Rattle.fsd_runs.specs.Leaves.{Left, LeftSince, IsReplied, SaysFault}
-use Rattle.fsd_runs.specs.Runs.{Goes, Starts, Run, behind, changes_in, forced_in, run_end, run_status, run_turns, said_in, turns_of}
-use Rattle.fsd_runs.specs.declared.request.Request.TheVariants.{One}
-use Rattle.volume_turns.specs.declared.turns.End.{End}
-use Rattle.volume_turns.specs.declared.turns.End.TheVariants.{Fault as Stopped, Output}
-use Rattle.sector_disk.specs.Calls.{Since}
+use Rattle.fsd_runs.specs.Errands.{Turn}
+use Rattle.fsd_runs.specs.Leaves.{Left, LeftSince, SaysFault}
+use Rattle.fsd_runs.specs.Runs.{Starts, changes_in, forced_in, said_in}
 use Rattle.volume_contract.specs.Mount.{SoundBefore, SoundSince, Settled}
-use Rattle.volume_turns.specs.Once.{Anything, EndsAlone, IsDone, OnceMounted, OnceEnds, status_alone}
 use Rattle.volume_contract.specs.State.{Known, volume_of, forced_of}
 use Rattle.volume_turns.specs.Turns.{InRun}
 use Rattle.volume_turns.proofs.TurnLaws.{newer_own, forced_none, says_nothing}
 
 -- the same, said of equals
-sound_to : (l l2 : Layout) (w w2 : List WeakRun) (h h2 : List Change) (f f2 : ℕ) (i : Image) → l ≡ l2 → w ≡ w2 → h ≡ h2 → f ≡ f2 → IsSound l w h f i → IsSound l2 w2 h2 f2 i
+pub sound_to : (l l2 : Layout) (w w2 : List WeakRun) (h h2 : List Change) (f f2 : ℕ) (i : Image) → l ≡ l2 → w ≡ w2 → h ≡ h2 → f ≡ f2 → IsSound l w h f i → IsSound l2 w2 h2 f2 i
 sound_to l l2 w w2 h h2 f f2 i el ew eh ef sound =
     subst (λ (x : Layout). IsSound x w2 h2 f2 i) el (subst (λ (x : List WeakRun). IsSound l x h2 f2 i) ew (subst (λ (x : List Change). IsSound l w x f2 i) eh (subst (λ (x : ℕ). IsSound l w h x i) ef sound)))
 
@@ -116,74 +107,3 @@ module _ (l : Layout) (windows : List WeakRun) (h : List Change) (f n : ℕ) (pr
     drafts = s.fresh.drafts;
     unforced = s.fresh.unforced;
   }
-
--- ---- the whole
-
-module _ {D : Type 0} (M : Ghosts D) (l : Layout) (windows : List WeakRun) (h : List Change) (f n : ℕ) (prefix : IsPrefixOf h f n) (k : Known) (a m b : D) (s : Settled l windows h n k (M.now a) (M.now m)) (quiet : (M.now m).said ≡ (M.now a).said)
-    (mount : LeavesOnly M.moment M.left_since a m (λ left. SoundBefore l windows h f (M.now a) left ⊎ SoundSince l windows h n (M.now a) left))
-    (since : Since M m b) (here : M.left_since m (M.moment m) (M.now m)) (now : M.left_since b (M.moment m) (M.now b)) (command : Command) (mets : List Met) where
-  abbrev turns : List Turn
-  turns = turns_of (alone command) mets (volume_of k)
-
-  abbrev on : (left : Moment) → InRun k turns (M.now m) left → LeftSince l windows h n turns (M.now a) left
-  on left r = run_left l windows h f n prefix k (M.now a) (M.now m) s quiet turns left r
-
-  mount_left : LeavesOnly M.moment M.left_since a m (Left l windows h f n turns (M.now a))
-  mount_left = leaves_more M.moment M.left_since a m (λ left. SoundBefore l windows h f (M.now a) left ⊎ SoundSince l windows h n (M.now a) left) (Left l windows h f n turns (M.now a))
-      (λ left x. elim x [ inl y ↦ before_left l windows h f n prefix k (M.now a) (M.now m) s quiet turns left y | inr y ↦ inr (since_left l windows h f n prefix k (M.now a) (M.now m) s quiet turns left y) ]) mount
-
-  module _ (goes : Goes (in_runs k.windows) (M.left_since b (M.moment m)) Anything (alone command) (M.now m).said (M.now m).image (volume_of k) mets (command ∷ [])) where
-    abbrev pub run_is : Run (One command) [] (windows ++ s.run ∷ []) (M.left_since b (M.moment m)) (M.now a).said (volume_of k) (M.now m).image
-    run_is = record {
-      cut = None;
-      may = tt;
-      before = tt;
-      mets = mets;
-      goes = subst (λ (x : List ℕ). Goes (in_runs (windows ++ s.run ∷ [])) (M.left_since b (M.moment m)) Anything (alone command) x (M.now m).image (volume_of k) mets (command ∷ [])) quiet
-          (subst (λ (x : List WeakRun). Goes (in_runs x) (M.left_since b (M.moment m)) Anything (alone command) (M.now m).said (M.now m).image (volume_of k) mets (command ∷ [])) s.known goes);
-    }
-
-    replied : (status : ℕ) → status ≡ status_alone command mets (volume_of k) → IsDone k turns (behind mets (volume_of k) (command ∷ [])) (M.now m) (M.now b) → IsReplied l windows h n (run_turns run_is) (run_status run_is) (run_end run_is) (M.now a) (M.now b) status
-    replied status same d =
-        let all : length (k.changes ++ changes_in turns) ≡ n + length (changes_in turns) = let sum = length-append k.changes (changes_in turns) in let known = known_length l windows h f n prefix k (M.now a) (M.now m) s quiet in omega (arith, sum, known) in
-        record {
-          ends = same;
-          said = d.said ∙ ap (λ (x : List ℕ). x ++ said_in turns) quiet;
-          run = s.run;
-          settled = d.windows ∙ s.settled;
-          sound = sound_to k.mounted.volume.layout l k.windows (windows ++ s.run ∷ []) (k.changes ++ changes_in turns) (take n h ++ changes_in turns) (length (k.changes ++ changes_in turns)) (n + length (changes_in turns)) (M.now b).image
-              s.layout s.known (ap (λ (x : List Change). x ++ changes_in turns) s.changes) all d.sound;
-          tells = subst (λ (x : Layout). told x (M.now b).image ≡ Some (telling_of (behind mets (volume_of k) (command ∷ [])))) s.layout d.tells;
-        }
-
-    ended : (r : Result ℕ End) → EndsAlone command k mets (M.now m) (M.now b) r → OnceEnds l windows h n run_is (M.now a) (M.now b) r
-    ended (Ok status) e = (e.0, replied status e.1 e.2)
-    ended (Err (Stopped fault)) e = (e.0, e.1 ∙ quiet)
-    ended (Err Output) e = tt
-
-    pub once_mounted : LeavesOnly M.moment M.left_since m b (InRun k turns (M.now m)) → (result : Result ℕ End) → OnceEnds l windows h n run_is (M.now a) (M.now b) result
-        → OnceMounted command l windows h f (M.moment b) (M.left_since b) (LeavesOnly M.moment M.left_since a b) (M.now a) (M.now b) result
-    once_mounted moments result ends = record {
-      count = n;
-      prefix = prefix;
-      next = s.run;
-      at = M.moment m;
-      begun = moments.later;
-      from = (M.now m).image;
-      stood = record { moment = M.now m; passed = since (M.moment m) (M.now m) (omega arith) here; image = refl; so_far = quiet };
-      settled = s.settled;
-      raised = s.raised;
-      volume = volume_of k;
-      starts = starts l windows h f n prefix k (M.now a) (M.now m) s quiet;
-      run = run_is;
-      moments = then_on M.moment M.left_since a m b (Left l windows h f n turns (M.now a)) mount_left
-          (leaves_more M.moment M.left_since m b (InRun k turns (M.now m)) (Left l windows h f n turns (M.now a)) (λ left r. inr (on left r)) moments);
-      later = λ left past. on left (moments.each left past);
-      exit = on (M.now b) (moments.each (M.now b) now);
-      ends = ends;
-    }
-
-  pub mounted_alone : (r : Result ℕ End) (moments : LeavesOnly M.moment M.left_since m b (InRun k turns (M.now m)))
-      → Goes (in_runs k.windows) (M.left_since b (M.moment m)) Anything (alone command) (M.now m).said (M.now m).image (volume_of k) mets (command ∷ []) → EndsAlone command k mets (M.now m) (M.now b) r
-      → OnceMounted command l windows h f (M.moment b) (M.left_since b) (LeavesOnly M.moment M.left_since a b) (M.now a) (M.now b) r
-  mounted_alone r moments goes ends = once_mounted goes moments r (ended goes r ends)

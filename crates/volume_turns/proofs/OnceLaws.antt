@@ -8,17 +8,17 @@ use Rattle.fsd_bytes.specs.declared.refusal.Refusal.{Refusal}
 use Rattle.fsd_bytes.specs.declared.refusal.Refusal.TheVariants as Why
 use Rattle.sector_disk.specs.declared.machine.Machine.{Ghosts}
 use Rattle.sector_disk.specs.declared.sector.WeakRun.{WeakRun}
-use Rattle.sector_disk.specs.Image.{open_damage, AreShort, Windows}
+use Rattle.sector_disk.specs.Image.{AllWorn, open_damage, AreShort, Windows}
 use Rattle.sector_disk.specs.Machine.{Moment, LeavesOnly, Utters}
 use Rattle.sector_disk.proofs.Moments.{then_on, leaves_more}
-use Rattle.sector_disk.proofs.Wear.{worn_refl}
+use Rattle.sector_disk.proofs.Wear.{AllWorn-worn, worn_refl}
 use Rattle.fsd_files.specs.Answers.{Met}
 use Rattle.fsd_files.specs.Files.{Change}
 use Rattle.fsd_files.specs.Replies.{Reply}
 use Rattle.fsd_files.specs.Volume.{Volume}
 use Rattle.fsd_sound.specs.Mounted.{Mounted, telling_of}
 use Rattle.fsd_sound.specs.Shown.{told}
-use Rattle.fsd_sound.specs.Sound.{IsSound, EndIn}
+use Rattle.fsd_sound.specs.Sound.{IsSound, EndIn, weak_of}
 use Rattle.fsd_sound.proofs.MoreLaws.{wear_sound}
 use Rattle.fsd_sound.proofs.WindowLaws.{open_is_weak}
 use Rattle.fsd_texts.specs.declared.command.Command.{Command}
@@ -41,22 +41,22 @@ use Rattle.volume_turns.proofs.RunLaws.{before_it, behind_it, step_is, volume_is
 
 -- ---- the end of a volume
 
-device_ends : (why : Refusal) → IsDevice why → EndsAtOnce (close_fault why)
+pub device_ends : (why : Refusal) → IsDevice why → EndsAtOnce (close_fault why)
 device_ends (Why.Device s) is = tt
 device_ends why is = absurd is
 
 module _ {S D : Type 0} (state : S → State) (has : S → Mounted → List Placed → Type 0) (M : Ghosts D) (v : S) (a m b : D) (k : Known) (stands : Stands state has v k (M.now a)) (text : List ℕ) (may : ℕ → Bool) (fault : Option ℕ)
     (disk : WritesDisk M fault (Leaves state has v may) a m) (honest : M.honest m) where
-  closing : (left : Moment) → Leaves state has v may (M.now a) left → InClose k text (M.now a) left
+  pub closing : (left : Moment) → Leaves state has v may (M.now a) left → InClose k text (M.now a) left
   closing left leaves =
       let l = leaves k stands in
       record { windows = l.windows; forced = forced_of k; least = omega arith; sound = l.sound; heard = 0; said = l.said ∙ sym (append-nil (M.now a).said); all = λ some. absurd (omega (arith, some)) }
 
-  close_moments : LeavesOnly M.moment M.left_since a m (InClose k text (M.now a))
+  pub close_moments : LeavesOnly M.moment M.left_since a m (InClose k text (M.now a))
   close_moments = leaves_more M.moment M.left_since a m (Leaves state has v may (M.now a)) (InClose k text (M.now a)) closing (disk.any_moment honest)
 
   pub close_failed : (why : Refusal) → IsDevice why → ClosesAndSays M k text a m (Err (Stopped (close_fault why)))
-  close_failed why is = record { moments = close_moments; ends = (device_ends why is, disk.quiet honest) }
+  close_failed why is = record { moments = close_moments; ends = (device_ends why is, disk.quiet honest, closing (M.now m) (disk.exit honest)) }
 
   module _ (closes : Closes k (M.now m).image) (short : AreShort (M.now m).windows) (run : LeavesOnly M.moment M.left_since m b (Utters text (M.now m))) where
     ends_in : EndIn (M.now m).windows k.windows
@@ -87,9 +87,10 @@ module _ {S D : Type 0} (state : S → State) (has : S → Mounted → List Plac
         said = says.said ∙ ap (λ (x : List ℕ). x ++ text) (disk.quiet honest);
         sound = wear_sound k.mounted.volume.layout k.windows k.changes (length k.changes) (M.now m).windows (M.now m).image (M.now b).image short ends_in says.ages.image closes.sound;
         tells = closes.tells (M.now b).image (open_is_weak (M.now m).windows k.windows (M.now m).image (M.now b).image ends_in says.ages.image);
+        lasts = AllWorn-worn (weak_of k.windows) (λ j. told k.mounted.volume.layout j ≡ Some (telling_of (volume_of k))) (M.now m).image (M.now b).image (open_is_weak (M.now m).windows k.windows (M.now m).image (M.now b).image ends_in says.ages.image) closes.tells;
       };
     }
-    close_said (Err (Stopped Ends.Memory)) says unsaid = record { moments = both; ends = (tt, unsaid.said ∙ disk.quiet honest) }
+    close_said (Err (Stopped Ends.Memory)) says unsaid = record { moments = both; ends = (tt, unsaid.said ∙ disk.quiet honest, saying (M.now b) (record { image = unsaid.image; windows = unsaid.windows; heard = 0; said = unsaid.said ∙ sym (append-nil (M.now m).said) })) }
     close_said (Err Output) says unsaid = record { moments = both; ends = tt }
     close_said (Err (Stopped fault)) says unsaid = absurd unsaid
 
@@ -160,6 +161,9 @@ module _ {S D : Type 0} (state : S → State) (has : S → Mounted → List Plac
               (subst (λ (x : List WeakRun). IsSound k.mounted.volume.layout x after.changes (length after.changes) (M.now b).image) carried.windows
               (subst (λ (l : Layout). IsSound l after.windows after.changes (length after.changes) (M.now b).image) carried.layout c.sound));
           tells = subst (λ (l : Layout). told l (M.now b).image ≡ Some (telling_of (answer is.met (volume_of k) command).1)) carried.layout (c.tells ∙ ap (λ (x : Volume). Some (telling_of x)) volume_same);
+          lasts = subst (λ (x : List WeakRun). AllWorn (weak_of x) (λ j. told k.mounted.volume.layout j ≡ Some (telling_of (answer is.met (volume_of k) command).1)) (M.now b).image) carried.windows
+              (subst (λ (l : Layout). AllWorn (weak_of after.windows) (λ j. told l j ≡ Some (telling_of (answer is.met (volume_of k) command).1)) (M.now b).image) carried.layout
+              (subst (λ (x : Volume). AllWorn (weak_of after.windows) (λ j. told after.mounted.volume.layout j ≡ Some (telling_of x)) (M.now b).image) volume_same c.lasts));
         }
 
     status_same : reply_status reply ≡ reply_status (answer is.met (volume_of k) command).0

@@ -7,7 +7,7 @@ use Rattle.std.proofs.lemmas.List.{append-nil}
 use Rattle.sector_disk.specs.declared.machine.Machine.{Ghosts}
 use Rattle.sector_disk.specs.declared.sector.WeakRun.{WeakRun}
 use Rattle.sector_disk.specs.Image.{IsWorn, open_damage, AreShort}
-use Rattle.sector_disk.specs.Machine.{Moment, Report, LeavesOnly, UsesDisk, Utters}
+use Rattle.sector_disk.specs.Machine.{Moment, Report, LeavesOnly, UsesDisk, Utters, Wears}
 use Rattle.sector_disk.proofs.Moments.{started, then_on, leaves_more}
 use Rattle.fsd_files.specs.Answers.{Met, Outcome, entry_of}
 use Rattle.fsd_files.specs.Disk.{Image, Sectors, in_runs}
@@ -15,6 +15,7 @@ use Rattle.fsd_files.specs.Files.{Change}
 use Rattle.fsd_files.specs.Replies.{Reply}
 use Rattle.fsd_files.specs.Volume.{Volume, HasReach}
 use Rattle.fsd_sound.specs.Mounted.{Mounted}
+use Rattle.fsd_sound.specs.Sound.{IsSound}
 use Rattle.fsd_sound.proofs.MountedLaws.{mounted_sound, mounted_tells, mounted_reach}
 use Rattle.fsd_texts.specs.declared.command.Command.{Command}
 use Rattle.fsd_texts.specs.declared.command.Command.TheVariants as Word
@@ -32,7 +33,7 @@ use Rattle.volume_contract.specs.State.{State, Ages, Known, volume_of, forced_of
 use Rattle.volume_turns.specs.Steps.{Does, IsAnswered, Stays, device_told}
 use Rattle.volume_turns.specs.Turns.{Carries, Follows, InRun, RunsFrom, Runs, Steps, StepsBy, StepsOk, StandsBehind, EndsBy, Said, SaysAll, Unsaid, Behind, Told, Unheard, device_end, turn_by}
 use Rattle.volume_turns.proofs.ReadLaws.{some_earlier}
-use Rattle.volume_turns.proofs.TurnLaws.{in_before, in_saying, in_behind, enough_from, worn_state, state_worn}
+use Rattle.volume_turns.proofs.TurnLaws.{in_before, in_saying, in_behind, enough_from, said_before, said_more, said_nothing, worn_state, state_worn}
 
 -- what is found, from an earlier image on
 find_earlier : (may : ℕ → Bool) (i j k : Image) → IsWorn may i j → (v : Volume) (command : Command) (met : Met) → MayFind j k v command met → MayFind i k v command met
@@ -128,13 +129,22 @@ module _ {S D : Type 0} (state : S → State) (has : S → Mounted → List Plac
           moments = in_both;
         }
 
+        pub step_ok_met : (says : SaysAll (e.says reply) (M.now m) (M.now b)) → (step_ok says).met ≡ is.met
+        unfolding step_ok
+        step_ok_met says = refl
+
+        worn_after : Wears (M.now m) (M.now b) → IsSound after.mounted.volume.layout after.windows after.changes (forced_of after) (M.now b).image
+        worn_after worn =
+            let at = wears w after (M.now m) (M.now b) (short m honest) (record { image = worn.image; windows = worn.windows }) stands in
+            mounted_sound after.mounted after.windows after.changes (forced_of after) (M.now b).image at.disk
+
         -- it was not said
         pub step_unsaid : (end : End) → Unsaid (M.now m) (M.now b) end → (more : List Command) → RunsFrom state has M e k from (command ∷ more) a b w (Err end)
         step_unsaid (Stopped Ends.Memory) unsaid more = record {
           mets = is.met ∷ [];
           goes = λ t le. ((M.now m).image, step_is t le, tt);
           moments = in_both;
-          ends = (tt, record { whole = 0; most = omega arith; said = unsaid.said ∙ disk.quiet honest ∙ sym (append-nil (M.now a).said) });
+          ends = (tt, said_before k after turn [] behind_it.layout behind_it.windows behind_it.changes (forced_of after) behind_it.least (M.now a) (M.now b) (unsaid.windows ∙ disk.windows honest) (worn_after unsaid) (unsaid.said ∙ disk.quiet honest));
         }
         step_unsaid Output unsaid more = record { mets = is.met ∷ []; goes = λ t le. ((M.now m).image, step_is t le, tt); moments = in_both; ends = tt }
         step_unsaid (Stopped fault) unsaid more = absurd unsaid
@@ -151,13 +161,13 @@ module _ {S D : Type 0} (state : S → State) (has : S → Mounted → List Plac
       mets = [];
       goes = λ t le. tt;
       moments = before_it;
-      ends = (tt, record { whole = 0; most = omega arith; said = disk.quiet honest ∙ sym (append-nil (M.now a).said) });
+      ends = (tt, said_nothing k (M.now a) (M.now m) (disk.exit honest k stood));
     }
     step_fault Ends.Memory does more = record {
       mets = [];
       goes = λ t le. tt;
       moments = before_it;
-      ends = (tt, record { whole = 0; most = omega arith; said = disk.quiet honest ∙ sym (append-nil (M.now a).said) });
+      ends = (tt, said_nothing k (M.now a) (M.now m) (disk.exit honest k stood));
     }
     step_fault Ends.WornOut does more = record {
       mets = [];
@@ -212,6 +222,11 @@ module _ {S D : Type 0} (state : S → State) (has : S → Mounted → List Plac
             (in_before k rest (M.now a) (M.now a) (record { sound = mounted_sound k.mounted k.windows k.changes (forced_of k) (M.now a).image now.disk; windows = refl; said = refl }));
         ends = (refl, record { after = k; is = refl; windows = refl; changes = sym (append-nil k.changes); said = sym (append-nil (M.now a).said); open_windows = refl; layout = refl; least = omega arith; forced = λ any. absurd (cc any); stands = now });
       }
+
+  pub runs_nil_mets : (v : S) (a : D) (wears : (s : S) (k : Known) (old new : Moment) → AreShort old.windows → Ages old new → Stands state has s k old → Stands state has s k new) (only : M.honest a → (left : Moment) → M.left_since a (M.moment a) left → left ≡ M.now a)
+      (short : M.honest a → (from : Moment) → Ages from (M.now a) → AreShort from.windows) (honest : M.honest a) (k : Known) (from : Moment) (stood : Stands state has v k from) (aged : Ages from (M.now a)) → (runs_nil v a wears only short honest k from stood aged).mets ≡ []
+  unfolding runs_nil
+  runs_nil_mets v a wears only short honest k from stood aged = refl
 
   module _ (command : Command) (commands : List Command) (v w z : S) (a m b : D) (result : Result (Unit {0}) End) (follows : Follows M m b) (later : M.honest m → M.moment a ≤ M.moment m)
       (steps : Steps state has M e command v a w m (Ok tt)) (runs : Runs state has M e commands w m z b result) where
@@ -268,13 +283,8 @@ module _ {S D : Type 0} (state : S → State) (has : S → Mounted → List Plac
         stands = x.stands;
       }
 
-      said_behind : Said (turns_begun e rest.mets (volume_of ok.after) commands) (M.now m) (M.now b) → Said (this_turn ∷ turns) (M.now a) (M.now b)
-      said_behind x = record {
-        whole = suc x.whole;
-        most = let long = ap (λ (ts : List Turn). length ts) same_turns in let most = x.most in omega (arith, long, most);
-        said = x.said ∙ ap (λ (y : List ℕ). y ++ said_in (take x.whole (turns_begun e rest.mets (volume_of ok.after) commands))) ok.said
-            ∙ append_assoc (M.now a).said this_turn.said (said_in (take x.whole (turns_begun e rest.mets (volume_of ok.after) commands))) ∙ ap (λ (ts : List Turn). (M.now a).said ++ (this_turn.said ++ said_in (take x.whole ts))) same_turns;
-      }
+      said_behind : Said ok.after (turns_begun e rest.mets (volume_of ok.after) commands) (M.now m) (M.now b) → Said k (this_turn ∷ turns) (M.now a) (M.now b)
+      said_behind x = said_more k ok.after this_turn turns ok.carries (M.now a) (M.now m) (M.now b) ok.open_windows ok.said (subst (λ (ts : List Turn). Said ok.after ts (M.now m) (M.now b)) same_turns x)
 
       ends : (r : Result (Unit {0}) End) → EndsBy state has e ok.after rest.mets commands z (M.now m) (M.now b) r → EndsBy state has e k (ok.met ∷ rest.mets) (command ∷ commands) z (M.now a) (M.now b) r
       ends (Ok x) is = (ap (λ (n : ℕ). suc n) is.0, stands_behind is.1)
@@ -284,6 +294,10 @@ module _ {S D : Type 0} (state : S → State) (has : S → Mounted → List Plac
 
       pub from_both : RunsFrom state has M e k from (command ∷ commands) a b z result
       from_both = record { mets = ok.met ∷ rest.mets; goes = goes; moments = moments; ends = ends result rest.ends }
+
+      pub from_both_mets : from_both.mets ≡ (steps (follows.honest honest) k from stood aged).met ∷ (let one = steps (follows.honest honest) k from stood aged in (runs honest one.after one.mid one.stands one.ages).mets)
+      unfolding from_both ok rest
+      from_both_mets = refl
 
     pub runs_then : Runs state has M e (command ∷ commands) v a z b result
     runs_then honest k from stood aged = from_both honest k from stood aged

@@ -27,7 +27,7 @@ use Rattle.fsd_runs.specs.Runs.{IsWornOut, changes_in, forced_in, said_in, last_
 use Rattle.volume_contract.specs.State.{State, Known, volume_of, forced_of, Stands, is_worn}
 use Rattle.volume_turns.specs.Steps.{StaysSound}
 use Rattle.volume_turns.specs.Once.{InClose}
-use Rattle.volume_turns.specs.Turns.{Carries, InRun}
+use Rattle.volume_turns.specs.Turns.{Carries, InRun, Said}
 
 -- ---- where a mount is worn out
 
@@ -116,6 +116,19 @@ in_before k turns old left stays = record {
   sound = sound_more k.mounted.volume.layout k.windows k.changes (changes_in (take 1 turns)) (forced_of k) left.image stays.sound;
 }
 
+-- no turn was begun
+pub said_nothing : (k : Known) (old left : Moment) → StaysSound k old left → Said k [] old left
+said_nothing k old left stays = record {
+  windows = stays.windows;
+  whole = 0;
+  most = omega arith;
+  said = stays.said ∙ sym (append-nil old.said);
+  forced = forced_of k;
+  least = omega arith;
+  enough = λ any. absurd (cc any);
+  sound = subst (λ (h : List Change). IsSound k.mounted.volume.layout k.windows h (forced_of k) left.image) (sym (append-nil k.changes)) stays.sound;
+}
+
 one_turn : (t : Turn) (rest : List Turn) → changes_in (take 1 (t ∷ rest)) ≡ t.changes
 one_turn t rest = append-nil t.changes
 
@@ -142,6 +155,19 @@ module _ (k after : Known) (t : Turn) (rest : List Turn) (layout : after.mounted
     part = part;
     said = said;
     next = next;
+    forced = f;
+    least = least;
+    enough = λ any. absurd (cc any);
+    sound = subst (λ (c : List Change). IsSound k.mounted.volume.layout k.windows (k.changes ++ c) f left.image) (sym (one_turn t rest)) sound_at;
+  }
+
+  -- nothing is said
+  pub said_before : left.said ≡ old.said → Said k (t ∷ rest) old left
+  said_before said = record {
+    windows = windows;
+    whole = 0;
+    most = omega arith;
+    said = said ∙ sym (append-nil old.said);
     forced = f;
     least = least;
     enough = λ any. absurd (cc any);
@@ -218,9 +244,24 @@ module _ (k after : Known) (t : Turn) (turns : List Turn) (stood : Carries k aft
         (subst (λ (l : Layout). IsSound l after.windows (after.changes ++ changes_in (take (suc run.whole) turns)) run.forced left.image) stood.layout run.sound));
   }
 
+module _ (k after : Known) (t : Turn) (turns : List Turn) (stood : Carries k after t) (old mid left : Moment) (windows : mid.windows ≡ old.windows) (said : mid.said ≡ old.said ++ t.said) (x : Said after turns mid left) where
+  pub said_more : Said k (t ∷ turns) old left
+  said_more = record {
+    windows = x.windows ∙ windows;
+    whole = suc x.whole;
+    most = let most = x.most in omega (arith, most);
+    said = x.said ∙ ap (λ (b : List ℕ). b ++ said_in (take x.whole turns)) said ∙ append_assoc old.said t.said (said_in (take x.whole turns));
+    forced = x.forced;
+    least = let a = stood.least in let b = x.least in omega (arith, a, b);
+    enough = λ any. enough_from k after t stood (take x.whole turns) x.forced x.least x.enough any;
+    sound = subst (λ (h : List Change). IsSound k.mounted.volume.layout k.windows h x.forced left.image) (ap (λ (h : List Change). h ++ changes_in (take (suc x.whole) turns)) stood.changes ∙ append_assoc k.changes t.changes (changes_in (take (suc x.whole) turns)))
+        (subst (λ (w : List WeakRun). IsSound k.mounted.volume.layout w (after.changes ++ changes_in (take (suc x.whole) turns)) x.forced left.image) stood.windows
+        (subst (λ (l : Layout). IsSound l after.windows (after.changes ++ changes_in (take (suc x.whole) turns)) x.forced left.image) stood.layout x.sound));
+  }
+
 -- ---- a turn behind all of these, which changes nothing
 
-take_front : (turns more : List Turn) → take (length turns) (turns ++ more) ≡ turns
+pub take_front : (turns more : List Turn) → take (length turns) (turns ++ more) ≡ turns
 take_front [] more = refl
 take_front (u ∷ turns) more = ap (λ (x : List Turn). u ∷ x) (take_front turns more)
 
@@ -245,7 +286,7 @@ forced_more : (t : Turn) (turns : List Turn) → forced_in turns ≤ length (cha
 forced_more t turns rest true = let sum = length-append t.changes (changes_in turns) in omega (arith, rest, sum)
 forced_more t turns rest false = omega arith
 
-forced_most : (turns : List Turn) → forced_in turns ≤ length (changes_in turns)
+pub forced_most : (turns : List Turn) → forced_in turns ≤ length (changes_in turns)
 forced_most [] = omega arith
 forced_most (t ∷ turns) = forced_more t turns (forced_most turns) (list_any (λ u. u.forces) (t ∷ turns))
 
@@ -292,6 +333,20 @@ module _ (k after : Known) (turns : List Turn) (t : Turn) (more : List Turn) (no
         omega (arith, all, sum, long_all, few, count);
     sound = subst (λ (x : List Change). IsSound k.mounted.volume.layout k.windows x c.forced left.image) (append_assoc k.changes (changes_in turns) (changes_in (take 1 more)) ∙ ap (λ (x : List Change). k.changes ++ x) (sym (changes_past turns t more none)))
         (sound_more k.mounted.volume.layout k.windows (k.changes ++ changes_in turns) (changes_in (take 1 more)) c.forced left.image sound_behind);
+  }
+
+  -- they are said, and not that turn
+  pub said_close : left.said ≡ mid.said → Said k turns old left
+  said_close same = record {
+    windows = c.windows ∙ mid_windows;
+    whole = length turns;
+    most = omega arith;
+    said = same ∙ mid_said ∙ ap (λ (x : List Turn). old.said ++ said_in x) (sym (take_all (length turns) turns (omega arith)));
+    forced = c.forced;
+    least = let x = c.least in omega (arith, least, x);
+    enough = λ any. subst (λ (x : List Turn). length k.changes + forced_in x ≤ c.forced) (sym (take_all (length turns) turns (omega arith)))
+        (let e = enough (subst (λ (x : List Turn). IsTrue (list_any (λ u. u.forces) x)) (take_all (length turns) turns (omega arith)) any) in let x = c.least in omega (arith, e, x));
+    sound = subst (λ (x : List Turn). IsSound k.mounted.volume.layout k.windows (k.changes ++ changes_in x) c.forced left.image) (sym (take_all (suc (length turns)) turns (omega arith))) sound_behind;
   }
 
   -- while the volume is closed, and that turn is said

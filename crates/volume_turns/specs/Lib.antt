@@ -4,3 +4,6 @@ pub mod Turns
 pub mod Once
 pub mod Group
 pub mod Line
+pub mod Whole
+pub mod Tally
+pub mod Generate

@@ -1,28 +1,21 @@
 -- One command by itself: it is done, all is forced, and then its reply is said.
-use Rattle.std.specs.Prelude.{◌≡◌, ◌⊎◌, ⊤, ℕ, ◌<◌, ◌≤◌, List, [], ◌∷◌, ◌++◌, length, take, Some, None, Result, Ok, Err}
+use Rattle.std.specs.Prelude.{◌≡◌, ⊤, ℕ, ◌<◌, ◌≤◌, List, [], ◌∷◌, ◌++◌, length, take, Some, Result, Ok, Err}
 use Rattle.fsd_bytes.specs.declared.refusal.Refusal.{Refusal}
 use Rattle.fsd_bytes.specs.declared.refusal.Refusal.TheVariants as Why
 use Rattle.sector_disk.specs.declared.machine.Machine.{Ghosts}
+use Rattle.sector_disk.specs.Image.{AllWorn}
 use Rattle.sector_disk.specs.Machine.{Moment, LeavesOnly}
 use Rattle.fsd_files.specs.Answers.{Met}
 use Rattle.fsd_files.specs.Disk.{Image, in_runs}
 use Rattle.fsd_files.specs.Volume.{Volume}
 use Rattle.fsd_sound.specs.Mounted.{telling_of}
 use Rattle.fsd_sound.specs.Shown.{told}
-use Rattle.fsd_sound.specs.Sound.{IsSound}
+use Rattle.fsd_sound.specs.Sound.{IsSound, weak_of}
 use Rattle.fsd_texts.specs.declared.command.Command.{Command}
 use Rattle.fsd_texts.specs.declared.fault.Fault.{Fault}
 use Rattle.fsd_texts.specs.declared.fault.Fault.TheVariants as Ends
 use Rattle.fsd_runs.specs.Errands.{Turn, alone, alone_ending}
-use Rattle.fsd_runs.specs.Runs.{Goes, IsThrough, Run, Starts, Stood, answered, behind, changes_in, run_end, run_status, run_turns, said_in, turns_of}
-use Rattle.fsd_runs.specs.Leaves.{IsReplied, Left, LeftBefore, LeftSince, RaisesEpoch}
-use Rattle.fsd_runs.specs.declared.request.Request.{Request}
-use Rattle.fsd_runs.specs.declared.request.Request.TheVariants.{One}
-use Rattle.volume_layout.specs.declared.layout.Layout.{Layout}
-use Rattle.sector_disk.specs.declared.sector.WeakRun.{WeakRun}
-use Rattle.fsd_files.specs.Files.{Change}
-use Rattle.fsd_sound.specs.Sound.{IsPrefixOf}
-use Rattle.volume_contract.specs.Mount.{ExcusesOf}
+use Rattle.fsd_runs.specs.Runs.{Goes, answered, behind, changes_in, said_in, turns_of}
 use Rattle.fsd_sound.specs.declared.fault.MountFault.{MountFault}
 use Rattle.fsd_sound.specs.declared.fault.MountFault.TheVariants as Refused
 use Rattle.volume_turns.specs.declared.turns.End.{End}
@@ -58,16 +51,17 @@ pub record InClose (k : Known) (text : List ℕ) (old left : Moment) : Type 0 wh
   pub said : left.said ≡ old.said ++ take heard text
   pub all : 0 < heard → forced ≡ length k.changes
 
--- All is said.
+-- All is said. The disk's own table is the volume's, however it wears.
 pub record SaysClosed (k : Known) (text : List ℕ) (old new : Moment) : Type 0 where
   pub windows : new.windows ≡ old.windows
   pub said : new.said ≡ old.said ++ text
   pub sound : IsSound k.mounted.volume.layout k.windows k.changes (length k.changes) new.image
   pub tells : told k.mounted.volume.layout new.image ≡ Some (telling_of (volume_of k))
+  pub lasts : AllWorn (weak_of k.windows) (λ j. told k.mounted.volume.layout j ≡ Some (telling_of (volume_of k))) new.image
 
 abbrev pub EndsClosed : Known → List ℕ → (old new : Moment) → Result (Unit {0}) End → Type 0
 EndsClosed k text old new (Ok x) = SaysClosed k text old new
-EndsClosed k text old new (Err (Stopped fault)) = EndsAtOnce fault × (new.said ≡ old.said)
+EndsClosed k text old new (Err (Stopped fault)) = EndsAtOnce fault × (new.said ≡ old.said) × InClose k text old new
 EndsClosed k text old new (Err Output) = ⊤
 
 pub record ClosesAndSays {D : Type 0} (M : Ghosts D) (k : Known) (text : List ℕ) (a b : D) (result : Result (Unit {0}) End) : Type 0 where
@@ -81,12 +75,13 @@ abbrev pub unit_of : {T : Type 0} → Result T End → Result (Unit {0}) End
 unit_of (Ok x) = Ok tt
 unit_of (Err end) = Err end
 
--- All is said, and all is forced: the disk's own table is that of the volume behind it.
+-- All is said, and all is forced: the disk's own table is that of the volume behind it, however it wears.
 pub record IsDone (k : Known) (turns : List Turn) (after : Volume) (old new : Moment) : Type 0 where
   pub windows : new.windows ≡ old.windows
   pub said : new.said ≡ old.said ++ said_in turns
   pub sound : IsSound k.mounted.volume.layout k.windows (k.changes ++ changes_in turns) (length (k.changes ++ changes_in turns)) new.image
   pub tells : told k.mounted.volume.layout new.image ≡ Some (telling_of after)
+  pub lasts : AllWorn (weak_of k.windows) (λ j. told k.mounted.volume.layout j ≡ Some (telling_of after)) new.image
 
 -- the status of its reply
 abbrev pub status_alone : Command → List Met → Volume → ℕ
@@ -105,43 +100,3 @@ pub record IsAlone {D : Type 0} (M : Ghosts D) (c : Command) (k : Known) (a b : 
   pub goes : (t : ℕ) → t ≤ M.moment a → Goes (in_runs k.windows) (M.left_since b t) Anything (alone c) (M.now a).said (M.now a).image (volume_of k) mets (c ∷ [])
   pub moments : LeavesOnly M.moment M.left_since a b (InRun k (turns_of (alone c) mets (volume_of k)) (M.now a))
   pub ends : EndsAlone c k mets (M.now a) (M.now b) result
-
--- ---- from the mount on
-
--- The mount settled: these are the parts of what a run of one command leaves, up to the line of a fault that ended it.
-abbrev pub OnceEnds : {request : Request} {input : List ℕ} {windows : List WeakRun} {Passed : Moment → Type 0} {base : List ℕ} {v : Volume} {i : Image} → (l : Layout) → (known : List WeakRun) → (h : List Change) → (n : ℕ)
-    → Run request input windows Passed base v i → (old new : Moment) → Result ℕ End → Type 0
-OnceEnds l known h n run old new (Ok status) = IsThrough run × IsReplied l known h n (run_turns run) (run_status run) (run_end run) old new status
-OnceEnds l known h n run old new (Err (Stopped fault)) = EndsAtOnce fault × (new.said ≡ old.said)
-OnceEnds l known h n run old new (Err Output) = ⊤
-
-pub record OnceMounted (c : Command) (l : Layout) (windows : List WeakRun) (h : List Change) (f : ℕ) (time : ℕ) (Past : ℕ → Moment → Type 0) (Only : (Moment → Type 0) → Type 0) (old new : Moment) (result : Result ℕ End) : Type 0 where
-  pub count : ℕ
-  pub prefix : IsPrefixOf h f count
-  pub next : WeakRun
-  pub at : ℕ
-  pub begun : at ≤ time
-  pub from : Image
-  pub stood : Stood (Past at) old.said from
-  pub settled : stood.moment.windows ≡ record { present = Some next; next = None }
-  pub raised : RaisesEpoch windows old.image from
-  pub volume : Volume
-  pub starts : Starts l (windows ++ next ∷ []) (take count h) volume from
-  pub run : Run (One c) [] (windows ++ next ∷ []) (Past at) old.said volume from
-  pub moments : Only (Left l windows h f count (run_turns run) old)
-  pub later : (left : Moment) → Past at left → LeftSince l windows h count (run_turns run) old left
-  pub exit : LeftSince l windows h count (run_turns run) old new
-  pub ends : OnceEnds l windows h count run old new result
-
--- The mount did not settle: nothing is changed.
-pub record OnceUnmounted (l : Layout) (windows : List WeakRun) (h : List Change) (f : ℕ) (Only : (Moment → Type 0) → Type 0) (old new : Moment) (result : Result ℕ End) : Type 0 where
-  pub moments : Only (LeftBefore l windows h f old)
-  pub exit : LeftBefore l windows h f old new
-  pub fault : MountFault
-  pub is : result ≡ Err (Stopped (fault_of fault))
-  pub why : ExcusesOf old.image fault
-  pub quiet : new.said ≡ old.said
-
--- Time is the number of the last moment.
-abbrev pub OnceLeaves : Command → Layout → List WeakRun → List Change → ℕ → (time : ℕ) → (Past : ℕ → Moment → Type 0) → (Only : (Moment → Type 0) → Type 0) → (old new : Moment) → Result ℕ End → Type 0
-OnceLeaves c l windows h f time Past Only old new result = OnceUnmounted l windows h f Only old new result ⊎ OnceMounted c l windows h f time Past Only old new result

@@ -64,11 +64,17 @@ EndsAtOnce (Ends.Device s) = ⊤
 EndsAtOnce Ends.Memory = ⊤
 EndsAtOnce fault = ⊥
 
--- What was said is whole turns, and not all that were begun, or no more were.
-pub record Said (turns : List Turn) (old now : Moment) : Type 0 where
+-- What was said is whole turns, and not all that were begun, or no more were. The disk is sound for the changes of these and of the
+-- one behind them, where one was begun.
+pub record Said (k : Known) (turns : List Turn) (old now : Moment) : Type 0 where
+  pub windows : now.windows ≡ old.windows
   pub whole : ℕ
   pub most : whole ≤ length turns
   pub said : now.said ≡ old.said ++ said_in (take whole turns)
+  pub forced : ℕ
+  pub least : forced_of k ≤ forced
+  pub enough : IsTrue (list_any (λ t. t.forces) (take whole turns)) → length k.changes + forced_in (take whole turns) ≤ forced
+  pub sound : IsSound k.mounted.volume.layout k.windows (k.changes ++ changes_in (take (suc whole) turns)) forced now.image
 
 abbrev pub turn_by : Errand → Known → Command → Met → Turn
 turn_by e k command met = turn_of e (answered_so command (answer met (volume_of k) command).0)
@@ -90,7 +96,7 @@ module _ {S : Type 0} (state : S → State) (has : S → Mounted → List Placed
   abbrev pub EndsBy : Errand → Known → List Met → List Command → S → (old now : Moment) → Result (Unit {0}) End → Type 0
   EndsBy e k mets commands s old now (Ok x) = (length mets ≡ length commands) × StandsBehind e k mets commands s old now
   EndsBy e k mets commands s old now (Err (Stopped Ends.WornOut)) = WearsOut (slice_get commands (length mets)) × StandsBehind e k mets commands s old now
-  EndsBy e k mets commands s old now (Err (Stopped fault)) = EndsAtOnce fault × Said (turns_begun e mets (volume_of k) commands) old now
+  EndsBy e k mets commands s old now (Err (Stopped fault)) = EndsAtOnce fault × Said k (turns_begun e mets (volume_of k) commands) old now
   EndsBy e k mets commands s old now (Err Output) = ⊤
 
   -- The commands over the volume as it stood at a moment that has been worn since.

@@ -49,7 +49,7 @@ pub fn group_run<M: Machine, V: Files<M> + Drop, T: Says>(
 }
 
 // Whether a run ended since the mount is worn out.
-fn is_worn_end(end: &End) -> bool
+pub(crate) fn is_worn_end(end: &End) -> bool
     ensures { result ≡ is_worn_end end.now }
 {
     matches!(end, End::Fault(Fault::WornOut))

@@ -1,18 +1,23 @@
 //! Programs over the contract of a volume that know nothing else of it: commands one after another, each with its reply said, a
-//! group of them with its force, and one command from the mount to its reply.
+//! group of them with its force, and from the mount to the last line one command, a put of the input, and commands that are made up.
 #![tactic(auto)]
 
 mod answer;
 mod commands;
+mod generate;
 mod group;
+mod input;
 mod line;
 mod listing;
 mod once;
+mod tally;
 mod turns;
 mod whole;
 
 pub use answer::Answer;
+pub use generate::run_generate;
 pub use group::group_run;
-pub use once::{alone, one_shot};
+pub use input::run_put;
+pub use once::alone;
 pub use turns::{End, Says};
 pub use whole::run_one;

@@ -1,4 +1,4 @@
-//! One command by itself, from the mount to its reply.
+//! One command by itself over a mounted volume, to its reply.
 ghost use Rattle.std.specs.Prelude.{◌≡◌, ◌≤◌, ℕ, List, None, IfOk, false};
 ghost use Rattle.sector_disk.specs.declared.sector.WeakRun.{WeakRun};
 ghost use Rattle.sector_disk.specs.Machine.{LeavesOnly, Trusts};
@@ -8,7 +8,7 @@ ghost use Rattle.fsd_runs.specs.Commands.{reply_alone};
 ghost use Rattle.fsd_runs.specs.Errands.{reply_status};
 ghost use Rattle.sector_disk.specs.Calls.{Since};
 ghost use Rattle.volume_contract.specs.Mount.{IsSoundAt};
-ghost use Rattle.volume_turns.specs.Once.{ClosesAndSays, IsAlone, OnceLeaves, close_fault, fault_of, unit_of};
+ghost use Rattle.volume_turns.specs.Once.{ClosesAndSays, IsAlone, close_fault, fault_of, unit_of};
 ghost use Rattle.volume_contract.specs.State.{Known, Stands, is_worn, volume_of};
 ghost use Rattle.volume_turns.specs.Steps.{reply_of};
 ghost use Rattle.volume_turns.specs.Turns.{Told};
@@ -24,7 +24,7 @@ use std::alloc::Global;
 use volume_contract::Files;
 
 // Why a close has failed.
-fn close_fault(why: Refusal) -> Fault
+pub(crate) fn close_fault(why: Refusal) -> Fault
     ensures { result ≡ close_fault why }
 {
     match why {
@@ -45,6 +45,7 @@ pub(crate) fn close_and_say<M: Machine, V: Files<M>, T: Says>(
     ensures told { Told (M.report m.old) (M.report m.new) result }
     ensures trust { Trusts (M.tells m.old) (M.tells m.new) (M.honest m.old) (M.honest m.new) }
     ensures since { M.honest m.new → Since M.Machine m.old m.new }
+    ensures later { M.honest m.new → M.moment m.old ≤ M.moment m.new }
     ensures closes { M.honest m.new → (k : Known) → Stands V.state V.holds v k (M.now m.old) → ClosesAndSays M.Machine k (T.errand.says (reply_of answer.now)) m.old m.new result }
 {
     match v.close(m) {
@@ -76,6 +77,7 @@ fn close_as<M: Machine, V: Files<M>, T: Says>(
     ensures told { Told (M.report m.old) (M.report m.new) result }
     ensures trust { Trusts (M.tells m.old) (M.tells m.new) (M.honest m.old) (M.honest m.new) }
     ensures since { M.honest m.new → Since M.Machine m.old m.new }
+    ensures later { M.honest m.new → M.moment m.old ≤ M.moment m.new }
     ensures closes { M.honest m.new → (k : Known) → Stands V.state V.holds v k (M.now m.old) → ClosesAndSays M.Machine k (T.errand.says (reply_of answer.now)) m.old m.new (unit_of result) }
 {
     match close_and_say::<M, V, T>(alloc, v, m, answer) {
@@ -98,6 +100,7 @@ pub fn alone<M: Machine, V: Files<M> + Drop, T: Says>(
     ensures told { Told (M.report m.old) (M.report m.new) result }
     ensures trust { Trusts (M.tells m.old) (M.tells m.new) (M.honest m.old) (M.honest m.new) }
     ensures since { M.honest m.new → Since M.Machine m.old m.new }
+    ensures later { M.honest m.new → M.moment m.old ≤ M.moment m.new }
     ensures does { M.honest m.new → (k : Known) → (volume_of k).unforced ≡ 0 → Stands V.state V.holds v k (M.now m.old) → IsAlone M.Machine c.now k m.old m.new result }
 {
     let mut v = v;
@@ -108,7 +111,7 @@ pub fn alone<M: Machine, V: Files<M> + Drop, T: Says>(
 }
 
 // What a refused mount says.
-fn fault_of(fault: MountFault) -> Fault
+pub(crate) fn fault_of(fault: MountFault) -> Fault
     ensures { result ≡ fault_of fault }
 {
     match fault {
@@ -119,28 +122,5 @@ fn fault_of(fault: MountFault) -> Fault
         MountFault::NoAnchor => Fault::NoAnchor,
         MountFault::Unsound(sector) => Fault::Unsound(sector),
         MountFault::WornOut => Fault::WornOut,
-    }
-}
-
-/// Mounts a volume, does one command, forces all, says its reply, and gives the reply's status.
-pub fn one_shot<M: Machine, V: Files<M> + Drop, T: Says>(
-    alloc: Global,
-    m: &mut M,
-    sectors: u32,
-    c: &Command,
-) -> Result<u8, End>
-    requires sectors { sectors ≡ (M.report m.old).sectors }
-    requires says { T.errand.says ≡ reply_alone }
-    ensures told { Told (M.report m.old) (M.report m.new) result }
-    ensures trust { Trusts (M.tells m.old) (M.tells m.new) (M.honest m.old) (M.honest m.new) }
-    ensures leaves { M.honest m.new → (l : Plan) (windows : List WeakRun) (h : List Change) (f : ℕ) → IsSoundAt sectors l windows h f (M.now m.old) →
-        OnceLeaves c.now l windows h f (M.moment m.new) (M.left_since m.new) (LeavesOnly M.moment M.left_since m.old m.new) (M.now m.old) (M.now m.new) result }
-{
-    match V::mount(alloc, m, sectors) {
-        Ok(v) => match alone::<M, V, T>(alloc, v, m, c) {
-            Ok(status) => Ok(status),
-            Err(end) => Err(end),
-        },
-        Err(fault) => Err(End::Fault(fault_of(fault))),
     }
 }

@@ -1,6 +1,7 @@
 //! One command, from the mount to its reply or to the line of the fault that ended it.
-ghost use Rattle.std.specs.Prelude.{◌≡◌, ℕ, List, []};
+ghost use Rattle.std.specs.Prelude.{◌≡◌, ◌≤◌, ℕ, List, [], None, false};
 ghost use Rattle.sector_disk.specs.declared.sector.WeakRun.{WeakRun};
+ghost use Rattle.sector_disk.specs.Calls.{Since};
 ghost use Rattle.sector_disk.specs.Machine.{LeavesOnly, Trusts};
 ghost use Rattle.volume_layout.specs.declared.layout.Layout.{Layout as Plan};
 ghost use Rattle.fsd_files.specs.Files.{Change};
@@ -8,14 +9,38 @@ ghost use Rattle.fsd_runs.specs.Commands.{reply_alone};
 ghost use Rattle.fsd_runs.specs.Leaves.{LeavesRun};
 ghost use Rattle.fsd_runs.specs.declared.request.Request.TheVariants.{One};
 ghost use Rattle.volume_contract.specs.Mount.{IsSoundAt};
+ghost use Rattle.volume_contract.specs.State.{Known, Stands, is_worn, volume_of};
+ghost use Rattle.volume_turns.specs.Whole.{RunsOut};
 
 use crate::line::end_with;
-use crate::once::one_shot;
+use crate::once::{alone, fault_of};
 use crate::turns::{End, Says};
 use fsd_texts::Command;
 use sector_disk::Machine;
 use std::alloc::Global;
 use volume_contract::Files;
+
+// Does one command over a volume that was just mounted, to the last line. It gives the status.
+fn one_on<M: Machine, V: Files<M> + Drop, T: Says>(
+    alloc: Global,
+    v: V,
+    m: &mut M,
+    c: &Command,
+) -> u8
+    requires room { (V.state v).layout.sectors ≤ (M.report m.old).sectors }
+    requires up { (V.state v).down ≡ None }
+    requires unworn { is_worn (V.state v) ≡ false }
+    requires says { T.errand.says ≡ reply_alone }
+    ensures trust { Trusts (M.tells m.old) (M.tells m.new) (M.honest m.old) (M.honest m.new) }
+    ensures since { M.honest m.new → Since M.Machine m.old m.new }
+    ensures runs { M.honest m.new → (rest : List ℕ) (k : Known) → (volume_of k).unforced ≡ 0 → Stands V.state V.holds v k (M.now m.old) → RunsOut M.Machine (One c.now) [] rest (M.report m.old) k m.old m.new result }
+{
+    match alone::<M, V, T>(alloc, v, m, c) {
+        Ok(status) => status,
+        Err(End::Fault(why)) => end_with(alloc, m, why),
+        Err(End::Output) => 6,
+    }
+}
 
 /// Mounts a volume, does one command, forces all and says its reply; or says the fault that has ended it. It gives the status.
 pub fn run_one<M: Machine, V: Files<M> + Drop, T: Says>(
@@ -30,11 +55,8 @@ pub fn run_one<M: Machine, V: Files<M> + Drop, T: Says>(
     ensures leaves { M.honest m.new → (rest : List ℕ) (l : Plan) (windows : List WeakRun) (h : List Change) (f : ℕ) → IsSoundAt sectors l windows h f (M.now m.old) →
         LeavesRun (One c.now) [] rest l windows h f (M.left_since m.new) (LeavesOnly M.moment M.left_since m.old m.new) (M.report m.old) (M.report m.new) (M.now m.old) (M.now m.new) result }
 {
-    match one_shot::<M, V, T>(alloc, m, sectors, c) {
-        Ok(status) => status,
-        Err(end) => match end {
-            End::Output => 6,
-            End::Fault(why) => end_with(alloc, m, why),
-        },
+    match V::mount(alloc, m, sectors) {
+        Ok(v) => one_on::<M, V, T>(alloc, v, m, c),
+        Err(fault) => end_with(alloc, m, fault_of(fault)),
     }
 }

@@ -1,199 +1,53 @@
-use Rattle.std.proofs.Common.{◌≡◌, ◌*◌, ◌≤◌, ℕ, true, List, [], length, map, take, sym, ap, subst, ◌∙◌, arith}
-use Rattle.std.proofs.lemmas.List.{length-take-le}
-use Rattle.volume_layout.specs.declared.layout.Layout.{Layout}
-use Rattle.fsd_formats.specs.Record.{Stamp, are_pages, record_len, AreStamped}
-use Rattle.fsd_log.specs.Laid.{laid_bytes, slices}
-use Rattle.fsd_sound.specs.Mounted.{image_at}
-use Rattle.sector_disk.specs.Damage.{IsDevice}
-use Rattle.group_commit.proofs.CountLaws.{handed_up}
+use Rattle.std.proofs.Common.{◌≡◌, ◌*◌, ℕ, true, List, [], length, take, sym, ap, subst, ◌∙◌}
+use Rattle.fsd_formats.specs.Record.{Stamp, are_pages}
 use Rattle.fsd_log.specs.Borne.{FitsStamp}
-use Rattle.fsd_log.specs.Scan.{Placed, place_of, spot_for}
-use Rattle.sector_disk.specs.declared.sector.WeakRun.{WeakRun}
-use Rattle.sector_disk.specs.Calls.{load_failed_at}
-use Rattle.sector_disk.specs.Machine.{Moment}
-use Rattle.sector_disk.proofs.CallLaws.{told_up, writes_more, writes_then, writes_told}
-use Rattle.fsd_sound.specs.Sound.{EndIn}
-use Rattle.log_thirds.specs.LogValue.{LogValue}
-use Rattle.log_thirds.specs.Append.{StandsInPart, stamp_now, log_with}
-use Rattle.fsd_log.proofs.TornLaws.{are_few}
-use Rattle.log_thirds.proofs.MomentLaws.{all_small}
-use Rattle.log_thirds.proofs.RunLaws.{narrow_runs}
-use Rattle.sector_disk.specs.Image.{open_damage}
-use Rattle.sector_disk.proofs.Wear.{worn_refl}
-use Rattle.group_commit.specs.Entering.{HasRoomNow, MayHome, ShowsStill}
-use Rattle.group_commit.specs.Force.{StandsOver, Committed}
-use Rattle.group_commit.specs.Forces.{ForceLeaves}
-use Rattle.group_commit.specs.Newest.{KnowsImages}
-use Rattle.group_commit.specs.Resident.{ResidentValue, stamped}
+use Rattle.log_thirds.specs.Append.{stamp_now}
+use Rattle.sector_disk.proofs.CallLaws.{writes_more}
+use Rattle.group_commit.specs.Cached.{HasImages}
+use Rattle.group_commit.specs.Resident.{stamped}
+use Rattle.group_commit.specs.Force.{Committed}
+use Rattle.group_commit.proofs.ResultLaws.{if_err_more, on_ok_more}
 use Rattle.group_commit.proofs.ImageLaws.{IsRecordOf, record_laid}
-use Rattle.group_commit.proofs.RoundLaws.{may_home, owns, making, stands, commits_on, ends_then}
-use Rattle.group_commit.proofs.ForceLaws.{MayForceHere, force_here, commits, committed, log_in_window}
-use Rattle.group_commit.proofs.StandsLaws.{knows_log}
 use Rattle.group_commit.proofs.force.write_pages.Given as given
 use Rattle.group_commit.proofs.force.write_pages.Goals as goal
-use Rattle.group_commit.proofs.force.write_pages.Goals.{After-append}
+use Rattle.group_commit.proofs.force.write_pages.Goals.{After-lay_images}
 
--- ---- where room was made and the record written
-
-home_here : (g : given.Over) (c : After-append g) (windows : List WeakRun) → g.M.Machine.honest c.append.new.m → EndIn (g.M.Machine.now c.args.m.now).windows windows → MayHome c.args.log.now windows (g.M.Machine.now c.args.m.now)
-home_here g c windows h ends =
-    may_home c.args.log.now c.layout-layout.result.now windows (g.M.Machine.now c.args.m.now) c.layout-layout.ensures.value c.pages-pages.ensures.planned c.layout-layout.ensures.shape
-    (g.met.M.Machine.short c.args.m.now (c.make_room.ensures.disk.trust.honest (c.append.ensures.writes.trust.honest h))) ends
-
-abbrev s : (g : given.Over) (c : After-append g) → ResidentValue
-s g c = record { pages = c.args.pages.now; dirty = c.args.dirty.now }
-
-abbrev images : (g : given.Over) (c : After-append g) → List ℕ
-images g c = take (512 * length c.args.dirty.now) c.lay_images.new.room
-
-stamp : (g : given.Over) (c : After-append g) → let read : Stamp = record { epoch = c.epoch.result; number = c.next_number.result } in read ≡ stamp_now c.args.log.now
-stamp g c = λ i. record { epoch = c.epoch.ensures i; number = c.next_number.ensures i }
-
-laid : (g : given.Over) (c : After-append g) → IsRecordOf (stamp_now c.args.log.now) c.args.dirty.now (stamped (stamp_now c.args.log.now) c.args.dirty.now c.args.pages.now) (images g c)
+laid : (g : given.Over) (c : After-lay_images g) → IsRecordOf (stamp_now c.args.log.now) c.args.dirty.now (stamped (stamp_now c.args.log.now) c.args.dirty.now c.args.pages.now) (take (512 * length c.args.dirty.now) c.lay_images.new.room)
 laid g c =
     let read : Stamp = record { epoch = c.epoch.result; number = c.next_number.result } in
+    let same : read ≡ stamp_now c.args.log.now = λ i. record { epoch = c.epoch.ensures i; number = c.next_number.ensures i } in
     let fits : FitsStamp read = record { epoch = c.epoch.type_inv; number = c.next_number.type_inv } in
     let are : are_pages (length c.args.pages.now) c.args.dirty.now ≡ true = ap (λ (n : ℕ). are_pages n c.args.dirty.now) c.requires.table ∙ c.requires.accepted in
-    record_laid (stamp_now c.args.log.now) read fits (stamp g c) (s g c) are c.requires.images c.told-pages c.stamp_pages.new.pages (images g c) c.stamp_pages.ensures c.lay_images.ensures
+    record_laid (stamp_now c.args.log.now) read fits same (record { pages = c.args.pages.now; dirty = c.args.dirty.now }) are c.requires.images c.told-pages c.stamp_pages.new.pages (take (512 * length c.args.dirty.now) c.lay_images.new.room) c.stamp_pages.ensures c.lay_images.ensures
 
-made : (g : given.Over) (c : After-append g) (windows : List WeakRun) (records : List Placed) (disk : List (List ℕ)) → g.M.Machine.honest c.append.new.m → EndIn (g.M.Machine.now c.args.m.now).windows windows
-    → StandsOver c.args.log.now records disk (s g c) windows (g.M.Machine.now c.args.m.now).image → KnowsImages c.args.log.now (g.M.Machine.now c.args.m.now).image
-    → HasRoomNow c.make_room.new.log disk windows (g.M.Machine.now c.args.m.now) (g.M.Machine.now c.make_room.new.m)
-made g c windows records disk h ends over known =
-    c.in_ok-make_room.ensures.done records disk windows (c.append.ensures.writes.trust.honest h) (home_here g c windows h ends) (owns c.args.log.now (s g c) records disk windows (g.M.Machine.now c.args.m.now) over known)
+have : (g : given.Over) (c : After-lay_images g) → HasImages c.args.log.now c.args.dirty.now c.lay_images.new.room c.args.pages.now
+have g c = record { table = c.requires.table; laid = (laid g c).slices_are }
 
-may : (g : given.Over) (c : After-append g) (windows : List WeakRun) (records : List Placed) (disk : List (List ℕ)) (h : g.M.Machine.honest c.append.new.m) (ends : EndIn (g.M.Machine.now c.args.m.now).windows windows)
-    (over : StandsOver c.args.log.now records disk (s g c) windows (g.M.Machine.now c.args.m.now).image) (known : KnowsImages c.args.log.now (g.M.Machine.now c.args.m.now).image)
-    → MayForceHere c.make_room.new.log (s g c) (images g c) (made g c windows records disk h ends over known).records disk windows (g.M.Machine.now c.make_room.new.m)
-may g c windows records disk h ends over known =
-    let M = g.M.Machine in
-    let mid = M.now c.make_room.new.m in
-    let h1 = c.append.ensures.writes.trust.honest h in
-    let log = c.args.log.now in
-    let after = c.make_room.new.log in
-    let few : length c.args.dirty.now ≤ 96 = are_few log.layout.pages c.args.dirty.now c.requires.accepted in
-    let long : length (images g c) ≡ 512 * length c.args.dirty.now = length-take-le (512 * length c.args.dirty.now) c.lay_images.new.room (omega (arith, c.lay_images.auto.room, c.requires.long)) in
-    let then = ends_then log (s g c) records disk windows (M.now c.args.m.now) over after mid (made g c windows records disk h ends over known) c.make_room.ensures.layout c.make_room.ensures.stamp (c.make_room.ensures.disk.windows h1) (c.make_room.ensures.disk.quiet h1) ends in
-    let sized : after.layout.sectors ≤ length mid.image = omega (arith, ap (λ (l : Layout). l.sectors) c.make_room.ensures.layout, c.requires.sectors, c.make_room.ensures.disk.uses.sectors, g.met.M.Machine.sized c.make_room.new.m h1) in
-    force_here after (s g c) (images g c) (made g c windows records disk h ends over known).records disk windows mid (record {
-      shape = c.append.ensures.shape;
-      number = omega (arith, ap (λ (t : Stamp). t.number) c.make_room.ensures.stamp, c.requires.numbered);
-      accepted = ap (λ (l : Layout). are_pages l.pages c.args.dirty.now) c.make_room.ensures.layout ∙ c.requires.accepted;
-      small = all_small c.args.dirty.now (λ k. omega (arith, c.type_inv.dirty k));
-      bytes = long;
-      slices_are = subst (λ (t : Stamp). slices (length c.args.dirty.now) (images g c) ≡ map (image_at (stamped t c.args.dirty.now c.args.pages.now)) c.args.dirty.now) (sym c.make_room.ensures.stamp) (laid g c).slices_are;
-      bear = subst (λ (t : Stamp). AreStamped t c.args.dirty.now (slices (length c.args.dirty.now) (images g c))) (sym c.make_room.ensures.stamp) (laid g c).bear;
-      room = c.in_ok-make_room.ensures.room;
-      sized = sized;
-      table = c.requires.table ∙ ap (λ (l : Layout). l.pages) (sym c.make_room.ensures.layout);
-      few = omega (arith, c.append.ensures.shape.pages);
-      apart = (home_here g c windows h ends).apart;
-      ends = then;
-      over = stands log (s g c) records disk windows (M.now c.args.m.now) over after mid (made g c windows records disk h ends over known) c.make_room.ensures.layout c.make_room.ensures.stamp (c.make_room.ensures.disk.windows h1) (c.make_room.ensures.disk.quiet h1);
-    })
+pub write_record-requires-clause-stamped : goal.write_record-requires-clause-stamped
+write_record-requires-clause-stamped g c = (laid g (goal.at.write_record-requires-clause-stamped g c).After-lay_images).bear
 
--- whatever the append leaves, the pages as they were or as they are now are shown
-shown : (g : given.Over) (c : After-append g) (left : Moment) → g.M.Machine.honest c.append.new.m
-    → StandsInPart (place_of c.make_room.new.log.layout c.make_room.new.log.anchor.third (spot_for c.make_room.new.log.layout (length c.args.dirty.now) c.make_room.new.log.head).at) (laid_bytes (stamp_now c.make_room.new.log) c.args.dirty.now (images g c)) (record_len (length c.args.dirty.now)) (g.M.Machine.now c.make_room.new.m) left
-    → ForceLeaves c.args.log.now (s g c) (g.M.Machine.now c.args.m.now) left
-shown g c left h part windows records disk ends over known =
-    let M = g.M.Machine in
-    let room = made g c windows records disk h ends over known in
-    let writes = c.in_ok-make_room.ensures.disk in
-    let h1 = c.append.ensures.writes.trust.honest h in
-    commits_on c.args.log.now (s g c) records disk windows (M.now c.args.m.now) over c.make_room.new.log (M.now c.make_room.new.m) room c.make_room.ensures.layout c.make_room.ensures.stamp (writes.windows h1) (writes.quiet h1) left
-    (commits c.make_room.new.log (s g c) (images g c) room.records disk windows (M.now c.make_room.new.m) (may g c windows records disk h ends over known) left part)
+pub returns-clause-disk : goal.returns-clause-disk
+returns-clause-disk g c = writes_more c.write_record.ensures.disk (λ h left leaves. leaves c.args.pages.now (have g (goal.at.returns-clause-disk g c).After-lay_images))
 
--- and while room is made those as they were
-making_room : (g : given.Over) (c : After-append g) (left : Moment) → g.M.Machine.honest c.make_room.new.m → ShowsStill c.args.log.now (g.M.Machine.now c.args.m.now) left → ForceLeaves c.args.log.now (s g c) (g.M.Machine.now c.args.m.now) left
-making_room g c left h shows windows records disk ends over known =
-    let old = g.M.Machine.now c.args.m.now in
-    let log = c.args.log.now in
-    making log (s g c) records disk windows old over (stamped (stamp_now log) c.args.dirty.now c.args.pages.now) left
-    (shows records disk windows
-    (may_home log c.layout-layout.result.now windows old c.layout-layout.ensures.value c.pages-pages.ensures.planned c.layout-layout.ensures.shape (g.met.M.Machine.short c.args.m.now (c.in_ok-make_room.ensures.disk.trust.honest h)) ends)
-    (owns log (s g c) records disk windows old over known))
+stamped_as : (g : given.Over) (c : After-lay_images g) → stamped (stamp_now c.args.log.now) c.args.dirty.now c.args.pages.now ≡ c.stamp_pages.new.pages
+stamped_as g c = (λ i. stamped (record { epoch = sym c.epoch.ensures i; number = sym c.next_number.ensures i }) c.args.dirty.now c.args.pages.now) ∙ sym c.stamp_pages.ensures
 
-pub append-requires-clause-stamped : goal.append-requires-clause-stamped
-append-requires-clause-stamped g c =
-    let log = c.args.log.now in
-    let images : List ℕ = take (512 * length c.args.dirty.now) c.lay_images.new.room in
-    let s : ResidentValue = record { pages = c.args.pages.now; dirty = c.args.dirty.now } in
-    let read : Stamp = record { epoch = c.epoch.result; number = c.next_number.result } in
-    let stamp : read ≡ stamp_now log = λ i. record { epoch = c.epoch.ensures i; number = c.next_number.ensures i } in
-    let fits : FitsStamp read = record { epoch = c.epoch.type_inv; number = c.next_number.type_inv } in
-    let are : are_pages (length c.args.pages.now) c.args.dirty.now ≡ true = ap (λ (n : ℕ). are_pages n c.args.dirty.now) c.requires.table ∙ c.requires.accepted in
-    subst (λ (t : Stamp). AreStamped t c.args.dirty.now (slices (length c.args.dirty.now) images)) (sym c.make_room.ensures.stamp)
-    (record_laid (stamp_now log) read fits stamp s are c.requires.images c.told-pages c.stamp_pages.new.pages images c.stamp_pages.ensures c.lay_images.ensures).bear
+pub returns-clause-never_lost : goal.returns-clause-never_lost
+returns-clause-never_lost g c =
+    if_err_more c.write_record.result
+    (λ fault more windows records disk. more c.args.pages.now windows records disk (have g (goal.at.returns-clause-never_lost g c).After-lay_images))
+    c.write_record.ensures.never_lost
 
--- ---- where no room was made
+pub returns-clause-done : goal.returns-clause-done
+returns-clause-done g c =
+    let c1 = (goal.at.returns-clause-done g c).After-lay_images in
+    on_ok_more c.write_record.result
+    (λ more windows records disk h ends over known. subst (λ (p : List (List ℕ)). Committed c.write_record.new.log (record { pages = p; dirty = [] }) windows (g.M.Machine.now c.write_record.new.m).image) (stamped_as g c1)
+    (more c.args.pages.now windows records disk (have g c1) h ends over known))
+    c.write_record.ensures.done
 
-pub returns-in_err-make_room-clause-disk : goal.returns-in_err-make_room-clause-disk
-returns-in_err-make_room-clause-disk g c =
-    let M = g.M.Machine in
-    let old = M.now c.args.m.now in
-    let log = c.args.log.now in
-    let s : ResidentValue = record { pages = c.args.pages.now; dirty = c.args.dirty.now } in
-    let writes = c.in_err-make_room.ensures.disk in
-    writes_told (told_up load_failed_at c.from_residual.result c.in_err-make_room.field-0.0 c.from_residual.ensures.1)
-    (writes_more writes (λ h left shows windows records disk ends over known.
-    making log s records disk windows old over (stamped (stamp_now log) c.args.dirty.now c.args.pages.now) left
-    (shows records disk windows
-    (may_home log c.layout-layout.result.now windows old c.layout-layout.ensures.value c.pages-pages.ensures.planned c.layout-layout.ensures.shape (g.met.M.Machine.short c.args.m.now (writes.trust.honest h)) ends)
-    (owns log s records disk windows old over known))))
-
-pub returns-in_err-make_room-clause-never_lost : goal.returns-in_err-make_room-clause-never_lost
-returns-in_err-make_room-clause-never_lost g c =
-    let M = g.M.Machine in
-    let old = M.now c.args.m.now in
-    let log = c.args.log.now in
-    let s : ResidentValue = record { pages = c.args.pages.now; dirty = c.args.dirty.now } in
-    handed_up (λ fault. (windows : List WeakRun) (records : List Placed) (disk : List (List ℕ)) → M.honest c.make_room.new.m → EndIn old.windows windows → StandsOver log records disk s windows old.image → KnowsImages log old.image → IsDevice fault)
-    c.from_residual.result c.in_err-make_room.field-0.0 c.from_residual.ensures.1
-    (λ windows records disk h ends over known. c.in_err-make_room.ensures.never_lost records disk windows h
-    (may_home log c.layout-layout.result.now windows old c.layout-layout.ensures.value c.pages-pages.ensures.planned c.layout-layout.ensures.shape (g.met.M.Machine.short c.args.m.now (c.make_room.ensures.disk.trust.honest h)) ends)
-    (owns log s records disk windows old over known))
-
-pub returns-in-Err-clause-lost : goal.returns-in-Err-clause-lost
-returns-in-Err-clause-lost g c h = (0, tt)
-
-pub returns-in-Err-clause-disk : goal.returns-in-Err-clause-disk
-returns-in-Err-clause-disk g c =
-    let c1 = (goal.at.returns-in-Err-clause-disk g c).After-append in
-    writes_then c.in_ok-make_room.ensures.disk c.in-Err.ensures.writes (λ h left shows. making_room g c1 left h shows) (λ h left part. shown g c1 left h part)
-
-pub returns-in-Ok-clause-disk : goal.returns-in-Ok-clause-disk
-returns-in-Ok-clause-disk g c =
-    let c1 = (goal.at.returns-in-Ok-clause-disk g c).After-append in
-    writes_then c.in_ok-make_room.ensures.disk c.in-Ok.ensures.writes (λ h left shows. making_room g c1 left h shows) (λ h left part. shown g c1 left h part)
-
-pub returns-in-Ok-clause-done : goal.returns-in-Ok-clause-done
-returns-in-Ok-clause-done g c windows records disk h ends over known =
-    let M = g.M.Machine in
-    let c1 = (goal.at.returns-in-Ok-clause-done g c).After-append in
-    let mid = M.now c.make_room.new.m in
-    let image = (M.now c.append.new.m).image in
-    let log = c.args.log.now in
-    let after = c.make_room.new.log in
-    let room = made g c1 windows records disk h ends over known in
-    let is = may g c1 windows records disk h ends over known in
-    let past : c.append.new.self ≡ log_with after c.args.dirty.now = c.in-Ok.ensures.past in
-    let stamped_as : c.stamp_pages.new.pages ≡ stamped (stamp_now after) c.args.dirty.now c.args.pages.now =
-    c.stamp_pages.ensures ∙ ap (λ (t : Stamp). stamped t c.args.dirty.now c.args.pages.now) (stamp g c1 ∙ sym c.make_room.ensures.stamp) in
-    let done = committed after (s g c1) (images g c1) room.records disk windows mid is (M.now c.append.new.m) (c.in-Ok.ensures.stands h) in
-    subst (λ (x : LogValue). Committed x (record { pages = c.stamp_pages.new.pages; dirty = [] }) windows image) (sym past)
-    (subst (λ (p : List (List ℕ)). Committed (log_with after c.args.dirty.now) (record { pages = p; dirty = [] }) windows image) (sym stamped_as) (record { records = done.records; stands = done.stands }))
-
-pub returns-in-Ok-clause-knows : goal.returns-in-Ok-clause-knows
-returns-in-Ok-clause-knows g c windows records disk h ends over kept =
-    let M = g.M.Machine in
-    let c1 = (goal.at.returns-in-Ok-clause-knows g c).After-append in
-    let mid = M.now c.make_room.new.m in
-    let new = M.now c.append.new.m in
-    let after = c.make_room.new.log in
-    let room = made g c1 windows records disk h ends over kept in
-    let is = may g c1 windows records disk h ends over kept in
-    let short = g.met.M.Machine.short c.make_room.new.m (c.append.ensures.writes.trust.honest h) in
-    let before = log_in_window after (s g c1) room.records disk windows mid is.few c.append.ensures.shape.epoch c.append.ensures.shape.third is.apart is.ends is.over in
-    let then = c.in-Ok.ensures.worn_done room.records h (λ p d x y far. narrow_runs mid.windows.present mid.windows.next short.present short.next p d x y far) before in
-    knows_log c.append.new.self _ new (then new.image (worn_refl (open_damage new.windows) new.image)) (c.in-Ok.ensures.indexed room.records room.over.indexed)
+pub returns-clause-knows : goal.returns-clause-knows
+returns-clause-knows g c =
+    on_ok_more c.write_record.result
+    (λ more windows records disk. more c.args.pages.now windows records disk (have g (goal.at.returns-clause-knows g c).After-lay_images))
+    c.write_record.ensures.knows

@@ -1,4 +1,4 @@
-use Rattle.std.proofs.Common.{ℕ, List, subst}
+use Rattle.std.proofs.Common.{ℕ, List, subst, arith}
 use Rattle.fsd_files.specs.Replies.{Reply}
 use Rattle.volume_turns.specs.Once.{ClosesAndSays, unit_of}
 use Rattle.volume_turns.specs.Steps.{reply_of}
@@ -22,3 +22,13 @@ returns-in-Err-clause-does g c h k none stands =
     let M = g.M.Machine in
     alone_fault V.state V.holds M g.met.V.Files.wears (λ m x. g.met.M.Machine.short m x) g.met.M.Machine.counts_now c.args.c.now c.args.v c.answer.new.v c.args.m.now c.answer.new.m c.answer.new.m k stands _ c.in-Err.ensures.disk c.in-Err.ensures.layout h (λ t left le was. was)
     c.requires.unworn c.in-Err.fault (c.in-Err.ensures.done h k stands)
+
+pub returns-in-Ok-clause-later : goal.returns-in-Ok-clause-later
+returns-in-Ok-clause-later g c h =
+    let back = c.close_as.ensures.trust.honest h in
+    let x = (c.in-Ok.ensures.disk.any_moment back).later in
+    let y = c.close_as.ensures.later h in
+    omega (arith, x, y)
+
+pub returns-in-Err-clause-later : goal.returns-in-Err-clause-later
+returns-in-Err-clause-later g c h = (c.in-Err.ensures.disk.any_moment h).later

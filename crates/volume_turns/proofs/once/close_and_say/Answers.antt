@@ -1,4 +1,4 @@
-use Rattle.std.proofs.Common.{Err, sym, subst}
+use Rattle.std.proofs.Common.{Err, sym, subst, arith}
 use Rattle.fsd_texts.specs.declared.fault.Fault.{Fault}
 use Rattle.volume_turns.specs.declared.turns.End.TheVariants.{Fault as Stopped}
 use Rattle.volume_turns.specs.Once.{ClosesAndSays}
@@ -25,3 +25,13 @@ returns-in-Err-clause-closes g c h k stands =
     let text = g.T.Says.errand.says (reply_of c.args.answer.now) in
     subst (λ (f : Fault). ClosesAndSays M k text c.args.m.now c.close.new.m (Err (Stopped f))) (sym c.close_fault.ensures)
     (close_failed V.state V.holds M c.args.v c.args.m.now c.close.new.m c.close.new.m k stands text (force_writes (V.state c.args.v).layout) _ c.in-Err.ensures.disk h c.in-Err.why (c.in-Err.ensures.done h k stands))
+
+pub returns-in-Ok-clause-later : goal.returns-in-Ok-clause-later
+returns-in-Ok-clause-later g c h =
+    let back = c.say.ensures.trust.honest h in
+    let x = (c.in-Ok.ensures.disk.any_moment back).later in
+    let y = (c.say.ensures.moments h).later in
+    omega (arith, x, y)
+
+pub returns-in-Err-clause-later : goal.returns-in-Err-clause-later
+returns-in-Err-clause-later g c h = (c.in-Err.ensures.disk.any_moment h).later

@@ -1,29 +1,34 @@
-use Rattle.std.proofs.Common.{Err, ℕ, subst}
-use Rattle.sector_disk.specs.Machine.{LeavesOnly}
-use Rattle.volume_turns.specs.declared.turns.End.{End}
-use Rattle.volume_turns.specs.Once.{OnceLeaves}
-use Rattle.volume_turns.specs.Turns.{Told}
-use Rattle.volume_turns.proofs.LineLaws.{whole_line, whole_said, whole_unheard}
+use Rattle.std.proofs.Common.{false, [], subst, arith}
+use Rattle.sector_disk.specs.Calls.{LeavesDisk}
+use Rattle.fsd_texts.specs.declared.fault.Fault.{Fault}
+use Rattle.fsd_runs.specs.declared.request.Request.TheVariants.{One}
+use Rattle.volume_turns.specs.Line.{EndsWith, UttersFault, is_unsaid}
+use Rattle.volume_turns.proofs.OneLaws.{some_one}
+use Rattle.volume_turns.proofs.WholeLaws.{joined_run, refused_run}
 use Rattle.volume_turns.proofs.whole.run_one.Goals as goal
 
 pub returns-in-Ok-clause-leaves : goal.returns-in-Ok-clause-leaves
 returns-in-Ok-clause-leaves g c honest rest l windows h f at =
-    whole_said g.M.Machine c.args.c.now rest l windows h f c.args.m.now c.one_shot.new.m c.in-Ok.status (c.in-Ok.ensures.leaves honest l windows h f at)
-
-pub returns-in-Output-clause-leaves : goal.returns-in-Output-clause-leaves
-returns-in-Output-clause-leaves g c honest rest l windows h f at =
+    let V = g.V.Files in
     let M = g.M.Machine in
-    let a = c.args.m.now in
-    let b = c.one_shot.new.m in
-    whole_unheard M c.args.c.now rest l windows h f a b (subst (λ (e : End). Told {T = ℕ} (M.report a) (M.report b) (Err e)) c.in-Output.is c.in-Err.ensures.told)
-    (subst (λ (e : End). OnceLeaves c.args.c.now l windows h f (M.moment b) (M.left_since b) (LeavesOnly M.moment M.left_since a b) (M.now a) (M.now b) (Err e)) c.in-Output.is (c.in-Err.ensures.leaves honest l windows h f at))
+    let m = c.mount.new.m in
+    let b = c.one_on.new.m in
+    let disk = c.in-Ok.ensures.disk in
+    let back = c.one_on.ensures.trust.honest honest in
+    joined_run V.state V.holds M (One c.args.c.now) [] rest l windows h f c.args.m.now m b c.in-Ok.v (disk.quiet back) disk.uses disk.faults (c.one_on.ensures.since honest) (g.met.M.Machine.counts_now m (M.moment m) back (omega arith))
+    (λ later. g.met.M.Machine.counts_now b (M.moment m) honest later) c.one_on.result (c.in-Ok.ensures.sound back l windows h f at) (λ k none stands. c.one_on.ensures.runs honest rest k none stands)
 
-pub returns-in-Fault-clause-leaves : goal.returns-in-Fault-clause-leaves
-returns-in-Fault-clause-leaves g c honest rest l windows h f at =
+pub returns-in-Err-clause-leaves : goal.returns-in-Err-clause-leaves
+returns-in-Err-clause-leaves g c honest rest l windows h f at =
+    let V = g.V.Files in
     let M = g.M.Machine in
-    let a = c.args.m.now in
-    let m = c.one_shot.new.m in
-    let says = c.end_with.ensures.says in
+    let m = c.mount.new.m in
+    let b = c.end_with.new.m in
+    let disk = c.in-Err.ensures.disk in
+    let status = c.end_with.result in
+    let says = subst (λ (why : Fault). LeavesDisk M false (is_unsaid status) (UttersFault why) m b) c.fault_of.ensures c.end_with.ensures.says in
+    let ended = subst (λ (why : Fault). EndsWith why (M.now m) (M.now b) status) c.fault_of.ensures (c.end_with.ensures.ends honest) in
     let back = says.trust.honest honest in
-    whole_line M c.args.c.now rest l windows h f c.args.sectors a m c.end_with.new.m at c.in-Fault.why c.end_with.result (subst (λ (e : End). Told {T = ℕ} (M.report a) (M.report m) (Err e)) c.in-Fault.is c.in-Err.ensures.told) says honest (g.met.M.Machine.short m back) (c.end_with.ensures.ends honest)
-    (subst (λ (e : End). OnceLeaves c.args.c.now l windows h f (M.moment m) (M.left_since m) (LeavesOnly M.moment M.left_since a m) (M.now a) (M.now m) (Err e)) c.in-Fault.is (c.in-Err.ensures.leaves back l windows h f at))
+    refused_run V.state V.holds M (One c.args.c.now) [] rest l windows h f c.args.sectors c.args.m.now m b at c.in-Err.fault (disk.quiet back) disk.uses disk.faults status says honest (g.met.M.Machine.short m back) ended
+    (g.met.M.Machine.counts_now m (M.moment m) back (omega arith)) (g.met.M.Machine.counts_now b (M.moment m) honest ((says.any_moment honest).later)) (λ left was. g.met.M.Machine.only_now m left back was) (some_one c.args.c.now)
+    (c.in-Err.ensures.sound back l windows h f at)

@@ -1,0 +1,141 @@
+-- Pages in ascending order: they are the same ones, and a record may have them.
+use Rattle.std.proofs.Common.{◌≡◌, inl, inr, ℕ, zero, suc, ◌+◌, ◌<◌, ◌≤◌, Bool, true, false, cond, ◌||◌, List, [], ◌∷◌, ◌++◌, length, replicate, take, get_or, refl, sym, ap, subst, ◌∙◌, arith, eqb-true}
+use Rattle.std.specs.Prelude.{nat_eq, nat_lt, ◌==◌}
+use Rattle.std.specs.List.{AllByRecursion, IsDistinct}
+use Rattle.std.proofs.lemmas.List.{length-replicate, take_more}
+use Rattle.std.proofs.lemmas.Map.Keys.{IsDistinct-head, IsDistinct-tail}
+use Rattle.run_table.specs.Space.{contains}
+use Rattle.fsd_formats.specs.Record.{are_pages}
+use Rattle.page_cache.specs.Cache.{is_one_of}
+use Rattle.page_cache.proofs.Entries.{by_bool, same_key}
+use Rattle.group_commit.specs.Cached.{ascending_of, put_among}
+use Rattle.group_commit.specs.Resident.{AreDirty, with_page}
+use Rattle.group_commit.proofs.WaitLaws.{grows, still_dirty}
+
+-- ---- tests
+
+or_twice : (a b c : Bool) → a ≡ b → (a || c) ≡ (b || (a || c))
+or_twice true true c e = refl
+or_twice false false c e = refl
+or_twice true false c e = absurd cc
+or_twice false true c e = absurd cc
+
+or_swap : (a b c : Bool) → (a || (b || c)) ≡ (b || (a || c))
+or_swap true true c = refl
+or_swap true false c = refl
+or_swap false true c = refl
+or_swap false false c = refl
+
+or_moves : (a b c : Bool) → (a || (b || c)) ≡ ((b || a) || c)
+or_moves true true c = refl
+or_moves true false c = refl
+or_moves false true c = refl
+or_moves false false c = refl
+
+or_end : (a : Bool) → (a || false) ≡ a
+or_end true = refl
+or_end false = refl
+
+-- ---- which pages they are
+
+one_with : (page : ℕ) (xs : List ℕ) (p : ℕ) → is_one_of (with_page page xs) p ≡ (nat_eq page p || is_one_of xs p)
+one_with page [] p = refl
+one_with page (q ∷ xs) p = by_tests (one_with page xs p) (nat_lt page q) (q == page) refl
+  where
+    by_tests : is_one_of (with_page page xs) p ≡ (nat_eq page p || is_one_of xs p) → (below same : Bool) → (q == page) ≡ same → is_one_of (cond below (page ∷ q ∷ xs) (cond same (q ∷ xs) (q ∷ with_page page xs))) p ≡ (nat_eq page p || (nat_eq q p || is_one_of xs p))
+    by_tests more true same is = refl
+    by_tests more false true is = or_twice (nat_eq q p) (nat_eq page p) (is_one_of xs p) (ap (λ (k : ℕ). nat_eq k p) (eqb-true q page is))
+    by_tests more false false is = ap (λ (b : Bool). nat_eq q p || b) more ∙ or_swap (nat_eq q p) (nat_eq page p) (is_one_of xs p)
+
+one_among : (xs ys : List ℕ) (p : ℕ) → is_one_of (put_among xs ys) p ≡ (is_one_of xs p || is_one_of ys p)
+one_among [] ys p = refl
+one_among (x ∷ xs) ys p = one_among xs (with_page x ys) p ∙ ap (λ (b : Bool). is_one_of xs p || b) (one_with x ys p) ∙ or_moves (is_one_of xs p) (nat_eq x p) (is_one_of ys p)
+
+-- a page is one of them where it was
+pub one_ascending : (xs : List ℕ) (p : ℕ) → is_one_of (ascending_of xs) p ≡ is_one_of xs p
+one_ascending xs p = one_among xs [] p ∙ or_end (is_one_of xs p)
+
+pub index_contained : (xs : List ℕ) (k : ℕ) → k < length xs → contains xs (get_or xs k 0) ≡ true
+index_contained [] k lt = absurd (omega arith)
+index_contained (x ∷ xs) zero lt = ap (λ (b : Bool). b || contains xs x) (same_key x)
+index_contained (x ∷ xs) (suc k) lt = ap (λ (b : Bool). (x == get_or xs k 0) || b) (index_contained xs k (omega arith)) ∙ or_true (x == get_or xs k 0)
+  where
+    or_true : (b : Bool) → (b || true) ≡ true
+    or_true true = refl
+    or_true false = refl
+
+-- where a page stands
+pub record StandsIn (xs : List ℕ) (p : ℕ) : Type 0 where
+  pub index : ℕ
+  pub inside : index < length xs
+  pub is : get_or xs index 0 ≡ p
+
+pub contained_index : (xs : List ℕ) (p : ℕ) → contains xs p ≡ true → StandsIn xs p
+contained_index [] p is = absurd cc
+contained_index (x ∷ xs) p is = by_bool (nat_eq x p)
+    (λ t. record { index = 0; inside = omega arith; is = eqb-true x p t })
+    (λ t. let more = contained_index xs p (sym (ap (λ (b : Bool). b || contains xs p) t) ∙ is) in record { index = suc more.index; inside = (let lt = more.inside in omega (arith, lt)); is = more.is })
+
+-- ---- how many they are
+
+with_new : (page : ℕ) (xs : List ℕ) → is_one_of xs page ≡ false → length (with_page page xs) ≡ suc (length xs)
+with_new page [] out = refl
+with_new page (q ∷ xs) out = by_tests (λ none. with_new page xs none) (nat_lt page q) (q == page) refl
+  where
+    other : (a b : Bool) → (a || b) ≡ false → (a ≡ false) × (b ≡ false)
+    other true b e = absurd cc
+    other false b e = (refl, e)
+
+    by_tests : (is_one_of xs page ≡ false → length (with_page page xs) ≡ suc (length xs)) → (below same : Bool) → (q == page) ≡ same → length (cond below (page ∷ q ∷ xs) (cond same (q ∷ xs) (q ∷ with_page page xs))) ≡ suc (suc (length xs))
+    by_tests more true same is = refl
+    by_tests more false true is = absurd (let no = (other (nat_eq q page) (is_one_of xs page) out).0 in cc (is, no))
+    by_tests more false false is = ap suc (more (other (nat_eq q page) (is_one_of xs page) out).1)
+
+still_out : (x : ℕ) (ys ks : List ℕ) → AllByRecursion (λ q. nat_eq x q ≡ false) ks → AllByRecursion (λ q. is_one_of ys q ≡ false) ks → AllByRecursion (λ q. is_one_of (with_page x ys) q ≡ false) ks
+still_out x ys [] apart out = tt
+still_out x ys (k ∷ ks) apart out = (one_with x ys k ∙ ap (λ (b : Bool). b || is_one_of ys k) apart.0 ∙ out.0, still_out x ys ks apart.1 out.1)
+
+length_among : (xs ys : List ℕ) → IsDistinct nat_eq xs → AllByRecursion (λ q. is_one_of ys q ≡ false) xs → length (put_among xs ys) ≡ length xs + length ys
+length_among [] ys d out = omega arith
+length_among (x ∷ xs) ys d out =
+    let more = length_among xs (with_page x ys) (IsDistinct-tail nat_eq x xs d) (still_out x ys xs (IsDistinct-head nat_eq x xs d) out.1) in
+    let one = with_new x ys out.0 in
+    omega (arith, more, one)
+
+all_out : (xs : List ℕ) → AllByRecursion (λ q. is_one_of [] q ≡ false) xs
+all_out [] = tt
+all_out (x ∷ xs) = (refl, all_out xs)
+
+-- so many as before, where none stood twice
+pub length_ascending : (xs : List ℕ) → IsDistinct nat_eq xs → length (ascending_of xs) ≡ length xs
+length_ascending xs d = omega (arith, length_among xs [] d (all_out xs))
+
+-- ---- one after another
+
+among_last : (xs ys : List ℕ) (y : ℕ) → put_among (xs ++ y ∷ []) ys ≡ with_page y (put_among xs ys)
+among_last [] ys y = refl
+among_last (x ∷ xs) ys y = among_last xs (with_page x ys) y
+
+pub among_more : (xs : List ℕ) (k : ℕ) → k < length xs → put_among (take (k + 1) xs) [] ≡ with_page (get_or xs k 0) (put_among (take k xs) [])
+among_more xs k lt = ap (λ (ys : List ℕ). put_among ys []) (take_more xs k 0 lt) ∙ among_last (take k xs) [] (get_or xs k 0)
+
+-- ---- a record may have them
+
+still_among : (pages : List (List ℕ)) (xs ys : List ℕ) → ((p : ℕ) → is_one_of xs p ≡ true → p < length pages) → length xs + length ys ≤ 96 → AreDirty (record { pages = pages; dirty = ys }) → AreDirty (record { pages = pages; dirty = put_among xs ys })
+still_among pages [] ys inside few are = are
+still_among pages (x ∷ xs) ys inside few are =
+    still_among pages xs (with_page x ys) (λ p is. inside p (or_right (nat_eq x p) (is_one_of xs p) is)) (omega (arith, few, (grows x ys).more))
+    (still_dirty pages ys x are (inside x (ap (λ (b : Bool). b || is_one_of xs x) (same_key x))) (inr (omega (arith, few))))
+  where
+    or_right : (a b : Bool) → b ≡ true → (a || b) ≡ true
+    or_right true b e = refl
+    or_right false b e = e
+
+pub accepted_ascending : (count : ℕ) (xs : List ℕ) → ((p : ℕ) → is_one_of xs p ≡ true → p < count) → length xs ≤ 96 → 1 ≤ length (ascending_of xs) → are_pages count (ascending_of xs) ≡ true
+accepted_ascending count xs inside few some =
+    let blank : List (List ℕ) = replicate count [] in
+    let long : length blank ≡ count = length-replicate count [] in
+    elim (still_among blank xs [] (λ p is. omega (arith, long, inside p is)) (omega (arith, few)) (inl refl)) [
+      | inl none ↦ absurd (omega (arith, some, ap length none))
+      | inr are ↦ subst (λ (n : ℕ). are_pages n (ascending_of xs) ≡ true) long are
+    ]

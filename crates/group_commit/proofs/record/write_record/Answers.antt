@@ -1,0 +1,184 @@
+use Rattle.std.proofs.Common.{◌≡◌, ◌*◌, ◌≤◌, ℕ, List, [], length, map, take, sym, ap, subst, ◌∙◌, arith}
+use Rattle.std.proofs.lemmas.List.{length-take-le}
+use Rattle.volume_layout.specs.declared.layout.Layout.{Layout}
+use Rattle.fsd_formats.specs.Record.{Stamp, are_pages, record_len, AreStamped}
+use Rattle.fsd_log.specs.Laid.{laid_bytes, slices}
+use Rattle.fsd_sound.specs.Mounted.{image_at}
+use Rattle.sector_disk.specs.Damage.{IsDevice}
+use Rattle.group_commit.proofs.CountLaws.{handed_up}
+use Rattle.fsd_log.specs.Scan.{Placed, place_of, spot_for}
+use Rattle.sector_disk.specs.declared.sector.WeakRun.{WeakRun}
+use Rattle.sector_disk.specs.Calls.{load_failed_at}
+use Rattle.sector_disk.specs.Machine.{Moment}
+use Rattle.sector_disk.proofs.CallLaws.{told_up, writes_more, writes_then, writes_told}
+use Rattle.fsd_sound.specs.Sound.{EndIn}
+use Rattle.log_thirds.specs.LogValue.{LogValue}
+use Rattle.log_thirds.specs.Append.{StandsInPart, stamp_now, log_with}
+use Rattle.fsd_log.proofs.TornLaws.{are_few}
+use Rattle.log_thirds.proofs.MomentLaws.{all_small}
+use Rattle.log_thirds.proofs.RunLaws.{narrow_runs}
+use Rattle.sector_disk.specs.Image.{open_damage}
+use Rattle.sector_disk.proofs.Wear.{worn_refl}
+use Rattle.group_commit.specs.Entering.{HasRoomNow, MayHome, ShowsStill}
+use Rattle.group_commit.specs.Force.{StandsOver, Committed}
+use Rattle.group_commit.specs.Cached.{HasImages, RecordLeaves}
+use Rattle.group_commit.specs.Newest.{KnowsImages}
+use Rattle.group_commit.specs.Resident.{ResidentValue, stamped}
+use Rattle.group_commit.proofs.ImageLaws.{IsRecordOf}
+use Rattle.group_commit.proofs.RoundLaws.{may_home, owns, making, stands, commits_on, ends_then}
+use Rattle.group_commit.proofs.ForceLaws.{MayForceHere, force_here, commits, committed, log_in_window}
+use Rattle.group_commit.proofs.StandsLaws.{knows_log}
+use Rattle.group_commit.proofs.record.write_record.Given as given
+use Rattle.group_commit.proofs.record.write_record.Goals as goal
+use Rattle.group_commit.proofs.record.write_record.Goals.{After-append}
+
+-- ---- where room was made and the record written
+
+home_here : (g : given.Over) (c : After-append g) (windows : List WeakRun) → g.M.Machine.honest c.append.new.m → EndIn (g.M.Machine.now c.args.m.now).windows windows → MayHome c.args.log.now windows (g.M.Machine.now c.args.m.now)
+home_here g c windows h ends =
+    may_home c.args.log.now c.layout-layout.result.now windows (g.M.Machine.now c.args.m.now) c.layout-layout.ensures.value c.pages-pages.ensures.planned c.layout-layout.ensures.shape
+    (g.met.M.Machine.short c.args.m.now (c.make_room.ensures.disk.trust.honest (c.append.ensures.writes.trust.honest h))) ends
+
+abbrev s : (g : given.Over) (c : After-append g) → List (List ℕ) → ResidentValue
+s g c pages = record { pages = pages; dirty = c.args.dirty.now }
+
+abbrev images : (g : given.Over) (c : After-append g) → List ℕ
+images g c = take (512 * length c.args.dirty.now) c.args.room.now
+
+abbrev Have : (g : given.Over) (c : After-append g) → List (List ℕ) → Type 0
+Have g c pages = HasImages c.args.log.now c.args.dirty.now c.args.room.now pages
+
+laid : (g : given.Over) (c : After-append g) (pages : List (List ℕ)) → Have g c pages → IsRecordOf (stamp_now c.args.log.now) c.args.dirty.now (stamped (stamp_now c.args.log.now) c.args.dirty.now pages) (images g c)
+laid g c pages has = record { slices_are = has.laid; bear = c.requires.stamped }
+
+made : (g : given.Over) (c : After-append g) (pages : List (List ℕ)) (windows : List WeakRun) (records : List Placed) (disk : List (List ℕ)) → g.M.Machine.honest c.append.new.m → EndIn (g.M.Machine.now c.args.m.now).windows windows
+    → StandsOver c.args.log.now records disk (s g c pages) windows (g.M.Machine.now c.args.m.now).image → KnowsImages c.args.log.now (g.M.Machine.now c.args.m.now).image
+    → HasRoomNow c.make_room.new.log disk windows (g.M.Machine.now c.args.m.now) (g.M.Machine.now c.make_room.new.m)
+made g c pages windows records disk h ends over known =
+    c.in_ok-make_room.ensures.done records disk windows (c.append.ensures.writes.trust.honest h) (home_here g c windows h ends) (owns c.args.log.now (s g c pages) records disk windows (g.M.Machine.now c.args.m.now) over known)
+
+may : (g : given.Over) (c : After-append g) (pages : List (List ℕ)) (has : Have g c pages) (windows : List WeakRun) (records : List Placed) (disk : List (List ℕ)) (h : g.M.Machine.honest c.append.new.m) (ends : EndIn (g.M.Machine.now c.args.m.now).windows windows)
+    (over : StandsOver c.args.log.now records disk (s g c pages) windows (g.M.Machine.now c.args.m.now).image) (known : KnowsImages c.args.log.now (g.M.Machine.now c.args.m.now).image)
+    → MayForceHere c.make_room.new.log (s g c pages) (images g c) (made g c pages windows records disk h ends over known).records disk windows (g.M.Machine.now c.make_room.new.m)
+may g c pages has windows records disk h ends over known =
+    let M = g.M.Machine in
+    let mid = M.now c.make_room.new.m in
+    let h1 = c.append.ensures.writes.trust.honest h in
+    let log = c.args.log.now in
+    let after = c.make_room.new.log in
+    let few : length c.args.dirty.now ≤ 96 = are_few log.layout.pages c.args.dirty.now c.requires.accepted in
+    let long : length (images g c) ≡ 512 * length c.args.dirty.now = length-take-le (512 * length c.args.dirty.now) c.args.room.now c.requires.long in
+    let then = ends_then log (s g c pages) records disk windows (M.now c.args.m.now) over after mid (made g c pages windows records disk h ends over known) c.make_room.ensures.layout c.make_room.ensures.stamp (c.make_room.ensures.disk.windows h1) (c.make_room.ensures.disk.quiet h1) ends in
+    let sized : after.layout.sectors ≤ length mid.image = omega (arith, ap (λ (l : Layout). l.sectors) c.make_room.ensures.layout, c.requires.sectors, c.make_room.ensures.disk.uses.sectors, g.met.M.Machine.sized c.make_room.new.m h1) in
+    force_here after (s g c pages) (images g c) (made g c pages windows records disk h ends over known).records disk windows mid (record {
+      shape = c.append.ensures.shape;
+      number = omega (arith, ap (λ (t : Stamp). t.number) c.make_room.ensures.stamp, c.requires.numbered);
+      accepted = ap (λ (l : Layout). are_pages l.pages c.args.dirty.now) c.make_room.ensures.layout ∙ c.requires.accepted;
+      small = all_small c.args.dirty.now (λ k. omega (arith, c.type_inv.dirty k));
+      bytes = long;
+      slices_are = subst (λ (t : Stamp). slices (length c.args.dirty.now) (images g c) ≡ map (image_at (stamped t c.args.dirty.now pages)) c.args.dirty.now) (sym c.make_room.ensures.stamp) (laid g c pages has).slices_are;
+      bear = subst (λ (t : Stamp). AreStamped t c.args.dirty.now (slices (length c.args.dirty.now) (images g c))) (sym c.make_room.ensures.stamp) (laid g c pages has).bear;
+      room = c.in_ok-make_room.ensures.room;
+      sized = sized;
+      table = has.table ∙ ap (λ (l : Layout). l.pages) (sym c.make_room.ensures.layout);
+      few = omega (arith, c.append.ensures.shape.pages);
+      apart = (home_here g c windows h ends).apart;
+      ends = then;
+      over = stands log (s g c pages) records disk windows (M.now c.args.m.now) over after mid (made g c pages windows records disk h ends over known) c.make_room.ensures.layout c.make_room.ensures.stamp (c.make_room.ensures.disk.windows h1) (c.make_room.ensures.disk.quiet h1);
+    })
+
+-- whatever the append leaves, the pages as they were or as they are now are shown
+shown : (g : given.Over) (c : After-append g) (left : Moment) → g.M.Machine.honest c.append.new.m
+    → StandsInPart (place_of c.make_room.new.log.layout c.make_room.new.log.anchor.third (spot_for c.make_room.new.log.layout (length c.args.dirty.now) c.make_room.new.log.head).at) (laid_bytes (stamp_now c.make_room.new.log) c.args.dirty.now (images g c)) (record_len (length c.args.dirty.now)) (g.M.Machine.now c.make_room.new.m) left
+    → RecordLeaves c.args.log.now c.args.dirty.now c.args.room.now (g.M.Machine.now c.args.m.now) left
+shown g c left h part pages has windows records disk ends over known =
+    let M = g.M.Machine in
+    let room = made g c pages windows records disk h ends over known in
+    let writes = c.in_ok-make_room.ensures.disk in
+    let h1 = c.append.ensures.writes.trust.honest h in
+    commits_on c.args.log.now (s g c pages) records disk windows (M.now c.args.m.now) over c.make_room.new.log (M.now c.make_room.new.m) room c.make_room.ensures.layout c.make_room.ensures.stamp (writes.windows h1) (writes.quiet h1) left
+    (commits c.make_room.new.log (s g c pages) (images g c) room.records disk windows (M.now c.make_room.new.m) (may g c pages has windows records disk h ends over known) left part)
+
+-- and while room is made those as they were
+making_room : (g : given.Over) (c : After-append g) (left : Moment) → g.M.Machine.honest c.make_room.new.m → ShowsStill c.args.log.now (g.M.Machine.now c.args.m.now) left → RecordLeaves c.args.log.now c.args.dirty.now c.args.room.now (g.M.Machine.now c.args.m.now) left
+making_room g c left h shows pages has windows records disk ends over known =
+    let old = g.M.Machine.now c.args.m.now in
+    let log = c.args.log.now in
+    making log (s g c pages) records disk windows old over (stamped (stamp_now log) c.args.dirty.now pages) left
+    (shows records disk windows
+    (may_home log c.layout-layout.result.now windows old c.layout-layout.ensures.value c.pages-pages.ensures.planned c.layout-layout.ensures.shape (g.met.M.Machine.short c.args.m.now (c.in_ok-make_room.ensures.disk.trust.honest h)) ends)
+    (owns log (s g c pages) records disk windows old over known))
+
+pub append-requires-clause-stamped : goal.append-requires-clause-stamped
+append-requires-clause-stamped g c =
+    subst (λ (t : Stamp). AreStamped t c.args.dirty.now (slices (length c.args.dirty.now) (take (512 * length c.args.dirty.now) c.args.room.now))) (sym c.make_room.ensures.stamp) c.requires.stamped
+
+-- ---- where no room was made
+
+pub returns-in_err-make_room-clause-disk : goal.returns-in_err-make_room-clause-disk
+returns-in_err-make_room-clause-disk g c =
+    let M = g.M.Machine in
+    let old = M.now c.args.m.now in
+    let log = c.args.log.now in
+    let writes = c.in_err-make_room.ensures.disk in
+    writes_told (told_up load_failed_at c.from_residual.result c.in_err-make_room.field-0.0 c.from_residual.ensures.1)
+    (writes_more writes (λ h left shows pages has windows records disk ends over known.
+    making log (record { pages = pages; dirty = c.args.dirty.now }) records disk windows old over (stamped (stamp_now log) c.args.dirty.now pages) left
+    (shows records disk windows
+    (may_home log c.layout-layout.result.now windows old c.layout-layout.ensures.value c.pages-pages.ensures.planned c.layout-layout.ensures.shape (g.met.M.Machine.short c.args.m.now (writes.trust.honest h)) ends)
+    (owns log (record { pages = pages; dirty = c.args.dirty.now }) records disk windows old over known))))
+
+pub returns-in_err-make_room-clause-never_lost : goal.returns-in_err-make_room-clause-never_lost
+returns-in_err-make_room-clause-never_lost g c =
+    let M = g.M.Machine in
+    let old = M.now c.args.m.now in
+    let log = c.args.log.now in
+    handed_up (λ fault. (pages : List (List ℕ)) (windows : List WeakRun) (records : List Placed) (disk : List (List ℕ)) → HasImages log c.args.dirty.now c.args.room.now pages → M.honest c.make_room.new.m → EndIn old.windows windows
+    → StandsOver log records disk (record { pages = pages; dirty = c.args.dirty.now }) windows old.image → KnowsImages log old.image → IsDevice fault)
+    c.from_residual.result c.in_err-make_room.field-0.0 c.from_residual.ensures.1
+    (λ pages windows records disk has h ends over known. c.in_err-make_room.ensures.never_lost records disk windows h
+    (may_home log c.layout-layout.result.now windows old c.layout-layout.ensures.value c.pages-pages.ensures.planned c.layout-layout.ensures.shape (g.met.M.Machine.short c.args.m.now (c.make_room.ensures.disk.trust.honest h)) ends)
+    (owns log (record { pages = pages; dirty = c.args.dirty.now }) records disk windows old over known))
+
+pub returns-in-Err-clause-lost : goal.returns-in-Err-clause-lost
+returns-in-Err-clause-lost g c h = (0, tt)
+
+pub returns-in-Err-clause-disk : goal.returns-in-Err-clause-disk
+returns-in-Err-clause-disk g c =
+    let c1 = (goal.at.returns-in-Err-clause-disk g c).After-append in
+    writes_then c.in_ok-make_room.ensures.disk c.in-Err.ensures.writes (λ h left shows. making_room g c1 left h shows) (λ h left part. shown g c1 left h part)
+
+pub returns-in-Ok-clause-disk : goal.returns-in-Ok-clause-disk
+returns-in-Ok-clause-disk g c =
+    let c1 = (goal.at.returns-in-Ok-clause-disk g c).After-append in
+    writes_then c.in_ok-make_room.ensures.disk c.in-Ok.ensures.writes (λ h left shows. making_room g c1 left h shows) (λ h left part. shown g c1 left h part)
+
+pub returns-in-Ok-clause-done : goal.returns-in-Ok-clause-done
+returns-in-Ok-clause-done g c pages windows records disk has h ends over known =
+    let M = g.M.Machine in
+    let c1 = (goal.at.returns-in-Ok-clause-done g c).After-append in
+    let mid = M.now c.make_room.new.m in
+    let image = (M.now c.append.new.m).image in
+    let log = c.args.log.now in
+    let dirty = c.args.dirty.now in
+    let after = c.make_room.new.log in
+    let room = made g c1 pages windows records disk h ends over known in
+    let is = may g c1 pages has windows records disk h ends over known in
+    let past : c.append.new.self ≡ log_with after dirty = c.in-Ok.ensures.past in
+    let done = committed after (s g c1 pages) (images g c1) room.records disk windows mid is (M.now c.append.new.m) (c.in-Ok.ensures.stands h) in
+    subst (λ (x : LogValue). Committed x (record { pages = stamped (stamp_now log) dirty pages; dirty = [] }) windows image) (sym past)
+    (subst (λ (t : Stamp). Committed (log_with after dirty) (record { pages = stamped t dirty pages; dirty = [] }) windows image) c.make_room.ensures.stamp (record { records = done.records; stands = done.stands }))
+
+pub returns-in-Ok-clause-knows : goal.returns-in-Ok-clause-knows
+returns-in-Ok-clause-knows g c pages windows records disk has h ends over kept =
+    let M = g.M.Machine in
+    let c1 = (goal.at.returns-in-Ok-clause-knows g c).After-append in
+    let mid = M.now c.make_room.new.m in
+    let new = M.now c.append.new.m in
+    let after = c.make_room.new.log in
+    let room = made g c1 pages windows records disk h ends over kept in
+    let is = may g c1 pages has windows records disk h ends over kept in
+    let short = g.met.M.Machine.short c.make_room.new.m (c.append.ensures.writes.trust.honest h) in
+    let before = log_in_window after (s g c1 pages) room.records disk windows mid is.few c.append.ensures.shape.epoch c.append.ensures.shape.third is.apart is.ends is.over in
+    let then = c.in-Ok.ensures.worn_done room.records h (λ p d x y far. narrow_runs mid.windows.present mid.windows.next short.present short.next p d x y far) before in
+    knows_log c.append.new.self _ new (then new.image (worn_refl (open_damage new.windows) new.image)) (c.in-Ok.ensures.indexed room.records room.over.indexed)

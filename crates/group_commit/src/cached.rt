@@ -1,0 +1,194 @@
+//! The force of the dirty pages of a cache.
+ghost use Rattle.std.specs.Prelude.{◌≡◌, ◌⊎◌, ◌<◌, ◌≤◌, ◌^◌, ◌-◌, ◌+◌, ℕ, true, List, [], length, take, ◌*◌, IsTrue, IfSome, IfOk, IfErr, OnOk, OnErr};
+ghost use Rattle.sector_disk.specs.Damage.{IsDevice};
+ghost use Rattle.sector_disk.specs.declared.sector.WeakRun.{WeakRun};
+ghost use Rattle.sector_disk.specs.Calls.{WritesDisk, device_in, load_failed_at};
+ghost use Rattle.fsd_log.specs.Scan.{Placed};
+ghost use Rattle.fsd_sound.specs.Sound.{EndIn};
+ghost use Rattle.run_table.specs.Space.{contains};
+ghost use Rattle.fsd_formats.specs.Record.{AreStamped, are_pages, record_len};
+ghost use Rattle.fsd_log.specs.Laid.{slices};
+ghost use Rattle.log_thirds.specs.Append.{stamp_now, log_with};
+ghost use Rattle.page_cache.specs.Cache.{IsCache, IsResident, bytes_of, cleaned};
+ghost use Rattle.group_commit.specs.Resident.{IsImageOf, stamped};
+ghost use Rattle.group_commit.specs.Room.{goes_before, log_before, sectors_before};
+ghost use Rattle.group_commit.specs.Entering.{RecordCause, LosesLogged};
+ghost use Rattle.group_commit.specs.Force.{sectors_written, stamped_by, log_forced, StandsOver, Committed, as_load, force_failed_at};
+ghost use Rattle.group_commit.specs.Newest.{KnowsImages};
+ghost use Rattle.group_commit.specs.Cached.{AgreesWith, AreWaiting, CacheLeaves, FramesLeave, HasImages, ascending_of, stamped_for, stamped_frames, with_waiting};
+
+use crate::force::{ForceFault, Forced, Group, force_fault};
+use crate::frames::{lay_frames, stamp_frames};
+use crate::record::write_record;
+use crate::room::RecordRoom;
+use crate::waiting::ascending;
+use log_thirds::Log;
+use page_cache::Cache;
+use sector_disk::{LoadFault, Machine};
+
+// Stamps the frames of these pages for the log's next record, and lays their images.
+fn lay_record(log: &Log, cache: &mut Cache, waiting: &[u32], room: &mut RecordRoom)
+    requires valid { IsCache cache.old }
+    requires accepted { IsTrue (are_pages log.now.layout.pages waiting.now) }
+    requires images { (page : ℕ) → contains waiting.now page ≡ true → IfSome (bytes_of cache.old page) (IsImageOf page) }
+    requires inside { (page : ℕ) → contains waiting.now page ≡ true → IsResident cache.old page }
+    ensures cache { cache.new ≡ stamped_frames (stamp_now log.now) waiting.now cache.old }
+    ensures stamped { AreStamped (stamp_now log.now) waiting.now (slices (length waiting.now) (take (512 * length waiting.now) room.new)) }
+    ensures laid { (pages : List (List ℕ)) → AgreesWith log.now.layout cache.old pages → HasImages log.now waiting.now room.new pages }
+{
+    stamp_frames(cache, waiting, log.epoch(), log.next_number());
+    lay_frames(cache, waiting, room.images.as_mut_slice());
+}
+
+// Writes the record of these pages from the frames of the cache, which are stamped first.
+fn write_frames<M: Machine>(
+    m: &mut M,
+    log: &mut Log,
+    cache: &mut Cache,
+    waiting: &[u32],
+    room: &mut RecordRoom,
+) -> Result<(), LoadFault>
+    requires valid { IsCache cache.old }
+    requires accepted { IsTrue (are_pages log.old.layout.pages waiting.now) }
+    requires images { (page : ℕ) → contains waiting.now page ≡ true → IfSome (bytes_of cache.old page) (IsImageOf page) }
+    requires inside { (page : ℕ) → contains waiting.now page ≡ true → IsResident cache.old page }
+    requires numbered { log.old.head.number < 2 ^ 32 - 1 }
+    requires sectors { log.old.layout.sectors ≤ (M.report m.old).sectors }
+    ensures disk { WritesDisk M.Machine (device_in load_failed_at result) (FramesLeave log.old cache.old waiting.now) m.old m.new }
+    ensures cause { IfErr result (RecordCause log.old (length waiting.now)) }
+    ensures counted { OnOk result (M.tells m.new → (M.ledger m.new).written ≡ (M.ledger m.old).written + (sectors_before log.old (length waiting.now) + record_len (length waiting.now))) }
+    ensures counted_err { OnErr result (goes_before log.old (length waiting.now) ≡ true → M.tells m.new → M.ledger m.new ≡ M.ledger m.old) }
+    ensures cache { cache.new ≡ stamped_frames (stamp_now log.old) waiting.now cache.old }
+    ensures past { OnOk result (log.new ≡ log_with (log_before log.old (length waiting.now)) waiting.now) }
+    ensures past_err { OnErr result ((log.new ≡ log.old) ⊎ ((log.new ≡ log_before log.old (length waiting.now)) × (M.tells m.new → (M.ledger m.new).written ≡ (M.ledger m.old).written + sectors_before log.old (length waiting.now)))) }
+    ensures lost { IfErr result (λ fault. M.honest m.new → LosesLogged log.old (M.now m.new).image fault) }
+    ensures never_lost { IfErr result (λ fault. (pages : List (List ℕ)) (windows : List WeakRun) (records : List Placed) (disk : List (List ℕ)) →
+        AgreesWith log.old.layout cache.old pages → M.honest m.new → EndIn (M.now m.old).windows windows →
+        StandsOver log.old records disk (record { pages = pages; dirty = waiting.now }) windows (M.now m.old).image →
+        KnowsImages log.old (M.now m.old).image → IsDevice fault) }
+    ensures done { OnOk result ((pages : List (List ℕ)) (windows : List WeakRun) (records : List Placed) (disk : List (List ℕ)) →
+        AgreesWith log.old.layout cache.old pages → M.honest m.new → EndIn (M.now m.old).windows windows →
+        StandsOver log.old records disk (record { pages = pages; dirty = waiting.now }) windows (M.now m.old).image →
+        KnowsImages log.old (M.now m.old).image →
+        Committed log.new (record { pages = stamped (stamp_now log.old) waiting.now pages; dirty = [] }) windows (M.now m.new).image) }
+    ensures knows { OnOk result ((pages : List (List ℕ)) (windows : List WeakRun) (records : List Placed) (disk : List (List ℕ)) →
+        AgreesWith log.old.layout cache.old pages → M.honest m.new → EndIn (M.now m.old).windows windows →
+        StandsOver log.old records disk (record { pages = pages; dirty = waiting.now }) windows (M.now m.old).image →
+        KnowsImages log.old (M.now m.old).image → KnowsImages log.new (M.now m.new).image) }
+{
+    lay_record(log, cache, waiting, room);
+    write_record(m, log, waiting, room.images.as_slice())
+}
+
+// The same of all that are dirty, where these are they; where none is, nothing.
+fn force_waiting<M: Machine>(
+    m: &mut M,
+    log: &mut Log,
+    cache: &mut Cache,
+    waiting: &[u32],
+    room: &mut RecordRoom,
+) -> Result<Forced, ForceFault>
+    requires valid { IsCache cache.old }
+    requires are { waiting.now ≡ ascending_of cache.old.dirty }
+    requires few { length waiting.now ≤ 96 }
+    requires waiting { AreWaiting log.old.layout.pages cache.old }
+    requires numbered { log.old.head.number < 2 ^ 32 - 1 }
+    requires sectors { log.old.layout.sectors ≤ (M.report m.old).sectors }
+    ensures disk { WritesDisk M.Machine (device_in force_failed_at result) (CacheLeaves log.old cache.old) m.old m.new }
+    ensures cause { IfErr result (λ fault. RecordCause log.old (length cache.old.dirty) (as_load fault)) }
+    ensures pages { IfOk result (λ forced. forced.pages ≡ length cache.old.dirty) }
+    ensures counted { OnOk result (M.tells m.new → (M.ledger m.new).written ≡ (M.ledger m.old).written + sectors_written log.old cache.old.dirty) }
+    ensures counted_err { OnErr result (goes_before log.old (length cache.old.dirty) ≡ true → M.tells m.new → M.ledger m.new ≡ M.ledger m.old) }
+    ensures idle { cache.old.dirty ≡ [] → m.new ≡ m.old }
+    ensures cache { OnOk result (cache.new ≡ cleaned (stamped_for log.old cache.old)) }
+    ensures cache_err { OnErr result (cache.new ≡ stamped_for log.old cache.old) }
+    ensures log { OnOk result (log.new ≡ log_forced log.old (ascending_of cache.old.dirty)) }
+    ensures log_err { OnErr result ((log.new ≡ log.old) ⊎ ((log.new ≡ log_before log.old (length cache.old.dirty)) × (M.tells m.new → (M.ledger m.new).written ≡ (M.ledger m.old).written + sectors_before log.old (length cache.old.dirty)))) }
+    ensures layout { log.new.layout ≡ log.old.layout }
+    ensures lost { IfErr result (λ fault. M.honest m.new → LosesLogged log.old (M.now m.new).image (as_load fault)) }
+    ensures never_lost { IfErr result (λ fault. (pages : List (List ℕ)) (windows : List WeakRun) (records : List Placed) (disk : List (List ℕ)) →
+        AgreesWith log.old.layout cache.old pages → M.honest m.new → EndIn (M.now m.old).windows windows →
+        StandsOver log.old records disk (with_waiting cache.old pages) windows (M.now m.old).image →
+        KnowsImages log.old (M.now m.old).image → IsDevice (as_load fault)) }
+    ensures done { OnOk result ((pages : List (List ℕ)) (windows : List WeakRun) (records : List Placed) (disk : List (List ℕ)) →
+        AgreesWith log.old.layout cache.old pages → M.honest m.new → EndIn (M.now m.old).windows windows →
+        StandsOver log.old records disk (with_waiting cache.old pages) windows (M.now m.old).image →
+        KnowsImages log.old (M.now m.old).image →
+        Committed log.new (record { pages = stamped_by log.old (with_waiting cache.old pages); dirty = [] }) windows (M.now m.new).image) }
+    ensures knows { OnOk result ((pages : List (List ℕ)) (windows : List WeakRun) (records : List Placed) (disk : List (List ℕ)) →
+        AgreesWith log.old.layout cache.old pages → M.honest m.new → EndIn (M.now m.old).windows windows →
+        StandsOver log.old records disk (with_waiting cache.old pages) windows (M.now m.old).image →
+        KnowsImages log.old (M.now m.old).image → KnowsImages log.new (M.now m.new).image) }
+{
+    let count = waiting.len();
+    if count == 0 {
+        return Ok(Forced { pages: 0 });
+    }
+    match write_frames(m, log, cache, waiting, room) {
+        Ok(()) => {
+            cache.cleaned();
+            Ok(Forced {
+                pages: count as u32,
+            })
+        }
+        Err(fault) => Err(force_fault(fault)),
+    }
+}
+
+impl Group {
+    /// Writes one record of all dirty pages of the cache, ascending, each stamped with the log's epoch and the record's number;
+    /// where none is dirty, nothing. Where the record would enter the log's first third, the pages of that third are written home
+    /// first, and the anchor moves on. It takes no memory. Where it fails the pages stay dirty, and only a mount says whether the
+    /// record stands.
+    pub fn force_cached<M: Machine>(
+        m: &mut M,
+        log: &mut Log,
+        cache: &mut Cache,
+        room: &mut RecordRoom,
+    ) -> Result<Forced, ForceFault>
+        requires waiting { AreWaiting log.old.layout.pages cache.old }
+        requires numbered { log.old.head.number < 2 ^ 32 - 1 }
+        requires sectors { log.old.layout.sectors ≤ (M.report m.old).sectors }
+
+        // At each moment the disk shows the pages as they were or as they are now, whichever pages the cache has a part of.
+        ensures disk { WritesDisk M.Machine (device_in force_failed_at result) (CacheLeaves log.old cache.old) m.old m.new }
+        ensures cause { IfErr result (λ fault. RecordCause log.old (length cache.old.dirty) (as_load fault)) }
+
+        ensures pages { IfOk result (λ forced. forced.pages ≡ length cache.old.dirty) }
+        ensures counted { OnOk result (M.tells m.new → (M.ledger m.new).written ≡ (M.ledger m.old).written + sectors_written log.old cache.old.dirty) }
+        ensures counted_err { OnErr result (goes_before log.old (length cache.old.dirty) ≡ true → M.tells m.new → M.ledger m.new ≡ M.ledger m.old) }
+        ensures idle { cache.old.dirty ≡ [] → m.new ≡ m.old }
+
+        // The frames of the dirty pages are stamped, and they are dirty no more; behind a fault they still are.
+        ensures cache { OnOk result (cache.new ≡ cleaned (stamped_for log.old cache.old)) }
+        ensures cache_err { OnErr result (cache.new ≡ stamped_for log.old cache.old) }
+        ensures log { OnOk result (log.new ≡ log_forced log.old (ascending_of cache.old.dirty)) }
+
+        // Behind a fault the log is the old one; or, where the write of the record itself failed, the one that it goes behind.
+        ensures log_err { OnErr result ((log.new ≡ log.old) ⊎ ((log.new ≡ log_before log.old (length cache.old.dirty)) × (M.tells m.new → (M.ledger m.new).written ≡ (M.ledger m.old).written + sectors_before log.old (length cache.old.dirty)))) }
+        ensures layout { log.new.layout ≡ log.old.layout }
+
+        // A page is lost only where both sectors of its last image in the log read damaged, and over a disk that shows pages none is.
+        ensures lost { IfErr result (λ fault. M.honest m.new → LosesLogged log.old (M.now m.new).image (as_load fault)) }
+        ensures never_lost { IfErr result (λ fault. (pages : List (List ℕ)) (windows : List WeakRun) (records : List Placed) (disk : List (List ℕ)) →
+            AgreesWith log.old.layout cache.old pages → M.honest m.new → EndIn (M.now m.old).windows windows →
+            StandsOver log.old records disk (with_waiting cache.old pages) windows (M.now m.old).image →
+            KnowsImages log.old (M.now m.old).image → IsDevice (as_load fault)) }
+
+        // At the end it shows them as they are now.
+        ensures done { OnOk result ((pages : List (List ℕ)) (windows : List WeakRun) (records : List Placed) (disk : List (List ℕ)) →
+            AgreesWith log.old.layout cache.old pages → M.honest m.new → EndIn (M.now m.old).windows windows →
+            StandsOver log.old records disk (with_waiting cache.old pages) windows (M.now m.old).image →
+            KnowsImages log.old (M.now m.old).image →
+            Committed log.new (record { pages = stamped_by log.old (with_waiting cache.old pages); dirty = [] }) windows (M.now m.new).image) }
+
+        // And the log knows where each page's last image lies, as it did before.
+        ensures knows { OnOk result ((pages : List (List ℕ)) (windows : List WeakRun) (records : List Placed) (disk : List (List ℕ)) →
+            AgreesWith log.old.layout cache.old pages → M.honest m.new → EndIn (M.now m.old).windows windows →
+            StandsOver log.old records disk (with_waiting cache.old pages) windows (M.now m.old).image →
+            KnowsImages log.old (M.now m.old).image → KnowsImages log.new (M.now m.new).image) }
+    {
+        let waiting = ascending(cache.dirty_list().as_slice());
+        force_waiting(m, log, cache, waiting.as_slice(), room)
+    }
+}

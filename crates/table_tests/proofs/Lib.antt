@@ -1,0 +1,3 @@
+mod AbsentLaws
+mod OnesLaws
+mod TableLaws

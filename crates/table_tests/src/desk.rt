@@ -1,0 +1,340 @@
+//! `Desk`.
+ghost use Rattle.std.specs.Prelude.{◌≡◌, ◌<◌, ◌≤◌, ℕ, [], IfOk, OnOk, length};
+ghost use Rattle.name_btree.specs.Calls.{IsFormed};
+ghost use Rattle.name_btree.specs.Walk.{AreMarksOf};
+ghost use Rattle.page_cache.specs.Cache.{pins_of};
+ghost use Rattle.table_pages.specs.Kept.{IsReady};
+
+use crate::calls::{Answer, carry_out, image_of};
+use fsd_bytes::Refusal;
+use fsd_formats::Anchor;
+use group_commit::Newest;
+use log_record::anchor_bytes;
+use log_thirds::Log;
+use name_btree::{Call, TreeFault, walk};
+use name_page::{Pages, write_free, write_leaf};
+use page_cache::{Cache, PageSource};
+use sector_disk::{Attach, Event, Failed, Machine, MemoryMachine, Sector};
+use std::alloc::{AllocError, Global};
+use std::test::Fail;
+use table_pages::{FreePages, Table};
+use twin_home::write_home;
+use volume_layout::Layout;
+
+// Lets a table go.
+fn let_go<M: Machine, S: PageSource>(table: Table<'_, M, S>)
+    ensures machine { table.exit.0.now ≡ table.entry.m.now }
+    ensures cache { table.exit.1.0.now ≡ table.entry.cache.now }
+    ensures free { table.exit.1.1.1.1.0.now ≡ table.entry.free.now }
+{}
+
+// Makes a call over a table.
+fn call_in<M: Machine, S: PageSource>(
+    m: &mut M,
+    cache: &mut Cache,
+    source: &S,
+    home_a: u32,
+    free: &mut FreePages,
+    call: &Call,
+) -> Answer
+    requires ready { IsReady M.Machine S.PageSource m.old cache.old source.now free.old }
+    requires room { length cache.old.dirty ≤ 56 }
+    requires formed { IsFormed call.now }
+    ensures { IsReady M.Machine S.PageSource m.new cache.new source.now free.new }
+{
+    let mut table = Table::new(m, cache, source, home_a, free);
+    let answer = carry_out(&mut table, call);
+    table.rest();
+    let_go(table);
+    answer
+}
+
+// Walks a table.
+fn walk_in<M: Machine, S: PageSource>(
+    m: &mut M,
+    cache: &mut Cache,
+    source: &S,
+    home_a: u32,
+    free: &mut FreePages,
+    marks: &mut [bool],
+) -> Result<u32, TreeFault>
+    requires ready { IsReady M.Machine S.PageSource m.old cache.old source.now free.old }
+    requires whole { length marks.old ≡ length free.old }
+    requires clear { AreMarksOf [] marks.old }
+    ensures { IsReady M.Machine S.PageSource m.new cache.new source.now free.new }
+{
+    let mut table = Table::new(m, cache, source, home_a, free);
+    let walked = walk(&mut table, marks);
+    table.rest();
+    let_go(table);
+    walked
+}
+
+// The bytes of a page of a table.
+fn image_in<M: Machine, S: PageSource>(
+    m: &mut M,
+    cache: &mut Cache,
+    source: &S,
+    home_a: u32,
+    free: &mut FreePages,
+    page: u32,
+) -> Result<[u8; 512], Refusal>
+    requires ready { IsReady M.Machine S.PageSource m.old cache.old source.now free.old }
+    requires within { page < length free.old }
+    ensures { IsReady M.Machine S.PageSource m.new cache.new source.now free.new }
+{
+    let mut table = Table::new(m, cache, source, home_a, free);
+    let image = image_of(&mut table, page);
+    table.rest();
+    let_go(table);
+    image
+}
+
+// What a table answers where so many spare pages are asked for.
+fn spare_in<M: Machine, S: PageSource>(
+    m: &mut M,
+    cache: &mut Cache,
+    source: &S,
+    home_a: u32,
+    free: &mut FreePages,
+    count: u32,
+) -> Result<(), Refusal>
+    requires ready { IsReady M.Machine S.PageSource m.old cache.old source.now free.old }
+    ensures { IsReady M.Machine S.PageSource m.new cache.new source.now free.new }
+{
+    let mut table = Table::new(m, cache, source, home_a, free);
+    let spared = table.spare(count);
+    table.rest();
+    let_go(table);
+    spared
+}
+
+// Writes the pages that wait home.
+fn write_waiting<M: Machine>(m: &mut M, layout: &Layout, cache: &Cache) -> Result<(), Failed>
+    requires { layout.now.sectors ≤ (M.report m.old).sectors }
+    ensures { (M.report m.new).sectors ≡ (M.report m.old).sectors }
+{
+    for page in cache.dirty_list().as_slice() {
+        if *page < layout.pages() {
+            write_home(m, layout, *page, cache.bytes(*page))?;
+        }
+    }
+    Ok(())
+}
+
+// Writes the pages that wait home where they leave too little room for a call.
+fn make_room<M: Machine>(m: &mut M, layout: &Layout, cache: &mut Cache) -> Result<(), Failed>
+    requires { layout.now.sectors ≤ (M.report m.old).sectors }
+    ensures sectors { (M.report m.new).sectors ≡ (M.report m.old).sectors }
+    ensures frames { cache.new.frames ≡ cache.old.frames }
+    ensures pins { (page : ℕ) → pins_of cache.new page ≡ pins_of cache.old page }
+    ensures room { OnOk result (length cache.new.dirty ≤ 56) }
+{
+    if cache.dirty_list().len() <= 56 {
+        return Ok(());
+    }
+    write_waiting(m, layout, cache)?;
+    cache.cleaned();
+    Ok(())
+}
+
+/// The pages of the table.
+pub const PAGES: u32 = 440;
+
+/// A table whose pages stand at home on a machine in memory, with a log that has none of them, over a cache of 192 frames.
+/// What was changed is written home once more than 56 pages wait.
+#[derive(Drop)]
+pub struct Desk {
+    m: MemoryMachine,
+    log: Log,
+    layout: Layout,
+    cache: Cache,
+    free: FreePages,
+    ghost log_is: { log.layout ≡ layout },
+    ghost pages: { layout.pages ≡ length free },
+    ghost small: { layout.pages ≤ 4096 },
+    ghost sectors: { layout.sectors ≤ (⟦<MemoryMachine as Machine>⟧.report m).sectors },
+    ghost frames: { 192 ≤ cache.frames },
+    ghost unpinned: { (page : ℕ) → pins_of cache page ≡ 0 },
+}
+
+impl Desk {
+    /// A table of one empty leaf.
+    pub fn new(alloc: Global) -> Result<Desk, Fail> {
+        let layout = Layout::plan(2048, 200, PAGES)?;
+        let mut m = machine(alloc)?;
+        attached(&mut m, &layout)?;
+        format(&mut m, &layout)?;
+        let log = Log::scan(alloc, &mut m, &layout)?;
+        let cache = Cache::new(alloc, 192)?;
+        let free = all_but_first(alloc)?;
+        if layout.pages() != PAGES || free.pages() != PAGES {
+            return Err(Fail::new("the table has other pages"));
+        }
+        Ok(Desk {
+            m,
+            log,
+            layout,
+            cache,
+            free,
+        })
+    }
+
+    /// Another run over what the machine has, once what waits is written home, with a cache that has no page.
+    pub fn again(self, alloc: Global, events: &[Event]) -> Result<Desk, Fail> {
+        let Desk {
+            mut m,
+            log,
+            layout,
+            cache,
+            free,
+        } = self;
+        write_waiting(&mut m, &layout, &cache)?;
+        let mut m = m.again(events.to_vec(alloc)?, Vec::new(alloc));
+        attached(&mut m, &layout)?;
+        let cache = Cache::new(alloc, 192)?;
+        Ok(Desk {
+            m,
+            log,
+            layout,
+            cache,
+            free,
+        })
+    }
+
+    /// The answer of a call.
+    pub fn call(&mut self, call: &Call) -> Result<Answer, Failed>
+        requires { IsFormed call.now }
+    {
+        make_room(&mut self.m, &self.layout, &mut self.cache)?;
+        let home_a = self.home_a();
+        let source = Newest::over(&self.log, &self.layout);
+        Ok(call_in(
+            &mut self.m,
+            &mut self.cache,
+            &source,
+            home_a,
+            &mut self.free,
+            call,
+        ))
+    }
+
+    /// Marks the pages that page 0 leads to, and counts their entries.
+    pub fn walk(&mut self, marks: &mut [bool]) -> Result<u32, TreeFault>
+        requires whole { length marks.old ≡ length self.old.free }
+        requires clear { AreMarksOf [] marks.old }
+    {
+        let home_a = self.home_a();
+        let source = Newest::over(&self.log, &self.layout);
+        walk_in(
+            &mut self.m,
+            &mut self.cache,
+            &source,
+            home_a,
+            &mut self.free,
+            marks,
+        )
+    }
+
+    /// The bytes of a page.
+    pub fn image(&mut self, page: u32) -> Result<[u8; 512], Refusal>
+        requires { page < length self.old.free }
+    {
+        let home_a = self.home_a();
+        let source = Newest::over(&self.log, &self.layout);
+        image_in(
+            &mut self.m,
+            &mut self.cache,
+            &source,
+            home_a,
+            &mut self.free,
+            page,
+        )
+    }
+
+    /// What is answered where so many spare pages are asked for.
+    pub fn spare(&mut self, count: u32) -> Result<(), Refusal> {
+        let home_a = self.home_a();
+        let source = Newest::over(&self.log, &self.layout);
+        spare_in(
+            &mut self.m,
+            &mut self.cache,
+            &source,
+            home_a,
+            &mut self.free,
+            count,
+        )
+    }
+
+    /// The sector of page 0.
+    pub fn home_a(&self) -> u32 {
+        16 + 3 * self.layout.third()
+    }
+
+    /// How many pages are free.
+    pub fn free_count(&self) -> u32 {
+        self.free.count()
+    }
+
+    /// How many pages the table has.
+    pub fn count(&self) -> u32
+        ensures { result ≡ length self.now.free }
+    {
+        self.free.pages()
+    }
+}
+
+// A machine whose sectors are all damaged, on which nothing wears.
+fn machine(alloc: Global) -> Result<MemoryMachine, AllocError> {
+    let image = vec![in alloc; Sector::Damaged; 2048]?;
+    let (runs, events, input) = (Vec::new(alloc), Vec::new(alloc), Vec::new(alloc));
+    Ok(MemoryMachine::with_runs(alloc, image, runs, events, input))
+}
+
+// All pages but page 0.
+fn all_but_first(alloc: Global) -> Result<FreePages, AllocError> {
+    let mut free = FreePages::new(alloc, PAGES)?;
+    for page in 1..PAGES {
+        if page < free.pages() && !free.has(page) {
+            free.add(page);
+        }
+    }
+    Ok(free)
+}
+
+// The machine attaches its image.
+fn attached(m: &mut MemoryMachine, layout: &Layout) -> Result<(), Fail>
+    ensures { OnOk result (layout.now.sectors ≤ (⟦<MemoryMachine as Machine>⟧.report m.new).sectors) }
+{
+    let sectors = m.attach("t", Attach::Old)?;
+    if sectors < layout.sectors() {
+        return Err(Fail::new("the image is too short"));
+    }
+    Ok(())
+}
+
+// Writes each page home: page 0 is an empty leaf, and the others are free.
+fn format<M: Machine>(m: &mut M, layout: &Layout) -> Result<(), Failed>
+    requires { layout.now.sectors ≤ (M.report m.old).sectors }
+    ensures { (M.report m.new).sectors ≡ (M.report m.old).sectors }
+{
+    let _log = layout.sectors();
+    if layout.pages() == 0 {
+        return Ok(());
+    }
+    let sector = anchor_bytes(&Anchor {
+        epoch: 2,
+        third: 0,
+        first: 1,
+    });
+    m.write(12, &sector)?;
+    let mut first = [0; 512];
+    write_leaf(0, &[], &mut first);
+    write_home(m, layout, 0, &first)?;
+    for page in 1..layout.pages() {
+        let mut image = [0; 512];
+        write_free(page, &mut image);
+        write_home(m, layout, page, &image)?;
+    }
+    Ok(())
+}

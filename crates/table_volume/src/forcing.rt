@@ -1,0 +1,72 @@
+//! The force of a volume.
+ghost use Rattle.std.specs.Prelude.{◌≡◌, ◌≤◌, IfOk, IsTrue, length};
+ghost use Rattle.volume_contract.specs.State.{GoesOn, downs};
+ghost use Rattle.volume_contract.specs.Order.{Follows, force_steps, is_idle};
+ghost use Rattle.table_volume.specs.Forcing.{force_refusal, place_of};
+ghost use Rattle.table_volume.specs.State.{state};
+
+use crate::Volume;
+use crate::freeing::free_committed;
+use fsd_bytes::Refusal;
+use group_commit::{ForceFault, Group};
+use sector_disk::Machine;
+use volume_contract::Forced;
+
+// What is said of a force's fault.
+fn force_refusal(fault: ForceFault) -> Refusal
+    ensures { result ≡ force_refusal fault }
+{
+    match fault {
+        ForceFault::Device(place) => Refusal::Device(place),
+        ForceFault::Lost { a, b } => Refusal::Lost { a, b },
+    }
+}
+
+// Where a volume is down by it.
+fn place_of(fault: ForceFault) -> u32
+    ensures { result ≡ place_of fault }
+{
+    match fault {
+        ForceFault::Device(place) => place,
+        ForceFault::Lost { a, b: _ } => a,
+    }
+}
+
+impl Volume {
+    /// Commits all changes since the last force, where there were any. It takes no memory.
+    pub fn force<M: Machine>(&mut self, m: &mut M) -> Result<Forced, Refusal>
+        requires { (state self.old).layout.sectors ≤ (M.report m.old).sectors }
+        ensures order { Follows (force_steps (state self.old)) result }
+        ensures pages { IfOk result (λ forced. forced.pages ≡ length (state self.old).dirty) }
+        ensures state { GoesOn (downs result) (state self.old) (state self.new) }
+        ensures idle { IsTrue (is_idle (force_steps (state self.old))) → m.new ≡ m.old }
+    {
+        self.is_up()?;
+        if self.cache.dirty_list().len() == 0 {
+            return Ok(Forced { pages: 0 });
+        }
+        match Group::force_cached(m, &mut self.log, &mut self.cache, &mut self.room) {
+            Ok(forced) => {
+                free_committed(&mut self.map, &mut self.shadow);
+                Ok(Forced {
+                    pages: forced.pages,
+                })
+            }
+            Err(fault) => {
+                self.down = Some(place_of(fault));
+                Err(force_refusal(fault))
+            }
+        }
+    }
+
+    /// A force, as time goes on.
+    pub fn tick<M: Machine>(&mut self, m: &mut M) -> Result<Forced, Refusal>
+        requires { (state self.old).layout.sectors ≤ (M.report m.old).sectors }
+        ensures order { Follows (force_steps (state self.old)) result }
+        ensures pages { IfOk result (λ forced. forced.pages ≡ length (state self.old).dirty) }
+        ensures state { GoesOn (downs result) (state self.old) (state self.new) }
+        ensures idle { IsTrue (is_idle (force_steps (state self.old))) → m.new ≡ m.old }
+    {
+        self.force(m)
+    }
+}

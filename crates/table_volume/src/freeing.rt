@@ -1,0 +1,41 @@
+//! What a force makes free.
+ghost use Rattle.std.specs.Prelude.{◌≡◌, ◌<◌, ◌||◌, ◌∷◌, [], ℕ, None, replicate, IsFalse, IsTrue};
+ghost use Rattle.run_table.specs.Space.{contains};
+ghost use Rattle.sector_set.specs.Area.{AreOut, IsOwn, area, together};
+ghost use Rattle.shadow_frees.specs.Readers.{unheld};
+ghost use Rattle.shadow_frees.specs.Waits.{run_between};
+
+use alloc_map::Map;
+use run_table::{Run, Runs};
+use shadow_frees::Shadow;
+
+// The run from a sector to another is free.
+fn release_between(map: &mut Map, start: u32, end: u32)
+    requires order { start < end }
+    requires out { AreOut map.old (run_between (start, end) ∷ []) }
+    ensures { map.new ≡ together map.old (run_between (start, end) ∷ []) }
+{
+    let mut runs = Runs::new();
+    runs.push(Run {
+        start,
+        length: end - start,
+    });
+    map.release(&runs);
+}
+
+/// Behind a force: what waited for it and nobody holds is free, and no more of it waits.
+pub(crate) fn free_committed(map: &mut Map, shadow: &mut Shadow)
+    requires own { IsOwn map.old }
+    requires from { shadow.old.removed.from ≡ map.old.from }
+    requires to { shadow.old.removed.to ≡ map.old.to }
+    requires apart { (s : ℕ) → IsTrue (contains map.old.sectors s) → IsFalse (contains shadow.old.removed.sectors s) }
+    ensures map { map.new ≡ area map.old.from map.old.to (λ s. contains map.old.sectors s || contains (unheld shadow.old.held shadow.old.removed).sectors s) }
+    ensures removed { shadow.new.removed ≡ record { from = map.old.from; to = map.old.to; sectors = [] } }
+    ensures kept { shadow.old.held ≡ replicate 8 None → shadow.old.kept.sectors ≡ [] → shadow.new.kept ≡ shadow.old.kept }
+    ensures unfinished { shadow.new.unfinished ≡ shadow.old.unfinished }
+    ensures held { shadow.new.held ≡ shadow.old.held }
+{
+    while let Some((start, end)) = shadow.committed() {
+        release_between(map, start, end);
+    }
+}

@@ -1,0 +1,261 @@
+-- How a group that was done goes on to the last line of its run.
+use Rattle.std.proofs.Common.{◌≡◌, ◌⊎◌, inl, inr, ⊎_elim, ℕ, suc, ◌<◌, ◌≤◌, Bool, true, false, List, [], ◌∷◌, ◌++◌, length, map, take, Option, Some, refl, sym, ◌∙◌, ap, subst, arith, append_assoc, length-append}
+use Rattle.std.specs.Prelude.{◌==◌, if◌then◌else◌, IsSome, Err, slice_get}
+use Rattle.std.proofs.lemmas.Bool.{cases_lt, eq-eqb}
+use Rattle.std.proofs.lemmas.List.{append-nil, take_all}
+use Rattle.sector_disk.specs.declared.machine.Machine.{Ghosts}
+use Rattle.sector_disk.specs.Calls.{Counts, LeavesDisk}
+use Rattle.sector_disk.specs.Image.{AreShort, Windows}
+use Rattle.sector_disk.specs.Machine.{LeavesOnly, Moment, Report, Rose, Utters}
+use Rattle.sector_disk.proofs.Moments.{leaves_more, then_on}
+use Rattle.sector_disk.proofs.Wear.{AllWorn-worn}
+use Rattle.fsd_files.specs.Answers.{Met}
+use Rattle.fsd_files.specs.Disk.{Image, Sectors, in_runs}
+use Rattle.fsd_files.specs.Files.{Change}
+use Rattle.fsd_files.specs.Volume.{Volume}
+use Rattle.fsd_sound.specs.Mounted.{telling_of}
+use Rattle.fsd_sound.specs.Shown.{told}
+use Rattle.fsd_sound.specs.Sound.{EndIn, IsSound, weak_of}
+use Rattle.fsd_sound.proofs.MoreLaws.{wear_sound}
+use Rattle.fsd_sound.proofs.WindowLaws.{open_is_weak}
+use Rattle.fsd_texts.specs.declared.command.Command.{Command}
+use Rattle.fsd_texts.specs.declared.fault.Fault.{Fault}
+use Rattle.fsd_texts.specs.declared.fault.Fault.TheVariants as Ends
+use Rattle.fsd_texts.specs.declared.line.Line.{Line}
+use Rattle.fsd_texts.specs.Text.{memory_text, text}
+use Rattle.fsd_runs.specs.Commands.{answer}
+use Rattle.fsd_runs.specs.declared.request.Request.{Request}
+use Rattle.fsd_runs.specs.Errands.{Answered, answered_so, Ending, Errand, Turn, blank, forced_turn, line_turn}
+use Rattle.fsd_runs.specs.Leaves.{IsBroken, IsUnsaid, SaysNext}
+use Rattle.fsd_runs.specs.Runs.{Goes, answered, behind, changes_in, said_in, turns_begun, turns_of, turn_of}
+use Rattle.volume_contract.specs.State.{Known, volume_of}
+use Rattle.volume_turns.specs.Group.{turns_behind}
+use Rattle.volume_turns.specs.declared.turns.End.TheVariants.{Fault as Stopped, Output}
+use Rattle.volume_turns.specs.Line.{EndsWith, UttersFault, is_unsaid}
+use Rattle.volume_turns.specs.Once.{IsDone}
+use Rattle.volume_turns.specs.Turns.{EndsAtOnce, InRun, Said, SaysAll, Told}
+use Rattle.volume_turns.specs.Whole.{EndsLast, Finishes, Halted, SaysOut, UttersLast}
+use Rattle.volume_turns.proofs.HaltLaws.{broken_ends, broken_moments, said_halts, said_halts_whole, says_part}
+use Rattle.volume_turns.proofs.LineLaws.{next_fault}
+use Rattle.volume_turns.proofs.TurnLaws.{forced_most, says_nothing, take_front}
+
+-- ---- the turns of a group and of its end
+
+-- the errand of a group, ended so
+abbrev pub ended_as : Errand → List Command → (List Answered → Ending) → Errand
+ended_as e commands ends = record { commands = commands; says = e.says; forces = e.forces; ends = ends }
+
+pub turns_are : (e : Errand) (v : Volume) (mets : List Met) (commands done : List Command) → answered mets v done ≡ answered mets v commands → (ends : List Answered → Ending) (more : List Turn) → (ends (answered mets v done)).turns ≡ forced_turn ∷ more
+    → (through : Bool) → through ≡ (length (answered mets v done) == length done) → turns_of (ended_as e done ends) mets v ≡ turns_begun e mets v commands ++ turns_behind through more
+turns_are e v mets commands done same ends more is through all =
+    ap (λ (xs : List Answered). map (turn_of e) xs ++ (if length (answered mets v done) == length done then (ends (answered mets v done)).turns else blank ∷ [])) same
+    ∙ ap (λ (xs : List Turn). turns_begun e mets v commands ++ xs) (by through all)
+  where
+    by : (b : Bool) → b ≡ (length (answered mets v done) == length done) → (if length (answered mets v done) == length done then (ends (answered mets v done)).turns else blank ∷ []) ≡ turns_behind b more
+    by true t = ap (λ (c : Bool). if c then (ends (answered mets v done)).turns else blank ∷ []) (sym t) ∙ is
+    by false t = ap (λ (c : Bool). if c then (ends (answered mets v done)).turns else blank ∷ []) (sym t)
+
+-- ---- commands that were cut off
+
+pub answered_cut : (mets : List Met) (v : Volume) (commands : List Command) → answered mets v (take (length mets) commands) ≡ answered mets v commands
+answered_cut [] v commands = refl
+answered_cut (met ∷ mets) v [] = refl
+answered_cut (met ∷ mets) v (c ∷ commands) = ap (λ (xs : List Answered). answered_so c (answer met v c).0 ∷ xs) (answered_cut mets (answer met v c).1 commands)
+
+pub behind_cut : (mets : List Met) (v : Volume) (commands : List Command) → behind mets v (take (length mets) commands) ≡ behind mets v commands
+behind_cut [] v commands = refl
+behind_cut (met ∷ mets) v [] = refl
+behind_cut (met ∷ mets) v (c ∷ commands) = behind_cut mets (answer met v c).1 commands
+
+module _ (H : Sectors) (P : Moment → Type 0) (e : Errand) where
+  pub goes_length : (L : Volume → Image → Type 0) (said : List ℕ) (i : Image) (v : Volume) (mets : List Met) (commands : List Command) → Goes H P L e said i v mets commands → length (answered mets v commands) ≡ length mets
+  goes_length L said i v [] commands goes = refl
+  goes_length L said i v (met ∷ mets) [] goes = absurd goes
+  goes_length L said i v (met ∷ mets) (c ∷ commands) goes = ap (λ (n : ℕ). suc n) (goes_length L (said ++ e.says (answer met v c).0) goes.0 (answer met v c).1 mets commands goes.2)
+
+  -- as far as they were begun
+  pub goes_cut : (L N : Volume → Image → Type 0) → ((v : Volume) (i : Image) → L v i → N v i) → (said : List ℕ) (i : Image) (v : Volume) (mets : List Met) (commands : List Command) → Goes H P L e said i v mets commands → Goes H P N e said i v mets (take (length mets) commands)
+  goes_cut L N last said i v [] commands goes = last v i goes
+  goes_cut L N last said i v (met ∷ mets) [] goes = absurd goes
+  goes_cut L N last said i v (met ∷ mets) (c ∷ commands) goes = (goes.0, goes.1, goes_cut L N last (said ++ e.says (answer met v c).0) goes.0 (answer met v c).1 mets commands goes.2)
+
+  pub goes_within : (L : Volume → Image → Type 0) (said : List ℕ) (i : Image) (v : Volume) (mets : List Met) (commands : List Command) → Goes H P L e said i v mets commands → length (take (length mets) commands) ≡ length mets
+  goes_within L said i v [] commands goes = refl
+  goes_within L said i v (met ∷ mets) [] goes = absurd goes
+  goes_within L said i v (met ∷ mets) (c ∷ commands) goes = ap (λ (n : ℕ). suc n) (goes_within L (said ++ e.says (answer met v c).0) goes.0 (answer met v c).1 mets commands goes.2)
+
+-- ---- a last line
+
+said_snoc : (turns : List Turn) (t : Turn) → said_in (turns ++ t ∷ []) ≡ said_in turns ++ t.said
+said_snoc [] t = append-nil t.said
+said_snoc (u ∷ turns) t = ap (λ (x : List ℕ). u.said ++ x) (said_snoc turns t) ∙ sym (append_assoc u.said (said_in turns) t.said)
+
+changes_snoc : (turns : List Turn) (t : Turn) → t.changes ≡ [] → changes_in (turns ++ t ∷ []) ≡ changes_in turns
+changes_snoc [] t none = append-nil t.changes ∙ none
+changes_snoc (u ∷ turns) t none = ap (λ (x : List Change). u.changes ++ x) (changes_snoc turns t none)
+
+length_snoc : (turns : List Turn) (t : Turn) → length (turns ++ t ∷ []) ≡ suc (length turns)
+length_snoc turns t = let sum = length-append turns (t ∷ []) in omega (arith, sum)
+
+slice_last : (turns : List Turn) (t : Turn) → slice_get (turns ++ t ∷ []) (length turns) ≡ Some t
+slice_last [] t = refl
+slice_last (u ∷ turns) t = slice_last turns t
+
+-- where all is said and forced
+pub said_done : (k : Known) (front : List Turn) (after : Volume) (old now : Moment) → IsDone k front after old now → Said k front old now
+said_done k front after old now d = record {
+  windows = d.windows;
+  whole = length front;
+  most = omega arith;
+  said = d.said ∙ ap (λ (x : List Turn). old.said ++ said_in x) (sym (take_all (length front) front (omega arith)));
+  forced = length (k.changes ++ changes_in front);
+  least = let sum = length-append k.changes (changes_in front) in omega (arith, sum);
+  enough = λ any. let sum = length-append k.changes (changes_in front) in let few = forced_most (take (length front) front) in
+      let same : length (changes_in (take (length front) front)) ≡ length (changes_in front) = ap (λ (x : List Turn). length (changes_in x)) (take_all (length front) front (omega arith)) in omega (arith, sum, few, same);
+  sound = subst (λ (x : List Turn). IsSound k.mounted.volume.layout k.windows (k.changes ++ changes_in x) (length (k.changes ++ changes_in front)) now.image) (sym (take_all (suc (length front)) front (omega arith))) d.sound;
+}
+
+module _ (k : Known) (front : List Turn) (line : Line) (after : Volume) (old mid : Moment) (d : IsDone k front after old mid) (short : AreShort mid.windows) (ends : EndIn old.windows k.windows) where
+  abbrev t : Turn
+  t = line_turn line
+
+  abbrev turns : List Turn
+  turns = front ++ t ∷ []
+
+  halted : Halted k turns old mid
+  halted = said_halts k front t [] refl old mid (said_done k front after old mid d)
+
+  whole_is : halted.whole ≡ length front
+  unfolding halted said_done
+  whole_is = said_halts_whole k front t [] refl old mid (said_done k front after old mid d)
+
+  ends_mid : EndIn mid.windows k.windows
+  ends_mid = subst (λ (w : Windows). EndIn w k.windows) (sym d.windows) ends
+
+  all_changes : k.changes ++ changes_in turns ≡ k.changes ++ changes_in front
+  all_changes = ap (λ (h : List Change). k.changes ++ h) (changes_snoc front t refl)
+
+  worn : (left : Moment) → Utters t.said mid left → IsSound k.mounted.volume.layout k.windows (k.changes ++ changes_in turns) (length (k.changes ++ changes_in turns)) left.image
+  worn left utters = subst (λ (h : List Change). IsSound k.mounted.volume.layout k.windows h (length h) left.image) (sym all_changes)
+      (wear_sound k.mounted.volume.layout k.windows (k.changes ++ changes_in front) (length (k.changes ++ changes_in front)) mid.windows mid.image left.image short ends_mid utters.image d.sound)
+
+  every : (n : ℕ) → suc (length front) ≤ n → take n turns ≡ turns
+  every n le = let long = length_snoc front t in take_all n turns (omega (arith, long, le))
+
+  all_said : (said : List ℕ) → said ≡ mid.said ++ t.said → said ≡ old.said ++ said_in turns
+  all_said said is = is ∙ ap (λ (x : List ℕ). x ++ t.said) d.said ∙ append_assoc old.said (said_in front) t.said ∙ ap (λ (x : List ℕ). old.said ++ x) (sym (said_snoc front t))
+
+  -- the whole line is said
+  in_all : (left : Moment) → Utters t.said mid left → left.said ≡ mid.said ++ t.said → InRun k turns old left
+  in_all left utters said = record {
+    windows = utters.windows ∙ d.windows;
+    whole = suc (length front);
+    part = [];
+    said = all_said left.said said ∙ ap (λ (x : List Turn). old.said ++ said_in x) (sym (every (suc (length front)) (omega arith))) ∙ ap (λ (x : List ℕ). old.said ++ x) (sym (append-nil (said_in (take (suc (length front)) turns))));
+    next = says_nothing (slice_get turns (suc (length front)));
+    forced = length (k.changes ++ changes_in turns);
+    least = let sum = length-append k.changes (changes_in turns) in omega (arith, sum);
+    enough = λ any. let sum = length-append k.changes (changes_in turns) in let few = forced_most (take (suc (length front)) turns) in
+        let same : length (changes_in (take (suc (length front)) turns)) ≡ length (changes_in turns) = ap (λ (x : List Turn). length (changes_in x)) (every (suc (length front)) (omega arith)) in omega (arith, sum, few, same);
+    sound = subst (λ (x : List Turn). IsSound k.mounted.volume.layout k.windows (k.changes ++ changes_in x) (length (k.changes ++ changes_in turns)) left.image) (sym (every (suc (suc (length front))) (omega arith))) (worn left utters);
+  }
+
+  in_some : (left : Moment) → Utters t.said mid left → (heard : ℕ) → left.said ≡ mid.said ++ take heard t.said → heard < length t.said → InRun k turns old left
+  in_some left utters heard said short_of = says_part k turns old mid halted short ends (take heard t.said) left utters.image utters.windows said
+      (subst (λ (n : ℕ). SaysNext (slice_get turns n) (take heard t.said)) (sym whole_is) (subst (λ (o : Option Turn). SaysNext o (take heard t.said)) (sym (slice_last front t)) (inl (heard, short_of, refl))))
+
+  pub on_last : (left : Moment) → UttersLast line mid left → InRun k turns old left
+  on_last left (inl utters) = ⊎_elim (λ few. in_some left utters utters.heard utters.said few) (λ long. in_all left utters (utters.said ∙ ap (λ (b : List ℕ). mid.said ++ b) (take_all utters.heard t.said long))) (cases_lt utters.heard (length t.said))
+  on_last left (inr utters) = says_part k turns old mid halted short ends (take utters.heard memory_text) left utters.image utters.windows utters.said
+      (next_fault (slice_get turns halted.whole) halted.more (take utters.heard memory_text) (Ends.Memory, utters.heard, tt, refl))
+
+  pub done_last : (new : Moment) → SaysAll (text line) mid new → IsDone k turns after old new
+  done_last new says = record {
+    windows = says.ages.windows ∙ d.windows;
+    said = all_said new.said says.said;
+    sound = worn new (record { image = says.ages.image; windows = says.ages.windows; heard = length t.said; said = says.said ∙ ap (λ (x : List ℕ). mid.said ++ x) (sym (take_all (length t.said) t.said (omega arith))) });
+    tells = d.lasts new.image (open_is_weak mid.windows k.windows mid.image new.image ends_mid says.ages.image);
+    lasts = AllWorn-worn (weak_of k.windows) (λ j. told k.mounted.volume.layout j ≡ Some (telling_of after)) mid.image new.image (open_is_weak mid.windows k.windows mid.image new.image ends_mid says.ages.image) d.lasts;
+  }
+
+module _ {D : Type 0} (M : Ghosts D) (request : Request) (before : Report) (k : Known) (front : List Turn) (line : Line) (after : Volume) (gives : ℕ) (a m b : D) (moments : LeavesOnly M.moment M.left_since a m (InRun k (front ++ line_turn line ∷ []) (M.now a)))
+    (d : IsDone k front after (M.now a) (M.now m)) (short : AreShort (M.now m).windows) (ends : EndIn (M.now a).windows k.windows) (counted : before.output_faults ≤ (M.report m).output_faults)
+    (status : ℕ) (says : LeavesDisk M false (is_unsaid status) (UttersLast line) m b) (honest : M.honest b) where
+  pub last_moments : LeavesOnly M.moment M.left_since a b (InRun k (front ++ line_turn line ∷ []) (M.now a))
+  last_moments = then_on M.moment M.left_since a m b (InRun k (front ++ line_turn line ∷ []) (M.now a)) moments
+      (leaves_more M.moment M.left_since m b (UttersLast line (M.now m)) (InRun k (front ++ line_turn line ∷ []) (M.now a)) (λ left utters. on_last k front line after (M.now a) (M.now m) d short ends left utters) (says.any_moment honest))
+
+  unsaid : status ≡ 6 → IsUnsaid before (M.report b) status
+  unsaid six =
+      let rose : Rose (M.report m).output_faults (M.report b).output_faults = subst (λ (x : Bool). Counts x (M.report m).output_faults (M.report b).output_faults) (eq-eqb status 6 six) says.spares.output in
+      record { ends = six; rose = omega (arith, counted, rose) }
+
+  refused : status ≡ 7 → SaysAll memory_text (M.now m) (M.now b) → IsBroken request before (M.report b) (front ++ line_turn line ∷ []) (M.now a) (M.now b) status
+  refused seven all = record {
+    why = Ends.Memory;
+    outside = tt;
+    ends = seven;
+    says = record {
+      whole = length front;
+      more = subst (λ (o : Option Turn). IsSome o) (sym (slice_last front (line_turn line))) refl;
+      said = all.said ∙ ap (λ (x : List ℕ). x ++ memory_text) d.said ∙ append_assoc (M.now a).said (said_in front) memory_text
+          ∙ ap (λ (x : List Turn). (M.now a).said ++ (said_in x ++ memory_text)) (sym (take_front front (line_turn line ∷ [])));
+    };
+  }
+
+  pub last_ends : EndsLast line gives (M.now m) (M.now b) status
+      → ((status ≡ gives) × IsDone k (front ++ line_turn line ∷ []) after (M.now a) (M.now b)) ⊎ (IsUnsaid before (M.report b) status ⊎ IsBroken request before (M.report b) (front ++ line_turn line ∷ []) (M.now a) (M.now b) status)
+  last_ends (inl six) = inr (inl (unsaid six))
+  last_ends (inr (inl said)) = inl (said.0, done_last k front line after (M.now a) (M.now m) d short ends (M.now b) said.1)
+  last_ends (inr (inr memory)) = inr (inr (refused memory.0 memory.1))
+
+  -- the errand is done, and its last line is said
+  pub finishes_last : (e : Errand) (Last : Volume → Image → Type 0) (mets : List Met) → turns_of e mets (volume_of k) ≡ front ++ line_turn line ∷ []
+      → ((t : ℕ) → t ≤ M.moment a → Goes (in_runs k.windows) (M.left_since b t) Last e (M.now a).said (M.now a).image (volume_of k) mets e.commands)
+      → length mets ≡ length e.commands → gives ≡ (e.ends (answered mets (volume_of k) e.commands)).status → after ≡ behind mets (volume_of k) e.commands → EndsLast line gives (M.now m) (M.now b) status → Finishes M request e Last before k a b status
+  finishes_last e Last mets is goes through gives_is after_is ended = record {
+    mets = mets;
+    goes = goes;
+    moments = subst (λ (ts : List Turn). LeavesOnly M.moment M.left_since a b (InRun k ts (M.now a))) (sym is) last_moments;
+    ends = by (last_ends ended);
+  }
+    where
+      by : ((status ≡ gives) × IsDone k (front ++ line_turn line ∷ []) after (M.now a) (M.now b)) ⊎ (IsUnsaid before (M.report b) status ⊎ IsBroken request before (M.report b) (front ++ line_turn line ∷ []) (M.now a) (M.now b) status)
+          → SaysOut e k mets (M.now a) (M.now b) status ⊎ (IsUnsaid before (M.report b) status ⊎ IsBroken request before (M.report b) (turns_of e mets (volume_of k)) (M.now a) (M.now b) status)
+      by (inl done) = inl (record {
+        through = through;
+        gives = done.0 ∙ gives_is;
+        done = subst (λ (ts : List Turn). IsDone k ts (behind mets (volume_of k) e.commands) (M.now a) (M.now b)) (sym is) (subst (λ (v : Volume). IsDone k (front ++ line_turn line ∷ []) v (M.now a) (M.now b)) after_is done.1);
+      })
+      by (inr (inl u)) = inr (inl u)
+      by (inr (inr x)) = inr (inr (subst (λ (ts : List Turn). IsBroken request before (M.report b) ts (M.now a) (M.now b) status) (sym is) x))
+
+-- a fault has ended it at once
+halted_behind : (k : Known) (front : List Turn) (through : Bool) (more : List Turn) (old now : Moment) → Said k front old now → Halted k (front ++ turns_behind through more) old now
+halted_behind k front true more old now said = said_halts k front forced_turn more refl old now said
+halted_behind k front false more old now said = said_halts k front blank [] refl old now said
+
+pub finishes_broken : {D T : Type 0} (M : Ghosts D) (request : Request) (before : Report) (k : Known) (front : List Turn) (through : Bool) (more : List Turn) (a m b : D) → LeavesOnly M.moment M.left_since a m (InRun k (front ++ turns_behind through more) (M.now a)) → Said k front (M.now a) (M.now m)
+    → AreShort (M.now m).windows → EndIn (M.now a).windows k.windows → (why : Fault) → EndsAtOnce why → Told {T = T} before (M.report m) (Err (Stopped why)) → (status : ℕ) → LeavesDisk M false (is_unsaid status) (UttersFault why) m b → M.honest b → EndsWith why (M.now m) (M.now b) status
+    → (e : Errand) (Last : Volume → Image → Type 0) (mets : List Met) → turns_of e mets (volume_of k) ≡ front ++ turns_behind through more
+    → ((t : ℕ) → t ≤ M.moment a → Goes (in_runs k.windows) (M.left_since b t) Last e (M.now a).said (M.now a).image (volume_of k) mets e.commands) → Finishes M request e Last before k a b status
+finishes_broken M request before k front through more a m b moments said short ends why once told status says honest ended e Last mets is goes =
+    let turns = front ++ turns_behind through more in
+    let halted = halted_behind k front through more (M.now a) (M.now m) said in
+    record {
+      mets = mets;
+      goes = goes;
+      moments = subst (λ (ts : List Turn). LeavesOnly M.moment M.left_since a b (InRun k ts (M.now a))) (sym is) (broken_moments M request before k turns a m b moments halted short ends why once told status says honest ended);
+      ends = inr (subst (λ (ts : List Turn). IsUnsaid before (M.report b) status ⊎ IsBroken request before (M.report b) ts (M.now a) (M.now b) status) (sym is) (broken_ends M request before k turns a m b moments halted short ends why once told status says honest ended));
+    }
+
+-- the output has failed
+pub finishes_unsaid : {D T : Type 0} (M : Ghosts D) (request : Request) (before : Report) (k : Known) (said : List Turn) (a b : D) → LeavesOnly M.moment M.left_since a b (InRun k said (M.now a)) → Told {T = T} before (M.report b) (Err Output)
+    → (e : Errand) (Last : Volume → Image → Type 0) (mets : List Met) → turns_of e mets (volume_of k) ≡ said
+    → ((t : ℕ) → t ≤ M.moment a → Goes (in_runs k.windows) (M.left_since b t) Last e (M.now a).said (M.now a).image (volume_of k) mets e.commands) → Finishes M request e Last before k a b 6
+finishes_unsaid M request before k said a b moments told e Last mets is goes = record {
+  mets = mets;
+  goes = goes;
+  moments = subst (λ (ts : List Turn). LeavesOnly M.moment M.left_since a b (InRun k ts (M.now a))) (sym is) moments;
+  ends = inr (inl (record { ends = refl; rose = told.output }));
+}

@@ -1,0 +1,132 @@
+-- A run that stands between two turns, and the line that is said then.
+use Rattle.std.proofs.Common.{◌≡◌, ◌⊎◌, inl, inr, ℕ, zero, suc, ◌+◌, ◌≤◌, Bool, false, List, [], ◌∷◌, ◌++◌, length, take, refl, sym, ◌∙◌, ap, subst, arith, append_assoc}
+use Rattle.std.specs.Prelude.{IsSome, IsTrue, Err, slice_get}
+use Rattle.std.specs.List.{list_any}
+use Rattle.std.proofs.lemmas.Bool.{eq-eqb}
+use Rattle.sector_disk.specs.declared.machine.Machine.{Ghosts}
+use Rattle.sector_disk.specs.Calls.{Counts, LeavesDisk}
+use Rattle.sector_disk.specs.Image.{AreShort, IsWorn, Windows, open_damage}
+use Rattle.sector_disk.specs.Machine.{LeavesOnly, Moment, Report, Rose}
+use Rattle.sector_disk.proofs.Moments.{leaves_more, then_on}
+use Rattle.fsd_files.specs.Files.{Change}
+use Rattle.fsd_sound.specs.Sound.{EndIn, IsSound}
+use Rattle.fsd_sound.proofs.MoreLaws.{wear_sound}
+use Rattle.fsd_texts.specs.declared.fault.Fault.{Fault}
+use Rattle.fsd_texts.specs.declared.fault.Fault.TheVariants as Ends
+use Rattle.fsd_texts.specs.Text.{fault_text}
+use Rattle.fsd_runs.specs.declared.request.Request.{Request}
+use Rattle.fsd_runs.specs.Errands.{Turn, fault_status}
+use Rattle.fsd_runs.specs.Leaves.{IsBroken, IsOutside, IsUnsaid, SaysNext}
+use Rattle.fsd_runs.specs.Runs.{changes_in, forced_in, said_in}
+use Rattle.volume_contract.specs.State.{Known}
+use Rattle.volume_turns.specs.declared.turns.End.TheVariants.{Fault as Stopped}
+use Rattle.volume_turns.specs.Line.{EndsWith, UttersFault, is_unsaid}
+use Rattle.volume_turns.specs.Turns.{EndsAtOnce, InRun, Said, SaysAll, Told}
+use Rattle.volume_turns.specs.Whole.{Halted}
+use Rattle.volume_turns.proofs.LineLaws.{at_once_ends, next_fault, said_ends}
+
+-- ---- where a run stands
+
+take_within : (turns more : List Turn) (n : ℕ) → n ≤ length turns → take n (turns ++ more) ≡ take n turns
+take_within turns more zero le = refl
+take_within [] more (suc n) le = absurd (omega (arith, le))
+take_within (u ∷ turns) more (suc n) le = ap (λ (x : List Turn). u ∷ x) (take_within turns more n (omega (arith, le)))
+
+some_within : (turns : List Turn) (t : Turn) (more : List Turn) (n : ℕ) → n ≤ length turns → IsSome (slice_get (turns ++ t ∷ more) n)
+some_within [] t more zero le = refl
+some_within [] t more (suc n) le = absurd (omega (arith, le))
+some_within (u ∷ turns) t more zero le = refl
+some_within (u ∷ turns) t more (suc n) le = some_within turns t more n (omega (arith, le))
+
+changes_within : (turns : List Turn) (t : Turn) (more : List Turn) → t.changes ≡ [] → (n : ℕ) → n ≤ length turns → changes_in (take (suc n) (turns ++ t ∷ more)) ≡ changes_in (take (suc n) turns)
+changes_within [] t more none zero le = ap (λ (x : List Change). x ++ []) none
+changes_within [] t more none (suc n) le = absurd (omega (arith, le))
+changes_within (u ∷ turns) t more none zero le = refl
+changes_within (u ∷ turns) t more none (suc n) le = ap (λ (x : List Change). u.changes ++ x) (changes_within turns t more none n (omega (arith, le)))
+
+-- turns said whole, with one more behind them that changes nothing
+pub said_halts : (k : Known) (turns : List Turn) (t : Turn) (more : List Turn) → t.changes ≡ [] → (old now : Moment) → Said k turns old now → Halted k (turns ++ t ∷ more) old now
+said_halts k turns t more none old now x =
+    let front = take_within turns (t ∷ more) x.whole x.most in
+    record {
+      windows = x.windows;
+      whole = x.whole;
+      more = some_within turns t more x.whole x.most;
+      said = x.said ∙ ap (λ (ts : List Turn). old.said ++ said_in ts) (sym front);
+      forced = x.forced;
+      least = x.least;
+      enough = subst (λ (ts : List Turn). IsTrue (list_any (λ u. u.forces) ts) → length k.changes + forced_in ts ≤ x.forced) (sym front) x.enough;
+      sound = subst (λ (h : List Change). IsSound k.mounted.volume.layout k.windows (k.changes ++ h) x.forced now.image) (sym (changes_within turns t more none x.whole x.most)) x.sound;
+    }
+
+pub said_halts_whole : (k : Known) (turns : List Turn) (t : Turn) (more : List Turn) (none : t.changes ≡ []) (old now : Moment) (x : Said k turns old now) → (said_halts k turns t more none old now x).whole ≡ x.whole
+unfolding said_halts
+said_halts_whole k turns t more none old now x = refl
+
+-- ---- while a text is said there
+
+module _ (k : Known) (turns : List Turn) (old mid : Moment) (halted : Halted k turns old mid) (short : AreShort mid.windows) (ends : EndIn old.windows k.windows) where
+  ends_mid : EndIn mid.windows k.windows
+  ends_mid = subst (λ (w : Windows). EndIn w k.windows) (sym halted.windows) ends
+
+  -- a part of what comes next
+  pub says_part : (part : List ℕ) (left : Moment) → IsWorn (open_damage mid.windows) mid.image left.image → left.windows ≡ mid.windows → left.said ≡ mid.said ++ part → SaysNext (slice_get turns halted.whole) part → InRun k turns old left
+  says_part part left worn windows said next = record {
+    windows = windows ∙ halted.windows;
+    whole = halted.whole;
+    part = part;
+    said = said ∙ ap (λ (x : List ℕ). x ++ part) halted.said ∙ append_assoc old.said (said_in (take halted.whole turns)) part;
+    next = next;
+    forced = halted.forced;
+    least = halted.least;
+    enough = halted.enough;
+    sound = wear_sound k.mounted.volume.layout k.windows (k.changes ++ changes_in (take (suc halted.whole) turns)) halted.forced mid.windows mid.image left.image short ends_mid worn halted.sound;
+  }
+
+  -- the line of a fault
+  pub says_fault : (why : Fault) → EndsAtOnce why → (left : Moment) → UttersFault why mid left → InRun k turns old left
+  says_fault why once left (said, which, utters) =
+      let part = take utters.heard (fault_text said) in
+      says_part part left utters.image utters.windows utters.said (next_fault (slice_get turns halted.whole) halted.more part (said, utters.heard, said_ends why said (at_once_ends why once) which, refl))
+
+-- ---- a fault that ends a run at once
+
+module _ {D T : Type 0} (M : Ghosts D) (request : Request) (before : Report) (k : Known) (turns : List Turn) (a m b : D) (moments : LeavesOnly M.moment M.left_since a m (InRun k turns (M.now a))) (halted : Halted k turns (M.now a) (M.now m))
+    (short : AreShort (M.now m).windows) (ends : EndIn (M.now a).windows k.windows) (why : Fault) (once : EndsAtOnce why) (told : Told {T = T} before (M.report m) (Err (Stopped why)))
+    (status : ℕ) (says : LeavesDisk M false (is_unsaid status) (UttersFault why) m b) (honest : M.honest b) (ended : EndsWith why (M.now m) (M.now b) status) where
+  pub broken_moments : LeavesOnly M.moment M.left_since a b (InRun k turns (M.now a))
+  broken_moments = then_on M.moment M.left_since a m b (InRun k turns (M.now a)) moments
+      (leaves_more M.moment M.left_since m b (UttersFault why (M.now m)) (InRun k turns (M.now a)) (λ left utters. says_fault k turns (M.now a) (M.now m) halted short ends why once left utters) (says.any_moment honest))
+
+  outside : (said : Fault) → EndsAtOnce said → said ≡ why → IsOutside request before (M.report b) said
+  outside (Ends.Device s) at_once is =
+      let fault : Told {T = T} before (M.report m) (Err (Stopped (Ends.Device s))) = subst (λ (x : Fault). Told {T = T} before (M.report m) (Err (Stopped x))) (sym is) told in
+      record { rose = subst (λ (n : ℕ). Rose before.disk_faults n) (sym says.spares.disk) fault.disk.rose; told = fault.disk.told ∙ sym says.spares.place }
+  outside Ends.Memory at_once is = tt
+  outside said at_once is = absurd at_once
+
+  unsaid : status ≡ 6 → IsUnsaid before (M.report b) status
+  unsaid six =
+      let rose : Rose (M.report m).output_faults (M.report b).output_faults = subst (λ (x : Bool). Counts x (M.report m).output_faults (M.report b).output_faults) (eq-eqb status 6 six) says.spares.output in
+      let later = told.later in
+      record { ends = six; rose = omega (arith, later, rose) }
+
+  broken : (said : Fault) → IsOutside request before (M.report b) said → status ≡ fault_status said → SaysAll (fault_text said) (M.now m) (M.now b) → IsBroken request before (M.report b) turns (M.now a) (M.now b) status
+  broken said out gives all = record {
+    why = said;
+    outside = out;
+    ends = gives;
+    says = record {
+      whole = halted.whole;
+      more = halted.more;
+      said = all.said ∙ ap (λ (x : List ℕ). x ++ fault_text said) halted.said ∙ append_assoc (M.now a).said (said_in (take halted.whole turns)) (fault_text said);
+    };
+  }
+
+  by_end : EndsWith why (M.now m) (M.now b) status → IsUnsaid before (M.report b) status ⊎ IsBroken request before (M.report b) turns (M.now a) (M.now b) status
+  by_end (inl six) = inl (unsaid six)
+  by_end (inr (said, inl is, gives, all)) = inr (broken said (outside said (subst EndsAtOnce (sym is) once) is) gives all)
+  by_end (inr (said, inr is, gives, all)) = inr (broken Ends.Memory tt (gives ∙ ap fault_status is) (subst (λ (w : Fault). SaysAll (fault_text w) (M.now m) (M.now b)) is all))
+
+  pub broken_ends : IsUnsaid before (M.report b) status ⊎ IsBroken request before (M.report b) turns (M.now a) (M.now b) status
+  broken_ends = by_end ended

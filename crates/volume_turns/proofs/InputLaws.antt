@@ -1,0 +1,191 @@
+-- What a version of the input's bytes leaves: it is one command, or the input is too long.
+use Rattle.std.proofs.Common.{◌≡◌, ◌⊎◌, inl, inr, ℕ, ◌<◌, ◌≤◌, Bool, true, false, List, [], ◌∷◌, ◌++◌, length, Option, Some, None, refl, sym, ◌∙◌, ap, subst, arith}
+use Rattle.fsd_log.specs.Scan.{Placed}
+use Rattle.std.specs.Prelude.{if◌then◌else◌, nat_lt, IsSome, Err, slice_get}
+use Rattle.std.proofs.lemmas.Bool.{lt-ltb, ltb-true}
+use Rattle.std.proofs.lemmas.List.{append-nil}
+use Rattle.volume_layout.specs.declared.layout.Layout.{Layout}
+use Rattle.sector_disk.specs.declared.machine.Machine.{Ghosts}
+use Rattle.sector_disk.specs.declared.sector.WeakRun.{WeakRun}
+use Rattle.sector_disk.specs.Calls.{LeavesDisk, WritesDisk}
+use Rattle.sector_disk.specs.Image.{AreShort}
+use Rattle.sector_disk.specs.Machine.{LeavesOnly, Moment, Report}
+use Rattle.sector_disk.proofs.Moments.{leaves_more}
+use Rattle.sector_disk.proofs.Wear.{AllWorn-here}
+use Rattle.fsd_bytes.specs.declared.refusal.Refusal.{Refusal}
+use Rattle.fsd_bytes.specs.declared.refusal.Refusal.TheVariants as Why
+use Rattle.fsd_files.specs.Answers.{Met}
+use Rattle.fsd_files.specs.Disk.{in_runs}
+use Rattle.fsd_files.specs.Files.{Change}
+use Rattle.fsd_files.specs.Volume.{Volume}
+use Rattle.fsd_sound.specs.Mounted.{Mounted, telling_of}
+use Rattle.fsd_sound.specs.Shown.{told}
+use Rattle.fsd_sound.specs.Sound.{IsSound, weak_of}
+use Rattle.fsd_texts.specs.declared.command.Command.{Command}
+use Rattle.fsd_texts.specs.declared.command.Command.TheVariants as Word
+use Rattle.fsd_texts.specs.declared.fault.Fault.{Fault}
+use Rattle.fsd_texts.specs.declared.fault.Fault.TheVariants as Ends
+use Rattle.fsd_texts.specs.declared.line.Line.TheVariants as Says
+use Rattle.fsd_texts.specs.Script.{max_input}
+use Rattle.fsd_runs.specs.declared.request.Request.TheVariants.{One, Put}
+use Rattle.fsd_runs.specs.Errands.{Cut, Errand, MayCut, Turn, alone, errand_of, line_turn, nothing_but}
+use Rattle.fsd_runs.specs.Leaves.{IsBroken, IsOutside, IsReplied, IsUnsaid, LeavesMounted, LeavesRun, LeavesUnmounted, Left, LeftSince}
+use Rattle.fsd_runs.specs.Runs.{Goes, IsCutAt, answered, behind, errand_in, turns_of}
+use Rattle.volume_contract.specs.Ends.{Closes, device_of}
+use Rattle.volume_contract.specs.Order.{IsDevice}
+use Rattle.volume_contract.specs.State.{State, Known, Leaves, Stands, volume_of}
+use Rattle.volume_turns.specs.declared.turns.End.TheVariants.{Fault as Stopped}
+use Rattle.volume_turns.specs.Line.{EndsWith, UttersFault, is_unsaid}
+use Rattle.volume_turns.specs.Once.{InClose, IsDone, close_fault}
+use Rattle.volume_turns.specs.Steps.{device_told}
+use Rattle.volume_turns.specs.Turns.{InRun, Told}
+use Rattle.volume_turns.specs.Whole.{EndsLast, Finishes, RunsOut, UttersLast}
+use Rattle.volume_turns.proofs.GroupEndLaws.{finishes_last}
+use Rattle.volume_turns.proofs.GroupLaws.{goes_wider}
+use Rattle.volume_turns.proofs.HaltLaws.{broken_ends, broken_moments, said_halts}
+use Rattle.volume_turns.proofs.OnceLaws.{close_moments, device_ends}
+use Rattle.volume_turns.proofs.TurnLaws.{in_close, said_nothing}
+
+-- ---- what a put of the input asks for
+
+pub asks_one : (name : List ℕ) (keep : Option ℕ) (input : List ℕ) → length input ≤ max_input → errand_of (Put name keep) input ≡ alone (Word.Put name input keep)
+asks_one name keep input few = by (nat_lt max_input (length input)) refl
+  where
+    by : (b : Bool) → nat_lt max_input (length input) ≡ b → errand_of (Put name keep) input ≡ alone (Word.Put name input keep)
+    by true is = absurd (let more = ltb-true max_input (length input) is in omega (arith, few, more))
+    by false is = ap (λ (b : Bool). if b then nothing_but Ends.InputTooLong else alone (Word.Put name input keep)) is
+
+pub asks_none : (name : List ℕ) (keep : Option ℕ) (input : List ℕ) → max_input < length input → errand_of (Put name keep) input ≡ nothing_but Ends.InputTooLong
+asks_none name keep input many = ap (λ (b : Bool). if b then nothing_but Ends.InputTooLong else alone (Word.Put name input keep)) (lt-ltb max_input (length input) many)
+
+-- ---- one command
+
+outside_put : (name : List ℕ) (keep : Option ℕ) (c : Command) (before after : Report) (why : Fault) → IsOutside (One c) before after why → IsOutside (Put name keep) before after why
+outside_put name keep c before after (Ends.Device s) o = o
+outside_put name keep c before after Ends.Memory o = tt
+outside_put name keep c before after why o = absurd o
+
+broken_put : (name : List ℕ) (keep : Option ℕ) (c : Command) (before after : Report) {turns : List Turn} {old new : Moment} {result : ℕ} → IsBroken (One c) before after turns old new result → IsBroken (Put name keep) before after turns old new result
+broken_put name keep c before after x = record { why = x.why; outside = outside_put name keep c before after x.why x.outside; ends = x.ends; says = x.says }
+
+module _ (name : List ℕ) (keep : Option ℕ) (input rest : List ℕ) (few : length input ≤ max_input) (l : Layout) (windows : List WeakRun) (h : List Change) (f : ℕ) (Past : ℕ → Moment → Type 0) (Only : (Moment → Type 0) → Type 0) (before after : Report) (old new : Moment) (result : ℕ) where
+  abbrev c : Command
+  c = Word.Put name input keep
+
+  abbrev e : Errand
+  e = errand_of (Put name keep) input
+
+  unmounted_put : LeavesUnmounted (One c) l windows h f Only before after old new result → LeavesUnmounted (Put name keep) l windows h f Only before after old new result
+  unmounted_put u = record {
+    moments = u.moments;
+    exit = u.exit;
+    ends = elim u.ends [ inl spent ↦ inl spent | inr over ↦ inr (elim over [ inl unsaid ↦ inl unsaid | inr x ↦ inr (broken_put name keep c before after x) ]) ];
+  }
+
+  same_errand : (cut : Cut) → MayCut (One c) cut → e ≡ errand_in (One c) [] cut
+  same_errand None may = asks_one name keep input few
+  same_errand (Some (k, why)) may = absurd may
+
+  abbrev All : Errand → ℕ → List Met → Volume → Type 0
+  All x count mets v = ((length mets ≡ length x.commands) × IsReplied l windows h count (turns_of x mets v) ((x.ends (answered mets v x.commands)).status) (behind mets v x.commands) old new result)
+      ⊎ (IsUnsaid before after result ⊎ IsBroken (One c) before after (turns_of x mets v) old new result)
+
+  mounted_put : LeavesMounted (One c) [] rest l windows h f Past Only before after old new result → LeavesMounted (Put name keep) input rest l windows h f Past Only before after old new result
+  mounted_put o =
+      let same : errand_in (One c) [] o.run.cut ≡ e = sym (same_errand o.run.cut o.run.may) in
+      record {
+        count = o.count;
+        prefix = o.prefix;
+        next = o.next;
+        at = o.at;
+        from = o.from;
+        stood = o.stood;
+        settled = o.settled;
+        raised = o.raised;
+        volume = o.volume;
+        starts = o.starts;
+        run = record {
+          cut = None;
+          may = tt;
+          before = tt;
+          mets = o.run.mets;
+          goes = subst (λ (x : Errand). Goes (in_runs (windows ++ o.next ∷ [])) (Past o.at) (IsCutAt None) x old.said o.from o.volume o.run.mets x.commands) same
+              (goes_wider (in_runs (windows ++ o.next ∷ [])) (Past o.at) (Past o.at) (λ m was. was) (IsCutAt o.run.cut) (IsCutAt None) (λ v i is. tt) (errand_in (One c) [] o.run.cut) old.said o.from o.volume o.run.mets (errand_in (One c) [] o.run.cut).commands o.run.goes);
+        };
+        cause = tt;
+        moments = subst (λ (x : Errand). Only (Left l windows h f o.count (turns_of x o.run.mets o.volume) old)) same o.moments;
+        later = λ left past. subst (λ (x : Errand). LeftSince l windows h o.count (turns_of x o.run.mets o.volume) old left) same (o.later left past);
+        exit = subst (λ (x : Errand). LeftSince l windows h o.count (turns_of x o.run.mets o.volume) old new) same o.exit;
+        ends = over (subst (λ (x : Errand). All x o.count o.run.mets o.volume) same o.ends);
+      }
+    where
+      over : {A B : Type 0} {turns : List Turn} → A ⊎ (B ⊎ IsBroken (One c) before after turns old new result) → A ⊎ (B ⊎ IsBroken (Put name keep) before after turns old new result)
+      over (inl x) = inl x
+      over (inr (inl u)) = inr (inl u)
+      over (inr (inr x)) = inr (inr (broken_put name keep c before after x))
+
+  pub put_run : LeavesRun (One c) [] rest l windows h f Past Only before after old new result → LeavesRun (Put name keep) input rest l windows h f Past Only before after old new result
+  put_run (inl u) = inl (unmounted_put u)
+  put_run (inr o) = inr (mounted_put o)
+
+-- ---- an input that is too long
+
+-- the place of the disk that a close's fault tells
+pub device_close : (why : Refusal) → IsDevice why → device_of why ≡ device_told (close_fault why)
+device_close (Why.Device s) is = refl
+device_close why is = absurd is
+
+module _ {S D : Type 0} (state : S → State) (has : S → Mounted → List Placed → Type 0) (M : Ghosts D) (name : List ℕ) (keep : Option ℕ) (input rest : List ℕ) (many : max_input < length input) (v : S) (a m b : D) (k : Known) (stands : Stands state has v k (M.now a))
+    (may : ℕ → Bool) (fault : Option ℕ) (disk : WritesDisk M fault (Leaves state has v may) a m) (back : M.honest m) (honest : M.honest b) (short : AreShort (M.now m).windows) (status : ℕ) where
+  abbrev none : Errand
+  none = nothing_but Ends.InputTooLong
+
+  abbrev t : Turn
+  t = line_turn (Says.Ended Ends.InputTooLong)
+
+  moments : LeavesOnly M.moment M.left_since a m (InRun k (t ∷ []) (M.now a))
+  moments = leaves_more M.moment M.left_since a m (InClose k t.said (M.now a)) (InRun k (t ∷ []) (M.now a))
+      (λ left c. in_close k k [] t [] refl refl refl (sym (append-nil k.changes)) (omega arith) (λ any. absurd (cc any)) (M.now a) (M.now a) left refl (sym (append-nil (M.now a).said)) c)
+      (close_moments state has M v a m m k stands t.said may fault disk back)
+
+  abbrev Over : Type 0
+  Over = RunsOut M (Put name keep) input rest (M.report a) k a b status
+
+  pub refused_input : Closes k (M.now m).image → LeavesDisk M false (is_unsaid status) (UttersLast (Says.Ended Ends.InputTooLong)) m b → EndsLast (Says.Ended Ends.InputTooLong) 5 (M.now m) (M.now b) status → Over
+  refused_input closes says ended = record {
+    cut = None;
+    may = tt;
+    ahead = tt;
+    cause = tt;
+    finishes = subst (λ (x : Errand). Finishes M (Put name keep) x (IsCutAt None) (M.report a) k a b status) (sym (asks_none name keep input many))
+        (finishes_last M (Put name keep) (M.report a) k [] (Says.Ended Ends.InputTooLong) (volume_of k) 5 a m b moments done short stands.ends (let same = disk.uses.output in omega (arith, same)) status says honest none (IsCutAt None) [] refl (λ t le. tt) refl refl refl ended);
+  }
+    where
+      done : IsDone k [] (volume_of k) (M.now a) (M.now m)
+      done = record {
+        windows = disk.windows back;
+        said = disk.quiet back ∙ sym (append-nil (M.now a).said);
+        sound = subst (λ (h : List Change). IsSound k.mounted.volume.layout k.windows h (length h) (M.now m).image) (sym (append-nil k.changes)) closes.sound;
+        tells = AllWorn-here (weak_of k.windows) (λ j. told k.mounted.volume.layout j ≡ Some (telling_of (volume_of k))) (M.now m).image closes.tells;
+        lasts = closes.tells;
+      }
+
+  pub refused_broken : (why : Refusal) → IsDevice why → Told {T = Unit {0}} (M.report a) (M.report m) (Err (Stopped (close_fault why))) → LeavesDisk M false (is_unsaid status) (UttersFault (close_fault why)) m b → EndsWith (close_fault why) (M.now m) (M.now b) status → Over
+  refused_broken why is told says ended =
+      let halted = said_halts k [] t [] refl (M.now a) (M.now m) (said_nothing k (M.now a) (M.now m) (let l = disk.exit back k stands in record { sound = l.sound; windows = l.windows; said = l.said })) in
+      record {
+        cut = None;
+        may = tt;
+        ahead = tt;
+        cause = tt;
+        finishes = subst (λ (x : Errand). Finishes M (Put name keep) x (IsCutAt None) (M.report a) k a b status) (sym (asks_none name keep input many)) (record {
+          mets = [];
+          goes = λ t le. tt;
+          moments = broken_moments M (Put name keep) (M.report a) k (t ∷ []) a m b moments halted short stands.ends (close_fault why) (device_ends why is) told status says honest ended;
+          ends = inr (broken_ends M (Put name keep) (M.report a) k (t ∷ []) a m b moments halted short stands.ends (close_fault why) (device_ends why is) told status says honest ended);
+        });
+      }
+
+-- the run has a turn to say, whatever the volume
+pub some_refusal : (name : List ℕ) (keep : Option ℕ) (input : List ℕ) → max_input < length input → (v : Volume) → IsSome (slice_get (turns_of (errand_of (Put name keep) input) [] v) 0)
+some_refusal name keep input many v = subst (λ (x : Errand). IsSome (slice_get (turns_of x [] v) 0)) (sym (asks_none name keep input many)) refl

@@ -1,0 +1,100 @@
+-- What one command leaves, from the mounted volume to the last line.
+use Rattle.std.proofs.Common.{◌≡◌, inl, inr, false, ℕ, suc, ◌≤◌, List, [], ◌∷◌, ◌++◌, length, take, None, refl, sym, ◌∙◌, subst, arith}
+use Rattle.std.specs.Prelude.{IsSome, Result, Ok, Err, slice_get}
+use Rattle.std.proofs.lemmas.List.{append-nil, take_all}
+use Rattle.sector_disk.specs.declared.machine.Machine.{Ghosts}
+use Rattle.sector_disk.specs.Calls.{LeavesDisk, Since}
+use Rattle.sector_disk.specs.Image.{AreShort}
+use Rattle.sector_disk.specs.Machine.{Moment}
+use Rattle.fsd_files.specs.Disk.{in_runs}
+use Rattle.fsd_files.specs.Volume.{Volume}
+use Rattle.fsd_sound.specs.Sound.{EndIn, IsSound}
+use Rattle.fsd_texts.specs.declared.command.Command.{Command}
+use Rattle.fsd_texts.specs.declared.fault.Fault.{Fault}
+use Rattle.fsd_runs.specs.declared.request.Request.TheVariants.{One}
+use Rattle.fsd_runs.specs.Errands.{Turn, alone, errand_of}
+use Rattle.fsd_runs.specs.Runs.{Goes, IsCutAt, changes_in, turns_of}
+use Rattle.volume_contract.specs.State.{Known, volume_of}
+use Rattle.volume_turns.specs.declared.turns.End.{End}
+use Rattle.volume_turns.specs.declared.turns.End.TheVariants.{Fault as Stopped, Output}
+use Rattle.volume_turns.specs.Line.{EndsWith, UttersFault, is_unsaid}
+use Rattle.volume_turns.specs.Once.{Anything, IsAlone}
+use Rattle.volume_turns.specs.Turns.{InRun, Told}
+use Rattle.volume_turns.specs.Whole.{Halted, RunsOut}
+use Rattle.volume_turns.proofs.GroupEndLaws.{finishes_unsaid}
+use Rattle.volume_turns.proofs.GroupLaws.{goes_wider}
+use Rattle.volume_turns.proofs.HaltLaws.{broken_ends, broken_moments}
+use Rattle.volume_turns.proofs.LineLaws.{alone_length}
+
+first_of : (turns : List Turn) → length turns ≡ 1 → IsSome (slice_get turns 0)
+first_of [] one = cc one
+first_of (t ∷ turns) one = refl
+
+-- the run has a turn to say, whatever the volume
+pub some_one : (c : Command) (v : Volume) → IsSome (slice_get (turns_of (errand_of (One c) []) [] v) 0)
+some_one c v = first_of (turns_of (alone c) [] v) (alone_length c [] v)
+
+-- where nothing of its one turn is said
+halted_one : (k : Known) (turns : List Turn) → length turns ≡ 1 → (old now : Moment) → now.said ≡ old.said → InRun k turns old now → Halted k turns old now
+halted_one k turns one old now quiet r =
+    let same : take (suc r.whole) turns ≡ take 1 turns = take_all (suc r.whole) turns (omega (arith, one)) ∙ sym (take_all 1 turns (omega (arith, one))) in
+    record {
+      windows = r.windows;
+      whole = 0;
+      more = first_of turns one;
+      said = quiet ∙ sym (append-nil old.said);
+      forced = r.forced;
+      least = r.least;
+      enough = λ any. absurd (cc any);
+      sound = subst (λ (ts : List Turn). IsSound k.mounted.volume.layout k.windows (k.changes ++ changes_in ts) r.forced now.image) same r.sound;
+    }
+
+module _ {D : Type 0} (M : Ghosts D) (c : Command) (rest : List ℕ) (k : Known) (a p b : D) (since : Since M p b) where
+  went : {r : Result ℕ End} → (one : IsAlone M c k a p r) → (t : ℕ) → t ≤ M.moment a → Goes (in_runs k.windows) (M.left_since b t) (IsCutAt None) (alone c) (M.now a).said (M.now a).image (volume_of k) one.mets (c ∷ [])
+  went one t le = let later = one.moments.later in
+      goes_wider (in_runs k.windows) (M.left_since p t) (M.left_since b t) (λ x was. since t x (omega (arith, le, later)) was) Anything (IsCutAt None) (λ v i is. tt) (alone c) (M.now a).said (M.now a).image (volume_of k) one.mets (c ∷ []) (one.goes t le)
+
+  pub one_broken : M.honest b → AreShort (M.now p).windows → EndIn (M.now a).windows k.windows → M.left_since p (M.moment a) (M.now p) → (why : Fault) → IsAlone M c k a p (Err (Stopped why)) → {T : Type 0} → Told {T = T} (M.report a) (M.report p) (Err (Stopped why))
+      → (status : ℕ) → LeavesDisk M false (is_unsaid status) (UttersFault why) p b → EndsWith why (M.now p) (M.now b) status → RunsOut M (One c) [] rest (M.report a) k a b status
+  one_broken honest short ends here why one told status says ended =
+      let turns = turns_of (alone c) one.mets (volume_of k) in
+      let halted = halted_one k turns (alone_length c one.mets (volume_of k)) (M.now a) (M.now p) one.ends.1 (one.moments.each (M.now p) here) in
+      record {
+        cut = None;
+        may = tt;
+        ahead = tt;
+        cause = tt;
+        finishes = record {
+          mets = one.mets;
+          goes = went one;
+          moments = broken_moments M (One c) (M.report a) k turns a p b one.moments halted short ends why one.ends.0 told status says honest ended;
+          ends = inr (broken_ends M (One c) (M.report a) k turns a p b one.moments halted short ends why one.ends.0 told status says honest ended);
+        };
+      }
+
+module _ {D : Type 0} (M : Ghosts D) (c : Command) (rest : List ℕ) (k : Known) (a b : D) where
+  still : Since M b b
+  still t left le was = was
+
+  pub one_said : (status : ℕ) → IsAlone M c k a b (Ok status) → RunsOut M (One c) [] rest (M.report a) k a b status
+  one_said status one = record {
+    cut = None;
+    may = tt;
+    ahead = tt;
+    cause = tt;
+    finishes = record {
+      mets = one.mets;
+      goes = went M c rest k a b b still one;
+      moments = one.moments;
+      ends = inl (record { through = one.ends.0; gives = one.ends.1; done = one.ends.2 });
+    };
+  }
+
+  pub one_unsaid : {T : Type 0} → IsAlone M c k a b (Err Output) → Told {T = T} (M.report a) (M.report b) (Err Output) → RunsOut M (One c) [] rest (M.report a) k a b 6
+  one_unsaid one told = record {
+    cut = None;
+    may = tt;
+    ahead = tt;
+    cause = tt;
+    finishes = finishes_unsaid M (One c) (M.report a) k (turns_of (alone c) one.mets (volume_of k)) a b one.moments told (alone c) (IsCutAt None) one.mets refl (went M c rest k a b b still one);
+  }

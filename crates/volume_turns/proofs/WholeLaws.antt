@@ -1,0 +1,332 @@
+-- What a whole run leaves: its mount, and what it did over the mounted volume.
+use Rattle.std.proofs.Common.{◌≡◌, ◌⊎◌, inl, inr, Bool, false, ℕ, ◌+◌, ◌≤◌, List, [], ◌∷◌, ◌++◌, length, take, Option, Some, None, refl, sym, ◌∙◌, ap, subst, arith, length-append}
+use Rattle.fsd_log.specs.Scan.{Placed}
+use Rattle.std.specs.Prelude.{IsSome, Ok, Err, slice_get}
+use Rattle.std.proofs.lemmas.Bool.{eq-eqb}
+use Rattle.std.proofs.lemmas.List.{append-nil}
+use Rattle.volume_layout.specs.declared.layout.Layout.{Layout}
+use Rattle.sector_disk.specs.declared.machine.Machine.{Ghosts}
+use Rattle.sector_disk.specs.declared.sector.WeakRun.{WeakRun}
+use Rattle.sector_disk.specs.Calls.{Counts, DiskFaults, LeavesDisk, Since}
+use Rattle.sector_disk.specs.Image.{AreShort, Windows}
+use Rattle.sector_disk.specs.Machine.{LeavesOnly, Moment, Report, Rose, UsesDisk}
+use Rattle.sector_disk.proofs.Moments.{leaves_more, started, then_on}
+use Rattle.fsd_files.specs.Disk.{in_runs}
+use Rattle.fsd_files.specs.Files.{Change}
+use Rattle.fsd_files.specs.Volume.{Volume}
+use Rattle.fsd_sound.specs.Mounted.{Mounted, telling_of}
+use Rattle.fsd_sound.specs.Mounting.{device_of_mount}
+use Rattle.fsd_sound.specs.Shown.{told}
+use Rattle.fsd_sound.specs.Sound.{EndIn, IsPrefixOf, IsSound}
+use Rattle.fsd_sound.specs.declared.fault.MountFault.{MountFault}
+use Rattle.fsd_sound.specs.declared.fault.MountFault.TheVariants as Refused
+use Rattle.fsd_sound.proofs.MoreLaws.{sound_more, wear_sound}
+use Rattle.fsd_sound.proofs.MountedLaws.{fresh_mounted, mounted_sound}
+use Rattle.fsd_sound.proofs.WindowLaws.{last_snoc}
+use Rattle.fsd_texts.specs.declared.fault.Fault.{Fault}
+use Rattle.fsd_texts.specs.declared.fault.Fault.TheVariants as Ends
+use Rattle.fsd_texts.specs.Text.{fault_text}
+use Rattle.fsd_runs.specs.declared.request.Request.{Request}
+use Rattle.fsd_runs.specs.declared.request.Request.TheVariants.{Put}
+use Rattle.fsd_runs.specs.Errands.{Cut, Turn, blank, errand_of, fault_status}
+use Rattle.fsd_runs.specs.Leaves.{CutCause, IsBroken, IsOutside, IsReplied, IsSpent, IsUnsaid, Left, LeavesRun, LeftBefore, LeftSince}
+use Rattle.fsd_runs.specs.Runs.{Goes, IsCutAt, IsThrough, Run, changes_in, errand_in, run_end, run_status, run_turns, said_in, turns_of}
+use Rattle.volume_contract.specs.Mount.{EndsBefore, EndsSettled, Excuses, ExcusesOf, IsSoundAt, MountsSound, Settled, SoundBefore, SoundSince}
+use Rattle.volume_contract.specs.State.{State, Known, Stands, forced_of, volume_of}
+use Rattle.volume_turns.specs.declared.turns.End.TheVariants.{Fault as Stopped}
+use Rattle.volume_turns.specs.Line.{EndsWith, UttersFault, is_unsaid}
+use Rattle.volume_turns.specs.Once.{fault_of}
+use Rattle.volume_turns.specs.Steps.{device_told}
+use Rattle.volume_turns.specs.Turns.{EndsAtOnce, InRun, SaysAll, Told}
+use Rattle.volume_turns.specs.Whole.{Halted, RunsOut, SaysOut}
+use Rattle.volume_turns.proofs.HaltLaws.{broken_ends, broken_moments}
+use Rattle.volume_turns.proofs.LineLaws.{excused, said_ends}
+use Rattle.volume_turns.proofs.MountLaws.{before_left, known_length, nothing_said, run_left, since_left, sound_to, starts}
+use Rattle.volume_turns.proofs.RunLaws.{told_fault}
+use Rattle.volume_turns.proofs.TurnLaws.{in_before}
+
+-- what was said before the mount is all that was said until it had settled
+broken_on_said : (a b : Report) (request : Request) (turns : List Turn) (old mid new : Moment) (status : ℕ) → mid.said ≡ old.said → IsBroken request a b turns mid new status → IsBroken request a b turns old new status
+broken_on_said a b request turns old mid new status quiet x = record {
+  why = x.why;
+  outside = x.outside;
+  ends = x.ends;
+  says = record {
+    whole = x.says.whole;
+    more = x.says.more;
+    said = x.says.said ∙ ap (λ (y : List ℕ). y ++ (said_in (take x.says.whole turns) ++ fault_text x.why)) quiet;
+  };
+}
+
+-- ---- what is counted, from before the mount on
+
+module _ (a m b : Report) (uses : UsesDisk a m) (faults : DiskFaults None a m) where
+  pub unsaid_on : (status : ℕ) → IsUnsaid m b status → IsUnsaid a b status
+  unsaid_on status u = record { ends = u.ends; rose = subst (λ (n : ℕ). Rose n b.output_faults) uses.output u.rose }
+
+  outside_on : (request : Request) (why : Fault) → IsOutside request m b why → IsOutside request a b why
+  outside_on request (Ends.Device s) o = record { rose = subst (λ (n : ℕ). Rose n b.disk_faults) faults.0 o.rose; told = o.told }
+  outside_on request Ends.Memory o = tt
+  outside_on (Put name keep) Ends.Input o = subst (λ (n : ℕ). Rose n b.input_faults) uses.input o
+  outside_on request why o = absurd o
+
+  pub broken_on : (request : Request) {turns : List Turn} {old new : Moment} {status : ℕ} → IsBroken request m b turns old new status → IsBroken request a b turns old new status
+  broken_on request x = record { why = x.why; outside = outside_on request x.why x.outside; ends = x.ends; says = x.says }
+
+  pub cause_on : (cut : Cut) (input rest : List ℕ) → CutCause cut input rest m b → CutCause cut input rest a b
+  cause_on None input rest cause = tt
+  cause_on (Some (k, Ends.Input)) input rest cause = record {
+    rose = subst (λ (n : ℕ). Rose n b.input_faults) uses.input cause.rose;
+    taken = cause.taken;
+    all = cause.all;
+    commands = cause.commands;
+  }
+  cause_on (Some (k, why)) input rest cause = tt
+
+-- the same run, where less was counted before
+pub runs_on : {D : Type 0} (M : Ghosts D) (request : Request) (input rest : List ℕ) (a m : Report) (uses : UsesDisk a m) (faults : DiskFaults None a m) (k : Known) (c b : D) (status : ℕ) → RunsOut M request input rest m k c b status → RunsOut M request input rest a k c b status
+runs_on M request input rest a m uses faults k c b status r = record {
+  cut = r.cut;
+  may = r.may;
+  ahead = r.ahead;
+  cause = cause_on a m (M.report b) uses faults r.cut input rest r.cause;
+  finishes = record { mets = r.finishes.mets; goes = r.finishes.goes; moments = r.finishes.moments; ends = ended r.finishes.ends };
+}
+  where
+    ended : {All : Type 0} {turns : List Turn} {old new : Moment} → All ⊎ (IsUnsaid m (M.report b) status ⊎ IsBroken request m (M.report b) turns old new status) → All ⊎ (IsUnsaid a (M.report b) status ⊎ IsBroken request a (M.report b) turns old new status)
+    ended (inl out) = inl out
+    ended (inr (inl u)) = inr (inl (unsaid_on a m (M.report b) uses faults status u))
+    ended (inr (inr x)) = inr (inr (broken_on a m (M.report b) uses faults request x))
+
+-- ---- it was mounted
+
+module _ {D : Type 0} (M : Ghosts D) (request : Request) (input rest : List ℕ) (l : Layout) (windows : List WeakRun) (h : List Change) (f n : ℕ) (prefix : IsPrefixOf h f n) (k : Known) (a m b : D) (s : Settled l windows h n k (M.now a) (M.now m)) (quiet : (M.now m).said ≡ (M.now a).said)
+    (mount : LeavesOnly M.moment M.left_since a m (λ left. SoundBefore l windows h f (M.now a) left ⊎ SoundSince l windows h n (M.now a) left))
+    (since : Since M m b) (here : M.left_since m (M.moment m) (M.now m)) (now : M.left_since b (M.moment m) (M.now b)) (status : ℕ) (r : RunsOut M request input rest (M.report a) k m b status) where
+  abbrev turns : List Turn
+  turns = turns_of (errand_in request input r.cut) r.finishes.mets (volume_of k)
+
+  on : (left : Moment) → InRun k turns (M.now m) left → LeftSince l windows h n turns (M.now a) left
+  on left x = run_left l windows h f n prefix k (M.now a) (M.now m) s quiet turns left x
+
+  mount_left : LeavesOnly M.moment M.left_since a m (Left l windows h f n turns (M.now a))
+  mount_left = leaves_more M.moment M.left_since a m (λ left. SoundBefore l windows h f (M.now a) left ⊎ SoundSince l windows h n (M.now a) left) (Left l windows h f n turns (M.now a))
+      (λ left x. elim x [ inl y ↦ before_left l windows h f n prefix k (M.now a) (M.now m) s quiet turns left y | inr y ↦ inr (since_left l windows h f n prefix k (M.now a) (M.now m) s quiet turns left y) ]) mount
+
+  abbrev run_is : Run request input (windows ++ s.run ∷ []) (M.left_since b (M.moment m)) (M.now a).said (volume_of k) (M.now m).image
+  run_is = record {
+    cut = r.cut;
+    may = r.may;
+    before = r.ahead;
+    mets = r.finishes.mets;
+    goes = subst (λ (x : List ℕ). Goes (in_runs (windows ++ s.run ∷ [])) (M.left_since b (M.moment m)) (IsCutAt r.cut) (errand_in request input r.cut) x (M.now m).image (volume_of k) r.finishes.mets (errand_in request input r.cut).commands) quiet
+        (subst (λ (x : List WeakRun). Goes (in_runs x) (M.left_since b (M.moment m)) (IsCutAt r.cut) (errand_in request input r.cut) (M.now m).said (M.now m).image (volume_of k) r.finishes.mets (errand_in request input r.cut).commands) s.known (r.finishes.goes (M.moment m) (omega arith)));
+  }
+
+  replied : SaysOut (errand_in request input r.cut) k r.finishes.mets (M.now m) (M.now b) status → IsReplied l windows h n turns (run_status run_is) (run_end run_is) (M.now a) (M.now b) status
+  replied out =
+      let d = out.done in
+      let all : length (k.changes ++ changes_in turns) ≡ n + length (changes_in turns) = let sum = length-append k.changes (changes_in turns) in let known = known_length l windows h f n prefix k (M.now a) (M.now m) s quiet in omega (arith, sum, known) in
+      record {
+        ends = out.gives;
+        said = d.said ∙ ap (λ (x : List ℕ). x ++ said_in turns) quiet;
+        run = s.run;
+        settled = d.windows ∙ s.settled;
+        sound = sound_to k.mounted.volume.layout l k.windows (windows ++ s.run ∷ []) (k.changes ++ changes_in turns) (take n h ++ changes_in turns) (length (k.changes ++ changes_in turns)) (n + length (changes_in turns)) (M.now b).image
+            s.layout s.known (ap (λ (x : List Change). x ++ changes_in turns) s.changes) all d.sound;
+        tells = subst (λ (x : Layout). told x (M.now b).image ≡ Some (telling_of (run_end run_is))) s.layout d.tells;
+      }
+
+  abbrev Over : Type 0
+  Over = IsUnsaid (M.report a) (M.report b) status ⊎ IsBroken request (M.report a) (M.report b) turns (M.now m) (M.now b) status
+
+  ended : SaysOut (errand_in request input r.cut) k r.finishes.mets (M.now m) (M.now b) status ⊎ Over
+      → (IsThrough run_is × IsReplied l windows h n (run_turns run_is) (run_status run_is) (run_end run_is) (M.now a) (M.now b) status) ⊎ (IsUnsaid (M.report a) (M.report b) status ⊎ IsBroken request (M.report a) (M.report b) (run_turns run_is) (M.now a) (M.now b) status)
+  ended (inl out) = inl (out.through, replied out)
+  ended (inr (inl u)) = inr (inl u)
+  ended (inr (inr x)) = inr (inr (broken_on_said (M.report a) (M.report b) request turns (M.now a) (M.now m) (M.now b) status quiet x))
+
+  pub mounted_run : LeavesRun request input rest l windows h f (M.left_since b) (λ P. LeavesOnly M.moment M.left_since a b P) (M.report a) (M.report b) (M.now a) (M.now b) status
+  mounted_run = inr (record {
+    count = n;
+    prefix = prefix;
+    next = s.run;
+    at = M.moment m;
+    from = (M.now m).image;
+    stood = record { moment = M.now m; passed = since (M.moment m) (M.now m) (omega arith) here; image = refl; so_far = quiet };
+    settled = s.settled;
+    raised = s.raised;
+    volume = volume_of k;
+    starts = starts l windows h f n prefix k (M.now a) (M.now m) s quiet;
+    run = run_is;
+    cause = r.cause;
+    moments = then_on M.moment M.left_since a m b (Left l windows h f n turns (M.now a)) mount_left
+        (leaves_more M.moment M.left_since m b (InRun k turns (M.now m)) (Left l windows h f n turns (M.now a)) (λ left x. inr (on left x)) r.finishes.moments);
+    later = λ left past. on left (r.finishes.moments.each left past);
+    exit = on (M.now b) (r.finishes.moments.each (M.now b) now);
+    ends = ended r.finishes.ends;
+  })
+
+-- ---- it was not
+
+-- the place of the disk that a mount's fault tells
+device_is : (fault : MountFault) → device_of_mount fault ≡ device_told (fault_of fault)
+device_is Refused.NotVolume = refl
+device_is Refused.NoAnchor = refl
+device_is (Refused.Lost a b) = refl
+device_is (Refused.Unsound s) = refl
+device_is (Refused.Device s) = refl
+device_is Refused.Memory = refl
+device_is Refused.WornOut = refl
+
+at_once : (fault : MountFault) → Excuses fault → EndsAtOnce (fault_of fault)
+at_once (Refused.Device s) is = tt
+at_once Refused.Memory is = tt
+at_once fault is = absurd is
+
+module _ {S D : Type 0} (state : S → State) (has : S → Mounted → List Placed → Type 0) (M : Ghosts D) (request : Request) (input rest : List ℕ) (l : Layout) (windows : List WeakRun) (h : List Change) (f sectors : ℕ) (a m b : D) (at : IsSoundAt sectors l windows h f (M.now a))
+    (fault : MountFault) (quiet : (M.now m).said ≡ (M.now a).said) (uses : UsesDisk (M.report a) (M.report m)) (faults : DiskFaults (device_of_mount fault) (M.report a) (M.report m)) (status : ℕ) (says : LeavesDisk M false (is_unsaid status) (UttersFault (fault_of fault)) m b)
+    (honest : M.honest b) (short : AreShort (M.now m).windows) (ended : EndsWith (fault_of fault) (M.now m) (M.now b) status) where
+  abbrev why : Fault
+  why = fault_of fault
+
+  told_is : Told {T = Unit {0}} (M.report a) (M.report m) (Err (Stopped why))
+  told_is = told_fault (M.report a) (M.report m) why uses (subst (λ (o : Option ℕ). DiskFaults o (M.report a) (M.report m)) (device_is fault) faults)
+
+  outside : (said : Fault) → EndsAtOnce said → said ≡ why → IsOutside request (M.report a) (M.report b) said
+  outside (Ends.Device s) once is =
+      let counted : Told {T = Unit {0}} (M.report a) (M.report m) (Err (Stopped (Ends.Device s))) = subst (λ (x : Fault). Told {T = Unit {0}} (M.report a) (M.report m) (Err (Stopped x))) (sym is) told_is in
+      record { rose = subst (λ (n : ℕ). Rose (M.report a).disk_faults n) (sym says.spares.disk) counted.disk.rose; told = counted.disk.told ∙ sym says.spares.place }
+  outside Ends.Memory once is = tt
+  outside said once is = absurd once
+
+  unsaid : status ≡ 6 → IsUnsaid (M.report a) (M.report b) status
+  unsaid six =
+      let rose : Rose (M.report m).output_faults (M.report b).output_faults = subst (λ (x : Bool). Counts x (M.report m).output_faults (M.report b).output_faults) (eq-eqb status 6 six) says.spares.output in
+      let later = told_is.later in
+      record { ends = six; rose = omega (arith, later, rose) }
+
+  broken : (said : Fault) → IsOutside request (M.report a) (M.report b) said → status ≡ fault_status said → SaysAll (fault_text said) (M.now m) (M.now b) → IsBroken request (M.report a) (M.report b) (blank ∷ []) (M.now a) (M.now b) status
+  broken said out gives all = record {
+    why = said;
+    outside = out;
+    ends = gives;
+    says = record { whole = 0; more = refl; said = all.said ∙ ap (λ (x : List ℕ). x ++ fault_text said) quiet };
+  }
+
+  -- before it settled
+  module _ (u : EndsBefore state has l windows h f (λ P. LeavesOnly M.moment M.left_since a m P) (M.now a) (M.now m) (Err fault)) where
+    ends_in : EndIn (M.now m).windows windows
+    ends_in = record { last = at.ends.last ∙ sym u.exit.present; some = subst (λ (o : Option WeakRun). IsSome o) (sym u.exit.present) at.ends.some }
+
+    before_only : (left : Moment) → SoundBefore l windows h f (M.now a) left → LeftBefore l windows h f (M.now a) left
+    before_only left x = record { present = x.present; part = []; said = x.said ∙ sym (append-nil (M.now a).said); fault = nothing_said; sound = x.sound }
+
+    on_line : (left : Moment) → UttersFault why (M.now m) left → LeftBefore l windows h f (M.now a) left
+    on_line left (said, which, utters) = record {
+      present = ap (λ (w : Windows). w.present) utters.windows ∙ u.exit.present;
+      part = take utters.heard (fault_text said);
+      said = utters.said ∙ ap (λ (x : List ℕ). x ++ take utters.heard (fault_text said)) quiet;
+      fault = (said, utters.heard, said_ends why said (excused (M.now a).image fault u.why) which, refl);
+      sound = wear_sound l windows h f (M.now m).windows (M.now m).image left.image short ends_in utters.image u.exit.sound;
+    }
+
+    by_fault : (x : MountFault) → ExcusesOf (M.now a).image x → why ≡ fault_of x → status ≡ fault_status why → SaysAll (fault_text why) (M.now m) (M.now b)
+        → IsSpent (M.now a) (M.now b) status ⊎ (IsUnsaid (M.report a) (M.report b) status ⊎ IsBroken request (M.report a) (M.report b) (blank ∷ []) (M.now a) (M.now b) status)
+    by_fault Refused.WornOut last is gives all = inl (record {
+      anchor = last.anchor;
+      taken = last.taken;
+      last = last.last;
+      ends = gives ∙ ap fault_status is;
+      said = all.said ∙ ap (λ (x : List ℕ). x ++ fault_text why) quiet ∙ ap (λ (w : Fault). (M.now a).said ++ fault_text w) is;
+    })
+    by_fault (Refused.Device s) excuse is gives all = inr (inr (broken why (outside why (subst EndsAtOnce (sym is) tt) refl) gives all))
+    by_fault Refused.Memory excuse is gives all = inr (inr (broken why (outside why (subst EndsAtOnce (sym is) tt) refl) gives all))
+    by_fault x excuse is gives all = absurd excuse
+
+    by_end : EndsWith why (M.now m) (M.now b) status → IsSpent (M.now a) (M.now b) status ⊎ (IsUnsaid (M.report a) (M.report b) status ⊎ IsBroken request (M.report a) (M.report b) (blank ∷ []) (M.now a) (M.now b) status)
+    by_end (inl six) = inr (inl (unsaid six))
+    by_end (inr (said, inl is, gives, all)) = by_fault fault u.why refl (gives ∙ ap fault_status is) (subst (λ (w : Fault). SaysAll (fault_text w) (M.now m) (M.now b)) is all)
+    by_end (inr (said, inr is, gives, all)) = inr (inr (broken Ends.Memory tt (gives ∙ ap fault_status is) (subst (λ (w : Fault). SaysAll (fault_text w) (M.now m) (M.now b)) is all)))
+
+    unmounted_run : LeavesRun request input rest l windows h f (M.left_since b) (λ P. LeavesOnly M.moment M.left_since a b P) (M.report a) (M.report b) (M.now a) (M.now b) status
+    unmounted_run = inl (record {
+      moments = then_on M.moment M.left_since a m b (LeftBefore l windows h f (M.now a)) (leaves_more M.moment M.left_since a m (SoundBefore l windows h f (M.now a)) (LeftBefore l windows h f (M.now a)) before_only u.moments)
+          (leaves_more M.moment M.left_since m b (UttersFault why (M.now m)) (LeftBefore l windows h f (M.now a)) on_line (says.any_moment honest));
+      exit = on_line (M.now b) (says.exit honest);
+      ends = by_end ended;
+    })
+
+  -- behind that, while its table was walked
+  module _ (here : M.left_since m (M.moment m) (M.now m)) (now : M.left_since b (M.moment m) (M.now b)) (only : (left : Moment) → M.left_since m (M.moment m) left → left ≡ M.now m)
+      (some : (v : Volume) → IsSome (slice_get (turns_of (errand_of request input) [] v) 0))
+      (e : EndsSettled state has l windows h f (λ P. LeavesOnly M.moment M.left_since a m P) (M.now a) (M.now m) (Err fault)) where
+    abbrev k : Known
+    k = e.known
+
+    abbrev all_turns : List Turn
+    all_turns = turns_of (errand_of request input) [] (volume_of k)
+
+    sound : IsSound k.mounted.volume.layout k.windows k.changes (forced_of k) (M.now m).image
+    sound =
+        let mounted = fresh_mounted k.mounted k.windows k.changes (M.now m).image e.settled.fresh in
+        let all : length k.changes ≡ forced_of k = let none = e.settled.fresh.unforced in omega (arith, none) in
+        subst (λ (x : ℕ). IsSound k.mounted.volume.layout k.windows k.changes x (M.now m).image) all (mounted_sound k.mounted k.windows k.changes (length k.changes) (M.now m).image mounted)
+
+    moments : LeavesOnly M.moment M.left_since m m (InRun k all_turns (M.now m))
+    moments = started M.moment M.left_since m (M.now m) (InRun k all_turns (M.now m)) only (in_before k all_turns (M.now m) (M.now m) (record { sound = sound; windows = refl; said = refl }))
+
+    halted : Halted k all_turns (M.now m) (M.now m)
+    halted = record {
+      windows = refl;
+      whole = 0;
+      more = some (volume_of k);
+      said = sym (append-nil (M.now m).said);
+      forced = forced_of k;
+      least = omega arith;
+      enough = λ any. absurd (cc any);
+      sound = sound_more k.mounted.volume.layout k.windows k.changes (changes_in (take 1 all_turns)) (forced_of k) (M.now m).image sound;
+    }
+
+    ends_k : EndIn (M.now m).windows k.windows
+    ends_k =
+        let present : (M.now m).windows.present ≡ Some e.settled.run = ap (λ (w : Windows). w.present) e.settled.settled in
+        subst (λ (x : List WeakRun). EndIn (M.now m).windows x) (sym e.settled.known)
+        (record { last = last_snoc None windows e.settled.run ∙ sym present; some = subst (λ (x : Option WeakRun). IsSome x) (sym present) refl })
+
+    once : EndsAtOnce why
+    once = at_once fault e.ends
+
+    runs : RunsOut M request input rest (M.report a) k m b status
+    runs = record {
+      cut = None;
+      may = tt;
+      ahead = tt;
+      cause = tt;
+      finishes = record {
+        mets = [];
+        goes = λ t le. tt;
+        moments = broken_moments M request (M.report a) k all_turns m m b moments halted short ends_k why once told_is status says honest ended;
+        ends = inr (broken_ends M request (M.report a) k all_turns m m b moments halted short ends_k why once told_is status says honest ended);
+      };
+    }
+
+    settled_run : LeavesRun request input rest l windows h f (M.left_since b) (λ P. LeavesOnly M.moment M.left_since a b P) (M.report a) (M.report b) (M.now a) (M.now b) status
+    settled_run = mounted_run M request input rest l windows h f e.count e.prefix k a m b e.settled quiet e.moments (says.since honest) here now status runs
+
+  pub refused_run : (here : M.left_since m (M.moment m) (M.now m)) (now : M.left_since b (M.moment m) (M.now b)) (only : (left : Moment) → M.left_since m (M.moment m) left → left ≡ M.now m)
+      (some : (v : Volume) → IsSome (slice_get (turns_of (errand_of request input) [] v) 0)) → MountsSound state has l windows h f (λ P. LeavesOnly M.moment M.left_since a m P) (M.now a) (M.now m) (Err fault)
+      → LeavesRun request input rest l windows h f (M.left_since b) (λ P. LeavesOnly M.moment M.left_since a b P) (M.report a) (M.report b) (M.now a) (M.now b) status
+  refused_run here now only some (inl u) = unmounted_run u
+  refused_run here now only some (inr e) = settled_run here now only some e
+
+-- what a request does over a volume that was just mounted
+pub joined_run : {S D : Type 0} (state : S → State) (has : S → Mounted → List Placed → Type 0) (M : Ghosts D) (request : Request) (input rest : List ℕ) (l : Layout) (windows : List WeakRun) (h : List Change) (f : ℕ) (a m b : D) (v : S)
+    → (M.now m).said ≡ (M.now a).said → UsesDisk (M.report a) (M.report m) → DiskFaults None (M.report a) (M.report m) → Since M m b → M.left_since m (M.moment m) (M.now m) → (M.moment m ≤ M.moment b → M.left_since b (M.moment m) (M.now b)) → (status : ℕ)
+    → MountsSound state has l windows h f (λ P. LeavesOnly M.moment M.left_since a m P) (M.now a) (M.now m) (Ok v) → ((k : Known) → (volume_of k).unforced ≡ 0 → Stands state has v k (M.now m) → RunsOut M request input rest (M.report m) k m b status)
+    → LeavesRun request input rest l windows h f (M.left_since b) (λ P. LeavesOnly M.moment M.left_since a b P) (M.report a) (M.report b) (M.now a) (M.now b) status
+joined_run state has M request input rest l windows h f a m b v quiet uses faults since here now status (inl u) does = absurd u.why
+joined_run state has M request input rest l windows h f a m b v quiet uses faults since here now status (inr e) does =
+    let k = e.known in
+    let r = does k e.settled.fresh.unforced e.ends in
+    mounted_run M request input rest l windows h f e.count e.prefix k a m b e.settled quiet e.moments since here (now r.finishes.moments.later) status (runs_on M request input rest (M.report a) (M.report m) uses faults k m b status r)

@@ -1,0 +1,37 @@
+use Rattle.std.proofs.Common.{Err, sym, subst, arith}
+use Rattle.fsd_texts.specs.declared.fault.Fault.{Fault}
+use Rattle.volume_turns.specs.declared.turns.End.TheVariants.{Fault as Stopped}
+use Rattle.volume_turns.specs.Once.{ClosesAndSays}
+use Rattle.volume_contract.specs.State.{force_writes}
+use Rattle.fsd_runs.specs.Errands.{forced_turn}
+use Rattle.volume_turns.specs.Turns.{SaysAll, Unsaid}
+use Rattle.volume_turns.proofs.OnceLaws.{close_failed, close_said}
+use Rattle.volume_turns.proofs.RunLaws.{on_ok_said, on_err_said}
+use Rattle.volume_turns.proofs.generate.close_forced.Goals as goal
+
+pub returns-in-Ok-clause-closes : goal.returns-in-Ok-clause-closes
+returns-in-Ok-clause-closes g c h k stands =
+    let V = g.V.Files in
+    let M = g.M.Machine in
+    let back = c.say_one.ensures.trust.honest h in
+    let text = forced_turn.said in
+    close_said V.state V.holds M c.args.v c.args.m.now c.close.new.m c.say_one.new.m k stands text (force_writes (V.state c.args.v).layout) _ c.in-Ok.ensures.disk back (c.in-Ok.ensures.done back k stands) (g.met.M.Machine.short c.close.new.m back)
+    (c.say_one.ensures.moments h) c.say_one.result (on_ok_said (SaysAll text (M.now c.close.new.m) (M.now c.say_one.new.m)) c.say_one.result h c.say_one.ensures.said) (on_err_said (Unsaid (M.now c.close.new.m) (M.now c.say_one.new.m)) c.say_one.result h c.say_one.ensures.unsaid)
+
+pub returns-in-Err-clause-closes : goal.returns-in-Err-clause-closes
+returns-in-Err-clause-closes g c h k stands =
+    let V = g.V.Files in
+    let M = g.M.Machine in
+    let text = forced_turn.said in
+    subst (λ (f : Fault). ClosesAndSays M k text c.args.m.now c.close.new.m (Err (Stopped f))) (sym c.close_fault.ensures)
+    (close_failed V.state V.holds M c.args.v c.args.m.now c.close.new.m c.close.new.m k stands text (force_writes (V.state c.args.v).layout) _ c.in-Err.ensures.disk h c.in-Err.why (c.in-Err.ensures.done h k stands))
+
+pub returns-in-Ok-clause-later : goal.returns-in-Ok-clause-later
+returns-in-Ok-clause-later g c h =
+    let back = c.say_one.ensures.trust.honest h in
+    let x = (c.in-Ok.ensures.disk.any_moment back).later in
+    let y = (c.say_one.ensures.moments h).later in
+    omega (arith, x, y)
+
+pub returns-in-Err-clause-later : goal.returns-in-Err-clause-later
+returns-in-Err-clause-later g c h = (c.in-Err.ensures.disk.any_moment h).later

@@ -1,0 +1,45 @@
+use Rattle.std.proofs.Common.{subst}
+use Rattle.sector_disk.specs.Image.{AreShort, Windows}
+use Rattle.volume_turns.specs.Steps.{reply_of}
+use Rattle.volume_turns.proofs.CountLaws.{counted_fault, counted_none, counted_step}
+use Rattle.volume_turns.proofs.generate.do_counted.Goals as goal
+
+pub returns-in-Ok-count-clause-steps : goal.returns-in-Ok-count-clause-steps
+returns-in-Ok-count-clause-steps g c h k from stood aged =
+    let V = g.V.Files in
+    let M = g.M.Machine in
+    let a = c.args.m.now in
+    let v = c.args.v.now in
+    let disk = c.in-Ok.ensures.disk in
+    let first = disk.trust.honest h in
+    let short = λ (m : g.row.M.Denot) (x : M.honest m). g.met.M.Machine.short m x in
+    let at = g.met.V.Files.wears v k from (M.now a) (subst (λ (w : Windows). AreShort w) aged.windows (short a first)) aged stood in
+    let does = c.in-Ok.ensures.done h k at in
+    counted_step V.state V.holds M g.met.V.Files.wears short g.met.M.Machine.counts_now c.args.c.now v c.answer.new.v a c.answer.new.m k from stood aged at _ disk c.in-Ok.ensures.layout h (λ left was. g.met.M.Machine.only_now c.answer.new.m left h was)
+    does.0 (reply_of c.in-Ok.answer) does.1 does.2 c.args.tally.now c.in-Ok-count.tally c.in-Ok-count.ensures.ok
+
+pub returns-in-Ok-clause-steps : goal.returns-in-Ok-clause-steps
+returns-in-Ok-clause-steps g c h k from stood aged =
+    let V = g.V.Files in
+    let M = g.M.Machine in
+    let a = c.args.m.now in
+    let v = c.args.v.now in
+    let disk = c.in-Ok.ensures.disk in
+    let first = disk.trust.honest h in
+    let short = λ (m : g.row.M.Denot) (x : M.honest m). g.met.M.Machine.short m x in
+    let at = g.met.V.Files.wears v k from (M.now a) (subst (λ (w : Windows). AreShort w) aged.windows (short a first)) aged stood in
+    let does = c.in-Ok.ensures.done h k at in
+    counted_none V.state V.holds M g.met.V.Files.wears short g.met.M.Machine.counts_now c.args.c.now v c.answer.new.v a c.answer.new.m k from stood aged at _ disk c.in-Ok.ensures.layout h (λ left was. g.met.M.Machine.only_now c.answer.new.m left h was)
+    does.0 (reply_of c.in-Ok.answer) does.1 does.2 c.in-Err-count.fault c.in-Err-count.ensures.err
+
+pub returns-clause-steps : goal.returns-clause-steps
+returns-clause-steps g c h k from stood aged =
+    let V = g.V.Files in
+    let M = g.M.Machine in
+    let a = c.args.m.now in
+    let v = c.args.v.now in
+    let disk = c.in-Err.ensures.disk in
+    let first = disk.trust.honest h in
+    let short = λ (m : g.row.M.Denot) (x : M.honest m). g.met.M.Machine.short m x in
+    let at = g.met.V.Files.wears v k from (M.now a) (subst (λ (w : Windows). AreShort w) aged.windows (short a first)) aged stood in
+    counted_fault V.state V.holds M g.met.V.Files.wears short g.met.M.Machine.counts_now c.args.c.now v c.answer.new.v a c.answer.new.m k from stood aged at _ disk c.in-Err.ensures.layout h c.in-Err.fault (c.in-Err.ensures.done h k at)

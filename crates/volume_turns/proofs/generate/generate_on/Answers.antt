@@ -1,0 +1,70 @@
+use Rattle.std.proofs.Common.{Option, Ok, Err, subst, arith}
+use Rattle.fsd_texts.specs.Generator.{made_up}
+use Rattle.volume_turns.specs.declared.turns.End.{End}
+use Rattle.volume_turns.specs.Generate.{CountedGroup}
+use Rattle.volume_turns.specs.Tally.{Counting}
+use Rattle.volume_turns.specs.Turns.{Told}
+use Rattle.volume_turns.proofs.GenerateLaws.{made_broken, made_said, made_unsaid, made_worn}
+use Rattle.volume_turns.proofs.generate.generate_on.Goals as goal
+
+pub returns-in-Ok-Some-clause-since : goal.returns-in-Ok-Some-clause-since
+returns-in-Ok-Some-clause-since g c h t left le was =
+    let says = c.last_line.ensures.says in
+    let back = says.trust.honest h in
+    let later = c.make_group.ensures.later back in
+    says.since h t left (omega (arith, le, later)) (c.make_group.ensures.since back t left le was)
+
+pub returns-in-Ok-Some-clause-runs : goal.returns-in-Ok-Some-clause-runs
+returns-in-Ok-Some-clause-runs g c h input rest k stands =
+    let M = g.M.Machine in
+    let a = c.args.m.now in
+    let p = c.make_group.new.m in
+    let says = c.last_line.ensures.says in
+    let back = says.trust.honest h in
+    let group = subst (λ (o : Option Counting). CountedGroup M k (made_up c.args.seed c.args.count) a p (Ok o)) c.in-Ok-Some.field-0-is (c.in-Ok-Some.ensures.group back k stands) in
+    made_said M c.args.seed c.args.count input rest k a p c.last_line.new.m h (says.since h) (g.met.M.Machine.short p back) stands.ends c.last_line.result c.in-Ok-Some.tally group.group group.counts c.line.result c.line.ensures c.in-Ok-Some.ensures.told.later says
+    (c.last_line.ensures.ends h)
+
+pub returns-in-Ok-None-clause-since : goal.returns-in-Ok-None-clause-since
+returns-in-Ok-None-clause-since g c h t left le was =
+    let says = c.last_line-in-Ok-None.ensures.says in
+    let back = says.trust.honest h in
+    let later = c.make_group.ensures.later back in
+    says.since h t left (omega (arith, le, later)) (c.make_group.ensures.since back t left le was)
+
+pub returns-in-Ok-None-clause-runs : goal.returns-in-Ok-None-clause-runs
+returns-in-Ok-None-clause-runs g c h input rest k stands =
+    let M = g.M.Machine in
+    let a = c.args.m.now in
+    let p = c.make_group.new.m in
+    let says = c.last_line-in-Ok-None.ensures.says in
+    let back = says.trust.honest h in
+    let group = subst (λ (o : Option Counting). CountedGroup M k (made_up c.args.seed c.args.count) a p (Ok o)) c.in-Ok-None.field-0-is (c.in-Ok-None.ensures.group back k stands) in
+    made_worn M c.args.seed c.args.count input rest k a p c.last_line-in-Ok-None.new.m h (says.since h) (g.met.M.Machine.short p back) stands.ends c.last_line-in-Ok-None.result group.group c.in-Ok-None.ensures.told.later says (c.last_line-in-Ok-None.ensures.ends h)
+
+pub returns-in-Err-Fault-clause-since : goal.returns-in-Err-Fault-clause-since
+returns-in-Err-Fault-clause-since g c h t left le was =
+    let says = c.end_with.ensures.says in
+    let back = says.trust.honest h in
+    let later = c.make_group.ensures.later back in
+    says.since h t left (omega (arith, le, later)) (c.make_group.ensures.since back t left le was)
+
+pub returns-in-Err-Fault-clause-runs : goal.returns-in-Err-Fault-clause-runs
+returns-in-Err-Fault-clause-runs g c h input rest k stands =
+    let M = g.M.Machine in
+    let a = c.args.m.now in
+    let p = c.make_group.new.m in
+    let says = c.end_with.ensures.says in
+    let back = says.trust.honest h in
+    let group = subst (λ (e : End). CountedGroup M k (made_up c.args.seed c.args.count) a p (Err e)) c.in-Err-Fault.field-0-is (c.in-Err-Fault.ensures.group back k stands) in
+    let told = subst (λ (e : End). Told {T = Option Counting} (M.report a) (M.report p) (Err e)) c.in-Err-Fault.field-0-is c.in-Err-Fault.ensures.told in
+    made_broken M c.args.seed c.args.count input rest k a p c.end_with.new.m h (says.since h) (g.met.M.Machine.short p back) stands.ends c.end_with.result c.in-Err-Fault.why group.group told says (c.end_with.ensures.ends h)
+
+pub returns-in-Err-Output-clause-runs : goal.returns-in-Err-Output-clause-runs
+returns-in-Err-Output-clause-runs g c h input rest k stands =
+    let M = g.M.Machine in
+    let a = c.args.m.now in
+    let b = c.make_group.new.m in
+    let group = subst (λ (e : End). CountedGroup M k (made_up c.args.seed c.args.count) a b (Err e)) c.in-Err-Output.field-0-is (c.in-Err-Output.ensures.group h k stands) in
+    let told = subst (λ (e : End). Told {T = Option Counting} (M.report a) (M.report b) (Err e)) c.in-Err-Output.field-0-is c.in-Err-Output.ensures.told in
+    made_unsaid M c.args.seed c.args.count input rest k a b h (g.met.M.Machine.short b h) stands.ends group.group told

@@ -1,0 +1,47 @@
+use Rattle.std.proofs.Common.{sym, ◌∙◌, refl, arith}
+use Rattle.sector_disk.specs.Image.{open_damage}
+use Rattle.sector_disk.proofs.Wear.{worn_refl}
+use Rattle.fsd_texts.specs.Generator.{made_up}
+use Rattle.volume_turns.proofs.CountLaws.{counted_all, counted_broken, counted_worn}
+use Rattle.volume_turns.proofs.generate.make_group.Goals as goal
+
+pub returns-in-Ok-clause-group : goal.returns-in-Ok-clause-group
+returns-in-Ok-clause-group g c honest k stands =
+    let V = g.V.Files in
+    let M = g.M.Machine in
+    let now = M.now c.args.m.now in
+    let done = c.force_behind in
+    let back = done.ensures.trust.honest honest in
+    counted_all V.state V.holds M k (made_up c.args.seed c.args.count) c.args.m.now c.make_up.new.m done.new.m c.make_up.new.v (done.ensures.since honest) (c.make_up.ensures.later back) c.in-Ok.tally
+    (c.in-Ok.ensures.runs back k now stands (record { image = worn_refl (open_damage now.windows) now.image; windows = refl })) done.result done.ensures.same (λ x at. done.ensures.closes honest x at)
+
+pub returns-then-is_worn_end-clause-group : goal.returns-then-is_worn_end-clause-group
+returns-then-is_worn_end-clause-group g c honest k stands =
+    let V = g.V.Files in
+    let M = g.M.Machine in
+    let now = M.now c.args.m.now in
+    let done = c.force_behind-then-is_worn_end in
+    let back = done.ensures.trust.honest honest in
+    counted_worn V.state V.holds M k (made_up c.args.seed c.args.count) c.args.m.now c.make_up.new.m done.new.m c.make_up.new.v (done.ensures.since honest) (c.make_up.ensures.later back) c.in-Err.end (sym c.is_worn_end.ensures ∙ c.if-is_worn_end.true)
+    (c.in-Err.ensures.runs back k now stands (record { image = worn_refl (open_damage now.windows) now.image; windows = refl })).ran done.result done.ensures.same (λ x at. done.ensures.closes honest x at)
+
+pub returns-else-is_worn_end-clause-group : goal.returns-else-is_worn_end-clause-group
+returns-else-is_worn_end-clause-group g c honest k stands =
+    let V = g.V.Files in
+    let M = g.M.Machine in
+    let now = M.now c.args.m.now in
+    let m = c.make_up.new.m in
+    counted_broken V.state V.holds M k (made_up c.args.seed c.args.count) c.args.m.now m m c.make_up.new.v (λ t left le was. was) (c.make_up.ensures.later honest) c.in-Err.end (sym c.is_worn_end.ensures ∙ c.if-is_worn_end.false)
+    (c.in-Err.ensures.runs honest k now stands (record { image = worn_refl (open_damage now.windows) now.image; windows = refl })).ran
+
+pub returns-in-Ok-clause-later : goal.returns-in-Ok-clause-later
+returns-in-Ok-clause-later g c h =
+    let x = c.make_up.ensures.later (c.force_behind.ensures.trust.honest h) in
+    let y = c.force_behind.ensures.later h in
+    omega (arith, x, y)
+
+pub returns-then-is_worn_end-clause-later : goal.returns-then-is_worn_end-clause-later
+returns-then-is_worn_end-clause-later g c h =
+    let x = c.make_up.ensures.later (c.force_behind-then-is_worn_end.ensures.trust.honest h) in
+    let y = c.force_behind-then-is_worn_end.ensures.later h in
+    omega (arith, x, y)

@@ -1,0 +1,27 @@
+use Rattle.std.proofs.Common.{◌≡◌, ◌+◌, None, Ok, ◌≤◌, length}
+use Rattle.std.specs.Prelude.{Result}
+use Rattle.sector_disk.specs.Calls.{Since}
+use Rattle.sector_disk.specs.Machine.{Trusts}
+use Rattle.fsd_texts.specs.Generator.{made_up}
+use Rattle.script_text.specs.Making.{made_left}
+use Rattle.volume_turns.specs.declared.turns.End.{End}
+use Rattle.volume_turns.specs.Generate.{RunsCounted}
+use Rattle.volume_turns.specs.Tally.{Counting, nothing}
+use Rattle.volume_turns.specs.Turns.{Follows, Told}
+use Rattle.volume_turns.proofs.generate.make_up.Given as goal
+
+-- What is left to make up is what is left of the run.
+abbrev pub invariant-loop : goal.invariant-loop
+invariant-loop g l = record {
+  layout : (g.V.Files.state l.v).layout ≡ (g.V.Files.state l.fn.v).layout;
+  up : (g.V.Files.state l.v).down ≡ None;
+  told : Told {T = Unit {0}} (g.M.Machine.report l.fn.m) (g.M.Machine.report l.m) (Ok tt);
+  trust : Trusts (g.M.Machine.tells l.fn.m) (g.M.Machine.tells l.m) (g.M.Machine.honest l.fn.m) (g.M.Machine.honest l.m);
+  since : g.M.Machine.honest l.m → Since g.M.Machine l.fn.m l.m;
+  later : g.M.Machine.honest l.m → g.M.Machine.moment l.fn.m ≤ g.M.Machine.moment l.m;
+  counts : l.tally.count ≡ l.counter;
+  left : length (made_left l.maker) + l.counter ≡ l.count;
+  rest : (z : g.row.V.Denot) (b : g.row.M.Denot) (r : Result Counting End) → Follows g.M.Machine l.m b →
+      RunsCounted g.V.Files.state g.V.Files.holds g.M.Machine (made_left l.maker) l.v l.m z b l.tally r →
+      RunsCounted g.V.Files.state g.V.Files.holds g.M.Machine (made_up l.seed l.count) l.fn.v l.fn.m z b nothing r;
+}

@@ -1,0 +1,35 @@
+use Rattle.std.proofs.Common.{ℕ, Err, subst, arith}
+use Rattle.volume_turns.specs.declared.turns.End.{End}
+use Rattle.volume_turns.specs.Once.{IsAlone}
+use Rattle.volume_turns.specs.Turns.{Told}
+use Rattle.volume_turns.proofs.OneLaws.{one_broken, one_said, one_unsaid}
+use Rattle.volume_turns.proofs.whole.one_on.Goals as goal
+
+pub returns-in-Ok-clause-runs : goal.returns-in-Ok-clause-runs
+returns-in-Ok-clause-runs g c h rest k none stands = one_said g.M.Machine c.args.c.now rest k c.args.m.now c.alone.new.m c.in-Ok.status (c.in-Ok.ensures.does h k none stands)
+
+pub returns-in-Err-Fault-clause-since : goal.returns-in-Err-Fault-clause-since
+returns-in-Err-Fault-clause-since g c h t left le was =
+    let says = c.end_with.ensures.says in
+    let back = says.trust.honest h in
+    let later = c.alone.ensures.later back in
+    says.since h t left (omega (arith, le, later)) (c.alone.ensures.since back t left le was)
+
+pub returns-in-Err-Fault-clause-runs : goal.returns-in-Err-Fault-clause-runs
+returns-in-Err-Fault-clause-runs g c h rest k none stands =
+    let M = g.M.Machine in
+    let a = c.args.m.now in
+    let p = c.alone.new.m in
+    let says = c.end_with.ensures.says in
+    let back = says.trust.honest h in
+    let one = subst (λ (e : End). IsAlone M c.args.c.now k a p (Err e)) c.in-Err-Fault.field-0-is (c.in-Err-Fault.ensures.does back k none stands) in
+    let told = subst (λ (e : End). Told {T = ℕ} (M.report a) (M.report p) (Err e)) c.in-Err-Fault.field-0-is c.in-Err-Fault.ensures.told in
+    one_broken M c.args.c.now rest k a p c.end_with.new.m (says.since h) h (g.met.M.Machine.short p back) stands.ends (g.met.M.Machine.counts_now p (M.moment a) back (c.alone.ensures.later back)) c.in-Err-Fault.why one told c.end_with.result says (c.end_with.ensures.ends h)
+
+pub returns-in-Err-Output-clause-runs : goal.returns-in-Err-Output-clause-runs
+returns-in-Err-Output-clause-runs g c h rest k none stands =
+    let M = g.M.Machine in
+    let a = c.args.m.now in
+    let b = c.alone.new.m in
+    one_unsaid M c.args.c.now rest k a b (subst (λ (e : End). IsAlone M c.args.c.now k a b (Err e)) c.in-Err-Output.field-0-is (c.in-Err-Output.ensures.does h k none stands))
+    (subst (λ (e : End). Told {T = ℕ} (M.report a) (M.report b) (Err e)) c.in-Err-Output.field-0-is c.in-Err-Output.ensures.told)

@@ -1,0 +1,225 @@
+//! Commands that are made up, from the mount to the line that tells what came of them.
+ghost use Rattle.std.specs.Prelude.{◌≡◌, ◌≤◌, ◌<◌, ◌+◌, ◌^◌, ◌-◌, ℕ, List, None, OnOk, IfOk, IfSome};
+ghost use Rattle.sector_disk.specs.declared.sector.WeakRun.{WeakRun};
+ghost use Rattle.sector_disk.specs.Calls.{Since};
+ghost use Rattle.sector_disk.specs.Machine.{LeavesOnly, Trusts};
+ghost use Rattle.volume_layout.specs.declared.layout.Layout.{Layout as Plan};
+ghost use Rattle.fsd_files.specs.Files.{Change};
+ghost use Rattle.fsd_texts.specs.Generator.{made_up};
+ghost use Rattle.fsd_runs.specs.Errands.{forced_turn};
+ghost use Rattle.fsd_runs.specs.Leaves.{LeavesRun};
+ghost use Rattle.fsd_runs.specs.declared.request.Request.TheVariants.{Generate};
+ghost use Rattle.volume_contract.specs.Mount.{IsSoundAt};
+ghost use Rattle.volume_contract.specs.State.{Known, Stands};
+ghost use Rattle.volume_turns.specs.Generate.{CountedGroup, Draws, RunsCounted, StepsCounted};
+ghost use Rattle.volume_turns.specs.Once.{ClosesAndSays, unit_of};
+ghost use Rattle.volume_turns.specs.Tally.{nothing};
+ghost use Rattle.volume_turns.specs.Turns.{Told};
+ghost use Rattle.volume_turns.specs.Whole.{RunsOut};
+
+use crate::commands;
+use crate::group::is_worn_end;
+use crate::line::{end_with, last_line, say_one};
+use crate::once::{close_fault, fault_of};
+use crate::tally::Tally;
+use crate::turns::End;
+use fsd_texts::{Command, Fault, Line};
+use script_text::Maker;
+use sector_disk::Machine;
+use std::alloc::Global;
+use volume_contract::Files;
+
+// Does one command, says nothing, and counts it.
+fn do_counted<M: Machine, V: Files<M>>(
+    alloc: Global,
+    v: &mut V,
+    m: &mut M,
+    c: &Command,
+    tally: &Tally,
+) -> Result<Tally, End>
+    requires room { (V.state v.old).layout.sectors ≤ (M.report m.old).sectors }
+    requires up { (V.state v.old).down ≡ None }
+    requires few { tally.now.count < 2 ^ 32 - 1 }
+    ensures layout { (V.state v.new).layout ≡ (V.state v.old).layout }
+    ensures up { OnOk result ((V.state v.new).down ≡ None) }
+    ensures told { Told (M.report m.old) (M.report m.new) result }
+    ensures trust { Trusts (M.tells m.old) (M.tells m.new) (M.honest m.old) (M.honest m.new) }
+    ensures since { M.honest m.new → Since M.Machine m.old m.new }
+    ensures later { M.honest m.new → M.moment m.old ≤ M.moment m.new }
+    ensures counts { IfOk result (λ t. t.count ≡ tally.now.count + 1) }
+    ensures steps { StepsCounted V.state V.holds M.Machine c.now v.old m.old v.new m.new tally.now result }
+{
+    match commands::answer(alloc, v, m, c) {
+        Ok(answer) => match tally.count(c, &answer) {
+            Ok(tally) => Ok(tally),
+            Err(fault) => Err(End::Fault(fault)),
+        },
+        Err(fault) => Err(End::Fault(fault)),
+    }
+}
+
+// Makes up the next command and does it, or tells that there is none.
+fn draw<M: Machine, V: Files<M>>(
+    alloc: Global,
+    v: &mut V,
+    m: &mut M,
+    maker: &mut Maker,
+    tally: &Tally,
+) -> Result<Option<Tally>, End>
+    requires room { (V.state v.old).layout.sectors ≤ (M.report m.old).sectors }
+    requires up { (V.state v.old).down ≡ None }
+    requires few { tally.now.count < 2 ^ 32 - 1 }
+    ensures layout { (V.state v.new).layout ≡ (V.state v.old).layout }
+    ensures up { OnOk result ((V.state v.new).down ≡ None) }
+    ensures told { Told (M.report m.old) (M.report m.new) result }
+    ensures trust { Trusts (M.tells m.old) (M.tells m.new) (M.honest m.old) (M.honest m.new) }
+    ensures since { M.honest m.new → Since M.Machine m.old m.new }
+    ensures later { M.honest m.new → M.moment m.old ≤ M.moment m.new }
+    ensures counts { IfOk result (λ o. IfSome o (λ t. t.count ≡ tally.now.count + 1)) }
+    ensures draws { Draws V.state V.holds M.Machine maker.old maker.new v.old m.old v.new m.new tally.now result }
+{
+    match maker.next_command(alloc) {
+        Ok(Some(c)) => match do_counted(alloc, v, m, &c, tally) {
+            Ok(tally) => Ok(Some(tally)),
+            Err(end) => Err(end),
+        },
+        Ok(None) => Ok(None),
+        Err(_) => Err(End::Fault(Fault::Memory)),
+    }
+}
+
+// Makes up so many commands and does them one after another.
+fn make_up<M: Machine, V: Files<M>>(
+    alloc: Global,
+    v: &mut V,
+    m: &mut M,
+    seed: u64,
+    count: u32,
+) -> Result<Tally, End>
+    requires room { (V.state v.old).layout.sectors ≤ (M.report m.old).sectors }
+    requires up { (V.state v.old).down ≡ None }
+    ensures layout { (V.state v.new).layout ≡ (V.state v.old).layout }
+    ensures told { Told (M.report m.old) (M.report m.new) result }
+    ensures trust { Trusts (M.tells m.old) (M.tells m.new) (M.honest m.old) (M.honest m.new) }
+    ensures since { M.honest m.new → Since M.Machine m.old m.new }
+    ensures later { M.honest m.new → M.moment m.old ≤ M.moment m.new }
+    ensures runs { RunsCounted V.state V.holds M.Machine (made_up seed count) v.old m.old v.new m.new nothing result }
+{
+    let mut maker = Maker::new(seed, count);
+    let mut tally = Tally::new();
+    for _ in 0..count {
+        match draw(alloc, v, m, &mut maker, &tally) {
+            Ok(Some(more)) => tally = more,
+            Ok(None) => return Ok(tally),
+            Err(end) => return Err(end),
+        }
+    }
+    Ok(tally)
+}
+
+// Ends the use of a volume, and says that all is forced.
+fn close_forced<M: Machine, V: Files<M>>(alloc: Global, v: V, m: &mut M) -> Result<(), End>
+    requires room { (V.state v).layout.sectors ≤ (M.report m.old).sectors }
+    ensures told { Told (M.report m.old) (M.report m.new) result }
+    ensures trust { Trusts (M.tells m.old) (M.tells m.new) (M.honest m.old) (M.honest m.new) }
+    ensures since { M.honest m.new → Since M.Machine m.old m.new }
+    ensures later { M.honest m.new → M.moment m.old ≤ M.moment m.new }
+    ensures closes { M.honest m.new → (k : Known) → Stands V.state V.holds v k (M.now m.old) → ClosesAndSays M.Machine k forced_turn.said m.old m.new result }
+{
+    match v.close(m) {
+        Ok(()) => say_one(alloc, m, &Line::Forced),
+        Err(why) => Err(End::Fault(close_fault(why))),
+    }
+}
+
+// The same, and passes on what came of the commands.
+fn force_behind<M: Machine, V: Files<M>>(
+    alloc: Global,
+    v: V,
+    m: &mut M,
+    tally: Option<Tally>,
+) -> Result<Option<Tally>, End>
+    requires room { (V.state v).layout.sectors ≤ (M.report m.old).sectors }
+    ensures told { Told (M.report m.old) (M.report m.new) result }
+    ensures trust { Trusts (M.tells m.old) (M.tells m.new) (M.honest m.old) (M.honest m.new) }
+    ensures since { M.honest m.new → Since M.Machine m.old m.new }
+    ensures later { M.honest m.new → M.moment m.old ≤ M.moment m.new }
+    ensures same { IfOk result (λ x. x ≡ tally) }
+    ensures closes { M.honest m.new → (k : Known) → Stands V.state V.holds v k (M.now m.old) → ClosesAndSays M.Machine k forced_turn.said m.old m.new (unit_of result) }
+{
+    match close_forced(alloc, v, m) {
+        Ok(()) => Ok(tally),
+        Err(end) => Err(end),
+    }
+}
+
+// Makes up commands and does them; then all is forced, and that is said. Nothing is counted where the mount is worn out.
+fn make_group<M: Machine, V: Files<M> + Drop>(
+    alloc: Global,
+    v: V,
+    m: &mut M,
+    seed: u64,
+    count: u32,
+) -> Result<Option<Tally>, End>
+    requires room { (V.state v).layout.sectors ≤ (M.report m.old).sectors }
+    requires up { (V.state v).down ≡ None }
+    ensures told { Told (M.report m.old) (M.report m.new) result }
+    ensures trust { Trusts (M.tells m.old) (M.tells m.new) (M.honest m.old) (M.honest m.new) }
+    ensures since { M.honest m.new → Since M.Machine m.old m.new }
+    ensures later { M.honest m.new → M.moment m.old ≤ M.moment m.new }
+    ensures group { M.honest m.new → (k : Known) → Stands V.state V.holds v k (M.now m.old) → CountedGroup M.Machine k (made_up seed count) m.old m.new result }
+{
+    let mut v = v;
+    match make_up(alloc, &mut v, m, seed, count) {
+        Ok(tally) => force_behind(alloc, v, m, Some(tally)),
+        Err(end) => {
+            if is_worn_end(&end) {
+                force_behind(alloc, v, m, None)
+            } else {
+                Err(end)
+            }
+        }
+    }
+}
+
+// Makes up commands over a mounted volume and does them, to the last line. It gives the status.
+fn generate_on<M: Machine, V: Files<M> + Drop>(
+    alloc: Global,
+    v: V,
+    m: &mut M,
+    seed: u64,
+    count: u32,
+) -> u8
+    requires room { (V.state v).layout.sectors ≤ (M.report m.old).sectors }
+    requires up { (V.state v).down ≡ None }
+    ensures trust { Trusts (M.tells m.old) (M.tells m.new) (M.honest m.old) (M.honest m.new) }
+    ensures since { M.honest m.new → Since M.Machine m.old m.new }
+    ensures runs { M.honest m.new → (input rest : List ℕ) (k : Known) → Stands V.state V.holds v k (M.now m.old) → RunsOut M.Machine (Generate seed count) input rest (M.report m.old) k m.old m.new result }
+{
+    match make_group(alloc, v, m, seed, count) {
+        Ok(Some(tally)) => last_line(alloc, m, &tally.line(), 0),
+        Ok(None) => last_line(alloc, m, &Line::Ended(Fault::WornOut), 9),
+        Err(End::Fault(why)) => end_with(alloc, m, why),
+        Err(End::Output) => 6,
+    }
+}
+
+/// Mounts a volume, makes up so many commands from a seed and does them, forces all, and says no more than that and what came of
+/// them; or says the fault that has ended it. It gives the status.
+pub fn run_generate<M: Machine, V: Files<M> + Drop>(
+    alloc: Global,
+    m: &mut M,
+    sectors: u32,
+    seed: u64,
+    count: u32,
+) -> u8
+    requires sectors { sectors ≡ (M.report m.old).sectors }
+    ensures trust { Trusts (M.tells m.old) (M.tells m.new) (M.honest m.old) (M.honest m.new) }
+    ensures leaves { M.honest m.new → (input rest : List ℕ) (l : Plan) (windows : List WeakRun) (h : List Change) (f : ℕ) → IsSoundAt sectors l windows h f (M.now m.old) →
+        LeavesRun (Generate seed count) input rest l windows h f (M.left_since m.new) (LeavesOnly M.moment M.left_since m.old m.new) (M.report m.old) (M.report m.new) (M.now m.old) (M.now m.new) result }
+{
+    match V::mount(alloc, m, sectors) {
+        Ok(v) => generate_on(alloc, v, m, seed, count),
+        Err(fault) => end_with(alloc, m, fault_of(fault)),
+    }
+}
