@@ -2,8 +2,10 @@ pub mod CacheLaws
 pub mod CountLaws
 pub mod EntryLaws
 pub mod FindLaws
+pub mod ForceLeavesLaws
 pub mod ForcedLaws
 pub mod FreeLaws
+pub mod KeptLaws
 pub mod LookLaws
 pub mod NextLaws
 pub mod PageLaws
