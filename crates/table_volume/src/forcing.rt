@@ -78,4 +78,18 @@ impl Volume {
     {
         self.force(m)
     }
+
+    /// Ends the use of a volume by a force.
+    pub fn close<M: Machine>(mut self, m: &mut M) -> Result<(), Refusal>
+        requires { (state self).layout.sectors ≤ (M.report m.old).sectors }
+        ensures order { Follows (force_steps (state self)) result }
+        ensures disk { WritesDisk M.Machine (device_in device_of result) (CacheLeaves self.log self.cache) m.old m.new }
+        ensures counted { OnOk result (M.tells m.new → (M.ledger m.new).written ≡ (M.ledger m.old).written + force_len (state self)) }
+        ensures idle { IsTrue (is_idle (force_steps (state self))) → m.new ≡ m.old }
+    {
+        match self.force(m) {
+            Ok(_) => Ok(()),
+            Err(refusal) => Err(refusal),
+        }
+    }
 }
