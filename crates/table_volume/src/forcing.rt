@@ -1,9 +1,9 @@
 //! The force of a volume.
-ghost use Rattle.std.specs.Prelude.{◌≡◌, ◌≤◌, ◌+◌, IfOk, OnOk, IsTrue, MatchResult, length};
+ghost use Rattle.std.specs.Prelude.{◌≡◌, ◌≤◌, ◌+◌, IfOk, IsFalse, OnOk, OnErr, IsTrue, MatchResult, length};
 ghost use Rattle.sector_disk.specs.Calls.{WritesDisk, device_in};
 ghost use Rattle.group_commit.specs.Cached.{CacheLeaves};
 ghost use Rattle.volume_contract.specs.Ends.{device_of};
-ghost use Rattle.volume_contract.specs.State.{GoesOn, IsForced, downs, force_len};
+ghost use Rattle.volume_contract.specs.State.{GoesOn, IsForced, downs, enters_again, force_len};
 ghost use Rattle.volume_contract.specs.Order.{Follows, Keeps, force_steps, is_idle};
 ghost use Rattle.table_volume.specs.Forcing.{force_refusal, place_of};
 ghost use Rattle.table_volume.specs.State.{state};
@@ -42,6 +42,7 @@ impl Volume {
         ensures order { Follows (force_steps (state self.old)) result }
         ensures disk { WritesDisk M.Machine (device_in device_of result) (CacheLeaves self.old.log self.old.cache) m.old m.new }
         ensures counted { OnOk result (M.tells m.new → (M.ledger m.new).written ≡ (M.ledger m.old).written + force_len (state self.old)) }
+        ensures counted_err { OnErr result (IsFalse (enters_again (state self.old)) → M.tells m.new → M.ledger m.new ≡ M.ledger m.old) }
         ensures pages { IfOk result (λ forced. forced.pages ≡ length (state self.old).dirty) }
         ensures state { GoesOn (downs result) (state self.old) (state self.new) }
         ensures idle { IsTrue (is_idle (force_steps (state self.old))) → m.new ≡ m.old }
@@ -71,6 +72,7 @@ impl Volume {
         ensures order { Follows (force_steps (state self.old)) result }
         ensures disk { WritesDisk M.Machine (device_in device_of result) (CacheLeaves self.old.log self.old.cache) m.old m.new }
         ensures counted { OnOk result (M.tells m.new → (M.ledger m.new).written ≡ (M.ledger m.old).written + force_len (state self.old)) }
+        ensures counted_err { OnErr result (IsFalse (enters_again (state self.old)) → M.tells m.new → M.ledger m.new ≡ M.ledger m.old) }
         ensures pages { IfOk result (λ forced. forced.pages ≡ length (state self.old).dirty) }
         ensures state { GoesOn (downs result) (state self.old) (state self.new) }
         ensures idle { IsTrue (is_idle (force_steps (state self.old))) → m.new ≡ m.old }
@@ -85,6 +87,7 @@ impl Volume {
         ensures order { Follows (force_steps (state self)) result }
         ensures disk { WritesDisk M.Machine (device_in device_of result) (CacheLeaves self.log self.cache) m.old m.new }
         ensures counted { OnOk result (M.tells m.new → (M.ledger m.new).written ≡ (M.ledger m.old).written + force_len (state self)) }
+        ensures counted_err { OnErr result (IsFalse (enters_again (state self)) → M.tells m.new → M.ledger m.new ≡ M.ledger m.old) }
         ensures idle { IsTrue (is_idle (force_steps (state self))) → m.new ≡ m.old }
     {
         match self.force(m) {
