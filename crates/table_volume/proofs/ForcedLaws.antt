@@ -58,10 +58,10 @@ own_of : (f : ℕ → Bool) (from to : ℕ) → area from to f ≡ area from to 
 own_of f from to = λ i. record { from = from; to = to; sectors = where_same f (contains (where_free f from to)) from to (λ s low high. sym (contains_where f from to s low high)) i }
 
 module _ (v : VolumeValue) (whole : IsWhole v) where
-  from_is : v.map.from ≡ data_start v.layout
+  pub from_is : v.map.from ≡ data_start v.layout
   from_is = ap (λ (a : Area). a.from) whole.map
 
-  to_is : v.map.to ≡ v.layout.sectors
+  pub to_is : v.map.to ≡ v.layout.sectors
   to_is = ap (λ (a : Area). a.to) whole.map
 
   module _ (map : Area) (w : Waits) (log : LogValue) (cache : CacheValue)

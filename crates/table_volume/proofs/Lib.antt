@@ -5,10 +5,12 @@ pub mod CalmLaws
 pub mod CountLaws
 pub mod EntryLaws
 pub mod FindLaws
+pub mod ForceLeavesLaws
 pub mod ForcedLaws
 pub mod FreeLaws
 pub mod FreshLaws
 pub mod HomeReadLaws
+pub mod KeptLaws
 pub mod LookLaws
 pub mod NewVersionLaws
 pub mod NextLaws
