@@ -1,8 +1,8 @@
+pub mod Changing
+pub mod Editing
 pub mod Forcing
 pub mod HomeLaws
 pub mod Homes
-pub mod Changing
-pub mod Editing
 pub mod Looking
 pub mod Mounting
 pub mod Opening

@@ -11,12 +11,12 @@ mod homes;
 mod keeping;
 mod laws;
 mod looking;
+mod mounting;
 mod next;
+mod opening;
 mod placing;
 mod putting;
 mod reading;
-mod mounting;
-mod opening;
 mod surveying;
 mod volume;
 

@@ -1,10 +1,10 @@
-pub mod Listing
-pub mod Status
-pub mod Steps
-pub mod Turns
-pub mod Once
+pub mod Generate
 pub mod Group
 pub mod Line
-pub mod Whole
+pub mod Listing
+pub mod Once
+pub mod Status
+pub mod Steps
 pub mod Tally
-pub mod Generate
+pub mod Turns
+pub mod Whole
