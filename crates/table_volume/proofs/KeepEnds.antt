@@ -2,7 +2,7 @@
 use Rattle.std.proofs.Common.{◌≡◌, ◌⊎◌, inl, inr, ℕ, ◌+◌, ◌<◌, ◌≤◌, Bool, true, false, cond, nat_lt, List, [], ◌∷◌, ◌++◌, length, Option, Some, None, refl, sym, ap, subst, ◌∙◌, arith, length-append}
 use Rattle.std.proofs.lemmas.Bool.{both_ways, eqb-true, le-ltb, or_cases}
 use Rattle.std.proofs.lemmas.List.Folds.{list_any-append}
-use Rattle.std.specs.Prelude.{IfErr, IfOk, OnErr, Result, Ok, Err, ◌==◌}
+use Rattle.std.specs.Prelude.{◌==◌}
 use Rattle.sector_disk.specs.declared.machine.Machine.{Ghosts as MachineGhosts}
 use Rattle.sector_disk.specs.Image.{AreShort}
 use Rattle.fsd_bytes.specs.declared.key.Key.{Key}
@@ -12,11 +12,7 @@ use Rattle.fsd_table.specs.Table.{Telling}
 use Rattle.fsd_table.specs.Tree.{IsTree, pages_of, table_of}
 use Rattle.fsd_table.proofs.VisitLaws.{tree_told}
 use Rattle.fsd_files.specs.Answers.{entries_with_keep, highest_entry, keep_outcome, keep_set, refused}
-use Rattle.fsd_bytes.specs.declared.refusal.Refusal.{Refusal}
 use Rattle.fsd_bytes.specs.declared.refusal.Refusal.TheVariants.{KeepTooLarge}
-use Rattle.log_thirds.specs.LogValue.{LogValue}
-use Rattle.version_table.specs.Fault.{outer_in, outer_met}
-use Rattle.version_table.specs.declared.fault.VersionFault.{VersionFault}
 use Rattle.fsd_files.specs.Files.{Change}
 use Rattle.fsd_files.specs.Replies.{Kept}
 use Rattle.page_cache.specs.Cache.{CacheValue, IsCache, bytes_of, is_one_of}
@@ -26,12 +22,12 @@ use Rattle.fsd_sound.specs.Mounted.{most_changed}
 use Rattle.group_commit.specs.contracts.newest.NewestPageSource.TheImpl as by_log
 use Rattle.volume_contract.specs.Ends.{Answered}
 use Rattle.volume_contract.specs.State.{Known, Stands, volume_of}
-use Rattle.table_volume.specs.Editing.{DirtiesOne, EditsOnly, EditsTable, SetsKeep, SetsKeepIn, StaysIn, as_step, told_of}
+use Rattle.table_volume.specs.Editing.{DirtiesOne, EditsOnly, EditsTable, SetsKeep, SetsKeepIn, as_step}
 use Rattle.table_volume.specs.Looking.{images_by}
 use Rattle.table_volume.specs.State.{Holds, state}
 use Rattle.table_volume.specs.Volume.{IsWhole, VolumeValue}
 use Rattle.table_volume.proofs.KeepLaws.{known_kept, stands_kept}
-use Rattle.table_volume.proofs.MadeLaws.{stands_unedited, table_was, trusted}
+use Rattle.table_volume.proofs.MadeLaws.{table_was, trusted}
 use Rattle.table_volume.proofs.PageLaws.{clean_absent}
 use Rattle.table_volume.proofs.TableLaws.{is_tree, pages_read}
 
@@ -131,53 +127,3 @@ module _ {D : Type 0} (M : MachineGhosts D) (short : (m : D) → M.honest m → 
         },
         stands_kept M short m m' v whole cached c flags edits honest k stands few within name keep small set.entry there makes left_whole,
       )
-
--- ---- by the parts of a volume
-
-module _ {D : Type 0} (M : MachineGhosts D) (m m' : D) (v : VolumeValue) (whole : IsWhole v) (c : CacheValue) (flags : List Bool) (log : LogValue) (refusal : Option Refusal) (edits : EditsOnly M by_log.ghosts log refusal m m' v.cache c v.free_pages flags) where
-  pub whole_edited : IsWhole (record v { cache = c; free_pages = flags })
-  whole_edited = record {
-    planned = whole.planned;
-    map = whole.map;
-    removed = whole.removed;
-    kept = whole.kept;
-    unfinished = whole.unfinished;
-    apart = whole.apart;
-    unread = whole.unread;
-    log = whole.log;
-    epoch = whole.epoch;
-    pages = edits.size ∙ whole.pages;
-    room = edits.fills.frames ∙ whole.room;
-    unpinned = edits.ready.unpinned;
-  }
-
-module _ {D : Type 0} (M : MachineGhosts D) (short : (m : D) → M.honest m → AreShort (M.now m).windows) (m m' : D) (v w : VolumeValue) (is : v ≡ w) (whole : IsWhole v) (cached : IsCache v.cache) (c : CacheValue) (flags : List Bool)
-    (log : LogValue) (of_log : log ≡ v.log) (name : List ℕ) (keep : ℕ) (fits : keep ≤ 999) (room : length w.cache.dirty ≤ 56) where
-  abbrev Told : Known → Result Key Refusal → Type 0
-  Told k result = IfOk result (λ key. Answered state Holds (λ met. keep_outcome met (volume_of k) name keep) (Kept key keep) (Change.SetKeep name keep ∷ []) k (record v { cache = c; free_pages = flags }) (M.now m'))
-
-  by_result : (home_a : ℕ) (r : Result Key VersionFault) → EditsOnly M by_log.ghosts v.log (outer_met r) m m' v.cache c v.free_pages flags → IfOk r (λ key. DirtiesOne (length v.free_pages) v.cache c)
-      → IfOk r (SetsKeepIn M by_log.ghosts v.log m m' v.cache c v.free_pages flags name keep) → M.honest m' → (k : Known) → Stands state Holds v k (M.now m) → Told k (told_of home_a r)
-  by_result home_a (Err fault) edits one sets honest k stands = tt
-  by_result home_a (Ok key) edits one sets honest k stands =
-      kept_answered M short m m' v whole cached c flags edits honest k stands name keep fits key (omega (arith, room, ap (λ (x : VolumeValue). length x.cache.dirty) is)) one sets (whole_edited M m m' v whole c flags v.log None edits)
-
-  pub told_kept : (home_a : ℕ) (r : Result Key VersionFault) (result : Result Key Refusal) → result ≡ told_of home_a r → EditsOnly M by_log.ghosts log (outer_met r) m m' v.cache c v.free_pages flags
-      → IfOk r (λ key. DirtiesOne (length v.free_pages) v.cache c) → IfOk r (SetsKeepIn M by_log.ghosts log m m' v.cache c v.free_pages flags name keep) → M.honest m' → (k : Known) → Stands state Holds w k (M.now m) → Told k result
-  told_kept home_a r result told edits one sets honest k stands =
-      subst (Told k) (sym told) (by_result home_a r (subst (λ (l : LogValue). EditsOnly M by_log.ghosts l (outer_met r) m m' v.cache c v.free_pages flags) of_log edits) one
-      (subst (λ (l : LogValue). IfOk r (SetsKeepIn M by_log.ghosts l m m' v.cache c v.free_pages flags name keep)) of_log sets) honest k (subst (λ (x : VolumeValue). Stands state Holds x k (M.now m)) (sym is) stands))
-
-  by_fault : (home_a : ℕ) (r : Result Key VersionFault) → EditsOnly M by_log.ghosts v.log (outer_met r) m m' v.cache c v.free_pages flags → IsCache c → OnErr r (StaysIn M by_log.ghosts v.log m m' v.cache c v.free_pages flags)
-      → M.honest m' → (k : Known) → Stands state Holds v k (M.now m) → IfErr (told_of home_a r) (λ why. Stands state Holds (record v { cache = c; free_pages = flags }) k (M.now m'))
-  by_fault home_a (Ok key) edits cache stays honest k stands = tt
-  by_fault home_a (Err fault) edits cache stays honest k stands =
-      stands_unedited M short m m' v whole cached c flags (outer_in fault) edits honest k stands cache stays.dirty stays.same_flags
-      (stays.images (trusted M short m m' v whole cached c flags (outer_in fault) edits honest k stands) ∙ pages_read v k (M.now m) whole stands cached)
-
-  pub told_unchanged : (home_a : ℕ) (r : Result Key VersionFault) (result : Result Key Refusal) → result ≡ told_of home_a r → EditsOnly M by_log.ghosts log (outer_met r) m m' v.cache c v.free_pages flags → IsCache c
-      → OnErr r (StaysIn M by_log.ghosts log m m' v.cache c v.free_pages flags) → M.honest m' → (k : Known) → Stands state Holds w k (M.now m) → IfErr result (λ why. Stands state Holds (record v { cache = c; free_pages = flags }) k (M.now m'))
-  told_unchanged home_a r result told edits cache stays honest k stands =
-      subst (λ (x : Result Key Refusal). IfErr x (λ why. Stands state Holds (record v { cache = c; free_pages = flags }) k (M.now m'))) (sym told)
-      (by_fault home_a r (subst (λ (l : LogValue). EditsOnly M by_log.ghosts l (outer_met r) m m' v.cache c v.free_pages flags) of_log edits) cache
-      (subst (λ (l : LogValue). OnErr r (StaysIn M by_log.ghosts l m m' v.cache c v.free_pages flags)) of_log stays) honest k (subst (λ (x : VolumeValue). Stands state Holds x k (M.now m)) (sym is) stands))

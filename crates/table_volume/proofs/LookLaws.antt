@@ -1,7 +1,6 @@
 -- What a table over a cache leaves where it was looked into.
-use Rattle.std.proofs.Common.{◌≡◌, ℕ, zero, suc, ◌+◌, ◌<◌, Bool, true, List, [], ◌∷◌, length, Option, Some, None, Result, Ok, Err, refl, sym, ap, subst, ◌∙◌, arith, ◌⊎◌, inl, inr, ◌≤◌, false, ◌||◌}
+use Rattle.std.proofs.Common.{◌≡◌, ℕ, ◌<◌, Bool, true, List, length, Option, Some, None, Result, Ok, Err, refl, sym, ap, subst, ◌∙◌, arith, ◌⊎◌, inl, inr, ◌≤◌, false, ◌||◌}
 use Rattle.std.specs.Prelude.{Contains, IfErr, IfOk, IfSome, slice_get, slice_index_or, nat_eq, option_and_then}
-use Rattle.std.specs.List.{AllByRecursion, flat_map}
 use Rattle.std.specs.Borrow.{MutBor}
 use Rattle.std.specs.Option.{option_or}
 use Rattle.std.proofs.lemmas.Bool.{both_ways, eqb-true, or_right}

@@ -20,7 +20,7 @@ use Rattle.fsd_files.specs.Disk.{Has, Image, Sectors, Within, in_runs}
 use Rattle.fsd_files.specs.Files.{Files, gone_keys, new_keep, new_key, with_new}
 use Rattle.fsd_files.specs.Kept.{Describes, Kept, KeptIn, Lists, data_sectors, slices}
 use Rattle.fsd_files.specs.Space.{Apart}
-use Rattle.fsd_files.specs.Volume.{Volume, is_free, plans_of}
+use Rattle.fsd_files.specs.Volume.{Volume, plans_of}
 use Rattle.fsd_files.specs.Waiting.{Changes, IsSpaced}
 use Rattle.fsd_files.proofs.ChangeKept.{version_kept}
 use Rattle.fsd_files.proofs.ChangeLaws.{AreFree, version_changes}

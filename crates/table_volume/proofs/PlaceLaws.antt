@@ -13,7 +13,7 @@ use Rattle.fsd_bytes.specs.declared.refusal.Refusal.TheVariants.{NoSpace, TooFra
 use Rattle.run_table.specs.declared.run.Run.{Run}
 use Rattle.run_table.specs.RunTable.{are_runs, sectors_of, total, run_of}
 use Rattle.run_table.specs.Space.{contains, where_free, joined, runs_of, by_length, longest_first, cut_to, longest, best, picked, pick}
-use Rattle.run_table.proofs.ChoiceLaws.{total_of_pick, pick_none, pick_among}
+use Rattle.run_table.proofs.ChoiceLaws.{total_of_pick, pick_none}
 use Rattle.alloc_map.specs.NoPlace.{choice, picked_or}
 use Rattle.alloc_map.specs.declared.no_place.NoPlace.{NoPlace}
 use Rattle.alloc_map.specs.declared.no_place.NoPlace.TheVariants.{NoSpace as Few, TooFragmented as Broken}
@@ -24,7 +24,7 @@ use Rattle.sector_set.proofs.FreeLaws.{total_of_runs}
 use Rattle.version_data.proofs.PlaceLaws.{index_there}
 use Rattle.volume_layout.specs.declared.layout.Layout.{Layout}
 use Rattle.volume_layout.specs.Layout.{data_start}
-use Rattle.fsd_files.proofs.CountLaws.{occurs, contains_occurs, occurs_contains, occurs_differ, picked_once, runs_same}
+use Rattle.fsd_files.proofs.CountLaws.{occurs, contains_occurs, occurs_differ, picked_once}
 use Rattle.volume_contract.specs.State.{State}
 use Rattle.table_volume.specs.Placing.{IsPlace, place_now, place_or}
 use Rattle.table_volume.specs.State.{state}

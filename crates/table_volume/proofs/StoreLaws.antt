@@ -1,5 +1,5 @@
 -- A version is stored: a place is found, the serial is drawn, and the version is written there.
-use Rattle.std.proofs.Common.{◌≡◌, ◌⊎◌, inl, inr, ℕ, suc, ◌+◌, ◌-◌, ◌≤◌, Bool, true, false, cond, ◌&&◌, ◌||◌, List, [], ◌∷◌, ◌++◌, length, Option, Some, None, Result, Ok, Err, refl, sym, ap, subst, ◌∙◌, arith}
+use Rattle.std.proofs.Common.{◌≡◌, ◌⊎◌, inl, inr, ℕ, ◌≤◌, Bool, true, false, cond, ◌&&◌, List, [], ◌∷◌, ◌++◌, length, Option, Some, None, Ok, Err, refl, sym, ap, subst, ◌∙◌, arith}
 use Rattle.std.specs.Prelude.{IsFalse, is_none, not, ◌==◌}
 use Rattle.std.proofs.lemmas.Bool.{or_parts}
 use Rattle.fsd_bytes.specs.declared.refusal.Refusal.{Refusal}
@@ -11,7 +11,6 @@ use Rattle.run_table.specs.Space.{contains}
 use Rattle.fsd_formats.specs.declared.entry.Entry.{Entry}
 use Rattle.sector_disk.specs.declared.sector.WeakRun.{WeakRun}
 use Rattle.sector_disk.specs.declared.sector.Sector.{Sector}
-use Rattle.sector_disk.specs.declared.sector.Sector.TheVariants.{Damaged}
 use Rattle.sector_disk.specs.Image.{Windows, open_damage, sector_at}
 use Rattle.sector_disk.specs.Machine.{Moment}
 use Rattle.fsd_files.specs.Disk.{Sectors, SectorWorn, Touches}
@@ -19,9 +18,9 @@ use Rattle.fsd_files.specs.Files.{Change}
 use Rattle.fsd_files.specs.Volume.{Volume, drawn, forced, forced_for_place, place_for}
 use Rattle.fsd_sound.specs.Sound.{IsSound}
 use Rattle.fsd_sound.proofs.MoreLaws.{sound_fewer}
-use Rattle.volume_contract.specs.Order.{Comes, Disk, Draw, Follows, Force, IsDeviceIn, Keeps, Passes, Step, Test, Through, is_idle, place, with_drawn}
-use Rattle.volume_contract.specs.State.{GoesOn, IsForced, Known, Leaves, LeavesSound, Stands, State, downs_for, force_writes, forced_of, forces_for_place, in_place, place_in, put_writes, volume_of}
-use Rattle.table_volume.specs.Placing.{EndsPlace, EndsStore, HasPlace, HasStored, Places, StandsDrawn, StandsFor, Stores, drawn_known, place_steps, store_steps}
+use Rattle.volume_contract.specs.Order.{Comes, Disk, Draw, Force, IsDeviceIn, Keeps, Passes, Step, Test, Through, is_idle, place, with_drawn}
+use Rattle.volume_contract.specs.State.{GoesOn, IsForced, Known, Leaves, Stands, State, downs_for, force_writes, forced_of, forces_for_place, in_place, place_in, put_writes, volume_of}
+use Rattle.table_volume.specs.Placing.{EndsPlace, EndsStore, HasPlace, Places, StandsDrawn, StandsFor, Stores, drawn_known, place_steps, store_steps}
 use Rattle.table_volume.specs.State.{Holds, state}
 use Rattle.table_volume.specs.Volume.{VolumeValue}
 

@@ -1,20 +1,19 @@
 -- A volume that stands still stands where its free sectors are written, and once its next serial is drawn.
-use Rattle.std.proofs.Common.{◌≡◌, inl, inr, ℕ, zero, suc, Bool, true, false, cond, List, [], ◌∷◌, length, refl, sym, ap, subst, ◌∙◌, arith}
-use Rattle.std.specs.Prelude.{◌⊎◌, IsTrue, IsFalse}
+use Rattle.std.proofs.Common.{◌≡◌, inl, ℕ, zero, suc, Bool, true, false, cond, [], ◌∷◌, length, refl, sym, ap, subst, ◌∙◌, arith}
+use Rattle.std.specs.Prelude.{◌⊎◌, IsTrue}
 use Rattle.fsd_bytes.specs.declared.key.Serial.{Serial}
 use Rattle.run_table.specs.Space.{contains}
 use Rattle.sector_disk.specs.declared.sector.Sector.{Sector}
 use Rattle.sector_disk.specs.declared.sector.Sector.TheVariants.{Damaged}
 use Rattle.sector_disk.specs.Image.{AreShort, IsWorn, open_damage, sector_at}
 use Rattle.sector_disk.specs.Machine.{Moment}
-use Rattle.fsd_log.specs.Scan.{Placed, Walked}
-use Rattle.fsd_files.specs.Disk.{Image, Sectors, SectorWorn, Touches}
-use Rattle.fsd_files.specs.Volume.{drawn, is_free}
-use Rattle.fsd_sound.specs.Mounted.{IsMounted, Mounted, SameTaken}
+use Rattle.fsd_log.specs.Scan.{Walked}
+use Rattle.fsd_files.specs.Disk.{Image, Sectors}
+use Rattle.fsd_sound.specs.Mounted.{IsMounted, SameTaken}
 use Rattle.fsd_sound.specs.Shown.{records_by}
 use Rattle.fsd_sound.proofs.MountedLaws.{drawn_mounted, mounted_sound, still_mounted, still_records}
 use Rattle.version_data.specs.Writing.{WritesIn}
-use Rattle.volume_contract.specs.State.{Known, Leaves, LeavesSound, Stands, forced_of, volume_of}
+use Rattle.volume_contract.specs.State.{Known, Leaves, LeavesSound, Stands, forced_of}
 use Rattle.table_volume.specs.Placing.{drawn_known, drawn_volume}
 use Rattle.table_volume.specs.State.{Holds, state}
 use Rattle.table_volume.specs.Volume.{VolumeValue}

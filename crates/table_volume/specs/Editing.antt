@@ -1,5 +1,5 @@
 -- What an edit of the table leaves of a cache.
-use Rattle.std.specs.Prelude.{◌≡◌, ℕ, ◌+◌, ◌-◌, ◌<◌, ◌≤◌, Bool, List, Option, Some, Result, Ok, Err, length}
+use Rattle.std.specs.Prelude.{◌≡◌, ℕ, ◌+◌, ◌-◌, ◌<◌, ◌≤◌, Bool, List, Option, Some, length}
 use Rattle.fsd_bytes.specs.declared.refusal.Refusal.{Refusal}
 use Rattle.fsd_formats.specs.declared.entry.Entry.{Entry}
 use Rattle.sector_disk.specs.declared.machine.Machine.{Ghosts as MachineGhosts}
@@ -14,10 +14,7 @@ use Rattle.name_btree.specs.Map.{HasTable, IsTable}
 use Rattle.table_pages.specs.Bringing.{IsTrusted, given_by}
 use Rattle.table_pages.specs.Kept.{IsReady}
 use Rattle.table_pages.specs.Reads.{Fills, LosesFor, device_of}
-use Rattle.fsd_bytes.specs.declared.refusal.Refusal.TheVariants as Why
-use Rattle.version_table.specs.declared.fault.VersionFault.{VersionFault}
-use Rattle.version_table.specs.declared.fault.VersionFault.TheVariants.{Table, NoSuch, VersionsUsedUp}
-use Rattle.table_volume.specs.Looking.{images_by, refusal_in}
+use Rattle.table_volume.specs.Looking.{images_by}
 
 -- pages with these flags, before anything is done
 abbrev pub as_step : List (List ℕ) → List Bool → Step
@@ -85,15 +82,3 @@ pub record StaysIn {D E : Type 0} (M : MachineGhosts D) (S : SourceGhosts E) (so
   pub dirty : new.dirty ≡ old.dirty
   pub same_flags : flags ≡ free
   pub images : IsTrusted M S source m old m' → images_by M S source m' new (length flags) ≡ images_by M S source m old (length free)
-
--- ---- what is told
-
--- the refusal that a fault is
-abbrev pub refusal_of : (home_a : ℕ) → VersionFault → Refusal
-refusal_of home_a (Table fault) = refusal_in home_a fault
-refusal_of home_a NoSuch = Why.NoSuch
-refusal_of home_a VersionsUsedUp = Why.VersionsUsedUp
-
-abbrev pub told_of : {T : Type 0} → (home_a : ℕ) → Result T VersionFault → Result T Refusal
-told_of home_a (Ok x) = Ok x
-told_of home_a (Err fault) = Err (refusal_of home_a fault)

@@ -8,7 +8,6 @@ mod finding;
 mod forcing;
 mod freeing;
 mod homes;
-mod keeping;
 mod laws;
 mod looking;
 mod mounting;
