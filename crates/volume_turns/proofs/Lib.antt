@@ -15,3 +15,7 @@ pub mod GroupEndLaws
 pub mod GenerateLaws
 pub mod InputLaws
 pub mod OneLaws
+pub mod ScriptLaws
+pub mod ScriptEndLaws
+pub mod ScriptGroupLaws
+pub mod ScriptRunLaws

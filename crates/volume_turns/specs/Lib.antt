@@ -7,3 +7,4 @@ pub mod Line
 pub mod Whole
 pub mod Tally
 pub mod Generate
+pub mod Script

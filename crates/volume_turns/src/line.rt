@@ -31,6 +31,7 @@ fn fault_status(fault: Fault) -> u8
 pub(crate) fn end_with<M: Machine>(alloc: Global, m: &mut M, why: Fault) -> u8
     ensures says { LeavesDisk M.Machine false (is_unsaid result) (UttersFault why) m.old m.new }
     ensures ends { M.honest m.new → EndsWith why (M.now m.old) (M.now m.new) result }
+    ensures ledger { M.tells m.new → M.ledger m.new ≡ M.ledger m.old }
 {
     let mut text = Bytes::new(alloc);
     match say_line(alloc, &Line::Ended(why), &mut text) {
@@ -44,6 +45,7 @@ fn say_as<M: Machine>(m: &mut M, text: &[u8], said: Fault) -> u8
     requires { text.now ≡ fault_text said }
     ensures says { LeavesDisk M.Machine false (is_unsaid result) (Utters (fault_text said)) m.old m.new }
     ensures ends { M.honest m.new → (result ≡ 6) ⊎ ((result ≡ fault_status said) × SaysAll (fault_text said) (M.now m.old) (M.now m.new)) }
+    ensures ledger { M.tells m.new → M.ledger m.new ≡ M.ledger m.old }
 {
     match m.say(text) {
         Ok(()) => fault_status(said),
@@ -56,6 +58,7 @@ pub(crate) fn last_line<M: Machine>(alloc: Global, m: &mut M, line: &Line, gives
     requires { is_unsaid gives ≡ false }
     ensures says { LeavesDisk M.Machine false (is_unsaid result) (UttersLast line.now) m.old m.new }
     ensures ends { M.honest m.new → EndsLast line.now gives (M.now m.old) (M.now m.new) result }
+    ensures ledger { M.tells m.new → M.ledger m.new ≡ M.ledger m.old }
 {
     let mut text = Bytes::new(alloc);
     match say_line(alloc, line, &mut text) {
@@ -69,6 +72,7 @@ fn say_text<M: Machine>(m: &mut M, text: &[u8], gives: u8) -> u8
     requires { is_unsaid gives ≡ false }
     ensures says { LeavesDisk M.Machine false (is_unsaid result) (Utters text.now) m.old m.new }
     ensures ends { M.honest m.new → (result ≡ 6) ⊎ ((result ≡ gives) × SaysAll text.now (M.now m.old) (M.now m.new)) }
+    ensures ledger { M.tells m.new → M.ledger m.new ≡ M.ledger m.old }
 {
     match m.say(text) {
         Ok(()) => gives,
@@ -84,6 +88,7 @@ pub(crate) fn say_one<M: Machine>(alloc: Global, m: &mut M, line: &Line) -> Resu
     ensures moments { M.honest m.new → LeavesOnly M.moment M.left_since m.old m.new (Utters (text line.now) (M.now m.old)) }
     ensures said { OnOk result (M.honest m.new → SaysAll (text line.now) (M.now m.old) (M.now m.new)) }
     ensures unsaid { IfErr result (λ end. M.honest m.new → Unsaid (M.now m.old) (M.now m.new) end) }
+    ensures ledger { M.tells m.new → M.ledger m.new ≡ M.ledger m.old }
 {
     let mut text = Bytes::new(alloc);
     if say_line(alloc, line, &mut text).is_err() {

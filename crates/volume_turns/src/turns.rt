@@ -44,6 +44,7 @@ pub(crate) fn say<M: Machine, T: Says>(alloc: Global, m: &mut M, answer: &Answer
     ensures moments { M.honest m.new → LeavesOnly M.moment M.left_since m.old m.new (Utters (T.errand.says (reply_of answer.now)) (M.now m.old)) }
     ensures said { OnOk result (M.honest m.new → SaysAll (T.errand.says (reply_of answer.now)) (M.now m.old) (M.now m.new)) }
     ensures unsaid { IfErr result (λ end. M.honest m.new → Unsaid (M.now m.old) (M.now m.new) end) }
+    ensures ledger { M.tells m.new → M.ledger m.new ≡ M.ledger m.old }
 {
     let Ok(text) = T::text(alloc, answer) else {
         return Err(End::Fault(Fault::Memory));
@@ -71,6 +72,7 @@ pub fn step<M: Machine, V: Files<M>, T: Says>(
     ensures since { M.honest m.new → Since M.Machine m.old m.new }
     ensures later { M.honest m.new → M.moment m.old ≤ M.moment m.new }
     ensures steps { Steps V.state V.holds M.Machine T.errand c.now v.old m.old v.new m.new result }
+    ensures input { M.tells m.new → (M.ledger m.new).input ≡ (M.ledger m.old).input }
 {
     match commands::answer(alloc, v, m, c) {
         Ok(answer) => say::<M, T>(alloc, m, &answer),
