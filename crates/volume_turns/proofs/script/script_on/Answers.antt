@@ -39,7 +39,7 @@ returns-in-Ok-Ended-Bad-clause-runs g c h k stands =
     let back = says.trust.honest h in
     let grp = subst (λ (s : Stop). GroupsBy M e k input (M.ledger p).input a p (Ok s)) (x.field-0-is ∙ ap (λ (y : ScriptEnd). Ended y) x.field-0-0-is) (x.ensures.group back k stands) in
     runs_ended e c.requires.says c.requires.forces M input (M.ledger b).input (M.report a) (M.report p) k a b c.last_line.result _ (grp.0 ∙ ap (λ (y : BadLine). Bad y) (sym x.bad-is))
-    (group_said M (but_input (M.report a) (M.report p)) k a p b h (says.since h) (g.met.M.Machine.short p back) stands.ends c.last_line.result e (script_in input).0 grp.1 _ 2 x.ensures.heard.later says (c.last_line.ensures.ends h))
+    (group_said M (but_input (M.report a) (M.report p)) k a p b h (says.since h) (g.met.M.Machine.short p back) stands.ends c.last_line.result e (script_in input).0 grp.1 (Says.Bad x.bad) 2 x.ensures.heard.later says (c.last_line.ensures.ends h))
 
 pub returns-in-Ok-Ended-TooLong-clause-runs : goal.returns-in-Ok-Ended-TooLong-clause-runs
 returns-in-Ok-Ended-TooLong-clause-runs g c h k stands =
