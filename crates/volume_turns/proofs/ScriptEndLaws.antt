@@ -1,6 +1,6 @@
 -- How a script that was done goes on to the last line of its run.
-use Rattle.std.proofs.Common.{◌≡◌, ◌⊎◌, inl, inr, ℕ, ◌+◌, ◌≤◌, Bool, true, false, List, [], ◌∷◌, ◌++◌, length, take, Option, Some, None, refl, sym, ◌∙◌, ap, subst, arith, append_assoc}
-use Rattle.std.specs.Prelude.{◌==◌, ⊤, if◌then◌else◌, IsSome, IsTrue, Result, Ok, Err, slice_get}
+use Rattle.std.proofs.Common.{◌≡◌, ◌⊎◌, inl, inr, ℕ, ◌≤◌, Bool, true, false, List, [], ◌∷◌, ◌++◌, length, take, Option, Some, None, refl, sym, ◌∙◌, ap, subst, arith, append_assoc}
+use Rattle.std.specs.Prelude.{◌==◌, IsTrue, Result, Ok, Err, slice_get}
 use Rattle.std.proofs.lemmas.Bool.{eq-eqb, eqb-true}
 use Rattle.sector_disk.specs.declared.machine.Machine.{Ghosts}
 use Rattle.sector_disk.specs.Calls.{DiskFaults, LeavesDisk, Since}
@@ -16,7 +16,7 @@ use Rattle.fsd_texts.specs.declared.fault.Fault.TheVariants as Ends
 use Rattle.fsd_texts.specs.declared.line.Line.{Line}
 use Rattle.fsd_texts.specs.declared.line.Line.TheVariants as Says
 use Rattle.fsd_runs.specs.declared.request.Request.TheVariants.{Script}
-use Rattle.fsd_runs.specs.Errands.{Answered, Ending, Errand, Turn, blank, cut_ending, forced_turn, group_ending, line_turn}
+use Rattle.fsd_runs.specs.Errands.{Answered, Ending, Errand, Turn, cut_ending, forced_turn, group_ending, line_turn}
 use Rattle.fsd_runs.specs.Leaves.{IsBroken, IsOutside, IsUnsaid}
 use Rattle.fsd_runs.specs.Runs.{Goes, IsWornOut, WearsOut, answered, behind, turns_begun, turns_of}
 use Rattle.volume_contract.specs.State.{Known, volume_of}

@@ -1,5 +1,5 @@
 -- The commands of a script as a group, with the force behind them.
-use Rattle.std.proofs.Common.{◌≡◌, ◌⊎◌, inl, inr, ℕ, ◌+◌, ◌≤◌, Bool, true, false, cond, List, [], ◌++◌, length, take, Some, None, refl, sym, ◌∙◌, ap, subst, arith, append-nil}
+use Rattle.std.proofs.Common.{◌≡◌, inl, inr, ℕ, ◌≤◌, Bool, true, false, cond, List, [], ◌++◌, length, take, Some, None, refl, sym, ◌∙◌, ap, subst, arith, append-nil}
 use Rattle.std.proofs.Math.Seq.{take-append_seam}
 use Rattle.fsd_log.specs.Scan.{Placed}
 use Rattle.std.specs.Prelude.{IfOk, nat_lt, ◌&&◌, Result, Ok, Err}
@@ -25,7 +25,6 @@ use Rattle.volume_turns.specs.declared.script.Stop.TheVariants.{Ended, Input, Wo
 use Rattle.volume_turns.specs.Group.{is_worn_end}
 use Rattle.volume_turns.specs.Once.{ClosesAndSays, unit_of}
 use Rattle.volume_turns.specs.Script.{FailedGroup, FailsBehind, GroupsBy, Heard, RoseBy, Spells, WholeRead}
-use Rattle.volume_turns.specs.Turns.{RunsFrom, Told}
 use Rattle.volume_turns.proofs.GroupLaws.{group_all, group_all_cut, group_stop, group_worn}
 use Rattle.volume_turns.proofs.ScriptLaws.{spells_here}
 

@@ -1,12 +1,11 @@
 -- Commands that are read from the input, one after another.
-use Rattle.std.proofs.Common.{◌≡◌, ℕ, ◌+◌, ◌≤◌, List, [], ◌∷◌, ◌++◌, length, take, drop, Option, Some, None, refl, sym, ◌∙◌, ap, subst, arith, append_assoc, length-append}
+use Rattle.std.proofs.Common.{◌≡◌, ℕ, ◌≤◌, List, [], ◌∷◌, ◌++◌, take, Option, Some, None, refl, sym, ◌∙◌, ap, subst, arith, append_assoc, length-append}
 use Rattle.fsd_log.specs.Scan.{Placed}
-use Rattle.std.specs.Prelude.{⊤, Result, Ok, Err}
+use Rattle.std.specs.Prelude.{Result, Ok, Err}
 use Rattle.std.proofs.lemmas.List.{length-take, take-append-drop}
 use Rattle.sector_disk.specs.declared.machine.Machine.{Ghosts}
-use Rattle.sector_disk.specs.Calls.{DiskFaults, LeavesDisk, SparesDisk}
 use Rattle.sector_disk.specs.Image.{AreShort, Windows, open_damage, IsWorn}
-use Rattle.sector_disk.specs.Machine.{Ledger, LeavesOnly, Moment, Report, Rose, Wears, took}
+use Rattle.sector_disk.specs.Machine.{Ledger, LeavesOnly, Moment, Report, Rose, Wears}
 use Rattle.sector_disk.proofs.CallLaws.{faults_then}
 use Rattle.sector_disk.proofs.Moments.{leaves_more, started, then_on}
 use Rattle.sector_disk.proofs.Wear.{worn_trans}
@@ -20,14 +19,14 @@ use Rattle.fsd_texts.specs.Script.{Script}
 use Rattle.fsd_runs.specs.Errands.{Errand, Turn}
 use Rattle.fsd_runs.specs.Runs.{Goes, said_in, turns_begun}
 use Rattle.script_text.specs.declared.fault.ScriptFault.{ScriptFault}
-use Rattle.script_text.specs.Reading.{Ahead, Reading, count_with, fresh, script_left}
+use Rattle.script_text.specs.Reading.{Ahead, Reading, script_left}
 use Rattle.script_text.specs.Taking.{Moves}
 use Rattle.volume_contract.specs.State.{State, Ages, Known, Stands, forced_of, volume_of}
 use Rattle.volume_turns.specs.declared.turns.End.{End}
 use Rattle.volume_turns.specs.declared.turns.End.TheVariants.{Fault as Stopped, Output}
 use Rattle.volume_turns.specs.declared.script.Stop.{Stop}
 use Rattle.volume_turns.specs.declared.script.Stop.TheVariants.{Ended, Input, WornOut}
-use Rattle.volume_turns.specs.Script.{DoneSo, FailsBehind, Heard, Leads, Reads, RoseBy, Spells, stopped}
+use Rattle.volume_turns.specs.Script.{DoneSo, Heard, Reads, RoseBy, Spells}
 use Rattle.volume_turns.specs.Steps.{StaysSound}
 use Rattle.volume_turns.specs.Turns.{Behind, EndsBy, Follows, InRun, Runs, RunsFrom, Said, StandsBehind, Steps, Told, Unheard, device_end}
 use Rattle.volume_turns.proofs.RunLaws.{follows_then, runs_nil, runs_stop, runs_then}

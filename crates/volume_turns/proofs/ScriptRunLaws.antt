@@ -1,11 +1,10 @@
 -- What a script leaves, from the mounted volume to the last line.
-use Rattle.std.proofs.Common.{◌≡◌, ◌⊎◌, inl, inr, ℕ, ◌≤◌, Bool, true, false, List, [], ◌∷◌, ◌++◌, length, take, Some, None, refl, sym, ◌∙◌, ap, subst}
+use Rattle.std.proofs.Common.{◌≡◌, ◌⊎◌, inl, inr, ℕ, Bool, true, false, List, [], ◌∷◌, ◌++◌, length, take, Some, None, refl, sym, ◌∙◌, ap, subst}
 use Rattle.std.specs.Prelude.{◌==◌, if◌then◌else◌, IsSome, slice_get}
 use Rattle.sector_disk.specs.declared.machine.Machine.{Ghosts}
 use Rattle.sector_disk.specs.Machine.{Report, Rose}
 use Rattle.fsd_files.specs.Replies.{Reply}
 use Rattle.fsd_files.specs.Volume.{Volume}
-use Rattle.fsd_files.specs.Disk.{Image}
 use Rattle.fsd_texts.specs.declared.command.Command.{Command}
 use Rattle.fsd_texts.specs.declared.fault.Fault.TheVariants as Ends
 use Rattle.fsd_texts.specs.declared.line.Line.TheVariants as Says
@@ -14,8 +13,8 @@ use Rattle.fsd_texts.specs.declared.end.End.TheVariants.{Done, Bad, TooLong}
 use Rattle.fsd_texts.specs.Script.{script_in, script_of}
 use Rattle.fsd_runs.specs.Commands.{reply_text}
 use Rattle.fsd_runs.specs.declared.request.Request.TheVariants.{Script}
-use Rattle.fsd_runs.specs.Errands.{Answered, Cut, Ending, Errand, Turn, blank, cut_ending, errand_of, group_ending, is_forced, line_turn, script_ending, scripted}
-use Rattle.fsd_runs.specs.Runs.{IsCutAt, IsWornOut, errand_in, turns_of}
+use Rattle.fsd_runs.specs.Errands.{Answered, Ending, Errand, Turn, blank, cut_ending, errand_of, group_ending, is_forced, line_turn, script_ending, scripted}
+use Rattle.fsd_runs.specs.Runs.{IsWornOut, turns_of}
 use Rattle.volume_contract.specs.State.{Known}
 use Rattle.volume_turns.specs.Group.{WornIf}
 use Rattle.volume_turns.specs.Whole.{Finishes, RunsOut}

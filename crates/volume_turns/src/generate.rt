@@ -118,7 +118,11 @@ fn make_up<M: Machine, V: Files<M>>(
 }
 
 /// Ends the use of a volume, and says that all is forced.
-pub(crate) fn close_forced<M: Machine, V: Files<M>>(alloc: Global, v: V, m: &mut M) -> Result<(), End>
+pub(crate) fn close_forced<M: Machine, V: Files<M>>(
+    alloc: Global,
+    v: V,
+    m: &mut M,
+) -> Result<(), End>
     requires room { (V.state v).layout.sectors ≤ (M.report m.old).sectors }
     ensures told { Told (M.report m.old) (M.report m.new) result }
     ensures trust { Trusts (M.tells m.old) (M.tells m.new) (M.honest m.old) (M.honest m.new) }

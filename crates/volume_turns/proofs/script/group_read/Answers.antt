@@ -1,6 +1,6 @@
-use Rattle.std.proofs.Common.{◌≡◌, Ok, Err, sym, ◌∙◌, arith}
+use Rattle.std.proofs.Common.{sym, ◌∙◌, arith}
 use Rattle.volume_turns.proofs.ScriptGroupLaws.{group_broken, group_stopped, group_worn_out, heard_worn}
-use Rattle.volume_turns.proofs.ScriptLaws.{heard_end, heard_of, heard_then}
+use Rattle.volume_turns.proofs.ScriptLaws.{heard_of, heard_then}
 use Rattle.volume_turns.proofs.script.group_read.Goals as goal
 
 pub returns-in-Ok-clause-group : goal.returns-in-Ok-clause-group

@@ -1,7 +1,6 @@
-use Rattle.std.proofs.Common.{◌≡◌, ℕ, ◌≤◌, ◌-◌, Option, Some, None, Ok, Err, refl, sym, ◌∙◌, ap, subst, arith}
+use Rattle.std.proofs.Common.{Option, Some, None, Ok, Err, refl, sym, ◌∙◌, ap, subst, arith}
 use Rattle.volume_layout.specs.declared.layout.Layout.{Layout}
 use Rattle.sector_disk.proofs.Holding.{trusts_on}
-use Rattle.fsd_texts.specs.Script.{max_input}
 use Rattle.script_text.specs.Reading.{Reading, fresh}
 use Rattle.volume_turns.specs.Script.{DoneSo, GoesOn, Reads, RoseBy}
 use Rattle.volume_turns.specs.declared.script.Stop.{Stop}

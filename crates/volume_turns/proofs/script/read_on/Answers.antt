@@ -1,11 +1,8 @@
-use Rattle.std.proofs.Common.{◌≡◌, Ok, Err, List, [], ◌∷◌, Option, Some, refl, sym, subst, arith}
-use Rattle.sector_disk.specs.Calls.{LeavesDisk}
-use Rattle.sector_disk.specs.Machine.{Wears}
+use Rattle.std.proofs.Common.{◌≡◌, Ok, Err, [], ◌∷◌, Option, Some, refl, sym, subst, arith}
 use Rattle.fsd_texts.specs.declared.command.Command.{Command as Word}
 use Rattle.script_text.specs.declared.fault.ScriptFault.{ScriptFault}
-use Rattle.script_text.specs.declared.fault.ScriptFault.TheVariants.{Input}
 use Rattle.script_text.specs.Reading.{Answers, NoneWaits, end_with, script_left}
-use Rattle.script_text.specs.Taking.{Moves, input_in}
+use Rattle.script_text.specs.Taking.{Moves}
 use Rattle.fsd_texts.specs.declared.bad_line.BadLine.{BadLine}
 use Rattle.fsd_texts.specs.declared.end.End.TheVariants.{Bad}
 use Rattle.volume_turns.specs.Script.{Reads}

@@ -1,4 +1,4 @@
-use Rattle.std.proofs.Common.{◌≡◌, ℕ, ◌≤◌, List, [], ◌∷◌, ◌++◌, inl, inr, Ok, Err, refl, sym, ◌∙◌, ap, subst, arith}
+use Rattle.std.proofs.Common.{ℕ, [], ◌∷◌, ◌++◌, inl, inr, Ok, Err, sym, ◌∙◌, ap, subst}
 use Rattle.sector_disk.specs.Machine.{Ledger, Rose}
 use Rattle.fsd_texts.specs.declared.bad_line.BadLine.{BadLine}
 use Rattle.fsd_texts.specs.declared.end.End.{End as ScriptEnd}
@@ -107,9 +107,9 @@ returns-in-Err-Fault-clause-runs g c h k stands =
     let heard = subst (λ (y : End). Heard {T = Stop} (M.report a) (M.report p) (Err y)) x.field-0-is x.ensures.heard in
     let told = told_but (M.report a) (M.report p) (Err _) heard in
     elim grp [
-      inl w ↦ runs_either e c.requires.says c.requires.forces M input (M.ledger b).input (M.report a) (M.report p) k a b line.result
+      | inl w ↦ runs_either e c.requires.says c.requires.forces M input (M.ledger b).input (M.report a) (M.report p) k a b line.result
           (λ more gives. group_fault M before k a p b h (says.since h) (g.met.M.Machine.short p back) stands.ends line.result e (script_in input).0 more gives x.why w told says (line.ensures.ends h))
-    | inr f ↦ runs_failed e c.requires.says c.requires.forces M input (M.ledger b).input (M.report a) (M.report p) k a b line.result f.done f.front (subst (λ (n : ℕ). Rose (M.report a).input_faults n) (sym says.spares.input) f.rose)
+      | inr f ↦ runs_failed e c.requires.says c.requires.forces M input (M.ledger b).input (M.report a) (M.report p) k a b line.result f.done f.front (subst (λ (n : ℕ). Rose (M.report a).input_faults n) (sym says.spares.input) f.rose)
           f.taken (f.all ∙ ap (λ (l : Ledger). f.taken ++ l.input) (sym (line.ensures.ledger (g.met.M.Machine.honest_tells b h)))) f.whole
           (group_fault_all M before k a p b h (says.since h) (g.met.M.Machine.short p back) stands.ends line.result e f.done (line_turn (Says.Ended Ends.Input) ∷ []) 5 x.why f.group f.uncut told says (line.ensures.ends h))
     ]
@@ -127,8 +127,8 @@ returns-in-Err-Output-clause-runs g c h k stands =
     let heard = subst (λ (y : End). Heard {T = Stop} (M.report a) (M.report b) (Err y)) x.field-0-is x.ensures.heard in
     let told = told_but (M.report a) (M.report b) (Err _) heard in
     elim grp [
-      inl w ↦ runs_either e c.requires.says c.requires.forces M input (M.ledger b).input (M.report a) (M.report b) k a b 6
+      | inl w ↦ runs_either e c.requires.says c.requires.forces M input (M.ledger b).input (M.report a) (M.report b) k a b 6
           (λ more gives. group_unsaid M before k a b h (g.met.M.Machine.short b h) stands.ends e (script_in input).0 more gives told w)
-    | inr f ↦ runs_failed e c.requires.says c.requires.forces M input (M.ledger b).input (M.report a) (M.report b) k a b 6 f.done f.front f.rose f.taken f.all f.whole
+      | inr f ↦ runs_failed e c.requires.says c.requires.forces M input (M.ledger b).input (M.report a) (M.report b) k a b 6 f.done f.front f.rose f.taken f.all f.whole
           (group_unsaid_all M before k a b h (g.met.M.Machine.short b h) stands.ends e f.done (line_turn (Says.Ended Ends.Input) ∷ []) 5 told f.group f.uncut)
     ]
