@@ -41,13 +41,10 @@ disk_but : (a b : Report) (o : Option ℕ) → DiskFaults o a b → DiskFaults o
 disk_but a b None x = x
 disk_but a b (Some place) x = record { rose = x.rose; told = x.told }
 
-output_but : {T : Type 0} (a b : Report) (r : Result T End) → Heard {T = T} a b r → Told {T = T} (but_input a b) b r
-output_but a b (Ok x) h = record { sectors = h.sectors; disk = disk_but a b None h.disk; input = refl; later = h.later; output = tt }
-output_but a b (Err (Stopped why)) h = record { sectors = h.sectors; disk = disk_but a b (device_end {T = Unit {0}} (Err (Stopped why))) h.disk; input = refl; later = h.later; output = tt }
-output_but a b (Err Output) h = record { sectors = h.sectors; disk = disk_but a b None h.disk; input = refl; later = h.later; output = h.output }
-
 pub told_but : {T : Type 0} (a b : Report) (r : Result T End) → Heard {T = T} a b r → Told {T = T} (but_input a b) b r
-told_but a b r h = output_but a b r h
+told_but a b (Ok x) h = record { sectors = h.sectors; disk = disk_but a b None h.disk; input = refl; later = h.later; output = tt }
+told_but a b (Err (Stopped why)) h = record { sectors = h.sectors; disk = disk_but a b (device_end {T = Unit {0}} (Err (Stopped why))) h.disk; input = refl; later = h.later; output = tt }
+told_but a b (Err Output) h = record { sectors = h.sectors; disk = disk_but a b None h.disk; input = refl; later = h.later; output = h.output }
 
 outside_in : (a p b : Report) (why : Fault) → IsOutside Script (but_input a p) b why → IsOutside Script a b why
 outside_in a p b (Ends.Device s) o = record { rose = o.rose; told = o.told }
