@@ -69,6 +69,8 @@ impl Reader {
         ensures again { IfSome self.old.end (λ end. (result ≡ answer_of end) × (self.new ≡ self.old)) }
         ensures unasked { IfSome self.old.end (λ _. m.new ≡ m.old) }
         ensures most { self.new.taken ≤ max_input + 1 }
+        ensures open { self.new.end ≡ None → self.new.taken ≤ max_input }
+        ensures few { self.new.given ≤ self.new.taken }
         ensures moves { M.tells m.new → Moves result self.old self.new (M.ledger m.old) (M.ledger m.new) }
         ensures waits { NoneWaits result self.new.waiting }
         ensures calls { LeavesDisk M.Machine (input_in result) false Wears m.old m.new }

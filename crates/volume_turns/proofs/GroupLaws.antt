@@ -123,6 +123,11 @@ module _ {S D : Type 0} (state : S → State) (has : S → Mounted → List Plac
   unfolding group_all group_done
   group_all_mets a m b w since later ran result same closes = refl
 
+  pub group_all_cut : (a m b : D) (w : S) (since : Since M m b) (later : M.moment a ≤ M.moment m) (ran : RunsFrom state has M e k from commands a m w (Ok tt)) (result : Result Bool End) (same : IfOk result (λ x. x ≡ true))
+      (closes : (x : Known) → Stands state has w x (M.now m) → ClosesAndSays M x forced_turn.said m b (unit_of result)) → (group_all a m b w since later ran result same closes).cut ≡ false
+  unfolding group_all group_done
+  group_all_cut a m b w since later ran result same closes = refl
+
   -- it was cut off
   pub group_worn : (a m b : D) (w : S) → Since M m b → M.moment a ≤ M.moment m → (end : End) → is_worn_end end ≡ true → RunsFrom state has M e k from commands a m w (Err end) → (result : Result Bool End) → IfOk result (λ x. x ≡ false)
       → ((x : Known) → Stands state has w x (M.now m) → ClosesAndSays M x forced_turn.said m b (unit_of result)) → IsGroup M e k from commands a b result

@@ -12,6 +12,10 @@ pub mod OneLaws
 pub mod OrderLaws
 pub mod ReadLaws
 pub mod RunLaws
+pub mod ScriptEndLaws
+pub mod ScriptGroupLaws
+pub mod ScriptLaws
+pub mod ScriptRunLaws
 pub mod StatusLaws
 pub mod StepLaws
 pub mod TurnLaws

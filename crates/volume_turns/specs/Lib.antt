@@ -3,6 +3,7 @@ pub mod Group
 pub mod Line
 pub mod Listing
 pub mod Once
+pub mod Script
 pub mod Status
 pub mod Steps
 pub mod Tally

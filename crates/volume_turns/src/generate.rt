@@ -117,14 +117,19 @@ fn make_up<M: Machine, V: Files<M>>(
     Ok(tally)
 }
 
-// Ends the use of a volume, and says that all is forced.
-fn close_forced<M: Machine, V: Files<M>>(alloc: Global, v: V, m: &mut M) -> Result<(), End>
+/// Ends the use of a volume, and says that all is forced.
+pub(crate) fn close_forced<M: Machine, V: Files<M>>(
+    alloc: Global,
+    v: V,
+    m: &mut M,
+) -> Result<(), End>
     requires room { (V.state v).layout.sectors ≤ (M.report m.old).sectors }
     ensures told { Told (M.report m.old) (M.report m.new) result }
     ensures trust { Trusts (M.tells m.old) (M.tells m.new) (M.honest m.old) (M.honest m.new) }
     ensures since { M.honest m.new → Since M.Machine m.old m.new }
     ensures later { M.honest m.new → M.moment m.old ≤ M.moment m.new }
     ensures closes { M.honest m.new → (k : Known) → Stands V.state V.holds v k (M.now m.old) → ClosesAndSays M.Machine k forced_turn.said m.old m.new result }
+    ensures input { M.tells m.new → (M.ledger m.new).input ≡ (M.ledger m.old).input }
 {
     match v.close(m) {
         Ok(()) => say_one(alloc, m, &Line::Forced),

@@ -1,5 +1,6 @@
 //! Programs over the contract of a volume that know nothing else of it: commands one after another, each with its reply said, a
-//! group of them with its force, and from the mount to the last line one command, a put of the input, and commands that are made up.
+//! group of them with its force, and from the mount to the last line one command, a put of the input, a script, and commands that
+//! are made up.
 #![tactic(auto)]
 
 mod answer;
@@ -10,6 +11,7 @@ mod input;
 mod line;
 mod listing;
 mod once;
+mod script;
 mod tally;
 mod turns;
 mod whole;
@@ -19,5 +21,6 @@ pub use generate::run_generate;
 pub use group::group_run;
 pub use input::run_put;
 pub use once::alone;
+pub use script::run_script;
 pub use turns::{End, Says};
 pub use whole::run_one;

@@ -60,6 +60,7 @@ pub(crate) fn last_line<M: Machine>(alloc: Global, m: &mut M, line: &Line, gives
     requires { is_unsaid gives ≡ false }
     ensures says { LeavesDisk M.Machine false (is_unsaid result) (UttersLast line.now) m.old m.new }
     ensures ends { M.honest m.new → EndsLast line.now gives (M.now m.old) (M.now m.new) result }
+    ensures ledger { M.tells m.new → M.ledger m.new ≡ M.ledger m.old }
 {
     let mut text = Bytes::new(alloc);
     match say_line(alloc, line, &mut text) {
@@ -73,6 +74,7 @@ fn say_text<M: Machine>(m: &mut M, text: &[u8], gives: u8) -> u8
     requires { is_unsaid gives ≡ false }
     ensures says { LeavesDisk M.Machine false (is_unsaid result) (Utters text.now) m.old m.new }
     ensures ends { M.honest m.new → (result ≡ 6) ⊎ ((result ≡ gives) × SaysAll text.now (M.now m.old) (M.now m.new)) }
+    ensures ledger { M.tells m.new → M.ledger m.new ≡ M.ledger m.old }
 {
     match m.say(text) {
         Ok(()) => gives,
@@ -88,6 +90,7 @@ pub(crate) fn say_one<M: Machine>(alloc: Global, m: &mut M, line: &Line) -> Resu
     ensures moments { M.honest m.new → LeavesOnly M.moment M.left_since m.old m.new (Utters (text line.now) (M.now m.old)) }
     ensures said { OnOk result (M.honest m.new → SaysAll (text line.now) (M.now m.old) (M.now m.new)) }
     ensures unsaid { IfErr result (λ end. M.honest m.new → Unsaid (M.now m.old) (M.now m.new) end) }
+    ensures ledger { M.tells m.new → M.ledger m.new ≡ M.ledger m.old }
 {
     let mut text = Bytes::new(alloc);
     if say_line(alloc, line, &mut text).is_err() {

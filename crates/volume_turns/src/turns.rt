@@ -73,6 +73,7 @@ pub fn step<M: Machine, V: Files<M>, T: Says>(
     ensures since { M.honest m.new → Since M.Machine m.old m.new }
     ensures later { M.honest m.new → M.moment m.old ≤ M.moment m.new }
     ensures steps { Steps V.state V.holds M.Machine T.errand c.now v.old m.old v.new m.new result }
+    ensures input { M.tells m.new → (M.ledger m.new).input ≡ (M.ledger m.old).input }
 {
     match commands::answer(alloc, v, m, c) {
         Ok(answer) => say::<M, T>(alloc, m, &answer),

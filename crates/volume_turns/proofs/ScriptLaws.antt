@@ -1,0 +1,259 @@
+-- Commands that are read from the input, one after another.
+use Rattle.std.proofs.Common.{◌≡◌, ℕ, ◌≤◌, List, [], ◌∷◌, ◌++◌, take, Option, Some, None, refl, sym, ◌∙◌, ap, subst, arith, append_assoc, length-append}
+use Rattle.fsd_log.specs.Scan.{Placed}
+use Rattle.std.specs.Prelude.{Result, Ok, Err}
+use Rattle.std.proofs.lemmas.List.{length-take, take-append-drop}
+use Rattle.sector_disk.specs.declared.machine.Machine.{Ghosts}
+use Rattle.sector_disk.specs.Image.{AreShort, Windows, open_damage, IsWorn}
+use Rattle.sector_disk.specs.Machine.{Ledger, LeavesOnly, Moment, Report, Rose, Wears}
+use Rattle.sector_disk.proofs.CallLaws.{faults_then}
+use Rattle.sector_disk.proofs.Moments.{leaves_more, started, then_on}
+use Rattle.sector_disk.proofs.Wear.{worn_trans}
+use Rattle.fsd_files.specs.Disk.{in_runs}
+use Rattle.fsd_sound.specs.Mounted.{Mounted}
+use Rattle.fsd_sound.proofs.MountedLaws.{mounted_sound}
+use Rattle.fsd_texts.specs.declared.command.Command.{Command}
+use Rattle.fsd_texts.specs.declared.end.End.{End as ScriptEnd}
+use Rattle.fsd_texts.specs.declared.fault.Fault.TheVariants as Ends
+use Rattle.fsd_texts.specs.Script.{Script}
+use Rattle.fsd_runs.specs.Errands.{Errand, Turn}
+use Rattle.fsd_runs.specs.Runs.{Goes, said_in, turns_begun}
+use Rattle.script_text.specs.declared.fault.ScriptFault.{ScriptFault}
+use Rattle.script_text.specs.Reading.{Ahead, Reading, script_left}
+use Rattle.script_text.specs.Taking.{Moves}
+use Rattle.volume_contract.specs.State.{State, Ages, Known, Stands, forced_of, volume_of}
+use Rattle.volume_turns.specs.declared.turns.End.{End}
+use Rattle.volume_turns.specs.declared.turns.End.TheVariants.{Fault as Stopped, Output}
+use Rattle.volume_turns.specs.declared.script.Stop.{Stop}
+use Rattle.volume_turns.specs.declared.script.Stop.TheVariants.{Ended, Input, WornOut}
+use Rattle.volume_turns.specs.Script.{DoneSo, Heard, Reads, RoseBy, Spells}
+use Rattle.volume_turns.specs.Steps.{StaysSound}
+use Rattle.volume_turns.specs.Turns.{Behind, EndsBy, Follows, InRun, Runs, RunsFrom, Said, StandsBehind, Steps, Told, Unheard, device_end}
+use Rattle.volume_turns.proofs.RunLaws.{follows_then, runs_nil, runs_stop, runs_then}
+use Rattle.volume_turns.proofs.TurnLaws.{in_before, said_nothing}
+
+-- ---- a read in front of a run
+
+module _ (k : Known) (old mid : Moment) (w : Wears old mid) where
+  in_from : (turns : List Turn) (left : Moment) → InRun k turns mid left → InRun k turns old left
+  in_from turns left x = record {
+    windows = x.windows ∙ w.windows;
+    whole = x.whole;
+    part = x.part;
+    said = x.said ∙ ap (λ (y : List ℕ). y ++ (said_in (take x.whole turns) ++ x.part)) w.said;
+    next = x.next;
+    forced = x.forced;
+    least = x.least;
+    enough = x.enough;
+    sound = x.sound;
+  }
+
+  said_from : (turns : List Turn) (now : Moment) → Said k turns mid now → Said k turns old now
+  said_from turns now x = record {
+    windows = x.windows ∙ w.windows;
+    whole = x.whole;
+    most = x.most;
+    said = x.said ∙ ap (λ (y : List ℕ). y ++ said_in (take x.whole turns)) w.said;
+    forced = x.forced;
+    least = x.least;
+    enough = x.enough;
+    sound = x.sound;
+  }
+
+ages_on : (from old mid : Moment) → Ages from old → Wears old mid → Ages from mid
+ages_on from old mid aged w = record {
+  image = worn_trans (open_damage from.windows) from.image old.image mid.image aged.image (subst (λ (x : Windows). IsWorn (open_damage x) old.image mid.image) aged.windows w.image);
+  windows = w.windows ∙ aged.windows;
+}
+
+module _ {S D : Type 0} (state : S → State) (has : S → Mounted → List Placed → Type 0) (M : Ghosts D) (e : Errand)
+    (wears : (s : S) (k : Known) (old new : Moment) → AreShort old.windows → Ages old new → Stands state has s k old → Stands state has s k new) where
+  module _ (v : S) (k : Known) (from : Moment) (short : AreShort from.windows) (stood : Stands state has v k from) where
+    stays_so : (old left : Moment) → Ages from old → Wears old left → StaysSound k old left
+    stays_so old left aged w =
+        let now = wears v k from left short (ages_on from old left aged w) stood in
+        record { sound = mounted_sound k.mounted k.windows k.changes (forced_of k) left.image now.disk; windows = w.windows; said = w.said }
+
+  module _ (v : S) (a m : D) (worn : M.honest m → Wears (M.now a) (M.now m)) (read : M.honest m → LeavesOnly M.moment M.left_since a m (Wears (M.now a)))
+      (short : M.honest m → (from : Moment) → Ages from (M.now a) → AreShort from.windows) where
+    -- the same commands, from before the read on
+    pub runs_read : (commands : List Command) (z : S) (b : D) (result : Result (Unit {0}) End) → Follows M m b → Runs state has M e commands v m z b result → Runs state has M e commands v a z b result
+    runs_read commands z b result follows runs honest k from stood aged = record {
+      mets = r.mets;
+      goes = λ t le. let later = (read back).later in
+          subst (λ (x : List ℕ). Goes (in_runs k.windows) (M.left_since b t) (Behind result) e x from.image (volume_of k) r.mets commands) w.said (r.goes t (omega (arith, le, later)));
+      moments = λ rest. then_on M.moment M.left_since a m b (InRun k (turns_begun e r.mets (volume_of k) commands ++ rest) (M.now a))
+          (leaves_more M.moment M.left_since a m (Wears (M.now a)) (InRun k (turns_begun e r.mets (volume_of k) commands ++ rest) (M.now a))
+          (λ left x. in_before k (turns_begun e r.mets (volume_of k) commands ++ rest) (M.now a) left (stays_so v k from (short back from aged) stood (M.now a) left aged x)) (read back))
+          (leaves_more M.moment M.left_since m b (InRun k (turns_begun e r.mets (volume_of k) commands ++ rest) (M.now m)) (InRun k (turns_begun e r.mets (volume_of k) commands ++ rest) (M.now a))
+          (λ left x. in_from k (M.now a) (M.now m) w (turns_begun e r.mets (volume_of k) commands ++ rest) left x) (r.moments rest));
+      ends = by result r.ends;
+    }
+      where
+        back : M.honest m
+        back = follows.honest honest
+
+        w : Wears (M.now a) (M.now m)
+        w = worn back
+
+        r : RunsFrom state has M e k from commands m b z result
+        r = runs honest k from stood (ages_on from (M.now a) (M.now m) aged w)
+
+        stands_so : StandsBehind state has e k r.mets commands z (M.now m) (M.now b) → StandsBehind state has e k r.mets commands z (M.now a) (M.now b)
+        stands_so x = record {
+          after = x.after;
+          is = x.is;
+          windows = x.windows;
+          changes = x.changes;
+          said = x.said ∙ ap (λ (y : List ℕ). y ++ said_in (turns_begun e r.mets (volume_of k) commands)) w.said;
+          open_windows = x.open_windows ∙ w.windows;
+          layout = x.layout;
+          least = x.least;
+          forced = x.forced;
+          stands = x.stands;
+        }
+
+        by : (x : Result (Unit {0}) End) → EndsBy state has e k r.mets commands z (M.now m) (M.now b) x → EndsBy state has e k r.mets commands z (M.now a) (M.now b) x
+        by (Ok x) is = (is.0, stands_so is.1)
+        by (Err (Stopped Ends.WornOut)) is = (is.0, stands_so is.1)
+        by (Err Output) is = tt
+        by (Err (Stopped why)) is = (is.0, said_from k (M.now a) (M.now m) w (turns_begun e r.mets (volume_of k) commands) (M.now b) is.1)
+
+  -- memory was refused for the next of them
+  pub runs_refused : (commands : List Command) (v : S) (a : D) → (M.honest a → (left : Moment) → M.left_since a (M.moment a) left → left ≡ M.now a) → (M.honest a → (from : Moment) → Ages from (M.now a) → AreShort from.windows)
+      → Runs state has M e commands v a v a (Err (Stopped Ends.Memory))
+  runs_refused commands v a only short honest k from stood aged =
+      let now = wears v k from (M.now a) (short honest from aged) aged stood in
+      let sound = mounted_sound k.mounted k.windows k.changes (forced_of k) (M.now a).image now.disk in
+      record {
+        mets = [];
+        goes = λ t le. tt;
+        moments = λ rest. started M.moment M.left_since a (M.now a) (InRun k rest (M.now a)) (only honest) (in_before k rest (M.now a) (M.now a) (record { sound = sound; windows = refl; said = refl }));
+        ends = (tt, said_nothing k (M.now a) (M.now a) (record { sound = sound; windows = refl; said = refl }));
+      }
+
+-- ---- what is taken
+
+-- a call of the reader, and what the ledger still has
+pub moves_spells : (result : Result (Option Command) ScriptFault) (old new : Reading) (before now : Ledger) (left : List ℕ) (commands : List Command) → left ≡ now.input → (m : Moves result old new before now)
+    → ((rest : List ℕ) → Ahead result (script_left old (take m.count before.input ++ rest)) (script_left new rest) → script_left old (take m.count before.input ++ rest) ≡ (commands ++ (script_left new rest).0, (script_left new rest).1))
+    → Spells before.input left old new commands
+moves_spells result old new before now left commands same m spells = record {
+  bytes = take m.count before.input;
+  all = sym (take-append-drop m.count before.input) ∙ ap (λ (x : List ℕ). take m.count before.input ++ x) (sym (same ∙ ap (λ (l : Ledger). l.input) m.left));
+  count = let taken = m.taken in let some = m.some in let long = length-take m.count before.input in omega (arith, taken, some, long);
+  spells = λ rest. spells rest (m.ahead rest);
+}
+
+pub spells_then : (a b c : List ℕ) (r s t : Reading) (first more : List Command) → Spells a b r s first → Spells b c s t more → Spells a c r t (first ++ more)
+spells_then a b c r s t first more x y = record {
+  bytes = x.bytes ++ y.bytes;
+  all = x.all ∙ ap (λ (z : List ℕ). x.bytes ++ z) y.all ∙ sym (append_assoc x.bytes y.bytes c);
+  count = let p = x.count in let q = y.count in let sum = length-append x.bytes y.bytes in omega (arith, p, q, sum);
+  spells = λ rest. ap (λ (z : List ℕ). script_left r z) (append_assoc x.bytes y.bytes rest) ∙ x.spells (y.bytes ++ rest)
+      ∙ ap (λ (z : Script). (first ++ z.0, z.1)) (y.spells rest)
+      ∙ ap (λ (z : List Command). (z, (script_left t rest).1)) (sym (append_assoc first more (script_left t rest).0));
+}
+
+-- nothing yet
+pub spells_none : (a : List ℕ) (r : Reading) → Spells a a r r []
+spells_none a r = record { bytes = []; all = refl; count = omega arith; spells = λ rest. refl }
+
+-- what is to come of the input that is there
+pub spells_here : (a b : List ℕ) (r s : Reading) (first : List Command) → Spells a b r s first → script_left r a ≡ (first ++ (script_left s b).0, (script_left s b).1)
+spells_here a b r s first x = ap (λ (z : List ℕ). script_left r z) x.all ∙ x.spells b
+
+-- ---- one after another
+
+module _ {S D : Type 0} (state : S → State) (has : S → Mounted → List Placed → Type 0) (M : Ghosts D) (e : Errand) where
+  pub reads_then : (r s t : Reading) (v w z : S) (a m b : D) (result : Result (Option Stop) End) → Follows M m b → DoneSo state has M e r s v a w m → Reads state has M e s t w m z b result → Reads state has M e r t v a z b result
+  reads_then r s t v w z a m b (Ok None) follows x y = record {
+    done = x.done ++ y.done;
+    taken = spells_then _ _ _ r s t x.done y.done x.taken y.taken;
+    leads = λ more u c result on runs. subst (λ (cs : List Command). Runs state has M e cs v a u c result) (sym (append_assoc x.done y.done more)) (x.leads (y.done ++ more) u c result (follows_then M m b c follows on) (y.leads more u c result on runs));
+  }
+  reads_then r s t v w z a m b (Ok (Some (Ended end))) follows x y =
+      let here = spells_here (M.ledger a).input (M.ledger m).input r s x.done x.taken in (
+        ap (λ (q : Script). q.1) here ∙ y.0,
+        subst (λ (q : Script). Runs state has M e q.0 v a z b (Ok tt)) (sym here) (x.leads (script_left s (M.ledger m).input).0 z b (Ok tt) follows y.1),
+      )
+  reads_then r s t v w z a m b (Ok (Some Input)) follows x y = record {
+    done = x.done ++ y.done;
+    taken = spells_then _ _ _ r s t x.done y.done x.taken y.taken;
+    runs = x.leads y.done z b (Ok tt) follows y.runs;
+    still = y.still;
+    short = y.short;
+  }
+  reads_then r s t v w z a m b (Ok (Some WornOut)) follows x y = absurd y
+  reads_then r s t v w z a m b (Err end) follows x y =
+      let here = spells_here (M.ledger a).input (M.ledger m).input r s x.done x.taken in
+      subst (λ (q : Script). Runs state has M e q.0 v a z b (Err end)) (sym here) (x.leads (script_left s (M.ledger m).input).0 z b (Err end) follows y)
+
+  pub done_none : (r : Reading) (v : S) (a : D) → DoneSo state has M e r r v a v a
+  done_none r v a = record { done = []; taken = spells_none (M.ledger a).input r; leads = λ more z c result follows runs. runs }
+
+-- ---- one more
+
+module _ {S D : Type 0} (state : S → State) (has : S → Mounted → List Placed → Type 0) (M : Ghosts D) (e : Errand)
+    (wears : (s : S) (k : Known) (old new : Moment) → AreShort old.windows → Ages old new → Stands state has s k old → Stands state has s k new)
+    (short : (m : D) → M.honest m → AreShort (M.now m).windows) (only : (m : D) (left : Moment) → M.honest m → M.left_since m (M.moment m) left → left ≡ M.now m)
+    (v : S) (a m : D) (trust : M.honest m → M.honest a) (worn : M.honest m → Wears (M.now a) (M.now m)) (read : M.honest m → LeavesOnly M.moment M.left_since a m (Wears (M.now a))) where
+  here : Follows M m m
+  here = record { honest = λ h. h; since = λ h t left le was. was; later = λ h. omega arith }
+
+  first : (commands : List Command) (z : S) (b : D) (result : Result (Unit {0}) End) → Follows M m b → Runs state has M e commands v m z b result → Runs state has M e commands v a z b result
+  first = runs_read state has M e wears v a m worn read (λ h from aged. subst (λ (w : Windows). AreShort w) aged.windows (short a (trust h)))
+
+  pub none_done : Runs state has M e [] v a v m (Ok tt)
+  none_done = first [] v m (Ok tt) here (runs_nil state has M e v m wears (λ h left was. only m left h was) (λ h from aged. subst (λ (w : Windows). AreShort w) aged.windows (short m h)))
+
+  pub none_read : (commands : List Command) → Runs state has M e commands v a v m (Err (Stopped Ends.Memory))
+  none_read commands = first commands v m (Err (Stopped Ends.Memory)) here (runs_refused state has M e wears commands v m (λ h left was. only m left h was) (λ h from aged. subst (λ (w : Windows). AreShort w) aged.windows (short m h)))
+
+  module _ (r s : Reading) (command : Command) (w : S) (b : D) (step : Follows M m b) where
+    pub one_done : Spells (M.ledger a).input (M.ledger b).input r s (command ∷ []) → (M.honest b → M.moment m ≤ M.moment b) → Steps state has M e command v m w b (Ok tt) → DoneSo state has M e r s v a w b
+    one_done taken later steps = record {
+      done = command ∷ [];
+      taken = taken;
+      leads = λ more z c result follows runs. first (command ∷ more) z c result (follows_then M m b c step follows) (runs_then state has M e command more v w z m b c result follows later steps runs);
+    }
+
+    pub one_stops : (end : End) (now : Script) → script_left r (M.ledger a).input ≡ (command ∷ now.0, now.1) → Steps state has M e command v m w b (Err end) → Runs state has M e (script_left r (M.ledger a).input).0 v a w b (Err end)
+    one_stops end now is steps = subst (λ (q : Script). Runs state has M e q.0 v a w b (Err end)) (sym is) (first (command ∷ now.0) w b (Err end) step (runs_stop state has M e command now.0 v w m b end steps))
+
+  pub ended_so : (r s : Reading) (end : ScriptEnd) → script_left r (M.ledger a).input ≡ ([], end) → Reads state has M e r s v a v m (Ok (Some (Ended end)))
+  ended_so r s end is = (ap (λ (q : Script). q.1) is, subst (λ (q : Script). Runs state has M e q.0 v a v m (Ok tt)) (sym is) none_done)
+
+-- ---- what is counted
+
+unheard_then : {T : Type 0} (a b c : Report) → a.output_faults ≤ b.output_faults → (r : Result T End) → Unheard b c r → Unheard a c r
+unheard_then a b c later (Err Output) rose = omega (arith, later, rose)
+unheard_then a b c later (Err (Stopped fault)) rose = tt
+unheard_then a b c later (Ok u) rose = tt
+
+pub heard_then : {T U : Type 0} (a b c : Report) (u : U) (r : Result T End) → Heard {T = U} a b (Ok u) → Heard {T = T} b c r → Heard {T = T} a c r
+heard_then a b c u r x y = record {
+  sectors = y.sectors ∙ x.sectors;
+  disk = faults_then (device_end r) a b c x.disk y.disk;
+  later = let p = x.later in let q = y.later in omega (arith, p, q);
+  output = unheard_then a b c x.later r y.output;
+}
+
+pub heard_of : {T : Type 0} (a b : Report) (r : Result T End) → Told {T = T} a b r → Heard {T = T} a b r
+heard_of a b r x = record { sectors = x.sectors; disk = x.disk; later = x.later; output = x.output }
+
+pub heard_as : {T U : Type 0} (a b : Report) (t : T) (u : U) → Heard {T = T} a b (Ok t) → Heard {T = U} a b (Ok u)
+heard_as a b t u x = record { sectors = x.sectors; disk = x.disk; later = x.later; output = tt }
+
+pub heard_end : {T U : Type 0} (a b : Report) (end : End) → Heard {T = T} a b (Err end) → Heard {T = U} a b (Err end)
+heard_end a b (Stopped fault) x = record { sectors = x.sectors; disk = x.disk; later = x.later; output = tt }
+heard_end a b Output x = record { sectors = x.sectors; disk = x.disk; later = x.later; output = x.output }
+
+pub heard_none : (a : Report) → Heard {T = Unit {0}} a a (Ok tt)
+heard_none a = record { sectors = refl; disk = (refl, refl); later = omega arith; output = tt }
+
+pub rose_then : (a b c : Report) (o : Option Stop) → b.input_faults ≡ a.input_faults → RoseBy b c o → RoseBy a c o
+rose_then a b c None same rose = rose ∙ same
+rose_then a b c (Some Input) same rose = subst (λ (n : ℕ). Rose n c.input_faults) same rose
+rose_then a b c (Some (Ended end)) same rose = rose ∙ same
+rose_then a b c (Some WornOut) same rose = rose ∙ same

@@ -1,0 +1,54 @@
+use Rattle.std.proofs.Common.{sym, ◌∙◌, arith}
+use Rattle.volume_turns.proofs.ScriptGroupLaws.{group_broken, group_stopped, group_worn_out, heard_worn}
+use Rattle.volume_turns.proofs.ScriptLaws.{heard_of, heard_then}
+use Rattle.volume_turns.proofs.script.group_read.Goals as goal
+
+pub returns-in-Ok-clause-group : goal.returns-in-Ok-clause-group
+returns-in-Ok-clause-group g c honest k stands =
+    let V = g.V.Files in
+    let M = g.M.Machine in
+    let done = c.force_read in
+    let back = done.ensures.trust.honest honest in
+    group_stopped V.state V.holds M g.T.Says.errand k c.args.v c.read_all.new.v c.args.m.now c.read_all.new.m done.new.m (done.ensures.since honest) (c.read_all.ensures.later back) back stands
+    (done.ensures.input (g.met.M.Machine.honest_tells done.new.m honest)) done.ensures.told.input c.in-Ok.stop done.result done.ensures.same c.in-Ok.ensures.rose (c.in-Ok.ensures.reads (g.met.M.Machine.honest_tells c.read_all.new.m back)) (λ x at. done.ensures.closes honest x at)
+
+pub returns-then-is_worn_end-clause-group : goal.returns-then-is_worn_end-clause-group
+returns-then-is_worn_end-clause-group g c honest k stands =
+    let V = g.V.Files in
+    let M = g.M.Machine in
+    let done = c.force_read-then-is_worn_end in
+    let back = done.ensures.trust.honest honest in
+    group_worn_out V.state V.holds M g.T.Says.errand k c.args.v c.read_all.new.v c.args.m.now c.read_all.new.m done.new.m (done.ensures.since honest) (c.read_all.ensures.later back) back stands
+    c.in-Err.end (sym c.is_worn_end.ensures ∙ c.if-is_worn_end.true) done.result done.ensures.same (c.in-Err.ensures.reads (g.met.M.Machine.honest_tells c.read_all.new.m back)) (λ x at. done.ensures.closes honest x at)
+
+pub returns-else-is_worn_end-clause-group : goal.returns-else-is_worn_end-clause-group
+returns-else-is_worn_end-clause-group g c honest k stands =
+    let V = g.V.Files in
+    let M = g.M.Machine in
+    let m = c.read_all.new.m in
+    group_broken V.state V.holds M g.T.Says.errand k c.args.v c.read_all.new.v c.args.m.now m m (λ t left le was. was) (c.read_all.ensures.later honest) honest stands
+    c.in-Err.end (sym c.is_worn_end.ensures ∙ c.if-is_worn_end.false) (c.in-Err.ensures.reads (g.met.M.Machine.honest_tells m honest))
+
+pub returns-in-Ok-clause-heard : goal.returns-in-Ok-clause-heard
+returns-in-Ok-clause-heard g c =
+    let report = g.M.Machine.report in
+    heard_then (report c.args.m.now) (report c.read_all.new.m) (report c.force_read.new.m) c.in-Ok.stop c.force_read.result c.in-Ok.ensures.heard (heard_of (report c.read_all.new.m) (report c.force_read.new.m) c.force_read.result c.force_read.ensures.told)
+
+pub returns-then-is_worn_end-clause-heard : goal.returns-then-is_worn_end-clause-heard
+returns-then-is_worn_end-clause-heard g c =
+    let report = g.M.Machine.report in
+    let done = c.force_read-then-is_worn_end in
+    heard_then (report c.args.m.now) (report c.read_all.new.m) (report done.new.m) tt done.result (heard_worn (report c.args.m.now) (report c.read_all.new.m) c.in-Err.end (sym c.is_worn_end.ensures ∙ c.if-is_worn_end.true) c.in-Err.ensures.heard)
+    (heard_of (report c.read_all.new.m) (report done.new.m) done.result done.ensures.told)
+
+pub returns-in-Ok-clause-later : goal.returns-in-Ok-clause-later
+returns-in-Ok-clause-later g c h =
+    let x = c.read_all.ensures.later (c.force_read.ensures.trust.honest h) in
+    let y = c.force_read.ensures.later h in
+    omega (arith, x, y)
+
+pub returns-then-is_worn_end-clause-later : goal.returns-then-is_worn_end-clause-later
+returns-then-is_worn_end-clause-later g c h =
+    let x = c.read_all.ensures.later (c.force_read-then-is_worn_end.ensures.trust.honest h) in
+    let y = c.force_read-then-is_worn_end.ensures.later h in
+    omega (arith, x, y)

@@ -1,0 +1,118 @@
+use Rattle.std.proofs.Common.{Option, Some, None, Ok, Err, refl, sym, ◌∙◌, ap, subst, arith}
+use Rattle.volume_layout.specs.declared.layout.Layout.{Layout}
+use Rattle.sector_disk.proofs.Holding.{trusts_on}
+use Rattle.script_text.specs.Reading.{Reading, fresh}
+use Rattle.volume_turns.specs.Script.{DoneSo, GoesOn, Reads, RoseBy}
+use Rattle.volume_turns.specs.declared.script.Stop.{Stop}
+use Rattle.volume_turns.specs.Turns.{Follows}
+use Rattle.volume_turns.proofs.RunLaws.{follows_then}
+use Rattle.volume_turns.proofs.ScriptLaws.{done_none, heard_as, heard_end, heard_none, heard_then, reads_then, rose_then}
+use Rattle.volume_turns.proofs.script.read_all.Goals as goal
+
+pub loop-stop-init : goal.loop-stop-init
+loop-stop-init g c =
+    let V = g.V.Files in
+    let M = g.M.Machine in
+    record {
+      layout = refl;
+      up = c.requires.up;
+      heard = heard_none (M.report c.args.m.now);
+      input = refl;
+      trust = record { tells = λ h. h; honest = λ h. h };
+      since = λ h t left le was. was;
+      later = λ h. omega arith;
+      few = let same = ap (λ (r : Reading). r.given) c.new-reader.ensures in omega (arith, same);
+      so_far = λ t. subst (λ (r : Reading). DoneSo V.state V.holds M g.T.Says.errand fresh r c.args.v.now c.args.m.now c.args.v.now c.args.m.now) (sym c.new-reader.ensures) (done_none V.state V.holds M g.T.Says.errand fresh c.args.v.now c.args.m.now);
+    }
+
+pub read_on-requires-clause-room : goal.read_on-requires-clause-room
+read_on-requires-clause-room g c =
+    let same = ap (λ (l : Layout). l.sectors) c.loop-stop.invariant.layout in
+    let sectors = c.loop-stop.invariant.heard.sectors in
+    let room = c.requires.room in
+    omega (arith, same, sectors, room)
+
+pub returns-in-Ok-Some-clause-heard : goal.returns-in-Ok-Some-clause-heard
+returns-in-Ok-Some-clause-heard g c =
+    let report = g.M.Machine.report in
+    heard_as (report c.args.m.now) (report c.read_on.new.m) c.in-Ok-Some.field-0 c.in-Ok-Some.stop (heard_then (report c.args.m.now) (report c.loop-stop.m) (report c.read_on.new.m) tt (Ok c.in-Ok-Some.field-0) c.loop-stop.invariant.heard c.in-Ok-Some.ensures.heard)
+
+pub returns-in-Ok-Some-clause-rose : goal.returns-in-Ok-Some-clause-rose
+returns-in-Ok-Some-clause-rose g c =
+    let report = g.M.Machine.report in
+    rose_then (report c.args.m.now) (report c.loop-stop.m) (report c.read_on.new.m) (Some c.in-Ok-Some.stop) c.loop-stop.invariant.input
+    (subst (λ (o : Option Stop). RoseBy (report c.loop-stop.m) (report c.read_on.new.m) o) c.in-Ok-Some.field-0-is c.in-Ok-Some.ensures.rose)
+
+pub returns-in-Ok-Some-clause-since : goal.returns-in-Ok-Some-clause-since
+returns-in-Ok-Some-clause-since g c =
+    let M = g.M.Machine in
+    let was = c.loop-stop.invariant in
+    let on : Follows M c.args.m.now c.loop-stop.m = record { honest = was.trust.honest; since = was.since; later = was.later } in
+    (follows_then M c.args.m.now c.loop-stop.m c.read_on.new.m on (record { honest = c.read_on.ensures.trust.honest; since = c.read_on.ensures.since; later = c.read_on.ensures.later })).since
+
+pub returns-in-Ok-Some-clause-reads : goal.returns-in-Ok-Some-clause-reads
+returns-in-Ok-Some-clause-reads g c t =
+    let V = g.V.Files in
+    let M = g.M.Machine in
+    let l = c.loop-stop in
+    let reads = subst (λ (o : Option Stop). Reads V.state V.holds M g.T.Says.errand l.reader c.read_on.new.reader l.v l.m c.read_on.new.v c.read_on.new.m (Ok o)) c.in-Ok-Some.field-0-is (c.in-Ok-Some.ensures.reads t) in
+    record {
+      last = c.read_on.new.reader;
+      few = c.read_on.ensures.few;
+      reads = reads_then V.state V.holds M g.T.Says.errand fresh l.reader c.read_on.new.reader c.args.v.now l.v c.read_on.new.v c.args.m.now l.m c.read_on.new.m (Ok (Some c.in-Ok-Some.stop))
+          (record { honest = c.read_on.ensures.trust.honest; since = c.read_on.ensures.since; later = c.read_on.ensures.later }) (l.invariant.so_far (c.read_on.ensures.trust.tells t)) reads;
+    }
+
+pub returns-in-Err-clause-heard : goal.returns-in-Err-clause-heard
+returns-in-Err-clause-heard g c =
+    let report = g.M.Machine.report in
+    heard_end (report c.args.m.now) (report c.read_on.new.m) c.in-Err.end (heard_then (report c.args.m.now) (report c.loop-stop.m) (report c.read_on.new.m) tt (Err c.in-Err.end) c.loop-stop.invariant.heard c.in-Err.ensures.heard)
+
+pub returns-in-Err-clause-since : goal.returns-in-Err-clause-since
+returns-in-Err-clause-since g c =
+    let M = g.M.Machine in
+    let was = c.loop-stop.invariant in
+    let on : Follows M c.args.m.now c.loop-stop.m = record { honest = was.trust.honest; since = was.since; later = was.later } in
+    (follows_then M c.args.m.now c.loop-stop.m c.read_on.new.m on (record { honest = c.read_on.ensures.trust.honest; since = c.read_on.ensures.since; later = c.read_on.ensures.later })).since
+
+pub returns-in-Err-clause-reads : goal.returns-in-Err-clause-reads
+returns-in-Err-clause-reads g c t =
+    let V = g.V.Files in
+    let M = g.M.Machine in
+    let l = c.loop-stop in
+    record {
+      last = c.read_on.new.reader;
+      few = c.read_on.ensures.few;
+      reads = reads_then V.state V.holds M g.T.Says.errand fresh l.reader c.read_on.new.reader c.args.v.now l.v c.read_on.new.v c.args.m.now l.m c.read_on.new.m (Err c.in-Err.end)
+          (record { honest = c.read_on.ensures.trust.honest; since = c.read_on.ensures.since; later = c.read_on.ensures.later }) (l.invariant.so_far (c.read_on.ensures.trust.tells t)) (c.in-Err.ensures.reads t);
+    }
+
+pub loop-stop-smaller : goal.loop-stop-smaller
+loop-stop-smaller g c =
+    let on = subst (λ (o : Option Stop). GoesOn c.loop-stop.reader c.read_on.new.reader o) c.in-Ok-None.field-0-is c.in-Ok-None.ensures.on in
+    let more = on.0 in
+    let few = on.2 in
+    omega (arith, more, few)
+
+pub loop-stop-preserved : goal.loop-stop-preserved
+loop-stop-preserved g c =
+    let V = g.V.Files in
+    let M = g.M.Machine in
+    let l = c.loop-stop in
+    let was = l.invariant in
+    let on : Follows M c.args.m.now l.m = record { honest = was.trust.honest; since = was.since; later = was.later } in
+    let step : Follows M l.m c.read_on.new.m = record { honest = c.read_on.ensures.trust.honest; since = c.read_on.ensures.since; later = c.read_on.ensures.later } in
+    let both = follows_then M c.args.m.now l.m c.read_on.new.m on step in
+    let goes = subst (λ (o : Option Stop). GoesOn l.reader c.read_on.new.reader o) c.in-Ok-None.field-0-is c.in-Ok-None.ensures.on in
+    record {
+      layout = c.read_on.ensures.layout ∙ was.layout;
+      up = c.in-Ok-None.ensures.up;
+      heard = heard_as (M.report c.args.m.now) (M.report c.read_on.new.m) c.in-Ok-None.field-0 tt (heard_then (M.report c.args.m.now) (M.report l.m) (M.report c.read_on.new.m) tt (Ok c.in-Ok-None.field-0) was.heard c.in-Ok-None.ensures.heard);
+      input = subst (λ (o : Option Stop). RoseBy (M.report l.m) (M.report c.read_on.new.m) o) c.in-Ok-None.field-0-is c.in-Ok-None.ensures.rose ∙ was.input;
+      trust = trusts_on was.trust c.read_on.ensures.trust;
+      since = both.since;
+      later = both.later;
+      few = goes.2;
+      so_far = λ t. reads_then V.state V.holds M g.T.Says.errand fresh l.reader c.read_on.new.reader c.args.v.now l.v c.read_on.new.v c.args.m.now l.m c.read_on.new.m (Ok None) step (was.so_far (c.read_on.ensures.trust.tells t))
+          (subst (λ (o : Option Stop). Reads V.state V.holds M g.T.Says.errand l.reader c.read_on.new.reader l.v l.m c.read_on.new.v c.read_on.new.m (Ok o)) c.in-Ok-None.field-0-is (c.in-Ok-None.ensures.reads t));
+    }

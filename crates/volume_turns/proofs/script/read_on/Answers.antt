@@ -1,0 +1,102 @@
+use Rattle.std.proofs.Common.{◌≡◌, Ok, Err, [], ◌∷◌, Option, Some, refl, sym, subst, arith}
+use Rattle.fsd_texts.specs.declared.command.Command.{Command as Word}
+use Rattle.script_text.specs.declared.fault.ScriptFault.{ScriptFault}
+use Rattle.script_text.specs.Reading.{Answers, NoneWaits, end_with, script_left}
+use Rattle.script_text.specs.Taking.{Moves}
+use Rattle.fsd_texts.specs.declared.bad_line.BadLine.{BadLine}
+use Rattle.fsd_texts.specs.declared.end.End.TheVariants.{Bad}
+use Rattle.volume_turns.specs.Script.{Reads}
+use Rattle.volume_turns.specs.declared.script.Stop.TheVariants.{Ended}
+use Rattle.volume_turns.proofs.ScriptLaws.{ended_so, moves_spells, none_done, none_read, one_done, one_stops}
+use Rattle.volume_turns.proofs.script.read_on.Goals as goal
+
+pub returns-in-Ok-clause-reads : goal.returns-in-Ok-clause-reads
+returns-in-Ok-clause-reads g c t =
+    let V = g.V.Files in
+    let M = g.M.Machine in
+    let a = c.args.m.now in
+    let m = c.next_command.new.m in
+    let calls = c.next_command.ensures.calls in
+    let back = c.step.ensures.trust.tells t in
+    let moves = subst (λ (o : Option Word). Moves (Ok o) c.args.reader.now c.next_command.new.self (M.ledger a) (M.ledger m)) c.in-Ok-Some.field-0-is (c.in-Ok-Some.ensures.moves back) in
+    one_done V.state V.holds M g.T.Says.errand g.met.V.Files.wears (λ x h. g.met.M.Machine.short x h) (λ x left h was. g.met.M.Machine.only_now x left h was) c.args.v.now a m calls.trust.honest calls.exit calls.any_moment
+    c.args.reader.now c.next_command.new.self c.in-Ok-Some.c c.step.new.v c.step.new.m (record { honest = c.step.ensures.trust.honest; since = c.step.ensures.since; later = c.step.ensures.later })
+    (moves_spells _ c.args.reader.now c.next_command.new.self (M.ledger a) (M.ledger m) (M.ledger c.step.new.m).input (c.in-Ok-Some.c ∷ []) (c.step.ensures.input t) moves (λ rest ahead. ahead)) c.step.ensures.later c.in-Ok.ensures.steps
+
+pub returns-in-Ok-Some-clause-reads : goal.returns-in-Ok-Some-clause-reads
+returns-in-Ok-Some-clause-reads g c t =
+    let V = g.V.Files in
+    let M = g.M.Machine in
+    let a = c.args.m.now in
+    let m = c.next_command.new.m in
+    let calls = c.next_command.ensures.calls in
+    let back = c.step.ensures.trust.tells t in
+    let now = script_left c.next_command.new.self (M.ledger m).input in
+    let script = subst (λ (o : Option Word). Answers (Ok o) (script_left c.args.reader.now (M.ledger a).input) now) c.in-Ok-Some.field-0-is (c.in-Ok-Some.ensures.script back) in
+    one_stops V.state V.holds M g.T.Says.errand g.met.V.Files.wears (λ x h. g.met.M.Machine.short x h) (λ x left h was. g.met.M.Machine.only_now x left h was) c.args.v.now a m calls.trust.honest calls.exit calls.any_moment
+    c.args.reader.now c.next_command.new.self c.in-Ok-Some.c c.step.new.v c.step.new.m (record { honest = c.step.ensures.trust.honest; since = c.step.ensures.since; later = c.step.ensures.later }) c.in-Err.end now script c.in-Err.ensures.steps
+
+pub returns-in-Ok-None-clause-reads : goal.returns-in-Ok-None-clause-reads
+returns-in-Ok-None-clause-reads g c t =
+    let V = g.V.Files in
+    let M = g.M.Machine in
+    let a = c.args.m.now in
+    let m = c.next_command.new.m in
+    let calls = c.next_command.ensures.calls in
+    let script = subst (λ (o : Option Word). Answers (Ok o) (script_left c.args.reader.now (M.ledger a).input) (script_left c.next_command.new.self (M.ledger m).input)) c.in-Ok-None.field-0-is (c.in-Ok-None.ensures.script t) in
+    ended_so V.state V.holds M g.T.Says.errand g.met.V.Files.wears (λ x h. g.met.M.Machine.short x h) (λ x left h was. g.met.M.Machine.only_now x left h was) c.args.v.now a m calls.trust.honest calls.exit calls.any_moment
+    c.args.reader.now c.next_command.new.self _ script.0
+
+pub returns-in-Err-Bad-clause-reads : goal.returns-in-Err-Bad-clause-reads
+returns-in-Err-Bad-clause-reads g c t =
+    let V = g.V.Files in
+    let M = g.M.Machine in
+    let a = c.args.m.now in
+    let m = c.next_command.new.m in
+    let calls = c.next_command.ensures.calls in
+    let script = subst (λ (f : ScriptFault). Answers (Err f) (script_left c.args.reader.now (M.ledger a).input) (script_left c.next_command.new.self (M.ledger m).input)) c.in-Err-Bad.field-0-is (c.in-Err-Bad.ensures.script t) in
+    subst (λ (x : BadLine). Reads V.state V.holds M g.T.Says.errand c.args.reader.now c.next_command.new.self c.args.v.now a c.args.v.now m (Ok (Some (Ended (Bad x))))) (sym c.in-Err-Bad.bad-is)
+    (ended_so V.state V.holds M g.T.Says.errand g.met.V.Files.wears (λ x h. g.met.M.Machine.short x h) (λ x left h was. g.met.M.Machine.only_now x left h was) c.args.v.now a m calls.trust.honest calls.exit calls.any_moment
+    c.args.reader.now c.next_command.new.self _ script.0)
+
+pub returns-in-Err-TooLong-clause-reads : goal.returns-in-Err-TooLong-clause-reads
+returns-in-Err-TooLong-clause-reads g c t =
+    let V = g.V.Files in
+    let M = g.M.Machine in
+    let a = c.args.m.now in
+    let m = c.next_command.new.m in
+    let calls = c.next_command.ensures.calls in
+    let script = subst (λ (f : ScriptFault). Answers (Err f) (script_left c.args.reader.now (M.ledger a).input) (script_left c.next_command.new.self (M.ledger m).input)) c.in-Err-TooLong.field-0-is (c.in-Err-TooLong.ensures.script t) in
+    ended_so V.state V.holds M g.T.Says.errand g.met.V.Files.wears (λ x h. g.met.M.Machine.short x h) (λ x left h was. g.met.M.Machine.only_now x left h was) c.args.v.now a m calls.trust.honest calls.exit calls.any_moment
+    c.args.reader.now c.next_command.new.self _ script.0
+
+pub returns-in-Err-Input-clause-heard : goal.returns-in-Err-Input-clause-heard
+returns-in-Err-Input-clause-heard g c =
+    let spares = c.next_command.ensures.calls.spares in
+    record { sectors = spares.sectors; disk = (spares.disk, spares.place); later = let same = spares.output in omega (arith, same); output = tt }
+
+pub returns-in-Err-Input-clause-reads : goal.returns-in-Err-Input-clause-reads
+returns-in-Err-Input-clause-reads g c t =
+    let V = g.V.Files in
+    let M = g.M.Machine in
+    let a = c.args.m.now in
+    let m = c.next_command.new.m in
+    let calls = c.next_command.ensures.calls in
+    let moves = subst (λ (f : ScriptFault). Moves (Err f) c.args.reader.now c.next_command.new.self (M.ledger a) (M.ledger m)) c.in-Err-Input.field-0-is (c.in-Err-Input.ensures.moves t) in
+    record {
+      done = [];
+      taken = moves_spells _ c.args.reader.now c.next_command.new.self (M.ledger a) (M.ledger m) (M.ledger m).input [] refl moves (λ rest ahead. ahead);
+      runs = none_done V.state V.holds M g.T.Says.errand g.met.V.Files.wears (λ x h. g.met.M.Machine.short x h) (λ x left h was. g.met.M.Machine.only_now x left h was) c.args.v.now a m calls.trust.honest calls.exit calls.any_moment;
+      still = subst (λ (f : ScriptFault). c.next_command.new.self.end ≡ end_with (Err f)) c.in-Err-Input.field-0-is c.in-Err-Input.ensures.end;
+      short = subst (λ (f : ScriptFault). NoneWaits (Err f) c.next_command.new.self.waiting) c.in-Err-Input.field-0-is c.in-Err-Input.ensures.waits;
+    }
+
+pub returns-clause-reads : goal.returns-clause-reads
+returns-clause-reads g c t =
+    let V = g.V.Files in
+    let M = g.M.Machine in
+    let a = c.args.m.now in
+    let m = c.next_command.new.m in
+    let calls = c.next_command.ensures.calls in
+    none_read V.state V.holds M g.T.Says.errand g.met.V.Files.wears (λ x h. g.met.M.Machine.short x h) (λ x left h was. g.met.M.Machine.only_now x left h was) c.args.v.now a m calls.trust.honest calls.exit calls.any_moment
+    (script_left c.args.reader.now (M.ledger a).input).0

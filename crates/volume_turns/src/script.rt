@@ -1,0 +1,199 @@
+//! A script, from the mount to the last line.
+ghost use Rattle.std.specs.Prelude.{◌≡◌, ◌≤◌, ◌+◌, List, ℕ, None, OnOk, IfOk, IsTrue, Some};
+ghost use Rattle.sector_disk.specs.Calls.{Since};
+ghost use Rattle.sector_disk.specs.Machine.{LeavesOnly, Trusts};
+ghost use Rattle.sector_disk.specs.declared.sector.WeakRun.{WeakRun};
+ghost use Rattle.volume_layout.specs.declared.layout.Layout.{Layout as Plan};
+ghost use Rattle.fsd_files.specs.Files.{Change};
+ghost use Rattle.fsd_runs.specs.Leaves.{LeavesRun};
+ghost use Rattle.fsd_runs.specs.declared.request.Request.TheVariants.{Script};
+ghost use Rattle.volume_contract.specs.Mount.{IsSoundAt};
+ghost use Rattle.volume_turns.specs.Whole.{RunsOut};
+ghost use Rattle.fsd_files.specs.Answers.{Met};
+ghost use Rattle.fsd_files.specs.Volume.{Volume};
+ghost use Rattle.fsd_texts.specs.declared.command.Command.{Command as Word};
+ghost use Rattle.fsd_texts.specs.Script.{max_input};
+ghost use Rattle.fsd_runs.specs.Commands.{answer, reply_text};
+ghost use Rattle.fsd_runs.specs.Errands.{forced_turn, is_forced};
+ghost use Rattle.volume_contract.specs.State.{Known, Stands};
+ghost use Rattle.volume_turns.specs.Once.{ClosesAndSays, unit_of};
+ghost use Rattle.volume_turns.specs.Turns.{Told};
+ghost use Rattle.volume_turns.specs.Script.{GoesOn, GroupsBy, Heard, Reads, RoseBy, WholeRead};
+
+use crate::generate::close_forced;
+use crate::group::is_worn_end;
+use crate::line::{end_with, last_line};
+use crate::once::fault_of;
+use crate::turns::{End, Says, step};
+use fsd_texts::{End as ScriptEnd, Fault, Line};
+use script_text::{Reader, ScriptFault};
+use sector_disk::Machine;
+use std::alloc::Global;
+use volume_contract::Files;
+
+/// What the commands of a script have come to, where no fault has ended them.
+#[derive(Clone, Copy)]
+pub(crate) enum Stop {
+    /// The script has ended.
+    Ended(ScriptEnd),
+    /// The input has failed.
+    Input,
+    /// The mount is worn out.
+    WornOut,
+}
+
+// Reads the next command, does it and says its reply; or tells that there is none.
+fn read_on<M: Machine, V: Files<M>, T: Says>(
+    alloc: Global,
+    v: &mut V,
+    m: &mut M,
+    reader: &mut Reader,
+) -> Result<Option<Stop>, End>
+    requires room { (V.state v.old).layout.sectors ≤ (M.report m.old).sectors }
+    requires up { (V.state v.old).down ≡ None }
+    requires lazily { (met : Met) (x : Volume) (w : Word) → IsTrue (T.errand.forces (answer met x w).0) → (answer met x w).1.unforced ≡ 0 }
+    ensures layout { (V.state v.new).layout ≡ (V.state v.old).layout }
+    ensures up { OnOk result ((V.state v.new).down ≡ None) }
+    ensures heard { Heard (M.report m.old) (M.report m.new) result }
+    ensures rose { IfOk result (RoseBy (M.report m.old) (M.report m.new)) }
+    ensures trust { Trusts (M.tells m.old) (M.tells m.new) (M.honest m.old) (M.honest m.new) }
+    ensures since { M.honest m.new → Since M.Machine m.old m.new }
+    ensures later { M.honest m.new → M.moment m.old ≤ M.moment m.new }
+    ensures on { IfOk result (GoesOn reader.old reader.new) }
+    ensures few { reader.new.end ≡ None → reader.new.taken ≤ max_input }
+    ensures reads { M.tells m.new → Reads V.state V.holds M.Machine T.errand reader.old reader.new v.old m.old v.new m.new result }
+{
+    match reader.next_command(alloc, m) {
+        Ok(Some(c)) => match step::<M, V, T>(alloc, v, m, &c) {
+            Ok(()) => Ok(None),
+            Err(end) => Err(end),
+        },
+        Ok(None) => Ok(Some(Stop::Ended(ScriptEnd::Done))),
+        Err(ScriptFault::Bad(bad)) => Ok(Some(Stop::Ended(ScriptEnd::Bad(bad)))),
+        Err(ScriptFault::TooLong) => Ok(Some(Stop::Ended(ScriptEnd::TooLong))),
+        Err(ScriptFault::Input) => Ok(Some(Stop::Input)),
+        Err(ScriptFault::Memory) => Err(End::Fault(Fault::Memory)),
+    }
+}
+
+// Reads the commands of the input and does them one after another.
+fn read_all<M: Machine, V: Files<M>, T: Says>(
+    alloc: Global,
+    v: &mut V,
+    m: &mut M,
+) -> Result<Stop, End>
+    requires room { (V.state v.old).layout.sectors ≤ (M.report m.old).sectors }
+    requires up { (V.state v.old).down ≡ None }
+    requires lazily { (met : Met) (x : Volume) (w : Word) → IsTrue (T.errand.forces (answer met x w).0) → (answer met x w).1.unforced ≡ 0 }
+    ensures layout { (V.state v.new).layout ≡ (V.state v.old).layout }
+    ensures heard { Heard (M.report m.old) (M.report m.new) result }
+    ensures rose { IfOk result (λ stop. RoseBy (M.report m.old) (M.report m.new) (Some stop)) }
+    ensures trust { Trusts (M.tells m.old) (M.tells m.new) (M.honest m.old) (M.honest m.new) }
+    ensures since { M.honest m.new → Since M.Machine m.old m.new }
+    ensures later { M.honest m.new → M.moment m.old ≤ M.moment m.new }
+    ensures reads { M.tells m.new → WholeRead V.state V.holds M.Machine T.errand v.old m.old v.new m.new result }
+{
+    let mut reader = Reader::new(alloc);
+    loop {
+        match read_on::<M, V, T>(alloc, v, m, &mut reader) {
+            Ok(None) => {}
+            Ok(Some(stop)) => return Ok(stop),
+            Err(end) => return Err(end),
+        }
+    }
+}
+
+// Reads the commands of the input and does them; then all is forced, and that is said. It tells what they have come to.
+fn group_read<M: Machine, V: Files<M> + Drop, T: Says>(
+    alloc: Global,
+    v: V,
+    m: &mut M,
+) -> Result<Stop, End>
+    requires room { (V.state v).layout.sectors ≤ (M.report m.old).sectors }
+    requires up { (V.state v).down ≡ None }
+    requires lazily { (met : Met) (x : Volume) (w : Word) → IsTrue (T.errand.forces (answer met x w).0) → (answer met x w).1.unforced ≡ 0 }
+    ensures heard { Heard (M.report m.old) (M.report m.new) result }
+    ensures trust { Trusts (M.tells m.old) (M.tells m.new) (M.honest m.old) (M.honest m.new) }
+    ensures since { M.honest m.new → Since M.Machine m.old m.new }
+    ensures later { M.honest m.new → M.moment m.old ≤ M.moment m.new }
+    ensures group { M.honest m.new → (k : Known) → Stands V.state V.holds v k (M.now m.old) → GroupsBy M.Machine T.errand k (M.ledger m.old).input (M.ledger m.new).input m.old m.new result }
+{
+    let mut v = v;
+    match read_all::<M, V, T>(alloc, &mut v, m) {
+        Ok(stop) => force_read(alloc, v, m, stop),
+        Err(end) => {
+            if is_worn_end(&end) {
+                force_read(alloc, v, m, Stop::WornOut)
+            } else {
+                Err(end)
+            }
+        }
+    }
+}
+
+// Ends the use of a volume, says that all is forced, and passes on what the commands have come to.
+fn force_read<M: Machine, V: Files<M>>(
+    alloc: Global,
+    v: V,
+    m: &mut M,
+    stop: Stop,
+) -> Result<Stop, End>
+    requires room { (V.state v).layout.sectors ≤ (M.report m.old).sectors }
+    ensures told { Told (M.report m.old) (M.report m.new) result }
+    ensures trust { Trusts (M.tells m.old) (M.tells m.new) (M.honest m.old) (M.honest m.new) }
+    ensures since { M.honest m.new → Since M.Machine m.old m.new }
+    ensures later { M.honest m.new → M.moment m.old ≤ M.moment m.new }
+    ensures input { M.tells m.new → (M.ledger m.new).input ≡ (M.ledger m.old).input }
+    ensures same { IfOk result (λ x. x ≡ stop) }
+    ensures closes { M.honest m.new → (k : Known) → Stands V.state V.holds v k (M.now m.old) → ClosesAndSays M.Machine k forced_turn.said m.old m.new (unit_of result) }
+{
+    match close_forced(alloc, v, m) {
+        Ok(()) => Ok(stop),
+        Err(end) => Err(end),
+    }
+}
+
+// Reads the commands of the input over a mounted volume and does them, to the last line. It gives the status.
+fn script_on<M: Machine, V: Files<M> + Drop, T: Says>(alloc: Global, v: V, m: &mut M) -> u8
+    requires room { (V.state v).layout.sectors ≤ (M.report m.old).sectors }
+    requires up { (V.state v).down ≡ None }
+    requires lazily { (met : Met) (x : Volume) (w : Word) → IsTrue (T.errand.forces (answer met x w).0) → (answer met x w).1.unforced ≡ 0 }
+    requires says { T.errand.says ≡ reply_text }
+    requires forces { T.errand.forces ≡ is_forced }
+    ensures trust { Trusts (M.tells m.old) (M.tells m.new) (M.honest m.old) (M.honest m.new) }
+    ensures since { M.honest m.new → Since M.Machine m.old m.new }
+    ensures runs { M.honest m.new → (k : Known) → Stands V.state V.holds v k (M.now m.old) → RunsOut M.Machine Script (M.ledger m.old).input (M.ledger m.new).input (M.report m.old) k m.old m.new result }
+{
+    match group_read::<M, V, T>(alloc, v, m) {
+        Ok(Stop::Ended(ScriptEnd::Done)) => 0,
+        Ok(Stop::Ended(ScriptEnd::Bad(bad))) => last_line(alloc, m, &Line::Bad(bad), 2),
+        Ok(Stop::Ended(ScriptEnd::TooLong)) => {
+            last_line(alloc, m, &Line::Ended(Fault::InputTooLong), 5)
+        }
+        Ok(Stop::Input) => last_line(alloc, m, &Line::Ended(Fault::Input), 5),
+        Ok(Stop::WornOut) => last_line(alloc, m, &Line::Ended(Fault::WornOut), 9),
+        Err(End::Fault(why)) => end_with(alloc, m, why),
+        Err(End::Output) => 6,
+    }
+}
+
+/// Mounts a volume, reads the commands of the input and does them one after another, each with its reply said, and forces all; or
+/// says the fault that has ended it. It gives the status.
+pub fn run_script<M: Machine, V: Files<M> + Drop, T: Says>(
+    alloc: Global,
+    m: &mut M,
+    sectors: u32,
+) -> u8
+    requires sectors { sectors ≡ (M.report m.old).sectors }
+    requires lazily { (met : Met) (x : Volume) (w : Word) → IsTrue (T.errand.forces (answer met x w).0) → (answer met x w).1.unforced ≡ 0 }
+    requires says { T.errand.says ≡ reply_text }
+    requires forces { T.errand.forces ≡ is_forced }
+    ensures trust { Trusts (M.tells m.old) (M.tells m.new) (M.honest m.old) (M.honest m.new) }
+    ensures leaves { M.honest m.new → (l : Plan) (windows : List WeakRun) (h : List Change) (f : ℕ) → IsSoundAt sectors l windows h f (M.now m.old) →
+        LeavesRun Script (M.ledger m.old).input (M.ledger m.new).input l windows h f (M.left_since m.new) (LeavesOnly M.moment M.left_since m.old m.new) (M.report m.old) (M.report m.new) (M.now m.old) (M.now m.new) result }
+{
+    match V::mount(alloc, m, sectors) {
+        Ok(v) => script_on::<M, V, T>(alloc, v, m),
+        Err(fault) => end_with(alloc, m, fault_of(fault)),
+    }
+}
