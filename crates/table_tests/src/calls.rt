@@ -59,7 +59,7 @@ fn replace<T: Pages>(t: &mut T, entry: &Entry) -> Answer
 }
 
 /// Makes a call, with the whole leave to reach pages and to change them.
-pub fn carry_out<T: Pages>(t: &mut T, call: &Call) -> Answer
+pub(crate) fn carry_out<T: Pages>(t: &mut T, call: &Call) -> Answer
     requires more { MOST_REACHED ≤ reaches (T.step t.old) }
     requires changes { MOST_CHANGED ≤ changes (T.step t.old) }
     requires formed { IsFormed call.now }
@@ -79,7 +79,7 @@ pub fn carry_out<T: Pages>(t: &mut T, call: &Call) -> Answer
 }
 
 /// The bytes of a page that may be reached.
-pub fn image_of<T: Pages>(t: &mut T, page: u32) -> Result<[u8; 512], Refusal>
+pub(crate) fn image_of<T: Pages>(t: &mut T, page: u32) -> Result<[u8; 512], Refusal>
     requires more { 0 < reaches (T.step t.old) }
     requires within { page < length (T.step t.old).images }
     ensures { T.outside (outer_in result) t.old t.new }

@@ -139,12 +139,12 @@ fn make_room<M: Machine>(m: &mut M, layout: &Layout, cache: &mut Cache) -> Resul
 }
 
 /// The pages of the table.
-pub const PAGES: u32 = 440;
+pub(crate) const PAGES: u32 = 440;
 
 /// A table whose pages stand at home on a machine in memory, with a log that has none of them, over a cache of 192 frames.
 /// What was changed is written home once more than 56 pages wait.
 #[derive(Drop)]
-pub struct Desk {
+pub(crate) struct Desk {
     m: MemoryMachine,
     log: Log,
     layout: Layout,
@@ -160,7 +160,7 @@ pub struct Desk {
 
 impl Desk {
     /// A table of one empty leaf.
-    pub fn new(alloc: Global) -> Result<Desk, Fail> {
+    pub(crate) fn new(alloc: Global) -> Result<Desk, Fail> {
         let layout = Layout::plan(2048, 200, PAGES)?;
         let mut m = machine(alloc)?;
         attached(&mut m, &layout)?;
@@ -181,7 +181,7 @@ impl Desk {
     }
 
     /// Another run over what the machine has, once what waits is written home, with a cache that has no page.
-    pub fn again(self, alloc: Global, events: &[Event]) -> Result<Desk, Fail> {
+    pub(crate) fn again(self, alloc: Global, events: &[Event]) -> Result<Desk, Fail> {
         let Desk {
             mut m,
             log,
@@ -203,7 +203,7 @@ impl Desk {
     }
 
     /// The answer of a call.
-    pub fn call(&mut self, call: &Call) -> Result<Answer, Failed>
+    pub(crate) fn call(&mut self, call: &Call) -> Result<Answer, Failed>
         requires { IsFormed call.now }
     {
         make_room(&mut self.m, &self.layout, &mut self.cache)?;
@@ -220,7 +220,7 @@ impl Desk {
     }
 
     /// Marks the pages that page 0 leads to, and counts their entries.
-    pub fn walk(&mut self, marks: &mut [bool]) -> Result<u32, TreeFault>
+    pub(crate) fn walk(&mut self, marks: &mut [bool]) -> Result<u32, TreeFault>
         requires whole { length marks.old ≡ length self.old.free }
         requires clear { AreMarksOf [] marks.old }
     {
@@ -237,7 +237,7 @@ impl Desk {
     }
 
     /// The bytes of a page.
-    pub fn image(&mut self, page: u32) -> Result<[u8; 512], Refusal>
+    pub(crate) fn image(&mut self, page: u32) -> Result<[u8; 512], Refusal>
         requires { page < length self.old.free }
     {
         let home_a = self.home_a();
@@ -253,7 +253,7 @@ impl Desk {
     }
 
     /// What is answered where so many spare pages are asked for.
-    pub fn spare(&mut self, count: u32) -> Result<(), Refusal> {
+    pub(crate) fn spare(&mut self, count: u32) -> Result<(), Refusal> {
         let home_a = self.home_a();
         let source = Newest::over(&self.log, &self.layout);
         spare_in(
@@ -267,17 +267,17 @@ impl Desk {
     }
 
     /// The sector of page 0.
-    pub fn home_a(&self) -> u32 {
+    pub(crate) fn home_a(&self) -> u32 {
         16 + 3 * self.layout.third()
     }
 
     /// How many pages are free.
-    pub fn free_count(&self) -> u32 {
+    pub(crate) fn free_count(&self) -> u32 {
         self.free.count()
     }
 
     /// How many pages the table has.
-    pub fn count(&self) -> u32
+    pub(crate) fn count(&self) -> u32
         ensures { result ≡ length self.now.free }
     {
         self.free.pages()

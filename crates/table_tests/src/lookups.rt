@@ -19,14 +19,14 @@ fn name(last: u8) -> FileName {
     FileName::parse(&bytes).unwrap_or_default()
 }
 
-pub fn key(last: u8, version: u32) -> Key {
+pub(crate) fn key(last: u8, version: u32) -> Key {
     Key {
         name: name(last),
         version,
     }
 }
 
-pub fn separator(last: u8, version: u32, child: u32) -> Separator
+pub(crate) fn separator(last: u8, version: u32, child: u32) -> Separator
     requires { 1 ≤ version }
     ensures { IsTrue (is_key result.key) }
 {
@@ -39,7 +39,7 @@ pub fn separator(last: u8, version: u32, child: u32) -> Separator
 }
 
 // A leaf of three versions.
-pub fn leaf(page: u32, a: Key, b: Key, c: Key) -> [u8; 512] {
+pub(crate) fn leaf(page: u32, a: Key, b: Key, c: Key) -> [u8; 512] {
     let mut image = [0; 512];
     if let (Some(a), Some(b), Some(c)) = (entry(&a, 2, 0), entry(&b, 2, 0), entry(&c, 2, 0)) {
         let _used = entry_len(&a) + entry_len(&b) + entry_len(&c);

@@ -54,7 +54,7 @@ fn table(alloc: Global) -> Result<VecPages, AllocError> {
 }
 
 /// How many pages are spare: a table never has 4097, and the refusal tells.
-pub fn spare_pages(t: &mut VecPages) -> u32 {
+pub(crate) fn spare_pages(t: &mut VecPages) -> u32 {
     t.rest();
     match t.spare(4097) {
         Err(Refusal::NameTableFull { free }) => free,
@@ -63,7 +63,7 @@ pub fn spare_pages(t: &mut VecPages) -> u32 {
 }
 
 /// The bytes of each page that may be reached.
-pub fn images(t: &mut VecPages, alloc: Global) -> Result<Images, AllocError> {
+pub(crate) fn images(t: &mut VecPages, alloc: Global) -> Result<Images, AllocError> {
     let mut images = Vec::new(alloc);
     for page in 0..PAGES {
         t.rest();

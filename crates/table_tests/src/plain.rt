@@ -13,7 +13,7 @@ use std::collections::BTreeMap;
 pub type Versions = BTreeMap<Key, Entry>;
 
 /// The next number of a fixed sequence.
-pub fn next(seed: &mut u64) -> u32 {
+pub(crate) fn next(seed: &mut u64) -> u32 {
     *seed = seed
         .wrapping_mul(6_364_136_223_846_793_005)
         .wrapping_add(1_442_695_040_888_963_407);
@@ -25,7 +25,7 @@ fn digit(i: u32) -> u8 {
 }
 
 /// The name of 40 bytes with this number, of which four digits count.
-pub fn name(i: u32) -> FileName {
+pub(crate) fn name(i: u32) -> FileName {
     let mut bytes = [b'n'; 40];
     bytes[36] = digit(i / 1000);
     bytes[37] = digit(i / 100);
@@ -52,7 +52,7 @@ fn some_runs(more: u32) -> Runs
 }
 
 /// A version in one run more than `more`.
-pub fn entry(key: &Key, keep: u32, more: u32) -> Option<Entry>
+pub(crate) fn entry(key: &Key, keep: u32, more: u32) -> Option<Entry>
     requires keep { keep ≤ 999 }
     requires more { more ≤ 7 }
     ensures entry { IfSome result (λ e. is_entry e ≡ true) }
@@ -74,7 +74,7 @@ pub fn entry(key: &Key, keep: u32, more: u32) -> Option<Entry>
 }
 
 /// The entry with the least later key.
-pub fn next_in(map: &Versions, after: &Option<Key>) -> Option<Entry> {
+pub(crate) fn next_in(map: &Versions, after: &Option<Key>) -> Option<Entry> {
     for (key, entry) in map {
         let is_later = match after {
             Some(before) => before.cmp(key).is_lt(),
@@ -88,7 +88,7 @@ pub fn next_in(map: &Versions, after: &Option<Key>) -> Option<Entry> {
 }
 
 /// The entry with the highest version of a name.
-pub fn highest_in(map: &Versions, name: &FileName) -> Option<Entry> {
+pub(crate) fn highest_in(map: &Versions, name: &FileName) -> Option<Entry> {
     let mut highest = None;
     for (key, entry) in map {
         if key.name.cmp(name).is_eq() {
@@ -99,7 +99,7 @@ pub fn highest_in(map: &Versions, name: &FileName) -> Option<Entry> {
 }
 
 /// How many versions a name has.
-pub fn count_in(map: &Versions, name: &FileName) -> u32 {
+pub(crate) fn count_in(map: &Versions, name: &FileName) -> u32 {
     let mut count = 0u32;
     for key in map.keys() {
         if key.name.cmp(name).is_eq() {
@@ -110,7 +110,7 @@ pub fn count_in(map: &Versions, name: &FileName) -> u32 {
 }
 
 /// The oldest versions of a name, so many and two at most.
-pub fn oldest_in(map: &Versions, name: &FileName, many: u32) -> ArrayVec<Key, 2> {
+pub(crate) fn oldest_in(map: &Versions, name: &FileName, many: u32) -> ArrayVec<Key, 2> {
     let mut oldest = ArrayVec::new();
     for key in map.keys() {
         if oldest.len() < 2 && oldest.len() < many as usize && key.name.cmp(name).is_eq() {
