@@ -29,4 +29,5 @@ pub mod StillLaws
 pub mod TwiceLaws
 pub mod TwinLaws
 pub mod WindowLaws
+pub mod WritesLaws
 pub mod MoreLaws

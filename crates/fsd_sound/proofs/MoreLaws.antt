@@ -1,5 +1,5 @@
 -- What is sound is so for more changes, with fewer of them forced, and as the machine's windows wear it.
-use Rattle.std.proofs.Common.{◌≡◌, ℕ, ◌≤◌, List, ◌++◌, length, take, Option, Some, None, refl, sym, subst, arith, length-append}
+use Rattle.std.proofs.Common.{◌≡◌, ℕ, ◌≤◌, List, ◌++◌, take, Option, Some, None, refl, sym, subst, arith, length-append}
 use Rattle.std.specs.Prelude.{IfSome}
 use Rattle.std.specs.List.{last_or}
 use Rattle.std.proofs.lemmas.List.{take-append-le}

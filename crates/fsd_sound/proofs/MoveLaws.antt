@@ -1,8 +1,8 @@
 -- An anchor that names the following third is written over one of the two or over both, once the pages whose last images lie
 -- in the first third stand at home: the same pages are shown by it.
 use Rattle.std.proofs.Common.{◌≡◌, ◌≢◌, ◌⊎◌, inl, inr, ⊎_elim, ℕ, ◌^◌, ◌<◌, ◌≤◌, Bool, true, false, cond, ◌&&◌, List, [], ◌∷◌, ◌++◌, length, map, Option, Some, None, refl, sym, ap, subst, ◌∙◌, arith}
-use Rattle.std.specs.Prelude.{IfSome, IsSome, is_some, nat_le, option_map, option_and_then, IsTrue}
-use Rattle.std.specs.List.{AllByRecursion, range_with_len}
+use Rattle.std.specs.Prelude.{IfSome, IsSome, is_some, nat_le, option_map, option_and_then}
+use Rattle.std.specs.List.{AllByRecursion}
 use Rattle.std.specs.Option.{option_or}
 use Rattle.std.proofs.lemmas.Bool.{le-leb, and_from}
 use Rattle.std.proofs.lemmas.Bool.Decides.{nat_tests}
@@ -14,19 +14,19 @@ use Rattle.fsd_formats.proofs.SpellingLaws.{anchor_is_read}
 use Rattle.sector_disk.specs.declared.sector.Sector.{Sector}
 use Rattle.sector_disk.specs.declared.sector.Sector.TheVariants.{Whole, Damaged}
 use Rattle.sector_disk.specs.Image.{sector_at}
-use Rattle.fsd_log.specs.Scan.{Head, Placed, Walked, newer_of, is_newer}
+use Rattle.fsd_log.specs.Scan.{Placed, Walked, newer_of, is_newer}
 use Rattle.fsd_log.specs.Images.{last_image}
 use Rattle.fsd_files.specs.Disk.{Image, Sectors, bytes_of, either_copy}
 use Rattle.fsd_sound.specs.Anchors.{anchor_at, anchor_of, EachAnchor}
 use Rattle.fsd_sound.specs.Homes.{home_of}
 use Rattle.fsd_sound.specs.Laid.{IsLaid}
 use Rattle.fsd_sound.specs.Shown.{records_by, newest, each_of, all_pages, shown_by, shown}
-use Rattle.fsd_sound.specs.Sound.{IfWhole, EachStamp, HasAnchors, HasRoots, is_twin, on_disk, disk_records, IsSuffix, ScansAgree, HasHomes, ShowsOne}
+use Rattle.fsd_sound.specs.Sound.{IfWhole, EachStamp, HasAnchors, HasRoots, on_disk, disk_records, IsSuffix, ScansAgree, ShowsOne}
 use Rattle.fsd_sound.proofs.EachLaws.{all_in_range}
 use Rattle.fsd_sound.proofs.LogPlaces.{SameLog, same_scan, scan_records, laid_same}
 use Rattle.fsd_sound.specs.Stands.{Stands}
 use Rattle.fsd_sound.proofs.CommuteLaws.{same_or}
-use Rattle.fsd_sound.proofs.SectorFacts.{not_damaged, same_bytes}
+use Rattle.fsd_sound.proofs.SectorFacts.{not_damaged}
 
 -- an anchor that may follow another in its epoch
 pub record IsLater (old new : Anchor) : Type 0 where

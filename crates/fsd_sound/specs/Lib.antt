@@ -13,3 +13,4 @@ pub mod Shown
 pub mod Sound
 pub mod Stands
 pub mod Windows
+pub mod Writes

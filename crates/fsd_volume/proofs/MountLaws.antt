@@ -20,7 +20,9 @@ use Rattle.mount_recover.specs.Recover.{IsSettled, IsSettledIn, IsRefusedFor}
 use Rattle.fsd_sound.specs.Mounting.{RefusedFor}
 use Rattle.mount_recover.specs.Lost.{StandAsShown}
 use Rattle.fsd_sound.specs.Lost.{LosesShown}
-use Rattle.mount_recover.specs.Replay.{KeepsMap, SameBehind}
+use Rattle.fsd_sound.specs.Writes.{KeepsElsewhere}
+use Rattle.fsd_sound.proofs.WritesLaws.{data_elsewhere}
+use Rattle.mount_recover.specs.Replay.{SameBehind}
 use Rattle.fsd_volume.specs.State.{State}
 use Rattle.fsd_volume.specs.Mount.{shown_page, table_on, IsAccepted, IsFoundOn, MountRefused}
 use Rattle.fsd_volume.specs.Opening.{AreAtHome, UnreadFor, Opens, OpensNotFor}
@@ -110,11 +112,11 @@ settled_in sectors l log old calm is = subst (λ (i : Image). IsSettled sectors 
 pub refused_for : (sectors : ℕ) (fault : MountFault) (old : Moment) → IsCalm old.windows → IsRefusedFor sectors fault old → RefusedFor sectors old.image fault
 refused_for sectors fault old calm is = subst (λ (i : Image). RefusedFor sectors i fault) (calm_worn old.windows old.image is.seen calm is.from) is.why
 
-pub map_still : (l : Layout) (old new : Moment) → IsCalm old.windows → IsCalm new.windows → KeepsMap l old new → SameBehind l old.image new.image
+pub map_still : (l : Layout) (old new : Moment) → IsCalm old.windows → IsCalm new.windows → KeepsElsewhere l old new → SameBehind l old.image new.image
 map_still l old new calm calm_new kept s from = ⊎_elim (λ is. is)
     (λ hurt. absurd (⊎_elim (λ a. calm_nowhere old.windows.present old.windows.next s calm.present calm.next a) (λ b. calm_nowhere new.windows.present new.windows.next s calm_new.present calm_new.next b)
     (or_cases (open_damage old.windows s) (open_damage new.windows s) hurt.0)))
-    (kept s from)
+    (kept s (data_elsewhere l s from))
 
 -- ---- what an answer owes
 

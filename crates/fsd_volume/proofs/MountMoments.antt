@@ -23,6 +23,7 @@ use Rattle.fsd_sound.specs.Sound.{EndIn, IsStill, ShowsOne, Tells, TellsPrefix, 
 use Rattle.fsd_sound.proofs.MountedLaws.{one_of}
 use Rattle.fsd_sound.proofs.SoundLaws.{sound_from_pages}
 use Rattle.fsd_sound.proofs.StillLaws.{tells_prefix}
+use Rattle.fsd_sound.proofs.WritesLaws.{data_elsewhere}
 use Rattle.mount_recover.specs.Recover.{ShowsVolume}
 use Rattle.mount_recover.specs.Replay.{SameBehind, IsBefore, IsAfter, Replays}
 use Rattle.fsd_volume.specs.Mount.{IsSoundAt, LeavesFound, LeavesSettled, MountLeaves, TellsFirst}
@@ -157,7 +158,7 @@ module _ (sectors : ℕ) (l : Layout) (windows : List WeakRun) (h : List Change)
       }
 
   behind_still : (left : Moment) → Replays l windows (pages_now ∷ []) old left → SameBehind l old.image left.image
-  behind_still left replays s from = ⊎_elim (λ is. is) (λ hurt. absurd (ends_still old.windows windows start.calm start.ends s hurt.0)) (replays.behind s from)
+  behind_still left replays s from = ⊎_elim (λ is. is) (λ hurt. absurd (ends_still old.windows windows start.calm start.ends s hurt.0)) (replays.rest s (data_elsewhere l s from))
 
   -- a moment of the replay is one of the mount
   pub leaves_at : (left : Moment) → Replays l windows (pages_now ∷ []) old left → MountLeaves l windows h f count_now old left

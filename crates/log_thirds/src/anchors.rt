@@ -87,6 +87,7 @@ pub(crate) fn write_anchor<M: Machine>(m: &mut M, anchor: &Anchor) -> Result<(),
     requires in_range { 12 < (M.report m.old).sectors }
     ensures writes { WritesDisk M.Machine (device_in failed_at result) (AnchorsIn anchor.now) m.old m.new }
     ensures counted { OnOk result (M.tells m.new → M.ledger m.new ≡ wrote (M.ledger m.old) 2) }
+    ensures least { M.tells m.new → (M.ledger m.old).written ≤ (M.ledger m.new).written }
     ensures most { M.tells m.new → (M.ledger m.new).written ≤ (M.ledger m.old).written + 2 }
     ensures done { OnOk result (M.honest m.new → Holds (M.now m.old) (with_anchors anchor.now (M.now m.old).image 1 1) (M.now m.new)) }
 {

@@ -421,6 +421,7 @@ impl Log {
         requires sectors { self.old.layout.sectors ≤ (M.report m.old).sectors }
         ensures writes { WritesDisk M.Machine (device_in failed_at result) (AnchorsIn (moved_anchor self.old)) m.old m.new }
         ensures counted { OnOk result (M.tells m.new → M.ledger m.new ≡ wrote (M.ledger m.old) 2) }
+        ensures least { M.tells m.new → (M.ledger m.old).written ≤ (M.ledger m.new).written }
         ensures most { M.tells m.new → (M.ledger m.new).written ≤ (M.ledger m.old).written + 2 }
         ensures done { OnOk result (M.honest m.new → Holds (M.now m.old) (with_anchors (moved_anchor self.old) (M.now m.old).image 1 1) (M.now m.new)) }
         ensures worn_moment { (records : List Placed) → M.honest m.new → IsIndexed self.old records → IsLogWorn self.old records (M.now m.old)

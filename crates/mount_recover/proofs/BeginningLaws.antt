@@ -1,5 +1,5 @@
 -- A mount's end: the anchors of the next epoch are written, and it settles.
-use Rattle.std.proofs.Common.{◌≡◌, ◌⊎◌, inl, inr, ⊎_elim, ℕ, zero, suc, ◌+◌, ◌*◌, ◌^◌, ◌<◌, ◌≤◌, Bool, true, false, cond, List, [], ◌∷◌, ◌++◌, length, get_or, Option, Some, None, refl, sym, ap, subst, ◌∙◌, arith}
+use Rattle.std.proofs.Common.{◌≡◌, ◌≢◌, ◌⊎◌, inl, inr, ⊎_elim, ℕ, zero, suc, ◌+◌, ◌*◌, ◌^◌, ◌<◌, ◌≤◌, Bool, true, false, cond, List, [], ◌∷◌, ◌++◌, length, get_or, Option, Some, None, refl, sym, ap, subst, ◌∙◌, arith}
 use Rattle.std.specs.Prelude.{IsSome, IfSome, IsTrue, option_and_then}
 use Rattle.std.proofs.lemmas.List.{length-set}
 use Rattle.std.proofs.lemmas.Bool.Decides.{nat_tests}
@@ -17,7 +17,7 @@ use Rattle.sector_disk.specs.Image.{Windows, sector_at, with_sector, stand, IsWo
 use Rattle.sector_disk.specs.Machine.{Moment, Holds, Wears, Before, Settles}
 use Rattle.sector_disk.proofs.Calm.{stand_one}
 use Rattle.sector_disk.proofs.Holding.{holds_wears}
-use Rattle.sector_disk.proofs.Wear.{worn_trans, worn_more, stand_other}
+use Rattle.sector_disk.proofs.Wear.{worn_trans, worn_more}
 use Rattle.fsd_log.specs.Scan.{is_newer, newer_of, start}
 use Rattle.fsd_files.specs.Disk.{Image, SectorWorn, Has, bytes_of}
 use Rattle.fsd_sound.specs.Anchors.{anchor_at, EachAnchor, fresh_anchor}
@@ -34,10 +34,11 @@ use Rattle.fsd_sound.proofs.FreshLaws.{anchor_stands}
 use Rattle.fsd_sound.proofs.LaidLaws.{has_worn, own_worn}
 use Rattle.fsd_sound.proofs.RenewLaws.{renewed_shows}
 use Rattle.fsd_sound.proofs.SettleLaws.{open_in_next, settles}
-use Rattle.mount_recover.specs.Mending.{KeepsFrom, IsCompleted, IsMended, Stays, Settled, Begins}
+use Rattle.fsd_sound.proofs.WritesLaws.{elsewhere}
+use Rattle.mount_recover.specs.Mending.{StaysBut, SameElsewhere, IsCompleted, IsMended, Stays, Settled, Begins}
 use Rattle.mount_recover.specs.Recover.{HasAnchors}
 use Rattle.mount_recover.specs.Replay.{IsReplayed}
-use Rattle.mount_recover.proofs.KeepsLaws.{sector_on}
+use Rattle.mount_recover.proofs.KeepsLaws.{sector_on, two_written}
 use Rattle.mount_recover.proofs.MountLaws.{open_settled}
 use Rattle.mount_recover.proofs.MendingLaws.{narrow, over_two}
 use Rattle.fsd_sound.proofs.AnchorFacts.{newer_one}
@@ -118,20 +119,19 @@ module _ (l : Layout) (epoch : ℕ) (pages : List (List ℕ)) (i : Image) (s : �
           (λ other. subst (λ (x : Sector). IfSome (option_and_then read_anchor (bytes_of x)) (λ a. (a.epoch < epoch) ⊎ (a ≡ fresh_anchor epoch))) (sym (with_other i s p (anchor_bytes (fresh_anchor epoch)) other)) old)
           (Rattle.fsd_sound.proofs.CommuteLaws.same_or p s)
 
-data_over : (bytes : List ℕ) (now left : Moment) (first copy : ℕ) → first ≤ 1 → copy ≤ 1 → IsWorn (open_damage now.windows) (stand (stand now.image 8 bytes first) 12 bytes copy) left.image → KeepsFrom 16 now left
-data_over bytes now left first copy once once_more worn s from =
+stays_over : (bytes : List ℕ) (now left : Moment) (first copy : ℕ) → first ≤ 1 → copy ≤ 1 → IsWorn (open_damage now.windows) (stand (stand now.image 8 bytes first) 12 bytes copy) left.image → StaysBut 8 12 now left
+stays_over bytes now left first copy once once_more worn s not_first not_copy =
     sector_on (open_damage now.windows s) (sector_at now.image s) (sector_at (stand (stand now.image 8 bytes first) 12 bytes copy) s) (sector_at left.image s)
-    (inl (stand_other (stand now.image 8 bytes first) 12 bytes copy s (inr (omega (arith, from, once_more))) ∙ stand_other now.image 8 bytes first s (inr (omega (arith, from, once)))))
-    (worn.each s)
+    (inl (two_written 8 12 bytes first copy once once_more now.image s not_first not_copy)) (worn.each s)
 
--- the anchors' writes leave what lies behind them
-pub data_in_part : (anchor : Anchor) (now left : Moment) → AnchorsIn anchor now left → KeepsFrom 16 now left
-data_in_part anchor now left part = data_over (anchor_bytes anchor) now left part.first part.copy part.once (omega (arith, part.in_order, part.once)) part.holds.worn
+-- the anchors' writes leave every other sector
+pub stays_in_part : (anchor : Anchor) (now left : Moment) → AnchorsIn anchor now left → StaysBut 8 12 now left
+stays_in_part anchor now left part = stays_over (anchor_bytes anchor) now left part.first part.copy part.once (omega (arith, part.in_order, part.once)) part.holds.worn
 
-pub data_renewed : (anchor : Anchor) (now mid new : Moment) → Holds now (with_anchors anchor now.image 1 1) mid → IsWorn (open_damage mid.windows) mid.image new.image → KeepsFrom 16 now new
-data_renewed anchor now mid new holds done =
+pub stays_renewed : (anchor : Anchor) (now mid new : Moment) → Holds now (with_anchors anchor now.image 1 1) mid → IsWorn (open_damage mid.windows) mid.image new.image → StaysBut 8 12 now new
+stays_renewed anchor now mid new holds done =
     let last : IsWorn (open_damage now.windows) mid.image new.image = subst (λ (w : Windows). IsWorn (open_damage w) mid.image new.image) holds.windows done in
-    data_over (anchor_bytes anchor) now new 1 1 (omega arith) (omega arith) (worn_trans (open_damage now.windows) _ mid.image new.image holds.worn last)
+    stays_over (anchor_bytes anchor) now new 1 1 (omega arith) (omega arith) (worn_trans (open_damage now.windows) _ mid.image new.image holds.worn last)
 
 -- they stand then, but for what the run that is settled may wear
 pub anchors_stand : (epoch : ℕ) (now mid new : Moment) → 12 < length now.image → Holds now (with_anchors (fresh_anchor epoch) now.image 1 1) mid → IsWorn (open_damage mid.windows) mid.image new.image
@@ -239,21 +239,27 @@ module _ (l : Layout) (windows : List WeakRun) (choices : List (List (List ℕ))
   shows_two = renewed_shows l windows (narrow l windows choices log first c) choices (log.anchor.epoch + 1) c.pages 12 8 one (inr (refl, refl)) room_one homed_one
       (older_on l (log.anchor.epoch + 1) c.pages at.image 8 (inl refl) (omega (arith, room)) homed older) c.chosen shows_one
 
+  others_two : (s : ℕ) → s ≢ 8 → s ≢ 12 → sector_at two s ≡ sector_at at.image s
+  others_two s not_first not_copy = with_other one 12 s (anchor_bytes (fresh_anchor (log.anchor.epoch + 1))) not_copy ∙ with_other at.image 8 s (anchor_bytes (fresh_anchor (log.anchor.epoch + 1))) not_first
+
   behind_two : (s : ℕ) → 16 ≤ s → sector_at two s ≡ sector_at at.image s
-  behind_two s from = with_other one 12 s (anchor_bytes (fresh_anchor (log.anchor.epoch + 1))) (λ e. omega (arith, e, from)) ∙ with_other at.image 8 s (anchor_bytes (fresh_anchor (log.anchor.epoch + 1))) (λ e. omega (arith, e, from))
+  behind_two s from = others_two s (λ e. omega (arith, e, from)) (λ e. omega (arith, e, from))
+
+  rest_two : SameElsewhere l first.image two
+  rest_two s out = let is = elsewhere l s out in others_two s is.anchor is.anchor_copy ∙ at.rest s out
 
   record Renewed (e : Image) : Type 0 where
     shows : ShowsPages l windows choices e
-    same : (s : ℕ) → 16 ≤ s → sector_at e s ≡ sector_at at.image s
+    same : (s : ℕ) → s ≢ 8 → s ≢ 12 → sector_at e s ≡ sector_at at.image s
 
   stands_two : stand (stand at.image 8 bytes 1) 12 bytes 1 ≡ two
   stands_two = ap (λ (i : Image). stand i 12 bytes 1) (stand_one at.image 8 bytes bytes_long) ∙ stand_one one 12 bytes bytes_long
 
   renewed : (j k : ℕ) → k ≤ j → j ≤ 1 → Renewed (stand (stand at.image 8 bytes j) 12 bytes k)
-  renewed zero zero le once = record { shows = at.shows; same = λ s from. refl }
+  renewed zero zero le once = record { shows = at.shows; same = λ s not_first not_copy. refl }
   renewed zero (suc k) le once = absurd (omega (arith, le))
-  renewed (suc zero) zero le once = subst Renewed (sym (stand_one at.image 8 bytes bytes_long)) (record { shows = shows_one; same = λ s from. with_other at.image 8 s bytes (λ e. omega (arith, e, from)) })
-  renewed (suc zero) (suc zero) le once = subst Renewed (sym stands_two) (record { shows = shows_two; same = behind_two })
+  renewed (suc zero) zero le once = subst Renewed (sym (stand_one at.image 8 bytes bytes_long)) (record { shows = shows_one; same = λ s not_first not_copy. with_other at.image 8 s bytes not_first })
+  renewed (suc zero) (suc zero) le once = subst Renewed (sym stands_two) (record { shows = shows_two; same = others_two })
   renewed (suc zero) (suc (suc k)) le once = absurd (omega (arith, le))
   renewed (suc (suc j)) k le once = absurd (omega (arith, once))
 
@@ -264,8 +270,8 @@ module _ (l : Layout) (windows : List WeakRun) (choices : List (List (List ℕ))
         image = stand (stand at.image 8 bytes anchors.first) 12 bytes anchors.copy;
         holds = over_two first now left at.image 8 12 bytes anchors.first anchors.copy at.holds anchors.holds;
         shows = is.shows;
-        log = λ s from inside. is.same s from ∙ at.body s (omega (arith, from)) inside;
-        behind = λ s from. is.same s (omega (arith, from)) ∙ at.behind s from;
+        log = λ s from inside. is.same s (λ e. omega (arith, e, from)) (λ e. omega (arith, e, from)) ∙ at.body s (omega (arith, from)) inside;
+        rest = λ s out. let other = elsewhere l s out in is.same s other.anchor other.anchor_copy ∙ at.rest s out;
       }
 
   -- ---- once both stand
@@ -280,7 +286,7 @@ module _ (l : Layout) (windows : List WeakRun) (choices : List (List (List ℕ))
       holds = holds_wears first two mid left holds_mid wears;
       shows = shows_two;
       log = λ s from inside. behind_two s from ∙ at.body s (omega (arith, from)) inside;
-      behind = λ s from. behind_two s (omega (arith, from)) ∙ at.behind s from;
+      rest = rest_two;
     }
 
     module _ (short : AreShort now.windows) (some : IsSome first.windows.next) (new : Moment) (done : Settles mid new) where
@@ -309,7 +315,7 @@ module _ (l : Layout) (windows : List WeakRun) (choices : List (List (List ℕ))
       settled_so = record {
         after = record { run = named.0; settled = mounted.settled; pages = c.pages; chosen = c.chosen; shows = mounted.shows };
         log = λ s from inside. sector_on (weak_of windows s) (sector_at first.image s) (sector_at two s) (sector_at new.image s) (inl (behind_two s from ∙ at.body s (omega (arith, from)) inside)) (worn_last.each s);
-        behind = λ s from. sector_on (weak_of windows s) (sector_at first.image s) (sector_at two s) (sector_at new.image s) (inl (behind_two s (omega (arith, from)) ∙ at.behind s from)) (worn_last.each s);
+        rest = λ s out. sector_on (weak_of windows s) (sector_at first.image s) (sector_at two s) (sector_at new.image s) (inl (rest_two s out)) (worn_last.each s);
         said = done.said ∙ holds_mid.said;
       }
 

@@ -42,7 +42,7 @@ use Rattle.fsd_sound.specs.declared.fault.MountFault.TheVariants.{NotVolume, Dev
 use Rattle.mount_recover.specs.Finding.{IsExcuse, IsFound}
 use Rattle.mount_recover.specs.Lost.{StandAsShown}
 use Rattle.fsd_sound.specs.Lost.{LosesShown}
-use Rattle.mount_recover.specs.Mending.{KnowsLog, KeepsFrom}
+use Rattle.mount_recover.specs.Mending.{KnowsLog, StaysBut}
 use Rattle.fsd_sound.specs.Mounting.{IsVolume, load_fault_of}
 use Rattle.mount_recover.specs.Showing.{GivesPages, shows_of, ChangesHome, HasNoRoot, IsLaidAgain, IsShowing, LosesNone, LosesHome}
 use Rattle.mount_recover.proofs.AgainLaws.{again_stand}
@@ -272,11 +272,11 @@ module _ (l : Layout) (log : LogValue) (records : List Placed) (old mid : Moment
   pub roots_kept : HasNoRoot mid.image → HasNoRoot old.image
   roots_kept none = (sym (at.front 0 (omega arith)) ∙ none.0, sym (at.front 4 (omega arith)) ∙ none.1)
 
-  pub all_shown : (new : Moment) → IsCalmNow mid → KeepsFrom 8 mid new → (page : ℕ) → page < l.pages → home_of l new.image page ≡ shows_of l records old.image page
+  pub all_shown : (new : Moment) → IsCalmNow mid → StaysBut 0 4 mid new → (page : ℕ) → page < l.pages → home_of l new.image page ≡ shows_of l records old.image page
   all_shown new still kept page lt = home_same l mid.image new.image page (same (home_a l page) (omega arith)) (same (home_b l page) (omega arith)) ∙ at.done page lt
     where
       same : (s : ℕ) → 8 ≤ s → sector_at new.image s ≡ sector_at mid.image s
-      same s from = ⊎_elim (λ is. is) (λ hurt. absurd (cc (still s, hurt.0))) (kept s from)
+      same s from = ⊎_elim (λ is. is) (λ hurt. absurd (cc (still s, hurt.0))) (kept s (λ e. omega (arith, e, from)) (λ e. omega (arith, e, from)))
 
 -- ---- the windows of a mount that is calm at its end
 
@@ -350,7 +350,7 @@ module _ (sectors : ℕ) (l : Layout) (log : LogValue) (old one two : Moment) (c
     loses_shown (Unsound s) lost = tt
     loses_shown WornOut lost = tt
 
-    pub stand_shown : (three new : Moment) (a : Anchor) → anchor_of old.image ≡ Some a → ((page : ℕ) → page < l.pages → home_of l three.image page ≡ shows_of l (records_by l one.image log.anchor) two.image page) → IsCalmNow three → KeepsFrom 16 three new
+    pub stand_shown : (three new : Moment) (a : Anchor) → anchor_of old.image ≡ Some a → ((page : ℕ) → page < l.pages → home_of l three.image page ≡ shows_of l (records_by l one.image log.anchor) two.image page) → IsCalmNow three → StaysBut 8 12 three new
         → StandAsShown l a old.image new.image
     stand_shown three new a taken shown still kept page lt =
         let both : Some log.anchor ≡ Some a = sym volume_old.anchor ∙ taken in
@@ -358,4 +358,4 @@ module _ (sectors : ℕ) (l : Layout) (log : LogValue) (old one two : Moment) (c
         home_same l three.image new.image page (same (home_a l page) (omega arith)) (same (home_b l page) (omega arith)) ∙ shown page lt ∙ shows_same page ∙ ap (λ (b : Anchor). newest l old.image (records_by l old.image b) page) anchor
       where
         same : (s : ℕ) → 16 ≤ s → sector_at new.image s ≡ sector_at three.image s
-        same s from = ⊎_elim (λ is. is) (λ hurt. absurd (cc (still s, hurt.0))) (kept s from)
+        same s from = ⊎_elim (λ is. is) (λ hurt. absurd (cc (still s, hurt.0))) (kept s (λ e. omega (arith, e, from)) (λ e. omega (arith, e, from)))

@@ -1,6 +1,6 @@
 -- A mount up to `healing`: the last record is completed over an image that was seen.
 use Rattle.std.proofs.Common.{◌≡◌, inl, inr, ⊎_elim, ℕ, ◌+◌, ◌*◌, ◌^◌, ◌<◌, ◌≤◌, List, [], ◌∷◌, ◌++◌, length, Option, Some, None, Ok, refl, sym, ap, subst, ◌∙◌, arith}
-use Rattle.std.specs.Prelude.{IfSome, IsSome}
+use Rattle.std.specs.Prelude.{IfSome, IsFalse, IsSome}
 use Rattle.std.specs.List.{AllByRecursion}
 use Rattle.volume_layout.specs.declared.layout.Layout.{Layout}
 use Rattle.volume_layout.specs.Layout.{plan}
@@ -27,11 +27,13 @@ use Rattle.log_thirds.specs.Copies.{copies_count, AreCopiesOf, AreLastCopies}
 use Rattle.log_thirds.specs.LogValue.{LogValue}
 use Rattle.fsd_sound.specs.Logged.{IsLogged, Follows}
 use Rattle.fsd_sound.specs.Windows.{IsNarrow}
+use Rattle.fsd_sound.specs.Writes.{WritesAsMount, mount_writes}
 use Rattle.fsd_sound.proofs.CoverLaws.{ends_so, logged_still}
 use Rattle.fsd_sound.proofs.LaidLaws.{all_laid_worn}
 use Rattle.fsd_sound.proofs.AnchorFacts.{newer_one, taken_third}
 use Rattle.fsd_sound.proofs.CompletingLaws.{completing, laid, last_copies}
-use Rattle.mount_recover.specs.Mending.{KnowsLog, KeepsData, IsSeen, Completed}
+use Rattle.fsd_sound.proofs.WritesLaws.{elsewhere}
+use Rattle.mount_recover.specs.Mending.{KnowsLog, StaysElsewhere, IsSeen, Completed}
 use Rattle.mount_recover.specs.Replay.{HasLastCopies, KeepsBehindLog, Replays}
 use Rattle.mount_recover.proofs.KeepsLaws.{sector_on}
 
@@ -74,18 +76,21 @@ module _ (l : Layout) (log : LogValue) (j : Image) (knows : KnowsLog l log j) wh
       stand_other i log.copies.place log.copies.bytes m s (inl (omega (arith, of.place, place_from l log.anchor.third last.1.at, low))))
       (ends_so (records_by l j log.anchor))
 
-  -- so the map and the data stay
-  pub data_stays : (old mid new : Moment) → Holds old (stand old.image log.copies.place log.copies.bytes (copies_count log.copies)) mid → IsWorn (open_damage mid.windows) mid.image new.image → KeepsData l old new
-  data_stays old mid new holds worn s from =
+  -- so what lies elsewhere stays
+  pub copies_elsewhere : (m : ℕ) → m ≤ copies_count log.copies → (s : ℕ) → IsFalse (mount_writes l s) → (i : Image) → sector_at (stand i log.copies.place log.copies.bytes m) s ≡ sector_at i s
+  copies_elsewhere m le s out i = ⊎_elim (λ low. copies_behind m le s low i) (λ high. copies_inside m le s (omega (arith, high)) i) (elsewhere l s out).log
+
+  pub rest_stays : (old mid new : Moment) → Holds old (stand old.image log.copies.place log.copies.bytes (copies_count log.copies)) mid → IsWorn (open_damage mid.windows) mid.image new.image → StaysElsewhere l old new
+  rest_stays old mid new holds worn s out =
       let last : IsWorn (open_damage old.windows) mid.image new.image = subst (λ (w : Windows). IsWorn (open_damage w) mid.image new.image) holds.windows worn in
       sector_on (open_damage old.windows s) (sector_at old.image s) (sector_at (stand old.image log.copies.place log.copies.bytes (copies_count log.copies)) s) (sector_at new.image s)
-      (inl (copies_inside (copies_count log.copies) (omega arith) s (omega (arith, from)) old.image))
+      (inl (copies_elsewhere (copies_count log.copies) (omega arith) s out old.image))
       ((worn_trans (open_damage old.windows) _ mid.image new.image holds.worn last).each s)
 
-  pub data_in_part : (old new : Moment) → StandsInPart log.copies.place log.copies.bytes (copies_count log.copies) old new → KeepsData l old new
-  data_in_part old new part s from =
+  pub rest_in_part : (old new : Moment) → StandsInPart log.copies.place log.copies.bytes (copies_count log.copies) old new → StaysElsewhere l old new
+  rest_in_part old new part s out =
       sector_on (open_damage old.windows s) (sector_at old.image s) (sector_at (stand old.image log.copies.place log.copies.bytes part.stood) s) (sector_at new.image s)
-      (inl (copies_inside part.stood part.within s (omega (arith, from)) old.image)) (part.holds.worn.each s)
+      (inl (copies_elsewhere part.stood part.within s out old.image)) (part.holds.worn.each s)
 
 -- ---- where each record is whole
 
@@ -131,11 +136,15 @@ module _ (l : Layout) (windows : List WeakRun) (choices : List (List (List ℕ))
     kept_at s from = sector_on (weak_of windows s) (sector_at old.image s) (sector_at (stand old.image log.copies.place log.copies.bytes m) s) (sector_at left.image s)
         (inl (copies_inside l log seen.image seen.knows m le s from old.image)) ((weaker (stand old.image log.copies.place log.copies.bytes m) left.image worn).each s)
 
+    rest_at : WritesAsMount l (weak_of windows) old left
+    rest_at s out = sector_on (weak_of windows s) (sector_at old.image s) (sector_at (stand old.image log.copies.place log.copies.bytes m) s) (sector_at left.image s)
+        (inl (copies_elsewhere l log seen.image seen.knows m le s out old.image)) ((weaker (stand old.image log.copies.place log.copies.bytes m) left.image worn).each s)
+
     replays_at : left.windows.present ≡ old.windows.present → left.said ≡ old.said → Replays l windows choices old left
     replays_at present said = record {
       stage = inl (record { present = present; shows = shows_at });
       order = inl kept_at;
-      behind = λ s from. kept_at s (omega (arith, from));
+      rest = rest_at;
       said = said;
     }
 
@@ -215,6 +224,7 @@ module _ (l : Layout) (windows : List WeakRun) (choices : List (List (List ℕ))
           last = λ front r is. (last_by (λ x. HasFront l log.anchor (weak_of windows) new.image x × HasCopies l log.anchor (weak_of windows) new.image x) front r
               (subst (AllLaid l log.anchor (weak_of windows) new.image) (at_clean.records ∙ is) (all_laid_worn l log.anchor (weak_of windows) clean new.image (records_by l clean log.anchor) worn all_laid))).1;
           kept = kept_at (copies_count log.copies) (omega arith) new (later new names.image);
+          rest = rest_at (copies_count log.copies) (omega arith) new (later new names.image);
           present = present;
           said = names.said ∙ holds.said;
         }

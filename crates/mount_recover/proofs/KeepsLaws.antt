@@ -1,61 +1,86 @@
--- The calls of a mount keep the windows, what was said, the map and the data.
-use Rattle.std.proofs.Common.{◌≡◌, inl, inr, ℕ, ◌<◌, ◌≤◌, Bool, List, refl, subst, ◌∙◌, arith}
+-- The calls of a mount keep the windows, what was said, and each sector where they do not write.
+use Rattle.std.proofs.Common.{◌≡◌, ◌≢◌, inl, inr, ℕ, ◌<◌, ◌≤◌, Bool, List, refl, subst, ◌∙◌, arith}
 use Rattle.volume_layout.specs.declared.layout.Layout.{Layout}
-use Rattle.volume_layout.specs.Layout.{home_a, home_b, map_start}
+use Rattle.volume_layout.specs.Layout.{home_a, home_b}
 use Rattle.sector_disk.specs.declared.sector.Sector.{Sector}
 use Rattle.sector_disk.specs.Image.{Windows, sector_at, stand, open_damage}
-use Rattle.sector_disk.specs.Machine.{Moment, Holds}
+use Rattle.sector_disk.specs.Machine.{Moment, Holds, Wears}
 use Rattle.sector_disk.proofs.Wear.{stand_other}
 use Rattle.fsd_files.specs.Disk.{Image, SectorWorn}
+use Rattle.fsd_sound.proofs.WritesLaws.{beside, elsewhere}
 use Rattle.twin_home.specs.Home.{HomesIn}
-use Rattle.twin_home.specs.Heal.{Mends, Heals, RootsIn}
-use Rattle.mount_recover.specs.Mending.{Keeps, KeepsFrom}
+use Rattle.twin_home.specs.Heal.{Heals, RootsIn}
+use Rattle.mount_recover.specs.Mending.{Keeps, KeepsBut}
 
 pub sector_on : (b : Bool) (x y z : Sector) → SectorWorn b x y → SectorWorn b y z → SectorWorn b x z
 sector_on b x y z first (inr worn) = inr worn
 sector_on b x y z (inl same) (inl is) = inl (is ∙ same)
 sector_on b x y z (inr worn) (inl is) = inr (worn.0, is ∙ worn.1)
 
-pub keeps_holds : (l : Layout) (old new : Moment) (image : Image) → Holds old image new → ((s : ℕ) → map_start l ≤ s → sector_at image s ≡ sector_at old.image s) → Keeps l old new
-keeps_holds l old new image holds same = record {
+-- ---- but for two sectors
+
+-- where one sector is written, once at most, and another
+pub two_written : (a b : ℕ) (bytes : List ℕ) (j k : ℕ) → j ≤ 1 → k ≤ 1 → (i : Image) (s : ℕ) → s ≢ a → s ≢ b → sector_at (stand (stand i a bytes j) b bytes k) s ≡ sector_at i s
+two_written a b bytes j k once twice i s not_a not_b = stand_other (stand i a bytes j) b bytes k s (beside s b k not_b twice) ∙ stand_other i a bytes j s (beside s a j not_a once)
+
+but_holds : (a b : ℕ) (old new : Moment) (image : Image) → Holds old image new → ((s : ℕ) → s ≢ a → s ≢ b → sector_at image s ≡ sector_at old.image s) → KeepsBut a b old new
+but_holds a b old new image holds same = record {
   windows = holds.windows;
   said = holds.said;
-  map = λ s from. sector_on (open_damage old.windows s) (sector_at old.image s) (sector_at image s) (sector_at new.image s) (inl (same s from)) (holds.worn.each s);
+  others = λ s not_a not_b. sector_on (open_damage old.windows s) (sector_at old.image s) (sector_at image s) (sector_at new.image s) (inl (same s not_a not_b)) (holds.worn.each s);
 }
 
+pub but_homes : (l : Layout) (page : ℕ) (bytes : List ℕ) (old new : Moment) → HomesIn l page bytes old new → KeepsBut (home_a l page) (home_b l page) old new
+but_homes l page bytes old new homes = but_holds (home_a l page) (home_b l page) old new (stand (stand old.image (home_a l page) bytes homes.first) (home_b l page) bytes homes.second) homes.holds
+    (two_written (home_a l page) (home_b l page) bytes homes.first homes.second homes.once (omega (arith, homes.in_order, homes.once)) old.image)
+
+pub but_heals : (a b : ℕ) (old new : Moment) → Heals a b old new → KeepsBut a b old new
+but_heals a b old new (inl holds) = but_holds a b old new old.image holds (λ s not_a not_b. refl)
+but_heals a b old new (inr (inl mends)) = but_holds a b old new (stand old.image a mends.bytes mends.part.stood) mends.part.holds
+    (λ s not_a not_b. stand_other old.image a mends.bytes mends.part.stood s (beside s a mends.part.stood not_a mends.part.within))
+but_heals a b old new (inr (inr mends)) = but_holds a b old new (stand old.image b mends.bytes mends.part.stood) mends.part.holds
+    (λ s not_a not_b. stand_other old.image b mends.bytes mends.part.stood s (beside s b mends.part.stood not_b mends.part.within))
+
+pub but_roots : (bytes : List ℕ) (old new : Moment) → RootsIn bytes old new → KeepsBut 0 4 old new
+but_roots bytes old new roots = but_holds 0 4 old new (stand (stand old.image 0 bytes roots.first) 4 bytes roots.second) roots.holds
+    (two_written 0 4 bytes roots.first roots.second roots.once roots.once_more old.image)
+
+-- it was read before
+pub but_then : (a b : ℕ) (old mid new : Moment) → Wears old mid → KeepsBut a b mid new → KeepsBut a b old new
+but_then a b old mid new wears but = record {
+  windows = but.windows ∙ wears.windows;
+  said = but.said ∙ wears.said;
+  others = λ s not_a not_b. sector_on (open_damage old.windows s) (sector_at old.image s) (sector_at mid.image s) (sector_at new.image s) (wears.image.each s)
+      (subst (λ (w : Windows). SectorWorn (open_damage w s) (sector_at mid.image s) (sector_at new.image s)) wears.windows (but.others s not_a not_b));
+}
+
+-- it was only read
+pub but_read : (a b : ℕ) (old new : Moment) → Wears old new → KeepsBut a b old new
+but_read a b old new wears = record { windows = wears.windows; said = wears.said; others = λ s not_a not_b. wears.image.each s }
+
+-- ---- but where a mount writes
+
 pub keeps_none : (l : Layout) (old : Moment) → Keeps l old old
-keeps_none l old = record { windows = refl; said = refl; map = λ s from. inl refl }
+keeps_none l old = record { windows = refl; said = refl; rest = λ s out. inl refl }
 
 pub keeps_on : (l : Layout) (a b c : Moment) → Keeps l a b → Keeps l b c → Keeps l a c
 keeps_on l a b c first second = record {
   windows = second.windows ∙ first.windows;
   said = second.said ∙ first.said;
-  map = λ s from. sector_on (open_damage a.windows s) (sector_at a.image s) (sector_at b.image s) (sector_at c.image s) (first.map s from)
-      (subst (λ (w : Windows). SectorWorn (open_damage w s) (sector_at b.image s) (sector_at c.image s)) first.windows (second.map s from));
+  rest = λ s out. sector_on (open_damage a.windows s) (sector_at a.image s) (sector_at b.image s) (sector_at c.image s) (first.rest s out)
+      (subst (λ (w : Windows). SectorWorn (open_damage w s) (sector_at b.image s) (sector_at c.image s)) first.windows (second.rest s out));
 }
 
-module _ (l : Layout) (page : ℕ) (lt : page < l.pages) (old new : Moment) where
-  pub keeps_homes : (bytes : List ℕ) → HomesIn l page bytes old new → Keeps l old new
-  keeps_homes bytes homes = keeps_holds l old new (stand (stand old.image (home_a l page) bytes homes.first) (home_b l page) bytes homes.second) homes.holds
-      (λ s from. stand_other (stand old.image (home_a l page) bytes homes.first) (home_b l page) bytes homes.second s (inr (omega (arith, from, lt, homes.in_order, homes.once)))
-      ∙ stand_other old.image (home_a l page) bytes homes.first s (inr (omega (arith, from, lt, homes.once))))
+pub keeps_page : (l : Layout) (page : ℕ) → page < l.pages → (old new : Moment) → KeepsBut (home_a l page) (home_b l page) old new → Keeps l old new
+keeps_page l page lt old new but = record {
+  windows = but.windows;
+  said = but.said;
+  rest = λ s out. let is = elsewhere l s out in but.others s (is.home page lt) (is.home_copy page lt);
+}
 
-  keeps_mends : (place twin : ℕ) → place < map_start l → Mends place twin old new → Keeps l old new
-  keeps_mends place twin low mends = keeps_holds l old new (stand old.image place mends.bytes mends.part.stood) mends.part.holds
-      (λ s from. stand_other old.image place mends.bytes mends.part.stood s (inr (omega (arith, from, low, mends.part.within))))
-
-  pub keeps_heals : Heals (home_a l page) (home_b l page) old new → Keeps l old new
-  keeps_heals (inl holds) = keeps_holds l old new old.image holds (λ s from. refl)
-  keeps_heals (inr (inl mends)) = keeps_mends (home_a l page) (home_b l page) (omega (arith, lt)) mends
-  keeps_heals (inr (inr mends)) = keeps_mends (home_b l page) (home_a l page) (omega (arith, lt)) mends
-
-pub keeps_roots : (l : Layout) (bytes : List ℕ) (old new : Moment) → RootsIn bytes old new → Keeps l old new
-keeps_roots l bytes old new roots = keeps_holds l old new (stand (stand old.image 0 bytes roots.first) 4 bytes roots.second) roots.holds
-    (λ s from. stand_other (stand old.image 0 bytes roots.first) 4 bytes roots.second s (inr (omega (arith, from, roots.once_more)))
-    ∙ stand_other old.image 0 bytes roots.first s (inr (omega (arith, from, roots.once))))
-
-pub roots_body : (bytes : List ℕ) (old new : Moment) → RootsIn bytes old new → KeepsFrom 8 old new
-roots_body bytes old new roots s from =
-    sector_on (open_damage old.windows s) (sector_at old.image s) (sector_at (stand (stand old.image 0 bytes roots.first) 4 bytes roots.second) s) (sector_at new.image s)
-    (inl (stand_other (stand old.image 0 bytes roots.first) 4 bytes roots.second s (inr (omega (arith, from, roots.once_more)))
-    ∙ stand_other old.image 0 bytes roots.first s (inr (omega (arith, from, roots.once))))) (roots.holds.worn.each s)
+pub keeps_roots : (l : Layout) (old new : Moment) → KeepsBut 0 4 old new → Keeps l old new
+keeps_roots l old new but = record {
+  windows = but.windows;
+  said = but.said;
+  rest = λ s out. let is = elsewhere l s out in but.others s is.root is.root_copy;
+}

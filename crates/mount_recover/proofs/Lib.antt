@@ -4,6 +4,7 @@ mod CalmLaws
 mod CompletingLaws
 mod FaultLaws
 mod GivenLaws
+pub mod HomesLaws
 mod KeepsLaws
 mod MendingLaws
 mod MountLaws
@@ -11,3 +12,4 @@ mod PlaceLaws
 mod SeenLaws
 mod SlotLaws
 pub mod LostLaws
+mod TurningLaws

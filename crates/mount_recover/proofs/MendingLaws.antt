@@ -29,6 +29,7 @@ use Rattle.fsd_sound.specs.Homes.{AreTwins}
 use Rattle.fsd_sound.specs.Logged.{IsLogged}
 use Rattle.fsd_sound.specs.Windows.{IsNarrow}
 use Rattle.fsd_sound.proofs.CommuteLaws.{with_same, with_other, all_over}
+use Rattle.fsd_sound.proofs.WritesLaws.{elsewhere}
 use Rattle.fsd_sound.proofs.MendLaws.{logged_shows, mended_shows, rooted_shows}
 use Rattle.fsd_sound.proofs.PagesLaws.{home_is, logged_is}
 use Rattle.fsd_sound.proofs.AlikeLaws.{each_same, records_same}
@@ -77,21 +78,21 @@ module _ (l : Layout) (windows : List WeakRun) (choices : List (List (List ℕ))
     done = λ page lt. absurd (omega (arith, lt));
     front = λ s lt. refl;
     left = λ page le lt. (refl, refl);
-    behind = λ s le. refl;
+    rest = λ s out. refl;
   }
 
   pub here_stays : Stays l windows choices first first
-  here_stays = record { image = first.image; holds = holds_now first; shows = shows_still l windows narrow choices c.clean first.image c.worn c.shows; log = λ s from inside. refl; behind = λ s from. refl }
+  here_stays = record { image = first.image; holds = holds_now first; shows = shows_still l windows narrow choices c.clean first.image c.worn c.shows; log = λ s from inside. refl; rest = λ s out. refl }
 
   pub logged_same : (n : ℕ) → n < l.pages → (bytes : List ℕ) → last_image n (records_by l c.clean log.anchor) ≡ Some bytes → bytes ≡ get_or c.pages n []
   logged_same n lt bytes last = logged_is l c.clean log.anchor c.taken c.pages c.shown n lt bytes last
 
   module _ (n : ℕ) (lt : n < l.pages) (now : Moment) (at : IsMending l windows choices log first c n now) where
     pub still : (left : Moment) → Wears now left → IsMending l windows choices log first c n left
-    still left wears = record { image = at.image; holds = holds_wears first at.image now left at.holds wears; shows = at.shows; logged = at.logged; done = at.done; front = at.front; left = at.left; behind = at.behind }
+    still left wears = record { image = at.image; holds = holds_wears first at.image now left at.holds wears; shows = at.shows; logged = at.logged; done = at.done; front = at.front; left = at.left; rest = at.rest }
 
     pub stays : (left : Moment) → Wears now left → Stays l windows choices first left
-    stays left wears = record { image = at.image; holds = holds_wears first at.image now left at.holds wears; shows = at.shows; log = λ s from inside. at.front s inside; behind = at.behind }
+    stays left wears = record { image = at.image; holds = holds_wears first at.image now left at.holds wears; shows = at.shows; log = λ s from inside. at.front s inside; rest = at.rest }
 
     long : home_b l l.pages ≤ length at.image
     long = let bounds = planned_bounds l c.planned in omega (arith, bounds.third_least, bounds.sectors_least, at.shows.readable.roots.fits)
@@ -126,7 +127,7 @@ module _ (l : Layout) (windows : List WeakRun) (choices : List (List (List ℕ))
       holds = holds;
       shows = part.shows;
       log = λ s from inside. part.others s (λ is. omega (arith, is, inside)) (λ is. omega (arith, is, inside)) ∙ at.front s inside;
-      behind = λ s from. part.others s (λ is. omega (arith, is, from, lt)) (λ is. omega (arith, is, from, lt)) ∙ at.behind s from;
+      rest = λ s out. let is = elsewhere l s out in part.others s (is.home n lt) (is.home_copy n lt) ∙ at.rest s out;
     }
 
     part_next : (e : Image) → Part e → (new : Moment) → Holds first e new → IsAtHome l e n (get_or c.pages n []) → IsMending l windows choices log first c (n + 1) new
@@ -147,7 +148,7 @@ module _ (l : Layout) (windows : List WeakRun) (choices : List (List (List ℕ))
         part.others (home_a l page) (λ is. omega (arith, is, le)) (λ is. omega (arith, is, le, within)) ∙ old.0,
         part.others (home_b l page) (λ is. omega (arith, is, le, lt)) (λ is. omega (arith, is, le)) ∙ old.1,
       );
-      behind = λ s from. part.others s (λ is. omega (arith, is, from, lt)) (λ is. omega (arith, is, from, lt)) ∙ at.behind s from;
+      rest = λ s out. let is = elsewhere l s out in part.others s (is.home n lt) (is.home_copy n lt) ∙ at.rest s out;
     }
 
     -- ---- from the log
@@ -307,7 +308,7 @@ module _ (l : Layout) (windows : List WeakRun) (choices : List (List (List ℕ))
         holds = over_two first now left at.image 0 4 (root_bytes l) roots.first roots.second at.holds roots.holds;
         shows = is.shows;
         log = λ s from inside. is.others s (λ e. omega (arith, e, from)) (λ e. omega (arith, e, from)) ∙ at.front s inside;
-        behind = λ s from. is.others s (λ e. omega (arith, e, from)) (λ e. omega (arith, e, from)) ∙ at.behind s from;
+        rest = λ s out. let other = elsewhere l s out in is.others s other.root other.root_copy ∙ at.rest s out;
       }
 
   -- a root that needs nothing stands
@@ -338,7 +339,7 @@ module _ (l : Layout) (windows : List WeakRun) (choices : List (List (List ℕ))
         root = stand_other (stand at.image 0 (root_bytes l) healed.first) 4 (root_bytes l) healed.second 0 (inl (omega arith)) ∙ one.1;
         root_copy = by_second healed.second healed.needs_second two.1;
         body = λ s from inside. is.others s (λ e. omega (arith, e, from)) (λ e. omega (arith, e, from)) ∙ at.front s inside;
-        behind = λ s from. is.others s (λ e. omega (arith, e, from)) (λ e. omega (arith, e, from)) ∙ at.behind s from;
+        rest = λ s out. let other = elsewhere l s out in is.others s other.root other.root_copy ∙ at.rest s out;
       }
     where
       by_second : (k : ℕ) → NeedsRoot k 4 (root_bytes l) now → sector_at (stand at.image 4 (root_bytes l) k) 4 ≡ Whole (root_bytes l)

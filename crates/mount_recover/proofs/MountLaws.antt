@@ -4,7 +4,7 @@ use Rattle.std.specs.Prelude.{IsTrue, IsSome, option_and_then, nat_le}
 use Rattle.std.specs.List.{AllByRecursion}
 use Rattle.std.proofs.lemmas.Bool.{cond-true, le-leb, and_parts}
 use Rattle.volume_layout.specs.declared.layout.Layout.{Layout}
-use Rattle.volume_layout.specs.Layout.{plan, map_start}
+use Rattle.volume_layout.specs.Layout.{plan}
 use Rattle.volume_layout.specs.Root.{root_bytes, read_root}
 use Rattle.volume_layout.proofs.RootLaws.{planned_root_is_read}
 use Rattle.fsd_formats.specs.declared.anchor.Anchor.{Anchor}
@@ -31,15 +31,16 @@ use Rattle.fsd_sound.proofs.WindowLaws.{open_is_weak}
 use Rattle.log_thirds.specs.LogValue.{LogValue}
 use Rattle.log_thirds.proofs.ImageLaws.{logged_by}
 use Rattle.fsd_sound.specs.Windows.{IsNarrow, IsApart}
+use Rattle.fsd_sound.specs.Writes.{KeepsElsewhere, WritesAsMount}
 use Rattle.fsd_sound.specs.declared.fault.MountFault.{MountFault}
 use Rattle.fsd_sound.specs.declared.fault.MountFault.TheVariants.{NotVolume, Device, Memory, Lost, NoAnchor, Unsound, WornOut}
 use Rattle.mount_recover.specs.Finding.{IsFound, NotFoundFor, IsNotFound, IsExcuse}
 use Rattle.mount_recover.specs.Lost.{AreOfLog}
 use Rattle.fsd_sound.specs.Lost.{AreHomes, AreLoggedOn, AreHomesOn, AreCopiesOn, LostIn}
 use Rattle.fsd_sound.specs.Mounting.{HasRoot, last_epoch}
-use Rattle.mount_recover.specs.Mending.{IsLoadFault, AreOfAll, KeepsData, Keeps, IsSeen, Completed, Stays, Settled, Begins}
+use Rattle.mount_recover.specs.Mending.{IsLoadFault, AreOfAll, StaysElsewhere, Keeps, IsSeen, Completed, Stays, Settled, Begins}
 use Rattle.mount_recover.specs.Recover.{IsRefusedFor, ShowsVolume}
-use Rattle.mount_recover.specs.Replay.{HasLastCopies, KeepsMap, IsCompletedFrom, Replays}
+use Rattle.mount_recover.specs.Replay.{HasLastCopies, IsCompletedFrom, Replays}
 use Rattle.fsd_sound.proofs.WindowLaws.{short_apart}
 use Rattle.mount_recover.proofs.PlaceLaws.{lies_last}
 use Rattle.mount_recover.proofs.CompletingLaws.{last_by, low_third}
@@ -109,7 +110,7 @@ module _ (sectors : ℕ) (l : Layout) (windows : List WeakRun) (choices : List (
       record {
         stage = inl (record { present = ap (λ (w : Windows). w.present) wears.windows; shows = shows_worn left.image wears.image });
         order = inl (λ s from. worn.each s);
-        behind = λ s from. worn.each s;
+        rest = λ s out. worn.each s;
         said = wears.said;
       }
 
@@ -156,7 +157,7 @@ module _ (sectors : ℕ) (l : Layout) (windows : List WeakRun) (choices : List (
       stage = ⊎_elim (λ before. inl (record { present = before.present ∙ ap (λ (w : Windows). w.present) wears.windows; shows = before.shows })) (λ after. inr after) now.stage;
       order = ⊎_elim (λ kept. inl (λ s from. from_one s (sector_at left.image s) (kept s from)))
           (λ done. inr (record { seen = done.seen; worn = worn_trans (weak_of windows) old.image one.image done.seen (weaker old.image one.image wears.image) done.worn; anchor = done.anchor; taken = done.taken; last = done.last })) now.order;
-      behind = λ s from. from_one s (sector_at left.image s) (now.behind s from);
+      rest = λ s out. from_one s (sector_at left.image s) (now.rest s out);
       said = now.said ∙ wears.said;
     }
 
@@ -177,8 +178,8 @@ module _ (sectors : ℕ) (l : Layout) (windows : List WeakRun) (choices : List (
             (subst (λ (i : Image). HasLastCopies l log.anchor (weak_of windows) (records_by l i log.anchor) two.image) seen_is done.last);
       }
 
-      data_two : (left : Moment) → ((s : ℕ) → map_start l ≤ s → SectorWorn (weak_of windows s) (sector_at two.image s) (sector_at left.image s)) → (s : ℕ) → map_start l ≤ s → SectorWorn (weak_of windows s) (sector_at old.image s) (sector_at left.image s)
-      data_two left on s from = from_one s (sector_at left.image s) (sector_on (weak_of windows s) (sector_at one.image s) (sector_at two.image s) (sector_at left.image s) (done.kept s (omega (arith, from))) (on s from))
+      rest_two : (left : Moment) → WritesAsMount l (weak_of windows) two left → WritesAsMount l (weak_of windows) old left
+      rest_two left on s out = from_one s (sector_at left.image s) (sector_on (weak_of windows s) (sector_at one.image s) (sector_at two.image s) (sector_at left.image s) (done.rest s out) (on s out))
 
       pub stays_replays : (left : Moment) → Stays l windows choices two left → Replays l windows choices old left
       stays_replays left at =
@@ -189,12 +190,12 @@ module _ (sectors : ℕ) (l : Layout) (windows : List WeakRun) (choices : List (
               shows = stays_show l windows choices log two done.is left at;
             });
             order = inr (in_order left (λ s from inside. sector_on (weak_of windows s) (sector_at two.image s) (sector_at at.image s) (sector_at left.image s) (inl (at.log s from inside)) (worn.each s)));
-            behind = data_two left (λ s from. sector_on (weak_of windows s) (sector_at two.image s) (sector_at at.image s) (sector_at left.image s) (inl (at.behind s from)) (worn.each s));
+            rest = rest_two left (λ s out. sector_on (weak_of windows s) (sector_at two.image s) (sector_at at.image s) (sector_at left.image s) (inl (at.rest s out)) (worn.each s));
             said = at.holds.said ∙ done.said ∙ wears.said;
           }
 
       settled_replays : (left : Moment) → Settled l windows choices two left → Replays l windows choices old left
-      settled_replays left at = record { stage = inr at.after; order = inr (in_order left at.log); behind = data_two left at.behind; said = at.said ∙ done.said ∙ wears.said }
+      settled_replays left at = record { stage = inr at.after; order = inr (in_order left at.log); rest = rest_two left at.rest; said = at.said ∙ done.said ∙ wears.said }
 
       pub begins_replays : (left : Moment) → Begins l windows choices two left → Replays l windows choices old left
       begins_replays left (inl at) = stays_replays left at
@@ -261,7 +262,7 @@ mend_refused sectors l log old one fits is NoAnchor cause = absurd cause
 mend_refused sectors l log old one fits is (Unsound s) cause = absurd cause
 mend_refused sectors l log old one fits is WornOut cause = absurd cause
 
--- ---- the map and the data
+-- ---- where a mount does not write
 
 or_first : (a b : Bool) → IsTrue a → IsTrue (a || b)
 or_first true b e = refl
@@ -281,31 +282,31 @@ open_settled present None some s hurt = absurd (cc some)
 open_settled None (Some run) some s hurt = hurt
 open_settled (Some w) (Some run) some s hurt = (and_parts (in_run w s) (in_run run s) hurt).1
 
-map_through : (l : Layout) (old one two three new : Moment) → Wears old one → KeepsData l one two → Keeps l two three → KeepsData l three new → ((s : ℕ) → IsTrue (open_damage three.windows s) → IsTrue (open_damage new.windows s)) → KeepsMap l old new
-map_through l old one two three new wears first second third in_new s from =
+rest_through : (l : Layout) (old one two three new : Moment) → Wears old one → StaysElsewhere l one two → Keeps l two three → StaysElsewhere l three new → ((s : ℕ) → IsTrue (open_damage three.windows s) → IsTrue (open_damage new.windows s)) → KeepsElsewhere l old new
+rest_through l old one two three new wears first second third in_new s out =
     let both : Bool = open_damage old.windows s || open_damage new.windows s in
     let to_one : SectorWorn (open_damage old.windows s || open_damage new.windows s) (sector_at old.image s) (sector_at one.image s) =
     worn_more_at (open_damage old.windows s) both (sector_at old.image s) (sector_at one.image s) (or_first (open_damage old.windows s) (open_damage new.windows s)) (wears.image.each s) in
     let to_two : SectorWorn (open_damage old.windows s || open_damage new.windows s) (sector_at one.image s) (sector_at two.image s) =
-    worn_more_at (open_damage one.windows s) both (sector_at one.image s) (sector_at two.image s) (λ hurt. or_first (open_damage old.windows s) (open_damage new.windows s) (subst (λ (w : Windows). IsTrue (open_damage w s)) wears.windows hurt)) (first s from) in
+    worn_more_at (open_damage one.windows s) both (sector_at one.image s) (sector_at two.image s) (λ hurt. or_first (open_damage old.windows s) (open_damage new.windows s) (subst (λ (w : Windows). IsTrue (open_damage w s)) wears.windows hurt)) (first s out) in
     let to_three : SectorWorn (open_damage old.windows s || open_damage new.windows s) (sector_at two.image s) (sector_at three.image s) =
     worn_more_at (open_damage two.windows s) both (sector_at two.image s) (sector_at three.image s)
-    (λ hurt. or_second (open_damage old.windows s) (open_damage new.windows s) (in_new s (subst (λ (w : Windows). IsTrue (open_damage w s)) (sym second.windows) hurt))) (second.map s from) in
+    (λ hurt. or_second (open_damage old.windows s) (open_damage new.windows s) (in_new s (subst (λ (w : Windows). IsTrue (open_damage w s)) (sym second.windows) hurt))) (second.rest s out) in
     let to_new : SectorWorn (open_damage old.windows s || open_damage new.windows s) (sector_at three.image s) (sector_at new.image s) =
-    worn_more_at (open_damage three.windows s) both (sector_at three.image s) (sector_at new.image s) (λ hurt. or_second (open_damage old.windows s) (open_damage new.windows s) (in_new s hurt)) (third s from) in
+    worn_more_at (open_damage three.windows s) both (sector_at three.image s) (sector_at new.image s) (λ hurt. or_second (open_damage old.windows s) (open_damage new.windows s) (in_new s hurt)) (third s out) in
     sector_on both (sector_at old.image s) (sector_at three.image s) (sector_at new.image s)
     (sector_on both (sector_at old.image s) (sector_at two.image s) (sector_at three.image s) (sector_on both (sector_at old.image s) (sector_at one.image s) (sector_at two.image s) to_one to_two) to_three) to_new
 
-pub map_kept : (l : Layout) (old one two three new : Moment) → Wears old one → KeepsData l one two → Keeps l two three → KeepsData l three new → IsSome two.windows.next → new.windows ≡ settled three.windows.present three.windows.next → KeepsMap l old new
-map_kept l old one two three new wears first second third some is =
-    map_through l old one two three new wears first second third
+pub rest_kept : (l : Layout) (old one two three new : Moment) → Wears old one → StaysElsewhere l one two → Keeps l two three → StaysElsewhere l three new → IsSome two.windows.next → new.windows ≡ settled three.windows.present three.windows.next → KeepsElsewhere l old new
+rest_kept l old one two three new wears first second third some is =
+    rest_through l old one two three new wears first second third
     (λ s hurt. subst (λ (w : Windows). IsTrue (open_damage w s)) (sym is) (open_settled three.windows.present three.windows.next (subst (λ (w : Windows). IsSome w.next) (sym second.windows) some) s hurt))
 
 -- nothing is written yet
 pub keeps_all : (l : Layout) (now : Moment) → Keeps l now now
-keeps_all l now = record { windows = refl; said = refl; map = λ s from. inl refl }
+keeps_all l now = record { windows = refl; said = refl; rest = λ s out. inl refl }
 
 -- so it is where the windows stayed, too
-pub map_left : (l : Layout) (old one two three new : Moment) → Wears old one → KeepsData l one two → Keeps l two three → KeepsData l three new → new.windows ≡ three.windows → KeepsMap l old new
-map_left l old one two three new wears first second third is =
-    map_through l old one two three new wears first second third (λ s hurt. subst (λ (w : Windows). IsTrue (open_damage w s)) (sym is) hurt)
+pub rest_left : (l : Layout) (old one two three new : Moment) → Wears old one → StaysElsewhere l one two → Keeps l two three → StaysElsewhere l three new → new.windows ≡ three.windows → KeepsElsewhere l old new
+rest_left l old one two three new wears first second third is =
+    rest_through l old one two three new wears first second third (λ s hurt. subst (λ (w : Windows). IsTrue (open_damage w s)) (sym is) hurt)

@@ -3,7 +3,7 @@ use Rattle.std.proofs.Common.{◌≡◌, ℕ, ◌+◌, Bool, true, false, cond, 
 use Rattle.std.specs.Prelude.{option_map, ◌==◌}
 use Rattle.std.specs.Option.{option_or}
 use Rattle.volume_layout.specs.Shape.{Shape}
-use Rattle.fsd_log.specs.Places.{last_places, places_at, places_in}
+use Rattle.fsd_log.specs.Places.{last_places, places_in}
 use Rattle.fsd_log.specs.Scan.{Placed, place_of}
 use Rattle.log_thirds.specs.declared.slots.Slot.{Slot}
 use Rattle.log_thirds.specs.Images.{LiesAt}

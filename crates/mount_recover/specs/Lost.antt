@@ -1,8 +1,8 @@
--- What a mount leaves and writes at most, by a root of the image; the copies of a page in its log.
+-- What a mount writes at most, by a root of the image; the copies of a page in its log.
 use Rattle.std.specs.Prelude.{◌≡◌, ◌⊎◌, ◌+◌, ◌<◌, ◌≤◌, ℕ}
 use Rattle.volume_layout.specs.declared.layout.Layout.{Layout}
 use Rattle.fsd_formats.specs.declared.anchor.Anchor.{Anchor}
-use Rattle.sector_disk.specs.Machine.{Ledger, Moment, Wears}
+use Rattle.sector_disk.specs.Machine.{Ledger, Moment}
 use Rattle.fsd_files.specs.Disk.{Image}
 use Rattle.fsd_sound.specs.Homes.{home_of}
 use Rattle.fsd_sound.specs.Mounting.{HasRoot}
@@ -10,11 +10,6 @@ use Rattle.fsd_sound.specs.Shown.{records_by, newest}
 use Rattle.log_thirds.specs.Images.{AreLogged}
 use Rattle.log_thirds.specs.LogValue.{LogValue}
 use Rattle.mount_recover.specs.Recover.{writes_most}
-use Rattle.mount_recover.specs.Replay.{KeepsMap}
-
--- Nothing was written; or there is a root of the image by whose layout the map and the data stay, but for wear.
-abbrev pub LeavesMap : ℕ → Moment → Moment → Type 0
-LeavesMap sectors old new = Wears old new ⊎ ((l : Layout) × HasRoot sectors old.image l × KeepsMap l old new)
 
 -- Nothing was written; or there is a root of the image by whose layout no more was written than a mount writes.
 abbrev pub WritesMost : ℕ → Moment → (before after : Ledger) → Type 0

@@ -1,7 +1,7 @@
 -- The steps of a mount, where sectors wear.
-use Rattle.std.specs.Prelude.{◌≡◌, ◌⊎◌, ⊤, ℕ, ◌+◌, ◌*◌, ◌<◌, ◌≤◌, List, [], get_or, Some, None, Ok, Contains}
+use Rattle.std.specs.Prelude.{◌≡◌, ◌≢◌, ◌⊎◌, ⊤, ℕ, ◌+◌, ◌*◌, ◌<◌, ◌≤◌, List, [], get_or, Some, None, Ok, Contains, IsFalse}
 use Rattle.volume_layout.specs.declared.layout.Layout.{Layout}
-use Rattle.volume_layout.specs.Layout.{plan, home_a, home_b, map_start}
+use Rattle.volume_layout.specs.Layout.{plan, home_a, home_b}
 use Rattle.volume_layout.specs.Root.{root_bytes}
 use Rattle.sector_disk.specs.declared.sector.Sector.TheVariants.{Whole}
 use Rattle.sector_disk.specs.declared.sector.WeakRun.{WeakRun}
@@ -23,6 +23,7 @@ use Rattle.fsd_sound.specs.Lost.{AreHomes}
 use Rattle.mount_recover.specs.Replay.{HasLastCopies, KeepsBehindLog, IsAfter}
 use Rattle.fsd_sound.specs.Logged.{IsLogged}
 use Rattle.fsd_sound.specs.Windows.{IsApart}
+use Rattle.fsd_sound.specs.Writes.{WritesAsMount, mount_writes}
 
 -- ---- faults
 
@@ -49,19 +50,29 @@ AreOfAll l log a b = AreOfVolume l log a b ⊎ AreRoots a b
 
 -- ---- what any image keeps
 
--- the sectors from a place on stay, but for wear
-abbrev pub KeepsFrom : (start : ℕ) → Moment → Moment → Type 0
-KeepsFrom start old new = (s : ℕ) → start ≤ s → SectorWorn (open_damage old.windows s) (sector_at old.image s) (sector_at new.image s)
+-- each sector but these two stays, but for wear
+abbrev pub StaysBut : (a b : ℕ) → Moment → Moment → Type 0
+StaysBut a b old new = (s : ℕ) → s ≢ a → s ≢ b → SectorWorn (open_damage old.windows s) (sector_at old.image s) (sector_at new.image s)
 
--- the map and the data stay, but for wear
-abbrev pub KeepsData : Layout → Moment → Moment → Type 0
-KeepsData l old new = (s : ℕ) → map_start l ≤ s → SectorWorn (open_damage old.windows s) (sector_at old.image s) (sector_at new.image s)
+-- The windows, what was said, and each sector but these two stay, but for wear.
+pub record KeepsBut (a b : ℕ) (old new : Moment) : Type 0 where
+  pub windows : new.windows ≡ old.windows
+  pub said : new.said ≡ old.said
+  pub others : StaysBut a b old new
 
--- The windows, what was said, the map and the data stay, but for wear.
+-- each sector stays where a mount does not write, but for wear
+abbrev pub StaysElsewhere : Layout → Moment → Moment → Type 0
+StaysElsewhere l old new = WritesAsMount l (open_damage old.windows) old new
+
+-- The windows, what was said, and each sector where a mount does not write stay, but for wear.
 pub record Keeps (l : Layout) (old new : Moment) : Type 0 where
   pub windows : new.windows ≡ old.windows
   pub said : new.said ≡ old.said
-  pub map : KeepsData l old new
+  pub rest : StaysElsewhere l old new
+
+-- where a mount does not write, the images agree
+abbrev pub SameElsewhere : Layout → Image → Image → Type 0
+SameElsewhere l i j = (s : ℕ) → IsFalse (mount_writes l s) → sector_at j s ≡ sector_at i s
 
 -- ---- up to `healing`
 
@@ -105,6 +116,7 @@ pub record Completed (l : Layout) (windows : List WeakRun) (choices : List (List
   pub is : IsCompleted l windows choices log new
   pub last : HasLastCopies l log.anchor (weak_of windows) (records_by l seen.image log.anchor) new.image
   pub kept : KeepsBehindLog l (weak_of windows) old.image new.image
+  pub rest : WritesAsMount l (weak_of windows) old new
   pub present : new.windows.present ≡ old.windows.present
   pub said : new.said ≡ old.said
 
@@ -121,7 +133,7 @@ pub record IsMending (l : Layout) (windows : List WeakRun) (choices : List (List
   pub done : (page : ℕ) → page < n → IsAtHome l image page (get_or c.pages page [])
   pub front : (s : ℕ) → s < 16 + 3 * l.third → sector_at image s ≡ sector_at first.image s
   pub left : (page : ℕ) → n ≤ page → page < l.pages → (sector_at image (home_a l page) ≡ sector_at first.image (home_a l page)) × (sector_at image (home_b l page) ≡ sector_at first.image (home_b l page))
-  pub behind : (s : ℕ) → map_start l ≤ s → sector_at image s ≡ sector_at first.image s
+  pub rest : SameElsewhere l first.image image
 
 -- All pages are mended, and both roots.
 pub record IsMended (l : Layout) (windows : List WeakRun) (choices : List (List (List ℕ))) (log : LogValue) (first : Moment) (c : IsCompleted l windows choices log first) (now : Moment) : Type 0 where
@@ -132,21 +144,21 @@ pub record IsMended (l : Layout) (windows : List WeakRun) (choices : List (List 
   pub root : sector_at image 0 ≡ Whole (root_bytes l)
   pub root_copy : sector_at image 4 ≡ Whole (root_bytes l)
   pub body : (s : ℕ) → 8 ≤ s → s < 16 + 3 * l.third → sector_at image s ≡ sector_at first.image s
-  pub behind : (s : ℕ) → map_start l ≤ s → sector_at image s ≡ sector_at first.image s
+  pub rest : SameElsewhere l first.image image
 
--- A moment from `healing` on: it is worn from an image that shows the pages, and has the log, the map and the data as they were.
+-- A moment from `healing` on: it is worn from an image that shows the pages, and has the log as it was, and what lies where a mount does not write.
 pub record Stays (l : Layout) (windows : List WeakRun) (choices : List (List (List ℕ))) (first left : Moment) : Type 0 where
   pub image : Image
   pub holds : Holds first image left
   pub shows : ShowsPages l windows choices image
   pub log : (s : ℕ) → 16 ≤ s → s < 16 + 3 * l.third → sector_at image s ≡ sector_at first.image s
-  pub behind : (s : ℕ) → map_start l ≤ s → sector_at image s ≡ sector_at first.image s
+  pub rest : SameElsewhere l first.image image
 
 -- So it is, or the mount has settled.
 pub record Settled (l : Layout) (windows : List WeakRun) (choices : List (List (List ℕ))) (first left : Moment) : Type 0 where
   pub after : IsAfter l windows choices left
   pub log : (s : ℕ) → 16 ≤ s → s < 16 + 3 * l.third → SectorWorn (weak_of windows s) (sector_at first.image s) (sector_at left.image s)
-  pub behind : (s : ℕ) → map_start l ≤ s → SectorWorn (weak_of windows s) (sector_at first.image s) (sector_at left.image s)
+  pub rest : WritesAsMount l (weak_of windows) first left
   pub said : left.said ≡ first.said
 
 abbrev pub Begins : Layout → List WeakRun → List (List (List ℕ)) → (first left : Moment) → Type 0

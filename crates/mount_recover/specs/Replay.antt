@@ -1,18 +1,18 @@
 -- What a mount leaves at each moment, and at its end.
-use Rattle.std.specs.Prelude.{◌≡◌, ◌⊎◌, ℕ, ◌+◌, ◌*◌, ◌<◌, ◌≤◌, List, [], ◌∷◌, ◌++◌, ◌||◌, get_or, Some, None, Contains}
+use Rattle.std.specs.Prelude.{◌≡◌, ◌⊎◌, ℕ, ◌+◌, ◌*◌, ◌<◌, ◌≤◌, List, [], ◌∷◌, ◌++◌, get_or, Some, None, Contains}
 use Rattle.volume_layout.specs.declared.layout.Layout.{Layout}
 use Rattle.volume_layout.specs.Layout.{home_a, home_b, map_start}
 use Rattle.fsd_formats.specs.declared.anchor.Anchor.{Anchor}
 use Rattle.sector_disk.specs.declared.sector.WeakRun.{WeakRun}
-use Rattle.sector_disk.specs.Image.{sector_at, IsWorn, open_damage}
+use Rattle.sector_disk.specs.Image.{sector_at, IsWorn}
 use Rattle.sector_disk.specs.Machine.{Moment}
 use Rattle.fsd_log.specs.Scan.{Placed, start}
 use Rattle.fsd_files.specs.Disk.{Image, Sectors, SectorWorn, Has}
 use Rattle.fsd_sound.specs.Anchors.{anchor_of, fresh_anchor}
 use Rattle.fsd_sound.specs.Laid.{HasCopies, HasOwnLog}
-use Rattle.fsd_sound.specs.Mounted.{SameData}
 use Rattle.fsd_sound.specs.Shown.{records_by}
 use Rattle.fsd_sound.specs.Sound.{weak_of, ShowsPages}
+use Rattle.fsd_sound.specs.Writes.{WritesAsMount}
 pub use Rattle.fsd_sound.specs.Homes.{StandAtHome}
 pub use Rattle.fsd_sound.specs.Logged.{copies_at, copies_of, Follows}
 
@@ -40,9 +40,13 @@ pub record IsCompletedFrom (l : Layout) (weak : Sectors) (old left : Image) : Ty
 abbrev pub SameBehind : Layout → Image → Image → Type 0
 SameBehind l i j = (s : ℕ) → map_start l ≤ s → sector_at j s ≡ sector_at i s
 
--- they are but for what the windows of both moments may wear
-abbrev pub KeepsMap : Layout → Moment → Moment → Type 0
-KeepsMap l old new = (s : ℕ) → map_start l ≤ s → SectorWorn (open_damage old.windows s || open_damage new.windows s) (sector_at old.image s) (sector_at new.image s)
+-- the present window is as it was
+abbrev pub IsUnturned : (old left : Moment) → Type 0
+IsUnturned old left = left.windows.present ≡ old.windows.present
+
+-- so it is, or this is the end: a mount settles as the last that it does
+abbrev pub TurnsLast : (old new left : Moment) → Type 0
+TurnsLast old new left = IsUnturned old left ⊎ (left ≡ new)
 
 -- Before the mount settles: the present window is as it was, and the image shows one of the page lists.
 pub record IsBefore (l : Layout) (windows : List WeakRun) (choices : List (List (List ℕ))) (old left : Moment) : Type 0 where
@@ -57,11 +61,12 @@ pub record IsAfter (l : Layout) (windows : List WeakRun) (choices : List (List (
   pub chosen : Contains choices pages
   pub shows : ShowsPages l (windows ++ run ∷ []) (pages ∷ []) left.image
 
--- A moment of a mount: the last record has its copies before anything is written behind the log.
+-- A moment of a mount: the last record has its copies before anything is written behind the log, and nothing is written but where
+-- a mount writes.
 pub record Replays (l : Layout) (windows : List WeakRun) (choices : List (List (List ℕ))) (old left : Moment) : Type 0 where
   pub stage : IsBefore l windows choices old left ⊎ IsAfter l windows choices left
   pub order : KeepsBehindLog l (weak_of windows) old.image left.image ⊎ IsCompletedFrom l (weak_of windows) old.image left.image
-  pub behind : SameData l (weak_of windows) old.image left.image
+  pub rest : WritesAsMount l (weak_of windows) old left
   pub said : left.said ≡ old.said
 
 -- each page of the list stands at both homes, but for what is weak

@@ -6,8 +6,8 @@ ghost use Rattle.sector_disk.specs.declared.sector.WeakRun.{WeakRun as Run};
 ghost use Rattle.sector_disk.specs.Calls.{HealsDisk, device_in, failed_at};
 ghost use Rattle.sector_disk.specs.Machine.{LeavesOnly};
 ghost use Rattle.fsd_files.specs.Disk.{Image};
-ghost use Rattle.mount_recover.specs.Mending.{IsSeen, KnowsLog, KeepsData, Completed};
-ghost use Rattle.mount_recover.specs.Replay.{Replays};
+ghost use Rattle.mount_recover.specs.Mending.{IsSeen, KnowsLog, StaysElsewhere, Completed};
+ghost use Rattle.mount_recover.specs.Replay.{IsUnturned, Replays};
 ghost use Rattle.mount_recover.specs.Showing.{IsLaidAgain};
 ghost use Rattle.log_thirds.specs.Append.{IsCalm as IsCalmNow};
 
@@ -20,10 +20,12 @@ pub(crate) fn complete<M: Machine>(m: &mut M, log: &Log) -> Result<(), Failed>
 
     ensures disk { HealsDisk M.Machine (device_in failed_at result) m.old m.new }
     ensures most { M.tells m.new → (M.ledger m.new).written ≤ (M.ledger m.old).written + 97 }
+    ensures grows { OnOk result (M.tells m.new → (M.ledger m.old).written ≤ (M.ledger m.new).written) }
     ensures present { M.honest m.new → (M.now m.new).windows.present ≡ (M.now m.old).windows.present }
+    ensures unturned { M.honest m.new → LeavesOnly M.moment M.left_since m.old m.new (IsUnturned (M.now m.old)) }
     ensures named { OnOk result (M.honest m.new → IsSome (M.now m.new).windows.next) }
 
-    ensures map { (l : Plan) (j : Image) → M.honest m.new → plan l.sectors l.third l.pages ≡ Ok l → log.now.layout ≡ l → KnowsLog l log.now j → KeepsData l (M.now m.old) (M.now m.new) }
+    ensures rest { (l : Plan) (j : Image) → M.honest m.new → plan l.sectors l.third l.pages ≡ Ok l → log.now.layout ≡ l → KnowsLog l log.now j → StaysElsewhere l (M.now m.old) (M.now m.new) }
 
     // Over an image that was seen, and shows the pages of a volume, they are shown at each moment. At the end each record of
     // the log is whole.

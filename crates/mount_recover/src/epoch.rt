@@ -7,9 +7,9 @@ ghost use Rattle.sector_disk.specs.Image.{settled};
 ghost use Rattle.sector_disk.specs.Calls.{HealsDisk, device_in, failed_at};
 ghost use Rattle.sector_disk.specs.Machine.{Moment as At, LeavesOnly};
 ghost use Rattle.log_thirds.specs.Anchoring.{in_next_epoch};
-ghost use Rattle.mount_recover.specs.Mending.{IsCompleted, IsMended, Begins, KeepsFrom};
+ghost use Rattle.mount_recover.specs.Mending.{IsCompleted, IsMended, Begins, StaysBut};
 ghost use Rattle.mount_recover.specs.Recover.{HasAnchors};
-ghost use Rattle.mount_recover.specs.Replay.{IsReplayed};
+ghost use Rattle.mount_recover.specs.Replay.{IsReplayed, TurnsLast};
 
 use log_thirds::Log;
 use sector_disk::{Failed, Machine};
@@ -22,11 +22,13 @@ pub(crate) fn begin_epoch<M: Machine>(m: &mut M, log: &mut Log) -> Result<(), Fa
 
     ensures disk { HealsDisk M.Machine (device_in failed_at result) m.old m.new }
     ensures most { M.tells m.new → (M.ledger m.new).written ≤ (M.ledger m.old).written + 2 }
+    ensures grows { OnOk result (M.tells m.new → (M.ledger m.old).written ≤ (M.ledger m.new).written) }
     ensures windows { OnOk result (M.honest m.new → (M.now m.new).windows ≡ settled (M.now m.old).windows.present (M.now m.old).windows.next) }
     ensures windows_err { OnErr result (M.honest m.new → (M.now m.new).windows ≡ (M.now m.old).windows) }
+    ensures turns { M.honest m.new → LeavesOnly M.moment M.left_since m.old m.new (TurnsLast (M.now m.old) (M.now m.new)) }
     ensures past { OnOk result (log.new ≡ in_next_epoch log.old) }
 
-    ensures body { M.honest m.new → KeepsFrom 16 (M.now m.old) (M.now m.new) }
+    ensures rest { M.honest m.new → StaysBut 8 12 (M.now m.old) (M.now m.new) }
 
     // The anchors are the log's own, whatever the image was.
     ensures anchors { OnOk result (M.honest m.new → 12 < (M.report m.old).sectors → IsSome (M.now m.old).windows.next → HasAnchors log.new.anchor (M.now m.new)) }

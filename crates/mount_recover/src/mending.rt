@@ -1,7 +1,7 @@
 // A mount from `healing` on: the pages that the log has are written home, and of all else that stands twice what is damaged is
 // written from its twin.
 ghost use Rattle.std.specs.Prelude.{◌≡◌, ◌+◌, ◌*◌, ◌<◌, ◌≤◌, ℕ, List, Ok, Some, None, IfErr, OnOk};
-ghost use Rattle.volume_layout.specs.Layout.{plan};
+ghost use Rattle.volume_layout.specs.Layout.{plan, home_a, home_b};
 ghost use Rattle.sector_disk.specs.declared.sector.WeakRun.{WeakRun as Run};
 ghost use Rattle.sector_disk.specs.Calls.{HealsDisk, device_in};
 ghost use Rattle.sector_disk.specs.Machine.{Moment as At, LeavesOnly};
@@ -15,7 +15,8 @@ ghost use Rattle.log_thirds.specs.LogValue.{LogValue};
 ghost use Rattle.mount_recover.specs.Finding.{IsExcuse};
 ghost use Rattle.fsd_sound.specs.Lost.{AreHomes, LostIn};
 ghost use Rattle.fsd_sound.specs.Mounting.{load_fault_of};
-ghost use Rattle.mount_recover.specs.Mending.{IsLoadFault, AreOfVolume, AreOfAll, AreRoots, IsCompleted, IsMending, IsMended, Stays, Keeps, KeepsFrom};
+ghost use Rattle.mount_recover.specs.Mending.{IsLoadFault, AreOfVolume, AreOfAll, AreRoots, IsCompleted, IsMending, IsMended, Stays, Keeps, KeepsBut};
+ghost use Rattle.mount_recover.specs.Recover.{HasBothHomes};
 ghost use Rattle.fsd_sound.specs.Mounting.{device_of_mount};
 ghost use Rattle.mount_recover.specs.Showing.{GivesPages, ChangesHome, HasNoRoot, IsShowing, LosesNone, LosesHome, shows_of};
 
@@ -48,7 +49,9 @@ fn home_logged<M: Machine>(
     ensures disk { HealsDisk M.Machine (device_in device_of_mount result) m.old m.new }
     ensures load { IfErr result IsLoadFault }
     ensures most { M.tells m.new → (M.ledger m.new).written ≤ (M.ledger m.old).written + 2 }
-    ensures keeps { M.honest m.new → Keeps l.now (M.now m.old) (M.now m.new) }
+    ensures grows { OnOk result (M.tells m.new → (M.ledger m.old).written ≤ (M.ledger m.new).written) }
+    ensures keeps { M.honest m.new → KeepsBut (home_a l.now page) (home_b l.now page) (M.now m.old) (M.now m.new) }
+    ensures homes { OnOk result (M.honest m.new → HasBothHomes l.now (M.now m.new) page) }
     ensures any_moment { (windows : List Run) (choices : List (List (List ℕ))) (log : LogValue) (first : At) (c : IsCompleted l.now windows choices log first) → M.honest m.new →
         (last_image page (records_by l.now c.clean log.anchor) ≡ None → ⊥) → IsMending l.now windows choices log first c page (M.now m.old) →
         LeavesOnly M.moment M.left_since m.old m.new (Stays l.now windows choices first) }
@@ -73,7 +76,9 @@ fn heal_home<M: Machine>(m: &mut M, l: &Layout, page: u32) -> Result<(), MountFa
     ensures disk { HealsDisk M.Machine (device_in device_of_mount result) m.old m.new }
     ensures load { IfErr result IsLoadFault }
     ensures most { M.tells m.new → (M.ledger m.new).written ≤ (M.ledger m.old).written + 1 }
-    ensures keeps { M.honest m.new → Keeps l.now (M.now m.old) (M.now m.new) }
+    ensures grows { OnOk result (M.tells m.new → (M.ledger m.old).written ≤ (M.ledger m.new).written) }
+    ensures keeps { M.honest m.new → KeepsBut (home_a l.now page) (home_b l.now page) (M.now m.old) (M.now m.new) }
+    ensures homes { OnOk result (M.honest m.new → HasBothHomes l.now (M.now m.new) page) }
     ensures any_moment { (windows : List Run) (choices : List (List (List ℕ))) (log : LogValue) (first : At) (c : IsCompleted l.now windows choices log first) → M.honest m.new →
         IsMending l.now windows choices log first c page (M.now m.old) →
         LeavesOnly M.moment M.left_since m.old m.new (Stays l.now windows choices first) }
@@ -102,7 +107,9 @@ fn mend_page<M: Machine>(m: &mut M, l: &Layout, log: &Log, page: u32) -> Result<
     ensures disk { HealsDisk M.Machine (device_in device_of_mount result) m.old m.new }
     ensures load { IfErr result IsLoadFault }
     ensures most { M.tells m.new → (M.ledger m.new).written ≤ (M.ledger m.old).written + 2 }
-    ensures keeps { M.honest m.new → Keeps l.now (M.now m.old) (M.now m.new) }
+    ensures grows { OnOk result (M.tells m.new → (M.ledger m.old).written ≤ (M.ledger m.new).written) }
+    ensures keeps { M.honest m.new → KeepsBut (home_a l.now page) (home_b l.now page) (M.now m.old) (M.now m.new) }
+    ensures homes { OnOk result (M.honest m.new → HasBothHomes l.now (M.now m.new) page) }
     ensures any_moment { (windows : List Run) (choices : List (List (List ℕ))) (first : At) (c : IsCompleted l.now windows choices log.now first) → M.honest m.new →
         IsMending l.now windows choices log.now first c page (M.now m.old) →
         LeavesOnly M.moment M.left_since m.old m.new (Stays l.now windows choices first) }
@@ -134,7 +141,9 @@ fn mend_pages<M: Machine>(m: &mut M, l: &Layout, log: &Log) -> Result<(), MountF
     ensures disk { HealsDisk M.Machine (device_in device_of_mount result) m.old m.new }
     ensures load { IfErr result IsLoadFault }
     ensures most { M.tells m.new → (M.ledger m.new).written ≤ (M.ledger m.old).written + 2 * l.now.pages }
+    ensures grows { OnOk result (M.tells m.new → (M.ledger m.old).written ≤ (M.ledger m.new).written) }
     ensures keeps { M.honest m.new → Keeps l.now (M.now m.old) (M.now m.new) }
+    ensures homes { OnOk result (M.honest m.new → (page : ℕ) → page < l.now.pages → HasBothHomes l.now (M.now m.new) page) }
     ensures any_moment { (windows : List Run) (choices : List (List (List ℕ))) (c : IsCompleted l.now windows choices log.now (M.now m.old)) → M.honest m.new →
         LeavesOnly M.moment M.left_since m.old m.new (Stays l.now windows choices (M.now m.old)) }
     ensures done { OnOk result ((windows : List Run) (choices : List (List (List ℕ))) (c : IsCompleted l.now windows choices log.now (M.now m.old)) → M.honest m.new →
@@ -158,7 +167,8 @@ fn mend_roots<M: Machine>(m: &mut M, l: &Layout) -> Result<(), MountFault>
     ensures disk { HealsDisk M.Machine (device_in device_of_mount result) m.old m.new }
     ensures load { IfErr result IsLoadFault }
     ensures most { M.tells m.new → (M.ledger m.new).written ≤ (M.ledger m.old).written + 2 }
-    ensures keeps { M.honest m.new → Keeps l.now (M.now m.old) (M.now m.new) }
+    ensures grows { OnOk result (M.tells m.new → (M.ledger m.old).written ≤ (M.ledger m.new).written) }
+    ensures keeps { M.honest m.new → KeepsBut 0 4 (M.now m.old) (M.now m.new) }
     ensures any_moment { (windows : List Run) (choices : List (List (List ℕ))) (log : LogValue) (first : At) (c : IsCompleted l.now windows choices log first) → M.honest m.new →
         IsMending l.now windows choices log first c l.now.pages (M.now m.old) →
         LeavesOnly M.moment M.left_since m.old m.new (Stays l.now windows choices first) }
@@ -168,7 +178,6 @@ fn mend_roots<M: Machine>(m: &mut M, l: &Layout) -> Result<(), MountFault>
     ensures never_lost { IfErr result (λ fault. (windows : List Run) (choices : List (List (List ℕ))) (log : LogValue) (first : At) (c : IsCompleted l.now windows choices log first) → M.honest m.new →
         IsMending l.now windows choices log first c l.now.pages (M.now m.old) → IsExcuse fault) }
     ensures lost { IfErr result (λ fault. M.honest m.new → LostIn AreRoots (M.now m.new).image fault) }
-    ensures body { M.honest m.new → KeepsFrom 8 (M.now m.old) (M.now m.new) }
     ensures not_shown { IfErr result (λ fault. M.honest m.new → IsCalmNow (M.now m.old) → (HasNoRoot (M.now m.old).image → ⊥) → IsExcuse fault) }
 {
     match heal_root(m, l) {
@@ -186,7 +195,9 @@ pub(crate) fn mend<M: Machine>(m: &mut M, l: &Layout, log: &Log) -> Result<(), M
     ensures disk { HealsDisk M.Machine (device_in device_of_mount result) m.old m.new }
     ensures load { IfErr result IsLoadFault }
     ensures most { M.tells m.new → (M.ledger m.new).written ≤ (M.ledger m.old).written + (2 * l.now.pages + 2) }
+    ensures grows { OnOk result (M.tells m.new → (M.ledger m.old).written ≤ (M.ledger m.new).written) }
     ensures keeps { M.honest m.new → Keeps l.now (M.now m.old) (M.now m.new) }
+    ensures homes { OnOk result (M.honest m.new → (page : ℕ) → page < l.now.pages → HasBothHomes l.now (M.now m.new) page) }
     ensures any_moment { (windows : List Run) (choices : List (List (List ℕ))) (c : IsCompleted l.now windows choices log.now (M.now m.old)) → M.honest m.new →
         LeavesOnly M.moment M.left_since m.old m.new (Stays l.now windows choices (M.now m.old)) }
     ensures done { OnOk result ((windows : List Run) (choices : List (List (List ℕ))) (c : IsCompleted l.now windows choices log.now (M.now m.old)) → M.honest m.new →

@@ -1,5 +1,5 @@
 // The mount of a volume, up to its name table.
-ghost use Rattle.std.specs.Prelude.{◌≡◌, ◌+◌, ◌<◌, ◌≤◌, ◌^◌, ℕ, List, Some, Ok, IfOk, IfErr, OnErr};
+ghost use Rattle.std.specs.Prelude.{◌≡◌, ◌+◌, ◌<◌, ◌≤◌, ◌^◌, ℕ, List, Some, Ok, IfOk, IfErr, OnOk, OnErr};
 ghost use Rattle.volume_layout.specs.declared.layout.Layout.{Layout as Plan};
 ghost use Rattle.volume_layout.specs.Layout.{plan};
 ghost use Rattle.sector_disk.specs.declared.sector.WeakRun.{WeakRun as Run};
@@ -10,11 +10,12 @@ ghost use Rattle.fsd_formats.specs.declared.anchor.Anchor.{Anchor as Named};
 ghost use Rattle.fsd_sound.specs.Anchors.{anchor_of};
 ghost use Rattle.fsd_sound.specs.Lost.{AreCopiesOn, LostIn, LosesShown};
 ghost use Rattle.fsd_sound.specs.Mounting.{HasRoot};
-ghost use Rattle.mount_recover.specs.Lost.{LeavesMap, StandAsShown, WritesMost};
-ghost use Rattle.mount_recover.specs.Recover.{IsSettledIn, IsFreshLog, IsRefusedFor, LeavesAll, HasAnchors, IsNotUnsound, ShowsVolume, writes_most};
+ghost use Rattle.fsd_sound.specs.Writes.{KeepsElsewhere, MountKeeps};
+ghost use Rattle.mount_recover.specs.Lost.{StandAsShown, WritesMost};
+ghost use Rattle.mount_recover.specs.Recover.{IsSettledIn, IsFreshLog, IsRefusedFor, LeavesAll, HasAnchors, HasBothHomes, IsNotUnsound, ShowsVolume, writes_most};
 ghost use Rattle.fsd_sound.specs.Mounting.{device_of_mount};
 ghost use Rattle.mount_recover.specs.Finding.{IsExcuse};
-ghost use Rattle.mount_recover.specs.Replay.{KeepsMap, Replays, IsReplayed};
+ghost use Rattle.mount_recover.specs.Replay.{IsReplayed, IsUnturned, Replays, TurnsLast};
 
 use crate::completing::complete;
 use crate::epoch::begin_epoch;
@@ -40,9 +41,12 @@ pub fn recover<M: Machine>(alloc: Global, m: &mut M, sectors: u32) -> Result<Set
     requires { sectors ≡ (M.report m.old).sectors }
 
     ensures disk { HealsDisk M.Machine (device_in device_of_mount result) m.old m.new }
+    // Where it fails it has not settled.
+    ensures unturned { OnErr result (M.honest m.new → IsUnturned (M.now m.old) (M.now m.new)) }
     // It never says that the name table is unsound.
     ensures sound { IfErr result IsNotUnsound }
     ensures counted { IfOk result (λ settled. M.tells m.new → (M.ledger m.new).written ≤ (M.ledger m.old).written + writes_most settled.layout.pages) }
+    ensures grows { OnOk result (M.tells m.new → (M.ledger m.old).written ≤ (M.ledger m.new).written) }
     ensures counted_err { OnErr result (M.tells m.new → M.honest m.new → WritesMost sectors (M.now m.old) (M.ledger m.old) (M.ledger m.new)) }
     ensures room { IfOk result (λ settled. settled.layout.sectors ≤ sectors) }
     ensures planned { IfOk result (λ settled. plan settled.layout.sectors settled.layout.third settled.layout.pages ≡ Ok settled.layout) }
@@ -55,8 +59,13 @@ pub fn recover<M: Machine>(alloc: Global, m: &mut M, sectors: u32) -> Result<Set
     ensures found { IfOk result (λ settled. M.honest m.new → IsSettledIn sectors settled.layout settled.log (M.now m.old)) }
     ensures refused { IfErr result (λ fault. M.honest m.new → IsRefusedFor sectors fault (M.now m.old)) }
     ensures unchanged { IfErr result (λ fault. M.honest m.new → LeavesAll fault (M.now m.old) (M.now m.new)) }
-    ensures behind { IfOk result (λ settled. M.honest m.new → KeepsMap settled.layout (M.now m.old) (M.now m.new)) }
-    ensures behind_err { OnErr result (M.honest m.new → LeavesMap sectors (M.now m.old) (M.now m.new)) }
+
+    // It writes the roots, the anchors, the log and the homes, and nothing else.
+    ensures rest { IfOk result (λ settled. M.honest m.new → KeepsElsewhere settled.layout (M.now m.old) (M.now m.new)) }
+    ensures rest_err { OnErr result (M.honest m.new → MountKeeps sectors (M.now m.old) (M.now m.new)) }
+
+    // Of any image: each home of each page stands then, but for what the open window may wear.
+    ensures homes { IfOk result (λ settled. M.honest m.new → (page : ℕ) → page < settled.layout.pages → HasBothHomes settled.layout (M.now m.new) page) }
 
     // What is lost stood twice, and both read damaged: a page in the log or at home, or the root.
     ensures lost { IfErr result (λ fault. M.honest m.new → LostIn (AreCopiesOn sectors (M.now m.old)) (M.now m.new).image fault) }
@@ -77,6 +86,8 @@ pub fn recover<M: Machine>(alloc: Global, m: &mut M, sectors: u32) -> Result<Set
     // refused for nothing but the disk, memory and the last epoch.
     ensures any_moment { (l : Plan) (windows : List Run) (choices : List (List (List ℕ))) → M.honest m.new → ShowsVolume sectors l windows choices (M.now m.old) →
         LeavesOnly M.moment M.left_since m.old m.new (Replays l windows choices (M.now m.old)) }
+    ensures turns { (l : Plan) (windows : List Run) (choices : List (List (List ℕ))) → M.honest m.new → ShowsVolume sectors l windows choices (M.now m.old) →
+        LeavesOnly M.moment M.left_since m.old m.new (TurnsLast (M.now m.old) (M.now m.new)) }
     ensures exit { (l : Plan) (windows : List Run) (choices : List (List (List ℕ))) → M.honest m.new → ShowsVolume sectors l windows choices (M.now m.old) →
         Replays l windows choices (M.now m.old) (M.now m.new) }
     ensures same { IfOk result (λ settled. (l : Plan) (windows : List Run) (choices : List (List (List ℕ))) → M.honest m.new → ShowsVolume sectors l windows choices (M.now m.old) → settled.layout ≡ l) }

@@ -68,6 +68,7 @@ pub fn write_home<M: Machine>(m: &mut M, l: &Layout, page: u32, b: &[u8; 512]) -
 
     ensures writes { WritesDisk M.Machine (device_in failed_at result) (HomesIn l.now page b.now) m.old m.new }
     ensures counted { OnOk result (M.tells m.new → M.ledger m.new ≡ wrote (M.ledger m.old) 2) }
+    ensures least { M.tells m.new → (M.ledger m.old).written ≤ (M.ledger m.new).written }
     ensures most { M.tells m.new → (M.ledger m.new).written ≤ (M.ledger m.old).written + 2 }
     ensures done { OnOk result (M.honest m.new → Holds (M.now m.old) (with_homes l.now page b.now (M.now m.old).image 1 1) (M.now m.new)) }
 {

@@ -2,14 +2,15 @@ use Rattle.std.proofs.Common.{◌+◌, ◌*◌, ◌≤◌, length, ap, arith}
 use Rattle.volume_layout.specs.declared.layout.Layout.{Layout}
 use Rattle.volume_layout.proofs.RootLaws.{planned_bounds}
 use Rattle.mount_recover.proofs.CalmLaws.{laid_again}
-use Rattle.sector_disk.specs.Machine.{Before}
+use Rattle.sector_disk.specs.Machine.{Before, Ledger}
 use Rattle.sector_disk.proofs.CallLaws.{heals_then, heals_told, told_up, turns, writes_as_heals}
 use Rattle.sector_disk.proofs.Moments.{goes_on, leaves_more}
 use Rattle.sector_disk.specs.Calls.{failed_at}
 use Rattle.log_thirds.specs.Append.{StandsInPart}
 use Rattle.log_thirds.specs.Copies.{copies_count}
-use Rattle.mount_recover.specs.Replay.{Replays}
-use Rattle.mount_recover.proofs.CompletingLaws.{part_replays, healing_replays, failed_replays, completed, data_stays, data_in_part}
+use Rattle.mount_recover.specs.Replay.{IsUnturned, Replays}
+use Rattle.mount_recover.proofs.CompletingLaws.{part_replays, healing_replays, failed_replays, completed, rest_stays, rest_in_part}
+use Rattle.mount_recover.proofs.TurningLaws.{named_unturned, part_unturned, worn_unturned}
 use Rattle.mount_recover.proofs.completing.complete.Goals as goal
 
 pub returns-in_err-complete_last-clause-disk : goal.returns-in_err-complete_last-clause-disk
@@ -32,12 +33,12 @@ returns-in_err-complete_last-clause-any_moment g c l windows choices h planned s
     leaves_more M.moment M.left_since c.args.m.now c.complete_last.new.m (StandsInPart log.copies.place log.copies.bytes (copies_count log.copies) old) (Replays l windows choices old)
     (λ left part. part_replays l windows choices log old planned seen left part) (c.complete_last.ensures.writes.any_moment h)
 
-pub returns-in_err-complete_last-clause-map : goal.returns-in_err-complete_last-clause-map
-returns-in_err-complete_last-clause-map g c l j h planned same knows =
+pub returns-in_err-complete_last-clause-rest : goal.returns-in_err-complete_last-clause-rest
+returns-in_err-complete_last-clause-rest g c l j h planned same knows =
     let M = g.M.Machine in
     let new = M.now c.complete_last.new.m in
     let run = c.complete_last.ensures.writes.any_moment h in
-    data_in_part l c.args.log.now j knows (M.now c.args.m.now) new (run.each new (g.met.M.Machine.counts_now c.complete_last.new.m (M.moment c.args.m.now) h run.later))
+    rest_in_part l c.args.log.now j knows (M.now c.args.m.now) new (run.each new (g.met.M.Machine.counts_now c.complete_last.new.m (M.moment c.args.m.now) h run.later))
 
 pub returns-in_err-healing-clause-any_moment : goal.returns-in_err-healing-clause-any_moment
 returns-in_err-healing-clause-any_moment g c l windows choices h planned same seen =
@@ -49,10 +50,10 @@ returns-in_err-healing-clause-any_moment g c l windows choices h planned same se
     goes_on M.moment M.left_since c.args.m.now c.complete_last.new.m c.healing.new.self (Replays l windows choices old) (Before mid new) so_far (c.healing.ensures.time h)
     (λ left b. failed_replays l windows choices log old planned seen mid (c.in_ok-complete_last.ensures.done h1) new left (c.in_err-healing.ensures.failed h) b)
 
-pub returns-in_err-healing-clause-map : goal.returns-in_err-healing-clause-map
-returns-in_err-healing-clause-map g c l j h planned same knows =
+pub returns-in_err-healing-clause-rest : goal.returns-in_err-healing-clause-rest
+returns-in_err-healing-clause-rest g c l j h planned same knows =
     let M = g.M.Machine in
-    data_stays l c.args.log.now j knows (M.now c.args.m.now) (M.now c.complete_last.new.m) (M.now c.healing.new.self) (c.in_ok-complete_last.ensures.done (c.healing.ensures.trust.honest h)) (c.in_err-healing.ensures.failed h).image
+    rest_stays l c.args.log.now j knows (M.now c.args.m.now) (M.now c.complete_last.new.m) (M.now c.healing.new.self) (c.in_ok-complete_last.ensures.done (c.healing.ensures.trust.honest h)) (c.in_err-healing.ensures.failed h).image
 
 pub returns-clause-any_moment : goal.returns-clause-any_moment
 returns-clause-any_moment g c l windows choices h planned same seen =
@@ -64,10 +65,10 @@ returns-clause-any_moment g c l windows choices h planned same seen =
     goes_on M.moment M.left_since c.args.m.now c.complete_last.new.m c.healing.new.self (Replays l windows choices old) (Before mid new) so_far (c.healing.ensures.time h)
     (λ left b. healing_replays l windows choices log old planned seen mid (c.in_ok-complete_last.ensures.done h1) new left (c.in_ok-healing.ensures.named h) b)
 
-pub returns-clause-map : goal.returns-clause-map
-returns-clause-map g c l j h planned same knows =
+pub returns-clause-rest : goal.returns-clause-rest
+returns-clause-rest g c l j h planned same knows =
     let M = g.M.Machine in
-    data_stays l c.args.log.now j knows (M.now c.args.m.now) (M.now c.complete_last.new.m) (M.now c.healing.new.self) (c.in_ok-complete_last.ensures.done (c.healing.ensures.trust.honest h)) (c.in_ok-healing.ensures.named h).image
+    rest_stays l c.args.log.now j knows (M.now c.args.m.now) (M.now c.complete_last.new.m) (M.now c.healing.new.self) (c.in_ok-complete_last.ensures.done (c.healing.ensures.trust.honest h)) (c.in_ok-healing.ensures.named h).image
 
 pub returns-clause-done : goal.returns-clause-done
 returns-clause-done g c l windows choices h planned same seen =
@@ -81,3 +82,35 @@ returns-clause-given g c l h still planned same knows =
     let bounds = planned_bounds l planned in
     let long : 16 + 3 * l.third ≤ length (M.now c.args.m.now).image = omega (arith, sized, bounds.third_least, bounds.sectors_least, c.requires.sectors, ap (λ (k : Layout). k.sectors) same) in
     laid_again l c.args.log.now (M.now c.args.m.now) (M.now c.complete_last.new.m) (M.now c.healing.new.self) same knows still long (c.in_ok-complete_last.ensures.done (c.healing.ensures.trust.honest h)) (c.in_ok-healing.ensures.named h)
+
+pub returns-in_err-complete_last-clause-unturned : goal.returns-in_err-complete_last-clause-unturned
+returns-in_err-complete_last-clause-unturned g c h =
+    let M = g.M.Machine in
+    let log = c.args.log.now in let old = M.now c.args.m.now in
+    leaves_more M.moment M.left_since c.args.m.now c.complete_last.new.m (StandsInPart log.copies.place log.copies.bytes (copies_count log.copies) old) (IsUnturned old)
+    (λ left part. part_unturned log.copies.place log.copies.bytes (copies_count log.copies) old left part) (c.complete_last.ensures.writes.any_moment h)
+
+pub returns-in_err-healing-clause-unturned : goal.returns-in_err-healing-clause-unturned
+returns-in_err-healing-clause-unturned g c h =
+    let M = g.M.Machine in
+    let log = c.args.log.now in let old = M.now c.args.m.now in let mid = M.now c.complete_last.new.m in let new = M.now c.healing.new.self in
+    let h1 = c.healing.ensures.trust.honest h in
+    let so_far = leaves_more M.moment M.left_since c.args.m.now c.complete_last.new.m (StandsInPart log.copies.place log.copies.bytes (copies_count log.copies) old) (IsUnturned old)
+    (λ left part. part_unturned log.copies.place log.copies.bytes (copies_count log.copies) old left part) (c.complete_last.ensures.writes.any_moment h1) in
+    goes_on M.moment M.left_since c.args.m.now c.complete_last.new.m c.healing.new.self (IsUnturned old) (Before mid new) so_far (c.healing.ensures.time h)
+    (λ left b. worn_unturned old mid new left (c.in_ok-complete_last.ensures.done h1).windows (c.in_err-healing.ensures.failed h) b)
+
+pub returns-clause-unturned : goal.returns-clause-unturned
+returns-clause-unturned g c h =
+    let M = g.M.Machine in
+    let log = c.args.log.now in let old = M.now c.args.m.now in let mid = M.now c.complete_last.new.m in let new = M.now c.healing.new.self in
+    let h1 = c.healing.ensures.trust.honest h in
+    let so_far = leaves_more M.moment M.left_since c.args.m.now c.complete_last.new.m (StandsInPart log.copies.place log.copies.bytes (copies_count log.copies) old) (IsUnturned old)
+    (λ left part. part_unturned log.copies.place log.copies.bytes (copies_count log.copies) old left part) (c.complete_last.ensures.writes.any_moment h1) in
+    goes_on M.moment M.left_since c.args.m.now c.complete_last.new.m c.healing.new.self (IsUnturned old) (Before mid new) so_far (c.healing.ensures.time h)
+    (λ left b. named_unturned old mid new left (c.in_ok-complete_last.ensures.done h1).windows (c.in_ok-healing.ensures.named h) b)
+
+pub returns-clause-grows : goal.returns-clause-grows
+returns-clause-grows g c t =
+    let t1 = c.healing.ensures.trust.tells t in
+    omega (arith, ap (λ (x : Ledger). x.written) (c.in_ok-complete_last.ensures.counted t1), ap (λ (x : Ledger). x.written) (c.healing.ensures.ledger t))

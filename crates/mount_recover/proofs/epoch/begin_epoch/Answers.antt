@@ -1,5 +1,6 @@
 use Rattle.std.proofs.Common.{inl, ◌+◌, ◌^◌, ◌<◌, arith, subst, sym, ap, ◌∙◌}
 use Rattle.sector_disk.specs.Image.{settled}
+use Rattle.sector_disk.specs.Machine.{Ledger}
 use Rattle.fsd_formats.specs.declared.anchor.Anchor.{Anchor}
 use Rattle.log_thirds.specs.LogValue.{LogValue}
 use Rattle.mount_recover.specs.Recover.{HasAnchors}
@@ -9,7 +10,10 @@ use Rattle.sector_disk.specs.Calls.{failed_at}
 use Rattle.fsd_sound.specs.Anchors.{fresh_anchor}
 use Rattle.log_thirds.specs.Anchoring.{AnchorsIn}
 use Rattle.mount_recover.specs.Mending.{Begins}
-use Rattle.mount_recover.proofs.BeginningLaws.{data_in_part, data_renewed, anchors_stay, begins_before, begins_failed, replayed, anchors_stand}
+use Rattle.mount_recover.proofs.BeginningLaws.{stays_in_part, stays_renewed, anchors_stay, begins_before, begins_failed, replayed, anchors_stand}
+use Rattle.sector_disk.specs.Machine.{Before}
+use Rattle.mount_recover.specs.Replay.{TurnsLast}
+use Rattle.mount_recover.proofs.TurningLaws.{anchors_turn, settle_turns}
 use Rattle.mount_recover.proofs.epoch.begin_epoch.Goals as goal
 
 pub returns-in_err-new_epoch-clause-disk : goal.returns-in_err-new_epoch-clause-disk
@@ -62,22 +66,22 @@ returns-clause-done g c l windows choices first is h planned some at =
     let short = g.met.M.Machine.short c.args.m.now (c.new_epoch.ensures.writes.trust.honest h1) in
     replayed l windows choices log first is now at fits mid (c.in_ok-new_epoch.ensures.done h1) short some new (c.in_ok-settle.ensures.settled h)
 
-pub returns-in_err-new_epoch-clause-body : goal.returns-in_err-new_epoch-clause-body
-returns-in_err-new_epoch-clause-body g c h =
+pub returns-in_err-new_epoch-clause-rest : goal.returns-in_err-new_epoch-clause-rest
+returns-in_err-new_epoch-clause-rest g c h =
     let M = g.M.Machine in
     let new = M.now c.new_epoch.new.m in
     let run = c.new_epoch.ensures.writes.any_moment h in
-    data_in_part (fresh_anchor (c.args.log.now.anchor.epoch + 1)) (M.now c.args.m.now) new (run.each new (g.met.M.Machine.counts_now c.new_epoch.new.m (M.moment c.args.m.now) h run.later))
+    stays_in_part (fresh_anchor (c.args.log.now.anchor.epoch + 1)) (M.now c.args.m.now) new (run.each new (g.met.M.Machine.counts_now c.new_epoch.new.m (M.moment c.args.m.now) h run.later))
 
-pub returns-in_err-settle-clause-body : goal.returns-in_err-settle-clause-body
-returns-in_err-settle-clause-body g c h =
+pub returns-in_err-settle-clause-rest : goal.returns-in_err-settle-clause-rest
+returns-in_err-settle-clause-rest g c h =
     let M = g.M.Machine in
-    data_renewed (fresh_anchor (c.args.log.now.anchor.epoch + 1)) (M.now c.args.m.now) (M.now c.new_epoch.new.m) (M.now c.settle.new.self) (c.in_ok-new_epoch.ensures.done (c.settle.ensures.trust.honest h)) (c.in_err-settle.ensures.failed h).image
+    stays_renewed (fresh_anchor (c.args.log.now.anchor.epoch + 1)) (M.now c.args.m.now) (M.now c.new_epoch.new.m) (M.now c.settle.new.self) (c.in_ok-new_epoch.ensures.done (c.settle.ensures.trust.honest h)) (c.in_err-settle.ensures.failed h).image
 
-pub returns-clause-body : goal.returns-clause-body
-returns-clause-body g c h =
+pub returns-clause-rest : goal.returns-clause-rest
+returns-clause-rest g c h =
     let M = g.M.Machine in
-    data_renewed (fresh_anchor (c.args.log.now.anchor.epoch + 1)) (M.now c.args.m.now) (M.now c.new_epoch.new.m) (M.now c.settle.new.self) (c.in_ok-new_epoch.ensures.done (c.settle.ensures.trust.honest h)) (c.in_ok-settle.ensures.settled h).image
+    stays_renewed (fresh_anchor (c.args.log.now.anchor.epoch + 1)) (M.now c.args.m.now) (M.now c.new_epoch.new.m) (M.now c.settle.new.self) (c.in_ok-new_epoch.ensures.done (c.settle.ensures.trust.honest h)) (c.in_ok-settle.ensures.settled h).image
 
 pub returns-clause-anchors : goal.returns-clause-anchors
 returns-clause-anchors g c h wide some =
@@ -89,3 +93,30 @@ returns-clause-anchors g c h wide some =
     let settles = c.in_ok-settle.ensures.settled h in
     subst (λ (a : Anchor). HasAnchors a (M.now c.settle.new.self)) (sym (ap (λ (log : LogValue). log.anchor) c.in_ok-new_epoch.ensures.past))
     (anchors_stand (c.args.log.now.anchor.epoch + 1) now mid new (omega (arith, sized, wide)) done settles.image some (settles.windows ∙ λ i. settled (done.windows i).present (done.windows i).next))
+
+pub returns-in_err-new_epoch-clause-turns : goal.returns-in_err-new_epoch-clause-turns
+returns-in_err-new_epoch-clause-turns g c h =
+    let M = g.M.Machine in
+    let a = fresh_anchor (c.args.log.now.anchor.epoch + 1) in let now = M.now c.args.m.now in let new = M.now c.new_epoch.new.m in
+    leaves_more M.moment M.left_since c.args.m.now c.new_epoch.new.m (AnchorsIn a now) (TurnsLast now new) (λ left anchors. anchors_turn a now new left anchors) (c.new_epoch.ensures.writes.any_moment h)
+
+pub returns-in_err-settle-clause-turns : goal.returns-in_err-settle-clause-turns
+returns-in_err-settle-clause-turns g c h =
+    let M = g.M.Machine in
+    let a = fresh_anchor (c.args.log.now.anchor.epoch + 1) in let now = M.now c.args.m.now in let mid = M.now c.new_epoch.new.m in let new = M.now c.settle.new.self in
+    let h1 = c.settle.ensures.trust.honest h in
+    let so_far = leaves_more M.moment M.left_since c.args.m.now c.new_epoch.new.m (AnchorsIn a now) (TurnsLast now new) (λ left anchors. anchors_turn a now new left anchors) (c.new_epoch.ensures.writes.any_moment h1) in
+    goes_on M.moment M.left_since c.args.m.now c.new_epoch.new.m c.settle.new.self (TurnsLast now new) (Before mid new) so_far (c.settle.ensures.time h) (λ left b. settle_turns now mid new left (c.in_ok-new_epoch.ensures.done h1).windows b)
+
+pub returns-clause-turns : goal.returns-clause-turns
+returns-clause-turns g c h =
+    let M = g.M.Machine in
+    let a = fresh_anchor (c.args.log.now.anchor.epoch + 1) in let now = M.now c.args.m.now in let mid = M.now c.new_epoch.new.m in let new = M.now c.settle.new.self in
+    let h1 = c.settle.ensures.trust.honest h in
+    let so_far = leaves_more M.moment M.left_since c.args.m.now c.new_epoch.new.m (AnchorsIn a now) (TurnsLast now new) (λ left anchors. anchors_turn a now new left anchors) (c.new_epoch.ensures.writes.any_moment h1) in
+    goes_on M.moment M.left_since c.args.m.now c.new_epoch.new.m c.settle.new.self (TurnsLast now new) (Before mid new) so_far (c.settle.ensures.time h) (λ left b. settle_turns now mid new left (c.in_ok-new_epoch.ensures.done h1).windows b)
+
+pub returns-clause-grows : goal.returns-clause-grows
+returns-clause-grows g c t =
+    let t1 = c.settle.ensures.trust.tells t in
+    omega (arith, ap (λ (x : Ledger). x.written) (c.in_ok-new_epoch.ensures.counted t1), ap (λ (x : Ledger). x.written) (c.settle.ensures.ledger t))

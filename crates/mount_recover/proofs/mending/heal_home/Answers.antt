@@ -1,4 +1,5 @@
-use Rattle.std.proofs.Common.{◌≤◌, length, sym, subst, arith}
+use Rattle.std.proofs.Common.{◌≤◌, length, sym, ap, subst, arith}
+use Rattle.sector_disk.specs.Machine.{Ledger}
 use Rattle.volume_layout.proofs.RootLaws.{planned_bounds}
 use Rattle.sector_disk.proofs.CallLaws.{heals_told, writes_as_heals}
 use Rattle.sector_disk.proofs.Moments.{leaves_more}
@@ -8,7 +9,8 @@ use Rattle.mount_recover.specs.Mending.{Stays}
 use Rattle.mount_recover.specs.Showing.{LosesHome}
 use Rattle.mount_recover.proofs.CalmLaws.{heal_changes, heal_loses}
 use Rattle.mount_recover.proofs.FaultLaws.{is_load, load_told}
-use Rattle.mount_recover.proofs.KeepsLaws.{keeps_heals}
+use Rattle.mount_recover.proofs.HomesLaws.{both_healed}
+use Rattle.mount_recover.proofs.KeepsLaws.{but_heals}
 use Rattle.mount_recover.proofs.MendingLaws.{heals_stay, heals_next}
 use Rattle.mount_recover.proofs.mending.heal_home.Goals as goal
 
@@ -22,10 +24,10 @@ pub returns-in-Err-clause-disk : goal.returns-in-Err-clause-disk
 returns-in-Err-clause-disk g c = heals_told (load_told c.in-Err.fault c.load_fault.result c.load_fault.ensures) (writes_as_heals c.in-Err.ensures.writes)
 
 pub returns-in-Ok-clause-keeps : goal.returns-in-Ok-clause-keeps
-returns-in-Ok-clause-keeps g c h = let M = g.M.Machine in keeps_heals c.args.l.now c.args.page c.requires.page (M.now c.args.m.now) (M.now c.heal_page.new.m) (c.heal_page.ensures.writes.exit h)
+returns-in-Ok-clause-keeps g c h = let M = g.M.Machine in but_heals (home_a c.args.l.now c.args.page) (home_b c.args.l.now c.args.page) (M.now c.args.m.now) (M.now c.heal_page.new.m) (c.heal_page.ensures.writes.exit h)
 
 pub returns-in-Err-clause-keeps : goal.returns-in-Err-clause-keeps
-returns-in-Err-clause-keeps g c h = let M = g.M.Machine in keeps_heals c.args.l.now c.args.page c.requires.page (M.now c.args.m.now) (M.now c.heal_page.new.m) (c.heal_page.ensures.writes.exit h)
+returns-in-Err-clause-keeps g c h = let M = g.M.Machine in but_heals (home_a c.args.l.now c.args.page) (home_b c.args.l.now c.args.page) (M.now c.args.m.now) (M.now c.heal_page.new.m) (c.heal_page.ensures.writes.exit h)
 
 pub returns-in-Ok-clause-any_moment : goal.returns-in-Ok-clause-any_moment
 returns-in-Ok-clause-any_moment g c windows choices log first is h at =
@@ -72,3 +74,14 @@ returns-in-Err-clause-not_shown g c h still =
     let long : home_b c.args.l.now c.args.l.now.pages ≤ length (M.now c.args.m.now).image = omega (arith, sized, bounds.third_least, bounds.sectors_least, c.requires.room) in
     subst (LosesHome c.args.l.now c.args.page (M.now c.args.m.now).image) (sym c.load_fault.ensures)
     (heal_loses c.args.l.now c.args.page c.requires.page (M.now c.args.m.now) (M.now c.heal_page.new.m) still long (c.heal_page.ensures.writes.exit h) c.in-Err.fault (c.in-Err.ensures.lost h))
+
+pub returns-in-Ok-clause-homes : goal.returns-in-Ok-clause-homes
+returns-in-Ok-clause-homes g c h =
+    let M = g.M.Machine in
+    let sized = g.met.M.Machine.sized c.args.m.now (c.heal_page.ensures.writes.trust.honest h) in
+    let bounds = planned_bounds c.args.l.now c.requires.planned in
+    let long : home_b c.args.l.now c.args.l.now.pages ≤ length (M.now c.args.m.now).image = omega (arith, sized, bounds.third_least, bounds.sectors_least, c.requires.room) in
+    both_healed c.args.l.now c.args.page (M.now c.args.m.now) (M.now c.heal_page.new.m) c.requires.page long c.in-Ok.field-0 (c.in-Ok.ensures.done h)
+
+pub returns-in-Ok-clause-grows : goal.returns-in-Ok-clause-grows
+returns-in-Ok-clause-grows g c t = omega (arith, ap (λ (x : Ledger). x.written) (c.in-Ok.ensures.counted t))

@@ -1,4 +1,7 @@
-use Rattle.std.proofs.Common.{◌≡◌, ◌<◌, ℕ, List}
+use Rattle.std.proofs.Common.{◌≡◌, ◌<◌, ◌≤◌, ℕ, List, arith}
+use Rattle.mount_recover.specs.Recover.{HasBothHomes}
+use Rattle.mount_recover.proofs.HomesLaws.{both_rooted}
+use Rattle.mount_recover.proofs.KeepsLaws.{keeps_on, keeps_roots}
 use Rattle.sector_disk.specs.declared.sector.WeakRun.{WeakRun}
 use Rattle.sector_disk.specs.Machine.{Moment}
 use Rattle.sector_disk.proofs.CallLaws.{heals_then, heals_told, told_up}
@@ -61,7 +64,7 @@ returns-clause-shown g c =
     c.mend_roots.result
     (λ records h still given.
     let h1 = c.mend_roots.ensures.disk.trust.honest h in
-    all_shown l log records old mid (c.in_ok-mend_pages.ensures.shown records h1 still given) new (still_next old mid (c.mend_pages.ensures.keeps h1).windows still) (c.mend_roots.ensures.body h))
+    all_shown l log records old mid (c.in_ok-mend_pages.ensures.shown records h1 still given) new (still_next old mid (c.mend_pages.ensures.keeps h1).windows still) (c.mend_roots.ensures.keeps h).others)
 
 pub returns-clause-not_shown : goal.returns-clause-not_shown
 returns-clause-not_shown g c =
@@ -81,3 +84,21 @@ returns-in_err-mend_pages-clause-not_shown g c =
     handed_up (λ fault. (records : List Placed) → M.honest c.mend_pages.new.m → IsCalmNow old → GivesPages log records old.image → (HasNoRoot old.image → ⊥) → LosesNone l records old.image fault)
     c.from_residual.result c.in_err-mend_pages.field-0.0 c.from_residual.ensures.1
     (λ records h still given some. c.in_err-mend_pages.ensures.not_shown records h still given)
+
+pub returns-clause-keeps : goal.returns-clause-keeps
+returns-clause-keeps g c h =
+    let M = g.M.Machine in
+    keeps_on c.args.l.now (M.now c.args.m.now) (M.now c.mend_pages.new.m) (M.now c.mend_roots.new.m) (c.mend_pages.ensures.keeps (c.mend_roots.ensures.disk.trust.honest h))
+    (keeps_roots c.args.l.now (M.now c.mend_pages.new.m) (M.now c.mend_roots.new.m) (c.mend_roots.ensures.keeps h))
+
+pub returns-clause-homes : goal.returns-clause-homes
+returns-clause-homes g c =
+    let M = g.M.Machine in
+    ok_as (M.honest c.mend_roots.new.m → (page : ℕ) → page < c.args.l.now.pages → HasBothHomes c.args.l.now (M.now c.mend_roots.new.m) page) c.mend_roots.result
+    (λ h page lt. both_rooted c.args.l.now page (M.now c.mend_pages.new.m) (M.now c.mend_roots.new.m) (c.mend_roots.ensures.keeps h) (c.in_ok-mend_pages.ensures.homes (c.mend_roots.ensures.disk.trust.honest h) page lt))
+
+pub returns-clause-grows : goal.returns-clause-grows
+returns-clause-grows g c =
+    let M = g.M.Machine in
+    on_ok_more (M.tells c.mend_roots.new.m → (M.ledger c.mend_pages.new.m).written ≤ (M.ledger c.mend_roots.new.m).written) (M.tells c.mend_roots.new.m → (M.ledger c.args.m.now).written ≤ (M.ledger c.mend_roots.new.m).written)
+    c.mend_roots.result (λ grows t. omega (arith, grows t, c.in_ok-mend_pages.ensures.grows (c.mend_roots.ensures.disk.trust.tells t))) c.mend_roots.ensures.grows

@@ -1,7 +1,8 @@
-use Rattle.std.proofs.Common.{◌≡◌, ◌+◌, ℕ, Bool, List, Some, None, Ok, sym, ap, subst, ◌∙◌}
+use Rattle.std.proofs.Common.{◌≡◌, ◌+◌, ◌≤◌, ℕ, Bool, List, Some, None, Ok, sym, ap, subst, ◌∙◌, arith}
+use Rattle.volume_layout.specs.Layout.{home_a, home_b}
 use Rattle.std.specs.Prelude.{if◌then◌else◌}
 use Rattle.sector_disk.specs.declared.sector.WeakRun.{WeakRun}
-use Rattle.sector_disk.specs.Machine.{Moment, Wears}
+use Rattle.sector_disk.specs.Machine.{Ledger, Moment, Wears}
 use Rattle.sector_disk.proofs.CallLaws.{heals_then, heals_told, reads_as_heals}
 use Rattle.sector_disk.proofs.Moments.{leaves_more, then_on}
 use Rattle.sector_disk.proofs.Holding.{wears_none}
@@ -19,6 +20,7 @@ use Rattle.mount_recover.specs.Mending.{IsLoadFault, IsCompleted, IsMending, Sta
 use Rattle.mount_recover.specs.Showing.{GivesPages, ChangesHome, IsShowing, LosesHome, LosesNone}
 use Rattle.mount_recover.proofs.CalmLaws.{still_worn, still_next, given_on, showing_next, at_home, in_log, loses_so, device_loses, excuse_loses}
 use Rattle.mount_recover.proofs.FaultLaws.{if_err_more, if_err_both, load_excused, cause_excused, homes_serve, is_load, load_told}
+use Rattle.mount_recover.proofs.KeepsLaws.{but_read, but_then}
 use Rattle.mount_recover.proofs.MendingLaws.{stays, still, not_none, narrow, stays_show}
 use Rattle.mount_recover.proofs.SlotLaws.{slot_gives, slot_not_lost, slot_none}
 use Rattle.mount_recover.proofs.mending.mend_page.Goals as goal
@@ -168,3 +170,38 @@ returns-in-Err-clause-not_shown g c records first h still given at =
     let M = g.M.Machine in
     let l = c.args.l.now in let log = c.args.log.now in let now = M.now c.args.m.now in
     device_loses l records first c.in-Err.fault c.load_fault.result c.load_fault.ensures (c.in-Err.ensures.none_lost records h still given.indexed (given_on l log c.requires.layout records first now.image c.args.page at.front given))
+
+pub returns-in-Ok-true-clause-keeps : goal.returns-in-Ok-true-clause-keeps
+returns-in-Ok-true-clause-keeps g c h =
+    let M = g.M.Machine in
+    but_then (home_a c.args.l.now c.args.page) (home_b c.args.l.now c.args.page) (M.now c.args.m.now) (M.now c.image_of.new.m) (M.now c.home_logged.new.m) (c.image_of.ensures.reads.worn (c.home_logged.ensures.disk.trust.honest h)) (c.home_logged.ensures.keeps h)
+
+pub returns-in-Ok-false-clause-keeps : goal.returns-in-Ok-false-clause-keeps
+returns-in-Ok-false-clause-keeps g c h =
+    let M = g.M.Machine in
+    but_then (home_a c.args.l.now c.args.page) (home_b c.args.l.now c.args.page) (M.now c.args.m.now) (M.now c.image_of.new.m) (M.now c.heal_home.new.m) (c.image_of.ensures.reads.worn (c.heal_home.ensures.disk.trust.honest h)) (c.heal_home.ensures.keeps h)
+
+pub returns-in-Err-clause-keeps : goal.returns-in-Err-clause-keeps
+returns-in-Err-clause-keeps g c h =
+    let M = g.M.Machine in
+    but_read (home_a c.args.l.now c.args.page) (home_b c.args.l.now c.args.page) (M.now c.args.m.now) (M.now c.image_of.new.m) (c.image_of.ensures.reads.worn h)
+
+pub returns-in-Ok-true-clause-homes : goal.returns-in-Ok-true-clause-homes
+returns-in-Ok-true-clause-homes g c = c.home_logged.ensures.homes
+
+pub returns-in-Ok-false-clause-homes : goal.returns-in-Ok-false-clause-homes
+returns-in-Ok-false-clause-homes g c = c.heal_home.ensures.homes
+
+pub returns-in-Ok-true-clause-grows : goal.returns-in-Ok-true-clause-grows
+returns-in-Ok-true-clause-grows g c =
+    let M = g.M.Machine in
+    let read = λ (t : M.tells c.home_logged.new.m). c.image_of.ensures.reads.ledger (c.home_logged.ensures.disk.trust.tells t) in
+    on_ok_more (M.tells c.home_logged.new.m → (M.ledger c.image_of.new.m).written ≤ (M.ledger c.home_logged.new.m).written) (M.tells c.home_logged.new.m → (M.ledger c.args.m.now).written ≤ (M.ledger c.home_logged.new.m).written)
+    c.home_logged.result (λ grows t. omega (arith, grows t, ap (λ (x : Ledger). x.written) (read t))) c.home_logged.ensures.grows
+
+pub returns-in-Ok-false-clause-grows : goal.returns-in-Ok-false-clause-grows
+returns-in-Ok-false-clause-grows g c =
+    let M = g.M.Machine in
+    let read = λ (t : M.tells c.heal_home.new.m). c.image_of.ensures.reads.ledger (c.heal_home.ensures.disk.trust.tells t) in
+    on_ok_more (M.tells c.heal_home.new.m → (M.ledger c.image_of.new.m).written ≤ (M.ledger c.heal_home.new.m).written) (M.tells c.heal_home.new.m → (M.ledger c.args.m.now).written ≤ (M.ledger c.heal_home.new.m).written)
+    c.heal_home.result (λ grows t. omega (arith, grows t, ap (λ (x : Ledger). x.written) (read t))) c.heal_home.ensures.grows

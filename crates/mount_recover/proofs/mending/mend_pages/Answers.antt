@@ -1,4 +1,5 @@
-use Rattle.std.proofs.Common.{◌≡◌, ℕ, List, None, subst, arith}
+use Rattle.std.proofs.Common.{◌≡◌, ◌<◌, ℕ, List, None, subst, arith}
+use Rattle.mount_recover.specs.Recover.{HasBothHomes}
 use Rattle.sector_disk.specs.declared.sector.WeakRun.{WeakRun}
 use Rattle.sector_disk.proofs.Moments.{started, then_on}
 use Rattle.sector_disk.proofs.CallLaws.{heals_then, heals_told, reads_as_heals, reads_none, told_up}
@@ -11,7 +12,8 @@ use Rattle.fsd_sound.specs.Mounting.{device_of_mount}
 use Rattle.mount_recover.specs.Showing.{GivesPages, IsShowing, LosesNone}
 use Rattle.mount_recover.proofs.CalmLaws.{still_next, showing_none}
 use Rattle.mount_recover.proofs.FaultLaws.{handed_up}
-use Rattle.mount_recover.proofs.KeepsLaws.{keeps_none, keeps_on}
+use Rattle.mount_recover.proofs.HomesLaws.{both_next}
+use Rattle.mount_recover.proofs.KeepsLaws.{keeps_none, keeps_on, keeps_page}
 use Rattle.mount_recover.proofs.MendingLaws.{begin, here_stays}
 use Rattle.mount_recover.proofs.mending.mend_pages.Goals as goal
 
@@ -21,7 +23,9 @@ loop-page-init g c =
     let old = M.now c.args.m.now in record {
       disk = reads_as_heals (reads_none c.args.m.now (λ at h left. g.met.M.Machine.only_now c.args.m.now at h left));
       most = λ t. omega arith;
+      grows = λ t. omega arith;
       keeps = λ h. keeps_none c.args.l.now old;
+      homes = λ h page lt. absurd (omega (arith, lt));
       mending = λ windows choices is h. begin c.args.l.now windows choices c.args.log.now old is;
       showing = λ records h still given. showing_none c.args.l.now records old.image;
       moments = λ windows choices is h. started M.moment M.left_since c.args.m.now old (Stays c.args.l.now windows choices old) (λ left at. g.met.M.Machine.only_now c.args.m.now left h at)
@@ -31,10 +35,13 @@ loop-page-init g c =
 pub loop-page-preserved : goal.loop-page-preserved
 loop-page-preserved g c =
     let M = g.M.Machine in
-    let old = M.now c.args.m.now in let l = c.args.l.now in let log = c.args.log.now in let so_far = c.loop-page.invariant in record {
+    let old = M.now c.args.m.now in let l = c.args.l.now in let log = c.args.log.now in let so_far = c.loop-page.invariant in
+    let lt : c.loop-page.page < c.args.l.now.pages = omega (arith, c.loop-page-test.true, c.loop-page.auto.page-end, c.pages-page-end.ensures.value) in record {
       disk = heals_then {fault = None} so_far.disk c.in_ok-mend_page.ensures.disk;
       most = λ t. omega (arith, so_far.most (c.mend_page.ensures.disk.trust.tells t), c.mend_page.ensures.most t);
-      keeps = λ h. keeps_on l old (M.now c.loop-page.m) (M.now c.mend_page.new.m) (so_far.keeps (c.mend_page.ensures.disk.trust.honest h)) (c.mend_page.ensures.keeps h);
+      grows = λ t. omega (arith, so_far.grows (c.mend_page.ensures.disk.trust.tells t), c.in_ok-mend_page.ensures.grows t);
+      keeps = λ h. keeps_on l old (M.now c.loop-page.m) (M.now c.mend_page.new.m) (so_far.keeps (c.mend_page.ensures.disk.trust.honest h)) (keeps_page l c.loop-page.page lt (M.now c.loop-page.m) (M.now c.mend_page.new.m) (c.mend_page.ensures.keeps h));
+      homes = λ h. both_next l c.loop-page.page lt (M.now c.loop-page.m) (M.now c.mend_page.new.m) (c.mend_page.ensures.keeps h) (so_far.homes (c.mend_page.ensures.disk.trust.honest h)) (c.in_ok-mend_page.ensures.homes h);
       mending = λ windows choices is h. c.in_ok-mend_page.ensures.done windows choices old is h (so_far.mending windows choices is (c.mend_page.ensures.disk.trust.honest h));
       showing = λ records h still given.
           let h1 = c.mend_page.ensures.disk.trust.honest h in
@@ -53,7 +60,8 @@ returns-in_err-mend_page-clause-disk g c =
 pub returns-in_err-mend_page-clause-keeps : goal.returns-in_err-mend_page-clause-keeps
 returns-in_err-mend_page-clause-keeps g c h =
     let M = g.M.Machine in
-    keeps_on c.args.l.now (M.now c.args.m.now) (M.now c.loop-page.m) (M.now c.mend_page.new.m) (c.loop-page.invariant.keeps (c.mend_page.ensures.disk.trust.honest h)) (c.mend_page.ensures.keeps h)
+    keeps_on c.args.l.now (M.now c.args.m.now) (M.now c.loop-page.m) (M.now c.mend_page.new.m) (c.loop-page.invariant.keeps (c.mend_page.ensures.disk.trust.honest h))
+    (keeps_page c.args.l.now c.loop-page.page (omega (arith, c.loop-page-test.true, c.loop-page.auto.page-end, c.pages-page-end.ensures.value)) (M.now c.loop-page.m) (M.now c.mend_page.new.m) (c.mend_page.ensures.keeps h))
 
 pub returns-in_err-mend_page-clause-any_moment : goal.returns-in_err-mend_page-clause-any_moment
 returns-in_err-mend_page-clause-any_moment g c windows choices is h =
@@ -111,3 +119,10 @@ pub returns-clause-most : goal.returns-clause-most
 returns-clause-most g c t =
     let last : c.loop-page.page ≡ c.args.l.now.pages = omega (arith, c.loop-page-test.false, c.loop-page.auto.page-end, c.pages-page-end.ensures.value) in
     omega (arith, c.loop-page.invariant.most t, last)
+
+pub returns-clause-homes : goal.returns-clause-homes
+returns-clause-homes g c h =
+    let M = g.M.Machine in
+    let last : c.loop-page.page ≡ c.args.l.now.pages = omega (arith, c.loop-page-test.false, c.loop-page.auto.page-end, c.pages-page-end.ensures.value) in
+    let P : ℕ → Type 0 = λ k. (page : ℕ) → page < k → HasBothHomes c.args.l.now (M.now c.loop-page.m) page in
+    subst P last (c.loop-page.invariant.homes h)

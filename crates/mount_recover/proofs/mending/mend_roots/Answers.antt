@@ -8,7 +8,7 @@ use Rattle.mount_recover.specs.Mending.{Stays, AreRoots}
 use Rattle.mount_recover.specs.Finding.{IsExcuse}
 use Rattle.mount_recover.proofs.CalmLaws.{roots_lose}
 use Rattle.mount_recover.proofs.FaultLaws.{load_excused, load_not_lost, is_load, load_told, roots_serve}
-use Rattle.mount_recover.proofs.KeepsLaws.{keeps_roots, roots_body}
+use Rattle.mount_recover.proofs.KeepsLaws.{but_roots}
 use Rattle.mount_recover.proofs.MendingLaws.{roots_stay, roots_done, narrow, stays_show}
 use Rattle.mount_recover.proofs.mending.mend_roots.Goals as goal
 
@@ -37,13 +37,13 @@ pub returns-in-Ok-clause-keeps : goal.returns-in-Ok-clause-keeps
 returns-in-Ok-clause-keeps g c h =
     let M = g.M.Machine in
     let run = c.heal_root.ensures.writes.any_moment h in
-    keeps_roots c.args.l.now (root_bytes c.args.l.now) (M.now c.args.m.now) (M.now c.heal_root.new.m) (run.each (M.now c.heal_root.new.m) (g.met.M.Machine.counts_now c.heal_root.new.m (M.moment c.args.m.now) h run.later))
+    but_roots (root_bytes c.args.l.now) (M.now c.args.m.now) (M.now c.heal_root.new.m) (run.each (M.now c.heal_root.new.m) (g.met.M.Machine.counts_now c.heal_root.new.m (M.moment c.args.m.now) h run.later))
 
 pub returns-in-Err-clause-keeps : goal.returns-in-Err-clause-keeps
 returns-in-Err-clause-keeps g c h =
     let M = g.M.Machine in
     let run = c.heal_root.ensures.writes.any_moment h in
-    keeps_roots c.args.l.now (root_bytes c.args.l.now) (M.now c.args.m.now) (M.now c.heal_root.new.m) (run.each (M.now c.heal_root.new.m) (g.met.M.Machine.counts_now c.heal_root.new.m (M.moment c.args.m.now) h run.later))
+    but_roots (root_bytes c.args.l.now) (M.now c.args.m.now) (M.now c.heal_root.new.m) (run.each (M.now c.heal_root.new.m) (g.met.M.Machine.counts_now c.heal_root.new.m (M.moment c.args.m.now) h run.later))
 
 pub returns-in-Ok-clause-done : goal.returns-in-Ok-clause-done
 returns-in-Ok-clause-done g c windows choices log first is h at =
@@ -58,18 +58,6 @@ returns-in-Err-clause-never_lost g c windows choices log first is h at =
     let stays = roots_stay l windows choices log first is now at new (run.each new (g.met.M.Machine.counts_now c.heal_root.new.m (M.moment c.args.m.now) h run.later)) in
     load_not_lost AreRoots new.image c.in-Err.fault c.load_fault.result c.load_fault.ensures (roots_serve l windows (narrow l windows choices log first is) choices new.image (stays_show l windows choices log first is new stays)) (c.in-Err.ensures.lost h)
 
-pub returns-in-Ok-clause-body : goal.returns-in-Ok-clause-body
-returns-in-Ok-clause-body g c h =
-    let M = g.M.Machine in
-    let run = c.heal_root.ensures.writes.any_moment h in
-    roots_body (root_bytes c.args.l.now) (M.now c.args.m.now) (M.now c.heal_root.new.m) (run.each (M.now c.heal_root.new.m) (g.met.M.Machine.counts_now c.heal_root.new.m (M.moment c.args.m.now) h run.later))
-
-pub returns-in-Err-clause-body : goal.returns-in-Err-clause-body
-returns-in-Err-clause-body g c h =
-    let M = g.M.Machine in
-    let run = c.heal_root.ensures.writes.any_moment h in
-    roots_body (root_bytes c.args.l.now) (M.now c.args.m.now) (M.now c.heal_root.new.m) (run.each (M.now c.heal_root.new.m) (g.met.M.Machine.counts_now c.heal_root.new.m (M.moment c.args.m.now) h run.later))
-
 pub returns-in-Err-clause-not_shown : goal.returns-in-Err-clause-not_shown
 returns-in-Err-clause-not_shown g c h still some =
     let M = g.M.Machine in
@@ -79,3 +67,6 @@ returns-in-Err-clause-not_shown g c h still some =
     let room : 4 < length (M.now c.args.m.now).image = omega (arith, sized, bounds.third_least, bounds.sectors_least, c.requires.room) in
     subst IsExcuse (sym c.load_fault.ensures) (load_excused c.in-Err.fault
     (roots_lose (root_bytes c.args.l.now) (M.now c.args.m.now) (M.now c.heal_root.new.m) room still (run.each (M.now c.heal_root.new.m) (g.met.M.Machine.counts_now c.heal_root.new.m (M.moment c.args.m.now) h run.later)) some c.in-Err.fault (c.in-Err.ensures.lost h)))
+
+pub returns-in-Ok-clause-grows : goal.returns-in-Ok-clause-grows
+returns-in-Ok-clause-grows g c t = omega (arith, c.in-Ok.ensures.counted t)

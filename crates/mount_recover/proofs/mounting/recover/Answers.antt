@@ -6,12 +6,14 @@ use Rattle.sector_disk.proofs.CallLaws.{heals_then, heals_told, reads_as_heals, 
 use Rattle.sector_disk.proofs.Moments.{leaves_more, then_on}
 use Rattle.log_thirds.specs.LogValue.{LogValue}
 use Rattle.mount_recover.specs.Finding.{IsExcuse}
-use Rattle.mount_recover.specs.Lost.{LeavesMap, WritesMost}
+use Rattle.fsd_sound.specs.Writes.{MountKeeps}
+use Rattle.fsd_sound.proofs.WritesLaws.{elsewhere}
+use Rattle.mount_recover.specs.Lost.{WritesMost}
 use Rattle.fsd_sound.specs.Lost.{AreCopiesOn, LosesShown, LostIn}
 use Rattle.mount_recover.specs.Mending.{Stays, Begins}
 use Rattle.mount_recover.specs.Recover.{IsNotUnsound, IsRefusedFor, LeavesAll, ShowsVolume}
 use Rattle.fsd_sound.specs.Mounting.{device_of_mount}
-use Rattle.mount_recover.specs.Replay.{Replays, IsReplayed}
+use Rattle.mount_recover.specs.Replay.{IsReplayed, IsUnturned, Replays, TurnsLast}
 use Rattle.std.specs.Prelude.{IfSome, IsSome}
 use Rattle.volume_layout.proofs.RootLaws.{planned_bounds}
 use Rattle.sector_disk.specs.Image.{Windows, IsCalm, IsEmpty}
@@ -19,7 +21,9 @@ use Rattle.fsd_sound.specs.Shown.{records_by}
 use Rattle.mount_recover.proofs.CalmLaws.{calm_now, calm_two, knows_one, loses_shown, next_kept, next_settled, some_root, stand_shown, still_next, still_one}
 use Rattle.mount_recover.proofs.FaultLaws.{err_as, handed_up, load_left, load_sound, worn_left}
 use Rattle.fsd_sound.specs.declared.fault.MountFault.TheVariants.{Device}
-use Rattle.mount_recover.proofs.MountLaws.{wears_replays, not_found_excused, found_same, is_seen, replays_from, stays_replays, begins_replays, lost_on, keeps_all, map_kept, map_left, mend_refused, none_found}
+use Rattle.mount_recover.proofs.MountLaws.{wears_replays, not_found_excused, found_same, is_seen, replays_from, stays_replays, begins_replays, lost_on, keeps_all, rest_kept, rest_left, mend_refused, none_found}
+use Rattle.mount_recover.proofs.HomesLaws.{both_settled}
+use Rattle.mount_recover.proofs.TurningLaws.{beginning_turns, completing_turns, stays_turns, still_unturned, worn_turns}
 use Rattle.mount_recover.proofs.mounting.recover.Goals as goal
 
 pub returns-in_err-layout-clause-sound : goal.returns-in_err-layout-clause-sound
@@ -251,14 +255,14 @@ returns-clause-done g c l windows choices h start =
     (subst (λ (epoch : ℕ). IsReplayed found.layout windows choices epoch (M.now c.begin_epoch.new.m)) (sym (ap (λ (log : LogValue). log.anchor.epoch) c.in_ok-begin_epoch.ensures.past))
     (c.in_ok-begin_epoch.ensures.done found.layout windows choices two done.is h begin.planned (c.in_ok-complete.ensures.named h2) (c.in_ok-mend.ensures.done windows choices done.is h3)))
 
-pub returns-clause-behind : goal.returns-clause-behind
-returns-clause-behind g c h =
+pub returns-clause-rest : goal.returns-clause-rest
+returns-clause-rest g c h =
     let M = g.M.Machine in
     let h3 = c.begin_epoch.ensures.disk.trust.honest h in let h2 = c.mend.ensures.disk.trust.honest h3 in let h1 = c.complete.ensures.disk.trust.honest h2 in
     let found = c.in_ok-layout.field-0 in
     let is = c.in_ok-layout.ensures.seen h1 in
-    map_kept found.layout (M.now c.args.m.now) (M.now c.find_volume.new.m) (M.now c.complete.new.m) (M.now c.mend.new.m) (M.now c.begin_epoch.new.m) (c.find_volume.ensures.reads.worn h1)
-    (c.complete.ensures.map found.layout is.seen h2 c.in_ok-layout.ensures.planned c.in_ok-layout.ensures.layout is.knows) (c.mend.ensures.keeps h3) (λ s from. c.begin_epoch.ensures.body h s (omega (arith, from))) (c.in_ok-complete.ensures.named h2) (c.in_ok-begin_epoch.ensures.windows h)
+    rest_kept found.layout (M.now c.args.m.now) (M.now c.find_volume.new.m) (M.now c.complete.new.m) (M.now c.mend.new.m) (M.now c.begin_epoch.new.m) (c.find_volume.ensures.reads.worn h1)
+    (c.complete.ensures.rest found.layout is.seen h2 c.in_ok-layout.ensures.planned c.in_ok-layout.ensures.layout is.knows) (c.mend.ensures.keeps h3) (λ s out. let is = elsewhere found.layout s out in c.begin_epoch.ensures.rest h s is.anchor is.anchor_copy) (c.in_ok-complete.ensures.named h2) (c.in_ok-begin_epoch.ensures.windows h)
 
 pub returns-clause-found : goal.returns-clause-found
 returns-clause-found g c h =
@@ -297,7 +301,7 @@ returns-clause-shown g c a h calm calm_new taken =
     let next = subst (λ (w : Windows). IfSome w.next IsEmpty) keeps.windows (next_settled three.windows (M.now c.begin_epoch.new.m).windows (c.in_ok-begin_epoch.ensures.windows h) calm_new) in
     let still = calm_now two.windows (calm_two c.args.sectors found.layout found.log old one two calm wears is (c.complete.ensures.present h2) next) in
     stand_shown c.args.sectors found.layout found.log old one two calm wears is laid three (M.now c.begin_epoch.new.m) a taken (c.in_ok-mend.ensures.shown (records_by found.layout one.image found.log.anchor) h3 still laid.gives)
-    (still_next two three keeps.windows still) (c.begin_epoch.ensures.body h)
+    (still_next two three keeps.windows still) (c.begin_epoch.ensures.rest h)
 
 pub returns-in_err-mend-clause-all_shown : goal.returns-in_err-mend-clause-all_shown
 returns-in_err-mend-clause-all_shown g c =
@@ -317,49 +321,49 @@ returns-in_err-mend-clause-all_shown g c =
     loses_shown c.args.sectors found.layout found.log old one two calm wears is laid c.in_err-mend.field-0.0
     (c.in_err-mend.ensures.not_shown (records_by found.layout one.image found.log.anchor) h still laid.gives (some_root c.args.sectors found.layout found.log old one two calm wears is laid)))
 
-pub returns-in_err-layout-clause-behind_err : goal.returns-in_err-layout-clause-behind_err
-returns-in_err-layout-clause-behind_err g c =
+pub returns-in_err-layout-clause-rest_err : goal.returns-in_err-layout-clause-rest_err
+returns-in_err-layout-clause-rest_err g c =
     let M = g.M.Machine in
     let old = M.now c.args.m.now in
-    err_as (M.honest c.find_volume.new.m → LeavesMap c.args.sectors old (M.now c.find_volume.new.m)) c.from_residual.result
+    err_as (M.honest c.find_volume.new.m → MountKeeps c.args.sectors old (M.now c.find_volume.new.m)) c.from_residual.result
     (λ h. inl (c.find_volume.ensures.reads.worn h))
 
-pub returns-in_err-complete-clause-behind_err : goal.returns-in_err-complete-clause-behind_err
-returns-in_err-complete-clause-behind_err g c =
+pub returns-in_err-complete-clause-rest_err : goal.returns-in_err-complete-clause-rest_err
+returns-in_err-complete-clause-rest_err g c =
     let M = g.M.Machine in
     let old = M.now c.args.m.now in
-    err_as (M.honest c.complete.new.m → LeavesMap c.args.sectors old (M.now c.complete.new.m)) c.from_residual-in_err-complete.result
+    err_as (M.honest c.complete.new.m → MountKeeps c.args.sectors old (M.now c.complete.new.m)) c.from_residual-in_err-complete.result
     (λ h2.
     let h1 = c.complete.ensures.disk.trust.honest h2 in
     let found = c.in_ok-layout.field-0 in let one = M.now c.find_volume.new.m in let two = M.now c.complete.new.m in
     let is = c.in_ok-layout.ensures.seen h1 in
-    let map = c.complete.ensures.map found.layout is.seen h2 c.in_ok-layout.ensures.planned c.in_ok-layout.ensures.layout is.knows in
-    inr (found.layout, c.in_ok-layout.ensures.root h1, map_left found.layout old one two two two (c.find_volume.ensures.reads.worn h1) map (keeps_all found.layout two) (keeps_all found.layout two).map refl))
+    let kept = c.complete.ensures.rest found.layout is.seen h2 c.in_ok-layout.ensures.planned c.in_ok-layout.ensures.layout is.knows in
+    inr (record { layout = found.layout; root = c.in_ok-layout.ensures.root h1; rest = rest_left found.layout old one two two two (c.find_volume.ensures.reads.worn h1) kept (keeps_all found.layout two) (keeps_all found.layout two).rest refl }))
 
-pub returns-in_err-mend-clause-behind_err : goal.returns-in_err-mend-clause-behind_err
-returns-in_err-mend-clause-behind_err g c =
+pub returns-in_err-mend-clause-rest_err : goal.returns-in_err-mend-clause-rest_err
+returns-in_err-mend-clause-rest_err g c =
     let M = g.M.Machine in
     let old = M.now c.args.m.now in
-    err_as (M.honest c.mend.new.m → LeavesMap c.args.sectors old (M.now c.mend.new.m)) c.from_residual-in_err-mend.result
+    err_as (M.honest c.mend.new.m → MountKeeps c.args.sectors old (M.now c.mend.new.m)) c.from_residual-in_err-mend.result
     (λ h3.
     let h2 = c.mend.ensures.disk.trust.honest h3 in let h1 = c.complete.ensures.disk.trust.honest h2 in
     let found = c.in_ok-layout.field-0 in let one = M.now c.find_volume.new.m in let two = M.now c.complete.new.m in
     let is = c.in_ok-layout.ensures.seen h1 in
-    let map = c.complete.ensures.map found.layout is.seen h2 c.in_ok-layout.ensures.planned c.in_ok-layout.ensures.layout is.knows in
+    let kept = c.complete.ensures.rest found.layout is.seen h2 c.in_ok-layout.ensures.planned c.in_ok-layout.ensures.layout is.knows in
     let three = M.now c.mend.new.m in
-    inr (found.layout, c.in_ok-layout.ensures.root h1, map_left found.layout old one two three three (c.find_volume.ensures.reads.worn h1) map (c.mend.ensures.keeps h3) (keeps_all found.layout three).map refl))
+    inr (record { layout = found.layout; root = c.in_ok-layout.ensures.root h1; rest = rest_left found.layout old one two three three (c.find_volume.ensures.reads.worn h1) kept (c.mend.ensures.keeps h3) (keeps_all found.layout three).rest refl }))
 
-pub returns-in_err-begin_epoch-clause-behind_err : goal.returns-in_err-begin_epoch-clause-behind_err
-returns-in_err-begin_epoch-clause-behind_err g c =
+pub returns-in_err-begin_epoch-clause-rest_err : goal.returns-in_err-begin_epoch-clause-rest_err
+returns-in_err-begin_epoch-clause-rest_err g c =
     let M = g.M.Machine in
     let old = M.now c.args.m.now in
-    err_as (M.honest c.begin_epoch.new.m → LeavesMap c.args.sectors old (M.now c.begin_epoch.new.m)) c.from_residual-in_err-begin_epoch.result
+    err_as (M.honest c.begin_epoch.new.m → MountKeeps c.args.sectors old (M.now c.begin_epoch.new.m)) c.from_residual-in_err-begin_epoch.result
     (λ h.
     let h3 = c.begin_epoch.ensures.disk.trust.honest h in let h2 = c.mend.ensures.disk.trust.honest h3 in let h1 = c.complete.ensures.disk.trust.honest h2 in
     let found = c.in_ok-layout.field-0 in let one = M.now c.find_volume.new.m in let two = M.now c.complete.new.m in
     let is = c.in_ok-layout.ensures.seen h1 in
-    let map = c.complete.ensures.map found.layout is.seen h2 c.in_ok-layout.ensures.planned c.in_ok-layout.ensures.layout is.knows in
-    inr (found.layout, c.in_ok-layout.ensures.root h1, map_left found.layout old one two (M.now c.mend.new.m) (M.now c.begin_epoch.new.m) (c.find_volume.ensures.reads.worn h1) map (c.mend.ensures.keeps h3) (λ s from. c.begin_epoch.ensures.body h s (omega (arith, from))) (c.in_err-begin_epoch.ensures.windows_err h)))
+    let kept = c.complete.ensures.rest found.layout is.seen h2 c.in_ok-layout.ensures.planned c.in_ok-layout.ensures.layout is.knows in
+    inr (record { layout = found.layout; root = c.in_ok-layout.ensures.root h1; rest = rest_left found.layout old one two (M.now c.mend.new.m) (M.now c.begin_epoch.new.m) (c.find_volume.ensures.reads.worn h1) kept (c.mend.ensures.keeps h3) (λ s out. let is = elsewhere found.layout s out in c.begin_epoch.ensures.rest h s is.anchor is.anchor_copy) (c.in_err-begin_epoch.ensures.windows_err h) }))
 
 pub returns-in_err-mend-clause-counted_err : goal.returns-in_err-mend-clause-counted_err
 returns-in_err-mend-clause-counted_err g c =
@@ -389,3 +393,128 @@ returns-clause-anchors g c h =
     let bounds = planned_bounds found.layout c.in_ok-layout.ensures.planned in
     let wide : 12 < (M.report c.mend.new.m).sectors = omega (arith, bounds.third_least, bounds.sectors_least, c.in_ok-layout.ensures.room, c.requires, c.find_volume.ensures.reads.uses.sectors, c.complete.ensures.disk.uses.sectors, c.mend.ensures.disk.uses.sectors) in
     c.in_ok-begin_epoch.ensures.anchors h wide (subst (λ (w : Windows). IsSome w.next) (sym (c.mend.ensures.keeps h3).windows) (c.in_ok-complete.ensures.named h2))
+
+-- ---- it turns its windows last
+
+pub returns-in_err-layout-clause-turns : goal.returns-in_err-layout-clause-turns
+returns-in_err-layout-clause-turns g c l windows choices h start =
+    let M = g.M.Machine in
+    let old = M.now c.args.m.now in let one = M.now c.find_volume.new.m in
+    leaves_more M.moment M.left_since c.args.m.now c.find_volume.new.m (Wears old) (TurnsLast old one) (λ left worn. inl (ap (λ (w : Windows). w.present) worn.windows)) (c.find_volume.ensures.reads.any_moment h)
+
+pub returns-in_err-complete-clause-turns : goal.returns-in_err-complete-clause-turns
+returns-in_err-complete-clause-turns g c l windows choices h start =
+    let M = g.M.Machine in
+    let h1 = c.complete.ensures.disk.trust.honest h in
+    let old = M.now c.args.m.now in let one = M.now c.find_volume.new.m in let two = M.now c.complete.new.m in
+    let wears = c.find_volume.ensures.reads.worn h1 in
+    let present = c.complete.ensures.present h in
+    then_on M.moment M.left_since c.args.m.now c.find_volume.new.m c.complete.new.m (TurnsLast old two)
+    (leaves_more M.moment M.left_since c.args.m.now c.find_volume.new.m (Wears old) (TurnsLast old two) (λ left worn. worn_turns old one two two two wears present refl left worn) (c.find_volume.ensures.reads.any_moment h1))
+    (leaves_more M.moment M.left_since c.find_volume.new.m c.complete.new.m (IsUnturned one) (TurnsLast old two) (λ left still. completing_turns old one two two two wears present refl left still) (c.complete.ensures.unturned h))
+
+pub returns-in_err-mend-clause-turns : goal.returns-in_err-mend-clause-turns
+returns-in_err-mend-clause-turns g c l windows choices h start =
+    let M = g.M.Machine in
+    let h2 = c.mend.ensures.disk.trust.honest h in let h1 = c.complete.ensures.disk.trust.honest h2 in
+    let old = M.now c.args.m.now in let one = M.now c.find_volume.new.m in let found = c.in_ok-layout.field-0 in
+    let short = g.met.M.Machine.short c.args.m.now (c.find_volume.ensures.reads.trust.honest h1) in
+    let wears = c.find_volume.ensures.reads.worn h1 in
+    let is = c.in_ok-layout.ensures.seen h1 in
+    let same = found_same c.args.sectors l windows choices old start short one wears found.layout found.log is in
+    let begin = subst (λ (k : Layout). ShowsVolume c.args.sectors k windows choices old) (sym same) start in
+    let seen = is_seen c.args.sectors found.layout windows choices old begin short one wears found.log is in
+    let two = M.now c.complete.new.m in let three = M.now c.mend.new.m in
+    let done = c.in_ok-complete.ensures.done found.layout windows choices h2 begin.planned c.in_ok-layout.ensures.layout seen in
+    let present = c.complete.ensures.present h2 in let mended = (c.mend.ensures.keeps h).windows in
+    then_on M.moment M.left_since c.args.m.now c.complete.new.m c.mend.new.m (TurnsLast old three)
+    (then_on M.moment M.left_since c.args.m.now c.find_volume.new.m c.complete.new.m (TurnsLast old three)
+    (leaves_more M.moment M.left_since c.args.m.now c.find_volume.new.m (Wears old) (TurnsLast old three) (λ left worn. worn_turns old one two three three wears present mended left worn) (c.find_volume.ensures.reads.any_moment h1))
+    (leaves_more M.moment M.left_since c.find_volume.new.m c.complete.new.m (IsUnturned one) (TurnsLast old three) (λ left still. completing_turns old one two three three wears present mended left still) (c.complete.ensures.unturned h2)))
+    (leaves_more M.moment M.left_since c.complete.new.m c.mend.new.m (Stays found.layout windows choices two) (TurnsLast old three) (λ left at. stays_turns old one two three three wears present mended found.layout windows choices left at) (c.mend.ensures.any_moment windows choices done.is h))
+
+pub returns-in_err-begin_epoch-clause-turns : goal.returns-in_err-begin_epoch-clause-turns
+returns-in_err-begin_epoch-clause-turns g c l windows choices h start =
+    let M = g.M.Machine in
+    let h3 = c.begin_epoch.ensures.disk.trust.honest h in let h2 = c.mend.ensures.disk.trust.honest h3 in let h1 = c.complete.ensures.disk.trust.honest h2 in
+    let old = M.now c.args.m.now in let one = M.now c.find_volume.new.m in let found = c.in_ok-layout.field-0 in
+    let short = g.met.M.Machine.short c.args.m.now (c.find_volume.ensures.reads.trust.honest h1) in
+    let wears = c.find_volume.ensures.reads.worn h1 in
+    let is = c.in_ok-layout.ensures.seen h1 in
+    let same = found_same c.args.sectors l windows choices old start short one wears found.layout found.log is in
+    let begin = subst (λ (k : Layout). ShowsVolume c.args.sectors k windows choices old) (sym same) start in
+    let seen = is_seen c.args.sectors found.layout windows choices old begin short one wears found.log is in
+    let two = M.now c.complete.new.m in let three = M.now c.mend.new.m in let new = M.now c.begin_epoch.new.m in
+    let done = c.in_ok-complete.ensures.done found.layout windows choices h2 begin.planned c.in_ok-layout.ensures.layout seen in
+    let present = c.complete.ensures.present h2 in let mended = (c.mend.ensures.keeps h3).windows in
+    then_on M.moment M.left_since c.args.m.now c.mend.new.m c.begin_epoch.new.m (TurnsLast old new)
+    (then_on M.moment M.left_since c.args.m.now c.complete.new.m c.mend.new.m (TurnsLast old new)
+    (then_on M.moment M.left_since c.args.m.now c.find_volume.new.m c.complete.new.m (TurnsLast old new)
+    (leaves_more M.moment M.left_since c.args.m.now c.find_volume.new.m (Wears old) (TurnsLast old new) (λ left worn. worn_turns old one two three new wears present mended left worn) (c.find_volume.ensures.reads.any_moment h1))
+    (leaves_more M.moment M.left_since c.find_volume.new.m c.complete.new.m (IsUnturned one) (TurnsLast old new) (λ left still. completing_turns old one two three new wears present mended left still) (c.complete.ensures.unturned h2)))
+    (leaves_more M.moment M.left_since c.complete.new.m c.mend.new.m (Stays found.layout windows choices two) (TurnsLast old new) (λ left at. stays_turns old one two three new wears present mended found.layout windows choices left at) (c.mend.ensures.any_moment windows choices done.is h3)))
+    (leaves_more M.moment M.left_since c.mend.new.m c.begin_epoch.new.m (TurnsLast three new) (TurnsLast old new) (λ left at. beginning_turns old one two three new wears present mended left at) (c.begin_epoch.ensures.turns h))
+
+pub returns-clause-turns : goal.returns-clause-turns
+returns-clause-turns g c l windows choices h start =
+    let M = g.M.Machine in
+    let h3 = c.begin_epoch.ensures.disk.trust.honest h in let h2 = c.mend.ensures.disk.trust.honest h3 in let h1 = c.complete.ensures.disk.trust.honest h2 in
+    let old = M.now c.args.m.now in let one = M.now c.find_volume.new.m in let found = c.in_ok-layout.field-0 in
+    let short = g.met.M.Machine.short c.args.m.now (c.find_volume.ensures.reads.trust.honest h1) in
+    let wears = c.find_volume.ensures.reads.worn h1 in
+    let is = c.in_ok-layout.ensures.seen h1 in
+    let same = found_same c.args.sectors l windows choices old start short one wears found.layout found.log is in
+    let begin = subst (λ (k : Layout). ShowsVolume c.args.sectors k windows choices old) (sym same) start in
+    let seen = is_seen c.args.sectors found.layout windows choices old begin short one wears found.log is in
+    let two = M.now c.complete.new.m in let three = M.now c.mend.new.m in let new = M.now c.begin_epoch.new.m in
+    let done = c.in_ok-complete.ensures.done found.layout windows choices h2 begin.planned c.in_ok-layout.ensures.layout seen in
+    let present = c.complete.ensures.present h2 in let mended = (c.mend.ensures.keeps h3).windows in
+    then_on M.moment M.left_since c.args.m.now c.mend.new.m c.begin_epoch.new.m (TurnsLast old new)
+    (then_on M.moment M.left_since c.args.m.now c.complete.new.m c.mend.new.m (TurnsLast old new)
+    (then_on M.moment M.left_since c.args.m.now c.find_volume.new.m c.complete.new.m (TurnsLast old new)
+    (leaves_more M.moment M.left_since c.args.m.now c.find_volume.new.m (Wears old) (TurnsLast old new) (λ left worn. worn_turns old one two three new wears present mended left worn) (c.find_volume.ensures.reads.any_moment h1))
+    (leaves_more M.moment M.left_since c.find_volume.new.m c.complete.new.m (IsUnturned one) (TurnsLast old new) (λ left still. completing_turns old one two three new wears present mended left still) (c.complete.ensures.unturned h2)))
+    (leaves_more M.moment M.left_since c.complete.new.m c.mend.new.m (Stays found.layout windows choices two) (TurnsLast old new) (λ left at. stays_turns old one two three new wears present mended found.layout windows choices left at) (c.mend.ensures.any_moment windows choices done.is h3)))
+    (leaves_more M.moment M.left_since c.mend.new.m c.begin_epoch.new.m (TurnsLast three new) (TurnsLast old new) (λ left at. beginning_turns old one two three new wears present mended left at) (c.begin_epoch.ensures.turns h))
+
+pub returns-in_err-layout-clause-unturned : goal.returns-in_err-layout-clause-unturned
+returns-in_err-layout-clause-unturned g c =
+    let M = g.M.Machine in
+    let old = M.now c.args.m.now in
+    err_as (M.honest c.find_volume.new.m → IsUnturned old (M.now c.find_volume.new.m)) c.from_residual.result (λ h. ap (λ (w : Windows). w.present) (c.find_volume.ensures.reads.worn h).windows)
+
+pub returns-in_err-complete-clause-unturned : goal.returns-in_err-complete-clause-unturned
+returns-in_err-complete-clause-unturned g c =
+    let M = g.M.Machine in
+    let old = M.now c.args.m.now in let one = M.now c.find_volume.new.m in let two = M.now c.complete.new.m in
+    err_as (M.honest c.complete.new.m → IsUnturned old two) c.from_residual-in_err-complete.result
+    (λ h. still_unturned old one two two two (c.find_volume.ensures.reads.worn (c.complete.ensures.disk.trust.honest h)) (c.complete.ensures.present h) refl refl)
+
+pub returns-in_err-mend-clause-unturned : goal.returns-in_err-mend-clause-unturned
+returns-in_err-mend-clause-unturned g c =
+    let M = g.M.Machine in
+    let old = M.now c.args.m.now in let one = M.now c.find_volume.new.m in let two = M.now c.complete.new.m in let three = M.now c.mend.new.m in
+    err_as (M.honest c.mend.new.m → IsUnturned old three) c.from_residual-in_err-mend.result
+    (λ h. let h2 = c.mend.ensures.disk.trust.honest h in
+    still_unturned old one two three three (c.find_volume.ensures.reads.worn (c.complete.ensures.disk.trust.honest h2)) (c.complete.ensures.present h2) (c.mend.ensures.keeps h).windows refl)
+
+pub returns-in_err-begin_epoch-clause-unturned : goal.returns-in_err-begin_epoch-clause-unturned
+returns-in_err-begin_epoch-clause-unturned g c =
+    let M = g.M.Machine in
+    let old = M.now c.args.m.now in let one = M.now c.find_volume.new.m in let two = M.now c.complete.new.m in let three = M.now c.mend.new.m in let new = M.now c.begin_epoch.new.m in
+    err_as (M.honest c.begin_epoch.new.m → IsUnturned old new) c.from_residual-in_err-begin_epoch.result
+    (λ h. let h3 = c.begin_epoch.ensures.disk.trust.honest h in let h2 = c.mend.ensures.disk.trust.honest h3 in
+    still_unturned old one two three new (c.find_volume.ensures.reads.worn (c.complete.ensures.disk.trust.honest h2)) (c.complete.ensures.present h2) (c.mend.ensures.keeps h3).windows (c.in_err-begin_epoch.ensures.windows_err h))
+
+pub returns-clause-homes : goal.returns-clause-homes
+returns-clause-homes g c h page lt =
+    let M = g.M.Machine in
+    let h3 = c.begin_epoch.ensures.disk.trust.honest h in
+    both_settled c.in_ok-layout.field-0.layout page (M.now c.mend.new.m) (M.now c.begin_epoch.new.m)
+    (subst (λ (w : Windows). IsSome w.next) (sym (c.mend.ensures.keeps h3).windows) (c.in_ok-complete.ensures.named (c.mend.ensures.disk.trust.honest h3)))
+    (c.in_ok-begin_epoch.ensures.windows h) (c.begin_epoch.ensures.rest h) (c.in_ok-mend.ensures.homes h3 page lt)
+
+pub returns-clause-grows : goal.returns-clause-grows
+returns-clause-grows g c t =
+    let t3 = c.begin_epoch.ensures.disk.trust.tells t in let t2 = c.mend.ensures.disk.trust.tells t3 in let t1 = c.complete.ensures.disk.trust.tells t2 in
+    omega (arith, ap (λ (x : Ledger). x.written) (c.find_volume.ensures.reads.ledger t1), c.in_ok-complete.ensures.grows t2, c.in_ok-mend.ensures.grows t3, c.in_ok-begin_epoch.ensures.grows t)

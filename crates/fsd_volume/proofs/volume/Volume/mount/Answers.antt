@@ -106,7 +106,7 @@ returns-clause-behind g c =
     (λ state opens h calm calm_new.
     let worn = c.load_pages.ensures.worn h in
     let calm_mid = same_calm mid.windows new.windows worn.windows calm_new in
-    opens_behind settled.layout settled.log pages old mid new state opens (map_still settled.layout old mid calm calm_mid (c.in_ok-settled.ensures.behind (c.load_pages.ensures.trust.honest h))) (calm_wears mid new calm_mid worn))
+    opens_behind settled.layout settled.log pages old mid new state opens (map_still settled.layout old mid calm calm_mid (c.in_ok-settled.ensures.rest (c.load_pages.ensures.trust.honest h))) (calm_wears mid new calm_mid worn))
     c.assemble.ensures.opened
 
 pub returns-clause-found : goal.returns-clause-found
