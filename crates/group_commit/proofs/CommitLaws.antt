@@ -33,7 +33,7 @@ pub idle_commits : (log : LogValue) (s : ResidentValue) (records : List Placed) 
 idle_commits log s records disk now windows old over = record {
   shows = record { readable = over.shows.readable; shows = λ j worn. shows_more disk now (shown log.layout j) (over.shows.shows j worn) };
   kept = λ t ge. inl refl;
-  outside = λ t out. inl refl;
+  outside = record { size = refl; others = λ t out. inl refl };
   windows = refl;
   said = refl;
 }

@@ -1,12 +1,13 @@
 -- How many pages' last images lie in the first third, as they are gone through.
-use Rattle.std.proofs.Common.{◌≡◌, ℕ, zero, suc, ◌+◌, ◌-◌, ◌<◌, ◌≤◌, Bool, false, List, length, take, get_or, Option, None, sym, ap, subst, ◌∙◌, arith}
+use Rattle.std.proofs.Common.{◌≡◌, ℕ, zero, suc, ◌+◌, ◌-◌, ◌<◌, ◌≤◌, Bool, false, cond, List, length, take, get_or, Option, None, sym, ap, subst, ◌∙◌, arith}
 use Rattle.std.specs.Prelude.{count_by, Result, Ok, Err, IfErr}
 use Rattle.std.specs.Result.{IsErrAnd}
 use Rattle.std.proofs.lemmas.List.{take_all}
-use Rattle.std.proofs.lemmas.List.Sums.{count_by_more_no, count_by_more_yes}
+use Rattle.std.proofs.lemmas.List.Sums.{count_by_more_no, count_by_more_yes, sum_by-take-le}
 use Rattle.sector_disk.specs.Machine.{Ledger, wrote}
 use Rattle.log_thirds.specs.declared.slots.Slot.{Slot}
 use Rattle.log_thirds.specs.Slots.{lies_in, IsLeastIn, NoneLiesIn}
+use Rattle.group_commit.specs.Room.{WroteMost}
 
 module _ (p : Option Slot → Bool) (slots : List (Option Slot)) where
   gap_by : (from d : ℕ) → from + d ≤ length slots → ((q : ℕ) → from ≤ q → q < from + d → p (get_or slots q None) ≡ false) → count_by p (take (from + d) slots) ≡ count_by p (take from slots)
@@ -38,6 +39,22 @@ wrote_twice ledger a b n is = let e : ledger.written + a + b ≡ ledger.written 
 
 pub wrote_none : (ledger : Ledger) (n : ℕ) → n ≡ 0 → ledger ≡ wrote ledger n
 wrote_none ledger n is = let e : ledger.written ≡ ledger.written + n = omega (arith, is) in λ i. record { input = ledger.input; attaches = ledger.attaches; written = e i }
+
+-- no more lie in the first third among some first pages than among all
+pub count_part : (slots : List (Option Slot)) (start count i : ℕ) → count_by (lies_in start count) (take i slots) ≤ count_by (lies_in start count) slots
+count_part slots start count i = sum_by-take-le (λ slot. cond (lies_in start count slot) 1 0) slots i
+
+-- ---- at most so many
+
+pub wrote_same : (old new : Ledger) (most : ℕ) → new ≡ old → WroteMost most old new
+wrote_same old new most is = let e : new.written ≡ old.written = ap (λ (l : Ledger). l.written) is in record { no_fewer = omega (arith, e); no_more = omega (arith, e) }
+
+-- some sectors exactly, and then at most so many
+pub wrote_on : (old mid new : Ledger) (a b most : ℕ) → mid.written ≡ old.written + a → WroteMost b mid new → a + b ≤ most → WroteMost most old new
+wrote_on old mid new a b most is more le = let fewer = more.no_fewer in let no_more = more.no_more in record { no_fewer = omega (arith, is, fewer); no_more = omega (arith, is, no_more, le) }
+
+pub wrote_at : (a b : ℕ) (old new : Ledger) → a ≡ b → WroteMost a old new → WroteMost b old new
+wrote_at a b old new is most = subst (λ (n : ℕ). WroteMost n old new) is most
 
 -- an error that is handed up
 pub handed_up : {T E : Type 0} (P : E → Type 0) (r : Result T E) (fault : E) → IsErrAnd r (λ told. told ≡ fault) → P fault → IfErr r P

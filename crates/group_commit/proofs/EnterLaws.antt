@@ -15,7 +15,7 @@ use Rattle.sector_disk.specs.declared.sector.WeakRun.{WeakRun}
 use Rattle.sector_disk.specs.Image.{sector_at, with_sector, stand, IsWorn, open_damage}
 use Rattle.sector_disk.specs.Machine.{Moment, Holds}
 use Rattle.sector_disk.proofs.Calm.{stand_one}
-use Rattle.sector_disk.proofs.Wear.{worn_refl, worn_whole}
+use Rattle.sector_disk.proofs.Wear.{length-stand, worn_refl, worn_whole}
 use Rattle.fsd_log.specs.Images.{image_in, last_image}
 use Rattle.fsd_log.specs.Scan.{Placed, Walked, newer_of, is_newer, place_of}
 use Rattle.fsd_files.specs.Disk.{Image, Sectors, Has}
@@ -359,10 +359,15 @@ module _ (log : LogValue) (records : List Placed) (disk : List (List ℕ)) (wind
   holds_anchors : (left : Moment) (first copy : ℕ) → Holds now (with_anchors (moved_anchor log) now.image first copy) left → Holds old (with_anchors (moved_anchor log) at.image first copy) left
   holds_anchors left first copy holds = over_two old now left at.image 8 12 (anchor_bytes (moved_anchor log)) first copy at.holds holds
 
+  anchors_long : (first copy : ℕ) → length (with_anchors (moved_anchor log) at.image first copy) ≡ length old.image
+  anchors_long first copy =
+      length-stand (stand at.image 8 (anchor_bytes (moved_anchor log)) first) 12 (anchor_bytes (moved_anchor log)) copy
+      ∙ length-stand at.image 8 (anchor_bytes (moved_anchor log)) first ∙ at.size
+
   pub moving_shows : (left : Moment) → AnchorsIn (moved_anchor log) now left → Shows log.layout windows disk old left
   moving_shows left anchors =
       let is = part anchors.first anchors.copy anchors.in_order anchors.once in
-      shows_now log records disk windows old may (with_anchors (moved_anchor log) at.image anchors.first anchors.copy) left (holds_anchors left anchors.first anchors.copy anchors.holds) is.shows
+      shows_now log records disk windows old may (with_anchors (moved_anchor log) at.image anchors.first anchors.copy) left (holds_anchors left anchors.first anchors.copy anchors.holds) is.shows (anchors_long anchors.first anchors.copy)
       (λ s out. is.same s (λ e. out (inr (inl (inl e)))) (λ e. out (inr (inl (inr e)))) ∙ at.outside s out)
 
   module _ (left : Moment) (holds : Holds now (with_anchors (moved_anchor log) now.image 1 1) left) where

@@ -534,9 +534,12 @@ module _ (log : LogValue) (s : ResidentValue) (images : List ℕ) (records : Lis
     kept = λ t ge. ⊎_elim
         (λ same. inl (same ∙ stand_other old.image place bytes part.stood t (inr (omega (arith, inside, part.within)))))
         (λ hurt. inr hurt) (part.holds.worn.each t);
-    outside = λ t out. ⊎_elim
-        (λ same. inl (same ∙ stand_other old.image place bytes part.stood t (apart_from t part.stood (λ inside. out (inl inside)) part.within)))
-        (λ hurt. inr hurt) (part.holds.worn.each t);
+    outside = record {
+      size = part.holds.worn.size ∙ length-stand old.image place bytes part.stood;
+      others = λ t out. ⊎_elim
+          (λ same. inl (same ∙ stand_other old.image place bytes part.stood t (apart_from t part.stood (λ inside. out (inl inside)) part.within)))
+          (λ hurt. inr hurt) (part.holds.worn.each t);
+    };
     windows = part.holds.windows;
     said = part.holds.said;
   }

@@ -119,22 +119,22 @@ module _ (log : LogValue) (records : List Placed) (disk : List (List ℕ)) (wind
       cc
 
   pub begin : OwnsLog log records disk windows old.image → IsHoming log records disk windows old 0 old
-  begin over = record { image = old.image; holds = holds_now old; over = over; done = λ page lt. absurd (omega (arith, lt)); outside = λ s out. refl }
+  begin over = record { image = old.image; holds = holds_now old; over = over; done = λ page lt. absurd (omega (arith, lt)); size = refl; outside = λ s out. refl }
 
-  pub shows_now : (e : Image) (left : Moment) → Holds old e left → ShowsPages log.layout windows (disk ∷ []) e → ((s : ℕ) → (MayWrite log.layout s → ⊥) → sector_at e s ≡ sector_at old.image s) → Shows log.layout windows disk old left
-  shows_now e left holds shows outside = record {
+  pub shows_now : (e : Image) (left : Moment) → Holds old e left → ShowsPages log.layout windows (disk ∷ []) e → length e ≡ length old.image → ((s : ℕ) → (MayWrite log.layout s → ⊥) → sector_at e s ≡ sector_at old.image s) → Shows log.layout windows disk old left
+  shows_now e left holds shows size outside = record {
     shows = shows_still log.layout windows narrow (disk ∷ []) e left.image (weaker e left.image holds.worn) shows;
-    outside = λ s out. ⊎_elim (λ same. inl (same ∙ outside s out)) (λ hurt. inr hurt) (holds.worn.each s);
+    outside = record { size = holds.worn.size ∙ size; others = λ s out. ⊎_elim (λ same. inl (same ∙ outside s out)) (λ hurt. inr hurt) (holds.worn.each s) };
     windows = holds.windows;
     said = holds.said;
   }
 
   module _ (n : ℕ) (now : Moment) (at : IsHoming log records disk windows old n now) where
     pub still : (left : Moment) → Wears now left → IsHoming log records disk windows old n left
-    still left wears = record { image = at.image; holds = holds_wears old at.image now left at.holds wears; over = at.over; done = at.done; outside = at.outside }
+    still left wears = record { image = at.image; holds = holds_wears old at.image now left at.holds wears; over = at.over; done = at.done; size = at.size; outside = at.outside }
 
     pub stays : (left : Moment) → Wears now left → Shows log.layout windows disk old left
-    stays left wears = shows_now at.image left (holds_wears old at.image now left at.holds wears) at.over.shows at.outside
+    stays left wears = shows_now at.image left (holds_wears old at.image now left at.holds wears) at.over.shows at.size at.outside
 
     -- none is left
     pub all_homed : ((q : ℕ) → n ≤ q → q < log.layout.pages → LastLiesIn log records log.anchor.third q → ⊥) → IsHoming log records disk windows old log.layout.pages now
@@ -143,6 +143,7 @@ module _ (log : LogValue) (records : List Placed) (disk : List (List ℕ)) (wind
       holds = at.holds;
       over = at.over;
       done = λ page lt within lies. ⊎_elim (λ before. at.done page before within lies) (λ from. absurd (none page from within lies)) (cases_lt page n);
+      size = at.size;
       outside = at.outside;
     }
 
@@ -234,7 +235,7 @@ module _ (log : LogValue) (records : List Placed) (disk : List (List ℕ)) (wind
       homes_stay left homes =
           let part = homed_part homes.first homes.second homes.in_order homes.once in
           shows_now (stand (stand at.image (home_a log.layout page) bytes homes.first) (home_b log.layout page) bytes homes.second) left
-          (over_two old now left at.image (home_a log.layout page) (home_b log.layout page) bytes homes.first homes.second at.holds homes.holds) part.over.shows (part_outside _ part)
+          (over_two old now left at.image (home_a log.layout page) (home_b log.layout page) bytes homes.first homes.second at.holds homes.holds) part.over.shows (part.many ∙ at.size) (part_outside _ part)
 
       -- the pages between have no image in the first third
       pub homes_next : bytes ≡ image_at disk page → ((q : ℕ) → n ≤ q → q < page → LastLiesIn log records log.anchor.third q → ⊥) → (new : Moment)
@@ -262,5 +263,6 @@ module _ (log : LogValue) (records : List Placed) (disk : List (List ℕ)) (wind
                 (λ from. absurd (between q from before lies)) (cases_lt q n))
                 (λ past. let here : q ≡ page = omega (arith, past, le) in subst (λ (k : ℕ). IsAtHome log.layout two k (image_at disk k)) (sym here) home)
                 (cases_lt q page);
+            size = part_two.many ∙ at.size;
             outside = part_outside (with_sector (with_sector at.image (home_a log.layout page) bytes) (home_b log.layout page) bytes) part_two;
           }

@@ -1,10 +1,10 @@
 -- A force that makes room first.
-use Rattle.std.proofs.Common.{◌≡◌, ℕ, ◌+◌, ◌*◌, ◌<◌, ◌≤◌, Bool, true, false, ◌||◌, nat_le, nat_lt, ap, refl, ◌∙◌}
+use Rattle.std.proofs.Common.{◌≡◌, ℕ, ◌+◌, ◌*◌, ◌<◌, ◌≤◌, Bool, true, false, cond, ◌||◌, nat_le, nat_lt, ap, refl, ◌∙◌}
 use Rattle.std.specs.Prelude.{Result, Ok, Err, OnOk, OnErr}
 use Rattle.log_thirds.specs.LogValue.{LogValue}
 use Rattle.std.proofs.lemmas.Bool.{le-leb, lt-ltb, lt-leb, le-ltb}
 use Rattle.fsd_formats.specs.Record.{record_len}
-use Rattle.group_commit.specs.Room.{goes_before}
+use Rattle.group_commit.specs.Room.{goes_before, pages_in_first, sectors_before}
 
 -- ---- where a record goes
 
@@ -22,6 +22,10 @@ pub first_again : (log : LogValue) (n : ℕ) → log.head.end < log.head.at + re
 first_again log n lt ge =
     ap (λ (b : Bool). b || nat_lt log.head.end (3 * log.layout.third)) (lt-leb (log.head.at + record_len n) log.head.end lt)
     ∙ le-ltb log.head.end (3 * log.layout.third) ge
+
+-- so many sectors are written before a record that enters the first third again
+pub before_again : (log : LogValue) (n : ℕ) → goes_before log n ≡ false → sectors_before log n ≡ 2 * pages_in_first log + 2
+before_again log n again = ap (λ (b : Bool). cond b 0 (2 * pages_in_first log + 2)) again
 
 pub on_ok_both : {T E : Type 0} (P Q R : Type 0) (r : Result T E) → (P → Q → R) → OnOk r P → OnOk r Q → OnOk r R
 on_ok_both P Q R (Ok x) both p q = both p q

@@ -52,7 +52,7 @@ module _ (log : LogValue) (s : ResidentValue) (records : List Placed) (disk : Li
   pub making : (now : List (List ℕ)) (left : Moment) → Shows log.layout windows disk old left → Commits log.layout windows disk now old left
   making now left is = record {
     shows = record { readable = is.shows.readable; shows = λ j worn. shows_more disk now (shown log.layout j) (is.shows.shows j worn) };
-    kept = λ t from. is.outside t (data_outside log.layout t from);
+    kept = λ t from. is.outside.others t (data_outside log.layout t from);
     outside = is.outside;
     windows = is.windows;
     said = is.said;
@@ -63,14 +63,14 @@ module _ (log : LogValue) (s : ResidentValue) (records : List Placed) (disk : Li
     stands = record { shows = room.over.shows; own = room.over.own; clean = over.clean }
 
     on : (t : ℕ) (left : Sector) → (MayWrite after.layout t → ⊥) → SectorWorn (open_damage mid.windows t) (sector_at mid.image t) left → SectorWorn (open_damage old.windows t) (sector_at old.image t) left
-    on t left out then = worn_on (open_damage old.windows t) (sector_at old.image t) (sector_at mid.image t) left (room.outside t out)
+    on t left out then = worn_on (open_damage old.windows t) (sector_at old.image t) (sector_at mid.image t) left (room.outside.others t out)
         (subst (λ (w : Windows). SectorWorn (open_damage w t) (sector_at mid.image t) left) same then)
 
     here : (left : Moment) → Commits after.layout windows disk (stamped (stamp_now after) s.dirty s.pages) mid left → Commits after.layout windows disk (stamped (stamp_now after) s.dirty s.pages) old left
     here left is = record {
       shows = is.shows;
       kept = λ t from. on t (sector_at left.image t) (data_outside after.layout t from) (is.kept t from);
-      outside = λ t out. on t (sector_at left.image t) out (is.outside t out);
+      outside = record { size = is.outside.size ∙ room.outside.size; others = λ t out. on t (sector_at left.image t) out (is.outside.others t out) };
       windows = is.windows ∙ same;
       said = is.said ∙ said;
     }

@@ -1,5 +1,5 @@
 -- A force that comes round to the log's first third.
-use Rattle.std.specs.Prelude.{◌≡◌, ⊤, false, ℕ, ◌<◌, List, [], ◌∷◌, Ok}
+use Rattle.std.specs.Prelude.{◌≡◌, ⊤, false, ℕ, ◌<◌, List, [], ◌∷◌, length, Ok}
 use Rattle.volume_layout.specs.declared.layout.Layout.{Layout}
 use Rattle.volume_layout.specs.Layout.{plan, home_a, home_b}
 use Rattle.sector_disk.specs.declared.sector.Sector.TheVariants.{Whole}
@@ -46,6 +46,7 @@ pub record IsHoming (log : LogValue) (records : List Placed) (disk : List (List 
   pub holds : Holds old image now
   pub over : OwnsLog log records disk windows image
   pub done : (page : ℕ) → page < n → page < log.layout.pages → LastLiesIn log records log.anchor.third page → IsAtHome log.layout image page (image_at disk page)
+  pub size : length image ≡ length old.image
   pub outside : (s : ℕ) → (MayWrite log.layout s → ⊥) → sector_at image s ≡ sector_at old.image s
 
 -- The window's run is narrow.
@@ -74,9 +75,15 @@ abbrev pub RecordCause : LogValue → (n : ℕ) → LoadFault → Type 0
 RecordCause log n (Device place) = ⊤
 RecordCause log n (Lost a b) = goes_before log n ≡ false
 
+-- The sectors are the two of the last image of some page.
+pub record AreOfLogged (log : LogValue) (a b : ℕ) : Type 0 where
+  pub page : ℕ
+  pub within : page < log.layout.pages
+  pub logged : AreLogged log page a b
+
 -- both sectors of a page's last image are damaged
 abbrev pub LosesLogged : LogValue → Image → LoadFault → Type 0
-LosesLogged log i fault = (page : ℕ) × LostCause (AreLogged log page) i fault
+LosesLogged log i fault = LostCause (AreOfLogged log) i fault
 
 -- There is room now, on a disk that shows the same pages.
 pub record HasRoomNow (log : LogValue) (disk : List (List ℕ)) (windows : List WeakRun) (old new : Moment) : Type 0 where

@@ -49,9 +49,10 @@ IsHome l s = (page : ℕ) × (page < l.pages) × ((s ≡ home_a l page) ⊎ (s �
 abbrev pub MayWrite : Layout → ℕ → Type 0
 MayWrite l s = InLog l s ⊎ (((s ≡ 8) ⊎ (s ≡ 12)) ⊎ IsHome l s)
 
--- All other sectors stay but for wear: the roots, the map and the data.
-abbrev pub KeepsOutside : Layout → Moment → Moment → Type 0
-KeepsOutside l old left = (s : ℕ) → (MayWrite l s → ⊥) → SectorWorn (open_damage old.windows s) (sector_at old.image s) (sector_at left.image s)
+-- All other sectors stay but for wear: the roots, the map and the data. There are as many as before.
+pub record KeepsOutside (l : Layout) (old left : Moment) : Type 0 where
+  pub size : length left.image ≡ length old.image
+  pub others : (s : ℕ) → (MayWrite l s → ⊥) → SectorWorn (open_damage old.windows s) (sector_at old.image s) (sector_at left.image s)
 
 -- At each moment the disk shows the pages as they were or as they are now, and only log, anchors and homes change.
 pub record Commits (l : Layout) (runs : List WeakRun) (disk now : List (List ℕ)) (old left : Moment) : Type 0 where

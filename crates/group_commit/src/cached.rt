@@ -11,7 +11,7 @@ ghost use Rattle.fsd_log.specs.Laid.{slices};
 ghost use Rattle.log_thirds.specs.Append.{stamp_now, log_with};
 ghost use Rattle.page_cache.specs.Cache.{IsCache, IsResident, bytes_of, cleaned};
 ghost use Rattle.group_commit.specs.Resident.{IsImageOf, stamped};
-ghost use Rattle.group_commit.specs.Room.{goes_before, log_before, sectors_before};
+ghost use Rattle.group_commit.specs.Room.{WroteMost, log_before, sectors_before};
 ghost use Rattle.group_commit.specs.Entering.{RecordCause, LosesLogged};
 ghost use Rattle.group_commit.specs.Force.{sectors_written, stamped_by, log_forced, StandsOver, Committed, as_load, force_failed_at};
 ghost use Rattle.group_commit.specs.Newest.{KnowsImages};
@@ -57,7 +57,7 @@ fn write_frames<M: Machine>(
     ensures disk { WritesDisk M.Machine (device_in load_failed_at result) (FramesLeave log.old cache.old waiting.now) m.old m.new }
     ensures cause { IfErr result (RecordCause log.old (length waiting.now)) }
     ensures counted { OnOk result (M.tells m.new → (M.ledger m.new).written ≡ (M.ledger m.old).written + (sectors_before log.old (length waiting.now) + record_len (length waiting.now))) }
-    ensures counted_err { OnErr result (goes_before log.old (length waiting.now) ≡ true → M.tells m.new → M.ledger m.new ≡ M.ledger m.old) }
+    ensures counted_err { OnErr result (M.tells m.new → WroteMost (sectors_before log.old (length waiting.now)) (M.ledger m.old) (M.ledger m.new)) }
     ensures cache { cache.new ≡ stamped_frames (stamp_now log.old) waiting.now cache.old }
     ensures past { OnOk result (log.new ≡ log_with (log_before log.old (length waiting.now)) waiting.now) }
     ensures past_err { OnErr result ((log.new ≡ log.old) ⊎ ((log.new ≡ log_before log.old (length waiting.now)) × (M.tells m.new → (M.ledger m.new).written ≡ (M.ledger m.old).written + sectors_before log.old (length waiting.now)))) }
@@ -98,7 +98,7 @@ fn force_waiting<M: Machine>(
     ensures cause { IfErr result (λ fault. RecordCause log.old (length cache.old.dirty) (as_load fault)) }
     ensures pages { IfOk result (λ forced. forced.pages ≡ length cache.old.dirty) }
     ensures counted { OnOk result (M.tells m.new → (M.ledger m.new).written ≡ (M.ledger m.old).written + sectors_written log.old cache.old.dirty) }
-    ensures counted_err { OnErr result (goes_before log.old (length cache.old.dirty) ≡ true → M.tells m.new → M.ledger m.new ≡ M.ledger m.old) }
+    ensures counted_err { OnErr result (M.tells m.new → WroteMost (sectors_before log.old (length cache.old.dirty)) (M.ledger m.old) (M.ledger m.new)) }
     ensures idle { cache.old.dirty ≡ [] → m.new ≡ m.old }
     ensures cache { OnOk result (cache.new ≡ cleaned (stamped_for log.old cache.old)) }
     ensures cache_err { OnErr result (cache.new ≡ stamped_for log.old cache.old) }
@@ -156,7 +156,7 @@ impl Group {
 
         ensures pages { IfOk result (λ forced. forced.pages ≡ length cache.old.dirty) }
         ensures counted { OnOk result (M.tells m.new → (M.ledger m.new).written ≡ (M.ledger m.old).written + sectors_written log.old cache.old.dirty) }
-        ensures counted_err { OnErr result (goes_before log.old (length cache.old.dirty) ≡ true → M.tells m.new → M.ledger m.new ≡ M.ledger m.old) }
+        ensures counted_err { OnErr result (M.tells m.new → WroteMost (sectors_before log.old (length cache.old.dirty)) (M.ledger m.old) (M.ledger m.new)) }
         ensures idle { cache.old.dirty ≡ [] → m.new ≡ m.old }
 
         // The frames of the dirty pages are stamped, and they are dirty no more; behind a fault they still are.

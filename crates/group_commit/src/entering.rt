@@ -9,7 +9,7 @@ ghost use Rattle.fsd_log.specs.Scan.{Placed, HasRoom};
 ghost use Rattle.log_thirds.specs.Append.{LastLiesIn};
 ghost use Rattle.log_thirds.specs.Moving.{moved, records_moved, EndsInLastThird};
 ghost use Rattle.log_thirds.specs.Append.{stamp_now};
-ghost use Rattle.group_commit.specs.Room.{goes_before, log_before, pages_in_first, sectors_before};
+ghost use Rattle.group_commit.specs.Room.{WroteMost, goes_before, log_before, pages_in_first, sectors_before};
 ghost use Rattle.group_commit.specs.Entering.{HasRoomNow, ShowsHoming, ShowsStill, OwnsLog, IsHoming, IsEntered, MayHome, LosesLogged};
 
 use log_thirds::{Log, Place};
@@ -23,6 +23,7 @@ fn home_page<M: Machine>(m: &mut M, log: &Log, page: u32) -> Result<(), LoadFaul
     requires sectors { log.now.layout.sectors ≤ (M.report m.old).sectors }
     ensures disk { WritesDisk M.Machine (device_in load_failed_at result) (ShowsHoming log.now page) m.old m.new }
     ensures counted { OnOk result (M.tells m.new → M.ledger m.new ≡ wrote (M.ledger m.old) 2) }
+    ensures counted_err { OnErr result (M.tells m.new → WroteMost 2 (M.ledger m.old) (M.ledger m.new)) }
     ensures done { OnOk result ((records : List Placed) (disk : List (List ℕ)) (windows : List WeakRun) (old : Moment) (n : ℕ) → M.honest m.new → MayHome log.now windows old →
         LastLiesIn log.now records log.now.anchor.third page → ((q : ℕ) → n ≤ q → q < page → LastLiesIn log.now records log.now.anchor.third q → ⊥) →
         IsHoming log.now records disk windows old n (M.now m.old) → IsHoming log.now records disk windows old (page + 1) (M.now m.new)) }
@@ -48,6 +49,7 @@ fn home_third<M: Machine>(m: &mut M, log: &Log, third: u32) -> Result<(), LoadFa
     requires sectors { log.now.layout.sectors ≤ (M.report m.old).sectors }
     ensures disk { WritesDisk M.Machine (device_in load_failed_at result) (ShowsStill log.now) m.old m.new }
     ensures counted { OnOk result (M.tells m.new → M.ledger m.new ≡ wrote (M.ledger m.old) (2 * pages_in_first log.now)) }
+    ensures counted_err { OnErr result (M.tells m.new → WroteMost (2 * pages_in_first log.now) (M.ledger m.old) (M.ledger m.new)) }
     ensures done { OnOk result ((records : List Placed) (disk : List (List ℕ)) (windows : List WeakRun) → M.honest m.new → MayHome log.now windows (M.now m.old) →
         OwnsLog log.now records disk windows (M.now m.old).image → IsHoming log.now records disk windows (M.now m.old) log.now.layout.pages (M.now m.new)) }
     ensures lost { IfErr result (λ fault. M.honest m.new → LosesLogged log.now (M.now m.new).image fault) }
@@ -74,6 +76,7 @@ pub(crate) fn enter_third<M: Machine>(m: &mut M, log: &mut Log, third: u32) -> R
     requires sectors { log.old.layout.sectors ≤ (M.report m.old).sectors }
     ensures disk { WritesDisk M.Machine (device_in load_failed_at result) (ShowsStill log.old) m.old m.new }
     ensures counted { OnOk result (M.tells m.new → M.ledger m.new ≡ wrote (M.ledger m.old) (2 * pages_in_first log.old + 2)) }
+    ensures counted_err { OnErr result (M.tells m.new → WroteMost (2 * pages_in_first log.old + 2) (M.ledger m.old) (M.ledger m.new)) }
     ensures done { OnOk result ((records : List Placed) (disk : List (List ℕ)) (windows : List WeakRun) → M.honest m.new → MayHome log.old windows (M.now m.old) →
         OwnsLog log.old records disk windows (M.now m.old).image → IsEntered log.old records disk windows (M.now m.old) (M.now m.new)) }
     ensures lost { IfErr result (λ fault. M.honest m.new → LosesLogged log.old (M.now m.new).image fault) }
@@ -97,6 +100,7 @@ pub fn make_room<M: Machine>(m: &mut M, log: &mut Log, count: u32) -> Result<(),
     requires sectors { log.old.layout.sectors ≤ (M.report m.old).sectors }
     ensures disk { WritesDisk M.Machine (device_in load_failed_at result) (ShowsStill log.old) m.old m.new }
     ensures counted { OnOk result (M.tells m.new → (M.ledger m.new).written ≡ (M.ledger m.old).written + sectors_before log.old count) }
+    ensures counted_err { OnErr result (M.tells m.new → WroteMost (sectors_before log.old count) (M.ledger m.old) (M.ledger m.new)) }
     ensures done { OnOk result ((records : List Placed) (disk : List (List ℕ)) (windows : List WeakRun) → M.honest m.new → MayHome log.old windows (M.now m.old) →
         OwnsLog log.old records disk windows (M.now m.old).image → HasRoomNow log.new disk windows (M.now m.old) (M.now m.new)) }
     ensures lost { IfErr result (λ fault. M.honest m.new → LosesLogged log.old (M.now m.new).image fault) }

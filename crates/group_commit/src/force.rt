@@ -37,7 +37,7 @@ ghost use Rattle.fsd_log.specs.Scan.{Placed};
 ghost use Rattle.fsd_sound.specs.Sound.{EndIn};
 ghost use Rattle.log_thirds.specs.Append.{stamp_now, log_with};
 ghost use Rattle.group_commit.specs.Resident.{AreImages, stamped};
-ghost use Rattle.group_commit.specs.Room.{goes_before, log_before, sectors_before};
+ghost use Rattle.group_commit.specs.Room.{WroteMost, log_before, sectors_before};
 ghost use Rattle.group_commit.specs.Entering.{RecordCause, LosesLogged};
 ghost use Rattle.group_commit.specs.Force.{sectors_written, stamped_by, log_forced, StandsOver, Committed, as_load, force_failed_at};
 ghost use Rattle.group_commit.specs.Forces.{ForceLeaves};
@@ -60,7 +60,7 @@ fn write_pages<M: Machine>(
     ensures disk { WritesDisk M.Machine (device_in load_failed_at result) (ForceLeaves log.old (record { pages = pages.old; dirty = dirty.now })) m.old m.new }
     ensures cause { IfErr result (RecordCause log.old (length dirty.now)) }
     ensures counted { OnOk result (M.tells m.new → (M.ledger m.new).written ≡ (M.ledger m.old).written + (sectors_before log.old (length dirty.now) + record_len (length dirty.now))) }
-    ensures counted_err { OnErr result (goes_before log.old (length dirty.now) ≡ true → M.tells m.new → M.ledger m.new ≡ M.ledger m.old) }
+    ensures counted_err { OnErr result (M.tells m.new → WroteMost (sectors_before log.old (length dirty.now)) (M.ledger m.old) (M.ledger m.new)) }
     ensures stamps { pages.new ≡ stamped (stamp_now log.old) dirty.now pages.old }
     ensures past { OnOk result (log.new ≡ log_with (log_before log.old (length dirty.now)) dirty.now) }
     ensures past_err { OnErr result ((log.new ≡ log.old) ⊎ ((log.new ≡ log_before log.old (length dirty.now)) × (M.tells m.new → (M.ledger m.new).written ≡ (M.ledger m.old).written + sectors_before log.old (length dirty.now)))) }
@@ -114,7 +114,7 @@ impl Group {
 
         ensures pages { IfOk result (λ forced. forced.pages ≡ length pages.old.dirty) }
         ensures counted { OnOk result (M.tells m.new → (M.ledger m.new).written ≡ (M.ledger m.old).written + sectors_written log.old pages.old.dirty) }
-        ensures counted_err { OnErr result (goes_before log.old (length pages.old.dirty) ≡ true → M.tells m.new → M.ledger m.new ≡ M.ledger m.old) }
+        ensures counted_err { OnErr result (M.tells m.new → WroteMost (sectors_before log.old (length pages.old.dirty)) (M.ledger m.old) (M.ledger m.new)) }
         ensures idle { pages.old.dirty ≡ [] → m.new ≡ m.old }
         ensures state { OnOk result (pages.new ≡ record { pages = stamped_by log.old pages.old; dirty = [] }) }
         ensures state_err { OnErr result (pages.new ≡ record { pages = stamped_by log.old pages.old; dirty = pages.old.dirty }) }

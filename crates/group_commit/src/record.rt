@@ -9,7 +9,7 @@ ghost use Rattle.fsd_log.specs.Scan.{Placed};
 ghost use Rattle.fsd_sound.specs.Sound.{EndIn};
 ghost use Rattle.log_thirds.specs.Append.{stamp_now, log_with};
 ghost use Rattle.group_commit.specs.Resident.{stamped};
-ghost use Rattle.group_commit.specs.Room.{goes_before, log_before, sectors_before};
+ghost use Rattle.group_commit.specs.Room.{WroteMost, log_before, sectors_before};
 ghost use Rattle.group_commit.specs.Entering.{RecordCause, LosesLogged};
 ghost use Rattle.group_commit.specs.Force.{StandsOver, Committed};
 ghost use Rattle.group_commit.specs.Newest.{KnowsImages};
@@ -34,7 +34,7 @@ pub(crate) fn write_record<M: Machine>(
     ensures disk { WritesDisk M.Machine (device_in load_failed_at result) (RecordLeaves log.old dirty.now room.now) m.old m.new }
     ensures cause { IfErr result (RecordCause log.old (length dirty.now)) }
     ensures counted { OnOk result (M.tells m.new → (M.ledger m.new).written ≡ (M.ledger m.old).written + (sectors_before log.old (length dirty.now) + record_len (length dirty.now))) }
-    ensures counted_err { OnErr result (goes_before log.old (length dirty.now) ≡ true → M.tells m.new → M.ledger m.new ≡ M.ledger m.old) }
+    ensures counted_err { OnErr result (M.tells m.new → WroteMost (sectors_before log.old (length dirty.now)) (M.ledger m.old) (M.ledger m.new)) }
     ensures past { OnOk result (log.new ≡ log_with (log_before log.old (length dirty.now)) dirty.now) }
     ensures past_err { OnErr result ((log.new ≡ log.old) ⊎ ((log.new ≡ log_before log.old (length dirty.now)) × (M.tells m.new → (M.ledger m.new).written ≡ (M.ledger m.old).written + sectors_before log.old (length dirty.now)))) }
     ensures lost { IfErr result (λ fault. M.honest m.new → LosesLogged log.old (M.now m.new).image fault) }

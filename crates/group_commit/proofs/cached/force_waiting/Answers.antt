@@ -6,7 +6,7 @@ use Rattle.sector_disk.proofs.CallLaws.{writes_none}
 use Rattle.group_commit.specs.Cached.{CacheLeaves, ascending_of}
 use Rattle.group_commit.specs.Entering.{RecordCause, LosesLogged}
 use Rattle.group_commit.specs.Force.{log_forced}
-use Rattle.group_commit.specs.Room.{goes_before, log_before, sectors_before}
+use Rattle.group_commit.specs.Room.{WroteMost, log_before, sectors_before}
 use Rattle.group_commit.proofs.CachedLaws.{all_accepted, all_stamped, all_there, forced_some, idle_cache, idle_done, idle_leaves, idle_written, is_dirty, none_dirty, so_many, written_some}
 use Rattle.group_commit.proofs.cached.force_waiting.Goals as goal
 
@@ -81,9 +81,11 @@ returns-in-Err-clause-cause g c =
     subst (RecordCause c.args.log.now (length c.args.cache.now.dirty)) (sym c.force_fault.ensures) (subst (λ (n : ℕ). RecordCause c.args.log.now n c.in-Err.fault) many c.in-Err.ensures.cause)
 
 pub returns-in-Err-clause-counted_err : goal.returns-in-Err-clause-counted_err
-returns-in-Err-clause-counted_err g c before =
+returns-in-Err-clause-counted_err g c tells =
+    let M = g.M.Machine in
+    let log = c.args.log.now in
     let many : length c.args.waiting.now ≡ length c.args.cache.now.dirty = so_many c.args.cache.now c.requires.valid c.args.waiting.now c.requires.are in
-    c.in-Err.ensures.counted_err (ap (goes_before c.args.log.now) many ∙ before)
+    subst (λ (n : ℕ). WroteMost (sectors_before log n) (M.ledger c.args.m.now) (M.ledger c.write_frames.new.m)) many (c.in-Err.ensures.counted_err tells)
 
 pub returns-in-Err-clause-cache_err : goal.returns-in-Err-clause-cache_err
 returns-in-Err-clause-cache_err g c = c.write_frames.ensures.cache ∙ all_stamped c.args.cache.now c.requires.valid c.args.waiting.now c.requires.are (stamp_now c.args.log.now)

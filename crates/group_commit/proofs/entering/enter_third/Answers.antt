@@ -1,10 +1,14 @@
-use Rattle.std.proofs.Common.{subst, arith}
+use Rattle.std.proofs.Common.{◌+◌, ◌*◌, ap, subst, arith}
+use Rattle.sector_disk.specs.Machine.{Ledger}
 use Rattle.sector_disk.proofs.CallLaws.{writes_then}
 use Rattle.log_thirds.specs.Append.{IsIndexed, IsLogWorn}
 use Rattle.log_thirds.specs.LogValue.{LogValue}
 use Rattle.log_thirds.specs.Moving.{records_moved}
+use Rattle.group_commit.specs.Room.{WroteMost, pages_in_first}
+use Rattle.group_commit.proofs.CountLaws.{wrote_on}
 use Rattle.group_commit.proofs.EnterLaws.{moving_shows, entered}
 use Rattle.group_commit.proofs.HomingLaws.{homing_log}
+use Rattle.group_commit.proofs.RoomLaws.{on_err_any}
 use Rattle.group_commit.proofs.entering.enter_third.Goals as goal
 
 pub home_third-requires-clause-low : goal.home_third-requires-clause-low
@@ -40,3 +44,17 @@ returns-in-Ok-clause-done g c records disk windows h may over =
     let log_worn = subst (λ (x : LogValue). IsLogWorn x (records_moved log.layout records) new) past (c.in-Ok.ensures.worn_done records h at.over.indexed stands) in
     let indexed = subst (λ (x : LogValue). IsIndexed x (records_moved log.layout records)) past (c.in-Ok.ensures.indexed records h at.over.indexed stands) in
     entered log records disk windows old may c.requires.ends mid at new (c.in-Ok.ensures.done h) log_worn indexed
+
+pub returns-in_err-home_third-clause-counted_err : goal.returns-in_err-home_third-clause-counted_err
+returns-in_err-home_third-clause-counted_err g c =
+    let M = g.M.Machine in
+    let log = c.args.log.now in
+    on_err_any (M.tells c.home_third.new.m → WroteMost (2 * pages_in_first log + 2) (M.ledger c.args.m.now) (M.ledger c.home_third.new.m)) c.from_residual.result
+    (λ t. wrote_on (M.ledger c.args.m.now) (M.ledger c.args.m.now) (M.ledger c.home_third.new.m) 0 (2 * pages_in_first log) _ (omega arith) (c.in_err-home_third.ensures.counted_err t) (omega arith))
+
+pub returns-in-Err-clause-counted_err : goal.returns-in-Err-clause-counted_err
+returns-in-Err-clause-counted_err g c t =
+    let M = g.M.Machine in
+    let said = c.in-Err.ensures in
+    wrote_on (M.ledger c.args.m.now) (M.ledger c.home_third.new.m) (M.ledger c.move_anchor.new.m) (2 * pages_in_first c.args.log.now) 2 _
+    (ap (λ (l : Ledger). l.written) (c.in_ok-home_third.ensures.counted (said.writes.trust.tells t))) (record { no_fewer = said.least t; no_more = said.most t }) (omega arith)

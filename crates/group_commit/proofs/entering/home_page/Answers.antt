@@ -1,10 +1,14 @@
-use Rattle.std.proofs.Common.{rules, ◌≡◌, length, None, Ok, subst}
+use Rattle.std.proofs.Common.{rules, ◌≡◌, length, None, Ok, ap, subst, arith}
 use Rattle.volume_layout.specs.declared.layout.Layout.{Layout}
-use Rattle.sector_disk.specs.Machine.{Holds}
+use Rattle.sector_disk.specs.Machine.{Holds, Ledger}
 use Rattle.sector_disk.proofs.CallLaws.{reads_as_writes, reads_then_writes}
+use Rattle.sector_disk.proofs.Damage.{cause_as}
 use Rattle.sector_disk.proofs.Holding.{wears_none}
 use Rattle.fsd_log.specs.Images.{last_image}
+use Rattle.log_thirds.specs.Images.{AreLogged}
 use Rattle.twin_home.specs.Home.{HomesIn, with_homes}
+use Rattle.group_commit.specs.Entering.{AreOfLogged}
+use Rattle.group_commit.proofs.CountLaws.{wrote_on, wrote_same}
 use Rattle.group_commit.proofs.HomingLaws.{slot_gives, slot_not_lost, image_is, still, stays, homes_stay, homes_next}
 use Rattle.group_commit.proofs.entering.home_page.Goals as goal
 
@@ -70,7 +74,20 @@ returns-in-Ok-clause-done g c records disk windows old n h may lies between at =
     homes_next log records disk windows old may n read later c.args.page c.requires.page buf long logged (image_is log records disk windows old may later.image later.over c.args.page buf c.requires.page given) between (M.now c.write_home.new.m) holds
 
 pub returns-in-Err-clause-lost : goal.returns-in-Err-clause-lost
-returns-in-Err-clause-lost g c h = (c.args.page, c.in-Err.ensures.lost h)
+returns-in-Err-clause-lost g c h =
+    cause_as (AreLogged c.args.log.now c.args.page) (AreOfLogged c.args.log.now) (g.M.Machine.now c.image_of.new.m).image c.in-Err.fault
+    (λ a b logged. record { page = c.args.page; within = c.requires.page; logged = logged }) (c.in-Err.ensures.lost h)
+
+pub returns-in-Err-clause-counted_err : goal.returns-in-Err-clause-counted_err
+returns-in-Err-clause-counted_err g c t = wrote_same (g.M.Machine.ledger c.args.m.now) (g.M.Machine.ledger c.image_of.new.m) 2 (c.in-Err.ensures.reads.ledger t)
+
+pub returns-in-Err-write_home-clause-counted_err : goal.returns-in-Err-write_home-clause-counted_err
+returns-in-Err-write_home-clause-counted_err g c t =
+    let M = g.M.Machine in
+    let said = c.in-Err-write_home.ensures in
+    wrote_on (M.ledger c.args.m.now) (M.ledger c.image_of.new.m) (M.ledger c.write_home.new.m) 0 2 2
+    (let same = ap (λ (l : Ledger). l.written) (c.in-Ok-true.ensures.reads.ledger (said.writes.trust.tells t)) in omega (arith, same))
+    (record { no_fewer = said.least t; no_more = said.most t }) (omega arith)
 
 pub returns-in-Err-clause-never_lost : goal.returns-in-Err-clause-never_lost
 returns-in-Err-clause-never_lost g c records disk windows old n h may at =

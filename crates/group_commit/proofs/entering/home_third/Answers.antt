@@ -1,8 +1,8 @@
-use Rattle.std.proofs.Common.{◌*◌, ℕ, List, refl, ap, subst, ◌∙◌, arith}
+use Rattle.std.proofs.Common.{◌*◌, ◌+◌, ℕ, List, refl, ap, subst, ◌∙◌, arith}
 use Rattle.volume_layout.specs.Layout.{third_start}
 use Rattle.sector_disk.specs.Damage.{IsDevice}
 use Rattle.sector_disk.specs.declared.sector.WeakRun.{WeakRun}
-use Rattle.sector_disk.specs.Machine.{wrote}
+use Rattle.sector_disk.specs.Machine.{Ledger, wrote}
 use Rattle.sector_disk.specs.Calls.{load_failed_at}
 use Rattle.sector_disk.proofs.CallLaws.{told_up, writes_none, writes_then, writes_told}
 use Rattle.sector_disk.proofs.Holding.{wears_none}
@@ -10,8 +10,10 @@ use Rattle.fsd_log.specs.Scan.{Placed}
 use Rattle.log_thirds.specs.Append.{IsIndexed, IsLeastOfThird, NoneOfThird}
 use Rattle.log_thirds.specs.Slots.{IsLeastIn, NoneLiesIn}
 use Rattle.group_commit.specs.Entering.{ShowsStill, OwnsLog, MayHome}
-use Rattle.group_commit.proofs.CountLaws.{count_next, count_done, wrote_twice, wrote_none, handed_up}
+use Rattle.group_commit.specs.Room.{WroteMost, pages_in_first}
+use Rattle.group_commit.proofs.CountLaws.{count_next, count_done, count_part, wrote_on, wrote_twice, wrote_none, handed_up}
 use Rattle.group_commit.proofs.HomingLaws.{begin, stays, all_homed}
+use Rattle.group_commit.proofs.RoomLaws.{on_err_any}
 use Rattle.group_commit.proofs.entering.home_third.Goals as goal
 
 pub loop-page-init : goal.loop-page-init
@@ -72,6 +74,18 @@ returns-in_err-home_page-in-Some-clause-never_lost g c =
     handed_up (λ fault. (records : List Placed) (disk : List (List ℕ)) (windows : List WeakRun) → M.honest c.home_page.new.m → MayHome log windows old → OwnsLog log records disk windows old.image → IsDevice fault)
     c.from_residual.result c.in_err-home_page-in-Some.field-0.0 c.from_residual.ensures.1
     (λ records disk windows h may over. c.in_err-home_page-in-Some.ensures.never_lost records disk windows old c.loop-page.from h may (so_far.homing records disk windows (c.in_err-home_page-in-Some.ensures.disk.trust.honest h) may over))
+
+pub returns-in_err-home_page-in-Some-clause-counted_err : goal.returns-in_err-home_page-in-Some-clause-counted_err
+returns-in_err-home_page-in-Some-clause-counted_err g c =
+    let M = g.M.Machine in
+    let log = c.args.log.now in
+    let start = third_start log.layout log.anchor.third in
+    let slot = subst (λ (t : ℕ). IsLeastIn log.slots c.loop-page.from (third_start log.layout t) log.layout.third c.in-Some.page) c.requires.first c.in-Some.ensures.slot in
+    let next = count_next log.slots c.loop-page.from start log.layout.third c.in-Some.page slot in
+    let part = count_part log.slots start log.layout.third (c.in-Some.page + 1) in
+    let said = c.in_err-home_page-in-Some.ensures in
+    on_err_any (M.tells c.home_page.new.m → WroteMost (2 * pages_in_first log) (M.ledger c.args.m.now) (M.ledger c.home_page.new.m)) c.from_residual.result
+    (λ t. wrote_on (M.ledger c.args.m.now) (M.ledger c.loop-page.m) (M.ledger c.home_page.new.m) _ 2 _ (ap (λ (l : Ledger). l.written) (c.loop-page.invariant.counted (said.disk.trust.tells t))) (said.counted_err t) (omega (arith, next, part)))
 
 pub returns-in-None-clause-counted : goal.returns-in-None-clause-counted
 returns-in-None-clause-counted g c t =

@@ -5,7 +5,7 @@ use Rattle.fsd_formats.specs.Record.{Stamp, are_pages, record_len, AreStamped}
 use Rattle.fsd_log.specs.Laid.{laid_bytes, slices}
 use Rattle.fsd_sound.specs.Mounted.{image_at}
 use Rattle.sector_disk.specs.Damage.{IsDevice}
-use Rattle.group_commit.proofs.CountLaws.{handed_up}
+use Rattle.group_commit.proofs.CountLaws.{handed_up, wrote_on, wrote_same}
 use Rattle.fsd_log.specs.Scan.{Placed, place_of, spot_for}
 use Rattle.sector_disk.specs.declared.sector.WeakRun.{WeakRun}
 use Rattle.sector_disk.specs.Calls.{load_failed_at}
@@ -24,10 +24,12 @@ use Rattle.group_commit.specs.Force.{StandsOver, Committed}
 use Rattle.group_commit.specs.Cached.{HasImages, RecordLeaves}
 use Rattle.group_commit.specs.Newest.{KnowsImages}
 use Rattle.group_commit.specs.Resident.{ResidentValue, stamped}
+use Rattle.group_commit.specs.Room.{WroteMost, sectors_before}
 use Rattle.group_commit.proofs.ImageLaws.{IsRecordOf}
 use Rattle.group_commit.proofs.RoundLaws.{may_home, owns, making, stands, commits_on, ends_then}
 use Rattle.group_commit.proofs.ForceLaws.{MayForceHere, force_here, commits, committed, log_in_window}
 use Rattle.group_commit.proofs.StandsLaws.{knows_log}
+use Rattle.group_commit.proofs.RoomLaws.{on_err_any}
 use Rattle.group_commit.proofs.record.write_record.Given as given
 use Rattle.group_commit.proofs.record.write_record.Goals as goal
 use Rattle.group_commit.proofs.record.write_record.Goals.{After-append}
@@ -141,7 +143,19 @@ returns-in_err-make_room-clause-never_lost g c =
     (owns log (record { pages = pages; dirty = c.args.dirty.now }) records disk windows old over known))
 
 pub returns-in-Err-clause-lost : goal.returns-in-Err-clause-lost
-returns-in-Err-clause-lost g c h = (0, tt)
+returns-in-Err-clause-lost g c h = tt
+
+pub returns-in_err-make_room-clause-counted_err : goal.returns-in_err-make_room-clause-counted_err
+returns-in_err-make_room-clause-counted_err g c =
+    let M = g.M.Machine in
+    on_err_any (M.tells c.make_room.new.m → WroteMost (sectors_before c.args.log.now (length c.args.dirty.now)) (M.ledger c.args.m.now) (M.ledger c.make_room.new.m)) c.from_residual.result (λ t. c.in_err-make_room.ensures.counted_err t)
+
+pub returns-in-Err-clause-counted_err : goal.returns-in-Err-clause-counted_err
+returns-in-Err-clause-counted_err g c t =
+    let M = g.M.Machine in
+    let before = sectors_before c.args.log.now (length c.args.dirty.now) in
+    wrote_on (M.ledger c.args.m.now) (M.ledger c.make_room.new.m) (M.ledger c.append.new.m) before 0 before
+    (c.in_ok-make_room.ensures.counted (c.in-Err.ensures.writes.trust.tells t)) (wrote_same (M.ledger c.make_room.new.m) (M.ledger c.append.new.m) 0 (c.in-Err.ensures.counted_err t)) (omega arith)
 
 pub returns-in-Err-clause-disk : goal.returns-in-Err-clause-disk
 returns-in-Err-clause-disk g c =
