@@ -31,7 +31,7 @@ freed_leaves (p ∷ pages) step =
     let rest = freed_leaves pages (with_spare p step) in
     record { most_reached = rest.most_reached; most_changed = rest.most_changed; home_a = rest.home_a; reached = rest.reached }
 
-freed_changed : (pages : List ℕ) (step : Step) → (freed pages step).changed ≡ step.changed
+pub freed_changed : (pages : List ℕ) (step : Step) → (freed pages step).changed ≡ step.changed
 freed_changed [] step = refl
 freed_changed (p ∷ pages) step = freed_changed pages (with_spare p step)
 

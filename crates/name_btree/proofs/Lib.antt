@@ -49,3 +49,4 @@ pub mod WayLaws
 pub mod WayTreeLaws
 mod WaysGrowthLaws
 pub mod WithinLaws
+pub mod WrittenPages

@@ -19,7 +19,7 @@ use Rattle.name_btree.specs.declared.fault.TreeFault.TheVariants.{Pages, Broken}
 use Rattle.name_btree.specs.Descent.{way_to, HasChildren, IsNeighbour, HasNeighbours}
 use Rattle.name_btree.specs.Fault.{HasCause, IsCaused, IsMisfit, IsBeside, IsOnWay, BreaksBelow, BreaksBeside, BarsBelow, BarsBeside, BarsTable, BarsPage, ShowsCause, ShowsMisfit}
 use Rattle.name_btree.specs.Lookup.{IsBelow}
-use Rattle.name_page.specs.Looks.{Looks, Shows}
+use Rattle.name_page.specs.Looks.{Agrees, Looks, Shows}
 use Rattle.name_page.proofs.LookLaws.{agrees_before}
 use Rattle.name_page.specs.Pages.{Step, home_of}
 use Rattle.name_btree.proofs.CauseLaws.{cause_map, bars_table, shows_cause_map}
@@ -139,12 +139,20 @@ module _ (s : Step) (c : Child) (found : Found) (is : c ≡ top) (beside : HasNe
   pub previous_breaks : found.previous ≡ Some n → HasCause s (BreaksTable s.images) (BarsTable s) fault
   previous_breaks at = beside_breaks (subst (λ (o : Option Neighbour). IfSome o (IsNeighbour s.images)) at (found_beside s.images c found is beside).0)
 
-pub shown_next : (mid s : Step) (c : Child) (found : Found) → c ≡ top → Looks mid s → Shows mid (λ pages. HasNeighbours pages 0 c found) → (n : Neighbour) → found.next ≡ Some n → (fault : TreeFault)
-    → ShowsCause s (λ pages. BreaksBeside pages n) (λ pages. IsBeside pages n) fault → ShowsCause s BreaksTable IsOnWay fault
-shown_next mid s c found is looks beside n at fault h =
-    let there : Shows s (λ pages. IsNeighbour pages n) =
-    λ pages agrees. subst (λ (o : Option Neighbour). IfSome o (IsNeighbour pages)) at (found_beside pages c found is (beside pages (agrees_before mid s pages looks agrees))).1 in
-    shows_cause_map s (λ pages. BreaksBeside pages n) BreaksTable (λ pages. IsBeside pages n) IsOnWay (λ pages page agrees x. x (there pages agrees)) (λ pages page agrees x. x (there pages agrees)) fault h
+-- whatever the other pages have, what was reached of a child beside the way shows the fault
+module _ (mid s : Step) (c : Child) (found : Found) (is : c ≡ top) (looks : Looks mid s) (beside : Shows mid (λ pages. HasNeighbours pages 0 c found)) (n : Neighbour) where
+  shown_there : Shows s (λ pages. IsNeighbour pages n) → (fault : TreeFault) → ShowsCause s (λ pages. BreaksBeside pages n) (λ pages. IsBeside pages n) fault → ShowsCause s BreaksTable IsOnWay fault
+  shown_there there fault h =
+      shows_cause_map s (λ pages. BreaksBeside pages n) BreaksTable (λ pages. IsBeside pages n) IsOnWay (λ pages page agrees x. x (there pages agrees)) (λ pages page agrees x. x (there pages agrees)) fault h
+
+  shown_beside_way : (pages : List (List ℕ)) → Agrees pages s → IfSome found.previous (IsNeighbour pages) × IfSome found.next (IsNeighbour pages)
+  shown_beside_way pages agrees = found_beside pages c found is (beside pages (agrees_before mid s pages looks agrees))
+
+  pub shown_next : found.next ≡ Some n → (fault : TreeFault) → ShowsCause s (λ pages. BreaksBeside pages n) (λ pages. IsBeside pages n) fault → ShowsCause s BreaksTable IsOnWay fault
+  shown_next at = shown_there (λ pages agrees. subst (λ (o : Option Neighbour). IfSome o (IsNeighbour pages)) at (shown_beside_way pages agrees).1)
+
+  pub shown_previous : found.previous ≡ Some n → (fault : TreeFault) → ShowsCause s (λ pages. BreaksBeside pages n) (λ pages. IsBeside pages n) fault → ShowsCause s BreaksTable IsOnWay fault
+  shown_previous at = shown_there (λ pages agrees. subst (λ (o : Option Neighbour). IfSome o (IsNeighbour pages)) at (shown_beside_way pages agrees).0)
 
 pub root_above : (pages : List (List ℕ)) (n : Neighbour) → IsNeighbour pages n → HasChildren pages top
 root_above pages n is = above_visited pages (n.above + 1) n.child (omega (arith, is.0)) is.1

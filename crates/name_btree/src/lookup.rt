@@ -148,6 +148,7 @@ fn last_below<T: Pages>(t: &mut T, previous: Neighbour) -> Result<FoundEntry, Tr
     ensures fits { IfOk result (λ last. FitsEntry last.entry) }
     ensures last { IfOk result (λ last. Shows (T.step t.new) (λ pages. EndsWith pages previous.child last.entry)) }
     ensures fault { IfErr result (HasCause (T.step t.new) (BreaksBeside (T.step t.new).images previous) (BarsBeside (T.step t.new) previous)) }
+    ensures shown { IfErr result (ShowsCause (T.step t.new) (λ pages. BreaksBeside pages previous) (λ pages. IsBeside pages previous)) }
 {
     let found = leaf_below(t, previous.child, previous.above, &Cut::End)?;
     let count = found.entries.len();
@@ -211,6 +212,7 @@ pub fn highest<T: Pages>(t: &mut T, name: &FileName) -> Result<Option<FoundEntry
     ensures name { IfOk result (λ found. IfSome found (λ f. f.entry.key.name ≡ name.now)) }
     ensures found { IfOk result (λ found. T.trusted t.new → (height : ℕ) → IsTree (T.step t.old).images height → entry_of found ≡ highest_of name.now (table_of (T.step t.old).images height)) }
     ensures fault { IfErr result (HasCause (T.step t.new) (BreaksTable (T.step t.new).images) (BarsTable (T.step t.new))) }
+    ensures shown { IfErr result (ShowsCause (T.step t.new) BreaksTable IsOnWay) }
 {
     let cut = Cut::Named(name.copied());
     let found = leaf_below(t, top(), 0, &cut)?;

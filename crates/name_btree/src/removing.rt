@@ -8,7 +8,7 @@ ghost use Rattle.name_btree.specs.Remove.{IsTrimmedBelow, BreaksAround, IsRootLe
 ghost use Rattle.name_btree.specs.Trim.{MayHave, IsLeft, sheets_below};
 ghost use Rattle.name_page.specs.Edits.{without};
 ghost use Rattle.name_page.specs.declared.pages.TheConstants.{MOST_CHANGED, MOST_REACHED};
-ghost use Rattle.name_page.specs.Looks.{OnlyReaches, OnlyEdits, OnlyWalks, Shows};
+ghost use Rattle.name_page.specs.Looks.{ChangesPages, OnlyReaches, OnlyEdits, OnlyWalks, Shows};
 ghost use Rattle.name_page.specs.Pages.{reaches, changes, is_spare, IsReached};
 
 use crate::draft::Draft;
@@ -27,6 +27,7 @@ pub fn remove<T: Pages>(t: &mut T, key: &Key) -> Result<(), TreeFault>
     requires more { MOST_REACHED ≤ reaches (T.step t.old) }
     requires changes { MOST_CHANGED ≤ changes (T.step t.old) }
     ensures calls { OnlyEdits T.Pages (outer_told result) t.old t.new }
+    ensures pages { ChangesPages (T.step t.old) (T.step t.new) }
     ensures kept { OnErr result (OnlyWalks T.Pages (outer_told result) t.old t.new) }
     ensures reaches { reaches (T.step t.old) ≤ reaches (T.step t.new) + 12 }
     ensures changes { changes (T.step t.old) ≤ changes (T.step t.new) + 8 }

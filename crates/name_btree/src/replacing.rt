@@ -7,7 +7,7 @@ ghost use Rattle.name_btree.specs.Map.{IsTable, HasTable};
 ghost use Rattle.name_page.specs.Edits.{put};
 ghost use Rattle.name_btree.specs.Replace.{HasAsLong, HasEdit, WritesOne};
 ghost use Rattle.name_page.specs.declared.pages.TheConstants.{MOST_CHANGED, MOST_REACHED};
-ghost use Rattle.name_page.specs.Looks.{OnlyEdits, OnlyWalks};
+ghost use Rattle.name_page.specs.Looks.{ChangesPages, OnlyEdits, OnlyWalks};
 ghost use Rattle.name_page.specs.Pages.{reaches, changes};
 
 use crate::descent::leaf_below;
@@ -38,6 +38,7 @@ pub fn replace_same_size<T: Pages>(t: &mut T, entry: &Entry) -> Result<(), TreeF
     requires fits { FitsEntry entry.now }
     requires present { T.trusted t.old → (height : ℕ) → IsTree (T.step t.old).images height → HasAsLong entry.now (table_of (T.step t.old).images height) }
     ensures calls { OnlyEdits T.Pages (outer_told result) t.old t.new }
+    ensures pages { ChangesPages (T.step t.old) (T.step t.new) }
     ensures kept { OnErr result (OnlyWalks T.Pages (outer_told result) t.old t.new) }
     ensures written { OnOk result (WritesOne T.Pages t.old t.new) }
     ensures reaches { reaches (T.step t.old) ≤ reaches (T.step t.new) + 6 }

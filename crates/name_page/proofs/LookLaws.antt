@@ -1,12 +1,14 @@
 -- Calls that only reach pages, one after another, and what the pages show.
-use Rattle.std.proofs.Common.{◌≡◌, ℕ, Bool, false, List, length, Option, Some, None, refl, ap, subst, ◌∙◌}
-use Rattle.std.specs.Prelude.{slice_get, option_and_then}
+use Rattle.std.proofs.Common.{◌≡◌, inl, inr, ℕ, ◌<◌, ◌≤◌, Bool, true, false, List, length, Option, Some, None, refl, sym, ap, subst, ◌∙◌, arith}
+use Rattle.std.specs.Prelude.{IsSome, slice_get, option_and_then}
+use Rattle.std.proofs.lemmas.Bool.{cases_lt, or_right}
+use Rattle.std.proofs.lemmas.Option.{slice_get_past}
 use Rattle.fsd_bytes.specs.declared.refusal.Refusal.{Refusal}
 use Rattle.fsd_formats.specs.NamePage.{Content, read_page}
 use Rattle.fsd_table.specs.Pages.{page_at}
 use Rattle.name_page.specs.declared.pages.Pages.{Ghosts}
-use Rattle.name_page.specs.Pages.{Step, is_spare, IsReached, Keeps, with_images, with_promise, rested}
-use Rattle.name_page.specs.Looks.{Looks, OnlyReaches, OnlyWalks, OnlyEdits, OnlyTakes, Agrees, Shows}
+use Rattle.name_page.specs.Pages.{Step, is_one_of, is_spare, IsReached, Keeps, with_images, with_promise, rested}
+use Rattle.name_page.specs.Looks.{Looks, OnlyReaches, OnlyWalks, OnlyEdits, OnlyTakes, Agrees, ChangesPages, Shows}
 
 -- what happens outside happens in all, and what is trusted then was before
 module _ {D : Type 0} (P : Ghosts D) where
@@ -43,8 +45,12 @@ reaches_then P law a b c x y = record {
   stays = λ t. y.stays t ∙ x.stays (y.trust t);
 }
 
+-- a page that was changed counts as reached
+changed_reached : (s : Step) (page : ℕ) → page < length s.images → is_one_of s.changed page ≡ true → IsReached s page
+changed_reached s page lt is = (lt, or_right (is_one_of s.reached page) (is_one_of s.changed page) is)
+
 pub reaches_walks : {D : Type 0} (P : Ghosts D) {refusal : Option Refusal} (a b : D) → OnlyReaches P refusal a b → OnlyWalks P refusal a b
-reaches_walks P a b x = record { count = x.looks.count; spares = x.looks.spares; home_a = x.looks.home_a; changed = x.looks.changed; most_reached = x.looks.most_reached; most_changed = x.looks.most_changed; outside = x.outside; trust = x.trust; stays = x.stays }
+reaches_walks P a b x = record { count = x.looks.count; spares = x.looks.spares; home_a = x.looks.home_a; changed = x.looks.changed; stood = λ page lt is. x.looks.images page (changed_reached (P.step a) page lt is); most_reached = x.looks.most_reached; most_changed = x.looks.most_changed; outside = x.outside; trust = x.trust; stays = x.stays }
 
 pub rest_walks : {D : Type 0} (P : Ghosts D) (a b : D) → P.outside None a b → (P.trusted b → P.trusted a) → P.step b ≡ rested (P.step a) → OnlyWalks P None a b
 rest_walks P a b outside trust is = record {
@@ -52,6 +58,7 @@ rest_walks P a b outside trust is = record {
   spares = ap (λ (s : Step). s.spares) is;
   home_a = ap (λ (s : Step). s.home_a) is;
   changed = ap (λ (s : Step). s.changed) is;
+  stood = λ page lt was. ap (λ (s : Step). slice_get s.images page) is;
   most_reached = ap (λ (s : Step). s.most_reached) is;
   most_changed = ap (λ (s : Step). s.most_changed) is;
   outside = outside;
@@ -65,6 +72,7 @@ walks_then P law a b c x y = record {
   spares = y.spares ∙ x.spares;
   home_a = y.home_a ∙ x.home_a;
   changed = y.changed ∙ x.changed;
+  stood = λ page lt was. y.stood page (omega (arith, lt, x.count)) (ap (λ (pages : List ℕ). is_one_of pages page) x.changed ∙ was) ∙ x.stood page lt was;
   most_reached = y.most_reached ∙ x.most_reached;
   most_changed = y.most_changed ∙ x.most_changed;
   outside = law a b c _ x.outside y.outside;
@@ -141,9 +149,46 @@ spare_walks P a b n outside trust kept stays is = record {
   spares = ap (λ (s : Step). s.spares) is;
   home_a = ap (λ (s : Step). s.home_a) is;
   changed = ap (λ (s : Step). s.changed) is;
+  stood = λ page lt was. kept.reached page (changed_reached (P.step a) page lt was);
   most_reached = ap (λ (s : Step). s.most_reached) is;
   most_changed = ap (λ (s : Step). s.most_changed) is;
   outside = outside;
   trust = trust;
   stays = stays;
+}
+
+-- ---- what pages that are changed have
+
+pub pages_same : (a b : Step) → length b.images ≡ length a.images → b.changed ≡ a.changed → ((page : ℕ) → page < length a.images → is_one_of a.changed page ≡ true → slice_get b.images page ≡ slice_get a.images page) → ChangesPages a b
+pages_same a b count changed stood = record {
+  each = λ page is.
+      let was : is_one_of a.changed page ≡ true = ap (λ (pages : List ℕ). is_one_of pages page) (sym changed) ∙ is in
+      inl (record {
+        was = was;
+        same = elim (cases_lt page (length a.images)) [
+          | inl lt ↦ stood page lt was
+          | inr past ↦ slice_get_past b.images page (omega (arith, past, count)) ∙ sym (slice_get_past a.images page past)
+        ];
+      });
+}
+
+pub walks_pages : {D : Type 0} (P : Ghosts D) {refusal : Option Refusal} (a b : D) → OnlyWalks P refusal a b → ChangesPages (P.step a) (P.step b)
+walks_pages P a b x = pages_same (P.step a) (P.step b) x.count x.changed x.stood
+
+pub looks_pages : (a b : Step) → Looks a b → ChangesPages a b
+looks_pages a b x = pages_same a b x.count x.changed (λ page lt was. x.images page (changed_reached a page lt was))
+
+pub pages_then : (a b c : Step) → length c.images ≡ length b.images → ChangesPages a b → ChangesPages b c → ChangesPages a c
+unfolding page_at
+pages_then a b c count x y = record {
+  each = λ page is. elim (y.each page is) [
+    | inl here ↦ elim (x.each page here.was) [
+      | inl before ↦ inl (record { was = before.was; same = here.same ∙ before.same })
+      | inr read ↦ inr (record {
+        there = omega (arith, read.there, count);
+        accepted = subst (λ (o : Option (List ℕ)). IsSome (option_and_then (read_page page (length c.images)) o)) (sym here.same) (subst (λ (n : ℕ). IsSome (option_and_then (read_page page n) (slice_get b.images page))) (sym count) read.accepted);
+      })
+    ]
+    | inr read ↦ inr read
+  ];
 }

@@ -1,8 +1,9 @@
 -- What a call leaves of the pages that only reaches some.
-use Rattle.std.specs.Prelude.{◌≡◌, ℕ, false, List, Option, length, slice_get}
+use Rattle.std.specs.Prelude.{◌≡◌, ◌⊎◌, ℕ, ◌<◌, true, false, List, Option, IsSome, length, slice_get}
 use Rattle.fsd_bytes.specs.declared.refusal.Refusal.{Refusal}
 use Rattle.name_page.specs.declared.pages.Pages.{Ghosts}
-use Rattle.name_page.specs.Pages.{Step, is_spare, IsReached}
+use Rattle.fsd_table.specs.Pages.{page_at}
+use Rattle.name_page.specs.Pages.{Step, is_one_of, is_spare, IsReached}
 
 -- a step that has reached pages since, and done nothing else
 pub record Looks (old new : Step) : Type 0 where
@@ -23,12 +24,13 @@ pub record OnlyReaches {D : Type 0} (P : Ghosts D) (refusal : Option Refusal) (o
   pub trust : P.trusted new → P.trusted old
   pub stays : P.trusted new → (P.step new).images ≡ (P.step old).images
 
--- the same where steps have ended in between
+-- the same where steps have ended in between: of the pages, those that were changed before stay
 pub record OnlyWalks {D : Type 0} (P : Ghosts D) (refusal : Option Refusal) (old new : D) : Type 0 where
   pub count : length (P.step new).images ≡ length (P.step old).images
   pub spares : (P.step new).spares ≡ (P.step old).spares
   pub home_a : (P.step new).home_a ≡ (P.step old).home_a
   pub changed : (P.step new).changed ≡ (P.step old).changed
+  pub stood : (page : ℕ) → page < length (P.step old).images → is_one_of (P.step old).changed page ≡ true → slice_get (P.step new).images page ≡ slice_get (P.step old).images page
   pub most_reached : (P.step new).most_reached ≡ (P.step old).most_reached
   pub most_changed : (P.step new).most_changed ≡ (P.step old).most_changed
   pub outside : P.outside refusal old new
@@ -43,6 +45,20 @@ pub record OnlyEdits {D : Type 0} (P : Ghosts D) (refusal : Option Refusal) (old
   pub most_changed : (P.step new).most_changed ≡ (P.step old).most_changed
   pub outside : P.outside refusal old new
   pub trust : P.trusted new → P.trusted old
+
+-- the page was changed before, and is as it was
+pub record IsAsChanged (old new : Step) (page : ℕ) : Type 0 where
+  pub was : is_one_of old.changed page ≡ true
+  pub same : slice_get new.images page ≡ slice_get old.images page
+
+-- the page is one of the table's, and the grammar accepts it
+pub record IsAccepted (s : Step) (page : ℕ) : Type 0 where
+  pub there : page < length s.images
+  pub accepted : IsSome (page_at s.images page)
+
+-- each page that is changed now is so
+pub record ChangesPages (old new : Step) : Type 0 where
+  pub each : (page : ℕ) → is_one_of new.changed page ≡ true → IsAsChanged old new page ⊎ IsAccepted new page
 
 -- images that have what the step has reached, but for pages that are spare
 pub record Agrees (images : List (List ℕ)) (s : Step) : Type 0 where

@@ -1,6 +1,6 @@
-mod ClaimLaws
+pub mod ClaimLaws
 mod FaultLaws
 mod PassLaws
 mod StepLaws
 mod SurveyLaws
-mod VisitLaws
+pub mod VisitLaws

@@ -1,13 +1,15 @@
 -- A step that begins, and what holds of the table before it.
 use Rattle.std.proofs.Common.{◌≡◌, ℕ, ◌-◌, List, length, Bool, not, Option, sym, ap, subst, ◌∙◌}
-use Rattle.std.specs.Prelude.{◌<◌, IfOk, Result, Ok}
+use Rattle.std.specs.Prelude.{◌<◌, IfOk, Result, Ok, slice_get}
 use Rattle.run_table.specs.Space.{contains}
 use Rattle.fsd_formats.specs.declared.entry.Entry.{Entry}
 use Rattle.fsd_table.specs.Tree.{IsTree, pages_of, table_of}
 use Rattle.fsd_table.proofs.BoundLaws.{Ascend, entries_ascend}
 use Rattle.fsd_table.specs.Table.{top}
 use Rattle.name_page.specs.declared.pages.Pages.{Ghosts}
+use Rattle.name_page.specs.Looks.{ChangesPages}
 use Rattle.name_page.specs.Pages.{Step, is_spare, rested}
+use Rattle.name_page.proofs.LookLaws.{pages_same, pages_then}
 use Rattle.name_btree.specs.declared.fault.TreeFault.{TreeFault}
 use Rattle.name_btree.specs.Map.{HasTable, IsTable}
 use Rattle.name_btree.specs.declared.lookup.FoundEntry.{FoundEntry}
@@ -55,3 +57,8 @@ module _ {D : Type 0} (P : Ghosts D) (a b c : D) (is : P.step b ≡ rested (P.st
   makes_rested edit made same h trusted height table =
       let old : IsTable (P.step b) height = same_table (P.step a) (P.step b) height same_images (ap (λ (s : Step). s.spares) is) table in
       subst (HasTable (P.step c)) (ap (λ (pages : List (List ℕ)). made (table_of pages height)) same_images ∙ same height table.tree trusted) (h trusted height old)
+
+-- what pages that are changed have, behind a step that ends
+pub rested_pages : (a b c : Step) → b ≡ rested a → length c.images ≡ length b.images → ChangesPages b c → ChangesPages a c
+rested_pages a b c rest count pages =
+    pages_then a b c count (pages_same a b (ap (λ (s : Step). length s.images) rest) (ap (λ (s : Step). s.changed) rest) (λ page lt was. ap (λ (s : Step). slice_get s.images page) rest)) pages

@@ -7,7 +7,7 @@ ghost use Rattle.fsd_formats.specs.NamePage.{is_entry, FitsEntry};
 ghost use Rattle.name_btree.specs.Fault.{outer_told, FailsSpare, FailsTable, IsAmong};
 ghost use Rattle.name_btree.specs.Replace.{WritesOne};
 ghost use Rattle.name_page.specs.declared.pages.TheConstants.{MOST_CHANGED, MOST_REACHED};
-ghost use Rattle.name_page.specs.Looks.{OnlyEdits, OnlyWalks};
+ghost use Rattle.name_page.specs.Looks.{ChangesPages, OnlyEdits, OnlyWalks};
 ghost use Rattle.name_page.specs.Pages.{changes, free_count, is_spare};
 ghost use Rattle.version_table.specs.Plan.{IsReady, keys_left, planned_entry, with_planned};
 ghost use Rattle.version_table.specs.Table.{MakesTable, OfTable};
@@ -78,6 +78,7 @@ pub fn take_out<T: Pages>(t: &mut T, key: &Key) -> Result<(), TreeFault>
     requires more { MOST_REACHED ≤ (T.step t.old).most_reached }
     requires changes { MOST_CHANGED ≤ changes (T.step t.old) }
     ensures calls { OnlyEdits T.Pages (outer_told result) t.old t.new }
+    ensures pages { ChangesPages (T.step t.old) (T.step t.new) }
     ensures kept { OnErr result (OnlyWalks T.Pages (outer_told result) t.old t.new) }
     ensures changes { changes (T.step t.old) ≤ changes (T.step t.new) + 8 }
     ensures taken { (page : ℕ) → is_spare (T.step t.old).spares page ≡ true → is_spare (T.step t.new).spares page ≡ true }
@@ -98,6 +99,7 @@ pub fn set_keep<T: Pages>(t: &mut T, version: &Entry, keep: u32) -> Result<(), T
     requires fits { FitsEntry version.now }
     requires there { OfTable T.Pages t.old t.old (λ table. entry_of version.now.key table ≡ Some version.now) }
     ensures calls { OnlyEdits T.Pages (outer_told result) t.old t.new }
+    ensures pages { ChangesPages (T.step t.old) (T.step t.new) }
     ensures kept { OnErr result (OnlyWalks T.Pages (outer_told result) t.old t.new) }
     ensures among { 0 < length (T.step t.old).images → IfErr result (IsAmong (length (T.step t.old).images)) }
     ensures written { OnOk result (WritesOne T.Pages t.old t.new) }

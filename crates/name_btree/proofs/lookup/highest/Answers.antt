@@ -12,12 +12,12 @@ use Rattle.name_page.specs.Cut.{is_before}
 use Rattle.name_btree.specs.declared.descent.Neighbour.{Neighbour}
 use Rattle.name_page.specs.Looks.{Shows}
 use Rattle.name_page.proofs.LookLaws.{reaches_then, shows_trusted, agrees_before, agrees_now}
-use Rattle.name_btree.specs.Fault.{HasCause, BreaksBeside, BarsBeside, BarsTable}
+use Rattle.name_btree.specs.Fault.{HasCause, BreaksBeside, BarsBeside, BarsTable, IsBeside, ShowsCause}
 use Rattle.name_btree.specs.Descent.{IsPlace, EndsWith}
 use Rattle.name_page.specs.Lookups.{last_that, same_name}
 use Rattle.name_btree.proofs.HighestLaws.{highest_in_leaf, highest_at_start, highest_in_previous}
 use Rattle.std.proofs.lemmas.Result.{err_from_is_err_and}
-use Rattle.name_btree.proofs.VisitedLaws.{top_breaks, previous_breaks}
+use Rattle.name_btree.proofs.VisitedLaws.{shown_previous, shown_top, top_breaks, previous_breaks}
 use Rattle.name_btree.proofs.WithinLaws.{fails_among}
 use Rattle.name_btree.proofs.lookup.highest.Goals as goal
 
@@ -171,3 +171,20 @@ returns-in_err-last_below-in-Some-previous-clause-among g c = λ some.
     let s = g.T.Pages.step new in
     let same = c.in_err-last_below-in-Some-previous.ensures.calls.looks.count ∙ c.in_ok-found.ensures.calls.looks.count in
     fails_among c.from_residual-in_err-last_below-in-Some-previous.result s (BarsTable s) (length (g.T.Pages.step c.args.t.now).images) same some (returns-in_err-last_below-in-Some-previous-clause-fault g c)
+
+-- ---- whatever the other pages have
+
+pub returns-in_err-found-clause-shown : goal.returns-in_err-found-clause-shown
+returns-in_err-found-clause-shown g c =
+    let p = err_from_is_err_and c.from_residual.result c.from_residual.ensures.1 in
+    rw (p.1, p.2) (shown_top (g.T.Pages.step c.leaf_below.new.t) c.in_err-found.field-0.0 c.top.result c.top.ensures c.in_err-found.ensures.shown)
+
+pub returns-in_err-last_below-in-Some-previous-clause-shown : goal.returns-in_err-last_below-in-Some-previous-clause-shown
+returns-in_err-last_below-in-Some-previous-clause-shown g c =
+    let s = g.T.Pages.step c.last_below.new.t in
+    let fault = c.in_err-last_below-in-Some-previous.field-0.0 in
+    let kept = c.in_err-last_below-in-Some-previous.ensures in
+    let P : Neighbour → Type 0 = λ (n : Neighbour). ShowsCause s (λ pages. BreaksBeside pages n) (λ pages. IsBeside pages n) fault in
+    let h : P c.in-Some-previous.previous = subst P c.in-Some-previous.previous-is kept.shown in
+    let p = err_from_is_err_and c.from_residual-in_err-last_below-in-Some-previous.result c.from_residual-in_err-last_below-in-Some-previous.ensures.1 in
+    rw (p.1, p.2) (shown_previous (g.T.Pages.step c.leaf_below.new.t) s c.top.result c.in_ok-found.found c.top.ensures kept.calls.looks c.in_ok-found.ensures.beside c.in-Some-previous.previous c.in-Some-previous.is fault h)

@@ -1,8 +1,10 @@
-use Rattle.std.proofs.Common.{◌≡◌, ◌<◌, ◌-◌, length, arith}
+use Rattle.std.proofs.Common.{◌≡◌, ◌∙◌, ◌<◌, ◌-◌, Bool, List, false, length, ap, arith}
+use Rattle.name_page.specs.Pages.{is_spare}
+use Rattle.name_page.proofs.LookLaws.{agrees_at}
 use Rattle.name_btree.proofs.LookupLaws.{contains_at, stands_in}
 use Rattle.name_btree.proofs.NextLaws.{ends, empty_is, leaf_has_entries}
 use Rattle.std.proofs.lemmas.Result.{err_from_is_err_and}
-use Rattle.name_btree.proofs.VisitedLaws.{root_above, neighbour_breaks}
+use Rattle.name_btree.proofs.VisitedLaws.{root_above, neighbour_breaks, shown_beside}
 use Rattle.name_btree.proofs.lookup.last_below.Goals as goal
 
 pub returns-then-count-eq0-clause-fault : goal.returns-then-count-eq0-clause-fault
@@ -37,3 +39,19 @@ returns-clause-there g c =
 
 pub returns-clause-way : goal.returns-clause-way
 returns-clause-way g c = λ pages is there. c.in_ok-found.ensures.way pages is there.1
+
+-- ---- whatever the other pages have
+
+pub returns-then-count-eq0-clause-shown : goal.returns-then-count-eq0-clause-shown
+returns-then-count-eq0-clause-shown g c = λ pages agrees is.
+    let found = c.in_ok-found.found in
+    let s = g.T.Pages.step c.leaf_below.new.t in
+    let e = c.in_ok-found.ensures in
+    let used : is_spare s.spares found.page ≡ false = ap (λ (x : List Bool). is_spare x found.page) e.calls.looks.spares ∙ e.used in
+    let none : length found.entries ≡ 0 = omega arith in
+    absurd (leaf_has_entries pages found.page found.entries (agrees_at s pages found.page e.reached used agrees ∙ e.leaf) (root_above pages c.args.previous is) (empty_is found.entries none))
+
+pub returns-in_err-found-clause-shown : goal.returns-in_err-found-clause-shown
+returns-in_err-found-clause-shown g c =
+    let p = err_from_is_err_and c.from_residual.result c.from_residual.ensures.1 in
+    rw (p.1, p.2) (shown_beside (g.T.Pages.step c.leaf_below.new.t) c.in_err-found.field-0.0 c.args.previous c.in_err-found.ensures.shown)

@@ -1,8 +1,8 @@
 use Rattle.std.proofs.Common.{◌≡◌, ◌∙◌, ◌+◌, ◌≤◌, sym, ap, subst, length, List, ℕ, arith}
 use Rattle.name_page.specs.Pages.{Step, reaches, changes, is_spare}
 use Rattle.name_btree.proofs.CommitLaws.{commit_edits, commit_reaches, commit_changes, freed_spare}
-use Rattle.name_btree.proofs.DraftLaws.{committed_spares}
-use Rattle.name_page.proofs.LookLaws.{reaches_walks, walks_edits, edits_then, shows_trusted}
+use Rattle.name_btree.proofs.DraftLaws.{committed_spares, drafted_length}
+use Rattle.name_page.proofs.LookLaws.{looks_pages, pages_then, reaches_walks, walks_edits, walks_pages, edits_then, shows_trusted}
 use Rattle.name_btree.specs.Draft.{drafted, committed, freed, RemovesFrom}
 use Rattle.fsd_table.specs.Tree.{table_of}
 use Rattle.name_page.specs.Edits.{without}
@@ -13,6 +13,7 @@ use Rattle.name_btree.proofs.CauseLaws.{fails_by_map}
 use Rattle.name_btree.proofs.SearchLaws.{shown_tree}
 use Rattle.name_btree.proofs.TableLaws.{table_without}
 use Rattle.name_btree.proofs.WithinLaws.{among_since}
+use Rattle.name_btree.proofs.WrittenPages.{commit_pages}
 use Rattle.name_btree.proofs.removing.remove.Goals as goal
 
 pub returns-clause-reaches : goal.returns-clause-reaches
@@ -87,3 +88,18 @@ returns-in-Err-clause-fault g c =
 pub returns-in-Err-clause-among : goal.returns-in-Err-clause-among
 returns-in-Err-clause-among g c =
     among_since (length (g.T.Pages.step c.remove_in.new.t).images) (length (g.T.Pages.step c.args.t.now).images) c.fault_of.result c.in-Err.ensures.calls.looks.count c.fault_of.ensures.among
+
+-- what its pages have
+pub returns-clause-pages : goal.returns-clause-pages
+returns-clause-pages g c =
+    let old = g.T.Pages.step c.args.t.now in
+    let between = g.T.Pages.step c.remove_in.new.t in
+    let new = g.T.Pages.step c.commit.new.t in
+    let d = c.remove_in.new.draft in
+    let count : length new.images ≡ length between.images = ap (λ (images : List (List ℕ)). length images) c.commit.ensures.images ∙ drafted_length d.sheets.items between.images in
+    pages_then old between new count (looks_pages old between c.in_default.ensures.calls.looks) (commit_pages d.freed.items d.sheets.items between new c.in_default.ensures.draft.sheets c.commit.ensures.step)
+
+pub returns-in-Err-clause-pages : goal.returns-in-Err-clause-pages
+returns-in-Err-clause-pages g c =
+    let G = g.T.Pages in
+    walks_pages G c.args.t.now c.fault_of.new.t (c.fault_of.ensures.calls c.args.t.now (reaches_walks G c.args.t.now c.remove_in.new.t c.in-Err.ensures.calls))

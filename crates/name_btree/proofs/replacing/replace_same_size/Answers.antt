@@ -3,7 +3,7 @@ use Rattle.fsd_bytes.specs.declared.key.Key.{Key}
 use Rattle.fsd_formats.specs.declared.entry.Entry.{Entry}
 use Rattle.fsd_formats.specs.NamePage.{Leaf, is_page}
 use Rattle.fsd_table.specs.declared.child.Child.{Child}
-use Rattle.name_page.proofs.LookLaws.{reaches_walks, walks_edits, shows_trusted}
+use Rattle.name_page.proofs.LookLaws.{looks_pages, pages_then, reaches_walks, walks_edits, walks_pages, shows_trusted}
 use Rattle.name_page.specs.declared.cut.Cut.TheVariants.{UpTo}
 use Rattle.name_page.specs.Cut.{is_before}
 use Rattle.name_btree.specs.Descent.{IsPlace}
@@ -16,6 +16,7 @@ use Rattle.name_btree.proofs.ReplaceLaws.{few_in_leaf, put_is_page, not_in_tree}
 use Rattle.name_btree.proofs.SearchLaws.{fails_tree}
 use Rattle.name_btree.proofs.VisitedLaws.{top_breaks}
 use Rattle.name_btree.proofs.WithinLaws.{among_since}
+use Rattle.name_btree.proofs.WrittenPages.{written_count, written_pages}
 use Rattle.name_btree.proofs.replacing.replace_same_size.Goals as goal
 
 pub put_among-list-requires-clause-few : goal.put_among-list-requires-clause-few
@@ -27,6 +28,9 @@ put_leaf-requires-clause-accepted g c =
     let same : c.as_slice.result.now ≡ map _ found.entries = c.as_slice.ensures.value ∙ c.put_among-list.ensures.put in
     ap (λ (xs : List Entry). is_page found.page 0 (Leaf xs)) same
     ∙ put_is_page (g.T.Pages.step c.leaf_below.new.t).images found.page c.args.entry.now found.entries c.in-Ok.ensures.leaf c.requires.entry (c.has_as_long.ensures.long c.if-not-has_as_long.false)
+
+pub returns-in-Err-clause-kept : goal.returns-in-Err-clause-kept
+returns-in-Err-clause-kept g c = c.fault_of.ensures.calls c.args.t.now (reaches_walks g.T.Pages c.args.t.now c.leaf_below.new.t c.in-Err.ensures.calls)
 
 pub returns-in-Err-clause-calls : goal.returns-in-Err-clause-calls
 returns-in-Err-clause-calls g c =
@@ -122,3 +126,24 @@ pub returns-then-not-has_as_long-clause-among : goal.returns-then-not-has_as_lon
 returns-then-not-has_as_long-clause-among g c =
     let f = c.fault_of-then-not-has_as_long in
     among_since (length (g.T.Pages.step c.leaf_below.new.t).images) (length (g.T.Pages.step c.args.t.now).images) f.result c.in-Ok.ensures.calls.looks.count f.ensures.among
+
+-- ---- what its pages have
+
+pub returns-clause-pages : goal.returns-clause-pages
+returns-clause-pages g c =
+    let old = g.T.Pages.step c.args.t.now in
+    let mid = g.T.Pages.step c.leaf_below.new.t in
+    let new = g.T.Pages.step c.put_leaf.new.t in
+    let written = c.put_leaf.ensures.written in
+    pages_then old mid new (written_count mid new c.in-Ok.found.page _ written) (looks_pages old mid c.in-Ok.ensures.calls.looks) (written_pages mid new c.in-Ok.found.page _ written c.in-Ok.ensures.reached.0)
+
+pub returns-in-Err-clause-pages : goal.returns-in-Err-clause-pages
+returns-in-Err-clause-pages g c =
+    let G = g.T.Pages in
+    walks_pages G c.args.t.now c.fault_of.new.t (c.fault_of.ensures.calls c.args.t.now (reaches_walks G c.args.t.now c.leaf_below.new.t c.in-Err.ensures.calls))
+
+pub returns-then-not-has_as_long-clause-pages : goal.returns-then-not-has_as_long-clause-pages
+returns-then-not-has_as_long-clause-pages g c =
+    let G = g.T.Pages in
+    let new = c.fault_of-then-not-has_as_long.new.t in
+    walks_pages G c.args.t.now new (c.fault_of-then-not-has_as_long.ensures.calls c.args.t.now (reaches_walks G c.args.t.now c.leaf_below.new.t c.in-Ok.ensures.calls))

@@ -5,7 +5,7 @@ use Rattle.fsd_table.specs.Tree.{table_of}
 use Rattle.name_btree.specs.Replace.{HasAsLong}
 use Rattle.name_page.specs.Edits.{put}
 use Rattle.version_table.proofs.EnterLaws.{as_long, copy_kept, on_ok}
-use Rattle.version_table.proofs.StepLaws.{for_rested, makes_rested, tree_ascends}
+use Rattle.version_table.proofs.StepLaws.{rested_pages, for_rested, makes_rested, tree_ascends}
 use Rattle.version_table.proofs.editing.set_keep.Goals as goal
 
 pub replace_same_size-requires-clause-present : goal.replace_same_size-requires-clause-present
@@ -31,3 +31,8 @@ returns-clause-set g c =
     on_ok c.replace_same_size.result (makes_rested P a b c.replace_same_size.new.t c.rest.ensures.step (entries_with_keep version.key keep) (map (put (record copy { keep = keep })))
     (λ height tree trusted. copy_kept version copy keep (table_of (P.step a).images height) c.copied-entry.ensures (tree_ascends (P.step a).images height tree)
     (c.requires.there (g.met.T.Pages.trust a b None c.rest.ensures.outside (e.calls.trust trusted)) height tree))) e.replaced
+
+pub returns-clause-pages : goal.returns-clause-pages
+returns-clause-pages g c =
+    let step = g.T.Pages.step in
+    rested_pages (step c.args.t.now) (step c.rest.new.self) (step c.replace_same_size.new.t) c.rest.ensures.step c.replace_same_size.ensures.calls.count c.replace_same_size.ensures.pages

@@ -1,0 +1,79 @@
+-- What the pages that are changed have, once a page or a draft is written.
+use Rattle.std.proofs.Common.{◌≡◌, ◌⊎◌, inl, inr, ℕ, ◌<◌, ◌≤◌, Bool, true, false, cond, List, [], ◌∷◌, ◌++◌, length, Option, Some, None, refl, sym, ap, subst, ◌∙◌, arith, length-set}
+use Rattle.std.specs.Prelude.{IsSome, slice_get, slice_set, ◌==◌}
+use Rattle.std.specs.List.{AllByRecursion}
+use Rattle.std.proofs.lemmas.Bool.{eqb-true, eqb-false, or_cases}
+use Rattle.std.proofs.lemmas.List.Folds.{list_any-append}
+use Rattle.fsd_formats.specs.NamePage.{Content, read_page}
+use Rattle.fsd_table.specs.Pages.{page_at}
+use Rattle.name_page.specs.Looks.{ChangesPages, IsAccepted, IsAsChanged}
+use Rattle.name_page.specs.Pages.{Step, is_one_of, with_one, with_page, with_spare}
+use Rattle.name_page.proofs.LookLaws.{pages_same, pages_then}
+use Rattle.name_btree.specs.declared.draft.Sheet.{Sheet}
+use Rattle.name_btree.specs.Draft.{AreSheets, IsSheet, committed, freed}
+use Rattle.name_btree.specs.Replace.{IsWritten}
+use Rattle.name_btree.proofs.CommitLaws.{freed_changed}
+use Rattle.name_btree.proofs.DraftLaws.{committed_images, drafted_length, freed_images}
+use Rattle.name_btree.proofs.SetLaws.{set_at, set_other}
+
+-- ---- one page
+
+one_more : (pages : List ℕ) (page q : ℕ) → is_one_of (with_one pages page) q ≡ true → (is_one_of pages q ≡ true) ⊎ (page ≡ q)
+one_more pages page q there = by (is_one_of pages page) there
+  where
+    by : (b : Bool) → is_one_of (cond b pages (pages ++ page ∷ [])) q ≡ true → (is_one_of pages q ≡ true) ⊎ (page ≡ q)
+    by true here = inl here
+    by false here = elim (or_cases (is_one_of pages q) (is_one_of (page ∷ []) q) (sym (list_any-append (λ t. t == q) pages (page ∷ [])) ∙ here)) [
+      | inl old ↦ inl old
+      | inr new ↦ elim (or_cases (page == q) false new) [
+        | inl same ↦ inr (eqb-true page q same)
+        | inr none ↦ absurd (cc none)
+      ]
+    ]
+
+set_pages : (s : Step) (page : ℕ) (bytes : List ℕ) → page < length s.images → IsSome (page_at (slice_set s.images page bytes) page) → ChangesPages s (with_page page bytes s)
+set_pages s page bytes lt accepted = record { each = λ q is. by q (page == q) refl is }
+  where
+    read : (q : ℕ) → page ≡ q → IsSome (page_at (slice_set s.images page bytes) q)
+    read q same = subst (λ (n : ℕ). IsSome (page_at (slice_set s.images page bytes) n)) same accepted
+
+    by : (q : ℕ) (b : Bool) → (page == q) ≡ b → is_one_of (with_one s.changed page) q ≡ true → IsAsChanged s (with_page page bytes s) q ⊎ IsAccepted (with_page page bytes s) q
+    by q true e is = let same = eqb-true page q e in inr (record { there = omega (arith, lt, same, length-set s.images page bytes); accepted = read q same })
+    by q false e is = elim (one_more s.changed page q is) [
+      | inl was ↦ inl (record { was = was; same = set_other s.images page q bytes (λ same. eqb-false page q e (sym same)) })
+      | inr same ↦ absurd (eqb-false page q e same)
+    ]
+
+-- a page that has content now
+pub written_pages : (old new : Step) (page : ℕ) (x : Content) → IsWritten old new page x → page < length old.images → ChangesPages old new
+written_pages old new page x is lt =
+    let images : new.images ≡ slice_set old.images page is.bytes = ap (λ (s : Step). s.images) is.step in
+    subst (ChangesPages old) (sym is.step) (set_pages old page is.bytes lt (subst (λ (o : Option Content). IsSome o) (sym (ap (λ (pages : List (List ℕ)). page_at pages page) (sym images) ∙ is.content)) refl))
+
+pub written_count : (old new : Step) (page : ℕ) (x : Content) → IsWritten old new page x → length new.images ≡ length old.images
+written_count old new page x is = ap (λ (s : Step). length s.images) is.step ∙ length-set old.images page is.bytes
+
+-- ---- a draft
+
+committed_size : (sheets : List Sheet) (s : Step) → length (committed sheets s).images ≡ length s.images
+committed_size sheets s = ap (λ (images : List (List ℕ)). length images) (committed_images sheets s) ∙ drafted_length sheets s.images
+
+committed_pages : (sheets : List Sheet) (s : Step) → AllByRecursion (λ x. (x.page < length s.images) × IsSome (read_page x.page (length s.images) x.image)) sheets → ChangesPages s (committed sheets s)
+committed_pages [] s all = pages_same s s refl refl (λ page lt is. refl)
+committed_pages (x ∷ sheets) s all =
+    let next : Step = with_page x.page x.image s in
+    let count : length next.images ≡ length s.images = length-set s.images x.page x.image in
+    let one : ChangesPages s next = set_pages s x.page x.image all.0.0 (subst (λ (o : Option Content). IsSome o) (sym (set_at s.images x.page x.image all.0.0)) all.0.1) in
+    pages_then s next (committed sheets next) (committed_size sheets next) one
+    (committed_pages sheets next (subst (λ (n : ℕ). AllByRecursion (λ (y : Sheet). (y.page < n) × IsSome (read_page y.page n y.image)) sheets) (sym count) all.1))
+
+accepted_sheets : (s : Step) (sheets : List Sheet) → AreSheets s sheets → AllByRecursion (λ (x : Sheet). (x.page < length s.images) × IsSome (read_page x.page (length s.images) x.image)) sheets
+accepted_sheets s [] all = tt
+accepted_sheets s (x ∷ sheets) all = ((all.0.reached.0, all.0.accepted), accepted_sheets s sheets all.1)
+
+pub commit_pages : (pages : List ℕ) (sheets : List Sheet) (s t : Step) → AreSheets s sheets → t ≡ freed pages (committed sheets s) → ChangesPages s t
+commit_pages pages sheets s t all is =
+    let done : Step = committed sheets s in
+    subst (ChangesPages s) (sym is)
+    (pages_then s done (freed pages done) (ap (λ (images : List (List ℕ)). length images) (freed_images pages done)) (committed_pages sheets s (accepted_sheets s sheets all))
+    (pages_same done (freed pages done) (ap (λ (images : List (List ℕ)). length images) (freed_images pages done)) (freed_changed pages done) (λ page lt is. ap (λ (images : List (List ℕ)). slice_get images page) (freed_images pages done))))
