@@ -1,15 +1,15 @@
 -- What a mount finds, why it is refused, and what it leaves.
-use Rattle.std.specs.Prelude.{◌≡◌, ◌⊎◌, ⊤, ℕ, ◌+◌, ◌*◌, ◌≤◌, ◌==◌, ◌||◌, List, [], ◌∷◌, ◌++◌, take, Some, None, IsFalse, Result, Ok, Err}
+use Rattle.std.specs.Prelude.{◌≡◌, ◌⊎◌, ⊤, ℕ, ◌+◌, ◌*◌, ◌≤◌, Bool, ◌||◌, List, [], ◌∷◌, ◌++◌, take, Some, None, Result, Ok, Err}
 use Rattle.volume_layout.specs.declared.layout.Layout.{Layout}
 use Rattle.volume_layout.specs.Layout.{home_a, plan}
 use Rattle.fsd_formats.specs.declared.anchor.Anchor.{Anchor}
 use Rattle.sector_disk.specs.declared.sector.WeakRun.{WeakRun}
-use Rattle.sector_disk.specs.Image.{IsWorn, in_run, open_damage, sector_at}
+use Rattle.sector_disk.specs.Image.{IsWorn, in_run, open_damage}
 use Rattle.sector_disk.specs.Machine.{Ledger, Moment, Wears}
 use Rattle.fsd_log.specs.Scan.{Placed}
 use Rattle.fsd_table.specs.Breaks.{Breaks}
 use Rattle.fsd_table.specs.Table.{told_in}
-use Rattle.fsd_files.specs.Disk.{Image, Sectors, SectorWorn}
+use Rattle.fsd_files.specs.Disk.{Image}
 use Rattle.fsd_files.specs.Files.{Change}
 use Rattle.fsd_sound.specs.Anchors.{anchor_of}
 use Rattle.fsd_sound.specs.Homes.{home_of}
@@ -19,9 +19,10 @@ use Rattle.fsd_sound.specs.Sound.{EndIn, IsPrefixOf, IsSound, weak_of}
 use Rattle.fsd_sound.specs.declared.fault.MountFault.{MountFault}
 use Rattle.fsd_sound.specs.declared.fault.MountFault.TheVariants.{Device, Memory, NoAnchor, NotVolume, Unsound, WornOut}
 use Rattle.fsd_sound.specs.Lost.{LosesShown}
+use Rattle.fsd_sound.specs.Writes.{WritesAsMount}
 use Rattle.fsd_sound.specs.Mounting.{HasNextEpoch, HasRoot, IsVolume, RefusedFor, last_epoch}
 use Rattle.fsd_runs.specs.Leaves.{RaisesEpoch}
-use Rattle.volume_contract.specs.State.{Fits, Known, Stands, State, force_writes}
+use Rattle.volume_contract.specs.State.{Fits, Known, Stands, State}
 
 -- ---- over any machine
 
@@ -56,35 +57,24 @@ KeepsAll NoAnchor old new = Wears old new
 KeepsAll WornOut old new = Wears old new
 KeepsAll fault old new = ⊤
 
--- ---- where a mount writes: the roots beside what a force writes
-
-abbrev pub mount_writes : Layout → Sectors
-mount_writes l s = (s == 0) || (s == 4) || force_writes l s
-
--- nothing is written but there, by a root of the image
-pub record KeepsRest (sectors : ℕ) (old new : Moment) : Type 0 where
-  pub layout : Layout
-  pub root : HasRoot sectors old.image layout
-  pub rest : (s : ℕ) → IsFalse (mount_writes layout s) → SectorWorn (open_damage old.windows s || open_damage new.windows s) (sector_at old.image s) (sector_at new.image s)
-
-abbrev pub MountKeeps : ℕ → Moment → Moment → Type 0
-MountKeeps sectors old new = Wears old new ⊎ KeepsRest sectors old new
-
 -- ---- unsound tables
 
 -- a page of these at this home breaks the table
 abbrev pub BreaksAt : Layout → List (List ℕ) → ℕ → Type 0
 BreaksAt l pages s = (page : ℕ) × (s ≡ home_a l page) × Breaks l pages page
 
--- The pages were read at home, from an image that may be worn to this one, and one of them breaks the table.
+-- these are the pages at home, however these sectors of the image wear
+abbrev pub ReadAlike : Layout → (weak : ℕ → Bool) → Image → List (List ℕ) → Type 0
+ReadAlike l weak seen pages = (i : Image) → IsWorn weak seen i → each_of (home_of l i) (all_pages l) ≡ Some pages
+
+-- The table was read at home, from an image that may be worn to this one. Where each page reads alike there however the open window
+-- wears it, one of these pages breaks the table, and this is its first home.
 pub record IsUnsoundAt (sectors : ℕ) (old new : Moment) (s : ℕ) : Type 0 where
   pub layout : Layout
   pub root : HasRoot sectors old.image layout
   pub seen : Image
   pub to : IsWorn (open_damage new.windows) seen new.image
-  pub pages : List (List ℕ)
-  pub at_home : each_of (home_of layout seen) (all_pages layout) ≡ Some pages
-  pub breaks : BreaksAt layout pages s
+  pub breaks : (pages : List (List ℕ)) → ReadAlike layout (open_damage new.windows) seen pages → BreaksAt layout pages s
 
 abbrev pub UnsoundFor : ℕ → (old new : Moment) → MountFault → Type 0
 UnsoundFor sectors old new (Unsound s) = IsUnsoundAt sectors old new s
@@ -122,10 +112,6 @@ pub record IsSoundAt (sectors : ℕ) (l : Layout) (windows : List WeakRun) (h : 
   pub fits : l.sectors ≤ sectors
   pub ends : EndIn now.windows windows
   pub sound : IsSound l windows h f now.image
-
--- nothing is written but where a mount writes; the rest may be worn there
-abbrev pub WritesAsMount : Layout → Sectors → Moment → Moment → Type 0
-WritesAsMount l weak old left = (s : ℕ) → IsFalse (mount_writes l s) → SectorWorn (weak s) (sector_at old.image s) (sector_at left.image s)
 
 -- Before it settles: the present window is as it was, and the disk is sound as it was.
 pub record SoundBefore (l : Layout) (windows : List WeakRun) (h : List Change) (f : ℕ) (old left : Moment) : Type 0 where

@@ -4,7 +4,7 @@ use Rattle.fsd_bytes.specs.declared.key.Serial.{Serial}
 use Rattle.fsd_bytes.specs.declared.refusal.Refusal.{Refusal}
 use Rattle.fsd_bytes.specs.declared.refusal.Refusal.TheVariants as Why
 use Rattle.volume_layout.specs.declared.layout.Layout.{Layout}
-use Rattle.volume_layout.specs.Layout.{data_start, home_a, third_start}
+use Rattle.volume_layout.specs.Layout.{data_start, third_start}
 use Rattle.run_table.specs.declared.run.Run.{Run}
 use Rattle.run_table.specs.RunTable.{sectors_of}
 use Rattle.run_table.specs.Space.{contains, pick, where_free}
@@ -20,7 +20,8 @@ use Rattle.fsd_files.specs.Volume.{Volume, forced, free_runs, pages_free, waits}
 use Rattle.fsd_sound.specs.Anchors.{fresh_anchor}
 use Rattle.fsd_sound.specs.Mounted.{Mounted, IsMounted, most_waiting}
 use Rattle.fsd_sound.specs.Shown.{records_by}
-use Rattle.fsd_sound.specs.Sound.{EndIn, IsSound, is_home}
+use Rattle.fsd_sound.specs.Sound.{EndIn, IsSound}
+use Rattle.fsd_sound.specs.Writes.{force_writes}
 use Rattle.log_thirds.specs.declared.slots.Slot.{Slot}
 use Rattle.log_thirds.specs.Slots.{lies_in}
 use Rattle.fsd_runs.specs.Runs.{last_count}
@@ -187,10 +188,6 @@ pub record Ages (old new : Moment) : Type 0 where
   pub windows : new.windows ≡ old.windows
 
 -- ---- what a stop leaves
-
--- whether a force writes there: the anchors, the log, the homes
-abbrev pub force_writes : Layout → Sectors
-force_writes l s = (s == 8) || (s == 12) || nat_le 16 s && nat_lt s (home_a l 0) || is_home l s
 
 -- The disk is sound for the changes of before, with all that were forced before: a call forces no change of its own.
 pub record LeavesSound (k : Known) (may : Sectors) (old left : Moment) : Type 0 where
