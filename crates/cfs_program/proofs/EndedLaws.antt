@@ -18,33 +18,24 @@ use Rattle.fsd_texts.specs.Text.{fault_text}
 use Rattle.fsd_runs.specs.declared.request.Request.{Request}
 use Rattle.fsd_runs.specs.Errands.{blank, fault_status}
 use Rattle.fsd_runs.specs.Leaves.{IsBroken, IsOutside, IsSpent, IsUnsaid, LeavesRun, LeftBefore, MayEnd, SaysFault}
-use Rattle.volume_turns.specs.Status.{IsOneStatus}
+use Rattle.volume_turns.specs.Status.{IsStatusBroken}
 use Rattle.cfs_program.specs.Ending.{EndsAs, IsStatusAs, IsTextFor, UttersLine, is_unsaid}
 use Rattle.cfs_program.specs.Opening.{IsSoundDisk}
 use Rattle.cfs_program.proofs.OpeningLaws.{left_start, left_worn}
 
-pub failed_status : (status : ℕ) → IsStatusAs 4 status → IsOneStatus status
-failed_status status (inl four) = inr (inl (Ends.Device 0, tt, four))
-failed_status status (inr (inl seven)) = inr (inl (Ends.Memory, tt, seven))
-failed_status status (inr (inr six)) = inr (inr six)
+pub failed_status : (status : ℕ) → IsStatusAs 4 status → IsStatusBroken status
+failed_status status (inl four) = inl (Ends.Device 0, tt, four)
+failed_status status (inr (inl seven)) = inl (Ends.Memory, tt, seven)
+failed_status status (inr (inr six)) = inr six
 
 says_fault : (why : Fault) → MayEnd why → (said : List ℕ) (heard : ℕ) → IsTextFor (Lines.Ended why) said → SaysFault (take heard said)
 says_fault why may said heard (inl is) = (why, heard, may, ap (take heard) is)
 says_fault why may said heard (inr is) = (Ends.Memory, heard, tt, ap (take heard) is)
 
 module _ {D : Type 0} (M : Ghosts D) (request : Request) (input rest : List ℕ) (l : Layout) (windows : List WeakRun) (h : List Change) (f : ℕ) (a b c : D) (why : Fault) (may : MayEnd why) (status : ℕ)
-    (sound : IsSoundDisk l windows h f (M.now a)) (short : AreShort (M.now a).windows) (only : (left : Moment) → M.left_since a (M.moment a) left → left ≡ M.now a)
-    (time : Elapses (M.moment a) (M.moment b) (M.left_since a) (M.left_since b) (Before (M.now a) (M.now b))) (worn : Wears (M.now a) (M.now b))
+    (sound : IsSoundDisk l windows h f (M.now a)) (short : AreShort (M.now a).windows) (first : LeavesOnly M.moment M.left_since a b (LeftBefore l windows h f (M.now a))) (worn : Wears (M.now a) (M.now b))
     (says : LeavesDisk M false (is_unsaid status) (UttersLine (Lines.Ended why)) b c) (honest : M.honest c) (ends : (status ≡ 6) ⊎ EndsAs (Lines.Ended why) (fault_status why) (M.now b) (M.now c) status)
     (out : IsOutside request (M.report a) (M.report c) why) (later : (M.report a).output_faults ≤ (M.report b).output_faults) where
-  before : (left : Moment) → Before (M.now a) (M.now b) left → LeftBefore l windows h f (M.now a) left
-  before left (inl wears) = left_worn l windows h f (M.now a) sound short left wears
-  before left (inr is) = subst (λ (m : Moment). LeftBefore l windows h f (M.now a) m) (sym is) (left_worn l windows h f (M.now a) sound short (M.now b) worn)
-
-  first : LeavesOnly M.moment M.left_since a b (LeftBefore l windows h f (M.now a))
-  first = goes_on M.moment M.left_since a a b (LeftBefore l windows h f (M.now a)) (Before (M.now a) (M.now b))
-      (started M.moment M.left_since a (M.now a) (LeftBefore l windows h f (M.now a)) only (left_start l windows h f (M.now a) sound short)) time before
-
   ends_in : EndIn (M.now b).windows windows
   ends_in = subst (λ (w : Windows). EndIn w windows) (sym worn.windows) sound.ends
 
@@ -73,10 +64,27 @@ module _ {D : Type 0} (M : Ghosts D) (request : Request) (input rest : List ℕ)
   ended (inr (inl (is, all))) = inr (inr (broken why out is all.said))
   ended (inr (inr (seven, all))) = inr (inr (broken Ends.Memory tt seven all.said))
 
-  pub ended_run : LeavesRun request input rest l windows h f (M.left_since c) (λ P. LeavesOnly M.moment M.left_since a c P) (M.report a) (M.report c) (M.now a) (M.now c) status
-  ended_run = inl (record {
+  pub ended_behind : LeavesRun request input rest l windows h f (M.left_since c) (λ P. LeavesOnly M.moment M.left_since a c P) (M.report a) (M.report c) (M.now a) (M.now c) status
+  ended_behind = inl (record {
     moments = then_on M.moment M.left_since a b c (LeftBefore l windows h f (M.now a)) first
         (leaves_more M.moment M.left_since b c (UttersLine (Lines.Ended why) (M.now b)) (LeftBefore l windows h f (M.now a)) saying (says.any_moment honest));
     exit = saying (M.now c) (says.exit honest);
     ends = ended ends;
   })
+
+module _ {D : Type 0} (M : Ghosts D) (request : Request) (input rest : List ℕ) (l : Layout) (windows : List WeakRun) (h : List Change) (f : ℕ) (a b c : D) (why : Fault) (may : MayEnd why) (status : ℕ)
+    (sound : IsSoundDisk l windows h f (M.now a)) (short : AreShort (M.now a).windows) where
+  -- by an attach that failed
+  pub ended_run : (only : (left : Moment) → M.left_since a (M.moment a) left → left ≡ M.now a) → Elapses (M.moment a) (M.moment b) (M.left_since a) (M.left_since b) (Before (M.now a) (M.now b)) → Wears (M.now a) (M.now b)
+      → LeavesDisk M false (is_unsaid status) (UttersLine (Lines.Ended why)) b c → M.honest c → (status ≡ 6) ⊎ EndsAs (Lines.Ended why) (fault_status why) (M.now b) (M.now c) status
+      → IsOutside request (M.report a) (M.report c) why → (M.report a).output_faults ≤ (M.report b).output_faults
+      → LeavesRun request input rest l windows h f (M.left_since c) (λ P. LeavesOnly M.moment M.left_since a c P) (M.report a) (M.report c) (M.now a) (M.now c) status
+  ended_run only time worn = ended_behind M request input rest l windows h f a b c why may status sound short first worn
+    where
+      before : (left : Moment) → Before (M.now a) (M.now b) left → LeftBefore l windows h f (M.now a) left
+      before left (inl wears) = left_worn l windows h f (M.now a) sound short left wears
+      before left (inr is) = subst (λ (m : Moment). LeftBefore l windows h f (M.now a) m) (sym is) (left_worn l windows h f (M.now a) sound short (M.now b) worn)
+
+      first : LeavesOnly M.moment M.left_since a b (LeftBefore l windows h f (M.now a))
+      first = goes_on M.moment M.left_since a a b (LeftBefore l windows h f (M.now a)) (Before (M.now a) (M.now b))
+          (started M.moment M.left_since a (M.now a) (LeftBefore l windows h f (M.now a)) only (left_start l windows h f (M.now a) sound short)) time before

@@ -1,5 +1,10 @@
+mod AmongLaws
 mod AnchorLaws
 mod EndedLaws
+mod ForcedLaws
 mod FormatLaws
+mod InputLaws
+mod LongerLaws
 mod OpeningLaws
 mod ProgramLaws
+mod PutLaws

@@ -6,13 +6,13 @@ use Rattle.volume_layout.specs.declared.layout.Layout.{Layout}
 use Rattle.volume_layout.proofs.RootLaws.{planned_bounds}
 use Rattle.sector_disk.specs.declared.machine.Machine.{Ghosts}
 use Rattle.sector_disk.specs.declared.sector.WeakRun.{WeakRun}
-use Rattle.sector_disk.specs.Image.{AreShort, Windows, open_damage}
+use Rattle.sector_disk.specs.Image.{AreShort, IsWorn, Windows, open_damage}
 use Rattle.sector_disk.specs.Machine.{Before, Elapses, Finds, LeavesOnly, Moment, Report, Rose, Wears}
 use Rattle.sector_disk.proofs.Moments.{goes_on, leaves_more, started, then_on}
 use Rattle.sector_disk.proofs.Wear.{worn_trans}
 use Rattle.fsd_files.specs.Files.{Change}
 use Rattle.fsd_files.specs.Disk.{in_runs}
-use Rattle.fsd_sound.specs.Sound.{weak_of}
+use Rattle.fsd_sound.specs.Sound.{EndIn, weak_of}
 use Rattle.fsd_sound.proofs.MoreLaws.{wear_sound}
 use Rattle.fsd_sound.proofs.WindowLaws.{open_is_weak}
 use Rattle.fsd_texts.specs.declared.fault.Fault.{Fault}
@@ -46,6 +46,18 @@ cause_on : (cut : Cut) (input rest : List ℕ) (a b c : Report) → SameFaults a
 cause_on (Some (k, Ends.Input)) input rest a b c same cause = record { rose = rose_on a.input_faults b.input_faults c.input_faults same.input cause.rose; taken = cause.taken; all = cause.all; commands = cause.commands }
 cause_on cut input rest a b c same cause = tt
 
+-- An image is found as it was but worn, with its present window, and nothing is said.
+pub record Keeps (old at : Moment) : Type 0 where
+  pub image : IsWorn (open_damage old.windows) old.image at.image
+  pub present : at.windows.present ≡ old.windows.present
+  pub said : at.said ≡ old.said
+
+pub finds_keep : (old at : Moment) → Finds old at → Keeps old at
+finds_keep old at found = record { image = found.image; present = ap (λ (w : Windows). w.present) found.windows; said = found.said }
+
+pub wears_keep : (old at : Moment) → Wears old at → Keeps old at
+wears_keep old at worn = record { image = worn.image; present = ap (λ (w : Windows). w.present) worn.windows; said = worn.said }
+
 -- an image of a sound disk that was worn
 nothing_said : SaysFault []
 nothing_said = (Ends.Memory, 0, tt, refl)
@@ -63,14 +75,11 @@ module _ (l : Layout) (windows : List WeakRun) (h : List Change) (f : ℕ) (old 
     sound = wear_sound l windows h f old.windows old.image left.image short sound.ends worn.image sound.sound;
   }
 
-  -- the attach has found the image
-  module _ (at : Moment) (found : Finds old at) where
-    present : at.windows.present ≡ old.windows.present
-    present = ap (λ (w : Windows). w.present) found.windows
-
+  -- the image is found so
+  module _ (at : Moment) (found : Keeps old at) where
     pub left_found : LeftBefore l windows h f old at
     left_found = record {
-      present = present;
+      present = found.present;
       part = [];
       said = found.said ∙ sym (append-nil old.said);
       fault = nothing_said;
@@ -82,7 +91,7 @@ module _ (l : Layout) (windows : List WeakRun) (h : List Change) (f : ℕ) (old 
     left_attach left (inr is) = subst (λ (m : Moment). LeftBefore l windows h f old m) (sym is) left_found
 
     pub before_on : (left : Moment) → LeftBefore l windows h f at left → LeftBefore l windows h f old left
-    before_on left x = record { present = x.present ∙ present; part = x.part; said = x.said ∙ ap (λ (s : List ℕ). s ++ x.part) found.said; fault = x.fault; sound = x.sound }
+    before_on left x = record { present = x.present ∙ found.present; part = x.part; said = x.said ∙ ap (λ (s : List ℕ). s ++ x.part) found.said; fault = x.fault; sound = x.sound }
 
     pub since_on : (n : ℕ) (turns : List Turn) (left : Moment) → LeftSince l windows h n turns at left → LeftSince l windows h n turns old left
     since_on n turns left x = record {
@@ -108,7 +117,7 @@ module _ (l : Layout) (windows : List WeakRun) (h : List Change) (f : ℕ) (old 
         let long = left_found.sound.readable.roots.fits in record {
           planned = sound.planned;
           fits = omega (arith, size, most, long);
-          ends = record { last = sound.ends.last ∙ sym present; some = subst (λ (w : Option WeakRun). IsSome w) (sym present) sound.ends.some };
+          ends = record { last = sound.ends.last ∙ sym found.present; some = subst (λ (w : Option WeakRun). IsSome w) (sym found.present) sound.ends.some };
           sound = left_found.sound;
         }
 
@@ -137,19 +146,27 @@ module _ (l : Layout) (windows : List WeakRun) (h : List Change) (f : ℕ) (old 
       spent_or turns (inl x) = inl (spent_on new status x)
       spent_or turns (inr x) = inr (failed_on turns x)
 
+-- a sound disk that is worn
+pub sound_worn : (count : ℕ) (l : Layout) (windows : List WeakRun) (h : List Change) (f : ℕ) (old now : Moment) → AreShort old.windows → Wears old now → IsSoundAt count l windows h f old → IsSoundAt count l windows h f now
+sound_worn count l windows h f old now short worn at = record {
+  planned = at.planned;
+  fits = at.fits;
+  ends = subst (λ (w : Windows). EndIn w windows) (sym worn.windows) at.ends;
+  sound = wear_sound l windows h f old.windows old.image now.image short at.ends worn.image at.sound;
+}
+
+pub sound_disk : (count : ℕ) (l : Layout) (windows : List WeakRun) (h : List Change) (f : ℕ) (now : Moment) → IsSoundAt count l windows h f now → IsSoundDisk l windows h f now
+sound_disk count l windows h f now at = record { planned = at.planned; ends = at.ends; sound = at.sound }
+
 -- ---- the whole
 
 module _ {D : Type 0} (M : Ghosts D) (request : Request) (input rest : List ℕ) (l : Layout) (windows : List WeakRun) (h : List Change) (f : ℕ) (a b c : D) (status : ℕ)
-    (sound : IsSoundDisk l windows h f (M.now a)) (short : AreShort (M.now a).windows) (only : (left : Moment) → M.left_since a (M.moment a) left → left ≡ M.now a)
-    (time : Elapses (M.moment a) (M.moment b) (M.left_since a) (M.left_since b) (Before (M.now a) (M.now b))) (found : Finds (M.now a) (M.now b)) (same : SameFaults (M.report a) (M.report b)) where
-  attached : LeavesOnly M.moment M.left_since a b (LeftBefore l windows h f (M.now a))
-  attached = goes_on M.moment M.left_since a a b (LeftBefore l windows h f (M.now a)) (Before (M.now a) (M.now b))
-      (started M.moment M.left_since a (M.now a) (LeftBefore l windows h f (M.now a)) only (left_start l windows h f (M.now a) sound short)) time (left_attach l windows h f (M.now a) sound short (M.now b) found)
-
+    (sound : IsSoundDisk l windows h f (M.now a)) (short : AreShort (M.now a).windows)
+    (ahead : LeavesOnly M.moment M.left_since a b (LeftBefore l windows h f (M.now a))) (found : Keeps (M.now a) (M.now b)) (same : SameFaults (M.report a) (M.report b)) where
   opened_unmounted : LeavesUnmounted request l windows h f (λ P. LeavesOnly M.moment M.left_since b c P) (M.report b) (M.report c) (M.now b) (M.now c) status
       → LeavesUnmounted request l windows h f (λ P. LeavesOnly M.moment M.left_since a c P) (M.report a) (M.report c) (M.now a) (M.now c) status
   opened_unmounted u = record {
-    moments = then_on M.moment M.left_since a b c (LeftBefore l windows h f (M.now a)) attached
+    moments = then_on M.moment M.left_since a b c (LeftBefore l windows h f (M.now a)) ahead
         (leaves_more M.moment M.left_since b c (LeftBefore l windows h f (M.now b)) (LeftBefore l windows h f (M.now a)) (before_on l windows h f (M.now a) sound short (M.now b) found) u.moments);
     exit = before_on l windows h f (M.now a) sound short (M.now b) found (M.now c) u.exit;
     ends = spent_or l windows h f (M.now a) sound short (M.now b) found request (M.report a) (M.report b) (M.report c) same (M.now c) status _ u.ends;
@@ -191,14 +208,34 @@ module _ {D : Type 0} (M : Ghosts D) (request : Request) (input rest : List ℕ)
       run = run_is;
       cause = cause_on m.run.cut input rest (M.report a) (M.report b) (M.report c) same m.cause;
       moments = then_on M.moment M.left_since a b c (Left l windows h f m.count turns (M.now a))
-          (leaves_more M.moment M.left_since a b (LeftBefore l windows h f (M.now a)) (Left l windows h f m.count turns (M.now a)) (λ left x. inl x) attached)
+          (leaves_more M.moment M.left_since a b (LeftBefore l windows h f (M.now a)) (Left l windows h f m.count turns (M.now a)) (λ left x. inl x) ahead)
           (leaves_more M.moment M.left_since b c (Left l windows h f m.count turns (M.now b)) (Left l windows h f m.count turns (M.now a)) (left_on l windows h f (M.now a) sound short (M.now b) found m.count turns) m.moments);
       later = λ left was. since_on l windows h f (M.now a) sound short (M.now b) found m.count turns left (m.later left was);
       exit = since_on l windows h f (M.now a) sound short (M.now b) found m.count turns (M.now c) m.exit;
       ends = ends_on m.ends;
     }
 
-  pub opened_run : LeavesRun request input rest l windows h f (M.left_since c) (λ P. LeavesOnly M.moment M.left_since b c P) (M.report b) (M.report c) (M.now b) (M.now c) status
+  pub found_run : LeavesRun request input rest l windows h f (M.left_since c) (λ P. LeavesOnly M.moment M.left_since b c P) (M.report b) (M.report c) (M.now b) (M.now c) status
       → LeavesRun request input rest l windows h f (M.left_since c) (λ P. LeavesOnly M.moment M.left_since a c P) (M.report a) (M.report c) (M.now a) (M.now c) status
-  opened_run (inl u) = inl (opened_unmounted u)
-  opened_run (inr m) = inr (opened_mounted m)
+  found_run (inl u) = inl (opened_unmounted u)
+  found_run (inr m) = inr (opened_mounted m)
+
+module _ {D : Type 0} (M : Ghosts D) (request : Request) (input rest : List ℕ) (l : Layout) (windows : List WeakRun) (h : List Change) (f : ℕ) (a b c : D) (status : ℕ)
+    (sound : IsSoundDisk l windows h f (M.now a)) (short : AreShort (M.now a).windows) where
+  -- behind an attach
+  pub opened_run : (only : (left : Moment) → M.left_since a (M.moment a) left → left ≡ M.now a) → Elapses (M.moment a) (M.moment b) (M.left_since a) (M.left_since b) (Before (M.now a) (M.now b)) → Finds (M.now a) (M.now b) → SameFaults (M.report a) (M.report b)
+      → LeavesRun request input rest l windows h f (M.left_since c) (λ P. LeavesOnly M.moment M.left_since b c P) (M.report b) (M.report c) (M.now b) (M.now c) status
+      → LeavesRun request input rest l windows h f (M.left_since c) (λ P. LeavesOnly M.moment M.left_since a c P) (M.report a) (M.report c) (M.now a) (M.now c) status
+  opened_run only time found same =
+      let keeps = finds_keep (M.now a) (M.now b) found in
+      found_run M request input rest l windows h f a b c status sound short
+      (goes_on M.moment M.left_since a a b (LeftBefore l windows h f (M.now a)) (Before (M.now a) (M.now b))
+      (started M.moment M.left_since a (M.now a) (LeftBefore l windows h f (M.now a)) only (left_start l windows h f (M.now a) sound short)) time (left_attach l windows h f (M.now a) sound short (M.now b) keeps)) keeps same
+
+  -- behind calls that wear
+  pub worn_run : LeavesOnly M.moment M.left_since a b (Wears (M.now a)) → Wears (M.now a) (M.now b) → SameFaults (M.report a) (M.report b)
+      → LeavesRun request input rest l windows h f (M.left_since c) (λ P. LeavesOnly M.moment M.left_since b c P) (M.report b) (M.report c) (M.now b) (M.now c) status
+      → LeavesRun request input rest l windows h f (M.left_since c) (λ P. LeavesOnly M.moment M.left_since a c P) (M.report a) (M.report c) (M.now a) (M.now c) status
+  worn_run ahead worn same =
+      found_run M request input rest l windows h f a b c status sound short
+      (leaves_more M.moment M.left_since a b (Wears (M.now a)) (LeftBefore l windows h f (M.now a)) (left_worn l windows h f (M.now a) sound short) ahead) (wears_keep (M.now a) (M.now b) worn) same

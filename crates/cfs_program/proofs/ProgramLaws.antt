@@ -15,27 +15,22 @@ use Rattle.sector_disk.proofs.Holding.{wears_none}
 use Rattle.fsd_files.specs.Files.{Change}
 use Rattle.fsd_texts.specs.declared.bad_line.Cause.{Cause}
 use Rattle.fsd_texts.specs.declared.command.Command.{Command}
-use Rattle.fsd_texts.specs.declared.fault.Fault.{Fault}
 use Rattle.fsd_texts.specs.declared.fault.Fault.TheVariants as Ends
 use Rattle.fsd_texts.specs.declared.line.Line.{Line}
 use Rattle.fsd_texts.specs.declared.line.Line.TheVariants as Lines
 use Rattle.fsd_texts.specs.Text.{memory_text}
-use Rattle.fsd_files.specs.Replies.{Reply, Refused, DamagedAt}
 use Rattle.fsd_runs.specs.declared.request.Request.{Request}
 use Rattle.fsd_runs.specs.declared.request.Request.TheVariants.{Outside, BadField, Format, Put, One, Script, Generate}
-use Rattle.fsd_runs.specs.Errands.{IfMounts, fault_status, reply_status}
+use Rattle.fsd_runs.specs.Errands.{IfMounts}
 use Rattle.fsd_runs.specs.Leaves.{LeavesRun}
 use Rattle.volume_turns.specs.Status.{IsOneStatus}
-use Rattle.volume_turns.specs.Steps.{IsOfVolume}
 use Rattle.cfs_program.specs.Ending.{EndsAs, IsStatusAs, UttersLine, is_unsaid}
 use Rattle.cfs_program.specs.Formatting.{AsksAll, AsksAtMost, CountsFaults, IsFormatStatus, IsMadeBy, IsUntouched, SaysFormat, SparesUnplanned, format_status, plan_asks}
 use Rattle.cfs_program.specs.Opening.{IsSoundDisk, is_from_outside, mount_asks}
 use Rattle.cfs_program.specs.Program.{LeavesInput, Ran, SaysAnswer, SaysLine, SparesImage, complete_statuses, fault_statuses, field_line, input_for, is_one_of, plan_faults}
+use Rattle.cfs_program.proofs.AmongLaws.{command_complete, command_status, one_at}
 use Rattle.cfs_program.proofs.EndedLaws.{ended_run}
 use Rattle.cfs_program.proofs.FormatLaws.{untouched_by}
-
-one_at : (statuses : List ℕ) (n result : ℕ) → result ≡ n → IsTrue (is_one_of statuses n) → IsTrue (is_one_of statuses result)
-one_at statuses n result is has = subst (λ (x : ℕ). IsTrue (is_one_of statuses x)) (sym is) has
 
 -- ---- a line alone
 
@@ -251,44 +246,15 @@ ran_format M n t p path a b result status counts asks asked trust says made unto
 
 -- ---- one command
 
-abbrev one_all : List ℕ
-one_all = 0 ∷ 1 ∷ 3 ∷ 7 ∷ 8 ∷ 9 ∷ 4 ∷ 6 ∷ []
-
-reply_is : (reply : Reply) → IsTrue (is_one_of (0 ∷ 1 ∷ 3 ∷ 7 ∷ 8 ∷ 9 ∷ []) (reply_status reply)) × IsTrue (is_one_of one_all (reply_status reply))
-reply_is (Refused why) = (refl, refl)
-reply_is (DamagedAt key s) = (refl, refl)
-reply_is other = (refl, refl)
-
-fault_is : (why : Fault) → IsOfVolume why → IsTrue (is_one_of one_all (fault_status why)) × ((fault_status why ≡ 4 → ⊥) → IsTrue (is_one_of (0 ∷ 1 ∷ 3 ∷ 7 ∷ 8 ∷ 9 ∷ []) (fault_status why)))
-fault_is Ends.NotVolume of = (refl, λ disk. refl)
-fault_is (Ends.Lost x y) of = (refl, λ disk. refl)
-fault_is Ends.NoAnchor of = (refl, λ disk. refl)
-fault_is (Ends.Unsound s) of = (refl, λ disk. refl)
-fault_is (Ends.Device s) of = (refl, λ disk. absurd (disk refl))
-fault_is Ends.Input of = absurd of
-fault_is Ends.InputTooLong of = absurd of
-fault_is Ends.Memory of = (refl, λ disk. refl)
-fault_is Ends.WornOut of = (refl, λ disk. refl)
-
-command_status : (result : ℕ) → IsOneStatus result → IsTrue (is_one_of one_all result)
-command_status result (inl (reply, is)) = one_at one_all (reply_status reply) result is (reply_is reply).1
-command_status result (inr (inl (why, of, is))) = one_at one_all (fault_status why) result is (fault_is why of).0
-command_status result (inr (inr six)) = one_at one_all 6 result six refl
-
-command_complete : (result : ℕ) → IsOneStatus result → (result ≡ 4 → ⊥) → (result ≡ 6 → ⊥) → IsTrue (is_one_of (0 ∷ 1 ∷ 3 ∷ 7 ∷ 8 ∷ 9 ∷ []) result)
-command_complete result (inl (reply, is)) disk said = one_at (0 ∷ 1 ∷ 3 ∷ 7 ∷ 8 ∷ 9 ∷ []) (reply_status reply) result is (reply_is reply).0
-command_complete result (inr (inl (why, of, is))) disk said = one_at (0 ∷ 1 ∷ 3 ∷ 7 ∷ 8 ∷ 9 ∷ []) (fault_status why) result is ((fault_is why of).1 (λ four. disk (is ∙ four)))
-command_complete result (inr (inr six)) disk said = absurd (said six)
-
-pub ran_command : {D : Type 0} (M : Ghosts D) (c : Command) (path : List ℕ) (a b : D) (result : ℕ) → IsOneStatus result → CountsFaults (M.report a) (M.report b) result
+pub ran_command : {D : Type 0} (M : Ghosts D) (c : Command) (path : List ℕ) (a b : D) (result : ℕ) → IsOneStatus c result → CountsFaults (M.report a) (M.report b) result
     → (M.tells b → AsksAtMost (mount_asks path) (M.ledger a) (M.ledger b)) → (IsFalse (is_from_outside result) → M.tells b → AsksAll (mount_asks path) (M.ledger a) (M.ledger b))
     → Trusts (M.tells a) (M.tells b) (M.honest a) (M.honest b)
     → (M.honest b → (rest : List ℕ) (l : Layout) (windows : List WeakRun) (h : List Change) (f : ℕ) → IsSoundDisk l windows h f (M.now a) →
     LeavesRun (One c) [] rest l windows h f (M.left_since b) (λ P. LeavesOnly M.moment M.left_since a b P) (M.report a) (M.report b) (M.now a) (M.now b) result)
     → Ran M (One c) path a b result
 ran_command M c path a b result status counts asks asked trust leaves = record {
-  status = command_status result status;
-  complete = λ none. command_complete result status (λ four. none.disk (counts.disk four)) (λ six. none.output (counts.output six));
+  status = command_status c result status;
+  complete = λ none. command_complete c result status (λ four. none.disk (counts.disk four)) (λ six. none.output (counts.output six));
   device = counts.disk;
   output = counts.output;
   attaches = λ t. (asks t).attaches;

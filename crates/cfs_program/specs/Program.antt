@@ -17,14 +17,7 @@ use Rattle.fsd_runs.specs.declared.request.Request.TheVariants.{Outside, BadFiel
 use Rattle.fsd_runs.specs.Errands.{IfMounts}
 use Rattle.fsd_runs.specs.Leaves.{LeavesRun, NoneRose}
 use Rattle.cfs_program.specs.Formatting.{IsMadeBy, IsUntouched, SaysFormat, SparesUnplanned, format_status, plan_asks}
-use Rattle.cfs_program.specs.Opening.{IsSoundDisk, mount_asks}
-
--- the requests that take the input, or make commands up
-abbrev pub IsLonger : Request → Type 0
-IsLonger (Put name keep) = ⊤
-IsLonger Script = ⊤
-IsLonger (Generate seed count) = ⊤
-IsLonger request = ⊥
+use Rattle.cfs_program.specs.Opening.{AsksOrNot, IsSoundDisk, mount_asks}
 
 -- ---- statuses
 
@@ -62,10 +55,6 @@ asks_of Outside path = []
 asks_of (BadField cause) path = []
 asks_of (Format n t p) path = plan_asks (plan n t p) path
 asks_of request path = mount_asks path
-
--- all of them, or none
-abbrev pub AsksOrNot : List Asked → (old new : List Asked) → Type 0
-AsksOrNot asks old new = (new ≡ old ++ asks) ⊎ (new ≡ old)
 
 -- only a put and a script take input
 abbrev pub LeavesInput : Request → (old new : List ℕ) → Type 0

@@ -3,11 +3,20 @@
 
 mod ending;
 mod formatting;
+mod input;
+mod making;
 mod opening;
+mod putting;
 mod replies;
 mod run;
+mod scripting;
+mod words;
 
 pub use formatting::run_format;
+pub use making::run_made_up;
 pub use opening::run_command;
+pub use putting::run_input;
 pub use replies::{Alone, Scripted};
 pub use run::{run_out_of_memory, run_request};
+pub use scripting::run_commands;
+pub use words::run_words;

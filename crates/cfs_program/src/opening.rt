@@ -26,7 +26,7 @@ pub fn run_command<M: Machine, V: Files<M> + Drop>(
     path: &str,
     c: &Command,
 ) -> u8
-    ensures status { IsOneStatus result }
+    ensures status { IsOneStatus c.now result }
     ensures counts { CountsFaults (M.report m.old) (M.report m.new) result }
     ensures asks { M.tells m.new → AsksAtMost (mount_asks path.now) (M.ledger m.old) (M.ledger m.new) }
     ensures asked { IsFalse (is_from_outside result) → M.tells m.new → AsksAll (mount_asks path.now) (M.ledger m.old) (M.ledger m.new) }

@@ -1,39 +1,41 @@
 //! What the program does for a request.
-ghost use Rattle.std.specs.Prelude.{◌≡◌, ℕ, List, None, IfSome};
+ghost use Rattle.std.specs.Prelude.{◌≡◌, ℕ, List};
 ghost use Rattle.fsd_runs.specs.declared.request.Request.{Request as Asked};
-ghost use Rattle.cfs_program.specs.Program.{IsLonger, Ran, field_line};
+ghost use Rattle.cfs_program.specs.Program.{Ran, field_line};
 
 use crate::ending::end_with;
 use crate::formatting::run_format;
+use crate::making::run_made_up;
 use crate::opening::run_command;
+use crate::putting::run_input;
+use crate::scripting::run_commands;
 use fsd_runs::Request;
 use fsd_texts::{BadLine, Cause, Fault, Line};
 use sector_disk::Machine;
 use std::alloc::Global;
 use volume_contract::Files;
 
-/// Does what is asked for of the image at a path, says the reply, and gives the exit status. It is None of a request that takes the
-/// input or makes commands up: then it has done nothing.
+/// Does what is asked for of the image at a path, says the reply, and gives the exit status.
 pub fn run_request<M: Machine, V: Files<M> + Drop>(
     alloc: Global,
     m: &mut M,
     request: &Request,
     path: &str,
-) -> Option<u8>
-    ensures ran { IfSome result (λ status. Ran M.Machine request.now path.now m.old m.new status) }
-    ensures longer { result ≡ None → IsLonger request.now }
-    ensures idle { result ≡ None → m.new ≡ m.old }
+) -> u8
+    ensures { Ran M.Machine request.now path.now m.old m.new result }
 {
     match request {
-        Request::Outside => Some(end_with(alloc, m, &Line::Usage, 2)),
-        Request::BadField(cause) => Some(end_with(alloc, m, &field_line(*cause), 2)),
+        Request::Outside => end_with(alloc, m, &Line::Usage, 2),
+        Request::BadField(cause) => end_with(alloc, m, &field_line(*cause), 2),
         Request::Format {
             sectors,
             third,
             pages,
-        } => Some(run_format(alloc, m, path, *sectors, *third, *pages)),
-        Request::One(c) => Some(run_command::<M, V>(alloc, m, path, c)),
-        Request::Put { .. } | Request::Script | Request::Generate { .. } => None,
+        } => run_format(alloc, m, path, *sectors, *third, *pages),
+        Request::One(c) => run_command::<M, V>(alloc, m, path, c),
+        Request::Put { name, keep } => run_input::<M, V>(alloc, m, path, name, *keep),
+        Request::Script => run_commands::<M, V>(alloc, m, path),
+        Request::Generate { seed, count } => run_made_up::<M, V>(alloc, m, path, *seed, *count),
     }
 }
 

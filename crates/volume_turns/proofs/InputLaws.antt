@@ -37,7 +37,7 @@ use Rattle.volume_contract.specs.State.{State, Known, Leaves, Stands, volume_of}
 use Rattle.volume_turns.specs.declared.turns.End.TheVariants.{Fault as Stopped}
 use Rattle.volume_turns.specs.Line.{EndsWith, UttersFault, is_unsaid}
 use Rattle.volume_turns.specs.Once.{InClose, IsDone, close_fault}
-use Rattle.volume_turns.specs.Steps.{device_told}
+use Rattle.volume_turns.specs.Steps.{IsOfVolume, device_told}
 use Rattle.volume_turns.specs.Turns.{InRun, Told}
 use Rattle.volume_turns.specs.Whole.{EndsLast, Finishes, RunsOut, UttersLast}
 use Rattle.volume_turns.proofs.GroupEndLaws.{finishes_last}
@@ -131,9 +131,14 @@ module _ (name : List ℕ) (keep : Option ℕ) (input rest : List ℕ) (few : le
 -- ---- an input that is too long
 
 -- the place of the disk that a close's fault tells
-pub device_close : (why : Refusal) → IsDevice why → device_of why ≡ device_told (close_fault why)
-device_close (Why.Device s) is = refl
-device_close why is = absurd is
+pub device_close : (why : Refusal) → device_of why ≡ device_told (close_fault why)
+device_close (Why.Device s) = refl
+device_close why = refl
+
+pub close_of_volume : (why : Refusal) → IsOfVolume (close_fault why)
+close_of_volume (Why.Device s) = tt
+close_of_volume (Why.Lost x y) = tt
+close_of_volume why = tt
 
 module _ {S D : Type 0} (state : S → State) (has : S → Mounted → List Placed → Type 0) (M : Ghosts D) (name : List ℕ) (keep : Option ℕ) (input rest : List ℕ) (many : max_input < length input) (v : S) (a m b : D) (k : Known) (stands : Stands state has v k (M.now a))
     (may : ℕ → Bool) (fault : Option ℕ) (disk : WritesDisk M fault (Leaves state has v may) a m) (back : M.honest m) (honest : M.honest b) (short : AreShort (M.now m).windows) (status : ℕ) where

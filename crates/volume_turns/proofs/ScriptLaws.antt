@@ -1,7 +1,7 @@
 -- Commands that are read from the input, one after another.
 use Rattle.std.proofs.Common.{◌≡◌, ℕ, ◌≤◌, List, [], ◌∷◌, ◌++◌, take, Option, Some, None, refl, sym, ◌∙◌, ap, subst, arith, append_assoc, length-append}
 use Rattle.fsd_log.specs.Scan.{Placed}
-use Rattle.std.specs.Prelude.{Result, Ok, Err}
+use Rattle.std.specs.Prelude.{IfOk, Result, Ok, Err}
 use Rattle.std.proofs.lemmas.List.{length-take, take-append-drop}
 use Rattle.sector_disk.specs.declared.machine.Machine.{Ghosts}
 use Rattle.sector_disk.specs.Image.{AreShort, Windows, open_damage, IsWorn}
@@ -257,3 +257,14 @@ rose_then a b c None same rose = rose ∙ same
 rose_then a b c (Some Input) same rose = subst (λ (n : ℕ). Rose n c.input_faults) same rose
 rose_then a b c (Some (Ended end)) same rose = rose ∙ same
 rose_then a b c (Some WornOut) same rose = rose ∙ same
+
+-- the rest keeps the count of the input
+rose_on : (a b c : Report) (o : Option Stop) → RoseBy a b o → c.input_faults ≡ b.input_faults → RoseBy a c o
+rose_on a b c None rose same = same ∙ rose
+rose_on a b c (Some Input) rose same = subst (λ (n : ℕ). Rose a.input_faults n) (sym same) rose
+rose_on a b c (Some (Ended end)) rose same = same ∙ rose
+rose_on a b c (Some WornOut) rose same = same ∙ rose
+
+pub rose_forced : (a b c : Report) (stop : Stop) (r : Result Stop End) → RoseBy a b (Some stop) → c.input_faults ≡ b.input_faults → IfOk r (λ x. x ≡ stop) → IfOk r (λ x. RoseBy a c (Some x))
+rose_forced a b c stop (Ok x) rose same is = subst (λ (s : Stop). RoseBy a c (Some s)) (sym is) (rose_on a b c (Some stop) rose same)
+rose_forced a b c stop (Err end) rose same is = tt

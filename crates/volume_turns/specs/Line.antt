@@ -23,6 +23,10 @@ is_unsaid status = status == 6
 abbrev pub EndsWith : Fault → (old new : Moment) → ℕ → Type 0
 EndsWith why old new status = (status ≡ 6) ⊎ ((said : Fault) × IsSaidFor why said × (status ≡ fault_status said) × SaysAll (fault_text said) old new)
 
--- the status of this fault, or of refused memory, or of an output that failed
+-- this status, or that of refused memory, or of an output that failed
+abbrev pub IsStatusAs : ℕ → ℕ → Type 0
+IsStatusAs gives status = (status ≡ gives) ⊎ ((status ≡ 7) ⊎ (status ≡ 6))
+
+-- so it is of a fault
 abbrev pub IsStatusFor : Fault → ℕ → Type 0
-IsStatusFor why status = (status ≡ fault_status why) ⊎ ((status ≡ 7) ⊎ (status ≡ 6))
+IsStatusFor why status = IsStatusAs (fault_status why) status

@@ -1,5 +1,6 @@
 //! What a command answers.
-ghost use Rattle.std.specs.Prelude.{◌≡◌, IfErr};
+ghost use Rattle.std.specs.Prelude.{◌≡◌, IfErr, IfOk};
+ghost use Rattle.volume_turns.specs.declared.answer.Answer.TheVariants as Said;
 ghost use Rattle.volume_turns.specs.Steps.{IsOfVolume, ended_by, read_ended_by};
 
 use fsd_bytes::{Key, Refusal};
@@ -24,6 +25,7 @@ pub enum Answer {
 // A refusal is said, or ends the run.
 pub(crate) fn ended_by(why: Refusal) -> Result<Answer, Fault>
     ensures is { result ≡ ended_by why }
+    ensures said { IfOk result (λ a. a ≡ Said.Refused why) }
     ensures fault { IfErr result IsOfVolume }
 {
     match why {

@@ -1,11 +1,13 @@
 //! One command over a mounted volume.
-ghost use Rattle.std.specs.Prelude.{◌≡◌, ◌≤◌, length, None, OnOk, IfErr, IfSome};
+ghost use Rattle.std.specs.Prelude.{◌≡◌, ◌≤◌, length, None, OnOk, IfErr, IfOk, IfSome};
 ghost use Rattle.fsd_formats.specs.NamePage.{max_length, sectors_for};
 ghost use Rattle.fsd_files.specs.Answers.{entry_of};
 ghost use Rattle.fsd_texts.specs.declared.command.Command.TheVariants as Word;
+ghost use Rattle.fsd_runs.specs.Errands.{reply_status};
 ghost use Rattle.sector_disk.specs.Calls.{OnlyReads, WritesDisk};
 ghost use Rattle.volume_contract.specs.State.{Known, Stands, volume_of};
-ghost use Rattle.volume_turns.specs.Steps.{Does, IsOfVolume, Stays, device_by};
+ghost use Rattle.volume_turns.specs.Status.{IsStatusFrom};
+ghost use Rattle.volume_turns.specs.Steps.{Does, IsOfVolume, Stays, device_by, reply_of};
 
 use crate::answer::{Answer, ended_by, read_ended_by};
 use crate::listing::list;
@@ -29,6 +31,7 @@ pub(crate) fn put<M: Machine, V: Files<M>>(
     ensures up { OnOk result ((V.state v.new).down ≡ None) }
     ensures disk { WritesDisk M.Machine (device_by result) (Stays V.state V.holds v.old) m.old m.new }
     ensures fault { IfErr result IsOfVolume }
+    ensures status { IfOk result (λ a. reply_status (reply_of a) ≤ 1) }
     ensures done { M.honest m.new → (k : Known) → Stands V.state V.holds v.old k (M.now m.old) →
         Does V.state V.holds (Word.Put name.now bytes.now keep) v.old v.new k (M.now m.old) (M.now m.new) result }
 {
@@ -182,6 +185,7 @@ pub(crate) fn answer<M: Machine, V: Files<M>>(
     ensures up { OnOk result ((V.state v.new).down ≡ None) }
     ensures disk { WritesDisk M.Machine (device_by result) (Stays V.state V.holds v.old) m.old m.new }
     ensures fault { IfErr result IsOfVolume }
+    ensures status { IfOk result (λ a. IsStatusFrom c.now (reply_status (reply_of a))) }
     ensures done { M.honest m.new → (k : Known) → Stands V.state V.holds v.old k (M.now m.old) →
         Does V.state V.holds c.now v.old v.new k (M.now m.old) (M.now m.new) result }
 {

@@ -1,8 +1,8 @@
 //! Commands that are made up, from the mount to the line that tells what came of them.
-ghost use Rattle.std.specs.Prelude.{◌≡◌, ◌≤◌, ◌<◌, ◌+◌, ◌^◌, ◌-◌, ℕ, List, None, OnOk, IfOk, IfSome};
+ghost use Rattle.std.specs.Prelude.{◌≡◌, ◌≤◌, ◌<◌, ◌+◌, ◌^◌, ◌-◌, ℕ, List, None, OnOk, IfErr, IfOk, IfSome};
 ghost use Rattle.sector_disk.specs.declared.sector.WeakRun.{WeakRun};
 ghost use Rattle.sector_disk.specs.Calls.{Since};
-ghost use Rattle.sector_disk.specs.Machine.{LeavesOnly, Trusts};
+ghost use Rattle.sector_disk.specs.Machine.{LeavesOnly, OnlyWrites, Trusts};
 ghost use Rattle.volume_layout.specs.declared.layout.Layout.{Layout as Plan};
 ghost use Rattle.fsd_files.specs.Files.{Change};
 ghost use Rattle.fsd_texts.specs.Generator.{made_up};
@@ -13,8 +13,9 @@ ghost use Rattle.volume_contract.specs.Mount.{IsSoundAt};
 ghost use Rattle.volume_contract.specs.State.{Known, Stands};
 ghost use Rattle.volume_turns.specs.Generate.{CountedGroup, Draws, RunsCounted, StepsCounted};
 ghost use Rattle.volume_turns.specs.Once.{ClosesAndSays, unit_of};
+ghost use Rattle.volume_turns.specs.Status.{CountsRun, IsMadeStatus};
 ghost use Rattle.volume_turns.specs.Tally.{nothing};
-ghost use Rattle.volume_turns.specs.Turns.{Told};
+ghost use Rattle.volume_turns.specs.Turns.{IsEndOfVolume, Told};
 ghost use Rattle.volume_turns.specs.Whole.{RunsOut};
 
 use crate::commands;
@@ -43,6 +44,8 @@ fn do_counted<M: Machine, V: Files<M>>(
     ensures layout { (V.state v.new).layout ≡ (V.state v.old).layout }
     ensures up { OnOk result ((V.state v.new).down ≡ None) }
     ensures told { Told (M.report m.old) (M.report m.new) result }
+    ensures ledger { M.tells m.new → OnlyWrites (M.ledger m.old) (M.ledger m.new) }
+    ensures fault { IfErr result IsEndOfVolume }
     ensures trust { Trusts (M.tells m.old) (M.tells m.new) (M.honest m.old) (M.honest m.new) }
     ensures since { M.honest m.new → Since M.Machine m.old m.new }
     ensures later { M.honest m.new → M.moment m.old ≤ M.moment m.new }
@@ -72,6 +75,8 @@ fn draw<M: Machine, V: Files<M>>(
     ensures layout { (V.state v.new).layout ≡ (V.state v.old).layout }
     ensures up { OnOk result ((V.state v.new).down ≡ None) }
     ensures told { Told (M.report m.old) (M.report m.new) result }
+    ensures ledger { M.tells m.new → OnlyWrites (M.ledger m.old) (M.ledger m.new) }
+    ensures fault { IfErr result IsEndOfVolume }
     ensures trust { Trusts (M.tells m.old) (M.tells m.new) (M.honest m.old) (M.honest m.new) }
     ensures since { M.honest m.new → Since M.Machine m.old m.new }
     ensures later { M.honest m.new → M.moment m.old ≤ M.moment m.new }
@@ -100,6 +105,8 @@ fn make_up<M: Machine, V: Files<M>>(
     requires up { (V.state v.old).down ≡ None }
     ensures layout { (V.state v.new).layout ≡ (V.state v.old).layout }
     ensures told { Told (M.report m.old) (M.report m.new) result }
+    ensures ledger { M.tells m.new → OnlyWrites (M.ledger m.old) (M.ledger m.new) }
+    ensures fault { IfErr result IsEndOfVolume }
     ensures trust { Trusts (M.tells m.old) (M.tells m.new) (M.honest m.old) (M.honest m.new) }
     ensures since { M.honest m.new → Since M.Machine m.old m.new }
     ensures later { M.honest m.new → M.moment m.old ≤ M.moment m.new }
@@ -125,11 +132,12 @@ pub(crate) fn close_forced<M: Machine, V: Files<M>>(
 ) -> Result<(), End>
     requires room { (V.state v).layout.sectors ≤ (M.report m.old).sectors }
     ensures told { Told (M.report m.old) (M.report m.new) result }
+    ensures ledger { M.tells m.new → OnlyWrites (M.ledger m.old) (M.ledger m.new) }
+    ensures fault { IfErr result IsEndOfVolume }
     ensures trust { Trusts (M.tells m.old) (M.tells m.new) (M.honest m.old) (M.honest m.new) }
     ensures since { M.honest m.new → Since M.Machine m.old m.new }
     ensures later { M.honest m.new → M.moment m.old ≤ M.moment m.new }
     ensures closes { M.honest m.new → (k : Known) → Stands V.state V.holds v k (M.now m.old) → ClosesAndSays M.Machine k forced_turn.said m.old m.new result }
-    ensures input { M.tells m.new → (M.ledger m.new).input ≡ (M.ledger m.old).input }
 {
     match v.close(m) {
         Ok(()) => say_one(alloc, m, &Line::Forced),
@@ -146,6 +154,8 @@ fn force_behind<M: Machine, V: Files<M>>(
 ) -> Result<Option<Tally>, End>
     requires room { (V.state v).layout.sectors ≤ (M.report m.old).sectors }
     ensures told { Told (M.report m.old) (M.report m.new) result }
+    ensures ledger { M.tells m.new → OnlyWrites (M.ledger m.old) (M.ledger m.new) }
+    ensures fault { IfErr result IsEndOfVolume }
     ensures trust { Trusts (M.tells m.old) (M.tells m.new) (M.honest m.old) (M.honest m.new) }
     ensures since { M.honest m.new → Since M.Machine m.old m.new }
     ensures later { M.honest m.new → M.moment m.old ≤ M.moment m.new }
@@ -169,6 +179,8 @@ fn make_group<M: Machine, V: Files<M> + Drop>(
     requires room { (V.state v).layout.sectors ≤ (M.report m.old).sectors }
     requires up { (V.state v).down ≡ None }
     ensures told { Told (M.report m.old) (M.report m.new) result }
+    ensures ledger { M.tells m.new → OnlyWrites (M.ledger m.old) (M.ledger m.new) }
+    ensures fault { IfErr result IsEndOfVolume }
     ensures trust { Trusts (M.tells m.old) (M.tells m.new) (M.honest m.old) (M.honest m.new) }
     ensures since { M.honest m.new → Since M.Machine m.old m.new }
     ensures later { M.honest m.new → M.moment m.old ≤ M.moment m.new }
@@ -197,6 +209,9 @@ fn generate_on<M: Machine, V: Files<M> + Drop>(
 ) -> u8
     requires room { (V.state v).layout.sectors ≤ (M.report m.old).sectors }
     requires up { (V.state v).down ≡ None }
+    ensures ledger { M.tells m.new → OnlyWrites (M.ledger m.old) (M.ledger m.new) }
+    ensures status { IsMadeStatus result }
+    ensures counts { CountsRun (M.report m.old) (M.report m.new) result }
     ensures trust { Trusts (M.tells m.old) (M.tells m.new) (M.honest m.old) (M.honest m.new) }
     ensures since { M.honest m.new → Since M.Machine m.old m.new }
     ensures runs { M.honest m.new → (input rest : List ℕ) (k : Known) → Stands V.state V.holds v k (M.now m.old) → RunsOut M.Machine (Generate seed count) input rest (M.report m.old) k m.old m.new result }
@@ -219,6 +234,9 @@ pub fn run_generate<M: Machine, V: Files<M> + Drop>(
     count: u32,
 ) -> u8
     requires sectors { sectors ≡ (M.report m.old).sectors }
+    ensures ledger { M.tells m.new → OnlyWrites (M.ledger m.old) (M.ledger m.new) }
+    ensures status { IsMadeStatus result }
+    ensures counts { CountsRun (M.report m.old) (M.report m.new) result }
     ensures trust { Trusts (M.tells m.old) (M.tells m.new) (M.honest m.old) (M.honest m.new) }
     ensures leaves { M.honest m.new → (input rest : List ℕ) (l : Plan) (windows : List WeakRun) (h : List Change) (f : ℕ) → IsSoundAt sectors l windows h f (M.now m.old) →
         LeavesRun (Generate seed count) input rest l windows h f (M.left_since m.new) (LeavesOnly M.moment M.left_since m.old m.new) (M.report m.old) (M.report m.new) (M.now m.old) (M.now m.new) result }

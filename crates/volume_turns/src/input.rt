@@ -2,7 +2,7 @@
 ghost use Rattle.std.specs.Prelude.{◌≡◌, ◌≤◌, ◌<◌, ◌^◌, ℕ, List, Option, length};
 ghost use Rattle.sector_disk.specs.declared.sector.WeakRun.{WeakRun};
 ghost use Rattle.sector_disk.specs.Calls.{Since};
-ghost use Rattle.sector_disk.specs.Machine.{LeavesOnly, Trusts};
+ghost use Rattle.sector_disk.specs.Machine.{LeavesOnly, OnlyWrites, Trusts};
 ghost use Rattle.volume_layout.specs.declared.layout.Layout.{Layout as Plan};
 ghost use Rattle.fsd_files.specs.Files.{Change};
 ghost use Rattle.fsd_texts.specs.Script.{max_input};
@@ -11,6 +11,7 @@ ghost use Rattle.fsd_runs.specs.Leaves.{LeavesRun};
 ghost use Rattle.fsd_runs.specs.declared.request.Request.TheVariants.{Put};
 ghost use Rattle.volume_contract.specs.Mount.{IsSoundAt};
 ghost use Rattle.volume_contract.specs.State.{Known, Stands, volume_of};
+ghost use Rattle.volume_turns.specs.Status.{CountsRun, IsPutStatus};
 ghost use Rattle.volume_turns.specs.Whole.{RunsOut};
 
 use crate::line::{end_with, last_line};
@@ -29,6 +30,9 @@ const MOST_INPUT: usize = 1 << 24;
 // Ends the use of a mounted volume, and says that the input is too long. It gives the status.
 fn refuse_input<M: Machine, V: Files<M>>(alloc: Global, v: V, m: &mut M) -> u8
     requires room { (V.state v).layout.sectors ≤ (M.report m.old).sectors }
+    ensures ledger { M.tells m.new → OnlyWrites (M.ledger m.old) (M.ledger m.new) }
+    ensures status { IsPutStatus result }
+    ensures counts { CountsRun (M.report m.old) (M.report m.new) result }
     ensures trust { Trusts (M.tells m.old) (M.tells m.new) (M.honest m.old) (M.honest m.new) }
     ensures since { M.honest m.new → Since M.Machine m.old m.new }
     ensures runs { M.honest m.new → (name : List ℕ) (keep : Option ℕ) (input rest : List ℕ) (k : Known) → max_input < length input → (volume_of k).unforced ≡ 0 → Stands V.state V.holds v k (M.now m.old) →
@@ -40,9 +44,12 @@ fn refuse_input<M: Machine, V: Files<M>>(alloc: Global, v: V, m: &mut M) -> u8
     }
 }
 
-// Mounts a volume, and says that the input is too long, or the fault that has ended it. It gives the status.
-fn run_refused<M: Machine, V: Files<M> + Drop>(alloc: Global, m: &mut M, sectors: u32) -> u8
+/// Mounts a volume, and says that the input is too long, or the fault that has ended it. It gives the status.
+pub fn run_long_put<M: Machine, V: Files<M> + Drop>(alloc: Global, m: &mut M, sectors: u32) -> u8
     requires sectors { sectors ≡ (M.report m.old).sectors }
+    ensures ledger { M.tells m.new → OnlyWrites (M.ledger m.old) (M.ledger m.new) }
+    ensures status { IsPutStatus result }
+    ensures counts { CountsRun (M.report m.old) (M.report m.new) result }
     ensures trust { Trusts (M.tells m.old) (M.tells m.new) (M.honest m.old) (M.honest m.new) }
     ensures leaves { M.honest m.new → (name : List ℕ) (keep : Option ℕ) (input rest : List ℕ) (l : Plan) (windows : List WeakRun) (h : List Change) (f : ℕ) → max_input < length input → IsSoundAt sectors l windows h f (M.now m.old) →
         LeavesRun (Put name keep) input rest l windows h f (M.left_since m.new) (LeavesOnly M.moment M.left_since m.old m.new) (M.report m.old) (M.report m.new) (M.now m.old) (M.now m.new) result }
@@ -65,12 +72,15 @@ pub fn run_put<M: Machine, V: Files<M> + Drop, T: Says>(
 ) -> u8
     requires sectors { sectors ≡ (M.report m.old).sectors }
     requires says { T.errand.says ≡ reply_alone }
+    ensures ledger { M.tells m.new → OnlyWrites (M.ledger m.old) (M.ledger m.new) }
+    ensures status { IsPutStatus result }
+    ensures counts { CountsRun (M.report m.old) (M.report m.new) result }
     ensures trust { Trusts (M.tells m.old) (M.tells m.new) (M.honest m.old) (M.honest m.new) }
     ensures leaves { M.honest m.new → (rest : List ℕ) (l : Plan) (windows : List WeakRun) (h : List Change) (f : ℕ) → IsSoundAt sectors l windows h f (M.now m.old) →
         LeavesRun (Put name keep) input rest l windows h f (M.left_since m.new) (LeavesOnly M.moment M.left_since m.old m.new) (M.report m.old) (M.report m.new) (M.now m.old) (M.now m.new) result }
 {
     if input.as_slice().len() > MOST_INPUT {
-        return run_refused::<M, V>(alloc, m, sectors);
+        return run_long_put::<M, V>(alloc, m, sectors);
     }
     let put = Command::Put {
         name,

@@ -19,7 +19,7 @@ mod whole;
 pub use answer::Answer;
 pub use generate::run_generate;
 pub use group::group_run;
-pub use input::run_put;
+pub use input::{run_long_put, run_put};
 pub use once::alone;
 pub use script::run_script;
 pub use turns::{End, Says};

@@ -4,8 +4,8 @@ ghost use Rattle.sector_disk.specs.Calls.{LeavesDisk, Since};
 ghost use Rattle.sector_disk.specs.Machine.{LeavesOnly, Trusts, Utters};
 ghost use Rattle.fsd_texts.specs.Text.{fault_text, text};
 ghost use Rattle.fsd_runs.specs.Errands.{fault_status};
-ghost use Rattle.volume_turns.specs.Line.{EndsWith, IsStatusFor, UttersFault, is_unsaid};
-ghost use Rattle.volume_turns.specs.Turns.{SaysAll, Told, Unsaid};
+ghost use Rattle.volume_turns.specs.Line.{EndsWith, IsStatusAs, IsStatusFor, UttersFault, is_unsaid};
+ghost use Rattle.volume_turns.specs.Turns.{IsEndOfVolume, SaysAll, Told, Unsaid};
 ghost use Rattle.volume_turns.specs.Whole.{EndsLast, UttersLast};
 
 use crate::turns::End;
@@ -61,6 +61,7 @@ pub(crate) fn last_line<M: Machine>(alloc: Global, m: &mut M, line: &Line, gives
     ensures says { LeavesDisk M.Machine false (is_unsaid result) (UttersLast line.now) m.old m.new }
     ensures ends { M.honest m.new → EndsLast line.now gives (M.now m.old) (M.now m.new) result }
     ensures ledger { M.tells m.new → M.ledger m.new ≡ M.ledger m.old }
+    ensures status { IsStatusAs gives result }
 {
     let mut text = Bytes::new(alloc);
     match say_line(alloc, line, &mut text) {
@@ -75,6 +76,7 @@ fn say_text<M: Machine>(m: &mut M, text: &[u8], gives: u8) -> u8
     ensures says { LeavesDisk M.Machine false (is_unsaid result) (Utters text.now) m.old m.new }
     ensures ends { M.honest m.new → (result ≡ 6) ⊎ ((result ≡ gives) × SaysAll text.now (M.now m.old) (M.now m.new)) }
     ensures ledger { M.tells m.new → M.ledger m.new ≡ M.ledger m.old }
+    ensures status { (result ≡ gives) ⊎ (result ≡ 6) }
 {
     match m.say(text) {
         Ok(()) => gives,
@@ -90,6 +92,7 @@ pub(crate) fn say_one<M: Machine>(alloc: Global, m: &mut M, line: &Line) -> Resu
     ensures moments { M.honest m.new → LeavesOnly M.moment M.left_since m.old m.new (Utters (text line.now) (M.now m.old)) }
     ensures said { OnOk result (M.honest m.new → SaysAll (text line.now) (M.now m.old) (M.now m.new)) }
     ensures unsaid { IfErr result (λ end. M.honest m.new → Unsaid (M.now m.old) (M.now m.new) end) }
+    ensures fault { IfErr result IsEndOfVolume }
     ensures ledger { M.tells m.new → M.ledger m.new ≡ M.ledger m.old }
 {
     let mut text = Bytes::new(alloc);

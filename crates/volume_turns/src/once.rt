@@ -8,7 +8,8 @@ ghost use Rattle.fsd_runs.specs.Commands.{reply_alone};
 ghost use Rattle.fsd_runs.specs.Errands.{reply_status};
 ghost use Rattle.sector_disk.specs.Calls.{Since};
 ghost use Rattle.volume_contract.specs.Mount.{IsSoundAt};
-ghost use Rattle.volume_turns.specs.Once.{ClosesAndSays, IsAlone, IsStatusOfReply, close_fault, fault_of, unit_of};
+ghost use Rattle.volume_turns.specs.Once.{ClosesAndSays, IsAlone, close_fault, fault_of, unit_of};
+ghost use Rattle.volume_turns.specs.Status.{IsStatusFrom};
 ghost use Rattle.volume_contract.specs.State.{Known, Stands, is_worn, volume_of};
 ghost use Rattle.volume_turns.specs.Steps.{reply_of};
 ghost use Rattle.volume_turns.specs.Turns.{IsEndOfVolume, Told};
@@ -105,7 +106,7 @@ pub fn alone<M: Machine, V: Files<M> + Drop, T: Says>(
     ensures trust { Trusts (M.tells m.old) (M.tells m.new) (M.honest m.old) (M.honest m.new) }
     ensures ledger { M.tells m.new → OnlyWrites (M.ledger m.old) (M.ledger m.new) }
     ensures fault { IfErr result IsEndOfVolume }
-    ensures status { IfOk result IsStatusOfReply }
+    ensures status { IfOk result (IsStatusFrom c.now) }
     ensures since { M.honest m.new → Since M.Machine m.old m.new }
     ensures later { M.honest m.new → M.moment m.old ≤ M.moment m.new }
     ensures does { M.honest m.new → (k : Known) → (volume_of k).unforced ≡ 0 → Stands V.state V.holds v k (M.now m.old) → IsAlone M.Machine c.now k m.old m.new result }

@@ -1,7 +1,7 @@
 //! A script, from the mount to the last line.
-ghost use Rattle.std.specs.Prelude.{◌≡◌, ◌≤◌, ◌+◌, List, ℕ, None, OnOk, IfOk, IsTrue, Some};
+ghost use Rattle.std.specs.Prelude.{◌≡◌, ◌≤◌, ◌+◌, List, ℕ, None, OnErr, OnOk, IfErr, IfOk, IsTrue, Some};
 ghost use Rattle.sector_disk.specs.Calls.{Since};
-ghost use Rattle.sector_disk.specs.Machine.{LeavesOnly, Trusts};
+ghost use Rattle.sector_disk.specs.Machine.{LeavesOnly, OnlyWrites, Trusts};
 ghost use Rattle.sector_disk.specs.declared.sector.WeakRun.{WeakRun};
 ghost use Rattle.volume_layout.specs.declared.layout.Layout.{Layout as Plan};
 ghost use Rattle.fsd_files.specs.Files.{Change};
@@ -17,7 +17,8 @@ ghost use Rattle.fsd_runs.specs.Commands.{answer, reply_text};
 ghost use Rattle.fsd_runs.specs.Errands.{forced_turn, is_forced};
 ghost use Rattle.volume_contract.specs.State.{Known, Stands};
 ghost use Rattle.volume_turns.specs.Once.{ClosesAndSays, unit_of};
-ghost use Rattle.volume_turns.specs.Turns.{Told};
+ghost use Rattle.volume_turns.specs.Status.{CountsScript, IsScriptStatus};
+ghost use Rattle.volume_turns.specs.Turns.{IsEndOfVolume, Told};
 ghost use Rattle.volume_turns.specs.Script.{GoesOn, GroupsBy, Heard, Reads, RoseBy, WholeRead};
 
 use crate::generate::close_forced;
@@ -55,7 +56,10 @@ fn read_on<M: Machine, V: Files<M>, T: Says>(
     ensures layout { (V.state v.new).layout ≡ (V.state v.old).layout }
     ensures up { OnOk result ((V.state v.new).down ≡ None) }
     ensures heard { Heard (M.report m.old) (M.report m.new) result }
+    ensures attaches { M.tells m.new → (M.ledger m.new).attaches ≡ (M.ledger m.old).attaches }
+    ensures fault { IfErr result IsEndOfVolume }
     ensures rose { IfOk result (RoseBy (M.report m.old) (M.report m.new)) }
+    ensures quiet { OnErr result ((M.report m.new).input_faults ≡ (M.report m.old).input_faults) }
     ensures trust { Trusts (M.tells m.old) (M.tells m.new) (M.honest m.old) (M.honest m.new) }
     ensures since { M.honest m.new → Since M.Machine m.old m.new }
     ensures later { M.honest m.new → M.moment m.old ≤ M.moment m.new }
@@ -87,7 +91,10 @@ fn read_all<M: Machine, V: Files<M>, T: Says>(
     requires lazily { (met : Met) (x : Volume) (w : Word) → IsTrue (T.errand.forces (answer met x w).0) → (answer met x w).1.unforced ≡ 0 }
     ensures layout { (V.state v.new).layout ≡ (V.state v.old).layout }
     ensures heard { Heard (M.report m.old) (M.report m.new) result }
+    ensures attaches { M.tells m.new → (M.ledger m.new).attaches ≡ (M.ledger m.old).attaches }
+    ensures fault { IfErr result IsEndOfVolume }
     ensures rose { IfOk result (λ stop. RoseBy (M.report m.old) (M.report m.new) (Some stop)) }
+    ensures quiet { OnErr result ((M.report m.new).input_faults ≡ (M.report m.old).input_faults) }
     ensures trust { Trusts (M.tells m.old) (M.tells m.new) (M.honest m.old) (M.honest m.new) }
     ensures since { M.honest m.new → Since M.Machine m.old m.new }
     ensures later { M.honest m.new → M.moment m.old ≤ M.moment m.new }
@@ -113,6 +120,9 @@ fn group_read<M: Machine, V: Files<M> + Drop, T: Says>(
     requires up { (V.state v).down ≡ None }
     requires lazily { (met : Met) (x : Volume) (w : Word) → IsTrue (T.errand.forces (answer met x w).0) → (answer met x w).1.unforced ≡ 0 }
     ensures heard { Heard (M.report m.old) (M.report m.new) result }
+    ensures attaches { M.tells m.new → (M.ledger m.new).attaches ≡ (M.ledger m.old).attaches }
+    ensures fault { IfErr result IsEndOfVolume }
+    ensures rose { IfOk result (λ stop. RoseBy (M.report m.old) (M.report m.new) (Some stop)) }
     ensures trust { Trusts (M.tells m.old) (M.tells m.new) (M.honest m.old) (M.honest m.new) }
     ensures since { M.honest m.new → Since M.Machine m.old m.new }
     ensures later { M.honest m.new → M.moment m.old ≤ M.moment m.new }
@@ -140,10 +150,11 @@ fn force_read<M: Machine, V: Files<M>>(
 ) -> Result<Stop, End>
     requires room { (V.state v).layout.sectors ≤ (M.report m.old).sectors }
     ensures told { Told (M.report m.old) (M.report m.new) result }
+    ensures ledger { M.tells m.new → OnlyWrites (M.ledger m.old) (M.ledger m.new) }
+    ensures fault { IfErr result IsEndOfVolume }
     ensures trust { Trusts (M.tells m.old) (M.tells m.new) (M.honest m.old) (M.honest m.new) }
     ensures since { M.honest m.new → Since M.Machine m.old m.new }
     ensures later { M.honest m.new → M.moment m.old ≤ M.moment m.new }
-    ensures input { M.tells m.new → (M.ledger m.new).input ≡ (M.ledger m.old).input }
     ensures same { IfOk result (λ x. x ≡ stop) }
     ensures closes { M.honest m.new → (k : Known) → Stands V.state V.holds v k (M.now m.old) → ClosesAndSays M.Machine k forced_turn.said m.old m.new (unit_of result) }
 {
@@ -160,6 +171,9 @@ fn script_on<M: Machine, V: Files<M> + Drop, T: Says>(alloc: Global, v: V, m: &m
     requires lazily { (met : Met) (x : Volume) (w : Word) → IsTrue (T.errand.forces (answer met x w).0) → (answer met x w).1.unforced ≡ 0 }
     requires says { T.errand.says ≡ reply_text }
     requires forces { T.errand.forces ≡ is_forced }
+    ensures attaches { M.tells m.new → (M.ledger m.new).attaches ≡ (M.ledger m.old).attaches }
+    ensures status { IsScriptStatus result }
+    ensures counts { CountsScript (M.report m.old) (M.report m.new) result }
     ensures trust { Trusts (M.tells m.old) (M.tells m.new) (M.honest m.old) (M.honest m.new) }
     ensures since { M.honest m.new → Since M.Machine m.old m.new }
     ensures runs { M.honest m.new → (k : Known) → Stands V.state V.holds v k (M.now m.old) → RunsOut M.Machine Script (M.ledger m.old).input (M.ledger m.new).input (M.report m.old) k m.old m.new result }
@@ -188,6 +202,9 @@ pub fn run_script<M: Machine, V: Files<M> + Drop, T: Says>(
     requires lazily { (met : Met) (x : Volume) (w : Word) → IsTrue (T.errand.forces (answer met x w).0) → (answer met x w).1.unforced ≡ 0 }
     requires says { T.errand.says ≡ reply_text }
     requires forces { T.errand.forces ≡ is_forced }
+    ensures attaches { M.tells m.new → (M.ledger m.new).attaches ≡ (M.ledger m.old).attaches }
+    ensures status { IsScriptStatus result }
+    ensures counts { CountsScript (M.report m.old) (M.report m.new) result }
     ensures trust { Trusts (M.tells m.old) (M.tells m.new) (M.honest m.old) (M.honest m.new) }
     ensures leaves { M.honest m.new → (l : Plan) (windows : List WeakRun) (h : List Change) (f : ℕ) → IsSoundAt sectors l windows h f (M.now m.old) →
         LeavesRun Script (M.ledger m.old).input (M.ledger m.new).input l windows h f (M.left_since m.new) (LeavesOnly M.moment M.left_since m.old m.new) (M.report m.old) (M.report m.new) (M.now m.old) (M.now m.new) result }

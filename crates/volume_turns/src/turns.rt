@@ -1,6 +1,6 @@
 //! Commands one after another, each with its reply said.
 ghost use Rattle.std.specs.Prelude.{◌≡◌, ◌≤◌, None, OnOk, IfOk, IfErr, IsTrue};
-ghost use Rattle.sector_disk.specs.Machine.{LeavesOnly, Trusts, Utters};
+ghost use Rattle.sector_disk.specs.Machine.{LeavesOnly, OnlyWrites, Trusts, Utters};
 ghost use Rattle.fsd_files.specs.Answers.{Met};
 ghost use Rattle.fsd_files.specs.Volume.{Volume};
 ghost use Rattle.fsd_texts.specs.declared.command.Command.{Command as Word};
@@ -73,7 +73,8 @@ pub fn step<M: Machine, V: Files<M>, T: Says>(
     ensures since { M.honest m.new → Since M.Machine m.old m.new }
     ensures later { M.honest m.new → M.moment m.old ≤ M.moment m.new }
     ensures steps { Steps V.state V.holds M.Machine T.errand c.now v.old m.old v.new m.new result }
-    ensures input { M.tells m.new → (M.ledger m.new).input ≡ (M.ledger m.old).input }
+    ensures ledger { M.tells m.new → OnlyWrites (M.ledger m.old) (M.ledger m.new) }
+    ensures fault { IfErr result IsEndOfVolume }
 {
     match commands::answer(alloc, v, m, c) {
         Ok(answer) => say::<M, T>(alloc, m, &answer),

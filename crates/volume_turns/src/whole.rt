@@ -34,7 +34,7 @@ fn one_on<M: Machine, V: Files<M> + Drop, T: Says>(
     requires says { T.errand.says ≡ reply_alone }
     ensures trust { Trusts (M.tells m.old) (M.tells m.new) (M.honest m.old) (M.honest m.new) }
     ensures ledger { M.tells m.new → OnlyWrites (M.ledger m.old) (M.ledger m.new) }
-    ensures status { IsOneStatus result }
+    ensures status { IsOneStatus c.now result }
     ensures counts { CountsRun (M.report m.old) (M.report m.new) result }
     ensures since { M.honest m.new → Since M.Machine m.old m.new }
     ensures runs { M.honest m.new → (rest : List ℕ) (k : Known) → (volume_of k).unforced ≡ 0 → Stands V.state V.holds v k (M.now m.old) → RunsOut M.Machine (One c.now) [] rest (M.report m.old) k m.old m.new result }
@@ -56,7 +56,7 @@ pub fn run_one<M: Machine, V: Files<M> + Drop, T: Says>(
     requires sectors { sectors ≡ (M.report m.old).sectors }
     requires says { T.errand.says ≡ reply_alone }
     ensures ledger { M.tells m.new → OnlyWrites (M.ledger m.old) (M.ledger m.new) }
-    ensures status { IsOneStatus result }
+    ensures status { IsOneStatus c.now result }
     ensures counts { CountsRun (M.report m.old) (M.report m.new) result }
     ensures trust { Trusts (M.tells m.old) (M.tells m.new) (M.honest m.old) (M.honest m.new) }
     ensures leaves { M.honest m.new → (rest : List ℕ) (l : Plan) (windows : List WeakRun) (h : List Change) (f : ℕ) → IsSoundAt sectors l windows h f (M.now m.old) →

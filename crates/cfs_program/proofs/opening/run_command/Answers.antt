@@ -1,8 +1,8 @@
-use Rattle.std.proofs.Common.{sym, ◌∙◌, arith, []}
+use Rattle.std.proofs.Common.{inr, sym, ◌∙◌, arith, []}
 use Rattle.fsd_texts.specs.declared.fault.Fault.TheVariants as Ends
 use Rattle.fsd_runs.specs.declared.request.Request.TheVariants.{One}
 use Rattle.cfs_program.proofs.EndedLaws.{ended_run, failed_status}
-use Rattle.cfs_program.proofs.OpeningLaws.{opened_run, sound_found}
+use Rattle.cfs_program.proofs.OpeningLaws.{finds_keep, opened_run, sound_found}
 use Rattle.cfs_program.proofs.opening.run_command.Goals as goal
 
 pub returns-in-Ok-clause-leaves : goal.returns-in-Ok-clause-leaves
@@ -16,10 +16,10 @@ returns-in-Ok-clause-leaves g c honest rest l windows h f sound =
     let cause = c.attach.ensures.cause in
     opened_run M (One c.args.c.now) [] rest l windows h f a b c.run_one.new.m c.run_one.result sound (g.met.M.Machine.short a first) (λ left was. g.met.M.Machine.only_now a left first was) (c.attach.ensures.time back) found
     (record { disk = c.in-Ok.ensures.cause.disk.stays; input = cause.input; output = cause.output })
-    (c.run_one.ensures.leaves honest rest l windows h f (sound_found l windows h f (M.now a) sound (g.met.M.Machine.short a first) (M.now b) found c.in-Ok.sectors (c.in-Ok.ensures.size back)))
+    (c.run_one.ensures.leaves honest rest l windows h f (sound_found l windows h f (M.now a) sound (g.met.M.Machine.short a first) (M.now b) (finds_keep (M.now a) (M.now b) found) c.in-Ok.sectors (c.in-Ok.ensures.size back)))
 
 pub returns-in-Err-clause-status : goal.returns-in-Err-clause-status
-returns-in-Err-clause-status g c = failed_status c.end_with.result c.end_with.ensures.status
+returns-in-Err-clause-status g c = inr (failed_status c.end_with.result c.end_with.ensures.status)
 
 pub returns-in-Err-clause-leaves : goal.returns-in-Err-clause-leaves
 returns-in-Err-clause-leaves g c honest rest l windows h f sound =

@@ -1,19 +1,41 @@
 use Rattle.std.proofs.Common.{refl, sym, subst}
 use Rattle.fsd_runs.specs.declared.request.Request.{Request}
 use Rattle.cfs_program.specs.Program.{Ran}
+use Rattle.cfs_program.proofs.LongerLaws.{ran_made, ran_put, ran_script}
 use Rattle.cfs_program.proofs.ProgramLaws.{ran_command, ran_outside}
 use Rattle.cfs_program.proofs.run.run_request.Goals as goal
 
-pub returns-in-Outside-clause-ran : goal.returns-in-Outside-clause-ran
-returns-in-Outside-clause-ran g c =
+pub returns-in-Outside : goal.returns-in-Outside
+returns-in-Outside g c =
     let e = c.end_with.ensures in
     let a = c.args.m.now in
     subst (λ (r : Request). Ran g.M.Machine r c.args.path.now a c.end_with.new.m c.end_with.result) (sym c.in-Outside.is)
     (ran_outside g.M.Machine c.args.path.now a c.end_with.new.m _ c.end_with.result e.says e.ledger e.status e.ends refl)
 
-pub returns-in-One-clause-ran : goal.returns-in-One-clause-ran
-returns-in-One-clause-ran g c =
+pub returns-in-One : goal.returns-in-One
+returns-in-One g c =
     let e = c.run_command.ensures in
     let a = c.args.m.now in
     subst (λ (r : Request). Ran g.M.Machine r c.args.path.now a c.run_command.new.m c.run_command.result) (sym c.in-One.is)
     (ran_command g.M.Machine c.in-One.c c.args.path.now a c.run_command.new.m c.run_command.result e.status e.counts e.asks e.asked e.trust e.leaves)
+
+pub returns-in-Script : goal.returns-in-Script
+returns-in-Script g c =
+    let e = c.run_commands.ensures in
+    let a = c.args.m.now in
+    subst (λ (r : Request). Ran g.M.Machine r c.args.path.now a c.run_commands.new.m c.run_commands.result) (sym c.in-Script.is)
+    (ran_script g.M.Machine c.args.path.now a c.run_commands.new.m c.run_commands.result e.status e.counts e.asks e.asked e.trust e.leaves)
+
+pub returns-in-Generate : goal.returns-in-Generate
+returns-in-Generate g c =
+    let e = c.run_made_up.ensures in
+    let a = c.args.m.now in
+    subst (λ (r : Request). Ran g.M.Machine r c.args.path.now a c.run_made_up.new.m c.run_made_up.result) (sym c.in-Generate.is)
+    (ran_made g.M.Machine c.in-Generate.seed c.in-Generate.count c.args.path.now a c.run_made_up.new.m c.run_made_up.result e.status e.counts e.asks e.asked e.trust e.leaves)
+
+pub returns-in-Put : goal.returns-in-Put
+returns-in-Put g c =
+    let e = c.run_input.ensures in
+    let a = c.args.m.now in
+    subst (λ (r : Request). Ran g.M.Machine r c.args.path.now a c.run_input.new.m c.run_input.result) (sym c.in-Put.is)
+    (ran_put g.M.Machine c.in-Put.name c.in-Put.keep c.args.path.now a c.run_input.new.m c.run_input.result e.status e.counts e.asks e.asked e.trust e.leaves)

@@ -10,7 +10,8 @@ use Rattle.fsd_texts.specs.declared.fault.Fault.{Fault}
 use Rattle.volume_turns.specs.declared.answer.Answer.{Answer}
 use Rattle.sector_disk.specs.Calls.{WritesDisk}
 use Rattle.volume_contract.specs.Order.{Comes, down}
-use Rattle.volume_contract.specs.State.{volume_of, force_writes, is_worn}
+use Rattle.volume_contract.specs.State.{volume_of, is_worn}
+use Rattle.fsd_sound.specs.Writes.{force_writes}
 use Rattle.volume_turns.specs.Steps.{Does, IsAnswered, Stays, device_by}
 use Rattle.sector_disk.proofs.CallLaws.{writes_more}
 use Rattle.volume_turns.proofs.OrderLaws.{delete_all, delete_down, delete_unworn, delete_worn, delete_through}

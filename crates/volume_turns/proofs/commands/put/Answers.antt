@@ -15,6 +15,7 @@ use Rattle.volume_turns.specs.Steps.{Does, IsAnswered, Stays, device_by}
 use Rattle.sector_disk.proofs.CallLaws.{writes_more}
 use Rattle.volume_turns.proofs.OrderLaws.{steps_of, put_rest, put_never, size_never, never_down, unworn_by, worn_by, unworn_through, is_no_fault, no_fault_is}
 use Rattle.volume_turns.proofs.StepLaws.{same_device, less_touched, answered_does, refused_does}
+use Rattle.volume_turns.proofs.StatusLaws.{refused_low}
 use Rattle.volume_turns.proofs.commands.put.Goals as goal
 
 pub returns-in-Ok-clause-disk : goal.returns-in-Ok-clause-disk
@@ -70,3 +71,6 @@ returns-in-Err-clause-done g c h k stands =
     (λ other may. unworn_by s c.requires.up size rest sizes others why order other (is_no_fault size may))
     (λ is. let w = worn_by s c.requires.up size rest sizes others (subst (λ (x : Refusal). Comes (steps_of s size rest) x) is order) in record { may = no_fault_is size w.0; worn = w.1 })
     (c.in-Err.ensures.done h k stands))
+
+pub returns-in-Err-clause-status : goal.returns-in-Err-clause-status
+returns-in-Err-clause-status g c = refused_low c.in-Err.why c.ended_by.result c.ended_by.ensures.said

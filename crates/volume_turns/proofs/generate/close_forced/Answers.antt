@@ -1,9 +1,8 @@
-use Rattle.std.proofs.Common.{Err, sym, ◌∙◌, ap, subst, arith}
-use Rattle.sector_disk.specs.Machine.{Ledger}
+use Rattle.std.proofs.Common.{Err, sym, subst, arith}
 use Rattle.fsd_texts.specs.declared.fault.Fault.{Fault}
 use Rattle.volume_turns.specs.declared.turns.End.TheVariants.{Fault as Stopped}
 use Rattle.volume_turns.specs.Once.{ClosesAndSays}
-use Rattle.volume_contract.specs.State.{force_writes}
+use Rattle.fsd_sound.specs.Writes.{force_writes}
 use Rattle.fsd_runs.specs.Errands.{forced_turn}
 use Rattle.volume_turns.specs.Turns.{SaysAll, Unsaid}
 use Rattle.volume_turns.proofs.OnceLaws.{close_failed, close_said}
@@ -36,9 +35,3 @@ returns-in-Ok-clause-later g c h =
 
 pub returns-in-Err-clause-later : goal.returns-in-Err-clause-later
 returns-in-Err-clause-later g c h = (c.in-Err.ensures.disk.any_moment h).later
-
-pub returns-in-Ok-clause-input : goal.returns-in-Ok-clause-input
-returns-in-Ok-clause-input g c t = ap (λ (l : Ledger). l.input) (c.say_one.ensures.ledger t) ∙ (c.in-Ok.ensures.disk.ledger (c.say_one.ensures.trust.tells t)).input
-
-pub returns-in-Err-clause-input : goal.returns-in-Err-clause-input
-returns-in-Err-clause-input g c t = (c.in-Err.ensures.disk.ledger t).input

@@ -3,8 +3,9 @@ use Rattle.fsd_texts.specs.Generator.{made_up}
 use Rattle.volume_turns.specs.declared.turns.End.{End}
 use Rattle.volume_turns.specs.Generate.{CountedGroup}
 use Rattle.volume_turns.specs.Tally.{Counting}
-use Rattle.volume_turns.specs.Turns.{Told}
+use Rattle.volume_turns.specs.Turns.{IsEndOfVolume, Told}
 use Rattle.volume_turns.proofs.GenerateLaws.{made_broken, made_said, made_unsaid, made_worn}
+use Rattle.volume_turns.proofs.StatusLaws.{all_is_made, fault_counts, fault_is_made, line_counts, unsaid_counts, worn_is_made}
 use Rattle.volume_turns.proofs.generate.generate_on.Goals as goal
 
 pub returns-in-Ok-Some-clause-since : goal.returns-in-Ok-Some-clause-since
@@ -68,3 +69,39 @@ returns-in-Err-Output-clause-runs g c h input rest k stands =
     let group = subst (λ (e : End). CountedGroup M k (made_up c.args.seed c.args.count) a b (Err e)) c.in-Err-Output.field-0-is (c.in-Err-Output.ensures.group h k stands) in
     let told = subst (λ (e : End). Told {T = Option Counting} (M.report a) (M.report b) (Err e)) c.in-Err-Output.field-0-is c.in-Err-Output.ensures.told in
     made_unsaid M c.args.seed c.args.count input rest k a b h (g.met.M.Machine.short b h) stands.ends group.group told
+
+-- ---- the status
+
+pub returns-in-Ok-Some-clause-status : goal.returns-in-Ok-Some-clause-status
+returns-in-Ok-Some-clause-status g c = all_is_made c.last_line.result c.last_line.ensures.status
+
+pub returns-in-Ok-None-clause-status : goal.returns-in-Ok-None-clause-status
+returns-in-Ok-None-clause-status g c = worn_is_made c.last_line-in-Ok-None.result c.last_line-in-Ok-None.ensures.status
+
+pub returns-in-Err-Fault-clause-status : goal.returns-in-Err-Fault-clause-status
+returns-in-Err-Fault-clause-status g c = fault_is_made c.in-Err-Fault.why c.end_with.result (subst IsEndOfVolume c.in-Err-Fault.field-0-is c.in-Err-Fault.ensures.fault) c.end_with.ensures.status
+
+pub returns-in-Ok-Some-clause-counts : goal.returns-in-Ok-Some-clause-counts
+returns-in-Ok-Some-clause-counts g c =
+    let report = g.M.Machine.report in
+    line_counts (report c.args.m.now) (report c.make_group.new.m) (report c.last_line.new.m) c.last_line.result c.last_line.ensures.says.spares c.in-Ok-Some.field-0 0 (λ e. omega (arith, e)) c.in-Ok-Some.ensures.told c.last_line.ensures.status
+
+pub returns-in-Ok-None-clause-counts : goal.returns-in-Ok-None-clause-counts
+returns-in-Ok-None-clause-counts g c =
+    let report = g.M.Machine.report in
+    let line = c.last_line-in-Ok-None in
+    line_counts (report c.args.m.now) (report c.make_group.new.m) (report line.new.m) line.result line.ensures.says.spares c.in-Ok-None.field-0 9 (λ e. omega (arith, e)) c.in-Ok-None.ensures.told line.ensures.status
+
+pub returns-in-Err-Fault-clause-counts : goal.returns-in-Err-Fault-clause-counts
+returns-in-Err-Fault-clause-counts g c =
+    let report = g.M.Machine.report in
+    let a = report c.args.m.now in
+    let p = report c.make_group.new.m in
+    fault_counts a p (report c.end_with.new.m) c.end_with.result c.end_with.ensures.says.spares c.in-Err-Fault.why (subst (λ (e : End). Told {T = Option Counting} a p (Err e)) c.in-Err-Fault.field-0-is c.in-Err-Fault.ensures.told) c.end_with.ensures.status
+
+pub returns-in-Err-Output-clause-counts : goal.returns-in-Err-Output-clause-counts
+returns-in-Err-Output-clause-counts g c =
+    let report = g.M.Machine.report in
+    let a = report c.args.m.now in
+    let b = report c.make_group.new.m in
+    unsaid_counts a b (subst (λ (e : End). Told {T = Option Counting} a b (Err e)) c.in-Err-Output.field-0-is c.in-Err-Output.ensures.told)

@@ -10,6 +10,7 @@ use Rattle.volume_turns.specs.Tally.{Counting, nothing}
 use Rattle.volume_turns.specs.Turns.{Follows}
 use Rattle.volume_turns.proofs.CountLaws.{counted_nil, counted_stop, counted_then, made_length, none_left, told_all, told_end, told_more, told_none}
 use Rattle.volume_turns.proofs.RunLaws.{follows_then}
+use Rattle.volume_turns.proofs.StatusLaws.{ledger_then}
 use Rattle.volume_turns.proofs.generate.make_up.Goals as goal
 
 pub loop-init : goal.loop-init
@@ -20,6 +21,7 @@ loop-init g c =
       layout = refl;
       up = c.requires.up;
       told = told_none (M.report c.args.m.now);
+      ledger = λ t. record { input = refl; attaches = refl };
       trust = record { tells = λ h. h; honest = λ h. h };
       since = λ h t left le was. was;
       later = λ h. omega arith;
@@ -54,6 +56,11 @@ pub returns-in-Ok-None-clause-told : goal.returns-in-Ok-None-clause-told
 returns-in-Ok-None-clause-told g c =
     let report = g.M.Machine.report in
     told_all (report c.args.m.now) (report c.draw.new.m) c.in-Ok-None.field-0 c.loop.tally (told_more (report c.args.m.now) (report c.loop.m) (report c.draw.new.m) tt (Ok c.in-Ok-None.field-0) c.loop.invariant.told c.in-Ok-None.ensures.told)
+
+pub returns-in-Ok-None-clause-ledger : goal.returns-in-Ok-None-clause-ledger
+returns-in-Ok-None-clause-ledger g c t =
+    let M = g.M.Machine in
+    ledger_then (M.ledger c.args.m.now) (M.ledger c.loop.m) (M.ledger c.draw.new.m) (c.loop.invariant.ledger (c.draw.ensures.trust.tells t)) (c.draw.ensures.ledger t)
 
 pub returns-in-Ok-None-clause-trust : goal.returns-in-Ok-None-clause-trust
 returns-in-Ok-None-clause-trust g c = trusts_on c.loop.invariant.trust c.draw.ensures.trust
@@ -91,6 +98,11 @@ returns-in-Err-clause-told g c =
     let report = g.M.Machine.report in
     told_end (report c.args.m.now) (report c.draw.new.m) c.in-Err.end (told_more (report c.args.m.now) (report c.loop.m) (report c.draw.new.m) tt (Err c.in-Err.end) c.loop.invariant.told c.in-Err.ensures.told)
 
+pub returns-in-Err-clause-ledger : goal.returns-in-Err-clause-ledger
+returns-in-Err-clause-ledger g c t =
+    let M = g.M.Machine in
+    ledger_then (M.ledger c.args.m.now) (M.ledger c.loop.m) (M.ledger c.draw.new.m) (c.loop.invariant.ledger (c.draw.ensures.trust.tells t)) (c.draw.ensures.ledger t)
+
 pub returns-in-Err-clause-trust : goal.returns-in-Err-clause-trust
 returns-in-Err-clause-trust g c = trusts_on c.loop.invariant.trust c.draw.ensures.trust
 
@@ -127,6 +139,7 @@ loop-preserved g c =
       layout = c.draw.ensures.layout ∙ was.layout;
       up = c.in-Ok-Some.ensures.up;
       told = told_all (M.report c.args.m.now) (M.report c.draw.new.m) c.in-Ok-Some.field-0 tt (told_more (M.report c.args.m.now) (M.report c.loop.m) (M.report c.draw.new.m) tt (Ok c.in-Ok-Some.field-0) was.told c.in-Ok-Some.ensures.told);
+      ledger = λ t. ledger_then (M.ledger c.args.m.now) (M.ledger c.loop.m) (M.ledger c.draw.new.m) (was.ledger (c.draw.ensures.trust.tells t)) (c.draw.ensures.ledger t);
       trust = trusts_on was.trust c.draw.ensures.trust;
       since = both.since;
       later = both.later;
@@ -142,6 +155,9 @@ returns-clause-layout g c = c.loop.invariant.layout
 
 pub returns-clause-told : goal.returns-clause-told
 returns-clause-told g c = told_all (g.M.Machine.report c.args.m.now) (g.M.Machine.report c.loop.m) tt c.loop.tally c.loop.invariant.told
+
+pub returns-clause-ledger : goal.returns-clause-ledger
+returns-clause-ledger g c = c.loop.invariant.ledger
 
 pub returns-clause-trust : goal.returns-clause-trust
 returns-clause-trust g c = c.loop.invariant.trust

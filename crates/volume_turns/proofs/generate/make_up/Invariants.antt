@@ -1,7 +1,7 @@
 use Rattle.std.proofs.Common.{◌≡◌, ◌+◌, None, Ok, ◌≤◌, length}
 use Rattle.std.specs.Prelude.{Result}
 use Rattle.sector_disk.specs.Calls.{Since}
-use Rattle.sector_disk.specs.Machine.{Trusts}
+use Rattle.sector_disk.specs.Machine.{OnlyWrites, Trusts}
 use Rattle.fsd_texts.specs.Generator.{made_up}
 use Rattle.script_text.specs.Making.{made_left}
 use Rattle.volume_turns.specs.declared.turns.End.{End}
@@ -16,6 +16,7 @@ invariant-loop g l = record {
   layout : (g.V.Files.state l.v).layout ≡ (g.V.Files.state l.fn.v).layout;
   up : (g.V.Files.state l.v).down ≡ None;
   told : Told {T = Unit {0}} (g.M.Machine.report l.fn.m) (g.M.Machine.report l.m) (Ok tt);
+  ledger : g.M.Machine.tells l.m → OnlyWrites (g.M.Machine.ledger l.fn.m) (g.M.Machine.ledger l.m);
   trust : Trusts (g.M.Machine.tells l.fn.m) (g.M.Machine.tells l.m) (g.M.Machine.honest l.fn.m) (g.M.Machine.honest l.m);
   since : g.M.Machine.honest l.m → Since g.M.Machine l.fn.m l.m;
   later : g.M.Machine.honest l.m → g.M.Machine.moment l.fn.m ≤ g.M.Machine.moment l.m;

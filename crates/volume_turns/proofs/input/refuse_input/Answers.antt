@@ -1,11 +1,13 @@
-use Rattle.std.proofs.Common.{false, ℕ, Option, subst}
+use Rattle.std.proofs.Common.{false, ℕ, Option, sym, subst, arith}
 use Rattle.sector_disk.specs.Calls.{DiskFaults, LeavesDisk}
 use Rattle.fsd_texts.specs.declared.fault.Fault.{Fault}
-use Rattle.volume_contract.specs.State.{force_writes}
-use Rattle.volume_turns.specs.Line.{EndsWith, UttersFault, is_unsaid}
+use Rattle.fsd_sound.specs.Writes.{force_writes}
+use Rattle.volume_turns.specs.Line.{EndsWith, UttersFault, is_unsaid, IsStatusFor}
 use Rattle.volume_turns.specs.Once.{close_fault}
-use Rattle.volume_turns.proofs.InputLaws.{device_close, refused_broken, refused_input}
+use Rattle.volume_turns.specs.Steps.{IsOfVolume}
+use Rattle.volume_turns.proofs.InputLaws.{close_of_volume, device_close, refused_broken, refused_input}
 use Rattle.volume_turns.proofs.RunLaws.{told_fault}
+use Rattle.volume_turns.proofs.StatusLaws.{fault_counts, fault_is_put, line_counts, long_is_put}
 use Rattle.volume_turns.proofs.input.refuse_input.Goals as goal
 
 pub returns-in-Ok-clause-runs : goal.returns-in-Ok-clause-runs
@@ -31,4 +33,31 @@ returns-in-Err-clause-runs g c h name keep input rest k many none stands =
     let disk = c.in-Err.ensures.disk in
     let is = c.in-Err.ensures.done back k stands in
     refused_broken V.state V.holds M name keep input rest many c.args.v c.args.m.now m b k stands (force_writes (V.state c.args.v).layout) _ disk back h (g.met.M.Machine.short m back) status c.in-Err.why is
-    (told_fault (M.report c.args.m.now) (M.report m) (close_fault c.in-Err.why) disk.uses (subst (λ (o : Option ℕ). DiskFaults o (M.report c.args.m.now) (M.report m)) (device_close c.in-Err.why is) disk.faults)) says ended
+    (told_fault (M.report c.args.m.now) (M.report m) (close_fault c.in-Err.why) disk.uses (subst (λ (o : Option ℕ). DiskFaults o (M.report c.args.m.now) (M.report m)) (device_close c.in-Err.why) disk.faults)) says ended
+
+-- ---- the status
+
+pub returns-in-Ok-clause-status : goal.returns-in-Ok-clause-status
+returns-in-Ok-clause-status g c = long_is_put c.last_line.result c.last_line.ensures.status
+
+pub returns-in-Ok-clause-counts : goal.returns-in-Ok-clause-counts
+returns-in-Ok-clause-counts g c =
+    let report = g.M.Machine.report in
+    let a = report c.args.m.now in
+    let disk = c.in-Ok.ensures.disk in
+    let output = disk.uses.output in
+    line_counts a (report c.close.new.m) (report c.last_line.new.m) c.last_line.result c.last_line.ensures.says.spares {T = Unit {0}} tt 5 (λ e. omega (arith, e))
+    (record { sectors = disk.uses.sectors; disk = disk.faults; input = disk.uses.input; later = omega (arith, output); output = tt }) c.last_line.ensures.status
+
+pub returns-in-Err-clause-status : goal.returns-in-Err-clause-status
+returns-in-Err-clause-status g c = fault_is_put c.close_fault.result c.end_with.result (subst IsOfVolume (sym c.close_fault.ensures) (close_of_volume c.in-Err.why)) c.end_with.ensures.status
+
+pub returns-in-Err-clause-counts : goal.returns-in-Err-clause-counts
+returns-in-Err-clause-counts g c =
+    let report = g.M.Machine.report in
+    let a = report c.args.m.now in
+    let m = report c.close.new.m in
+    let why = close_fault c.in-Err.why in
+    let disk = c.in-Err.ensures.disk in
+    fault_counts a m (report c.end_with.new.m) c.end_with.result c.end_with.ensures.says.spares {T = Unit {0}} why
+    (told_fault a m why disk.uses (subst (λ (o : Option ℕ). DiskFaults o a m) (device_close c.in-Err.why) disk.faults)) (subst (λ (x : Fault). IsStatusFor x c.end_with.result) c.close_fault.ensures c.end_with.ensures.status)

@@ -1,8 +1,11 @@
 use Rattle.std.proofs.Common.{ℕ, List, subst, arith}
 use Rattle.fsd_files.specs.Replies.{Reply}
+use Rattle.fsd_runs.specs.Errands.{reply_status}
 use Rattle.volume_turns.specs.Once.{ClosesAndSays, unit_of}
 use Rattle.volume_turns.specs.Steps.{reply_of}
 use Rattle.volume_turns.proofs.OnceLaws.{alone_answered, alone_fault}
+use Rattle.volume_turns.specs.Status.{IsStatusFrom}
+use Rattle.volume_turns.proofs.StatusLaws.{status_at}
 use Rattle.volume_turns.proofs.once.alone.Goals as goal
 
 pub returns-in-Ok-clause-does : goal.returns-in-Ok-clause-does
@@ -32,3 +35,6 @@ returns-in-Ok-clause-later g c h =
 
 pub returns-in-Err-clause-later : goal.returns-in-Err-clause-later
 returns-in-Err-clause-later g c h = (c.in-Err.ensures.disk.any_moment h).later
+
+pub returns-in-Ok-clause-status : goal.returns-in-Ok-clause-status
+returns-in-Ok-clause-status g c = status_at (IsStatusFrom c.args.c.now) (reply_status (reply_of c.in-Ok.answer)) c.close_as.result c.close_as.ensures.status c.in-Ok.ensures.status

@@ -2,7 +2,7 @@ use Rattle.std.proofs.Common.{Err, sym, subst, arith}
 use Rattle.fsd_texts.specs.declared.fault.Fault.{Fault}
 use Rattle.volume_turns.specs.declared.turns.End.TheVariants.{Fault as Stopped}
 use Rattle.volume_turns.specs.Once.{ClosesAndSays}
-use Rattle.volume_contract.specs.State.{force_writes}
+use Rattle.fsd_sound.specs.Writes.{force_writes}
 use Rattle.volume_turns.specs.Steps.{reply_of}
 use Rattle.volume_turns.specs.Turns.{SaysAll, Unsaid}
 use Rattle.volume_turns.proofs.OnceLaws.{close_failed, close_said}

@@ -1,6 +1,7 @@
 use Rattle.std.proofs.Common.{sym, ◌∙◌, arith}
+use Rattle.volume_turns.specs.declared.script.Stop.TheVariants.{WornOut}
 use Rattle.volume_turns.proofs.ScriptGroupLaws.{group_broken, group_stopped, group_worn_out, heard_worn}
-use Rattle.volume_turns.proofs.ScriptLaws.{heard_of, heard_then}
+use Rattle.volume_turns.proofs.ScriptLaws.{heard_of, heard_then, rose_forced}
 use Rattle.volume_turns.proofs.script.group_read.Goals as goal
 
 pub returns-in-Ok-clause-group : goal.returns-in-Ok-clause-group
@@ -10,7 +11,7 @@ returns-in-Ok-clause-group g c honest k stands =
     let done = c.force_read in
     let back = done.ensures.trust.honest honest in
     group_stopped V.state V.holds M g.T.Says.errand k c.args.v c.read_all.new.v c.args.m.now c.read_all.new.m done.new.m (done.ensures.since honest) (c.read_all.ensures.later back) back stands
-    (done.ensures.input (g.met.M.Machine.honest_tells done.new.m honest)) done.ensures.told.input c.in-Ok.stop done.result done.ensures.same c.in-Ok.ensures.rose (c.in-Ok.ensures.reads (g.met.M.Machine.honest_tells c.read_all.new.m back)) (λ x at. done.ensures.closes honest x at)
+    (done.ensures.ledger (g.met.M.Machine.honest_tells done.new.m honest)).input done.ensures.told.input c.in-Ok.stop done.result done.ensures.same c.in-Ok.ensures.rose (c.in-Ok.ensures.reads (g.met.M.Machine.honest_tells c.read_all.new.m back)) (λ x at. done.ensures.closes honest x at)
 
 pub returns-then-is_worn_end-clause-group : goal.returns-then-is_worn_end-clause-group
 returns-then-is_worn_end-clause-group g c honest k stands =
@@ -52,3 +53,25 @@ returns-then-is_worn_end-clause-later g c h =
     let x = c.read_all.ensures.later (c.force_read-then-is_worn_end.ensures.trust.honest h) in
     let y = c.force_read-then-is_worn_end.ensures.later h in
     omega (arith, x, y)
+
+-- ---- what is counted of the input, and asked for
+
+pub returns-in-Ok-clause-rose : goal.returns-in-Ok-clause-rose
+returns-in-Ok-clause-rose g c =
+    let report = g.M.Machine.report in
+    let done = c.force_read in
+    rose_forced (report c.args.m.now) (report c.read_all.new.m) (report done.new.m) c.in-Ok.stop done.result c.in-Ok.ensures.rose done.ensures.told.input done.ensures.same
+
+pub returns-then-is_worn_end-clause-rose : goal.returns-then-is_worn_end-clause-rose
+returns-then-is_worn_end-clause-rose g c =
+    let report = g.M.Machine.report in
+    let done = c.force_read-then-is_worn_end in
+    rose_forced (report c.args.m.now) (report c.read_all.new.m) (report done.new.m) WornOut done.result c.in-Err.ensures.quiet done.ensures.told.input done.ensures.same
+
+pub returns-in-Ok-clause-attaches : goal.returns-in-Ok-clause-attaches
+returns-in-Ok-clause-attaches g c t = (c.force_read.ensures.ledger t).attaches ∙ c.read_all.ensures.attaches (c.force_read.ensures.trust.tells t)
+
+pub returns-then-is_worn_end-clause-attaches : goal.returns-then-is_worn_end-clause-attaches
+returns-then-is_worn_end-clause-attaches g c t =
+    let done = c.force_read-then-is_worn_end in
+    (done.ensures.ledger t).attaches ∙ c.read_all.ensures.attaches (done.ensures.trust.tells t)

@@ -18,6 +18,7 @@ loop-stop-init g c =
       up = c.requires.up;
       heard = heard_none (M.report c.args.m.now);
       input = refl;
+      attaches = λ t. refl;
       trust = record { tells = λ h. h; honest = λ h. h };
       since = λ h t left le was. was;
       later = λ h. omega arith;
@@ -43,6 +44,9 @@ returns-in-Ok-Some-clause-rose g c =
     rose_then (report c.args.m.now) (report c.loop-stop.m) (report c.read_on.new.m) (Some c.in-Ok-Some.stop) c.loop-stop.invariant.input
     (subst (λ (o : Option Stop). RoseBy (report c.loop-stop.m) (report c.read_on.new.m) o) c.in-Ok-Some.field-0-is c.in-Ok-Some.ensures.rose)
 
+pub returns-in-Ok-Some-clause-attaches : goal.returns-in-Ok-Some-clause-attaches
+returns-in-Ok-Some-clause-attaches g c t = c.read_on.ensures.attaches t ∙ c.loop-stop.invariant.attaches (c.read_on.ensures.trust.tells t)
+
 pub returns-in-Ok-Some-clause-since : goal.returns-in-Ok-Some-clause-since
 returns-in-Ok-Some-clause-since g c =
     let M = g.M.Machine in
@@ -67,6 +71,12 @@ pub returns-in-Err-clause-heard : goal.returns-in-Err-clause-heard
 returns-in-Err-clause-heard g c =
     let report = g.M.Machine.report in
     heard_end (report c.args.m.now) (report c.read_on.new.m) c.in-Err.end (heard_then (report c.args.m.now) (report c.loop-stop.m) (report c.read_on.new.m) tt (Err c.in-Err.end) c.loop-stop.invariant.heard c.in-Err.ensures.heard)
+
+pub returns-in-Err-clause-attaches : goal.returns-in-Err-clause-attaches
+returns-in-Err-clause-attaches g c t = c.read_on.ensures.attaches t ∙ c.loop-stop.invariant.attaches (c.read_on.ensures.trust.tells t)
+
+pub returns-in-Err-clause-quiet : goal.returns-in-Err-clause-quiet
+returns-in-Err-clause-quiet g c = c.in-Err.ensures.quiet ∙ c.loop-stop.invariant.input
 
 pub returns-in-Err-clause-since : goal.returns-in-Err-clause-since
 returns-in-Err-clause-since g c =
@@ -109,6 +119,7 @@ loop-stop-preserved g c =
       up = c.in-Ok-None.ensures.up;
       heard = heard_as (M.report c.args.m.now) (M.report c.read_on.new.m) c.in-Ok-None.field-0 tt (heard_then (M.report c.args.m.now) (M.report l.m) (M.report c.read_on.new.m) tt (Ok c.in-Ok-None.field-0) was.heard c.in-Ok-None.ensures.heard);
       input = subst (λ (o : Option Stop). RoseBy (M.report l.m) (M.report c.read_on.new.m) o) c.in-Ok-None.field-0-is c.in-Ok-None.ensures.rose ∙ was.input;
+      attaches = λ t. c.read_on.ensures.attaches t ∙ was.attaches (c.read_on.ensures.trust.tells t);
       trust = trusts_on was.trust c.read_on.ensures.trust;
       since = both.since;
       later = both.later;

@@ -15,6 +15,7 @@ invariant-loop-stop g l =
       up : (g.V.Files.state l.v).down ≡ None;
       heard : Heard {T = Unit {0}} (M.report l.fn.m) (M.report l.m) (Ok tt);
       input : (M.report l.m).input_faults ≡ (M.report l.fn.m).input_faults;
+      attaches : M.tells l.m → (M.ledger l.m).attaches ≡ (M.ledger l.fn.m).attaches;
       trust : Trusts (M.tells l.fn.m) (M.tells l.m) (M.honest l.fn.m) (M.honest l.m);
       since : M.honest l.m → Since M l.fn.m l.m;
       later : M.honest l.m → M.moment l.fn.m ≤ M.moment l.m;

@@ -1,4 +1,5 @@
-use Rattle.std.proofs.Common.{◌≡◌, Ok, Err, [], ◌∷◌, Option, Some, refl, sym, subst, arith}
+use Rattle.std.proofs.Common.{◌≡◌, Ok, Err, [], ◌∷◌, Option, Some, refl, sym, ◌∙◌, ap, subst, arith}
+use Rattle.sector_disk.specs.Machine.{Ledger}
 use Rattle.fsd_texts.specs.declared.command.Command.{Command as Word}
 use Rattle.script_text.specs.declared.fault.ScriptFault.{ScriptFault}
 use Rattle.script_text.specs.Reading.{Answers, NoneWaits, end_with, script_left}
@@ -21,7 +22,7 @@ returns-in-Ok-clause-reads g c t =
     let moves = subst (λ (o : Option Word). Moves (Ok o) c.args.reader.now c.next_command.new.self (M.ledger a) (M.ledger m)) c.in-Ok-Some.field-0-is (c.in-Ok-Some.ensures.moves back) in
     one_done V.state V.holds M g.T.Says.errand g.met.V.Files.wears (λ x h. g.met.M.Machine.short x h) (λ x left h was. g.met.M.Machine.only_now x left h was) c.args.v.now a m calls.trust.honest calls.exit calls.any_moment
     c.args.reader.now c.next_command.new.self c.in-Ok-Some.c c.step.new.v c.step.new.m (record { honest = c.step.ensures.trust.honest; since = c.step.ensures.since; later = c.step.ensures.later })
-    (moves_spells _ c.args.reader.now c.next_command.new.self (M.ledger a) (M.ledger m) (M.ledger c.step.new.m).input (c.in-Ok-Some.c ∷ []) (c.step.ensures.input t) moves (λ rest ahead. ahead)) c.step.ensures.later c.in-Ok.ensures.steps
+    (moves_spells _ c.args.reader.now c.next_command.new.self (M.ledger a) (M.ledger m) (M.ledger c.step.new.m).input (c.in-Ok-Some.c ∷ []) (c.step.ensures.ledger t).input moves (λ rest ahead. ahead)) c.step.ensures.later c.in-Ok.ensures.steps
 
 pub returns-in-Ok-Some-clause-reads : goal.returns-in-Ok-Some-clause-reads
 returns-in-Ok-Some-clause-reads g c t =
@@ -100,3 +101,26 @@ returns-clause-reads g c t =
     let calls = c.next_command.ensures.calls in
     none_read V.state V.holds M g.T.Says.errand g.met.V.Files.wears (λ x h. g.met.M.Machine.short x h) (λ x left h was. g.met.M.Machine.only_now x left h was) c.args.v.now a m calls.trust.honest calls.exit calls.any_moment
     (script_left c.args.reader.now (M.ledger a).input).0
+
+-- ---- what is asked for
+
+pub returns-in-Ok-clause-attaches : goal.returns-in-Ok-clause-attaches
+returns-in-Ok-clause-attaches g c t = (c.step.ensures.ledger t).attaches ∙ ap (λ (l : Ledger). l.attaches) (c.next_command.ensures.moves (c.step.ensures.trust.tells t)).left
+
+pub returns-in-Ok-Some-clause-attaches : goal.returns-in-Ok-Some-clause-attaches
+returns-in-Ok-Some-clause-attaches g c t = (c.step.ensures.ledger t).attaches ∙ ap (λ (l : Ledger). l.attaches) (c.next_command.ensures.moves (c.step.ensures.trust.tells t)).left
+
+pub returns-in-Ok-None-clause-attaches : goal.returns-in-Ok-None-clause-attaches
+returns-in-Ok-None-clause-attaches g c t = ap (λ (l : Ledger). l.attaches) (c.next_command.ensures.moves t).left
+
+pub returns-in-Err-Bad-clause-attaches : goal.returns-in-Err-Bad-clause-attaches
+returns-in-Err-Bad-clause-attaches g c t = ap (λ (l : Ledger). l.attaches) (c.next_command.ensures.moves t).left
+
+pub returns-in-Err-TooLong-clause-attaches : goal.returns-in-Err-TooLong-clause-attaches
+returns-in-Err-TooLong-clause-attaches g c t = ap (λ (l : Ledger). l.attaches) (c.next_command.ensures.moves t).left
+
+pub returns-in-Err-Input-clause-attaches : goal.returns-in-Err-Input-clause-attaches
+returns-in-Err-Input-clause-attaches g c t = ap (λ (l : Ledger). l.attaches) (c.next_command.ensures.moves t).left
+
+pub returns-clause-attaches : goal.returns-clause-attaches
+returns-clause-attaches g c t = ap (λ (l : Ledger). l.attaches) (c.next_command.ensures.moves t).left

@@ -1,5 +1,4 @@
-use Rattle.std.proofs.Common.{◌∙◌, ap, subst}
-use Rattle.sector_disk.specs.Machine.{Ledger}
+use Rattle.std.proofs.Common.{subst}
 use Rattle.sector_disk.specs.Image.{AreShort, Windows}
 use Rattle.volume_turns.specs.Steps.{reply_of}
 use Rattle.volume_turns.specs.Turns.{SaysAll, Unsaid}
@@ -36,9 +35,3 @@ returns-in-Err-clause-steps g c h k from stood aged =
     let at = g.met.V.Files.wears v k from (M.now a) (subst (λ (w : Windows). AreShort w) aged.windows (short a first)) aged stood in
     step_fault V.state V.holds M g.met.V.Files.wears short g.met.M.Machine.counts_now g.T.Says.errand c.requires.lazily c.args.c.now v c.answer.new.v a c.answer.new.m c.answer.new.m k from stood aged at _ disk c.in-Err.ensures.layout h (λ t left le was. was)
     c.in-Err.fault (c.in-Err.ensures.done h k at)
-
-pub returns-in-Ok-clause-input : goal.returns-in-Ok-clause-input
-returns-in-Ok-clause-input g c t = ap (λ (l : Ledger). l.input) (c.say.ensures.ledger t) ∙ (c.in-Ok.ensures.disk.ledger (c.say.ensures.trust.tells t)).input
-
-pub returns-in-Err-clause-input : goal.returns-in-Err-clause-input
-returns-in-Err-clause-input g c t = (c.in-Err.ensures.disk.ledger t).input

@@ -36,7 +36,7 @@ returns-in-Err-Output-clause-runs g c h rest k none stands =
     (subst (λ (e : End). Told {T = ℕ} (M.report a) (M.report b) (Err e)) c.in-Err-Output.field-0-is c.in-Err-Output.ensures.told)
 
 pub returns-in-Err-Fault-clause-status : goal.returns-in-Err-Fault-clause-status
-returns-in-Err-Fault-clause-status g c = fault_is_one c.in-Err-Fault.why c.end_with.result (subst IsEndOfVolume c.in-Err-Fault.field-0-is c.in-Err-Fault.ensures.fault) c.end_with.ensures.status
+returns-in-Err-Fault-clause-status g c = fault_is_one c.args.c.now c.in-Err-Fault.why c.end_with.result (subst IsEndOfVolume c.in-Err-Fault.field-0-is c.in-Err-Fault.ensures.fault) c.end_with.ensures.status
 
 pub returns-in-Err-Fault-clause-counts : goal.returns-in-Err-Fault-clause-counts
 returns-in-Err-Fault-clause-counts g c =

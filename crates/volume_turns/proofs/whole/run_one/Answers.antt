@@ -41,7 +41,7 @@ returns-in-Ok-clause-counts g c =
     counts_after (M.report c.args.m.now) (M.report c.mount.new.m) (M.report c.one_on.new.m) c.one_on.result c.in-Ok.ensures.disk.uses c.in-Ok.ensures.disk.faults c.one_on.ensures.counts
 
 pub returns-in-Err-clause-status : goal.returns-in-Err-clause-status
-returns-in-Err-clause-status g c = fault_is_one c.fault_of.result c.end_with.result (mount_of_volume c.in-Err.fault c.fault_of.result c.fault_of.ensures) c.end_with.ensures.status
+returns-in-Err-clause-status g c = fault_is_one c.args.c.now c.fault_of.result c.end_with.result (mount_of_volume c.in-Err.fault c.fault_of.result c.fault_of.ensures) c.end_with.ensures.status
 
 pub returns-in-Err-clause-counts : goal.returns-in-Err-clause-counts
 returns-in-Err-clause-counts g c =

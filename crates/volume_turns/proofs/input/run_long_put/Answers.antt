@@ -2,10 +2,11 @@ use Rattle.std.proofs.Common.{false, subst, arith}
 use Rattle.sector_disk.specs.Calls.{LeavesDisk}
 use Rattle.fsd_texts.specs.declared.fault.Fault.{Fault}
 use Rattle.fsd_runs.specs.declared.request.Request.TheVariants.{Put}
-use Rattle.volume_turns.specs.Line.{EndsWith, UttersFault, is_unsaid}
+use Rattle.volume_turns.specs.Line.{EndsWith, IsStatusFor, UttersFault, is_unsaid}
 use Rattle.volume_turns.proofs.InputLaws.{some_refusal}
+use Rattle.volume_turns.proofs.StatusLaws.{counts_after, fault_is_put, mount_counts, mount_of_volume}
 use Rattle.volume_turns.proofs.WholeLaws.{joined_run, refused_run}
-use Rattle.volume_turns.proofs.input.run_refused.Goals as goal
+use Rattle.volume_turns.proofs.input.run_long_put.Goals as goal
 
 pub returns-in-Ok-clause-leaves : goal.returns-in-Ok-clause-leaves
 returns-in-Ok-clause-leaves g c honest name keep input rest l windows h f many at =
@@ -32,3 +33,19 @@ returns-in-Err-clause-leaves g c honest name keep input rest l windows h f many 
     refused_run V.state V.holds M (Put name keep) input rest l windows h f c.args.sectors c.args.m.now m b at c.in-Err.fault (disk.quiet back) disk.uses disk.faults status says honest (g.met.M.Machine.short m back) ended
     (g.met.M.Machine.counts_now m (M.moment m) back (omega arith)) (g.met.M.Machine.counts_now b (M.moment m) honest ((says.any_moment honest).later)) (λ left was. g.met.M.Machine.only_now m left back was) (some_refusal name keep input many)
     (c.in-Err.ensures.sound back l windows h f at)
+
+-- ---- the status
+
+pub returns-in-Ok-clause-counts : goal.returns-in-Ok-clause-counts
+returns-in-Ok-clause-counts g c =
+    let M = g.M.Machine in
+    counts_after (M.report c.args.m.now) (M.report c.mount.new.m) (M.report c.refuse_input.new.m) c.refuse_input.result c.in-Ok.ensures.disk.uses c.in-Ok.ensures.disk.faults c.refuse_input.ensures.counts
+
+pub returns-in-Err-clause-status : goal.returns-in-Err-clause-status
+returns-in-Err-clause-status g c = fault_is_put c.fault_of.result c.end_with.result (mount_of_volume c.in-Err.fault c.fault_of.result c.fault_of.ensures) c.end_with.ensures.status
+
+pub returns-in-Err-clause-counts : goal.returns-in-Err-clause-counts
+returns-in-Err-clause-counts g c =
+    let M = g.M.Machine in
+    mount_counts (M.report c.args.m.now) (M.report c.mount.new.m) (M.report c.end_with.new.m) c.end_with.result c.end_with.ensures.says.spares c.in-Err.fault c.in-Err.ensures.disk.uses c.in-Err.ensures.disk.faults
+    (subst (λ (why : Fault). IsStatusFor why c.end_with.result) c.fault_of.ensures c.end_with.ensures.status)

@@ -1,0 +1,128 @@
+-- The statuses of each kind of run are among those of its request.
+use Rattle.std.proofs.Common.{◌≡◌, ◌⊎◌, inl, inr, ℕ, zero, suc, ◌≤◌, List, [], ◌∷◌, refl, sym, ◌∙◌, subst, arith}
+use Rattle.std.specs.Prelude.{IsTrue}
+use Rattle.fsd_files.specs.Replies.{Reply, Refused, DamagedAt}
+use Rattle.fsd_texts.specs.declared.command.Command.{Command}
+use Rattle.fsd_texts.specs.declared.command.Command.TheVariants as Word
+use Rattle.fsd_texts.specs.declared.fault.Fault.{Fault}
+use Rattle.fsd_texts.specs.declared.fault.Fault.TheVariants as Ends
+use Rattle.fsd_runs.specs.Errands.{fault_status, reply_status}
+use Rattle.volume_turns.specs.Status.{IsMadeStatus, IsOneStatus, IsPutStatus, IsScriptStatus, IsStatusBroken, IsStatusFrom}
+use Rattle.volume_turns.specs.Steps.{IsOfVolume}
+use Rattle.cfs_program.specs.Program.{is_one_of}
+
+pub one_at : (statuses : List ℕ) (n result : ℕ) → result ≡ n → IsTrue (is_one_of statuses n) → IsTrue (is_one_of statuses result)
+one_at statuses n result is has = subst (λ (x : ℕ). IsTrue (is_one_of statuses x)) (sym is) has
+
+-- ---- a fault of the volume, or an output that failed
+
+module _ (statuses : List ℕ) (three : IsTrue (is_one_of statuses 3)) (seven : IsTrue (is_one_of statuses 7)) (nine : IsTrue (is_one_of statuses 9)) (result : ℕ) where
+  fault_among : (why : Fault) → IsOfVolume why → (fault_status why ≡ 4 → IsTrue (is_one_of statuses (fault_status why))) → IsTrue (is_one_of statuses (fault_status why))
+  fault_among Ends.NotVolume of four = three
+  fault_among (Ends.Lost x y) of four = three
+  fault_among Ends.NoAnchor of four = three
+  fault_among (Ends.Unsound s) of four = three
+  fault_among (Ends.Device s) of four = four refl
+  fault_among Ends.Input of four = absurd of
+  fault_among Ends.InputTooLong of four = absurd of
+  fault_among Ends.Memory of four = seven
+  fault_among Ends.WornOut of four = nine
+
+  broken_all : IsTrue (is_one_of statuses 4) → IsTrue (is_one_of statuses 6) → IsStatusBroken result → IsTrue (is_one_of statuses result)
+  broken_all four six (inl (why, of, is)) = one_at statuses (fault_status why) result is (fault_among why of (λ at. one_at statuses 4 (fault_status why) at four))
+  broken_all four six (inr at) = one_at statuses 6 result at six
+
+  broken_complete : (result ≡ 4 → ⊥) → (result ≡ 6 → ⊥) → IsStatusBroken result → IsTrue (is_one_of statuses result)
+  broken_complete disk said (inl (why, of, is)) = one_at statuses (fault_status why) result is (fault_among why of (λ at. absurd (disk (is ∙ at))))
+  broken_complete disk said (inr six) = absurd (said six)
+
+low_is : (n : ℕ) → n ≤ 1 → (n ≡ 0) ⊎ (n ≡ 1)
+low_is zero low = inl refl
+low_is (suc zero) low = inr refl
+low_is (suc (suc n)) low = absurd (omega (arith, low))
+
+low_among : (statuses : List ℕ) → IsTrue (is_one_of statuses 0) → IsTrue (is_one_of statuses 1) → (result : ℕ) → result ≤ 1 → IsTrue (is_one_of statuses result)
+low_among statuses none one result low = by (low_is result low)
+  where
+    by : (result ≡ 0) ⊎ (result ≡ 1) → IsTrue (is_one_of statuses result)
+    by (inl is) = one_at statuses 0 result is none
+    by (inr is) = one_at statuses 1 result is one
+
+-- ---- one command
+
+abbrev one_complete : List ℕ
+one_complete = 0 ∷ 1 ∷ 3 ∷ 7 ∷ 8 ∷ 9 ∷ []
+
+abbrev one_all : List ℕ
+one_all = 0 ∷ 1 ∷ 3 ∷ 7 ∷ 8 ∷ 9 ∷ 4 ∷ 6 ∷ []
+
+reply_is : (reply : Reply) → IsTrue (is_one_of one_complete (reply_status reply)) × IsTrue (is_one_of one_all (reply_status reply))
+reply_is (Refused why) = (refl, refl)
+reply_is (DamagedAt key s) = (refl, refl)
+reply_is other = (refl, refl)
+
+from_is : (c : Command) (status : ℕ) → IsStatusFrom c status → IsTrue (is_one_of one_complete status) × IsTrue (is_one_of one_all status)
+from_is (Word.Put name bytes keep) status low = (low_among one_complete refl refl status low, low_among one_all refl refl status low)
+from_is c status (reply, is) = (one_at one_complete (reply_status reply) status is (reply_is reply).0, one_at one_all (reply_status reply) status is (reply_is reply).1)
+
+pub command_status : (c : Command) (result : ℕ) → IsOneStatus c result → IsTrue (is_one_of one_all result)
+command_status c result (inl from) = (from_is c result from).1
+command_status c result (inr broken) = broken_all one_all refl refl refl result refl refl broken
+
+pub command_complete : (c : Command) (result : ℕ) → IsOneStatus c result → (result ≡ 4 → ⊥) → (result ≡ 6 → ⊥) → IsTrue (is_one_of one_complete result)
+command_complete c result (inl from) disk said = (from_is c result from).0
+command_complete c result (inr broken) disk said = broken_complete one_complete refl refl refl result disk said broken
+
+-- ---- a put of the input
+
+abbrev put_complete : List ℕ
+put_complete = 0 ∷ 1 ∷ 3 ∷ 5 ∷ 7 ∷ 9 ∷ []
+
+abbrev put_all : List ℕ
+put_all = 0 ∷ 1 ∷ 3 ∷ 5 ∷ 7 ∷ 9 ∷ 4 ∷ 5 ∷ 6 ∷ []
+
+pub put_status : (result : ℕ) → IsPutStatus result → IsTrue (is_one_of put_all result)
+put_status result (inl low) = low_among put_all refl refl result low
+put_status result (inr (inl five)) = one_at put_all 5 result five refl
+put_status result (inr (inr broken)) = broken_all put_all refl refl refl result refl refl broken
+
+pub put_complete_is : (result : ℕ) → IsPutStatus result → (result ≡ 4 → ⊥) → (result ≡ 6 → ⊥) → IsTrue (is_one_of put_complete result)
+put_complete_is result (inl low) disk said = low_among put_complete refl refl result low
+put_complete_is result (inr (inl five)) disk said = one_at put_complete 5 result five refl
+put_complete_is result (inr (inr broken)) disk said = broken_complete put_complete refl refl refl result disk said broken
+
+-- ---- a script
+
+abbrev script_complete : List ℕ
+script_complete = 0 ∷ 2 ∷ 3 ∷ 5 ∷ 7 ∷ 9 ∷ []
+
+abbrev script_all : List ℕ
+script_all = 0 ∷ 2 ∷ 3 ∷ 5 ∷ 7 ∷ 9 ∷ 4 ∷ 5 ∷ 6 ∷ []
+
+pub script_status : (result : ℕ) → IsScriptStatus result → IsTrue (is_one_of script_all result)
+script_status result (inl none) = one_at script_all 0 result none refl
+script_status result (inr (inl two)) = one_at script_all 2 result two refl
+script_status result (inr (inr (inl five))) = one_at script_all 5 result five refl
+script_status result (inr (inr (inr broken))) = broken_all script_all refl refl refl result refl refl broken
+
+pub script_complete_is : (result : ℕ) → IsScriptStatus result → (result ≡ 4 → ⊥) → (result ≡ 6 → ⊥) → IsTrue (is_one_of script_complete result)
+script_complete_is result (inl none) disk said = one_at script_complete 0 result none refl
+script_complete_is result (inr (inl two)) disk said = one_at script_complete 2 result two refl
+script_complete_is result (inr (inr (inl five))) disk said = one_at script_complete 5 result five refl
+script_complete_is result (inr (inr (inr broken))) disk said = broken_complete script_complete refl refl refl result disk said broken
+
+-- ---- commands that are made up
+
+abbrev made_complete : List ℕ
+made_complete = 0 ∷ 3 ∷ 7 ∷ 9 ∷ []
+
+abbrev made_all : List ℕ
+made_all = 0 ∷ 3 ∷ 7 ∷ 9 ∷ 4 ∷ 6 ∷ []
+
+pub made_status : (result : ℕ) → IsMadeStatus result → IsTrue (is_one_of made_all result)
+made_status result (inl none) = one_at made_all 0 result none refl
+made_status result (inr broken) = broken_all made_all refl refl refl result refl refl broken
+
+pub made_complete_is : (result : ℕ) → IsMadeStatus result → (result ≡ 4 → ⊥) → (result ≡ 6 → ⊥) → IsTrue (is_one_of made_complete result)
+made_complete_is result (inl none) disk said = one_at made_complete 0 result none refl
+made_complete_is result (inr broken) disk said = broken_complete made_complete refl refl refl result disk said broken

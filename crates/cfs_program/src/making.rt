@@ -1,0 +1,41 @@
+//! Commands that are made up, over the image that they are for.
+ghost use Rattle.std.specs.Prelude.{◌≡◌, ℕ, List, [], IsFalse};
+ghost use Rattle.sector_disk.specs.declared.sector.WeakRun.{WeakRun};
+ghost use Rattle.sector_disk.specs.Machine.{LeavesOnly, Trusts};
+ghost use Rattle.volume_layout.specs.declared.layout.Layout.{Layout as Plan};
+ghost use Rattle.fsd_files.specs.Files.{Change};
+ghost use Rattle.fsd_runs.specs.Leaves.{LeavesRun};
+ghost use Rattle.fsd_runs.specs.declared.request.Request.TheVariants.{Generate};
+ghost use Rattle.volume_turns.specs.Status.{IsMadeStatus};
+ghost use Rattle.cfs_program.specs.Formatting.{AsksAll, AsksAtMost, CountsFaults};
+ghost use Rattle.cfs_program.specs.Opening.{IsSoundDisk, is_from_outside, mount_asks};
+
+use crate::ending::end_with;
+use fsd_texts::{Fault, Line};
+use sector_disk::{Attach, Machine};
+use std::alloc::Global;
+use volume_contract::Files;
+use volume_turns::run_generate;
+
+/// Makes up so many commands from a seed and does them over the volume of an image; at the end all is forced, and what came of
+/// them is said. It gives the status.
+pub fn run_made_up<M: Machine, V: Files<M> + Drop>(
+    alloc: Global,
+    m: &mut M,
+    path: &str,
+    seed: u64,
+    count: u32,
+) -> u8
+    ensures status { IsMadeStatus result }
+    ensures counts { CountsFaults (M.report m.old) (M.report m.new) result }
+    ensures asks { M.tells m.new → AsksAtMost (mount_asks path.now) (M.ledger m.old) (M.ledger m.new) }
+    ensures asked { IsFalse (is_from_outside result) → M.tells m.new → AsksAll (mount_asks path.now) (M.ledger m.old) (M.ledger m.new) }
+    ensures trust { Trusts (M.tells m.old) (M.tells m.new) (M.honest m.old) (M.honest m.new) }
+    ensures leaves { M.honest m.new → (rest : List ℕ) (l : Plan) (windows : List WeakRun) (h : List Change) (f : ℕ) → IsSoundDisk l windows h f (M.now m.old) →
+        LeavesRun (Generate seed count) [] rest l windows h f (M.left_since m.new) (LeavesOnly M.moment M.left_since m.old m.new) (M.report m.old) (M.report m.new) (M.now m.old) (M.now m.new) result }
+{
+    match m.attach(path, Attach::Old) {
+        Ok(sectors) => run_generate::<M, V>(alloc, m, sectors, seed, count),
+        Err(failed) => end_with(alloc, m, &Line::Ended(Fault::Device(failed.place)), 4),
+    }
+}

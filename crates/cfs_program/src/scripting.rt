@@ -1,0 +1,35 @@
+//! A script over the image that it names.
+ghost use Rattle.std.specs.Prelude.{◌≡◌, ◌++◌, ℕ, List, IsFalse};
+ghost use Rattle.sector_disk.specs.declared.sector.WeakRun.{WeakRun};
+ghost use Rattle.sector_disk.specs.Machine.{LeavesOnly, Trusts};
+ghost use Rattle.volume_layout.specs.declared.layout.Layout.{Layout as Plan};
+ghost use Rattle.fsd_files.specs.Files.{Change};
+ghost use Rattle.fsd_runs.specs.Leaves.{LeavesRun};
+ghost use Rattle.fsd_runs.specs.declared.request.Request.TheVariants.{Script};
+ghost use Rattle.volume_turns.specs.Status.{IsScriptStatus};
+ghost use Rattle.cfs_program.specs.Opening.{AsksOrNot, CountsReading, IsSoundDisk, is_from_outside, mount_asks};
+
+use crate::ending::end_with;
+use crate::replies::Scripted;
+use fsd_texts::{Fault, Line};
+use sector_disk::{Attach, Machine};
+use std::alloc::Global;
+use volume_contract::Files;
+use volume_turns::run_script;
+
+/// Does the commands of the input over the volume of an image, and says the reply of each; at the end all is forced. A fault is
+/// said where it comes. It gives the status.
+pub fn run_commands<M: Machine, V: Files<M> + Drop>(alloc: Global, m: &mut M, path: &str) -> u8
+    ensures status { IsScriptStatus result }
+    ensures counts { CountsReading (M.report m.old) (M.report m.new) result }
+    ensures asks { M.tells m.new → AsksOrNot (mount_asks path.now) (M.ledger m.old).attaches (M.ledger m.new).attaches }
+    ensures asked { IsFalse (is_from_outside result) → M.tells m.new → (M.ledger m.new).attaches ≡ (M.ledger m.old).attaches ++ mount_asks path.now }
+    ensures trust { Trusts (M.tells m.old) (M.tells m.new) (M.honest m.old) (M.honest m.new) }
+    ensures leaves { M.honest m.new → (l : Plan) (windows : List WeakRun) (h : List Change) (f : ℕ) → IsSoundDisk l windows h f (M.now m.old) →
+        LeavesRun Script (M.ledger m.old).input (M.ledger m.new).input l windows h f (M.left_since m.new) (LeavesOnly M.moment M.left_since m.old m.new) (M.report m.old) (M.report m.new) (M.now m.old) (M.now m.new) result }
+{
+    match m.attach(path, Attach::Old) {
+        Ok(sectors) => run_script::<M, V, Scripted>(alloc, m, sectors),
+        Err(failed) => end_with(alloc, m, &Line::Ended(Fault::Device(failed.place)), 4),
+    }
+}
