@@ -38,7 +38,7 @@ as_many_files [] (z ∷ entries) lists = absurd lists
 as_many_files (y ∷ files) [] lists = absurd lists
 as_many_files (y ∷ files) (z ∷ entries) lists = omega (arith, as_many_files files entries lists.1)
 
-split_count : (p : Entry → Bool) (entries : List Entry) → length (filter (λ e. not (p e)) entries) + length (filter p entries) ≡ length entries
+pub split_count : (p : Entry → Bool) (entries : List Entry) → length (filter (λ e. not (p e)) entries) + length (filter p entries) ≡ length entries
 split_count p [] = refl
 split_count p (z ∷ entries) = by (p z) (split_count p entries)
   where
@@ -56,22 +56,22 @@ module _ {D : Type 0} (M : MachineGhosts D) (short : (m : D) → M.honest m → 
   abbrev pages_left : List (List ℕ)
   pages_left = pages_now M short m m' v whole cached c flags None edits honest k stands
 
-  abbrev reached_left : ℕ
+  abbrev pub reached_left : ℕ
   reached_left = length (pages_of pages_left (has_table M short m m' v whole cached c flags None edits honest k stands few within (entries_without (key ∷ [])) makes).height)
 
-  abbrev volume_left : Volume
+  abbrev pub volume_left : Volume
   volume_left = (deleted (volume_of k) key reached_left (Some e)).1
 
   abbrev pub known_left : Known
   known_left = known_after k (Change.Delete key) volume_left pages_left c.dirty
 
-  alone : entries_at (key ∷ []) (volume_of k).entries ≡ e ∷ []
+  pub alone : entries_at (key ∷ []) (volume_of k).entries ≡ e ∷ []
   alone =
       let tree = is_tree v k (M.now m) whole stands in
       let ascend : Ascend (volume_of k).entries = subst Ascend tree.2 (entries_ascend (tree.0 - 1) k.mounted.pages top tree.1.subtree) in
       one_at key (volume_of k).entries e ascend there
 
-  one_less : length volume_left.files + 1 ≡ v.versions
+  pub one_less : length volume_left.files + 1 ≡ v.versions
   one_less =
       let now = worn M short m m' v whole cached c flags None edits honest k stands in
       let after = after_deleted (in_runs k.windows) (M.now m').image (volume_of k) reached_left e now.disk.spaced now.holds.drafts now.disk.described key there in

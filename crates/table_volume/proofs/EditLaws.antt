@@ -1,18 +1,26 @@
 -- What a table over a cache leaves where it was edited.
 use Rattle.std.proofs.Common.{◌≡◌, ℕ, ◌+◌, ◌-◌, ◌<◌, ◌≤◌, Bool, List, length, Option, None, sym, ap, subst, ◌∙◌, arith}
-use Rattle.std.specs.Prelude.{Result, Ok, Err, IfOk, OnErr, OnOk, not}
+use Rattle.std.specs.Prelude.{Result, Ok, Err, IfErr, IfOk, OnErr, OnOk, not, count_by}
 use Rattle.std.specs.Borrow.{MutBor}
 use Rattle.run_table.specs.Space.{contains}
 use Rattle.fsd_bytes.specs.declared.key.Key.{Key}
+use Rattle.fsd_bytes.specs.Keys.{max_u32}
+use Rattle.sector_set.specs.Area.{Area}
+use Rattle.shadow_frees.specs.Waits.{Waits}
 use Rattle.fsd_files.specs.Answers.{entries_with_keep, highest_entry}
 use Rattle.fsd_bytes.specs.declared.refusal.Refusal.{Refusal}
 use Rattle.fsd_formats.specs.declared.entry.Entry.{Entry}
+use Rattle.fsd_table.specs.Table.{BreaksTable}
 use Rattle.fsd_table.specs.Tree.{IsTree, pages_of, table_of}
 use Rattle.sector_disk.specs.declared.machine.Machine.{Ghosts as MachineGhosts}
 use Rattle.sector_disk.specs.Calls.{OnlyReads}
 use Rattle.page_cache.specs.declared.source.PageSource.{Ghosts as SourceGhosts}
 use Rattle.page_cache.specs.Cache.{AreNewest, CacheValue, is_one_of, newest}
-use Rattle.name_page.specs.Pages.{Step, is_spare, rested, with_one}
+use Rattle.name_page.specs.Pages.{Step, is_spare, rested, with_one, free_count}
+use Rattle.name_btree.specs.declared.fault.TreeFault.{TreeFault}
+use Rattle.name_btree.specs.Fault.{BarsTable, HasCause}
+use Rattle.version_table.specs.declared.fault.VersionFault.{VersionFault}
+use Rattle.version_table.specs.declared.fault.VersionFault.TheVariants.{Table as InTable, NoSuch, VersionsUsedUp}
 use Rattle.name_btree.specs.Map.{HasTable, IsTable}
 use Rattle.table_pages.specs.Bringing.{IsTrusted, OnlyPins, given_by}
 use Rattle.table_pages.specs.Kept.{IsReady}
@@ -20,8 +28,12 @@ use Rattle.table_pages.specs.ImageLaws.{image_count}
 use Rattle.table_pages.specs.Reads.{Fills, LosesFor, device_of}
 use Rattle.table_pages.specs.Table.{IsAtRest, IsClean, IsOver, ReadsOnly, Trusted, begun, step_of}
 use Rattle.table_pages.specs.declared.table.Table.{Table}
-use Rattle.table_volume.specs.Editing.{ChangesNone, ChangesOne, DirtiesAtMost, DirtiesOne, EditsOnly, EditsTable, SetsKeep, SetsKeepIn, StaysIn, as_step}
-use Rattle.table_volume.specs.Looking.{images_by}
+use Rattle.table_volume.specs.Editing.{ChangesNone, ChangesOne, DirtiesAtMost, DirtiesOne, EditsOnly, EditsTable, FaultsEdit, FaultsKeep, HasNone, KeepFails, SetsKeep, SetsKeepIn, StaysIn, as_step}
+use Rattle.table_volume.specs.Looking.{FaultIn, images_by, BarsPages}
+use Rattle.table_volume.proofs.LookLaws.{fault_there}
+use Rattle.table_volume.specs.Entering.{EntersNoneIn, LosesUntaken, OfTableIn, RefusesFor}
+use Rattle.table_volume.proofs.EnteringLaws.{refuses_so}
+use Rattle.version_table.specs.Versions.{next_key}
 
 -- a table is one by its pages and their flags alone
 pub same_table : (a b : Step) (height : ℕ) → b.images ≡ a.images → b.spares ≡ a.spares → IsTable a height → IsTable b height
@@ -147,6 +159,22 @@ module _ {D E : Type 0} {M : MachineGhosts D} {S : SourceGhosts E} where
       changed = ap (λ (x : CacheValue). x.dirty) left_cache ∙ pins.dirty ∙ one.changed ∙ ap (λ (x : MutBor CacheValue). with_one x.now.dirty one.page) over.cached;
     }
 
+    -- why it failed
+    fault_last : (step_of b).home_a ≡ (step_of a).home_a → (fault : TreeFault) → (Trusted b → HasCause (step_of b) (BreaksTable (step_of b).images) (BarsTable (step_of b)) fault)
+        → FaultsEdit M S source m.now c.m.now cache.now c.cache.now c.free.now home_a fault
+    fault_last same_home fault cause = record {
+      cause = λ t.
+          let home : (step_of b).home_a ≡ home_a = same_home ∙ ap (λ (s : Step). s.home_a) begins in
+          subst (λ (images : List (List ℕ)). FaultIn images c.free.now home_a fault) (sym images_last)
+          (subst (λ (flags : List Bool). FaultIn (step_of b).images flags home_a fault) (sym flags_last)
+          (subst (λ (h : ℕ). FaultIn (step_of b).images (step_of b).spares h fault) home (fault_there (step_of b) fault (cause (trusted_b t)))));
+    }
+
+    none_last : (name : List ℕ) → (Trusted b → (height : ℕ) → IsTree (step_of a).images height → highest_entry name (table_of (step_of a).images height) ≡ None) → HasNone M S source m.now c.m.now cache.now free.now name
+    none_last name none = record {
+      none = λ t. subst (λ (images : List (List ℕ)). (height : ℕ) → IsTree images height → highest_entry name (table_of images height) ≡ None) (ap (λ (s : Step). s.images) begins) (none (trusted_b t));
+    }
+
     stays_only : ChangesNone (Trusted b) (step_of a) (step_of b) → StaysIn M S source m.now c.m.now cache.now c.cache.now free.now c.free.now
     stays_only none = record {
       dirty = pins.dirty ∙ none.changed ∙ ap (λ (x : MutBor CacheValue). x.now.dirty) over.cached;
@@ -191,3 +219,61 @@ module _ {D E : Type 0} {M : MachineGhosts D} {S : SourceGhosts E} where
           subst (λ (n : D). StaysIn M S source m.now n cache.now cache' free.now free') (sym left)
           (subst (λ (x : CacheValue). StaysIn M S source m.now c.m.now cache.now x free.now free') (sym left_cache)
           (subst (λ (f : List Bool). StaysIn M S source m.now c.m.now cache.now c.cache.now free.now f) (sym left_free) (stays_only none)))
+
+      pub faults_left : (step_of b).home_a ≡ (step_of a).home_a → {T : Type 0} (r : Result T TreeFault) → IfErr r (λ fault. Trusted b → HasCause (step_of b) (BreaksTable (step_of b).images) (BarsTable (step_of b)) fault)
+          → IfErr r (FaultsEdit M S source m.now m' cache.now cache' free' home_a)
+      faults_left same_home (Ok x) cause = tt
+      faults_left same_home (Err fault) cause =
+          subst (λ (n : D). FaultsEdit M S source m.now n cache.now cache' free' home_a fault) (sym left)
+          (subst (λ (x : CacheValue). FaultsEdit M S source m.now c.m.now cache.now x free' home_a fault) (sym left_cache)
+          (subst (λ (f : List Bool). FaultsEdit M S source m.now c.m.now cache.now c.cache.now f home_a fault) (sym left_free) (fault_last same_home fault cause)))
+
+      pub keeps_left : (step_of b).home_a ≡ (step_of a).home_a → {T : Type 0} (name : List ℕ) (r : Result T VersionFault) → IfErr r (λ fault. KeepFails (Trusted b) (step_of a) (step_of b) name fault)
+          → IfErr r (FaultsKeep M S source m.now m' cache.now cache' free.now free' home_a name)
+      keeps_left same_home name (Ok x) cause = tt
+      keeps_left same_home {T = T} name (Err (InTable fault)) cause = faults_left same_home {T = T} (Err fault) cause
+      keeps_left same_home name (Err NoSuch) cause = subst (λ (n : D). HasNone M S source m.now n cache.now free.now name) (sym left) (none_last name cause)
+      keeps_left same_home name (Err VersionsUsedUp) cause = cause
+
+      -- what holds of the table that there was
+      pub of_left : (Is : List Entry → Type 0) → (Trusted b → (height : ℕ) → IsTree (step_of a).images height → Is (table_of (step_of a).images height)) → OfTableIn M S source m.now m' cache.now free.now Is
+      of_left Is h t height tree =
+          let images : (step_of a).images ≡ images_by M S source m.now cache.now (length free.now) = ap (λ (s : Step). s.images) begins in
+          subst (λ (p : List (List ℕ)). Is (table_of p height)) images
+          (h (trusted_b (subst (IsTrusted M S source m.now cache.now) left t)) height (subst (λ (p : List (List ℕ)). IsTree p height) (sym images) tree))
+
+      pub of_so : {X F : Type 0} (Is : X → List Entry → Type 0) (r : Result X F) → IfOk r (λ x. Trusted b → (height : ℕ) → IsTree (step_of a).images height → Is x (table_of (step_of a).images height))
+          → IfOk r (λ x. OfTableIn M S source m.now m' cache.now free.now (Is x))
+      of_so Is (Err fault) h = tt
+      of_so Is (Ok x) h = of_left (Is x) h
+
+      -- what was made, by what is answered
+      pub made_so : {X F : Type 0} (edit : X → List Entry → List Entry) (r : Result X F) → IfOk r (λ x. Trusted b → (height : ℕ) → IsTable (step_of a) height → HasTable (step_of b) (edit x (table_of (step_of a).images height)))
+          → IfOk r (λ x. EditsTable M S source m.now m' cache.now cache' free.now free' (edit x))
+      made_so edit (Err fault) makes = tt
+      made_so edit (Ok x) makes = made_left {T = Unit {0}} {F = Unit {0}} (Ok tt) (edit x) makes
+
+      -- why no version was entered
+      pub refuses_left : {T : Type 0} (map : Area) (w : Waits) (name : List ℕ) (r : Result T Refusal)
+          → IfErr r (RefusesFor (Trusted b → (page : ℕ) × BarsTable (step_of b) page) (Trusted b → (height : ℕ) → IsTree (step_of a).images height → LosesUntaken map w (table_of (step_of a).images height))
+          (Trusted b → (height : ℕ) → IsTree (step_of a).images height → max_u32 < (next_key name (table_of (step_of a).images height)).version)
+          (Trusted b → (height : ℕ) → IsTree (step_of a).images height → (next_key name (table_of (step_of a).images height)).version ≤ max_u32) (free_count (step_of a)))
+          → IfErr r (EntersNoneIn M S source map w name m.now m' cache.now cache' free.now free')
+      refuses_left map w name (Ok x) none = tt
+      refuses_left map w name (Err why) none = record {
+        cause = refuses_so (free_count (step_of a)) (count_by (λ spare. spare) free.now) (ap free_count begins) barred
+            (of_left (LosesUntaken map w)) (of_left (λ table. max_u32 < (next_key name table).version)) (of_left (λ table. (next_key name table).version ≤ max_u32)) why none;
+      }
+        where
+          images_here : images_by M S source m' cache' (length free') ≡ (step_of b).images
+          images_here = (λ i. images_by M S source (left i) (left_cache i) (length (left_free i))) ∙ images_last
+
+          flags_here : free' ≡ (step_of b).spares
+          flags_here = left_free ∙ flags_last
+
+          barred : (Trusted b → (page : ℕ) × BarsTable (step_of b) page) → IsTrusted M S source m.now cache.now m' → (page : ℕ) × BarsPages (images_by M S source m' cache' (length free')) free' page
+          barred h t =
+              let one = h (trusted_b (subst (IsTrusted M S source m.now cache.now) left t)) in (
+                one.0,
+                subst (λ (p : List (List ℕ)). BarsPages p free' one.0) (sym images_here) (subst (λ (f : List Bool). BarsPages (step_of b).images f one.0) (sym flags_here) one.1),
+              )

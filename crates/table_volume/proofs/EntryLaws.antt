@@ -1,6 +1,9 @@
 -- What is told of an entry that is looked up in a volume's table.
-use Rattle.std.proofs.Common.{◌≡◌, inl, inr, ℕ, suc, Bool, true, false, cond, List, [], ◌∷◌, Option, Some, Result, Ok, Err, sym, ap, subst, ◌∙◌, arith}
+use Rattle.std.proofs.Common.{◌≡◌, inl, inr, ℕ, suc, Bool, true, false, cond, List, [], ◌∷◌, Option, Some, Result, Ok, Err, refl, sym, ap, subst, ◌∙◌, arith}
 use Rattle.std.specs.Prelude.{Contains, IsTrue}
+use Rattle.std.specs.Ordering.{is_eq}
+use Rattle.std.specs.declared.cmp.Ordering.{Ordering}
+use Rattle.std.specs.declared.cmp.Ordering.TheVariants.{Less, Equal, Greater}
 use Rattle.volume_layout.specs.declared.layout.Layout.{Layout}
 use Rattle.volume_layout.specs.Layout.{home_a}
 use Rattle.sector_disk.specs.declared.machine.Machine.{Ghosts as MachineGhosts}
@@ -9,8 +12,9 @@ use Rattle.sector_disk.specs.Machine.{Moment}
 use Rattle.fsd_bytes.specs.declared.key.Key.{Key}
 use Rattle.fsd_bytes.specs.declared.refusal.Refusal.{Refusal}
 use Rattle.fsd_bytes.specs.declared.refusal.Refusal.TheVariants as Why
-use Rattle.fsd_bytes.specs.Keys.{same_key}
+use Rattle.fsd_bytes.specs.Keys.{key_cmp, same_key}
 use Rattle.fsd_formats.specs.declared.entry.Entry.{Entry}
+use Rattle.fsd_files.proofs.ListingLaws.{alike_is}
 use Rattle.fsd_files.specs.Answers.{entry_of, entry_reply, found_or}
 use Rattle.fsd_files.specs.Replies.{Reply}
 use Rattle.fsd_files.specs.Volume.{Volume}
@@ -82,7 +86,7 @@ fault_looked_up reply e (Why.Long declared got) h = absurd h
 -- ---- a page that is lost
 
 -- the copies by the log are those by what the volume tells
-copies_told : (v : VolumeValue) → IsWhole v → (page a b : ℕ) → AreCopiesBy v.log page a b → AreCopiesOf (state v) page a b
+pub copies_told : (v : VolumeValue) → IsWhole v → (page a b : ℕ) → AreCopiesBy v.log page a b → AreCopiesOf (state v) page a b
 copies_told v whole page a b (inl logged) = inl logged.lies
 copies_told v whole page a b (inr (none, homes)) = inr (none, subst (λ (l : Layout). AreHomesOf l page a b) whole.log homes)
 
@@ -106,3 +110,28 @@ module _ {D : Type 0} (M : MachineGhosts D) (m m' : D) (v w : VolumeValue) (is :
         first = copies.first;
         second = copies.second;
       })
+
+-- ---- an entry that is met
+
+pub entry_key : (key : Key) (entries : List Entry) (e : Entry) → entry_of key entries ≡ Some e → e.key ≡ key
+entry_key key [] e is = absurd (cc is)
+entry_key key (x ∷ entries) e is = by (key_cmp x.key key) refl is (entry_key key entries e)
+  where
+    by : (o : Ordering) → key_cmp x.key key ≡ o → cond (is_eq o) (Some x) (entry_of key entries) ≡ Some e → (entry_of key entries ≡ Some e → e.key ≡ key) → e.key ≡ key
+    by Equal alike here later = let same : x ≡ e = cc here in ap (λ (y : Entry). y.key) (sym same) ∙ alike_is x.key key alike
+    by Less other here later = later here
+    by Greater other here later = later here
+
+pub met_taken : (v : VolumeValue) (page : ℕ) (e x : Entry) (r : Result Entry Refusal) → r ≡ met_entry v page e → r ≡ Ok x → (x ≡ e) × (are_taken v e.runs ≡ true)
+met_taken v page e x r met ok = by (are_taken v e.runs) refl (sym met ∙ ok)
+  where
+    by : (b : Bool) → are_taken v e.runs ≡ b → cond b (Ok e) (Err (Why.Unsound (home_a v.layout page))) ≡ Ok x → (x ≡ e) × (are_taken v e.runs ≡ true)
+    by true taken is = let same : e ≡ x = cc is in (sym same, taken)
+    by false untaken is = absurd (cc is)
+
+pub met_refused : (v : VolumeValue) (page : ℕ) (e : Entry) (why : Refusal) (r : Result Entry Refusal) → r ≡ met_entry v page e → r ≡ Err why → (why ≡ Why.Unsound (home_a v.layout page)) × (are_taken v e.runs ≡ false)
+met_refused v page e why r met err = by (are_taken v e.runs) refl (sym met ∙ err)
+  where
+    by : (b : Bool) → are_taken v e.runs ≡ b → cond b (Ok e) (Err (Why.Unsound (home_a v.layout page))) ≡ Err why → (why ≡ Why.Unsound (home_a v.layout page)) × (are_taken v e.runs ≡ false)
+    by true taken is = absurd (cc is)
+    by false untaken is = let same : Why.Unsound (home_a v.layout page) ≡ why = cc is in (sym same, untaken)

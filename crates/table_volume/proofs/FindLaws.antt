@@ -35,7 +35,7 @@ use Rattle.table_volume.proofs.WearLaws.{stands_worn}
 -- ---- refusals
 
 -- a refusal from outside is the disk's, or a want of memory, or a loss
-outer_cases : (P : Refusal → Type 0) → ((s : ℕ) → P (Why.Device s)) → ((a b : ℕ) → P (Why.Lost a b)) → P Why.Memory → (r : Refusal) → IsOuter r → P r
+pub outer_cases : (P : Refusal → Type 0) → ((s : ℕ) → P (Why.Device s)) → ((a b : ℕ) → P (Why.Lost a b)) → P Why.Memory → (r : Refusal) → IsOuter r → P r
 outer_cases P device lost memory Why.NoSuch e = absurd (cc e)
 outer_cases P device lost memory (Why.TooLong n) e = absurd (cc e)
 outer_cases P device lost memory (Why.NoSpace need free) e = absurd (cc e)

@@ -1,15 +1,10 @@
--- What a stop leaves of a volume's force.
+-- Which fault of the disk a volume's force tells.
 use Rattle.std.proofs.Common.{◌≡◌, ℕ, Option, Some, None, Err, refl, subst}
 use Rattle.fsd_bytes.specs.declared.refusal.Refusal.{Refusal}
 use Rattle.fsd_bytes.specs.declared.refusal.Refusal.TheVariants as Why
-use Rattle.sector_disk.specs.Machine.{Moment}
-use Rattle.log_thirds.specs.LogValue.{LogValue}
-use Rattle.page_cache.specs.Cache.{CacheValue}
-use Rattle.group_commit.specs.Cached.{CacheLeaves, with_waiting}
-use Rattle.group_commit.specs.Force.{force_failed_at, stamped_by}
+use Rattle.group_commit.specs.Force.{force_failed_at}
 use Rattle.group_commit.specs.declared.force.ForceFault.{ForceFault}
 use Rattle.group_commit.specs.declared.force.ForceFault.TheVariants as fault
-use Rattle.group_commit.proofs.CommitLaws.{idle_commits}
 use Rattle.volume_contract.specs.Ends.{device_of}
 use Rattle.table_volume.specs.Forcing.{force_refusal}
 use Rattle.table_volume.specs.Taken.{down_fault}
@@ -23,7 +18,3 @@ down_tells_none (Some place) r e = let same : Why.Down place ≡ r = cc e in sub
 pub tells_place : (f : ForceFault) → device_of (force_refusal f) ≡ force_failed_at f
 tells_place (fault.Device place) = refl
 tells_place (fault.Lost a b) = refl
-
--- nothing is written
-pub leaves_same : (log : LogValue) (c : CacheValue) (old : Moment) → CacheLeaves log c old old
-leaves_same log c old pages agrees windows records disk ends over known = idle_commits log (with_waiting c pages) records disk (stamped_by log (with_waiting c pages)) windows old over

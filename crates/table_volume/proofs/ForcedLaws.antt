@@ -54,7 +54,7 @@ stamped_pins log c page = ap (λ (o : Option Held). option_map_or (λ h. h.pins)
 
 -- ---- areas
 
-own_of : (f : ℕ → Bool) (from to : ℕ) → area from to f ≡ area from to (contains (where_free f from to))
+pub own_of : (f : ℕ → Bool) (from to : ℕ) → area from to f ≡ area from to (contains (where_free f from to))
 own_of f from to = λ i. record { from = from; to = to; sectors = where_same f (contains (where_free f from to)) from to (λ s low high. sym (contains_where f from to s low high)) i }
 
 module _ (v : VolumeValue) (whole : IsWhole v) where

@@ -114,7 +114,7 @@ module _ (hurt : Sectors) (i : Image) (v : Volume) (r : ℕ) (e : Entry) (spaced
 
 -- ---- the sectors
 
-split_in : (p : Entry → Bool) (s : ℕ) (entries : List Entry) → is_in (plans_of entries) s ≡ (is_in (plans_of (filter (λ e. not (p e)) entries)) s || is_in (plans_of (filter p entries)) s)
+pub split_in : (p : Entry → Bool) (s : ℕ) (entries : List Entry) → is_in (plans_of entries) s ≡ (is_in (plans_of (filter (λ e. not (p e)) entries)) s || is_in (plans_of (filter p entries)) s)
 split_in p s [] = refl
 split_in p s (z ∷ entries) = both z entries ∙ by (p z) (split_in p s entries)
   where

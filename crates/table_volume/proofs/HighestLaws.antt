@@ -1,20 +1,28 @@
 -- The highest version of a name, which is found again by its key.
-use Rattle.std.proofs.Common.{◌≡◌, ℕ, List, [], ◌∷◌, filter, Option, Some, None, refl, sym, ap, subst, ◌∙◌}
+use Rattle.std.proofs.Common.{◌≡◌, inl, inr, ℕ, List, [], ◌∷◌, filter, Option, Some, None, refl, sym, ap, subst, ◌∙◌}
 use Rattle.std.specs.Prelude.{IfSome}
 use Rattle.std.specs.List.{AllByRecursion, last_or}
 use Rattle.fsd_bytes.specs.Bytes.{same_bytes}
 use Rattle.fsd_bytes.specs.declared.refusal.Refusal.{Refusal}
 use Rattle.fsd_formats.specs.declared.entry.Entry.{Entry}
+use Rattle.fsd_table.specs.Table.{BreaksTable}
 use Rattle.fsd_table.specs.Tree.{IsTree, table_of}
 use Rattle.fsd_table.proofs.BoundLaws.{Ascend}
 use Rattle.fsd_files.specs.Answers.{entries_with_keep, entry_of, highest_entry}
 use Rattle.name_page.specs.declared.pages.Pages.{Ghosts}
 use Rattle.name_page.specs.Looks.{OnlyWalks}
+use Rattle.name_page.specs.Pages.{Step}
+use Rattle.name_btree.specs.declared.fault.TreeFault.{TreeFault}
+use Rattle.name_btree.specs.declared.fault.TreeFault.TheVariants.{Pages, Broken}
+use Rattle.name_btree.specs.Fault.{BarsTable, HasCause}
 use Rattle.name_btree.specs.Map.{HasTable, IsTable}
+use Rattle.version_table.specs.declared.fault.VersionFault.{VersionFault}
+use Rattle.version_table.specs.declared.fault.VersionFault.TheVariants.{Table, NoSuch, VersionsUsedUp}
+use Rattle.version_table.specs.Fault.{FailsLook}
 use Rattle.version_table.specs.Table.{MakesTable, OfTable}
 use Rattle.version_table.proofs.PlanLaws.{each_found, each_kept}
 use Rattle.version_table.proofs.StepLaws.{tree_ascends}
-use Rattle.table_volume.specs.Editing.{ChangesNone, SetsKeep}
+use Rattle.table_volume.specs.Editing.{ChangesNone, KeepFails, SetsKeep}
 use Rattle.table_volume.proofs.EditLaws.{same_table}
 
 last_one : (P : Entry → Type 0) (o : Option Entry) (xs : List Entry) → IfSome o P → AllByRecursion P xs → IfSome (last_or o xs) P
@@ -45,6 +53,15 @@ module _ {D : Type 0} (P : Ghosts D) (old now : D) (walks : OnlyWalks P None old
         set = subst (HasTable (P.step new)) (ap (λ (pages : List (List ℕ)). entries_with_keep e.key keep (table_of pages height)) same) (makes trusted height (same_table (P.step old) (P.step now) height same walks.spares table));
       }
 
+-- ---- any edit behind a plan
+
+module _ {D : Type 0} (P : Ghosts D) (old now : D) (walks : OnlyWalks P None old now) where
+  -- what is made then is made of the table before
+  pub makes_before : (new : D) (edit : List Entry → List Entry) → (P.trusted new → P.trusted now) → MakesTable P now new edit → MakesTable P old new edit
+  makes_before new edit trust makes trusted height table =
+      let same = walks.stays (trust trusted) in
+      subst (HasTable (P.step new)) (ap (λ (pages : List (List ℕ)). edit (table_of pages height)) same) (makes trusted height (same_table (P.step old) (P.step now) height same walks.spares table))
+
 -- ---- no edit
 
 pub none_walked : {D : Type 0} (P : Ghosts D) (refusal : Option Refusal) (a b : D) → OnlyWalks P refusal a b → ChangesNone (P.trusted b) (P.step a) (P.step b)
@@ -56,3 +73,20 @@ none_after P refusal a b c first then = record {
   spares = then.spares ∙ first.spares;
   images = λ trusted. then.stays trusted ∙ first.stays (then.trust trusted);
 }
+
+-- ---- why it fails
+
+pub fails_trusted : (trusted : Type 0) (s : Step) (fault : TreeFault) → HasCause s (λ page. trusted → BreaksTable s.images page) (λ page. trusted → BarsTable s page) fault → trusted → HasCause s (BreaksTable s.images) (BarsTable s) fault
+fails_trusted trusted s (Pages refusal) fails t = (
+  fails.0,
+  elim fails.1 [
+    | inl outer ↦ inl outer
+    | inr barred ↦ inr (barred.0, barred.1, barred.2 t)
+  ],
+)
+fails_trusted trusted s (Broken page) fails t = fails t
+
+pub look_fails : {D : Type 0} (P : Ghosts D) (old new : D) (name : List ℕ) (fault : VersionFault) → FailsLook P new (OfTable P old new (λ table. highest_entry name table ≡ None)) ⊥ fault → KeepFails (P.trusted new) (P.step old) (P.step new) name fault
+look_fails P old new name (Table fault) fails = λ trusted. fails
+look_fails P old new name NoSuch fails = fails
+look_fails P old new name VersionsUsedUp fails = fails

@@ -54,7 +54,7 @@ one_of_with xs page other there = by (is_one_of xs page) there
     ]
 
 -- a tree tells the same at each height
-same_told : (pages : List (List ℕ)) (a b : ℕ) → IsTree pages a → IsTree pages b → table_of pages a ≡ table_of pages b
+pub same_told : (pages : List (List ℕ)) (a b : ℕ) → IsTree pages a → IsTree pages b → table_of pages a ≡ table_of pages b
 same_told pages a b one other =
     let both : Some (record { entries = table_of pages a; reached = length (pages_of pages a) }) ≡ Some (record { entries = table_of pages b; reached = length (pages_of pages b) }) =
     sym (tree_told pages a one) ∙ tree_told pages b other in

@@ -41,7 +41,7 @@ home_named home_a page place is = cc is
 
 -- ---- faults
 
-fault_there : (s : Step) (f : TreeFault) → HasCause s (BreaksTable s.images) (BarsTable s) f → FaultIn s.images s.spares s.home_a f
+pub fault_there : (s : Step) (f : TreeFault) → HasCause s (BreaksTable s.images) (BarsTable s) f → FaultIn s.images s.spares s.home_a f
 fault_there s (Pages refusal) cause = cause.1
 fault_there s (Broken page) cause = cause
 

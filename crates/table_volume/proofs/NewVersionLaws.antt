@@ -65,7 +65,7 @@ written_kept now windows bytes e ends version =
 -- ---- the volume with it
 
 -- the same test of the keys of files and of entries
-passed_listed : (p : Key → Bool) (s : Files) (entries : List Entry) → Lists s entries → Lists (filter (λ e. p e.0) s) (filter (λ e. p e.key) entries)
+pub passed_listed : (p : Key → Bool) (s : Files) (entries : List Entry) → Lists s entries → Lists (filter (λ e. p e.0) s) (filter (λ e. p e.key) entries)
 passed_listed p [] [] lists = tt
 passed_listed p [] (z ∷ entries) lists = absurd lists
 passed_listed p (y ∷ s) [] lists = absurd lists

@@ -11,9 +11,10 @@ use Rattle.fsd_files.specs.Answers.{Met, Outcome, force_outcome}
 use Rattle.fsd_files.specs.Replies.{Reply, Forced}
 use Rattle.fsd_files.specs.Volume.{forced, forced_for_place}
 use Rattle.fsd_sound.specs.Mounted.{Mounted}
+use Rattle.sector_disk.specs.Calls.{device_in}
 use Rattle.sector_disk.specs.Machine.{Moment}
-use Rattle.volume_contract.specs.Ends.{Answered, EndsForce}
-use Rattle.volume_contract.specs.Order.{Comes, Follows, Force, IsDownBy, IsLoss, Keeps, Step, Test, force_steps, no_place_in}
+use Rattle.volume_contract.specs.Ends.{Answered, EndsForce, device_of}
+use Rattle.volume_contract.specs.Order.{Comes, Follows, Force, IsDownBy, IsLoss, Keeps, Step, Test, force_steps, is_idle, no_place_in}
 use Rattle.volume_contract.specs.State.{Fits, GoesOn, IsForced, Known, Stands, State, downs_for, forces_for_place, or_freed, place_in, volume_of}
 use Rattle.table_volume.specs.Placing.{EndsPlace, Places, StandsFor, place_now, place_or, place_steps}
 use Rattle.table_volume.specs.State.{Holds, state}
@@ -50,6 +51,10 @@ module _ (s : State) (need : ℕ) where
 
   pub place_forced : pick s.free need ≡ None → s.waits ≡ true → place_in s need ≡ pick s.freed need
   place_forced none waits = ap (or_freed s need) none ∙ ap (λ (w : Bool). cond w (pick s.freed need) None) waits
+
+-- a step forces there
+pub busy_place : (s : State) (need : ℕ) → pick s.free need ≡ None → s.waits ≡ true → is_idle (place_steps s need) ≡ true → ⊥
+busy_place s need none waits idle = cc (subst (λ (steps : List Step). is_idle steps ≡ true) (steps_forced s need none waits) idle)
 
 -- what is picked where the answer is known
 pub place_none : (s : State) (need : ℕ) (why : Refusal) → place_now s need ≡ Err why → (pick s.free need ≡ None) × (no_place_in s s.free need ≡ why)
@@ -101,6 +106,30 @@ places_never s need why e idle =
       kept = subst (λ (steps : List Step). Keeps steps why s s) (sym (steps_never s need none.0 idle)) (inr (tt, inl (tells, refl)));
     }
 
+-- ---- a force that fails
+
+module _ (s t : State) (why : Refusal) (up : s.down ≡ None) where
+  abbrev tried : Option ℕ → List Step
+  tried o = Test (option_map Why.Down o) ∷ Force (nat_lt 0 (length s.dirty)) ∷ []
+
+  pub lost_so : Comes (force_steps s) why → IsLoss why
+  lost_so comes = by (subst (λ (o : Option ℕ). Comes (tried o) why) up comes)
+    where
+      by : Comes (tried None) why → IsLoss why
+      by (inl down) = absurd (cc down)
+      by (inr (passes, inl force)) = force.1
+      by (inr (passes, inr none)) = absurd none.1
+
+  pub down_so : Keeps (force_steps s) why s t → IsDownBy why s t
+  down_so keeps = by (nat_lt 0 (length s.dirty)) (subst (λ (o : Option ℕ). Keeps (tried o) why s t) up keeps)
+    where
+      by : (b : Bool) → Keeps (Test None ∷ Force b ∷ []) why s t → IsDownBy why s t
+      by b (inl down) = absurd (cc down.0)
+      by true (inr (passes, inl down)) = down
+      by true (inr (passes, inr next)) = absurd next.2
+      by false (inr (passes, inl force)) = absurd (cc force.0.0)
+      by false (inr (passes, inr next)) = absurd next.1
+
 -- ---- behind a force
 
 module _ (s t : State) (need : ℕ) (none : pick s.free need ≡ None) (waits : s.waits ≡ true) where
@@ -132,37 +161,16 @@ module _ (s t : State) (need : ℕ) (none : pick s.free need ≡ None) (waits : 
 
   -- the force has failed
   module _ (why : Refusal) (up : s.down ≡ None) where
-    abbrev tried : Option ℕ → List Step
-    tried o = Test (option_map Why.Down o) ∷ Force (nat_lt 0 (length s.dirty)) ∷ []
-
-    lost_so : Comes (force_steps s) why → IsLoss why
-    lost_so comes = by (subst (λ (o : Option ℕ). Comes (tried o) why) up comes)
-      where
-        by : Comes (tried None) why → IsLoss why
-        by (inl down) = absurd (cc down)
-        by (inr (passes, inl force)) = force.1
-        by (inr (passes, inr none)) = absurd none.1
-
-    down_so : Keeps (force_steps s) why s t → IsDownBy why s t
-    down_so keeps = by (nat_lt 0 (length s.dirty)) (subst (λ (o : Option ℕ). Keeps (tried o) why s t) up keeps)
-      where
-        by : (b : Bool) → Keeps (Test None ∷ Force b ∷ []) why s t → IsDownBy why s t
-        by b (inl down) = absurd (cc down.0)
-        by true (inr (passes, inl down)) = down
-        by true (inr (passes, inr next)) = absurd next.2
-        by false (inr (passes, inl force)) = absurd (cc force.0.0)
-        by false (inr (passes, inr next)) = absurd next.1
-
     pub places_down : GoesOn (downs_for why) s t → Comes (force_steps s) why → Keeps (force_steps s) why s t → Places need s t (Err why)
     places_down goes comes keeps = record {
-      order = subst (λ (steps : List Step). Comes steps why) (sym (steps_forced s need none waits)) (inl (refl, lost_so comes));
+      order = subst (λ (steps : List Step). Comes steps why) (sym (steps_forced s need none waits)) (inl (refl, lost_so s t why up comes));
       state = goes;
-      kept = subst (λ (steps : List Step). Keeps steps why s t) (sym (steps_forced s need none waits)) (inl (down_so keeps));
+      kept = subst (λ (steps : List Step). Keeps steps why s t) (sym (steps_forced s need none waits)) (inl (down_so s t why up keeps));
     }
 
 -- ---- over an honest machine
 
-forced_is : (s : State) (m : Mounted) (need : ℕ) (b : Bool) → Fits s m → forces_for_place s need ≡ b → forced_for_place need m.volume ≡ cond b (forced m.volume) m.volume
+pub forced_is : (s : State) (m : Mounted) (need : ℕ) (b : Bool) → Fits s m → forces_for_place s need ≡ b → forced_for_place need m.volume ≡ cond b (forced m.volume) m.volume
 forced_is s m need b fits is =
     ap (λ (rs : List Run). cond (is_none (pick rs need) && not (length m.volume.removed == 0)) (forced m.volume) m.volume) fits.free
     ∙ ap (λ (w : Bool). cond (is_none (pick s.free need) && w) (forced m.volume) m.volume) fits.waits
@@ -201,6 +209,15 @@ pub places_now : (s : State) (need : ℕ) (r : Result (List Run) Refusal) → r 
 places_now s need (Ok runs) is how = places_once s need runs (sym is)
 places_now s need (Err why) is (inl ok) = absurd (cc ok)
 places_now s need (Err why) is (inr idle) = places_never s need why (sym is) idle
+
+-- no fault of the disk is told
+pub place_tells : (s : State) (need : ℕ) (r : Result (List Run) Refusal) → r ≡ place_now s need → device_in device_of r ≡ None
+place_tells s need (Ok runs) is = refl
+place_tells s need (Err why) is = subst (λ (x : Refusal). device_of x ≡ None) (place_none s need why (sym is)).1 (by (nat_lt (total s.free) need))
+  where
+    by : (b : Bool) → device_of (cond b (Why.NoSpace need (total s.free)) (Why.TooFragmented need (best s.free))) ≡ None
+    by true = refl
+    by false = refl
 
 pub none_now : (s : State) (need : ℕ) (r : Result (List Run) Refusal) → r ≡ place_now s need → is_ok r ≡ false → pick s.free need ≡ None
 none_now s need (Ok runs) is bad = absurd (cc bad)

@@ -75,7 +75,7 @@ module _ (v : VolumeValue) (m : Volume) (whole : IsWhole v) (layout : m.layout �
       ∙ ap runs_of (where_same (is_free m) (contains v.map.sectors) (data_start v.layout) v.layout.sectors (λ s low high. sym (map s)))
       ∙ ap (λ (a : Area). runs_of a.sectors) (sym whole.map)
 
-  freed_is : (s : ℕ) → data_start v.layout ≤ s → s < v.layout.sectors → is_free (forced m) s ≡ (contains v.map.sectors s || contains (unheld v.shadow.held v.shadow.removed).sectors s)
+  pub freed_is : (s : ℕ) → data_start v.layout ≤ s → s < v.layout.sectors → is_free (forced m) s ≡ (contains v.map.sectors s || contains (unheld v.shadow.held v.shadow.removed).sectors s)
   freed_is s low high =
       let area : contains m.removed s ≡ true → is_data m.layout s ≡ true = λ there. spaced.area s (or_left (contains m.removed s) (is_in m.held s) there) in
       let by_volume : is_free (forced m) s ≡ (is_free m s || contains m.removed s) =

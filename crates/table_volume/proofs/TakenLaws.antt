@@ -66,7 +66,7 @@ module _ (v : VolumeValue) (whole : IsWhole v) (runs : List Run) where
           λ i. out.outside s there i || (idle.0.outside s there i || (idle.1.outside s there i || idle.2.outside s there i)) in
           and_from (is_data v.layout s) (not (contains v.map.sectors s || waits v.shadow s)) data_there (ap not none)
 
-  taken_is_out : are_taken v runs ≡ true → AreOut v.map runs × AreIdle v.shadow runs
+  pub taken_is_out : are_taken v runs ≡ true → AreOut v.map runs × AreIdle v.shadow runs
   taken_is_out taken = (
     out v.map whole.map (λ s none. (or_parts (contains v.map.sectors s) (waits v.shadow s) none).0),
     (

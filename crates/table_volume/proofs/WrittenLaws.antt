@@ -22,17 +22,17 @@ use Rattle.table_volume.proofs.WearLaws.{stands_worn}
 -- ---- an image with some sectors of another
 
 -- the old image, but the sectors that pass the test are as they are left
-abbrev merged : Sectors → Image → Image → Image
+abbrev pub merged : Sectors → Image → Image → Image
 merged may [] left = []
 merged may (x ∷ old) [] = x ∷ merged (λ s. may (suc s)) old []
 merged may (x ∷ old) (y ∷ left) = cond (may 0) y x ∷ merged (λ s. may (suc s)) old left
 
-merged_size : (may : Sectors) (old left : Image) → length (merged may old left) ≡ length old
+pub merged_size : (may : Sectors) (old left : Image) → length (merged may old left) ≡ length old
 merged_size may [] left = refl
 merged_size may (x ∷ old) [] = ap suc (merged_size (λ s. may (suc s)) old [])
 merged_size may (x ∷ old) (y ∷ left) = ap suc (merged_size (λ s. may (suc s)) old left)
 
-merged_at : (may : Sectors) (old left : Image) → length left ≡ length old → (s : ℕ) → sector_at (merged may old left) s ≡ cond (may s) (sector_at left s) (sector_at old s)
+pub merged_at : (may : Sectors) (old left : Image) → length left ≡ length old → (s : ℕ) → sector_at (merged may old left) s ≡ cond (may s) (sector_at left s) (sector_at old s)
 merged_at may [] [] size s = by (may s)
   where
     by : (b : Bool) → sector_at [] s ≡ cond b (sector_at [] s) (sector_at [] s)

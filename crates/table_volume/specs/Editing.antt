@@ -1,20 +1,25 @@
 -- What an edit of the table leaves of a cache.
-use Rattle.std.specs.Prelude.{◌≡◌, ℕ, ◌+◌, ◌-◌, ◌<◌, ◌≤◌, Bool, List, Option, Some, length}
+use Rattle.std.specs.Prelude.{◌≡◌, ℕ, ◌+◌, ◌-◌, ◌<◌, ◌≤◌, Bool, List, Option, Some, None, length}
 use Rattle.fsd_bytes.specs.declared.refusal.Refusal.{Refusal}
 use Rattle.fsd_formats.specs.declared.entry.Entry.{Entry}
 use Rattle.sector_disk.specs.declared.machine.Machine.{Ghosts as MachineGhosts}
 use Rattle.sector_disk.specs.Calls.{OnlyReads}
 use Rattle.page_cache.specs.declared.source.PageSource.{Ghosts as SourceGhosts}
 use Rattle.page_cache.specs.Cache.{AreNewest, CacheValue}
-use Rattle.fsd_table.specs.Tree.{table_of}
+use Rattle.fsd_table.specs.Table.{BreaksTable}
+use Rattle.fsd_table.specs.Tree.{IsTree, table_of}
 use Rattle.fsd_bytes.specs.declared.key.Key.{Key}
 use Rattle.fsd_files.specs.Answers.{entries_with_keep, highest_entry}
 use Rattle.name_page.specs.Pages.{Step, first_step, with_one}
+use Rattle.name_btree.specs.declared.fault.TreeFault.{TreeFault}
+use Rattle.name_btree.specs.Fault.{BarsTable, HasCause}
 use Rattle.name_btree.specs.Map.{HasTable, IsTable}
+use Rattle.version_table.specs.declared.fault.VersionFault.{VersionFault}
+use Rattle.version_table.specs.declared.fault.VersionFault.TheVariants.{Table, NoSuch, VersionsUsedUp}
 use Rattle.table_pages.specs.Bringing.{IsTrusted, given_by}
 use Rattle.table_pages.specs.Kept.{IsReady}
 use Rattle.table_pages.specs.Reads.{Fills, LosesFor, device_of}
-use Rattle.table_volume.specs.Looking.{images_by}
+use Rattle.table_volume.specs.Looking.{FaultIn, images_by}
 
 -- pages with these flags, before anything is done
 abbrev pub as_step : List (List ℕ) → List Bool → Step
@@ -36,6 +41,20 @@ module _ {D E : Type 0} (M : MachineGhosts D) (S : SourceGhosts E) (source : E) 
     pub makes : IsTrusted M S source m old m' → (height : ℕ) →
         let images = images_by M S source m old (length free) in
         IsTable (as_step images free) height → HasTable (as_step (images_by M S source m' new (length flags)) flags) (edit (table_of images height))
+
+  -- Where the outside is trusted, it refused a page, or the one that the fault names is barred.
+  pub record FaultsEdit (m m' : D) (old new : CacheValue) (flags : List Bool) (home_a : ℕ) (fault : TreeFault) : Type 0 where
+    pub cause : IsTrusted M S source m old m' → FaultIn (images_by M S source m' new (length flags)) flags home_a fault
+
+  -- Where it is trusted, the pages are no tree that has a version of the name.
+  pub record HasNone (m m' : D) (old : CacheValue) (free : List Bool) (name : List ℕ) : Type 0 where
+    pub none : IsTrusted M S source m old m' → (height : ℕ) → let images = images_by M S source m old (length free) in IsTree images height → highest_entry name (table_of images height) ≡ None
+
+  -- why no keep was set: so it is
+  abbrev pub FaultsKeep : (m m' : D) (old new : CacheValue) (free flags : List Bool) (home_a : ℕ) (name : List ℕ) → VersionFault → Type 0
+  FaultsKeep m m' old new free flags home_a name (Table fault) = FaultsEdit m m' old new flags home_a fault
+  FaultsKeep m m' old new free flags home_a name NoSuch = HasNone m m' old free name
+  FaultsKeep m m' old new free flags home_a name VersionsUsedUp = ⊥
 
 -- Of the 96 pages that may be dirty at most so many are left fewer.
 pub record DirtiesAtMost (more : ℕ) (old new : CacheValue) : Type 0 where
@@ -68,6 +87,12 @@ pub record SetsKeepIn {D E : Type 0} (M : MachineGhosts D) (S : SourceGhosts E) 
   pub sets : IsTrusted M S source m old m' → (height : ℕ) →
       let before = as_step (images_by M S source m old (length free)) free in
       IsTable before height → SetsKeep before (as_step (images_by M S source m' new (length flags)) flags) name keep key height
+
+-- Where the outside is trusted, the pages gave a refusal with its cause; or they are no tree that has a version of the name.
+abbrev pub KeepFails : (trusted : Type 0) → (old new : Step) → (name : List ℕ) → VersionFault → Type 0
+KeepFails trusted old new name (Table fault) = trusted → HasCause new (BreaksTable new.images) (BarsTable new) fault
+KeepFails trusted old new name NoSuch = trusted → (height : ℕ) → IsTree old.images height → highest_entry name (table_of old.images height) ≡ None
+KeepFails trusted old new name VersionsUsedUp = ⊥
 
 -- ---- no edit
 

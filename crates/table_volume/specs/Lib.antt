@@ -1,5 +1,8 @@
+pub mod Behind
 pub mod Changing
 pub mod Editing
+pub mod Ending
+pub mod Entering
 pub mod Forcing
 pub mod HomeLaws
 pub mod Homes
@@ -7,7 +10,9 @@ pub mod Looking
 pub mod Mounting
 pub mod Opening
 pub mod Placing
+pub mod Preparing
 pub mod State
+pub mod Steps
 pub mod Surveying
 pub mod Taken
 pub mod Volume

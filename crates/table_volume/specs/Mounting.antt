@@ -69,6 +69,11 @@ abbrev pub OpensCalm : Layout → Moment → Result VolumeValue MountFault → T
 OpensCalm l at (Ok v) = KnowsHomes l at × IsTableOf l (home_pages l at.image) (opened_of v)
 OpensCalm l at (Err fault) = IsUnread fault ⊎ (KnowsHomes l at × IsNoTable l (home_pages l at.image) fault)
 
+-- where the pages at home are known: they are a table, or no table
+abbrev pub OpensKnown : Layout → Moment → Result VolumeValue MountFault → Type 0
+OpensKnown l at (Ok v) = IsTableOf l (home_pages l at.image) (opened_of v)
+OpensKnown l at (Err fault) = IsNoTable l (home_pages l at.image) fault
+
 -- The volume of this layout and this log, in which nothing is logged yet, with what was opened.
 pub record IsAssembled (l : Layout) (log : LogValue) (v : VolumeValue) : Type 0 where
   pub is : v ≡ assembled l log (opened_of v)

@@ -1,14 +1,15 @@
 //! Edits of a table over a cache.
-ghost use Rattle.std.specs.Prelude.{◌≤◌, ◌∷◌, [], ℕ, IfOk, OnErr, OnOk, length};
+ghost use Rattle.std.specs.Prelude.{◌≤◌, ◌∷◌, [], ℕ, IfOk, IfErr, OnErr, OnOk, length};
 ghost use Rattle.fsd_files.specs.Volume.{entries_without};
 ghost use Rattle.name_btree.specs.Fault.{outer_told};
+ghost use Rattle.group_commit.specs.Cached.{AreWaiting};
 ghost use Rattle.name_btree.specs.Map.{IsTable};
 ghost use Rattle.name_page.specs.declared.pages.TheConstants.{MOST_CHANGED, MOST_REACHED};
-ghost use Rattle.name_page.specs.Looks.{OnlyEdits};
+ghost use Rattle.name_page.specs.Looks.{ChangesPages, OnlyEdits};
 ghost use Rattle.name_page.specs.Pages.{changes};
 ghost use Rattle.version_table.specs.Fault.{outer_met};
 ghost use Rattle.table_pages.specs.Kept.{IsReady};
-ghost use Rattle.table_volume.specs.Editing.{ChangesNone, ChangesOne, DirtiesAtMost, DirtiesOne, EditsOnly, EditsTable, SetsKeep, SetsKeepIn, StaysIn};
+ghost use Rattle.table_volume.specs.Editing.{ChangesNone, ChangesOne, FaultsEdit, FaultsKeep, KeepFails, DirtiesAtMost, DirtiesOne, EditsOnly, EditsTable, SetsKeep, SetsKeepIn, StaysIn};
 
 use crate::looking::let_go;
 use fsd_bytes::{FileName, Key};
@@ -31,7 +32,10 @@ pub(crate) fn take_out_in<M: Machine, S: PageSource>(
     requires ready { IsReady M.Machine S.PageSource m.old cache.old source.now free.old }
     requires room { length cache.old.dirty ≤ 56 }
     ensures edits { EditsOnly M.Machine S.PageSource source.now (outer_told result) m.old m.new cache.old cache.new free.old free.new }
+    ensures kept { OnErr result (StaysIn M.Machine S.PageSource source.now m.old m.new cache.old cache.new free.old free.new) }
+    ensures waiting { AreWaiting (length free.old) cache.old → AreWaiting (length free.old) cache.new }
     ensures changes { DirtiesAtMost 8 cache.old cache.new }
+    ensures fault { IfErr result (FaultsEdit M.Machine S.PageSource source.now m.old m.new cache.old cache.new free.new home_a) }
     ensures made { OnOk result (EditsTable M.Machine S.PageSource source.now m.old m.new cache.old cache.new free.old free.new (entries_without (key.now ∷ []))) }
 {
     let mut table = Table::new(m, cache, source, home_a, free);
@@ -49,7 +53,9 @@ fn keep_at<T: Pages>(t: &mut T, name: &FileName, keep: u32) -> Result<Key, Versi
     requires keep { keep ≤ 999 }
     ensures calls { OnlyEdits T.Pages (outer_met result) t.old t.new }
     ensures kept { OnErr result (ChangesNone (T.trusted t.new) (T.step t.old) (T.step t.new)) }
+    ensures pages { ChangesPages (T.step t.old) (T.step t.new) }
     ensures one { IfOk result (λ key. ChangesOne (T.step t.old) (T.step t.new)) }
+    ensures fault { IfErr result (KeepFails (T.trusted t.new) (T.step t.old) (T.step t.new) name.now) }
     ensures set { IfOk result (λ key. T.trusted t.new → (height : ℕ) → IsTable (T.step t.old) height → SetsKeep (T.step t.old) (T.step t.new) name.now keep key height) }
 {
     let found = newest(t, name)?;
@@ -75,7 +81,9 @@ pub(crate) fn set_keep_in<M: Machine, S: PageSource>(
     requires keep { keep ≤ 999 }
     ensures edits { EditsOnly M.Machine S.PageSource source.now (outer_met result) m.old m.new cache.old cache.new free.old free.new }
     ensures kept { OnErr result (StaysIn M.Machine S.PageSource source.now m.old m.new cache.old cache.new free.old free.new) }
+    ensures waiting { AreWaiting (length free.old) cache.old → AreWaiting (length free.old) cache.new }
     ensures one { IfOk result (λ key. DirtiesOne (length free.old) cache.old cache.new) }
+    ensures fault { IfErr result (FaultsKeep M.Machine S.PageSource source.now m.old m.new cache.old cache.new free.old free.new home_a name.now) }
     ensures set { IfOk result (SetsKeepIn M.Machine S.PageSource source.now m.old m.new cache.old cache.new free.old free.new name.now keep) }
 {
     let mut table = Table::new(m, cache, source, home_a, free);

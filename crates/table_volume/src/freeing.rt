@@ -1,13 +1,15 @@
 //! What a force makes free.
-ghost use Rattle.std.specs.Prelude.{◌≡◌, ◌<◌, ◌||◌, ◌∷◌, [], ℕ, None, replicate, IsFalse, IsTrue};
+ghost use Rattle.std.specs.Prelude.{◌≡◌, ◌<◌, ◌||◌, ◌∷◌, [], ℕ, None, replicate, IsFalse, IsTrue, if◌then◌else◌};
 ghost use Rattle.run_table.specs.Space.{contains};
 ghost use Rattle.sector_set.specs.Area.{AreOut, IsOwn, area, together};
 ghost use Rattle.shadow_frees.specs.Readers.{unheld};
 ghost use Rattle.shadow_frees.specs.Waits.{run_between};
+ghost use Rattle.table_volume.specs.Entering.{AreIdleInTurn, with_gone};
 
 use alloc_map::Map;
 use run_table::{Run, Runs};
 use shadow_frees::Shadow;
+use version_table::Leaving;
 
 // The run from a sector to another is free.
 fn release_between(map: &mut Map, start: u32, end: u32)
@@ -37,5 +39,33 @@ pub(crate) fn free_committed(map: &mut Map, shadow: &mut Shadow)
 {
     while let Some((start, end)) = shadow.committed() {
         release_between(map, start, end);
+    }
+}
+
+// The sectors of versions that go wait for a force, where no reader holds one.
+fn free_gone(shadow: &mut Shadow, gone: &[Leaving])
+    requires idle { AreIdleInTurn shadow.old gone.now }
+    requires unheld { shadow.old.held ≡ replicate 8 None }
+    ensures removed { shadow.new.removed ≡ with_gone shadow.old.removed gone.now }
+    ensures kept { shadow.new.kept ≡ shadow.old.kept }
+    ensures unfinished { shadow.new.unfinished ≡ shadow.old.unfinished }
+    ensures held { shadow.new.held ≡ shadow.old.held }
+{
+    for one in gone {
+        shadow.freed(&one.entry.runs);
+    }
+}
+
+/// The sectors of versions that went wait for a force, if a page waits for one.
+pub(crate) fn free_gone_if(waits: bool, shadow: &mut Shadow, gone: &[Leaving])
+    requires idle { AreIdleInTurn shadow.old gone.now }
+    requires unheld { shadow.old.held ≡ replicate 8 None }
+    ensures removed { shadow.new.removed ≡ (if waits then with_gone shadow.old.removed gone.now else shadow.old.removed) }
+    ensures kept { shadow.new.kept ≡ shadow.old.kept }
+    ensures unfinished { shadow.new.unfinished ≡ shadow.old.unfinished }
+    ensures held { shadow.new.held ≡ shadow.old.held }
+{
+    if waits {
+        free_gone(shadow, gone);
     }
 }

@@ -3,11 +3,14 @@
 
 mod changing;
 mod counting;
+mod deleting;
+mod entering;
 mod entries;
 mod finding;
 mod forcing;
 mod freeing;
 mod homes;
+mod keeping;
 mod laws;
 mod looking;
 mod mounting;
@@ -16,6 +19,7 @@ mod opening;
 mod placing;
 mod putting;
 mod reading;
+mod storing;
 mod surveying;
 mod volume;
 

@@ -93,9 +93,11 @@ pub(crate) fn highest_in<M: Machine, S: PageSource>(
     ensures free { free.new ≡ free.old }
     ensures page { IfOk result (λ found. IfSome found (λ f. f.page < length free.old)) }
     ensures name { IfOk result (λ found. IfSome found (λ f. f.entry.key.name ≡ name.now)) }
+    ensures way { IfOk result (λ found. IfSome found (λ f. (pages : List (List ℕ)) → HavePages cache.new (length free.old) pages → LeadsTo pages f)) }
     ensures found { IfOk result (λ found. IsTrusted M.Machine S.PageSource source.now m.old cache.old m.new → (height : ℕ) →
         let pages = images_by M.Machine S.PageSource source.now m.old cache.old (length free.old) in IsTree pages height → entry_of found ≡ highest_of name.now (table_of pages height)) }
     ensures fault { IfErr result (FaultsOver M.Machine S.PageSource source.now m.new cache.new free.old home_a) }
+    ensures shown { IfErr result (ShowsFault M.Machine S.PageSource source.now m.old m.new cache.old cache.new free.old home_a) }
 {
     let mut table = Table::new(m, cache, source, home_a, free);
     let found = highest(&mut table, name);

@@ -1,16 +1,21 @@
 //! The mount of a volume.
 ghost use Rattle.std.specs.Prelude.{◌≡◌, ◌≤◌, ◌<◌, ℕ, List, Ok, IfOk, IfErr};
+ghost use Rattle.volume_layout.specs.declared.layout.Layout.{Layout as Plan};
 ghost use Rattle.volume_layout.specs.Layout.{plan};
+ghost use Rattle.sector_disk.specs.declared.sector.WeakRun.{WeakRun as Run};
 ghost use Rattle.sector_disk.specs.Image.{IsCalm};
 ghost use Rattle.sector_disk.specs.Calls.{HealsDisk, OnlyReads, device_in};
+ghost use Rattle.sector_disk.specs.Machine.{LeavesOnly};
+ghost use Rattle.fsd_files.specs.Files.{Change};
 ghost use Rattle.fsd_sound.specs.Lost.{AreCopiesOn, AreHomes, LostIn};
 ghost use Rattle.fsd_sound.specs.Mounting.{device_of_mount};
+ghost use Rattle.fsd_sound.specs.Writes.{MountKeeps};
 ghost use Rattle.fsd_sound.specs.declared.fault.MountFault.TheVariants.{Memory};
 ghost use Rattle.mount_recover.specs.Recover.{IsFreshLog};
-ghost use Rattle.volume_contract.specs.Mount.{IsFound, IsRefused, KeepsAll, MountsCalm};
+ghost use Rattle.volume_contract.specs.Mount.{CountsMount, IsFound, IsRefused, IsSoundAt, KeepsAll, MountsCalm, MountsSound, UnsoundFor};
 ghost use Rattle.volume_contract.specs.State.{IsNew};
 ghost use Rattle.table_volume.specs.Homes.{KnowsHomes};
-ghost use Rattle.table_volume.specs.Mounting.{IsAssembled, OpensCalm, opened_of};
+ghost use Rattle.table_volume.specs.Mounting.{IsAssembled, OpensCalm, OpensKnown, opened_of};
 ghost use Rattle.table_volume.specs.Opening.{IsNoTable, IsOpenFault, IsOpened, IsTableOf, home_pages};
 ghost use Rattle.table_volume.specs.State.{Holds, state};
 
@@ -35,15 +40,22 @@ impl Volume {
         ensures room { IfOk result (λ volume. (state volume).layout.sectors ≤ sectors) }
         ensures planned { IfOk result (λ volume. let l = (state volume).layout in plan l.sectors l.third l.pages ≡ Ok l) }
         ensures fresh { IfOk result (λ volume. IsNew (state volume)) }
+        ensures counted { IfOk result (λ volume. M.tells m.new → CountsMount (state volume) (M.ledger m.old) (M.ledger m.new)) }
 
         // Each answer but a fault of the disk and want of memory says what the image was, as it was seen.
         ensures found { IfOk result (λ volume. M.honest m.new → IsFound sectors (state volume) (M.now m.old)) }
         ensures refused { IfErr result (λ fault. M.honest m.new → IsRefused sectors fault (M.now m.old)) }
         ensures unchanged { IfErr result (λ fault. M.honest m.new → KeepsAll fault (M.now m.old) (M.now m.new)) }
+        ensures rest { M.honest m.new → MountKeeps sectors (M.now m.old) (M.now m.new) }
         ensures lost { IfErr result (λ fault. M.honest m.new → LostIn (AreCopiesOn sectors (M.now m.old)) (M.now m.new).image fault) }
+        ensures unsound { IfErr result (λ fault. M.honest m.new → UnsoundFor sectors (M.now m.old) (M.now m.new) fault) }
 
         // Where nothing wears, an image is mounted as it shows its table, and refused for it exactly where a page breaks.
         ensures calm { M.honest m.new → IsCalm (M.now m.old).windows → IsCalm (M.now m.new).windows → MountsCalm state Holds sectors (M.now m.old).image result }
+
+        // A sound disk stays sound at each moment, and its files after a prefix of the changes, with every forced one, are mounted.
+        ensures sound { M.honest m.new → (l : Plan) (windows : List Run) (h : List Change) (f : ℕ) → IsSoundAt sectors l windows h f (M.now m.old) →
+            MountsSound state Holds l windows h f (LeavesOnly M.moment M.left_since m.old m.new) (M.now m.old) (M.now m.new) result }
     {
         let settled = recover(alloc, m, sectors)?;
         open_read(alloc, m, settled)
@@ -60,6 +72,7 @@ fn open_read<M: Machine>(alloc: Global, m: &mut M, settled: Settled) -> Result<V
     ensures cause { IfErr result IsOpenFault }
     ensures lost { IfErr result (λ fault. M.honest m.new → LostIn (AreHomes settled.layout) (M.now m.new).image fault) }
     ensures calm { M.honest m.new → IsCalm (M.now m.old).windows → OpensCalm settled.layout (M.now m.old) result }
+    ensures known { M.honest m.new → KnowsHomes settled.layout (M.now m.old) → OpensKnown settled.layout (M.now m.old) result }
 {
     read_homes(m, &settled.layout)?;
     open_settled(alloc, m, settled)

@@ -1,12 +1,19 @@
 //! Where new versions go.
-ghost use Rattle.std.specs.Prelude.{◌≡◌, ◌≤◌, IfOk};
-ghost use Rattle.table_volume.specs.Placing.{IsPlace, place_now};
-ghost use Rattle.table_volume.specs.State.{state};
+ghost use Rattle.std.specs.Prelude.{◌≡◌, ◌≤◌, IfOk, IsTrue, None};
+ghost use Rattle.sector_disk.specs.Calls.{WritesDisk, device_in};
+ghost use Rattle.volume_contract.specs.Causes.{Causes};
+ghost use Rattle.volume_contract.specs.Ends.{device_of};
+ghost use Rattle.volume_contract.specs.Order.{is_idle};
+ghost use Rattle.fsd_sound.specs.Writes.{force_writes};
+ghost use Rattle.volume_contract.specs.State.{Counted, Known, Leaves, Stands};
+ghost use Rattle.table_volume.specs.Placing.{EndsPlace, IsPlace, Places, place_len, place_now, place_steps};
+ghost use Rattle.table_volume.specs.State.{Holds, resident, state};
 
 use crate::Volume;
 use alloc_map::NoPlace;
 use fsd_bytes::Refusal;
 use run_table::Runs;
+use sector_disk::Machine;
 
 impl Volume {
     // Where so many sectors go now.
@@ -29,5 +36,27 @@ impl Volume {
         ensures { result ≡ (state self.now).waits }
     {
         self.shadow.waiting().removed > 0
+    }
+
+    /// Where so many sectors go: behind a force, where there is no place and a sector waits for one. They stay free.
+    pub(crate) fn placed<M: Machine>(&mut self, m: &mut M, need: u32) -> Result<Runs, Refusal>
+        requires room { (state self.old).layout.sectors ≤ (M.report m.old).sectors }
+        requires some { 1 ≤ need }
+        requires up { self.old.down ≡ None }
+        ensures places { Places need (state self.old) (state self.new) result }
+        ensures free { IfOk result (IsPlace self.new.map need) }
+        ensures disk { WritesDisk M.Machine (device_in device_of result) (Leaves state Holds self.old (force_writes (state self.old).layout)) m.old m.new }
+        ensures counted { M.tells m.new → Counted result (place_len (state self.old) need) (M.ledger m.old) (M.ledger m.new) }
+        ensures idle { IsTrue (is_idle (place_steps (state self.old) need)) → m.new ≡ m.old }
+        ensures causes { Causes M.Machine (resident self.old) (state self.old) (state self.new) m.old m.new result }
+        ensures done { M.honest m.new → (k : Known) → Stands state Holds self.old k (M.now m.old) → EndsPlace need k self.new (M.now m.new) result }
+    {
+        let _ = &self.layout;
+        let place = self.chosen(need);
+        if place.is_ok() || !self.waits() {
+            return place;
+        }
+        self.force(m)?;
+        self.chosen(need)
     }
 }

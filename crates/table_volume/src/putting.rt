@@ -48,8 +48,8 @@ fn sizes_fit(keep: Option<u32>, length: usize) -> Result<(), Refusal>
 }
 
 impl Volume {
-    // Whether this mount has used up its serials or its record numbers.
-    fn is_worn(&self) -> bool
+    /// Whether this mount has used up its serials or its record numbers.
+    pub(crate) fn is_worn(&self) -> bool
         ensures { result ≡ is_worn (state self.now) }
     {
         self.serial.count >= 4_294_967_280 || self.log.next_number() >= 4_294_967_280
@@ -68,7 +68,7 @@ impl Volume {
     }
 
     // A new version as it is written: its number and its keep come with the look-up.
-    fn draft(&self, name: &FileName, length: u32, runs: Runs) -> Entry
+    pub(crate) fn draft(&self, name: &FileName, length: u32, runs: Runs) -> Entry
         requires most { length ≤ max_length }
         requires place { IsPlace self.now.map (sectors_for length) runs }
         ensures good { IsTrue (is_entry result) }

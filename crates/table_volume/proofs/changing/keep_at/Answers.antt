@@ -1,5 +1,6 @@
-use Rattle.name_page.proofs.LookLaws.{edits_then, walks_edits}
-use Rattle.table_volume.proofs.HighestLaws.{sets_now, there_now}
+use Rattle.std.proofs.lemmas.Result.{err_from_is_err_and}
+use Rattle.name_page.proofs.LookLaws.{edits_then, pages_then, walks_edits, walks_pages}
+use Rattle.table_volume.proofs.HighestLaws.{fails_trusted, look_fails, sets_now, there_now}
 use Rattle.table_volume.proofs.changing.keep_at.Goals as goal
 
 pub set_keep-requires-clause-there : goal.set_keep-requires-clause-there
@@ -11,3 +12,24 @@ returns-in-Ok-clause-calls g c = edits_then g.T.Pages g.met.T.Pages.then c.args.
 pub returns-in-Ok-clause-set : goal.returns-in-Ok-clause-set
 returns-in-Ok-clause-set g c =
     sets_now g.T.Pages c.args.t.now c.newest.new.t c.in_ok-found.ensures.walks c.args.name.now c.in_ok-found.found.entry c.in_ok-found.ensures.found c.set_keep.new.t c.args.keep c.in-Ok.ensures.calls.trust c.in-Ok.ensures.set
+
+pub returns-in-Ok-clause-pages : goal.returns-in-Ok-clause-pages
+returns-in-Ok-clause-pages g c =
+    let P = g.T.Pages in
+    pages_then (P.step c.args.t.now) (P.step c.newest.new.t) (P.step c.set_keep.new.t) c.in-Ok.ensures.calls.count (walks_pages P c.args.t.now c.newest.new.t c.in_ok-found.ensures.walks) c.in-Ok.ensures.pages
+
+pub returns-in-Err-clause-pages : goal.returns-in-Err-clause-pages
+returns-in-Err-clause-pages g c =
+    let P = g.T.Pages in
+    pages_then (P.step c.args.t.now) (P.step c.newest.new.t) (P.step c.set_keep.new.t) c.in-Err.ensures.calls.count (walks_pages P c.args.t.now c.newest.new.t c.in_ok-found.ensures.walks) c.in-Err.ensures.pages
+
+pub returns-in_err-found-clause-pages : goal.returns-in_err-found-clause-pages
+returns-in_err-found-clause-pages g c = walks_pages g.T.Pages c.args.t.now c.newest.new.t c.in_err-found.ensures.walks
+
+pub returns-in_err-found-clause-fault : goal.returns-in_err-found-clause-fault
+returns-in_err-found-clause-fault g c =
+    let p = err_from_is_err_and c.from_residual.result c.from_residual.ensures.1 in
+    rw (p.1, p.2) (look_fails g.T.Pages c.args.t.now c.newest.new.t c.args.name.now c.in_err-found.field-0.0 c.in_err-found.ensures.fault)
+
+pub returns-in-Err-clause-fault : goal.returns-in-Err-clause-fault
+returns-in-Err-clause-fault g c = fails_trusted (g.T.Pages.trusted c.set_keep.new.t) (g.T.Pages.step c.set_keep.new.t) c.in-Err.fault c.in-Err.ensures.fault

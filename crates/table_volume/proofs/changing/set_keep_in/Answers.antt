@@ -1,6 +1,7 @@
 use Rattle.std.proofs.Common.{rules}
 use Rattle.version_table.specs.Fault.{outer_met}
-use Rattle.table_volume.proofs.EditLaws.{edits_left, one_left, sets_left, stays_left}
+use Rattle.table_volume.proofs.EditLaws.{edits_left, keeps_left, one_left, sets_left, stays_left}
+use Rattle.table_volume.proofs.WaitingLaws.{waits_left}
 use Rattle.table_volume.proofs.changing.set_keep_in.Goals as goal
 
 pub returns-clause-edits : goal.returns-clause-edits
@@ -22,3 +23,12 @@ pub returns-clause-kept : goal.returns-clause-kept
 returns-clause-kept g c =
     stays_left (outer_met c.keep_at-done.result) _ _ c.args.source.now _ c.args.home_a c.new-table.result c.keep_at-done.new.t c.rest.new.self c.new-table.ensures.over c.new-table.ensures.step c.keep_at-done.ensures.calls.count c.keep_at-done.ensures.calls.outside c.rest.ensures.step c.rest.ensures.outside c.rest.ensures.machine c.rest.ensures.cache
     _ _ _ (search rules) (search rules) (search rules) c.keep_at-done.result c.keep_at-done.ensures.kept
+
+pub returns-clause-waiting : goal.returns-clause-waiting
+returns-clause-waiting g c =
+    waits_left _ _ c.args.source.now _ c.new-table.result c.keep_at-done.new.t c.rest.new.self c.new-table.ensures.over c.keep_at-done.ensures.calls.count c.rest.ensures.cache _ (search rules) c.keep_at-done.ensures.pages
+
+pub returns-clause-fault : goal.returns-clause-fault
+returns-clause-fault g c =
+    keeps_left (outer_met c.keep_at-done.result) _ _ c.args.source.now _ c.args.home_a c.new-table.result c.keep_at-done.new.t c.rest.new.self c.new-table.ensures.over c.new-table.ensures.step c.keep_at-done.ensures.calls.count c.keep_at-done.ensures.calls.outside c.rest.ensures.step c.rest.ensures.outside c.rest.ensures.machine c.rest.ensures.cache
+    _ _ _ (search rules) (search rules) (search rules) c.keep_at-done.ensures.calls.home_a c.args.name.now c.keep_at-done.result c.keep_at-done.ensures.fault

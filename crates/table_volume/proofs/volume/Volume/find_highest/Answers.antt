@@ -1,6 +1,10 @@
+use Rattle.std.proofs.Common.{refl}
 use Rattle.fsd_files.specs.Answers.{highest_entry}
 use Rattle.name_page.specs.Lookups.{highest_of}
-use Rattle.table_volume.proofs.EntryLaws.{taken_there}
+use Rattle.table_volume.specs.State.{resident, state}
+use Rattle.table_volume.proofs.CauseLaws.{causes_by, met_left}
+use Rattle.table_volume.proofs.EntryLaws.{lost_found, taken_there}
+use Rattle.table_volume.proofs.ReadLaws.{shows_by, unsound_by}
 use Rattle.table_volume.proofs.FindLaws.{finds_looked, stands_found}
 use Rattle.table_volume.proofs.TableLaws.{found_highest}
 use Rattle.table_volume.proofs.volume.Volume.find_highest.Goals as goal
@@ -16,3 +20,23 @@ returns-clause-found g c =
 
 pub returns-clause-taken : goal.returns-clause-taken
 returns-clause-taken g c = λ honest k stands e has. taken_there _ c.args.self.now c.self.view_is c.self.invariant k (g.M.Machine.now c.args.m.now) stands e has
+
+pub returns-clause-causes : goal.returns-clause-causes
+returns-clause-causes g c =
+    let M = g.M.Machine in
+    let w = c.args.self.now in
+    let log = c.over-source.ensures in
+    let looks = c.highest_in-found.ensures.looks in
+    causes_by M (resident w) (state w) _ c.args.m.now c.highest_in-found.new.m c.told.result
+    (λ a b is h. lost_found M c.args.m.now c.highest_in-found.new.m _ w c.self.view_is c.self.invariant c.highest_in-found.new.cache c.over-source.result log c.home_a-home_a.result a b
+    _ c.highest_in-found.result c.told.result c.told.ensures looks is h)
+    (unsound_by M c.args.m.now c.highest_in-found.new.m _ w c.self.view_is c.self.invariant c.highest_in-found.new.cache c.over-source.result log _ c.home_a-home_a.result c.home_a-home_a.ensures.place
+    c.highest_in-found.result c.told.result c.told.ensures looks c.highest_in-found.ensures.shown)
+
+pub returns-clause-met : goal.returns-clause-met
+returns-clause-met g c =
+    let M = g.M.Machine in
+    let w = c.args.self.now in
+    met_left M c.args.m.now c.highest_in-found.new.m _ w c.self.view_is c.self.invariant c.highest_in-found.new.cache _ _ c.highest_in-found.new.free refl c.told.result
+    (λ h. shows_by M c.args.m.now c.highest_in-found.new.m _ w c.self.view_is c.self.invariant c.highest_in-found.new.cache c.over-source.result c.over-source.ensures _ c.home_a-home_a.result
+    c.highest_in-found.result c.told.result c.told.ensures c.highest_in-found.ensures.looks h c.highest_in-found.ensures.way)

@@ -1,15 +1,22 @@
-use Rattle.std.proofs.Common.{◌≡◌, ◌≤◌, length, None, Some, Err, ap, subst, ◌∙◌, rules}
+use Rattle.std.proofs.Common.{◌≡◌, ◌+◌, ◌≤◌, [], length, None, Some, Err, refl, sym, ap, subst, ◌∙◌, rules}
 use Rattle.std.proofs.lemmas.List.{nil_from_length}
 use Rattle.sector_disk.specs.Calls.{WritesDisk}
-use Rattle.sector_disk.proofs.CallLaws.{told_up, writes_none, writes_told}
-use Rattle.group_commit.specs.Cached.{CacheLeaves}
-use Rattle.volume_contract.specs.Ends.{device_of}
-use Rattle.volume_contract.specs.State.{IsForced}
+use Rattle.sector_disk.proofs.CallLaws.{told_up, writes_none, writes_told, writes_more}
+use Rattle.volume_contract.specs.Ends.{device_of, Answered}
+use Rattle.fsd_sound.specs.Writes.{force_writes}
+use Rattle.volume_contract.specs.State.{IsForced as HasForced, Leaves, Stands, force_len, volume_of}
+use Rattle.fsd_files.specs.Answers.{force_outcome}
+use Rattle.fsd_files.specs.Replies.{Forced as IsForced}
+use Rattle.volume_contract.specs.declared.files.Forced.{Forced}
 use Rattle.volume_contract.specs.Order.{Keeps, force_steps}
-use Rattle.table_volume.specs.State.{state}
+use Rattle.table_volume.specs.State.{Holds, state}
 use Rattle.table_volume.specs.Volume.{VolumeValue}
 use Rattle.table_volume.specs.Taken.{down_fault}
-use Rattle.table_volume.proofs.ForceLeavesLaws.{down_tells_none, leaves_same, tells_place}
+use Rattle.table_volume.proofs.FailedLaws.{failed_cause, failed_counted, none_counted}
+use Rattle.table_volume.proofs.ForceLeavesLaws.{down_tells_none, tells_place}
+use Rattle.table_volume.proofs.ForceCountLaws.{forced_count}
+use Rattle.table_volume.proofs.ForceEndLaws.{ends_failed, ends_forced, ends_idle, forced_to, not_down}
+use Rattle.table_volume.proofs.ForceMomentLaws.{agrees, commits, knows, leaves_forced, leaves_itself, over_waiting}
 use Rattle.table_volume.proofs.ForcedLaws.{whole_down, whole_forced}
 use Rattle.table_volume.proofs.KeptLaws.{idle_forced, is_forced, kept_down, value_then}
 use Rattle.table_volume.proofs.volume.Volume.force.Goals as goal
@@ -29,13 +36,13 @@ pub returns-then-len-eq0-clause-kept : goal.returns-then-len-eq0-clause-kept
 returns-then-len-eq0-clause-kept g c =
     let v : VolumeValue = record { layout = c.self.inside.layout; map = c.self.inside.map; shadow = c.self.inside.shadow; log = c.self.inside.log; cache = c.self.inside.cache; free_pages = c.self.inside.free_pages; serial = c.self.inside.serial; versions = c.self.inside.versions; down = c.self.inside.down } in
     let none : length c.self.inside.cache.dirty ≡ 0 = search rules in
-    subst (λ (x : VolumeValue). IsForced (state x) (state x)) c.self.view_is (idle_forced v c.self.invariant (nil_from_length c.self.inside.cache.dirty none))
+    subst (λ (x : VolumeValue). HasForced (state x) (state x)) c.self.view_is (idle_forced v c.self.invariant (nil_from_length c.self.inside.cache.dirty none))
 
 pub returns-in-Ok-clause-kept : goal.returns-in-Ok-clause-kept
 returns-in-Ok-clause-kept g c =
     let v : VolumeValue = record { layout = c.self.inside.layout; map = c.self.inside.map; shadow = c.self.inside.shadow; log = c.self.inside.log; cache = c.self.inside.cache; free_pages = c.self.inside.free_pages; serial = c.self.inside.serial; versions = c.self.inside.versions; down = c.self.inside.down } in
     let some : 1 ≤ length c.self.inside.cache.dirty = search rules in
-    subst (λ (x : VolumeValue). IsForced (state x) (state (value_then v c.self.invariant c.free_committed.new.map c.free_committed.new.shadow c.force_cached.new.log c.force_cached.new.cache c.free_committed.ensures.map c.free_committed.ensures.removed c.free_committed.ensures.kept c.free_committed.ensures.unfinished c.free_committed.ensures.held c.in-Ok.ensures.log c.in-Ok.ensures.cache))) c.self.view_is
+    subst (λ (x : VolumeValue). HasForced (state x) (state (value_then v c.self.invariant c.free_committed.new.map c.free_committed.new.shadow c.force_cached.new.log c.force_cached.new.cache c.free_committed.ensures.map c.free_committed.ensures.removed c.free_committed.ensures.kept c.free_committed.ensures.unfinished c.free_committed.ensures.held c.in-Ok.ensures.log c.in-Ok.ensures.cache))) c.self.view_is
     (is_forced v c.self.invariant c.free_committed.new.map c.free_committed.new.shadow c.force_cached.new.log c.force_cached.new.cache
     c.free_committed.ensures.map c.free_committed.ensures.removed c.free_committed.ensures.kept c.free_committed.ensures.unfinished c.free_committed.ensures.held c.in-Ok.ensures.log c.in-Ok.ensures.cache c.dirty_list.ensures.valid some)
 
@@ -52,14 +59,94 @@ returns-in_err-is_up-clause-disk g c =
     let at = c.args.m.now in
     let down : down_fault c.args.self.now.down ≡ Err c.in_err-is_up.field-0.0 = search rules in
     writes_told (told_up device_of c.from_residual.result c.in_err-is_up.field-0.0 c.from_residual.ensures.1 ∙ down_tells_none c.args.self.now.down c.in_err-is_up.field-0.0 down)
-    (writes_none at (λ left h now. g.met.M.Machine.only_now at left h now) (CacheLeaves c.args.self.now.log c.args.self.now.cache) (λ h. leaves_same c.args.self.now.log c.args.self.now.cache (g.M.Machine.now at)))
+    (writes_none at (λ left h now. g.met.M.Machine.only_now at left h now) (Leaves state Holds c.args.self.now (force_writes c.args.self.now.layout)) (λ h. leaves_itself c.args.self.now (g.M.Machine.now at)))
 
 pub returns-then-len-eq0-clause-disk : goal.returns-then-len-eq0-clause-disk
 returns-then-len-eq0-clause-disk g c =
     let at = c.args.m.now in
-    writes_none at (λ left h now. g.met.M.Machine.only_now at left h now) (CacheLeaves c.args.self.now.log c.args.self.now.cache) (λ h. leaves_same c.args.self.now.log c.args.self.now.cache (g.M.Machine.now at))
+    writes_none at (λ left h now. g.met.M.Machine.only_now at left h now) (Leaves state Holds c.args.self.now (force_writes c.args.self.now.layout)) (λ h. leaves_itself c.args.self.now (g.M.Machine.now at))
+
+pub returns-in-Ok-clause-disk : goal.returns-in-Ok-clause-disk
+returns-in-Ok-clause-disk g c =
+    let v : VolumeValue = record { layout = c.self.inside.layout; map = c.self.inside.map; shadow = c.self.inside.shadow; log = c.self.inside.log; cache = c.self.inside.cache; free_pages = c.self.inside.free_pages; serial = c.self.inside.serial; versions = c.self.inside.versions; down = c.self.inside.down } in
+    subst (λ (x : VolumeValue). WritesDisk g.M.Machine None (Leaves state Holds x (force_writes x.layout)) c.args.m.now c.force_cached.new.m) c.self.view_is
+    (writes_more c.in-Ok.ensures.disk (λ h left leaves. leaves_forced v (g.M.Machine.now c.args.m.now) left c.self.invariant c.dirty_list.ensures.valid leaves))
 
 pub returns-in-Err-clause-disk : goal.returns-in-Err-clause-disk
 returns-in-Err-clause-disk g c =
-    subst (λ (x : VolumeValue). WritesDisk g.M.Machine (device_of c.force_refusal.result) (CacheLeaves x.log x.cache) c.args.m.now c.force_cached.new.m) c.self.view_is
-    (writes_told (ap device_of c.force_refusal.ensures ∙ tells_place c.in-Err.fault) c.in-Err.ensures.disk)
+    let v : VolumeValue = record { layout = c.self.inside.layout; map = c.self.inside.map; shadow = c.self.inside.shadow; log = c.self.inside.log; cache = c.self.inside.cache; free_pages = c.self.inside.free_pages; serial = c.self.inside.serial; versions = c.self.inside.versions; down = c.self.inside.down } in
+    subst (λ (x : VolumeValue). WritesDisk g.M.Machine (device_of c.force_refusal.result) (Leaves state Holds x (force_writes x.layout)) c.args.m.now c.force_cached.new.m) c.self.view_is
+    (writes_told (ap device_of c.force_refusal.ensures ∙ tells_place c.in-Err.fault)
+    (writes_more c.in-Err.ensures.disk (λ h left leaves. leaves_forced v (g.M.Machine.now c.args.m.now) left c.self.invariant c.dirty_list.ensures.valid leaves)))
+
+pub returns-in-Ok-clause-counted : goal.returns-in-Ok-clause-counted
+returns-in-Ok-clause-counted g c tells =
+    let M = g.M.Machine in
+    let v : VolumeValue = record { layout = c.self.inside.layout; map = c.self.inside.map; shadow = c.self.inside.shadow; log = c.self.inside.log; cache = c.self.inside.cache; free_pages = c.self.inside.free_pages; serial = c.self.inside.serial; versions = c.self.inside.versions; down = c.self.inside.down } in
+    let some : 1 ≤ length c.self.inside.cache.dirty = search rules in
+    c.in-Ok.ensures.counted tells ∙ ap (λ n. (M.ledger c.args.m.now).written + n) (forced_count v c.args.self.now c.self.view_is c.self.invariant some)
+
+pub returns-in_err-is_up-clause-done : goal.returns-in_err-is_up-clause-done
+returns-in_err-is_up-clause-done g c honest k stands =
+    let down : down_fault c.args.self.now.down ≡ Err c.in_err-is_up.field-0.0 = search rules in
+    absurd (not_down c.args.self.now k (g.M.Machine.now c.args.m.now) c.in_err-is_up.field-0.0 down stands)
+
+pub returns-then-len-eq0-clause-done : goal.returns-then-len-eq0-clause-done
+returns-then-len-eq0-clause-done g c honest k stands =
+    let v : VolumeValue = record { layout = c.self.inside.layout; map = c.self.inside.map; shadow = c.self.inside.shadow; log = c.self.inside.log; cache = c.self.inside.cache; free_pages = c.self.inside.free_pages; serial = c.self.inside.serial; versions = c.self.inside.versions; down = c.self.inside.down } in
+    let at = g.M.Machine.now c.args.m.now in
+    let none : length c.self.inside.cache.dirty ≡ 0 = search rules in
+    let here : Stands state Holds v k (g.M.Machine.now c.args.m.now) = subst (λ (x : VolumeValue). Stands state Holds x k at) (sym c.self.view_is) stands in
+    subst (λ (x : VolumeValue). Answered state Holds (λ met. force_outcome (volume_of k)) IsForced [] k x at) c.self.view_is
+    (ends_idle v k at c.self.invariant c.dirty_list.ensures.valid (nil_from_length c.self.inside.cache.dirty none) here)
+
+pub returns-in-Ok-clause-done : goal.returns-in-Ok-clause-done
+returns-in-Ok-clause-done g c honest k stands =
+    let v : VolumeValue = record { layout = c.self.inside.layout; map = c.self.inside.map; shadow = c.self.inside.shadow; log = c.self.inside.log; cache = c.self.inside.cache; free_pages = c.self.inside.free_pages; serial = c.self.inside.serial; versions = c.self.inside.versions; down = c.self.inside.down } in
+    let old = g.M.Machine.now c.args.m.now in
+    let new = g.M.Machine.now c.force_cached.new.m in
+    let valid = c.dirty_list.ensures.valid in
+    let here : Stands state Holds v k (g.M.Machine.now c.args.m.now) = subst (λ (x : VolumeValue). Stands state Holds x k old) (sym c.self.view_is) stands in
+    let left = commits v k old c.self.invariant valid here new (c.in-Ok.ensures.disk.exit honest) in
+    ends_forced v (record v { map = c.free_committed.new.map; shadow = c.free_committed.new.shadow; log = c.force_cached.new.log; cache = c.force_cached.new.cache }) k old new c.self.invariant
+    (whole_forced v c.self.invariant c.free_committed.new.map c.free_committed.new.shadow c.force_cached.new.log c.force_cached.new.cache
+    c.free_committed.ensures.map c.free_committed.ensures.removed c.free_committed.ensures.kept c.free_committed.ensures.unfinished c.free_committed.ensures.held c.in-Ok.ensures.log c.in-Ok.ensures.cache)
+    valid here
+    (forced_to v c.free_committed.new.map c.free_committed.new.shadow c.force_cached.new.log c.force_cached.new.cache c.free_committed.ensures.map c.free_committed.ensures.removed c.in-Ok.ensures.log c.in-Ok.ensures.cache)
+    c.layout-fits.ensures.shape left.kept left.windows
+    (c.in-Ok.ensures.done k.mounted.pages k.windows here.disk.records here.disk.disk (agrees v k old c.self.invariant valid here) honest here.ends (over_waiting v k old c.self.invariant valid here) (knows v k old c.self.invariant valid here))
+    (c.in-Ok.ensures.knows k.mounted.pages k.windows here.disk.records here.disk.disk (agrees v k old c.self.invariant valid here) honest here.ends (over_waiting v k old c.self.invariant valid here) (knows v k old c.self.invariant valid here))
+
+pub returns-in-Err-clause-done : goal.returns-in-Err-clause-done
+returns-in-Err-clause-done g c honest k stands =
+    let v : VolumeValue = record { layout = c.self.inside.layout; map = c.self.inside.map; shadow = c.self.inside.shadow; log = c.self.inside.log; cache = c.self.inside.cache; free_pages = c.self.inside.free_pages; serial = c.self.inside.serial; versions = c.self.inside.versions; down = c.self.inside.down } in
+    let old = g.M.Machine.now c.args.m.now in
+    let new = g.M.Machine.now c.force_cached.new.m in
+    let valid = c.dirty_list.ensures.valid in
+    let here : Stands state Holds v k (g.M.Machine.now c.args.m.now) = subst (λ (x : VolumeValue). Stands state Holds x k old) (sym c.self.view_is) stands in
+    let device = c.in-Err.ensures.never_lost k.mounted.pages k.windows here.disk.records here.disk.disk (agrees v k old c.self.invariant valid here) honest here.ends (over_waiting v k old c.self.invariant valid here) (knows v k old c.self.invariant valid here) in
+    ends_failed Forced (λ met. force_outcome (volume_of k)) IsForced k (record v { log = c.force_cached.new.log; cache = c.force_cached.new.cache; down = Some c.place_of.result }) new c.in-Err.fault c.place_of.result c.force_refusal.result
+    c.place_of.ensures c.force_refusal.ensures refl device
+
+pub returns-in_err-is_up-clause-counted : goal.returns-in_err-is_up-clause-counted
+returns-in_err-is_up-clause-counted g c tells = none_counted c.from_residual.result c.in_err-is_up.field-0.0 c.from_residual.ensures.1 (force_len (state c.args.self.now)) (g.M.Machine.ledger c.args.m.now)
+
+pub returns-in-Err-clause-counted : goal.returns-in-Err-clause-counted
+returns-in-Err-clause-counted g c tells =
+    let M = g.M.Machine in
+    let v : VolumeValue = record { layout = c.self.inside.layout; map = c.self.inside.map; shadow = c.self.inside.shadow; log = c.self.inside.log; cache = c.self.inside.cache; free_pages = c.self.inside.free_pages; serial = c.self.inside.serial; versions = c.self.inside.versions; down = c.self.inside.down } in
+    let some : 1 ≤ length c.self.inside.cache.dirty = search rules in
+    failed_counted v c.args.self.now c.self.view_is c.self.invariant some (M.ledger c.args.m.now) (M.ledger c.force_cached.new.m) (c.in-Err.ensures.counted_err tells)
+
+pub returns-in-Err-clause-causes : goal.returns-in-Err-clause-causes
+returns-in-Err-clause-causes g c h =
+    let M = g.M.Machine in
+    let v : VolumeValue = record { layout = c.self.inside.layout; map = c.self.inside.map; shadow = c.self.inside.shadow; log = c.self.inside.log; cache = c.self.inside.cache; free_pages = c.self.inside.free_pages; serial = c.self.inside.serial; versions = c.self.inside.versions; down = c.self.inside.down } in
+    failed_cause v c.args.self.now c.self.view_is c.self.invariant (state (record v { log = c.force_cached.new.log; cache = c.force_cached.new.cache; down = Some c.place_of.result })) (M.now c.args.m.now) (M.now c.force_cached.new.m)
+    c.in-Err.fault c.force_refusal.result c.force_refusal.ensures (c.in-Err.ensures.lost h)
+
+pub returns-in-Err-clause-lost : goal.returns-in-Err-clause-lost
+returns-in-Err-clause-lost g c h =
+    let M = g.M.Machine in
+    let v : VolumeValue = record { layout = c.self.inside.layout; map = c.self.inside.map; shadow = c.self.inside.shadow; log = c.self.inside.log; cache = c.self.inside.cache; free_pages = c.self.inside.free_pages; serial = c.self.inside.serial; versions = c.self.inside.versions; down = c.self.inside.down } in
+    failed_cause v c.args.self.now c.self.view_is c.self.invariant (state c.args.self.now) (M.now c.args.m.now) (M.now c.force_cached.new.m) c.in-Err.fault c.force_refusal.result c.force_refusal.ensures (c.in-Err.ensures.lost h)

@@ -1,13 +1,22 @@
+use Rattle.std.proofs.Common.{inl, inr, subst}
+use Rattle.std.specs.Prelude.{IfOk}
+use Rattle.volume_layout.specs.declared.layout.Layout.{Layout}
 use Rattle.sector_disk.proofs.CallLaws.{heals_then, reads_as_heals}
+use Rattle.sector_disk.proofs.Calm.{calm_worn, same_calm}
 use Rattle.fsd_sound.specs.Lost.{AreCopiesOn, AreHomes, LostIn}
-use Rattle.volume_contract.specs.Mount.{IsRefused}
+use Rattle.mount_recover.specs.Recover.{IsFreshLog, IsSettledIn}
+use Rattle.volume_contract.specs.Mount.{CountsMount, IsRefused, UnsoundFor}
 use Rattle.volume_contract.specs.State.{IsNew}
-use Rattle.table_volume.specs.Mounting.{IsAssembled}
+use Rattle.table_volume.specs.Homes.{KnowsHomes}
+use Rattle.table_volume.specs.Mounting.{IsAssembled, OpensKnown}
 use Rattle.table_volume.specs.Opening.{IsOpenFault}
 use Rattle.table_volume.specs.State.{state}
-use Rattle.sector_disk.proofs.Calm.{calm_worn, same_calm}
 use Rattle.table_volume.proofs.CalmLaws.{calm_handed, fails_calm, mounts_calm}
-use Rattle.table_volume.proofs.MountLaws.{err_more, settled_in, home_lost, is_new, ok_more, refused_open}
+use Rattle.table_volume.proofs.EndsLaws.{ends_before, ends_settled, knows}
+use Rattle.table_volume.proofs.MomentLaws.{lists_now, shows_now}
+use Rattle.table_volume.proofs.MountLaws.{err_more, home_lost, is_new, ok_more, refused_open, settled_in}
+use Rattle.table_volume.proofs.RestLaws.{counts_mount, rest_read}
+use Rattle.table_volume.proofs.UnsoundLaws.{err_under, fails_sound, opens_unsound}
 use Rattle.table_volume.proofs.volume.Volume.mount.Goals as goal
 
 pub returns-clause-disk : goal.returns-clause-disk
@@ -56,3 +65,67 @@ returns-clause-calm g c honest calm calm_new =
     mounts_calm c.args.sectors settled.layout c.in_ok-settled.ensures.planned settled.log old.image mid new (calm_worn mid.windows mid.image new.image calm_mid worn.image) is
     (c.in_ok-settled.ensures.shown is.anchor back calm calm_mid is.found.anchor) calm_mid c.open_read.result c.open_read.ensures.assembled
     (err_more (λ fault. M.honest c.open_read.new.m → LostIn (AreHomes settled.layout) new.image fault) (λ fault. LostIn (AreHomes settled.layout) new.image fault) c.open_read.result (λ fault lost. lost honest) c.open_read.ensures.lost) (c.open_read.ensures.calm honest calm_mid)
+
+pub returns-clause-counted : goal.returns-clause-counted
+returns-clause-counted g c =
+    let M = g.M.Machine in
+    let settled = c.in_ok-settled.settled in
+    ok_more (IsAssembled settled.layout settled.log) (λ v. M.tells c.open_read.new.m → CountsMount (state v) (M.ledger c.args.m.now) (M.ledger c.open_read.new.m)) c.open_read.result
+    (λ v a tells.
+    let back = c.open_read.ensures.reads.trust.tells tells in
+    counts_mount settled.layout settled.log (M.ledger c.args.m.now) (M.ledger c.recover.new.m) (M.ledger c.open_read.new.m) (c.in_ok-settled.ensures.grows back) (c.in_ok-settled.ensures.counted back) (c.open_read.ensures.reads.ledger tells) v a)
+    c.open_read.ensures.assembled
+
+pub returns-clause-rest : goal.returns-clause-rest
+returns-clause-rest g c honest =
+    let M = g.M.Machine in
+    let settled = c.in_ok-settled.settled in
+    let back = c.open_read.ensures.reads.trust.honest honest in
+    inr (record {
+      layout = settled.layout;
+      root = c.in_ok-settled.ensures.root back;
+      rest = rest_read settled.layout (M.now c.args.m.now) (M.now c.recover.new.m) (M.now c.open_read.new.m) (c.in_ok-settled.ensures.rest back) (c.open_read.ensures.reads.worn honest);
+    })
+
+pub returns-in_err-settled-clause-sound : goal.returns-in_err-settled-clause-sound
+returns-in_err-settled-clause-sound g c honest l windows h f begun =
+    let M = g.M.Machine in
+    let s = c.args.sectors in
+    let old = M.now c.args.m.now in let new = M.now c.recover.new.m in
+    let lists = lists_now s l windows h f old begun in
+    let shows = shows_now s l windows h f old begun in
+    inl (ends_before s l windows h f old begun M c.args.m.now c.recover.new.m new (c.recover.ensures.any_moment l windows lists honest shows) (c.recover.ensures.turns l windows lists honest shows)
+    (c.recover.ensures.exit l windows lists honest shows) (c.in_err-settled.ensures.unturned honest) c.from_residual.result c.in_err-settled.field-0.0 c.from_residual.ensures.1 (c.in_err-settled.ensures.excuses l windows lists honest shows) (c.in_err-settled.ensures.refused honest))
+
+pub returns-clause-sound : goal.returns-clause-sound
+returns-clause-sound g c honest l windows h f begun =
+    let M = g.M.Machine in
+    let s = c.args.sectors in
+    let old = M.now c.args.m.now in let mid = M.now c.recover.new.m in let new = M.now c.open_read.new.m in
+    let settled = c.in_ok-settled.settled in
+    let lists = lists_now s l windows h f old begun in
+    let shows = shows_now s l windows h f old begun in
+    let back = c.open_read.ensures.reads.trust.honest honest in
+    let short = g.met.M.Machine.short c.recover.new.m back in
+    let exit = c.recover.ensures.exit l windows lists back shows in
+    let same = c.in_ok-settled.ensures.same l windows lists back shows in
+    let done = c.in_ok-settled.ensures.done l windows lists back shows in
+    let known = subst (λ (k : Layout). KnowsHomes k mid → OpensKnown k mid c.open_read.result) same (c.open_read.ensures.known honest) in
+    inr (ends_settled s l windows h f old begun M c.args.m.now c.recover.new.m c.open_read.new.m settled.log mid new done short exit
+    (c.recover.ensures.any_moment l windows lists back shows) (c.recover.ensures.turns l windows lists back shows) (c.open_read.ensures.reads.any_moment honest)
+    (subst (λ (k : Layout). IsFreshLog k settled.log) same c.in_ok-settled.ensures.log) (subst (λ (k : Layout). IsSettledIn s k settled.log old) same (c.in_ok-settled.ensures.found back)) c.in_ok-settled.ensures.epoch
+    (c.open_read.ensures.reads.worn honest) c.open_read.result (subst (λ (k : Layout). IfOk c.open_read.result (IsAssembled k settled.log)) same c.open_read.ensures.assembled)
+    (known (knows s l windows h f old begun M c.args.m.now c.recover.new.m c.open_read.new.m settled.log mid new done short exit)))
+
+pub returns-in_err-settled-clause-unsound : goal.returns-in_err-settled-clause-unsound
+returns-in_err-settled-clause-unsound g c =
+    let M = g.M.Machine in
+    fails_sound (M.honest c.recover.new.m) c.args.sectors (M.now c.args.m.now) (M.now c.recover.new.m) c.from_residual.result c.in_err-settled.field-0.0 c.from_residual.ensures.1 c.in_err-settled.ensures.sound
+
+pub returns-clause-unsound : goal.returns-clause-unsound
+returns-clause-unsound g c =
+    let M = g.M.Machine in
+    let settled = c.in_ok-settled.settled in
+    let old = M.now c.args.m.now in let mid = M.now c.recover.new.m in let new = M.now c.open_read.new.m in
+    err_under (M.honest c.open_read.new.m) (UnsoundFor c.args.sectors old new) c.open_read.result
+    (λ honest. opens_unsound c.args.sectors settled.layout old mid new (c.in_ok-settled.ensures.root (c.open_read.ensures.reads.trust.honest honest)) (c.open_read.ensures.reads.worn honest) c.open_read.result (c.open_read.ensures.known honest))

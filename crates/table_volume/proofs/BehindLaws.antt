@@ -1,0 +1,185 @@
+-- What is known behind a force, and why a look-up there tells something as lost or as unsound, said of the volume before the force.
+use Rattle.std.proofs.Common.{◌≡◌, ◌⊎◌, inl, inr, ℕ, ◌<◌, Bool, true, false, cond, nat_le, nat_lt, List, length, Option, Some, None, Result, Ok, Err, refl, sym, ap, subst, ◌∙◌, arith}
+use Rattle.std.specs.Prelude.{IfSome, IsTrue}
+use Rattle.volume_layout.specs.declared.layout.Layout.{Layout}
+use Rattle.std.proofs.lemmas.Bool.{and_parts, leb-true}
+use Rattle.volume_layout.specs.Layout.{data_start, home_a, is_data}
+use Rattle.run_table.specs.Space.{contains}
+use Rattle.fsd_bytes.specs.declared.refusal.Refusal.{Refusal}
+use Rattle.fsd_bytes.specs.declared.refusal.Refusal.TheVariants as Why
+use Rattle.sector_disk.specs.declared.machine.Machine.{Ghosts}
+use Rattle.sector_disk.specs.declared.sector.Sector.{Sector}
+use Rattle.sector_disk.specs.declared.sector.Sector.TheVariants.{Damaged}
+use Rattle.sector_disk.specs.Image.{IsWorn, Windows, open_damage, sector_at}
+use Rattle.sector_disk.specs.Machine.{Moment, Wears}
+use Rattle.sector_disk.proofs.Damage.{lost_as}
+use Rattle.sector_disk.proofs.Wear.{worn_refl, worn_trans, worn_whole}
+use Rattle.fsd_table.specs.Breaks.{Breaks}
+use Rattle.fsd_files.specs.Disk.{Image, SectorWorn, Sectors}
+use Rattle.version_data.specs.Writing.{WritesIn}
+use Rattle.volume_contract.specs.Causes.{AreCopies, AreCopiesOf, BreaksMounted, Causes, HasCause, IsRead, ShowsBreak, StandsInCopy, StoodInCopy}
+use Rattle.volume_contract.specs.Order.{with_drawn}
+use Rattle.volume_contract.specs.State.{State}
+use Rattle.table_volume.specs.Behind.{IsBehind, StandsLogged}
+use Rattle.table_volume.proofs.PutCauses.{copies_of}
+use Rattle.table_volume.proofs.WrittenLaws.{merged, merged_at, merged_size}
+
+module _ (s t u : State) (before after : ℕ → Option (List ℕ)) (old mid now : Moment) (behind : IsBehind s t before after mid) (slots : u.slots ≡ t.slots) (layout : u.layout ≡ t.layout) (wears : Wears mid now) where
+  copies_now : (page a b : ℕ) → AreCopiesOf t page a b → AreCopiesOf u page a b
+  copies_now page a b copies = copies_of u t page a b (sym slots) (sym layout) copies
+
+  lost_behind : (a b : ℕ) → AreCopies t u a b → AreCopies s u a b
+  lost_behind a b copies = record {
+    page = copies.page;
+    within = subst (λ (l : Layout). copies.page < l.pages) behind.layout copies.within;
+    copies = elim copies.copies [
+      | inl first ↦ inr (copies_now copies.page a b first)
+      | inr then_so ↦ inr then_so
+    ];
+  }
+
+  stands_now : (i : Image) (page : ℕ) (bytes : List ℕ) → StandsInCopy t i page bytes → StandsInCopy u i page bytes
+  stands_now i page bytes stands = record { a = stands.a; b = stands.b; copies = copies_now page stands.a stands.b stands.copies; whole = stands.whole }
+
+  -- what wear may come to stands whole before it
+  whole_before : (i j : Image) (page : ℕ) (bytes : List ℕ) → IsWorn (open_damage mid.windows) i j → StandsInCopy t j page bytes → StandsInCopy t i page bytes
+  whole_before i j page bytes worn stands = record {
+    a = stands.a;
+    b = stands.b;
+    copies = stands.copies;
+    whole = elim stands.whole [
+      | inl first ↦ inl (worn_whole (open_damage mid.windows) i j stands.a bytes worn first)
+      | inr second ↦ inr (worn_whole (open_damage mid.windows) i j stands.b bytes worn second)
+    ];
+  }
+
+  worn_now : (i : Image) → IsWorn (open_damage mid.windows) i mid.image → IsWorn (open_damage now.windows) i now.image
+  worn_now i worn = subst (λ (w : Windows). IsWorn (open_damage w) i now.image) (sym wears.windows) (worn_trans (open_damage mid.windows) i mid.image now.image worn wears.image)
+
+  stood_behind : (page : ℕ) (bytes : List ℕ) → StandsLogged t mid page bytes → StoodInCopy s u old now page bytes
+  stood_behind page bytes logged = (logged.seen, inr (worn_now logged.seen logged.worn, stands_now logged.seen page bytes logged.stands))
+
+  stood_then : (page : ℕ) (bytes : List ℕ) → StoodInCopy t u mid now page bytes → StoodInCopy s u old now page bytes
+  stood_then page bytes (seen, inl (worn, stands)) = (mid.image, inr (worn_now mid.image (worn_refl (open_damage mid.windows) mid.image), stands_now mid.image page bytes (whole_before mid.image seen page bytes worn stands)))
+  stood_then page bytes (seen, inr (worn, stands)) = (seen, inr (worn, stands))
+
+  read_behind : (page : ℕ) (bytes : List ℕ) → IsRead t u after mid now page bytes → IsRead s u before old now page bytes
+  read_behind page bytes read = record {
+    within = subst (λ (l : Layout). page < l.pages) behind.layout read.within;
+    source = elim read.source [
+      | inl there ↦ elim (behind.pages page bytes there) [
+        | inl was ↦ inl was
+        | inr stood ↦ inr (stood_behind page bytes stood)
+      ]
+      | inr stood ↦ inr (stood_then page bytes stood)
+    ];
+  }
+
+  breaks_behind : (pages : List (List ℕ)) (place : ℕ) → BreaksMounted t pages place → BreaksMounted s pages place
+  breaks_behind pages place breaks = record {
+    visit = breaks.visit;
+    reached = breaks.reached;
+    home = breaks.home ∙ ap (λ (l : Layout). home_a l breaks.visit.page) behind.layout;
+    how = elim breaks.how [
+      | inl broken ↦ inl (subst (λ (l : Layout). Breaks l pages breaks.visit.page) behind.layout broken)
+      | inr other ↦ inr (elim other [
+        | inl free ↦ inl (subst (λ (xs : List ℕ). IsTrue (contains xs breaks.visit.page)) behind.free_pages free)
+        | inr untaken ↦ inr (untaken.0, untaken.1, behind.untaken untaken.0 untaken.2)
+      ])
+    ];
+  }
+
+  shows_behind : (place : ℕ) → ShowsBreak t u after mid now place → ShowsBreak s u before old now place
+  shows_behind place shows = record {
+    read = shows.read;
+    are_read = λ page. by page (shows.read page) (shows.are_read page);
+    breaks = λ pages have. breaks_behind pages place (shows.breaks pages (record { size = have.size ∙ ap (λ (l : Layout). l.pages) (sym behind.layout); same = have.same }));
+  }
+    where
+      by : (page : ℕ) (o : Option (List ℕ)) → IfSome o (IsRead t u after mid now page) → IfSome o (IsRead s u before old now page)
+      by page None read = tt
+      by page (Some bytes) read = read_behind page bytes read
+
+  -- each refusal has its cause as it was before
+  pub cause_behind : (why : Refusal) → HasCause t u after mid now why → HasCause s u before old now why
+  cause_behind (Why.Lost a b) lost = lost_as (AreCopies t u) a b (AreCopies s u) now.image (lost_behind a b) lost
+  cause_behind (Why.Unsound place) shows = shows_behind place shows
+  cause_behind why cause = tt
+
+pub causes_behind : {D T : Type 0} (M : Ghosts D) (s t u : State) (before after : ℕ → Option (List ℕ)) (old mid now : D) → (M.honest now → IsBehind s t before after (M.now mid)) → u.slots ≡ t.slots → u.layout ≡ t.layout → (M.honest now → Wears (M.now mid) (M.now now))
+    → (r : Result T Refusal) → Causes M after t u mid now r → Causes M before s u old now r
+causes_behind M s t u before after old mid now behind slots layout wears (Ok x) causes = tt
+causes_behind M s t u before after old mid now behind slots layout wears (Err why) causes =
+    λ honest. cause_behind s t u before after (M.now old) (M.now mid) (M.now now) (behind honest) slots layout (wears honest) why (causes honest)
+
+-- ---- stages of a call
+
+-- nothing is done
+pub behind_itself : (s : State) (held : ℕ → Option (List ℕ)) (now : Moment) → IsBehind s s held held now
+behind_itself s held now = record { layout = refl; free_pages = refl; pages = λ page bytes is. inl is; untaken = λ e untaken. untaken }
+
+-- free sectors are written and a serial is drawn
+module _ (may : Sectors) (l : Layout) (data_only : (s : ℕ) → IsTrue (may s) → IsTrue (is_data l s)) (mid now : Moment) (writes : WritesIn may mid now) where
+  out : (a : ℕ) → a < home_a l 0 → may a ≡ false
+  out a lt = by (may a) refl
+    where
+      by : (b : Bool) → may a ≡ b → b ≡ false
+      by false is = refl
+      by true is = absurd (let low = leb-true (data_start l) a (and_parts (nat_le (data_start l) a) (nat_lt a l.sectors) (data_only a is)).0 in omega (arith, lt, low))
+
+  module _ (seen : Image) (worn : IsWorn (open_damage mid.windows) seen mid.image) where
+    abbrev then_seen : Image
+    then_seen = merged may seen now.image
+
+    size : length now.image ≡ length seen
+    size = writes.touches.size ∙ worn.size
+
+    at_then : (s : ℕ) → sector_at then_seen s ≡ cond (may s) (sector_at now.image s) (sector_at seen s)
+    at_then = merged_at may seen now.image size
+
+    then_worn : IsWorn (open_damage now.windows) then_seen now.image
+    then_worn = record { size = size ∙ sym (merged_size may seen now.image); each = λ s. by s (may s) refl (at_then s) }
+      where
+        chained : (s : ℕ) → (sector_at mid.image s ≡ sector_at seen s) ⊎ (IsTrue (open_damage mid.windows s) × (sector_at mid.image s ≡ Damaged)) → SectorWorn (open_damage mid.windows s) (sector_at mid.image s) (sector_at now.image s)
+            → (sector_at now.image s ≡ sector_at seen s) ⊎ (IsTrue (open_damage mid.windows s) × (sector_at now.image s ≡ Damaged))
+        chained s first (inr gone) = inr gone
+        chained s (inl same) (inl still) = inl (still ∙ same)
+        chained s (inr gone) (inl still) = inr (gone.0, still ∙ gone.1)
+
+        by : (s : ℕ) (b : Bool) → may s ≡ b → sector_at then_seen s ≡ cond b (sector_at now.image s) (sector_at seen s)
+            → (sector_at now.image s ≡ sector_at then_seen s) ⊎ (IsTrue (open_damage now.windows s) × (sector_at now.image s ≡ Damaged))
+        by s true is e = inl (sym e)
+        by s false is e =
+            subst (λ (w : Windows). (sector_at now.image s ≡ sector_at then_seen s) ⊎ (IsTrue (open_damage w s) × (sector_at now.image s ≡ Damaged))) (sym writes.windows)
+            (subst (λ (x : Sector). (sector_at now.image s ≡ x) ⊎ (IsTrue (open_damage mid.windows s) × (sector_at now.image s ≡ Damaged))) (sym e) (chained s (worn.each s) (writes.touches.others s is)))
+
+    kept_at : (a : ℕ) → a < home_a l 0 → sector_at then_seen a ≡ sector_at seen a
+    kept_at a lt = at_then a ∙ ap (λ (b : Bool). cond b (sector_at now.image a) (sector_at seen a)) (out a lt)
+
+  pub written_behind : (s t : State) (before after : ℕ → Option (List ℕ)) → t.layout ≡ l → IsBehind s t before after mid → IsBehind s (with_drawn t) before after now
+  written_behind s t before after same behind = record { layout = behind.layout; free_pages = behind.free_pages; pages = pages; untaken = behind.untaken }
+    where
+      logged : (page : ℕ) (bytes : List ℕ) → StandsLogged t mid page bytes → StandsLogged (with_drawn t) now page bytes
+      logged page bytes g =
+          let below : (a : ℕ) → a < home_a t.layout 0 → a < home_a l 0 = λ a lt. subst (λ (x : Layout). a < home_a x 0) same lt in
+          record {
+            seen = then_seen g.seen g.worn;
+            worn = then_worn g.seen g.worn;
+            stands = record {
+              a = g.stands.a;
+              b = g.stands.b;
+              copies = g.stands.copies;
+              whole = elim g.stands.whole [
+                | inl first ↦ inl (kept_at g.seen g.worn g.stands.a (below g.stands.a g.first) ∙ first)
+                | inr second ↦ inr (kept_at g.seen g.worn g.stands.b (below g.stands.b g.second) ∙ second)
+              ];
+            };
+            first = g.first;
+            second = g.second;
+          }
+
+      pages : (page : ℕ) (bytes : List ℕ) → after page ≡ Some bytes → (before page ≡ Some bytes) ⊎ StandsLogged (with_drawn t) now page bytes
+      pages page bytes is = elim (behind.pages page bytes is) [
+        | inl was ↦ inl was
+        | inr g ↦ inr (logged page bytes g)
+      ]

@@ -1,0 +1,123 @@
+-- How a mount of a sound disk ends.
+use Rattle.std.proofs.Common.{◌≡◌, ◌⊎◌, inl, inr, ⊎_elim, ℕ, ◌^◌, ◌<◌, List, Ok, Err, refl, sym, subst}
+use Rattle.std.specs.Prelude.{IfOk, IsErrAnd, Result}
+use Rattle.volume_layout.specs.declared.layout.Layout.{Layout}
+use Rattle.sector_disk.specs.declared.machine.Machine.{Ghosts as MachineGhosts}
+use Rattle.sector_disk.specs.declared.sector.WeakRun.{WeakRun}
+use Rattle.sector_disk.specs.Image.{AreShort}
+use Rattle.sector_disk.specs.Machine.{LeavesOnly, Moment, Wears}
+use Rattle.sector_disk.proofs.Moments.{leaves_more, then_on}
+use Rattle.sector_disk.proofs.Wear.{worn_refl}
+use Rattle.fsd_files.specs.Files.{Change}
+use Rattle.fsd_sound.specs.Mounted.{SameData}
+use Rattle.fsd_sound.specs.Sound.{weak_of}
+use Rattle.fsd_sound.specs.declared.fault.MountFault.{MountFault}
+use Rattle.fsd_sound.specs.declared.fault.MountFault.TheVariants.{Device, Lost, Memory, NoAnchor, NotVolume, Unsound, WornOut}
+use Rattle.fsd_sound.proofs.WritesLaws.{data_stays}
+use Rattle.log_thirds.specs.LogValue.{LogValue}
+use Rattle.mount_recover.specs.Finding.{IsExcuse}
+use Rattle.mount_recover.specs.Recover.{IsFreshLog, IsRefusedFor, IsSettledIn}
+use Rattle.mount_recover.specs.Replay.{IsAfter, IsBefore, IsReplayed, IsUnturned, Replays, TurnsLast}
+use Rattle.volume_contract.specs.Mount.{EndsBefore, EndsSettled, ExcusesOf, FailsFor, IsSoundAt, SoundBefore, SoundSince}
+use Rattle.table_volume.specs.Homes.{KnowsHomes}
+use Rattle.table_volume.specs.Mounting.{IsAssembled, OpensKnown}
+use Rattle.table_volume.specs.State.{Holds, state}
+use Rattle.table_volume.specs.Volume.{VolumeValue}
+use Rattle.table_volume.proofs.EpochLaws.{at_last_epoch}
+use Rattle.table_volume.proofs.MomentLaws.{before_of, lists_now, sound_before}
+use Rattle.table_volume.proofs.SettledLaws.{count, files_settled, known_new, knows_settled, mounts_new, settled_new, since_settled}
+
+-- ---- moments of which two things are known
+
+module _ {D : Type 0} (moment : D → ℕ) (left_since : D → ℕ → Moment → Type 0) (old new : D) (P Q : Moment → Type 0) where
+  leaves_both : LeavesOnly moment left_since old new P → LeavesOnly moment left_since old new Q → LeavesOnly moment left_since old new (λ c. P c × Q c)
+  leaves_both first second = record {
+    later = first.later;
+    each = λ c left. (first.each c left, second.each c left);
+    before = λ t c le left. ⊎_elim (λ was. inl was) (λ p. ⊎_elim (λ was. inl was) (λ q. inr (p, q)) (second.before t c le left)) (first.before t c le left);
+  }
+
+-- ---- before it settles
+
+excuses_of : (sectors : ℕ) (old : Moment) (fault : MountFault) → IsExcuse fault → IsRefusedFor sectors fault old → ExcusesOf old.image fault
+excuses_of sectors old WornOut excuse refused = at_last_epoch sectors old refused
+excuses_of sectors old (Device s) excuse refused = tt
+excuses_of sectors old Memory excuse refused = tt
+excuses_of sectors old NotVolume excuse refused = absurd excuse
+excuses_of sectors old NoAnchor excuse refused = absurd excuse
+excuses_of sectors old (Lost a b) excuse refused = absurd excuse
+excuses_of sectors old (Unsound s) excuse refused = absurd excuse
+
+module _ (sectors : ℕ) (l : Layout) (windows : List WeakRun) (h : List Change) (f : ℕ) (old : Moment) (begun : IsSoundAt sectors l windows h f old) where
+  moment_before : (left : Moment) → Replays l windows (lists_now sectors l windows h f old begun) old left → IsUnturned old left → SoundBefore l windows h f old left
+  moment_before left replays still =
+      let before = staged replays.stage in
+      record {
+        present = still;
+        said = replays.said;
+        sound = sound_before sectors l windows h f old begun left.image before.shows (data_stays l (weak_of windows) old left replays.rest);
+        writes = replays.rest;
+      }
+    where
+      staged : IsBefore l windows (lists_now sectors l windows h f old begun) old left ⊎ IsAfter l windows (lists_now sectors l windows h f old begun) left → IsBefore l windows (lists_now sectors l windows h f old begun) old left
+      staged (inl before) = before
+      staged (inr is) = before_of l windows (lists_now sectors l windows h f old begun) old left begun.ends still is
+
+  module _ {D : Type 0} (M : MachineGhosts D) (a b : D) where
+    -- it failed before it settled
+    pub ends_before : (new : Moment) → LeavesOnly M.moment M.left_since a b (Replays l windows (lists_now sectors l windows h f old begun) old) → LeavesOnly M.moment M.left_since a b (TurnsLast old new)
+        → Replays l windows (lists_now sectors l windows h f old begun) old new → IsUnturned old new → (r : Result VolumeValue MountFault) (fault : MountFault) → IsErrAnd r (λ told. told ≡ fault) → IsExcuse fault → IsRefusedFor sectors fault old
+        → EndsBefore state Holds l windows h f (LeavesOnly M.moment M.left_since a b) old new r
+    ends_before new replays turns exit still r fault is excuse refused = record {
+      moments = leaves_more M.moment M.left_since a b (λ left. Replays l windows (lists_now sectors l windows h f old begun) old left × TurnsLast old new left) (SoundBefore l windows h f old)
+          (λ left both. moment_before left both.0 (unturned left both.1))
+          (leaves_both M.moment M.left_since a b (Replays l windows (lists_now sectors l windows h f old begun) old) (TurnsLast old new) replays turns);
+      exit = moment_before new exit still;
+      why = why r is;
+    }
+      where
+        unturned : (left : Moment) → TurnsLast old new left → IsUnturned old left
+        unturned left (inl same) = same
+        unturned left (inr end) = subst (IsUnturned old) (sym end) still
+
+        why : (r : Result VolumeValue MountFault) → IsErrAnd r (λ told. told ≡ fault) → FailsFor (ExcusesOf old.image) r
+        why (Ok v) is = absurd is
+        why (Err told) is = subst (ExcusesOf old.image) (sym is) (excuses_of sectors old fault excuse refused)
+
+  -- ---- once it has settled
+
+  module _ {D : Type 0} (M : MachineGhosts D) (a b c : D) (log : LogValue) (mid new : Moment) (done : IsReplayed l windows (lists_now sectors l windows h f old begun) log.anchor.epoch mid) (short : AreShort mid.windows)
+      (exit : Replays l windows (lists_now sectors l windows h f old begun) old mid) where
+    same : SameData l (weak_of windows) old.image mid.image
+    same = data_stays l (weak_of windows) old mid exit.rest
+
+    since : (left : Moment) → Wears mid left → SoundSince l windows h (count sectors l windows h f old begun log mid done short) old left
+    since left wears = since_settled sectors l windows h f old begun log mid done short (data_stays l (weak_of windows) old mid exit.rest) exit.said exit.rest left wears
+
+    at_mid : Wears mid mid
+    at_mid = record { image = worn_refl _ mid.image; windows = refl; said = refl }
+
+    abbrev Each : Moment → Type 0
+    Each left = SoundBefore l windows h f old left ⊎ SoundSince l windows h (count sectors l windows h f old begun log mid done short) old left
+
+    each : (left : Moment) → Replays l windows (lists_now sectors l windows h f old begun) old left → TurnsLast old mid left → Each left
+    each left replays (inl still) = inl (moment_before left replays still)
+    each left replays (inr end) = inr (subst (SoundSince l windows h (count sectors l windows h f old begun log mid done short) old) (sym end) (since mid at_mid))
+
+    pub knows : KnowsHomes l mid
+    knows = knows_settled sectors l windows h f old begun log mid done short
+
+    pub ends_settled : LeavesOnly M.moment M.left_since a b (Replays l windows (lists_now sectors l windows h f old begun) old) → LeavesOnly M.moment M.left_since a b (TurnsLast old mid) → LeavesOnly M.moment M.left_since b c (Wears mid)
+        → IsFreshLog l log → IsSettledIn sectors l log old → log.anchor.epoch < 2 ^ 32 → Wears mid new → (r : Result VolumeValue MountFault) → IfOk r (IsAssembled l log) → OpensKnown l mid r
+        → EndsSettled state Holds l windows h f (LeavesOnly M.moment M.left_since a c) old new r
+    ends_settled replays turns reads fresh is fits wears r assembled opens = record {
+      count = count sectors l windows h f old begun log mid done short;
+      prefix = (files_settled sectors l windows h f old begun log mid done short).prefix;
+      known = known_new sectors l windows h f old begun log mid done short same exit.said exit.rest fresh is fits new wears;
+      moments = then_on M.moment M.left_since a b c Each
+          (leaves_more M.moment M.left_since a b (λ left. Replays l windows (lists_now sectors l windows h f old begun) old left × TurnsLast old mid left) Each (λ left both. each left both.0 both.1)
+          (leaves_both M.moment M.left_since a b (Replays l windows (lists_now sectors l windows h f old begun) old) (TurnsLast old mid) replays turns))
+          (leaves_more M.moment M.left_since b c (Wears mid) Each (λ left worn. inr (since left worn)) reads);
+      settled = settled_new sectors l windows h f old begun log mid done short same exit.said exit.rest fresh is fits new wears;
+      ends = mounts_new sectors l windows h f old begun log mid done short same exit.said exit.rest fresh is fits new wears r assembled opens;
+    }

@@ -1,0 +1,82 @@
+-- What a force that fails has written, and what it has lost.
+use Rattle.std.proofs.Common.{◌≡◌, ℕ, ◌+◌, ◌*◌, ◌<◌, ◌≤◌, Bool, true, false, cond, ◌||◌, ◌&&◌, ◌==◌, nat_le, nat_lt, length, inl, refl, sym, subst, arith}
+use Rattle.std.specs.Prelude.{Result, Ok, Err, IsErrAnd}
+use Rattle.std.proofs.lemmas.Bool.{eqb-true, leb-false, le-leb, lt-ltb, ltb-false}
+use Rattle.volume_layout.specs.declared.layout.Layout.{Layout}
+use Rattle.fsd_bytes.specs.declared.refusal.Refusal.{Refusal}
+use Rattle.fsd_formats.specs.Record.{record_len}
+use Rattle.sector_disk.specs.Machine.{Ledger, Moment}
+use Rattle.sector_disk.proofs.Damage.{lost_as}
+use Rattle.group_commit.specs.Entering.{AreOfLogged, LosesLogged}
+use Rattle.group_commit.specs.Force.{as_load}
+use Rattle.group_commit.specs.Room.{WroteMost, pages_in_first, sectors_before}
+use Rattle.group_commit.specs.declared.force.ForceFault.{ForceFault}
+use Rattle.group_commit.specs.declared.force.ForceFault.TheVariants as fault
+use Rattle.volume_contract.specs.Causes.{AreCopies, HasCause}
+use Rattle.volume_contract.specs.State.{Counted, State, enters_again, force_len, homed}
+use Rattle.table_volume.specs.Forcing.{force_refusal}
+use Rattle.table_volume.specs.State.{resident, state}
+use Rattle.table_volume.specs.Volume.{IsWhole, VolumeValue}
+
+-- ---- how much is written
+
+or_none : (a b : Bool) → (a || b) ≡ false → (a ≡ false) × (b ≡ false)
+or_none true b is = absurd (cc is)
+or_none false b is = (refl, is)
+
+-- a record that doesn't go before the first third is laid in it
+laid_again : (at end thirds : ℕ) → (nat_le at end || nat_lt end thirds) ≡ false → (nat_lt end at && nat_le thirds end) ≡ true
+laid_again at end thirds is =
+    let none = or_none (nat_le at end) (nat_lt end thirds) is in
+    let past = lt-ltb end at (leb-false at end none.0) in
+    let last = le-leb thirds end (ltb-false end thirds none.1) in
+    λ i. past i && last i
+
+before_within : (before again : Bool) (n count : ℕ) → (before ≡ false → again ≡ true) → cond before 0 n ≤ count + cond again n 0
+before_within true again n count is = omega arith
+before_within false again n count is = subst (λ (b : Bool). n ≤ count + cond b n 0) (sym (is refl)) (omega arith)
+
+some_pages : (n : ℕ) → 1 ≤ n → (n == 0) ≡ false
+some_pages n some = by (n == 0) refl
+  where
+    by : (b : Bool) → (n == 0) ≡ b → b ≡ false
+    by true e = absurd (let none = eqb-true n 0 e in omega (arith, some, none))
+    by false e = refl
+
+-- what is written before the record is part of what a force writes
+before_force : (v : VolumeValue) → IsWhole v → 1 ≤ length v.cache.dirty → sectors_before v.log (length v.cache.dirty) ≤ force_len (state v)
+before_force v whole some =
+    let n = length v.cache.dirty in
+    let log = v.log in
+    let here = before_within (nat_le (log.head.at + record_len n) log.head.end || nat_lt log.head.end (3 * log.layout.third)) (nat_lt log.head.end (log.head.at + record_len n) && nat_le (3 * log.layout.third) log.head.end)
+    (2 * pages_in_first log + 2) (record_len n) (laid_again (log.head.at + record_len n) log.head.end (3 * log.layout.third)) in
+    subst (λ (b : Bool). sectors_before log n ≤ cond b 0 (record_len n + cond (enters_again (state v)) (2 * homed (state v) + 2) 0)) (sym (some_pages n some))
+    (subst (λ (l : Layout). sectors_before log n ≤ record_len n + cond (enters_again (record (state v) { layout = l })) (2 * homed (record (state v) { layout = l }) + 2) 0) whole.log here)
+
+pub failed_counted : (v w : VolumeValue) → v ≡ w → IsWhole v → 1 ≤ length v.cache.dirty → (old new : Ledger) → WroteMost (sectors_before v.log (length v.cache.dirty)) old new
+    → (old.written ≤ new.written) × (new.written ≤ old.written + force_len (state w))
+failed_counted v w is whole some old new most =
+    let no_more = most.no_more in
+    let within = subst (λ (x : VolumeValue). sectors_before v.log (length v.cache.dirty) ≤ force_len (state x)) is (before_force v whole some) in
+    (most.no_fewer, omega (arith, no_more, within))
+
+-- nothing is written
+pub none_counted : {T E : Type 0} (r : Result T E) (why : E) → IsErrAnd r (λ told. told ≡ why) → (n : ℕ) (ledger : Ledger) → Counted r n ledger ledger
+none_counted (Ok x) why is n ledger = absurd is
+none_counted (Err told) why is n ledger = (omega arith, omega arith)
+
+-- ---- what is lost
+
+lost_copies : (v : VolumeValue) → IsWhole v → (new : State) (a b : ℕ) → AreOfLogged v.log a b → AreCopies (state v) new a b
+lost_copies v whole new a b of = record { page = of.page; within = subst (λ (l : Layout). of.page < l.pages) whole.log of.within; copies = inl (inl of.logged.lies) }
+
+caused : (v : VolumeValue) → IsWhole v → (new : State) (before now : Moment) (f : ForceFault) → LosesLogged v.log now.image (as_load f) → HasCause (state v) new (resident v) before now (force_refusal f)
+caused v whole new before now (fault.Device place) lost = tt
+caused v whole new before now (fault.Lost a b) lost = lost_as (AreOfLogged v.log) a b (AreCopies (state v) new) now.image (lost_copies v whole new a b) lost
+
+-- the copies are those of the log as the force began
+pub failed_cause : (v w : VolumeValue) → v ≡ w → IsWhole v → (new : State) (before now : Moment) (f : ForceFault) (why : Refusal) → why ≡ force_refusal f → LosesLogged v.log now.image (as_load f)
+    → HasCause (state w) new (resident w) before now why
+failed_cause v w is whole new before now f why told lost =
+    subst (λ (x : VolumeValue). HasCause (state x) new (resident x) before now why) is
+    (subst (λ (r : Refusal). HasCause (state v) new (resident v) before now r) (sym told) (caused v whole new before now f lost))

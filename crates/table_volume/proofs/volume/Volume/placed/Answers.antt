@@ -1,0 +1,130 @@
+use Rattle.std.proofs.Common.{ℕ, inl, inr, Err, sym, subst, ◌∙◌}
+use Rattle.sector_disk.proofs.CallLaws.{told_up, writes_none, writes_told}
+use Rattle.fsd_files.specs.Answers.{force_outcome}
+use Rattle.fsd_files.specs.Replies.{Forced as IsForced}
+use Rattle.volume_contract.specs.declared.files.Forced.{Forced}
+use Rattle.volume_contract.specs.Ends.{device_of}
+use Rattle.fsd_sound.specs.Writes.{force_writes}
+use Rattle.volume_contract.specs.State.{Counted, Leaves, volume_of}
+use Rattle.table_volume.specs.Placing.{EndsPlace, Places, place_len}
+use Rattle.table_volume.specs.State.{Holds, resident, state}
+use Rattle.table_volume.proofs.CauseLaws.{handed_cause}
+use Rattle.table_volume.proofs.CountedLaws.{counted_as, place_counted, place_forced_len}
+use Rattle.table_volume.proofs.PlaceSteps.{busy_place, ends_down, ends_now, ends_then, none_now, place_tells, places_down, places_now, places_then}
+use Rattle.table_volume.proofs.PutCauses.{place_causes}
+use Rattle.table_volume.proofs.RangeLaws.{handed}
+use Rattle.table_volume.proofs.WrittenLaws.{leaves_still}
+use Rattle.table_volume.proofs.volume.Volume.placed.Goals.{then-is_ok-via-then-is_ok, then-is_ok-via-else-is_ok+then-not-waits}
+use Rattle.table_volume.proofs.volume.Volume.placed.Goals as goal
+
+-- ---- without a force
+
+pub returns-then-is_ok-clause-places : goal.returns-then-is_ok-clause-places
+returns-then-is_ok-clause-places g c =
+    places_now (state c.args.self.now) c.args.need c.chosen-place.result c.chosen-place.ensures.place (elim c.then-is_ok.branch [
+      | then-is_ok-via-then-is_ok w ↦ inl (sym c.is_ok.ensures.value ∙ w.if-is_ok.true)
+      | then-is_ok-via-else-is_ok+then-not-waits w ↦ inr (sym w.waits.ensures ∙ w.if-not-waits.true)
+    ])
+
+pub returns-then-is_ok-clause-disk : goal.returns-then-is_ok-clause-disk
+returns-then-is_ok-clause-disk g c =
+    let v = c.args.self.now in
+    let at = c.args.m.now in
+    writes_told (place_tells (state v) c.args.need c.chosen-place.result c.chosen-place.ensures.place)
+    (writes_none at (λ left h is. g.met.M.Machine.only_now at left h is) (Leaves state Holds v (force_writes v.layout)) (λ h. leaves_still v (g.M.Machine.now at) (force_writes v.layout)))
+
+pub returns-then-is_ok-clause-counted : goal.returns-then-is_ok-clause-counted
+returns-then-is_ok-clause-counted g c tells = place_counted (state c.args.self.now) c.args.need c.chosen-place.result c.chosen-place.ensures.place (g.M.Machine.ledger c.args.m.now)
+
+pub returns-then-is_ok-clause-causes : goal.returns-then-is_ok-clause-causes
+returns-then-is_ok-clause-causes g c =
+    let s = state c.args.self.now in
+    place_causes g.M.Machine (resident c.args.self.now) s s s c.args.m.now c.args.m.now c.args.need c.chosen-place.result c.chosen-place.ensures.place
+
+pub returns-then-is_ok-clause-done : goal.returns-then-is_ok-clause-done
+returns-then-is_ok-clause-done g c h k stands =
+    ends_now c.args.self.now c.args.need k (g.M.Machine.now c.args.m.now) c.chosen-place.result c.chosen-place.ensures.place (elim c.then-is_ok.branch [
+      | then-is_ok-via-then-is_ok w ↦ inl (sym c.is_ok.ensures.value ∙ w.if-is_ok.true)
+      | then-is_ok-via-else-is_ok+then-not-waits w ↦ inr (sym w.waits.ensures ∙ w.if-not-waits.true)
+    ]) stands
+
+-- ---- the force has failed
+
+pub returns-in_err-force-clause-places : goal.returns-in_err-force-clause-places
+returns-in_err-force-clause-places g c =
+    let s = state c.args.self.now in
+    let none = none_now s c.args.need c.chosen-place.result c.chosen-place.ensures.place (sym c.is_ok.ensures.value ∙ c.if-is_ok.false) in
+    let waits = sym c.waits.ensures ∙ c.if-not-waits.false in
+    handed (Places c.args.need s (state c.force.new.self)) c.from_residual.result c.in_err-force.field-0.0 c.from_residual.ensures.1
+    (places_down s (state c.force.new.self) c.args.need none waits c.in_err-force.field-0.0 c.requires.up c.in_err-force.ensures.state c.in_err-force.ensures.order c.in_err-force.ensures.kept)
+
+pub returns-in_err-force-clause-disk : goal.returns-in_err-force-clause-disk
+returns-in_err-force-clause-disk g c = writes_told (told_up device_of c.from_residual.result c.in_err-force.field-0.0 c.from_residual.ensures.1) c.in_err-force.ensures.disk
+
+pub returns-in_err-force-clause-counted : goal.returns-in_err-force-clause-counted
+returns-in_err-force-clause-counted g c tells =
+    let s = state c.args.self.now in
+    let a = g.M.Machine.ledger c.args.m.now in
+    let b = g.M.Machine.ledger c.force.new.m in
+    let why = c.in_err-force.field-0.0 in
+    let none = none_now s c.args.need c.chosen-place.result c.chosen-place.ensures.place (sym c.is_ok.ensures.value ∙ c.if-is_ok.false) in
+    let waits = sym c.waits.ensures ∙ c.if-not-waits.false in
+    handed (λ r. Counted r (place_len s c.args.need) a b) c.from_residual.result why c.from_residual.ensures.1
+    (subst (λ (n : ℕ). Counted {T = Forced} (Err why) n a b) (sym (place_forced_len s c.args.need none waits)) (c.in_err-force.ensures.counted tells))
+
+pub returns-in_err-force-clause-idle : goal.returns-in_err-force-clause-idle
+returns-in_err-force-clause-idle g c idle =
+    let s = state c.args.self.now in
+    let none = none_now s c.args.need c.chosen-place.result c.chosen-place.ensures.place (sym c.is_ok.ensures.value ∙ c.if-is_ok.false) in
+    absurd (busy_place s c.args.need none (sym c.waits.ensures ∙ c.if-not-waits.false) idle)
+
+pub returns-in_err-force-clause-causes : goal.returns-in_err-force-clause-causes
+returns-in_err-force-clause-causes g c =
+    let v = c.args.self.now in
+    handed_cause g.M.Machine (resident v) (state v) (state c.force.new.self) c.args.m.now c.force.new.m c.in_err-force.field-0.0 c.from_residual.result c.from_residual.ensures.1 c.in_err-force.ensures.causes
+
+pub returns-in_err-force-clause-done : goal.returns-in_err-force-clause-done
+returns-in_err-force-clause-done g c h k stands =
+    let now = g.M.Machine.now c.force.new.m in
+    handed (EndsPlace c.args.need k c.force.new.self now) c.from_residual.result c.in_err-force.field-0.0 c.from_residual.ensures.1
+    (ends_down Forced c.args.need (λ met. force_outcome (volume_of k)) IsForced c.in_err-force.field-0.0 k c.force.new.self now (c.in_err-force.ensures.done h k stands))
+
+-- ---- behind the force
+
+pub returns-clause-places : goal.returns-clause-places
+returns-clause-places g c =
+    let s = state c.args.self.now in
+    let none = none_now s c.args.need c.chosen-place.result c.chosen-place.ensures.place (sym c.is_ok.ensures.value ∙ c.if-is_ok.false) in
+    let waits = sym c.waits.ensures ∙ c.if-not-waits.false in
+    places_then c.args.self.now c.force.new.self c.args.need none waits c.chosen.result c.chosen.ensures.place c.in_ok-force.ensures.state c.in_ok-force.ensures.kept
+
+pub returns-clause-disk : goal.returns-clause-disk
+returns-clause-disk g c = writes_told (place_tells (state c.force.new.self) c.args.need c.chosen.result c.chosen.ensures.place) c.in_ok-force.ensures.disk
+
+pub returns-clause-counted : goal.returns-clause-counted
+returns-clause-counted g c tells =
+    let s = state c.args.self.now in
+    let a = g.M.Machine.ledger c.args.m.now in
+    let b = g.M.Machine.ledger c.force.new.m in
+    let none = none_now s c.args.need c.chosen-place.result c.chosen-place.ensures.place (sym c.is_ok.ensures.value ∙ c.if-is_ok.false) in
+    let waits = sym c.waits.ensures ∙ c.if-not-waits.false in
+    subst (λ (n : ℕ). Counted c.chosen.result n a b) (sym (place_forced_len s c.args.need none waits)) (counted_as c.chosen.result _ a b (c.in_ok-force.ensures.counted tells))
+
+pub returns-clause-idle : goal.returns-clause-idle
+returns-clause-idle g c idle =
+    let s = state c.args.self.now in
+    let none = none_now s c.args.need c.chosen-place.result c.chosen-place.ensures.place (sym c.is_ok.ensures.value ∙ c.if-is_ok.false) in
+    absurd (busy_place s c.args.need none (sym c.waits.ensures ∙ c.if-not-waits.false) idle)
+
+pub returns-clause-causes : goal.returns-clause-causes
+returns-clause-causes g c =
+    let v = c.args.self.now in
+    let w = c.force.new.self in
+    place_causes g.M.Machine (resident v) (state v) (state w) (state w) c.args.m.now c.force.new.m c.args.need c.chosen.result c.chosen.ensures.place
+
+pub returns-clause-done : goal.returns-clause-done
+returns-clause-done g c h k stands =
+    let s = state c.args.self.now in
+    let none = none_now s c.args.need c.chosen-place.result c.chosen-place.ensures.place (sym c.is_ok.ensures.value ∙ c.if-is_ok.false) in
+    let waits = sym c.waits.ensures ∙ c.if-not-waits.false in
+    ends_then c.args.self.now c.force.new.self c.args.need none waits c.chosen.result c.chosen.ensures.place k (g.M.Machine.now c.args.m.now) (g.M.Machine.now c.force.new.m) stands (c.in_ok-force.ensures.done h k stands)

@@ -1,0 +1,11 @@
+-- The steps of a call that none of them has refused.
+use Rattle.std.specs.Prelude.{◌≡◌, true, List, [], ◌∷◌}
+use Rattle.volume_contract.specs.Order.{Passes, Step, Draw, Force, with_drawn}
+use Rattle.volume_contract.specs.State.{IsForced, State}
+
+-- The volume has gone through these steps so: serials that were drawn and forces that have ended have changed it.
+abbrev pub Went : List Step → (at new : State) → Type 0
+Went [] at new = new ≡ at
+Went (Draw ∷ steps) at new = Went steps (with_drawn at) new
+Went (Force true ∷ steps) at new = (next : State) × IsForced at next × Went steps next new
+Went (step ∷ steps) at new = Passes step × Went steps at new

@@ -1,0 +1,133 @@
+//! Taking a version out.
+ghost use Rattle.std.specs.Prelude.{◌≡◌, ◌<◌, ◌≤◌, ◌-◌, ◌^◌, All, IsTrue, MatchResult, None, false, Some, length};
+ghost use Rattle.sector_disk.specs.Calls.{OnlyReads, WritesDisk, device_in};
+ghost use Rattle.shadow_frees.specs.Readers.{Agrees};
+ghost use Rattle.shadow_frees.specs.Waits.{AreIdle};
+ghost use Rattle.fsd_files.specs.Answers.{delete_outcome, entry_of};
+ghost use Rattle.fsd_files.specs.Files.{Change};
+ghost use Rattle.fsd_files.specs.Replies.{Deleted};
+ghost use Rattle.volume_contract.specs.Causes.{Causes};
+ghost use Rattle.volume_contract.specs.Ends.{Ends, device_of};
+ghost use Rattle.volume_contract.specs.Order.{Follows, Keeps, delete_steps, is_idle};
+ghost use Rattle.fsd_sound.specs.Writes.{force_writes};
+ghost use Rattle.volume_contract.specs.State.{Counted, GoesOn, HasCounted, Known, Leaves, Stands, change_len, downs, forces_first, volume_of};
+ghost use Rattle.table_volume.specs.Ending.{Edits, EndsEdit, GivesUp, delete_tests, edit_steps, look_steps};
+ghost use Rattle.table_volume.specs.State.{Holds, resident, state};
+ghost use Rattle.table_volume.specs.Taken.{are_taken};
+
+use crate::Volume;
+use crate::changing::take_out_in;
+use crate::keeping::edit_refusal;
+use fsd_bytes::{Key, Refusal};
+use fsd_formats::Entry;
+use group_commit::Newest;
+use page_cache::Cache;
+use run_table::Runs;
+use sector_disk::Machine;
+use shadow_frees::Shadow;
+
+/// The sectors of a version that was taken out wait for the next force, and one version less is counted. Where no page waits for
+/// a force nothing was taken out.
+fn give_up(shadow: &mut Shadow, versions: &mut u32, cache: &Cache, runs: &Runs)
+    requires idle { AreIdle shadow.old runs.now }
+    requires agree { All (Agrees runs.now) shadow.old.held }
+    ensures { GivesUp cache.now.dirty runs.now shadow.old versions.old shadow.new versions.new }
+{
+    if cache.dirty_list().len() == 0 || *versions == 0 {
+        return;
+    }
+    shadow.freed(runs);
+    *versions -= 1;
+}
+
+impl Volume {
+    // That a version may be taken out.
+    fn may_delete(&self) -> Result<(), Refusal>
+        ensures { Follows (delete_tests (state self.now)) result }
+    {
+        self.is_up()?;
+        if self.is_worn() {
+            return Err(Refusal::WornOut);
+        }
+        Ok(())
+    }
+
+    // Takes out a version, which a look-up has found.
+    fn take_found<M: Machine>(&mut self, m: &mut M, entry: &Entry) -> Result<(), Refusal>
+        requires room { self.old.layout.sectors ≤ (M.report m.old).sectors }
+        requires up { self.old.down ≡ None }
+        requires few { length self.old.cache.dirty ≤ 56 }
+        requires numbered { self.old.log.head.number < 2 ^ 32 - 1 }
+        requires taken { IsTrue (are_taken self.old entry.now.runs) }
+        ensures order { Follows edit_steps result }
+        ensures disk { OnlyReads M.Machine (device_in device_of result) m.old m.new }
+        ensures edited { Edits (state self.old) (state self.new) result }
+        ensures causes { Causes M.Machine (resident self.old) (state self.old) (state self.new) m.old m.new result }
+        ensures done { M.honest m.new → (k : Known) → Stands state Holds self.old k (M.now m.old) → entry_of entry.now.key (volume_of k).entries ≡ Some entry.now →
+            EndsEdit (λ met. delete_outcome met (volume_of k) entry.now.key) (λ x. Deleted entry.now.key) (Change.Delete entry.now.key) k self.new (M.now m.new) result }
+    {
+        let _whole = self.cache.dirty_list();
+        let home_a = self.layout.home_a(0);
+        let source = Newest::over(&self.log, &self.layout);
+        let done = take_out_in(
+            m,
+            &mut self.cache,
+            &source,
+            home_a,
+            &mut self.free_pages,
+            &entry.key,
+        );
+        let _edited = self.cache.dirty_list();
+        match done {
+            Ok(()) => {
+                give_up(
+                    &mut self.shadow,
+                    &mut self.versions,
+                    &self.cache,
+                    &entry.runs,
+                );
+                Ok(())
+            }
+            Err(fault) => Err(edit_refusal(fault)),
+        }
+    }
+
+    // Takes the version with a key out.
+    fn delete_now<M: Machine>(&mut self, m: &mut M, key: &Key) -> Result<(), Refusal>
+        requires room { self.old.layout.sectors ≤ (M.report m.old).sectors }
+        requires up { self.old.down ≡ None }
+        requires few { length self.old.cache.dirty ≤ 56 }
+        requires numbered { self.old.log.head.number < 2 ^ 32 - 1 }
+        ensures order { Follows look_steps result }
+        ensures disk { OnlyReads M.Machine (device_in device_of result) m.old m.new }
+        ensures edited { Edits (state self.old) (state self.new) result }
+        ensures causes { Causes M.Machine (resident self.old) (state self.old) (state self.new) m.old m.new result }
+        ensures done { M.honest m.new → (k : Known) → Stands state Holds self.old k (M.now m.old) →
+            EndsEdit (λ met. delete_outcome met (volume_of k) key.now) (λ x. Deleted key.now) (Change.Delete key.now) k self.new (M.now m.new) result }
+    {
+        match self.find(m, key)? {
+            Some(found) => {
+                let entry = self.met_entry(found.entry, found.page)?;
+                self.take_found(m, &entry)
+            }
+            None => Err(Refusal::NoSuch),
+        }
+    }
+
+    /// Takes a version out.
+    pub fn delete<M: Machine>(&mut self, m: &mut M, key: &Key) -> Result<(), Refusal>
+        requires { (state self.old).layout.sectors ≤ (M.report m.old).sectors }
+        ensures order { Follows (delete_steps (state self.old)) result }
+        ensures disk { WritesDisk M.Machine (device_in device_of result) (Leaves state Holds self.old (force_writes (state self.old).layout)) m.old m.new }
+        ensures counted { M.tells m.new → Counted result (change_len (state self.old)) (M.ledger m.old) (M.ledger m.new) }
+        ensures state { GoesOn (downs result) (state self.old) (state self.new) }
+        ensures idle { IsTrue (is_idle (delete_steps (state self.old))) → m.new ≡ m.old }
+        ensures kept { let s = state self.old in MatchResult result (λ x. HasCounted false (forces_first s) s (state self.new)) (λ why. Keeps (delete_steps s) why s (state self.new)) }
+        ensures done { M.honest m.new → (k : Known) → Stands state Holds self.old k (M.now m.old) →
+            Ends state Holds (λ met. delete_outcome met (volume_of k) key.now) (λ x. Deleted key.now) (Change.Delete key.now) k self.new (M.now m.new) result }
+    {
+        self.may_delete()?;
+        self.force_first(m)?;
+        self.delete_now(m, key)
+    }
+}

@@ -1,0 +1,141 @@
+//! Another keep of a name's highest version.
+ghost use Rattle.std.specs.Prelude.{◌≡◌, ◌<◌, ◌≤◌, ◌-◌, ◌^◌, IsTrue, MatchResult, None, false, length};
+ghost use Rattle.sector_disk.specs.Calls.{OnlyReads, WritesDisk, device_in};
+ghost use Rattle.fsd_files.specs.Answers.{keep_outcome};
+ghost use Rattle.fsd_files.specs.Files.{Change};
+ghost use Rattle.volume_contract.specs.Causes.{Causes};
+ghost use Rattle.volume_contract.specs.Ends.{Ends, device_of, kept_key};
+ghost use Rattle.volume_contract.specs.Order.{Follows, Keeps, is_idle, keep_steps};
+ghost use Rattle.fsd_sound.specs.Writes.{force_writes};
+ghost use Rattle.volume_contract.specs.State.{Counted, GoesOn, HasCounted, Known, Leaves, Stands, change_len, downs, forces_first, volume_of};
+ghost use Rattle.table_volume.specs.Ending.{Edits, EndsEdit, edit_refusal, edit_steps, keep_tests, kept_told, look_steps};
+ghost use Rattle.table_volume.specs.State.{Holds, resident, state};
+
+use crate::Volume;
+use crate::changing::set_keep_in;
+use fsd_bytes::{FileName, Key, Refusal};
+use group_commit::Newest;
+use name_btree::TreeFault;
+use sector_disk::Machine;
+use version_table::VersionFault;
+
+/// What a fault of an edit is told as. An edit comes behind a look-up: pages that differ since have no such version.
+pub(crate) fn edit_refusal(fault: TreeFault) -> Refusal
+    ensures { result ≡ edit_refusal fault }
+{
+    match fault {
+        TreeFault::Pages(Refusal::Device(place)) => Refusal::Device(place),
+        TreeFault::Pages(Refusal::Lost { a, b }) => Refusal::Lost { a, b },
+        TreeFault::Pages(Refusal::Memory) => Refusal::Memory,
+        _ => Refusal::NoSuch,
+    }
+}
+
+fn kept_told(done: Result<Key, VersionFault>) -> Result<Key, Refusal>
+    ensures { result ≡ kept_told done }
+{
+    match done {
+        Ok(key) => Ok(key),
+        Err(VersionFault::Table(fault)) => Err(edit_refusal(fault)),
+        Err(_) => Err(Refusal::NoSuch),
+    }
+}
+
+impl Volume {
+    // That a keep may be set.
+    fn may_keep(&self, keep: u32) -> Result<(), Refusal>
+        ensures { Follows (keep_tests (state self.now) keep) result }
+    {
+        self.is_up()?;
+        if keep > 999 {
+            return Err(Refusal::KeepTooLarge(keep));
+        }
+        if self.is_worn() {
+            return Err(Refusal::WornOut);
+        }
+        Ok(())
+    }
+
+    // Gives the highest version of a name, which a look-up has found, another keep.
+    fn keep_found<M: Machine>(
+        &mut self,
+        m: &mut M,
+        name: &FileName,
+        keep: u32,
+    ) -> Result<Key, Refusal>
+        requires room { self.old.layout.sectors ≤ (M.report m.old).sectors }
+        requires up { self.old.down ≡ None }
+        requires few { length self.old.cache.dirty ≤ 56 }
+        requires numbered { self.old.log.head.number < 2 ^ 32 - 1 }
+        requires keep { keep ≤ 999 }
+        ensures order { Follows edit_steps result }
+        ensures disk { OnlyReads M.Machine (device_in device_of result) m.old m.new }
+        ensures edited { Edits (state self.old) (state self.new) result }
+        ensures causes { Causes M.Machine (resident self.old) (state self.old) (state self.new) m.old m.new result }
+        ensures done { M.honest m.new → (k : Known) → Stands state Holds self.old k (M.now m.old) →
+            EndsEdit (λ met. keep_outcome met (volume_of k) name.now keep) (kept_key keep) (Change.SetKeep name.now keep) k self.new (M.now m.new) result }
+    {
+        let _whole = self.cache.dirty_list();
+        let home_a = self.layout.home_a(0);
+        let source = Newest::over(&self.log, &self.layout);
+        let done = set_keep_in(
+            m,
+            &mut self.cache,
+            &source,
+            home_a,
+            &mut self.free_pages,
+            name,
+            keep,
+        );
+        let _edited = self.cache.dirty_list();
+        kept_told(done)
+    }
+
+    // Gives the highest version of a name another keep.
+    fn keep_now<M: Machine>(
+        &mut self,
+        m: &mut M,
+        name: &FileName,
+        keep: u32,
+    ) -> Result<Key, Refusal>
+        requires room { self.old.layout.sectors ≤ (M.report m.old).sectors }
+        requires up { self.old.down ≡ None }
+        requires few { length self.old.cache.dirty ≤ 56 }
+        requires numbered { self.old.log.head.number < 2 ^ 32 - 1 }
+        requires keep { keep ≤ 999 }
+        ensures order { Follows look_steps result }
+        ensures disk { OnlyReads M.Machine (device_in device_of result) m.old m.new }
+        ensures edited { Edits (state self.old) (state self.new) result }
+        ensures causes { Causes M.Machine (resident self.old) (state self.old) (state self.new) m.old m.new result }
+        ensures done { M.honest m.new → (k : Known) → Stands state Holds self.old k (M.now m.old) →
+            EndsEdit (λ met. keep_outcome met (volume_of k) name.now keep) (kept_key keep) (Change.SetKeep name.now keep) k self.new (M.now m.new) result }
+    {
+        let found = self.find_highest(m, name)?;
+        match found {
+            Some(_) => self.keep_found(m, name, keep),
+            None => Err(Refusal::NoSuch),
+        }
+    }
+
+    /// Sets the keep of a name's highest version, and answers its key.
+    pub fn set_keep<M: Machine>(
+        &mut self,
+        m: &mut M,
+        name: &FileName,
+        keep: u32,
+    ) -> Result<Key, Refusal>
+        requires { (state self.old).layout.sectors ≤ (M.report m.old).sectors }
+        ensures order { Follows (keep_steps (state self.old) keep) result }
+        ensures disk { WritesDisk M.Machine (device_in device_of result) (Leaves state Holds self.old (force_writes (state self.old).layout)) m.old m.new }
+        ensures counted { M.tells m.new → Counted result (change_len (state self.old)) (M.ledger m.old) (M.ledger m.new) }
+        ensures state { GoesOn (downs result) (state self.old) (state self.new) }
+        ensures idle { IsTrue (is_idle (keep_steps (state self.old) keep)) → m.new ≡ m.old }
+        ensures kept { let s = state self.old in MatchResult result (λ x. HasCounted false (forces_first s) s (state self.new)) (λ why. Keeps (keep_steps s keep) why s (state self.new)) }
+        ensures done { M.honest m.new → (k : Known) → Stands state Holds self.old k (M.now m.old) →
+            Ends state Holds (λ met. keep_outcome met (volume_of k) name.now keep) (kept_key keep) (Change.SetKeep name.now keep) k self.new (M.now m.new) result }
+    {
+        self.may_keep(keep)?;
+        self.force_first(m)?;
+        self.keep_now(m, name, keep)
+    }
+}

@@ -1,0 +1,106 @@
+//! What a put does before it looks its name up.
+ghost use Rattle.std.specs.Prelude.{◌≡◌, ◌≤◌, ◌<◌, ◌+◌, ◌^◌, ◌∷◌, [], ℕ, IfOk, IsTrue, None, OnOk, length};
+ghost use Rattle.run_table.specs.Space.{contains};
+ghost use Rattle.sector_disk.specs.Calls.{WritesDisk, device_in};
+ghost use Rattle.fsd_formats.specs.NamePage.{is_entry, max_length, sectors_for};
+ghost use Rattle.volume_contract.specs.Causes.{Causes};
+ghost use Rattle.volume_contract.specs.Ends.{device_of};
+ghost use Rattle.volume_contract.specs.Order.{by_itself, is_idle};
+ghost use Rattle.fsd_sound.specs.Writes.{force_writes};
+ghost use Rattle.volume_contract.specs.State.{Counted, Known, Leaves, Stands, change_len, forces_first, put_len, put_writes};
+ghost use Rattle.table_volume.specs.Placing.{EndsStore, IsPlace, Stores, store_len, store_steps};
+ghost use Rattle.table_volume.specs.Preparing.{EndsForced, EndsPrepare, Forces, Prepares, prepare_steps};
+ghost use Rattle.table_volume.specs.State.{Holds, resident, state};
+
+use crate::Volume;
+use fsd_bytes::{FileName, Refusal};
+use fsd_formats::Entry;
+use sector_disk::Machine;
+
+impl Volume {
+    // Finds a place for a new version, and writes it there with the next serial: its sectors stay free.
+    fn stored<M: Machine>(
+        &mut self,
+        m: &mut M,
+        name: &FileName,
+        bytes: &[u8],
+    ) -> Result<Entry, Refusal>
+        requires room { (state self.old).layout.sectors ≤ (M.report m.old).sectors }
+        requires most { length bytes.now ≤ max_length }
+        requires up { self.old.down ≡ None }
+        requires serials { self.old.serial.count + 1 < 2 ^ 32 }
+        ensures stores { Stores (sectors_for (length bytes.now)) (state self.old) (state self.new) result }
+        ensures disk { WritesDisk M.Machine (device_in device_of result) (Leaves state Holds self.old (put_writes (state self.old) (sectors_for (length bytes.now)))) m.old m.new }
+        ensures counted { M.tells m.new → Counted result (store_len (state self.old) (sectors_for (length bytes.now))) (M.ledger m.old) (M.ledger m.new) }
+        ensures idle { IsTrue (is_idle (store_steps (state self.old) (sectors_for (length bytes.now)))) → m.new ≡ m.old }
+        ensures causes { Causes M.Machine (resident self.old) (state self.old) (state self.new) m.old m.new result }
+        ensures place { IfOk result (λ e. IsPlace self.new.map (sectors_for (length bytes.now)) e.runs) }
+        ensures good { IfOk result (λ e. IsTrue (is_entry e)) }
+        ensures length { IfOk result (λ e. e.length ≡ length bytes.now) }
+        ensures done { M.honest m.new → (k : Known) → Stands state Holds self.old k (M.now m.old) → EndsStore (sectors_for (length bytes.now)) bytes.now k self.new (M.now m.new) result }
+    {
+        let length = bytes.len() as u32;
+        let runs = self.placed(m, 1 + length.div_ceil(512))?;
+        let draft = self.draft(name, length, runs);
+        self.written(m, &draft, bytes)?;
+        Ok(draft)
+    }
+
+    // Whether many pages wait for a force.
+    fn many_wait(&self) -> bool
+        ensures { result ≡ forces_first (state self.now) }
+    {
+        self.cache.dirty_list().len() > 56
+    }
+
+    /// A force, where many pages wait for one.
+    pub(crate) fn force_first<M: Machine>(&mut self, m: &mut M) -> Result<(), Refusal>
+        requires room { (state self.old).layout.sectors ≤ (M.report m.old).sectors }
+        requires up { self.old.down ≡ None }
+        ensures forces { Forces (state self.old) (state self.new) result }
+        ensures disk { WritesDisk M.Machine (device_in device_of result) (Leaves state Holds self.old (force_writes (state self.old).layout)) m.old m.new }
+        ensures counted { M.tells m.new → Counted result (change_len (state self.old)) (M.ledger m.old) (M.ledger m.new) }
+        ensures idle { IsTrue (is_idle (by_itself (state self.old) ∷ [])) → m.new ≡ m.old }
+        ensures causes { Causes M.Machine (resident self.old) (state self.old) (state self.new) m.old m.new result }
+        ensures few { OnOk result (length self.new.cache.dirty ≤ 56) }
+        ensures free { OnOk result ((s : ℕ) → IsTrue (contains self.old.map.sectors s) → IsTrue (contains self.new.map.sectors s)) }
+        ensures done { M.honest m.new → (k : Known) → Stands state Holds self.old k (M.now m.old) → EndsForced k self.new (M.now m.new) result }
+    {
+        let _ = &self.layout;
+        if !self.many_wait() {
+            return Ok(());
+        }
+        match self.force(m) {
+            Ok(_) => Ok(()),
+            Err(refusal) => Err(refusal),
+        }
+    }
+
+    /// Writes a new version into free sectors, with the next serial, and forces where a force comes before a put's look-up. Its
+    /// sectors stay free.
+    pub(crate) fn prepared<M: Machine>(
+        &mut self,
+        m: &mut M,
+        name: &FileName,
+        bytes: &[u8],
+    ) -> Result<Entry, Refusal>
+        requires room { (state self.old).layout.sectors ≤ (M.report m.old).sectors }
+        requires most { length bytes.now ≤ max_length }
+        requires up { self.old.down ≡ None }
+        requires serials { self.old.serial.count + 1 < 2 ^ 32 }
+        ensures prepares { Prepares (sectors_for (length bytes.now)) (state self.old) (state self.new) result }
+        ensures disk { WritesDisk M.Machine (device_in device_of result) (Leaves state Holds self.old (put_writes (state self.old) (sectors_for (length bytes.now)))) m.old m.new }
+        ensures counted { M.tells m.new → Counted result (put_len (state self.old) (sectors_for (length bytes.now))) (M.ledger m.old) (M.ledger m.new) }
+        ensures idle { IsTrue (is_idle (prepare_steps (state self.old) (sectors_for (length bytes.now)))) → m.new ≡ m.old }
+        ensures causes { Causes M.Machine (resident self.old) (state self.old) (state self.new) m.old m.new result }
+        ensures few { OnOk result (length self.new.cache.dirty ≤ 56) }
+        ensures place { IfOk result (λ e. IsPlace self.new.map (sectors_for (length bytes.now)) e.runs) }
+        ensures good { IfOk result (λ e. IsTrue (is_entry e)) }
+        ensures length { IfOk result (λ e. e.length ≡ length bytes.now) }
+        ensures done { M.honest m.new → (k : Known) → Stands state Holds self.old k (M.now m.old) → EndsPrepare (sectors_for (length bytes.now)) bytes.now k self.new (M.now m.new) result }
+    {
+        let draft = self.stored(m, name, bytes)?;
+        self.force_first(m)?;
+        Ok(draft)
+    }
+}
