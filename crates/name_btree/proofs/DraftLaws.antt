@@ -15,7 +15,7 @@ use Rattle.name_page.specs.Pages.{Step, is_spare, is_one_of, with_one, with_page
 use Rattle.name_page.specs.Reading.{content_in}
 use Rattle.name_page.proofs.ContentLaws.{content_is}
 use Rattle.name_btree.specs.declared.draft.Sheet.{Sheet}
-use Rattle.name_btree.specs.Draft.{drafted, committed, freed, last_sheet, IsSheet, AreSheets, MayGo, IsDrafted}
+use Rattle.name_btree.specs.Draft.{drafted, committed, freed, last_sheet, HasSheet, IsSheet, AreSheets, MayGo, IsDrafted}
 use Rattle.name_btree.proofs.SetLaws.{set_at, at_other}
 
 -- ---- lists
@@ -140,6 +140,16 @@ last_push page (x ∷ sheets) s =
     by true = refl
     by false = refl
 
+pub push_own : (sheets : List Sheet) (s : Sheet) → HasSheet (sheets ++ s ∷ []) s.page
+push_own sheets s = subst (λ (o : Option (List ℕ)). IsSome o) (sym (last_push s.page sheets s ∙ ap (λ (b : Bool). cond b (Some s.image) (last_sheet s.page sheets)) (eq-eqb s.page s.page refl))) refl
+
+pub push_stay : (sheets : List Sheet) (s : Sheet) (page : ℕ) → HasSheet sheets page → HasSheet (sheets ++ s ∷ []) page
+push_stay sheets s page has = subst (λ (o : Option (List ℕ)). IsSome o) (sym (last_push page sheets s)) (by (s.page == page))
+  where
+    by : (b : Bool) → IsSome (cond b (Some s.image) (last_sheet page sheets))
+    by true = refl
+    by false = has
+
 -- what a page has, by its last sheet
 abbrev pub by_sheet : ℕ → List (List ℕ) → Option (List ℕ) → Option Content
 by_sheet page pages None = page_at pages page
@@ -237,6 +247,8 @@ drafted_more step old new s x is a reached used read =
             content = ap (λ (p : List (List ℕ)). page_at p s.page) then ∙ set_at under s.page s.image within ∙ ap (λ (n : ℕ). read_page s.page n s.image) (drafted_length old images ∙ same) ∙ read;
             others = λ q differs. ap (λ (p : List (List ℕ)). page_at p q) then ∙ at_other under s.page q s.image differs;
           };
+      own = subst (λ (xs : List Sheet). HasSheet xs s.page) (sym is) (push_own old s);
+      stay = λ q has. subst (λ (xs : List Sheet). HasSheet xs q) (sym is) (push_stay old s q has);
     }
   where
     is_some : (x : Content) → IsSome (Some x)

@@ -35,6 +35,7 @@ pub mod ResultLaws
 pub mod RootLaws
 mod SearchLaws
 mod SetLaws
+mod SheetLaws
 mod SpareLaws
 mod StepLaws
 pub mod TableLaws

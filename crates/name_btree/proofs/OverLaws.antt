@@ -36,6 +36,8 @@ module _ (s : Step) (images : List (List ℕ)) (same : length images ≡ length 
     content = (d.over images same).content;
     others = (d.over images same).others;
     over = λ pages e. d.over pages (e ∙ same);
+    own = d.own;
+    stay = d.stay;
   }
 
   pub leaf_over : (old new : List Sheet) (page : ℕ) (entries : List Entry) (left : Trimmed) → IsLeafPut s old new page entries left → IsLeafPut now old new page entries left
@@ -87,6 +89,7 @@ module _ (images : List (List ℕ)) (a b : Step) (came : List ℕ) (same : lengt
     changes = t.changes;
     free = t.free;
     taken = record { spare = t.taken.spare; apart = t.taken.apart; spares = t.taken.spares };
+    changed = t.changed;
     reached = λ q h. (h.0, (t.reached q (subst (λ (n : ℕ). q < n) same h.0, h.1)).1);
     own = taken_over came t.own;
   }

@@ -1,16 +1,17 @@
 -- Pages that are taken one after another.
-use Rattle.std.proofs.Common.{◌≡◌, ℕ, zero, suc, ◌+◌, ◌<◌, ◌≤◌, Bool, true, false, cond, not, ◌&&◌, ◌||◌, List, [], ◌∷◌, ◌++◌, length, get_or, refl, sym, ap, subst, ◌∙◌, arith, length-append, get_or-set_other}
+use Rattle.std.proofs.Common.{◌≡◌, ◌⊎◌, inl, inr, ℕ, zero, suc, ◌+◌, ◌<◌, ◌≤◌, Bool, true, false, cond, not, ◌&&◌, ◌||◌, List, [], ◌∷◌, ◌++◌, length, get_or, refl, sym, ap, subst, ◌∙◌, arith, length-append, get_or-set_other}
 use Rattle.std.specs.Prelude.{◌==◌, IsSome, slice_set, count_by}
 use Rattle.std.specs.List.{AllByRecursion}
 use Rattle.std.proofs.lemmas.List.Folds.{list_any-append}
 use Rattle.std.proofs.lemmas.List.Sums.{sum_by-cons}
-use Rattle.std.proofs.lemmas.Bool.{false_from_ne_true, eqb-true, eq-eqb}
+use Rattle.std.proofs.lemmas.Bool.{false_from_ne_true, eqb-true, eq-eqb, or_cases}
 use Rattle.fsd_forest.specs.Forest.{Disjoint}
+use Rattle.fsd_forest.proofs.KeepLaws.{in_left, in_right}
 use Rattle.name_btree.proofs.ApartLaws.{apart_from}
 use Rattle.run_table.specs.Space.{contains}
 use Rattle.fsd_formats.specs.NamePage.{read_page}
 use Rattle.fsd_table.proofs.BoundLaws.{all_append, all_weaker}
-use Rattle.name_page.specs.Pages.{Step, is_spare, changes, free_count, with_taken, IsReached}
+use Rattle.name_page.specs.Pages.{Step, is_one_of, is_spare, changes, free_count, with_one, with_taken, IsReached}
 use Rattle.name_btree.specs.declared.draft.Sheet.{Sheet}
 use Rattle.name_btree.specs.Draft.{IsSheet, AreSheets, MayGo, IsTaken}
 use Rattle.name_btree.specs.Grown.{Takes}
@@ -74,6 +75,22 @@ one_more [] page = omega arith
 one_more (b ∷ spares) zero = omega (arith, count_cons b spares, count_cons true spares, at_most_one b)
 one_more (b ∷ spares) (suc page) = omega (arith, one_more spares page, count_cons b spares, count_cons b (slice_set spares page true))
 
+-- ---- pages that are changed
+
+-- one that is among them now was before, or is this one
+pub one_changed : (pages : List ℕ) (page q : ℕ) → is_one_of (with_one pages page) q ≡ true → (is_one_of pages q ≡ true) ⊎ (contains (page ∷ []) q ≡ true)
+one_changed pages page q there = by (is_one_of pages page) there
+  where
+    by : (b : Bool) → is_one_of (cond b pages (pages ++ page ∷ [])) q ≡ true → (is_one_of pages q ≡ true) ⊎ (contains (page ∷ []) q ≡ true)
+    by true here = inl here
+    by false here = or_cases (is_one_of pages q) (is_one_of (page ∷ []) q) (sym (list_any-append (λ t. t == q) pages (page ∷ [])) ∙ here)
+
+pub only_one : (page q : ℕ) → contains (page ∷ []) q ≡ true → page ≡ q
+only_one page q there = elim (or_cases (page == q) false there) [
+  | inl same ↦ eqb-true page q same
+  | inr none ↦ absurd (cc none)
+]
+
 -- ---- one page, none, or more
 
 taken_once : (step : Step) (page : ℕ) → is_spare step.spares page ≡ true → IsTaken step (with_taken page step) (page ∷ [])
@@ -88,6 +105,7 @@ takes_one step page spare promised reached = record {
   changes = taken_changes step page;
   free = one_less step.spares page;
   taken = taken_once step page spare;
+  changed = λ q is. one_changed step.changed page q is;
   reached = λ q h. taken_kept step page q h;
   own = (reached, tt);
 }
@@ -112,6 +130,7 @@ takes_none old new images spares most still kept = record {
   changes = same_changes old new still;
   free = omega (arith, ap (count_by (λ spare. spare)) spares);
   taken = record { spare = tt; apart = refl; spares = λ q. same_spares old.spares new.spares q spares };
+  changed = λ q is. inl (ap (λ (pages : List ℕ). is_one_of pages q) (sym still.changed) ∙ is);
   reached = kept;
   own = tt;
 }
@@ -150,6 +169,13 @@ takes_then a b c xs ys s t = record {
   changes = more (changes a) (changes b) (changes c) (length xs) (length ys) (length (xs ++ ys)) s.changes t.changes (length-append xs ys);
   free = more (free_count a) (free_count b) (free_count c) (length xs) (length ys) (length (xs ++ ys)) s.free t.free (length-append xs ys);
   taken = taken_then a b c xs ys s.taken t.taken;
+  changed = λ q is. elim (t.changed q is) [
+    | inl then ↦ elim (s.changed q then) [
+      | inl was ↦ inl was
+      | inr first ↦ inr (in_left xs ys q first)
+    ]
+    | inr last ↦ inr (in_right xs ys q last)
+  ];
   reached = λ q h. t.reached q (s.reached q h);
   own = all_append (IsReached c) xs ys (all_weaker (IsReached b) (IsReached c) xs (λ q h. t.reached q h) s.own) t.own;
 }

@@ -1,35 +1,22 @@
 -- What the pages that are changed have, once a page or a draft is written.
-use Rattle.std.proofs.Common.{◌≡◌, ◌⊎◌, inl, inr, ℕ, ◌<◌, ◌≤◌, Bool, true, false, cond, List, [], ◌∷◌, ◌++◌, length, Option, Some, None, refl, sym, ap, subst, ◌∙◌, arith, length-set}
+use Rattle.std.proofs.Common.{◌≡◌, ◌⊎◌, inl, inr, ℕ, ◌<◌, Bool, true, false, List, [], ◌∷◌, length, Option, refl, sym, ap, subst, ◌∙◌, arith, length-set}
 use Rattle.std.specs.Prelude.{IsSome, slice_get, slice_set, ◌==◌}
 use Rattle.std.specs.List.{AllByRecursion}
-use Rattle.std.proofs.lemmas.Bool.{eqb-true, eqb-false, or_cases}
-use Rattle.std.proofs.lemmas.List.Folds.{list_any-append}
+use Rattle.std.proofs.lemmas.Bool.{eqb-true, eqb-false}
 use Rattle.fsd_formats.specs.NamePage.{Content, read_page}
 use Rattle.fsd_table.specs.Pages.{page_at}
 use Rattle.name_page.specs.Looks.{ChangesPages, IsAccepted, IsAsChanged}
-use Rattle.name_page.specs.Pages.{Step, is_one_of, with_one, with_page, with_spare}
+use Rattle.name_page.specs.Pages.{Step, is_one_of, with_one, with_page}
 use Rattle.name_page.proofs.LookLaws.{pages_same, pages_then}
 use Rattle.name_btree.specs.declared.draft.Sheet.{Sheet}
-use Rattle.name_btree.specs.Draft.{AreSheets, IsSheet, committed, freed}
+use Rattle.name_btree.specs.Draft.{AreSheets, committed, freed}
 use Rattle.name_btree.specs.Replace.{IsWritten}
 use Rattle.name_btree.proofs.CommitLaws.{freed_changed}
 use Rattle.name_btree.proofs.DraftLaws.{committed_images, drafted_length, freed_images}
 use Rattle.name_btree.proofs.SetLaws.{set_at, set_other}
+use Rattle.name_btree.proofs.TakeLaws.{one_changed, only_one}
 
 -- ---- one page
-
-one_more : (pages : List ℕ) (page q : ℕ) → is_one_of (with_one pages page) q ≡ true → (is_one_of pages q ≡ true) ⊎ (page ≡ q)
-one_more pages page q there = by (is_one_of pages page) there
-  where
-    by : (b : Bool) → is_one_of (cond b pages (pages ++ page ∷ [])) q ≡ true → (is_one_of pages q ≡ true) ⊎ (page ≡ q)
-    by true here = inl here
-    by false here = elim (or_cases (is_one_of pages q) (is_one_of (page ∷ []) q) (sym (list_any-append (λ t. t == q) pages (page ∷ [])) ∙ here)) [
-      | inl old ↦ inl old
-      | inr new ↦ elim (or_cases (page == q) false new) [
-        | inl same ↦ inr (eqb-true page q same)
-        | inr none ↦ absurd (cc none)
-      ]
-    ]
 
 set_pages : (s : Step) (page : ℕ) (bytes : List ℕ) → page < length s.images → IsSome (page_at (slice_set s.images page bytes) page) → ChangesPages s (with_page page bytes s)
 set_pages s page bytes lt accepted = record { each = λ q is. by q (page == q) refl is }
@@ -39,9 +26,9 @@ set_pages s page bytes lt accepted = record { each = λ q is. by q (page == q) r
 
     by : (q : ℕ) (b : Bool) → (page == q) ≡ b → is_one_of (with_one s.changed page) q ≡ true → IsAsChanged s (with_page page bytes s) q ⊎ IsAccepted (with_page page bytes s) q
     by q true e is = let same = eqb-true page q e in inr (record { there = omega (arith, lt, same, length-set s.images page bytes); accepted = read q same })
-    by q false e is = elim (one_more s.changed page q is) [
+    by q false e is = elim (one_changed s.changed page q is) [
       | inl was ↦ inl (record { was = was; same = set_other s.images page q bytes (λ same. eqb-false page q e (sym same)) })
-      | inr same ↦ absurd (eqb-false page q e same)
+      | inr this ↦ absurd (eqb-false page q e (only_one page q this))
     ]
 
 -- a page that has content now

@@ -1,5 +1,5 @@
 -- Pages that are to be written, over those that there are.
-use Rattle.std.specs.Prelude.{◌≡◌, ℕ, ◌+◌, ◌==◌, ◌&&◌, ◌||◌, not, true, false, List, [], ◌∷◌, length, Option, Some, None, IsSome, slice_set, if◌then◌else◌}
+use Rattle.std.specs.Prelude.{◌≡◌, ◌⊎◌, ℕ, ◌+◌, ◌==◌, ◌&&◌, ◌||◌, not, true, false, List, [], ◌∷◌, length, Option, Some, None, IsSome, slice_set, if◌then◌else◌}
 use Rattle.std.specs.List.{AllByRecursion}
 use Rattle.std.specs.Option.{option_or}
 use Rattle.run_table.specs.Space.{contains, all_differ}
@@ -9,7 +9,8 @@ use Rattle.fsd_table.specs.Pages.{page_at}
 use Rattle.fsd_table.specs.Tree.{pages_of, IsTree}
 use Rattle.fsd_forest.specs.Forest.{Disjoint, TreeBecomes}
 use Rattle.name_page.specs.Edits.{without}
-use Rattle.name_page.specs.Pages.{Step, is_spare, with_one, with_page, with_spare, IsReached}
+use Rattle.name_page.specs.Looks.{IsAsChanged}
+use Rattle.name_page.specs.Pages.{Step, is_one_of, is_spare, with_one, with_page, with_spare, IsReached}
 use Rattle.name_btree.specs.declared.draft.Draft.{Draft}
 use Rattle.name_btree.specs.declared.draft.Sheet.{Sheet}
 
@@ -33,6 +34,10 @@ freed (p ∷ pages) step = freed pages (with_spare p step)
 abbrev pub last_sheet : ℕ → List Sheet → Option (List ℕ)
 last_sheet page [] = None
 last_sheet page (s ∷ sheets) = option_or (last_sheet page sheets) (if s.page == page then Some s.image else None)
+
+-- a page that is to be written
+abbrev pub HasSheet : List Sheet → ℕ → Type 0
+HasSheet sheets page = IsSome (last_sheet page sheets)
 
 -- ---- what a draft may have
 
@@ -83,6 +88,13 @@ pub record IsDrafted (step : Step) (old new : List Sheet) (page : ℕ) (x : Cont
   pub content : page_at (drafted new step.images) page ≡ Some x
   pub others : (q : ℕ) → (q ≡ page → ⊥) → page_at (drafted new step.images) q ≡ page_at (drafted old step.images) q
   pub over : (images : List (List ℕ)) → length images ≡ length step.images → IsOver images old new page x
+  pub own : HasSheet new page
+  pub stay : (q : ℕ) → HasSheet old q → HasSheet new q
+
+-- each page that is changed now was changed before and is as it was, or is to be written; what was to be written still is
+pub record TakesSheets (old new : Step) (sheets after : List Sheet) : Type 0 where
+  pub each : (page : ℕ) → is_one_of new.changed page ≡ true → IsAsChanged old new page ⊎ HasSheet after page
+  pub stay : (page : ℕ) → HasSheet sheets page → HasSheet after page
 
 -- a tree without a key; the pages that went are to be spare
 abbrev pub RemovesFrom : (images : List (List ℕ)) → (old new : Draft) → Key → Type 0

@@ -1,5 +1,5 @@
 -- What becomes of a page that is given more than it had, and of those above it.
-use Rattle.std.specs.Prelude.{◌≡◌, ℕ, ◌+◌, ◌≤◌, ◌<◌, ◌==◌, ◌&&◌, nat_lt, true, false, List, [], ◌∷◌, ◌++◌, length, take, drop, Option, Some, None, if◌then◌else◌, ⊤}
+use Rattle.std.specs.Prelude.{◌≡◌, ◌⊎◌, ℕ, ◌+◌, ◌≤◌, ◌<◌, ◌==◌, ◌&&◌, nat_lt, true, false, List, [], ◌∷◌, ◌++◌, length, take, drop, Option, Some, None, if◌then◌else◌, ⊤}
 use Rattle.std.specs.List.{flat_map, list_all, AllByRecursion}
 use Rattle.run_table.specs.Space.{contains, all_differ}
 use Rattle.fsd_bytes.specs.Keys.{is_key}
@@ -13,7 +13,7 @@ use Rattle.fsd_forest.specs.Forest.{Stay, Becomes, TreeBecomes}
 use Rattle.fsd_forest.specs.Parts.{left_part, right_part}
 use Rattle.name_page.specs.Edits.{with_entry}
 use Rattle.name_page.specs.Lookups.{entry_with, is_after}
-use Rattle.name_page.specs.Pages.{Step, changes, free_count, is_spare, IsReached}
+use Rattle.name_page.specs.Pages.{Step, changes, free_count, is_one_of, is_spare, IsReached}
 use Rattle.name_btree.specs.declared.draft.Sheet.{Sheet}
 use Rattle.name_btree.specs.declared.growing.Grown.{Grown}
 use Rattle.name_btree.specs.declared.growing.Grown.TheVariants.{Whole, Parted}
@@ -30,6 +30,7 @@ pub record Takes (old new : Step) (came : List ℕ) : Type 0 where
   pub changes : changes old ≤ changes new + length came
   pub free : free_count old ≤ free_count new + length came
   pub taken : IsTaken old new came
+  pub changed : (q : ℕ) → is_one_of new.changed q ≡ true → (is_one_of old.changed q ≡ true) ⊎ (contains came q ≡ true)
   pub reached : (q : ℕ) → IsReached old q → IsReached new q
   pub own : AllByRecursion (IsReached new) came
 

@@ -2,7 +2,7 @@
 ghost use Rattle.std.specs.Prelude.{◌≡◌, ◌+◌, ◌<◌, ◌≤◌, None, length, true, false};
 ghost use Rattle.std.specs.List.{AllByRecursion};
 ghost use Rattle.fsd_formats.specs.NamePage.{FitsEntry, FitsSeparator};
-ghost use Rattle.name_btree.specs.Draft.{drafted, AreSheets};
+ghost use Rattle.name_btree.specs.Draft.{drafted, AreSheets, TakesSheets};
 ghost use Rattle.name_btree.specs.Grown.{Takes, Over, most_parted, front_came, FitsTwoLeaves, FitsTwoInteriors, IsGrown, AreLeavesOf, AreInteriorsOf};
 ghost use Rattle.name_page.specs.declared.pages.TheConstants.{MOST_CHANGED};
 ghost use Rattle.name_page.specs.Pages.{changes, is_spare, with_images, IsReached};
@@ -57,6 +57,7 @@ pub(crate) fn grow_leaf<T: Pages>(
     ensures grown { Over (T.step t.old) (λ pages. IsGrown (with_images pages (T.step t.old)) (with_images pages (T.step t.new)) draft.old.sheets.items draft.new.sheets.items page result) }
     ensures leaves { Over (T.step t.old) (λ pages. AreLeavesOf (drafted draft.new.sheets.items pages) page entries.now.items result) }
     ensures freed { draft.new.freed.items ≡ draft.old.freed.items }
+    ensures drawn { TakesSheets (T.step t.old) (T.step t.new) draft.old.sheets.items draft.new.sheets.items }
     ensures images { (T.step t.new).images ≡ (T.step t.old).images }
     ensures home { (T.step t.new).home_a ≡ (T.step t.old).home_a }
     ensures reached { (T.step t.new).reached ≡ (T.step t.old).reached }
@@ -98,6 +99,7 @@ pub(crate) fn grow_ways<T: Pages>(
     ensures grown { Over (T.step t.old) (λ pages. IsGrown (with_images pages (T.step t.old)) (with_images pages (T.step t.new)) draft.old.sheets.items draft.new.sheets.items page result) }
     ensures interiors { Over (T.step t.old) (λ pages. AreInteriorsOf (drafted draft.new.sheets.items pages) page first separators.now.items result) }
     ensures freed { draft.new.freed.items ≡ draft.old.freed.items }
+    ensures drawn { TakesSheets (T.step t.old) (T.step t.new) draft.old.sheets.items draft.new.sheets.items }
     ensures images { (T.step t.new).images ≡ (T.step t.old).images }
     ensures home { (T.step t.new).home_a ≡ (T.step t.old).home_a }
     ensures reached { (T.step t.new).reached ≡ (T.step t.old).reached }

@@ -6,14 +6,14 @@ ghost use Rattle.fsd_forest.specs.Parts.{is_inside};
 ghost use Rattle.fsd_forest.specs.Ways.{child_between};
 ghost use Rattle.fsd_table.specs.Pages.{page_at, keys_fit, entry_keys};
 ghost use Rattle.fsd_table.specs.Tree.{IsTree, table_of};
-ghost use Rattle.name_btree.specs.Draft.{drafted, AreSheets, IsDraft};
+ghost use Rattle.name_btree.specs.Draft.{drafted, AreSheets, IsDraft, TakesSheets};
 ghost use Rattle.name_btree.specs.Fault.{outer_told, FailsBy, FailsSpare, IsNoTree, IsAmong};
 ghost use Rattle.name_btree.specs.Grown.{Over, most_parted, most_taken, IsGrown, IsAboveGrown, IsSound, IsDivided, Grows, Inserts, BreaksGrowth, BreaksNew};
 ghost use Rattle.name_btree.specs.Map.{IsTable, HasTable, LeavesTree, without_all};
 ghost use Rattle.name_page.specs.Edits.{with_entry};
 ghost use Rattle.name_page.specs.Lookups.{entry_with};
 ghost use Rattle.name_page.specs.declared.pages.TheConstants.{MOST_CHANGED, MOST_REACHED};
-ghost use Rattle.name_page.specs.Looks.{OnlyReaches, OnlyTakes, OnlyEdits, OnlyWalks, Shows};
+ghost use Rattle.name_page.specs.Looks.{ChangesPages, OnlyReaches, OnlyTakes, OnlyEdits, OnlyWalks, Shows};
 ghost use Rattle.name_page.specs.Pages.{with_images, reaches, changes, free_count, is_spare, IsReached};
 
 use crate::draft::Draft;
@@ -38,6 +38,7 @@ pub fn insert<T: Pages>(t: &mut T, entry: &Entry, gone: &ArrayVec<Key, 2>) -> Re
     requires fits { FitsEntry entry.now }
     requires new { T.trusted t.old → (height : ℕ) → IsTree (T.step t.old).images height → entry_with entry.now.key (without_all gone.now.items (table_of (T.step t.old).images height)) ≡ None }
     ensures calls { OnlyEdits T.Pages (outer_told result) t.old t.new }
+    ensures pages { ChangesPages (T.step t.old) (T.step t.new) }
     ensures kept { OnErr result (OnlyWalks T.Pages (outer_told result) t.old t.new) }
     ensures reaches { reaches (T.step t.old) ≤ reaches (T.step t.new) + 30 }
     ensures changes { changes (T.step t.old) ≤ changes (T.step t.new) + 36 }
@@ -95,6 +96,7 @@ fn insert_in<T: Pages>(t: &mut T, draft: &mut Draft, entry: &Entry) -> Result<()
     ensures draft { OnOk result (IsDraft (T.step t.new) draft.new) }
     ensures room { OnOk result (length draft.new.sheets.items ≤ length draft.old.sheets.items + 13) }
     ensures freed { OnOk result (draft.new.freed.items ≡ draft.old.freed.items) }
+    ensures drawn { OnOk result (TakesSheets (T.step t.old) (T.step t.new) draft.old.sheets.items draft.new.sheets.items) }
     ensures inserted { OnOk result (Shows (T.step t.new) (λ pages. Inserts entry.now (with_images pages (T.step t.old)) (with_images pages (T.step t.new)) (drafted draft.old.sheets.items pages) (drafted draft.new.sheets.items pages))) }
     ensures fault { IfErr result (FailsBy (T.step t.new) (λ pages. BreaksNew entry.now (drafted draft.old.sheets.items pages))) }
 {
@@ -130,6 +132,7 @@ fn insert_below<T: Pages>(
     ensures room { OnOk result (length draft.new.sheets.items ≤ length draft.old.sheets.items + 2 * levels + 2) }
     ensures sheets { OnOk result (AreSheets (T.step t.new) draft.new.sheets.items) }
     ensures freed { OnOk result (draft.new.freed.items ≡ draft.old.freed.items) }
+    ensures drawn { OnOk result (TakesSheets (T.step t.old) (T.step t.new) draft.old.sheets.items draft.new.sheets.items) }
     ensures reached { OnOk result (IsReached (T.step t.new) child.now.page) }
     ensures used { OnOk result (is_spare (T.step t.new).spares child.now.page ≡ false) }
     ensures grown { IfOk result (λ grown. Shows (T.step t.new) (λ pages. Grows entry.now (with_images pages (T.step t.old)) (with_images pages (T.step t.new)) (drafted draft.old.sheets.items pages) (drafted draft.new.sheets.items pages) levels child.now grown)) }
@@ -174,6 +177,7 @@ fn grow_above<T: Pages>(
     ensures grown { Over (T.step t.old) (λ pages. IsGrown (with_images pages (T.step t.old)) (with_images pages (T.step t.new)) draft.old.sheets.items draft.new.sheets.items above.now.page result) }
     ensures above { Over (T.step t.old) (λ pages. IsAboveGrown (drafted draft.old.sheets.items pages) (drafted draft.new.sheets.items pages) above.now.page ways.now.0 ways.now.1 i below result) }
     ensures freed { draft.new.freed.items ≡ draft.old.freed.items }
+    ensures drawn { TakesSheets (T.step t.old) (T.step t.new) draft.old.sheets.items draft.new.sheets.items }
     ensures reached { (T.step t.new).reached ≡ (T.step t.old).reached }
 {
     match below {
@@ -210,6 +214,7 @@ fn insert_here<T: Pages>(
     ensures grown { IfOk result (λ grown. Over (T.step t.old) (λ pages. IsGrown (with_images pages (T.step t.old)) (with_images pages (T.step t.new)) draft.old.sheets.items draft.new.sheets.items child.now.page grown)) }
     ensures grows { IfOk result (λ grown. Shows (T.step t.old) (λ pages. Grows entry.now (with_images pages (T.step t.old)) (with_images pages (T.step t.new)) (drafted draft.old.sheets.items pages) (drafted draft.new.sheets.items pages) 0 child.now grown)) }
     ensures freed { draft.new.freed.items ≡ draft.old.freed.items }
+    ensures drawn { OnOk result (TakesSheets (T.step t.old) (T.step t.new) draft.old.sheets.items draft.new.sheets.items) }
     ensures reached { (T.step t.new).reached ≡ (T.step t.old).reached }
     ensures fault { IfErr result (λ fault. (page : ℕ) × (fault ≡ TreeFault.Broken page) × Shows (T.step t.old) (λ pages. BreaksGrowth entry.now (drafted draft.old.sheets.items pages) 0 child.now page)) }
 {

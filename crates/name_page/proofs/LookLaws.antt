@@ -7,8 +7,8 @@ use Rattle.fsd_bytes.specs.declared.refusal.Refusal.{Refusal}
 use Rattle.fsd_formats.specs.NamePage.{Content, read_page}
 use Rattle.fsd_table.specs.Pages.{page_at}
 use Rattle.name_page.specs.declared.pages.Pages.{Ghosts}
-use Rattle.name_page.specs.Pages.{Step, is_one_of, is_spare, IsReached, Keeps, with_images, with_promise, rested}
-use Rattle.name_page.specs.Looks.{Looks, OnlyReaches, OnlyWalks, OnlyEdits, OnlyTakes, Agrees, ChangesPages, Shows}
+use Rattle.name_page.specs.Pages.{Step, is_one_of, is_spare, IsReached, Keeps, NeedsNoMemory, with_images, with_promise, rested}
+use Rattle.name_page.specs.Looks.{Looks, OnlyReaches, OnlyWalks, OnlyEdits, OnlyTakes, Agrees, ChangesPages, Shows, IsAsChanged}
 
 -- what happens outside happens in all, and what is trusted then was before
 module _ {D : Type 0} (P : Ghosts D) where
@@ -34,13 +34,24 @@ looks_then a b c x y = record {
 pub looks_still : (a : Step) → Looks a a
 looks_still a = record { count = refl; images = λ page is. refl; reached = λ page is. is; spares = refl; home_a = refl; changed = refl; promised = refl; most_reached = refl; most_changed = refl }
 
+-- ---- no memory is wanting
+
+pub memory_still : {D : Type 0} (InMemory : D → Type 0) (a : D) → NeedsNoMemory InMemory None a a
+memory_still InMemory a = record { stays = λ there. there; enough = λ there is. cc is }
+
+pub memory_then : {D : Type 0} (InMemory : D → Type 0) {refusal : Option Refusal} (a b c : D) → NeedsNoMemory InMemory None a b → NeedsNoMemory InMemory refusal b c → NeedsNoMemory InMemory refusal a c
+memory_then InMemory a b c x y = record { stays = λ there. y.stays (x.stays there); enough = λ there. y.enough (x.stays there) }
+
+-- ---- calls that reach pages
+
 pub reaches_still : {D : Type 0} (P : Ghosts D) (a : D) → P.outside None a a → OnlyReaches P None a a
-reaches_still P a still = record { looks = looks_still (P.step a); outside = still; trust = λ t. t; stays = λ t. refl }
+reaches_still P a still = record { looks = looks_still (P.step a); outside = still; memory = memory_still P.in_memory a; trust = λ t. t; stays = λ t. refl }
 
 pub reaches_then : {D : Type 0} (P : Ghosts D) {refusal : Option Refusal} (law : Joins P) (a b c : D) → OnlyReaches P None a b → OnlyReaches P refusal b c → OnlyReaches P refusal a c
 reaches_then P law a b c x y = record {
   looks = looks_then (P.step a) (P.step b) (P.step c) x.looks y.looks;
   outside = law a b c _ x.outside y.outside;
+  memory = memory_then P.in_memory a b c x.memory y.memory;
   trust = λ t. x.trust (y.trust t);
   stays = λ t. y.stays t ∙ x.stays (y.trust t);
 }
@@ -159,24 +170,32 @@ spare_walks P a b n outside trust kept stays is = record {
 
 -- ---- what pages that are changed have
 
+as_changed : (a b : Step) → length b.images ≡ length a.images → b.changed ≡ a.changed → ((page : ℕ) → page < length a.images → is_one_of a.changed page ≡ true → slice_get b.images page ≡ slice_get a.images page)
+    → (page : ℕ) → is_one_of b.changed page ≡ true → IsAsChanged a b page
+as_changed a b count changed stood page is =
+    let was : is_one_of a.changed page ≡ true = ap (λ (pages : List ℕ). is_one_of pages page) (sym changed) ∙ is in
+    record {
+      was = was;
+      same = elim (cases_lt page (length a.images)) [
+        | inl lt ↦ stood page lt was
+        | inr past ↦ slice_get_past b.images page (omega (arith, past, count)) ∙ sym (slice_get_past a.images page past)
+      ];
+    }
+
+pub looks_changed : (a b : Step) → Looks a b → (page : ℕ) → is_one_of b.changed page ≡ true → IsAsChanged a b page
+looks_changed a b x = as_changed a b x.count x.changed (λ page lt was. x.images page (changed_reached a page lt was))
+
 pub pages_same : (a b : Step) → length b.images ≡ length a.images → b.changed ≡ a.changed → ((page : ℕ) → page < length a.images → is_one_of a.changed page ≡ true → slice_get b.images page ≡ slice_get a.images page) → ChangesPages a b
-pages_same a b count changed stood = record {
-  each = λ page is.
-      let was : is_one_of a.changed page ≡ true = ap (λ (pages : List ℕ). is_one_of pages page) (sym changed) ∙ is in
-      inl (record {
-        was = was;
-        same = elim (cases_lt page (length a.images)) [
-          | inl lt ↦ stood page lt was
-          | inr past ↦ slice_get_past b.images page (omega (arith, past, count)) ∙ sym (slice_get_past a.images page past)
-        ];
-      });
-}
+pages_same a b count changed stood = record { each = λ page is. inl (as_changed a b count changed stood page is) }
 
 pub walks_pages : {D : Type 0} (P : Ghosts D) {refusal : Option Refusal} (a b : D) → OnlyWalks P refusal a b → ChangesPages (P.step a) (P.step b)
 walks_pages P a b x = pages_same (P.step a) (P.step b) x.count x.changed x.stood
 
 pub looks_pages : (a b : Step) → Looks a b → ChangesPages a b
-looks_pages a b x = pages_same a b x.count x.changed (λ page lt was. x.images page (changed_reached a page lt was))
+looks_pages a b x = record { each = λ page is. inl (looks_changed a b x page is) }
+
+pub kept_pages : (a b : Step) → Keeps a b.images → b.changed ≡ a.changed → ChangesPages a b
+kept_pages a b kept changed = pages_same a b kept.count changed (λ page lt was. kept.reached page (changed_reached a page lt was))
 
 pub pages_then : (a b c : Step) → length c.images ≡ length b.images → ChangesPages a b → ChangesPages b c → ChangesPages a c
 unfolding page_at

@@ -119,6 +119,11 @@ renewed s = record (rested s) { changed = [] }
 
 -- ---- what stays
 
+-- where all is in memory it stays there, and memory was not what was wanting
+pub record NeedsNoMemory {D : Type 0} (InMemory : D → Type 0) (refusal : Option Refusal) (old new : D) : Type 0 where
+  pub stays : InMemory old → InMemory new
+  pub enough : InMemory old → refusal ≡ Some Memory → ⊥
+
 -- as many pages, and those that were reached are as they were
 pub record Keeps (s : Step) (images : List (List ℕ)) : Type 0 where
   pub count : length images ≡ length s.images

@@ -4,7 +4,7 @@ ghost use Rattle.std.specs.Borrow.{sem};
 ghost use Rattle.fsd_bytes.specs.declared.refusal.Refusal.{Refusal};
 ghost use Rattle.fsd_table.specs.Pages.{page_at};
 ghost use Rattle.name_page.specs.Lends.{LendsPage};
-ghost use Rattle.name_page.specs.Pages.{is_spare, free_count, home_of, reaches, changes, Step, IsReached, IsReachRefusal, IsSpareRefusal, Keeps, MayChange, outer_in, with_images, with_refusal, with_reached, with_promise, with_page, with_taken, with_spare, rested};
+ghost use Rattle.name_page.specs.Pages.{is_spare, free_count, home_of, reaches, changes, Step, IsReached, IsReachRefusal, IsSpareRefusal, Keeps, MayChange, NeedsNoMemory, outer_in, with_images, with_refusal, with_reached, with_promise, with_page, with_taken, with_spare, rested};
 
 use fsd_bytes::Refusal;
 
@@ -32,6 +32,9 @@ pub trait Pages {
     /// The outside gave pages as it is to, so far.
     ghost trusted: { Self → Type 0 };
 
+    /// All pages in use are in memory.
+    ghost in_memory: { Self → Type 0 };
+
     /// What has happened outside between an old state and a new one, of which the last call was refused so by the outside,
     /// or none was.
     ghost outside: { Option Refusal → Self → Self → Type 0 };
@@ -45,6 +48,7 @@ pub trait Pages {
         requires more { 0 < reaches (step self.old) }
         requires within { page < length (step self.old).images }
         ensures outside { outside (outer_in result) self.old self.new }
+        ensures memory { NeedsNoMemory in_memory (outer_in result) self.old self.new }
         ensures kept { Keeps (step self.old) (step self.new).images }
         ensures stays { trusted self.new → (step self.new).images ≡ (step self.old).images }
         ensures step { OnOk result (step self.new ≡ with_reached page (with_images (step self.new).images (step self.old))) }
@@ -97,6 +101,7 @@ pub trait Pages {
     /// Ends the step. The next one may reach as many pages again.
     fn rest(&mut self)
         ensures outside { outside None self.old self.new }
+        ensures memory { NeedsNoMemory in_memory None self.old self.new }
         ensures step { step self.new ≡ rested (step self.old) };
 
     /// What the step knows once the bytes that were lent have come back.

@@ -89,6 +89,8 @@ impl Pages for VecPages {
 
     ghost trusted = { λ s. ⊤ };
 
+    ghost in_memory = { λ s. ⊤ };
+
     ghost outside = { λ refusal a b. refusal ≡ None };
 
     ghost changed = { λ s page bytes. refl };

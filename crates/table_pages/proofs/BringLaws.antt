@@ -1,5 +1,5 @@
 -- What is left where pages are brought into the cache.
-use Rattle.std.proofs.Common.{◌≡◌, ◌⊎◌, inl, inr, ℕ, ◌<◌, true, false, List, Option, Some, None, refl, sym, ap, ◌∙◌, subst, arith, option_map, is_some, IsSome, eqb-true}
+use Rattle.std.proofs.Common.{◌≡◌, ◌⊎◌, inl, inr, ℕ, ◌<◌, true, false, List, Option, Some, None, refl, sym, ap, ◌∙◌, subst, arith, option_map, is_some, IsSome, Result, Ok, Err, eqb-true}
 use Rattle.std.specs.Prelude.{nat_eq, IfSome}
 use Rattle.std.specs.Map.{lookup}
 use Rattle.std.proofs.lemmas.Bool.{true≢false}
@@ -11,14 +11,14 @@ use Rattle.sector_disk.proofs.Wear.{worn_refl}
 use Rattle.page_cache.specs.declared.fault.CacheFault.{CacheFault}
 use Rattle.page_cache.specs.declared.fault.CacheFault.TheVariants.{Device, Memory, Lost}
 use Rattle.page_cache.specs.declared.source.PageSource.{Ghosts as SourceGhosts}
-use Rattle.page_cache.specs.Cache.{CacheValue, Held, IsCache, IsResident, KeepsNewest, held, bytes_of, pins_of, is_one_of, busy, leaver, staying}
+use Rattle.page_cache.specs.Cache.{CacheValue, Held, IsCache, IsResident, KeepsNewest, held, bytes_of, pins_of, is_one_of, busy, leaver, staying, used}
 use Rattle.page_cache.specs.Fetch.{LostCause, fetch_failed_at}
-use Rattle.page_cache.proofs.Entries.{by_bool}
+use Rattle.page_cache.proofs.Entries.{by_bool, by_option}
 use Rattle.page_cache.proofs.FetchLaws.{Fetched, fetched_dirty}
 use Rattle.page_cache.proofs.KeepLaws.{fetched_keeps, fetched_pins, busy_within, bytes_resident, resident_bytes}
 use Rattle.page_cache.proofs.NewestLaws.{stood, used_held}
 use Rattle.name_page.specs.Pages.{outer_refusal}
-use Rattle.table_pages.specs.Bringing.{Brings, HasRoom, FetchesOnly, given_by, refusal_for}
+use Rattle.table_pages.specs.Bringing.{Brings, HasRoom, FetchesOnly, KeepsPages, given_by, refusal_for}
 use Rattle.table_pages.specs.Reads.{Fills, LosesFor, Stood, device_of}
 
 -- ---- the cache
@@ -59,6 +59,17 @@ had_or_entered page old new whole (inr enters) q bytes is = by_bool (nat_eq q pa
     on : (o : Option Held) → (o ≡ held old q) ⊎ ((o ≡ None) × IsResident old q × (is_one_of old.dirty q ≡ false)) → option_map (λ (h : Held). h.bytes) o ≡ Some bytes → bytes_of old q ≡ Some bytes
     on o (inl same) is = sym (ap (option_map (λ (h : Held). h.bytes)) same) ∙ is
     on o (inr out) is = absurd (true≢false (ap is_some (sym is ∙ ap (option_map (λ (h : Held). h.bytes)) out.0)))
+
+-- all pages stay where one of them is fetched
+pub fetched_all : (page : ℕ) (old new : CacheValue) → Fetched page old new → IsResident old page → KeepsPages old new
+fetched_all page old new (inl hit) there q is = subst (λ (c : CacheValue). IsResident c q) (sym hit.1) (subst IsSome (sym (used_held page old q)) is)
+fetched_all page old new (inr enters) there q is = absurd (cc (enters.0, there))
+
+-- a page that is not fetched was not there
+pub failed_missing : (page : ℕ) (old new : CacheValue) (r : Result ℕ CacheFault) (fault : CacheFault) (E : Type 0) → r ≡ Err fault → IfSome (held old page) (λ h. (r ≡ Ok h.frame) × (new ≡ used page old) × E) → IsResident old page → ⊥
+failed_missing page old new r fault E err hit there = by_option (held old page)
+    (λ h is. let ok = rw is at hit in cc (ok.0, err))
+    (λ none. cc (none, there))
 
 -- there is a frame for one page more
 pub room_busy : (c : CacheValue) → IsCache c → HasRoom 1 c → busy c < c.frames

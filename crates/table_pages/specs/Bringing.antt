@@ -19,6 +19,18 @@ pub record Brings (old new : CacheValue) : Type 0 where
   pub pins : (page : ℕ) → pins_of old page ≤ pins_of new page
   pub keeps : (page : ℕ) → IsResident old page → (is_one_of old.dirty page ≡ true) ⊎ (0 < pins_of old page) → bytes_of new page ≡ bytes_of old page
 
+-- all pages that are in the cache stay there
+abbrev pub KeepsPages : (old new : CacheValue) → Type 0
+KeepsPages old new = (page : ℕ) → IsResident old page → IsResident new page
+
+-- all of these pages are in the cache
+abbrev pub HasPages : (these : ℕ → Type 0) → CacheValue → Type 0
+HasPages these c = (page : ℕ) → these page → IsResident c page
+
+-- the page is one of the table, and not free
+abbrev pub IsUsed : (free : List Bool) → ℕ → Type 0
+IsUsed free page = (page < length free) × (slice_index_or free page false ≡ false)
+
 -- the pages that are pinned, each as often as it stands here, leave room for so many more
 pub record HasRoom (more : ℕ) (c : CacheValue) : Type 0 where
   pub frames : 192 ≤ c.frames

@@ -9,7 +9,7 @@ use Rattle.page_cache.specs.Cache.{CacheValue, AreNewest, is_one_of, newest, wit
 use Rattle.name_page.specs.Pages.{Step}
 use Rattle.sector_disk.specs.Calls.{OnlyReads}
 use Rattle.table_pages.specs.Reads.{device_of, LosesFor, Fills, HadRefused}
-use Rattle.table_pages.specs.Bringing.{IsTrusted, given_by, home_in}
+use Rattle.table_pages.specs.Bringing.{HasPages, IsTrusted, IsUsed, given_by, home_in}
 use Rattle.table_pages.specs.Kept.{IsReady, images_of, kept_written}
 use Rattle.table_pages.specs.declared.table.Table.{Table}
 
@@ -61,6 +61,10 @@ module _ {D E : Type 0} {M : MachineGhosts D} {S : SourceGhosts E} where
     pub home_a : new.home_a ≡ old.home_a
     pub taken : (page : ℕ) → slice_index_or old.free.now page false ≡ true → (slice_index_or new.free.now page false ≡ true) ⊎ (is_one_of new.cache.now.dirty page ≡ true)
     pub barred : M.honest new.m.now → (place : ℕ) → new.refusal ≡ Some (Unsound place) → (old.refusal ≡ Some (Unsound place)) ⊎ BarsPlace old new place
+
+  -- all pages that are not free are in the cache
+  abbrev pub HasUsed : Table D E M S → Type 0
+  HasUsed t = HasPages (IsUsed t.free.now) t.cache.now
 
   -- trusted since it was made
   abbrev pub Trusted : Table D E M S → Type 0

@@ -1,11 +1,11 @@
 //! Pages of the table that are brought into the cache and kept there.
-ghost use Rattle.std.specs.Prelude.{◌≡◌, ◌⊎◌, ℕ, ◌+◌, ◌-◌, ◌^◌, ◌<◌, ◌≤◌, ◌++◌, ◌∷◌, [], Err, true, false, is_some, IfErr, OnOk, IsSome, length, count_by, nat_eq, slice_index_or};
+ghost use Rattle.std.specs.Prelude.{◌≡◌, ◌⊎◌, ℕ, ◌+◌, ◌-◌, ◌^◌, ◌<◌, ◌≤◌, ◌++◌, ◌∷◌, [], Err, true, false, is_some, IfErr, MatchResult, OnOk, IsSome, length, count_by, nat_eq, slice_index_or};
 ghost use Rattle.arrayvec.specs.ArrayVec.{array_vec_len};
 ghost use Rattle.fsd_bytes.specs.declared.refusal.Refusal.{Refusal};
 ghost use Rattle.fsd_bytes.specs.declared.refusal.Refusal.TheVariants.{Unsound};
-ghost use Rattle.name_page.specs.Pages.{IsOuter, outer_in};
+ghost use Rattle.name_page.specs.Pages.{IsOuter, NeedsNoMemory, outer_in};
 ghost use Rattle.page_cache.specs.Cache.{IsResident, pins_of, with_pins};
-ghost use Rattle.table_pages.specs.Bringing.{HasRoom, OnlyPins, FetchesOnly, IsRefused, content_in, home_in, refusal_for};
+ghost use Rattle.table_pages.specs.Bringing.{HasPages, HasRoom, KeepsPages, OnlyPins, FetchesOnly, IsRefused, IsUsed, content_in, home_in, refusal_for};
 
 use crate::free::FreePages;
 use arrayvec::ArrayVec;
@@ -37,6 +37,7 @@ pub fn bring<M: Machine, S: PageSource>(
     ensures fetches { FetchesOnly M.Machine S.PageSource source.now (outer_in result) m.old m.new cache.old cache.new }
     ensures pins { (q : ℕ) → pins_of cache.new q ≡ pins_of cache.old q }
     ensures there { OnOk result (IsResident cache.new page) }
+    ensures hit { IsResident cache.old page → MatchResult result (λ x. KeepsPages cache.old cache.new) (λ refusal. ⊥) }
     ensures cause { IfErr result IsOuter }
 {
     let _whole = cache.dirty_list();
@@ -70,6 +71,7 @@ pub fn bring_used<M: Machine, S: PageSource>(
     ensures fetches { FetchesOnly M.Machine S.PageSource source.now (outer_in result) m.old m.new cache.old cache.new }
     ensures pins { (q : ℕ) → pins_of cache.new q ≡ pins_of cache.old q }
     ensures there { OnOk result (IsResident cache.new page) }
+    ensures memory { NeedsNoMemory (HasPages (IsUsed free.now)) (outer_in result) cache.old cache.new }
     ensures used { OnOk result (slice_index_or free.now page false ≡ false) }
     ensures accepted { OnOk result (IsSome (content_in cache.new (length free.now) page)) }
     ensures spare { slice_index_or free.now page false ≡ true → result ≡ Err (Unsound (home_in home_a page)) }

@@ -71,9 +71,9 @@ impl<'a, M: Machine, S: PageSource> Table<'a, M, S> {
 impl<'a, M: Machine, S: PageSource> Pages for Table<'a, M, S> {
     ghost use Rattle.std.specs.Prelude.{refl, None};
     ghost use Rattle.std.proofs.Common.{ap, ◌∙◌, subst, sym};
-    ghost use Rattle.name_page.specs.Pages.{Step, rested};
+    ghost use Rattle.name_page.specs.Pages.{NeedsNoMemory, Step, rested};
     ghost use Rattle.table_pages.specs.Bringing.{OnlyPins};
-    ghost use Rattle.table_pages.specs.Table.{step_of, written, ReadsOnly, Trusted, IsAtRest, IsClean};
+    ghost use Rattle.table_pages.specs.Table.{step_of, written, HasUsed, ReadsOnly, Trusted, IsAtRest, IsClean};
     ghost use Rattle.table_pages.specs.TableLaws.{step_written, reads_written, reads_still, reads_then, trusted_earlier, few_images, as_many};
 
     ghost step = { step_of };
@@ -81,6 +81,8 @@ impl<'a, M: Machine, S: PageSource> Pages for Table<'a, M, S> {
     ghost written = { written };
 
     ghost trusted = { Trusted };
+
+    ghost in_memory = { HasUsed };
 
     ghost outside = { ReadsOnly };
 
@@ -162,6 +164,7 @@ impl<'a, M: Machine, S: PageSource> Pages for Table<'a, M, S> {
 
     fn rest(&mut self)
         ensures outside { ReadsOnly None self.old self.new }
+        ensures memory { NeedsNoMemory HasUsed None self.old self.new }
         ensures step { step_of self.new ≡ rested (step_of self.old) }
         ensures machine { self.new.m.now ≡ self.old.m.now }
         ensures cache { OnlyPins self.old.cache.now self.new.cache.now }

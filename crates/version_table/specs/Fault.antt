@@ -3,7 +3,8 @@ use Rattle.std.specs.Prelude.{ℕ, ⊤, Option, None, Result, Ok, Err}
 use Rattle.fsd_bytes.specs.declared.refusal.Refusal.{Refusal}
 use Rattle.fsd_table.specs.Table.{BreaksTable}
 use Rattle.name_page.specs.declared.pages.Pages.{Ghosts}
-use Rattle.name_btree.specs.Fault.{HasCause, BarsTable, IsAmong, outer_of}
+use Rattle.name_page.specs.Pages.{Step}
+use Rattle.name_btree.specs.Fault.{HasCause, BarsTable, IsAmong, IsOnWay, ShowsCause, outer_of}
 use Rattle.version_table.specs.declared.fault.VersionFault.{VersionFault}
 use Rattle.version_table.specs.declared.fault.VersionFault.TheVariants.{Table, NoSuch, VersionsUsedUp}
 
@@ -28,3 +29,9 @@ abbrev pub FailsLook : {D : Type 0} (P : Ghosts D) (new : D) (Absent UsedUp : Ty
 FailsLook P new Absent UsedUp (Table fault) = HasCause (P.step new) (BreaksTable (P.step new).images) (BarsTable (P.step new)) fault
 FailsLook P new Absent UsedUp NoSuch = Absent
 FailsLook P new Absent UsedUp VersionsUsedUp = UsedUp
+
+-- what was reached shows that the page of a look-up's fault breaks the table, or is on the way
+abbrev pub ShowsLook : Step → VersionFault → Type 0
+ShowsLook s (Table fault) = ShowsCause s BreaksTable IsOnWay fault
+ShowsLook s NoSuch = ⊤
+ShowsLook s VersionsUsedUp = ⊤

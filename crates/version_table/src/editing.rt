@@ -1,6 +1,6 @@
 //! Versions that come, go, and get another keep.
 ghost use Rattle.std.specs.Prelude.{◌≡◌, ◌+◌, ◌<◌, ◌≤◌, ◌∷◌, [], ℕ, ◌↔◌, IsTrue, IfErr, OnErr, OnOk, Err, Some, length, true};
-ghost use Rattle.fsd_bytes.specs.declared.refusal.Refusal.TheVariants.{NameTableFull};
+ghost use Rattle.fsd_bytes.specs.declared.refusal.Refusal.TheVariants.{Memory, NameTableFull};
 ghost use Rattle.fsd_files.specs.Answers.{entries_with_keep, entry_of};
 ghost use Rattle.fsd_files.specs.Volume.{entries_without};
 ghost use Rattle.fsd_formats.specs.NamePage.{is_entry, FitsEntry};
@@ -59,6 +59,7 @@ pub fn enter<T: Pages>(
     requires fits { FitsEntry (planned_entry plan.now serial bytes runs) }
     requires ready { OfTable T.Pages t.old t.old (IsReady plan.now) }
     ensures calls { OnlyEdits T.Pages (outer_told result) t.old t.new }
+    ensures pages { ChangesPages (T.step t.old) (T.step t.new) }
     ensures kept { OnErr result (OnlyWalks T.Pages (outer_told result) t.old t.new) }
     ensures changes { changes (T.step t.old) ≤ changes (T.step t.new) + 36 }
     ensures taken { free_count (T.step t.old) ≤ free_count (T.step t.new) + 7 }
@@ -102,6 +103,7 @@ pub fn set_keep<T: Pages>(t: &mut T, version: &Entry, keep: u32) -> Result<(), T
     ensures pages { ChangesPages (T.step t.old) (T.step t.new) }
     ensures kept { OnErr result (OnlyWalks T.Pages (outer_told result) t.old t.new) }
     ensures among { 0 < length (T.step t.old).images → IfErr result (IsAmong (length (T.step t.old).images)) }
+    ensures memory { T.in_memory t.old → outer_told result ≡ Some Memory → ⊥ }
     ensures written { OnOk result (WritesOne T.Pages t.old t.new) }
     ensures set { OnOk result (MakesTable T.Pages t.old t.new (entries_with_keep version.now.key keep)) }
     ensures fault { IfErr result (FailsTable T.Pages t.new) }

@@ -5,6 +5,7 @@ ghost use Rattle.fsd_formats.specs.NamePage.{is_entry, FitsEntry};
 ghost use Rattle.name_btree.specs.Lookup.{StandsIn, IsLedTo};
 ghost use Rattle.name_page.specs.declared.pages.TheConstants.{MOST_REACHED};
 ghost use Rattle.name_page.specs.Looks.{OnlyWalks};
+ghost use Rattle.name_page.specs.Pages.{NeedsNoMemory};
 ghost use Rattle.version_table.specs.Fault.{outer_met, FailsLook, IsInside};
 ghost use Rattle.version_table.specs.Table.{OfTable};
 
@@ -38,6 +39,7 @@ pub fn version_at<T: Pages>(t: &mut T, key: &Key) -> Result<FoundEntry, VersionF
 pub fn newest<T: Pages>(t: &mut T, name: &FileName) -> Result<FoundEntry, VersionFault>
     requires { MOST_REACHED ≤ (T.step t.old).most_reached }
     ensures walks { OnlyWalks T.Pages (outer_met result) t.old t.new }
+    ensures memory { NeedsNoMemory T.in_memory (outer_met result) t.old t.new }
     ensures among { 0 < length (T.step t.old).images → IfErr result (IsInside (length (T.step t.old).images)) }
     ensures there { IfOk result (StandsIn (T.step t.new)) }
     ensures way { IfOk result (IsLedTo (T.step t.new)) }

@@ -2,7 +2,7 @@
 ghost use Rattle.std.specs.Prelude.{◌≡◌, ◌+◌, ◌-◌, ◌^◌, ◌<◌, ◌≤◌, IfOk, IfErr, IfSome, Some, None, min, take, length, ◌++◌, ◌∷◌, [], if◌then◌else◌};
 ghost use Rattle.std.specs.List.{AllByRecursion};
 ghost use Rattle.fsd_table.specs.Table.{BreaksTable};
-ghost use Rattle.name_btree.specs.Fault.{outer_told, HasCause, BarsTable, IsAmong};
+ghost use Rattle.name_btree.specs.Fault.{outer_told, HasCause, BarsTable, IsAmong, IsOnWay, ShowsCause};
 ghost use Rattle.name_page.specs.Lookups.{same_name};
 ghost use Rattle.name_page.specs.declared.pages.TheConstants.{MOST_REACHED};
 ghost use Rattle.name_page.specs.Looks.{OnlyWalks};
@@ -49,6 +49,7 @@ fn next_version<T: Pages>(t: &mut T, key: &Key) -> Result<Option<FoundEntry>, Tr
     ensures met { IfOk result (λ found. IfSome found (λ f. IsMet T.Pages key.now.name t.old t.new (record { entry = f.entry; page = f.page }))) }
     ensures found { IfOk result (λ found. OfTable T.Pages t.old t.new (λ table. IsFirst key.now table found)) }
     ensures fault { IfErr result (HasCause (T.step t.new) (BreaksTable (T.step t.new).images) (BarsTable (T.step t.new))) }
+    ensures shown { IfErr result (ShowsCause (T.step t.new) BreaksTable IsOnWay) }
 {
     t.rest();
     match next_after(t, Some(key))? {
@@ -84,6 +85,7 @@ fn meet_oldest<T: Pages>(t: &mut T, name: &FileName, most: u32) -> Result<Oldest
     ensures counted { IfOk result (λ oldest. OfTable T.Pages t.old t.new (λ table. oldest.count ≡ min most (length (versions_of name.now table)))) }
     ensures first { IfOk result (λ oldest. OfTable T.Pages t.old t.new (λ table. entries_left oldest.first.items ≡ take (min 2 oldest.count) (versions_of name.now table))) }
     ensures fault { IfErr result (HasCause (T.step t.new) (BreaksTable (T.step t.new).images) (BarsTable (T.step t.new))) }
+    ensures shown { IfErr result (ShowsCause (T.step t.new) BreaksTable IsOnWay) }
 {
     let mut oldest = Oldest {
         first: ArrayVec::new(),
@@ -119,6 +121,7 @@ pub(crate) fn meet_leaving<T: Pages>(
     ensures met { IfOk result (λ gone. AllByRecursion (IsMet T.Pages name.now t.old t.new) gone.items) }
     ensures gone { IfOk result (λ gone. OfTable T.Pages t.old t.new (λ table. entries_left gone.items ≡ oldest_beyond keep (versions_of name.now table))) }
     ensures fault { IfErr result (HasCause (T.step t.new) (BreaksTable (T.step t.new).images) (BarsTable (T.step t.new))) }
+    ensures shown { IfErr result (ShowsCause (T.step t.new) BreaksTable IsOnWay) }
 {
     if keep == 0 {
         return Ok(ArrayVec::new());

@@ -6,7 +6,7 @@ ghost use Rattle.fsd_files.specs.Files.{keep_of, next_version};
 ghost use Rattle.name_btree.specs.Lookup.{entry_of};
 ghost use Rattle.name_page.specs.declared.pages.TheConstants.{MOST_REACHED};
 ghost use Rattle.name_page.specs.Looks.{OnlyWalks};
-ghost use Rattle.version_table.specs.Fault.{outer_met, FailsLook, IsInside};
+ghost use Rattle.version_table.specs.Fault.{outer_met, FailsLook, IsInside, ShowsLook};
 ghost use Rattle.version_table.specs.Met.{IsMet};
 ghost use Rattle.version_table.specs.Plan.{IsPlan, IsReady};
 ghost use Rattle.version_table.specs.Table.{OfTable};
@@ -60,6 +60,7 @@ pub fn plan_version<T: Pages>(
     ensures planned { IfOk result (λ plan. OfTable T.Pages t.old t.new (λ table. IsPlan name.now given table plan)) }
     ensures ready { IfOk result (λ plan. OfTable T.Pages t.old t.new (IsReady plan)) }
     ensures fault { IfErr result (FailsLook T.Pages t.new ⊥ (OfTable T.Pages t.old t.new (λ table. max_u32 < (next_key name.now table).version))) }
+    ensures shown { IfErr result (ShowsLook (T.step t.new)) }
 {
     t.rest();
     let highest = match highest(t, name) {

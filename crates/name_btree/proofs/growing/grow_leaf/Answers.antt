@@ -4,6 +4,7 @@ use Rattle.name_page.specs.Pages.{with_images}
 use Rattle.name_btree.proofs.OverLaws.{drafted_over, takes_over, reached_over}
 use Rattle.name_btree.proofs.TakeLaws.{sheets_over}
 use Rattle.name_btree.proofs.GrowLaws.{IsParted, HasLeaves, leaves_parted}
+use Rattle.name_btree.proofs.SheetLaws.{two_sheets}
 use Rattle.name_btree.proofs.growing.grow_leaf.Given as given
 use Rattle.name_btree.proofs.growing.grow_leaf.Goals as goal
 
@@ -52,3 +53,9 @@ returns-clause-grown g c = λ pages same. (parted g c pages same).grown
 
 pub returns-clause-leaves : goal.returns-clause-leaves
 returns-clause-leaves g c = λ pages same. (parted g c pages same).leaves
+
+pub returns-clause-drawn : goal.returns-clause-drawn
+returns-clause-drawn g c =
+    let step = g.T.Pages.step in
+    two_sheets (step c.args.t.now) (step c.front_page-left.new.t) (step c.take_page-right.new.t) c.args.draft.now.sheets.items c.put_leaf-2.new.self.sheets.items c.put_leaf-3.new.self.sheets.items c.args.page c.front_page-left.result c.take_page-right.result
+    (Leaf c.split_at.result.0.now) (Leaf c.split_at.result.1.now) c.front_page-left.ensures.takes c.take_page-right.ensures.takes c.put_leaf-2.ensures.sheets c.put_leaf-3.ensures.sheets

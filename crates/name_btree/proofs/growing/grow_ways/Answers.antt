@@ -11,6 +11,7 @@ use Rattle.name_page.specs.Pages.{with_images}
 use Rattle.name_btree.proofs.OverLaws.{drafted_over, takes_over, reached_over}
 use Rattle.name_btree.proofs.TakeLaws.{sheets_over, taken_itself}
 use Rattle.name_btree.proofs.GrowLaws.{IsParted, HasInteriors, ways_parted, rest_of}
+use Rattle.name_btree.proofs.SheetLaws.{two_sheets}
 use Rattle.name_btree.proofs.growing.grow_ways.Given as given
 use Rattle.name_btree.proofs.growing.grow_ways.Goals as goal
 
@@ -83,3 +84,9 @@ returns-clause-interiors g c = λ pages same. (parted g c pages same).interiors
 
 pub returns-clause-outside : goal.returns-clause-outside
 returns-clause-outside g c = g.met.T.Pages.then c.args.t.now c.front_page-left.new.t c.take_page-right.new.t _ c.front_page-left.ensures.outside c.take_page-right.ensures.outside
+
+pub returns-clause-drawn : goal.returns-clause-drawn
+returns-clause-drawn g c =
+    let step = g.T.Pages.step in
+    two_sheets (step c.args.t.now) (step c.front_page-left.new.t) (step c.take_page-right.new.t) c.args.draft.now.sheets.items c.put_ways-2.new.self.sheets.items c.put_ways-3.new.self.sheets.items c.args.page c.front_page-left.result c.take_page-right.result
+    _ _ c.front_page-left.ensures.takes c.take_page-right.ensures.takes c.put_ways-2.ensures.sheets c.put_ways-3.ensures.sheets

@@ -1,5 +1,5 @@
 use Rattle.std.proofs.Common.{◌≡◌, ◌∙◌, ◌-◌, ◌≤◌, ℕ, Bool, suc, List, Option, Some, length, true, refl, sym, ap, subst, arith, rules}
-use Rattle.std.proofs.lemmas.Result.{err_from_is_err_and}
+use Rattle.std.proofs.lemmas.Result.{err_from_is_err_and, on_ok_weaker}
 use Rattle.fsd_bytes.specs.declared.refusal.Refusal.{Refusal}
 use Rattle.fsd_formats.specs.NamePage.{Leaf, Interior, is_page}
 use Rattle.fsd_forest.specs.Parts.{is_inside}
@@ -21,6 +21,7 @@ use Rattle.name_btree.proofs.StepLaws.{above_grows, few_above}
 use Rattle.name_btree.proofs.OverLaws.{takes_looked, reached_over}
 use Rattle.name_btree.proofs.TakeLaws.{used_over}
 use Rattle.name_btree.proofs.InsertLaws.{middle_is, inside_middle, least_taken, misfit_growth, growth_below, zero_below, leaf_grows, leaf_growth, ok_grows, err_grows, grows_looked}
+use Rattle.name_btree.proofs.SheetLaws.{sheets_looked, sheets_then}
 use Rattle.name_btree.proofs.inserting.+insert_below.Goals as goal
 
 pub returns-in_err-entries-clause-fault : goal.returns-in_err-entries-clause-fault
@@ -249,3 +250,21 @@ pub returns-in_err-entries-clause-calls : goal.returns-in_err-entries-clause-cal
 returns-in_err-entries-clause-calls g t c =
     let p = err_from_is_err_and c.from_residual.result c.from_residual.ensures.1 in
     rw (p.1, p.2) (reaches_takes g.T.Pages c.args.t.now c.child_node.new.t c.in_err-entries.ensures.calls)
+
+pub returns-in-Leaf-clause-drawn : goal.returns-in-Leaf-clause-drawn
+returns-in-Leaf-clause-drawn g t c =
+    let step = g.T.Pages.step in
+    let old = c.args.draft.now.sheets.items in
+    let looked = sheets_looked (step c.args.t.now) (step c.child_node.new.t) old c.in_ok-entries.ensures.calls.looks in
+    on_ok_weaker c.insert_here.result (sheets_then (step c.args.t.now) (step c.child_node.new.t) (step c.insert_here.new.t) old old c.insert_here.new.draft.sheets.items looked) c.insert_here.ensures.drawn
+
+pub returns-in_ok-grown-in-Interior-clause-drawn : goal.returns-in_ok-grown-in-Interior-clause-drawn
+returns-in_ok-grown-in-Interior-clause-drawn g t c =
+    let step = g.T.Pages.step in
+    let first = step c.args.t.now in
+    let looked = step c.child_node.new.t in
+    let between = step c.insert_below.new.t in
+    let s0 = c.args.draft.now.sheets.items in
+    let s1 = c.insert_below.new.draft.sheets.items in
+    let below = sheets_then first looked between s0 s0 s1 (sheets_looked first looked s0 c.in_ok-entries.ensures.calls.looks) c.in_ok-grown-in-Interior.ensures.drawn in
+    sheets_then first between (step c.grow_above.new.t) s0 s1 c.grow_above.new.draft.sheets.items below c.grow_above.ensures.drawn

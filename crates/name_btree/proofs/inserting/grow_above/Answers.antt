@@ -4,6 +4,7 @@ use Rattle.name_btree.proofs.OverLaws.{takes_only}
 use Rattle.fsd_forest.specs.Ways.{child_between}
 use Rattle.name_btree.specs.Grown.{FitsTwoInteriors, IsSound, IsDivided}
 use Rattle.name_btree.proofs.WaysGrowthLaws.{one_way_more}
+use Rattle.name_btree.proofs.SheetLaws.{sheets_still}
 use Rattle.name_btree.proofs.inserting.grow_above.Goals as goal
 
 pub grow_ways-requires-clause-separators : goal.grow_ways-requires-clause-separators
@@ -28,3 +29,6 @@ returns-in-Parted-clause-calls g c =
 
 pub returns-in-Whole-clause-calls : goal.returns-in-Whole-clause-calls
 returns-in-Whole-clause-calls g c = reaches_takes g.T.Pages c.args.t.now c.args.t.now (reaches_still g.T.Pages c.args.t.now (g.met.T.Pages.still c.args.t.now))
+
+pub returns-in-Whole-clause-drawn : goal.returns-in-Whole-clause-drawn
+returns-in-Whole-clause-drawn g c = sheets_still (g.T.Pages.step c.args.t.now) c.args.draft.now.sheets.items

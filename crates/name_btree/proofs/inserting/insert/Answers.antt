@@ -7,7 +7,7 @@ use Rattle.fsd_formats.specs.declared.entry.Entry.{Entry}
 use Rattle.fsd_table.specs.Tree.{IsTree, table_of}
 use Rattle.name_page.specs.Lookups.{entry_with}
 use Rattle.name_page.specs.Looks.{OnlyWalks}
-use Rattle.name_page.proofs.LookLaws.{reaches_then, walks_edits, edits_then, agrees_now, agrees_before}
+use Rattle.name_page.proofs.LookLaws.{kept_pages, reaches_then, walks_edits, walks_pages, pages_then, edits_then, agrees_now, agrees_before}
 use Rattle.name_btree.specs.declared.fault.TreeFault.TheVariants.{Pages}
 use Rattle.name_btree.specs.Fault.{outer_of, FailsTable}
 use Rattle.name_btree.proofs.CauseLaws.{fails_by_map, same_err}
@@ -17,6 +17,8 @@ use Rattle.name_btree.specs.Grown.{Inserts, BreaksNew}
 use Rattle.name_btree.specs.Map.{LeavesTree, HasLeft, without_all}
 use Rattle.name_btree.proofs.CommitLaws.{commit_reaches, commit_changes, commit_edits}
 use Rattle.name_btree.proofs.MapLaws.{promised_walks}
+use Rattle.name_btree.proofs.DraftLaws.{drafted_length}
+use Rattle.name_btree.proofs.SheetLaws.{sheets_pages}
 use Rattle.name_btree.proofs.SpareLaws.{commit_free, inserted_table}
 use Rattle.name_btree.proofs.inserting.insert.Given as given
 use Rattle.name_btree.proofs.WithinLaws.{among_since}
@@ -219,3 +221,34 @@ returns-in-Err-insert_in-clause-among g c =
     let f = c.fault_of-in-Err-insert_in in
     let same = c.in-Err-insert_in.ensures.failed.looks.count ∙ c.in_default-remove_all.ensures.calls.looks.count ∙ c.in_default.ensures.kept.count in
     among_since (length (g.T.Pages.step c.insert_in.new.t).images) (length (g.T.Pages.step c.args.t.now).images) f.result same f.ensures.among
+
+-- ---- what its pages have
+
+pub returns-clause-pages : goal.returns-clause-pages
+returns-clause-pages g c =
+    let G = g.T.Pages in
+    let law = g.met.T.Pages in
+    let old = c.args.t.now in
+    let s1 = c.spare.new.self in
+    let s2 = c.remove_all.new.t in
+    let s3 = c.insert_in.new.t in
+    let d = c.insert_in.new.draft in
+    let sp = c.in_default.ensures in
+    let new = G.step c.commit.new.t in
+    let count : length new.images ≡ length (G.step s2).images = ap length c.commit.ensures.images ∙ drafted_length d.sheets.items (G.step s3).images ∙ c.in_default-insert_in.ensures.calls.edits.count in
+    let walks = promised_walks G law.then law.trust old s1 s2 8 sp.outside sp.kept sp.stays sp.step c.in_default-remove_all.ensures.calls in
+    let taken = c.in_default-insert_in.ensures in
+    pages_then (G.step old) (G.step s2) new count (walks_pages G old s2 walks)
+    (sheets_pages (G.step s2) (G.step s3) new d.freed.items c.remove_all.new.draft.sheets.items d.sheets.items taken.drawn taken.draft.sheets c.commit.ensures.step)
+
+pub returns-in-Err-clause-pages : goal.returns-in-Err-clause-pages
+returns-in-Err-clause-pages g c =
+    let told = c.in-Err.ensures in
+    kept_pages (g.T.Pages.step c.args.t.now) (g.T.Pages.step c.spare.new.self) told.kept (ap (λ (s : Step). s.changed) told.refused)
+
+pub returns-in-Err-remove_all-clause-pages : goal.returns-in-Err-remove_all-clause-pages
+returns-in-Err-remove_all-clause-pages g c = walks_pages g.T.Pages c.args.t.now c.fault_of.new.t (walked_removing g (goal.at.returns-in-Err-remove_all-clause-pages g c).After-fault_of)
+
+pub returns-in-Err-insert_in-clause-pages : goal.returns-in-Err-insert_in-clause-pages
+returns-in-Err-insert_in-clause-pages g c =
+    walks_pages g.T.Pages c.args.t.now c.fault_of-in-Err-insert_in.new.t (walked_inserting g (goal.at.returns-in-Err-insert_in-clause-pages g c).After-fault_of-in-Err-insert_in)

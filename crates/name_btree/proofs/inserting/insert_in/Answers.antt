@@ -10,6 +10,7 @@ use Rattle.name_btree.proofs.CauseLaws.{fails_by_map}
 use Rattle.name_btree.proofs.DraftLaws.{drafted_length}
 use Rattle.name_btree.proofs.OverLaws.{draft_over, drafted_over}
 use Rattle.name_btree.proofs.TreeGrowthLaws.{inserts_whole, inserts_parted, still_draft, growth_new}
+use Rattle.name_btree.proofs.SheetLaws.{sheets_then, one_sheet}
 use Rattle.name_btree.proofs.inserting.insert_in.Goals as goal
 
 pub returns-in_err-insert_below-clause-fault : goal.returns-in_err-insert_below-clause-fault
@@ -72,3 +73,11 @@ pub returns-in_err-insert_below-clause-failed : goal.returns-in_err-insert_below
 returns-in_err-insert_below-clause-failed g c =
     let p = err_from_is_err_and c.from_residual.result c.from_residual.ensures.1 in
     rw (p.1, p.2) c.in_err-insert_below.ensures.failed
+
+pub returns-in-Parted-clause-drawn : goal.returns-in-Parted-clause-drawn
+returns-in-Parted-clause-drawn g c =
+    let last = g.T.Pages.step c.insert_below.new.t in
+    let old = c.args.draft.now.sheets.items in
+    let between = c.insert_below.new.draft.sheets.items in
+    let new = c.put_ways.new.self.sheets.items in
+    sheets_then (g.T.Pages.step c.args.t.now) last last old between new c.in_ok-insert_below.ensures.drawn (one_sheet last between new 0 _ c.put_ways.ensures.sheets)

@@ -147,3 +147,14 @@ returns-then-not-has_as_long-clause-pages g c =
     let G = g.T.Pages in
     let new = c.fault_of-then-not-has_as_long.new.t in
     walks_pages G c.args.t.now new (c.fault_of-then-not-has_as_long.ensures.calls c.args.t.now (reaches_walks G c.args.t.now c.leaf_below.new.t c.in-Ok.ensures.calls))
+
+-- ---- memory is not wanting
+
+pub returns-in-Err-clause-memory : goal.returns-in-Err-clause-memory
+returns-in-Err-clause-memory g c = (c.fault_of.ensures.memory c.args.t.now c.in-Err.ensures.calls.memory).enough
+
+pub returns-then-not-has_as_long-clause-memory : goal.returns-then-not-has_as_long-clause-memory
+returns-then-not-has_as_long-clause-memory g c = (c.fault_of-then-not-has_as_long.ensures.memory c.args.t.now c.in-Ok.ensures.calls.memory).enough
+
+pub returns-clause-memory : goal.returns-clause-memory
+returns-clause-memory g c = λ there is. cc is

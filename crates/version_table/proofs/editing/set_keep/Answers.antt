@@ -36,3 +36,7 @@ pub returns-clause-pages : goal.returns-clause-pages
 returns-clause-pages g c =
     let step = g.T.Pages.step in
     rested_pages (step c.args.t.now) (step c.rest.new.self) (step c.replace_same_size.new.t) c.rest.ensures.step c.replace_same_size.ensures.calls.count c.replace_same_size.ensures.pages
+
+-- memory is not wanting
+pub returns-clause-memory : goal.returns-clause-memory
+returns-clause-memory g c = λ there. c.replace_same_size.ensures.memory (c.rest.ensures.memory.stays there)

@@ -145,3 +145,14 @@ returns-in-Err-clause-outside g c =
       taken = λ page is. inl is;
       barred = λ h place is. inr (refused_bars t _ c.args.page (within_free t c.args.page c.requires.within) all.fills h c.in-Err.refusal c.in-Err.ensures.cause place (let same : c.in-Err.refusal ≡ Unsound place = cc is in same));
     }
+
+-- ---- memory is not wanting
+
+pub returns-in-Ok-clause-memory : goal.returns-in-Ok-clause-memory
+returns-in-Ok-clause-memory g c =
+    let mid = c.bring_used.new.cache in
+    let only = set_only mid c.keep.new.cache c.args.page (pins_of mid c.args.page + 1) c.keep.ensures.pinned in
+    record { stays = λ all q used. only_there mid c.keep.new.cache only q (c.in-Ok.ensures.memory.stays all q used); enough = λ all is. cc is }
+
+pub returns-in-Err-clause-memory : goal.returns-in-Err-clause-memory
+returns-in-Err-clause-memory g c = record { stays = c.in-Err.ensures.memory.stays; enough = c.in-Err.ensures.memory.enough }

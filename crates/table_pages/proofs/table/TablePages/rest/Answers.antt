@@ -2,7 +2,7 @@ use Rattle.std.proofs.Common.{inl, List, ℕ, [], refl, sym, subst, arith}
 use Rattle.sector_disk.proofs.CallLaws.{reads_none}
 use Rattle.table_pages.specs.Kept.{IsKept}
 use Rattle.table_pages.proofs.KeptLaws.{spare_pins, reached_pins, kept_unreached, kept_unspared}
-use Rattle.table_pages.proofs.PinLaws.{only_then}
+use Rattle.table_pages.proofs.PinLaws.{only_then, only_there}
 use Rattle.table_pages.proofs.SpareLaws.{pinned_fills}
 use Rattle.table_pages.proofs.StepLaws.{rested_step}
 use Rattle.table_pages.proofs.table.TablePages.rest.Given as given
@@ -74,3 +74,10 @@ returns-clause-outside g c =
 
 pub returns-clause-step : goal.returns-clause-step
 returns-clause-step g c = rested_step c.args.self.now c.release.new.cache c.release-2.new.cache c.release.new.list.items c.release.ensures.only c.release-2.ensures.only c.release.ensures.none
+
+pub returns-clause-memory : goal.returns-clause-memory
+returns-clause-memory g c =
+    let old = c.args.self.now.cache.now in
+    let last = c.release-2.new.cache in
+    let only = only_then old c.release.new.cache last c.release.ensures.only c.release-2.ensures.only in
+    record { stays = λ all q used. only_there old last only q (all q used); enough = λ all is. cc is }
