@@ -19,7 +19,7 @@ use Rattle.run_table.specs.declared.run.Run.{Run}
 use Rattle.run_table.specs.RunTable.{same_runs, sectors_of}
 use Rattle.run_table.specs.Space.{contains, all_differ}
 use Rattle.fsd_formats.specs.declared.entry.Entry.{Entry}
-use Rattle.fsd_files.specs.Answers.{deleted, entry_kept, entry_of, entry_put, entries_with_keep, gone_sectors, keep_set, new_entry, with_version}
+use Rattle.fsd_files.specs.Answers.{deleted, entry_kept, entry_put, entries_with_keep, gone_sectors, keep_set, new_entry, with_version}
 use Rattle.fsd_files.specs.Files.{gone_keys, new_key}
 use Rattle.fsd_files.specs.Kept.{Lists}
 use Rattle.fsd_files.specs.Space.{Apart}
@@ -101,14 +101,6 @@ turned_eq Greater = refl
 
 pub same_key_turned : (a b : Key) → is_eq (key_cmp a b) ≡ same_key b a
 same_key_turned a b = ap is_eq (keys_total.antisymm a b) ∙ turned_eq (key_cmp b a)
-
-absent_key : (key : Key) (entries : List Entry) → entry_of key entries ≡ None → IsAbsent key entries
-absent_key key [] none = tt
-absent_key key (z ∷ entries) none = by (same_key z.key key) refl none (absent_key key entries)
-  where
-    by : (b : Bool) → same_key z.key key ≡ b → cond b (Some z) (entry_of key entries) ≡ None → (entry_of key entries ≡ None → IsAbsent key entries) → IsAbsent key (z ∷ entries)
-    by true is none rest = absurd cc
-    by false is none rest = ((λ tied. let bad : true ≡ false = sym (ap is_eq tied) ∙ same_key_turned key z.key ∙ is in absurd cc), rest none)
 
 -- with one more entry
 record Puts (p : Entry → Bool) (s : ℕ) (e : Entry) (old new : List Entry) : Type 0 where

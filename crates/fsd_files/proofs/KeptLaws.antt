@@ -61,9 +61,6 @@ zip_on hurt i j (b ∷ bs) (y ∷ ys) agree kept =
 pub kept_in_worn : (hurt : Sectors) (i j : Image) (bytes : List ℕ) (runs : List Run) → AgreeWorn hurt (sectors_of runs) i j → KeptIn i hurt bytes runs → KeptIn j hurt bytes runs
 kept_in_worn hurt i j bytes runs agree kept = zip_on hurt i j (slices bytes) (data_sectors runs) (λ s h. agree s (behind_there s (sectors_of runs) h)) kept
 
-pub kept_in_on : (hurt : Sectors) (i j : Image) (bytes : List ℕ) (runs : List Run) → Agree (sectors_of runs) i j → KeptIn i hurt bytes runs → KeptIn j hurt bytes runs
-kept_in_on hurt i j bytes runs agree kept = kept_in_worn hurt i j bytes runs (λ s h. inl (agree s h)) kept
-
 abbrev pub plan_sectors : List Entry → List ℕ
 plan_sectors entries = flat_map sectors_of (plans_of entries)
 

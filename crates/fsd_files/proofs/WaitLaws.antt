@@ -1,5 +1,5 @@
 -- Which sectors of a volume wait.
-use Rattle.std.proofs.Common.{◌≡◌, inl, inr, ℕ, Bool, true, false, not, ◌&&◌, ◌||◌, List, [], ◌∷◌, ◌++◌, refl, sym, subst, ◌∙◌}
+use Rattle.std.proofs.Common.{◌≡◌, inl, inr, ℕ, Bool, true, false, not, ◌&&◌, ◌||◌, List, [], ◌∷◌, ◌++◌, refl, sym, subst}
 use Rattle.std.specs.Prelude.{IsTrue, IsFalse, ◌==◌}
 use Rattle.std.specs.List.{flat_map, list_all}
 use Rattle.std.proofs.lemmas.Bool.{and_parts, or_cases, or_parts, or_from, or_right, false_from_ne_true, eqb-true}
@@ -14,10 +14,7 @@ use Rattle.fsd_files.specs.Volume.{Volume, plans_of, is_in, in_version, waits, i
 use Rattle.fsd_files.proofs.KeptLaws.{back_there}
 use Rattle.fsd_files.specs.Waiting.{IsSpaced, are_same_or_apart, is_kept_alone, is_let_go}
 
--- ---- tests
-
-pub true_not_false : {P : Type 0} (b : Bool) → IsTrue b → IsFalse b → P
-true_not_false b is out = absurd (let bad : true ≡ false = sym is ∙ out in cc)
+-- ---- lists of sectors
 
 -- a sector of both is there twice
 pub apart_in_two : (xs ys : List ℕ) (s : ℕ) → IsTrue (all_differ (xs ++ ys)) → IsTrue (contains xs s) → IsFalse (contains ys s)

@@ -1,6 +1,6 @@
 -- The bytes of a version in its sectors, and what a read gives.
 use Rattle.std.specs.Prelude.{◌≡◌, ◌⊎◌, ℕ, zero, suc, ◌+◌, ◌-◌, ◌*◌, ◌/◌, List, [], ◌∷◌, length, map, take, drop, slice_range}
-use Rattle.std.specs.List.{AllZip, AllByRecursion}
+use Rattle.std.specs.List.{AllZip}
 use Rattle.fsd_bytes.specs.Bytes.{sector, sector_len}
 use Rattle.fsd_bytes.specs.declared.key.Key.{Key}
 use Rattle.run_table.specs.declared.run.Run.{Run}
@@ -67,12 +67,3 @@ IsWhole i s = (bytes : List ℕ) × (sector_at i s ≡ Whole bytes)
 abbrev pub FirstDamaged : Image → Image → List ℕ → ℕ → Type 0
 FirstDamaged i j [] s = ⊥
 FirstDamaged i j (t ∷ sectors) s = ((t ≡ s) × (sector_at j s ≡ Damaged)) ⊎ (IsWhole i t × FirstDamaged i j sectors s)
-
--- What a read gives of a range: all its bytes, or its first damaged sector. i is the image at the call's entry and j at its exit.
-pub data Got : Type 0 where
-  Bytes : List ℕ → Got
-  DamagedAt : (s : ℕ) → Got
-
-abbrev pub Gives : Image → Image → List ℕ → List Run → (from n : ℕ) → Got → Type 0
-Gives i j bytes runs from n (Bytes given) = AllByRecursion (IsWhole i) (range_sectors runs from n) × (given ≡ take n (drop from bytes))
-Gives i j bytes runs from n (DamagedAt s) = FirstDamaged i j (range_sectors runs from n) s

@@ -1,5 +1,5 @@
 -- What is judged of one reading and of another.
-use Rattle.std.proofs.Common.{◌≡◌, ℕ, suc, ◌+◌, ◌*◌, ◌^◌, ◌<◌, ◌≤◌, Bool, true, false, cond, List, [], ◌∷◌, length, Option, Some, None, refl, sym, ap, subst, ◌∙◌, arith, inl, inr, ◌⊎◌, zero, get_or}
+use Rattle.std.proofs.Common.{◌≡◌, ℕ, suc, ◌+◌, ◌*◌, ◌^◌, ◌<◌, ◌≤◌, Bool, true, false, cond, List, [], ◌∷◌, length, Option, Some, None, refl, sym, ap, subst, ◌∙◌, arith, inl, inr, ◌⊎◌}
 use Rattle.std.specs.Prelude.{option_and_then, option_map, nat_le, if◌then◌else◌, unwrap_or, replicate, ⊤}
 use Rattle.std.specs.Option.{option_or}
 use Rattle.std.specs.List.{AllByRecursion}
@@ -12,9 +12,6 @@ use Rattle.fsd_log.specs.Borne.{Foreign, FitsStamp, ReadsLess}
 use Rattle.fsd_log.proofs.BorneLaws.{foreign_header, foreign_end, foreign_page}
 
 -- ---- none stays none
-
-pub serve : Bool → Bool → Option Bool
-serve x y = if x then Some false else (if y then Some true else None)
 
 pub none_serves : (x y : Bool) → (if x then Some false else (if y then Some true else None)) ≡ None → (x ≡ false) × (y ≡ false)
 none_serves true y e = absurd (cc)
@@ -348,32 +345,3 @@ pub flag_of : (o : Option Bool) (rest : Option (List Bool)) (x : Bool) (more cs 
 flag_of None rest x more cs made e = absurd (cc)
 flag_of (Some y) None x more cs made e = absurd (cc)
 flag_of (Some y) (Some z) x more cs made e = ap (λ (b : Bool). Some b) (cc)
-
--- the j-th image is what stands at its place, if that bears the page, else what stands at its copy's
-pub image_at : (stamp : Stamp) (at : Reader) (k c : ℕ) (pages : List ℕ) (cs : List Bool) (j : ℕ) → page_copies stamp at k c pages ≡ Some cs → j < length pages
-    → get_or (images_of at k c cs) j [] ≡ unwrap_or (if passes (bears (get_or pages j 0) stamp) (at (k + j)) then at (k + j) else at (c + j)) []
-image_at stamp at k c [] cs j e lt = absurd (omega arith)
-image_at stamp at k c (page ∷ pages) cs zero e lt =
-    let made = mapped_some (serving (bears page stamp) (at k) (at c)) (page_copies stamp at (k + 1) (c + 1) pages) (λ x more. x ∷ more) cs e in
-    let k0 : k + 0 ≡ k = omega arith in
-    let c0 : c + 0 ≡ c = omega arith in
-    ap (λ (x : List Bool). get_or (images_of at k c x) 0 []) (sym made.3)
-    ∙ by_flag made.0 (flag_of (serving (bears page stamp) (at k) (at c)) (page_copies stamp at (k + 1) (c + 1) pages) made.0 made.1 cs made.3 e)
-    ∙ λ i. unwrap_or (if passes (bears page stamp) (at (sym k0 i)) then at (sym k0 i) else at (sym c0 i)) []
-  where
-    by_flag : (x : Bool) → serving (bears page stamp) (at k) (at c) ≡ Some x → unwrap_or (at (if x then c else k)) [] ≡ unwrap_or (if passes (bears page stamp) (at k) then at k else at c) []
-    by_flag x is = by_tests (passes (bears page stamp) (at k)) (passes (bears page stamp) (at c)) x is
-      where
-        by_tests : (a b y : Bool) → (if a then Some false else (if b then Some true else None)) ≡ Some y → unwrap_or (at (if y then c else k)) [] ≡ unwrap_or (if a then at k else at c) []
-        by_tests true b true e = absurd (cc)
-        by_tests true b false e = refl
-        by_tests false true true e = refl
-        by_tests false true false e = absurd (cc)
-        by_tests false false y e = absurd (cc)
-image_at stamp at k c (page ∷ pages) cs (suc j) e lt =
-    let made = mapped_some (serving (bears page stamp) (at k) (at c)) (page_copies stamp at (k + 1) (c + 1) pages) (λ x more. x ∷ more) cs e in
-    let kj : (k + 1) + j ≡ k + suc j = omega arith in
-    let cj : (c + 1) + j ≡ c + suc j = omega arith in
-    ap (λ (x : List Bool). get_or (images_of at k c x) (suc j) []) (sym made.3)
-    ∙ image_at stamp at (k + 1) (c + 1) pages made.1 j made.2 (omega arith)
-    ∙ λ i. unwrap_or (if passes (bears (get_or pages j 0) stamp) (at (kj i)) then at (kj i) else at (cj i)) []

@@ -46,9 +46,6 @@ sector_long xs le = omega (arith, length-append xs (zeros (512 - length xs)), le
 pub header_long : (stamp : Stamp) (pages : List ℕ) → length pages ≤ 96 → length (header_bytes stamp pages) ≡ 512
 header_long stamp pages few = sector_long (codes "CLHD" ++ stamp_bytes stamp ++ u16 (length pages) ++ zeros 18 ++ flat_map u32 pages) (omega (arith, numbers_long pages))
 
-pub end_long : (stamp : Stamp) (n : ℕ) → length (end_bytes stamp n) ≡ 512
-end_long stamp n = refl
-
 -- ---- the rows
 
 module _ (h z e images : List ℕ) (n : ℕ) (lh : length h ≡ 512) (lz : length z ≡ 512) (le : length e ≡ 512) (li : length images ≡ 512 * n) where

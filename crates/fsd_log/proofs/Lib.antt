@@ -2,7 +2,6 @@ pub mod AnchorLaws
 pub mod ApartLaws
 pub mod AppendLaws
 pub mod BorneLaws
-pub mod EmptyLaws
 pub mod FreshLaws
 pub mod GoodLaws
 pub mod HereLaws

@@ -10,7 +10,7 @@ use Rattle.fsd_formats.specs.Record.{Stamp, header_bytes, numbers_from, read_hea
 use Rattle.fsd_log.specs.Judged.{Reader, passes, serving, page_copies, Serving, judged, images_of, Logged, logged_of, record_in}
 use Rattle.fsd_log.specs.Borne.{borne_by}
 use Rattle.fsd_log.proofs.BorneLaws.{page_bears}
-use Rattle.fsd_log.proofs.JudgedLaws.{mapped_some, flag_of, is_judged, ImagesStand}
+use Rattle.fsd_log.proofs.JudgedLaws.{mapped_some, flag_of, is_judged}
 use Rattle.fsd_log.proofs.PlainLaws.{at_either}
 use Rattle.fsd_log.proofs.WornLaws.{serves_which}
 
@@ -69,16 +69,6 @@ pub pages_small : (p : ℕ) (pages : List ℕ) → p ≤ 2 ^ 32 → are_pages p 
 pages_small p pages le are = all_small p pages le (and_parts (is_between 1 96 (length pages) && ascending pages) (list_all (λ page. nat_lt page p) pages) are).1
 
 -- ---- images that stand, and what they bear
-
-pub images_stand_of : (stamp : Stamp) (at : Reader) (k : ℕ) (pages : List ℕ) (images : List (List ℕ)) → AreStamped stamp pages images → ((j : ℕ) → j < length pages → at (k + j) ≡ Some (get_or images j [])) → ImagesStand stamp at k pages images
-images_stand_of stamp at k [] [] stamped stand = tt
-images_stand_of stamp at k [] (image ∷ images) stamped stand = absurd stamped
-images_stand_of stamp at k (page ∷ pages) [] stamped stand = absurd stamped
-images_stand_of stamp at k (page ∷ pages) (image ∷ images) stamped stand =
-    let here : k + 0 ≡ k = omega arith in (
-      (ap at (sym here) ∙ stand 0 (omega arith), stamped.0),
-      images_stand_of stamp at (k + 1) pages images stamped.1 (λ j lt. let e : (k + 1) + j ≡ k + suc j = omega arith in ap at e ∙ stand (suc j) (omega arith)),
-    )
 
 pub rows_bear : (stamp : Stamp) (pages : List ℕ) (images : List (List ℕ)) (last : List ℕ) → AreStamped stamp pages images → borne_by last ≡ Some stamp → (k : ℕ) → k < length (images ++ last ∷ []) → borne_by (get_or (images ++ last ∷ []) k []) ≡ Some stamp
 rows_bear stamp [] [] last stamped bears zero lt = bears

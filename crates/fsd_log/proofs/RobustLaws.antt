@@ -138,10 +138,6 @@ module _ (p : ℕ) (small : p ≤ 2 ^ 32) (stamp : Stamp) (r : Logged) (is : IsR
 
 -- ---- the scan
 
-both_none : {A : Type 0} (b : Bool) → cond {A = Option A} b None None ≡ None
-both_none true = refl
-both_none false = refl
-
 cond_none : {A B C : Type 0} (b : Bool) (f : A → C) (g : B → C) (x : Option A) (y : Option B) → (x ≡ None → y ≡ None) → cond b (option_map f x) None ≡ None → cond b (option_map g y) None ≡ None
 cond_none false f g x y less none = refl
 cond_none true f g x y less none = ap (option_map g) (less (map_none f x none))

@@ -9,7 +9,7 @@ use Rattle.fsd_log.specs.Judged.{Reader, Logged}
 use Rattle.fsd_log.specs.Borne.{Foreign, FitsStamp, ReadsLess}
 use Rattle.fsd_log.proofs.JudgedLaws.{record_less, record_keeps, record_room}
 use Rattle.fsd_log.proofs.HereLaws.{here_looks, here_none, here_some}
-use Rattle.fsd_log.specs.Scan.{IsEnd, IsIn, Head, Placed, Walked, on, room_at, window, record_here, behind, next, walk}
+use Rattle.fsd_log.specs.Scan.{IsEnd, IsIn, Head, Placed, on, room_at, window, record_here, behind, next, walk}
 
 abbrev pub stamp_of : ℕ → ℕ → Stamp
 stamp_of epoch number = record { epoch = epoch; number = number }
@@ -155,9 +155,6 @@ goes_far l epoch disk h (r ∷ rs) end is_in goes =
 pub goes_more : (l : Shape) (epoch : ℕ) (disk : Reader) (h : Head) (rs : List Placed) (mid : Head) (r : Placed) (end : Head) → Goes l epoch disk h rs mid → IsFound l epoch disk mid r end → Goes l epoch disk h (rs ++ r ∷ []) end
 goes_more l epoch disk h [] mid r end goes is = (end, subst (λ (x : Head). IsFound l epoch disk x r end) goes is, refl)
 goes_more l epoch disk h (q ∷ rs) mid r end goes is = (goes.0, goes.1, goes_more l epoch disk goes.0 rs mid r end goes.2 is)
-
-stopped : Head → Walked
-stopped h = record { records = []; head = h }
 
 pub goes_of_walk : (most : ℕ) (l : Shape) (epoch : ℕ) (disk : Reader) (h : Head) → Goes l epoch disk h (walk most l epoch disk h).records (walk most l epoch disk h).head
 goes_of_walk zero l epoch disk h = refl

@@ -10,7 +10,7 @@ use Rattle.sector_disk.specs.declared.sector.Sector.{Sector}
 use Rattle.sector_disk.specs.declared.sector.Sector.TheVariants.{Whole}
 use Rattle.sector_disk.specs.Image.{sector_at, IsWorn}
 use Rattle.sector_disk.proofs.Wear.{worn_refl}
-use Rattle.fsd_log.specs.Scan.{Placed, Walked, IsLog, start, tape, newer_of}
+use Rattle.fsd_log.specs.Scan.{start, newer_of}
 use Rattle.fsd_files.specs.Disk.{Image, Sectors, SectorWorn, bytes_of}
 use Rattle.fsd_sound.specs.Anchors.{anchor_at, anchor_of, fresh_anchor}
 use Rattle.fsd_sound.specs.Laid.{IsLaid, HasOwnLog}
@@ -24,9 +24,6 @@ use Rattle.fsd_sound.specs.Begun.{IsHomed, IsBegun}
 use Rattle.fsd_sound.specs.Windows.{IsNarrow}
 
 module _ (l : Layout) (epoch : ℕ) (pages : List (List ℕ)) (i : Image) (is : IsBegun l epoch pages i) where
-  abbrev fresh : Anchor
-  fresh = fresh_anchor epoch
-
   homed : IsHomed l epoch pages i
   homed = is.homed
 

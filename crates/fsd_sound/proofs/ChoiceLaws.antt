@@ -67,10 +67,6 @@ module _ (l : Layout) (P : List (List ℕ) → Type 0) (first : ℕ) where
   last_among n = and_from _ _ (le-leb first (first + n) (omega arith)) (lt-ltb (first + n) (first + suc n) (omega arith))
 
   module _ (n : ℕ) (i : Image) where
-    -- with the last of the sectors damaged
-    abbrev hurt : Image
-    hurt = set i (first + n) Damaged
-
     at_last : sector_at (set i (first + n) Damaged) (first + n) ≡ Damaged
     at_last = elim (cases_lt (first + n) (length i)) [
       | inl lt ↦ get_or-set_same i (first + n) Damaged Damaged lt

@@ -149,14 +149,8 @@ pub record IsLastBy (l : Layout) (weak : Sectors) (c : Image) (b : Anchor) (q : 
   pub laid : IsLaid l b weak c (front ++ q ∷ [])
 
 module _ (l : Layout) (small : l.pages ≤ 2 ^ 32) (weak : Sectors) (apart : IsApart weak) (c : Image) (b : Anchor) (q : Placed) (by : IsLastBy l weak c b q) where
-  abbrev n : ℕ
-  n = length q.entry.pages
-
   abbrev P : ℕ
   P = place_of l b.third q.at
-
-  abbrev tc : Reader
-  tc = tape l b.third (bytes_at c)
 
   abbrev stamp : Stamp
   stamp = stamp_at b.epoch q.entry.number

@@ -99,9 +99,6 @@ module _ (l : Layout) (weak : Sectors) (i j k : Image) (same : SameFront l i j) 
     ];
   }
 
-  pub graft_size : length k ≡ length (graft l k i)
-  graft_size = omega (arith, worn.size, size, graft_worn.size)
-
 -- an image with the same front shows the same pages, whatever stands behind it
 pub front_shows : (l : Layout) (windows : List WeakRun) (choices : List (List (List ℕ))) (i j : Image) → map_start l ≤ l.sectors → SameFront l i j → length j ≡ length i → ShowsPages l windows choices i → ShowsPages l windows choices j
 front_shows l windows choices i j room same size shows =

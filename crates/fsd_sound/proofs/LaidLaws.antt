@@ -59,9 +59,6 @@ one_reads weak i bytes s t apart far (inr hurt) (inl is) = inr (ap bytes_of is)
 one_reads weak i bytes s t apart far (inr hurt) (inr worse) = absurd (apart s t far hurt.0 worse.0)
 
 module _ (l : Layout) (a : Anchor) (weak : Sectors) (apart : IsApart weak) (i : Image) where
-  abbrev on : Reader
-  on = tape l a.third (bytes_at i)
-
   -- a record that was laid whole reads so on the tape
   pub laid_reads : (r : Placed) → IsRecord l a.third r → 1 ≤ length r.entry.pages → HasFront l a weak i r → HasCopies l a weak i r → StandsOn a.epoch (tape l a.third (bytes_at i)) r
   laid_reads r is some front copies = record {

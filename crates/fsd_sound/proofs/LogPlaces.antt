@@ -1,5 +1,5 @@
 -- The records of a scan lie in the log's sectors, so nothing but those says what the scan finds.
-use Rattle.std.proofs.Common.{◌≡◌, inl, inr, ⊎_elim, ℕ, suc, ◌+◌, ◌-◌, ◌*◌, ◌<◌, ◌≤◌, Bool, List, [], ◌∷◌, ◌++◌, length, Option, Some, None, nat_lt, refl, sym, ap, subst, ◌∙◌, arith}
+use Rattle.std.proofs.Common.{◌≡◌, inl, inr, ⊎_elim, ℕ, suc, ◌+◌, ◌-◌, ◌*◌, ◌<◌, ◌≤◌, Bool, List, [], ◌∷◌, length, Option, Some, None, nat_lt, refl, sym, ap, subst, ◌∙◌, arith}
 use Rattle.std.specs.Prelude.{option_map}
 use Rattle.std.specs.List.{AllByRecursion}
 use Rattle.std.proofs.lemmas.Bool.{cases_lt, cond-true, cond-false, lt-ltb}
@@ -140,9 +140,6 @@ module _ (l : Layout) (a : Anchor) (weak : Sectors) (i j : Image) where
     within from n le k ge lt =
         let at : place_of l a.third r.at + (k - place_of l a.third r.at) ≡ k = omega arith in
         subst (λ (s : ℕ). sector_at j s ≡ sector_at i s) at (same (k - place_of l a.third r.at) (omega arith))
-
-    rows : List (List ℕ)
-    rows = r.entry.images ++ end_bytes (stamp_of l a weak i r) (length r.entry.pages) ∷ []
 
     pub front_same : HasFront l a weak i r → HasFront l a weak j r
     front_same front = record {

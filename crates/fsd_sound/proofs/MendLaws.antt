@@ -79,10 +79,6 @@ module _ (l : Layout) (windows : List WeakRun) (narrow : IsNarrow (weak_of windo
   s_not_t = elim at [ inl a ↦ λ e. omega (arith, a.0, a.1) | inr b ↦ λ e. omega (arith, b.0, b.1) ]
 
   module _ (i : Image) (worn : IsWorn (weak_of windows) c i) (there : sector_at i s ≡ sector_at c s) where
-    -- with the other home as it was
-    abbrev healed : Image
-    healed = with_sector i t bytes
-
     room_i : t < length i
     room_i = omega (arith, worn.size, room_t)
 
@@ -114,9 +110,6 @@ module _ (l : Layout) (windows : List WeakRun) (narrow : IsNarrow (weak_of windo
           | inl o ↦ homes y bytes (ap (sector_at (with_sector i t bytes)) (sym o.0) ∙ s_is) (ap (sector_at (with_sector i t bytes)) (sym o.1) ∙ t_is)
           | inr o ↦ sym (homes bytes y (ap (sector_at (with_sector i t bytes)) (sym o.1) ∙ t_is) (ap (sector_at (with_sector i t bytes)) (sym o.0) ∙ s_is))
         ]
-
-    abbrev new : Image
-    new = with_sector i s bytes
 
     room_s : s < length i
     room_s = omega (arith, worn.size, room)
@@ -198,9 +191,6 @@ module _ (l : Layout) (windows : List WeakRun) (narrow : IsNarrow (weak_of windo
 -- ---- a root
 
 module _ (l : Layout) (weak : Sectors) (i : Image) (s : ℕ) (at : (s ≡ 0) ⊎ (s ≡ 4)) (room : s < length i) where
-  abbrev rooted : Image
-  rooted = with_sector i s (root_bytes l)
-
   root_is : sector_at (with_sector i s (root_bytes l)) s ≡ Whole (root_bytes l)
   root_is = with_same i s (root_bytes l) room
 

@@ -30,7 +30,7 @@ use Rattle.fsd_files.proofs.WaitLaws.{version_stays, forced_is_spaced, let_go_fr
 use Rattle.fsd_sound.proofs.OpenLaws.{open_on, open_worn}
 use Rattle.fsd_sound.proofs.LogPlaces.{IsRecord, same_tape, front_same, copies_same, in_record, goes_records, scan_goes, start_in}
 use Rattle.fsd_sound.proofs.AlikeLaws.{each_same}
-use Rattle.fsd_sound.proofs.FrontLaws.{SameFront, log_front, front_log, front_shows, shown_same}
+use Rattle.fsd_sound.proofs.FrontLaws.{SameFront, log_front, front_log, front_shows}
 use Rattle.fsd_sound.proofs.SoundLaws.{sound_from_pages}
 
 -- ---- the log of its own
@@ -66,15 +66,6 @@ front_taken v s lt = by_test (nat_le (data_start v.layout) s) refl
     by_test : (b : Bool) → nat_le (data_start v.layout) s ≡ b → (b && nat_lt s v.layout.sectors && not (in_version v s) && not (waits v s)) ≡ false
     by_test true is = absurd (let ge : data_start v.layout ≤ s = leb-true (data_start v.layout) s is in omega (arith, lt, ge))
     by_test false is = refl
-
--- a version's sector is not free
-version_taken : (v : Volume) (s : ℕ) → IsTrue (in_version v s) → IsFalse (is_free v s)
-version_taken v s is = by_test (is_data v.layout s) (in_version v s) is
-  where
-    by_test : (a b : Bool) → IsTrue b → (a && not b && not (waits v s)) ≡ false
-    by_test true true h = refl
-    by_test false true h = refl
-    by_test a false h = absurd (cc h)
 
 -- nothing in front of the data area is let go
 front_stays : (v : Volume) → IsSpaced v → (s : ℕ) → s < data_start v.layout → IsFalse (is_let_go v s)
@@ -128,10 +119,6 @@ may_be_written m slices windows h f i j size same stands is =
 pub still_mounted : (m : Mounted) (windows : List WeakRun) (h : List Change) (f : ℕ) (i j : Image) → length j ≡ length i → SameTaken m.volume i j → IsMounted m windows h f i → IsMounted m windows h f j
 still_mounted m windows h f i j size same is =
     may_be_written m m.slices windows h f i j size (λ s stays. same s (let_go_free m.volume s stays)) (open_on (in_runs windows) i j m (λ s at. same s (open_taken m.volume s at)) is.open_ones) is
-
--- and the disk tells what it told
-pub still_told : (v : Volume) (i j : Image) → SameTaken v i j → told v.layout j ≡ told v.layout i
-still_told v i j same = ap (option_and_then told_in) (shown_same v.layout i j (λ s lt. same s (front_taken v s (omega (arith, lt)))))
 
 -- a serial that is drawn changes nothing else
 pub drawn_mounted : (m : Mounted) (windows : List WeakRun) (h : List Change) (f : ℕ) (i : Image) → IsMounted m windows h f i → IsMounted (record m { volume = drawn m.volume }) windows h f i
@@ -406,20 +393,3 @@ mounted_reach m windows h f i is =
 pub still_records : (m : Mounted) (windows : List WeakRun) (h : List Change) (f : ℕ) (i j : Image) (size : length j ≡ length i) (same : SameTaken m.volume i j) (is : IsMounted m windows h f i) → (still_mounted m windows h f i j size same is).records ≡ is.records
 unfolding still_mounted may_be_written
 still_records m windows h f i j size same is = refl
-
-pub change_records : (m n : Mounted) (windows : List WeakRun) (h : List Change) (f : ℕ) (i : Image) (c : Change) (is : IsMounted m windows h f i) (to : ChangesTo (h ++ c ∷ []) windows i m n) → (change_mounted m n windows h f i c is to).records ≡ is.records
-unfolding change_mounted
-change_records m n windows h f i c is to = refl
-
-pub fresh_records : (m : Mounted) (windows : List WeakRun) (h : List Change) (i : Image) (fresh : IsFresh h windows i m) → (fresh_mounted m windows h i fresh).records ≡ fresh.records
-unfolding fresh_mounted
-fresh_records m windows h i fresh = refl
-
-pub force_records : (m : Mounted) (windows : List WeakRun) (h : List Change) (f : ℕ) (i j : Image) (now : List (List ℕ)) (anchor : Anchor) (head : Head) (records : List Placed) (is : IsMounted m windows h f i) (same : SameData m.volume.layout (in_runs windows) i j)
-    (told : told_in now ≡ Some (telling_of m.volume)) (later : IsSameEpoch m.anchor anchor) (over : StandsOver m.volume.layout anchor head records now now [] windows j) → (force_mounted m windows h f i j now anchor head records is same told later over).records ≡ records
-unfolding force_mounted
-force_records m windows h f i j now anchor head records is same told later over = refl
-
-pub drawn_records : (m : Mounted) (windows : List WeakRun) (h : List Change) (f : ℕ) (i : Image) (is : IsMounted m windows h f i) → (drawn_mounted m windows h f i is).records ≡ is.records
-unfolding drawn_mounted
-drawn_records m windows h f i is = refl

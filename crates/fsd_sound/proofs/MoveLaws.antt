@@ -215,9 +215,6 @@ module _ (l : Layout) (old new : Anchor) (rs rest : List Placed) (pages : List (
       (all_in_range (λ page. newest l j (records_by l j new) page ≡ newest l i (records_by l i old) page) 0 l.pages (λ page le lt. newest_same page (omega arith)))
       ∙ may.shown
 
-  IsAlike : Anchor → Type 0
-  IsAlike a = (page : ℕ) → page < l.pages → last_image page (records_by l j a) ≡ None → (x y : List ℕ) → sector_at j (home_a l page) ≡ Whole x → sector_at j (home_b l page) ≡ Whole y → x ≡ y
-
   alike_old : (page : ℕ) → page < l.pages → last_image page (records_by l j old) ≡ None → (x y : List ℕ) → sector_at j (home_a l page) ≡ Whole x → sector_at j (home_b l page) ≡ Whole y → x ≡ y
   alike_old page lt none x y first second = may.alike page lt (ap (last_image page) (sym records_old) ∙ none) x y (sym (home_a_same page) ∙ first) (sym (home_b_same page) ∙ second)
 

@@ -39,12 +39,6 @@ either_same false x = refl
 
 module _ (l : Layout) (epoch : ℕ) (pages : List (List ℕ)) (c : Image) (homed : IsHomed l epoch pages c) (weak : Sectors) (narrow : IsNarrow weak) (choices : List (List (List ℕ))) (chosen : Contains choices pages)
     (s t : ℕ) (at : AreAnchorPlaces s t) (i : Image) (room : s < length i) (worn : IsWorn weak c i) (older : EachAnchor i (λ a. (a.epoch < epoch) ⊎ (a ≡ fresh_anchor epoch))) (stands : Stands l weak choices i) where
-  abbrev fresh : Anchor
-  fresh = fresh_anchor epoch
-
-  abbrev bytes : List ℕ
-  bytes = anchor_bytes (fresh_anchor epoch)
-
   abbrev j : Image
   j = with_sector i s (anchor_bytes (fresh_anchor epoch))
 

@@ -1,6 +1,6 @@
 -- What is sound stays so however its weak run wears; and what shows pages that tell the changes is sound.
-use Rattle.std.proofs.Common.{◌≡◌, ◌⊎◌, ℕ, ◌<◌, ◌≤◌, Bool, List, [], ◌∷◌, length, take, Option, Some, None, refl, sym, ap, subst, ◌∙◌, inl, inr, arith}
-use Rattle.std.specs.Prelude.{IsTrue, IfSome, slice_index_or, option_and_then, Contains}
+use Rattle.std.proofs.Common.{◌≡◌, ◌⊎◌, ℕ, ◌≤◌, Bool, List, [], ◌∷◌, take, Option, Some, None, refl, sym, ap, subst, ◌∙◌, inl, inr, arith}
+use Rattle.std.specs.Prelude.{IsTrue, IfSome, option_and_then, Contains}
 use Rattle.std.specs.List.{list_any, last_or}
 use Rattle.std.proofs.lemmas.Bool.{or_left, or_right}
 use Rattle.volume_layout.specs.declared.layout.Layout.{Layout}
@@ -149,9 +149,6 @@ tells_still : (l : Layout) (weak hurt : Sectors) (i j : Image) (h : List Change)
 tells_still l weak hurt i j h f None within w t = t
 tells_still l weak hurt i j h f (Some x) within w t =
     (t.0, t.1, record { lists = t.2.lists; apart = t.2.apart; kept = kept_still weak hurt i j (after (take t.0 h)) x.entries within w t.2.kept })
-
-one_of : {A : Type 0} (P : A → Type 0) (xs : List A) (x : A) → Contains xs x → ((k : ℕ) → k < length xs → P (slice_index_or xs k x)) → P x
-one_of P xs x c each = subst P c.2 (each c.0 c.1)
 
 shown_tells : (l : Layout) (hurt : Sectors) (j : Image) (h : List Change) (f : ℕ) (choices : List (List (List ℕ))) (o : Option (List (List ℕ)))
     → ShowsOne choices o → ((pages : List (List ℕ)) → Contains choices pages → PagesTell l hurt j h f pages) → Tells l hurt j h f (option_and_then told_in o)

@@ -1,7 +1,6 @@
 -- Records as they were laid: which stay, and how a new one stands behind them.
 use Rattle.std.proofs.Common.{◌≡◌, ℕ, zero, suc, ◌+◌, ◌<◌, List, [], ◌∷◌, ◌++◌, length, get_or, refl, sym, ap, subst, ◌∙◌, arith, inl, inr}
 use Rattle.std.specs.Prelude.{IsTrue}
-use Rattle.std.specs.List.{AllByRecursion}
 use Rattle.std.proofs.lemmas.List.{length_push}
 use Rattle.volume_layout.specs.declared.layout.Layout.{Layout}
 use Rattle.fsd_formats.specs.declared.anchor.Anchor.{Anchor}
@@ -74,29 +73,7 @@ module _ (l : Layout) (a : Anchor) (weak : Sectors) where
     is_laid_more (q ∷ []) r all last = (all.0.0, all.0.1, last)
     is_laid_more (q ∷ p ∷ rs) r all last = (all.0.0, all.0.1, is_laid_more (p ∷ rs) r all.1 last)
 
-    module _ (strong : (s : ℕ) → IsTrue (weak s) → ⊥) where
-      whole_is : (bytes image : List ℕ) (s : ℕ) → Has weak i image s → sector_at i s ≡ Whole bytes → bytes ≡ image
-      whole_is bytes image s (inl whole) is = let e : Whole bytes ≡ Whole image = sym is ∙ whole in cc
-      whole_is bytes image s (inr hurt) is = absurd (strong s hurt.0)
-
-      good_copies : (stamp : Stamp) (s : ℕ) (pages : List ℕ) (images : List (List ℕ)) (last : List ℕ) → length images ≡ length pages → AllStand l a weak i s (images ++ last ∷ []) → GoodCopies l a weak i stamp s pages images
-      good_copies stamp s [] images last many all = tt
-      good_copies stamp s (page ∷ pages) [] last many all = absurd (omega (arith, many))
-      good_copies stamp s (page ∷ pages) (image ∷ images) last many all = ((λ bytes is bears. whole_is bytes image s all.0 is), good_copies stamp (s + 1) pages images last (omega (arith, many)) all.1)
-
-      pub is_laid : (rs : List Placed) → AllByRecursion (λ r. length r.entry.images ≡ length r.entry.pages) rs → AllLaid l a weak i rs → IsLaid l a weak i rs
-      is_laid [] many all = tt
-      is_laid (r ∷ []) many all = (all.0.0, good_copies (stamp_of l a weak i r) (begin l a weak i r + (4 + length r.entry.pages)) r.entry.pages r.entry.images (end_bytes (stamp_of l a weak i r) (length r.entry.pages)) many.0 all.0.1)
-      is_laid (r ∷ q ∷ rs) many all = (all.0.0, all.0.1, is_laid (q ∷ rs) many.1 all.1)
-
     -- ---- rows that stand
-
-    pub rows_stand : (s : ℕ) (xs : List (List ℕ)) → ((k : ℕ) → k < length xs → sector_at i (s + k) ≡ Whole (get_or xs k [])) → AllStand l a weak i s xs
-    rows_stand s [] each = tt
-    rows_stand s (x ∷ xs) each = (
-      inl (subst (λ (t : ℕ). sector_at i t ≡ Whole x) (let e : s + 0 ≡ s = omega arith in e) (each 0 (omega arith))),
-      rows_stand (s + 1) xs (λ k lt. subst (λ (t : ℕ). sector_at i t ≡ Whole (get_or xs k [])) (let e : s + suc k ≡ s + 1 + k = omega arith in e) (each (suc k) (omega arith))),
-    )
 
     pub good_rows : (stamp : Stamp) (s : ℕ) (pages : List ℕ) (xs : List (List ℕ)) → length xs ≡ length pages
         → ((k : ℕ) → k < length pages → (bytes : List ℕ) → sector_at i (s + k) ≡ Whole bytes → IsTrue (bears (get_or pages k 0) stamp bytes) → bytes ≡ get_or xs k []) → GoodCopies l a weak i stamp s pages xs

@@ -34,6 +34,9 @@ module _ (c : CacheValue) (cache : IsCache c) (xs : List ℕ) (are : xs ≡ asce
   pub is_dirty : (p : ℕ) → contains xs p ≡ true → is_one_of c.dirty p ≡ true
   is_dirty p is = sym (one_ascending c.dirty p) ∙ subst (λ (ys : List ℕ). contains ys p ≡ true) are is
 
+  pub is_waiting : (p : ℕ) → is_one_of c.dirty p ≡ true → contains xs p ≡ true
+  is_waiting p is = subst (λ (ys : List ℕ). contains ys p ≡ true) (sym are) (one_ascending c.dirty p ∙ is)
+
   pub all_stamped : (stamp : Stamp) → stamped_frames stamp xs c ≡ stamped_frames stamp c.dirty c
   all_stamped stamp = stamped_same stamp xs c.dirty c (λ p. ap (λ (ys : List ℕ). is_one_of ys p) are ∙ one_ascending c.dirty p)
 

@@ -1,12 +1,9 @@
 -- What a force makes of a disk where no page waits.
-use Rattle.std.proofs.Common.{◌≡◌, ℕ, false, List, [], ◌∷◌, get_or, Option, Some, None, refl, sym, ap, subst, ◌∙◌, arith, inl}
+use Rattle.std.proofs.Common.{◌≡◌, ℕ, List, [], ◌∷◌, get_or, Option, Some, None, refl, sym, ap, subst, ◌∙◌, arith, inl}
 use Rattle.std.proofs.lemmas.List.{ext_get_or}
 use Rattle.sector_disk.specs.declared.sector.WeakRun.{WeakRun}
-use Rattle.sector_disk.specs.Image.{open_damage, IsCalm}
 use Rattle.sector_disk.specs.Machine.{Moment}
-use Rattle.sector_disk.proofs.Calm.{calm_nowhere}
 use Rattle.fsd_log.specs.Scan.{Placed}
-use Rattle.fsd_log.proofs.BorneLaws.{false_of}
 use Rattle.fsd_files.specs.Disk.{Image}
 use Rattle.fsd_sound.specs.Shown.{shown}
 use Rattle.fsd_sound.specs.Sound.{ShowsOne, ShowsPages}
@@ -14,11 +11,6 @@ use Rattle.log_thirds.specs.LogValue.{LogValue}
 use Rattle.fsd_sound.specs.Mounted.{AgreeOutside}
 use Rattle.group_commit.specs.Resident.{ResidentValue}
 use Rattle.group_commit.specs.Force.{StandsOver, Commits, Committed}
-
-pub calm_moment : (at : Moment) → IsCalm at.windows → (t : ℕ) → open_damage at.windows t ≡ false
-calm_moment at calm t = false_of (open_damage at.windows t) (λ h. calm_nowhere at.windows.present at.windows.next t calm.present calm.next h)
-
--- ---- where no page waits
 
 agree_same : (x y : List (List ℕ)) → AgreeOutside [] x y → x ≡ y
 agree_same x y agree = ext_get_or [] x y agree.size (λ k lt. agree.each k refl)

@@ -23,7 +23,7 @@ use Rattle.fsd_sound.specs.Anchors.{anchor_at, anchor_of, EachAnchor}
 use Rattle.fsd_sound.specs.Homes.{home_of}
 use Rattle.fsd_sound.specs.Laid.{HasOwnLog, AllStand, HasFront, HasCopies, AllLaid}
 use Rattle.fsd_sound.specs.Mounted.{StandsOver, image_at}
-use Rattle.fsd_sound.specs.Shown.{records_by, newest}
+use Rattle.fsd_sound.specs.Shown.{records_by}
 use Rattle.fsd_sound.specs.Sound.{on_disk, IsSuffix, EachStamp, ShowsPages, weak_of}
 use Rattle.fsd_sound.proofs.LogPlaces.{IsRecord, SameLog, scan_records}
 use Rattle.fsd_sound.proofs.SoundLaws.{shows_still, each_anchor_after}
@@ -47,6 +47,7 @@ use Rattle.fsd_sound.proofs.MoveLaws.{IsLater, IsHomedIn, MayMoveOn, anchor_foun
 use Rattle.group_commit.specs.Entering.{Shows, IsHoming, IsEntered, MayHome}
 use Rattle.group_commit.proofs.ForceLaws.{is_laid}
 use Rattle.group_commit.proofs.HomingLaws.{over_two, all_laid_same, narrow, weaker, own_later, shows_now}
+use Rattle.group_commit.proofs.ShownLaws.{or_assoc, or_nothing}
 use Rattle.group_commit.proofs.StandsLaws.{is_shown, page_shown}
 
 -- ---- what is so of each anchor is so of the one that is taken
@@ -66,14 +67,6 @@ of_newer P (Some b) (Some c) one two x e = by_test (is_newer c b) e
 last_back : (t page : ℕ) (rs : List Placed) → last_image page (map (back t) rs) ≡ last_image page rs
 last_back t page [] = refl
 last_back t page (r ∷ rs) = ap (λ (o : Option (List ℕ)). option_or o (image_in page r.entry.pages r.entry.images)) (last_back t page rs)
-
-or_assoc : (a b c : Option (List ℕ)) → option_or (option_or a b) c ≡ option_or a (option_or b c)
-or_assoc None b c = refl
-or_assoc (Some x) b c = refl
-
-or_nothing : (a : Option (List ℕ)) → a ≡ option_or a None
-or_nothing None = refl
-or_nothing (Some x) = refl
 
 last_joined : (page : ℕ) (front rs : List Placed) → last_image page (front ++ rs) ≡ option_or (last_image page rs) (last_image page front)
 last_joined page [] rs = or_nothing (last_image page rs)
@@ -113,17 +106,8 @@ module _ (log : LogValue) (records : List Placed) (disk : List (List ℕ)) (wind
   abbrev l : Layout
   l = log.layout
 
-  abbrev new : Anchor
-  new = moved_anchor log
-
-  abbrev bytes : List ℕ
-  bytes = anchor_bytes (moved_anchor log)
-
   abbrev weak : Sectors
   weak = weak_of windows
-
-  abbrev behind_first : List Placed
-  behind_first = records_moved log.layout records
 
   moves : MayMove log
   moves = record { some = omega (arith, may.shape.least); third = may.shape.third; epoch = may.shape.epoch; number = may.shape.number; ends = ends }

@@ -1,10 +1,9 @@
 -- What a force makes of a disk that shows some pages, whatever its narrow run wears.
-use Rattle.std.proofs.Common.{◌≡◌, ◌⊎◌, ⊎_elim, ℕ, suc, ◌+◌, ◌-◌, ◌*◌, ◌^◌, ◌<◌, ◌≤◌, Bool, true, false, cond, ◌&&◌, ◌||◌, List, [], ◌∷◌, ◌++◌, length, get_or, map, Option, Some, None, nat_le, nat_lt, refl, sym, ap, subst, ◌∙◌, arith, inl, inr}
+use Rattle.std.proofs.Common.{◌≡◌, ◌⊎◌, ⊎_elim, ℕ, suc, ◌+◌, ◌-◌, ◌*◌, ◌^◌, ◌<◌, ◌≤◌, Bool, true, false, cond, ◌&&◌, List, [], ◌∷◌, ◌++◌, length, get_or, map, Option, Some, None, nat_le, nat_lt, refl, sym, ap, subst, ◌∙◌, arith, eqb-true, inl, inr}
 use Rattle.std.specs.Prelude.{◌==◌, IsTrue, IfSome, IsSome, option_and_then}
 use Rattle.std.specs.List.{AllByRecursion, list_any}
 use Rattle.std.specs.Option.{option_or}
-use Rattle.std.proofs.lemmas.Bool.{and_parts, leb-true, cases_lt}
-use Rattle.std.proofs.lemmas.Bool.Decides.{nat_tests}
+use Rattle.std.proofs.lemmas.Bool.{and_parts, leb-true, cases_lt, or_cases}
 use Rattle.std.proofs.lemmas.List.{get_or_append_left, get_or_push, length_push}
 use Rattle.volume_layout.specs.declared.layout.Layout.{Layout}
 use Rattle.volume_layout.specs.Layout.{home_a, home_b, InLog}
@@ -36,7 +35,6 @@ use Rattle.fsd_sound.proofs.SoundLaws.{shows_still}
 use Rattle.fsd_sound.proofs.WindowLaws.{open_is_weak}
 use Rattle.fsd_sound.specs.Stands.{Stands}
 use Rattle.fsd_sound.specs.Windows.{IsApart}
-use Rattle.group_commit.specs.Forces.{MayForce}
 use Rattle.fsd_sound.proofs.CommuteLaws.{all_shows}
 use Rattle.fsd_sound.proofs.LaidLaws.{own_worn}
 use Rattle.log_thirds.specs.LogValue.{LogValue}
@@ -75,22 +73,15 @@ scans_agree l i a (Some b) (Some c) own own2 = λ same.
 
 -- ---- twins lie outside the log
 
-or_cases : (x y : Bool) → (x || y) ≡ true → (x ≡ true) ⊎ (y ≡ true)
-or_cases true y e = inl refl
-or_cases false y e = inr e
-
-same_of : (a b : ℕ) → (a == b) ≡ true → a ≡ b
-same_of a b e = grind (arith, nat_tests)
-
 head_below : (s : ℕ) → list_any (λ t. t == s) (0 ∷ 4 ∷ 8 ∷ 12 ∷ []) ≡ true → s < 16
 head_below s h = elim (or_cases (0 == s) (list_any (λ t. t == s) (4 ∷ 8 ∷ 12 ∷ [])) h) [
-  | inl at ↦ omega (arith, same_of 0 s at)
+  | inl at ↦ omega (arith, eqb-true 0 s at)
   | inr h4 ↦ elim (or_cases (4 == s) (list_any (λ t. t == s) (8 ∷ 12 ∷ [])) h4) [
-    | inl at ↦ omega (arith, same_of 4 s at)
+    | inl at ↦ omega (arith, eqb-true 4 s at)
     | inr h8 ↦ elim (or_cases (8 == s) (list_any (λ t. t == s) (12 ∷ [])) h8) [
-      | inl at ↦ omega (arith, same_of 8 s at)
+      | inl at ↦ omega (arith, eqb-true 8 s at)
       | inr h12 ↦ elim (or_cases (12 == s) false h12) [
-        | inl at ↦ omega (arith, same_of 12 s at)
+        | inl at ↦ omega (arith, eqb-true 12 s at)
         | inr none ↦ absurd cc
       ]
     ]
@@ -106,9 +97,8 @@ twin_outside l s is = elim (or_cases (list_any (λ t. t == s) (0 ∷ 4 ∷ 8 ∷
   ])
 ]
 
--- ---- what the force knows
-
-pub record MayForceHere (log : LogValue) (s : ResidentValue) (images : List ℕ) (records : List Placed) (disk : List (List ℕ)) (windows : List WeakRun) (old : Moment) : Type 0 where
+-- The log may take this record of the pages that wait, and the weak run is narrow.
+pub record MayForce (log : LogValue) (s : ResidentValue) (images : List ℕ) (records : List Placed) (disk : List (List ℕ)) (windows : List WeakRun) (old : Moment) : Type 0 where
   pub may : MayAppend log s.dirty images (length old.image)
   pub of : IsRecordOf (stamp_now log) s.dirty (stamped (stamp_now log) s.dirty s.pages) images
   pub table : length s.pages ≡ log.layout.pages
@@ -116,29 +106,6 @@ pub record MayForceHere (log : LogValue) (s : ResidentValue) (images : List ℕ)
   pub apart : IsApart (weak_of windows)
   pub ends : EndIn old.windows windows
   pub over : StandsOver log records disk s windows old.image
-
-pub force_here : (log : LogValue) (s : ResidentValue) (images : List ℕ) (records : List Placed) (disk : List (List ℕ)) (windows : List WeakRun) (old : Moment) → MayForce log s images records disk windows old → MayForceHere log s images records disk windows old
-force_here log s images records disk windows old m = record {
-  may = record {
-    least = m.shape.least;
-    one_of = m.shape.third;
-    is_in = m.shape.is_in;
-    epoch = m.shape.epoch;
-    number = m.number;
-    accepted = m.accepted;
-    small = m.small;
-    bytes = m.bytes;
-    stamped = m.bear;
-    room = m.room;
-    sized = omega (arith, m.shape.inside, m.sized);
-  };
-  of = record { slices_are = m.slices_are; bear = m.bear };
-  table = m.table;
-  few = m.few;
-  apart = m.apart;
-  ends = m.ends;
-  over = m.over;
-}
 
 -- ---- rows that stand, but for wear
 
@@ -171,7 +138,7 @@ pub log_in_window : (log : LogValue) (s : ResidentValue) (records : List Placed)
 log_in_window log s records disk windows old few epoch third apart ends over = λ j w.
     (own_worn log.layout few log.anchor epoch third (weak_of windows) apart old.image j (open_is_weak old.windows windows old.image j ends w) records log.head over.own).log
 
-module _ (log : LogValue) (s : ResidentValue) (images : List ℕ) (records : List Placed) (disk : List (List ℕ)) (windows : List WeakRun) (old : Moment) (m : MayForceHere log s images records disk windows old) where
+module _ (log : LogValue) (s : ResidentValue) (images : List ℕ) (records : List Placed) (disk : List (List ℕ)) (windows : List WeakRun) (old : Moment) (m : MayForce log s images records disk windows old) where
   abbrev l : Layout
   l = log.layout
 
@@ -473,7 +440,7 @@ module _ (log : LogValue) (s : ResidentValue) (images : List ℕ) (records : Lis
 
         by_dirty : (b : Bool) → contains s.dirty k ≡ b → option_or (option_or (image_in k s.dirty (map (image_at now) s.dirty)) (last_image k records)) (home_of l i k) ≡ Some (image_at now k)
         by_dirty true is =
-            ap (λ (o : Option (List ℕ)). option_or (option_or o (last_image k records)) (home_of l i k)) (image_in_at (image_at now) s.dirty k (λ q e. ap (image_at now) (same_of q k e)) is)
+            ap (λ (o : Option (List ℕ)). option_or (option_or o (last_image k records)) (home_of l i k)) (image_in_at (image_at now) s.dirty k (λ q e. ap (image_at now) (eqb-true q k e)) is)
         by_dirty false is =
             ap (λ (o : Option (List ℕ)). option_or (option_or o (last_image k records)) (home_of l i k)) (image_in_not (image_at now) s.dirty k is)
             ∙ ap (option_or (last_image k records)) (home_same k)

@@ -1,19 +1,21 @@
 -- The images of frames that are stamped are those of a record.
-use Rattle.std.proofs.Common.{◌≡◌, ◌⊎◌, inl, inr, ℕ, ◌+◌, ◌<◌, ◌≤◌, true, List, ◌++◌, length, map, take, drop, get_or, Option, Some, IfSome, sym, ap, subst, ◌∙◌, arith}
+use Rattle.std.proofs.Common.{◌≡◌, ◌⊎◌, inl, inr, ℕ, ◌+◌, ◌<◌, ◌≤◌, true, List, [], ◌++◌, length, map, take, drop, get_or, Option, Some, IfSome, sym, ap, subst, ◌∙◌, arith}
 use Rattle.std.specs.List.{flat_map}
 use Rattle.std.proofs.lemmas.Bool.{cases_lt}
-use Rattle.std.proofs.lemmas.List.{length-append, length-drop, length-take-le, take_all}
+use Rattle.std.proofs.lemmas.List.{get_or-map, length-append, length-drop, length-take-le, take_all}
 use Rattle.run_table.specs.Space.{contains}
 use Rattle.fsd_formats.specs.Record.{Stamp, AreStamped, are_pages, bears, stamp_bytes}
 use Rattle.fsd_log.specs.Borne.{FitsStamp}
+use Rattle.fsd_log.specs.Judged.{slice_of}
 use Rattle.fsd_log.specs.Laid.{slices}
 use Rattle.fsd_sound.specs.Mounted.{image_at}
 use Rattle.page_cache.specs.Cache.{CacheValue, IsResident, bytes_of}
 use Rattle.group_commit.specs.Cached.{frame_bytes, stamped_frames}
 use Rattle.group_commit.specs.Resident.{IsImageOf, stamped, with_stamp}
-use Rattle.group_commit.proofs.FrameLaws.{bytes_then, frame_is}
+use Rattle.group_commit.proofs.AllLaidLaws.{slice_at}
+use Rattle.group_commit.proofs.FrameLaws.{bytes_then, frame_is, there_then}
 use Rattle.group_commit.proofs.ImageLaws.{are_stamped, bears-with_stamp, below_at, map_same, pages_of, slices_laid, stamped_at}
-use Rattle.group_commit.proofs.OrderLaws.{contained_index}
+use Rattle.group_commit.proofs.OrderLaws.{contained_index, index_contained}
 
 -- a sector that is stamped was one before
 sector_before : (stamp : Stamp) (bytes : List ℕ) → length (with_stamp stamp bytes) ≡ 512 → length bytes ≡ 512
@@ -49,6 +51,14 @@ module _ (stamp read : Stamp) (fits : FitsStamp read) (same : read ≡ stamp) (c
 
   pub record_stamped : AreStamped stamp xs (slices (length xs) images)
   record_stamped = subst (λ (t : Stamp). AreStamped t xs (slices (length xs) images)) same (subst (AreStamped read xs) (sym slices_are) (are_stamped (frame_bytes d) read xs bear_is))
+
+  pub record_frames : (k : ℕ) → k < length xs → bytes_of d (get_or xs k 0) ≡ Some (slice_of images k)
+  record_frames k lt =
+      let page : ℕ = get_or xs k 0 in
+      let inside : IsResident d page = subst (λ (v : CacheValue). IsResident v page) (sym made) (there_then read xs c page (there page (index_contained xs k lt))) in
+      let same : frame_bytes d page ≡ slice_of images k =
+      sym (get_or-map (frame_bytes d) xs k 0 [] lt) ∙ ap (λ (ys : List (List ℕ)). get_or ys k []) (sym slices_are) ∙ slice_at (length xs) images k lt in
+      frame_is d page inside ∙ ap (λ (b : List ℕ). Some b) same
 
   module _ (pages : List (List ℕ)) (table : length pages ≡ count) (agrees : (p : ℕ) (bytes : List ℕ) → bytes_of c p ≡ Some bytes → image_at pages p ≡ bytes) where
     page_is : (p : ℕ) → contains xs p ≡ true → frame_bytes d p ≡ image_at (stamped read xs pages) p

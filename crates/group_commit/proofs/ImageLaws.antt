@@ -1,9 +1,9 @@
 -- The images of pages that are stamped.
-use Rattle.std.proofs.Common.{◌≡◌, ◌≢◌, ◌⊎◌, ℕ, suc, ◌*◌, ◌<◌, ◌≤◌, Bool, true, false, ◌&&◌, ◌||◌, nat_lt, List, [], ◌∷◌, ◌++◌, length, take, drop, set, map, refl, sym, ap, subst, ◌∙◌, append_assoc, eq-eqb, arith, inl, inr}
+use Rattle.std.proofs.Common.{◌≡◌, ◌≢◌, ◌⊎◌, ℕ, suc, ◌*◌, ◌<◌, ◌≤◌, Bool, true, false, ◌&&◌, ◌||◌, nat_lt, List, [], ◌∷◌, ◌++◌, length, take, drop, set, map, refl, sym, ap, subst, ◌∙◌, append_assoc, eq-eqb, eqb-true, arith, inl, inr}
 use Rattle.std.specs.Prelude.{codes, ◌==◌}
 use Rattle.std.specs.Int.{w32, from_be_bytes}
 use Rattle.std.specs.List.{AllByRecursion, flat_map, list_all}
-use Rattle.std.proofs.lemmas.Bool.{and_parts, and_from, ltb-true, cases_eq}
+use Rattle.std.proofs.lemmas.Bool.{and_parts, and_from, ltb-true, cases_eq, or_cases, or_parts, or_right}
 use Rattle.std.proofs.lemmas.Bool.Decides.{nat_tests}
 use Rattle.std.proofs.lemmas.Nat.{from_be_bytes-to_be_bytes_4}
 use Rattle.std.proofs.lemmas.List.{drop_at, drop-drop, take-take, drop-take, take-append-le, drop-append-le, length-append, length-drop, length-take-le, length-set, get_or-set_same, get_or-set_other}
@@ -17,24 +17,9 @@ use Rattle.fsd_log.specs.Borne.{FitsStamp}
 use Rattle.fsd_log.specs.Laid.{slices, slices_from}
 use Rattle.fsd_log.proofs.LaidLaws.{slice_behind, slice_whole}
 use Rattle.fsd_sound.specs.Mounted.{image_at}
-use Rattle.group_commit.specs.Resident.{ResidentValue, IsImageOf, AreImages, with_stamp, stamped, laid_images}
+use Rattle.group_commit.specs.Resident.{IsImageOf, with_stamp, stamped}
 
 -- ---- lists of pages
-
-or_false : (a b : Bool) → (a || b) ≡ false → (a ≡ false) × (b ≡ false)
-or_false true b e = absurd cc
-or_false false b e = (refl, e)
-
-or_right : (a b : Bool) → b ≡ true → (a || b) ≡ true
-or_right true b e = refl
-or_right false b e = e
-
-or_cases : (a b : Bool) → (a || b) ≡ true → (a ≡ true) ⊎ (b ≡ true)
-or_cases true b e = inl refl
-or_cases false b e = inr e
-
-same_of : (a b : ℕ) → (a == b) ≡ true → a ≡ b
-same_of a b e = grind (arith, nat_tests)
 
 differ_of : (a b : ℕ) → (a == b) ≡ false → b ≢ a
 differ_of a b e same = absurd (let t : (a == b) ≡ true = eq-eqb a b (sym same) in cc)
@@ -51,7 +36,7 @@ contains_more x xs p is = or_right (x == p) (contains xs p) is
 pub all_at : (P : ℕ → Type 0) (xs : List ℕ) → AllByRecursion P xs → (p : ℕ) → contains xs p ≡ true → P p
 all_at P [] all p is = absurd cc
 all_at P (x ∷ xs) all p is = elim (or_cases (x == p) (contains xs p) is) [
-  | inl here ↦ subst P (same_of x p here) all.0
+  | inl here ↦ subst P (eqb-true x p here) all.0
   | inr more ↦ all_at P xs all.1 p more
 ]
 
@@ -60,7 +45,7 @@ below_at n [] all p is = absurd cc
 below_at n (x ∷ xs) all p is =
     let parts = and_parts (nat_lt x n) (list_all (λ page. nat_lt page n) xs) all in
     elim (or_cases (x == p) (contains xs p) is) [
-      | inl here ↦ subst (λ (q : ℕ). q < n) (same_of x p here) (ltb-true x n parts.0)
+      | inl here ↦ subst (λ (q : ℕ). q < n) (eqb-true x p here) (ltb-true x n parts.0)
       | inr more ↦ below_at n xs parts.1 p more
     ]
 
@@ -95,7 +80,7 @@ module _ (stamp : Stamp) where
   pub stamped_other : (xs : List ℕ) (pages : List (List ℕ)) (p : ℕ) → contains xs p ≡ false → image_at (stamped stamp xs pages) p ≡ image_at pages p
   stamped_other [] pages p out = refl
   stamped_other (x ∷ xs) pages p out =
-      let parts = or_false (x == p) (contains xs p) out in
+      let parts = or_parts (x == p) (contains xs p) out in
       stamped_other xs (set pages x (with_stamp stamp (image_at pages x))) p parts.1
       ∙ get_or-set_other pages x p (with_stamp stamp (image_at pages x)) [] (differ_of x p parts.0)
 
@@ -105,7 +90,7 @@ module _ (stamp : Stamp) where
       by_first (λ rest. stamped_at xs (set pages x (with_stamp stamp (image_at pages x))) p (ascending_tail x xs asc) rest (omega (arith, length-set pages x (with_stamp stamp (image_at pages x))))) (cases_eq p x)
     where
       in_rest : (x ≢ p) → ((x == p) ≡ true) ⊎ (contains xs p ≡ true) → contains xs p ≡ true
-      in_rest other (inl here) = absurd (other (same_of x p here))
+      in_rest other (inl here) = absurd (other (eqb-true x p here))
       in_rest other (inr more) = more
 
       by_first : (contains xs p ≡ true → image_at (stamped stamp xs (set pages x (with_stamp stamp (image_at pages x)))) p ≡ with_stamp stamp (image_at (set pages x (with_stamp stamp (image_at pages x))) p))
@@ -163,9 +148,6 @@ module _ (stamp : Stamp) (fits : FitsStamp stamp) (page : ℕ) (bytes : List ℕ
       (and_from (same_bytes (take 4 new) (codes "CNPG")) (u32_at 12 new == page) magic number)
       (and_from (u32_at 16 new == stamp.epoch) (u32_at 20 new == stamp.number) epoch count)
 
-  pub long-with_stamp : length (with_stamp stamp bytes) ≡ 512
-  long-with_stamp = omega (arith, long, front_long, length-append (take 16 bytes) (stamp_bytes stamp ++ drop 24 bytes), length-append (stamp_bytes stamp) (drop 24 bytes), length-drop 24 bytes)
-
 -- ---- the images of a record
 
 module _ (f : ℕ → List ℕ) where
@@ -196,35 +178,3 @@ module _ (f : ℕ → List ℕ) where
 pub record IsRecordOf (stamp : Stamp) (dirty : List ℕ) (pages : List (List ℕ)) (images : List ℕ) : Type 0 where
   pub slices_are : slices (length dirty) images ≡ map (image_at pages) dirty
   pub bear : AreStamped stamp dirty (slices (length dirty) images)
-
-module _ (stamp : Stamp) (fits : FitsStamp stamp) (s : ResidentValue) (are : are_pages (length s.pages) s.dirty ≡ true) (images_are : AreImages s) (long : (k : ℕ) → k < length s.pages → length (image_at s.pages k) ≡ 512) where
-  module _ (p : ℕ) (is : contains s.dirty p ≡ true) where
-    inside : p < length s.pages
-    inside = below_at (length s.pages) s.dirty (pages_of (length s.pages) s.dirty are).below p is
-
-    pub now_is : image_at (stamped stamp s.dirty s.pages) p ≡ with_stamp stamp (image_at s.pages p)
-    now_is = stamped_at stamp s.dirty s.pages p (pages_of (length s.pages) s.dirty are).ascends is inside
-
-    now_long : length (image_at (stamped stamp s.dirty s.pages) p) ≡ 512
-    now_long = ap length now_is ∙ long-with_stamp stamp fits p (image_at s.pages p) (long p inside)
-
-    now_bears : bears p stamp (image_at (stamped stamp s.dirty s.pages) p) ≡ true
-    now_bears = ap (bears p stamp) now_is ∙ bears-with_stamp stamp fits p (image_at s.pages p) (long p inside) (all_at (λ q. IsImageOf q (image_at s.pages q)) s.dirty images_are p is)
-
-  pub record_of : IsRecordOf stamp s.dirty (stamped stamp s.dirty s.pages) (laid_images (stamped stamp s.dirty s.pages) s.dirty)
-  record_of =
-      let now = stamped stamp s.dirty s.pages in
-      let slices_are : slices (length s.dirty) (laid_images (stamped stamp s.dirty s.pages) s.dirty) ≡ map (image_at (stamped stamp s.dirty s.pages)) s.dirty =
-      slices_laid (image_at (stamped stamp s.dirty s.pages)) s.dirty (λ p is. now_long p is) in
-      record {
-        slices_are = slices_are;
-        bear = subst (AreStamped stamp s.dirty) (sym slices_are) (are_stamped (image_at (stamped stamp s.dirty s.pages)) stamp s.dirty (λ p is. now_bears p is));
-      }
-
--- the same, of what the code has read and made
-pub record_laid : (stamp read : Stamp) (fits : FitsStamp read) (same : read ≡ stamp) (s : ResidentValue) (are : are_pages (length s.pages) s.dirty ≡ true) (images_are : AreImages s) (long : (k : ℕ) → k < length s.pages → length (image_at s.pages k) ≡ 512)
-    (pages : List (List ℕ)) (images : List ℕ) → pages ≡ stamped read s.dirty s.pages → images ≡ laid_images pages s.dirty → IsRecordOf stamp s.dirty (stamped stamp s.dirty s.pages) images
-record_laid stamp read fits same s are images_are long pages images made laid =
-    let images_is : laid_images (stamped read s.dirty s.pages) s.dirty ≡ images = ap (λ (p : List (List ℕ)). laid_images p s.dirty) (sym made) ∙ sym laid in
-    subst (λ (t : Stamp). IsRecordOf t s.dirty (stamped t s.dirty s.pages) images) same
-    (subst (IsRecordOf read s.dirty (stamped read s.dirty s.pages)) images_is (record_of read fits s are images_are long))

@@ -10,8 +10,10 @@ pub mod FramedLaws
 mod GivenLaws
 pub mod HomingLaws
 pub mod ImageLaws
+pub mod LoggedLaws
 pub mod NewestLaws
 pub mod OrderLaws
+pub mod OutsideLaws
 pub mod PlaceLaws
 pub mod ResultLaws
 pub mod RoomLaws

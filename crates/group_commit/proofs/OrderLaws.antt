@@ -1,16 +1,18 @@
 -- Pages in ascending order: they are the same ones, and a record may have them.
-use Rattle.std.proofs.Common.{◌≡◌, inl, inr, ℕ, zero, suc, ◌+◌, ◌<◌, ◌≤◌, Bool, true, false, cond, ◌||◌, List, [], ◌∷◌, ◌++◌, length, replicate, take, get_or, refl, sym, ap, subst, ◌∙◌, arith, eqb-true}
-use Rattle.std.specs.Prelude.{nat_eq, nat_lt, ◌==◌}
-use Rattle.std.specs.List.{AllByRecursion, IsDistinct}
-use Rattle.std.proofs.lemmas.List.{length-replicate, take_more}
+use Rattle.std.proofs.Common.{◌≡◌, ℕ, zero, suc, ◌+◌, ◌<◌, ◌≤◌, Bool, true, false, cond, ◌&&◌, ◌||◌, List, [], ◌∷◌, ◌++◌, length, take, get_or, refl, sym, ap, ◌∙◌, arith, eqb-true}
+use Rattle.std.specs.Prelude.{nat_eq, nat_le, nat_lt, ◌==◌}
+use Rattle.std.specs.List.{AllByRecursion, IsDistinct, list_all}
+use Rattle.std.proofs.lemmas.Bool.{and_from, le-leb, or_right}
+use Rattle.std.proofs.lemmas.List.{take_more}
 use Rattle.std.proofs.lemmas.Map.Keys.{IsDistinct-head, IsDistinct-tail}
 use Rattle.run_table.specs.Space.{contains}
-use Rattle.fsd_formats.specs.Record.{are_pages}
+use Rattle.fsd_bytes.specs.Names.{is_between}
+use Rattle.fsd_formats.specs.Record.{are_pages, ascending}
 use Rattle.page_cache.specs.Cache.{is_one_of}
 use Rattle.page_cache.proofs.Entries.{by_bool, same_key}
 use Rattle.group_commit.specs.Cached.{ascending_of, put_among}
-use Rattle.group_commit.specs.Resident.{AreDirty, with_page}
-use Rattle.group_commit.proofs.WaitLaws.{grows, still_dirty}
+use Rattle.group_commit.specs.Resident.{with_page}
+use Rattle.group_commit.proofs.WaitLaws.{ascends_with, below_with, grows}
 
 -- ---- tests
 
@@ -121,21 +123,25 @@ among_more xs k lt = ap (λ (ys : List ℕ). put_among ys []) (take_more xs k 0 
 
 -- ---- a record may have them
 
-still_among : (pages : List (List ℕ)) (xs ys : List ℕ) → ((p : ℕ) → is_one_of xs p ≡ true → p < length pages) → length xs + length ys ≤ 96 → AreDirty (record { pages = pages; dirty = ys }) → AreDirty (record { pages = pages; dirty = put_among xs ys })
-still_among pages [] ys inside few are = are
-still_among pages (x ∷ xs) ys inside few are =
-    still_among pages xs (with_page x ys) (λ p is. inside p (or_right (nat_eq x p) (is_one_of xs p) is)) (omega (arith, few, (grows x ys).more))
-    (still_dirty pages ys x are (inside x (ap (λ (b : Bool). b || is_one_of xs x) (same_key x))) (inr (omega (arith, few))))
-  where
-    or_right : (a b : Bool) → b ≡ true → (a || b) ≡ true
-    or_right true b e = refl
-    or_right false b e = e
+ascends_among : (xs ys : List ℕ) → ascending ys ≡ true → ascending (put_among xs ys) ≡ true
+ascends_among [] ys asc = asc
+ascends_among (x ∷ xs) ys asc = ascends_among xs (with_page x ys) (ascends_with x ys asc)
+
+below_among : (count : ℕ) (xs ys : List ℕ) → ((p : ℕ) → is_one_of xs p ≡ true → p < count) → list_all (λ q. nat_lt q count) ys ≡ true → list_all (λ q. nat_lt q count) (put_among xs ys) ≡ true
+below_among count [] ys inside all = all
+below_among count (x ∷ xs) ys inside all =
+    below_among count xs (with_page x ys) (λ p is. inside p (or_right (nat_eq x p) (is_one_of xs p) is))
+    (below_with count x ys (inside x (ap (λ (b : Bool). b || is_one_of xs x) (same_key x))) all)
+
+no_more : (xs ys : List ℕ) → length (put_among xs ys) ≤ length xs + length ys
+no_more [] ys = omega arith
+no_more (x ∷ xs) ys = omega (arith, no_more xs (with_page x ys), grows x ys)
+
+accepted : (count : ℕ) (xs : List ℕ) → 1 ≤ length xs → length xs ≤ 96 → ascending xs ≡ true → list_all (λ q. nat_lt q count) xs ≡ true → are_pages count xs ≡ true
+accepted count xs some few asc below =
+    and_from (is_between 1 96 (length xs) && ascending xs) (list_all (λ q. nat_lt q count) xs)
+    (and_from (is_between 1 96 (length xs)) (ascending xs) (and_from (nat_le 1 (length xs)) (nat_le (length xs) 96) (le-leb 1 (length xs) some) (le-leb (length xs) 96 few)) asc) below
 
 pub accepted_ascending : (count : ℕ) (xs : List ℕ) → ((p : ℕ) → is_one_of xs p ≡ true → p < count) → length xs ≤ 96 → 1 ≤ length (ascending_of xs) → are_pages count (ascending_of xs) ≡ true
 accepted_ascending count xs inside few some =
-    let blank : List (List ℕ) = replicate count [] in
-    let long : length blank ≡ count = length-replicate count [] in
-    elim (still_among blank xs [] (λ p is. omega (arith, long, inside p is)) (omega (arith, few)) (inl refl)) [
-      | inl none ↦ absurd (omega (arith, some, ap length none))
-      | inr are ↦ subst (λ (n : ℕ). are_pages n (ascending_of xs) ≡ true) long are
-    ]
+    accepted count (ascending_of xs) some (omega (arith, few, no_more xs [])) (ascends_among xs [] refl) (below_among count xs [] inside refl)

@@ -5,13 +5,12 @@ use Rattle.std.proofs.lemmas.Bool.{cond-true, lt-ltb}
 use Rattle.volume_layout.specs.Shape.{Shape}
 use Rattle.sector_disk.specs.declared.sector.Sector.{Sector}
 use Rattle.sector_disk.specs.Image.{sector_at, stand}
-use Rattle.sector_disk.proofs.Wear.{stand_other}
 use Rattle.fsd_formats.specs.Record.{record_len}
 use Rattle.fsd_log.specs.Judged.{Reader}
 use Rattle.fsd_log.specs.Scan.{IsEnd, IsIn, Head, Placed, Walked, room_at, window, place_of, tape, start, scan, IsLog}
 use Rattle.fsd_log.proofs.HereLaws.{here_some}
 use Rattle.fsd_log.proofs.WalkLaws.{stamp_of, IsHere, IsThere, found_goes_on, Goes, goes_far, goes_of_walk}
-use Rattle.fsd_log.proofs.PlaceLaws.{InThird, place_add, place_cases, below_numbers, first_most, end_most}
+use Rattle.fsd_log.proofs.PlaceLaws.{InThird, place_add, end_most}
 use Rattle.fsd_sound.proofs.LogPlaces.{record_images}
 
 -- ---- the records lie before the head
@@ -58,18 +57,6 @@ module _ (l : Shape) (epoch : ℕ) (disk : Reader) where
 
 module _ (l : Shape) (first at n end : ℕ) (is : InThird l first at n end) (old new : List Sector) (bytes : List ℕ) (stood : ℕ) (within : stood ≤ n)
     (stands : (s : ℕ) → sector_at new s ≡ sector_at (stand old (place_of l first at) bytes stood) s) where
-  pub untouched : (s : ℕ) → (s < place_of l first at) ⊎ (place_of l first at + stood ≤ s) → sector_at new s ≡ sector_at old s
-  untouched s out = stands s ∙ stand_other old (place_of l first at) bytes stood s out
-
-  pub record_untouched : (h : ℕ) (r : Placed) → LiesBefore l h r → h ≤ at → (k : ℕ) → k < record_len (length r.entry.pages) → sector_at new (place_of l first r.at + k) ≡ sector_at old (place_of l first r.at + k)
-  record_untouched h r lies le k lt =
-      let third : InThird l first r.at (record_len (length r.entry.pages)) lies.end = record { one_of = is.one_of; ends = lies.ends; from = lies.from; to = lies.to } in
-      let there : place_of l first (r.at + k) ≡ place_of l first r.at + k = place_add l first r.at (record_len (length r.entry.pages)) lies.end k third lt in
-      subst (λ (s : ℕ). sector_at new s ≡ sector_at old s) there
-      (untouched (place_of l first (r.at + k))
-      (below_numbers l.third (first * l.third) at stood end (place_of l first at) (r.at + k) (place_of l first (r.at + k)) (first_most l first is.one_of) (end_most l end is.ends) (omega (arith, is.to)) (omega (arith, lies.before))
-      (place_cases l first at) (place_cases l first (r.at + k))))
-
   -- what is read there on the tape
   pub on_tape : (k : ℕ) (disk : Reader) → k < n → tape l first disk (at + k) ≡ disk (place_of l first at + k)
   on_tape k disk lt =

@@ -1,22 +1,12 @@
 -- A force that makes room first.
-use Rattle.std.proofs.Common.{◌≡◌, ℕ, ◌+◌, ◌*◌, ◌<◌, ◌≤◌, Bool, true, false, cond, ◌||◌, nat_le, nat_lt, ap, refl, ◌∙◌}
+use Rattle.std.proofs.Common.{◌≡◌, ℕ, ◌+◌, ◌*◌, ◌<◌, ◌≤◌, Bool, false, cond, ◌||◌, nat_lt, ap, ◌∙◌}
 use Rattle.std.specs.Prelude.{Result, Ok, Err, OnOk, OnErr}
 use Rattle.log_thirds.specs.LogValue.{LogValue}
-use Rattle.std.proofs.lemmas.Bool.{le-leb, lt-ltb, lt-leb, le-ltb}
+use Rattle.std.proofs.lemmas.Bool.{lt-leb, le-ltb}
 use Rattle.fsd_formats.specs.Record.{record_len}
 use Rattle.group_commit.specs.Room.{goes_before, pages_in_first, sectors_before}
 
 -- ---- where a record goes
-
-or_true : (b : Bool) → (b || true) ≡ true
-or_true true = refl
-or_true false = refl
-
-pub here_before : (log : LogValue) (n : ℕ) → log.head.at + record_len n ≤ log.head.end → goes_before log n ≡ true
-here_before log n le = ap (λ (b : Bool). b || nat_lt log.head.end (3 * log.layout.third)) (le-leb (log.head.at + record_len n) log.head.end le)
-
-pub next_before : (log : LogValue) (n : ℕ) → log.head.end < 3 * log.layout.third → goes_before log n ≡ true
-next_before log n lt = ap (λ (b : Bool). nat_le (log.head.at + record_len n) log.head.end || b) (lt-ltb log.head.end (3 * log.layout.third) lt) ∙ or_true (nat_le (log.head.at + record_len n) log.head.end)
 
 pub first_again : (log : LogValue) (n : ℕ) → log.head.end < log.head.at + record_len n → 3 * log.layout.third ≤ log.head.end → goes_before log n ≡ false
 first_again log n lt ge =

@@ -31,7 +31,7 @@ data_outside l s from (inr (inl (inr second))) = absurd (omega (arith, from, sec
 data_outside l s from (inr (inr (page, lt, inl home))) = absurd (omega (arith, from, lt, home))
 data_outside l s from (inr (inr (page, lt, inr home))) = absurd (omega (arith, from, lt, home))
 
-worn_on : (may : Bool) (a b c : Sector) → SectorWorn may a b → SectorWorn may b c → SectorWorn may a c
+pub worn_on : (may : Bool) (a b c : Sector) → SectorWorn may a b → SectorWorn may b c → SectorWorn may a c
 worn_on may a b c first (inr hurt) = inr hurt
 worn_on may a b c (inl same) (inl is) = inl (is ∙ same)
 worn_on may a b c (inr hurt) (inl is) = inr (hurt.0, is ∙ hurt.1)

@@ -52,11 +52,11 @@ each_given f a (suc n) (y ∷ ys) g =
 
 -- ---- the last image, with a record more
 
-or_assoc : {A : Type 0} (x y z : Option A) → option_or (option_or x y) z ≡ option_or x (option_or y z)
+pub or_assoc : {A : Type 0} (x y z : Option A) → option_or (option_or x y) z ≡ option_or x (option_or y z)
 or_assoc None y z = refl
 or_assoc (Some x) y z = refl
 
-or_nothing : {A : Type 0} (x : Option A) → x ≡ option_or x None
+pub or_nothing : {A : Type 0} (x : Option A) → x ≡ option_or x None
 or_nothing None = refl
 or_nothing (Some x) = refl
 

@@ -1,25 +1,9 @@
--- What stamps do to pages, and how their images lie.
-use Rattle.std.proofs.Common.{◌≡◌, ℕ, ◌+◌, ◌*◌, ◌<◌, ◌≤◌, List, [], ◌∷◌, ◌++◌, length, take, drop, set, get_or, refl, sym, ap, ◌∙◌, append_assoc, arith}
+-- How the images of pages lie one after another.
+use Rattle.std.proofs.Common.{◌≡◌, ℕ, ◌+◌, ◌*◌, ◌<◌, ◌≤◌, List, [], ◌∷◌, ◌++◌, length, take, drop, get_or, sym, ap, ◌∙◌, append_assoc, arith}
 use Rattle.std.proofs.lemmas.List.{take_at, take_more, length-append, length-take-le, append-nil}
 use Rattle.std.specs.List.{flat_map}
 use Rattle.std.proofs.lemmas.Grind.{flat_map-append}
 use Rattle.fsd_bytes.specs.Bytes.{with_bytes}
-use Rattle.fsd_formats.specs.Record.{Stamp}
-use Rattle.fsd_sound.specs.Mounted.{image_at}
-use Rattle.group_commit.specs.Resident.{with_stamp, stamped, laid_images}
-
--- ---- the loops
-
--- one page more
-stamped-append : (stamp : Stamp) (xs : List ℕ) (y : ℕ) (pages : List (List ℕ)) → stamped stamp (xs ++ y ∷ []) pages ≡ set (stamped stamp xs pages) y (with_stamp stamp (image_at (stamped stamp xs pages) y))
-stamped-append stamp [] y pages = refl
-stamped-append stamp (x ∷ xs) y pages = stamped-append stamp xs y (set pages x (with_stamp stamp (image_at pages x)))
-
-pub stamped_more : (stamp : Stamp) (dirty : List ℕ) (k : ℕ) (pages : List (List ℕ)) → k < length dirty
-    → stamped stamp (take (k + 1) dirty) pages ≡ set (stamped stamp (take k dirty) pages) (get_or dirty k 0) (with_stamp stamp (image_at (stamped stamp (take k dirty) pages) (get_or dirty k 0)))
-stamped_more stamp dirty k pages lt =
-    ap (λ (xs : List ℕ). stamped stamp xs pages) (take_more dirty k 0 lt)
-    ∙ stamped-append stamp (take k dirty) (get_or dirty k 0) pages
 
 -- an image more
 take_image : (place : ℕ) (image room : List ℕ) → length image ≡ 512 → place + 512 ≤ length room → take (place + 512) (with_bytes place image room) ≡ take place room ++ image
@@ -44,7 +28,3 @@ module _ (f : ℕ → List ℕ) where
       ∙ take_image (512 * k) (f (get_or dirty k 0)) room long (omega arith)
       ∙ ap (λ (x : List ℕ). x ++ f (get_or dirty k 0)) so_far
       ∙ sym (laid_more dirty k lt)
-
-pub laid_step : (pages : List (List ℕ)) (dirty : List ℕ) (k : ℕ) (room : List ℕ) → k < length dirty → length (image_at pages (get_or dirty k 0)) ≡ 512 → 512 * length dirty ≤ length room → take (512 * k) room ≡ laid_images pages (take k dirty)
-    → take (512 * (k + 1)) (with_bytes (512 * k) (image_at pages (get_or dirty k 0)) room) ≡ laid_images pages (take (k + 1) dirty)
-laid_step pages = laid_step_of (image_at pages)

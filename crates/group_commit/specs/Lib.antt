@@ -4,5 +4,6 @@ pub mod Force
 pub mod Forces
 pub mod Newest
 pub mod KnownLaws
+pub mod Logged
 pub mod Resident
 pub mod Room

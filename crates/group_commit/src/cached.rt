@@ -1,8 +1,9 @@
 //! The force of the dirty pages of a cache.
-ghost use Rattle.std.specs.Prelude.{◌≡◌, ◌⊎◌, ◌<◌, ◌≤◌, ◌^◌, ◌-◌, ◌+◌, ℕ, true, List, [], length, take, ◌*◌, IsTrue, IfSome, IfOk, IfErr, OnOk, OnErr};
+ghost use Rattle.std.specs.Prelude.{◌≡◌, ◌⊎◌, ◌<◌, ◌≤◌, ◌^◌, ◌-◌, ◌+◌, ℕ, true, List, [], length, take, slice_index, Some, ◌*◌, IsTrue, EachIndex, IfSome, IfOk, IfErr, OnOk, OnErr};
 ghost use Rattle.sector_disk.specs.Damage.{IsDevice};
 ghost use Rattle.sector_disk.specs.declared.sector.WeakRun.{WeakRun};
 ghost use Rattle.sector_disk.specs.Calls.{WritesDisk, device_in, load_failed_at};
+ghost use Rattle.fsd_log.specs.Judged.{slice_of};
 ghost use Rattle.fsd_log.specs.Scan.{Placed};
 ghost use Rattle.fsd_sound.specs.Sound.{EndIn};
 ghost use Rattle.run_table.specs.Space.{contains};
@@ -13,7 +14,8 @@ ghost use Rattle.page_cache.specs.Cache.{IsCache, IsResident, bytes_of, cleaned}
 ghost use Rattle.group_commit.specs.Resident.{IsImageOf, stamped};
 ghost use Rattle.group_commit.specs.Room.{WroteMost, log_before, sectors_before};
 ghost use Rattle.group_commit.specs.Entering.{RecordCause, LosesLogged};
-ghost use Rattle.group_commit.specs.Force.{sectors_written, stamped_by, log_forced, StandsOver, Committed, as_load, force_failed_at};
+ghost use Rattle.group_commit.specs.Force.{sectors_written, stamped_by, log_forced, StandsOver, Committed, KeepsOutside, as_load, force_failed_at};
+ghost use Rattle.group_commit.specs.Logged.{StandsLogged};
 ghost use Rattle.group_commit.specs.Newest.{KnowsImages};
 ghost use Rattle.group_commit.specs.Cached.{AgreesWith, AreWaiting, CacheLeaves, FramesLeave, HasImages, ascending_of, stamped_for, stamped_frames, with_waiting};
 
@@ -35,6 +37,7 @@ fn lay_record(log: &Log, cache: &mut Cache, waiting: &[u32], room: &mut RecordRo
     ensures cache { cache.new ≡ stamped_frames (stamp_now log.now) waiting.now cache.old }
     ensures stamped { AreStamped (stamp_now log.now) waiting.now (slices (length waiting.now) (take (512 * length waiting.now) room.new)) }
     ensures laid { (pages : List (List ℕ)) → AgreesWith log.now.layout cache.old pages → HasImages log.now waiting.now room.new pages }
+    ensures frames { EachIndex waiting.now (λ k. bytes_of cache.new (slice_index waiting.now k) ≡ Some (slice_of room.new k)) }
 {
     stamp_frames(cache, waiting, log.epoch(), log.next_number());
     lay_frames(cache, waiting, room.images.as_mut_slice());
@@ -55,6 +58,7 @@ fn write_frames<M: Machine>(
     requires numbered { log.old.head.number < 2 ^ 32 - 1 }
     requires sectors { log.old.layout.sectors ≤ (M.report m.old).sectors }
     ensures disk { WritesDisk M.Machine (device_in load_failed_at result) (FramesLeave log.old cache.old waiting.now) m.old m.new }
+    ensures rest { M.honest m.new → KeepsOutside log.old.layout (M.now m.old) (M.now m.new) }
     ensures cause { IfErr result (RecordCause log.old (length waiting.now)) }
     ensures counted { OnOk result (M.tells m.new → (M.ledger m.new).written ≡ (M.ledger m.old).written + (sectors_before log.old (length waiting.now) + record_len (length waiting.now))) }
     ensures counted_err { OnErr result (M.tells m.new → WroteMost (sectors_before log.old (length waiting.now)) (M.ledger m.old) (M.ledger m.new)) }
@@ -75,6 +79,7 @@ fn write_frames<M: Machine>(
         AgreesWith log.old.layout cache.old pages → M.honest m.new → EndIn (M.now m.old).windows windows →
         StandsOver log.old records disk (record { pages = pages; dirty = waiting.now }) windows (M.now m.old).image →
         KnowsImages log.old (M.now m.old).image → KnowsImages log.new (M.now m.new).image) }
+    ensures logged { OnOk result (M.honest m.new → (page : ℕ) (bytes : List ℕ) → IsTrue (contains waiting.now page) → bytes_of cache.new page ≡ Some bytes → StandsLogged log.new (M.now m.new) page bytes) }
 {
     lay_record(log, cache, waiting, room);
     write_record(m, log, waiting, room.images.as_slice())
@@ -95,6 +100,7 @@ fn force_waiting<M: Machine>(
     requires numbered { log.old.head.number < 2 ^ 32 - 1 }
     requires sectors { log.old.layout.sectors ≤ (M.report m.old).sectors }
     ensures disk { WritesDisk M.Machine (device_in force_failed_at result) (CacheLeaves log.old cache.old) m.old m.new }
+    ensures rest { M.honest m.new → KeepsOutside log.old.layout (M.now m.old) (M.now m.new) }
     ensures cause { IfErr result (λ fault. RecordCause log.old (length cache.old.dirty) (as_load fault)) }
     ensures pages { IfOk result (λ forced. forced.pages ≡ length cache.old.dirty) }
     ensures counted { OnOk result (M.tells m.new → (M.ledger m.new).written ≡ (M.ledger m.old).written + sectors_written log.old cache.old.dirty) }
@@ -119,6 +125,7 @@ fn force_waiting<M: Machine>(
         AgreesWith log.old.layout cache.old pages → M.honest m.new → EndIn (M.now m.old).windows windows →
         StandsOver log.old records disk (with_waiting cache.old pages) windows (M.now m.old).image →
         KnowsImages log.old (M.now m.old).image → KnowsImages log.new (M.now m.new).image) }
+    ensures logged { OnOk result (M.honest m.new → (page : ℕ) (bytes : List ℕ) → IsTrue (contains cache.old.dirty page) → bytes_of cache.new page ≡ Some bytes → StandsLogged log.new (M.now m.new) page bytes) }
 {
     let count = waiting.len();
     if count == 0 {
@@ -152,6 +159,9 @@ impl Group {
 
         // At each moment the disk shows the pages as they were or as they are now, whichever pages the cache has a part of.
         ensures disk { WritesDisk M.Machine (device_in force_failed_at result) (CacheLeaves log.old cache.old) m.old m.new }
+
+        // Whatever the disk shows, the roots, the map and the data stay but for wear.
+        ensures rest { M.honest m.new → KeepsOutside log.old.layout (M.now m.old) (M.now m.new) }
         ensures cause { IfErr result (λ fault. RecordCause log.old (length cache.old.dirty) (as_load fault)) }
 
         ensures pages { IfOk result (λ forced. forced.pages ≡ length cache.old.dirty) }
@@ -187,6 +197,9 @@ impl Group {
             AgreesWith log.old.layout cache.old pages → M.honest m.new → EndIn (M.now m.old).windows windows →
             StandsOver log.old records disk (with_waiting cache.old pages) windows (M.now m.old).image →
             KnowsImages log.old (M.now m.old).image → KnowsImages log.new (M.now m.new).image) }
+
+        // Whatever the disk shows, the bytes of each page that was dirty stand in the log.
+        ensures logged { OnOk result (M.honest m.new → (page : ℕ) (bytes : List ℕ) → IsTrue (contains cache.old.dirty page) → bytes_of cache.new page ≡ Some bytes → StandsLogged log.new (M.now m.new) page bytes) }
     {
         let waiting = ascending(cache.dirty_list().as_slice());
         force_waiting(m, log, cache, waiting.as_slice(), room)

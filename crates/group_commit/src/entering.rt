@@ -10,6 +10,7 @@ ghost use Rattle.log_thirds.specs.Append.{LastLiesIn};
 ghost use Rattle.log_thirds.specs.Moving.{moved, records_moved, EndsInLastThird};
 ghost use Rattle.log_thirds.specs.Append.{stamp_now};
 ghost use Rattle.group_commit.specs.Room.{WroteMost, goes_before, log_before, pages_in_first, sectors_before};
+ghost use Rattle.group_commit.specs.Force.{KeepsOutside};
 ghost use Rattle.group_commit.specs.Entering.{HasRoomNow, ShowsHoming, ShowsStill, OwnsLog, IsHoming, IsEntered, MayHome, LosesLogged};
 
 use log_thirds::{Log, Place};
@@ -22,6 +23,7 @@ fn home_page<M: Machine>(m: &mut M, log: &Log, page: u32) -> Result<(), LoadFaul
     requires slot { slice_index_or log.now.slots page None ≢ None }
     requires sectors { log.now.layout.sectors ≤ (M.report m.old).sectors }
     ensures disk { WritesDisk M.Machine (device_in load_failed_at result) (ShowsHoming log.now page) m.old m.new }
+    ensures rest { M.honest m.new → KeepsOutside log.now.layout (M.now m.old) (M.now m.new) }
     ensures counted { OnOk result (M.tells m.new → M.ledger m.new ≡ wrote (M.ledger m.old) 2) }
     ensures counted_err { OnErr result (M.tells m.new → WroteMost 2 (M.ledger m.old) (M.ledger m.new)) }
     ensures done { OnOk result ((records : List Placed) (disk : List (List ℕ)) (windows : List WeakRun) (old : Moment) (n : ℕ) → M.honest m.new → MayHome log.now windows old →
@@ -48,6 +50,7 @@ fn home_third<M: Machine>(m: &mut M, log: &Log, third: u32) -> Result<(), LoadFa
     requires low { third < 3 }
     requires sectors { log.now.layout.sectors ≤ (M.report m.old).sectors }
     ensures disk { WritesDisk M.Machine (device_in load_failed_at result) (ShowsStill log.now) m.old m.new }
+    ensures rest { M.honest m.new → KeepsOutside log.now.layout (M.now m.old) (M.now m.new) }
     ensures counted { OnOk result (M.tells m.new → M.ledger m.new ≡ wrote (M.ledger m.old) (2 * pages_in_first log.now)) }
     ensures counted_err { OnErr result (M.tells m.new → WroteMost (2 * pages_in_first log.now) (M.ledger m.old) (M.ledger m.new)) }
     ensures done { OnOk result ((records : List Placed) (disk : List (List ℕ)) (windows : List WeakRun) → M.honest m.new → MayHome log.now windows (M.now m.old) →
@@ -75,6 +78,7 @@ pub(crate) fn enter_third<M: Machine>(m: &mut M, log: &mut Log, third: u32) -> R
     requires ends { EndsInLastThird log.old }
     requires sectors { log.old.layout.sectors ≤ (M.report m.old).sectors }
     ensures disk { WritesDisk M.Machine (device_in load_failed_at result) (ShowsStill log.old) m.old m.new }
+    ensures rest { M.honest m.new → KeepsOutside log.old.layout (M.now m.old) (M.now m.new) }
     ensures counted { OnOk result (M.tells m.new → M.ledger m.new ≡ wrote (M.ledger m.old) (2 * pages_in_first log.old + 2)) }
     ensures counted_err { OnErr result (M.tells m.new → WroteMost (2 * pages_in_first log.old + 2) (M.ledger m.old) (M.ledger m.new)) }
     ensures done { OnOk result ((records : List Placed) (disk : List (List ℕ)) (windows : List WeakRun) → M.honest m.new → MayHome log.old windows (M.now m.old) →
@@ -99,6 +103,7 @@ pub fn make_room<M: Machine>(m: &mut M, log: &mut Log, count: u32) -> Result<(),
     requires few { count ≤ 96 }
     requires sectors { log.old.layout.sectors ≤ (M.report m.old).sectors }
     ensures disk { WritesDisk M.Machine (device_in load_failed_at result) (ShowsStill log.old) m.old m.new }
+    ensures rest { M.honest m.new → KeepsOutside log.old.layout (M.now m.old) (M.now m.new) }
     ensures counted { OnOk result (M.tells m.new → (M.ledger m.new).written ≡ (M.ledger m.old).written + sectors_before log.old count) }
     ensures counted_err { OnErr result (M.tells m.new → WroteMost (sectors_before log.old count) (M.ledger m.old) (M.ledger m.new)) }
     ensures done { OnOk result ((records : List Placed) (disk : List (List ℕ)) (windows : List WeakRun) → M.honest m.new → MayHome log.old windows (M.now m.old) →

@@ -7,10 +7,8 @@ mod entering;
 mod force;
 mod frames;
 mod laws;
-mod laying;
 mod newest;
 mod record;
-mod resident;
 mod room;
 mod waiting;
 
@@ -18,5 +16,4 @@ pub use entering::make_room;
 pub use force::{ForceFault, Forced, Group};
 pub use laws::{clean_frames_are_newest, pages_are_newest};
 pub use newest::Newest;
-pub use resident::Resident;
 pub use room::RecordRoom;

@@ -1,9 +1,10 @@
 //! The record of the images that are laid.
-ghost use Rattle.std.specs.Prelude.{◌≡◌, ◌⊎◌, ◌<◌, ◌≤◌, ◌^◌, ◌-◌, ◌+◌, ◌*◌, ℕ, true, List, [], length, take, IsTrue, IfErr, OnOk, OnErr};
+ghost use Rattle.std.specs.Prelude.{◌≡◌, ◌⊎◌, ◌<◌, ◌≤◌, ◌^◌, ◌-◌, ◌+◌, ◌*◌, ℕ, true, List, [], length, take, slice_index, IsTrue, EachIndex, IfErr, OnOk, OnErr};
 ghost use Rattle.sector_disk.specs.Damage.{IsDevice};
 ghost use Rattle.sector_disk.specs.declared.sector.WeakRun.{WeakRun};
 ghost use Rattle.sector_disk.specs.Calls.{WritesDisk, device_in, load_failed_at};
 ghost use Rattle.fsd_formats.specs.Record.{AreStamped, are_pages, record_len};
+ghost use Rattle.fsd_log.specs.Judged.{slice_of};
 ghost use Rattle.fsd_log.specs.Laid.{slices};
 ghost use Rattle.fsd_log.specs.Scan.{Placed};
 ghost use Rattle.fsd_sound.specs.Sound.{EndIn};
@@ -11,7 +12,8 @@ ghost use Rattle.log_thirds.specs.Append.{stamp_now, log_with};
 ghost use Rattle.group_commit.specs.Resident.{stamped};
 ghost use Rattle.group_commit.specs.Room.{WroteMost, log_before, sectors_before};
 ghost use Rattle.group_commit.specs.Entering.{RecordCause, LosesLogged};
-ghost use Rattle.group_commit.specs.Force.{StandsOver, Committed};
+ghost use Rattle.group_commit.specs.Force.{StandsOver, Committed, KeepsOutside};
+ghost use Rattle.group_commit.specs.Logged.{StandsLogged};
 ghost use Rattle.group_commit.specs.Newest.{KnowsImages};
 ghost use Rattle.group_commit.specs.Cached.{HasImages, RecordLeaves};
 
@@ -32,6 +34,7 @@ pub(crate) fn write_record<M: Machine>(
     requires sectors { log.old.layout.sectors ≤ (M.report m.old).sectors }
     requires long { 512 * length dirty.now ≤ length room.now }
     ensures disk { WritesDisk M.Machine (device_in load_failed_at result) (RecordLeaves log.old dirty.now room.now) m.old m.new }
+    ensures rest { M.honest m.new → KeepsOutside log.old.layout (M.now m.old) (M.now m.new) }
     ensures cause { IfErr result (RecordCause log.old (length dirty.now)) }
     ensures counted { OnOk result (M.tells m.new → (M.ledger m.new).written ≡ (M.ledger m.old).written + (sectors_before log.old (length dirty.now) + record_len (length dirty.now))) }
     ensures counted_err { OnErr result (M.tells m.new → WroteMost (sectors_before log.old (length dirty.now)) (M.ledger m.old) (M.ledger m.new)) }
@@ -51,6 +54,7 @@ pub(crate) fn write_record<M: Machine>(
         HasImages log.old dirty.now room.now pages → M.honest m.new → EndIn (M.now m.old).windows windows →
         StandsOver log.old records disk (record { pages = pages; dirty = dirty.now }) windows (M.now m.old).image →
         KnowsImages log.old (M.now m.old).image → KnowsImages log.new (M.now m.new).image) }
+    ensures logged { OnOk result (M.honest m.new → EachIndex dirty.now (λ k. StandsLogged log.new (M.now m.new) (slice_index dirty.now k) (slice_of room.now k))) }
 {
     let layout = log.layout();
     let _pages = layout.pages();

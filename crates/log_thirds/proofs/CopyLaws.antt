@@ -17,9 +17,6 @@ use Rattle.log_thirds.specs.Copies.{served_at, AreServed, Copies, AreCopies, Are
 
 -- ---- one sector more
 
-pub served_none : (s : Serving) (bytes : List ℕ) → AreServed s bytes 0 []
-served_none s bytes = record { long = refl; each = λ j lt. absurd (omega arith) }
-
 pub served_more : (s : Serving) (bytes : List ℕ) (k : ℕ) (copies sector : List ℕ) → AreServed s bytes k copies → length sector ≡ 512 → sector ≡ slice_of bytes (served_at s k) → AreServed s bytes (k + 1) (copies ++ sector)
 served_more s bytes k copies sector are long is = record {
   long = omega (arith, length-append copies sector, are.long, long);

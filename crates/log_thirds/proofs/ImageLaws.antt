@@ -112,9 +112,6 @@ no_last_image l third page (r ∷ records) is = by_rest (λ none. no_last_image 
 
 module _ (l : Shape) (epoch third page : ℕ) (one_of : third ≤ 2) (disk : Reader) where
   module _ (h : Head) (r : Placed) (h1 : Head) (is_in : IsIn l h) (is : IsFound l epoch (tape l third disk) h r h1) where
-    abbrev seen : Reader
-    seen = window (tape l third disk) r.at (room_at r.at is.end)
-
     in_third : InThird l third r.at (record_len (length r.entry.pages)) is.end
     in_third =
         let one = found_goes_on l epoch (tape l third disk) h r h1 is_in is in

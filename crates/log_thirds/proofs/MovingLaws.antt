@@ -44,9 +44,6 @@ later_is l (r ∷ front) rest before behind =
 
 -- ---- which numbers its thirds begin with
 
-below : ℕ → List Placed → ℕ
-below n rs = count_by (λ r. nat_lt r.at n) rs
-
 count_more : (n : ℕ) (r : Placed) (rs : List Placed) → count_by (λ x. nat_lt x.at n) (r ∷ rs) ≡ cond (nat_lt r.at n) 1 0 + count_by (λ x. nat_lt x.at n) rs
 count_more n r rs = sum_by-append (λ (x : Placed). cond (nat_lt x.at n) 1 0) (r ∷ []) rs ∙ omega arith
 
@@ -193,9 +190,6 @@ place_back l third next is_next r lies ge =
     place_moved l third next (r.at - l.third) is_next (omega (arith, most, lies.inside.to, ge)) ∙ ap (place_of l third) (omega arith)
 
 module _ (l : Shape) (third next : ℕ) (low : third ≤ 2) (is_next : IsNextThird third next) (page : ℕ) where
-  abbrev begin : ℕ
-  begin = third_start l third
-
   abbrev IsInFirst : Slot → Type 0
   IsInFirst s = lies_in (third_start l third) l.third (Some s) ≡ true
 
@@ -416,12 +410,6 @@ tape_same l third i j same = λ k w. pointwise w k
     pointwise w = ap (λ (o : Option (List ℕ)). if nat_lt w (3 * l.third) then o else None) (ap bytes_in (same (place_of l third w) (place_from l third w)))
 
 module _ (log : LogValue) (records : List Placed) (old left : Moment) (room : 16 ≤ length old.image) (part : AnchorsIn (moved_anchor log) old left) (is_log : IsLogWorn log records old) where
-  abbrev damage : ℕ → Bool
-  damage = open_damage old.windows
-
-  abbrev bytes : List ℕ
-  bytes = anchor_bytes (moved_anchor log)
-
   module _ (i : List Sector) (worn : IsWorn (open_damage left.windows) left.image i) where
     all_worn : IsWorn (open_damage old.windows) (with_anchors (moved_anchor log) old.image part.first part.copy) i
     all_worn = worn_trans (open_damage old.windows) (with_anchors (moved_anchor log) old.image part.first part.copy) left.image i part.holds.worn (subst (λ (w : Windows). IsWorn (open_damage w) left.image i) part.holds.windows worn)

@@ -6,9 +6,7 @@ use Rattle.std.proofs.lemmas.List.{length-append, get_or_append_left, get_or_pas
 use Rattle.std.proofs.Math.Seq.{get_or-append_seam}
 use Rattle.sector_disk.specs.Calls.{as_sector}
 use Rattle.sector_disk.specs.Image.{sector_at, Windows, open_damage}
-use Rattle.sector_disk.specs.Machine.{Moment, Wears, LeavesOnly}
-use Rattle.sector_disk.proofs.Holding.{wears_on}
-use Rattle.sector_disk.proofs.Moments.{then_on, leaves_more}
+use Rattle.sector_disk.specs.Machine.{Moment, Wears}
 use Rattle.sector_disk.proofs.Wear.{worn_damaged}
 use Rattle.fsd_log.specs.Judged.{slice_of}
 use Rattle.log_record.specs.Found.{read_of}
@@ -57,9 +55,6 @@ sees_later old mid new place o wears sees = (sees.0, λ none. worn_damaged (open
 sees_back : (old mid new : Moment) (place : ℕ) (o : Option (List ℕ)) → Wears old mid → Sees mid new place o → Sees old new place o
 sees_back old mid new place o wears sees = (read_back old mid place o wears sees.0, sees.1)
 
-pub none_read : (honest : Type 0) (old : Moment) (place : ℕ) (whole : List Bool) (bytes : List ℕ) → length bytes ≡ 512 * length whole → ReadsOn honest old old place (length whole) whole whole bytes bytes
-none_read honest old place whole bytes long = record { many = refl; long = long; kept = λ k lt. refl; sees = λ h k from lt. absurd (omega arith) }
-
 pub reads_more : (honest honest1 : Type 0) (old mid new : Moment) (place k : ℕ) (whole whole1 whole2 : List Bool) (bytes bytes1 bytes2 : List ℕ) → (honest1 → honest) → (honest1 → Wears old mid) → (honest1 → Wears mid new) → length whole ≤ k
     → ReadsOn honest old mid place k whole whole1 bytes bytes1 → ReadInto whole1 whole2 bytes1 bytes2 (λ o. honest1 → Sees mid new (place + k) o) → ReadsOn honest1 old new place (k + 1) whole whole2 bytes bytes2
 reads_more honest honest1 old mid new place k whole whole1 whole2 bytes bytes1 bytes2 back wears later begun so_far into = record {
@@ -104,12 +99,6 @@ record_read honest honest1 old mid new p stamp place room first count whole whol
       | inl there ↦ sym (rest.kept k there)
       | inr past ↦ read_past whole1 bytes1 k past ∙ sym (read_past whole2 bytes2 k (omega (arith, within, front.many, is_first, past, lt)))
     ]
-
--- two runs of reads, one after the other
-pub reads_on : {D : Type 0} (moment : D → ℕ) (left_since : D → ℕ → Moment → Type 0) (old mid new : D) (a b : Moment) → Wears a b → LeavesOnly moment left_since old mid (Wears a) → LeavesOnly moment left_since mid new (Wears b)
-    → LeavesOnly moment left_since old new (Wears a)
-reads_on moment left_since old mid new a b wears first second =
-    then_on moment left_since old mid new (Wears a) first (leaves_more moment left_since mid new (Wears b) (Wears a) (λ c worn. wears_on a b c wears worn) second)
 
 pub on_ok : {T E : Type 0} (r : Result T E) (P Q : Type 0) → (P → Q) → OnOk r P → OnOk r Q
 on_ok (Ok x) P Q more p = more p

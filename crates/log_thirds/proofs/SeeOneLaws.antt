@@ -19,9 +19,6 @@ use Rattle.log_thirds.proofs.ReadingLaws.{bytes_back}
 use Rattle.log_thirds.proofs.SeenLaws.{whole_of, damaged_of}
 
 module _ (old new : Moment) (wears : Wears old new) (place : ℕ) (o : Option (List ℕ)) (sees : Sees old new place o) (j : List Sector) (jw : IsWorn (open_damage old.windows) j old.image) where
-  abbrev pub with_read : List Sector
-  with_read = set j place (as_sector o)
-
   abbrev Worn1 : ℕ → Sector → Sector → Type 0
   Worn1 s a b = (b ≡ a) ⊎ (IsTrue (open_damage old.windows s) × (b ≡ Damaged))
 

@@ -58,9 +58,6 @@ module _ (l : Shape) (first at end : ℕ) (one : first ≤ 2) (before : at ≤ e
   abbrev may : ℕ → Bool
   may = open_damage old.windows
 
-  abbrev read : Reader
-  read = read_of whole bytes
-
   -- the run as it was read over the image as it was seen before
   pub seen : List Sector
   seen = lay j place (λ k. as_sector (read_of whole bytes k)) (length whole)
@@ -143,9 +140,6 @@ module _ (l : Shape) (first at end : ℕ) (one : first ≤ 2) (before : at ≤ e
 
   on_tape : (i : List Sector) (w : ℕ) → w < 3 * l.third → tape l first (reads i) w ≡ reads i (place_of l first w)
   on_tape i w lt = cond-true (nat_lt w (3 * l.third)) (reads i (place_of l first w)) None (lt-ltb w (3 * l.third) lt)
-
-  off_tape : (i : List Sector) (w : ℕ) → 3 * l.third ≤ w → tape l first (reads i) w ≡ None
-  off_tape i w past = cond-false (nat_lt w (3 * l.third)) (reads i (place_of l first w)) None (not_below w (3 * l.third) past)
 
   pub seen_below : (w : ℕ) → w < at → tape l first (reads seen) w ≡ tape l first (reads j) w
   seen_below w lt =

@@ -11,7 +11,7 @@ use Rattle.volume_layout.specs.Shape.{Shape}
 use Rattle.fsd_formats.specs.Record.{record_len}
 use Rattle.fsd_log.specs.Judged.{Reader}
 use Rattle.fsd_log.specs.Laid.{laid_bytes}
-use Rattle.fsd_log.specs.Scan.{Head, Placed, IsLog, spot_for, place_of, tape}
+use Rattle.fsd_log.specs.Scan.{Placed, IsLog, spot_for, place_of, tape}
 use Rattle.log_thirds.specs.Disk.{bytes_in, reads}
 use Rattle.log_thirds.specs.LogValue.{LogValue}
 use Rattle.log_thirds.specs.Append.{StandsInPart, stamp_now, next_record, head_past, log_past, scan_of, IsLogWorn, IsNarrow, AppendsWorn}
@@ -86,9 +86,6 @@ module _ (l : Shape) (first at n end : ℕ) (is : InThird l first at n end) (may
 -- ---- on a machine
 
 module _ (log : LogValue) (pages images : List ℕ) (long : ℕ) (may : MayAppend log pages images long) (old : Moment) (same_long : length old.image ≡ long) (records : List Placed) (is_log : IsLogWorn log records old) where
-  abbrev spot : Head
-  spot = spot_for log.layout (length pages) log.head
-
   abbrev place : ℕ
   place = place_of log.layout log.anchor.third (spot_for log.layout (length pages) log.head).at
 

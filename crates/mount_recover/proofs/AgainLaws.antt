@@ -137,11 +137,6 @@ module _ (l : Layout) (i j : Image) (c : Anchor) (low : c.third ≤ 2) (front : 
   again_all = subst (AllByRecursion (RecordAgain l c.third (bytes_at i) (bytes_at j))) (sym joined)
       (all_more (RecordAgain l c.third (bytes_at i) (bytes_at j)) front r (again_front front (all_front (IsRecord l c.third) front r are) (goes_before l c.epoch old_tape (start l c.first) front part.mid (start_in l c.first) part.goes)) again_last)
 
--- nothing was laid
-again_here : (l : Layout) (third : ℕ) (i : Image) (rs : List Placed) → AllByRecursion (IsRecord l third) rs → AllByRecursion (RecordAgain l third (bytes_at i) (bytes_at i)) rs
-again_here l third i [] records = tt
-again_here l third i (q ∷ rs) records = (record { images = records.0.images; first = λ k lt. refl; copy = λ k lt. inl refl }, again_here l third i rs records.1)
-
 -- ---- the copies that the log has
 
 module _ (l : Layout) (a : Anchor) (r : Placed) (c : Copies) (is : IsRecord l a.third r) (of : AreCopiesOf l a.epoch a.third r c) where

@@ -54,10 +54,6 @@ pub load_not_lost : (AreCopies : ℕ → ℕ → Type 0) (image : Image) (fault 
 load_not_lost AreCopies image (load.Device s) told is none lost = subst IsExcuse (sym is) tt
 load_not_lost AreCopies image (load.Lost a b) told is none lost = absurd (none a b lost)
 
-pub loaded : (AreCopies : ℕ → ℕ → Type 0) (image : Image) (fault : LoadFault) → LostCause AreCopies image fault → LostIn AreCopies image (load_fault_of fault)
-loaded AreCopies image (load.Device s) lost = tt
-loaded AreCopies image (load.Lost a b) lost = lost
-
 -- where none of these can be lost
 pub cause_excused : (AreCopies : ℕ → ℕ → Type 0) (image : Image) (fault : MountFault) → ((a b : ℕ) → AreLost AreCopies image a b → ⊥) → IsLoadFault fault → LostIn AreCopies image fault → IsExcuse fault
 cause_excused AreCopies image (Device s) none cause lost = tt

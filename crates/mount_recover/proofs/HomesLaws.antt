@@ -1,21 +1,17 @@
 -- Both homes of a page that is mended stand, but for what the open window may wear.
-use Rattle.std.proofs.Common.{◌≡◌, ◌≢◌, ◌⊎◌, inl, inr, ⊎_elim, ℕ, ◌+◌, ◌<◌, ◌≤◌, List, [], ◌∷◌, length, Option, Some, None, refl, sym, ap, subst, ◌∙◌, arith}
-use Rattle.std.specs.Prelude.{IfSome, IsSome, IsTrue}
-use Rattle.std.proofs.lemmas.Bool.{and_parts, cases_lt}
+use Rattle.std.proofs.Common.{◌≡◌, ◌≢◌, ◌⊎◌, inl, inr, ⊎_elim, ℕ, ◌+◌, ◌<◌, ◌≤◌, List, length, sym, ap, subst, ◌∙◌, arith}
+use Rattle.std.specs.Prelude.{IsSome, IsTrue}
+use Rattle.std.proofs.lemmas.Bool.{cases_lt}
 use Rattle.std.proofs.lemmas.List.{length-set}
 use Rattle.volume_layout.specs.declared.layout.Layout.{Layout}
 use Rattle.volume_layout.specs.Layout.{home_a, home_b}
-use Rattle.sector_disk.specs.declared.sector.Sector.{Sector}
-use Rattle.sector_disk.specs.declared.sector.Sector.TheVariants.{Whole, Damaged}
-use Rattle.sector_disk.specs.declared.sector.WeakRun.{WeakRun}
-use Rattle.sector_disk.specs.Image.{AreShort, IsShort, IsWorn, Windows, in_run, sector_at, with_sector, stand, open_damage, settled, weak as in_window}
+use Rattle.sector_disk.specs.declared.sector.Sector.TheVariants.{Whole}
+use Rattle.sector_disk.specs.Image.{Windows, sector_at, with_sector, stand, open_damage, settled}
 use Rattle.sector_disk.specs.Machine.{Moment, Holds}
 use Rattle.sector_disk.proofs.Calm.{stand_one}
-use Rattle.fsd_files.specs.Disk.{Image, SectorWorn, Has, bytes_at, bytes_of, either_copy}
+use Rattle.fsd_files.specs.Disk.{Image, SectorWorn, Has}
 use Rattle.fsd_files.proofs.KeptLaws.{has_on}
-use Rattle.fsd_sound.specs.Homes.{home_of}
 use Rattle.fsd_sound.proofs.CommuteLaws.{with_same, with_other}
-use Rattle.fsd_sound.proofs.WindowLaws.{windows_are_narrow}
 use Rattle.twin_home.specs.Heal.{Healed}
 use Rattle.mount_recover.specs.Mending.{KeepsBut, StaysBut}
 use Rattle.mount_recover.specs.Recover.{HasBothHomes}
@@ -88,29 +84,3 @@ both_settled l page old new some is stays has = record {
   stands = settled_has old new (home_a l page) has.first some is (stays (home_a l page) (λ e. omega (arith, e)) (λ e. omega (arith, e))) has.stands;
   stands_too = settled_has old new (home_b l page) has.second some is (stays (home_b l page) (λ e. omega (arith, e)) (λ e. omega (arith, e))) has.stands_too;
 }
-
--- ---- what is read of them
-
-short_open : (w : Windows) → AreShort w → (s t : ℕ) → s + 4 ≤ t → IsTrue (open_damage w s) → IsTrue (open_damage w t) → ⊥
-short_open w short s t far a b = by w.present w.next short.present short.next a b
-  where
-    run : (r : WeakRun) → IsShort r → IsTrue (in_run r s) → IsTrue (in_run r t) → ⊥
-    run r few = windows_are_narrow (r ∷ []) (Some r) refl (omega (arith, few)) s t far
-
-    by : (present next : Option WeakRun) → IfSome present IsShort → IfSome next IsShort → IsTrue (in_window present next s) → IsTrue (in_window present next t) → ⊥
-    by None None p n a b = absurd (cc a)
-    by (Some r) None p n a b = run r p a b
-    by None (Some r) p n a b = run r n a b
-    by (Some r) (Some q) p n a b = run r p (and_parts (in_run r s) (in_run q s) a).0 (and_parts (in_run r t) (in_run q t) b).0
-
--- one of the two is read, however the open window wears
-pub home_read : (l : Layout) (page : ℕ) (now : Moment) → page < l.pages → AreShort now.windows → (has : HasBothHomes l now page) (i : Image) → IsWorn (open_damage now.windows) now.image i
-    → (home_of l i page ≡ Some has.first) ⊎ (home_of l i page ≡ Some has.second)
-home_read l page now lt short has i worn = by (sector_at i (home_a l page)) (sector_at i (home_b l page)) refl refl
-    (has_on (open_damage now.windows) now.image i has.first (home_a l page) (worn.each (home_a l page)) has.stands) (has_on (open_damage now.windows) now.image i has.second (home_b l page) (worn.each (home_b l page)) has.stands_too)
-  where
-    by : (x y : Sector) → sector_at i (home_a l page) ≡ x → sector_at i (home_b l page) ≡ y → (x ≡ Whole has.first) ⊎ (IsTrue (open_damage now.windows (home_a l page)) × (x ≡ Damaged)) → (y ≡ Whole has.second) ⊎ (IsTrue (open_damage now.windows (home_b l page)) × (y ≡ Damaged))
-        → (home_of l i page ≡ Some has.first) ⊎ (home_of l i page ≡ Some has.second)
-    by x y a b (inl first) second = inl (ap (λ (z : Sector). either_copy (bytes_of z) (bytes_at i (home_b l page))) (a ∙ first))
-    by x y a b (inr hurt) (inl second) = inr ((λ u. either_copy (bytes_of ((a ∙ hurt.1) u)) (bytes_of ((b ∙ second) u))))
-    by x y a b (inr hurt) (inr both) = absurd (short_open now.windows short (home_a l page) (home_b l page) (omega (arith, lt)) hurt.0 both.0)

@@ -11,5 +11,4 @@ mod MountLaws
 mod PlaceLaws
 mod SeenLaws
 mod SlotLaws
-pub mod LostLaws
 mod TurningLaws

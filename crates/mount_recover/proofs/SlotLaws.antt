@@ -1,8 +1,6 @@
 -- What a page's slot in the log gives while pages are mended.
 use Rattle.std.proofs.Common.{◌≡◌, ◌⊎◌, inl, inr, ℕ, ◌+◌, ◌*◌, ◌<◌, List, [], ◌∷◌, Some, None, sym, ap, subst, ◌∙◌}
-use Rattle.std.specs.Prelude.{IsTrue, ◌==◌}
 use Rattle.std.specs.List.{AllByRecursion}
-use Rattle.std.specs.Option.{option_or}
 use Rattle.volume_layout.specs.declared.layout.Layout.{Layout}
 use Rattle.sector_disk.specs.declared.machine.LoadFault.{LoadFault}
 use Rattle.sector_disk.specs.declared.machine.LoadFault.TheVariants as load
@@ -24,7 +22,6 @@ use Rattle.fsd_sound.proofs.LogPlaces.{IsRecord, scan_records}
 use Rattle.fsd_sound.proofs.SectorFacts.{has_bytes, has_weak}
 use Rattle.fsd_sound.proofs.TwiceLaws.{image_stands}
 use Rattle.fsd_files.proofs.KeptLaws.{has_on}
-use Rattle.log_thirds.specs.declared.slots.Slot.{Slot}
 use Rattle.log_thirds.specs.Append.{IsIndexed}
 use Rattle.log_thirds.specs.Images.{AreLogged, LiesAt, StandsAt}
 use Rattle.log_thirds.specs.LogValue.{LogValue}
@@ -59,9 +56,6 @@ module _ (l : Layout) (windows : List WeakRun) (choices : List (List (List ℕ))
       ((weaker l windows choices log first c at.image left.image later.worn).each s)
 
   module _ (a b : ℕ) (lies : LiesAt (Rattle.std.specs.Prelude.slice_index_or log.slots n None) a b) where
-    slot : Slot
-    slot = record { place = a; copy = b; number = lies.number }
-
     found : slot_of l log.anchor.third n (records_by l c.clean log.anchor) ≡ Some (record { place = a; copy = b; number = (logged_by log (records_by l c.clean log.anchor) n a b indexed lies).number })
     found = subst (λ (k : Layout). slot_of k log.anchor.third n (records_by l c.clean log.anchor) ≡ Some (record { place = a; copy = b; number = (logged_by log (records_by l c.clean log.anchor) n a b indexed lies).number })) same
         (logged_by log (records_by l c.clean log.anchor) n a b indexed lies).is

@@ -1,7 +1,7 @@
 -- What a mount leaves at each moment, and at its end.
 use Rattle.std.specs.Prelude.{◌≡◌, ◌⊎◌, ℕ, ◌+◌, ◌*◌, ◌<◌, ◌≤◌, List, [], ◌∷◌, ◌++◌, get_or, Some, None, Contains}
 use Rattle.volume_layout.specs.declared.layout.Layout.{Layout}
-use Rattle.volume_layout.specs.Layout.{home_a, home_b, map_start}
+use Rattle.volume_layout.specs.Layout.{home_a, home_b}
 use Rattle.fsd_formats.specs.declared.anchor.Anchor.{Anchor}
 use Rattle.sector_disk.specs.declared.sector.WeakRun.{WeakRun}
 use Rattle.sector_disk.specs.Image.{sector_at, IsWorn}
@@ -35,10 +35,6 @@ pub record IsCompletedFrom (l : Layout) (weak : Sectors) (old left : Image) : Ty
   pub last : HasLastCopies l anchor weak (records_by l seen anchor) left
 
 -- ---- moments
-
--- the map and the data are as they were
-abbrev pub SameBehind : Layout → Image → Image → Type 0
-SameBehind l i j = (s : ℕ) → map_start l ≤ s → sector_at j s ≡ sector_at i s
 
 -- the present window is as it was
 abbrev pub IsUnturned : (old left : Moment) → Type 0

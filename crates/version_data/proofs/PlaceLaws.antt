@@ -102,9 +102,6 @@ pub record LiesBehind (runs : List Run) (before : ℕ) (r : Run) : Type 0 where
   pub size : before + r.length ≤ length (sectors_of runs)
   pub each : (j : ℕ) → j < r.length → slice_get (sectors_of runs) (before + j) ≡ Some (r.start + j)
 
-pub left_first : (runs : List Run) → LeftFrom runs 0 0
-left_first runs = record { size = omega arith; each = λ j. ap (slice_get (sectors_of runs)) (let e : 0 + j ≡ j = omega arith in e) }
-
 length_more : (runs : List Run) (i : ℕ) (d : Run) → i < length runs → length (sectors_of (drop i runs)) ≡ (get_or runs i d).length + length (sectors_of (drop (i + 1) runs))
 length_more runs i d inside =
     let r : Run = get_or runs i d in

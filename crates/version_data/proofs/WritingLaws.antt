@@ -18,9 +18,6 @@ use Rattle.fsd_files.specs.Disk.{Sectors, SectorWorn}
 use Rattle.version_data.specs.Writing.{WritesIn, WroteMost}
 use Rattle.version_data.proofs.PlaceLaws.{LiesBehind, get_there}
 
-pub writes_none : (may : Sectors) (at : Moment) → WritesIn may at at
-writes_none may at = record { touches = record { size = refl; others = λ s out. inl refl }; windows = refl; said = refl }
-
 worn_twice : (weak : Bool) (a b c : Sector) → SectorWorn weak a b → SectorWorn weak b c → SectorWorn weak a c
 worn_twice weak a b c first (inr hurt) = inr hurt
 worn_twice weak a b c (inl same) (inl again) = inl (again ∙ same)
@@ -136,9 +133,6 @@ on_err P (Err told) holds = holds
 
 pub wrote_on : (l : Ledger) (a b : ℕ) → wrote (wrote l a) b ≡ wrote l (a + b)
 wrote_on l a b = let sum : l.written + a + b ≡ l.written + (a + b) = omega arith in ap (λ (n : ℕ). record { input = l.input; attaches = l.attaches; written = n }) sum
-
-pub wrote_none : (l : Ledger) → l ≡ wrote l 0
-wrote_none l = let sum : l.written ≡ l.written + 0 = omega arith in ap (λ (n : ℕ). record { input = l.input; attaches = l.attaches; written = n }) sum
 
 pub wrote_most : (l new : Ledger) (a most : ℕ) → new ≡ wrote l a → a ≤ most → WroteMost most l new
 wrote_most l new a most is le = let n : new.written ≡ l.written + a = ap (λ (x : Ledger). x.written) is in record { no_fewer = omega (arith, n); no_more = omega (arith, n, le) }

@@ -1,13 +1,15 @@
-use Rattle.std.proofs.Common.{◌≡◌, ◌≤◌, ◌+◌, ◌⊎◌, ℕ, List, length, sym, ap, subst, ◌∙◌, arith, rules}
+use Rattle.std.proofs.Common.{◌≡◌, ◌≤◌, ◌+◌, ◌⊎◌, ℕ, true, List, [], length, Some, sym, ap, subst, ◌∙◌, arith, rules}
+use Rattle.run_table.specs.Space.{contains}
 use Rattle.fsd_formats.specs.Record.{record_len}
 use Rattle.log_thirds.specs.Append.{stamp_now}
-use Rattle.page_cache.specs.Cache.{cleaned}
+use Rattle.page_cache.specs.Cache.{CacheValue, bytes_of, cleaned}
 use Rattle.sector_disk.proofs.CallLaws.{writes_none}
 use Rattle.group_commit.specs.Cached.{CacheLeaves, ascending_of}
 use Rattle.group_commit.specs.Entering.{RecordCause, LosesLogged}
 use Rattle.group_commit.specs.Force.{log_forced}
 use Rattle.group_commit.specs.Room.{WroteMost, log_before, sectors_before}
-use Rattle.group_commit.proofs.CachedLaws.{all_accepted, all_stamped, all_there, forced_some, idle_cache, idle_done, idle_leaves, idle_written, is_dirty, none_dirty, so_many, written_some}
+use Rattle.group_commit.proofs.CachedLaws.{all_accepted, all_stamped, all_there, forced_some, idle_cache, idle_done, idle_leaves, idle_written, is_dirty, is_waiting, none_dirty, so_many, written_some}
+use Rattle.group_commit.proofs.OutsideLaws.{outside_none}
 use Rattle.group_commit.proofs.cached.force_waiting.Goals as goal
 
 pub returns-then-count-eq0-clause-disk : goal.returns-then-count-eq0-clause-disk
@@ -42,6 +44,12 @@ returns-then-count-eq0-clause-done g c pages windows records disk agrees h ends 
     let none : length c.args.waiting.now ≡ 0 = search rules in
     idle_done c.args.cache.now c.requires.valid c.args.waiting.now c.requires.are none c.args.log.now pages windows records disk (g.M.Machine.now c.args.m.now).image over
 
+pub returns-then-count-eq0-clause-logged : goal.returns-then-count-eq0-clause-logged
+returns-then-count-eq0-clause-logged g c h page bytes is has =
+    let none : length c.args.waiting.now ≡ 0 = search rules in
+    let nowhere : contains [] page ≡ true = subst (λ (ys : List ℕ). contains ys page ≡ true) (none_dirty c.args.cache.now c.requires.valid c.args.waiting.now c.requires.are none) is in
+    absurd cc
+
 pub write_frames-requires-clause-accepted : goal.write_frames-requires-clause-accepted
 write_frames-requires-clause-accepted g c =
     let some : 1 ≤ length c.args.waiting.now = search rules in
@@ -75,6 +83,12 @@ returns-in-Ok-clause-log g c =
     let some : 1 ≤ length c.args.waiting.now = search rules in
     c.in-Ok.ensures.past ∙ sym (forced_some c.args.log.now c.args.waiting.now some) ∙ ap (log_forced c.args.log.now) c.requires.are
 
+pub returns-in-Ok-clause-logged : goal.returns-in-Ok-clause-logged
+returns-in-Ok-clause-logged g c h page bytes is has =
+    c.in-Ok.ensures.logged h page bytes
+    (is_waiting c.args.cache.now c.requires.valid c.args.waiting.now c.requires.are page is)
+    (subst (λ (v : CacheValue). bytes_of v page ≡ Some bytes) c.cleaned.ensures has)
+
 pub returns-in-Err-clause-cause : goal.returns-in-Err-clause-cause
 returns-in-Err-clause-cause g c =
     let many : length c.args.waiting.now ≡ length c.args.cache.now.dirty = so_many c.args.cache.now c.requires.valid c.args.waiting.now c.requires.are in
@@ -99,3 +113,6 @@ returns-in-Err-clause-log_err g c =
 
 pub returns-in-Err-clause-lost : goal.returns-in-Err-clause-lost
 returns-in-Err-clause-lost g c h = subst (LosesLogged c.args.log.now (g.M.Machine.now c.write_frames.new.m).image) (sym c.force_fault.ensures) (c.in-Err.ensures.lost h)
+
+pub returns-then-count-eq0-clause-rest : goal.returns-then-count-eq0-clause-rest
+returns-then-count-eq0-clause-rest g c h = outside_none c.args.log.now.layout (g.M.Machine.now c.args.m.now)

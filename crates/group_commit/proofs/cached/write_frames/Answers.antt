@@ -1,6 +1,9 @@
-use Rattle.std.proofs.Common.{rules}
+use Rattle.std.proofs.Common.{◌≡◌, ◌<◌, ℕ, List, Some, length, get_or, rules}
+use Rattle.fsd_log.specs.Judged.{slice_of}
+use Rattle.page_cache.specs.Cache.{bytes_of}
 use Rattle.sector_disk.proofs.CallLaws.{writes_more}
 use Rattle.group_commit.specs.Cached.{HasImages}
+use Rattle.group_commit.proofs.LoggedLaws.{logged_of}
 use Rattle.group_commit.proofs.ResultLaws.{if_err_more, on_ok_more}
 use Rattle.group_commit.proofs.cached.write_frames.Goals as goal
 
@@ -24,3 +27,11 @@ returns-clause-knows g c =
     on_ok_more c.write_record.result
     (λ more pages windows records disk agrees. more pages windows records disk (let has : HasImages c.args.log.now c.args.waiting.now c.as_slice.result.now pages = search rules in has))
     c.write_record.ensures.knows
+
+pub returns-clause-logged : goal.returns-clause-logged
+returns-clause-logged g c =
+    let room : List ℕ = c.as_slice.result.now in
+    let frames : (k : ℕ) → k < length c.args.waiting.now → bytes_of c.lay_record.new.cache (get_or c.args.waiting.now k 0) ≡ Some (slice_of room k) = search rules in
+    on_ok_more c.write_record.result
+    (λ logged h. logged_of c.write_record.new.log (g.M.Machine.now c.write_record.new.m) c.lay_record.new.cache c.args.waiting.now room (logged h) frames)
+    c.write_record.ensures.logged

@@ -3,11 +3,12 @@ use Rattle.sector_disk.specs.Machine.{Ledger}
 use Rattle.sector_disk.proofs.CallLaws.{writes_then}
 use Rattle.log_thirds.specs.Append.{IsIndexed, IsLogWorn}
 use Rattle.log_thirds.specs.LogValue.{LogValue}
-use Rattle.log_thirds.specs.Moving.{records_moved}
+use Rattle.log_thirds.specs.Moving.{moved_anchor, records_moved}
 use Rattle.group_commit.specs.Room.{WroteMost, pages_in_first}
 use Rattle.group_commit.proofs.CountLaws.{wrote_on}
 use Rattle.group_commit.proofs.EnterLaws.{moving_shows, entered}
 use Rattle.group_commit.proofs.HomingLaws.{homing_log}
+use Rattle.group_commit.proofs.OutsideLaws.{outside_anchors, outside_then}
 use Rattle.group_commit.proofs.RoomLaws.{on_err_any}
 use Rattle.group_commit.proofs.entering.enter_third.Goals as goal
 
@@ -58,3 +59,23 @@ returns-in-Err-clause-counted_err g c t =
     let said = c.in-Err.ensures in
     wrote_on (M.ledger c.args.m.now) (M.ledger c.home_third.new.m) (M.ledger c.move_anchor.new.m) (2 * pages_in_first c.args.log.now) 2 _
     (ap (λ (l : Ledger). l.written) (c.in_ok-home_third.ensures.counted (said.writes.trust.tells t))) (record { no_fewer = said.least t; no_more = said.most t }) (omega arith)
+
+pub returns-in-Ok-clause-rest : goal.returns-in-Ok-clause-rest
+returns-in-Ok-clause-rest g c h =
+    let M = g.M.Machine in
+    let log = c.args.log.now in
+    let mid = M.now c.home_third.new.m in let new = M.now c.move_anchor.new.m in
+    let first = c.in_ok-home_third.ensures in
+    let writes = c.in-Ok.ensures.writes in
+    let h1 = writes.trust.honest h in
+    outside_then log.layout (M.now c.args.m.now) mid new (first.disk.windows h1) (first.rest h1) (outside_anchors log.layout mid new (moved_anchor log) (writes.exit h))
+
+pub returns-in-Err-clause-rest : goal.returns-in-Err-clause-rest
+returns-in-Err-clause-rest g c h =
+    let M = g.M.Machine in
+    let log = c.args.log.now in
+    let mid = M.now c.home_third.new.m in let new = M.now c.move_anchor.new.m in
+    let first = c.in_ok-home_third.ensures in
+    let writes = c.in-Err.ensures.writes in
+    let h1 = writes.trust.honest h in
+    outside_then log.layout (M.now c.args.m.now) mid new (first.disk.windows h1) (first.rest h1) (outside_anchors log.layout mid new (moved_anchor log) (writes.exit h))

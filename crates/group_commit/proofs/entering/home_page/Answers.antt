@@ -10,6 +10,7 @@ use Rattle.twin_home.specs.Home.{HomesIn, with_homes}
 use Rattle.group_commit.specs.Entering.{AreOfLogged}
 use Rattle.group_commit.proofs.CountLaws.{wrote_on, wrote_same}
 use Rattle.group_commit.proofs.HomingLaws.{slot_gives, slot_not_lost, image_is, still, stays, homes_stay, homes_next}
+use Rattle.group_commit.proofs.OutsideLaws.{outside_homed, outside_read}
 use Rattle.group_commit.proofs.entering.home_page.Goals as goal
 
 pub returns-in-Ok-clause-disk : goal.returns-in-Ok-clause-disk
@@ -95,3 +96,31 @@ returns-in-Err-clause-never_lost g c records disk windows old n h may at =
     let log = c.args.log.now in
     let now = M.now c.args.m.now in
     slot_not_lost log records disk windows old may n now at c.args.page (M.now c.image_of.new.m) (c.in-Err.ensures.reads.worn h) c.in-Err.fault (c.in-Err.ensures.lost h)
+
+pub returns-in-Ok-clause-rest : goal.returns-in-Ok-clause-rest
+returns-in-Ok-clause-rest g c h =
+    let M = g.M.Machine in
+    let l = c.args.log.now.layout in
+    let read = M.now c.image_of.new.m in let new = M.now c.write_home.new.m in
+    let writes = c.in-Ok.ensures.writes in
+    outside_homed l (M.now c.args.m.now) read new (c.in-Ok-true.ensures.reads.worn (writes.trust.honest h)) c.args.page c.requires.page c.image_of.new.buf
+    (subst (λ (k : Layout). HomesIn k c.args.page c.image_of.new.buf read new) c.layout.ensures.value (writes.exit h))
+
+pub returns-in-Err-write_home-clause-rest : goal.returns-in-Err-write_home-clause-rest
+returns-in-Err-write_home-clause-rest g c h =
+    let M = g.M.Machine in
+    let l = c.args.log.now.layout in
+    let read = M.now c.image_of.new.m in let new = M.now c.write_home.new.m in
+    let writes = c.in-Err-write_home.ensures.writes in
+    outside_homed l (M.now c.args.m.now) read new (c.in-Ok-true.ensures.reads.worn (writes.trust.honest h)) c.args.page c.requires.page c.image_of.new.buf
+    (subst (λ (k : Layout). HomesIn k c.args.page c.image_of.new.buf read new) c.layout.ensures.value (writes.exit h))
+
+pub returns-in-Ok-false-clause-rest : goal.returns-in-Ok-false-clause-rest
+returns-in-Ok-false-clause-rest g c h =
+    let M = g.M.Machine in
+    outside_read c.args.log.now.layout (M.now c.args.m.now) (M.now c.image_of.new.m) (c.in-Ok-false.ensures.reads.worn h)
+
+pub returns-in-Err-clause-rest : goal.returns-in-Err-clause-rest
+returns-in-Err-clause-rest g c h =
+    let M = g.M.Machine in
+    outside_read c.args.log.now.layout (M.now c.args.m.now) (M.now c.image_of.new.m) (c.in-Err.ensures.reads.worn h)

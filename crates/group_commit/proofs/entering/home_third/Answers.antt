@@ -13,6 +13,7 @@ use Rattle.group_commit.specs.Entering.{ShowsStill, OwnsLog, MayHome}
 use Rattle.group_commit.specs.Room.{WroteMost, pages_in_first}
 use Rattle.group_commit.proofs.CountLaws.{count_next, count_done, count_part, wrote_on, wrote_twice, wrote_none, handed_up}
 use Rattle.group_commit.proofs.HomingLaws.{begin, stays, all_homed}
+use Rattle.group_commit.proofs.OutsideLaws.{outside_none, outside_then}
 use Rattle.group_commit.proofs.RoomLaws.{on_err_any}
 use Rattle.group_commit.proofs.entering.home_third.Goals as goal
 
@@ -26,6 +27,7 @@ loop-page-init g c =
       disk = writes_none c.args.m.now (λ left h at. g.met.M.Machine.only_now c.args.m.now left h at) (ShowsStill log)
           (λ h records disk windows may over. stays log records disk windows old may 0 old (begin log records disk windows old may over) old (wears_none old));
       counted = λ t. wrote_none (M.ledger c.args.m.now) _ refl;
+      rest = λ h. outside_none log.layout old;
       homing = λ records disk windows h may over. begin log records disk windows old may over;
     }
 
@@ -47,6 +49,7 @@ loop-page-preserved g c =
       disk = writes_then so_far.disk writes (λ h left so. so) (λ h left shows records disk windows may over.
           shows records disk windows old c.loop-page.from may ((least records over.indexed).lies) (so_far.homing records disk windows (writes.trust.honest h) may over));
       counted = λ t. c.in_ok-home_page-in-Some.ensures.counted t ∙ ap (λ x. wrote x 2) (so_far.counted (writes.trust.tells t)) ∙ wrote_twice (M.ledger c.args.m.now) _ 2 _ (omega (arith, next));
+      rest = λ h. let h1 = back h in outside_then log.layout old (M.now c.loop-page.m) (M.now c.home_page.new.m) (so_far.disk.windows h1) (so_far.rest h1) (c.in_ok-home_page-in-Some.ensures.rest h);
       homing = λ records disk windows h may over.
           let is = least records over.indexed in
           c.in_ok-home_page-in-Some.ensures.done records disk windows old c.loop-page.from h may is.lies is.before (so_far.homing records disk windows (back h) may over);
@@ -102,3 +105,11 @@ returns-in-None-clause-done g c records disk windows h may over =
     let log = c.args.log.now in
     let none = subst (λ (t : ℕ). NoneOfThird log records t c.loop-page.from) c.requires.first (c.in-None.ensures.none records over.indexed) in
     all_homed log records disk windows old may c.loop-page.from (M.now c.loop-page.m) (c.loop-page.invariant.homing records disk windows h may over) none
+
+pub returns-in_err-home_page-in-Some-clause-rest : goal.returns-in_err-home_page-in-Some-clause-rest
+returns-in_err-home_page-in-Some-clause-rest g c h =
+    let M = g.M.Machine in
+    let so_far = c.loop-page.invariant in
+    let said = c.in_err-home_page-in-Some.ensures in
+    let h1 = said.disk.trust.honest h in
+    outside_then c.args.log.now.layout (M.now c.args.m.now) (M.now c.loop-page.m) (M.now c.home_page.new.m) (so_far.disk.windows h1) (so_far.rest h1) (said.rest h)

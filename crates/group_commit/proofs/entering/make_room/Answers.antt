@@ -8,6 +8,7 @@ use Rattle.log_thirds.specs.Moving.{moved, records_moved}
 use Rattle.group_commit.specs.Entering.{ShowsStill, OwnsLog, IsEntered, HasRoomNow, MayHome}
 use Rattle.group_commit.specs.Force.{KeepsOutside}
 use Rattle.group_commit.proofs.HomingLaws.{begin, stays}
+use Rattle.group_commit.proofs.OutsideLaws.{outside_none}
 use Rattle.group_commit.proofs.RoomLaws.{before_again, on_ok_both, on_err_any, first_again}
 use Rattle.group_commit.specs.Room.{goes_before, pages_in_first, sectors_before}
 use Rattle.group_commit.proofs.CountLaws.{wrote_at}
@@ -57,3 +58,9 @@ returns-in-NextThird-clause-disk g c =
     let log = c.args.log.now in
     writes_none c.args.m.now (λ left h at. g.met.M.Machine.only_now c.args.m.now left h at) (ShowsStill log)
     (λ h records disk windows may over. stays log records disk windows old may 0 old (begin log records disk windows old may over) old (wears_none old))
+
+pub returns-in-Here-clause-rest : goal.returns-in-Here-clause-rest
+returns-in-Here-clause-rest g c h = outside_none c.args.log.now.layout (g.M.Machine.now c.args.m.now)
+
+pub returns-in-NextThird-clause-rest : goal.returns-in-NextThird-clause-rest
+returns-in-NextThird-clause-rest g c h = outside_none c.args.log.now.layout (g.M.Machine.now c.args.m.now)

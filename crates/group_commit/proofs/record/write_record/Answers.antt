@@ -1,9 +1,9 @@
-use Rattle.std.proofs.Common.{◌≡◌, ◌*◌, ◌≤◌, ℕ, List, [], length, map, take, sym, ap, subst, ◌∙◌, arith}
+use Rattle.std.proofs.Common.{◌≡◌, ◌*◌, ℕ, List, [], length, get_or, take, sym, ap, subst, ◌∙◌, arith}
 use Rattle.std.proofs.lemmas.List.{length-take-le}
 use Rattle.volume_layout.specs.declared.layout.Layout.{Layout}
 use Rattle.fsd_formats.specs.Record.{Stamp, are_pages, record_len, AreStamped}
+use Rattle.fsd_log.specs.Judged.{slice_of}
 use Rattle.fsd_log.specs.Laid.{laid_bytes, slices}
-use Rattle.fsd_sound.specs.Mounted.{image_at}
 use Rattle.sector_disk.specs.Damage.{IsDevice}
 use Rattle.group_commit.proofs.CountLaws.{handed_up, wrote_on, wrote_same}
 use Rattle.fsd_log.specs.Scan.{Placed, place_of, spot_for}
@@ -14,21 +14,23 @@ use Rattle.sector_disk.proofs.CallLaws.{told_up, writes_more, writes_then, write
 use Rattle.fsd_sound.specs.Sound.{EndIn}
 use Rattle.log_thirds.specs.LogValue.{LogValue}
 use Rattle.log_thirds.specs.Append.{StandsInPart, stamp_now, log_with}
-use Rattle.fsd_log.proofs.TornLaws.{are_few}
-use Rattle.log_thirds.proofs.MomentLaws.{all_small}
+use Rattle.log_thirds.proofs.MomentLaws.{MayAppend, all_small}
 use Rattle.log_thirds.proofs.RunLaws.{narrow_runs}
 use Rattle.sector_disk.specs.Image.{open_damage}
 use Rattle.sector_disk.proofs.Wear.{worn_refl}
 use Rattle.group_commit.specs.Entering.{HasRoomNow, MayHome, ShowsStill}
-use Rattle.group_commit.specs.Force.{StandsOver, Committed}
+use Rattle.group_commit.specs.Force.{StandsOver, Committed, KeepsOutside}
 use Rattle.group_commit.specs.Cached.{HasImages, RecordLeaves}
+use Rattle.group_commit.specs.Logged.{StandsLogged}
 use Rattle.group_commit.specs.Newest.{KnowsImages}
 use Rattle.group_commit.specs.Resident.{ResidentValue, stamped}
 use Rattle.group_commit.specs.Room.{WroteMost, sectors_before}
 use Rattle.group_commit.proofs.ImageLaws.{IsRecordOf}
 use Rattle.group_commit.proofs.RoundLaws.{may_home, owns, making, stands, commits_on, ends_then}
-use Rattle.group_commit.proofs.ForceLaws.{MayForceHere, force_here, commits, committed, log_in_window}
+use Rattle.group_commit.proofs.ForceLaws.{MayForce, commits, committed, log_in_window}
+use Rattle.group_commit.proofs.LoggedLaws.{slice_in_front, stands_logged}
 use Rattle.group_commit.proofs.StandsLaws.{knows_log}
+use Rattle.group_commit.proofs.OutsideLaws.{outside_record, outside_then}
 use Rattle.group_commit.proofs.RoomLaws.{on_err_any}
 use Rattle.group_commit.proofs.record.write_record.Given as given
 use Rattle.group_commit.proofs.record.write_record.Goals as goal
@@ -59,35 +61,44 @@ made : (g : given.Over) (c : After-append g) (pages : List (List ℕ)) (windows 
 made g c pages windows records disk h ends over known =
     c.in_ok-make_room.ensures.done records disk windows (c.append.ensures.writes.trust.honest h) (home_here g c windows h ends) (owns c.args.log.now (s g c pages) records disk windows (g.M.Machine.now c.args.m.now) over known)
 
+-- the log takes the record, whatever the disk shows
+may_append : (g : given.Over) (c : After-append g) → g.M.Machine.honest c.append.new.m → MayAppend c.make_room.new.log c.args.dirty.now (images g c) (length (g.M.Machine.now c.make_room.new.m).image)
+may_append g c h =
+    let shape = c.append.ensures.shape in
+    let h1 = c.append.ensures.writes.trust.honest h in
+    record {
+      least = shape.least;
+      one_of = shape.third;
+      is_in = shape.is_in;
+      epoch = shape.epoch;
+      number = omega (arith, ap (λ (t : Stamp). t.number) c.make_room.ensures.stamp, c.requires.numbered);
+      accepted = ap (λ (l : Layout). are_pages l.pages c.args.dirty.now) c.make_room.ensures.layout ∙ c.requires.accepted;
+      small = all_small c.args.dirty.now (λ k. omega (arith, c.type_inv.dirty k));
+      bytes = length-take-le (512 * length c.args.dirty.now) c.args.room.now c.requires.long;
+      stamped = subst (λ (t : Stamp). AreStamped t c.args.dirty.now (slices (length c.args.dirty.now) (images g c))) (sym c.make_room.ensures.stamp) c.requires.stamped;
+      room = c.in_ok-make_room.ensures.room;
+      sized = omega (arith, shape.inside, ap (λ (l : Layout). l.sectors) c.make_room.ensures.layout, c.requires.sectors, c.make_room.ensures.disk.uses.sectors, g.met.M.Machine.sized c.make_room.new.m h1);
+    }
+
 may : (g : given.Over) (c : After-append g) (pages : List (List ℕ)) (has : Have g c pages) (windows : List WeakRun) (records : List Placed) (disk : List (List ℕ)) (h : g.M.Machine.honest c.append.new.m) (ends : EndIn (g.M.Machine.now c.args.m.now).windows windows)
     (over : StandsOver c.args.log.now records disk (s g c pages) windows (g.M.Machine.now c.args.m.now).image) (known : KnowsImages c.args.log.now (g.M.Machine.now c.args.m.now).image)
-    → MayForceHere c.make_room.new.log (s g c pages) (images g c) (made g c pages windows records disk h ends over known).records disk windows (g.M.Machine.now c.make_room.new.m)
+    → MayForce c.make_room.new.log (s g c pages) (images g c) (made g c pages windows records disk h ends over known).records disk windows (g.M.Machine.now c.make_room.new.m)
 may g c pages has windows records disk h ends over known =
     let M = g.M.Machine in
     let mid = M.now c.make_room.new.m in
     let h1 = c.append.ensures.writes.trust.honest h in
     let log = c.args.log.now in
     let after = c.make_room.new.log in
-    let few : length c.args.dirty.now ≤ 96 = are_few log.layout.pages c.args.dirty.now c.requires.accepted in
-    let long : length (images g c) ≡ 512 * length c.args.dirty.now = length-take-le (512 * length c.args.dirty.now) c.args.room.now c.requires.long in
-    let then = ends_then log (s g c pages) records disk windows (M.now c.args.m.now) over after mid (made g c pages windows records disk h ends over known) c.make_room.ensures.layout c.make_room.ensures.stamp (c.make_room.ensures.disk.windows h1) (c.make_room.ensures.disk.quiet h1) ends in
-    let sized : after.layout.sectors ≤ length mid.image = omega (arith, ap (λ (l : Layout). l.sectors) c.make_room.ensures.layout, c.requires.sectors, c.make_room.ensures.disk.uses.sectors, g.met.M.Machine.sized c.make_room.new.m h1) in
-    force_here after (s g c pages) (images g c) (made g c pages windows records disk h ends over known).records disk windows mid (record {
-      shape = c.append.ensures.shape;
-      number = omega (arith, ap (λ (t : Stamp). t.number) c.make_room.ensures.stamp, c.requires.numbered);
-      accepted = ap (λ (l : Layout). are_pages l.pages c.args.dirty.now) c.make_room.ensures.layout ∙ c.requires.accepted;
-      small = all_small c.args.dirty.now (λ k. omega (arith, c.type_inv.dirty k));
-      bytes = long;
-      slices_are = subst (λ (t : Stamp). slices (length c.args.dirty.now) (images g c) ≡ map (image_at (stamped t c.args.dirty.now pages)) c.args.dirty.now) (sym c.make_room.ensures.stamp) (laid g c pages has).slices_are;
-      bear = subst (λ (t : Stamp). AreStamped t c.args.dirty.now (slices (length c.args.dirty.now) (images g c))) (sym c.make_room.ensures.stamp) (laid g c pages has).bear;
-      room = c.in_ok-make_room.ensures.room;
-      sized = sized;
+    let room = made g c pages windows records disk h ends over known in
+    record {
+      may = may_append g c h;
+      of = subst (λ (t : Stamp). IsRecordOf t c.args.dirty.now (stamped t c.args.dirty.now pages) (images g c)) (sym c.make_room.ensures.stamp) (laid g c pages has);
       table = has.table ∙ ap (λ (l : Layout). l.pages) (sym c.make_room.ensures.layout);
       few = omega (arith, c.append.ensures.shape.pages);
       apart = (home_here g c windows h ends).apart;
-      ends = then;
-      over = stands log (s g c pages) records disk windows (M.now c.args.m.now) over after mid (made g c pages windows records disk h ends over known) c.make_room.ensures.layout c.make_room.ensures.stamp (c.make_room.ensures.disk.windows h1) (c.make_room.ensures.disk.quiet h1);
-    })
+      ends = ends_then log (s g c pages) records disk windows (M.now c.args.m.now) over after mid room c.make_room.ensures.layout c.make_room.ensures.stamp (c.make_room.ensures.disk.windows h1) (c.make_room.ensures.disk.quiet h1) ends;
+      over = stands log (s g c pages) records disk windows (M.now c.args.m.now) over after mid room c.make_room.ensures.layout c.make_room.ensures.stamp (c.make_room.ensures.disk.windows h1) (c.make_room.ensures.disk.quiet h1);
+    }
 
 -- whatever the append leaves, the pages as they were or as they are now are shown
 shown : (g : given.Over) (c : After-append g) (left : Moment) → g.M.Machine.honest c.append.new.m
@@ -110,6 +121,17 @@ making_room g c left h shows pages has windows records disk ends over known =
     (shows records disk windows
     (may_home log c.layout-layout.result.now windows old c.layout-layout.ensures.value c.pages-pages.ensures.planned c.layout-layout.ensures.shape (g.met.M.Machine.short c.args.m.now (c.in_ok-make_room.ensures.disk.trust.honest h)) ends)
     (owns log (s g c pages) records disk windows old over known))
+
+-- whatever the disk shows
+rest_made : (g : given.Over) (c : After-append g) → g.M.Machine.honest c.append.new.m → KeepsOutside c.args.log.now.layout (g.M.Machine.now c.args.m.now) (g.M.Machine.now c.append.new.m)
+rest_made g c h =
+    let M = g.M.Machine in
+    let after = c.make_room.new.log in
+    let mid = M.now c.make_room.new.m in let new = M.now c.append.new.m in
+    let writes = c.append.ensures.writes in
+    let h1 = writes.trust.honest h in
+    outside_then c.args.log.now.layout (M.now c.args.m.now) mid new (c.make_room.ensures.disk.windows h1) (c.make_room.ensures.rest h1)
+    (subst (λ (l : Layout). KeepsOutside l mid new) c.make_room.ensures.layout (outside_record after c.args.dirty.now (images g c) mid new (may_append g c h) (writes.exit h)))
 
 pub append-requires-clause-stamped : goal.append-requires-clause-stamped
 append-requires-clause-stamped g c =
@@ -196,3 +218,21 @@ returns-in-Ok-clause-knows g c pages windows records disk has h ends over kept =
     let before = log_in_window after (s g c1 pages) room.records disk windows mid is.few c.append.ensures.shape.epoch c.append.ensures.shape.third is.apart is.ends is.over in
     let then = c.in-Ok.ensures.worn_done room.records h (λ p d x y far. narrow_runs mid.windows.present mid.windows.next short.present short.next p d x y far) before in
     knows_log c.append.new.self _ new (then new.image (worn_refl (open_damage new.windows) new.image)) (c.in-Ok.ensures.indexed room.records room.over.indexed)
+
+pub returns-in-Ok-clause-logged : goal.returns-in-Ok-clause-logged
+returns-in-Ok-clause-logged g c h k lt =
+    let M = g.M.Machine in
+    let c1 = (goal.at.returns-in-Ok-clause-logged g c).After-append in
+    let dirty = c.args.dirty.now in
+    let after = c.make_room.new.log in
+    let new = M.now c.append.new.m in
+    let page : ℕ = get_or c.args.dirty.now k 0 in
+    subst (λ (x : LogValue). StandsLogged x new page (slice_of c.args.room.now k)) (sym c.in-Ok.ensures.past)
+    (subst (StandsLogged (log_with after dirty) new page) (slice_in_front c.args.room.now (length dirty) k lt)
+    (stands_logged after dirty (images g c1) (M.now c.make_room.new.m) new (may_append g c1 h) k lt c.append.ensures.shape.table (c.in-Ok.ensures.stands h)))
+
+pub returns-in-Ok-clause-rest : goal.returns-in-Ok-clause-rest
+returns-in-Ok-clause-rest g c h = rest_made g (goal.at.returns-in-Ok-clause-rest g c).After-append h
+
+pub returns-in-Err-clause-rest : goal.returns-in-Err-clause-rest
+returns-in-Err-clause-rest g c h = rest_made g (goal.at.returns-in-Err-clause-rest g c).After-append h

@@ -1,0 +1,121 @@
+-- What stands in the log behind the write of a record.
+use Rattle.std.proofs.Common.{◌≡◌, ℕ, zero, suc, ◌+◌, ◌-◌, ◌*◌, ◌<◌, ◌≤◌, Bool, true, false, cond, List, [], ◌∷◌, length, take, drop, get_or, Option, Some, None, refl, sym, ap, subst, ◌∙◌, arith, eq-eqb}
+use Rattle.std.specs.Prelude.{nat_eq}
+use Rattle.std.specs.Option.{option_or}
+use Rattle.std.proofs.lemmas.Bool.{or_parts}
+use Rattle.std.proofs.lemmas.List.{drop-take, take-take}
+use Rattle.run_table.specs.Space.{contains}
+use Rattle.fsd_formats.specs.Record.{record_len}
+use Rattle.sector_disk.specs.declared.sector.Sector.TheVariants.{Whole}
+use Rattle.sector_disk.specs.Image.{IsWorn, Windows, open_damage, sector_at, stand}
+use Rattle.sector_disk.specs.Machine.{Holds, Moment}
+use Rattle.sector_disk.proofs.Wear.{stand_in}
+use Rattle.fsd_files.specs.Disk.{Image}
+use Rattle.fsd_log.specs.Judged.{slice_of}
+use Rattle.fsd_log.specs.Laid.{laid_bytes}
+use Rattle.fsd_log.specs.Scan.{place_of, spot_for}
+use Rattle.log_thirds.specs.Append.{log_with, stamp_now}
+use Rattle.log_thirds.specs.LogValue.{LogValue}
+use Rattle.log_thirds.specs.Slots.{slot_in}
+use Rattle.log_thirds.specs.declared.slots.Slot.{Slot}
+use Rattle.log_thirds.proofs.MomentLaws.{MayAppend, laid, write_inside}
+use Rattle.log_thirds.proofs.SlotLaws.{get-noted}
+use Rattle.page_cache.specs.Cache.{CacheValue, bytes_of, is_one_of}
+use Rattle.group_commit.specs.Logged.{StandsLogged}
+use Rattle.group_commit.proofs.FrameLaws.{not_before}
+use Rattle.group_commit.proofs.ImageLaws.{below_at, pages_of}
+use Rattle.group_commit.proofs.OrderLaws.{contained_index, index_contained}
+
+-- ---- slots of a record's pages
+
+abbrev slot : (number place copy : ℕ) → Slot
+slot number place copy = record { place = place; copy = copy; number = number }
+
+-- that of one of some pages, which is none of those before it
+slot_in_at : (number place copy : ℕ) (pages : List ℕ) (k : ℕ) → k < length pages → is_one_of (take k pages) (get_or pages k 0) ≡ false → slot_in (get_or pages k 0) number place copy pages ≡ Some (slot number (place + k) (copy + k))
+slot_in_at number place copy [] k lt out = absurd (omega arith)
+slot_in_at number place copy (p ∷ pages) zero lt out =
+    let x : place ≡ place + 0 = omega arith in
+    let y : copy ≡ copy + 0 = omega arith in
+    let same : ◌≡◌ {A = Option Slot} (Some (slot number place copy)) (Some (slot number (place + 0) (copy + 0))) = λ i. Some (slot number (x i) (y i)) in
+    ap (λ (b : Bool). cond b (Some (slot number place copy)) (slot_in p number (place + 1) (copy + 1) pages)) (eq-eqb p p refl) ∙ same
+slot_in_at number place copy (p ∷ pages) (suc k) lt out =
+    let parts = or_parts (nat_eq p (get_or pages k 0)) (is_one_of (take k pages) (get_or pages k 0)) out in
+    let x : place + 1 + k ≡ place + suc k = omega arith in
+    let y : copy + 1 + k ≡ copy + suc k = omega arith in
+    let same : ◌≡◌ {A = Option Slot} (Some (slot number (place + 1 + k) (copy + 1 + k))) (Some (slot number (place + suc k) (copy + suc k))) = λ i. Some (slot number (x i) (y i)) in
+    ap (λ (b : Bool). cond b (Some (slot number place copy)) (slot_in (get_or pages k 0) number (place + 1) (copy + 1) pages)) parts.0
+    ∙ slot_in_at number (place + 1) (copy + 1) pages k (omega arith) parts.1
+    ∙ same
+
+-- ---- a record that is written
+
+-- the sectors in front of some bytes
+pub slice_in_front : (bytes : List ℕ) (n k : ℕ) → k < n → slice_of (take (512 * n) bytes) k ≡ slice_of bytes k
+slice_in_front bytes n k lt =
+    let more : ℕ = 512 * n - 512 * k in
+    let split : 512 * n ≡ 512 * k + more = omega arith in
+    ap (λ (m : ℕ). take 512 (drop (512 * k) (take m bytes))) split
+    ∙ ap (take 512) (drop-take (512 * k) more bytes)
+    ∙ take-take 512 more (drop (512 * k) bytes) (omega arith)
+
+module _ (log : LogValue) (pages images : List ℕ) (old new : Moment) (may : MayAppend log pages images (length old.image)) where
+  abbrev place : ℕ
+  place = place_of log.layout log.anchor.third (spot_for log.layout (length pages) log.head).at
+
+  abbrev bytes : List ℕ
+  bytes = laid_bytes (stamp_now log) pages images
+
+  abbrev written : Image
+  written = stand old.image place bytes (record_len (length pages))
+
+  inside : place + record_len (length pages) ≤ 16 + 3 * log.layout.third
+  inside = write_inside log pages images (length old.image) may
+
+  module _ (k : ℕ) (lt : k < length pages) where
+    abbrev page : ℕ
+    page = get_or pages k 0
+
+    row : (s m : ℕ) → s ≡ place + m → m < record_len (length pages) → slice_of bytes m ≡ slice_of images k → sector_at written s ≡ Whole (slice_of images k)
+    row s m at within is =
+        ap (sector_at written) at
+        ∙ stand_in old.image place bytes (record_len (length pages)) m within (omega (arith, inside, may.sized))
+        ∙ ap (λ (x : List ℕ). Whole x) is
+
+    slot_is : length log.slots ≡ log.layout.pages → get_or (log_with log pages).slots page None ≡ Some (slot log.head.number (place + 3 + k) (place + 3 + length pages + 1 + k))
+    slot_is table =
+        let asked = pages_of log.layout.pages pages may.accepted in
+        let below : page < length log.slots = omega (arith, table, below_at log.layout.pages pages asked.below page (index_contained pages k lt)) in
+        get-noted log.head.number log.slots (place + 3) (place + 3 + length pages + 1) page pages below
+        ∙ ap (λ (o : Option Slot). option_or o (get_or log.slots page None)) (slot_in_at log.head.number (place + 3) (place + 3 + length pages + 1) pages k lt (not_before pages k asked.ascends lt))
+
+    -- each image stands at the two places that the page's slot has
+    pub stands_logged : length log.slots ≡ log.layout.pages → Holds old written new → StandsLogged (log_with log pages) new page (slice_of images k)
+    stands_logged table holds =
+        let rows = laid log pages images (length old.image) may in
+        record {
+          seen = written;
+          worn = subst (λ (w : Windows). IsWorn (open_damage w) written new.image) (sym holds.windows) holds.worn;
+          a = place + 3 + k;
+          b = place + 3 + length pages + 1 + k;
+          lies = record { number = log.head.number; is = slot_is table };
+          first = row (place + 3 + k) (3 + k) (omega arith) (omega (arith, lt)) (rows.image k lt);
+          second = row (place + 3 + length pages + 1 + k) (4 + length pages + k) (omega arith) (omega (arith, lt)) (rows.copy k lt);
+          below_a = omega (arith, inside, lt);
+          below_b = omega (arith, inside, lt);
+        }
+
+-- ---- the frames that it was laid from
+
+-- what stands so of each of some pages, said of a page and its bytes
+pub logged_of : (log : LogValue) (now : Moment) (c : CacheValue) (pages room : List ℕ) → ((k : ℕ) → k < length pages → StandsLogged log now (get_or pages k 0) (slice_of room k))
+    → ((k : ℕ) → k < length pages → bytes_of c (get_or pages k 0) ≡ Some (slice_of room k))
+    → (page : ℕ) (bytes : List ℕ) → contains pages page ≡ true → bytes_of c page ≡ Some bytes → StandsLogged log now page bytes
+logged_of log now c pages room logged frames page bytes is has =
+    let at = contained_index pages page is in
+    let frame : bytes_of c page ≡ Some (slice_of room at.index) = subst (λ (p : ℕ). bytes_of c p ≡ Some (slice_of room at.index)) at.is (frames at.index at.inside) in
+    subst (λ (p : ℕ). StandsLogged log now p bytes) at.is
+    (subst (StandsLogged log now (get_or pages at.index 0)) (some_same (slice_of room at.index) bytes (sym frame ∙ has)) (logged at.index at.inside))
+  where
+    some_same : (x y : List ℕ) → Some x ≡ Some y → x ≡ y
+    some_same x y e = cc
