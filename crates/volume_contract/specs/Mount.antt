@@ -1,18 +1,20 @@
 -- What a mount finds, why it is refused, and what it leaves.
-use Rattle.std.specs.Prelude.{◌≡◌, ◌⊎◌, ⊤, ℕ, ◌+◌, ◌*◌, ◌≤◌, Bool, ◌||◌, List, [], ◌∷◌, ◌++◌, take, Some, None, Result, Ok, Err}
+use Rattle.std.specs.Prelude.{◌≡◌, ◌⊎◌, ⊤, ℕ, ◌+◌, ◌*◌, ◌<◌, ◌≤◌, Bool, ◌||◌, List, [], ◌∷◌, ◌++◌, take, Some, None, Result, Ok, Err}
 use Rattle.volume_layout.specs.declared.layout.Layout.{Layout}
-use Rattle.volume_layout.specs.Layout.{home_a, plan}
+use Rattle.volume_layout.specs.Layout.{home_a, home_b, plan}
 use Rattle.fsd_formats.specs.declared.anchor.Anchor.{Anchor}
+use Rattle.fsd_formats.specs.Anchors.{anchor_bytes}
 use Rattle.sector_disk.specs.declared.sector.WeakRun.{WeakRun}
 use Rattle.sector_disk.specs.Image.{IsWorn, in_run, open_damage}
 use Rattle.sector_disk.specs.Machine.{Ledger, Moment, Wears}
 use Rattle.fsd_log.specs.Scan.{Placed}
 use Rattle.fsd_table.specs.Breaks.{Breaks}
 use Rattle.fsd_table.specs.Table.{told_in}
-use Rattle.fsd_files.specs.Disk.{Image}
+use Rattle.fsd_files.specs.Disk.{Image, Has}
 use Rattle.fsd_files.specs.Files.{Change}
 use Rattle.fsd_sound.specs.Anchors.{anchor_of}
 use Rattle.fsd_sound.specs.Homes.{home_of}
+use Rattle.fsd_sound.specs.Laid.{StandsTwice}
 use Rattle.fsd_sound.specs.Mounted.{Mounted, IsFresh, telling_of}
 use Rattle.fsd_sound.specs.Shown.{all_pages, each_of, shown}
 use Rattle.fsd_sound.specs.Sound.{EndIn, IsPrefixOf, IsSound, weak_of}
@@ -22,7 +24,7 @@ use Rattle.fsd_sound.specs.Lost.{LosesShown}
 use Rattle.fsd_sound.specs.Writes.{WritesAsMount}
 use Rattle.fsd_sound.specs.Mounting.{HasNextEpoch, HasRoot, IsVolume, RefusedFor, last_epoch}
 use Rattle.fsd_runs.specs.Leaves.{RaisesEpoch}
-use Rattle.volume_contract.specs.State.{Fits, Known, Stands, State}
+use Rattle.volume_contract.specs.State.{Fits, Known, ListsPages, Stands, State}
 
 -- ---- over any machine
 
@@ -56,6 +58,20 @@ KeepsAll NotVolume old new = Wears old new
 KeepsAll NoAnchor old new = Wears old new
 KeepsAll WornOut old new = Wears old new
 KeepsAll fault old new = ⊤
+
+-- ---- what is healed, whatever the image was
+
+-- the volume's anchor stands at both of its places, but for what the open window may wear
+abbrev pub HealsAnchors : State → Moment → Type 0
+HealsAnchors s now = StandsTwice (open_damage now.windows) now.image (anchor_bytes s.anchor) 8 12
+
+-- the sector has some bytes, or is damaged where the open window may wear it
+abbrev pub HasSome : Moment → ℕ → Type 0
+HasSome now s = (bytes : List ℕ) × Has (open_damage now.windows) now.image bytes s
+
+-- so has each home of each page
+abbrev pub HealsHomes : State → Moment → Type 0
+HealsHomes s now = (page : ℕ) → page < s.layout.pages → HasSome now (home_a s.layout page) × HasSome now (home_b s.layout page)
 
 -- ---- unsound tables
 
@@ -95,6 +111,7 @@ module _ {S : Type 0} (state : S → State) (has : S → Mounted → List Placed
     pub shows : ShowsVolume sectors i (state volume).layout mounted.pages
     pub holds : has volume mounted []
     pub fits : Fits (state volume) mounted
+    pub lists : ListsPages (state volume) mounted.pages []
     pub told : told_in mounted.pages ≡ Some (telling_of mounted.volume)
     pub whole : (page : ℕ) → Breaks (state volume).layout mounted.pages page → ⊥
 

@@ -1,5 +1,6 @@
 -- A volume as its caller knows it: what it tells over any machine, and what it is where the machine kept to its promise.
 use Rattle.std.specs.Prelude.{◌≡◌, ◌⊎◌, ℕ, suc, ◌+◌, ◌-◌, ◌*◌, ◌<◌, ◌≤◌, Bool, false, not, ◌&&◌, ◌||◌, List, [], length, Option, Some, None, IsSome, Result, Ok, Err, IsFalse, is_none, nat_le, nat_lt, ◌==◌, if◌then◌else◌, count_by, replicate}
+use Rattle.std.specs.List.{list_any}
 use Rattle.fsd_bytes.specs.declared.key.Serial.{Serial}
 use Rattle.fsd_bytes.specs.declared.refusal.Refusal.{Refusal}
 use Rattle.fsd_bytes.specs.declared.refusal.Refusal.TheVariants as Why
@@ -14,6 +15,7 @@ use Rattle.sector_disk.specs.declared.sector.WeakRun.{WeakRun}
 use Rattle.sector_disk.specs.Image.{open_damage, IsWorn}
 use Rattle.sector_disk.specs.Machine.{Moment, Ledger}
 use Rattle.fsd_log.specs.Scan.{Head, Placed, start}
+use Rattle.fsd_table.specs.Table.{visits}
 use Rattle.fsd_files.specs.Disk.{Sectors, Touches}
 use Rattle.fsd_files.specs.Files.{Change}
 use Rattle.fsd_files.specs.Volume.{Volume, forced, free_runs, pages_free, waits}
@@ -23,7 +25,7 @@ use Rattle.fsd_sound.specs.Shown.{records_by}
 use Rattle.fsd_sound.specs.Sound.{EndIn, IsSound}
 use Rattle.fsd_sound.specs.Writes.{force_writes}
 use Rattle.log_thirds.specs.declared.slots.Slot.{Slot}
-use Rattle.log_thirds.specs.Slots.{lies_in}
+use Rattle.log_thirds.specs.Slots.{AreSlots, lies_in}
 use Rattle.fsd_runs.specs.Runs.{last_count}
 
 -- ---- over any machine
@@ -175,10 +177,18 @@ pub record Fits (s : State) (m : Mounted) : Type 0 where
   pub versions : length m.volume.files ≡ s.versions
   pub up : s.down ≡ None
 
+-- What it tells of pages is of these, and of the log's records: each page's slot in the last record that has it, and the free name
+-- pages, which no path reaches.
+pub record ListsPages (s : State) (pages : List (List ℕ)) (records : List Placed) : Type 0 where
+  pub table : length s.slots ≡ s.layout.pages
+  pub slots : AreSlots s.layout s.anchor.third records s.slots
+  pub free_pages : (page : ℕ) → page < s.layout.pages → contains s.free_pages page ≡ not (list_any (λ visit. visit.page == page) (visits pages))
+
 -- The volume is mounted on the disk of this moment, and what it has in memory is of it and of the records that the disk's log has.
 pub record Stands {S : Type 0} (state : S → State) (has : S → Mounted → List Placed → Type 0) (s : S) (k : Known) (now : Moment) : Type 0 where
   pub fits : Fits (state s) k.mounted
   pub holds : has s k.mounted (records_by k.mounted.volume.layout now.image k.mounted.anchor)
+  pub lists : ListsPages (state s) k.mounted.pages (records_by k.mounted.volume.layout now.image k.mounted.anchor)
   pub ends : EndIn now.windows k.windows
   pub disk : IsMounted k.mounted k.windows k.changes (forced_of k) now.image
 

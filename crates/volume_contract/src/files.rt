@@ -3,7 +3,8 @@ ghost use Rattle.std.specs.Prelude.{◌≡◌, ◌≤◌, ◌||◌, ℕ, List, O
 ghost use Rattle.volume_layout.specs.declared.layout.Layout.{Layout as Plan};
 ghost use Rattle.volume_layout.specs.Layout.{plan};
 ghost use Rattle.sector_disk.specs.declared.sector.WeakRun.{WeakRun as Run};
-ghost use Rattle.sector_disk.specs.Image.{AreShort, IsCalm};
+ghost use Rattle.sector_disk.specs.declared.sector.Sector.TheVariants.{Damaged};
+ghost use Rattle.sector_disk.specs.Image.{AreShort, IsCalm, sector_at};
 ghost use Rattle.sector_disk.specs.Calls.{HealsDisk, OnlyReads, WritesDisk, device_in};
 ghost use Rattle.sector_disk.specs.Machine.{Moment, LeavesOnly};
 ghost use Rattle.std.specs.FinMap.{find as file_of};
@@ -12,6 +13,7 @@ ghost use Rattle.fsd_bytes.specs.declared.refusal.Refusal.TheVariants as Why;
 ghost use Rattle.fsd_bytes.specs.Keys.{key_cmp};
 ghost use Rattle.fsd_formats.specs.NamePage.{sectors_for};
 ghost use Rattle.fsd_log.specs.Scan.{Placed};
+ghost use Rattle.fsd_files.specs.Disk.{Touches};
 ghost use Rattle.fsd_files.specs.Files.{Change};
 ghost use Rattle.fsd_files.specs.Replies.{Forced as IsForced, Deleted};
 ghost use Rattle.fsd_files.specs.Answers.{entry_of, entry_reply, next_reply, put_outcome, delete_outcome, keep_outcome, force_outcome};
@@ -22,7 +24,7 @@ ghost use Rattle.fsd_sound.specs.Writes.{MountKeeps, force_writes};
 ghost use Rattle.volume_contract.specs.Order.{Follows, IsDevice, Keeps, is_idle, put_steps, delete_steps, keep_steps, entry_steps, next_steps, read_steps, force_steps};
 ghost use Rattle.volume_contract.specs.Ends.{Ends, EndsPut, EndsForce, Closes, Looks, IsLater, found_one, Reads, kept_key, device_of};
 ghost use Rattle.volume_contract.specs.Causes.{Causes};
-ghost use Rattle.volume_contract.specs.Mount.{CountsMount, IsFound, IsRefused, KeepsAll, UnsoundFor, MountsCalm, IsSoundAt, MountsSound};
+ghost use Rattle.volume_contract.specs.Mount.{CountsMount, HealsAnchors, HealsHomes, IsFound, IsRefused, KeepsAll, UnsoundFor, MountsCalm, IsSoundAt, MountsSound};
 ghost use Rattle.fsd_sound.specs.Mounting.{device_of_mount};
 
 use fsd_bytes::{FileName, Key, Refusal};
@@ -76,6 +78,10 @@ pub trait Files<M: Machine>: Sized {
         ensures lost { IfErr result (λ fault. M.honest m.new → LostIn (AreCopiesOn sectors (M.now m.old)) (M.now m.new).image fault) }
         ensures unsound { IfErr result (λ fault. M.honest m.new → UnsoundFor sectors (M.now m.old) (M.now m.new) fault) }
 
+        // Of any image: both anchors are then the volume's, and each home of each page stands, but for what the open window may wear.
+        ensures anchors { IfOk result (λ volume. M.honest m.new → HealsAnchors (state volume) (M.now m.new)) }
+        ensures homes { IfOk result (λ volume. M.honest m.new → HealsHomes (state volume) (M.now m.new)) }
+
         // Where nothing wears, an image is mounted as it shows its table, and refused for it exactly where a page breaks.
         ensures calm { M.honest m.new → IsCalm (M.now m.old).windows → IsCalm (M.now m.new).windows → MountsCalm state holds sectors (M.now m.old).image result }
 
@@ -95,9 +101,11 @@ pub trait Files<M: Machine>: Sized {
         ensures order { Follows (put_steps (state self.old) keep (length bytes.now)) result }
         ensures disk { let may = put_writes (state self.old) (sectors_for (length bytes.now)) in
             WritesDisk M.Machine (device_in device_of result) (Leaves state holds self.old may) m.old m.new }
+        ensures rest { M.honest m.new → Touches (put_writes (state self.old) (sectors_for (length bytes.now))) (M.now m.old) (M.now m.new) }
         ensures counted { M.tells m.new → Counted result (put_len (state self.old) (sectors_for (length bytes.now))) (M.ledger m.old) (M.ledger m.new) }
         ensures state { GoesOn (downs result) (state self.old) (state self.new) }
         ensures idle { IsTrue (is_idle (put_steps (state self.old) keep (length bytes.now))) → m.new ≡ m.old }
+        ensures name { IfOk result (λ key. key.name ≡ name.now) }
         ensures kept { let s = state self.old in
             MatchResult result (λ key. HasCounted true (forces_for_place s (sectors_for (length bytes.now)) || forces_first s) s (state self.new))
             (λ why. Keeps (put_steps s keep (length bytes.now)) why s (state self.new)) }
@@ -110,6 +118,7 @@ pub trait Files<M: Machine>: Sized {
         requires { (state self.old).layout.sectors ≤ (M.report m.old).sectors }
         ensures order { Follows (delete_steps (state self.old)) result }
         ensures disk { WritesDisk M.Machine (device_in device_of result) (Leaves state holds self.old (force_writes (state self.old).layout)) m.old m.new }
+        ensures rest { M.honest m.new → Touches (force_writes (state self.old).layout) (M.now m.old) (M.now m.new) }
         ensures counted { M.tells m.new → Counted result (change_len (state self.old)) (M.ledger m.old) (M.ledger m.new) }
         ensures state { GoesOn (downs result) (state self.old) (state self.new) }
         ensures idle { IsTrue (is_idle (delete_steps (state self.old))) → m.new ≡ m.old }
@@ -123,10 +132,12 @@ pub trait Files<M: Machine>: Sized {
         requires { (state self.old).layout.sectors ≤ (M.report m.old).sectors }
         ensures order { Follows (keep_steps (state self.old) keep) result }
         ensures disk { WritesDisk M.Machine (device_in device_of result) (Leaves state holds self.old (force_writes (state self.old).layout)) m.old m.new }
+        ensures rest { M.honest m.new → Touches (force_writes (state self.old).layout) (M.now m.old) (M.now m.new) }
         ensures counted { M.tells m.new → Counted result (change_len (state self.old)) (M.ledger m.old) (M.ledger m.new) }
         ensures state { GoesOn (downs result) (state self.old) (state self.new) }
         ensures idle { IsTrue (is_idle (keep_steps (state self.old) keep)) → m.new ≡ m.old }
         ensures kept { let s = state self.old in MatchResult result (λ x. HasCounted false (forces_first s) s (state self.new)) (λ why. Keeps (keep_steps s keep) why s (state self.new)) }
+        ensures name { IfOk result (λ key. key.name ≡ name.now) }
         ensures memory { HasAllPages (state self.old) (resident self.old) → result ≡ Err Why.Memory → ⊥ }
         ensures causes { Causes M.Machine (resident self.old) (state self.old) (state self.new) m.old m.new result }
         ensures done { M.honest m.new → (k : Known) → Stands state holds self.old k (M.now m.old) →
@@ -139,6 +150,7 @@ pub trait Files<M: Machine>: Sized {
         ensures disk { OnlyReads M.Machine (device_in device_of result) m.old m.new }
         ensures state { state self.new ≡ state self.old }
         ensures idle { IsTrue (is_idle (entry_steps (state self.old))) → m.new ≡ m.old }
+        ensures key { IfOk result (λ e. e.key ≡ key.now) }
         ensures stands { M.honest m.new → (k : Known) → Stands state holds self.old k (M.now m.old) → Stands state holds self.new k (M.now m.new) }
         ensures causes { Causes M.Machine (resident self.old) (state self.old) (state self.new) m.old m.new result }
         ensures done { M.honest m.new → (k : Known) → Stands state holds self.old k (M.now m.old) → Looks (entry_reply (volume_of k) key.now) (found_one result) };
@@ -162,6 +174,7 @@ pub trait Files<M: Machine>: Sized {
         ensures disk { OnlyReads M.Machine (device_in device_of result) m.old m.new }
         ensures state { state self.new ≡ state self.old }
         ensures idle { IsTrue (is_idle (read_steps (state self.old))) → m.new ≡ m.old }
+        ensures damaged { (s : ℕ) → result ≡ Err (Why.Damaged s) → M.honest m.new → sector_at (M.now m.new).image s ≡ Damaged }
         ensures most { IfOk result (λ count. count ≤ length buf.old) }
         ensures stands { M.honest m.new → (k : Known) → Stands state holds self.old k (M.now m.old) → Stands state holds self.new k (M.now m.new) }
         ensures causes { Causes M.Machine (resident self.old) (state self.old) (state self.new) m.old m.new result }
@@ -173,6 +186,7 @@ pub trait Files<M: Machine>: Sized {
         requires { (state self.old).layout.sectors ≤ (M.report m.old).sectors }
         ensures order { Follows (force_steps (state self.old)) result }
         ensures disk { WritesDisk M.Machine (device_in device_of result) (Leaves state holds self.old (force_writes (state self.old).layout)) m.old m.new }
+        ensures rest { M.honest m.new → Touches (force_writes (state self.old).layout) (M.now m.old) (M.now m.new) }
         ensures counted { M.tells m.new → Counted result (force_len (state self.old)) (M.ledger m.old) (M.ledger m.new) }
         ensures pages { IfOk result (λ forced. forced.pages ≡ length (state self.old).dirty) }
         ensures state { GoesOn (downs result) (state self.old) (state self.new) }
@@ -187,6 +201,7 @@ pub trait Files<M: Machine>: Sized {
         requires { (state self.old).layout.sectors ≤ (M.report m.old).sectors }
         ensures order { Follows (force_steps (state self.old)) result }
         ensures disk { WritesDisk M.Machine (device_in device_of result) (Leaves state holds self.old (force_writes (state self.old).layout)) m.old m.new }
+        ensures rest { M.honest m.new → Touches (force_writes (state self.old).layout) (M.now m.old) (M.now m.new) }
         ensures counted { M.tells m.new → Counted result (force_len (state self.old)) (M.ledger m.old) (M.ledger m.new) }
         ensures pages { IfOk result (λ forced. forced.pages ≡ length (state self.old).dirty) }
         ensures state { GoesOn (downs result) (state self.old) (state self.new) }
@@ -212,6 +227,7 @@ pub trait Files<M: Machine>: Sized {
         requires { (state self).layout.sectors ≤ (M.report m.old).sectors }
         ensures order { Follows (force_steps (state self)) result }
         ensures disk { WritesDisk M.Machine (device_in device_of result) (Leaves state holds self (force_writes (state self).layout)) m.old m.new }
+        ensures rest { M.honest m.new → Touches (force_writes (state self).layout) (M.now m.old) (M.now m.new) }
         ensures counted { M.tells m.new → Counted result (force_len (state self)) (M.ledger m.old) (M.ledger m.new) }
         ensures idle { IsTrue (is_idle (force_steps (state self))) → m.new ≡ m.old }
         ensures causes { Causes M.Machine (resident self) (state self) (state self) m.old m.new result }
