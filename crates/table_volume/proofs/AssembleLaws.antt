@@ -10,9 +10,10 @@ use Rattle.sector_set.specs.Area.{area}
 use Rattle.shadow_frees.specs.Waits.{Waits, waits}
 use Rattle.log_thirds.specs.LogValue.{LogValue}
 use Rattle.table_volume.specs.Mounting.{assembled, no_area, none_waits}
-use Rattle.table_volume.specs.Opening.{IsOpened}
-use Rattle.table_volume.specs.Volume.{IsOfData, IsWhole}
-use Rattle.table_volume.specs.declared.opening.Opened.{Opened}
+use Rattle.cached_table.specs.Opening.{IsOpened}
+use Rattle.volume_state.specs.Volume.{IsWhole}
+use Rattle.cached_table.specs.Surveying.{IsOfData}
+use Rattle.cached_table.specs.declared.opening.Opened.{Opened}
 
 -- ---- no sector
 

@@ -1,8 +1,7 @@
 -- A mount where nothing wears.
-use Rattle.std.proofs.Common.{◌≡◌, inl, inr, ℕ, ◌+◌, ◌<◌, List, [], length, map, Option, Some, None, Result, Ok, Err, refl, sym, ap, subst, ◌∙◌, arith}
+use Rattle.std.proofs.Common.{◌≡◌, inl, inr, ℕ, ◌<◌, List, [], length, map, Option, Some, None, Result, Ok, Err, refl, sym, ap, subst, ◌∙◌, arith}
 use Rattle.std.specs.Prelude.{IfErr, IfOk, IsErrAnd, IsSome, option_and_then}
 use Rattle.std.specs.Option.{unwrap_or}
-use Rattle.std.proofs.lemmas.Bool.{cases_lt}
 use Rattle.std.proofs.lemmas.List.{length-map}
 use Rattle.sector_disk.proofs.Wear.{worn_refl}
 use Rattle.fsd_formats.specs.declared.entry.Entry.{Entry}
@@ -12,8 +11,7 @@ use Rattle.volume_layout.specs.declared.layout.Layout.{Layout}
 use Rattle.volume_layout.specs.Layout.{plan}
 use Rattle.sector_disk.specs.declared.machine.LoadFault.TheVariants as load
 use Rattle.sector_disk.specs.Image.{IsCalm, open_damage}
-use Rattle.sector_disk.specs.Machine.{Moment, Wears}
-use Rattle.sector_disk.proofs.Calm.{calm_wears, calm_worn}
+use Rattle.sector_disk.specs.Machine.{Moment}
 use Rattle.fsd_files.specs.Disk.{Image}
 use Rattle.fsd_files.specs.Files.{Files}
 use Rattle.fsd_sound.specs.Homes.{home_of}
@@ -28,32 +26,14 @@ use Rattle.mount_recover.specs.Lost.{StandAsShown}
 use Rattle.mount_recover.specs.Recover.{IsNotUnsound, IsSettled}
 use Rattle.table_pages.specs.Kept.{images_of}
 use Rattle.volume_contract.specs.Mount.{MountsCalm, MountsShown, ShowsVolume}
-use Rattle.table_volume.specs.HomeLaws.{in_homes}
-use Rattle.table_volume.specs.Homes.{IsUnread, KnowsHomes, home_by}
+use Rattle.cached_table.specs.HomeLaws.{in_homes}
+use Rattle.cached_table.specs.Homes.{IsUnread, KnowsHomes, home_by}
 use Rattle.table_volume.specs.Mounting.{IsAssembled, fresh_mounted, opened_of}
-use Rattle.table_volume.specs.Opening.{IsNoTable, IsTableOf, home_pages}
-use Rattle.table_volume.specs.State.{Holds, state}
-use Rattle.table_volume.specs.Volume.{VolumeValue}
+use Rattle.cached_table.specs.Opening.{IsNoTable, IsTableOf, home_pages}
+use Rattle.volume_state.specs.State.{Holds, state}
+use Rattle.volume_state.specs.Volume.{VolumeValue}
 use Rattle.table_volume.proofs.FreshLaws.{fresh_fits, fresh_holds}
-
--- ---- what is there stays there
-
-some_is : {A : Type 0} (o : Option A) → IsSome o → (x : A) × (o ≡ Some x)
-some_is None some = absurd (cc some)
-some_is (Some x) some = (x, refl)
-
-pub calm_knows : (l : Layout) (at : Moment) → IsCalm at.windows → ((page : ℕ) → page < l.pages → IsSome (home_of l at.image page)) → KnowsHomes l at
-calm_knows l at calm there page lt =
-    let is = some_is (home_of l at.image page) (there page lt) in
-    record { bytes = is.0; stays = λ i worn. ap (λ (j : Image). home_of l j page) (calm_worn at.windows at.image i calm worn) ∙ is.1 }
-
-module _ (l : Layout) (old mid new : Moment) (calm : IsCalm old.windows) (first : Wears old mid) (then : Wears old new) (n : ℕ) where
-  -- one page more
-  pub more_there : ((page : ℕ) → page < n → IsSome (home_of l mid.image page)) → IsSome (home_of l new.image n) → (page : ℕ) → page < n + 1 → IsSome (home_of l new.image page)
-  more_there there here page lt = elim (cases_lt page n) [
-    | inl before ↦ subst (λ (at : Moment). IsSome (home_of l at.image page)) (calm_wears old mid calm first ∙ sym (calm_wears old new calm then)) (there page before)
-    | inr from ↦ let same : n ≡ page = omega (arith, from, lt) in subst (λ (k : ℕ). IsSome (home_of l new.image k)) same here
-  ]
+use Rattle.volume_state.proofs.ListLaws.{lists_of}
 
 -- ---- the pages at home are those that the image shows
 
@@ -110,6 +90,7 @@ module _ (sectors : ℕ) (l : Layout) (log : LogValue) (i : Image) (at : Moment)
             shows = subst (λ (k : Layout). ShowsVolume sectors i k pages) same shows;
             holds = fresh_holds l planned log v a pages t files count;
             fits = fresh_fits l planned log v a pages t files count;
+            lists = lists_of v (fresh_mounted l log pages t.telling files) [] (fresh_holds l planned log v a pages t files count);
             told = t.told;
             whole = subst (λ (k : Layout). (page : ℕ) → Breaks k pages page → ⊥) same t.whole;
           }

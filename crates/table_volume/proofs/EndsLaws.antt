@@ -19,12 +19,12 @@ use Rattle.mount_recover.specs.Finding.{IsExcuse}
 use Rattle.mount_recover.specs.Recover.{IsFreshLog, IsRefusedFor, IsSettledIn}
 use Rattle.mount_recover.specs.Replay.{IsAfter, IsBefore, IsReplayed, IsUnturned, Replays, TurnsLast}
 use Rattle.volume_contract.specs.Mount.{EndsBefore, EndsSettled, ExcusesOf, FailsFor, IsSoundAt, SoundBefore, SoundSince}
-use Rattle.table_volume.specs.Homes.{KnowsHomes}
+use Rattle.cached_table.specs.Homes.{KnowsHomes}
 use Rattle.table_volume.specs.Mounting.{IsAssembled, OpensKnown}
-use Rattle.table_volume.specs.State.{Holds, state}
-use Rattle.table_volume.specs.Volume.{VolumeValue}
+use Rattle.volume_state.specs.State.{Holds, state}
+use Rattle.volume_state.specs.Volume.{VolumeValue}
 use Rattle.table_volume.proofs.EpochLaws.{at_last_epoch}
-use Rattle.table_volume.proofs.MomentLaws.{before_of, lists_now, sound_before}
+use Rattle.volume_state.proofs.MomentLaws.{before_of, lists_now, sound_before}
 use Rattle.table_volume.proofs.SettledLaws.{count, files_settled, known_new, knows_settled, mounts_new, settled_new, since_settled}
 
 -- ---- moments of which two things are known

@@ -12,11 +12,11 @@ use Rattle.fsd_files.specs.Volume.{free_runs, is_free, is_in, plans_of, waits}
 use Rattle.log_thirds.specs.LogValue.{LogValue}
 use Rattle.volume_contract.specs.State.{Fits, IsNew}
 use Rattle.table_volume.specs.Mounting.{IsAssembled, assembled, fresh_mounted, opened_of}
-use Rattle.table_volume.specs.Opening.{IsTableOf}
-use Rattle.table_volume.specs.State.{Holds, state}
-use Rattle.table_volume.specs.Volume.{VolumeValue}
+use Rattle.cached_table.specs.Opening.{IsTableOf}
+use Rattle.volume_state.specs.State.{Holds, state}
+use Rattle.volume_state.specs.Volume.{VolumeValue}
 use Rattle.table_volume.proofs.AssembleLaws.{none_free, none_of_area}
-use Rattle.table_volume.proofs.CountLaws.{count_of_flags}
+use Rattle.volume_state.proofs.CountLaws.{count_of_flags}
 use Rattle.table_volume.proofs.MountLaws.{is_new}
 
 -- ---- where nothing waits
@@ -98,6 +98,7 @@ module _ (l : Layout) (planned : plan l.sectors l.third l.pages ≡ Ok l) (log :
     map = same_free;
     removed = λ s. ap (λ (xs : List ℕ). contains xs s) (none_of_area l);
     free_pages = t.free_pages;
+    log = a.fresh.layout;
     fits = a.fits;
     indexed = a.fresh.indexed;
     drafts = refl;

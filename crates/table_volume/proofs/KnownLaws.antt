@@ -9,11 +9,11 @@ use Rattle.fsd_sound.specs.declared.fault.MountFault.{MountFault}
 use Rattle.fsd_sound.specs.declared.fault.MountFault.TheVariants.{Device, Lost, Memory, NoAnchor, NotVolume, Unsound, WornOut}
 use Rattle.group_commit.proofs.NewestLaws.{lost_home}
 use Rattle.table_pages.specs.ImageLaws.{images_same}
-use Rattle.table_volume.specs.HomeLaws.{home_stays, homes_worn}
-use Rattle.table_volume.specs.Homes.{IsUnread, KnowsHomes, home_by}
+use Rattle.cached_table.specs.HomeLaws.{home_stays, homes_worn}
+use Rattle.cached_table.specs.Homes.{IsUnread, KnowsHomes, home_by}
 use Rattle.table_volume.specs.Mounting.{OpensKnown, opened_of}
-use Rattle.table_volume.specs.Opening.{IsNoTable, IsTableOf, home_pages}
-use Rattle.table_volume.specs.Volume.{VolumeValue}
+use Rattle.cached_table.specs.Opening.{IsNoTable, IsTableOf, home_pages}
+use Rattle.volume_state.specs.Volume.{VolumeValue}
 
 module _ (l : Layout) (old mid : Moment) (wears : Wears old mid) (knows : KnowsHomes l old) where
   -- nothing that is known is lost

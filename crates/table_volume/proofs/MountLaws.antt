@@ -25,10 +25,10 @@ use Rattle.mount_recover.specs.Recover.{IsSettled, IsSettledIn}
 use Rattle.volume_contract.specs.Mount.{IsRefused}
 use Rattle.volume_contract.specs.State.{IsNew}
 use Rattle.table_volume.specs.Mounting.{IsAssembled, assembled, no_area, opened_of}
-use Rattle.table_volume.specs.Opening.{IsOpenFault}
-use Rattle.table_volume.specs.State.{freed_sectors, state}
-use Rattle.table_volume.specs.Volume.{VolumeValue}
-use Rattle.table_volume.specs.declared.opening.Opened.{Opened}
+use Rattle.cached_table.specs.Opening.{IsOpenFault}
+use Rattle.volume_state.specs.State.{freed_sectors, state}
+use Rattle.volume_state.specs.Volume.{VolumeValue}
+use Rattle.cached_table.specs.declared.opening.Opened.{Opened}
 use Rattle.table_volume.proofs.AssembleLaws.{none_free, none_of_area, none_wait}
 
 -- ---- results

@@ -26,7 +26,7 @@ use Rattle.fsd_sound.specs.Anchors.{anchor_of, fresh_anchor}
 use Rattle.fsd_sound.specs.Homes.{home_of}
 use Rattle.fsd_sound.specs.Laid.{HasOwnLog}
 use Rattle.fsd_sound.specs.Mounted.{IsFresh, IsMounted, Mounted, SameData}
-use Rattle.fsd_sound.specs.Shown.{all_pages, shown, shown_by}
+use Rattle.fsd_sound.specs.Shown.{all_pages, records_by, shown, shown_by}
 use Rattle.fsd_sound.specs.Sound.{EndIn, ShowsOne, ShowsPages, weak_of}
 use Rattle.fsd_sound.specs.Windows.{IsApart}
 use Rattle.fsd_sound.specs.Writes.{WritesAsMount}
@@ -43,16 +43,17 @@ use Rattle.mount_recover.specs.Replay.{IsReplayed}
 use Rattle.table_pages.specs.ImageLaws.{image_at as page_at, image_count}
 use Rattle.volume_contract.specs.Mount.{BreaksAt, Excuses, IsSoundAt, Mounts, Settled, SoundSince}
 use Rattle.volume_contract.specs.State.{Fits, Known, Stands}
-use Rattle.table_volume.specs.HomeLaws.{in_homes}
-use Rattle.table_volume.specs.Homes.{KnowsHomes, home_by}
+use Rattle.cached_table.specs.HomeLaws.{in_homes}
+use Rattle.cached_table.specs.Homes.{KnowsHomes, home_by}
 use Rattle.table_volume.specs.Mounting.{IsAssembled, OpensKnown, fresh_mounted, opened_of}
-use Rattle.table_volume.specs.Opening.{IsNoTable, IsTableOf, home_pages}
-use Rattle.table_volume.specs.State.{Holds, state}
-use Rattle.table_volume.specs.Volume.{VolumeValue}
+use Rattle.cached_table.specs.Opening.{IsNoTable, IsTableOf, home_pages}
+use Rattle.volume_state.specs.State.{Holds, state}
+use Rattle.volume_state.specs.Volume.{VolumeValue}
 use Rattle.table_volume.proofs.EpochLaws.{raised}
 use Rattle.table_volume.proofs.FreshLaws.{fresh_fits, fresh_holds}
-use Rattle.table_volume.proofs.MomentLaws.{TellsFiles, described_since, files_now, lists_now, sound_since, worn_both}
+use Rattle.volume_state.proofs.MomentLaws.{TellsFiles, described_since, files_now, lists_now, sound_since, worn_both}
 use Rattle.table_volume.proofs.UnbrokenLaws.{told_unbroken}
+use Rattle.volume_state.proofs.ListLaws.{lists_of}
 
 -- ---- how many pages are shown
 
@@ -217,10 +218,12 @@ module _ (sectors : ℕ) (l : Layout) (windows : List WeakRun) (h : List Change)
       stands_new v a t =
           let telling : t.telling ≡ files_settled.telling = some_same t.telling files_settled.telling (sym t.told ∙ files_settled.told) in
           let as_many : length (after (take count h)) ≡ length t.telling.entries = as_many_entries (after (take count h)) files_settled.telling.entries described_new.lists ∙ ap (λ (x : Telling). length x.entries) (sym telling) in
+          let holds : Holds v mounted_new (records_by l new.image mounted_new.anchor) = subst (Holds v mounted_new) (sym (ap (λ (w : Walked). w.records) own_new.log.scanned))
+          (subst (λ (x : Telling). Holds v (fresh_mounted l log pages x (after (take count h))) []) telling (fresh_holds l begun.planned log v a pages t (after (take count h)) as_many)) in
           record {
             fits = subst (λ (x : Telling). Fits (state v) (fresh_mounted l log pages x (after (take count h)))) telling (fresh_fits l begun.planned log v a pages t (after (take count h)) as_many);
-            holds = subst (Holds v mounted_new) (sym (ap (λ (w : Walked). w.records) own_new.log.scanned))
-                (subst (λ (x : Telling). Holds v (fresh_mounted l log pages x (after (take count h))) []) telling (fresh_holds l begun.planned log v a pages t (after (take count h)) as_many));
+            holds = holds;
+            lists = lists_of v mounted_new (records_by l new.image mounted_new.anchor) holds;
             ends = record { last = ends_later.last ∙ sym (ap (λ (w : Windows). w.present) wears.windows); some = subst (λ (w : Windows). IsSome w.present) (sym wears.windows) ends_later.some };
             disk = subst (λ (n : ℕ). IsMounted mounted_new later (take count h) n new.image) (let none : length (take count h) ≡ length (take count h) - 0 = omega arith in none) (mounted_fresh mounted_new later (take count h) new.image fresh_new);
           }

@@ -15,11 +15,11 @@ use Rattle.fsd_sound.proofs.EachLaws.{all_in_range, each_at, each_of_all}
 use Rattle.mount_recover.specs.Recover.{IsNotUnsound}
 use Rattle.table_pages.specs.Kept.{images_of}
 use Rattle.volume_contract.specs.Mount.{BreaksAt, ReadAlike, UnsoundFor}
-use Rattle.table_volume.specs.HomeLaws.{in_homes}
-use Rattle.table_volume.specs.Homes.{KnowsHomes, home_by}
+use Rattle.cached_table.specs.HomeLaws.{in_homes}
+use Rattle.cached_table.specs.Homes.{KnowsHomes, home_by}
 use Rattle.table_volume.specs.Mounting.{OpensKnown}
-use Rattle.table_volume.specs.Opening.{home_pages}
-use Rattle.table_volume.specs.Volume.{VolumeValue}
+use Rattle.cached_table.specs.Opening.{home_pages}
+use Rattle.volume_state.specs.Volume.{VolumeValue}
 
 module _ (l : Layout) (mid : Moment) (pages : List (List ℕ)) (alike : ReadAlike l (open_damage mid.windows) mid.image pages) where
   -- what reads alike at home is known there

@@ -6,15 +6,15 @@ use Rattle.sector_set.specs.Area.{Area, area}
 use Rattle.shadow_frees.specs.Waits.{Waits}
 use Rattle.sector_disk.specs.Machine.{Moment}
 use Rattle.fsd_sound.specs.declared.fault.MountFault.{MountFault}
-use Rattle.table_volume.specs.Homes.{IsUnread, KnowsHomes}
+use Rattle.cached_table.specs.Homes.{IsUnread, KnowsHomes}
 use Rattle.fsd_files.specs.Files.{Files}
 use Rattle.fsd_sound.specs.Mounted.{Mounted}
 use Rattle.fsd_table.specs.Table.{Telling}
 use Rattle.log_thirds.specs.LogValue.{FitsLayout, LogValue}
 use Rattle.mount_recover.specs.Recover.{IsFreshLog}
-use Rattle.table_volume.specs.Opening.{IsNoTable, IsOpened, IsTableOf, home_pages}
-use Rattle.table_volume.specs.Volume.{VolumeValue}
-use Rattle.table_volume.specs.declared.opening.Opened.{Opened}
+use Rattle.cached_table.specs.Opening.{IsNoTable, IsOpened, IsTableOf, home_pages}
+use Rattle.volume_state.specs.Volume.{VolumeValue}
+use Rattle.cached_table.specs.declared.opening.Opened.{Opened}
 
 -- no sector of the data area
 abbrev pub no_area : Layout → Area

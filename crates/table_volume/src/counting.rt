@@ -1,7 +1,7 @@
 //! What a volume counts.
 ghost use Rattle.std.specs.Prelude.{◌≡◌, length};
 ghost use Rattle.run_table.specs.RunTable.{total};
-ghost use Rattle.table_volume.specs.State.{state};
+ghost use Rattle.volume_state.specs.State.{state};
 
 use crate::Volume;
 use volume_contract::Stat;

@@ -11,13 +11,14 @@ ghost use Rattle.volume_contract.specs.Ends.{Ends, device_of};
 ghost use Rattle.volume_contract.specs.Order.{Follows, Keeps, delete_steps, is_idle};
 ghost use Rattle.fsd_sound.specs.Writes.{force_writes};
 ghost use Rattle.volume_contract.specs.State.{Counted, GoesOn, HasCounted, Known, Leaves, Stands, change_len, downs, forces_first, volume_of};
-ghost use Rattle.table_volume.specs.Ending.{Edits, EndsEdit, GivesUp, delete_tests, edit_steps, look_steps};
-ghost use Rattle.table_volume.specs.State.{Holds, resident, state};
-ghost use Rattle.table_volume.specs.Taken.{are_taken};
+ghost use Rattle.volume_changes.specs.Ending.{Edits, EndsEdit, GivesUp, delete_tests, edit_steps, look_steps};
+ghost use Rattle.volume_state.specs.State.{Holds, resident, state};
+ghost use Rattle.volume_state.specs.Taken.{are_taken};
+ghost use Rattle.fsd_files.specs.Disk.{Touches};
 
 use crate::Volume;
-use crate::changing::take_out_in;
 use crate::keeping::edit_refusal;
+use cached_table::take_out_in;
 use fsd_bytes::{Key, Refusal};
 use fsd_formats::Entry;
 use group_commit::Newest;
@@ -119,10 +120,12 @@ impl Volume {
         requires { (state self.old).layout.sectors ≤ (M.report m.old).sectors }
         ensures order { Follows (delete_steps (state self.old)) result }
         ensures disk { WritesDisk M.Machine (device_in device_of result) (Leaves state Holds self.old (force_writes (state self.old).layout)) m.old m.new }
+        ensures rest { M.honest m.new → Touches (force_writes (state self.old).layout) (M.now m.old) (M.now m.new) }
         ensures counted { M.tells m.new → Counted result (change_len (state self.old)) (M.ledger m.old) (M.ledger m.new) }
         ensures state { GoesOn (downs result) (state self.old) (state self.new) }
         ensures idle { IsTrue (is_idle (delete_steps (state self.old))) → m.new ≡ m.old }
         ensures kept { let s = state self.old in MatchResult result (λ x. HasCounted false (forces_first s) s (state self.new)) (λ why. Keeps (delete_steps s) why s (state self.new)) }
+        ensures causes { Causes M.Machine (resident self.old) (state self.old) (state self.new) m.old m.new result }
         ensures done { M.honest m.new → (k : Known) → Stands state Holds self.old k (M.now m.old) →
             Ends state Holds (λ met. delete_outcome met (volume_of k) key.now) (λ x. Deleted key.now) (Change.Delete key.now) k self.new (M.now m.new) result }
     {

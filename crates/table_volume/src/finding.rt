@@ -7,12 +7,12 @@ ghost use Rattle.volume_contract.specs.Causes.{Causes};
 ghost use Rattle.volume_contract.specs.Ends.{Looks, device_of, found_one};
 ghost use Rattle.volume_contract.specs.Order.{Follows, IsLookUp, entry_steps, is_idle};
 ghost use Rattle.volume_contract.specs.State.{Known, Stands, volume_of};
-ghost use Rattle.table_volume.specs.Looking.{Finds};
-ghost use Rattle.table_volume.specs.State.{Holds, resident, state};
-ghost use Rattle.table_volume.specs.Taken.{are_taken, met_entry};
+ghost use Rattle.cached_table.specs.Looking.{Finds};
+ghost use Rattle.volume_state.specs.State.{Holds, resident, state};
+ghost use Rattle.volume_state.specs.Taken.{are_taken, met_entry};
 
 use crate::Volume;
-use crate::looking::{find_in, told};
+use cached_table::{find_in, told};
 use fsd_bytes::{Key, Refusal};
 use fsd_formats::Entry;
 use group_commit::Newest;
@@ -32,6 +32,7 @@ impl Volume {
         ensures dirty { self.new.cache.dirty ≡ self.old.cache.dirty }
         ensures page { IfOk result (λ found. IfSome found (λ f. f.page < self.old.layout.pages)) }
         ensures entry { IfOk result (λ found. IfSome found (λ f. is_entry f.entry ≡ true)) }
+        ensures key { IfOk result (λ found. IfSome found (λ f. f.entry.key ≡ key.now)) }
         ensures cause { IfErr result IsLookUp }
         ensures stands { M.honest m.new → (k : Known) → Stands state Holds self.old k (M.now m.old) → Stands state Holds self.new k (M.now m.new) }
         ensures found { M.honest m.new → (k : Known) → Stands state Holds self.old k (M.now m.old) → Finds (entry_of key.now (volume_of k).entries) result }
@@ -60,6 +61,7 @@ impl Volume {
         ensures disk { OnlyReads M.Machine (device_in device_of result) m.old m.new }
         ensures state { state self.new ≡ state self.old }
         ensures idle { IsTrue (is_idle (entry_steps (state self.old))) → m.new ≡ m.old }
+        ensures key { IfOk result (λ e. e.key ≡ key.now) }
         ensures stands { M.honest m.new → (k : Known) → Stands state Holds self.old k (M.now m.old) → Stands state Holds self.new k (M.now m.new) }
         ensures causes { Causes M.Machine (resident self.old) (state self.old) (state self.new) m.old m.new result }
         ensures done { M.honest m.new → (k : Known) → Stands state Holds self.old k (M.now m.old) → Looks (entry_reply (volume_of k) key.now) (found_one result) }

@@ -1,14 +1,17 @@
 //! The force of a volume.
-ghost use Rattle.std.specs.Prelude.{◌≡◌, ◌≤◌, IfOk, IsTrue, MatchResult, length};
+ghost use Rattle.std.specs.Prelude.{◌≡◌, ◌≤◌, IfOk, IsFalse, IsTrue, MatchResult, OnErr, OnOk, length};
 ghost use Rattle.sector_disk.specs.Calls.{WritesDisk, device_in};
 ghost use Rattle.volume_contract.specs.Causes.{Causes};
 ghost use Rattle.volume_contract.specs.Ends.{device_of, Closes, EndsForce};
 ghost use Rattle.fsd_sound.specs.Writes.{force_writes};
-ghost use Rattle.volume_contract.specs.State.{Counted, GoesOn, IsForced as HasForced, Known, Leaves, Stands, downs, force_len, volume_of};
+ghost use Rattle.volume_contract.specs.State.{Counted, GoesOn, IsForced as HasForced, Known, Leaves, Stands, downs, enters_again, force_len, volume_of};
 ghost use Rattle.volume_contract.specs.Order.{Follows, Keeps, force_steps, is_idle, IsDevice};
-ghost use Rattle.table_volume.specs.Forcing.{force_refusal, place_of};
-ghost use Rattle.table_volume.specs.State.{resident, state, Holds};
+ghost use Rattle.volume_state.specs.Behind.{IsBehind};
+ghost use Rattle.table_pages.specs.Bringing.{KeepsPages};
+ghost use Rattle.volume_state.specs.Forcing.{force_refusal, place_of};
+ghost use Rattle.volume_state.specs.State.{resident, state, Holds};
 ghost use Rattle.fsd_files.specs.Answers.{force_outcome};
+ghost use Rattle.fsd_files.specs.Disk.{Touches};
 ghost use Rattle.fsd_files.specs.Replies.{Forced as IsForced};
 
 use crate::Volume;
@@ -44,17 +47,23 @@ impl Volume {
         requires { (state self.old).layout.sectors ≤ (M.report m.old).sectors }
         ensures order { Follows (force_steps (state self.old)) result }
         ensures disk { WritesDisk M.Machine (device_in device_of result) (Leaves state Holds self.old (force_writes (state self.old).layout)) m.old m.new }
+        ensures rest { M.honest m.new → Touches (force_writes (state self.old).layout) (M.now m.old) (M.now m.new) }
         ensures counted { M.tells m.new → Counted result (force_len (state self.old)) (M.ledger m.old) (M.ledger m.new) }
+        ensures counted_err { OnErr result (M.tells m.new → IsFalse (enters_again (state self.old)) → (M.ledger m.new).written ≡ (M.ledger m.old).written) }
         ensures pages { IfOk result (λ forced. forced.pages ≡ length (state self.old).dirty) }
         ensures state { GoesOn (downs result) (state self.old) (state self.new) }
         ensures idle { IsTrue (is_idle (force_steps (state self.old))) → m.new ≡ m.old }
         ensures kept { MatchResult result (λ x. HasForced (state self.old) (state self.new)) (λ why. Keeps (force_steps (state self.old)) why (state self.old) (state self.new)) }
+        ensures resident { OnOk result (KeepsPages self.old.cache self.new.cache) }
         ensures causes { Causes M.Machine (resident self.old) (state self.old) (state self.new) m.old m.new result }
         ensures done { M.honest m.new → (k : Known) → Stands state Holds self.old k (M.now m.old) →
             EndsForce state Holds (λ met. force_outcome (volume_of k)) IsForced k self.new (M.now m.new) result }
 
         // What is lost lay so before.
         ensures lost { Causes M.Machine (resident self.old) (state self.old) (state self.old) m.old m.new result }
+
+        // What is in memory then was so before, or stands in the log.
+        ensures behind { OnOk result (M.honest m.new → IsBehind (state self.old) (state self.new) (resident self.old) (resident self.new) (M.now m.new)) }
     {
         self.is_up()?;
         if self.cache.dirty_list().len() == 0 {
@@ -75,29 +84,14 @@ impl Volume {
         }
     }
 
-    /// A force, as time goes on.
-    pub fn tick<M: Machine>(&mut self, m: &mut M) -> Result<Forced, Refusal>
-        requires { (state self.old).layout.sectors ≤ (M.report m.old).sectors }
-        ensures order { Follows (force_steps (state self.old)) result }
-        ensures disk { WritesDisk M.Machine (device_in device_of result) (Leaves state Holds self.old (force_writes (state self.old).layout)) m.old m.new }
-        ensures counted { M.tells m.new → Counted result (force_len (state self.old)) (M.ledger m.old) (M.ledger m.new) }
-        ensures pages { IfOk result (λ forced. forced.pages ≡ length (state self.old).dirty) }
-        ensures state { GoesOn (downs result) (state self.old) (state self.new) }
-        ensures idle { IsTrue (is_idle (force_steps (state self.old))) → m.new ≡ m.old }
-        ensures kept { MatchResult result (λ x. HasForced (state self.old) (state self.new)) (λ why. Keeps (force_steps (state self.old)) why (state self.old) (state self.new)) }
-        ensures causes { Causes M.Machine (resident self.old) (state self.old) (state self.new) m.old m.new result }
-        ensures done { M.honest m.new → (k : Known) → Stands state Holds self.old k (M.now m.old) →
-            EndsForce state Holds (λ met. force_outcome (volume_of k)) IsForced k self.new (M.now m.new) result }
-    {
-        self.force(m)
-    }
-
     /// Ends the use of a volume by a force.
     pub fn close<M: Machine>(mut self, m: &mut M) -> Result<(), Refusal>
         requires { (state self).layout.sectors ≤ (M.report m.old).sectors }
         ensures order { Follows (force_steps (state self)) result }
         ensures disk { WritesDisk M.Machine (device_in device_of result) (Leaves state Holds self (force_writes (state self).layout)) m.old m.new }
+        ensures rest { M.honest m.new → Touches (force_writes (state self).layout) (M.now m.old) (M.now m.new) }
         ensures counted { M.tells m.new → Counted result (force_len (state self)) (M.ledger m.old) (M.ledger m.new) }
+        ensures counted_err { OnErr result (M.tells m.new → IsFalse (enters_again (state self)) → (M.ledger m.new).written ≡ (M.ledger m.old).written) }
         ensures idle { IsTrue (is_idle (force_steps (state self))) → m.new ≡ m.old }
         ensures causes { Causes M.Machine (resident self) (state self) (state self) m.old m.new result }
         ensures done { M.honest m.new → (k : Known) → Stands state Holds self k (M.now m.old) → MatchResult result (λ x. Closes k (M.now m.new).image) (λ why. IsDevice why) }

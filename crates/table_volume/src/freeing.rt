@@ -4,7 +4,7 @@ ghost use Rattle.run_table.specs.Space.{contains};
 ghost use Rattle.sector_set.specs.Area.{AreOut, IsOwn, area, together};
 ghost use Rattle.shadow_frees.specs.Readers.{unheld};
 ghost use Rattle.shadow_frees.specs.Waits.{run_between};
-ghost use Rattle.table_volume.specs.Entering.{AreIdleInTurn, with_gone};
+ghost use Rattle.cached_table.specs.Entering.{AreIdleInTurn, with_gone};
 
 use alloc_map::Map;
 use run_table::{Run, Runs};

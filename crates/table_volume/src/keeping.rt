@@ -1,5 +1,6 @@
 //! Another keep of a name's highest version.
-ghost use Rattle.std.specs.Prelude.{◌≡◌, ◌<◌, ◌≤◌, ◌-◌, ◌^◌, IsTrue, MatchResult, None, false, length};
+ghost use Rattle.std.specs.Prelude.{◌≡◌, ◌<◌, ◌≤◌, ◌-◌, ◌^◌, IfOk, Err, IsTrue, MatchResult, None, false, length};
+ghost use Rattle.fsd_bytes.specs.declared.refusal.Refusal.TheVariants as Why;
 ghost use Rattle.sector_disk.specs.Calls.{OnlyReads, WritesDisk, device_in};
 ghost use Rattle.fsd_files.specs.Answers.{keep_outcome};
 ghost use Rattle.fsd_files.specs.Files.{Change};
@@ -8,11 +9,12 @@ ghost use Rattle.volume_contract.specs.Ends.{Ends, device_of, kept_key};
 ghost use Rattle.volume_contract.specs.Order.{Follows, Keeps, is_idle, keep_steps};
 ghost use Rattle.fsd_sound.specs.Writes.{force_writes};
 ghost use Rattle.volume_contract.specs.State.{Counted, GoesOn, HasCounted, Known, Leaves, Stands, change_len, downs, forces_first, volume_of};
-ghost use Rattle.table_volume.specs.Ending.{Edits, EndsEdit, edit_refusal, edit_steps, keep_tests, kept_told, look_steps};
-ghost use Rattle.table_volume.specs.State.{Holds, resident, state};
+ghost use Rattle.volume_changes.specs.Ending.{Edits, EndsEdit, edit_refusal, edit_steps, keep_tests, kept_told, look_steps};
+ghost use Rattle.volume_state.specs.State.{HasAllUsed, Holds, resident, state};
+ghost use Rattle.fsd_files.specs.Disk.{Touches};
 
 use crate::Volume;
-use crate::changing::set_keep_in;
+use cached_table::set_keep_in;
 use fsd_bytes::{FileName, Key, Refusal};
 use group_commit::Newest;
 use name_btree::TreeFault;
@@ -71,6 +73,8 @@ impl Volume {
         ensures order { Follows edit_steps result }
         ensures disk { OnlyReads M.Machine (device_in device_of result) m.old m.new }
         ensures edited { Edits (state self.old) (state self.new) result }
+        ensures name { IfOk result (λ key. key.name ≡ name.now) }
+        ensures memory { HasAllUsed self.old → result ≡ Err Why.Memory → ⊥ }
         ensures causes { Causes M.Machine (resident self.old) (state self.old) (state self.new) m.old m.new result }
         ensures done { M.honest m.new → (k : Known) → Stands state Holds self.old k (M.now m.old) →
             EndsEdit (λ met. keep_outcome met (volume_of k) name.now keep) (kept_key keep) (Change.SetKeep name.now keep) k self.new (M.now m.new) result }
@@ -106,6 +110,8 @@ impl Volume {
         ensures order { Follows look_steps result }
         ensures disk { OnlyReads M.Machine (device_in device_of result) m.old m.new }
         ensures edited { Edits (state self.old) (state self.new) result }
+        ensures name { IfOk result (λ key. key.name ≡ name.now) }
+        ensures memory { HasAllUsed self.old → result ≡ Err Why.Memory → ⊥ }
         ensures causes { Causes M.Machine (resident self.old) (state self.old) (state self.new) m.old m.new result }
         ensures done { M.honest m.new → (k : Known) → Stands state Holds self.old k (M.now m.old) →
             EndsEdit (λ met. keep_outcome met (volume_of k) name.now keep) (kept_key keep) (Change.SetKeep name.now keep) k self.new (M.now m.new) result }
@@ -127,10 +133,14 @@ impl Volume {
         requires { (state self.old).layout.sectors ≤ (M.report m.old).sectors }
         ensures order { Follows (keep_steps (state self.old) keep) result }
         ensures disk { WritesDisk M.Machine (device_in device_of result) (Leaves state Holds self.old (force_writes (state self.old).layout)) m.old m.new }
+        ensures rest { M.honest m.new → Touches (force_writes (state self.old).layout) (M.now m.old) (M.now m.new) }
         ensures counted { M.tells m.new → Counted result (change_len (state self.old)) (M.ledger m.old) (M.ledger m.new) }
         ensures state { GoesOn (downs result) (state self.old) (state self.new) }
         ensures idle { IsTrue (is_idle (keep_steps (state self.old) keep)) → m.new ≡ m.old }
         ensures kept { let s = state self.old in MatchResult result (λ x. HasCounted false (forces_first s) s (state self.new)) (λ why. Keeps (keep_steps s keep) why s (state self.new)) }
+        ensures name { IfOk result (λ key. key.name ≡ name.now) }
+        ensures memory { HasAllUsed self.old → result ≡ Err Why.Memory → ⊥ }
+        ensures causes { Causes M.Machine (resident self.old) (state self.old) (state self.new) m.old m.new result }
         ensures done { M.honest m.new → (k : Known) → Stands state Holds self.old k (M.now m.old) →
             Ends state Holds (λ met. keep_outcome met (volume_of k) name.now keep) (kept_key keep) (Change.SetKeep name.now keep) k self.new (M.now m.new) result }
     {

@@ -12,16 +12,15 @@ ghost use Rattle.fsd_sound.specs.Mounting.{device_of_mount};
 ghost use Rattle.fsd_sound.specs.Writes.{MountKeeps};
 ghost use Rattle.fsd_sound.specs.declared.fault.MountFault.TheVariants.{Memory};
 ghost use Rattle.mount_recover.specs.Recover.{IsFreshLog};
-ghost use Rattle.volume_contract.specs.Mount.{CountsMount, IsFound, IsRefused, IsSoundAt, KeepsAll, MountsCalm, MountsSound, UnsoundFor};
+ghost use Rattle.volume_contract.specs.Mount.{CountsMount, HealsAnchors, HealsHomes, IsFound, IsRefused, IsSoundAt, KeepsAll, MountsCalm, MountsSound, UnsoundFor};
 ghost use Rattle.volume_contract.specs.State.{IsNew};
-ghost use Rattle.table_volume.specs.Homes.{KnowsHomes};
+ghost use Rattle.cached_table.specs.Homes.{KnowsHomes};
 ghost use Rattle.table_volume.specs.Mounting.{IsAssembled, OpensCalm, OpensKnown, opened_of};
-ghost use Rattle.table_volume.specs.Opening.{IsNoTable, IsOpenFault, IsOpened, IsTableOf, home_pages};
-ghost use Rattle.table_volume.specs.State.{Holds, state};
+ghost use Rattle.cached_table.specs.Opening.{IsNoTable, IsOpenFault, IsOpened, IsTableOf, home_pages};
+ghost use Rattle.volume_state.specs.State.{Holds, state};
 
 use crate::Volume;
-use crate::homes::read_homes;
-use crate::opening::{Opened, open_table};
+use cached_table::{Opened, open_table, read_homes};
 use fsd_bytes::Serial;
 use fsd_sound::MountFault;
 use group_commit::RecordRoom;
@@ -49,6 +48,10 @@ impl Volume {
         ensures rest { M.honest m.new → MountKeeps sectors (M.now m.old) (M.now m.new) }
         ensures lost { IfErr result (λ fault. M.honest m.new → LostIn (AreCopiesOn sectors (M.now m.old)) (M.now m.new).image fault) }
         ensures unsound { IfErr result (λ fault. M.honest m.new → UnsoundFor sectors (M.now m.old) (M.now m.new) fault) }
+
+        // Of any image: both anchors are then the volume's, and each home of each page stands, but for what the open window may wear.
+        ensures anchors { IfOk result (λ volume. M.honest m.new → HealsAnchors (state volume) (M.now m.new)) }
+        ensures homes { IfOk result (λ volume. M.honest m.new → HealsHomes (state volume) (M.now m.new)) }
 
         // Where nothing wears, an image is mounted as it shows its table, and refused for it exactly where a page breaks.
         ensures calm { M.honest m.new → IsCalm (M.now m.old).windows → IsCalm (M.now m.new).windows → MountsCalm state Holds sectors (M.now m.old).image result }

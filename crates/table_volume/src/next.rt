@@ -5,16 +5,18 @@ ghost use Rattle.sector_disk.specs.Calls.{OnlyReads, device_in};
 ghost use Rattle.fsd_formats.specs.declared.entry.Entry.{Entry as Listed};
 ghost use Rattle.fsd_files.specs.Answers.{entry_after, highest_entry, next_reply};
 ghost use Rattle.name_page.specs.Lookups.{is_after};
+ghost use Rattle.name_page.specs.Pages.{NeedsNoMemory, outer_in};
 ghost use Rattle.volume_contract.specs.Causes.{Causes};
 ghost use Rattle.volume_contract.specs.Ends.{IsLater, Looks, device_of};
 ghost use Rattle.volume_contract.specs.Order.{Follows, IsLookUp, is_idle, next_steps};
 ghost use Rattle.volume_contract.specs.State.{Known, Stands, volume_of};
-ghost use Rattle.table_volume.specs.Looking.{Finds, met_found};
-ghost use Rattle.table_volume.specs.State.{Holds, resident, state};
-ghost use Rattle.table_volume.specs.Taken.{are_taken, met_entry};
+ghost use Rattle.cached_table.specs.Looking.{Finds};
+ghost use Rattle.volume_changes.specs.Meeting.{met_found};
+ghost use Rattle.volume_state.specs.State.{HasAllUsed, Holds, resident, state};
+ghost use Rattle.volume_state.specs.Taken.{are_taken, met_entry};
 
 use crate::Volume;
-use crate::looking::{highest_in, next_in, told};
+use cached_table::{highest_in, next_in, told};
 use fsd_bytes::{FileName, Key, Refusal};
 use fsd_formats::Entry;
 use group_commit::Newest;
@@ -67,6 +69,7 @@ impl Volume {
         ensures dirty { self.new.cache.dirty ≡ self.old.cache.dirty }
         ensures page { IfOk result (λ found. IfSome found (λ f. f.page < self.old.layout.pages)) }
         ensures name { IfOk result (λ found. IfSome found (λ f. f.entry.key.name ≡ name.now)) }
+        ensures memory { NeedsNoMemory HasAllUsed (outer_in result) self.old self.new }
         ensures cause { IfErr result IsLookUp }
         ensures stands { M.honest m.new → (k : Known) → Stands state Holds self.old k (M.now m.old) → Stands state Holds self.new k (M.now m.new) }
         ensures found { M.honest m.new → (k : Known) → Stands state Holds self.old k (M.now m.old) → Finds (highest_entry name.now (volume_of k).entries) result }

@@ -1,5 +1,6 @@
 //! The making of versions.
-ghost use Rattle.std.specs.Prelude.{◌≡◌, ◌≤◌, ◌<◌, ◌+◌, ◌^◌, IfErr, IsTrue, MatchResult, None, OnOk, Some, length};
+ghost use Rattle.std.specs.Prelude.{◌≡◌, ◌≤◌, ◌<◌, ◌+◌, ◌^◌, ◌||◌, IfOk, IfErr, IsTrue, MatchResult, None, OnOk, Some, length, true};
+ghost use Rattle.volume_layout.specs.Layout.{is_data};
 ghost use Rattle.run_table.specs.RunTable.{sectors_of};
 ghost use Rattle.run_table.specs.Space.{contains};
 ghost use Rattle.sector_disk.specs.Calls.{WritesDisk, device_in};
@@ -7,12 +8,16 @@ ghost use Rattle.sector_disk.specs.Image.{open_damage};
 ghost use Rattle.sector_set.specs.Area.{AreIn};
 ghost use Rattle.fsd_formats.specs.NamePage.{is_entry, max_length, sectors_for};
 ghost use Rattle.fsd_bytes.specs.Keys.{is_key};
-ghost use Rattle.fsd_files.specs.Answers.{HasVersion, keep_given, size_fault};
-ghost use Rattle.volume_contract.specs.Ends.{device_of};
-ghost use Rattle.volume_contract.specs.Order.{Follows, IsDeviceIn};
-ghost use Rattle.volume_contract.specs.State.{Counted, Known, Leaves, Stands, is_worn};
-ghost use Rattle.table_volume.specs.Placing.{IsPlace, drawn_known, drawn_volume, test_steps};
-ghost use Rattle.table_volume.specs.State.{Holds, state};
+ghost use Rattle.fsd_files.specs.Answers.{HasVersion, keep_given, put_outcome, size_fault};
+ghost use Rattle.fsd_files.specs.Files.{Change};
+ghost use Rattle.version_data.specs.Writing.{WritesIn};
+ghost use Rattle.volume_contract.specs.Causes.{Causes};
+ghost use Rattle.volume_contract.specs.Ends.{EndsPut, device_of};
+ghost use Rattle.volume_contract.specs.Order.{Follows, IsDeviceIn, Keeps, is_idle, put_steps};
+ghost use Rattle.volume_contract.specs.State.{Counted, GoesOn, HasCounted, Known, Leaves, Stands, downs, forces_first, forces_for_place, is_worn, put_len, put_writes, volume_of};
+ghost use Rattle.volume_state.specs.Placing.{IsPlace, drawn_known, drawn_volume, test_steps};
+ghost use Rattle.volume_state.specs.State.{Holds, resident, state};
+ghost use Rattle.fsd_files.specs.Disk.{Touches};
 
 use crate::Volume;
 use fsd_bytes::{FileName, Key, Refusal};
@@ -107,6 +112,8 @@ impl Volume {
         requires serials { self.old.serial.count + 1 < 2 ^ 32 }
         ensures place { IfErr result (IsDeviceIn (contains (sectors_of draft.now.runs))) }
         ensures disk { WritesDisk M.Machine (device_in device_of result) (Leaves state Holds self.old (contains (sectors_of draft.now.runs))) m.old m.new }
+        ensures rest { M.honest m.new → Touches (contains (sectors_of draft.now.runs)) (M.now m.old) (M.now m.new) }
+        ensures within { M.honest m.new → WritesIn (is_data self.old.layout) (M.now m.old) (M.now m.new) }
         ensures counted { M.tells m.new → Counted result (sectors_for (length bytes.now)) (M.ledger m.old) (M.ledger m.new) }
         ensures volume { self.new ≡ drawn_volume self.old }
         ensures stands { M.honest m.new → (k : Known) → Stands state Holds self.old k (M.now m.old) → Stands state Holds self.new (drawn_known k) (M.now m.new) }
@@ -118,5 +125,34 @@ impl Volume {
             Ok(()) => Ok(()),
             Err(failed) => Err(Refusal::Device(failed.place)),
         }
+    }
+
+    /// Makes a version with these bytes.
+    pub fn put<M: Machine>(
+        &mut self,
+        m: &mut M,
+        name: &FileName,
+        keep: Option<u32>,
+        bytes: &[u8],
+    ) -> Result<Key, Refusal>
+        requires { (state self.old).layout.sectors ≤ (M.report m.old).sectors }
+        ensures order { Follows (put_steps (state self.old) keep (length bytes.now)) result }
+        ensures disk { let may = put_writes (state self.old) (sectors_for (length bytes.now)) in
+            WritesDisk M.Machine (device_in device_of result) (Leaves state Holds self.old may) m.old m.new }
+        ensures rest { M.honest m.new → Touches (put_writes (state self.old) (sectors_for (length bytes.now))) (M.now m.old) (M.now m.new) }
+        ensures counted { M.tells m.new → Counted result (put_len (state self.old) (sectors_for (length bytes.now))) (M.ledger m.old) (M.ledger m.new) }
+        ensures state { GoesOn (downs result) (state self.old) (state self.new) }
+        ensures idle { IsTrue (is_idle (put_steps (state self.old) keep (length bytes.now))) → m.new ≡ m.old }
+        ensures name { IfOk result (λ key. key.name ≡ name.now) }
+        ensures kept { let s = state self.old in
+            MatchResult result (λ key. HasCounted true (forces_for_place s (sectors_for (length bytes.now)) || forces_first s) s (state self.new))
+            (λ why. Keeps (put_steps s keep (length bytes.now)) why s (state self.new)) }
+        ensures causes { Causes M.Machine (resident self.old) (state self.old) (state self.new) m.old m.new result }
+        ensures done { M.honest m.new → (k : Known) → Stands state Holds self.old k (M.now m.old) →
+            EndsPut state Holds (λ met. put_outcome met (volume_of k) name.now bytes.now keep) bytes.now (Change.Put name.now keep bytes.now) k self.new (M.now m.new) result }
+    {
+        self.may_put(keep, bytes.len())?;
+        let draft = self.prepared(m, name, bytes)?;
+        self.entered(m, name, keep, draft)
     }
 }

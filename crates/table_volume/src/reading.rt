@@ -1,7 +1,10 @@
 //! Bytes of versions.
-ghost use Rattle.std.specs.Prelude.{◌≡◌, ◌+◌, ◌^◌, ◌<◌, ◌≤◌, All, Some, IfOk, IfErr, IsTrue, length, true};
+ghost use Rattle.std.specs.Prelude.{◌≡◌, ◌+◌, ◌^◌, ◌<◌, ◌≤◌, ℕ, All, Some, Err, IfOk, IfErr, IsTrue, length, true};
 ghost use Rattle.std.specs.FinMap.{find as file_of};
 ghost use Rattle.run_table.specs.RunTable.{sectors_of};
+ghost use Rattle.fsd_bytes.specs.declared.refusal.Refusal.TheVariants as Why;
+ghost use Rattle.sector_disk.specs.declared.sector.Sector.TheVariants.{Damaged};
+ghost use Rattle.sector_disk.specs.Image.{sector_at};
 ghost use Rattle.sector_disk.specs.Calls.{OnlyReads, device_in};
 ghost use Rattle.fsd_bytes.specs.Keys.{key_cmp};
 ghost use Rattle.fsd_formats.specs.NamePage.{is_entry};
@@ -13,7 +16,7 @@ ghost use Rattle.volume_contract.specs.Causes.{Causes};
 ghost use Rattle.volume_contract.specs.Ends.{Looks, Reads, device_of, found_one};
 ghost use Rattle.volume_contract.specs.Order.{Follows, IsData, entry_steps, is_idle, read_steps};
 ghost use Rattle.volume_contract.specs.State.{Known, Stands, volume_of};
-ghost use Rattle.table_volume.specs.State.{Holds, resident, state};
+ghost use Rattle.volume_state.specs.State.{Holds, resident, state};
 
 use crate::Volume;
 use fsd_bytes::{Key, Refusal};
@@ -58,6 +61,7 @@ impl Volume {
         ensures disk { OnlyReads M.Machine (device_in device_of result) m.old m.new }
         ensures state { state self.new ≡ state self.old }
         ensures idle { IsTrue (is_idle (read_steps (state self.old))) → m.new ≡ m.old }
+        ensures damaged { (s : ℕ) → result ≡ Err (Why.Damaged s) → M.honest m.new → sector_at (M.now m.new).image s ≡ Damaged }
         ensures most { IfOk result (λ count. count ≤ length buf.old) }
         ensures stands { M.honest m.new → (k : Known) → Stands state Holds self.old k (M.now m.old) → Stands state Holds self.new k (M.now m.new) }
         ensures causes { Causes M.Machine (resident self.old) (state self.old) (state self.new) m.old m.new result }
@@ -76,6 +80,7 @@ fn read_version<M: Machine>(m: &mut M, e: &Entry, from: u32, buf: &mut [u8]) -> 
     requires within { All (λ s. s < (M.report m.old).sectors) (sectors_of e.now.runs) }
     ensures disk { OnlyReads M.Machine (device_in device_of result) m.old m.new }
     ensures cause { IfErr result IsData }
+    ensures damaged { (s : ℕ) → result ≡ Err (Why.Damaged s) → M.honest m.new → sector_at (M.now m.new).image s ≡ Damaged }
     ensures most { IfOk result (λ count. count ≤ length buf.old) }
     ensures gives { M.honest m.new → (file : File) (hurt : Sectors) → e.now.length ≡ length file.bytes → KeptIn (M.now m.old).image hurt file.bytes e.now.runs →
         Reads (M.now m.old).image (M.now m.new).image (Some file) (Some e.now) from buf.old buf.new result }

@@ -1,5 +1,5 @@
 //! What a put does before it looks its name up.
-ghost use Rattle.std.specs.Prelude.{◌≡◌, ◌≤◌, ◌<◌, ◌+◌, ◌^◌, ◌∷◌, [], ℕ, IfOk, IsTrue, None, OnOk, length};
+ghost use Rattle.std.specs.Prelude.{◌≡◌, ◌≤◌, ◌<◌, ◌+◌, ◌^◌, ◌∷◌, [], ℕ, IfOk, IsFalse, IsTrue, None, OnOk, length};
 ghost use Rattle.run_table.specs.Space.{contains};
 ghost use Rattle.sector_disk.specs.Calls.{WritesDisk, device_in};
 ghost use Rattle.fsd_formats.specs.NamePage.{is_entry, max_length, sectors_for};
@@ -7,10 +7,13 @@ ghost use Rattle.volume_contract.specs.Causes.{Causes};
 ghost use Rattle.volume_contract.specs.Ends.{device_of};
 ghost use Rattle.volume_contract.specs.Order.{by_itself, is_idle};
 ghost use Rattle.fsd_sound.specs.Writes.{force_writes};
-ghost use Rattle.volume_contract.specs.State.{Counted, Known, Leaves, Stands, change_len, forces_first, put_len, put_writes};
-ghost use Rattle.table_volume.specs.Placing.{EndsStore, IsPlace, Stores, store_len, store_steps};
-ghost use Rattle.table_volume.specs.Preparing.{EndsForced, EndsPrepare, Forces, Prepares, prepare_steps};
-ghost use Rattle.table_volume.specs.State.{Holds, resident, state};
+ghost use Rattle.volume_contract.specs.State.{Counted, Known, Leaves, Stands, change_len, forces_first, forces_for_place, put_len, put_writes};
+ghost use Rattle.volume_state.specs.Behind.{IsBehind};
+ghost use Rattle.table_pages.specs.Bringing.{KeepsPages};
+ghost use Rattle.volume_state.specs.Placing.{EndsStore, IsPlace, Stores, store_len, store_steps};
+ghost use Rattle.volume_state.specs.Preparing.{EndsForced, EndsPrepare, Forces, Prepares, prepare_steps};
+ghost use Rattle.volume_state.specs.State.{Holds, resident, state};
+ghost use Rattle.fsd_files.specs.Disk.{Touches};
 
 use crate::Volume;
 use fsd_bytes::{FileName, Refusal};
@@ -31,9 +34,12 @@ impl Volume {
         requires serials { self.old.serial.count + 1 < 2 ^ 32 }
         ensures stores { Stores (sectors_for (length bytes.now)) (state self.old) (state self.new) result }
         ensures disk { WritesDisk M.Machine (device_in device_of result) (Leaves state Holds self.old (put_writes (state self.old) (sectors_for (length bytes.now)))) m.old m.new }
+        ensures rest { M.honest m.new → Touches (put_writes (state self.old) (sectors_for (length bytes.now))) (M.now m.old) (M.now m.new) }
         ensures counted { M.tells m.new → Counted result (store_len (state self.old) (sectors_for (length bytes.now))) (M.ledger m.old) (M.ledger m.new) }
         ensures idle { IsTrue (is_idle (store_steps (state self.old) (sectors_for (length bytes.now)))) → m.new ≡ m.old }
         ensures causes { Causes M.Machine (resident self.old) (state self.old) (state self.new) m.old m.new result }
+        ensures behind { OnOk result (M.honest m.new → IsBehind (state self.old) (state self.new) (resident self.old) (resident self.new) (M.now m.new)) }
+        ensures still { IsFalse (forces_for_place (state self.old) (sectors_for (length bytes.now))) → resident self.new ≡ resident self.old }
         ensures place { IfOk result (λ e. IsPlace self.new.map (sectors_for (length bytes.now)) e.runs) }
         ensures good { IfOk result (λ e. IsTrue (is_entry e)) }
         ensures length { IfOk result (λ e. e.length ≡ length bytes.now) }
@@ -59,11 +65,15 @@ impl Volume {
         requires up { self.old.down ≡ None }
         ensures forces { Forces (state self.old) (state self.new) result }
         ensures disk { WritesDisk M.Machine (device_in device_of result) (Leaves state Holds self.old (force_writes (state self.old).layout)) m.old m.new }
+        ensures rest { M.honest m.new → Touches (force_writes (state self.old).layout) (M.now m.old) (M.now m.new) }
         ensures counted { M.tells m.new → Counted result (change_len (state self.old)) (M.ledger m.old) (M.ledger m.new) }
         ensures idle { IsTrue (is_idle (by_itself (state self.old) ∷ [])) → m.new ≡ m.old }
         ensures causes { Causes M.Machine (resident self.old) (state self.old) (state self.new) m.old m.new result }
+        ensures behind { OnOk result (M.honest m.new → IsBehind (state self.old) (state self.new) (resident self.old) (resident self.new) (M.now m.new)) }
+        ensures still { IsFalse (forces_first (state self.old)) → self.new ≡ self.old }
         ensures few { OnOk result (length self.new.cache.dirty ≤ 56) }
         ensures free { OnOk result ((s : ℕ) → IsTrue (contains self.old.map.sectors s) → IsTrue (contains self.new.map.sectors s)) }
+        ensures resident { OnOk result (KeepsPages self.old.cache self.new.cache) }
         ensures done { M.honest m.new → (k : Known) → Stands state Holds self.old k (M.now m.old) → EndsForced k self.new (M.now m.new) result }
     {
         let _ = &self.layout;
@@ -90,9 +100,11 @@ impl Volume {
         requires serials { self.old.serial.count + 1 < 2 ^ 32 }
         ensures prepares { Prepares (sectors_for (length bytes.now)) (state self.old) (state self.new) result }
         ensures disk { WritesDisk M.Machine (device_in device_of result) (Leaves state Holds self.old (put_writes (state self.old) (sectors_for (length bytes.now)))) m.old m.new }
+        ensures rest { M.honest m.new → Touches (put_writes (state self.old) (sectors_for (length bytes.now))) (M.now m.old) (M.now m.new) }
         ensures counted { M.tells m.new → Counted result (put_len (state self.old) (sectors_for (length bytes.now))) (M.ledger m.old) (M.ledger m.new) }
         ensures idle { IsTrue (is_idle (prepare_steps (state self.old) (sectors_for (length bytes.now)))) → m.new ≡ m.old }
         ensures causes { Causes M.Machine (resident self.old) (state self.old) (state self.new) m.old m.new result }
+        ensures behind { OnOk result (M.honest m.new → IsBehind (state self.old) (state self.new) (resident self.old) (resident self.new) (M.now m.new)) }
         ensures few { OnOk result (length self.new.cache.dirty ≤ 56) }
         ensures place { IfOk result (λ e. IsPlace self.new.map (sectors_for (length bytes.now)) e.runs) }
         ensures good { IfOk result (λ e. IsTrue (is_entry e)) }

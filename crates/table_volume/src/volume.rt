@@ -30,7 +30,7 @@ pub struct Volume {
 }
 
 impl Model for Volume {
-    ghost use Rattle.table_volume.specs.Volume.{VolumeValue, IsWhole};
+    ghost use Rattle.volume_state.specs.Volume.{VolumeValue, IsWhole};
 
     ghost Value = { VolumeValue };
 

@@ -1,6 +1,6 @@
 use Rattle.std.proofs.Common.{sym, subst, rules}
 use Rattle.sector_set.specs.Area.{Area}
-use Rattle.table_volume.proofs.FreeLaws.{Frees, frees_first, frees_next, kept_all, run_out}
+use Rattle.volume_state.proofs.FreeLaws.{Frees, frees_first, frees_next, kept_all, run_out}
 use Rattle.table_volume.proofs.freeing.free_committed.Goals as goal
 
 pub loop-start-init : goal.loop-start-init

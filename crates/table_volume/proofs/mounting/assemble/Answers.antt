@@ -1,7 +1,7 @@
 use Rattle.std.proofs.Common.{◌≡◌, sym, subst}
 use Rattle.shadow_frees.specs.Waits.{Waits}
 use Rattle.table_volume.specs.Mounting.{none_waits}
-use Rattle.table_volume.specs.Volume.{IsWhole}
+use Rattle.volume_state.specs.Volume.{IsWhole}
 use Rattle.table_volume.proofs.AssembleLaws.{made, no_waits, whole_assembled}
 use Rattle.table_volume.proofs.mounting.assemble.Goals as goal
 

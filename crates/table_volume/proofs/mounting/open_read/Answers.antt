@@ -1,7 +1,7 @@
 use Rattle.sector_disk.proofs.Calm.{calm_wears}
-use Rattle.table_volume.specs.Homes.{KnowsHomes}
+use Rattle.cached_table.specs.Homes.{KnowsHomes}
 use Rattle.table_volume.specs.Mounting.{opened_of}
-use Rattle.table_volume.specs.Opening.{IsNoTable, IsTableOf, home_pages}
+use Rattle.cached_table.specs.Opening.{IsNoTable, IsTableOf, home_pages}
 use Rattle.table_volume.proofs.CalmLaws.{opens}
 use Rattle.table_volume.proofs.MountLaws.{err_more, ok_more}
 use Rattle.table_volume.proofs.KnownLaws.{opens_known, unread_known}

@@ -1,6 +1,6 @@
-use Rattle.table_volume.specs.Homes.{KnowsHomes}
-use Rattle.table_volume.specs.Opening.{IsTableOf, home_pages}
-use Rattle.table_volume.specs.declared.opening.Opened.{Opened}
+use Rattle.cached_table.specs.Homes.{KnowsHomes}
+use Rattle.cached_table.specs.Opening.{IsTableOf, home_pages}
+use Rattle.cached_table.specs.declared.opening.Opened.{Opened}
 use Rattle.table_volume.proofs.MountLaws.{opened_as}
 use Rattle.table_volume.proofs.mounting.open_settled.Goals as goal
 

@@ -1,12 +1,15 @@
-use Rattle.std.proofs.Common.{◌≡◌, Some, arith}
+use Rattle.std.proofs.Common.{◌≡◌, ℕ, Some, Err, arith}
 use Rattle.std.specs.Prelude.{IfErr}
+use Rattle.fsd_bytes.specs.declared.refusal.Refusal.TheVariants as Why
+use Rattle.sector_disk.specs.declared.sector.Sector.TheVariants.{Damaged}
+use Rattle.sector_disk.specs.Image.{sector_at}
 use Rattle.sector_disk.specs.Calls.{device_in}
 use Rattle.sector_disk.proofs.CallLaws.{reads_told}
 use Rattle.volume_contract.specs.Ends.{Reads, device_of}
 use Rattle.volume_contract.specs.Order.{IsData}
 use Rattle.version_data.specs.Reading.{data_failed_at, refusal_of}
 use Rattle.version_data.proofs.PlaceLaws.{entry_count, entry_length}
-use Rattle.table_volume.proofs.RangeLaws.{damaged_reads, data_device, data_is, handed, reads_range}
+use Rattle.volume_state.proofs.RangeLaws.{damaged_reads, data_device, data_is, handed, reads_range, told_damaged}
 use Rattle.table_volume.proofs.reading.read_version.Goals as goal
 
 pub read_range-requires-clause-end : goal.read_range-requires-clause-end
@@ -32,6 +35,14 @@ returns-in_err-read_range-clause-gives g c = λ h file hurt len kept.
     let e = c.args.e.now in
     handed (λ r. Reads i j (Some file) (Some e) c.args.from c.args.buf.now c.read_range.new.buf r) c.from_residual.result (refusal_of fault) c.from_residual.ensures.1
     (damaged_reads i j file e c.args.from c.min-n.result c.args.buf.now c.read_range.new.buf fault (omega arith) (c.in_err-read_range.ensures.damaged h))
+
+pub returns-in_err-read_range-clause-damaged : goal.returns-in_err-read_range-clause-damaged
+returns-in_err-read_range-clause-damaged g c =
+    let M = g.M.Machine in
+    let fault = c.in_err-read_range.field-0.0 in
+    let j = (M.now c.read_range.new.m).image in
+    handed (λ r. (s : ℕ) → r ≡ Err (Why.Damaged s) → M.honest c.read_range.new.m → sector_at j s ≡ Damaged) c.from_residual.result (refusal_of fault) c.from_residual.ensures.1
+    (λ s is h. told_damaged (M.now c.args.m.now).image j c.args.e.now.runs c.args.from c.min-n.result s fault (c.in_err-read_range.ensures.damaged h) (cc is))
 
 pub returns-clause-gives : goal.returns-clause-gives
 returns-clause-gives g c = λ h file hurt len kept.

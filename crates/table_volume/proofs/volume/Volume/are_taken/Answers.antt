@@ -1,4 +1,4 @@
-use Rattle.table_volume.proofs.TakenLaws.{taken_here, taken_not}
+use Rattle.volume_state.proofs.TakenLaws.{taken_here, taken_not}
 use Rattle.table_volume.proofs.volume.Volume.are_taken.Goals as goal
 
 pub returns-then-are_taken : goal.returns-then-are_taken

@@ -2,7 +2,7 @@ use Rattle.fsd_files.specs.Answers.{force_outcome}
 use Rattle.fsd_files.specs.Replies.{Forced as IsForced}
 use Rattle.volume_contract.specs.declared.files.Forced.{Forced}
 use Rattle.volume_contract.specs.State.{volume_of}
-use Rattle.table_volume.proofs.CloseLaws.{closes, ends_device}
+use Rattle.volume_state.proofs.CloseLaws.{closes, ends_device}
 use Rattle.table_volume.proofs.volume.Volume.close.Goals as goal
 
 pub returns-in-Ok-clause-done : goal.returns-in-Ok-clause-done

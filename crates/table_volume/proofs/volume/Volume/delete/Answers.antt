@@ -9,12 +9,16 @@ use Rattle.fsd_sound.specs.Writes.{force_writes}
 use Rattle.volume_contract.specs.Ends.{device_of}
 use Rattle.volume_contract.specs.Order.{by_itself}
 use Rattle.volume_contract.specs.State.{Leaves, change_len, volume_of}
-use Rattle.table_volume.specs.Ending.{delete_tests, look_steps}
-use Rattle.table_volume.specs.State.{Holds, state}
-use Rattle.table_volume.proofs.BehindForce.{busy, change_counts, change_ends, change_follows, change_goes, change_kept, failed_comes, failed_keeps, force_ends, is_up, keeps_refused, leaves_behind, not_worn, number_behind, up_behind}
-use Rattle.table_volume.proofs.StepLaws.{comes_more}
-use Rattle.table_volume.proofs.TestedLaws.{delete_places, delete_refusals, delete_test_ends, delete_through}
-use Rattle.table_volume.proofs.WrittenLaws.{leaves_still}
+use Rattle.volume_changes.specs.Ending.{delete_tests, look_steps}
+use Rattle.volume_state.specs.State.{Holds, resident, state}
+use Rattle.volume_changes.proofs.BehindLaws.{causes_behind, delete_causes, edited_layout, edited_slots}
+use Rattle.volume_changes.proofs.CauseLaws.{handed_cause}
+use Rattle.volume_changes.proofs.BehindForce.{busy, change_counts, change_ends, change_follows, change_goes, change_kept, failed_comes, failed_keeps, force_ends, is_up, keeps_refused, leaves_behind, not_worn, number_behind, up_behind}
+use Rattle.volume_state.proofs.StepLaws.{comes_more}
+use Rattle.volume_changes.proofs.TestedLaws.{delete_places, delete_refusals, delete_test_ends, delete_through}
+use Rattle.volume_state.proofs.WrittenLaws.{leaves_still}
+use Rattle.volume_state.proofs.ForceMomentLaws.{touches_none}
+use Rattle.volume_state.proofs.StoreLaws.{touches_read}
 use Rattle.table_volume.proofs.volume.Volume.delete.Goals as goal
 
 -- ---- where a test refuses
@@ -129,3 +133,34 @@ returns-clause-done g c = λ h k stands.
     let p = c.in_ok-force_first.ensures.done back k stands in
     change_ends {T = Unit {0}} (λ v met. delete_outcome met v c.args.key.now) (λ x. Deleted c.args.key.now) (Change.Delete c.args.key.now) k c.force_first.new.self (g.M.Machine.now c.force_first.new.m) p (delete_through c.args.key.now (volume_of k)) c.in_ok-force_first.ensures.few c.delete_now.new.self (g.M.Machine.now c.delete_now.new.m) c.delete_now.result
     (c.delete_now.ensures.done h p.after p.stands)
+
+-- ---- why it tells something as lost or as unsound
+
+pub returns-in_err-may_delete-clause-causes : goal.returns-in_err-may_delete-clause-causes
+returns-in_err-may_delete-clause-causes g c =
+    let v = c.args.self.now in
+    delete_causes g.M.Machine (state v) (resident v) c.args.m.now c.from_residual.result c.in_err-may_delete.field-0.0 c.from_residual.ensures.1 c.in_err-may_delete.ensures
+
+pub returns-in_err-force_first-clause-causes : goal.returns-in_err-force_first-clause-causes
+returns-in_err-force_first-clause-causes g c =
+    let v = c.args.self.now in
+    handed_cause g.M.Machine (resident v) (state v) (state c.force_first.new.self) c.args.m.now c.force_first.new.m c.in_err-force_first.field-0.0 c.from_residual-in_err-force_first.result c.from_residual-in_err-force_first.ensures.1 c.in_err-force_first.ensures.causes
+
+pub returns-clause-causes : goal.returns-clause-causes
+returns-clause-causes g c =
+    let v = c.args.self.now in
+    let mid = c.force_first.new.self in
+    let new = c.delete_now.new.self in
+    let change = c.delete_now.ensures in
+    causes_behind g.M.Machine (state v) (state mid) (state new) (resident v) (resident mid) c.args.m.now c.force_first.new.m c.delete_now.new.m (λ h. c.in_ok-force_first.ensures.behind (change.disk.trust.honest h))
+    (edited_slots (state mid) (state new) c.delete_now.result change.edited) (edited_layout (state mid) (state new) c.delete_now.result change.edited) change.disk.worn c.delete_now.result change.causes
+
+pub returns-in_err-may_delete-clause-rest : goal.returns-in_err-may_delete-clause-rest
+returns-in_err-may_delete-clause-rest g c h = touches_none (force_writes c.args.self.now.layout) (g.M.Machine.now c.args.m.now)
+
+pub returns-clause-rest : goal.returns-clause-rest
+returns-clause-rest g c h =
+    let M = g.M.Machine in
+    let reads = c.delete_now.ensures.disk in
+    let back = reads.trust.honest h in
+    touches_read (force_writes c.args.self.now.layout) (M.now c.args.m.now) (M.now c.force_first.new.m) (M.now c.delete_now.new.m) (c.in_ok-force_first.ensures.disk.windows back) (c.in_ok-force_first.ensures.rest back) (reads.worn h)

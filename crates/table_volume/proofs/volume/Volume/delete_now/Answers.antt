@@ -10,13 +10,13 @@ use Rattle.fsd_files.specs.Replies.{Deleted}
 use Rattle.name_btree.specs.Lookup.{entry_of}
 use Rattle.volume_contract.specs.Order.{IsLookUp}
 use Rattle.volume_contract.specs.State.{volume_of}
-use Rattle.table_volume.specs.Taken.{are_taken}
-use Rattle.table_volume.specs.State.{resident, state}
-use Rattle.table_volume.proofs.ChangeEnds.{look_ended}
-use Rattle.table_volume.proofs.DeleteEnds.{delete_none, keyed_ends, met_ended}
-use Rattle.table_volume.proofs.EditedLaws.{causes_looked, edits_looked, follows_looked, state_looked}
-use Rattle.table_volume.proofs.EntryLaws.{entry_key, met_refused, met_taken}
-use Rattle.table_volume.proofs.CauseLaws.{met_handed}
+use Rattle.volume_state.specs.Taken.{are_taken}
+use Rattle.volume_state.specs.State.{resident, state}
+use Rattle.volume_changes.proofs.ChangeEnds.{look_ended}
+use Rattle.volume_changes.proofs.DeleteEnds.{delete_none, keyed_ends, met_ended}
+use Rattle.volume_changes.proofs.EditedLaws.{causes_looked, edits_looked, follows_looked, state_looked}
+use Rattle.volume_changes.proofs.EntryLaws.{entry_key, met_refused, met_taken}
+use Rattle.volume_changes.proofs.CauseLaws.{met_handed}
 use Rattle.table_volume.proofs.volume.Volume.delete_now.Goals as goal
 
 -- ---- where the look-up fails

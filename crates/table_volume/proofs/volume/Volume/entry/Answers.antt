@@ -2,9 +2,9 @@ use Rattle.std.proofs.Common.{sym, ap, ◌∙◌}
 use Rattle.std.proofs.lemmas.Result.{err_from_is_err_and}
 use Rattle.fsd_files.specs.Answers.{entry_of as entry_in, entry_reply, found_or}
 use Rattle.name_btree.specs.Lookup.{entry_of}
-use Rattle.table_volume.specs.State.{resident, state}
-use Rattle.table_volume.proofs.CauseLaws.{met_handed}
-use Rattle.table_volume.proofs.EntryLaws.{entry_looked_up, fault_looked_up}
+use Rattle.volume_state.specs.State.{resident, state}
+use Rattle.volume_changes.proofs.CauseLaws.{met_handed}
+use Rattle.volume_changes.proofs.EntryLaws.{entry_looked_up, fault_looked_up, key_met}
 use Rattle.table_volume.proofs.volume.Volume.entry.Goals as goal
 
 pub returns-in-None-clause-done : goal.returns-in-None-clause-done
@@ -29,3 +29,7 @@ returns-in-Some-clause-causes g c =
     let w = c.args.self.now in
     let new = state c.find.new.self in
     met_handed g.M.Machine (resident w) (state w) new c.args.m.now c.find.new.m c.find.new.self _ c.in-Some.found c.in-Some.is c.in_ok-found.ensures.met c.met_entry.result c.met_entry.ensures
+
+pub returns-in-Some-clause-key : goal.returns-in-Some-clause-key
+returns-in-Some-clause-key g c =
+    key_met c.find.new.self c.args.key.now c.in-Some.found.page c.in-Some.found.entry c.met_entry.result (rw c.in-Some.is at c.in_ok-found.ensures.key) c.met_entry.ensures

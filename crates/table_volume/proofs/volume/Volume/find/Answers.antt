@@ -1,9 +1,9 @@
 use Rattle.std.proofs.Common.{refl}
-use Rattle.table_volume.specs.State.{resident, state}
-use Rattle.table_volume.proofs.CauseLaws.{causes_by, met_left}
-use Rattle.table_volume.proofs.EntryLaws.{lost_found, taken_there}
-use Rattle.table_volume.proofs.FindLaws.{finds_found, stands_found}
-use Rattle.table_volume.proofs.ReadLaws.{shows_by, unsound_by}
+use Rattle.volume_state.specs.State.{resident, state}
+use Rattle.volume_changes.proofs.CauseLaws.{causes_by, met_left}
+use Rattle.volume_changes.proofs.EntryLaws.{lost_found, taken_there}
+use Rattle.volume_changes.proofs.FindLaws.{finds_found, stands_found}
+use Rattle.volume_changes.proofs.ReadLaws.{shows_by, unsound_by}
 use Rattle.table_volume.proofs.volume.Volume.find.Goals as goal
 
 pub returns-clause-stands : goal.returns-clause-stands

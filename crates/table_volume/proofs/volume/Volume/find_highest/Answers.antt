@@ -1,12 +1,13 @@
 use Rattle.std.proofs.Common.{refl}
 use Rattle.fsd_files.specs.Answers.{highest_entry}
 use Rattle.name_page.specs.Lookups.{highest_of}
-use Rattle.table_volume.specs.State.{resident, state}
-use Rattle.table_volume.proofs.CauseLaws.{causes_by, met_left}
-use Rattle.table_volume.proofs.EntryLaws.{lost_found, taken_there}
-use Rattle.table_volume.proofs.ReadLaws.{shows_by, unsound_by}
-use Rattle.table_volume.proofs.FindLaws.{finds_looked, stands_found}
-use Rattle.table_volume.proofs.TableLaws.{found_highest}
+use Rattle.volume_state.specs.State.{resident, state}
+use Rattle.volume_changes.proofs.CauseLaws.{causes_by, met_left}
+use Rattle.volume_changes.proofs.EntryLaws.{lost_found, taken_there}
+use Rattle.volume_changes.proofs.ReadLaws.{shows_by, unsound_by}
+use Rattle.volume_changes.proofs.FindLaws.{finds_looked, stands_found}
+use Rattle.volume_changes.proofs.MemoryLaws.{look_needs}
+use Rattle.volume_state.proofs.TableLaws.{found_highest}
 use Rattle.table_volume.proofs.volume.Volume.find_highest.Goals as goal
 
 pub returns-clause-stands : goal.returns-clause-stands
@@ -40,3 +41,7 @@ returns-clause-met g c =
     met_left M c.args.m.now c.highest_in-found.new.m _ w c.self.view_is c.self.invariant c.highest_in-found.new.cache _ _ c.highest_in-found.new.free refl c.told.result
     (λ h. shows_by M c.args.m.now c.highest_in-found.new.m _ w c.self.view_is c.self.invariant c.highest_in-found.new.cache c.over-source.result c.over-source.ensures _ c.home_a-home_a.result
     c.highest_in-found.result c.told.result c.told.ensures c.highest_in-found.ensures.looks h c.highest_in-found.ensures.way)
+
+pub returns-clause-memory : goal.returns-clause-memory
+returns-clause-memory g c =
+    look_needs _ c.args.self.now c.self.view_is c.self.invariant c.highest_in-found.new.cache c.highest_in-found.new.free c.home_a-home_a.result c.highest_in-found.result c.told.result c.highest_in-found.ensures.free c.told.ensures c.highest_in-found.ensures.memory

@@ -6,19 +6,24 @@ use Rattle.volume_contract.specs.Ends.{device_of, Answered}
 use Rattle.fsd_sound.specs.Writes.{force_writes}
 use Rattle.volume_contract.specs.State.{IsForced as HasForced, Leaves, Stands, force_len, volume_of}
 use Rattle.fsd_files.specs.Answers.{force_outcome}
+use Rattle.fsd_files.specs.Disk.{Touches}
 use Rattle.fsd_files.specs.Replies.{Forced as IsForced}
 use Rattle.volume_contract.specs.declared.files.Forced.{Forced}
 use Rattle.volume_contract.specs.Order.{Keeps, force_steps}
-use Rattle.table_volume.specs.State.{Holds, state}
-use Rattle.table_volume.specs.Volume.{VolumeValue}
-use Rattle.table_volume.specs.Taken.{down_fault}
-use Rattle.table_volume.proofs.FailedLaws.{failed_cause, failed_counted, none_counted}
-use Rattle.table_volume.proofs.ForceLeavesLaws.{down_tells_none, tells_place}
-use Rattle.table_volume.proofs.ForceCountLaws.{forced_count}
-use Rattle.table_volume.proofs.ForceEndLaws.{ends_failed, ends_forced, ends_idle, forced_to, not_down}
-use Rattle.table_volume.proofs.ForceMomentLaws.{agrees, commits, knows, leaves_forced, leaves_itself, over_waiting}
-use Rattle.table_volume.proofs.ForcedLaws.{whole_down, whole_forced}
-use Rattle.table_volume.proofs.KeptLaws.{idle_forced, is_forced, kept_down, value_then}
+use Rattle.volume_state.specs.Behind.{IsBehind}
+use Rattle.volume_state.specs.State.{Holds, resident, state}
+use Rattle.volume_state.specs.Volume.{VolumeValue}
+use Rattle.volume_state.specs.Taken.{down_fault}
+use Rattle.volume_changes.proofs.BehindLaws.{behind_itself}
+use Rattle.volume_state.proofs.FailedLaws.{err_as, failed_cause, failed_counted, failed_none, none_counted}
+use Rattle.volume_state.proofs.ForceLeavesLaws.{down_tells_none, tells_place}
+use Rattle.volume_state.proofs.ForceCountLaws.{forced_count}
+use Rattle.volume_state.proofs.ForceEndLaws.{ends_failed, ends_forced, ends_idle, forced_to, not_down}
+use Rattle.volume_state.proofs.ForceMomentLaws.{agrees, commits, force_touches, knows, leaves_forced, leaves_itself, over_waiting, touches_none}
+use Rattle.volume_state.proofs.ForcedLaws.{whole_down, whole_forced}
+use Rattle.volume_state.proofs.KeptLaws.{idle_forced, is_forced, kept_down, value_then}
+use Rattle.volume_changes.proofs.MemoryLaws.{forced_pages}
+use Rattle.volume_state.proofs.LoggedLaws.{forced_behind}
 use Rattle.table_volume.proofs.volume.Volume.force.Goals as goal
 
 pub invariant_of-self : goal.invariant_of-self
@@ -150,3 +155,55 @@ returns-in-Err-clause-lost g c h =
     let M = g.M.Machine in
     let v : VolumeValue = record { layout = c.self.inside.layout; map = c.self.inside.map; shadow = c.self.inside.shadow; log = c.self.inside.log; cache = c.self.inside.cache; free_pages = c.self.inside.free_pages; serial = c.self.inside.serial; versions = c.self.inside.versions; down = c.self.inside.down } in
     failed_cause v c.args.self.now c.self.view_is c.self.invariant (state c.args.self.now) (M.now c.args.m.now) (M.now c.force_cached.new.m) c.in-Err.fault c.force_refusal.result c.force_refusal.ensures (c.in-Err.ensures.lost h)
+
+-- ---- its pages stay in memory
+
+pub returns-then-len-eq0-clause-resident : goal.returns-then-len-eq0-clause-resident
+returns-then-len-eq0-clause-resident g c = λ page there. there
+
+pub returns-in-Ok-clause-resident : goal.returns-in-Ok-clause-resident
+returns-in-Ok-clause-resident g c =
+    let v : VolumeValue = record { layout = c.self.inside.layout; map = c.self.inside.map; shadow = c.self.inside.shadow; log = c.self.inside.log; cache = c.self.inside.cache; free_pages = c.self.inside.free_pages; serial = c.self.inside.serial; versions = c.self.inside.versions; down = c.self.inside.down } in
+    forced_pages v c.args.self.now c.self.view_is c.self.inside.log c.force_cached.new.cache c.in-Ok.ensures.cache
+
+pub returns-in_err-is_up-clause-counted_err : goal.returns-in_err-is_up-clause-counted_err
+returns-in_err-is_up-clause-counted_err g c = err_as _ c.from_residual.result (λ tells never. refl)
+
+pub returns-in-Err-clause-counted_err : goal.returns-in-Err-clause-counted_err
+returns-in-Err-clause-counted_err g c tells never =
+    let M = g.M.Machine in
+    let v : VolumeValue = record { layout = c.self.inside.layout; map = c.self.inside.map; shadow = c.self.inside.shadow; log = c.self.inside.log; cache = c.self.inside.cache; free_pages = c.self.inside.free_pages; serial = c.self.inside.serial; versions = c.self.inside.versions; down = c.self.inside.down } in
+    failed_none v c.args.self.now c.self.view_is c.self.invariant (M.ledger c.args.m.now) (M.ledger c.force_cached.new.m) (c.in-Err.ensures.counted_err tells) never
+
+pub returns-then-len-eq0-clause-behind : goal.returns-then-len-eq0-clause-behind
+returns-then-len-eq0-clause-behind g c honest = behind_itself (state c.args.self.now) (resident c.args.self.now) (g.M.Machine.now c.args.m.now)
+
+pub returns-in-Ok-clause-behind : goal.returns-in-Ok-clause-behind
+returns-in-Ok-clause-behind g c honest =
+    let v : VolumeValue = record { layout = c.self.inside.layout; map = c.self.inside.map; shadow = c.self.inside.shadow; log = c.self.inside.log; cache = c.self.inside.cache; free_pages = c.self.inside.free_pages; serial = c.self.inside.serial; versions = c.self.inside.versions; down = c.self.inside.down } in
+    let w = record v { map = c.free_committed.new.map; shadow = c.free_committed.new.shadow; log = c.force_cached.new.log; cache = c.force_cached.new.cache } in
+    let now = g.M.Machine.now c.force_cached.new.m in
+    subst (λ (x : VolumeValue). IsBehind (state x) (state w) (resident x) (resident w) now) c.self.view_is
+    (forced_behind v w c.self.invariant
+    (whole_forced v c.self.invariant c.free_committed.new.map c.free_committed.new.shadow c.force_cached.new.log c.force_cached.new.cache
+    c.free_committed.ensures.map c.free_committed.ensures.removed c.free_committed.ensures.kept c.free_committed.ensures.unfinished c.free_committed.ensures.held c.in-Ok.ensures.log c.in-Ok.ensures.cache)
+    (forced_to v c.free_committed.new.map c.free_committed.new.shadow c.force_cached.new.log c.force_cached.new.cache c.free_committed.ensures.map c.free_committed.ensures.removed c.in-Ok.ensures.log c.in-Ok.ensures.cache)
+    now (c.in-Ok.ensures.logged honest))
+
+pub returns-in_err-is_up-clause-rest : goal.returns-in_err-is_up-clause-rest
+returns-in_err-is_up-clause-rest g c h = touches_none (force_writes c.args.self.now.layout) (g.M.Machine.now c.args.m.now)
+
+pub returns-then-len-eq0-clause-rest : goal.returns-then-len-eq0-clause-rest
+returns-then-len-eq0-clause-rest g c h = touches_none (force_writes c.args.self.now.layout) (g.M.Machine.now c.args.m.now)
+
+pub returns-in-Ok-clause-rest : goal.returns-in-Ok-clause-rest
+returns-in-Ok-clause-rest g c h =
+    let v : VolumeValue = record { layout = c.self.inside.layout; map = c.self.inside.map; shadow = c.self.inside.shadow; log = c.self.inside.log; cache = c.self.inside.cache; free_pages = c.self.inside.free_pages; serial = c.self.inside.serial; versions = c.self.inside.versions; down = c.self.inside.down } in
+    let old = g.M.Machine.now c.args.m.now in let new = g.M.Machine.now c.force_cached.new.m in
+    subst (λ (x : VolumeValue). Touches (force_writes x.layout) old new) c.self.view_is (force_touches v old new c.self.invariant (c.in-Ok.ensures.rest h))
+
+pub returns-in-Err-clause-rest : goal.returns-in-Err-clause-rest
+returns-in-Err-clause-rest g c h =
+    let v : VolumeValue = record { layout = c.self.inside.layout; map = c.self.inside.map; shadow = c.self.inside.shadow; log = c.self.inside.log; cache = c.self.inside.cache; free_pages = c.self.inside.free_pages; serial = c.self.inside.serial; versions = c.self.inside.versions; down = c.self.inside.down } in
+    let old = g.M.Machine.now c.args.m.now in let new = g.M.Machine.now c.force_cached.new.m in
+    subst (λ (x : VolumeValue). Touches (force_writes x.layout) old new) c.self.view_is (force_touches v old new c.self.invariant (c.in-Err.ensures.rest h))

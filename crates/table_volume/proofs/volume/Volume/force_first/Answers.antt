@@ -1,16 +1,19 @@
 use Rattle.std.proofs.Common.{◌≡◌, Bool, true, [], ◌∷◌, Err, cond, sym, ap, subst, ◌∙◌, arith}
+use Rattle.std.proofs.lemmas.Bool.{both_ways}
 use Rattle.sector_disk.proofs.CallLaws.{writes_none}
 use Rattle.fsd_files.specs.Answers.{force_outcome}
 use Rattle.fsd_files.specs.Replies.{Forced as IsForced}
 use Rattle.volume_contract.specs.declared.files.Forced.{Forced}
 use Rattle.volume_contract.specs.Order.{Force, is_idle}
 use Rattle.fsd_sound.specs.Writes.{force_writes}
-use Rattle.volume_contract.specs.State.{Counted, Leaves, force_len, volume_of}
-use Rattle.table_volume.specs.State.{Holds, state}
-use Rattle.table_volume.specs.Volume.{IsWhole}
-use Rattle.table_volume.proofs.FreeStays.{freed_has}
-use Rattle.table_volume.proofs.PrepareLaws.{ends_down_first, ends_forced, ends_not, few_forced, few_not, forces_done, forces_failed, forces_not}
-use Rattle.table_volume.proofs.WrittenLaws.{leaves_still}
+use Rattle.volume_contract.specs.State.{Counted, Leaves, force_len, forces_first, volume_of}
+use Rattle.volume_state.specs.State.{Holds, resident, state}
+use Rattle.volume_state.specs.Volume.{IsWhole}
+use Rattle.volume_changes.proofs.BehindLaws.{behind_itself}
+use Rattle.volume_state.proofs.FreeStays.{freed_has}
+use Rattle.volume_state.proofs.PrepareLaws.{ends_down_first, ends_forced, ends_not, few_forced, few_not, forces_done, forces_failed, forces_not}
+use Rattle.volume_state.proofs.WrittenLaws.{leaves_still}
+use Rattle.volume_state.proofs.ForceMomentLaws.{touches_none}
 use Rattle.table_volume.proofs.volume.Volume.force_first.Goals as goal
 
 -- ---- few pages wait
@@ -76,3 +79,26 @@ returns-then-not-many_wait-clause-few g c = few_not (state c.args.self.now) (sym
 
 pub returns-in-Ok-clause-few : goal.returns-in-Ok-clause-few
 returns-in-Ok-clause-few g c = few_forced (state c.args.self.now) (state c.force.new.self) c.in-Ok.ensures.kept
+
+pub returns-then-not-many_wait-clause-resident : goal.returns-then-not-many_wait-clause-resident
+returns-then-not-many_wait-clause-resident g c = λ page there. there
+
+pub returns-in-Ok-clause-resident : goal.returns-in-Ok-clause-resident
+returns-in-Ok-clause-resident g c = c.in-Ok.ensures.resident
+
+-- ---- what is known behind it
+
+pub returns-then-not-many_wait-clause-behind : goal.returns-then-not-many_wait-clause-behind
+returns-then-not-many_wait-clause-behind g c h = behind_itself (state c.args.self.now) (resident c.args.self.now) (g.M.Machine.now c.args.m.now)
+
+pub returns-in-Ok-clause-behind : goal.returns-in-Ok-clause-behind
+returns-in-Ok-clause-behind g c h = c.in-Ok.ensures.behind h
+
+pub returns-in-Ok-clause-still : goal.returns-in-Ok-clause-still
+returns-in-Ok-clause-still g c few = absurd (both_ways (forces_first (state c.args.self.now)) few (sym c.many_wait.ensures ∙ c.if-not-many_wait.false))
+
+pub returns-in-Err-clause-still : goal.returns-in-Err-clause-still
+returns-in-Err-clause-still g c few = absurd (both_ways (forces_first (state c.args.self.now)) few (sym c.many_wait.ensures ∙ c.if-not-many_wait.false))
+
+pub returns-then-not-many_wait-clause-rest : goal.returns-then-not-many_wait-clause-rest
+returns-then-not-many_wait-clause-rest g c h = touches_none (force_writes c.args.self.now.layout) (g.M.Machine.now c.args.m.now)

@@ -2,15 +2,16 @@ use Rattle.std.proofs.Common.{ap, sym, subst, ◌∙◌}
 use Rattle.sector_disk.proofs.CallLaws.{reads_told}
 use Rattle.fsd_bytes.specs.declared.key.Key.{Key}
 use Rattle.fsd_bytes.specs.declared.refusal.Refusal.{Refusal}
-use Rattle.std.specs.Prelude.{Result}
+use Rattle.std.specs.Prelude.{◌≡◌, IfOk, Result}
 use Rattle.sector_disk.specs.Calls.{device_in}
 use Rattle.volume_contract.specs.Ends.{device_of}
 use Rattle.volume_contract.specs.Order.{Follows}
 use Rattle.version_table.specs.Fault.{outer_met}
-use Rattle.table_volume.specs.Ending.{edit_steps}
-use Rattle.table_volume.proofs.ChangeEnds.{keep_ended}
-use Rattle.table_volume.proofs.EditedLaws.{keep_causes, keep_edits, keep_follows, keep_place}
-use Rattle.table_volume.proofs.WholeLaws.{whole_edited}
+use Rattle.volume_changes.specs.Ending.{edit_steps}
+use Rattle.volume_changes.proofs.ChangeEnds.{keep_ended}
+use Rattle.volume_changes.proofs.EditedLaws.{keep_causes, keep_edits, keep_follows, keep_memory, keep_name, keep_place}
+use Rattle.volume_changes.proofs.MemoryLaws.{used_now}
+use Rattle.volume_changes.proofs.WholeLaws.{whole_edited}
 use Rattle.table_volume.proofs.volume.Volume.keep_found.Goals as goal
 
 pub invariant_of-self : goal.invariant_of-self
@@ -44,3 +45,11 @@ returns-clause-done g c = λ honest k stands.
     keep_ended g.M.Machine g.met.M.Machine.short c.args.m.now c.set_keep_in-done.new.m _ c.args.self.now c.self.view_is c.self.invariant c.dirty_list-whole.ensures.valid c.set_keep_in-done.new.cache c.dirty_list-edited.ensures.valid c.set_keep_in-done.new.free
     honest k stands c.args.name.now c.args.keep c.requires.keep c.requires.few c.home_a-home_a.result c.over-source.result c.over-source.ensures c.set_keep_in-done.result c.kept_told.result c.kept_told.ensures
     edits c.set_keep_in-done.ensures.kept c.set_keep_in-done.ensures.one c.set_keep_in-done.ensures.set c.set_keep_in-done.ensures.fault whole_left
+
+pub returns-clause-memory : goal.returns-clause-memory
+returns-clause-memory g c = λ all wants.
+    c.set_keep_in-done.ensures.memory (used_now _ c.args.self.now c.self.view_is c.self.invariant all) (keep_memory c.set_keep_in-done.result (sym c.kept_told.ensures ∙ wants))
+
+pub returns-clause-name : goal.returns-clause-name
+returns-clause-name g c =
+    subst (λ (r : Result Key Refusal). IfOk r (λ key. key.name ≡ c.args.name.now)) (sym c.kept_told.ensures) (keep_name c.args.name.now c.set_keep_in-done.result c.set_keep_in-done.ensures.name)

@@ -1,14 +1,16 @@
-use Rattle.std.proofs.Common.{inl, ap, sym, length, ◌∙◌, arith, List, ℕ}
+use Rattle.std.proofs.Common.{◌≡◌, inl, ap, sym, length, ◌∙◌, arith, List, ℕ}
 use Rattle.std.proofs.lemmas.Result.{err_from_is_err_and}
+use Rattle.fsd_bytes.specs.declared.refusal.Refusal.TheVariants as Why
+use Rattle.name_page.specs.Pages.{outer_refusal}
 use Rattle.sector_disk.proofs.CallLaws.{reads_then}
 use Rattle.fsd_files.specs.Answers.{highest_entry, keep_outcome}
 use Rattle.fsd_files.specs.Files.{Change}
 use Rattle.name_btree.specs.Lookup.{entry_of}
 use Rattle.volume_contract.specs.Ends.{kept_key}
 use Rattle.volume_contract.specs.State.{volume_of}
-use Rattle.table_volume.specs.State.{resident, state}
-use Rattle.table_volume.proofs.ChangeEnds.{keep_none, look_ended}
-use Rattle.table_volume.proofs.EditedLaws.{causes_looked, edits_looked, follows_looked, state_looked}
+use Rattle.volume_state.specs.State.{resident, state}
+use Rattle.volume_changes.proofs.ChangeEnds.{keep_none, look_ended}
+use Rattle.volume_changes.proofs.EditedLaws.{causes_looked, edits_looked, follows_looked, state_looked}
 use Rattle.table_volume.proofs.volume.Volume.keep_now.Goals as goal
 
 -- ---- where the look-up fails
@@ -64,3 +66,16 @@ returns-in-Some-clause-causes g c =
 
 pub returns-in-Some-clause-done : goal.returns-in-Some-clause-done
 returns-in-Some-clause-done g c = λ h k stands. c.keep_found.ensures.done h k (c.in_ok-found.ensures.stands (c.keep_found.ensures.disk.trust.honest h) k stands)
+
+-- ---- memory is not wanting
+
+pub returns-in_err-found-clause-memory : goal.returns-in_err-found-clause-memory
+returns-in_err-found-clause-memory g c =
+    let p = err_from_is_err_and c.from_residual.result c.from_residual.ensures.1 in
+    rw (p.1, p.2) (λ all wants. c.in_err-found.ensures.memory.enough all (let same : c.in_err-found.field-0.0 ≡ Why.Memory = cc wants in ap outer_refusal same))
+
+pub returns-in-None-clause-memory : goal.returns-in-None-clause-memory
+returns-in-None-clause-memory g c = λ all wants. cc wants
+
+pub returns-in-Some-clause-memory : goal.returns-in-Some-clause-memory
+returns-in-Some-clause-memory g c = λ all. c.keep_found.ensures.memory (c.in_ok-found.ensures.memory.stays all)

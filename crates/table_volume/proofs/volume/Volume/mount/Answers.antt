@@ -5,15 +5,16 @@ use Rattle.sector_disk.proofs.CallLaws.{heals_then, reads_as_heals}
 use Rattle.sector_disk.proofs.Calm.{calm_worn, same_calm}
 use Rattle.fsd_sound.specs.Lost.{AreCopiesOn, AreHomes, LostIn}
 use Rattle.mount_recover.specs.Recover.{IsFreshLog, IsSettledIn}
-use Rattle.volume_contract.specs.Mount.{CountsMount, IsRefused, UnsoundFor}
+use Rattle.volume_contract.specs.Mount.{CountsMount, HealsAnchors, HealsHomes, IsRefused, UnsoundFor}
 use Rattle.volume_contract.specs.State.{IsNew}
-use Rattle.table_volume.specs.Homes.{KnowsHomes}
+use Rattle.cached_table.specs.Homes.{KnowsHomes}
 use Rattle.table_volume.specs.Mounting.{IsAssembled, OpensKnown}
-use Rattle.table_volume.specs.Opening.{IsOpenFault}
-use Rattle.table_volume.specs.State.{state}
+use Rattle.cached_table.specs.Opening.{IsOpenFault}
+use Rattle.volume_state.specs.State.{state}
 use Rattle.table_volume.proofs.CalmLaws.{calm_handed, fails_calm, mounts_calm}
 use Rattle.table_volume.proofs.EndsLaws.{ends_before, ends_settled, knows}
-use Rattle.table_volume.proofs.MomentLaws.{lists_now, shows_now}
+use Rattle.volume_state.proofs.MomentLaws.{lists_now, shows_now}
+use Rattle.table_volume.proofs.HealsLaws.{anchors_read, homes_read}
 use Rattle.table_volume.proofs.MountLaws.{err_more, home_lost, is_new, ok_more, refused_open, settled_in}
 use Rattle.table_volume.proofs.RestLaws.{counts_mount, rest_read}
 use Rattle.table_volume.proofs.UnsoundLaws.{err_under, fails_sound, opens_unsound}
@@ -86,6 +87,24 @@ returns-clause-rest g c honest =
       root = c.in_ok-settled.ensures.root back;
       rest = rest_read settled.layout (M.now c.args.m.now) (M.now c.recover.new.m) (M.now c.open_read.new.m) (c.in_ok-settled.ensures.rest back) (c.open_read.ensures.reads.worn honest);
     })
+
+pub returns-clause-anchors : goal.returns-clause-anchors
+returns-clause-anchors g c =
+    let M = g.M.Machine in
+    let settled = c.in_ok-settled.settled in
+    let mid = M.now c.recover.new.m in let new = M.now c.open_read.new.m in
+    ok_more (IsAssembled settled.layout settled.log) (λ v. M.honest c.open_read.new.m → HealsAnchors (state v) new) c.open_read.result
+    (λ v a honest. anchors_read mid new (c.open_read.ensures.reads.worn honest) settled.layout settled.log v a (c.in_ok-settled.ensures.anchors (c.open_read.ensures.reads.trust.honest honest)))
+    c.open_read.ensures.assembled
+
+pub returns-clause-homes : goal.returns-clause-homes
+returns-clause-homes g c =
+    let M = g.M.Machine in
+    let settled = c.in_ok-settled.settled in
+    let mid = M.now c.recover.new.m in let new = M.now c.open_read.new.m in
+    ok_more (IsAssembled settled.layout settled.log) (λ v. M.honest c.open_read.new.m → HealsHomes (state v) new) c.open_read.result
+    (λ v a honest. homes_read mid new (c.open_read.ensures.reads.worn honest) settled.layout settled.log v a (c.in_ok-settled.ensures.homes (c.open_read.ensures.reads.trust.honest honest)))
+    c.open_read.ensures.assembled
 
 pub returns-in_err-settled-clause-sound : goal.returns-in_err-settled-clause-sound
 returns-in_err-settled-clause-sound g c honest l windows h f begun =

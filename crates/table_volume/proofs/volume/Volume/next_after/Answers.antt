@@ -5,9 +5,9 @@ use Rattle.fsd_files.specs.Answers.{next_reply}
 use Rattle.volume_contract.specs.Causes.{Causes}
 use Rattle.volume_contract.specs.Ends.{IsLater, Looks}
 use Rattle.volume_contract.specs.Order.{Follows, next_steps}
-use Rattle.table_volume.specs.State.{resident, state}
-use Rattle.table_volume.proofs.CauseLaws.{met_one}
-use Rattle.table_volume.proofs.NextLaws.{met_done, met_later, met_order, up_by}
+use Rattle.volume_state.specs.State.{resident, state}
+use Rattle.volume_changes.proofs.CauseLaws.{met_one}
+use Rattle.volume_changes.proofs.NextLaws.{met_done, met_later, met_order, up_by}
 use Rattle.table_volume.proofs.volume.Volume.next_after.Goals as goal
 
 pub returns-clause-order : goal.returns-clause-order

@@ -1,20 +1,23 @@
 use Rattle.std.proofs.Common.{ℕ, inl, inr, Err, sym, subst, ◌∙◌}
+use Rattle.std.proofs.lemmas.Bool.{both_ways}
 use Rattle.sector_disk.proofs.CallLaws.{told_up, writes_none, writes_told}
 use Rattle.fsd_files.specs.Answers.{force_outcome}
 use Rattle.fsd_files.specs.Replies.{Forced as IsForced}
 use Rattle.volume_contract.specs.declared.files.Forced.{Forced}
 use Rattle.volume_contract.specs.Ends.{device_of}
 use Rattle.fsd_sound.specs.Writes.{force_writes}
-use Rattle.volume_contract.specs.State.{Counted, Leaves, volume_of}
-use Rattle.table_volume.specs.Placing.{EndsPlace, Places, place_len}
-use Rattle.table_volume.specs.State.{Holds, resident, state}
-use Rattle.table_volume.proofs.CauseLaws.{handed_cause}
-use Rattle.table_volume.proofs.CountedLaws.{counted_as, place_counted, place_forced_len}
-use Rattle.table_volume.proofs.PlaceSteps.{busy_place, ends_down, ends_now, ends_then, none_now, place_tells, places_down, places_now, places_then}
-use Rattle.table_volume.proofs.PutCauses.{place_causes}
-use Rattle.table_volume.proofs.RangeLaws.{handed}
-use Rattle.table_volume.proofs.WrittenLaws.{leaves_still}
+use Rattle.volume_contract.specs.State.{Counted, Leaves, forces_for_place, volume_of}
+use Rattle.volume_state.specs.Placing.{EndsPlace, Places, place_len}
+use Rattle.volume_state.specs.State.{Holds, resident, state}
+use Rattle.volume_changes.proofs.BehindLaws.{behind_itself, ok_as}
+use Rattle.volume_changes.proofs.CauseLaws.{handed_cause}
+use Rattle.volume_state.proofs.CountedLaws.{counted_as, place_counted, place_forced_len}
+use Rattle.volume_state.proofs.PlaceSteps.{busy_place, ends_down, ends_now, ends_then, forces_as_waits, none_now, place_tells, places_down, places_now, places_then}
+use Rattle.volume_state.proofs.PutCauses.{place_causes}
+use Rattle.volume_state.proofs.RangeLaws.{handed}
+use Rattle.volume_state.proofs.WrittenLaws.{leaves_still}
 use Rattle.table_volume.proofs.volume.Volume.placed.Goals.{then-is_ok-via-then-is_ok, then-is_ok-via-else-is_ok+then-not-waits}
+use Rattle.volume_state.proofs.ForceMomentLaws.{touches_none}
 use Rattle.table_volume.proofs.volume.Volume.placed.Goals as goal
 
 -- ---- without a force
@@ -128,3 +131,28 @@ returns-clause-done g c h k stands =
     let none = none_now s c.args.need c.chosen-place.result c.chosen-place.ensures.place (sym c.is_ok.ensures.value ∙ c.if-is_ok.false) in
     let waits = sym c.waits.ensures ∙ c.if-not-waits.false in
     ends_then c.args.self.now c.force.new.self c.args.need none waits c.chosen.result c.chosen.ensures.place k (g.M.Machine.now c.args.m.now) (g.M.Machine.now c.force.new.m) stands (c.in_ok-force.ensures.done h k stands)
+
+-- ---- what is known behind it
+
+pub returns-then-is_ok-clause-behind : goal.returns-then-is_ok-clause-behind
+returns-then-is_ok-clause-behind g c = ok_as _ c.chosen-place.result (λ h. behind_itself (state c.args.self.now) (resident c.args.self.now) (g.M.Machine.now c.args.m.now))
+
+pub returns-clause-behind : goal.returns-clause-behind
+returns-clause-behind g c = ok_as _ c.chosen.result c.in_ok-force.ensures.behind
+
+pub returns-in_err-force-clause-still : goal.returns-in_err-force-clause-still
+returns-in_err-force-clause-still g c never =
+    let s = state c.args.self.now in
+    let none = none_now s c.args.need c.chosen-place.result c.chosen-place.ensures.place (sym c.is_ok.ensures.value ∙ c.if-is_ok.false) in
+    let waits = sym c.waits.ensures ∙ c.if-not-waits.false in
+    absurd (both_ways (forces_for_place s c.args.need) never (forces_as_waits s c.args.need none ∙ waits))
+
+pub returns-clause-still : goal.returns-clause-still
+returns-clause-still g c never =
+    let s = state c.args.self.now in
+    let none = none_now s c.args.need c.chosen-place.result c.chosen-place.ensures.place (sym c.is_ok.ensures.value ∙ c.if-is_ok.false) in
+    let waits = sym c.waits.ensures ∙ c.if-not-waits.false in
+    absurd (both_ways (forces_for_place s c.args.need) never (forces_as_waits s c.args.need none ∙ waits))
+
+pub returns-then-is_ok-clause-rest : goal.returns-then-is_ok-clause-rest
+returns-then-is_ok-clause-rest g c h = touches_none (force_writes c.args.self.now.layout) (g.M.Machine.now c.args.m.now)

@@ -1,21 +1,23 @@
-use Rattle.std.proofs.Common.{◌≡◌, ◌+◌, ℕ, [], ◌∷◌, length, Ok, Err, subst}
+use Rattle.std.proofs.Common.{◌≡◌, ◌+◌, ℕ, Bool, [], ◌∷◌, length, Ok, Err, ap, subst}
 use Rattle.fsd_bytes.specs.declared.refusal.Refusal.{Refusal}
 use Rattle.fsd_formats.specs.declared.entry.Entry.{Entry}
 use Rattle.fsd_formats.specs.NamePage.{sectors_for}
 use Rattle.sector_disk.proofs.CallLaws.{told_up, writes_then, writes_told}
 use Rattle.volume_contract.specs.Ends.{device_of}
+use Rattle.volume_contract.specs.Order.{Force, is_idle}
 use Rattle.volume_contract.specs.State.{Counted, change_len, put_len}
-use Rattle.table_volume.specs.Placing.{store_len, store_steps}
-use Rattle.table_volume.specs.Preparing.{EndsPrepare, Prepares}
-use Rattle.table_volume.specs.State.{resident, state}
-use Rattle.table_volume.proofs.CauseLaws.{handed_cause}
-use Rattle.table_volume.proofs.CountedLaws.{counted_fewer, counted_then, put_len_is, store_within}
-use Rattle.table_volume.proofs.FreeStays.{free_data, version_stays}
-use Rattle.table_volume.proofs.PrepareLaws.{ends_behind, ends_ready, ends_stored, last, leaves_ready, prepares_done, prepares_failed, prepares_refused}
-use Rattle.table_volume.proofs.PutCauses.{force_cause}
-use Rattle.table_volume.proofs.RangeLaws.{handed}
-use Rattle.table_volume.proofs.StepLaws.{idle_front}
-use Rattle.table_volume.proofs.StoreLaws.{busy_store}
+use Rattle.volume_state.specs.Placing.{store_len, store_steps}
+use Rattle.volume_state.specs.Preparing.{EndsPrepare, Prepares}
+use Rattle.volume_state.specs.State.{resident, state}
+use Rattle.volume_changes.proofs.BehindLaws.{prepared_behind}
+use Rattle.volume_changes.proofs.CauseLaws.{handed_cause}
+use Rattle.volume_state.proofs.CountedLaws.{counted_fewer, counted_then, put_len_is, store_within}
+use Rattle.volume_state.proofs.FreeStays.{free_data, version_stays}
+use Rattle.volume_state.proofs.PrepareLaws.{ends_behind, ends_ready, ends_stored, last, leaves_ready, prepares_done, prepares_failed, prepares_refused}
+use Rattle.volume_state.proofs.PutCauses.{force_cause}
+use Rattle.volume_state.proofs.RangeLaws.{handed}
+use Rattle.volume_state.proofs.StepLaws.{idle_front}
+use Rattle.volume_state.proofs.StoreLaws.{busy_store, touches_ready}
 use Rattle.table_volume.proofs.volume.Volume.prepared.Goals as goal
 
 -- ---- it is not stored
@@ -192,3 +194,26 @@ returns-clause-done g c h k stands =
     let left = then_force.exit h p.after p.stands in
     let version = version_stays mid.layout at now c.args.bytes.now e (then_force.windows h) (λ s there. free_data mid p.after at p.stands s (c.in_ok-draft.ensures.place.free.inside s there)) left.touches first.1 in
     ends_ready v mid new n c.args.bytes.now k old at now e stands c.in_ok-draft.ensures.stores p (c.in_ok-force_first.ensures.done h p.after p.stands) version
+
+pub returns-clause-behind : goal.returns-clause-behind
+returns-clause-behind g c h =
+    let M = g.M.Machine in
+    let n = sectors_for (length c.args.bytes.now) in
+    let mid = c.stored.new.self in
+    let then_force = c.in_ok-force_first.ensures in
+    prepared_behind c.args.self.now mid c.force_first.new.self n c.in_ok-draft.draft c.in_ok-draft.ensures.stores.kept c.in_ok-draft.ensures.still (M.now c.stored.new.m) (M.now c.force_first.new.m)
+    (c.in_ok-draft.ensures.behind (then_force.disk.trust.honest h)) then_force.still (λ few. ap M.now (then_force.idle (ap (λ (b : Bool). is_idle (Force b ∷ [])) few))) (then_force.behind h)
+
+pub returns-in_err-force_first-clause-rest : goal.returns-in_err-force_first-clause-rest
+returns-in_err-force_first-clause-rest g c h =
+    let M = g.M.Machine in
+    let first = c.in_ok-draft.ensures in
+    let back = c.in_err-force_first.ensures.disk.trust.honest h in
+    touches_ready c.args.self.now (sectors_for (length c.args.bytes.now)) c.stored.new.self (M.now c.args.m.now) (M.now c.stored.new.m) (M.now c.force_first.new.m) first.stores.state.layout (first.disk.windows back) (first.rest back) (c.in_err-force_first.ensures.rest h)
+
+pub returns-clause-rest : goal.returns-clause-rest
+returns-clause-rest g c h =
+    let M = g.M.Machine in
+    let first = c.in_ok-draft.ensures in
+    let back = c.in_ok-force_first.ensures.disk.trust.honest h in
+    touches_ready c.args.self.now (sectors_for (length c.args.bytes.now)) c.stored.new.self (M.now c.args.m.now) (M.now c.stored.new.m) (M.now c.force_first.new.m) first.stores.state.layout (first.disk.windows back) (first.rest back) (c.in_ok-force_first.ensures.rest h)

@@ -1,13 +1,16 @@
-use Rattle.std.proofs.Common.{arith}
+use Rattle.std.proofs.Common.{◌≡◌, ℕ, Err, arith}
 use Rattle.std.specs.FinMap.{find}
 use Rattle.fsd_bytes.specs.Keys.{key_cmp}
 use Rattle.volume_contract.specs.Ends.{Reads}
+use Rattle.fsd_bytes.specs.declared.refusal.Refusal.TheVariants as Why
+use Rattle.sector_disk.specs.declared.sector.Sector.TheVariants.{Damaged}
+use Rattle.sector_disk.specs.Image.{sector_at}
 use Rattle.sector_disk.proofs.CallLaws.{reads_then}
 use Rattle.fsd_files.specs.Answers.{entry_of}
-use Rattle.table_volume.specs.State.{resident, state}
-use Rattle.table_volume.proofs.CauseLaws.{data_causes, handed_cause}
-use Rattle.table_volume.proofs.RangeLaws.{both_kept, busy_read, data_read, handed, reads_found, reads_refused}
-use Rattle.table_volume.proofs.WearLaws.{stands_worn}
+use Rattle.volume_state.specs.State.{resident, state}
+use Rattle.volume_changes.proofs.CauseLaws.{data_causes, handed_cause}
+use Rattle.volume_state.proofs.RangeLaws.{both_kept, busy_read, data_read, handed, none_damaged, reads_found, reads_refused}
+use Rattle.volume_state.specs.WearLaws.{stands_worn}
 use Rattle.table_volume.proofs.volume.Volume.read.Goals as goal
 
 pub read_version-requires-clause-within : goal.read_version-requires-clause-within
@@ -51,6 +54,13 @@ returns-in_err-e-clause-done g c = λ h k stands.
     handed (Reads i j file e c.args.from c.args.buf.now c.args.buf.now) c.from_residual.result c.in_err-e.field-0.0 c.from_residual.ensures.1
     (reads_refused i j j _ file e c.args.from c.args.buf.now c.args.buf.now c.in_err-e.field-0.0 (c.in_err-e.ensures.done h k stands)
     (both_kept j _ c.args.key.now k.mounted.volume.files k.mounted.volume.entries there.disk.described.lists there.disk.described.kept))
+
+pub returns-in_err-e-clause-damaged : goal.returns-in_err-e-clause-damaged
+returns-in_err-e-clause-damaged g c =
+    let M = g.M.Machine in
+    let j = (M.now c.version.new.m).image in
+    handed (λ r. (s : ℕ) → r ≡ Err (Why.Damaged s) → M.honest c.version.new.m → sector_at j s ≡ Damaged) c.from_residual.result c.in_err-e.field-0.0 c.from_residual.ensures.1
+    (λ s is h. absurd (none_damaged (state c.args.self.now) c.in_err-e.field-0.0 s c.in_err-e.ensures.order (cc is)))
 
 pub returns-clause-causes : goal.returns-clause-causes
 returns-clause-causes g c =

@@ -8,12 +8,17 @@ use Rattle.fsd_sound.specs.Writes.{force_writes}
 use Rattle.volume_contract.specs.Ends.{device_of, kept_key}
 use Rattle.volume_contract.specs.Order.{by_itself}
 use Rattle.volume_contract.specs.State.{Leaves, change_len, volume_of}
-use Rattle.table_volume.specs.Ending.{keep_tests, look_steps}
-use Rattle.table_volume.specs.State.{Holds, state}
-use Rattle.table_volume.proofs.BehindForce.{busy, change_counts, change_ends, change_follows, change_goes, change_kept, failed_comes, failed_keeps, force_ends, is_up, keeps_refused, leaves_behind, not_worn, number_behind, up_behind}
-use Rattle.table_volume.proofs.StepLaws.{comes_more}
-use Rattle.table_volume.proofs.TestedLaws.{keep_fits, keep_places, keep_refusals, keep_test_ends, keep_through}
-use Rattle.table_volume.proofs.WrittenLaws.{leaves_still}
+use Rattle.volume_changes.specs.Ending.{keep_tests, look_steps}
+use Rattle.volume_state.specs.State.{Holds, resident, state}
+use Rattle.volume_changes.proofs.BehindLaws.{causes_behind, keep_causes, edited_layout, edited_slots}
+use Rattle.volume_changes.proofs.CauseLaws.{handed_cause}
+use Rattle.volume_changes.proofs.BehindForce.{busy, change_counts, change_ends, change_follows, change_goes, change_kept, failed_comes, failed_keeps, force_ends, is_up, keeps_refused, leaves_behind, not_worn, number_behind, up_behind}
+use Rattle.volume_changes.proofs.MemoryLaws.{all_behind, force_needs, keep_test_needs}
+use Rattle.volume_state.proofs.StepLaws.{comes_more}
+use Rattle.volume_changes.proofs.TestedLaws.{keep_fits, keep_places, keep_refusals, keep_test_ends, keep_through}
+use Rattle.volume_state.proofs.WrittenLaws.{leaves_still}
+use Rattle.volume_state.proofs.ForceMomentLaws.{touches_none}
+use Rattle.volume_state.proofs.StoreLaws.{touches_read}
 use Rattle.table_volume.proofs.volume.Volume.set_keep.Goals as goal
 
 -- ---- where a test refuses
@@ -128,3 +133,50 @@ returns-clause-done g c = λ h k stands.
     let p = c.in_ok-force_first.ensures.done back k stands in
     change_ends (λ v met. keep_outcome met v c.args.name.now c.args.keep) (kept_key c.args.keep) (Change.SetKeep c.args.name.now c.args.keep) k c.force_first.new.self (g.M.Machine.now c.force_first.new.m) p (keep_through c.args.name.now c.args.keep (volume_of k) (keep_fits c.args.keep c.in_ok-may_keep.ensures.1.0)) c.in_ok-force_first.ensures.few c.keep_now.new.self (g.M.Machine.now c.keep_now.new.m) c.keep_now.result
     (c.keep_now.ensures.done h p.after p.stands)
+
+-- ---- memory is not wanting
+
+pub returns-in_err-may_keep-clause-memory : goal.returns-in_err-may_keep-clause-memory
+returns-in_err-may_keep-clause-memory g c =
+    let p = err_from_is_err_and c.from_residual.result c.from_residual.ensures.1 in
+    rw (p.1, p.2) (λ all wants. keep_test_needs (state c.args.self.now) c.args.keep c.in_err-may_keep.field-0.0 c.in_err-may_keep.ensures (cc wants))
+
+pub returns-in_err-force_first-clause-memory : goal.returns-in_err-force_first-clause-memory
+returns-in_err-force_first-clause-memory g c =
+    let p = err_from_is_err_and c.from_residual-in_err-force_first.result c.from_residual-in_err-force_first.ensures.1 in
+    rw (p.1, p.2) (λ all wants. force_needs (state c.args.self.now) c.in_err-force_first.field-0.0 c.in_err-force_first.ensures.forces.order (cc wants))
+
+pub returns-clause-memory : goal.returns-clause-memory
+returns-clause-memory g c = λ all.
+    c.keep_now.ensures.memory (all_behind c.args.self.now c.force_first.new.self c.in_ok-force_first.ensures.forces c.in_ok-force_first.ensures.resident all)
+
+-- ---- why it tells something as lost or as unsound
+
+pub returns-in_err-may_keep-clause-causes : goal.returns-in_err-may_keep-clause-causes
+returns-in_err-may_keep-clause-causes g c =
+    let v = c.args.self.now in
+    keep_causes g.M.Machine (state v) (resident v) c.args.m.now c.args.keep c.from_residual.result c.in_err-may_keep.field-0.0 c.from_residual.ensures.1 c.in_err-may_keep.ensures
+
+pub returns-in_err-force_first-clause-causes : goal.returns-in_err-force_first-clause-causes
+returns-in_err-force_first-clause-causes g c =
+    let v = c.args.self.now in
+    handed_cause g.M.Machine (resident v) (state v) (state c.force_first.new.self) c.args.m.now c.force_first.new.m c.in_err-force_first.field-0.0 c.from_residual-in_err-force_first.result c.from_residual-in_err-force_first.ensures.1 c.in_err-force_first.ensures.causes
+
+pub returns-clause-causes : goal.returns-clause-causes
+returns-clause-causes g c =
+    let v = c.args.self.now in
+    let mid = c.force_first.new.self in
+    let new = c.keep_now.new.self in
+    let change = c.keep_now.ensures in
+    causes_behind g.M.Machine (state v) (state mid) (state new) (resident v) (resident mid) c.args.m.now c.force_first.new.m c.keep_now.new.m (λ h. c.in_ok-force_first.ensures.behind (change.disk.trust.honest h))
+    (edited_slots (state mid) (state new) c.keep_now.result change.edited) (edited_layout (state mid) (state new) c.keep_now.result change.edited) change.disk.worn c.keep_now.result change.causes
+
+pub returns-in_err-may_keep-clause-rest : goal.returns-in_err-may_keep-clause-rest
+returns-in_err-may_keep-clause-rest g c h = touches_none (force_writes c.args.self.now.layout) (g.M.Machine.now c.args.m.now)
+
+pub returns-clause-rest : goal.returns-clause-rest
+returns-clause-rest g c h =
+    let M = g.M.Machine in
+    let reads = c.keep_now.ensures.disk in
+    let back = reads.trust.honest h in
+    touches_read (force_writes c.args.self.now.layout) (M.now c.args.m.now) (M.now c.force_first.new.m) (M.now c.keep_now.new.m) (c.in_ok-force_first.ensures.disk.windows back) (c.in_ok-force_first.ensures.rest back) (reads.worn h)

@@ -1,4 +1,4 @@
-use Rattle.std.proofs.Common.{◌≡◌, ◌+◌, ◌≤◌, ℕ, List, [], ◌∷◌, sym, ap, subst, length, Ok, Err, true, arith}
+use Rattle.std.proofs.Common.{◌≡◌, ◌+◌, ◌≤◌, ℕ, List, [], ◌∷◌, sym, ap, subst, length, Ok, Err, true, refl, ◌∙◌, arith}
 use Rattle.run_table.specs.declared.run.Run.{Run}
 use Rattle.run_table.specs.RunTable.{sectors_of}
 use Rattle.run_table.specs.Space.{contains}
@@ -7,16 +7,19 @@ use Rattle.fsd_formats.specs.NamePage.{sectors_for}
 use Rattle.sector_disk.proofs.CallLaws.{told_up, writes_more, writes_then, writes_told}
 use Rattle.volume_contract.specs.Ends.{device_of}
 use Rattle.volume_contract.specs.Order.{Disk, Draw, IsDeviceIn, is_idle}
-use Rattle.volume_contract.specs.State.{Counted, Known, Leaves, Stands, in_place, place_in}
-use Rattle.table_volume.specs.Placing.{EndsPlace, EndsStore, IsPlace, Places, StandsFor, Stores, place_len, place_steps, store_len}
-use Rattle.table_volume.specs.State.{Holds, resident, state}
-use Rattle.table_volume.specs.Volume.{VolumeValue}
-use Rattle.table_volume.proofs.CauseLaws.{handed_cause}
-use Rattle.table_volume.proofs.CountedLaws.{counted_fewer, counted_then}
-use Rattle.table_volume.proofs.PutCauses.{written_causes}
-use Rattle.table_volume.proofs.RangeLaws.{handed}
-use Rattle.table_volume.proofs.StepLaws.{idle_front}
-use Rattle.table_volume.proofs.StoreLaws.{busy_store, drawn_stands, ends_failed, ends_refused, leaves_first, leaves_then, stores_done, stores_failed, stores_refused}
+use Rattle.volume_contract.specs.State.{Counted, Known, Leaves, Stands, forces_for_place, in_place, place_in}
+use Rattle.volume_state.specs.Behind.{IsBehind}
+use Rattle.volume_state.specs.Placing.{EndsPlace, EndsStore, IsPlace, Places, StandsFor, Stores, place_len, place_steps, store_len}
+use Rattle.volume_state.specs.State.{Holds, resident, state}
+use Rattle.volume_state.specs.Volume.{VolumeValue}
+use Rattle.volume_changes.proofs.BehindLaws.{written_behind}
+use Rattle.volume_changes.proofs.CauseLaws.{handed_cause}
+use Rattle.volume_state.proofs.CountedLaws.{counted_fewer, counted_then}
+use Rattle.volume_state.proofs.PutCauses.{written_causes}
+use Rattle.volume_state.proofs.RangeLaws.{handed}
+use Rattle.volume_state.proofs.StepLaws.{idle_front}
+use Rattle.volume_state.proofs.StoreLaws.{busy_store, drawn_stands, ends_failed, ends_refused, leaves_first, leaves_then, stores_done, stores_failed, stores_refused, touches_first, touches_placed}
+use Rattle.fsd_files.specs.Disk.{Touches}
 use Rattle.table_volume.proofs.volume.Volume.stored.Goals as goal
 
 -- ---- no place
@@ -215,3 +218,61 @@ returns-clause-done g c h k stands =
     let back = c.in_ok-written.ensures.disk.trust.honest h in
     let p : StandsFor n k mid (M.now c.placed.new.m) = subst (λ (x : ℕ). StandsFor x k mid (M.now c.placed.new.m)) same (c.in_ok-runs.ensures.done back k stands) in
     (drawn_stands n k mid c.written.new.self (M.now c.placed.new.m) now p (c.in_ok-written.ensures.stands h p.after p.stands), c.in_ok-written.ensures.done h)
+
+-- ---- what is known behind it
+
+pub returns-clause-behind : goal.returns-clause-behind
+returns-clause-behind g c h =
+    let M = g.M.Machine in
+    let v = c.args.self.now in
+    let mid = c.placed.new.self in
+    let now = M.now c.written.new.m in
+    subst (λ (x : VolumeValue). IsBehind (state v) (state x) (resident v) (resident x) now) (sym c.in_ok-written.ensures.volume)
+    (written_behind mid.layout (M.now c.placed.new.m) now (c.in_ok-written.ensures.within h) (state v) (state mid) (resident v) (resident mid) refl (c.in_ok-runs.ensures.behind (c.in_ok-written.ensures.disk.trust.honest h)))
+
+pub returns-in_err-runs-clause-still : goal.returns-in_err-runs-clause-still
+returns-in_err-runs-clause-still g c none =
+    let s = state c.args.self.now in
+    let same : 1 + c.div_ceil.result ≡ sectors_for (length c.args.bytes.now) = ap (λ (x : ℕ). 1 + x) c.div_ceil.ensures in
+    ap resident (c.in_err-runs.ensures.still (ap (forces_for_place s) same ∙ none))
+
+pub returns-in_err-written-clause-still : goal.returns-in_err-written-clause-still
+returns-in_err-written-clause-still g c none =
+    let s = state c.args.self.now in
+    let same : 1 + c.div_ceil.result ≡ sectors_for (length c.args.bytes.now) = ap (λ (x : ℕ). 1 + x) c.div_ceil.ensures in
+    ap resident c.in_err-written.ensures.volume ∙ ap resident (c.in_ok-runs.ensures.still (ap (forces_for_place s) same ∙ none))
+
+pub returns-clause-still : goal.returns-clause-still
+returns-clause-still g c none =
+    let s = state c.args.self.now in
+    let same : 1 + c.div_ceil.result ≡ sectors_for (length c.args.bytes.now) = ap (λ (x : ℕ). 1 + x) c.div_ceil.ensures in
+    ap resident c.in_ok-written.ensures.volume ∙ ap resident (c.in_ok-runs.ensures.still (ap (forces_for_place s) same ∙ none))
+
+pub returns-in_err-runs-clause-rest : goal.returns-in_err-runs-clause-rest
+returns-in_err-runs-clause-rest g c h =
+    let M = g.M.Machine in
+    touches_first c.args.self.now (sectors_for (length c.args.bytes.now)) (M.now c.args.m.now) (M.now c.placed.new.m) (c.in_err-runs.ensures.rest h)
+
+pub returns-in_err-written-clause-rest : goal.returns-in_err-written-clause-rest
+returns-in_err-written-clause-rest g c h =
+    let M = g.M.Machine in
+    let n = sectors_for (length c.args.bytes.now) in
+    let same : 1 + c.div_ceil.result ≡ n = ap (λ (x : ℕ). 1 + x) c.div_ceil.ensures in
+    let v = c.args.self.now in
+    let now = M.now c.placed.new.m in let new = M.now c.written.new.m in
+    let back = c.in_err-written.ensures.disk.trust.honest h in
+    let places = subst (λ (x : ℕ). Places x (state v) (state c.placed.new.self) (Ok c.in_ok-runs.runs)) same c.in_ok-runs.ensures.places in
+    touches_placed v n c.in_ok-runs.runs places.kept.place (M.now c.args.m.now) now new (c.in_ok-runs.ensures.disk.windows back) (c.in_ok-runs.ensures.rest back)
+    (subst (λ (rs : List Run). Touches (contains (sectors_of rs)) now new) c.draft-draft.ensures.runs (c.in_err-written.ensures.rest h))
+
+pub returns-clause-rest : goal.returns-clause-rest
+returns-clause-rest g c h =
+    let M = g.M.Machine in
+    let n = sectors_for (length c.args.bytes.now) in
+    let same : 1 + c.div_ceil.result ≡ n = ap (λ (x : ℕ). 1 + x) c.div_ceil.ensures in
+    let v = c.args.self.now in
+    let now = M.now c.placed.new.m in let new = M.now c.written.new.m in
+    let back = c.in_ok-written.ensures.disk.trust.honest h in
+    let places = subst (λ (x : ℕ). Places x (state v) (state c.placed.new.self) (Ok c.in_ok-runs.runs)) same c.in_ok-runs.ensures.places in
+    touches_placed v n c.in_ok-runs.runs places.kept.place (M.now c.args.m.now) now new (c.in_ok-runs.ensures.disk.windows back) (c.in_ok-runs.ensures.rest back)
+    (subst (λ (rs : List Run). Touches (contains (sectors_of rs)) now new) c.draft-draft.ensures.runs (c.in_ok-written.ensures.rest h))

@@ -2,12 +2,12 @@ use Rattle.std.proofs.Common.{◌≡◌, true, None, Err, refl, sym, ap, subst}
 use Rattle.fsd_bytes.specs.declared.refusal.Refusal.{Refusal}
 use Rattle.sector_disk.proofs.CallLaws.{reads_told}
 use Rattle.name_btree.specs.Fault.{outer_of}
-use Rattle.table_volume.specs.Taken.{are_taken}
-use Rattle.table_volume.specs.Volume.{VolumeValue}
-use Rattle.table_volume.proofs.DeleteEnds.{delete_failed, deleted_ends}
-use Rattle.table_volume.proofs.EditedLaws.{out_causes, out_edited, out_follows, out_place, out_stays}
-use Rattle.table_volume.proofs.GivenUpLaws.{agree_runs, idle_runs, whole_given}
-use Rattle.table_volume.proofs.WholeLaws.{whole_edited}
+use Rattle.volume_state.specs.Taken.{are_taken}
+use Rattle.volume_state.specs.Volume.{VolumeValue}
+use Rattle.volume_changes.proofs.DeleteEnds.{delete_failed, deleted_ends}
+use Rattle.volume_changes.proofs.EditedLaws.{out_causes, out_edited, out_follows, out_place, out_stays}
+use Rattle.volume_changes.proofs.GivenUpLaws.{agree_runs, idle_runs, whole_given}
+use Rattle.volume_changes.proofs.WholeLaws.{whole_edited}
 use Rattle.table_volume.proofs.volume.Volume.take_found.Goals as goal
 
 pub give_up-requires-clause-idle : goal.give_up-requires-clause-idle

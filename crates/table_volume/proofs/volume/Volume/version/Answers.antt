@@ -7,11 +7,11 @@ use Rattle.fsd_formats.specs.declared.entry.Entry.{Entry}
 use Rattle.fsd_formats.specs.NamePage.{is_entry}
 use Rattle.fsd_files.specs.Answers.{found_or}
 use Rattle.name_btree.specs.Lookup.{entry_of}
-use Rattle.table_volume.specs.State.{resident, state}
-use Rattle.table_volume.specs.Volume.{VolumeValue}
-use Rattle.table_volume.proofs.CauseLaws.{met_handed}
-use Rattle.table_volume.proofs.EntryLaws.{entry_looked_up}
-use Rattle.table_volume.proofs.RangeLaws.{met_good, taken_below, taken_runs}
+use Rattle.volume_state.specs.State.{resident, state}
+use Rattle.volume_state.specs.Volume.{VolumeValue}
+use Rattle.volume_changes.proofs.CauseLaws.{met_handed}
+use Rattle.volume_changes.proofs.EntryLaws.{entry_looked_up}
+use Rattle.volume_state.proofs.RangeLaws.{met_good, taken_below, taken_runs}
 use Rattle.table_volume.proofs.volume.Volume.version.Goals as goal
 
 pub returns-in-None-clause-done : goal.returns-in-None-clause-done

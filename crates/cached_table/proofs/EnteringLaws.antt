@@ -1,0 +1,186 @@
+-- A version that is entered over pages: what is needed of its entry, what it makes, and why none is entered.
+use Rattle.std.proofs.Common.{◌≡◌, inl, inr, ℕ, ◌<◌, ◌≤◌, ◌^◌, true, List, [], Option, None, refl, sym, ap, subst, ◌∙◌, arith}
+use Rattle.std.specs.Prelude.{◌&&◌, ◌==◌, nat_le}
+use Rattle.std.specs.List.{AllByRecursion}
+use Rattle.std.proofs.lemmas.Bool.{and_from, and_parts, le-leb}
+use Rattle.std.proofs.lemmas.List.Elements.{All-contains, All-from_recursion}
+use Rattle.fsd_bytes.specs.Keys.{is_key, max_u32}
+use Rattle.fsd_bytes.specs.Names.{is_name}
+use Rattle.fsd_bytes.specs.declared.key.Key.{Key}
+use Rattle.fsd_bytes.specs.declared.refusal.Refusal.{Refusal}
+use Rattle.fsd_bytes.specs.declared.refusal.Refusal.TheVariants as Why
+use Rattle.run_table.specs.RunTable.{are_runs, total}
+use Rattle.sector_set.specs.Area.{Area}
+use Rattle.shadow_frees.specs.Waits.{Waits}
+use Rattle.fsd_formats.specs.declared.entry.Entry.{Entry}
+use Rattle.fsd_formats.specs.NamePage.{is_entry, max_keep, max_length, sectors_for}
+use Rattle.fsd_table.specs.Table.{BreaksTable}
+use Rattle.fsd_table.specs.Tree.{IsTree, table_of}
+use Rattle.name_page.specs.declared.pages.Pages.{Ghosts}
+use Rattle.name_page.specs.Looks.{OnlyWalks}
+use Rattle.name_page.specs.Pages.{IsOuter, free_count, outer_refusal}
+use Rattle.name_btree.specs.declared.fault.TreeFault.{TreeFault}
+use Rattle.name_btree.specs.declared.fault.TreeFault.TheVariants.{Pages, Broken}
+use Rattle.name_btree.specs.Fault.{BarsTable, FailsSpare, FailsTable, HasCause, IsOnWay, ShowsCause, outer_of}
+use Rattle.version_table.specs.declared.fault.VersionFault.{VersionFault}
+use Rattle.version_table.specs.declared.fault.VersionFault.TheVariants.{Table, NoSuch, VersionsUsedUp}
+use Rattle.version_table.specs.declared.planning.Plan.{Plan}
+use Rattle.version_table.specs.Fault.{FailsLook, ShowsLook, outer_in as outer_planned}
+use Rattle.version_table.specs.Met.{IsMet}
+use Rattle.version_table.specs.declared.oldest.Leaving.{Leaving}
+use Rattle.version_table.specs.Plan.{IsPlan, keys_left, planned_entry}
+use Rattle.version_table.specs.Table.{OfTable}
+use Rattle.version_table.specs.Versions.{next_key}
+use Rattle.cached_table.specs.Entering.{AreInTurn, EntersNone, LosesUntaken, RefusesFor, ShowsRefusal, TellsUntaken, enter_refusal, plan_refusal}
+use Rattle.cached_table.specs.Looking.{refusal_in}
+use Rattle.cached_table.proofs.RefusalLaws.{outer_cases}
+
+-- ---- its entry
+
+module _ (draft : Entry) (plan : Plan) (good : is_entry draft ≡ true) where
+  sizes : ((((is_key draft.key && nat_le draft.keep max_keep) && nat_le draft.length max_length) && are_runs draft.runs) ≡ true) × ((total draft.runs == sectors_for draft.length) ≡ true)
+  sizes = and_parts (is_key draft.key && nat_le draft.keep max_keep && nat_le draft.length max_length && are_runs draft.runs) (total draft.runs == sectors_for draft.length) good
+
+  runs_good : ((is_key draft.key && nat_le draft.keep max_keep && nat_le draft.length max_length) ≡ true) × (are_runs draft.runs ≡ true)
+  runs_good = and_parts (is_key draft.key && nat_le draft.keep max_keep && nat_le draft.length max_length) (are_runs draft.runs) sizes.0
+
+  length_good : nat_le draft.length max_length ≡ true
+  length_good = (and_parts (is_key draft.key && nat_le draft.keep max_keep) (nat_le draft.length max_length) runs_good.0).1
+
+  -- the planned version is an entry as its draft is
+  pub planned_good : is_name plan.key.name ≡ true → 1 ≤ plan.key.version → plan.keep ≤ 999 → is_entry (planned_entry plan draft.serial draft.length draft.runs) ≡ true
+  planned_good name version keep =
+      and_from (is_key plan.key && nat_le plan.keep max_keep && nat_le draft.length max_length && are_runs draft.runs) (total draft.runs == sectors_for draft.length)
+      (and_from (is_key plan.key && nat_le plan.keep max_keep && nat_le draft.length max_length) (are_runs draft.runs)
+      (and_from (is_key plan.key && nat_le plan.keep max_keep) (nat_le draft.length max_length)
+      (and_from (is_key plan.key) (nat_le plan.keep max_keep) (and_from (is_name plan.key.name) (nat_le 1 plan.key.version) name (le-leb 1 plan.key.version version)) (le-leb plan.keep max_keep keep)) length_good)
+      runs_good.1) sizes.1
+
+-- ---- what holds of the table
+
+module _ {D : Type 0} (P : Ghosts D) (old now : D) (walks : OnlyWalks P None old now) where
+  -- what was found holds as the next step begins
+  pub of_now : (Is : List Entry → Type 0) → OfTable P old now Is → OfTable P now now Is
+  of_now Is h trusted height tree =
+      let same = walks.stays trusted in
+      subst (λ (pages : List (List ℕ)). Is (table_of pages height)) (sym same) (h trusted height (subst (λ (pages : List (List ℕ)). IsTree pages height) same tree))
+
+pub of_later : {D : Type 0} (P : Ghosts D) (old now new : D) (Is : List Entry → Type 0) → (P.trusted new → P.trusted now) → OfTable P old now Is → OfTable P old new Is
+of_later P old now new Is trust h trusted = h (trust trusted)
+
+-- the number of a version that is planned is one
+pub is_usable : {D : Type 0} (P : Ghosts D) (old now new : D) (name : List ℕ) (given : Option ℕ) (plan : Plan) → plan.key.version < 2 ^ 32 → (P.trusted new → P.trusted now) → OfTable P old now (λ table. IsPlan name given table plan)
+    → OfTable P old new (λ table. (next_key name table).version ≤ max_u32)
+is_usable P old now new name given plan small trust planned trusted height tree = omega (arith, small, ap (λ (k : Key). k.version) (planned (trust trusted) height tree).key)
+
+-- ---- why none is entered
+
+module _ {D : Type 0} (P : Ghosts D) (map : Area) (w : Waits) (name : List ℕ) (free home_a : ℕ) (old new : D) where
+  abbrev None_for : Refusal → Type 0
+  None_for r = EntersNone P map w name free old new r
+
+  lost : (given : Option ℕ) (plan : Plan) → OfTable P old new (λ table. IsPlan name given table plan) → (AreInTurn map w [] plan.gone.items → ⊥) → OfTable P old new (LosesUntaken map w)
+  lost given plan planned untaken trusted height tree = (keys_left plan, plan.gone.items, (planned trusted height tree).entries, untaken)
+
+  outer_refuses : (r : Refusal) → IsOuter r → None_for r
+  outer_refuses r outer = outer_cases None_for (λ s. tt) (λ a b. tt) tt r outer
+
+  look_refuses : (f : TreeFault) → HasCause (P.step new) (BreaksTable (P.step new).images) (BarsTable (P.step new)) f → None_for (refusal_in home_a f)
+  look_refuses (Broken page) broken = inl (λ trusted. (page, inl broken))
+  look_refuses (Pages r) cause = elim cause.1 [
+    | inl outer ↦ outer_refuses r outer
+    | inr bars ↦ subst None_for (sym bars.1) (inl (λ trusted. (bars.0, bars.2)))
+  ]
+
+  pub plan_refuses : (f : VersionFault) → FailsLook P new ⊥ (OfTable P old new (λ table. max_u32 < (next_key name table).version)) f → None_for (plan_refusal home_a f)
+  plan_refuses (Table f) cause = look_refuses f cause
+  plan_refuses NoSuch none = absurd none
+  plan_refuses VersionsUsedUp used = inl used
+
+  -- so it is behind the plan, where no number is left for what the pages have
+  abbrev None_entered : TreeFault → Type 0
+  None_entered f = None_for (enter_refusal f)
+
+  edit_refuses : (f : TreeFault) → FailsTable P new f → None_entered f
+  edit_refuses (Broken page) broken = inr (inl (λ trusted. (page, inl (broken trusted))))
+  edit_refuses (Pages r) cause = elim cause.1 [
+    | inl outer ↦ outer_cases (λ x. None_entered (Pages x)) (λ s. tt) (λ a b. tt) tt r outer
+    | inr bars ↦ subst (λ (x : Refusal). None_entered (Pages x)) (sym bars.1) (inr (inl (λ trusted. (bars.0, bars.2 trusted))))
+  ]
+
+  pub enter_refuses : (f : TreeFault) → FailsSpare P free new f → ((f ≡ Pages (Why.NameTableFull free)) → free < 8) → OfTable P old new (λ table. (next_key name table).version ≤ max_u32) → None_entered f
+  enter_refuses f (inl cause) full usable = edit_refuses f cause
+  enter_refuses f (inr none) full usable = subst (λ (x : TreeFault). None_entered x) (sym none.0) (refl, full none.0, usable)
+
+  -- as many pages are spare as before the plan
+  pub enter_refused : (now : D) → OnlyWalks P None old now → free ≡ free_count (P.step now) → (f : TreeFault) → FailsSpare P (free_count (P.step now)) new f
+      → (f ≡ Pages (Why.NameTableFull (free_count (P.step now))) → free_count (P.step now) < 8) → OfTable P old new (λ table. (next_key name table).version ≤ max_u32) → None_entered f
+  enter_refused now walks same f cause full usable =
+      enter_refuses f (subst (λ (n : ℕ). FailsSpare P n new f) (sym same) cause) (λ is. omega (arith, same, full (is ∙ ap (λ (n : ℕ). Pages (Why.NameTableFull n)) same))) usable
+
+  -- versions that are planned to go are not taken, each alone
+  pub gone_refuse : (given : Option ℕ) (plan : Plan) (r : Refusal) → TellsUntaken home_a map w plan.gone.items r → OfTable P old new (λ table. IsPlan name given table plan) → (AreInTurn map w [] plan.gone.items → ⊥) → None_for r
+  gone_refuse given plan (Why.Unsound s) tells planned untaken = inr (lost given plan planned untaken)
+  gone_refuse given plan Why.VersionsUsedUp tells planned untaken = inr (inr (lost given plan planned untaken))
+  gone_refuse given plan other tells planned untaken = absurd tells
+
+-- the refusal from outside is that of the fault
+pub outer_told : (home_a : ℕ) (f : TreeFault) → outer_refusal (refusal_in home_a f) ≡ outer_of f
+outer_told home_a (Pages r) = refl
+outer_told home_a (Broken page) = refl
+
+pub outer_plan : (home_a : ℕ) (f : VersionFault) → outer_refusal (plan_refusal home_a f) ≡ outer_planned f
+outer_plan home_a (Table f) = outer_told home_a f
+outer_plan home_a NoSuch = refl
+outer_plan home_a VersionsUsedUp = refl
+
+pub outer_entered : (f : TreeFault) → outer_refusal (enter_refusal f) ≡ outer_of f
+outer_entered (Pages (Why.Unsound s)) = refl
+outer_entered (Pages other) = refl
+outer_entered (Broken page) = refl
+
+pub outer_untaken : (home_a : ℕ) (map : Area) (w : Waits) (gone : List Leaving) (r : Refusal) → TellsUntaken home_a map w gone r → outer_refusal r ≡ None
+outer_untaken home_a map w gone (Why.Unsound s) tells = refl
+outer_untaken home_a map w gone Why.VersionsUsedUp tells = refl
+outer_untaken home_a map w gone other tells = absurd tells
+
+-- ---- what shows it
+
+module _ {D : Type 0} (P : Ghosts D) (map : Area) (w : Waits) (name : List ℕ) (home_a : ℕ) (old new : D) where
+  abbrev Shows_for : Refusal → Type 0
+  Shows_for r = ShowsRefusal P map w name home_a old new r
+
+  -- a look-up's fault
+  look_shows : (f : TreeFault) → HasCause (P.step new) (BreaksTable (P.step new).images) (BarsTable (P.step new)) f → ShowsCause (P.step new) BreaksTable IsOnWay f → (r : Refusal) → r ≡ refusal_in home_a f → Shows_for r
+  look_shows f cause shown (Why.Unsound s) is = inl (f, sym is, cause, shown)
+  look_shows f cause shown other is = tt
+
+  pub plan_shows : (f : VersionFault) (Absent UsedUp : Type 0) → FailsLook P new Absent UsedUp f → ShowsLook (P.step new) f → Shows_for (plan_refusal home_a f)
+  plan_shows (Table f) Absent UsedUp cause shown = look_shows f cause shown (refusal_in home_a f) refl
+  plan_shows NoSuch Absent UsedUp cause shown = tt
+  plan_shows VersionsUsedUp Absent UsedUp cause shown = tt
+
+  -- a version that was met
+  pub gone_shows : (gone : List Leaving) (r : Refusal) → AllByRecursion (IsMet P name old new) gone → TellsUntaken home_a map w gone r → Shows_for r
+  gone_shows gone (Why.Unsound s) met tells = inr (tells.0, All-contains (IsMet P name old new) gone tells.0 (All-from_recursion (IsMet P name old new) gone met) tells.1, tells.2, tells.3)
+  gone_shows gone other met tells = tt
+
+  -- a fault of the entry tells no place
+  pub enter_shows : (f : TreeFault) → Shows_for (enter_refusal f)
+  enter_shows (Pages (Why.Unsound s)) = tt
+  enter_shows (Pages other) = tt
+  enter_shows (Broken page) = tt
+
+-- ---- another reading of it
+
+pub refuses_so : {A B C E A' B' C' E' : Type 0} (free free' : ℕ) → free ≡ free' → (A → A') → (B → B') → (C → C') → (E → E') → (r : Refusal) → RefusesFor A B C E free r → RefusesFor A' B' C' E' free' r
+refuses_so free free' same a b c e (Why.Device s) h = tt
+refuses_so free free' same a b c e (Why.Lost x y) h = tt
+refuses_so free free' same a b c e Why.Memory h = tt
+refuses_so free free' same a b c e (Why.Unsound s) (inl h) = inl (a h)
+refuses_so free free' same a b c e (Why.Unsound s) (inr h) = inr (b h)
+refuses_so free free' same a b c e Why.VersionsUsedUp (inl h) = inl (c h)
+refuses_so free free' same a b c e Why.VersionsUsedUp (inr (inl h)) = inr (inl (a h))
+refuses_so free free' same a b c e Why.VersionsUsedUp (inr (inr h)) = inr (inr (b h))
+refuses_so free free' same a b c e (Why.NameTableFull n) h = (h.0 ∙ same, h.1, e h.2)
+refuses_so free free' same a b c e other h = h

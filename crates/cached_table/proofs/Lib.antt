@@ -1,0 +1,13 @@
+pub mod EditLaws
+pub mod EnteringLaws
+pub mod HighestLaws
+pub mod HomeReadLaws
+pub mod LookLaws
+pub mod MetLaws
+pub mod OpeningLaws
+pub mod RefusalLaws
+pub mod ResidentLaws
+pub mod StayLaws
+pub mod SurveyLaws
+pub mod VisitLaws
+pub mod WaitingLaws

@@ -1,0 +1,48 @@
+use Rattle.std.proofs.lemmas.Result.{err_from_is_err_and}
+use Rattle.name_page.proofs.LookLaws.{edits_then, pages_then, walks_edits, walks_pages}
+use Rattle.cached_table.proofs.HighestLaws.{fails_trusted, look_fails, sets_now, there_now}
+use Rattle.cached_table.proofs.changing.keep_at.Goals as goal
+
+pub set_keep-requires-clause-there : goal.set_keep-requires-clause-there
+set_keep-requires-clause-there g c = there_now g.T.Pages c.args.t.now c.newest.new.t c.in_ok-found.ensures.walks c.args.name.now c.in_ok-found.found.entry c.in_ok-found.ensures.found
+
+pub returns-in-Ok-clause-calls : goal.returns-in-Ok-clause-calls
+returns-in-Ok-clause-calls g c = edits_then g.T.Pages g.met.T.Pages.then c.args.t.now c.newest.new.t c.set_keep.new.t (walks_edits g.T.Pages c.args.t.now c.newest.new.t c.in_ok-found.ensures.walks) c.in-Ok.ensures.calls
+
+pub returns-in-Ok-clause-set : goal.returns-in-Ok-clause-set
+returns-in-Ok-clause-set g c =
+    sets_now g.T.Pages c.args.t.now c.newest.new.t c.in_ok-found.ensures.walks c.args.name.now c.in_ok-found.found.entry c.in_ok-found.ensures.found c.set_keep.new.t c.args.keep c.in-Ok.ensures.calls.trust c.in-Ok.ensures.set
+
+pub returns-in-Ok-clause-pages : goal.returns-in-Ok-clause-pages
+returns-in-Ok-clause-pages g c =
+    let P = g.T.Pages in
+    pages_then (P.step c.args.t.now) (P.step c.newest.new.t) (P.step c.set_keep.new.t) c.in-Ok.ensures.calls.count (walks_pages P c.args.t.now c.newest.new.t c.in_ok-found.ensures.walks) c.in-Ok.ensures.pages
+
+pub returns-in-Err-clause-pages : goal.returns-in-Err-clause-pages
+returns-in-Err-clause-pages g c =
+    let P = g.T.Pages in
+    pages_then (P.step c.args.t.now) (P.step c.newest.new.t) (P.step c.set_keep.new.t) c.in-Err.ensures.calls.count (walks_pages P c.args.t.now c.newest.new.t c.in_ok-found.ensures.walks) c.in-Err.ensures.pages
+
+pub returns-in_err-found-clause-pages : goal.returns-in_err-found-clause-pages
+returns-in_err-found-clause-pages g c = walks_pages g.T.Pages c.args.t.now c.newest.new.t c.in_err-found.ensures.walks
+
+pub returns-in_err-found-clause-fault : goal.returns-in_err-found-clause-fault
+returns-in_err-found-clause-fault g c =
+    let p = err_from_is_err_and c.from_residual.result c.from_residual.ensures.1 in
+    rw (p.1, p.2) (look_fails g.T.Pages c.args.t.now c.newest.new.t c.args.name.now c.in_err-found.field-0.0 c.in_err-found.ensures.fault)
+
+pub returns-in-Err-clause-fault : goal.returns-in-Err-clause-fault
+returns-in-Err-clause-fault g c = fails_trusted (g.T.Pages.trusted c.set_keep.new.t) (g.T.Pages.step c.set_keep.new.t) c.in-Err.fault c.in-Err.ensures.fault
+
+-- ---- memory is not wanting
+
+pub returns-in_err-found-clause-memory : goal.returns-in_err-found-clause-memory
+returns-in_err-found-clause-memory g c =
+    let p = err_from_is_err_and c.from_residual.result c.from_residual.ensures.1 in
+    rw (p.1, p.2) c.in_err-found.ensures.memory.enough
+
+pub returns-in-Err-clause-memory : goal.returns-in-Err-clause-memory
+returns-in-Err-clause-memory g c = λ there. c.in-Err.ensures.memory (c.in_ok-found.ensures.memory.stays there)
+
+pub returns-in-Ok-clause-memory : goal.returns-in-Ok-clause-memory
+returns-in-Ok-clause-memory g c = λ there is. cc is

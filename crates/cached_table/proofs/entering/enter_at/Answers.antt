@@ -1,0 +1,121 @@
+use Rattle.std.proofs.Common.{◌<◌, ◌^◌, ◌∙◌, Bool, List, Option, Err, arith, ap, refl, rules, subst, sym, []}
+use Rattle.std.specs.Prelude.{count_by}
+use Rattle.std.specs.List.{AllByRecursion}
+use Rattle.run_table.specs.declared.run.Run.{Run}
+use Rattle.run_table.specs.RunTable.{FitsRun}
+use Rattle.name_btree.specs.declared.fault.TreeFault.{TreeFault}
+use Rattle.version_table.specs.Table.{MakesTable}
+use Rattle.fsd_bytes.specs.declared.refusal.Refusal.{Refusal}
+use Rattle.name_page.specs.Looks.{OnlyEdits, OnlyWalks}
+use Rattle.name_page.specs.Pages.{free_count, outer_refusal}
+use Rattle.name_page.proofs.LookLaws.{edits_then, pages_then, walks_edits, walks_pages, walks_then}
+use Rattle.cached_table.specs.Entering.{AreInTurn, EntersNone, ShowsRefusal, TellsUntaken}
+use Rattle.version_table.specs.declared.oldest.Leaving.{Leaving}
+use Rattle.version_table.specs.declared.planning.Plan.{Plan}
+use Rattle.version_table.specs.Plan.{planned_entry, with_planned}
+use Rattle.cached_table.proofs.EnteringLaws.{enter_refused, enter_shows, gone_refuse, gone_shows, is_usable, outer_entered, outer_untaken, plan_refuses, plan_shows}
+use Rattle.cached_table.proofs.HighestLaws.{makes_before}
+use Rattle.cached_table.proofs.entering.enter_at.Goals as goal
+
+pub returns-in-Err-clause-fault : goal.returns-in-Err-clause-fault
+returns-in-Err-clause-fault g c =
+    let P = g.T.Pages in
+    let free = free_count (P.step c.args.t.now) in
+    subst (λ (r : Refusal). EntersNone P c.args.map.now c.args.shadow.now c.args.name.now free c.args.t.now c.plan_version.new.t r) (sym c.plan_refusal.ensures)
+    (plan_refuses P c.args.map.now c.args.shadow.now c.args.name.now free c.args.home_a c.args.t.now c.plan_version.new.t c.in-Err.fault c.in-Err.ensures.fault)
+
+pub returns-in-Err-clause-shown : goal.returns-in-Err-clause-shown
+returns-in-Err-clause-shown g c =
+    let P = g.T.Pages in
+    subst (λ (r : Refusal). ShowsRefusal P c.args.map.now c.args.shadow.now c.args.name.now c.args.home_a c.args.t.now c.plan_version.new.t r) (sym c.plan_refusal.ensures)
+    (plan_shows P c.args.map.now c.args.shadow.now c.args.name.now c.args.home_a c.args.t.now c.plan_version.new.t c.in-Err.fault _ _ c.in-Err.ensures.fault c.in-Err.ensures.shown)
+
+pub returns-in-Some-clause-calls : goal.returns-in-Some-clause-calls
+returns-in-Some-clause-calls g c =
+    let P = g.T.Pages in
+    let tells = subst (λ (gone : List Leaving). TellsUntaken c.args.home_a c.args.map.now c.args.shadow.now gone c.in-Some.refusal) c.as_slice.ensures.value c.in-Some.ensures.told in
+    subst (λ (o : Option Refusal). OnlyEdits P o c.args.t.now c.plan_version.new.t) (sym (outer_untaken c.args.home_a c.args.map.now c.args.shadow.now _ c.in-Some.refusal tells)) (walks_edits P c.args.t.now c.plan_version.new.t c.in-Ok.ensures.walks)
+
+pub returns-in-Some-clause-kept : goal.returns-in-Some-clause-kept
+returns-in-Some-clause-kept g c =
+    let P = g.T.Pages in
+    let tells = subst (λ (gone : List Leaving). TellsUntaken c.args.home_a c.args.map.now c.args.shadow.now gone c.in-Some.refusal) c.as_slice.ensures.value c.in-Some.ensures.told in
+    subst (λ (o : Option Refusal). OnlyWalks P o c.args.t.now c.plan_version.new.t) (sym (outer_untaken c.args.home_a c.args.map.now c.args.shadow.now _ c.in-Some.refusal tells)) c.in-Ok.ensures.walks
+
+pub returns-in-Some-clause-fault : goal.returns-in-Some-clause-fault
+returns-in-Some-clause-fault g c =
+    let P = g.T.Pages in
+    let plan : Plan = record { key = c.in-Ok.plan.key; keep = c.in-Ok.plan.keep; gone = c.in-Ok.plan.gone } in
+    let tells = subst (λ (gone : List Leaving). TellsUntaken c.args.home_a c.args.map.now c.args.shadow.now gone c.in-Some.refusal) c.as_slice.ensures.value c.in-Some.ensures.told in
+    gone_refuse P c.args.map.now c.args.shadow.now c.args.name.now (free_count (P.step c.args.t.now)) c.args.home_a c.args.t.now c.plan_version.new.t c.args.given plan c.in-Some.refusal tells c.in-Ok.ensures.planned
+    (λ turn. c.in-Some.ensures.some refl (subst (AreInTurn c.args.map.now c.args.shadow.now []) (sym c.as_slice.ensures.value) turn))
+
+pub returns-in-Some-clause-shown : goal.returns-in-Some-clause-shown
+returns-in-Some-clause-shown g c =
+    let tells = subst (λ (gone : List Leaving). TellsUntaken c.args.home_a c.args.map.now c.args.shadow.now gone c.in-Some.refusal) c.as_slice.ensures.value c.in-Some.ensures.told in
+    gone_shows g.T.Pages c.args.map.now c.args.shadow.now c.args.name.now c.args.home_a c.args.t.now c.plan_version.new.t c.in-Ok.plan.gone.items c.in-Some.refusal c.in-Ok.ensures.met tells
+
+pub enter-requires-clause-fits : goal.enter-requires-clause-fits
+enter-requires-clause-fits g c = record {
+  version = search rules;
+  keep = omega (arith, c.in-Ok.ensures.keep);
+  epoch = c.requires.epoch;
+  count = c.requires.count;
+  length = search rules;
+  runs = subst (AllByRecursion FitsRun) (sym c.copied.ensures) c.requires.runs;
+}
+
+pub returns-in-Ok-enter-clause-entered : goal.returns-in-Ok-enter-clause-entered
+returns-in-Ok-enter-clause-entered g c =
+    let d = c.args.draft.now in
+    let plan : Plan = record { key = c.in-Ok.plan.key; keep = c.in-Ok.plan.keep; gone = c.in-Ok.plan.gone } in
+    makes_before g.T.Pages c.args.t.now c.plan_version.new.t c.in-Ok.ensures.walks c.enter.new.t (with_planned plan (planned_entry plan d.serial d.length d.runs)) c.in-Ok-enter.ensures.calls.trust
+    (subst (λ (runs : List Run). MakesTable g.T.Pages c.plan_version.new.t c.enter.new.t (with_planned plan (planned_entry plan d.serial d.length runs))) c.copied.ensures c.in-Ok-enter.ensures.entered)
+
+pub returns-in-Err-enter-clause-fault : goal.returns-in-Err-enter-clause-fault
+returns-in-Err-enter-clause-fault g c =
+    let P = g.T.Pages in
+    let now = c.plan_version.new.t in
+    let new = c.enter.new.t in
+    let plan : Plan = record { key = c.in-Ok.plan.key; keep = c.in-Ok.plan.keep; gone = c.in-Ok.plan.gone } in
+    let e = c.in-Err-enter.ensures in
+    let free = free_count (P.step c.args.t.now) in
+    let small : c.in-Ok.plan.key.version < 2 ^ 32 = search rules in
+    subst (λ (r : Refusal). EntersNone P c.args.map.now c.args.shadow.now c.args.name.now free c.args.t.now new r) (sym c.enter_refusal.ensures)
+    (enter_refused P c.args.map.now c.args.shadow.now c.args.name.now free c.args.home_a c.args.t.now new now c.in-Ok.ensures.walks (ap (λ (f : List Bool). count_by (λ spare. spare) f) (sym c.in-Ok.ensures.walks.spares)) c.in-Err-enter.fault e.fault (λ is. e.full.0 (ap (λ (x : TreeFault). Err x) is))
+    (is_usable P c.args.t.now now new c.args.name.now c.args.given plan small e.calls.trust c.in-Ok.ensures.planned))
+
+pub returns-in-Err-clause-pages : goal.returns-in-Err-clause-pages
+returns-in-Err-clause-pages g c = walks_pages g.T.Pages c.args.t.now c.plan_version.new.t c.in-Err.ensures.walks
+
+pub returns-in-Some-clause-pages : goal.returns-in-Some-clause-pages
+returns-in-Some-clause-pages g c = walks_pages g.T.Pages c.args.t.now c.plan_version.new.t c.in-Ok.ensures.walks
+
+pub returns-in-Ok-enter-clause-pages : goal.returns-in-Ok-enter-clause-pages
+returns-in-Ok-enter-clause-pages g c =
+    let P = g.T.Pages in
+    pages_then (P.step c.args.t.now) (P.step c.plan_version.new.t) (P.step c.enter.new.t) c.in-Ok-enter.ensures.calls.count (walks_pages P c.args.t.now c.plan_version.new.t c.in-Ok.ensures.walks) c.in-Ok-enter.ensures.pages
+
+pub returns-in-Err-enter-clause-pages : goal.returns-in-Err-enter-clause-pages
+returns-in-Err-enter-clause-pages g c =
+    let P = g.T.Pages in
+    walks_pages P c.args.t.now c.enter.new.t (walks_then P g.met.T.Pages.then c.args.t.now c.plan_version.new.t c.enter.new.t c.in-Ok.ensures.walks c.in-Err-enter.ensures.kept)
+
+pub returns-in-Err-enter-clause-calls : goal.returns-in-Err-enter-clause-calls
+returns-in-Err-enter-clause-calls g c =
+    let P = g.T.Pages in
+    let told = ap outer_refusal c.enter_refusal.ensures ∙ outer_entered c.in-Err-enter.fault in
+    subst (λ (o : Option Refusal). OnlyEdits P o c.args.t.now c.enter.new.t) (sym told)
+    (edits_then P g.met.T.Pages.then c.args.t.now c.plan_version.new.t c.enter.new.t (walks_edits P c.args.t.now c.plan_version.new.t c.in-Ok.ensures.walks) c.in-Err-enter.ensures.calls)
+
+pub returns-in-Err-enter-clause-kept : goal.returns-in-Err-enter-clause-kept
+returns-in-Err-enter-clause-kept g c =
+    let P = g.T.Pages in
+    let told = ap outer_refusal c.enter_refusal.ensures ∙ outer_entered c.in-Err-enter.fault in
+    subst (λ (o : Option Refusal). OnlyWalks P o c.args.t.now c.enter.new.t) (sym told)
+    (walks_then P g.met.T.Pages.then c.args.t.now c.plan_version.new.t c.enter.new.t c.in-Ok.ensures.walks c.in-Err-enter.ensures.kept)
+
+pub returns-in-Err-enter-clause-shown : goal.returns-in-Err-enter-clause-shown
+returns-in-Err-enter-clause-shown g c =
+    subst (λ (r : Refusal). ShowsRefusal g.T.Pages c.args.map.now c.args.shadow.now c.args.name.now c.args.home_a c.args.t.now c.enter.new.t r) (sym c.enter_refusal.ensures)
+    (enter_shows g.T.Pages c.args.map.now c.args.shadow.now c.args.name.now c.args.home_a c.args.t.now c.enter.new.t c.in-Err-enter.fault)

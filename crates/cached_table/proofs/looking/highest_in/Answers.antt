@@ -1,0 +1,35 @@
+use Rattle.std.proofs.Common.{rules}
+use Rattle.name_btree.specs.Fault.{outer_told}
+use Rattle.cached_table.proofs.LookLaws.{faults_left, leads_left, looks_left, memory_left, pages_within, shown_left}
+use Rattle.cached_table.proofs.StayLaws.{looks_stay}
+use Rattle.cached_table.proofs.looking.highest_in.Goals as goal
+
+pub returns-clause-looks : goal.returns-clause-looks
+returns-clause-looks g c =
+    looks_left (outer_told c.highest-found.result) _ _ c.args.source.now _ c.args.home_a c.new-table.result c.highest-found.new.t c.rest.new.self c.new-table.ensures.over c.new-table.ensures.step (looks_stay _ _ c.highest-found.ensures.calls.looks) c.highest-found.ensures.calls.outside c.rest.ensures.step c.rest.ensures.outside c.rest.ensures.machine c.rest.ensures.cache
+    _ _ (search rules) (search rules) c.rest.ensures.ready c.rest.ensures.clean c.highest-found.ensures.calls.stays
+
+pub returns-clause-page : goal.returns-clause-page
+returns-clause-page g c =
+    pages_within (outer_told c.highest-found.result) _ _ c.args.source.now _ c.args.home_a c.new-table.result c.highest-found.new.t c.rest.new.self c.new-table.ensures.over c.new-table.ensures.step (looks_stay _ _ c.highest-found.ensures.calls.looks) c.highest-found.ensures.calls.outside c.rest.ensures.step c.rest.ensures.outside c.rest.ensures.machine c.rest.ensures.cache
+    c.highest-found.result c.highest-found.ensures.there
+
+pub returns-clause-fault : goal.returns-clause-fault
+returns-clause-fault g c =
+    faults_left (outer_told c.highest-found.result) _ _ c.args.source.now _ c.args.home_a c.new-table.result c.highest-found.new.t c.rest.new.self c.new-table.ensures.over c.new-table.ensures.step (looks_stay _ _ c.highest-found.ensures.calls.looks) c.highest-found.ensures.calls.outside c.rest.ensures.step c.rest.ensures.outside c.rest.ensures.machine c.rest.ensures.cache
+    _ _ (search rules) (search rules) c.highest-found.result c.highest-found.ensures.fault
+
+pub returns-clause-shown : goal.returns-clause-shown
+returns-clause-shown g c =
+    shown_left (outer_told c.highest-found.result) _ _ c.args.source.now _ c.args.home_a c.new-table.result c.highest-found.new.t c.rest.new.self c.new-table.ensures.over c.new-table.ensures.step (looks_stay _ _ c.highest-found.ensures.calls.looks) c.highest-found.ensures.calls.outside c.rest.ensures.step c.rest.ensures.outside c.rest.ensures.machine c.rest.ensures.cache
+    _ _ (search rules) (search rules) c.highest-found.result c.highest-found.ensures.fault c.highest-found.ensures.shown
+
+pub returns-clause-way : goal.returns-clause-way
+returns-clause-way g c =
+    leads_left (outer_told c.highest-found.result) _ _ c.args.source.now _ c.args.home_a c.new-table.result c.highest-found.new.t c.rest.new.self c.new-table.ensures.over c.new-table.ensures.step (looks_stay _ _ c.highest-found.ensures.calls.looks) c.highest-found.ensures.calls.outside c.rest.ensures.step c.rest.ensures.outside c.rest.ensures.machine c.rest.ensures.cache
+    _ (search rules) c.highest-found.result c.highest-found.ensures.there c.highest-found.ensures.way
+
+pub returns-clause-memory : goal.returns-clause-memory
+returns-clause-memory g c =
+    memory_left (outer_told c.highest-found.result) _ _ c.args.source.now _ c.args.home_a c.new-table.result c.highest-found.new.t c.rest.new.self c.new-table.ensures.over c.new-table.ensures.step (looks_stay _ _ c.highest-found.ensures.calls.looks) c.highest-found.ensures.calls.outside c.rest.ensures.step c.rest.ensures.outside c.rest.ensures.machine c.rest.ensures.cache
+    _ (search rules) c.highest-found.ensures.calls.memory c.rest.ensures.memory

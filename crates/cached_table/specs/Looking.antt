@@ -1,0 +1,103 @@
+-- What a look-up leaves of a cache, and why one fails.
+use Rattle.std.specs.Prelude.{◌≡◌, ◌⊎◌, ⊤, ℕ, ◌<◌, Bool, true, false, nat_eq, List, Option, Some, Contains, length, slice_get, Result, Ok, Err}
+use Rattle.fsd_bytes.specs.declared.refusal.Refusal.{Refusal}
+use Rattle.fsd_bytes.specs.declared.refusal.Refusal.TheVariants.{Device, Memory, Unsound}
+use Rattle.fsd_formats.specs.declared.entry.Entry.{Entry}
+use Rattle.sector_disk.specs.declared.machine.Machine.{Ghosts as MachineGhosts}
+use Rattle.sector_disk.specs.Calls.{OnlyReads}
+use Rattle.sector_disk.specs.Machine.{Moment}
+use Rattle.page_cache.specs.declared.source.PageSource.{Ghosts as SourceGhosts}
+use Rattle.page_cache.specs.Cache.{AreNewest, CacheValue, bytes_of, is_one_of, newest}
+use Rattle.table_pages.specs.Bringing.{IsTrusted, given_by, home_in}
+use Rattle.table_pages.specs.Kept.{IsReady, images_of}
+use Rattle.table_pages.specs.Reads.{Fills, LosesFor, Stood, device_of}
+use Rattle.fsd_table.specs.Pages.{entries_of}
+use Rattle.fsd_table.specs.Table.{BreaksTable, Visit, visits}
+use Rattle.name_page.specs.Pages.{IsOuter, is_spare}
+use Rattle.name_btree.specs.declared.fault.TreeFault.{TreeFault}
+use Rattle.name_btree.specs.declared.fault.TreeFault.TheVariants.{Pages, Broken}
+use Rattle.name_btree.specs.Fault.{IsOnWay}
+use Rattle.name_btree.specs.declared.lookup.FoundEntry.{FoundEntry}
+use Rattle.name_btree.specs.Lookup.{entry_of}
+
+-- the page breaks the table, or it is free and a path reaches it
+abbrev pub BarsPages : List (List ℕ) → List Bool → ℕ → Type 0
+BarsPages images free page = BreaksTable images page ⊎ ((is_spare free page ≡ true) × IsOnWay images page)
+
+-- the outside has refused a page, or the one that the fault names is barred
+abbrev pub FaultIn : List (List ℕ) → List Bool → (home_a : ℕ) → TreeFault → Type 0
+FaultIn images free home_a (Pages refusal) = IsOuter refusal ⊎ ((page : ℕ) × (refusal ≡ Unsound (home_in home_a page)) × BarsPages images free page)
+FaultIn images free home_a (Broken page) = BreaksTable images page
+
+-- the refusal that a fault is
+abbrev pub refusal_in : (home_a : ℕ) → TreeFault → Refusal
+refusal_in home_a (Pages refusal) = refusal
+refusal_in home_a (Broken page) = Unsound (home_in home_a page)
+
+-- so many pages, with the bytes of those that the cache has
+pub record HavePages (c : CacheValue) (count : ℕ) (pages : List (List ℕ)) : Type 0 where
+  pub size : length pages ≡ count
+  pub same : (page : ℕ) (bytes : List ℕ) → page < count → bytes_of c page ≡ Some bytes → slice_get pages page ≡ Some bytes
+
+-- so many pages, one with these bytes, and the others with what the cache has
+pub record HaveOthers (c : CacheValue) (count page : ℕ) (bytes : List ℕ) (pages : List (List ℕ)) : Type 0 where
+  pub size : length pages ≡ count
+  pub here : slice_get pages page ≡ Some bytes
+  pub same : (other : ℕ) (x : List ℕ) → other < count → nat_eq other page ≡ false → bytes_of c other ≡ Some x → slice_get pages other ≡ Some x
+
+module _ {D E : Type 0} (M : MachineGhosts D) (S : SourceGhosts E) (source : E) where
+  -- the bytes of so many pages: those in the cache, else what the source would give
+  abbrev pub images_by : D → CacheValue → (count : ℕ) → List (List ℕ)
+  images_by m c count = images_of (newest c (given_by M S source m)) count
+
+  -- Pages were read into the cache, and nothing else, until the outside refused one so, if it did: those that are dirty stay as they
+  -- were, and where the outside is trusted all do. A table can be made over it again.
+  pub record LooksOnly (refusal : Option Refusal) (m m' : D) (old new : CacheValue) (free : List Bool) : Type 0 where
+    pub reads : OnlyReads M (device_of refusal) m m'
+    pub loses : LosesFor M S source refusal m'
+    pub fills : Fills M S source m m' old new
+    pub ready : IsReady M S m' new source free
+    pub dirty : new.dirty ≡ old.dirty
+    pub kept : (page : ℕ) → page < length free → is_one_of old.dirty page ≡ true → bytes_of new page ≡ bytes_of old page
+    pub clean : IsTrusted M S source m old m' → AreNewest (given_by M S source m') new
+    pub stays : IsTrusted M S source m old m' → images_by m' new (length free) ≡ images_by m old (length free)
+
+  -- the page had these bytes in the cache, or in one of its copies
+  abbrev pub Had : Moment → CacheValue → ℕ → List ℕ → Type 0
+  Had from old page bytes = (bytes_of old page ≡ Some bytes) ⊎ Stood M S source from page bytes
+
+  -- Whatever the other pages have: the page whose home A is there is free, and what the cache has now shows that a path reaches it; or
+  -- that shows that it breaks the table; or it does so with bytes that it had.
+  pub record ShowsPlace (from : Moment) (old new : CacheValue) (free : List Bool) (home_a place : ℕ) : Type 0 where
+    pub page : ℕ
+    pub home : place ≡ home_in home_a page
+    pub how : ((is_spare free page ≡ true) × ((pages : List (List ℕ)) → HavePages new (length free) pages → IsOnWay pages page))
+        ⊎ (((pages : List (List ℕ)) → HavePages new (length free) pages → BreaksTable pages page)
+        ⊎ ((bytes : List ℕ) × (page < length free) × Had from old page bytes × ((pages : List (List ℕ)) → HaveOthers new (length free) page bytes pages → BreaksTable pages page)))
+
+  -- so it is of the place that a fault names as unsound
+  abbrev pub ShowsFault : (m m' : D) (old new : CacheValue) → List Bool → (home_a : ℕ) → TreeFault → Type 0
+  ShowsFault m m' old new free home_a fault = M.honest m' → (place : ℕ) → refusal_in home_a fault ≡ Unsound place → ShowsPlace (M.now m) old new free home_a place
+
+  -- So it is of the pages by this cache and the source.
+  pub record FaultsOver (m : D) (c : CacheValue) (free : List Bool) (home_a : ℕ) (fault : TreeFault) : Type 0 where
+    pub cause : FaultIn (images_by m c (length free)) free home_a fault
+
+-- ---- what is shown by the pages that were read
+
+-- a path leads to the leaf at the page, which has the entry
+abbrev pub LeadsTo : List (List ℕ) → FoundEntry → Type 0
+LeadsTo pages f = (visit : Visit) × Contains (visits pages) visit × (visit.page ≡ f.page) × Contains (entries_of visit.content) f.entry
+
+-- ---- what is told
+
+abbrev pub told : {T : Type 0} → (home_a : ℕ) → Result T TreeFault → Result T Refusal
+told home_a (Ok x) = Ok x
+told home_a (Err fault) = Err (refusal_in home_a fault)
+
+-- this entry is found, or a fault came from outside
+abbrev pub Finds : Option Entry → Result (Option FoundEntry) Refusal → Type 0
+Finds e (Ok found) = entry_of found ≡ e
+Finds e (Err (Device s)) = ⊤
+Finds e (Err Memory) = ⊤
+Finds e (Err other) = ⊥

@@ -1,0 +1,100 @@
+//! Edits of a table over a cache.
+ghost use Rattle.std.specs.Prelude.{◌≤◌, ◌∷◌, [], ◌≡◌, ℕ, IfOk, IfErr, OnErr, OnOk, Some, length};
+ghost use Rattle.fsd_bytes.specs.declared.refusal.Refusal.TheVariants.{Memory};
+ghost use Rattle.fsd_files.specs.Volume.{entries_without};
+ghost use Rattle.name_btree.specs.Fault.{outer_told};
+ghost use Rattle.group_commit.specs.Cached.{AreWaiting};
+ghost use Rattle.name_btree.specs.Map.{IsTable};
+ghost use Rattle.name_page.specs.declared.pages.TheConstants.{MOST_CHANGED, MOST_REACHED};
+ghost use Rattle.name_page.specs.Looks.{ChangesPages, OnlyEdits};
+ghost use Rattle.name_page.specs.Pages.{changes};
+ghost use Rattle.version_table.specs.Fault.{outer_met};
+ghost use Rattle.table_pages.specs.Bringing.{HasPages, IsUsed};
+ghost use Rattle.table_pages.specs.Kept.{IsReady};
+ghost use Rattle.cached_table.specs.Editing.{ChangesNone, ChangesOne, FaultsEdit, FaultsKeep, KeepFails, DirtiesAtMost, DirtiesOne, EditsOnly, EditsTable, SetsKeep, SetsKeepIn, StaysIn};
+
+use crate::looking::let_go;
+use fsd_bytes::{FileName, Key};
+use name_btree::TreeFault;
+use name_page::Pages;
+use page_cache::{Cache, PageSource};
+use sector_disk::Machine;
+use table_pages::{FreePages, Table};
+use version_table::{VersionFault, newest, set_keep, take_out};
+
+/// Takes the version with a key out of the table. `home_a` is the first sector of the homes A. Where it fails the table stays.
+pub fn take_out_in<M: Machine, S: PageSource>(
+    m: &mut M,
+    cache: &mut Cache,
+    source: &S,
+    home_a: u32,
+    free: &mut FreePages,
+    key: &Key,
+) -> Result<(), TreeFault>
+    requires ready { IsReady M.Machine S.PageSource m.old cache.old source.now free.old }
+    requires room { length cache.old.dirty ≤ 56 }
+    ensures edits { EditsOnly M.Machine S.PageSource source.now (outer_told result) m.old m.new cache.old cache.new free.old free.new }
+    ensures kept { OnErr result (StaysIn M.Machine S.PageSource source.now m.old m.new cache.old cache.new free.old free.new) }
+    ensures waiting { AreWaiting (length free.old) cache.old → AreWaiting (length free.old) cache.new }
+    ensures changes { DirtiesAtMost 8 cache.old cache.new }
+    ensures fault { IfErr result (FaultsEdit M.Machine S.PageSource source.now m.old m.new cache.old cache.new free.new home_a) }
+    ensures made { OnOk result (EditsTable M.Machine S.PageSource source.now m.old m.new cache.old cache.new free.old free.new (entries_without (key.now ∷ []))) }
+{
+    let mut table = Table::new(m, cache, source, home_a, free);
+    let done = take_out(&mut table, key);
+    table.rest();
+    let_go(table);
+    done
+}
+
+// Gives the highest version of a name another keep of at most 999, and answers its key.
+#[tactic(auto, using(crate::proofs::HighestLaws::none_walked, crate::proofs::HighestLaws::none_after))]
+fn keep_at<T: Pages>(t: &mut T, name: &FileName, keep: u32) -> Result<Key, VersionFault>
+    requires more { MOST_REACHED ≤ (T.step t.old).most_reached }
+    requires changes { MOST_CHANGED ≤ changes (T.step t.old) }
+    requires keep { keep ≤ 999 }
+    ensures calls { OnlyEdits T.Pages (outer_met result) t.old t.new }
+    ensures kept { OnErr result (ChangesNone (T.trusted t.new) (T.step t.old) (T.step t.new)) }
+    ensures pages { ChangesPages (T.step t.old) (T.step t.new) }
+    ensures name { IfOk result (λ key. key.name ≡ name.now) }
+    ensures one { IfOk result (λ key. ChangesOne (T.step t.old) (T.step t.new)) }
+    ensures memory { T.in_memory t.old → outer_met result ≡ Some Memory → ⊥ }
+    ensures fault { IfErr result (KeepFails (T.trusted t.new) (T.step t.old) (T.step t.new) name.now) }
+    ensures set { IfOk result (λ key. T.trusted t.new → (height : ℕ) → IsTable (T.step t.old) height → SetsKeep (T.step t.old) (T.step t.new) name.now keep key height) }
+{
+    let found = newest(t, name)?;
+    match set_keep(t, &found.entry, keep) {
+        Ok(()) => Ok(found.entry.key),
+        Err(fault) => Err(VersionFault::Table(fault)),
+    }
+}
+
+/// Gives the highest version of a name another keep of at most 999 in the table, and answers its key. `home_a` is the first
+/// sector of the homes A.
+pub fn set_keep_in<M: Machine, S: PageSource>(
+    m: &mut M,
+    cache: &mut Cache,
+    source: &S,
+    home_a: u32,
+    free: &mut FreePages,
+    name: &FileName,
+    keep: u32,
+) -> Result<Key, VersionFault>
+    requires ready { IsReady M.Machine S.PageSource m.old cache.old source.now free.old }
+    requires room { length cache.old.dirty ≤ 56 }
+    requires keep { keep ≤ 999 }
+    ensures edits { EditsOnly M.Machine S.PageSource source.now (outer_met result) m.old m.new cache.old cache.new free.old free.new }
+    ensures kept { OnErr result (StaysIn M.Machine S.PageSource source.now m.old m.new cache.old cache.new free.old free.new) }
+    ensures waiting { AreWaiting (length free.old) cache.old → AreWaiting (length free.old) cache.new }
+    ensures name { IfOk result (λ key. key.name ≡ name.now) }
+    ensures one { IfOk result (λ key. DirtiesOne (length free.old) cache.old cache.new) }
+    ensures memory { HasPages (IsUsed free.old) cache.old → outer_met result ≡ Some Memory → ⊥ }
+    ensures fault { IfErr result (FaultsKeep M.Machine S.PageSource source.now m.old m.new cache.old cache.new free.old free.new home_a name.now) }
+    ensures set { IfOk result (SetsKeepIn M.Machine S.PageSource source.now m.old m.new cache.old cache.new free.old free.new name.now keep) }
+{
+    let mut table = Table::new(m, cache, source, home_a, free);
+    let done = keep_at(&mut table, name, keep);
+    table.rest();
+    let_go(table);
+    done
+}

@@ -1,0 +1,183 @@
+//! Versions that are entered into a table over a cache.
+ghost use Rattle.std.specs.Prelude.{◌≡◌, ◌↔◌, ◌+◌, ◌<◌, ◌≤◌, ◌^◌, [], ℕ, IfErr, IfOk, IfSome, IsNone, IsSome, IsTrue, OnErr, OnOk, length, count_by};
+ghost use Rattle.std.specs.List.{AllByRecursion};
+ghost use Rattle.fsd_formats.specs.NamePage.{is_entry};
+ghost use Rattle.name_page.specs.declared.pages.TheConstants.{MOST_CHANGED, MOST_REACHED};
+ghost use Rattle.group_commit.specs.Cached.{AreWaiting};
+ghost use Rattle.name_page.specs.Looks.{ChangesPages, OnlyEdits, OnlyWalks};
+ghost use Rattle.name_page.specs.Pages.{changes, free_count, outer_in};
+ghost use Rattle.run_table.specs.RunTable.{FitsRun};
+ghost use Rattle.table_pages.specs.Kept.{IsReady};
+ghost use Rattle.version_table.specs.Plan.{IsPlan, planned_entry, with_planned};
+ghost use Rattle.version_table.specs.Table.{MakesTable, OfTable};
+ghost use Rattle.cached_table.specs.Editing.{DirtiesAtMost, EditsOnly, EditsTable, StaysIn};
+ghost use Rattle.cached_table.specs.Entering.{AreInTurn, AreTaken, EntersNone, EntersNoneIn, OfTableIn, ShowsRefusal, ShowsUnsound, TellsUntaken, enter_refusal, plan_refusal, share};
+ghost use Rattle.cached_table.specs.Looking.{LooksOnly, refusal_in};
+
+use crate::looking::let_go;
+use alloc_map::Map;
+use fsd_bytes::{FileName, Refusal};
+use fsd_formats::Entry;
+use name_btree::TreeFault;
+use name_page::Pages;
+use page_cache::{Cache, PageSource};
+use run_table::Runs;
+use sector_disk::Machine;
+use sector_set::overlap;
+use shadow_frees::Shadow;
+use table_pages::{FreePages, Table};
+use version_table::{Leaving, Plan, VersionFault, enter, plan_version};
+
+// The refusal that a fault of the table is.
+fn table_refusal(fault: TreeFault, home_a: u32) -> Refusal
+    ensures { result ≡ refusal_in home_a fault }
+{
+    match fault {
+        TreeFault::Pages(refusal) => refusal,
+        TreeFault::Broken(page) => Refusal::Unsound(home_a.wrapping_add(page)),
+    }
+}
+
+// The refusal that a fault of the entry is. It comes behind look-ups: pages that differ since, or that break the table beside
+// those that were looked up, have no number left for a version.
+fn enter_refusal(fault: TreeFault) -> Refusal
+    ensures { result ≡ enter_refusal fault }
+{
+    match fault {
+        TreeFault::Pages(Refusal::Unsound(_)) | TreeFault::Broken(_) => Refusal::VersionsUsedUp,
+        TreeFault::Pages(refusal) => refusal,
+    }
+}
+
+// The refusal that a fault of a plan is.
+fn plan_refusal(fault: VersionFault, home_a: u32) -> Refusal
+    ensures { result ≡ plan_refusal home_a fault }
+{
+    match fault {
+        VersionFault::Table(fault) => table_refusal(fault, home_a),
+        VersionFault::NoSuch => Refusal::NoSuch,
+        VersionFault::VersionsUsedUp => Refusal::VersionsUsedUp,
+    }
+}
+
+// Whether the sectors are of the data area, each named once, and neither free nor waiting.
+fn are_taken(map: &Map, shadow: &Shadow, runs: &Runs) -> bool
+    ensures { IsTrue result ↔ AreTaken map.now shadow.now runs.now }
+{
+    map.are_taken(runs) && shadow.are_idle(runs)
+}
+
+// Whether one of these versions has one of these sectors.
+fn share(gone: &[Leaving], runs: &Runs) -> bool
+    ensures { result ≡ share gone.now runs.now }
+{
+    for one in gone {
+        if overlap(one.entry.runs.as_slice(), runs.as_slice()) {
+            return true;
+        }
+    }
+    false
+}
+
+// Why these versions may not go: the leaf of the first whose sectors aren't taken is unsound. Where they are an earlier one's no leaf
+// shows it alone.
+fn untaken(map: &Map, shadow: &Shadow, gone: &[Leaving], home_a: u32) -> Option<Refusal>
+    ensures none { IsNone result → AreInTurn map.now shadow.now [] gone.now }
+    ensures some { IsSome result → AreInTurn map.now shadow.now [] gone.now → ⊥ }
+    ensures told { IfSome result (TellsUntaken home_a map.now shadow.now gone.now) }
+{
+    for i in 0..gone.len() {
+        let one = &gone[i];
+        if !are_taken(map, shadow, &one.entry.runs) {
+            return Some(Refusal::Unsound(home_a.wrapping_add(one.page)));
+        }
+        if share(&gone[..i], &one.entry.runs) {
+            return Some(Refusal::VersionsUsedUp);
+        }
+    }
+    None
+}
+
+// Plans the next version of a name, tests what goes, and enters the version, of the bytes and in the runs of a draft.
+fn enter_at<T: Pages>(
+    t: &mut T,
+    home_a: u32,
+    map: &Map,
+    shadow: &Shadow,
+    name: &FileName,
+    given: Option<u32>,
+    draft: &Entry,
+) -> Result<Plan, Refusal>
+    requires more { MOST_REACHED ≤ (T.step t.old).most_reached }
+    requires changes { MOST_CHANGED ≤ changes (T.step t.old) }
+    requires given { IfSome given (λ keep. keep ≤ 999) }
+    requires draft { IsTrue (is_entry draft.now) }
+    requires runs { AllByRecursion FitsRun draft.now.runs }
+    requires epoch { draft.now.serial.epoch < 2 ^ 32 }
+    requires count { draft.now.serial.count < 2 ^ 32 }
+    ensures calls { OnlyEdits T.Pages (outer_in result) t.old t.new }
+    ensures kept { OnErr result (OnlyWalks T.Pages (outer_in result) t.old t.new) }
+    ensures pages { ChangesPages (T.step t.old) (T.step t.new) }
+    ensures changes { changes (T.step t.old) ≤ changes (T.step t.new) + 36 }
+    ensures name { IfOk result (λ plan. plan.key.name ≡ name.now) }
+    ensures planned { IfOk result (λ plan. OfTable T.Pages t.old t.new (λ table. IsPlan name.now given table plan)) }
+    ensures taken { IfOk result (λ plan. AreInTurn map.now shadow.now [] plan.gone.items) }
+    ensures room { OnOk result (8 ≤ free_count (T.step t.old)) }
+    ensures entered { IfOk result (λ plan. MakesTable T.Pages t.old t.new (with_planned plan (planned_entry plan draft.now.serial draft.now.length draft.now.runs))) }
+    ensures fault { IfErr result (EntersNone T.Pages map.now shadow.now name.now (free_count (T.step t.old)) t.old t.new) }
+    ensures shown { IfErr result (ShowsRefusal T.Pages map.now shadow.now name.now home_a t.old t.new) }
+{
+    let _name = name.as_bytes();
+    let plan = match plan_version(t, name, given) {
+        Ok(plan) => plan,
+        Err(fault) => return Err(plan_refusal(fault, home_a)),
+    };
+    if let Some(refusal) = untaken(map, shadow, plan.gone.as_slice(), home_a) {
+        return Err(refusal);
+    }
+    match enter(t, &plan, draft.serial, draft.length, draft.runs.copied()) {
+        Ok(()) => Ok(plan),
+        Err(fault) => Err(enter_refusal(fault)),
+    }
+}
+
+/// Enters the next version of a name, of the bytes and in the runs of a draft, into the table, and answers its plan. What goes is
+/// tested against the map and the shadow first. `home_a` is the first sector of the homes A. Where it fails the table stays.
+pub fn enter_in<M: Machine, S: PageSource>(
+    m: &mut M,
+    cache: &mut Cache,
+    source: &S,
+    home_a: u32,
+    free: &mut FreePages,
+    map: &Map,
+    shadow: &Shadow,
+    name: &FileName,
+    given: Option<u32>,
+    draft: &Entry,
+) -> Result<Plan, Refusal>
+    requires ready { IsReady M.Machine S.PageSource m.old cache.old source.now free.old }
+    requires room { length cache.old.dirty ≤ 56 }
+    requires given { IfSome given (λ keep. keep ≤ 999) }
+    requires draft { IsTrue (is_entry draft.now) }
+    requires runs { AllByRecursion FitsRun draft.now.runs }
+    requires epoch { draft.now.serial.epoch < 2 ^ 32 }
+    requires count { draft.now.serial.count < 2 ^ 32 }
+    ensures edits { EditsOnly M.Machine S.PageSource source.now (outer_in result) m.old m.new cache.old cache.new free.old free.new }
+    ensures kept { OnErr result (StaysIn M.Machine S.PageSource source.now m.old m.new cache.old cache.new free.old free.new) }
+    ensures waiting { AreWaiting (length free.old) cache.old → AreWaiting (length free.old) cache.new }
+    ensures changes { DirtiesAtMost 36 cache.old cache.new }
+    ensures name { IfOk result (λ plan. plan.key.name ≡ name.now) }
+    ensures planned { IfOk result (λ plan. OfTableIn M.Machine S.PageSource source.now m.old m.new cache.old free.old (λ table. IsPlan name.now given table plan)) }
+    ensures taken { IfOk result (λ plan. AreInTurn map.now shadow.now [] plan.gone.items) }
+    ensures full { OnOk result (8 ≤ count_by (λ spare. spare) free.old) }
+    ensures made { IfOk result (λ plan. EditsTable M.Machine S.PageSource source.now m.old m.new cache.old cache.new free.old free.new (with_planned plan (planned_entry plan draft.now.serial draft.now.length draft.now.runs))) }
+    ensures fault { IfErr result (EntersNoneIn M.Machine S.PageSource source.now map.now shadow.now name.now m.old m.new cache.old cache.new free.old free.new) }
+    ensures looks { OnErr result (LooksOnly M.Machine S.PageSource source.now (outer_in result) m.old m.new cache.old cache.new free.old) }
+    ensures shown { IfErr result (ShowsUnsound M.Machine S.PageSource source.now map.now shadow.now m.old m.new cache.old cache.new free.old home_a) }
+{
+    let mut table = Table::new(m, cache, source, home_a, free);
+    let done = enter_at(&mut table, home_a, map, shadow, name, given, draft);
+    table.rest();
+    let_go(table);
+    done
+}

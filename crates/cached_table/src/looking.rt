@@ -1,0 +1,123 @@
+//! Look-ups in a table over a cache.
+ghost use Rattle.std.specs.Prelude.{◌≡◌, ◌<◌, ℕ, List, IfOk, IfErr, IfSome, length, true};
+ghost use Rattle.std.specs.Option.{option_copied};
+ghost use Rattle.name_page.specs.Pages.{NeedsNoMemory};
+ghost use Rattle.table_pages.specs.Bringing.{HasPages, IsTrusted, IsUsed};
+ghost use Rattle.table_pages.specs.Kept.{IsReady};
+ghost use Rattle.fsd_formats.specs.NamePage.{is_entry};
+ghost use Rattle.fsd_table.specs.Tree.{IsTree, table_of};
+ghost use Rattle.name_page.specs.Lookups.{entry_after, entry_with, highest_of, is_after};
+ghost use Rattle.name_btree.specs.Fault.{outer_told};
+ghost use Rattle.name_btree.specs.Lookup.{entry_of};
+ghost use Rattle.cached_table.specs.Looking.{FaultsOver, HavePages, LeadsTo, LooksOnly, ShowsFault, images_by, told};
+
+use fsd_bytes::{FileName, Key, Refusal};
+use name_btree::{FoundEntry, TreeFault, find, highest, next_after};
+use name_page::Pages;
+use page_cache::{Cache, PageSource};
+use sector_disk::Machine;
+use table_pages::{FreePages, Table};
+
+/// Lets a table go.
+pub(crate) fn let_go<M: Machine, S: PageSource>(table: Table<'_, M, S>)
+    ensures machine { table.exit.0.now ≡ table.entry.m.now }
+    ensures cache { table.exit.1.0.now ≡ table.entry.cache.now }
+    ensures free { table.exit.1.1.1.1.0.now ≡ table.entry.free.now }
+{}
+
+/// The entry with this key, with the page of its leaf. `home_a` is the first sector of the homes A.
+pub fn find_in<M: Machine, S: PageSource>(
+    m: &mut M,
+    cache: &mut Cache,
+    source: &S,
+    home_a: u32,
+    free: &mut FreePages,
+    key: &Key,
+) -> Result<Option<FoundEntry>, TreeFault>
+    requires { IsReady M.Machine S.PageSource m.old cache.old source.now free.old }
+    ensures looks { LooksOnly M.Machine S.PageSource source.now (outer_told result) m.old m.new cache.old cache.new free.old }
+    ensures free { free.new ≡ free.old }
+    ensures page { IfOk result (λ found. IfSome found (λ f. f.page < length free.old)) }
+    ensures entry { IfOk result (λ found. IfSome found (λ f. is_entry f.entry ≡ true)) }
+    ensures key { IfOk result (λ found. IfSome found (λ f. f.entry.key ≡ key.now)) }
+    ensures way { IfOk result (λ found. IfSome found (λ f. (pages : List (List ℕ)) → HavePages cache.new (length free.old) pages → LeadsTo pages f)) }
+    ensures found { IfOk result (λ found. IsTrusted M.Machine S.PageSource source.now m.old cache.old m.new → (height : ℕ) →
+        let pages = images_by M.Machine S.PageSource source.now m.old cache.old (length free.old) in IsTree pages height → entry_of found ≡ entry_with key.now (table_of pages height)) }
+    ensures fault { IfErr result (FaultsOver M.Machine S.PageSource source.now m.new cache.new free.old home_a) }
+    ensures shown { IfErr result (ShowsFault M.Machine S.PageSource source.now m.old m.new cache.old cache.new free.old home_a) }
+{
+    let mut table = Table::new(m, cache, source, home_a, free);
+    let found = find(&mut table, key);
+    table.rest();
+    let_go(table);
+    found
+}
+
+/// The entry with the least later key, with the page of its leaf. `home_a` is the first sector of the homes A.
+pub fn next_in<M: Machine, S: PageSource>(
+    m: &mut M,
+    cache: &mut Cache,
+    source: &S,
+    home_a: u32,
+    free: &mut FreePages,
+    after: Option<&Key>,
+) -> Result<Option<FoundEntry>, TreeFault>
+    requires { IsReady M.Machine S.PageSource m.old cache.old source.now free.old }
+    ensures looks { LooksOnly M.Machine S.PageSource source.now (outer_told result) m.old m.new cache.old cache.new free.old }
+    ensures free { free.new ≡ free.old }
+    ensures page { IfOk result (λ found. IfSome found (λ f. f.page < length free.old)) }
+    ensures later { IfOk result (λ found. IfSome found (λ f. is_after (option_copied after.entry) f.entry.key ≡ true)) }
+    ensures way { IfOk result (λ found. IfSome found (λ f. (pages : List (List ℕ)) → HavePages cache.new (length free.old) pages → LeadsTo pages f)) }
+    ensures found { IfOk result (λ found. IsTrusted M.Machine S.PageSource source.now m.old cache.old m.new → (height : ℕ) →
+        let pages = images_by M.Machine S.PageSource source.now m.old cache.old (length free.old) in IsTree pages height → entry_of found ≡ entry_after (option_copied after.entry) (table_of pages height)) }
+    ensures fault { IfErr result (FaultsOver M.Machine S.PageSource source.now m.new cache.new free.old home_a) }
+    ensures shown { IfErr result (ShowsFault M.Machine S.PageSource source.now m.old m.new cache.old cache.new free.old home_a) }
+{
+    let mut table = Table::new(m, cache, source, home_a, free);
+    let found = next_after(&mut table, after);
+    table.rest();
+    let_go(table);
+    found
+}
+
+/// The entry with the highest version of a name, with the page of its leaf. `home_a` is the first sector of the homes A.
+pub fn highest_in<M: Machine, S: PageSource>(
+    m: &mut M,
+    cache: &mut Cache,
+    source: &S,
+    home_a: u32,
+    free: &mut FreePages,
+    name: &FileName,
+) -> Result<Option<FoundEntry>, TreeFault>
+    requires { IsReady M.Machine S.PageSource m.old cache.old source.now free.old }
+    ensures looks { LooksOnly M.Machine S.PageSource source.now (outer_told result) m.old m.new cache.old cache.new free.old }
+    ensures free { free.new ≡ free.old }
+    ensures memory { NeedsNoMemory (HasPages (IsUsed free.old)) (outer_told result) cache.old cache.new }
+    ensures page { IfOk result (λ found. IfSome found (λ f. f.page < length free.old)) }
+    ensures name { IfOk result (λ found. IfSome found (λ f. f.entry.key.name ≡ name.now)) }
+    ensures way { IfOk result (λ found. IfSome found (λ f. (pages : List (List ℕ)) → HavePages cache.new (length free.old) pages → LeadsTo pages f)) }
+    ensures found { IfOk result (λ found. IsTrusted M.Machine S.PageSource source.now m.old cache.old m.new → (height : ℕ) →
+        let pages = images_by M.Machine S.PageSource source.now m.old cache.old (length free.old) in IsTree pages height → entry_of found ≡ highest_of name.now (table_of pages height)) }
+    ensures fault { IfErr result (FaultsOver M.Machine S.PageSource source.now m.new cache.new free.old home_a) }
+    ensures shown { IfErr result (ShowsFault M.Machine S.PageSource source.now m.old m.new cache.old cache.new free.old home_a) }
+{
+    let mut table = Table::new(m, cache, source, home_a, free);
+    let found = highest(&mut table, name);
+    table.rest();
+    let_go(table);
+    found
+}
+
+/// What was found, or the refusal that a fault is.
+pub fn told(
+    found: Result<Option<FoundEntry>, TreeFault>,
+    home_a: u32,
+) -> Result<Option<FoundEntry>, Refusal>
+    ensures { result ≡ told home_a found }
+{
+    match found {
+        Ok(found) => Ok(found),
+        Err(TreeFault::Pages(refusal)) => Err(refusal),
+        Err(TreeFault::Broken(page)) => Err(Refusal::Unsound(home_a.wrapping_add(page))),
+    }
+}

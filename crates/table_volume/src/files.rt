@@ -1,0 +1,69 @@
+//! A volume as its callers see it.
+use crate::Volume;
+use fsd_bytes::{FileName, Key, Refusal};
+use fsd_formats::Entry;
+use fsd_sound::MountFault;
+use sector_disk::Machine;
+use std::alloc::Global;
+use volume_contract::{Files, Forced, Stat};
+
+impl<M: Machine> Files<M> for Volume {
+    ghost use Rattle.volume_state.specs.State.{Holds, resident, state};
+    ghost use Rattle.volume_state.specs.WearLaws.{stands_worn};
+
+    ghost state = { state };
+
+    ghost resident = { resident };
+
+    ghost holds = { Holds };
+
+    ghost wears = { stands_worn };
+
+    ghost shows = { λ v mounted records page bytes has there. has.pages page bytes there };
+
+    fn mount(alloc: Global, m: &mut M, sectors: u32) -> Result<Self, MountFault> {
+        Volume::mount(alloc, m, sectors)
+    }
+
+    fn put(
+        &mut self,
+        m: &mut M,
+        name: &FileName,
+        keep: Option<u32>,
+        bytes: &[u8],
+    ) -> Result<Key, Refusal> {
+        Volume::put(self, m, name, keep, bytes)
+    }
+
+    fn delete(&mut self, m: &mut M, key: &Key) -> Result<(), Refusal> {
+        Volume::delete(self, m, key)
+    }
+
+    fn set_keep(&mut self, m: &mut M, name: &FileName, keep: u32) -> Result<Key, Refusal> {
+        Volume::set_keep(self, m, name, keep)
+    }
+
+    fn entry(&mut self, m: &mut M, key: &Key) -> Result<Entry, Refusal> {
+        Volume::entry(self, m, key)
+    }
+
+    fn next_after(&mut self, m: &mut M, after: Option<&Key>) -> Result<Option<Entry>, Refusal> {
+        Volume::next_after(self, m, after)
+    }
+
+    fn read(&mut self, m: &mut M, key: &Key, from: u32, buf: &mut [u8]) -> Result<u32, Refusal> {
+        Volume::read(self, m, key, from, buf)
+    }
+
+    fn force(&mut self, m: &mut M) -> Result<Forced, Refusal> {
+        Volume::force(self, m)
+    }
+
+    fn stat(&self) -> Stat {
+        Volume::stat(self)
+    }
+
+    fn close(self, m: &mut M) -> Result<(), Refusal> {
+        Volume::close(self, m)
+    }
+}

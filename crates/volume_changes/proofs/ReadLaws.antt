@@ -1,0 +1,221 @@
+-- What a look-up has read of a volume's table, and what that shows.
+use Rattle.std.proofs.Common.{◌≡◌, ◌⊎◌, inl, inr, ℕ, ◌<◌, Bool, true, false, cond, nat_lt, List, [], length, Option, Some, None, Result, Ok, Err, refl, sym, ap, subst, ◌∙◌, arith}
+use Rattle.std.specs.Prelude.{IfOk, IfSome, Contains, IfErr, nat_eq, slice_get, slice_index_or}
+use Rattle.std.proofs.lemmas.Bool.{lt-ltb, ltb-true, eq-eqb, eqb-true}
+use Rattle.std.proofs.lemmas.Option.{slice_get-get_or}
+use Rattle.std.proofs.Math.Nat.{mod-eq_of_lt}
+use Rattle.volume_layout.specs.declared.layout.Layout.{Layout}
+use Rattle.volume_layout.specs.Layout.{home_a, home_b}
+use Rattle.volume_layout.proofs.RootLaws.{planned_bounds}
+use Rattle.run_table.specs.Space.{contains}
+use Rattle.sector_set.proofs.FreeLaws.{contains_where}
+use Rattle.sector_disk.specs.declared.machine.Machine.{Ghosts as MachineGhosts}
+use Rattle.sector_disk.specs.Machine.{Moment}
+use Rattle.fsd_bytes.specs.declared.refusal.Refusal.{Refusal}
+use Rattle.fsd_bytes.specs.declared.refusal.Refusal.TheVariants as Why
+use Rattle.fsd_table.specs.Table.{BreaksTable, Visit, visits}
+use Rattle.fsd_files.specs.Disk.{Image}
+use Rattle.fsd_sound.specs.Mounted.{image_at}
+use Rattle.log_thirds.specs.LogValue.{LogValue}
+use Rattle.group_commit.specs.Newest.{StandsAtHome, StandsInCopy as StandsBy}
+use Rattle.group_commit.specs.contracts.newest.NewestPageSource.TheImpl as by_log
+use Rattle.page_cache.specs.Cache.{CacheValue, bytes_of, is_one_of}
+use Rattle.name_btree.specs.declared.fault.TreeFault.{TreeFault}
+use Rattle.name_btree.specs.declared.lookup.FoundEntry.{FoundEntry}
+use Rattle.name_page.specs.Pages.{is_spare}
+use Rattle.name_btree.specs.Fault.{IsOnWay, outer_told}
+use Rattle.table_pages.specs.Bringing.{home_in}
+use Rattle.table_pages.specs.Reads.{Stood}
+use Rattle.volume_contract.specs.Causes.{BreaksMounted, HaveRead, IsRead, ShowsBreak, StandsInCopy, StoodInCopy}
+use Rattle.volume_contract.specs.State.{State}
+use Rattle.cached_table.specs.Looking.{Had, HaveOthers, HavePages, LeadsTo, LooksOnly, ShowsFault, ShowsPlace, refusal_in, told}
+use Rattle.volume_changes.specs.Meeting.{ShowsEntry}
+use Rattle.volume_state.specs.State.{resident, spare_pages, state}
+use Rattle.volume_state.specs.Taken.{are_taken}
+use Rattle.volume_state.specs.Volume.{IsWhole, VolumeValue}
+use Rattle.volume_state.proofs.TakenLaws.{untaken_breaks}
+use Rattle.cached_table.proofs.VisitLaws.{visit_within}
+
+-- ---- what was read
+
+-- what stands in a copy by the log stands there by what the volume tells
+stands_told : (v : VolumeValue) → IsWhole v → (page : ℕ) (i : Image) (bytes : List ℕ) → StandsBy v.log page i bytes → StandsInCopy (state v) i page bytes
+stands_told v whole page i bytes (inl s) = record { a = s.a; b = s.b; copies = inl s.lies; whole = s.stands }
+stands_told v whole page i bytes (inr (none, stands)) =
+    record { a = home_a v.layout page; b = home_b v.layout page; copies = inr (none, record { first = refl; second = refl }); whole = subst (λ (l : Layout). StandsAtHome l page i bytes) whole.log stands }
+
+module _ {D : Type 0} (M : MachineGhosts D) (m m' : D) (v : VolumeValue) (whole : IsWhole v) (c : CacheValue) (refusal : Option Refusal) (looks : LooksOnly M by_log.ghosts v.log refusal m m' v.cache c v.free_pages) (honest : M.honest m') (new : State) where
+  pub stood_there : (page : ℕ) (bytes : List ℕ) → Stood M by_log.ghosts v.log (M.now m) page bytes → StoodInCopy (state v) new (M.now m) (M.now m') page bytes
+  stood_there page bytes s = (s.image, inl (s.worn, stands_told v whole page s.image bytes s.stands))
+
+  is_read : (page : ℕ) (bytes : List ℕ) → page < v.layout.pages → bytes_of c page ≡ Some bytes → IsRead (state v) new (resident v) (M.now m) (M.now m') page bytes
+  is_read page bytes lt is = record { within = lt; source = by (is_one_of c.dirty page) refl }
+    where
+      by : (b : Bool) → is_one_of c.dirty page ≡ b → (bytes_of v.cache page ≡ Some bytes) ⊎ StoodInCopy (state v) new (M.now m) (M.now m') page bytes
+      by true waits = inl (sym (looks.kept page (omega (arith, lt, whole.pages)) (ap (λ (d : List ℕ). is_one_of d page) (sym looks.dirty) ∙ waits)) ∙ is)
+      by false rests = elim (looks.fills.stood honest page bytes rests is) [
+        | inl had ↦ inl had
+        | inr stood ↦ inr (stood_there page bytes stood)
+      ]
+
+  -- the pages of the table that are in memory now
+  abbrev read_now : ℕ → Option (List ℕ)
+  read_now page = cond (nat_lt page v.layout.pages) (bytes_of c page) None
+
+  all_read : (page : ℕ) → IfSome (read_now page) (IsRead (state v) new (resident v) (M.now m) (M.now m') page)
+  all_read page = by (nat_lt page v.layout.pages) refl (bytes_of c page) refl
+    where
+      by : (b : Bool) → nat_lt page v.layout.pages ≡ b → (o : Option (List ℕ)) → bytes_of c page ≡ o → IfSome (cond b o None) (IsRead (state v) new (resident v) (M.now m) (M.now m') page)
+      by false past o is = tt
+      by true lt None is = tt
+      by true lt (Some bytes) is = is_read page bytes (ltb-true page v.layout.pages lt) is
+
+  -- pages that have what was read have what the cache has
+  was_read : (page : ℕ) (bytes : List ℕ) → page < v.layout.pages → bytes_of c page ≡ Some bytes → read_now page ≡ Some bytes
+  was_read page bytes lt is = ap (λ (b : Bool). cond b (bytes_of c page) None) (lt-ltb page v.layout.pages lt) ∙ is
+
+  pub have_one : (read : ℕ → Option (List ℕ)) (pages : List (List ℕ)) → HaveRead (state v) read pages → (page : ℕ) (bytes : List ℕ) → page < v.layout.pages → read page ≡ Some bytes → slice_get pages page ≡ Some bytes
+  have_one read pages have page bytes lt is =
+      let here : image_at pages page ≡ bytes = subst (λ (o : Option (List ℕ)). IfSome o (λ x. image_at pages page ≡ x)) is (have.same page) in
+      slice_get-get_or pages page [] (omega (arith, lt, have.size)) ∙ ap (λ (x : List ℕ). Some x) here
+
+  have_pages : (pages : List (List ℕ)) → HaveRead (state v) read_now pages → HavePages c (length v.free_pages) pages
+  have_pages pages have = record {
+    size = have.size ∙ sym whole.pages;
+    same = λ page bytes lt is.
+        let within : page < v.layout.pages = omega (arith, lt, whole.pages) in
+        have_one read_now pages have page bytes within (was_read page bytes within is);
+  }
+
+  shows_entry : (f : FoundEntry) → ((pages : List (List ℕ)) → HavePages c (length v.free_pages) pages → LeadsTo pages f) → ShowsEntry (state v) new (resident v) (M.now m) (M.now m') f
+  shows_entry f way = record { read = read_now; are_read = all_read; leads = λ pages have. way pages (have_pages pages have) }
+
+  -- an entry that is found
+  shows_found : (home_a : ℕ) (r : Result (Option FoundEntry) TreeFault) (result : Result (Option FoundEntry) Refusal) → result ≡ told home_a r
+      → IfOk r (λ found. IfSome found (λ f. (pages : List (List ℕ)) → HavePages c (length v.free_pages) pages → LeadsTo pages f))
+      → IfOk result (λ found. IfSome found (ShowsEntry (state v) new (resident v) (M.now m) (M.now m')))
+  shows_found home_a r result is way = subst (λ (x : Result (Option FoundEntry) Refusal). IfOk x (λ found. IfSome found (ShowsEntry (state v) new (resident v) (M.now m) (M.now m')))) (sym is) (by r way)
+    where
+      by : (r : Result (Option FoundEntry) TreeFault) → IfOk r (λ found. IfSome found (λ f. (pages : List (List ℕ)) → HavePages c (length v.free_pages) pages → LeadsTo pages f))
+          → IfOk (told home_a r) (λ found. IfSome found (ShowsEntry (state v) new (resident v) (M.now m) (M.now m')))
+      by (Err fault) way = tt
+      by (Ok None) way = tt
+      by (Ok (Some f)) way = shows_entry f way
+
+  -- ---- a place that is told as unsound
+
+  module _ (home place : ℕ) (first : home ≡ home_a v.layout 0) (shows : ShowsPlace M by_log.ghosts v.log (M.now m) v.cache c v.free_pages home place) where
+    home_told : (page : ℕ) → page < v.layout.pages → home_in home page ≡ home_a v.layout page
+    home_told page lt =
+        let bounds = planned_bounds v.layout whole.planned in
+        mod-eq_of_lt (omega (arith, first, lt, bounds.pages_most, bounds.third_most)) ∙ omega (arith, first)
+
+    -- the home of a page that a path reaches
+    visit_home : (pages : List (List ℕ)) → length pages ≡ v.layout.pages → (visit : Visit) → Contains (visits pages) visit → visit.page ≡ shows.page → place ≡ home_a v.layout visit.page
+    visit_home pages size visit has at =
+        let lt : visit.page < length pages = visit_within pages (omega (arith, size, (planned_bounds v.layout whole.planned).pages_least)) visit has in
+        shows.home ∙ ap (home_in home) (sym at) ∙ home_told visit.page (omega (arith, lt, size))
+
+    broken : (pages : List (List ℕ)) → length pages ≡ v.layout.pages → BreaksTable pages shows.page → BreaksMounted (state v) pages place
+    broken pages size breaks = record {
+      visit = breaks.visit;
+      reached = breaks.reached;
+      home = visit_home pages size breaks.visit breaks.reached breaks.page_is;
+      how = inl (inl (subst (BreaksTable pages) (sym breaks.page_is) breaks));
+    }
+
+    listed : (page : ℕ) → page < length v.free_pages → is_spare v.free_pages page ≡ true → contains (spare_pages v) page ≡ true
+    listed page lt spare = contains_where (λ p. slice_index_or v.free_pages p false) 0 (length v.free_pages) page (omega arith) lt ∙ spare
+
+    freed : (pages : List (List ℕ)) → length pages ≡ v.layout.pages → is_spare v.free_pages shows.page ≡ true → IsOnWay pages shows.page → BreaksMounted (state v) pages place
+    freed pages size spare way =
+        let lt : way.0.page < length pages = visit_within pages (omega (arith, size, (planned_bounds v.layout whole.planned).pages_least)) way.0 way.1 in
+        record {
+          visit = way.0;
+          reached = way.1;
+          home = visit_home pages size way.0 way.1 way.2;
+          how = inr (inl (listed way.0.page (omega (arith, lt, size, whole.pages)) (ap (is_spare v.free_pages) way.2 ∙ spare)));
+        }
+
+    -- what was read, with bytes that the page had
+    module _ (bytes : List ℕ) (within : shows.page < length v.free_pages) (had : Had M by_log.ghosts v.log (M.now m) v.cache shows.page bytes) where
+      inside : shows.page < v.layout.pages
+      inside = omega (arith, within, whole.pages)
+
+      abbrev read_with : ℕ → Option (List ℕ)
+      read_with page = cond (nat_eq page shows.page) (Some bytes) (read_now page)
+
+      had_read : IsRead (state v) new (resident v) (M.now m) (M.now m') shows.page bytes
+      had_read = record {
+        within = inside;
+        source = elim had [
+          | inl was ↦ inl was
+          | inr stood ↦ inr (stood_there shows.page bytes stood)
+        ];
+      }
+
+      all_with : (page : ℕ) → IfSome (read_with page) (IsRead (state v) new (resident v) (M.now m) (M.now m') page)
+      all_with page = by (nat_eq page shows.page) refl
+        where
+          by : (b : Bool) → nat_eq page shows.page ≡ b → IfSome (cond b (Some bytes) (read_now page)) (IsRead (state v) new (resident v) (M.now m) (M.now m') page)
+          by true is = subst (λ (p : ℕ). IsRead (state v) new (resident v) (M.now m) (M.now m') p bytes) (sym (eqb-true page shows.page is)) had_read
+          by false is = all_read page
+
+      have_others : (pages : List (List ℕ)) → HaveRead (state v) read_with pages → HaveOthers c (length v.free_pages) shows.page bytes pages
+      have_others pages have = record {
+        size = have.size ∙ sym whole.pages;
+        here = have_one read_with pages have shows.page bytes inside (ap (λ (b : Bool). cond b (Some bytes) (read_now shows.page)) (eq-eqb shows.page shows.page refl));
+        same = λ page x lt other is.
+            let there : page < v.layout.pages = omega (arith, lt, whole.pages) in
+            have_one read_with pages have page x there (ap (λ (b : Bool). cond b (Some bytes) (read_now page)) other ∙ was_read page x there is);
+      }
+
+    pub unsound_shown : ShowsBreak (state v) new (resident v) (M.now m) (M.now m') place
+    unsound_shown = elim shows.how [
+      | inl free ↦ record { read = read_now; are_read = all_read; breaks = λ pages have. freed pages have.size free.0 (free.1 pages (have_pages pages have)) }
+      | inr other ↦ elim other [
+        | inl breaks ↦ record { read = read_now; are_read = all_read; breaks = λ pages have. broken pages have.size (breaks pages (have_pages pages have)) }
+        | inr x ↦ record { read = read_with x.0 x.1 x.2; are_read = all_with x.0 x.1 x.2; breaks = λ pages have. broken pages have.size (x.3 pages (have_others x.0 x.1 x.2 pages have)) }
+      ]
+    ]
+
+  unsound_found : (home : ℕ) → home ≡ home_a v.layout 0 → (r : Result (Option FoundEntry) TreeFault) (place : ℕ) → told home r ≡ Err (Why.Unsound place)
+      → IfErr r (ShowsFault M by_log.ghosts v.log m m' v.cache c v.free_pages home) → ShowsBreak (state v) new (resident v) (M.now m) (M.now m') place
+  unsound_found home first (Ok found) place is shown = absurd (cc is)
+  unsound_found home first (Err f) place is shown = let same : refusal_in home f ≡ Why.Unsound place = cc is in unsound_shown home place first (shown honest place same)
+
+-- so it is by the parts of a volume
+pub unsound_by : {D : Type 0} (M : MachineGhosts D) (m m' : D) (v w : VolumeValue) → v ≡ w → IsWhole v → (c : CacheValue) (log : LogValue) → log ≡ v.log → (new : State) (home : ℕ) → home ≡ home_a v.layout 0 → (r : Result (Option FoundEntry) TreeFault)
+    (result : Result (Option FoundEntry) Refusal) → result ≡ told home r → LooksOnly M by_log.ghosts log (outer_told r) m m' v.cache c v.free_pages → IfErr r (ShowsFault M by_log.ghosts log m m' v.cache c v.free_pages home)
+    → (place : ℕ) → result ≡ Err (Why.Unsound place) → M.honest m' → ShowsBreak (state w) new (resident w) (M.now m) (M.now m') place
+unsound_by M m m' v w is whole c log of_log new home first r result told_is looks shown place told_so honest =
+    subst (λ (x : VolumeValue). ShowsBreak (state x) new (resident x) (M.now m) (M.now m') place) is
+    (unsound_found M m m' v whole c (outer_told r) (subst (λ (l : LogValue). LooksOnly M by_log.ghosts l (outer_told r) m m' v.cache c v.free_pages) of_log looks) honest new home first r place (sym told_is ∙ told_so)
+    (subst (λ (l : LogValue). IfErr r (ShowsFault M by_log.ghosts l m m' v.cache c v.free_pages home)) of_log shown))
+
+-- an entry that is met, and whose sectors aren't taken
+pub untaken_by : (v w : VolumeValue) → v ≡ w → IsWhole v → (before now : Moment) (new : State) (f : FoundEntry) → ShowsEntry (state w) new (resident w) before now f → are_taken w f.entry.runs ≡ false
+    → ShowsBreak (state w) new (resident w) before now (home_a w.layout f.page)
+untaken_by v w is whole before now new f shows untaken = record { read = shows.read; are_read = shows.are_read; breaks = breaks }
+  where
+    breaks : (pages : List (List ℕ)) → HaveRead (state w) shows.read pages → BreaksMounted (state w) pages (home_a w.layout f.page)
+    breaks pages have =
+        let led = shows.leads pages have in
+        record {
+          visit = led.0;
+          reached = led.1;
+          home = ap (home_a w.layout) (sym led.2);
+          how = elim (untaken_breaks w (subst IsWhole is whole) pages led.0 led.1 f.entry led.3 untaken) [
+            | inl broken ↦ inl broken
+            | inr taken ↦ inr (inr (f.entry, led.3, taken))
+          ];
+        }
+
+-- the same by the parts of a volume
+pub shows_by : {D : Type 0} (M : MachineGhosts D) (m m' : D) (v w : VolumeValue) → v ≡ w → IsWhole v → (c : CacheValue) (log : LogValue) → log ≡ v.log → (new : State) (home_a : ℕ) (r : Result (Option FoundEntry) TreeFault)
+    (result : Result (Option FoundEntry) Refusal) → result ≡ told home_a r → LooksOnly M by_log.ghosts log (outer_told r) m m' v.cache c v.free_pages → M.honest m'
+    → IfOk r (λ found. IfSome found (λ f. (pages : List (List ℕ)) → HavePages c (length v.free_pages) pages → LeadsTo pages f))
+    → IfOk result (λ found. IfSome found (ShowsEntry (state w) new (resident w) (M.now m) (M.now m')))
+shows_by M m m' v w is whole c log of_log new home_a r result told_is looks honest way =
+    subst (λ (x : VolumeValue). IfOk result (λ found. IfSome found (ShowsEntry (state x) new (resident x) (M.now m) (M.now m')))) is
+    (shows_found M m m' v whole c (outer_told r) (subst (λ (l : LogValue). LooksOnly M by_log.ghosts l (outer_told r) m m' v.cache c v.free_pages) of_log looks) honest new home_a r result told_is way)

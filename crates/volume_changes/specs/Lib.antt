@@ -1,0 +1,4 @@
+pub mod Changing
+pub mod Ending
+pub mod Entered
+pub mod Meeting

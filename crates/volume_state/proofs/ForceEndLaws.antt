@@ -1,0 +1,278 @@
+-- How a force ends over a volume that stands over its disk: all changes are forced, or it is down where the disk failed.
+use Rattle.std.proofs.Common.{◌≡◌, inl, inr, ℕ, ◌-◌, ◌<◌, ◌≤◌, Bool, true, false, not, ◌&&◌, ◌||◌, nat_le, nat_lt, List, [], length, option_map, Option, Some, None, Ok, Err, refl, sym, ap, subst, ◌∙◌, arith}
+use Rattle.std.specs.Prelude.{◌==◌, slice_index_or}
+use Rattle.std.specs.List.{list_any}
+use Rattle.std.proofs.lemmas.Bool.{cases_lt, lt-leb, le-ltb}
+use Rattle.std.proofs.lemmas.List.{append-nil}
+use Rattle.volume_layout.specs.declared.layout.Layout.{Layout}
+use Rattle.volume_layout.specs.Layout.{data_start}
+use Rattle.run_table.specs.Space.{contains, where_free}
+use Rattle.sector_set.specs.Area.{Area, area}
+use Rattle.sector_set.proofs.FreeLaws.{contains_where, contains_where_outside}
+use Rattle.shadow_frees.specs.Readers.{unheld}
+use Rattle.shadow_frees.specs.Waits.{Waits}
+use Rattle.fsd_bytes.specs.declared.key.Serial.{Serial}
+use Rattle.fsd_bytes.specs.declared.refusal.Refusal.{Refusal}
+use Rattle.sector_disk.specs.Damage.{IsDevice as IsDiskFault}
+use Rattle.sector_disk.specs.Image.{Windows}
+use Rattle.sector_disk.specs.Machine.{Moment}
+use Rattle.fsd_table.specs.Table.{Visit, visits}
+use Rattle.fsd_files.specs.Answers.{Met, Outcome, force_outcome}
+use Rattle.fsd_files.specs.Replies.{Reply, Forced as IsForced}
+use Rattle.fsd_files.specs.Volume.{Volume, forced, is_free}
+use Rattle.fsd_files.specs.Waiting.{IsSpaced}
+use Rattle.fsd_files.proofs.WaitLaws.{forced_is_spaced}
+use Rattle.fsd_sound.specs.Mounted.{IsMounted, IsSameEpoch, StandsOver, forces_by_itself, image_at, with_forced}
+use Rattle.fsd_sound.specs.Shown.{records_by}
+use Rattle.fsd_sound.specs.Sound.{EndIn}
+use Rattle.fsd_sound.proofs.MountedLaws.{force_mounted}
+use Rattle.log_thirds.specs.Append.{IsIndexed, stamp_now}
+use Rattle.log_thirds.specs.LogValue.{FitsLayout, LogValue}
+use Rattle.page_cache.specs.Cache.{CacheValue, Held, IsCache, bytes_of, cleaned, held, is_one_of}
+use Rattle.group_commit.specs.Cached.{ascending_of, held_stamped, stamped_for}
+use Rattle.group_commit.specs.Force.{Committed, KeepsData, as_load, log_forced}
+use Rattle.group_commit.specs.Newest.{KnowsImages}
+use Rattle.group_commit.specs.declared.force.ForceFault.{ForceFault}
+use Rattle.group_commit.specs.declared.force.ForceFault.TheVariants as fault
+use Rattle.group_commit.proofs.CachedLaws.{idle_cache, idle_done}
+use Rattle.group_commit.proofs.CleanLaws.{agrees_then}
+use Rattle.group_commit.proofs.FrameLaws.{held_then}
+use Rattle.volume_contract.specs.Ends.{Answered, Answers, EndsForce}
+use Rattle.volume_contract.specs.State.{Fits, Known, Stands, forced_of, volume_of}
+use Rattle.volume_state.specs.Forcing.{force_refusal, place_of}
+use Rattle.volume_state.specs.State.{Holds, freed_sectors, held_runs, spare_pages, state}
+use Rattle.volume_state.specs.Taken.{down_fault}
+use Rattle.volume_state.specs.Volume.{IsWhole, VolumeValue}
+use Rattle.volume_state.proofs.ForceMomentLaws.{agrees, knows, now, over_waiting, same_data, told_now, visits_now, waiting}
+use Rattle.volume_state.proofs.KeptLaws.{free_same}
+use Rattle.volume_state.proofs.SpaceLaws.{freed_is, same_free, same_freed, same_held, same_waiting, same_waits}
+use Rattle.volume_state.proofs.ListLaws.{lists_of}
+
+-- ---- the volume behind a force
+
+-- Its dirty pages are stamped and clean, its log has their record, what waited for a force is free, and all else is as it was.
+pub record IsForcedTo (v w : VolumeValue) : Type 0 where
+  pub layout : w.layout ≡ v.layout
+  pub free_pages : w.free_pages ≡ v.free_pages
+  pub serial : w.serial ≡ v.serial
+  pub versions : w.versions ≡ v.versions
+  pub down : w.down ≡ v.down
+  pub map : w.map.sectors ≡ freed_sectors v
+  pub removed : w.shadow.removed.sectors ≡ []
+  pub log : w.log ≡ log_forced v.log (ascending_of v.cache.dirty)
+  pub cache : w.cache ≡ cleaned (stamped_for v.log v.cache)
+
+-- where no page waits it is the volume itself
+pub itself_forced : (v : VolumeValue) → IsWhole v → IsCache v.cache → v.cache.dirty ≡ [] → IsForcedTo v v
+itself_forced v whole valid none = record {
+  layout = refl;
+  free_pages = refl;
+  serial = refl;
+  versions = refl;
+  down = refl;
+  map = free_same v whole (whole.still none);
+  removed = whole.still none;
+  log = ap (λ (dirty : List ℕ). log_forced v.log (ascending_of dirty)) (sym none);
+  cache = idle_cache v.cache valid [] (sym (ap ascending_of none)) refl v.log;
+}
+
+pub forced_to : (v : VolumeValue) (map : Area) (w : Waits) (log : LogValue) (cache : CacheValue)
+    → map ≡ area v.map.from v.map.to (λ s. contains v.map.sectors s || contains (unheld v.shadow.held v.shadow.removed).sectors s)
+    → w.removed ≡ record { from = v.map.from; to = v.map.to; sectors = [] } → log ≡ log_forced v.log (ascending_of v.cache.dirty) → cache ≡ cleaned (stamped_for v.log v.cache)
+    → IsForcedTo v (record v { map = map; shadow = w; log = log; cache = cache })
+forced_to v map w log cache map_is removed log_is cache_is = record {
+  layout = refl;
+  free_pages = refl;
+  serial = refl;
+  versions = refl;
+  down = refl;
+  map = ap (λ (a : Area). a.sectors) map_is;
+  removed = ap (λ (a : Area). a.sectors) removed;
+  log = log_is;
+  cache = cache_is;
+}
+
+-- a page that is in memory then was there before
+was_there : (log : LogValue) (c : CacheValue) (page : ℕ) (bytes : List ℕ) → bytes_of (cleaned (stamped_for log c)) page ≡ Some bytes → (old : List ℕ) × (bytes_of c page ≡ Some old)
+was_there log c page bytes has = by (is_one_of c.dirty page) (held c page) refl (ap (option_map (λ (h : Held). h.bytes)) (sym (held_then (stamp_now log) c.dirty c page)) ∙ has)
+  where
+    by : (b : Bool) (o : Option Held) → held c page ≡ o → option_map (λ (h : Held). h.bytes) (option_map (held_stamped (stamp_now log) b) o) ≡ Some bytes → (old : List ℕ) × (bytes_of c page ≡ Some old)
+    by b None is there = absurd (cc there)
+    by b (Some h) is there = (h.bytes, ap (option_map (λ (x : Held). x.bytes)) is)
+
+-- what lies outside of the data area is not free
+not_free : (a b c : Bool) → a ≡ false → (a && b && c) ≡ false
+not_free true b c is = absurd (cc is)
+not_free false b c is = refl
+
+no_data : (a b s : ℕ) → (a ≤ s → s < b → ⊥) → (nat_le a s && nat_lt s b) ≡ false
+no_data a b s out = elim (cases_lt s a) [
+  | inl before ↦ ap (λ (x : Bool). x && nat_lt s b) (lt-leb a s before)
+  | inr from ↦ elim (cases_lt s b) [
+    | inl within ↦ absurd (out from within)
+    | inr past ↦ ap (λ (x : Bool). nat_le a s && x) (le-ltb s b past) ∙ both (nat_le a s)
+  ]
+]
+  where
+    both : (x : Bool) → (x && false) ≡ false
+    both true = refl
+    both false = refl
+
+-- ---- over its disk
+
+module _ (v w : VolumeValue) (k : Known) (old new : Moment) (was : IsWhole v) (whole : IsWhole w) (valid : IsCache v.cache) (stands : Stands state Holds v k old) (to : IsForcedTo v w) (fits : FitsLayout w.log) where
+  abbrev pub after : Known
+  after = record k { mounted = with_forced k.mounted (now v k old was valid stands) w.log.anchor w.log.head }
+
+  abbrev volume : Volume
+  volume = forced k.mounted.volume
+
+  same_layout : volume.layout ≡ w.layout
+  same_layout = stands.fits.layout ∙ sym to.layout
+
+  none_held : k.mounted.volume.held ≡ []
+  none_held = stands.fits.held ∙ ap held_runs was.unread.held
+
+  spaced : IsSpaced volume
+  spaced = forced_is_spaced k.mounted.volume stands.disk.spaced
+
+  -- ---- free sectors
+
+  abbrev free_then : ℕ → Bool
+  free_then t = contains v.map.sectors t || contains (unheld v.shadow.held v.shadow.removed).sectors t
+
+  map : (s : ℕ) → contains w.map.sectors s ≡ is_free volume s
+  map s = ap (λ (xs : List ℕ). contains xs s) to.map ∙ elim (cases_lt s (data_start v.layout)) [
+    | inl before ↦ out (λ from to. omega (arith, before, from))
+    | inr from ↦ elim (cases_lt s v.layout.sectors) [
+      | inl within ↦
+          contains_where free_then v.map.from v.map.to s (omega (arith, from, ap (λ (a : Area). a.from) was.map)) (omega (arith, within, ap (λ (a : Area). a.to) was.map))
+          ∙ sym (freed_is v k.mounted.volume was stands.fits.layout stands.holds.map stands.holds.removed none_held stands.holds.drafts stands.disk.spaced s from within)
+      | inr past ↦ out (λ from to. omega (arith, past, to))
+    ]
+  ]
+    where
+      out : (data_start v.layout ≤ s → s < v.layout.sectors → ⊥) → contains (freed_sectors v) s ≡ is_free volume s
+      out apart =
+          contains_where_outside free_then v.map.from v.map.to s
+          (λ from to. apart (omega (arith, from, ap (λ (a : Area). a.from) was.map)) (omega (arith, to, ap (λ (a : Area). a.to) was.map)))
+          ∙ sym (not_free _ _ _ (ap (λ (l : Layout). nat_le (data_start l) s && nat_lt s l.sectors) stands.fits.layout ∙ no_data (data_start v.layout) v.layout.sectors s apart))
+
+  removed : (s : ℕ) → contains w.shadow.removed.sectors s ≡ contains volume.removed s
+  removed s = ap (λ (xs : List ℕ). contains xs s) to.removed
+
+  -- ---- what it tells
+
+  pages_free : volume.layout.pages - volume.reached ≡ length (spare_pages w)
+  pages_free = stands.fits.pages_free ∙ ap (λ (flags : List Bool). length (where_free (λ page. slice_index_or flags page false) 0 (length flags))) (sym to.free_pages)
+
+  fits_then : Fits (state w) after.mounted
+  fits_then = record {
+    layout = same_layout;
+    serial = stands.fits.serial ∙ sym to.serial;
+    anchor = refl;
+    head = refl;
+    dirty = sym (ap (λ (c : CacheValue). c.dirty) to.cache);
+    free = same_free w volume whole same_layout map removed none_held stands.holds.drafts spaced;
+    freed = same_freed w volume whole same_layout map removed none_held stands.holds.drafts spaced;
+    waiting = same_waiting w volume whole same_layout map removed none_held stands.holds.drafts spaced;
+    waits = same_waits w volume whole same_layout map removed none_held stands.holds.drafts spaced;
+    held = same_held w volume whole same_layout map removed none_held stands.holds.drafts spaced;
+    pages_free = pages_free;
+    versions = stands.fits.versions ∙ sym to.versions;
+    up = to.down ∙ stands.fits.up;
+  }
+
+  -- ---- what it has in memory
+
+  frames : (page : ℕ) (bytes : List ℕ) → bytes_of w.cache page ≡ Some bytes → image_at (now v k old was valid stands) page ≡ bytes
+  frames page bytes has =
+      (agrees_then v.log v.cache k.mounted.pages (agrees v k old was valid stands) valid (waiting v k old was valid stands)).frames page bytes
+      (subst (λ (c : CacheValue). bytes_of c page ≡ Some bytes) to.cache has)
+
+  inside : (page : ℕ) (bytes : List ℕ) → bytes_of w.cache page ≡ Some bytes → page < w.layout.pages
+  inside page bytes has =
+      let there = was_there v.log v.cache page bytes (subst (λ (c : CacheValue). bytes_of c page ≡ Some bytes) to.cache has) in
+      let lt = stands.holds.inside page there.0 there.1 in
+      omega (arith, lt, ap (λ (l : Layout). l.pages) to.layout)
+
+  free_pages : (page : ℕ) → page < w.layout.pages → slice_index_or w.free_pages page false ≡ not (list_any (λ (visit : Visit). visit.page == page) (visits (now v k old was valid stands)))
+  free_pages page lt =
+      ap (λ (flags : List Bool). slice_index_or flags page false) to.free_pages
+      ∙ stands.holds.free_pages page (omega (arith, lt, ap (λ (l : Layout). l.pages) to.layout))
+      ∙ ap (λ (all : List Visit). not (list_any (λ (visit : Visit). visit.page == page) all)) (sym (visits_now v k old was valid stands))
+
+  log_layout : w.log.layout ≡ volume.layout
+  log_layout = whole.log ∙ sym same_layout
+
+  holds_then : KnowsImages w.log new.image → Holds w after.mounted (records_by volume.layout new.image w.log.anchor)
+  holds_then known = record {
+    planned = whole.planned;
+    pages = frames;
+    inside = inside;
+    map = map;
+    removed = removed;
+    free_pages = free_pages;
+    log = whole.log;
+    fits = fits;
+    indexed = subst (λ (l : Layout). IsIndexed w.log (records_by l new.image w.log.anchor)) log_layout known;
+    drafts = stands.holds.drafts;
+    slices = stands.holds.slices;
+    bytes = stands.holds.bytes;
+  }
+
+  -- ---- the disk
+
+  same_epoch : IsSameEpoch k.mounted.anchor w.log.anchor
+  same_epoch = record {
+    epoch = sym whole.epoch ∙ ap (λ (s : Serial). s.epoch) (to.serial ∙ sym stands.fits.serial) ∙ stands.disk.epoch;
+    third = fits.third;
+  }
+
+  module _ (keeps : KeepsData v.log.layout old new) (windows : new.windows ≡ old.windows) (done : Committed w.log (record { pages = now v k old was valid stands; dirty = [] }) k.windows new.image) (known : KnowsImages w.log new.image) where
+    over_then : StandsOver volume.layout w.log.anchor w.log.head done.records (now v k old was valid stands) (now v k old was valid stands) [] k.windows new.image
+    over_then = subst (λ (l : Layout). StandsOver l w.log.anchor w.log.head done.records (now v k old was valid stands) (now v k old was valid stands) [] k.windows new.image) log_layout done.stands
+
+    pub stands_forced : Stands state Holds w after new
+    stands_forced = record {
+      fits = fits_then;
+      holds = holds_then known;
+      lists = lists_of w after.mounted (records_by volume.layout new.image w.log.anchor) (holds_then known);
+      ends = subst (λ (x : Windows). EndIn x k.windows) (sym windows) stands.ends;
+      disk = subst (λ (n : ℕ). IsMounted after.mounted k.windows k.changes n new.image) (let all : length k.changes ≡ length k.changes - 0 = omega arith in all)
+          (force_mounted k.mounted k.windows k.changes (forced_of k) old.image new.image (now v k old was valid stands) w.log.anchor w.log.head done.records stands.disk
+          (same_data v k old was valid stands new keeps) (told_now v k old was valid stands) same_epoch over_then);
+    }
+
+    answers : Answers (λ met. force_outcome (volume_of k)) IsForced [] k after
+    answers = record {
+      met = record { forces = forces_by_itself k.mounted; reached = 0; damaged = None };
+      forces = refl;
+      is = refl;
+      windows = refl;
+      changes = sym (append-nil k.changes);
+    }
+
+    pub ends_forced : Answered state Holds (λ met. force_outcome (volume_of k)) IsForced [] k w new
+    ends_forced = (after, answers, stands_forced)
+
+-- where no page waits nothing is written
+pub ends_idle : (v : VolumeValue) (k : Known) (at : Moment) → IsWhole v → IsCache v.cache → v.cache.dirty ≡ [] → Stands state Holds v k at
+    → Answered state Holds (λ met. force_outcome (volume_of k)) IsForced [] k v at
+ends_idle v k at whole valid none stands =
+    let no : length (ascending_of v.cache.dirty) ≡ 0 = ap (λ (dirty : List ℕ). length (ascending_of dirty)) none in
+    ends_forced v v k at at whole whole valid stands (itself_forced v whole valid none) stands.holds.fits (λ t from. inl refl) refl
+    (idle_done v.cache valid (ascending_of v.cache.dirty) refl no v.log k.mounted.pages k.windows stands.disk.records stands.disk.disk at.image (over_waiting v k at whole valid stands))
+    (knows v k at whole valid stands)
+
+-- ---- where it fails
+
+-- a volume that is down stands over no disk
+pub not_down : (v : VolumeValue) (k : Known) (at : Moment) (why : Refusal) → down_fault v.down ≡ Err why → Stands state Holds v k at → ⊥
+not_down v k at why down stands = absurd (let up : down_fault v.down ≡ Ok tt = ap down_fault stands.fits.up in cc (up, down))
+
+pub ends_failed : (T : Type 0) (outcome : Met → Outcome) (reply : Reply) (k : Known) (w : VolumeValue) (at : Moment) (f : ForceFault) (place : ℕ) (why : Refusal) → place ≡ place_of f → why ≡ force_refusal f → w.down ≡ Some place → IsDiskFault (as_load f)
+    → EndsForce state Holds {T = T} outcome reply k w at (Err why)
+ends_failed T outcome reply k w at (fault.Lost a b) place why here told down device = absurd device
+ends_failed T outcome reply k w at (fault.Device s) place why here told down device =
+    subst (λ (r : Refusal). EndsForce state Holds {T = T} outcome reply k w at (Err r)) (sym told) (down ∙ ap (λ (n : ℕ). Some n) here)

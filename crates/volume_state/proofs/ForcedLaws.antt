@@ -1,0 +1,127 @@
+-- A volume is whole behind a force.
+use Rattle.std.proofs.Common.{◌≡◌, ◌⊎◌, inl, inr, ℕ, Bool, true, false, cond, ◌||◌, List, [], ◌∷◌, length, option_map, Option, Some, None, replicate, refl, sym, ap, subst, ◌∙◌}
+use Rattle.std.specs.Option.{option_map_or}
+use Rattle.volume_layout.specs.Layout.{data_start}
+use Rattle.run_table.specs.Space.{contains, where_free}
+use Rattle.sector_set.specs.Area.{Area, area}
+use Rattle.sector_set.proofs.FreeLaws.{contains_where, where_same}
+use Rattle.shadow_frees.specs.Readers.{unheld}
+use Rattle.shadow_frees.specs.Waits.{Waits, waits}
+use Rattle.log_thirds.specs.LogValue.{LogValue}
+use Rattle.log_thirds.specs.Append.{stamp_now}
+use Rattle.log_thirds.specs.Moving.{moved}
+use Rattle.page_cache.specs.Cache.{CacheValue, Held, cleaned, held, is_one_of, pins_of}
+use Rattle.group_commit.specs.Cached.{ascending_of, held_stamped, stamped_for}
+use Rattle.group_commit.specs.Force.{log_forced}
+use Rattle.group_commit.specs.Room.{goes_before, log_before}
+use Rattle.group_commit.proofs.FrameLaws.{held_then}
+use Rattle.volume_state.specs.Volume.{IsWhole, VolumeValue}
+use Rattle.cached_table.specs.Surveying.{IsOfData}
+use Rattle.volume_state.proofs.FreeLaws.{nothing}
+
+-- ---- the log
+
+before_layout : (log : LogValue) (b : Bool) → (cond b log (moved log)).layout ≡ log.layout
+before_layout log true = refl
+before_layout log false = refl
+
+before_epoch : (log : LogValue) (b : Bool) → (cond b log (moved log)).anchor.epoch ≡ log.anchor.epoch
+before_epoch log true = refl
+before_epoch log false = refl
+
+forced_layout : (log : LogValue) (xs : List ℕ) → (log_forced log xs).layout ≡ log.layout
+forced_layout log [] = refl
+forced_layout log (x ∷ xs) = before_layout log (goes_before log (length (x ∷ xs)))
+
+forced_epoch : (log : LogValue) (xs : List ℕ) → (log_forced log xs).anchor.epoch ≡ log.anchor.epoch
+forced_epoch log [] = refl
+forced_epoch log (x ∷ xs) = before_epoch log (goes_before log (length (x ∷ xs)))
+
+pub entered_layout : (log : LogValue) (n : ℕ) → (log_before log n).layout ≡ log.layout
+entered_layout log n = before_layout log (goes_before log n)
+
+pub entered_epoch : (log : LogValue) (n : ℕ) → (log_before log n).anchor.epoch ≡ log.anchor.epoch
+entered_epoch log n = before_epoch log (goes_before log n)
+
+-- ---- the cache
+
+pub stamped_pins : (log : LogValue) (c : CacheValue) (page : ℕ) → pins_of (stamped_for log c) page ≡ pins_of c page
+stamped_pins log c page = ap (λ (o : Option Held). option_map_or (λ h. h.pins) o 0) (held_then (stamp_now log) c.dirty c page) ∙ by (is_one_of c.dirty page) (held c page)
+  where
+    by : (b : Bool) (o : Option Held) → option_map_or (λ h. h.pins) (option_map (held_stamped (stamp_now log) b) o) 0 ≡ option_map_or (λ h. h.pins) o 0
+    by b None = refl
+    by true (Some h) = refl
+    by false (Some h) = refl
+
+-- ---- areas
+
+pub own_of : (f : ℕ → Bool) (from to : ℕ) → area from to f ≡ area from to (contains (where_free f from to))
+own_of f from to = λ i. record { from = from; to = to; sectors = where_same f (contains (where_free f from to)) from to (λ s low high. sym (contains_where f from to s low high)) i }
+
+module _ (v : VolumeValue) (whole : IsWhole v) where
+  pub from_is : v.map.from ≡ data_start v.layout
+  from_is = ap (λ (a : Area). a.from) whole.map
+
+  pub to_is : v.map.to ≡ v.layout.sectors
+  to_is = ap (λ (a : Area). a.to) whole.map
+
+  module _ (map : Area) (w : Waits) (log : LogValue) (cache : CacheValue)
+      (map_is : map ≡ area v.map.from v.map.to (λ s. contains v.map.sectors s || contains (unheld v.shadow.held v.shadow.removed).sectors s))
+      (removed : w.removed ≡ record { from = v.map.from; to = v.map.to; sectors = [] })
+      (kept : v.shadow.held ≡ replicate 8 None → v.shadow.kept.sectors ≡ [] → w.kept ≡ v.shadow.kept) (unfinished : w.unfinished ≡ v.shadow.unfinished) (held : w.held ≡ v.shadow.held)
+      (log_is : log ≡ log_forced v.log (ascending_of v.cache.dirty)) (cache_is : cache ≡ cleaned (stamped_for v.log v.cache)) where
+    kept_is : w.kept ≡ v.shadow.kept
+    kept_is = kept whole.unread.held whole.unread.kept
+
+    none_waits : (s : ℕ) → waits w s ≡ false
+    none_waits s = λ i. contains (removed i).sectors s || (contains ((ap (λ (a : Area). a.sectors) kept_is ∙ whole.unread.kept) i) s || contains ((ap (λ (a : Area). a.sectors) unfinished ∙ whole.unread.unfinished) i) s)
+
+    pub whole_forced : IsWhole (record v { map = map; shadow = w; log = log; cache = cache })
+    whole_forced = record {
+      planned = whole.planned;
+      map = subst (IsOfData v.layout) (sym map_is)
+          (own_of (λ s. contains v.map.sectors s || contains (unheld v.shadow.held v.shadow.removed).sectors s) v.map.from v.map.to
+          ∙ (λ i. area (from_is i) (to_is i) (contains (where_free (λ s. contains v.map.sectors s || contains (unheld v.shadow.held v.shadow.removed).sectors s) v.map.from v.map.to))));
+      removed = subst (IsOfData v.layout) (sym removed) (λ i. record { from = from_is i; to = to_is i; sectors = sym (nothing (data_start v.layout) v.layout.sectors) i });
+      kept = subst (IsOfData v.layout) (sym kept_is) whole.kept;
+      unfinished = subst (IsOfData v.layout) (sym unfinished) whole.unfinished;
+      apart = λ s is. none_waits s;
+      unread = record { kept = ap (λ (a : Area). a.sectors) kept_is ∙ whole.unread.kept; unfinished = ap (λ (a : Area). a.sectors) unfinished ∙ whole.unread.unfinished; held = held ∙ whole.unread.held };
+      log = ap (λ (x : LogValue). x.layout) log_is ∙ forced_layout v.log (ascending_of v.cache.dirty) ∙ whole.log;
+      epoch = whole.epoch ∙ sym (ap (λ (x : LogValue). x.anchor.epoch) log_is ∙ forced_epoch v.log (ascending_of v.cache.dirty));
+      pages = whole.pages;
+      room = ap (λ (c : CacheValue). c.frames) cache_is ∙ whole.room;
+      unpinned = λ page. ap (λ (c : CacheValue). pins_of c page) cache_is ∙ stamped_pins v.log v.cache page ∙ whole.unpinned page;
+      waiting = λ up page is. absurd (let e : is_one_of cache.dirty page ≡ false = ap (λ (c : CacheValue). is_one_of c.dirty page) cache_is in cc (is, e));
+      numbered = λ up. inl (ap (λ (c : CacheValue). c.dirty) cache_is);
+      still = λ e. ap (λ (a : Area). a.sectors) removed;
+    }
+
+  -- and where one has failed
+  module _ (log : LogValue) (cache : CacheValue) (place n : ℕ) (Q : Type 0) (log_is : (log ≡ v.log) ⊎ ((log ≡ log_before v.log n) × Q)) (cache_is : cache ≡ stamped_for v.log v.cache) where
+    layout_then : (log ≡ v.log) ⊎ ((log ≡ log_before v.log n) × Q) → log.layout ≡ v.log.layout
+    layout_then (inl same) = ap (λ (x : LogValue). x.layout) same
+    layout_then (inr entered) = ap (λ (x : LogValue). x.layout) entered.0 ∙ entered_layout v.log n
+
+    epoch_then : (log ≡ v.log) ⊎ ((log ≡ log_before v.log n) × Q) → log.anchor.epoch ≡ v.log.anchor.epoch
+    epoch_then (inl same) = ap (λ (x : LogValue). x.anchor.epoch) same
+    epoch_then (inr entered) = ap (λ (x : LogValue). x.anchor.epoch) entered.0 ∙ entered_epoch v.log n
+
+    pub whole_down : IsWhole (record v { log = log; cache = cache; down = Some place })
+    whole_down = record {
+      planned = whole.planned;
+      map = whole.map;
+      removed = whole.removed;
+      kept = whole.kept;
+      unfinished = whole.unfinished;
+      apart = whole.apart;
+      unread = whole.unread;
+      log = layout_then log_is ∙ whole.log;
+      epoch = whole.epoch ∙ sym (epoch_then log_is);
+      pages = whole.pages;
+      room = ap (λ (c : CacheValue). c.frames) cache_is ∙ whole.room;
+      unpinned = λ page. ap (λ (c : CacheValue). pins_of c page) cache_is ∙ stamped_pins v.log v.cache page ∙ whole.unpinned page;
+      waiting = λ up. absurd (cc up);
+      numbered = λ up. absurd (cc up);
+      still = λ e. whole.still (sym (ap (λ (c : CacheValue). c.dirty) cache_is) ∙ e);
+    }

@@ -1,0 +1,138 @@
+-- What a force makes of what a volume tells.
+use Rattle.std.proofs.Common.{◌≡◌, inl, inr, ℕ, suc, ◌≤◌, Bool, true, false, cond, not, ◌&&◌, ◌||◌, ◌==◌, List, [], ◌∷◌, length, option_map, Option, Some, None, Err, replicate, nat_lt, refl, sym, ap, subst, ◌∙◌, arith, if◌then◌else◌}
+use Rattle.std.proofs.lemmas.Bool.{eqb-true, lt-ltb}
+use Rattle.fsd_bytes.specs.declared.refusal.Refusal.{Refusal}
+use Rattle.fsd_bytes.specs.declared.refusal.Refusal.TheVariants as Why
+use Rattle.run_table.specs.Space.{contains, runs_of, where_free}
+use Rattle.sector_set.specs.Area.{Area, area}
+use Rattle.sector_set.proofs.FreeLaws.{where_same}
+use Rattle.shadow_frees.specs.Readers.{is_held, unheld}
+use Rattle.shadow_frees.specs.Waits.{Waits}
+use Rattle.log_thirds.specs.LogValue.{LogValue}
+use Rattle.log_thirds.specs.Moving.{moved}
+use Rattle.page_cache.specs.Cache.{CacheValue, IsCache, cleaned}
+use Rattle.group_commit.specs.Cached.{ascending_of, stamped_for}
+use Rattle.group_commit.specs.Force.{log_forced}
+use Rattle.group_commit.specs.Room.{goes_before}
+use Rattle.group_commit.specs.declared.force.ForceFault.{ForceFault}
+use Rattle.group_commit.specs.declared.force.ForceFault.TheVariants as fault
+use Rattle.group_commit.proofs.CachedLaws.{forced_some}
+use Rattle.group_commit.proofs.OrderLaws.{length_ascending}
+use Rattle.volume_contract.specs.State.{State, IsDownAt, IsForced}
+use Rattle.volume_contract.specs.Order.{Force, IsDownBy, Keeps, force_steps}
+use Rattle.volume_state.specs.Forcing.{force_refusal, place_of}
+use Rattle.volume_state.specs.State.{freed_sectors, held_runs, state}
+use Rattle.volume_state.specs.Taken.{down_fault}
+use Rattle.volume_state.specs.Volume.{IsWhole, VolumeValue}
+use Rattle.volume_state.proofs.ForcedLaws.{from_is, to_is, whole_forced}
+use Rattle.volume_state.proofs.FreeLaws.{nothing}
+
+-- ---- refusals
+
+pub keeps_up : (s : State) (r : Refusal) → down_fault s.down ≡ Err r → Keeps (force_steps s) r s s
+keeps_up s r is = inl (by s.down is, refl)
+  where
+    by : (d : Option ℕ) → down_fault d ≡ Err r → option_map Why.Down d ≡ Some r
+    by None e = absurd (cc e)
+    by (Some place) e = cc e
+
+down_by : (old new : State) (f : ForceFault) → IsDownAt (place_of f) old new → IsDownBy (force_refusal f) old new
+down_by old new (fault.Device place) down = down
+down_by old new (fault.Lost a b) down = down
+
+some_wait : (n : ℕ) → 1 ≤ n → nat_lt 0 n ≡ true
+some_wait n some = lt-ltb 0 n (omega (arith, some))
+
+pub keeps_down : (old new : State) (f : ForceFault) → old.down ≡ None → 1 ≤ length old.dirty → IsDownAt (place_of f) old new → Keeps (force_steps old) (force_refusal f) old new
+keeps_down old new f up some down =
+    inr (ap (option_map Why.Down) up, subst (λ (b : Bool). Keeps (Force b ∷ []) (force_refusal f) old new) (sym (some_wait (length old.dirty) some)) (inl (down_by old new f down)))
+
+-- ---- the log's next number
+
+before_number : (log : LogValue) (b : Bool) → (cond b log (moved log)).head.number ≡ log.head.number
+before_number log true = refl
+before_number log false = refl
+
+pub forced_number : (log : LogValue) (xs : List ℕ) → 1 ≤ length xs → (log_forced log xs).head.number ≡ suc log.head.number
+forced_number log xs some =
+    let before = before_number log (goes_before log (length xs)) in
+    ap (λ (x : LogValue). x.head.number) (forced_some log xs some) ∙ omega (arith, before)
+
+number_some : (n number : ℕ) → 1 ≤ n → suc number ≡ (if n == 0 then number else suc number)
+number_some n number some = by (n == 0) refl
+  where
+    by : (b : Bool) → (n == 0) ≡ b → suc number ≡ (if b then number else suc number)
+    by true e = absurd (let none = eqb-true n 0 e in omega (arith, some, none))
+    by false e = refl
+
+-- ---- free sectors
+
+none_unheld : (w : Waits) → w.removed.sectors ≡ [] → (unheld w.held w.removed).sectors ≡ []
+none_unheld w none = ap (λ (xs : List ℕ). where_free (λ s. contains xs s && not (is_held w.held s)) w.removed.from w.removed.to) none ∙ nothing w.removed.from w.removed.to
+
+or_false : (a : Bool) → (a || false) ≡ a
+or_false true = refl
+or_false false = refl
+
+-- where nothing waits for a force, one frees no more
+pub free_same : (v : VolumeValue) → IsWhole v → v.shadow.removed.sectors ≡ [] → v.map.sectors ≡ freed_sectors v
+free_same v whole none =
+    ap (λ (a : Area). a.sectors) whole.map
+    ∙ (λ i. where_free (contains v.map.sectors) (sym (from_is v whole) i) (sym (to_is v whole) i))
+    ∙ where_same (contains v.map.sectors) (λ s. contains v.map.sectors s || contains (unheld v.shadow.held v.shadow.removed).sectors s) v.map.from v.map.to
+    (λ s low high. sym (or_false (contains v.map.sectors s)) ∙ ap (λ (xs : List ℕ). contains v.map.sectors s || contains xs s) (sym (none_unheld v.shadow none)))
+
+-- ---- the state then
+
+module _ (v : VolumeValue) (whole : IsWhole v) where
+  pub idle_forced : v.cache.dirty ≡ [] → IsForced (state v) (state v)
+  idle_forced none =
+      let still = whole.still none in
+      record {
+        is = λ i. record (state v) { dirty = none i; free = runs_of (free_same v whole still i); waits = not (length (still i) == 0) };
+        number = ap (λ (xs : List ℕ). if length xs == 0 then v.log.head.number else suc v.log.head.number) (sym none);
+        idle = λ e. refl;
+      }
+
+  module _ (map : Area) (w : Waits) (log : LogValue) (cache : CacheValue)
+      (map_is : map ≡ area v.map.from v.map.to (λ s. contains v.map.sectors s || contains (unheld v.shadow.held v.shadow.removed).sectors s))
+      (removed : w.removed ≡ record { from = v.map.from; to = v.map.to; sectors = [] })
+      (kept : v.shadow.held ≡ replicate 8 None → v.shadow.kept.sectors ≡ [] → w.kept ≡ v.shadow.kept) (unfinished : w.unfinished ≡ v.shadow.unfinished) (held : w.held ≡ v.shadow.held)
+      (log_is : log ≡ log_forced v.log (ascending_of v.cache.dirty)) (cache_is : cache ≡ cleaned (stamped_for v.log v.cache)) where
+    abbrev pub value_then : VolumeValue
+    value_then = record v { map = map; shadow = w; log = log; cache = cache }
+
+    none : w.removed.sectors ≡ []
+    none = ap (λ (a : Area). a.sectors) removed
+
+    free_is : map.sectors ≡ freed_sectors v
+    free_is = ap (λ (a : Area). a.sectors) map_is
+
+    freed_is : freed_sectors value_then ≡ freed_sectors v
+    freed_is = sym (free_same value_then (whole_forced v whole map w log cache map_is removed kept unfinished held log_is cache_is) none) ∙ free_is
+
+    pub is_forced : IsCache v.cache → 1 ≤ length v.cache.dirty → IsForced (state v) (state value_then)
+    is_forced valid some = record {
+      is = λ i. record (state value_then) {
+        dirty = ap (λ (c : CacheValue). c.dirty) cache_is i;
+        free = runs_of (free_is i);
+        freed = runs_of (freed_is i);
+        waits = not (length (none i) == 0);
+        held = held_runs (held i);
+      };
+      number = ap (λ (x : LogValue). x.head.number) log_is
+          ∙ forced_number v.log (ascending_of v.cache.dirty) (omega (arith, some, length_ascending v.cache.dirty valid.once))
+          ∙ number_some (length v.cache.dirty) v.log.head.number some;
+      idle = λ e. absurd (omega (arith, some, ap length e));
+    }
+
+  pub is_down : (log : LogValue) (cache : CacheValue) (place : ℕ) → cache ≡ stamped_for v.log v.cache → IsDownAt place (state v) (state (record v { log = log; cache = cache; down = Some place }))
+  is_down log cache place cache_is = record { is = λ i. record (state v) { anchor = log.anchor; head = log.head; slots = log.slots; dirty = ap (λ (c : CacheValue). c.dirty) cache_is i; down = Some place } }
+
+-- the same of the volume as its caller had it
+pub kept_down : (v : VolumeValue) (whole : IsWhole v) (log : LogValue) (cache : CacheValue) (place : ℕ) (refusal : Refusal) (f : ForceFault) → place ≡ place_of f → refusal ≡ force_refusal f → cache ≡ stamped_for v.log v.cache
+    → v.down ≡ None → 1 ≤ length v.cache.dirty → Keeps (force_steps (state v)) refusal (state v) (state (record v { log = log; cache = cache; down = Some place }))
+kept_down v whole log cache place refusal f at why cache_is up some =
+    let left : ℕ → State = λ p. state (record v { log = log; cache = cache; down = Some p }) in
+    subst (λ (r : Refusal). Keeps (force_steps (state v)) r (state v) (left place)) (sym why)
+    (keeps_down (state v) (left place) f up some (subst (λ (p : ℕ). IsDownAt p (state v) (left place)) at (is_down v whole log cache place cache_is)))

@@ -1,0 +1,104 @@
+-- Behind a force of a volume what is in memory was so before or stands in the log, and what is told as free was free or waited.
+use Rattle.std.proofs.Common.{◌≡◌, ◌⊎◌, inl, inr, ℕ, Bool, true, false, not, ◌&&◌, ◌||◌, List, [], ◌∷◌, length, option_map, Option, Some, None, refl, sym, ap, ◌∙◌, arith}
+use Rattle.std.specs.Prelude.{IsTrue, slice_index_or}
+use Rattle.std.specs.List.{flat_map, list_any}
+use Rattle.std.proofs.lemmas.Bool.{and_parts, both_ways, or_cases, or_left, or_right}
+use Rattle.run_table.specs.declared.run.Run.{Run}
+use Rattle.run_table.specs.RunTable.{sectors_of}
+use Rattle.run_table.specs.Space.{contains, runs_of, where_free}
+use Rattle.sector_set.proofs.AreaLaws.{free_passes, free_within}
+use Rattle.shadow_frees.specs.Readers.{is_held, unheld}
+use Rattle.shadow_frees.specs.Waits.{waiting_sectors, waits}
+use Rattle.sector_disk.specs.Machine.{Moment}
+use Rattle.fsd_formats.specs.declared.entry.Entry.{Entry}
+use Rattle.fsd_files.specs.Volume.{is_in}
+use Rattle.fsd_files.proofs.CountLaws.{contains_occurs, occurs_contains, runs_same, used, used-cons}
+use Rattle.log_thirds.specs.LogValue.{LogValue}
+use Rattle.log_thirds.specs.Append.{stamp_now}
+use Rattle.page_cache.specs.Cache.{CacheValue, Held, bytes_of, cleaned, held, is_one_of}
+use Rattle.group_commit.specs.Cached.{held_stamped, stamped_for}
+use Rattle.group_commit.specs.Logged.{StandsLogged}
+use Rattle.group_commit.proofs.FrameLaws.{held_then}
+use Rattle.volume_contract.specs.Causes.{HasUntaken, meets_held}
+use Rattle.volume_state.specs.Behind.{IsBehind, StandsInLog}
+use Rattle.volume_state.specs.State.{freed_sectors, held_runs, resident, state}
+use Rattle.volume_state.specs.Volume.{IsWhole, VolumeValue}
+use Rattle.volume_state.proofs.ForceEndLaws.{IsForcedTo}
+use Rattle.volume_state.proofs.ForcedLaws.{from_is, to_is}
+use Rattle.volume_state.proofs.TakenLaws.{free_or_waits}
+
+-- what stands in the runs of a list stands in it
+in_runs : (xs : List ℕ) (t : ℕ) → is_in (runs_of xs ∷ []) t ≡ true → contains xs t ≡ true
+in_runs xs t there =
+    let none : used t [] ≡ 0 = refl in
+    occurs_contains t xs (omega (arith, none, used-cons t (runs_of xs) [], runs_same t xs, contains_occurs t (flat_map sectors_of (runs_of xs ∷ [])) there))
+
+any_weaker : (f g : ℕ → Bool) → ((t : ℕ) → f t ≡ true → g t ≡ true) → (xs : List ℕ) → list_any f xs ≡ true → list_any g xs ≡ true
+any_weaker f g on [] some = some
+any_weaker f g on (x ∷ xs) some = elim (or_cases (f x) (list_any f xs) some) [
+  | inl here ↦ or_left (g x) (list_any g xs) (on x here)
+  | inr later ↦ or_right (g x) (list_any g xs) (any_weaker f g on xs later)
+]
+
+-- a frame of a page that didn't wait has the bytes that it had
+clean_bytes : (log : LogValue) (c : CacheValue) (page : ℕ) → is_one_of c.dirty page ≡ false → bytes_of (cleaned (stamped_for log c)) page ≡ bytes_of c page
+clean_bytes log c page clean =
+    ap (option_map (λ (h : Held). h.bytes)) (held_then (stamp_now log) c.dirty c page ∙ ap (λ (b : Bool). option_map (held_stamped (stamp_now log) b) (held c page)) clean) ∙ by (held c page)
+  where
+    by : (o : Option Held) → option_map (λ (h : Held). h.bytes) (option_map (held_stamped (stamp_now log) false) o) ≡ option_map (λ (h : Held). h.bytes) o
+    by None = refl
+    by (Some h) = refl
+
+module _ (v w : VolumeValue) (was : IsWhole v) (whole : IsWhole w) (to : IsForcedTo v w) where
+  -- ---- sectors
+
+  none_waits : (t : ℕ) → waits w.shadow t ≡ false
+  none_waits t = λ i. contains (to.removed i) t || (contains (whole.unread.kept i) t || contains (whole.unread.unfinished i) t)
+
+  waited : (t : ℕ) → contains (unheld v.shadow.held v.shadow.removed).sectors t ≡ true → waits v.shadow t ≡ true
+  waited t there =
+      let passes = free_passes v.shadow.removed.from v.shadow.removed.to (λ s. contains v.shadow.removed.sectors s && not (is_held v.shadow.held s)) t there in
+      or_left (contains v.shadow.removed.sectors t) (contains v.shadow.kept.sectors t || contains v.shadow.unfinished.sectors t) (and_parts (contains v.shadow.removed.sectors t) (not (is_held v.shadow.held t)) passes).0
+
+  -- what is free now was free or waited
+  freed_before : (t : ℕ) → contains w.map.sectors t ≡ true → (is_in (runs_of v.map.sectors ∷ []) t || contains (waiting_sectors v.shadow) t) ≡ true
+  freed_before t free =
+      let test : ℕ → Bool = λ s. contains v.map.sectors s || contains (unheld v.shadow.held v.shadow.removed).sectors s in
+      let there : contains (freed_sectors v) t ≡ true = ap (λ (xs : List ℕ). contains xs t) (sym to.map) ∙ free in
+      let bounds = free_within v.map.from v.map.to test t there in
+      free_or_waits v was t (omega (arith, from_is v was, bounds.0)) (omega (arith, to_is v was, bounds.1)) (elim (or_cases (contains v.map.sectors t) (contains (unheld v.shadow.held v.shadow.removed).sectors t) (free_passes v.map.from v.map.to test t there)) [
+        | inl so ↦ or_left (contains v.map.sectors t) (waits v.shadow t) so
+        | inr waiting ↦ or_right (contains v.map.sectors t) (waits v.shadow t) (waited t waiting)
+      ])
+
+  told_before : (t : ℕ) → (is_in (runs_of w.map.sectors ∷ []) t || contains (waiting_sectors w.shadow) t) ≡ true → (is_in (runs_of v.map.sectors ∷ []) t || contains (waiting_sectors v.shadow) t) ≡ true
+  told_before t told = elim (or_cases (is_in (runs_of w.map.sectors ∷ []) t) (contains (waiting_sectors w.shadow) t) told) [
+    | inl free ↦ freed_before t (in_runs w.map.sectors t free)
+    | inr waiting ↦ absurd (both_ways (waits w.shadow t) (none_waits t) (free_passes w.shadow.removed.from w.shadow.removed.to (waits w.shadow) t waiting))
+  ]
+
+  same_held : held_runs v.shadow.held ≡ held_runs w.shadow.held
+  same_held = ap held_runs (was.unread.held ∙ sym whole.unread.held)
+
+  untaken_before : (e : Entry) → HasUntaken (state w) e → HasUntaken (state v) e
+  untaken_before e untaken =
+      let then : ℕ → Bool = λ t. is_in ((state v).free ∷ []) t || contains (state v).waiting t in
+      let now : ℕ → Bool = λ t. is_in ((state w).free ∷ []) t || contains (state w).waiting t in
+      elim (or_cases (list_any now (sectors_of e.runs)) (meets_held (state w).held e.runs) untaken) [
+        | inl some ↦ or_left (list_any then (sectors_of e.runs)) (meets_held (state v).held e.runs) (any_weaker now then told_before (sectors_of e.runs) some)
+        | inr meets ↦ or_right (list_any then (sectors_of e.runs)) (meets_held (state v).held e.runs) (ap (λ (held : List (List Run)). meets_held held e.runs) same_held ∙ meets)
+      ]
+
+  -- ---- pages
+
+  pub forced_behind : (now : Moment) → ((page : ℕ) (bytes : List ℕ) → IsTrue (contains v.cache.dirty page) → bytes_of w.cache page ≡ Some bytes → StandsLogged w.log now page bytes) → IsBehind (state v) (state w) (resident v) (resident w) now
+  forced_behind now logged = record {
+    layout = to.layout;
+    free_pages = ap (λ (flags : List Bool). where_free (λ page. slice_index_or flags page false) 0 (length flags)) to.free_pages;
+    pages = λ page bytes there. by page bytes there (is_one_of v.cache.dirty page) refl;
+    untaken = untaken_before;
+  }
+    where
+      by : (page : ℕ) (bytes : List ℕ) → bytes_of w.cache page ≡ Some bytes → (b : Bool) → is_one_of v.cache.dirty page ≡ b → (bytes_of v.cache page ≡ Some bytes) ⊎ StandsInLog (state w) now page bytes
+      by page bytes there true waiting = inr (record { log = w.log; layout = whole.log; slots = refl; stands = logged page bytes waiting there })
+      by page bytes there false clean = inl (sym (ap (λ (c : CacheValue). bytes_of c page) to.cache ∙ clean_bytes v.log v.cache page clean) ∙ there)

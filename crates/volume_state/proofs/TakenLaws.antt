@@ -1,0 +1,181 @@
+-- Which sectors are taken.
+use Rattle.std.proofs.Common.{◌≡◌, ◌⊎◌, inl, inr, ℕ, zero, suc, ◌<◌, ◌≤◌, Bool, true, false, not, ◌&&◌, ◌||◌, List, [], ◌∷◌, length, refl, sym, ap, subst, ◌∙◌, arith}
+use Rattle.std.specs.Prelude.{◌↔◌, IsTrue, Contains, nat_le, nat_lt, slice_index_or, ◌==◌}
+use Rattle.std.specs.List.{list_all, flat_map}
+use Rattle.std.proofs.lemmas.Bool.{and_parts, and_from, not-false, or_cases, or_left, or_parts, or_right, both_ways, eq-eqb, false_from_ne_true, eqb-true, leb-true, ltb-true, le-leb, lt-ltb, not-true}
+use Rattle.run_table.specs.declared.run.Run.{Run}
+use Rattle.run_table.specs.RunTable.{sectors_of}
+use Rattle.run_table.specs.Space.{contains, all_differ, runs_of}
+use Rattle.volume_layout.specs.declared.layout.Layout.{Layout}
+use Rattle.volume_layout.specs.Layout.{data_start, is_data}
+use Rattle.fsd_formats.specs.declared.entry.Entry.{Entry}
+use Rattle.sector_set.specs.Area.{Area, AreOut}
+use Rattle.sector_set.proofs.FreeLaws.{contains_where}
+use Rattle.sector_set.proofs.MeetLaws.{any_at}
+use Rattle.fsd_table.specs.Breaks.{Breaks, entry_clashes, taken_before}
+use Rattle.fsd_table.specs.Pages.{entries_of}
+use Rattle.fsd_table.specs.Table.{Visit, entries_in, visits}
+use Rattle.fsd_log.specs.Scan.{Placed}
+use Rattle.fsd_files.specs.Space.{Apart}
+use Rattle.fsd_files.specs.Volume.{in_version, is_in, plans_of, waits as waits_of}
+use Rattle.fsd_files.specs.Waiting.{IsSpaced}
+use Rattle.fsd_files.proofs.CountLaws.{occurs, contains_occurs, occurs_contains, differ_occurs, occurs_differ, runs_same, used, used-cons}
+use Rattle.fsd_sound.specs.Mounted.{Mounted}
+use Rattle.shadow_frees.specs.Waits.{AreIdle, waiting_sectors, waits}
+use Rattle.volume_contract.specs.Causes.{HasUntaken, meets_held}
+use Rattle.volume_state.specs.State.{Holds, state}
+use Rattle.volume_state.specs.Taken.{are_taken, is_taken}
+use Rattle.volume_state.specs.Volume.{IsWhole, VolumeValue}
+use Rattle.cached_table.specs.Surveying.{IsOfData}
+
+-- ---- each sector of a list
+
+pub all_of : (p : ℕ → Bool) (xs : List ℕ) → list_all p xs ≡ true → (s : ℕ) → contains xs s ≡ true → p s ≡ true
+all_of p [] all s there = absurd (both_ways false refl there)
+all_of p (x ∷ xs) all s there =
+    let parts = and_parts (p x) (list_all p xs) all in
+    elim (or_cases (x == s) (contains xs s) there) [
+      | inl here ↦ ap p (sym (eqb-true x s here)) ∙ parts.0
+      | inr more ↦ all_of p xs parts.1 s more
+    ]
+
+pub of_all : (p : ℕ → Bool) (xs : List ℕ) → ((s : ℕ) → contains xs s ≡ true → p s ≡ true) → list_all p xs ≡ true
+of_all p [] each = refl
+of_all p (x ∷ xs) each =
+    and_from (p x) (list_all p xs) (each x (or_left (x == x) (contains xs x) (eq-eqb x x refl))) (of_all p xs (λ s there. each s (or_right (x == s) (contains xs s) there)))
+
+-- two answers that hold together
+same_answer : (a b : Bool) → (a ≡ true → b ≡ true) → (b ≡ true → a ≡ true) → a ≡ b
+same_answer true b on back = sym (on refl)
+same_answer false true on back = back refl
+same_answer false false on back = refl
+
+-- ---- as the map and the shadow have it
+
+module _ (v : VolumeValue) (whole : IsWhole v) (runs : List Run) where
+  out_is_taken : AreOut v.map runs → AreIdle v.shadow runs → are_taken v runs ≡ true
+  out_is_taken out idle =
+      and_from (all_differ (sectors_of runs)) (list_all (is_taken v) (sectors_of runs)) out.differ (of_all (is_taken v) (sectors_of runs) each)
+    where
+      each : (s : ℕ) → contains (sectors_of runs) s ≡ true → is_taken v s ≡ true
+      each s there =
+          let within = out.within s there in
+          let low : data_start v.layout ≤ s = omega (arith, within.0, ap (λ (a : Area). a.from) whole.map) in
+          let high : s < v.layout.sectors = omega (arith, within.1, ap (λ (a : Area). a.to) whole.map) in
+          let data_there : is_data v.layout s ≡ true = and_from (nat_le (data_start v.layout) s) (nat_lt s v.layout.sectors) (le-leb (data_start v.layout) s low) (lt-ltb s v.layout.sectors high) in
+          let none : (contains v.map.sectors s || waits v.shadow s) ≡ false =
+          λ i. out.outside s there i || (idle.0.outside s there i || (idle.1.outside s there i || idle.2.outside s there i)) in
+          and_from (is_data v.layout s) (not (contains v.map.sectors s || waits v.shadow s)) data_there (ap not none)
+
+  pub taken_is_out : are_taken v runs ≡ true → AreOut v.map runs × AreIdle v.shadow runs
+  taken_is_out taken = (
+    out v.map whole.map (λ s none. (or_parts (contains v.map.sectors s) (waits v.shadow s) none).0),
+    (
+      out v.shadow.removed whole.removed (λ s none. (or_parts (contains v.shadow.removed.sectors s) _ (or_parts (contains v.map.sectors s) (waits v.shadow s) none).1).0),
+      out v.shadow.kept whole.kept (λ s none. (or_parts (contains v.shadow.kept.sectors s) _ (or_parts (contains v.shadow.removed.sectors s) _ (or_parts (contains v.map.sectors s) (waits v.shadow s) none).1).1).0),
+      out v.shadow.unfinished whole.unfinished (λ s none. (or_parts (contains v.shadow.kept.sectors s) _ (or_parts (contains v.shadow.removed.sectors s) _ (or_parts (contains v.map.sectors s) (waits v.shadow s) none).1).1).1),
+    ),
+  )
+    where
+      parts : (all_differ (sectors_of runs) ≡ true) × (list_all (is_taken v) (sectors_of runs) ≡ true)
+      parts = and_parts (all_differ (sectors_of runs)) (list_all (is_taken v) (sectors_of runs)) taken
+
+      out : (m : Area) → IsOfData v.layout m → ((s : ℕ) → (contains v.map.sectors s || waits v.shadow s) ≡ false → contains m.sectors s ≡ false) → AreOut m runs
+      out m of_data outside =
+          let each : (s : ℕ) → contains (sectors_of runs) s ≡ true → (is_data v.layout s ≡ true) × (not (contains v.map.sectors s || waits v.shadow s) ≡ true) =
+          λ s there. and_parts (is_data v.layout s) (not (contains v.map.sectors s || waits v.shadow s)) (all_of (is_taken v) (sectors_of runs) parts.1 s there) in
+          record {
+            within = λ s there.
+                let area = and_parts (nat_le (data_start v.layout) s) (nat_lt s v.layout.sectors) (each s there).0 in (
+                  omega (arith, leb-true (data_start v.layout) s area.0, ap (λ (a : Area). a.from) of_data),
+                  omega (arith, ltb-true s v.layout.sectors area.1, ap (λ (a : Area). a.to) of_data),
+                );
+            outside = λ s there. outside s (not-true (contains v.map.sectors s || waits v.shadow s) (each s there).1);
+            differ = parts.0;
+          }
+
+-- so the map says first, and the shadow where the map agrees
+pub taken_here : (v w : VolumeValue) → v ≡ w → IsWhole v → (runs : List Run) (free waiting : Bool) → (IsTrue free ↔ AreOut v.map runs) → (IsTrue waiting ↔ AreIdle v.shadow runs) → free ≡ true → waiting ≡ are_taken w runs
+taken_here v w is whole runs free waiting by_map by_shadow here =
+    same_answer waiting (are_taken v runs) (λ both. out_is_taken v whole runs (by_map.0 here) (by_shadow.0 both)) (λ taken. by_shadow.1 (taken_is_out v whole runs taken).1)
+    ∙ ap (λ (x : VolumeValue). are_taken x runs) is
+
+pub taken_not : (v w : VolumeValue) → v ≡ w → IsWhole v → (runs : List Run) (free : Bool) → (IsTrue free ↔ AreOut v.map runs) → free ≡ false → free ≡ are_taken w runs
+taken_not v w is whole runs free by_map fails =
+    same_answer free (are_taken v runs) (λ holds. absurd (both_ways free fails holds)) (λ taken. by_map.1 (taken_is_out v whole runs taken).0) ∙ ap (λ (x : VolumeValue). are_taken x runs) is
+
+-- ---- those of a table's entries
+
+-- how often a sector stands in one entry's runs, and in all of them
+fewer_in_one : (entries : List Entry) (e : Entry) (i s : ℕ) → i < length entries → slice_index_or entries i e ≡ e → occurs s (sectors_of e.runs) ≤ used s (plans_of entries)
+fewer_in_one [] e i s lt is = absurd (omega arith)
+fewer_in_one (x ∷ entries) e zero s lt is = omega (arith, used-cons s x.runs (plans_of entries), ap (λ (y : Entry). occurs s (sectors_of y.runs)) is)
+fewer_in_one (x ∷ entries) e (suc i) s lt is = omega (arith, used-cons s x.runs (plans_of entries), fewer_in_one entries e i s (omega arith) is)
+
+-- a sector of some version of the volume is neither free nor waiting
+module _ (v : VolumeValue) (m : Mounted) (records : List Placed) (whole : IsWhole v) (layout : m.volume.layout ≡ v.layout) (holds : Holds v m records) (spaced : IsSpaced m.volume) where
+  in_version_taken : (s : ℕ) → IsTrue (is_data v.layout s) → IsTrue (in_version m.volume s) → is_taken v s ≡ true
+  in_version_taken s area there =
+      let free : contains v.map.sectors s ≡ false = holds.map s ∙ not_free (is_data m.volume.layout s) (in_version m.volume s) (not (waits_of m.volume s)) there in
+      let removed : contains v.shadow.removed.sectors s ≡ false = holds.removed s ∙ false_from_ne_true (contains m.volume.removed s) (λ e. both_ways (in_version m.volume s) (spaced.removed s e) there) in
+      let kept : contains v.shadow.kept.sectors s ≡ false = ap (λ (xs : List ℕ). contains xs s) whole.unread.kept in
+      let unfinished : contains v.shadow.unfinished.sectors s ≡ false = ap (λ (xs : List ℕ). contains xs s) whole.unread.unfinished in
+      and_from (is_data v.layout s) (not (contains v.map.sectors s || waits v.shadow s)) area (λ i. not (free i || (removed i || (kept i || unfinished i))))
+    where
+      not_free : (a b c : Bool) → b ≡ true → (a && not b && c) ≡ false
+      not_free true true c e = refl
+      not_free false true c e = refl
+      not_free a false c e = absurd (both_ways false refl e)
+
+  pub entries_taken : Apart m.volume.layout (plans_of m.volume.entries) → (e : Entry) → Contains m.volume.entries e → are_taken v e.runs ≡ true
+  entries_taken apart e has =
+      let parts = and_parts (all_differ (flat_map sectors_of (plans_of m.volume.entries))) (list_all (is_data m.volume.layout) (flat_map sectors_of (plans_of m.volume.entries))) apart in
+      let once : (s : ℕ) → occurs s (sectors_of e.runs) ≤ 1 =
+      λ s. omega (arith, fewer_in_one m.volume.entries e has.0 s has.1 has.2, differ_occurs (flat_map sectors_of (plans_of m.volume.entries)) parts.0 s) in
+      and_from (all_differ (sectors_of e.runs)) (list_all (is_taken v) (sectors_of e.runs)) (occurs_differ (sectors_of e.runs) once)
+      (of_all (is_taken v) (sectors_of e.runs) (λ s there.
+      let here : IsTrue (in_version m.volume s) = occurs_contains s (flat_map sectors_of (plans_of m.volume.entries)) (omega (arith, contains_occurs s (sectors_of e.runs) there, fewer_in_one m.volume.entries e has.0 s has.1 has.2)) in
+      let area : IsTrue (is_data m.volume.layout s) = all_of (is_data m.volume.layout) (flat_map sectors_of (plans_of m.volume.entries)) parts.1 s here in
+      in_version_taken s (subst (λ (l : Layout). IsTrue (is_data l s)) layout area) here))
+
+-- ---- those of any entry that is met
+
+some_fails : (p : ℕ → Bool) (xs : List ℕ) → list_all p xs ≡ false → (t : ℕ) × (contains xs t ≡ true) × (p t ≡ false)
+some_fails p [] none = absurd (both_ways true none refl)
+some_fails p (x ∷ xs) none = by (p x) refl none (some_fails p xs)
+  where
+    by : (b : Bool) → p x ≡ b → (b && list_all p xs) ≡ false → (list_all p xs ≡ false → (t : ℕ) × (contains xs t ≡ true) × (p t ≡ false)) → (t : ℕ) × (contains (x ∷ xs) t ≡ true) × (p t ≡ false)
+    by true here rest more = let one = more rest in (one.0, or_right (x == one.0) (contains xs one.0) one.1, one.2)
+    by false here rest more = (x, or_left (x == x) (contains xs x) (eq-eqb x x refl), here)
+
+-- a sector that is free or waits is told so
+pub free_or_waits : (v : VolumeValue) → IsWhole v → (t : ℕ) → data_start v.layout ≤ t → t < v.layout.sectors → (contains v.map.sectors t || waits v.shadow t) ≡ true → (is_in (runs_of v.map.sectors ∷ []) t || contains (waiting_sectors v.shadow) t) ≡ true
+free_or_waits v whole t low high either = elim (or_cases (contains v.map.sectors t) (waits v.shadow t) either) [
+  | inl free ↦ or_left (is_in (runs_of v.map.sectors ∷ []) t) (contains (waiting_sectors v.shadow) t)
+      (occurs_contains t (flat_map sectors_of (runs_of v.map.sectors ∷ [])) (omega (arith, used-cons t (runs_of v.map.sectors) [], runs_same t v.map.sectors, contains_occurs t v.map.sectors free)))
+  | inr waiting ↦ or_right (is_in (runs_of v.map.sectors ∷ []) t) (contains (waiting_sectors v.shadow) t)
+      (contains_where (waits v.shadow) v.shadow.removed.from v.shadow.removed.to t (omega (arith, ap (λ (m : Area). m.from) whole.removed)) (omega (arith, ap (λ (m : Area). m.to) whole.removed)) ∙ waiting)
+]
+
+-- one whose sectors are not taken breaks the table, or has a sector that is free or waits
+module _ (v : VolumeValue) (whole : IsWhole v) (pages : List (List ℕ)) (visit : Visit) (reached : Contains (visits pages) visit) (e : Entry) (has : Contains (entries_of visit.content) e) where
+  breaks : entry_clashes v.layout (entries_in (visits pages)) e ≡ true → Breaks v.layout pages visit.page
+  breaks clash = inr (record { visit = visit; reached = reached; page_is = refl; entry = e; has = has; clash = clash })
+
+  untaken_at : (t : ℕ) → contains (sectors_of e.runs) t ≡ true → is_taken v t ≡ false → Breaks v.layout pages visit.page ⊎ HasUntaken (state v) e
+  untaken_at t there not_taken = by (is_data v.layout t) refl not_taken
+    where
+      by : (b : Bool) → is_data v.layout t ≡ b → (b && not (contains v.map.sectors t || waits v.shadow t)) ≡ false → Breaks v.layout pages visit.page ⊎ HasUntaken (state v) e
+      by false outside not_here = inl (breaks (or_right (not (all_differ (sectors_of e.runs))) _
+          (any_at (λ s. not (is_data v.layout s) || contains (taken_before e.key (entries_in (visits pages))) s) (sectors_of e.runs) t there (or_left (not (is_data v.layout t)) _ (ap not outside)))))
+      by true inside not_here =
+          let area = and_parts (nat_le (data_start v.layout) t) (nat_lt t v.layout.sectors) inside in
+          inr (or_left _ (meets_held (state v).held e.runs) (any_at (λ s. is_in ((state v).free ∷ []) s || contains (state v).waiting s) (sectors_of e.runs) t there
+          (free_or_waits v whole t (leb-true (data_start v.layout) t area.0) (ltb-true t v.layout.sectors area.1) (not-false (contains v.map.sectors t || waits v.shadow t) not_here))))
+
+  pub untaken_breaks : are_taken v e.runs ≡ false → Breaks v.layout pages visit.page ⊎ HasUntaken (state v) e
+  untaken_breaks not_taken = by (all_differ (sectors_of e.runs)) refl not_taken
+    where
+      by : (b : Bool) → all_differ (sectors_of e.runs) ≡ b → (b && list_all (is_taken v) (sectors_of e.runs)) ≡ false → Breaks v.layout pages visit.page ⊎ HasUntaken (state v) e
+      by false twice rest = inl (breaks (or_left (not (all_differ (sectors_of e.runs))) _ (ap not twice)))
+      by true once rest = let one = some_fails (is_taken v) (sectors_of e.runs) rest in untaken_at one.0 one.1 one.2

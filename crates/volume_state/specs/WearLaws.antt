@@ -1,0 +1,47 @@
+-- A volume that stands over a disk stands over it as it is worn. The law stands here since the `impl` of a volume's files rests on it.
+use Rattle.std.proofs.Common.{◌≡◌, ◌^◌, ◌<◌, ◌≤◌, sym, ap, subst, ◌∙◌, arith}
+use Rattle.volume_layout.specs.declared.layout.Layout.{Layout}
+use Rattle.volume_layout.proofs.RootLaws.{planned_bounds}
+use Rattle.sector_disk.specs.Image.{AreShort, IsWorn, Windows}
+use Rattle.sector_disk.specs.Machine.{Moment}
+use Rattle.fsd_formats.specs.declared.anchor.Anchor.{Anchor}
+use Rattle.fsd_log.specs.Scan.{Walked}
+use Rattle.fsd_sound.specs.Laid.{HasOwnLog}
+use Rattle.fsd_sound.specs.Shown.{records_by}
+use Rattle.fsd_sound.specs.Sound.{EndIn, weak_of}
+use Rattle.fsd_sound.specs.Windows.{IsApart}
+use Rattle.fsd_sound.proofs.LaidLaws.{own_worn}
+use Rattle.fsd_sound.proofs.MountedWearLaws.{mounted_still}
+use Rattle.fsd_sound.proofs.WindowLaws.{open_is_weak, short_apart}
+use Rattle.volume_contract.specs.State.{Known, Ages, ListsPages, Stands, forced_of}
+use Rattle.volume_state.specs.State.{Holds, state}
+use Rattle.volume_state.specs.Volume.{VolumeValue}
+
+module _ (v : VolumeValue) (k : Known) (old new : Moment) (short : AreShort old.windows) (ages : Ages old new) (stands : Stands state Holds v k old) where
+  apart : IsApart (weak_of k.windows)
+  apart = short_apart old.windows k.windows short stands.ends
+
+  worn : IsWorn (weak_of k.windows) old.image new.image
+  worn = open_is_weak old.windows k.windows old.image new.image stands.ends ages.image
+
+  small : k.mounted.volume.layout.pages ≤ 2 ^ 32
+  small = omega (arith, (planned_bounds v.layout stands.holds.planned).pages_most, ap (λ (l : Layout). l.pages) stands.fits.layout)
+
+  epoch : k.mounted.anchor.epoch < 2 ^ 32
+  epoch = omega (arith, stands.holds.fits.epoch, ap (λ (a : Anchor). a.epoch) stands.fits.anchor)
+
+  same_records : records_by k.mounted.volume.layout old.image k.mounted.anchor ≡ records_by k.mounted.volume.layout new.image k.mounted.anchor
+  same_records =
+      let own = stands.disk.over.own in
+      let own_now : HasOwnLog k.mounted.volume.layout k.mounted.anchor stands.disk.records k.mounted.head (weak_of k.windows) new.image =
+      own_worn k.mounted.volume.layout small k.mounted.anchor epoch stands.disk.third (weak_of k.windows) apart old.image new.image worn stands.disk.records k.mounted.head own in
+      ap (λ (w : Walked). w.records) own.log.scanned ∙ sym (ap (λ (w : Walked). w.records) own_now.log.scanned)
+
+  pub stands_worn : Stands state Holds v k new
+  stands_worn = record {
+    fits = stands.fits;
+    holds = subst (Holds v k.mounted) same_records stands.holds;
+    lists = subst (ListsPages (state v) k.mounted.pages) same_records stands.lists;
+    ends = subst (λ (w : Windows). EndIn w k.windows) (sym ages.windows) stands.ends;
+    disk = mounted_still k.mounted k.windows k.changes (forced_of k) old.image new.image small apart worn stands.disk;
+  }

@@ -1,0 +1,9 @@
+//! Definitions: what a volume that reads its name table through a cache has and tells, and laws of one that stands over a disk.
+#![tactic(auto)]
+
+mod laws;
+
+pub use laws::{
+    entries_are_taken, pages_are_known, pages_are_read, resident_pages_are_shown,
+    tables_are_looked_up, untaken_entries_break, volumes_wear,
+};
