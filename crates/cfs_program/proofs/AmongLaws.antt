@@ -1,15 +1,15 @@
 -- The statuses of each kind of run are among those of its request.
-use Rattle.std.proofs.Common.{◌≡◌, ◌⊎◌, inl, inr, ℕ, zero, suc, ◌≤◌, List, [], ◌∷◌, refl, sym, ◌∙◌, subst, arith}
+use Rattle.std.proofs.Common.{◌≡◌, ◌⊎◌, inl, inr, ℕ, zero, suc, ◌≤◌, List, [], ◌∷◌, ◌++◌, refl, sym, ◌∙◌, subst, arith}
 use Rattle.std.specs.Prelude.{IsTrue}
-use Rattle.fsd_files.specs.Replies.{Reply, Refused, DamagedAt}
 use Rattle.fsd_texts.specs.declared.command.Command.{Command}
 use Rattle.fsd_texts.specs.declared.command.Command.TheVariants as Word
 use Rattle.fsd_texts.specs.declared.fault.Fault.{Fault}
 use Rattle.fsd_texts.specs.declared.fault.Fault.TheVariants as Ends
-use Rattle.fsd_runs.specs.Errands.{fault_status, reply_status}
+use Rattle.fsd_runs.specs.Errands.{fault_status}
 use Rattle.volume_turns.specs.Status.{IsMadeStatus, IsOneStatus, IsPutStatus, IsScriptStatus, IsStatusBroken, IsStatusFrom}
 use Rattle.volume_turns.specs.Steps.{IsOfVolume}
-use Rattle.cfs_program.specs.Program.{is_one_of}
+use Rattle.fsd_runs.specs.declared.request.Request.TheVariants.{One}
+use Rattle.cfs_program.specs.Program.{complete_statuses, fault_statuses, is_one_of}
 
 pub one_at : (statuses : List ℕ) (n result : ℕ) → result ≡ n → IsTrue (is_one_of statuses n) → IsTrue (is_one_of statuses result)
 one_at statuses n result is has = subst (λ (x : ℕ). IsTrue (is_one_of statuses x)) (sym is) has
@@ -50,28 +50,49 @@ low_among statuses none one result low = by (low_is result low)
 
 -- ---- one command
 
-abbrev one_complete : List ℕ
-one_complete = 0 ∷ 1 ∷ 3 ∷ 7 ∷ 8 ∷ 9 ∷ []
+abbrev complete_of : Command → List ℕ
+complete_of c = complete_statuses (One c)
 
-abbrev one_all : List ℕ
-one_all = 0 ∷ 1 ∷ 3 ∷ 7 ∷ 8 ∷ 9 ∷ 4 ∷ 6 ∷ []
+abbrev all_of : Command → List ℕ
+all_of c = complete_statuses (One c) ++ fault_statuses (One c)
 
-reply_is : (reply : Reply) → IsTrue (is_one_of one_complete (reply_status reply)) × IsTrue (is_one_of one_all (reply_status reply))
-reply_is (Refused why) = (refl, refl)
-reply_is (DamagedAt key s) = (refl, refl)
-reply_is other = (refl, refl)
+from_all : (c : Command) (status : ℕ) → IsStatusFrom c status → IsTrue (is_one_of (all_of c) status)
+from_all (Word.Put name bytes keep) status low = low_among (all_of (Word.Put name bytes keep)) refl refl status low
+from_all (Word.Delete key) status low = low_among (all_of (Word.Delete key)) refl refl status low
+from_all (Word.Keep name keep) status low = low_among (all_of (Word.Keep name keep)) refl refl status low
+from_all (Word.Get key) status (inl low) = low_among (all_of (Word.Get key)) refl refl status low
+from_all (Word.Get key) status (inr eight) = one_at (all_of (Word.Get key)) 8 status eight refl
+from_all c status none = one_at (all_of c) 0 status none refl
 
-from_is : (c : Command) (status : ℕ) → IsStatusFrom c status → IsTrue (is_one_of one_complete status) × IsTrue (is_one_of one_all status)
-from_is (Word.Put name bytes keep) status low = (low_among one_complete refl refl status low, low_among one_all refl refl status low)
-from_is c status (reply, is) = (one_at one_complete (reply_status reply) status is (reply_is reply).0, one_at one_all (reply_status reply) status is (reply_is reply).1)
+from_complete : (c : Command) (status : ℕ) → IsStatusFrom c status → IsTrue (is_one_of (complete_of c) status)
+from_complete (Word.Put name bytes keep) status low = low_among (complete_of (Word.Put name bytes keep)) refl refl status low
+from_complete (Word.Delete key) status low = low_among (complete_of (Word.Delete key)) refl refl status low
+from_complete (Word.Keep name keep) status low = low_among (complete_of (Word.Keep name keep)) refl refl status low
+from_complete (Word.Get key) status (inl low) = low_among (complete_of (Word.Get key)) refl refl status low
+from_complete (Word.Get key) status (inr eight) = one_at (complete_of (Word.Get key)) 8 status eight refl
+from_complete c status none = one_at (complete_of c) 0 status none refl
 
-pub command_status : (c : Command) (result : ℕ) → IsOneStatus c result → IsTrue (is_one_of one_all result)
-command_status c result (inl from) = (from_is c result from).1
-command_status c result (inr broken) = broken_all one_all refl refl refl result refl refl broken
+broken_one : (c : Command) (result : ℕ) → IsStatusBroken result → IsTrue (is_one_of (all_of c) result)
+broken_one (Word.Put name bytes keep) result broken = broken_all (all_of (Word.Put name bytes keep)) refl refl refl result refl refl broken
+broken_one (Word.Delete key) result broken = broken_all (all_of (Word.Delete key)) refl refl refl result refl refl broken
+broken_one (Word.Keep name keep) result broken = broken_all (all_of (Word.Keep name keep)) refl refl refl result refl refl broken
+broken_one (Word.Get key) result broken = broken_all (all_of (Word.Get key)) refl refl refl result refl refl broken
+broken_one c result broken = broken_all (all_of c) refl refl refl result refl refl broken
 
-pub command_complete : (c : Command) (result : ℕ) → IsOneStatus c result → (result ≡ 4 → ⊥) → (result ≡ 6 → ⊥) → IsTrue (is_one_of one_complete result)
-command_complete c result (inl from) disk said = (from_is c result from).0
-command_complete c result (inr broken) disk said = broken_complete one_complete refl refl refl result disk said broken
+quiet_one : (c : Command) (result : ℕ) → (result ≡ 4 → ⊥) → (result ≡ 6 → ⊥) → IsStatusBroken result → IsTrue (is_one_of (complete_of c) result)
+quiet_one (Word.Put name bytes keep) result disk said broken = broken_complete (complete_of (Word.Put name bytes keep)) refl refl refl result disk said broken
+quiet_one (Word.Delete key) result disk said broken = broken_complete (complete_of (Word.Delete key)) refl refl refl result disk said broken
+quiet_one (Word.Keep name keep) result disk said broken = broken_complete (complete_of (Word.Keep name keep)) refl refl refl result disk said broken
+quiet_one (Word.Get key) result disk said broken = broken_complete (complete_of (Word.Get key)) refl refl refl result disk said broken
+quiet_one c result disk said broken = broken_complete (complete_of c) refl refl refl result disk said broken
+
+pub command_status : (c : Command) (result : ℕ) → IsOneStatus c result → IsTrue (is_one_of (all_of c) result)
+command_status c result (inl from) = from_all c result from
+command_status c result (inr broken) = broken_one c result broken
+
+pub command_complete : (c : Command) (result : ℕ) → IsOneStatus c result → (result ≡ 4 → ⊥) → (result ≡ 6 → ⊥) → IsTrue (is_one_of (complete_of c) result)
+command_complete c result (inl from) disk said = from_complete c result from
+command_complete c result (inr broken) disk said = quiet_one c result disk said broken
 
 -- ---- a put of the input
 

@@ -1,10 +1,10 @@
 mod AmongLaws
 mod AnchorLaws
+mod CountsLaws
 mod EndedLaws
 mod ForcedLaws
 mod FormatLaws
-mod InputLaws
+mod FoundLaws
 mod LongerLaws
 mod OpeningLaws
 mod ProgramLaws
-mod PutLaws

@@ -24,25 +24,20 @@ use Rattle.fsd_runs.specs.Errands.{Cut, Turn}
 use Rattle.fsd_runs.specs.Leaves.{CutCause, IsBroken, IsOutside, IsReplied, IsSpent, IsUnsaid, LeavesMounted, LeavesRun, LeavesUnmounted, Left, LeftBefore, LeftSince, SaysFault}
 use Rattle.fsd_runs.specs.Runs.{Goes, IsCutAt, IsThrough, Run, errand_in, run_end, run_status, run_turns, said_in}
 use Rattle.volume_contract.specs.Mount.{IsSoundAt}
+use Rattle.volume_turns.specs.Status.{CountsNone}
 use Rattle.cfs_program.specs.Opening.{IsSoundDisk}
 use Rattle.cfs_program.proofs.AnchorLaws.{last_before}
-
--- the counts of faults are the same
-pub record SameFaults (a b : Report) : Type 0 where
-  pub disk : b.disk_faults ≡ a.disk_faults
-  pub input : b.input_faults ≡ a.input_faults
-  pub output : b.output_faults ≡ a.output_faults
 
 rose_on : (a b c : ℕ) → b ≡ a → Rose b c → Rose a c
 rose_on a b c same rose = subst (λ (n : ℕ). Rose n c) same rose
 
-outside_on : (request : Request) (a b c : Report) (why : Fault) → SameFaults a b → IsOutside request b c why → IsOutside request a c why
+outside_on : (request : Request) (a b c : Report) (why : Fault) → CountsNone a b → IsOutside request b c why → IsOutside request a c why
 outside_on request a b c (Ends.Device s) same out = record { rose = rose_on a.disk_faults b.disk_faults c.disk_faults same.disk out.rose; told = out.told }
 outside_on request a b c Ends.Memory same out = tt
 outside_on (Put name keep) a b c Ends.Input same out = rose_on a.input_faults b.input_faults c.input_faults same.input out
 outside_on request a b c other same out = absurd out
 
-cause_on : (cut : Cut) (input rest : List ℕ) (a b c : Report) → SameFaults a b → CutCause cut input rest b c → CutCause cut input rest a c
+cause_on : (cut : Cut) (input rest : List ℕ) (a b c : Report) → CountsNone a b → CutCause cut input rest b c → CutCause cut input rest a c
 cause_on (Some (k, Ends.Input)) input rest a b c same cause = record { rose = rose_on a.input_faults b.input_faults c.input_faults same.input cause.rose; taken = cause.taken; all = cause.all; commands = cause.commands }
 cause_on cut input rest a b c same cause = tt
 
@@ -126,7 +121,7 @@ module _ (l : Layout) (windows : List WeakRun) (h : List Change) (f : ℕ) (old 
         let was = last_before (open_damage old.windows) old.image at.image x.anchor found.image x.taken x.last in
         record { anchor = was.0; taken = was.1; last = was.2; ends = x.ends; said = x.said ∙ ap (λ (s : List ℕ). s ++ fault_text Ends.WornOut) found.said }
 
-    module _ (request : Request) (a b c : Report) (same : SameFaults a b) (new : Moment) (status : ℕ) where
+    module _ (request : Request) (a b c : Report) (same : CountsNone a b) (new : Moment) (status : ℕ) where
       unsaid_on : IsUnsaid b c status → IsUnsaid a c status
       unsaid_on x = record { ends = x.ends; rose = rose_on a.output_faults b.output_faults c.output_faults same.output x.rose }
 
@@ -162,7 +157,7 @@ sound_disk count l windows h f now at = record { planned = at.planned; ends = at
 
 module _ {D : Type 0} (M : Ghosts D) (request : Request) (input rest : List ℕ) (l : Layout) (windows : List WeakRun) (h : List Change) (f : ℕ) (a b c : D) (status : ℕ)
     (sound : IsSoundDisk l windows h f (M.now a)) (short : AreShort (M.now a).windows)
-    (ahead : LeavesOnly M.moment M.left_since a b (LeftBefore l windows h f (M.now a))) (found : Keeps (M.now a) (M.now b)) (same : SameFaults (M.report a) (M.report b)) where
+    (ahead : LeavesOnly M.moment M.left_since a b (LeftBefore l windows h f (M.now a))) (found : Keeps (M.now a) (M.now b)) (same : CountsNone (M.report a) (M.report b)) where
   opened_unmounted : LeavesUnmounted request l windows h f (λ P. LeavesOnly M.moment M.left_since b c P) (M.report b) (M.report c) (M.now b) (M.now c) status
       → LeavesUnmounted request l windows h f (λ P. LeavesOnly M.moment M.left_since a c P) (M.report a) (M.report c) (M.now a) (M.now c) status
   opened_unmounted u = record {
@@ -223,7 +218,7 @@ module _ {D : Type 0} (M : Ghosts D) (request : Request) (input rest : List ℕ)
 module _ {D : Type 0} (M : Ghosts D) (request : Request) (input rest : List ℕ) (l : Layout) (windows : List WeakRun) (h : List Change) (f : ℕ) (a b c : D) (status : ℕ)
     (sound : IsSoundDisk l windows h f (M.now a)) (short : AreShort (M.now a).windows) where
   -- behind an attach
-  pub opened_run : (only : (left : Moment) → M.left_since a (M.moment a) left → left ≡ M.now a) → Elapses (M.moment a) (M.moment b) (M.left_since a) (M.left_since b) (Before (M.now a) (M.now b)) → Finds (M.now a) (M.now b) → SameFaults (M.report a) (M.report b)
+  pub opened_run : (only : (left : Moment) → M.left_since a (M.moment a) left → left ≡ M.now a) → Elapses (M.moment a) (M.moment b) (M.left_since a) (M.left_since b) (Before (M.now a) (M.now b)) → Finds (M.now a) (M.now b) → CountsNone (M.report a) (M.report b)
       → LeavesRun request input rest l windows h f (M.left_since c) (λ P. LeavesOnly M.moment M.left_since b c P) (M.report b) (M.report c) (M.now b) (M.now c) status
       → LeavesRun request input rest l windows h f (M.left_since c) (λ P. LeavesOnly M.moment M.left_since a c P) (M.report a) (M.report c) (M.now a) (M.now c) status
   opened_run only time found same =
@@ -233,7 +228,7 @@ module _ {D : Type 0} (M : Ghosts D) (request : Request) (input rest : List ℕ)
       (started M.moment M.left_since a (M.now a) (LeftBefore l windows h f (M.now a)) only (left_start l windows h f (M.now a) sound short)) time (left_attach l windows h f (M.now a) sound short (M.now b) keeps)) keeps same
 
   -- behind calls that wear
-  pub worn_run : LeavesOnly M.moment M.left_since a b (Wears (M.now a)) → Wears (M.now a) (M.now b) → SameFaults (M.report a) (M.report b)
+  pub worn_run : LeavesOnly M.moment M.left_since a b (Wears (M.now a)) → Wears (M.now a) (M.now b) → CountsNone (M.report a) (M.report b)
       → LeavesRun request input rest l windows h f (M.left_since c) (λ P. LeavesOnly M.moment M.left_since b c P) (M.report b) (M.report c) (M.now b) (M.now c) status
       → LeavesRun request input rest l windows h f (M.left_since c) (λ P. LeavesOnly M.moment M.left_since a c P) (M.report a) (M.report c) (M.now a) (M.now c) status
   worn_run ahead worn same =

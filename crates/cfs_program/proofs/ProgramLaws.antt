@@ -1,5 +1,5 @@
 -- What is told of each kind of request.
-use Rattle.std.proofs.Common.{◌≡◌, ◌⊎◌, inl, inr, ℕ, Bool, false, List, [], ◌∷◌, ◌++◌, refl, sym, ◌∙◌, ap, subst, arith}
+use Rattle.std.proofs.Common.{◌≡◌, ◌⊎◌, inl, inr, ℕ, Bool, false, List, [], ◌∷◌, ◌++◌, take, refl, sym, ◌∙◌, ap, subst, arith}
 use Rattle.std.specs.Prelude.{Result, Ok, Err, IsFalse, IsTrue}
 use Rattle.std.proofs.lemmas.Bool.{eq-eqb}
 use Rattle.std.proofs.lemmas.List.{append-nil}
@@ -15,6 +15,7 @@ use Rattle.sector_disk.proofs.Holding.{wears_none}
 use Rattle.fsd_files.specs.Files.{Change}
 use Rattle.fsd_texts.specs.declared.bad_line.Cause.{Cause}
 use Rattle.fsd_texts.specs.declared.command.Command.{Command}
+use Rattle.fsd_texts.specs.declared.command.Command.TheVariants as Word
 use Rattle.fsd_texts.specs.declared.fault.Fault.TheVariants as Ends
 use Rattle.fsd_texts.specs.declared.line.Line.{Line}
 use Rattle.fsd_texts.specs.declared.line.Line.TheVariants as Lines
@@ -23,13 +24,18 @@ use Rattle.fsd_runs.specs.declared.request.Request.{Request}
 use Rattle.fsd_runs.specs.declared.request.Request.TheVariants.{Outside, BadField, Format, Put, One, Script, Generate}
 use Rattle.fsd_runs.specs.Errands.{IfMounts}
 use Rattle.fsd_runs.specs.Leaves.{LeavesRun}
+use Rattle.volume_turns.specs.Causes.{SaysFault, is_of_fault}
 use Rattle.volume_turns.specs.Status.{IsOneStatus}
+use Rattle.volume_turns.proofs.QuietLaws.{quiet_calm}
+use Rattle.volume_turns.proofs.StatusLaws.{one_not_five}
 use Rattle.cfs_program.specs.Ending.{EndsAs, IsStatusAs, UttersLine, is_unsaid}
 use Rattle.cfs_program.specs.Formatting.{AsksAll, AsksAtMost, CountsFaults, IsFormatStatus, IsMadeBy, IsUntouched, SaysFormat, SparesUnplanned, format_status, plan_asks}
-use Rattle.cfs_program.specs.Opening.{IsSoundDisk, is_from_outside, mount_asks}
-use Rattle.cfs_program.specs.Program.{LeavesInput, Ran, SaysAnswer, SaysLine, SparesImage, complete_statuses, fault_statuses, field_line, input_for, is_one_of, plan_faults}
+use Rattle.cfs_program.specs.Opening.{IsSoundDisk, TellsFound, is_from_outside, mount_asks}
+use Rattle.cfs_program.specs.Program.{LeavesInput, Ran, SaysAnswer, SaysLine, SparesImage, SparesInput, complete_statuses, fault_statuses, field_line, input_for, is_one_of, plan_faults}
 use Rattle.cfs_program.proofs.AmongLaws.{command_complete, command_status, one_at}
+use Rattle.cfs_program.proofs.CountsLaws.{input_alone, line_loud, spares_none}
 use Rattle.cfs_program.proofs.EndedLaws.{ended_run}
+use Rattle.cfs_program.proofs.FoundLaws.{inside_not, line_last, line_not, not_mounted}
 use Rattle.cfs_program.proofs.FormatLaws.{untouched_by}
 
 -- ---- a line alone
@@ -44,15 +50,10 @@ line_complete result (inl two) said = one_at (2 ∷ 7 ∷ []) 2 result two refl
 line_complete result (inr (inl seven)) said = one_at (2 ∷ 7 ∷ []) 7 result seven refl
 line_complete result (inr (inr six)) said = absurd (said six)
 
-line_not : (n status result : ℕ) → IsStatusAs status result → (n ≡ status → ⊥) → (n ≡ 7 → ⊥) → (n ≡ 6 → ⊥) → result ≡ n → ⊥
-line_not n status result (inl is) a b c at = a (sym at ∙ is)
-line_not n status result (inr (inl seven)) a b c at = b (sym at ∙ seven)
-line_not n status result (inr (inr six)) a b c at = c (sym at ∙ six)
-
-line_says : (line : Line) (old new : Moment) (result : ℕ) → (result ≡ 6) ⊎ EndsAs line 2 old new result → SaysLine line 2 old new result
-line_says line old new result (inl six) = inl six
-line_says line old new result (inr (inl (is, all))) = inr (inl (is, all.said))
-line_says line old new result (inr (inr (seven, all))) = inr (inr (seven, all.said))
+line_says : (line : Line) (old new : Moment) (result : ℕ) → UttersLine line old new → (result ≡ 6) ⊎ EndsAs line 2 old new result → SaysLine line 2 old new result
+line_says line old new result (said, which, utters) (inl six) = inl (six, (said, which, utters.heard, utters.said))
+line_says line old new result utters (inr (inl (is, all))) = inr (inl (is, all.said))
+line_says line old new result utters (inr (inr (seven, all))) = inr (inr (seven, all.said))
 
 output_rose : (a b : Report) (result : ℕ) → SparesDisk false (is_unsaid result) a b → result ≡ 6 → Rose a.output_faults b.output_faults
 output_rose a b result spares six = subst (λ (x : Bool). Counts x a.output_faults b.output_faults) (eq-eqb result 6 six) spares.output
@@ -68,11 +69,22 @@ module _ {D : Type 0} (M : Ghosts D) (path : List ℕ) (a b : D) (line : Line) (
     complete = λ none. line_complete result status (λ six. none.output (output_rose (M.report a) (M.report b) result says.spares six));
     device = λ four. absurd (line_not 4 2 result status (λ e. omega (arith, e)) (λ e. omega (arith, e)) (λ e. omega (arith, e)) four);
     output = output_rose (M.report a) (M.report b) result says.spares;
+    quiet = λ quiet. spares_none (M.report a) (M.report b) result says.spares (quiet_calm result quiet);
+    calm = λ calm. input_alone (M.report a) (M.report b) (spares_none (M.report a) (M.report b) result says.spares calm);
     attaches = λ t. inr (unasked t);
-    attached = λ zero t. unasked t ∙ sym (append-nil (M.ledger a).attaches);
+    attached = λ inside t. unasked t ∙ sym (append-nil (M.ledger a).attaches);
     taken = λ t. ap (λ (x : Ledger). x.input) (ledger t);
+    spared = says.spares.input;
+    input = λ five t. absurd (line_not 5 2 result status (λ e. omega (arith, e)) (λ e. omega (arith, e)) (λ e. omega (arith, e)) five);
+    bad = λ two h. tt;
+    whole = λ zero t. tt;
+    spelled = λ zero t. tt;
     trust = says.trust;
-    says = λ h. subst (λ (x : Line). SaysLine x 2 (M.now a) (M.now b) result) is (line_says line (M.now a) (M.now b) result (ends h));
+    says = λ h. subst (λ (x : Line). SaysLine x 2 (M.now a) (M.now b) result) is (line_says line (M.now a) (M.now b) result (says.exit h) (ends h));
+    mounted = λ any h. tt;
+    refused = λ three h. absurd (line_not 3 2 result status (λ e. omega (arith, e)) (λ e. omega (arith, e)) (λ e. omega (arith, e)) three);
+    spent = λ nine h. absurd (line_not 9 2 result status (λ e. omega (arith, e)) (λ e. omega (arith, e)) (λ e. omega (arith, e)) nine);
+    last = λ of h. tt;
     image = λ none h. line_not 0 2 result status (λ e. omega (arith, e)) (λ e. omega (arith, e)) (λ e. omega (arith, e)) none;
     untouched = λ h. untouched_by line (M.now a) (M.now b) (says.exit h);
     leaves = λ h l windows changes f sound. tt;
@@ -84,11 +96,22 @@ module _ {D : Type 0} (M : Ghosts D) (path : List ℕ) (a b : D) (line : Line) (
     complete = λ none. line_complete result status (λ six. none.output (output_rose (M.report a) (M.report b) result says.spares six));
     device = λ four. absurd (line_not 4 2 result status (λ e. omega (arith, e)) (λ e. omega (arith, e)) (λ e. omega (arith, e)) four);
     output = output_rose (M.report a) (M.report b) result says.spares;
+    quiet = λ quiet. spares_none (M.report a) (M.report b) result says.spares (quiet_calm result quiet);
+    calm = λ calm. input_alone (M.report a) (M.report b) (spares_none (M.report a) (M.report b) result says.spares calm);
     attaches = λ t. inr (unasked t);
-    attached = λ zero t. unasked t ∙ sym (append-nil (M.ledger a).attaches);
+    attached = λ inside t. unasked t ∙ sym (append-nil (M.ledger a).attaches);
     taken = λ t. ap (λ (x : Ledger). x.input) (ledger t);
+    spared = says.spares.input;
+    input = λ five t. absurd (line_not 5 2 result status (λ e. omega (arith, e)) (λ e. omega (arith, e)) (λ e. omega (arith, e)) five);
+    bad = λ two h. tt;
+    whole = λ zero t. tt;
+    spelled = λ zero t. tt;
     trust = says.trust;
-    says = λ h. subst (λ (x : Line). SaysLine x 2 (M.now a) (M.now b) result) is (line_says line (M.now a) (M.now b) result (ends h));
+    says = λ h. subst (λ (x : Line). SaysLine x 2 (M.now a) (M.now b) result) is (line_says line (M.now a) (M.now b) result (says.exit h) (ends h));
+    mounted = λ any h. tt;
+    refused = λ three h. absurd (line_not 3 2 result status (λ e. omega (arith, e)) (λ e. omega (arith, e)) (λ e. omega (arith, e)) three);
+    spent = λ nine h. absurd (line_not 9 2 result status (λ e. omega (arith, e)) (λ e. omega (arith, e)) (λ e. omega (arith, e)) nine);
+    last = λ of h. tt;
     image = λ none h. line_not 0 2 result status (λ e. omega (arith, e)) (λ e. omega (arith, e)) (λ e. omega (arith, e)) none;
     untouched = λ h. untouched_by line (M.now a) (M.now b) (says.exit h);
     leaves = λ h l windows changes f sound. tt;
@@ -105,12 +128,26 @@ six_format : (planned : Result Layout LayoutFault) → IsTrue (is_one_of ((forma
 six_format (Ok l) = refl
 six_format (Err why) = refl
 
+seven_one : (command : Command) → IsTrue (is_one_of (complete_statuses (One command)) 7) × IsTrue (is_one_of (complete_statuses (One command) ++ fault_statuses (One command)) 7)
+seven_one (Word.Put name bytes keep) = (refl, refl)
+seven_one (Word.Delete key) = (refl, refl)
+seven_one (Word.Keep name keep) = (refl, refl)
+seven_one (Word.Get key) = (refl, refl)
+seven_one command = (refl, refl)
+
+six_one : (command : Command) → IsTrue (is_one_of (complete_statuses (One command) ++ fault_statuses (One command)) 6)
+six_one (Word.Put name bytes keep) = refl
+six_one (Word.Delete key) = refl
+six_one (Word.Keep name keep) = refl
+six_one (Word.Get key) = refl
+six_one command = refl
+
 seven_is : (request : Request) → IsTrue (is_one_of (complete_statuses request) 7) × IsTrue (is_one_of (complete_statuses request ++ fault_statuses request) 7)
 seven_is (Format n t p) = seven_format (plan n t p)
 seven_is Outside = (refl, refl)
 seven_is (BadField cause) = (refl, refl)
 seven_is (Put name keep) = (refl, refl)
-seven_is (One command) = (refl, refl)
+seven_is (One command) = seven_one command
 seven_is Script = (refl, refl)
 seven_is (Generate seed count) = (refl, refl)
 
@@ -119,7 +156,7 @@ six_is (Format n t p) = six_format (plan n t p)
 six_is Outside = refl
 six_is (BadField cause) = refl
 six_is (Put name keep) = refl
-six_is (One command) = refl
+six_is (One command) = six_one command
 six_is Script = refl
 six_is (Generate seed count) = refl
 
@@ -133,21 +170,22 @@ memory_complete request result (inl seven) said = one_at (complete_statuses requ
 memory_complete request result (inr (inl seven)) said = one_at (complete_statuses request) 7 result seven (seven_is request).0
 memory_complete request result (inr (inr six)) said = absurd (said six)
 
--- all that is said is that
+-- all that is said is that, or its first bytes
 abbrev SaysMemory : (old new : Moment) → ℕ → Type 0
-SaysMemory old new result = (result ≡ 6) ⊎ ((result ≡ 7) × (new.said ≡ old.said ++ memory_text))
+SaysMemory old new result = ((result ≡ 6) × (heard : ℕ) × (new.said ≡ old.said ++ take heard memory_text)) ⊎ ((result ≡ 7) × (new.said ≡ old.said ++ memory_text))
 
-memory_said : (old new : Moment) (result : ℕ) → (result ≡ 6) ⊎ EndsAs (Lines.Ended Ends.Memory) 7 old new result → SaysMemory old new result
-memory_said old new result (inl six) = inl six
-memory_said old new result (inr (inl (seven, all))) = inr (seven, all.said)
-memory_said old new result (inr (inr (seven, all))) = inr (seven, all.said)
+memory_said : (old new : Moment) (result : ℕ) → UttersLine (Lines.Ended Ends.Memory) old new → (result ≡ 6) ⊎ EndsAs (Lines.Ended Ends.Memory) 7 old new result → SaysMemory old new result
+memory_said old new result (said, inl is, utters) (inl six) = inl (six, utters.heard, utters.said ∙ ap (λ (x : List ℕ). old.said ++ take utters.heard x) is)
+memory_said old new result (said, inr is, utters) (inl six) = inl (six, utters.heard, utters.said ∙ ap (λ (x : List ℕ). old.said ++ take utters.heard x) is)
+memory_said old new result utters (inr (inl (seven, all))) = inr (seven, all.said)
+memory_said old new result utters (inr (inr (seven, all))) = inr (seven, all.said)
 
 memory_line : (line : Line) (old new : Moment) (result : ℕ) → SaysMemory old new result → SaysLine line 2 old new result
-memory_line line old new result (inl six) = inl six
+memory_line line old new result (inl (six, heard, said)) = inl (six, (memory_text, inr refl, heard, said))
 memory_line line old new result (inr said) = inr (inr said)
 
 memory_format : (planned : Result Layout LayoutFault) (place : ℕ) (old new : Moment) (result : ℕ) → SaysMemory old new result → SaysFormat planned place old new result
-memory_format planned place old new result (inl six) = inl six
+memory_format planned place old new result (inl (six, heard, said)) = inl (six, (memory_text, inr (inr refl), heard, said))
 memory_format planned place old new result (inr (seven, said)) = inr (memory_text, inr (inr (seven, refl)), said)
 
 memory_says : (request : Request) (place : ℕ) (old new : Moment) (result : ℕ) → SaysMemory old new result → SaysAnswer request place old new result
@@ -182,6 +220,15 @@ input_left Outside old new same = same
 input_left (BadField cause) old new same = same
 input_left (Format n t p) old new same = same
 
+input_spared : (request : Request) (old new : Report) → new.input_faults ≡ old.input_faults → SparesInput request old new
+input_spared (Put name keep) old new same = tt
+input_spared Script old new same = tt
+input_spared (One command) old new same = same
+input_spared (Generate seed count) old new same = same
+input_spared Outside old new same = same
+input_spared (BadField cause) old new same = same
+input_spared (Format n t p) old new same = same
+
 module _ {D : Type 0} (M : Ghosts D) (request : Request) (path : List ℕ) (a b : D) (result : ℕ) (says : LeavesDisk M false (is_unsaid result) (UttersLine (Lines.Ended Ends.Memory)) a b)
     (ledger : M.tells b → M.ledger b ≡ M.ledger a) (status : IsStatusAs 7 result) (ends : M.honest b → (result ≡ 6) ⊎ EndsAs (Lines.Ended Ends.Memory) 7 (M.now a) (M.now b) result)
     (short : M.honest a → AreShort (M.now a).windows) (only : M.honest a → (left : Moment) → M.left_since a (M.moment a) left → left ≡ M.now a) where
@@ -194,11 +241,22 @@ module _ {D : Type 0} (M : Ghosts D) (request : Request) (path : List ℕ) (a b 
     complete = λ none. memory_complete request result status (λ six. none.output (output_rose (M.report a) (M.report b) result says.spares six));
     device = λ four. absurd (line_not 4 7 result status (λ e. omega (arith, e)) (λ e. omega (arith, e)) (λ e. omega (arith, e)) four);
     output = output_rose (M.report a) (M.report b) result says.spares;
+    quiet = λ quiet. absurd (line_loud 7 result status refl (quiet_calm result quiet));
+    calm = λ calm. absurd (line_loud 7 result status refl calm);
     attaches = λ t. inr (ap (λ (x : Ledger). x.attaches) (ledger t));
-    attached = λ zero t. absurd (not_zero zero);
+    attached = λ inside t. absurd (inside_not result status inside);
     taken = λ t. input_left request (M.ledger a).input (M.ledger b).input (ap (λ (x : Ledger). x.input) (ledger t));
+    spared = input_spared request (M.report a) (M.report b) says.spares.input;
+    input = λ five t. absurd (line_not 5 7 result status (λ e. omega (arith, e)) (λ e. omega (arith, e)) (λ e. omega (arith, e)) five);
+    bad = λ two h. absurd (line_not 2 7 result status (λ e. omega (arith, e)) (λ e. omega (arith, e)) (λ e. omega (arith, e)) two);
+    whole = λ zero t. absurd (not_zero zero);
+    spelled = λ zero t. absurd (not_zero zero);
     trust = says.trust;
-    says = λ h. memory_says request (M.report b).fault_place (M.now a) (M.now b) result (memory_said (M.now a) (M.now b) result (ends h));
+    says = λ h. memory_says request (M.report b).fault_place (M.now a) (M.now b) result (memory_said (M.now a) (M.now b) result (says.exit h) (ends h));
+    mounted = λ any h. absurd (not_mounted 7 result status refl any);
+    refused = λ three h. absurd (line_not 3 7 result status (λ e. omega (arith, e)) (λ e. omega (arith, e)) (λ e. omega (arith, e)) three);
+    spent = λ nine h. absurd (line_not 9 7 result status (λ e. omega (arith, e)) (λ e. omega (arith, e)) (λ e. omega (arith, e)) nine);
+    last = λ of h. if_mounts request _ (line_last Ends.Memory (M.report b).fault_place (M.now a) (M.now b) result tt (ends h) of);
     image = λ zero h. absurd (not_zero zero);
     untouched = λ h. spares_image request (M.now a) (M.now b) (untouched_by (Lines.Ended Ends.Memory) (M.now a) (M.now b) (says.exit h));
     leaves = λ h l windows changes f sound. if_mounts request _ (ended_run M request (input_for request (M.ledger a).input) (M.ledger b).input l windows changes f a a b Ends.Memory tt result sound
@@ -225,6 +283,30 @@ format_complete (Err why) result (inl one) disk said = one_at (1 ∷ 7 ∷ []) 1
 format_complete (Err why) result (inr (inl seven)) disk said = one_at (1 ∷ 7 ∷ []) 7 result seven refl
 format_complete (Err why) result (inr (inr six)) disk said = absurd (said six)
 
+format_not : (n : ℕ) (planned : Result Layout LayoutFault) (result : ℕ) → IsFormatStatus planned result → (n ≡ 0 → ⊥) → (n ≡ 1 → ⊥) → (n ≡ 4 → ⊥) → (n ≡ 6 → ⊥) → (n ≡ 7 → ⊥) → result ≡ n → ⊥
+format_not n (Ok l) result (inl zero) a b c d e at = a (sym at ∙ zero)
+format_not n (Err why) result (inl one) a b c d e at = b (sym at ∙ one)
+format_not n planned result (inr (inl seven)) a b c d e at = e (sym at ∙ seven)
+format_not n (Ok l) result (inr (inr (inl four))) a b c d e at = c (sym at ∙ four)
+format_not n (Ok l) result (inr (inr (inr six))) a b c d e at = d (sym at ∙ six)
+format_not n (Err why) result (inr (inr six)) a b c d e at = d (sym at ∙ six)
+
+-- all that it asks for is asked, but where a call of the outside or memory failed
+outside_at : (n result : ℕ) → IsTrue (is_from_outside n) → result ≡ n → IsFalse (is_from_outside result) → ⊥
+outside_at n result out at inside = let other : IsFalse (is_from_outside n) = subst (λ (x : ℕ). IsFalse (is_from_outside x)) at inside in cc (out, other)
+
+format_asked : (planned : Result Layout LayoutFault) (path : List ℕ) (old new : Ledger) (result : ℕ) → IsFormatStatus planned result → AsksAtMost (plan_asks planned path) old new → (result ≡ 0 → AsksAll (plan_asks planned path) old new)
+    → IsFalse (is_from_outside result) → new.attaches ≡ old.attaches ++ plan_asks planned path
+format_asked (Ok l) path old new result (inl zero) asks all inside = (all zero).attaches
+format_asked (Ok l) path old new result (inr (inl seven)) asks all inside = absurd (outside_at 7 result refl seven inside)
+format_asked (Ok l) path old new result (inr (inr (inl four))) asks all inside = absurd (outside_at 4 result refl four inside)
+format_asked (Ok l) path old new result (inr (inr (inr six))) asks all inside = absurd (outside_at 6 result refl six inside)
+format_asked (Err why) path old new result status asks all inside = none asks.attaches
+  where
+    none : (new.attaches ≡ old.attaches ++ []) ⊎ (new.attaches ≡ old.attaches) → new.attaches ≡ old.attaches ++ []
+    none (inl same) = same
+    none (inr same) = same ∙ sym (append-nil old.attaches)
+
 pub ran_format : {D : Type 0} (M : Ghosts D) (n t p : ℕ) (path : List ℕ) (a b : D) (result : ℕ) → IsFormatStatus (plan n t p) result → CountsFaults (M.report a) (M.report b) result
     → (M.tells b → AsksAtMost (plan_asks (plan n t p) path) (M.ledger a) (M.ledger b)) → (result ≡ 0 → M.tells b → AsksAll (plan_asks (plan n t p) path) (M.ledger a) (M.ledger b))
     → Trusts (M.tells a) (M.tells b) (M.honest a) (M.honest b) → (M.honest b → SaysFormat (plan n t p) (M.report b).fault_place (M.now a) (M.now b) result)
@@ -234,11 +316,22 @@ ran_format M n t p path a b result status counts asks asked trust says made unto
   complete = λ none. format_complete (plan n t p) result status (λ four. none.disk (counts.disk four)) (λ six. none.output (counts.output six));
   device = counts.disk;
   output = counts.output;
+  quiet = λ quiet. counts.quiet (quiet_calm result quiet);
+  calm = λ calm. input_alone (M.report a) (M.report b) (counts.quiet calm);
   attaches = λ t. (asks t).attaches;
-  attached = λ zero t. (asked zero t).attaches;
+  attached = λ inside told. format_asked (plan n t p) path (M.ledger a) (M.ledger b) result status (asks told) (λ zero. asked zero told) inside;
   taken = λ t. (asks t).input;
+  spared = counts.input;
+  input = λ five told. absurd (format_not 5 (plan n t p) result status (λ e. omega (arith, e)) (λ e. omega (arith, e)) (λ e. omega (arith, e)) (λ e. omega (arith, e)) (λ e. omega (arith, e)) five);
+  bad = λ two h. tt;
+  whole = λ zero t. tt;
+  spelled = λ zero t. tt;
   trust = trust;
   says = says;
+  mounted = λ any h. tt;
+  refused = λ three h. absurd (format_not 3 (plan n t p) result status (λ e. omega (arith, e)) (λ e. omega (arith, e)) (λ e. omega (arith, e)) (λ e. omega (arith, e)) (λ e. omega (arith, e)) three);
+  spent = λ nine h. absurd (format_not 9 (plan n t p) result status (λ e. omega (arith, e)) (λ e. omega (arith, e)) (λ e. omega (arith, e)) (λ e. omega (arith, e)) (λ e. omega (arith, e)) nine);
+  last = λ of h. tt;
   image = made;
   untouched = untouched;
   leaves = λ h l windows changes f sound. tt;
@@ -248,20 +341,32 @@ ran_format M n t p path a b result status counts asks asked trust says made unto
 
 pub ran_command : {D : Type 0} (M : Ghosts D) (c : Command) (path : List ℕ) (a b : D) (result : ℕ) → IsOneStatus c result → CountsFaults (M.report a) (M.report b) result
     → (M.tells b → AsksAtMost (mount_asks path) (M.ledger a) (M.ledger b)) → (IsFalse (is_from_outside result) → M.tells b → AsksAll (mount_asks path) (M.ledger a) (M.ledger b))
-    → Trusts (M.tells a) (M.tells b) (M.honest a) (M.honest b)
+    → Trusts (M.tells a) (M.tells b) (M.honest a) (M.honest b) → (M.honest b → TellsFound (M.now a) (M.now b) result)
+    → (IsTrue (is_of_fault result) → M.honest b → SaysFault (M.report b).fault_place (M.now b) result)
     → (M.honest b → (rest : List ℕ) (l : Layout) (windows : List WeakRun) (h : List Change) (f : ℕ) → IsSoundDisk l windows h f (M.now a) →
     LeavesRun (One c) [] rest l windows h f (M.left_since b) (λ P. LeavesOnly M.moment M.left_since a b P) (M.report a) (M.report b) (M.now a) (M.now b) result)
     → Ran M (One c) path a b result
-ran_command M c path a b result status counts asks asked trust leaves = record {
+ran_command M c path a b result status counts asks asked trust image last leaves = record {
   status = command_status c result status;
   complete = λ none. command_complete c result status (λ four. none.disk (counts.disk four)) (λ six. none.output (counts.output six));
   device = counts.disk;
   output = counts.output;
+  quiet = λ quiet. counts.quiet (quiet_calm result quiet);
+  calm = λ calm. input_alone (M.report a) (M.report b) (counts.quiet calm);
   attaches = λ t. (asks t).attaches;
-  attached = λ zero t. (asked (subst (λ (n : ℕ). IsFalse (is_from_outside n)) (sym zero) refl) t).attaches;
+  attached = λ inside t. (asked inside t).attaches;
   taken = λ t. (asks t).input;
+  spared = counts.input;
+  input = λ five t. absurd (one_not_five c result status five);
+  bad = λ two h. tt;
+  whole = λ zero t. tt;
+  spelled = λ zero t. tt;
   trust = trust;
   says = λ h. tt;
+  mounted = λ any h. (image h).mounted any;
+  refused = λ three h. (image h).refused three;
+  spent = λ nine h. (image h).spent nine;
+  last = last;
   image = λ zero h. tt;
   untouched = λ h. tt;
   leaves = λ h l windows changes f sound. leaves h (M.ledger b).input l windows changes f sound;

@@ -1,5 +1,5 @@
 -- The last line of a run.
-use Rattle.std.specs.Prelude.{◌≡◌, ◌⊎◌, ◌==◌, ℕ, Bool, List}
+use Rattle.std.specs.Prelude.{◌≡◌, ◌⊎◌, ◌==◌, ℕ, Bool, List, ◌++◌, take}
 use Rattle.sector_disk.specs.Machine.{Moment, Says, Utters}
 use Rattle.fsd_texts.specs.declared.line.Line.{Line}
 use Rattle.fsd_texts.specs.Text.{memory_text, text}
@@ -11,6 +11,10 @@ IsTextFor line said = (said ≡ text line) ⊎ (said ≡ memory_text)
 -- some first bytes of it are said
 abbrev pub UttersLine : Line → Moment → Moment → Type 0
 UttersLine line old left = (said : List ℕ) × IsTextFor line said × Utters said old left
+
+-- that is all that is said, where the output failed
+abbrev pub BeginsLine : Line → (old new : Moment) → Type 0
+BeginsLine line old new = (said : List ℕ) × IsTextFor line said × (heard : ℕ) × (new.said ≡ old.said ++ take heard said)
 
 -- the status of a run whose output failed
 abbrev pub is_unsaid : ℕ → Bool

@@ -1,5 +1,5 @@
 -- What the command `format` leaves.
-use Rattle.std.specs.Prelude.{◌≡◌, ◌⊎◌, ◌≤◌, ℕ, List, [], ◌∷◌, ◌++◌, Option, Some, None, Result, Ok, Err}
+use Rattle.std.specs.Prelude.{◌≡◌, ◌⊎◌, ◌≤◌, ℕ, List, [], ◌∷◌, ◌++◌, take, Option, Some, None, Result, Ok, Err, IsTrue}
 use Rattle.sector_disk.specs.declared.machine.Attach.TheVariants.{New}
 use Rattle.sector_disk.specs.declared.sector.WeakRun.{WeakRun}
 use Rattle.sector_disk.specs.Calls.{DiskFaults}
@@ -11,6 +11,7 @@ use Rattle.fsd_sound.specs.Format.{IsFormattedIn}
 use Rattle.fsd_sound.specs.Sound.{IsSound}
 use Rattle.fsd_texts.specs.declared.fault.Fault.TheVariants as Ends
 use Rattle.fsd_texts.specs.Text.{fault_text, format_line, memory_text, text}
+use Rattle.volume_turns.specs.Status.{CountsNone, is_calm}
 
 -- ---- the image
 
@@ -75,11 +76,13 @@ IsFaultOfPlan (Err why) status = status ≡ 6
 abbrev pub IsFormatStatus : Result Layout LayoutFault → ℕ → Type 0
 IsFormatStatus planned status = (status ≡ format_status planned) ⊎ ((status ≡ 7) ⊎ IsFaultOfPlan planned status)
 
--- Where the status tells a fault of the disk or of the output, this is counted; none of the input is.
+-- Where the status tells a fault of the disk or of the output, this is counted; none of the input is, and none at all where it tells
+-- no call of the outside.
 pub record CountsFaults (old new : Report) (status : ℕ) : Type 0 where
   pub disk : status ≡ 4 → Rose old.disk_faults new.disk_faults
   pub input : new.input_faults ≡ old.input_faults
   pub output : status ≡ 6 → Rose old.output_faults new.output_faults
+  pub quiet : IsTrue (is_calm status) → CountsNone old new
 
 -- Calls of the disk, an attach among them: a fault is counted and its place told, or there was none.
 pub record UsesAttach (fault : Option ℕ) (old new : Report) : Type 0 where
@@ -99,6 +102,10 @@ abbrev pub SaysFor : Result Layout LayoutFault → (place : ℕ) → (status : �
 SaysFor planned place status bytes =
     ((status ≡ format_status planned) × (bytes ≡ text (format_line planned))) ⊎ (((status ≡ 4) × (bytes ≡ fault_text (Ends.Device place))) ⊎ ((status ≡ 7) × (bytes ≡ memory_text)))
 
--- All of it is said, but where the output failed.
+-- some first bytes of such a text
+abbrev pub BeginsFormat : Result Layout LayoutFault → (place : ℕ) → (old new : Moment) → Type 0
+BeginsFormat planned place old new = (bytes : List ℕ) × MaySay planned place bytes × (heard : ℕ) × (new.said ≡ old.said ++ take heard bytes)
+
+-- All of it is said, or some first bytes, where the output failed.
 abbrev pub SaysFormat : Result Layout LayoutFault → (place : ℕ) → (old new : Moment) → ℕ → Type 0
-SaysFormat planned place old new status = (status ≡ 6) ⊎ ((bytes : List ℕ) × SaysFor planned place status bytes × (new.said ≡ old.said ++ bytes))
+SaysFormat planned place old new status = ((status ≡ 6) × BeginsFormat planned place old new) ⊎ ((bytes : List ℕ) × SaysFor planned place status bytes × (new.said ≡ old.said ++ bytes))

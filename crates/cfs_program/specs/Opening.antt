@@ -1,13 +1,15 @@
 -- A command over the image that it names.
-use Rattle.std.specs.Prelude.{◌≡◌, ◌⊎◌, ℕ, Bool, ◌==◌, List, [], ◌∷◌, ◌++◌, Ok}
+use Rattle.std.specs.Prelude.{◌≡◌, ◌⊎◌, ℕ, ◌^◌, ◌-◌, min, Bool, ◌==◌, List, [], ◌∷◌, ◌++◌, length, IsTrue, Ok}
 use Rattle.std.specs.List.{list_any}
 use Rattle.volume_layout.specs.declared.layout.Layout.{Layout}
 use Rattle.volume_layout.specs.Layout.{plan}
 use Rattle.sector_disk.specs.declared.machine.Attach.TheVariants.{Old}
 use Rattle.sector_disk.specs.declared.sector.WeakRun.{WeakRun}
-use Rattle.sector_disk.specs.Machine.{Asked, Moment, Report, Rose}
+use Rattle.sector_disk.specs.Machine.{Asked, Finds, Moment, Report, Rose}
 use Rattle.fsd_files.specs.Files.{Change}
 use Rattle.fsd_sound.specs.Sound.{EndIn, IsSound}
+use Rattle.volume_turns.specs.Causes.{HasVolume, IsSpent, SaysCause, is_of_mounted}
+use Rattle.volume_turns.specs.Status.{CountsInput, CountsNone, is_calm, is_quiet}
 
 -- the attach that a command asks for: an image that is there
 abbrev pub mount_asks : List ℕ → List Asked
@@ -27,7 +29,24 @@ pub record IsSoundDisk (l : Layout) (windows : List WeakRun) (h : List Change) (
   pub ends : EndIn now.windows windows
   pub sound : IsSound l windows h f now.image
 
--- A run that takes the input: where its status tells a fault of the disk or of the output, this is counted.
+-- A run that takes the input: where its status tells a fault of the disk or of the output, this is counted, and where it tells no
+-- call of the outside none is; a fault that was found in the volume may end one whose input has failed.
 pub record CountsReading (old new : Report) (status : ℕ) : Type 0 where
   pub disk : status ≡ 4 → Rose old.disk_faults new.disk_faults
   pub output : status ≡ 6 → Rose old.output_faults new.output_faults
+  pub quiet : IsTrue (is_quiet status) → CountsNone old new
+  pub calm : IsTrue (is_calm status) → CountsInput old new
+
+-- So it is of the image, and of the number of its sectors, as the attach found it.
+pub record AsFound (P : ℕ → Moment → Type 0) (old : Moment) : Type 0 where
+  pub at : Moment
+  pub found : Finds old at
+  pub sectors : ℕ
+  pub size : sectors ≡ min (length at.image) (2 ^ 32 - 1)
+  pub holds : P sectors at
+
+-- What a run tells of the image that its attach found, by its status.
+pub record TellsFound (old new : Moment) (status : ℕ) : Type 0 where
+  pub mounted : IsTrue (is_of_mounted status) → AsFound HasVolume old
+  pub refused : status ≡ 3 → AsFound (λ sectors at. SaysCause sectors at new) old
+  pub spent : status ≡ 9 → AsFound IsSpent old

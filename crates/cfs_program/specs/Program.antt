@@ -1,5 +1,5 @@
 -- What the program answers and leaves, by what its words ask for.
-use Rattle.std.specs.Prelude.{◌≡◌, ◌⊎◌, ⊤, ℕ, Bool, ◌==◌, List, [], ◌∷◌, ◌++◌, Result, Ok, Err, IsTrue}
+use Rattle.std.specs.Prelude.{◌≡◌, ◌⊎◌, ⊤, ℕ, Bool, ◌==◌, List, [], ◌∷◌, ◌++◌, Result, Ok, Err, IsFalse, IsTrue}
 use Rattle.std.specs.List.{list_any}
 use Rattle.volume_layout.specs.declared.layout.Layout.{Layout}
 use Rattle.volume_layout.specs.declared.fault.LayoutFault.{LayoutFault}
@@ -8,18 +8,33 @@ use Rattle.sector_disk.specs.declared.machine.Machine.{Ghosts}
 use Rattle.sector_disk.specs.declared.sector.WeakRun.{WeakRun}
 use Rattle.sector_disk.specs.Machine.{Asked, LeavesOnly, Moment, Report, Rose, Trusts}
 use Rattle.fsd_files.specs.Files.{Change}
+use Rattle.fsd_texts.specs.declared.command.Command.{Command}
+use Rattle.fsd_texts.specs.declared.command.Command.TheVariants as Word
 use Rattle.fsd_texts.specs.declared.line.Line.{Line}
 use Rattle.fsd_texts.specs.declared.line.Line.TheVariants as Says
+use Rattle.fsd_texts.specs.declared.end.End.TheVariants.{Done}
+use Rattle.fsd_texts.specs.Script.{script_in}
 use Rattle.fsd_texts.specs.Text.{memory_text, text}
 use Rattle.fsd_texts.specs.declared.bad_line.Cause.{Cause}
 use Rattle.fsd_runs.specs.declared.request.Request.{Request}
 use Rattle.fsd_runs.specs.declared.request.Request.TheVariants.{Outside, BadField, Format, Put, One, Script, Generate}
 use Rattle.fsd_runs.specs.Errands.{IfMounts}
 use Rattle.fsd_runs.specs.Leaves.{LeavesRun, NoneRose}
+use Rattle.cfs_program.specs.Ending.{BeginsLine}
 use Rattle.cfs_program.specs.Formatting.{IsMadeBy, IsUntouched, SaysFormat, SparesUnplanned, format_status, plan_asks}
-use Rattle.cfs_program.specs.Opening.{AsksOrNot, IsSoundDisk, mount_asks}
+use Rattle.volume_turns.specs.Causes.{FailsInput, HasVolume, IsSpent, SaysBadLine, SaysCause, SaysFault, is_of_fault, is_of_mounted}
+use Rattle.volume_turns.specs.Status.{CountsInput, CountsNone, is_calm, is_quiet}
+use Rattle.cfs_program.specs.Opening.{AsFound, AsksOrNot, IsSoundDisk, is_from_outside, mount_asks}
 
 -- ---- statuses
+
+-- those of a command's replies
+abbrev pub reply_statuses : Command → List ℕ
+reply_statuses (Word.Put name bytes keep) = 0 ∷ 1 ∷ []
+reply_statuses (Word.Delete key) = 0 ∷ 1 ∷ []
+reply_statuses (Word.Keep name keep) = 0 ∷ 1 ∷ []
+reply_statuses (Word.Get key) = 0 ∷ 1 ∷ 8 ∷ []
+reply_statuses command = 0 ∷ []
 
 -- where no call of the outside fails
 abbrev pub complete_statuses : Request → List ℕ
@@ -27,7 +42,7 @@ complete_statuses Outside = 2 ∷ 7 ∷ []
 complete_statuses (BadField cause) = 2 ∷ 7 ∷ []
 complete_statuses (Format n t p) = format_status (plan n t p) ∷ 7 ∷ []
 complete_statuses (Put name keep) = 0 ∷ 1 ∷ 3 ∷ 5 ∷ 7 ∷ 9 ∷ []
-complete_statuses (One command) = 0 ∷ 1 ∷ 3 ∷ 7 ∷ 8 ∷ 9 ∷ []
+complete_statuses (One command) = reply_statuses command ++ 3 ∷ 7 ∷ 9 ∷ []
 complete_statuses Script = 0 ∷ 2 ∷ 3 ∷ 5 ∷ 7 ∷ 9 ∷ []
 complete_statuses (Generate seed count) = 0 ∷ 3 ∷ 7 ∷ 9 ∷ []
 
@@ -62,6 +77,28 @@ LeavesInput (Put name keep) old new = ⊤
 LeavesInput Script old new = ⊤
 LeavesInput request old new = new ≡ old
 
+-- nor has another request a fault of it
+abbrev pub SparesInput : Request → (old new : Report) → Type 0
+SparesInput (Put name keep) old new = ⊤
+SparesInput Script old new = ⊤
+SparesInput request old new = new.input_faults ≡ old.input_faults
+
+-- what is left of it where a put or a script is done
+abbrev pub TakesAll : Request → List ℕ → Type 0
+TakesAll (Put name keep) left = left ≡ []
+TakesAll Script left = left ≡ []
+TakesAll request left = ⊤
+
+-- no line of a script is bad: its commands stand in it to its end
+abbrev pub IsSpelled : Request → List ℕ → Type 0
+IsSpelled Script input = (script_in input).1 ≡ Done
+IsSpelled request input = ⊤
+
+-- of a script a line is bad, and that is said last
+abbrev pub HasBadLine : Request → List ℕ → Moment → Type 0
+HasBadLine Script input new = SaysBadLine input new
+HasBadLine request input new = ⊤
+
 -- the input that a request is about
 abbrev pub input_for : Request → List ℕ → List ℕ
 input_for (Put name keep) input = input
@@ -74,10 +111,10 @@ input_for request input = []
 abbrev pub field_line : Cause → Line
 field_line cause = Says.Bad (record { line = 0; cause = cause })
 
--- The whole line is said and its status given, or both are those of refused memory; or the output failed.
+-- The whole line is said and its status given, or both are those of refused memory; or the output failed behind some first bytes.
 abbrev pub SaysLine : Line → ℕ → (old new : Moment) → ℕ → Type 0
 SaysLine line status old new result =
-    (result ≡ 6) ⊎ (((result ≡ status) × (new.said ≡ old.said ++ text line)) ⊎ ((result ≡ 7) × (new.said ≡ old.said ++ memory_text)))
+    ((result ≡ 6) × BeginsLine line old new) ⊎ (((result ≡ status) × (new.said ≡ old.said ++ text line)) ⊎ ((result ≡ 7) × (new.said ≡ old.said ++ memory_text)))
 
 -- of the requests that mount nothing; place is that of the disk's last fault
 abbrev pub SaysAnswer : Request → (place : ℕ) → (old new : Moment) → ℕ → Type 0
@@ -118,11 +155,22 @@ pub record Ran {D : Type 0} (M : Ghosts D) (request : Request) (path : List ℕ)
   pub complete : NoneRose (M.report a) (M.report b) → IsTrue (is_one_of (complete_statuses request) result)
   pub device : result ≡ 4 → Rose (M.report a).disk_faults (M.report b).disk_faults
   pub output : result ≡ 6 → Rose (M.report a).output_faults (M.report b).output_faults
+  pub quiet : IsTrue (is_quiet result) → CountsNone (M.report a) (M.report b)
+  pub calm : IsTrue (is_calm result) → CountsInput (M.report a) (M.report b)
   pub attaches : M.tells b → AsksOrNot (asks_of request path) (M.ledger a).attaches (M.ledger b).attaches
-  pub attached : result ≡ 0 → M.tells b → (M.ledger b).attaches ≡ (M.ledger a).attaches ++ asks_of request path
+  pub attached : IsFalse (is_from_outside result) → M.tells b → (M.ledger b).attaches ≡ (M.ledger a).attaches ++ asks_of request path
   pub taken : M.tells b → LeavesInput request (M.ledger a).input (M.ledger b).input
+  pub spared : SparesInput request (M.report a) (M.report b)
+  pub input : result ≡ 5 → M.tells b → FailsInput (M.ledger a).input (M.report a) (M.report b)
+  pub bad : result ≡ 2 → M.honest b → HasBadLine request (M.ledger a).input (M.now b)
+  pub whole : result ≡ 0 → M.tells b → TakesAll request (M.ledger b).input
+  pub spelled : result ≡ 0 → M.tells b → IsSpelled request (M.ledger a).input
   pub trust : Trusts (M.tells a) (M.tells b) (M.honest a) (M.honest b)
   pub says : M.honest b → SaysAnswer request (M.report b).fault_place (M.now a) (M.now b) result
+  pub mounted : IsTrue (is_of_mounted result) → M.honest b → IfMounts request (AsFound HasVolume (M.now a))
+  pub refused : result ≡ 3 → M.honest b → AsFound (λ sectors at. SaysCause sectors at (M.now b)) (M.now a)
+  pub last : IsTrue (is_of_fault result) → M.honest b → IfMounts request (SaysFault (M.report b).fault_place (M.now b) result)
+  pub spent : result ≡ 9 → M.honest b → AsFound IsSpent (M.now a)
   pub image : result ≡ 0 → M.honest b → HoldsAfter request (M.now b)
   pub untouched : M.honest b → SparesImage request (M.now a) (M.now b)
   pub leaves : M.honest b → LeavesSound request (M.ledger a).input (M.ledger b).input (M.left_since b) (λ P. LeavesOnly M.moment M.left_since a b P) (M.report a) (M.report b) (M.now a) (M.now b) result

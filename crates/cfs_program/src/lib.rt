@@ -3,7 +3,6 @@
 
 mod ending;
 mod formatting;
-mod input;
 mod making;
 mod opening;
 mod putting;

@@ -1,27 +1,26 @@
 //! A put of the input over the image that it names.
-ghost use Rattle.std.specs.Prelude.{◌≡◌, ◌++◌, IsFalse, List, ℕ};
+ghost use Rattle.std.specs.Prelude.{◌≡◌, ◌++◌, IsFalse, List, [], ℕ, IsTrue};
 ghost use Rattle.sector_disk.specs.declared.sector.WeakRun.{WeakRun};
 ghost use Rattle.sector_disk.specs.Machine.{LeavesOnly, Trusts};
 ghost use Rattle.volume_layout.specs.declared.layout.Layout.{Layout as Plan};
 ghost use Rattle.fsd_files.specs.Files.{Change};
 ghost use Rattle.fsd_runs.specs.Leaves.{LeavesRun};
 ghost use Rattle.fsd_runs.specs.declared.request.Request.TheVariants.{Put};
-ghost use Rattle.volume_contract.specs.Mount.{IsSoundAt};
+ghost use Rattle.volume_turns.specs.Causes.{FailsInput, SaysFault, is_of_fault};
 ghost use Rattle.volume_turns.specs.Status.{IsPutStatus};
-ghost use Rattle.cfs_program.specs.Opening.{AsksOrNot, CountsReading, IsSoundDisk, is_from_outside, mount_asks};
+ghost use Rattle.cfs_program.specs.Opening.{AsksOrNot, CountsReading, IsSoundDisk, TellsFound, is_from_outside, mount_asks};
 
 use crate::ending::end_with;
-use crate::input::{InputFault, read_input};
 use crate::replies::Alone;
 use fsd_bytes::FileName;
 use fsd_texts::{Fault, Line};
 use sector_disk::{Attach, Machine};
 use std::alloc::Global;
 use volume_contract::Files;
-use volume_turns::{run_long_put, run_put};
+use volume_turns::run_put;
 
-/// Makes a version of the input over the volume of an image: all of the input is taken first, and the version is forced before it
-/// is said. A fault is said in its place. It gives the status.
+/// Makes a version of the input over the volume of an image: the version is forced before it is said. A fault is said in its place.
+/// It gives the status.
 pub fn run_input<M: Machine, V: Files<M> + Drop>(
     alloc: Global,
     m: &mut M,
@@ -33,36 +32,16 @@ pub fn run_input<M: Machine, V: Files<M> + Drop>(
     ensures counts { CountsReading (M.report m.old) (M.report m.new) result }
     ensures asks { M.tells m.new → AsksOrNot (mount_asks path.now) (M.ledger m.old).attaches (M.ledger m.new).attaches }
     ensures asked { IsFalse (is_from_outside result) → M.tells m.new → (M.ledger m.new).attaches ≡ (M.ledger m.old).attaches ++ mount_asks path.now }
+    ensures input { result ≡ 5 → M.tells m.new → FailsInput (M.ledger m.old).input (M.report m.old) (M.report m.new) }
+    ensures whole { result ≡ 0 → M.tells m.new → (M.ledger m.new).input ≡ [] }
     ensures trust { Trusts (M.tells m.old) (M.tells m.new) (M.honest m.old) (M.honest m.new) }
+    ensures image { M.honest m.new → TellsFound (M.now m.old) (M.now m.new) result }
+    ensures last { IsTrue (is_of_fault result) → M.honest m.new → SaysFault (M.report m.new).fault_place (M.now m.new) result }
     ensures leaves { M.honest m.new → (l : Plan) (windows : List WeakRun) (h : List Change) (f : ℕ) → IsSoundDisk l windows h f (M.now m.old) →
         LeavesRun (Put name.now keep) (M.ledger m.old).input (M.ledger m.new).input l windows h f (M.left_since m.new) (LeavesOnly M.moment M.left_since m.old m.new) (M.report m.old) (M.report m.new) (M.now m.old) (M.now m.new) result }
 {
     match m.attach(path, Attach::Old) {
-        Ok(sectors) => put_input::<M, V>(alloc, m, sectors, name, keep),
+        Ok(sectors) => run_put::<M, V, Alone>(alloc, m, sectors, name.copied(), keep),
         Err(failed) => end_with(alloc, m, &Line::Ended(Fault::Device(failed.place)), 4),
-    }
-}
-
-// Takes the input, and makes a version of it over the image that is attached.
-fn put_input<M: Machine, V: Files<M> + Drop>(
-    alloc: Global,
-    m: &mut M,
-    sectors: u32,
-    name: &FileName,
-    keep: Option<u32>,
-) -> u8
-    requires { sectors ≡ (M.report m.old).sectors }
-    ensures status { IsPutStatus result }
-    ensures counts { CountsReading (M.report m.old) (M.report m.new) result }
-    ensures attaches { M.tells m.new → (M.ledger m.new).attaches ≡ (M.ledger m.old).attaches }
-    ensures trust { Trusts (M.tells m.old) (M.tells m.new) (M.honest m.old) (M.honest m.new) }
-    ensures leaves { M.honest m.new → (l : Plan) (windows : List WeakRun) (h : List Change) (f : ℕ) → IsSoundAt sectors l windows h f (M.now m.old) →
-        LeavesRun (Put name.now keep) (M.ledger m.old).input (M.ledger m.new).input l windows h f (M.left_since m.new) (LeavesOnly M.moment M.left_since m.old m.new) (M.report m.old) (M.report m.new) (M.now m.old) (M.now m.new) result }
-{
-    match read_input(alloc, m) {
-        Ok(bytes) => run_put::<M, V, Alone>(alloc, m, sectors, name.copied(), keep, bytes),
-        Err(InputFault::TooLong) => run_long_put::<M, V>(alloc, m, sectors),
-        Err(InputFault::Failed) => end_with(alloc, m, &Line::Ended(Fault::Input), 5),
-        Err(InputFault::Memory) => end_with(alloc, m, &Line::Ended(Fault::Memory), 7),
     }
 }

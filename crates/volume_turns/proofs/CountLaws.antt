@@ -199,10 +199,10 @@ module _ {S D : Type 0} (state : S → State) (has : S → Mounted → List Plac
 
 -- ---- what is counted of faults
 
-unheard_on : {T : Type 0} (a b c : Report) → a.output_faults ≤ b.output_faults → (r : Result T End) → Unheard b c r → Unheard a c r
-unheard_on a b c later (Err Output) rose = omega (arith, later, rose)
-unheard_on a b c later (Err (Stopped fault)) rose = tt
-unheard_on a b c later (Ok u) rose = tt
+unheard_on : {T : Type 0} (a b c : Report) → b.output_faults ≡ a.output_faults → (r : Result T End) → Unheard b c r → Unheard a c r
+unheard_on a b c same (Err Output) rose = omega (arith, same, rose)
+unheard_on a b c same (Err (Stopped fault)) is = is ∙ same
+unheard_on a b c same (Ok u) is = is ∙ same
 
 pub told_more : {T U : Type 0} (a b c : Report) (u : U) (r : Result T End) → Told {T = U} a b (Ok u) → Told {T = T} b c r → Told {T = T} a c r
 told_more a b c u r x y = record {
@@ -210,15 +210,15 @@ told_more a b c u r x y = record {
   disk = faults_then (device_end r) a b c x.disk y.disk;
   input = y.input ∙ x.input;
   later = let p = x.later in let q = y.later in omega (arith, p, q);
-  output = unheard_on a b c x.later r y.output;
+  output = unheard_on a b c x.output r y.output;
 }
 
 pub told_all : {T U : Type 0} (a b : Report) (t : T) (u : U) → Told {T = T} a b (Ok t) → Told {T = U} a b (Ok u)
-told_all a b t u x = record { sectors = x.sectors; disk = x.disk; input = x.input; later = x.later; output = tt }
+told_all a b t u x = record { sectors = x.sectors; disk = x.disk; input = x.input; later = x.later; output = x.output }
 
 pub told_end : {T U : Type 0} (a b : Report) (end : End) → Told {T = T} a b (Err end) → Told {T = U} a b (Err end)
-told_end a b (Stopped fault) x = record { sectors = x.sectors; disk = x.disk; input = x.input; later = x.later; output = tt }
+told_end a b (Stopped fault) x = record { sectors = x.sectors; disk = x.disk; input = x.input; later = x.later; output = x.output }
 told_end a b Output x = record { sectors = x.sectors; disk = x.disk; input = x.input; later = x.later; output = x.output }
 
 pub told_none : (a : Report) → Told {T = Unit {0}} a a (Ok tt)
-told_none a = record { sectors = refl; disk = (refl, refl); input = refl; later = omega arith; output = tt }
+told_none a = record { sectors = refl; disk = (refl, refl); input = refl; later = omega arith; output = refl }

@@ -16,7 +16,7 @@ use Rattle.fsd_texts.specs.declared.fault.Fault.TheVariants as Ends
 use Rattle.fsd_texts.specs.Text.{fault_text}
 use Rattle.fsd_runs.specs.declared.request.Request.{Request}
 use Rattle.fsd_runs.specs.Errands.{Turn, fault_status}
-use Rattle.fsd_runs.specs.Leaves.{IsBroken, IsOutside, IsUnsaid, SaysNext}
+use Rattle.fsd_runs.specs.Leaves.{IsBroken, IsOutside, IsUnsaid, MayEnd, SaysNext}
 use Rattle.fsd_runs.specs.Runs.{changes_in, forced_in, said_in}
 use Rattle.volume_contract.specs.State.{Known}
 use Rattle.volume_turns.specs.declared.turns.End.TheVariants.{Fault as Stopped}
@@ -84,37 +84,29 @@ module _ (k : Known) (turns : List Turn) (old mid : Moment) (halted : Halted k t
   }
 
   -- the line of a fault
-  pub says_fault : (why : Fault) → EndsAtOnce why → (left : Moment) → UttersFault why mid left → InRun k turns old left
-  says_fault why once left (said, which, utters) =
+  says_fault : (why : Fault) → MayEnd why → (left : Moment) → UttersFault why mid left → InRun k turns old left
+  says_fault why may left (said, which, utters) =
       let part = take utters.heard (fault_text said) in
-      says_part part left utters.image utters.windows utters.said (next_fault (slice_get turns halted.whole) halted.more part (said, utters.heard, said_ends why said (at_once_ends why once) which, refl))
+      says_part part left utters.image utters.windows utters.said (next_fault (slice_get turns halted.whole) halted.more part (said, utters.heard, said_ends why said may which, refl))
 
--- ---- a fault that ends a run at once
+-- ---- a fault that ends a run there
 
-module _ {D T : Type 0} (M : Ghosts D) (request : Request) (before : Report) (k : Known) (turns : List Turn) (a m b : D) (moments : LeavesOnly M.moment M.left_since a m (InRun k turns (M.now a))) (halted : Halted k turns (M.now a) (M.now m))
-    (short : AreShort (M.now m).windows) (ends : EndIn (M.now a).windows k.windows) (why : Fault) (once : EndsAtOnce why) (told : Told {T = T} before (M.report m) (Err (Stopped why)))
+module _ {D : Type 0} (M : Ghosts D) (request : Request) (before : Report) (k : Known) (turns : List Turn) (a m b : D) (moments : LeavesOnly M.moment M.left_since a m (InRun k turns (M.now a))) (halted : Halted k turns (M.now a) (M.now m))
+    (short : AreShort (M.now m).windows) (ends : EndIn (M.now a).windows k.windows) (why : Fault) (may : MayEnd why) (out : IsOutside request before (M.report b) why) (later : before.output_faults ≤ (M.report m).output_faults)
     (status : ℕ) (says : LeavesDisk M false (is_unsaid status) (UttersFault why) m b) (honest : M.honest b) (ended : EndsWith why (M.now m) (M.now b) status) where
-  pub broken_moments : LeavesOnly M.moment M.left_since a b (InRun k turns (M.now a))
-  broken_moments = then_on M.moment M.left_since a m b (InRun k turns (M.now a)) moments
-      (leaves_more M.moment M.left_since m b (UttersFault why (M.now m)) (InRun k turns (M.now a)) (λ left utters. says_fault k turns (M.now a) (M.now m) halted short ends why once left utters) (says.any_moment honest))
-
-  outside : (said : Fault) → EndsAtOnce said → said ≡ why → IsOutside request before (M.report b) said
-  outside (Ends.Device s) at_once is =
-      let fault : Told {T = T} before (M.report m) (Err (Stopped (Ends.Device s))) = subst (λ (x : Fault). Told {T = T} before (M.report m) (Err (Stopped x))) (sym is) told in
-      record { rose = subst (λ (n : ℕ). Rose before.disk_faults n) (sym says.spares.disk) fault.disk.rose; told = fault.disk.told ∙ sym says.spares.place }
-  outside Ends.Memory at_once is = tt
-  outside said at_once is = absurd at_once
+  pub stopped_moments : LeavesOnly M.moment M.left_since a b (InRun k turns (M.now a))
+  stopped_moments = then_on M.moment M.left_since a m b (InRun k turns (M.now a)) moments
+      (leaves_more M.moment M.left_since m b (UttersFault why (M.now m)) (InRun k turns (M.now a)) (λ left utters. says_fault k turns (M.now a) (M.now m) halted short ends why may left utters) (says.any_moment honest))
 
   unsaid : status ≡ 6 → IsUnsaid before (M.report b) status
   unsaid six =
       let rose : Rose (M.report m).output_faults (M.report b).output_faults = subst (λ (x : Bool). Counts x (M.report m).output_faults (M.report b).output_faults) (eq-eqb status 6 six) says.spares.output in
-      let later = told.later in
       record { ends = six; rose = omega (arith, later, rose) }
 
   broken : (said : Fault) → IsOutside request before (M.report b) said → status ≡ fault_status said → SaysAll (fault_text said) (M.now m) (M.now b) → IsBroken request before (M.report b) turns (M.now a) (M.now b) status
-  broken said out gives all = record {
+  broken said from gives all = record {
     why = said;
-    outside = out;
+    outside = from;
     ends = gives;
     says = record {
       whole = halted.whole;
@@ -125,8 +117,26 @@ module _ {D T : Type 0} (M : Ghosts D) (request : Request) (before : Report) (k 
 
   by_end : EndsWith why (M.now m) (M.now b) status → IsUnsaid before (M.report b) status ⊎ IsBroken request before (M.report b) turns (M.now a) (M.now b) status
   by_end (inl six) = inl (unsaid six)
-  by_end (inr (said, inl is, gives, all)) = inr (broken said (outside said (subst EndsAtOnce (sym is) once) is) gives all)
+  by_end (inr (said, inl is, gives, all)) = inr (broken said (subst (λ (w : Fault). IsOutside request before (M.report b) w) (sym is) out) gives all)
   by_end (inr (said, inr is, gives, all)) = inr (broken Ends.Memory tt (gives ∙ ap fault_status is) (subst (λ (w : Fault). SaysAll (fault_text w) (M.now m) (M.now b)) is all))
 
+  pub stopped_ends : IsUnsaid before (M.report b) status ⊎ IsBroken request before (M.report b) turns (M.now a) (M.now b) status
+  stopped_ends = by_end ended
+
+-- ---- a fault that ends a run at once
+
+module _ {D T : Type 0} (M : Ghosts D) (request : Request) (before : Report) (k : Known) (turns : List Turn) (a m b : D) (moments : LeavesOnly M.moment M.left_since a m (InRun k turns (M.now a))) (halted : Halted k turns (M.now a) (M.now m))
+    (short : AreShort (M.now m).windows) (ends : EndIn (M.now a).windows k.windows) (why : Fault) (once : EndsAtOnce why) (told : Told {T = T} before (M.report m) (Err (Stopped why)))
+    (status : ℕ) (says : LeavesDisk M false (is_unsaid status) (UttersFault why) m b) (honest : M.honest b) (ended : EndsWith why (M.now m) (M.now b) status) where
+  outside : (said : Fault) → EndsAtOnce said → said ≡ why → IsOutside request before (M.report b) said
+  outside (Ends.Device s) at_once is =
+      let fault : Told {T = T} before (M.report m) (Err (Stopped (Ends.Device s))) = subst (λ (x : Fault). Told {T = T} before (M.report m) (Err (Stopped x))) (sym is) told in
+      record { rose = subst (λ (n : ℕ). Rose before.disk_faults n) (sym says.spares.disk) fault.disk.rose; told = fault.disk.told ∙ sym says.spares.place }
+  outside Ends.Memory at_once is = tt
+  outside said at_once is = absurd at_once
+
+  pub broken_moments : LeavesOnly M.moment M.left_since a b (InRun k turns (M.now a))
+  broken_moments = stopped_moments M request before k turns a m b moments halted short ends why (at_once_ends why once) (outside why once refl) told.later status says honest ended
+
   pub broken_ends : IsUnsaid before (M.report b) status ⊎ IsBroken request before (M.report b) turns (M.now a) (M.now b) status
-  broken_ends = by_end ended
+  broken_ends = stopped_ends M request before k turns a m b moments halted short ends why (at_once_ends why once) (outside why once refl) told.later status says honest ended

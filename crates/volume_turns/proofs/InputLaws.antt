@@ -1,12 +1,10 @@
 -- What a version of the input's bytes leaves: it is one command, or the input is too long.
-use Rattle.std.proofs.Common.{◌≡◌, ◌⊎◌, inl, inr, ℕ, ◌<◌, ◌≤◌, Bool, true, false, List, [], ◌∷◌, ◌++◌, length, Option, Some, None, refl, sym, ◌∙◌, ap, subst, arith}
+use Rattle.std.proofs.Common.{◌≡◌, ◌⊎◌, inl, inr, ℕ, ◌<◌, ◌≤◌, Bool, true, false, List, [], ◌∷◌, length, Option, Some, None, refl, sym, ◌∙◌, ap, subst, arith}
 use Rattle.fsd_log.specs.Scan.{Placed}
-use Rattle.std.specs.Prelude.{if◌then◌else◌, nat_lt, IsSome, Err, slice_get}
+use Rattle.std.specs.Prelude.{if◌then◌else◌, nat_lt, Err}
 use Rattle.std.proofs.lemmas.Bool.{lt-ltb, ltb-true}
 use Rattle.std.proofs.lemmas.List.{append-nil}
-use Rattle.volume_layout.specs.declared.layout.Layout.{Layout}
 use Rattle.sector_disk.specs.declared.machine.Machine.{Ghosts}
-use Rattle.sector_disk.specs.declared.sector.WeakRun.{WeakRun}
 use Rattle.sector_disk.specs.Calls.{LeavesDisk, WritesDisk}
 use Rattle.sector_disk.specs.Image.{AreShort}
 use Rattle.sector_disk.specs.Machine.{LeavesOnly, Moment, Report}
@@ -14,10 +12,8 @@ use Rattle.sector_disk.proofs.Moments.{leaves_more}
 use Rattle.sector_disk.proofs.Wear.{AllWorn-here}
 use Rattle.fsd_bytes.specs.declared.refusal.Refusal.{Refusal}
 use Rattle.fsd_bytes.specs.declared.refusal.Refusal.TheVariants as Why
-use Rattle.fsd_files.specs.Answers.{Met}
 use Rattle.fsd_files.specs.Disk.{in_runs}
 use Rattle.fsd_files.specs.Files.{Change}
-use Rattle.fsd_files.specs.Volume.{Volume}
 use Rattle.fsd_sound.specs.Mounted.{Mounted, telling_of}
 use Rattle.fsd_sound.specs.Shown.{told}
 use Rattle.fsd_sound.specs.Sound.{IsSound, weak_of}
@@ -29,15 +25,15 @@ use Rattle.fsd_texts.specs.declared.line.Line.TheVariants as Says
 use Rattle.fsd_texts.specs.Script.{max_input}
 use Rattle.fsd_runs.specs.declared.request.Request.TheVariants.{One, Put}
 use Rattle.fsd_runs.specs.Errands.{Cut, Errand, MayCut, Turn, alone, errand_of, line_turn, nothing_but}
-use Rattle.fsd_runs.specs.Leaves.{IsBroken, IsOutside, IsReplied, IsUnsaid, LeavesMounted, LeavesRun, LeavesUnmounted, Left, LeftSince}
-use Rattle.fsd_runs.specs.Runs.{Goes, IsCutAt, answered, behind, errand_in, turns_of}
+use Rattle.fsd_runs.specs.Leaves.{IsBroken, IsOutside}
+use Rattle.fsd_runs.specs.Runs.{IsCutAt, errand_in}
 use Rattle.volume_contract.specs.Ends.{Closes, device_of}
 use Rattle.volume_contract.specs.Order.{IsDevice}
 use Rattle.volume_contract.specs.State.{State, Known, Leaves, Stands, volume_of}
 use Rattle.volume_turns.specs.declared.turns.End.TheVariants.{Fault as Stopped}
 use Rattle.volume_turns.specs.Line.{EndsWith, UttersFault, is_unsaid}
 use Rattle.volume_turns.specs.Once.{InClose, IsDone, close_fault}
-use Rattle.volume_turns.specs.Steps.{IsOfVolume, device_told}
+use Rattle.volume_turns.specs.Steps.{IsOfCall, device_told}
 use Rattle.volume_turns.specs.Turns.{InRun, Told}
 use Rattle.volume_turns.specs.Whole.{EndsLast, Finishes, RunsOut, UttersLast}
 use Rattle.volume_turns.proofs.GroupEndLaws.{finishes_last}
@@ -68,65 +64,32 @@ outside_put name keep c before after why o = absurd o
 broken_put : (name : List ℕ) (keep : Option ℕ) (c : Command) (before after : Report) {turns : List Turn} {old new : Moment} {result : ℕ} → IsBroken (One c) before after turns old new result → IsBroken (Put name keep) before after turns old new result
 broken_put name keep c before after x = record { why = x.why; outside = outside_put name keep c before after x.why x.outside; ends = x.ends; says = x.says }
 
-module _ (name : List ℕ) (keep : Option ℕ) (input rest : List ℕ) (few : length input ≤ max_input) (l : Layout) (windows : List WeakRun) (h : List Change) (f : ℕ) (Past : ℕ → Moment → Type 0) (Only : (Moment → Type 0) → Type 0) (before after : Report) (old new : Moment) (result : ℕ) where
+module _ {D : Type 0} (M : Ghosts D) (name : List ℕ) (keep : Option ℕ) (input rest : List ℕ) (few : length input ≤ max_input) (before : Report) (k : Known) (a b : D) (status : ℕ) where
   abbrev c : Command
   c = Word.Put name input keep
 
-  abbrev e : Errand
-  e = errand_of (Put name keep) input
-
-  unmounted_put : LeavesUnmounted (One c) l windows h f Only before after old new result → LeavesUnmounted (Put name keep) l windows h f Only before after old new result
-  unmounted_put u = record {
-    moments = u.moments;
-    exit = u.exit;
-    ends = elim u.ends [ inl spent ↦ inl spent | inr over ↦ inr (elim over [ inl unsaid ↦ inl unsaid | inr x ↦ inr (broken_put name keep c before after x) ]) ];
-  }
-
-  same_errand : (cut : Cut) → MayCut (One c) cut → e ≡ errand_in (One c) [] cut
+  same_errand : (cut : Cut) → MayCut (One c) cut → errand_of (Put name keep) input ≡ errand_in (One c) [] cut
   same_errand None may = asks_one name keep input few
-  same_errand (Some (k, why)) may = absurd may
+  same_errand (Some (n, why)) may = absurd may
 
-  abbrev All : Errand → ℕ → List Met → Volume → Type 0
-  All x count mets v = ((length mets ≡ length x.commands) × IsReplied l windows h count (turns_of x mets v) ((x.ends (answered mets v x.commands)).status) (behind mets v x.commands) old new result)
-      ⊎ (IsUnsaid before after result ⊎ IsBroken (One c) before after (turns_of x mets v) old new result)
-
-  mounted_put : LeavesMounted (One c) [] rest l windows h f Past Only before after old new result → LeavesMounted (Put name keep) input rest l windows h f Past Only before after old new result
-  mounted_put o =
-      let same : errand_in (One c) [] o.run.cut ≡ e = sym (same_errand o.run.cut o.run.may) in
-      record {
-        count = o.count;
-        prefix = o.prefix;
-        next = o.next;
-        at = o.at;
-        from = o.from;
-        stood = o.stood;
-        settled = o.settled;
-        raised = o.raised;
-        volume = o.volume;
-        starts = o.starts;
-        run = record {
-          cut = None;
-          may = tt;
-          before = tt;
-          mets = o.run.mets;
-          goes = subst (λ (x : Errand). Goes (in_runs (windows ++ o.next ∷ [])) (Past o.at) (IsCutAt None) x old.said o.from o.volume o.run.mets x.commands) same
-              (goes_wider (in_runs (windows ++ o.next ∷ [])) (Past o.at) (Past o.at) (λ m was. was) (IsCutAt o.run.cut) (IsCutAt None) (λ v i is. tt) (errand_in (One c) [] o.run.cut) old.said o.from o.volume o.run.mets (errand_in (One c) [] o.run.cut).commands o.run.goes);
-        };
-        cause = tt;
-        moments = subst (λ (x : Errand). Only (Left l windows h f o.count (turns_of x o.run.mets o.volume) old)) same o.moments;
-        later = λ left past. subst (λ (x : Errand). LeftSince l windows h o.count (turns_of x o.run.mets o.volume) old left) same (o.later left past);
-        exit = subst (λ (x : Errand). LeftSince l windows h o.count (turns_of x o.run.mets o.volume) old new) same o.exit;
-        ends = over (subst (λ (x : Errand). All x o.count o.run.mets o.volume) same o.ends);
-      }
+  pub put_out : RunsOut M (One c) [] rest before k a b status → RunsOut M (Put name keep) input rest before k a b status
+  put_out r = record {
+    cut = None;
+    may = tt;
+    ahead = tt;
+    cause = tt;
+    finishes = subst (λ (x : Errand). Finishes M (Put name keep) x (IsCutAt None) before k a b status) (sym (same_errand r.cut r.may)) (record {
+      mets = r.finishes.mets;
+      goes = λ t le. goes_wider (in_runs k.windows) (M.left_since b t) (M.left_since b t) (λ m was. was) (IsCutAt r.cut) (IsCutAt None) (λ v i is. tt) (errand_in (One c) [] r.cut) (M.now a).said (M.now a).image (volume_of k) r.finishes.mets (errand_in (One c) [] r.cut).commands (r.finishes.goes t le);
+      moments = r.finishes.moments;
+      ends = over r.finishes.ends;
+    });
+  }
     where
-      over : {A B : Type 0} {turns : List Turn} → A ⊎ (B ⊎ IsBroken (One c) before after turns old new result) → A ⊎ (B ⊎ IsBroken (Put name keep) before after turns old new result)
+      over : {A B : Type 0} {turns : List Turn} {old new : Moment} → A ⊎ (B ⊎ IsBroken (One c) before (M.report b) turns old new status) → A ⊎ (B ⊎ IsBroken (Put name keep) before (M.report b) turns old new status)
       over (inl x) = inl x
       over (inr (inl u)) = inr (inl u)
-      over (inr (inr x)) = inr (inr (broken_put name keep c before after x))
-
-  pub put_run : LeavesRun (One c) [] rest l windows h f Past Only before after old new result → LeavesRun (Put name keep) input rest l windows h f Past Only before after old new result
-  put_run (inl u) = inl (unmounted_put u)
-  put_run (inr o) = inr (mounted_put o)
+      over (inr (inr x)) = inr (inr (broken_put name keep c before (M.report b) x))
 
 -- ---- an input that is too long
 
@@ -135,10 +98,10 @@ pub device_close : (why : Refusal) → device_of why ≡ device_told (close_faul
 device_close (Why.Device s) = refl
 device_close why = refl
 
-pub close_of_volume : (why : Refusal) → IsOfVolume (close_fault why)
-close_of_volume (Why.Device s) = tt
-close_of_volume (Why.Lost x y) = tt
-close_of_volume why = tt
+pub close_of_call : (why : Refusal) → IsOfCall (close_fault why)
+close_of_call (Why.Device s) = tt
+close_of_call (Why.Lost x y) = tt
+close_of_call why = tt
 
 module _ {S D : Type 0} (state : S → State) (has : S → Mounted → List Placed → Type 0) (M : Ghosts D) (name : List ℕ) (keep : Option ℕ) (input rest : List ℕ) (many : max_input < length input) (v : S) (a m b : D) (k : Known) (stands : Stands state has v k (M.now a))
     (may : ℕ → Bool) (fault : Option ℕ) (disk : WritesDisk M fault (Leaves state has v may) a m) (back : M.honest m) (honest : M.honest b) (short : AreShort (M.now m).windows) (status : ℕ) where
@@ -190,7 +153,3 @@ module _ {S D : Type 0} (state : S → State) (has : S → Mounted → List Plac
           ends = inr (broken_ends M (Put name keep) (M.report a) k (t ∷ []) a m b moments halted short stands.ends (close_fault why) (device_ends why is) told status says honest ended);
         });
       }
-
--- the run has a turn to say, whatever the volume
-pub some_refusal : (name : List ℕ) (keep : Option ℕ) (input : List ℕ) → max_input < length input → (v : Volume) → IsSome (slice_get (turns_of (errand_of (Put name keep) input) [] v) 0)
-some_refusal name keep input many v = subst (λ (x : Errand). IsSome (slice_get (turns_of x [] v) 0)) (sym (asks_none name keep input many)) refl

@@ -1,15 +1,19 @@
+pub mod CauseLaws
 pub mod CountLaws
 pub mod GenerateLaws
 pub mod GroupEndLaws
 pub mod GroupLaws
 pub mod HaltLaws
 pub mod InputLaws
+pub mod LastLaws
 pub mod LineLaws
 pub mod ListLaws
 pub mod MountLaws
 pub mod OnceLaws
 pub mod OneLaws
 pub mod OrderLaws
+pub mod PutLaws
+pub mod QuietLaws
 pub mod ReadLaws
 pub mod RunLaws
 pub mod ScriptEndLaws
@@ -18,5 +22,6 @@ pub mod ScriptLaws
 pub mod ScriptRunLaws
 pub mod StatusLaws
 pub mod StepLaws
+pub mod TakingLaws
 pub mod TurnLaws
 pub mod WholeLaws

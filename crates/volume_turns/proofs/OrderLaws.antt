@@ -233,6 +233,9 @@ pub delete_through : (s : State) → Through (down s ∷ delete_all s) → IsFal
 delete_through s is = passes_worn (is_worn s) is.1.0
 
 -- a force
+pub force_loss : (s : State) → s.down ≡ None → (comes_one : Bool) (why : Refusal) → Comes (down s ∷ Force comes_one ∷ []) why → IsLoss why
+force_loss s up comes_one why comes = elim (starts_up s up (Force comes_one ∷ []) why comes) [ inl here ↦ here.1 | inr later ↦ absurd later.1 ]
+
 pub force_down : (s : State) → s.down ≡ None → (comes_one : Bool) (why : Refusal) → Comes (down s ∷ Force comes_one ∷ []) why → (t : ℕ) → why ≡ Why.Down t → ⊥
 force_down s up comes_one why comes t is =
     elim (starts_up s up (Force comes_one ∷ []) (Why.Down t) (subst (λ (w : Refusal). Comes (down s ∷ Force comes_one ∷ []) w) is comes)) [ inl here ↦ here.1 | inr later ↦ later.1 ]

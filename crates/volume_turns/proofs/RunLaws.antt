@@ -309,7 +309,7 @@ module _ {S D : Type 0} (state : S → State) (has : S → Mounted → List Plac
 -- ---- counts
 
 pub told_fault : (old new : Report) (fault : Fault) → UsesDisk old new → DiskFaults (device_told fault) old new → Told {T = Unit {0}} old new (Err (Stopped fault))
-told_fault old new fault uses faults = record { sectors = uses.sectors; disk = faults; input = uses.input; later = omega (arith, uses.output); output = tt }
+told_fault old new fault uses faults = record { sectors = uses.sectors; disk = faults; input = uses.input; later = omega (arith, uses.output); output = uses.output }
 
 pub told_then : (a b c : Report) (r : Result (Unit {0}) End) → Told {T = Unit {0}} a b (Ok tt) → Told b c r → Told a c r
 told_then a b c r x y = record {
@@ -321,9 +321,9 @@ told_then a b c r x y = record {
 }
   where
     unheard : (s : Result (Unit {0}) End) → Unheard b c s → Unheard a c s
-    unheard (Err Output) rose = let p = x.later in omega (arith, p, rose)
-    unheard (Err (Stopped fault)) rose = tt
-    unheard (Ok u) rose = tt
+    unheard (Err Output) rose = let same = x.output in omega (arith, same, rose)
+    unheard (Err (Stopped fault)) is = is ∙ x.output
+    unheard (Ok u) is = is ∙ x.output
 
 pub on_ok_said : {T : Type 0} {H : Type 0} (P : Type 0) (r : Result T End) → H → OnOk r (H → P) → OnOk r P
 on_ok_said P (Ok x) h fact = fact h

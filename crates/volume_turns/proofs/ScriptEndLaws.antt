@@ -42,8 +42,8 @@ disk_but a b None x = x
 disk_but a b (Some place) x = record { rose = x.rose; told = x.told }
 
 pub told_but : {T : Type 0} (a b : Report) (r : Result T End) → Heard {T = T} a b r → Told {T = T} (but_input a b) b r
-told_but a b (Ok x) h = record { sectors = h.sectors; disk = disk_but a b None h.disk; input = refl; later = h.later; output = tt }
-told_but a b (Err (Stopped why)) h = record { sectors = h.sectors; disk = disk_but a b (device_end {T = Unit {0}} (Err (Stopped why))) h.disk; input = refl; later = h.later; output = tt }
+told_but a b (Ok x) h = record { sectors = h.sectors; disk = disk_but a b None h.disk; input = refl; later = h.later; output = h.output }
+told_but a b (Err (Stopped why)) h = record { sectors = h.sectors; disk = disk_but a b (device_end {T = Unit {0}} (Err (Stopped why))) h.disk; input = refl; later = h.later; output = h.output }
 told_but a b (Err Output) h = record { sectors = h.sectors; disk = disk_but a b None h.disk; input = refl; later = h.later; output = h.output }
 
 outside_in : (a p b : Report) (why : Fault) → IsOutside Script (but_input a p) b why → IsOutside Script a b why

@@ -102,6 +102,6 @@ module _ {S D : Type 0} (state : S → State) (has : S → Mounted → List Plac
 
 -- what is counted up to there
 pub heard_worn : (a b : Report) (end : End) → is_worn_end end ≡ true → Heard {T = Stop} a b (Err end) → Heard {T = Unit {0}} a b (Ok tt)
-heard_worn a b (Stopped Ends.WornOut) worn x = record { sectors = x.sectors; disk = x.disk; later = x.later; output = tt }
+heard_worn a b (Stopped Ends.WornOut) worn x = record { sectors = x.sectors; disk = x.disk; later = x.later; output = x.output }
 heard_worn a b (Stopped why) worn x = cc worn
 heard_worn a b Output worn x = cc worn

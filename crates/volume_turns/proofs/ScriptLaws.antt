@@ -35,7 +35,7 @@ use Rattle.volume_turns.proofs.TurnLaws.{in_before, said_nothing}
 -- ---- a read in front of a run
 
 module _ (k : Known) (old mid : Moment) (w : Wears old mid) where
-  in_from : (turns : List Turn) (left : Moment) → InRun k turns mid left → InRun k turns old left
+  pub in_from : (turns : List Turn) (left : Moment) → InRun k turns mid left → InRun k turns old left
   in_from turns left x = record {
     windows = x.windows ∙ w.windows;
     whole = x.whole;
@@ -226,31 +226,31 @@ module _ {S D : Type 0} (state : S → State) (has : S → Mounted → List Plac
 
 -- ---- what is counted
 
-unheard_then : {T : Type 0} (a b c : Report) → a.output_faults ≤ b.output_faults → (r : Result T End) → Unheard b c r → Unheard a c r
-unheard_then a b c later (Err Output) rose = omega (arith, later, rose)
-unheard_then a b c later (Err (Stopped fault)) rose = tt
-unheard_then a b c later (Ok u) rose = tt
+unheard_then : {T : Type 0} (a b c : Report) → b.output_faults ≡ a.output_faults → (r : Result T End) → Unheard b c r → Unheard a c r
+unheard_then a b c same (Err Output) rose = omega (arith, same, rose)
+unheard_then a b c same (Err (Stopped fault)) is = is ∙ same
+unheard_then a b c same (Ok u) is = is ∙ same
 
 pub heard_then : {T U : Type 0} (a b c : Report) (u : U) (r : Result T End) → Heard {T = U} a b (Ok u) → Heard {T = T} b c r → Heard {T = T} a c r
 heard_then a b c u r x y = record {
   sectors = y.sectors ∙ x.sectors;
   disk = faults_then (device_end r) a b c x.disk y.disk;
   later = let p = x.later in let q = y.later in omega (arith, p, q);
-  output = unheard_then a b c x.later r y.output;
+  output = unheard_then a b c x.output r y.output;
 }
 
 pub heard_of : {T : Type 0} (a b : Report) (r : Result T End) → Told {T = T} a b r → Heard {T = T} a b r
 heard_of a b r x = record { sectors = x.sectors; disk = x.disk; later = x.later; output = x.output }
 
 pub heard_as : {T U : Type 0} (a b : Report) (t : T) (u : U) → Heard {T = T} a b (Ok t) → Heard {T = U} a b (Ok u)
-heard_as a b t u x = record { sectors = x.sectors; disk = x.disk; later = x.later; output = tt }
+heard_as a b t u x = record { sectors = x.sectors; disk = x.disk; later = x.later; output = x.output }
 
 pub heard_end : {T U : Type 0} (a b : Report) (end : End) → Heard {T = T} a b (Err end) → Heard {T = U} a b (Err end)
-heard_end a b (Stopped fault) x = record { sectors = x.sectors; disk = x.disk; later = x.later; output = tt }
+heard_end a b (Stopped fault) x = record { sectors = x.sectors; disk = x.disk; later = x.later; output = x.output }
 heard_end a b Output x = record { sectors = x.sectors; disk = x.disk; later = x.later; output = x.output }
 
 pub heard_none : (a : Report) → Heard {T = Unit {0}} a a (Ok tt)
-heard_none a = record { sectors = refl; disk = (refl, refl); later = omega arith; output = tt }
+heard_none a = record { sectors = refl; disk = (refl, refl); later = omega arith; output = refl }
 
 pub rose_then : (a b c : Report) (o : Option Stop) → b.input_faults ≡ a.input_faults → RoseBy b c o → RoseBy a c o
 rose_then a b c None same rose = rose ∙ same

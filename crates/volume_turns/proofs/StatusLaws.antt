@@ -1,29 +1,37 @@
 -- The status of a run, over any machine.
-use Rattle.std.proofs.Common.{◌≡◌, inl, inr, ℕ, ◌≤◌, Bool, false, List, Option, None, refl, sym, ◌∙◌, subst, arith}
-use Rattle.std.specs.Prelude.{Result, Ok, Err, IfOk}
+use Rattle.std.proofs.Common.{◌≡◌, ◌⊎◌, inl, inr, ℕ, ◌<◌, ◌≤◌, Bool, false, List, [], ◌∷◌, length, Option, None, refl, sym, ◌∙◌, subst, arith}
+use Rattle.std.specs.Prelude.{Result, Ok, Err, IfOk, IsTrue}
 use Rattle.std.proofs.lemmas.Bool.{eq-eqb}
 use Rattle.sector_disk.specs.Calls.{Counts, DiskFaults, SparesDisk}
 use Rattle.sector_disk.specs.Machine.{Ledger, OnlyWrites, Report, Rose, UsesDisk}
+use Rattle.fsd_bytes.specs.declared.key.Key.{Key}
 use Rattle.fsd_bytes.specs.declared.refusal.Refusal.{Refusal}
+use Rattle.fsd_bytes.specs.declared.refusal.Refusal.TheVariants as Why
+use Rattle.volume_contract.specs.Order.{Comes, Force, IsLookUp, IsLoss, down}
+use Rattle.volume_contract.specs.State.{State}
+use Rattle.volume_turns.proofs.OrderLaws.{force_loss}
 use Rattle.fsd_sound.specs.declared.fault.MountFault.{MountFault}
 use Rattle.fsd_sound.specs.declared.fault.MountFault.TheVariants as Refused
 use Rattle.fsd_sound.specs.Mounting.{device_of_mount}
 use Rattle.fsd_texts.specs.declared.command.Command.{Command}
-use Rattle.fsd_texts.specs.declared.command.Command.TheVariants.{Put}
+use Rattle.fsd_texts.specs.declared.command.Command.TheVariants.{Delete, Get, Keep, Put}
 use Rattle.fsd_texts.specs.declared.fault.Fault.{Fault}
 use Rattle.fsd_texts.specs.declared.fault.Fault.TheVariants as Ends
+use Rattle.fsd_texts.specs.Script.{max_input}
 use Rattle.fsd_runs.specs.Errands.{fault_status, reply_status}
 use Rattle.volume_turns.specs.declared.answer.Answer.{Answer}
 use Rattle.volume_turns.specs.declared.answer.Answer.TheVariants as Said
 use Rattle.volume_turns.specs.declared.script.Stop.{Stop}
 use Rattle.volume_turns.specs.declared.turns.End.{End}
 use Rattle.volume_turns.specs.declared.turns.End.TheVariants.{Fault as Stopped, Output}
+use Rattle.volume_turns.specs.Causes.{FailsInput}
 use Rattle.volume_turns.specs.Line.{IsStatusAs, IsStatusFor, is_unsaid}
-use Rattle.volume_turns.specs.Once.{IsStatusOfReply, fault_of}
+use Rattle.volume_turns.specs.Once.{fault_of}
 use Rattle.volume_turns.specs.Script.{Heard}
-use Rattle.volume_turns.specs.Status.{CountsRun, CountsScript, IsMadeStatus, IsOneStatus, IsPutStatus, IsScriptStatus, IsStatusBroken, IsStatusFrom}
-use Rattle.volume_turns.specs.Steps.{IsOfVolume, device_told, reply_of}
+use Rattle.volume_turns.specs.Status.{CountsRun, CountsTaking, IsMadeStatus, IsOneStatus, IsPutStatus, IsScriptStatus, IsStatusBroken, IsStatusFrom, is_calm, is_quiet}
+use Rattle.volume_turns.specs.Steps.{IsOfCall, IsOfVolume, device_told, ended_by, read_ended_by, reply_of}
 use Rattle.volume_turns.specs.Turns.{Told}
+use Rattle.volume_turns.proofs.QuietLaws.{calm_not, calm_said, fault_not_quiet, quiet_calm, quiet_line, quiet_not}
 
 -- ---- replies
 
@@ -31,13 +39,55 @@ pub refused_low : (why : Refusal) (r : Result Answer Fault) → IfOk r (λ a. a 
 refused_low why (Ok a) is = subst (λ (x : Answer). reply_status (reply_of x) ≤ 1) (sym is) (omega arith)
 refused_low why (Err fault) is = tt
 
-pub from_reply : (c d : Command) → c ≡ d → ((n : ℕ) → IsStatusOfReply n → IsStatusFrom d n) → (r : Result Answer Fault) → IfOk r (λ a. IsStatusFrom c (reply_status (reply_of a)))
-from_reply c d is any (Ok a) = subst (λ (x : Command). IsStatusFrom x (reply_status (reply_of a))) (sym is) (any (reply_status (reply_of a)) (reply_of a, refl))
-from_reply c d is any (Err fault) = tt
+pub from_command : (c d : Command) → c ≡ d → (r : Result Answer Fault) → IfOk r (λ a. IsStatusFrom d (reply_status (reply_of a))) → IfOk r (λ a. IsStatusFrom c (reply_status (reply_of a)))
+from_command c d is (Ok a) from = subst (λ (x : Command). IsStatusFrom x (reply_status (reply_of a))) (sym is) from
+from_command c d is (Err fault) from = tt
 
-pub from_put : (c d : Command) → c ≡ d → (r : Result Answer Fault) → IfOk r (λ a. IsStatusFrom d (reply_status (reply_of a))) → IfOk r (λ a. IsStatusFrom c (reply_status (reply_of a)))
-from_put c d is (Ok a) low = subst (λ (x : Command). IsStatusFrom x (reply_status (reply_of a))) (sym is) low
-from_put c d is (Err fault) low = tt
+-- a refusal that is said
+refused_status : (why : Refusal) → IfOk (ended_by why) (λ a. reply_status (reply_of a) ≤ 1)
+refused_status (Why.Device s) = tt
+refused_status (Why.Down s) = tt
+refused_status (Why.Lost x y) = tt
+refused_status (Why.Unsound s) = tt
+refused_status Why.WornOut = tt
+refused_status Why.Memory = tt
+refused_status why = omega arith
+
+abbrev low_or_damaged : Answer → Type 0
+low_or_damaged a = (reply_status (reply_of a) ≤ 1) ⊎ (reply_status (reply_of a) ≡ 8)
+
+ok_low : (r : Result Answer Fault) → IfOk r (λ a. reply_status (reply_of a) ≤ 1) → IfOk r low_or_damaged
+ok_low (Ok a) low = inl low
+ok_low (Err fault) low = tt
+
+read_status : (key : Key) (why : Refusal) → IfOk (read_ended_by key why) low_or_damaged
+read_status key (Why.Damaged s) = inr refl
+read_status key why = ok_low (ended_by why) (refused_status why)
+
+pub refused_get : (why : Refusal) (r : Result Answer Fault) → r ≡ ended_by why → IfOk r (λ a. (reply_status (reply_of a) ≤ 1) ⊎ (reply_status (reply_of a) ≡ 8))
+refused_get why r is = subst (λ (x : Result Answer Fault). IfOk x low_or_damaged) (sym is) (ok_low (ended_by why) (refused_status why))
+
+pub refused_read : (key : Key) (why : Refusal) (r : Result Answer Fault) → r ≡ read_ended_by key why → IfOk r (λ a. (reply_status (reply_of a) ≤ 1) ⊎ (reply_status (reply_of a) ≡ 8))
+refused_read key why r is = subst (λ (x : Result Answer Fault). IfOk x low_or_damaged) (sym is) (read_status key why)
+
+-- what a look-up or a force refuses ends the run
+pub look_up_ends : (P : Answer → Type 0) (why : Refusal) (r : Result Answer Fault) → r ≡ ended_by why → IsLookUp why → IfOk r P
+look_up_ends P why r is refuses = subst (λ (x : Result Answer Fault). IfOk x P) (sym is) (by why refuses)
+  where
+    by : (w : Refusal) → IsLookUp w → IfOk (ended_by w) P
+    by (Why.Device s) refuses = tt
+    by (Why.Lost x y) refuses = tt
+    by (Why.Unsound s) refuses = tt
+    by Why.Memory refuses = tt
+    by w refuses = absurd refuses
+
+loss_looks : (why : Refusal) → IsLoss why → IsLookUp why
+loss_looks (Why.Device s) is = tt
+loss_looks (Why.Lost x y) is = tt
+loss_looks why is = absurd is
+
+pub force_ends : (P : Answer → Type 0) (s : State) → s.down ≡ None → (comes_one : Bool) (why : Refusal) → Comes (down s ∷ Force comes_one ∷ []) why → (r : Result Answer Fault) → r ≡ ended_by why → IfOk r P
+force_ends P s up comes_one why comes r is = look_up_ends P why r is (loss_looks why (force_loss s up comes_one why comes))
 
 pub status_at : (P : ℕ → Type 0) (n : ℕ) (r : Result ℕ End) → IfOk r (λ status. status ≡ n) → P n → IfOk r P
 status_at P n (Ok status) is at = subst P (sym is) at
@@ -49,6 +99,11 @@ pub fault_ends : (why : Fault) (status : ℕ) → IsOfVolume why → IsStatusFor
 fault_ends why status of (inl is) = inl (why, of, is)
 fault_ends why status of (inr (inl seven)) = inl (Ends.Memory, tt, seven)
 fault_ends why status of (inr (inr six)) = inr six
+
+pub call_of_volume : (why : Fault) → IsOfCall why → IsOfVolume why
+call_of_volume Ends.NotVolume of = tt
+call_of_volume Ends.NoAnchor of = tt
+call_of_volume why of = of
 
 pub fault_is_one : (c : Command) (why : Fault) (status : ℕ) → IsOfVolume why → IsStatusFor why status → IsOneStatus c status
 fault_is_one c why status of is = inr (fault_ends why status of is)
@@ -91,9 +146,18 @@ input_is_script status is = line_or IsScriptStatus 5 status (inr (inr (inl refl)
 pub worn_is_script : (status : ℕ) → IsStatusAs 9 status → IsScriptStatus status
 worn_is_script status is = line_or IsScriptStatus 9 status (inr (inr (inr (inl (Ends.WornOut, tt, refl))))) (λ n x. inr (inr (inr x))) is
 
+-- a reply has no other status
+pub from_not : (n : ℕ) (command : Command) (status : ℕ) → 1 < n → (n ≡ 8 → ⊥) → IsStatusFrom command status → status ≡ n → ⊥
+from_not n (Put name bytes keep) status more other low at = omega (arith, more, low, at)
+from_not n (Delete key) status more other low at = omega (arith, more, low, at)
+from_not n (Keep name keep) status more other low at = omega (arith, more, low, at)
+from_not n (Get key) status more other (inl low) at = omega (arith, more, low, at)
+from_not n (Get key) status more other (inr eight) at = other (sym at ∙ eight)
+from_not n command status more other none at = omega (arith, more, none, at)
+
 -- ---- what is counted
 
-not_as : (n gives status : ℕ) → (gives ≡ n → ⊥) → (7 ≡ n → ⊥) → (6 ≡ n → ⊥) → IsStatusAs gives status → status ≡ n → ⊥
+pub not_as : (n gives status : ℕ) → (gives ≡ n → ⊥) → (7 ≡ n → ⊥) → (6 ≡ n → ⊥) → IsStatusAs gives status → status ≡ n → ⊥
 not_as n gives status a b c (inl is) at = a (sym is ∙ at)
 not_as n gives status a b c (inr (inl seven)) at = b (sym seven ∙ at)
 not_as n gives status a b c (inr (inr six)) at = c (sym six ∙ at)
@@ -108,6 +172,9 @@ fault_some Ends.Input is = omega (arith, is)
 fault_some Ends.InputTooLong is = omega (arith, is)
 fault_some Ends.Memory is = omega (arith, is)
 fault_some Ends.WornOut is = omega (arith, is)
+
+pub fault_not_zero : (why : Fault) (status : ℕ) → IsStatusFor why status → status ≡ 0 → ⊥
+fault_not_zero why status for zero = not_as 0 (fault_status why) status (fault_some why) (λ e. omega (arith, e)) (λ e. omega (arith, e)) for zero
 
 module _ (a m b : Report) (status : ℕ) (spares : SparesDisk false (is_unsaid status) m b) where
   disk_counted : (why : Fault) → DiskFaults (device_told why) a m → status ≡ 4 → IsStatusFor why status → Rose a.disk_faults b.disk_faults
@@ -128,12 +195,23 @@ module _ (a m b : Report) (status : ℕ) (spares : SparesDisk false (is_unsaid s
       let rose : Rose m.output_faults b.output_faults = subst (λ (c : Bool). Counts c m.output_faults b.output_faults) (eq-eqb status 6 six) spares.output in
       omega (arith, later, rose)
 
+  output_calm : m.output_faults ≡ a.output_faults → IsTrue (is_calm status) → b.output_faults ≡ a.output_faults
+  output_calm same calm = subst (λ (c : Bool). Counts c m.output_faults b.output_faults) (calm_said status calm) spares.output ∙ same
+
+  -- a fault of the disk has another status
+  disk_calm : (why : Fault) → DiskFaults (device_told why) a m → IsStatusFor why status → IsTrue (is_calm status) → b.disk_faults ≡ a.disk_faults
+  disk_calm (Ends.Device s) disk (inl four) calm = absurd (calm_not 4 status refl calm four)
+  disk_calm (Ends.Device s) disk (inr (inl seven)) calm = absurd (calm_not 7 status refl calm seven)
+  disk_calm (Ends.Device s) disk (inr (inr six)) calm = absurd (calm_not 6 status refl calm six)
+  disk_calm why disk for calm = spares.disk ∙ disk.0
+
   pub fault_counts : {T : Type 0} (why : Fault) → Told {T = T} a m (Err (Stopped why)) → IsStatusFor why status → CountsRun a b status
   fault_counts why told for = record {
     sectors = spares.sectors ∙ told.sectors;
     disk = λ four. disk_counted why told.disk four for;
     input = spares.input ∙ told.input;
     output = output_counted told.later;
+    quiet = λ calm. record { disk = disk_calm why told.disk for calm; input = spares.input ∙ told.input; output = output_calm told.output calm };
   }
 
   -- a last line behind what went well
@@ -143,35 +221,117 @@ module _ (a m b : Report) (status : ℕ) (spares : SparesDisk false (is_unsaid s
     disk = λ four. absurd (not_as 4 gives status other (λ e. omega (arith, e)) (λ e. omega (arith, e)) kind four);
     input = spares.input ∙ told.input;
     output = output_counted told.later;
+    quiet = λ calm. record { disk = spares.disk ∙ told.disk.0; input = spares.input ∙ told.input; output = output_calm told.output calm };
   }
 
   -- the same of a script
-  pub script_fault_counts : (why : Fault) → Heard {T = Stop} a m (Err (Stopped why)) → IsStatusFor why status → CountsScript a b status
+  pub script_fault_counts : (why : Fault) → Heard {T = Stop} a m (Err (Stopped why)) → IsStatusFor why status → CountsTaking a b status
   script_fault_counts why heard for = record {
     sectors = spares.sectors ∙ heard.sectors;
     disk = λ four. disk_counted why heard.disk four for;
-    input = λ zero. absurd (not_as 0 (fault_status why) status (fault_some why) (λ e. omega (arith, e)) (λ e. omega (arith, e)) for zero);
+    quiet = λ quiet. absurd (fault_not_quiet why status for quiet);
+    calm = λ calm. record { disk = disk_calm why heard.disk for calm; output = output_calm heard.output calm };
     output = output_counted heard.later;
   }
 
-  pub script_line_counts : (stop : Stop) (gives : ℕ) → (gives ≡ 4 → ⊥) → (gives ≡ 0 → ⊥) → Heard {T = Stop} a m (Ok stop) → IsStatusAs gives status → CountsScript a b status
-  script_line_counts stop gives other some heard kind = record {
+  pub script_line_counts : (stop : Stop) (gives : ℕ) → (gives ≡ 4 → ⊥) → (IsTrue (is_quiet gives) → m.input_faults ≡ a.input_faults) → Heard {T = Stop} a m (Ok stop) → IsStatusAs gives status → CountsTaking a b status
+  script_line_counts stop gives other same heard kind = record {
     sectors = spares.sectors ∙ heard.sectors;
     disk = λ four. absurd (not_as 4 gives status other (λ e. omega (arith, e)) (λ e. omega (arith, e)) kind four);
-    input = λ zero. absurd (not_as 0 gives status some (λ e. omega (arith, e)) (λ e. omega (arith, e)) kind zero);
+    quiet = λ quiet. record { disk = spares.disk ∙ heard.disk.0; input = spares.input ∙ same (quiet_line gives status kind quiet); output = output_calm heard.output (quiet_calm status quiet) };
+    calm = λ calm. record { disk = spares.disk ∙ heard.disk.0; output = output_calm heard.output calm };
     output = output_counted heard.later;
   }
+
+-- behind an input that was taken, or the line of why it was not
+pub counts_taken : (takes : Bool) (a m b : Report) (status : ℕ) → takes ≡ false → SparesDisk takes false a m → CountsRun m b status → CountsTaking a b status
+counts_taken takes a m b status none read counts = record {
+  sectors = counts.sectors ∙ read.sectors;
+  disk = λ four. subst (λ (n : ℕ). Rose n b.disk_faults) read.disk (counts.disk four);
+  output = λ six. subst (λ (n : ℕ). Rose n b.output_faults) read.output (counts.output six);
+  quiet = λ quiet. let same = counts.quiet (quiet_calm status quiet) in record {
+    disk = same.disk ∙ read.disk;
+    input = same.input ∙ subst (λ (c : Bool). Counts c a.input_faults m.input_faults) none read.input;
+    output = same.output ∙ read.output;
+  };
+  calm = λ calm. let same = counts.quiet calm in record { disk = same.disk ∙ read.disk; output = same.output ∙ read.output };
+}
+
+pub counts_untaken : (takes : Bool) (a m b : Report) (status : ℕ) (why : Fault) → (fault_status why ≡ 4 → ⊥) → SparesDisk takes false a m → SparesDisk false (is_unsaid status) m b → IsStatusFor why status → CountsTaking a b status
+counts_untaken takes a m b status why other read spares for = record {
+  sectors = spares.sectors ∙ read.sectors;
+  disk = λ four. absurd (not_as 4 (fault_status why) status other (λ e. omega (arith, e)) (λ e. omega (arith, e)) for four);
+  quiet = λ quiet. absurd (fault_not_quiet why status for quiet);
+  calm = λ calm. record {
+    disk = spares.disk ∙ read.disk;
+    output = subst (λ (c : Bool). Counts c m.output_faults b.output_faults) (calm_said status calm) spares.output ∙ read.output;
+  };
+  output = λ six. subst (λ (n : ℕ). Rose n b.output_faults) read.output (subst (λ (c : Bool). Counts c m.output_faults b.output_faults) (eq-eqb status 6 six) spares.output);
+}
 
 -- where the output failed
 pub unsaid_counts : {T : Type 0} (a b : Report) → Told {T = T} a b (Err Output) → CountsRun a b 6
-unsaid_counts a b told = record { sectors = told.sectors; disk = λ four. absurd (omega (arith, four)); input = told.input; output = λ six. told.output }
+unsaid_counts a b told = record { sectors = told.sectors; disk = λ four. absurd (omega (arith, four)); input = told.input; output = λ six. told.output; quiet = λ calm. absurd (calm_not 6 6 refl calm refl) }
 
-pub script_unsaid_counts : (a b : Report) → Heard {T = Stop} a b (Err Output) → CountsScript a b 6
-script_unsaid_counts a b heard = record { sectors = heard.sectors; disk = λ four. absurd (omega (arith, four)); input = λ zero. absurd (omega (arith, zero)); output = λ six. heard.output }
+pub script_unsaid_counts : (a b : Report) → Heard {T = Stop} a b (Err Output) → CountsTaking a b 6
+script_unsaid_counts a b heard = record { sectors = heard.sectors; disk = λ four. absurd (omega (arith, four)); output = λ six. heard.output; quiet = λ quiet. absurd (quiet_not 6 6 refl quiet refl); calm = λ calm. absurd (calm_not 6 6 refl calm refl) }
+
+-- where a reply is said
+pub counts_said : (command : Command) (a b : Report) (status : ℕ) → IsStatusFrom command status → Told {T = ℕ} a b (Ok status) → CountsRun a b status
+counts_said command a b status from told = record {
+  sectors = told.sectors;
+  disk = λ four. absurd (from_not 4 command status (omega arith) (λ e. omega (arith, e)) from four);
+  input = told.input;
+  output = λ six. absurd (from_not 6 command status (omega arith) (λ e. omega (arith, e)) from six);
+  quiet = λ calm. record { disk = told.disk.0; input = told.input; output = told.output };
+}
 
 -- where all is done
-pub script_done_counts : (stop : Stop) (a b : Report) → Heard {T = Stop} a b (Ok stop) → b.input_faults ≡ a.input_faults → CountsScript a b 0
-script_done_counts stop a b heard same = record { sectors = heard.sectors; disk = λ four. absurd (omega (arith, four)); input = λ zero. same; output = λ six. absurd (omega (arith, six)) }
+pub script_done_counts : (stop : Stop) (a b : Report) → Heard {T = Stop} a b (Ok stop) → b.input_faults ≡ a.input_faults → CountsTaking a b 0
+script_done_counts stop a b heard same = record { sectors = heard.sectors; disk = λ four. absurd (omega (arith, four)); output = λ six. absurd (omega (arith, six)); quiet = λ quiet. record { disk = heard.disk.0; input = same; output = heard.output }; calm = λ calm. record { disk = heard.disk.0; output = heard.output } }
+
+-- ---- the input
+
+volume_not_five : (why : Fault) → IsOfVolume why → fault_status why ≡ 5 → ⊥
+volume_not_five Ends.NotVolume of is = omega (arith, is)
+volume_not_five (Ends.Lost x y) of is = omega (arith, is)
+volume_not_five Ends.NoAnchor of is = omega (arith, is)
+volume_not_five (Ends.Unsound s) of is = omega (arith, is)
+volume_not_five (Ends.Device s) of is = omega (arith, is)
+volume_not_five Ends.Input of is = absurd of
+volume_not_five Ends.InputTooLong of is = absurd of
+volume_not_five Ends.Memory of is = omega (arith, is)
+volume_not_five Ends.WornOut of is = omega (arith, is)
+
+-- a fault of a volume, or of its mount, tells none of the input
+pub fault_not_five : (why : Fault) (status : ℕ) → IsOfVolume why → IsStatusFor why status → status ≡ 5 → ⊥
+fault_not_five why status of for five = not_as 5 (fault_status why) status (volume_not_five why of) (λ e. omega (arith, e)) (λ e. omega (arith, e)) for five
+
+-- nor does one command
+pub one_not_five : (command : Command) (status : ℕ) → IsOneStatus command status → status ≡ 5 → ⊥
+one_not_five command status (inl from) five = from_not 5 command status (omega arith) (λ e. omega (arith, e)) from five
+one_not_five command status (inr (inl (why, of, is))) five = volume_not_five why of (sym is ∙ five)
+one_not_five command status (inr (inr six)) five = omega (arith, six, five)
+
+fault_not_two : (why : Fault) → fault_status why ≡ 2 → ⊥
+fault_not_two Ends.NotVolume is = omega (arith, is)
+fault_not_two (Ends.Lost x y) is = omega (arith, is)
+fault_not_two Ends.NoAnchor is = omega (arith, is)
+fault_not_two (Ends.Unsound s) is = omega (arith, is)
+fault_not_two (Ends.Device s) is = omega (arith, is)
+fault_not_two Ends.Input is = omega (arith, is)
+fault_not_two Ends.InputTooLong is = omega (arith, is)
+fault_not_two Ends.Memory is = omega (arith, is)
+fault_not_two Ends.WornOut is = omega (arith, is)
+
+-- a fault is no bad line
+pub fault_not_bad : (why : Fault) (status : ℕ) → IsStatusFor why status → status ≡ 2 → ⊥
+fault_not_bad why status for two = not_as 2 (fault_status why) status (fault_not_two why) (λ e. omega (arith, e)) (λ e. omega (arith, e)) for two
+
+-- a run that takes its input behind a mount
+pub fails_behind : (a m b : Report) (old mid : Ledger) → UsesDisk a m → OnlyWrites old mid → FailsInput mid.input m b → FailsInput old.input a b
+fails_behind a m b old mid uses writes (inl rose) = inl (subst (λ (n : ℕ). Rose n b.input_faults) uses.input rose)
+fails_behind a m b old mid uses writes (inr long) = inr (subst (λ (x : List ℕ). max_input < length x) writes.input long)
 
 -- ---- behind a mount, or by its fault
 
@@ -181,19 +341,27 @@ counts_after a m b status uses none counts = record {
   disk = λ four. subst (λ (n : ℕ). Rose n b.disk_faults) none.0 (counts.disk four);
   input = counts.input ∙ uses.input;
   output = λ six. subst (λ (n : ℕ). Rose n b.output_faults) uses.output (counts.output six);
+  quiet = λ calm. let same = counts.quiet calm in record { disk = same.disk ∙ none.0; input = same.input ∙ uses.input; output = same.output ∙ uses.output };
 }
 
-pub script_counts_after : (a m b : Report) (status : ℕ) → UsesDisk a m → DiskFaults None a m → CountsScript m b status → CountsScript a b status
+pub script_counts_after : (a m b : Report) (status : ℕ) → UsesDisk a m → DiskFaults None a m → CountsTaking m b status → CountsTaking a b status
 script_counts_after a m b status uses none counts = record {
   sectors = counts.sectors ∙ uses.sectors;
   disk = λ four. subst (λ (n : ℕ). Rose n b.disk_faults) none.0 (counts.disk four);
-  input = λ zero. counts.input zero ∙ uses.input;
   output = λ six. subst (λ (n : ℕ). Rose n b.output_faults) uses.output (counts.output six);
+  quiet = λ quiet. let same = counts.quiet quiet in record { disk = same.disk ∙ none.0; input = same.input ∙ uses.input; output = same.output ∙ uses.output };
+  calm = λ calm. let same = counts.calm calm in record { disk = same.disk ∙ none.0; output = same.output ∙ uses.output };
 }
 
 -- a run that takes no input has no fault of it
-pub script_counts : (a b : Report) (status : ℕ) → CountsRun a b status → CountsScript a b status
-script_counts a b status counts = record { sectors = counts.sectors; disk = counts.disk; input = λ zero. counts.input; output = counts.output }
+pub script_counts : (a b : Report) (status : ℕ) → CountsRun a b status → CountsTaking a b status
+script_counts a b status counts = record {
+  sectors = counts.sectors;
+  disk = counts.disk;
+  output = counts.output;
+  quiet = λ quiet. counts.quiet (quiet_calm status quiet);
+  calm = λ calm. let same = counts.quiet calm in record { disk = same.disk; output = same.output };
+}
 
 of_mount : (fault : MountFault) → IsOfVolume (fault_of fault)
 of_mount Refused.NotVolume = tt
@@ -207,7 +375,7 @@ of_mount Refused.WornOut = tt
 pub mount_of_volume : (fault : MountFault) (why : Fault) → why ≡ fault_of fault → IsOfVolume why
 mount_of_volume fault why is = subst IsOfVolume (sym is) (of_mount fault)
 
-same_device : (fault : MountFault) → device_of_mount fault ≡ device_told (fault_of fault)
+pub same_device : (fault : MountFault) → device_of_mount fault ≡ device_told (fault_of fault)
 same_device Refused.NotVolume = refl
 same_device Refused.NoAnchor = refl
 same_device (Refused.Lost x y) = refl
@@ -224,7 +392,7 @@ mount_counts a m b status spares fault uses faults for =
       disk = subst (λ (o : Option ℕ). DiskFaults o a m) (same_device fault) faults;
       input = uses.input;
       later = omega (arith, output);
-      output = tt;
+      output = output;
     }) for
 
 -- ---- what is written

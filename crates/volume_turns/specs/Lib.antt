@@ -1,3 +1,4 @@
+pub mod Causes
 pub mod Generate
 pub mod Group
 pub mod Line
@@ -6,6 +7,7 @@ pub mod Once
 pub mod Script
 pub mod Status
 pub mod Steps
+pub mod Taking
 pub mod Tally
 pub mod Turns
 pub mod Whole

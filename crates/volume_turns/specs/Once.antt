@@ -7,7 +7,6 @@ use Rattle.sector_disk.specs.Image.{AllWorn}
 use Rattle.sector_disk.specs.Machine.{Moment, LeavesOnly}
 use Rattle.fsd_files.specs.Answers.{Met}
 use Rattle.fsd_files.specs.Disk.{Image, in_runs}
-use Rattle.fsd_files.specs.Replies.{Reply}
 use Rattle.fsd_files.specs.Volume.{Volume}
 use Rattle.fsd_sound.specs.Mounted.{telling_of}
 use Rattle.fsd_sound.specs.Shown.{told}
@@ -15,7 +14,7 @@ use Rattle.fsd_sound.specs.Sound.{IsSound, weak_of}
 use Rattle.fsd_texts.specs.declared.command.Command.{Command}
 use Rattle.fsd_texts.specs.declared.fault.Fault.{Fault}
 use Rattle.fsd_texts.specs.declared.fault.Fault.TheVariants as Ends
-use Rattle.fsd_runs.specs.Errands.{Turn, alone, alone_ending, reply_status}
+use Rattle.fsd_runs.specs.Errands.{Turn, alone, alone_ending}
 use Rattle.fsd_runs.specs.Runs.{Goes, answered, behind, changes_in, said_in, turns_of}
 use Rattle.fsd_sound.specs.declared.fault.MountFault.{MountFault}
 use Rattle.fsd_sound.specs.declared.fault.MountFault.TheVariants as Refused
@@ -83,10 +82,6 @@ pub record IsDone (k : Known) (turns : List Turn) (after : Volume) (old new : Mo
   pub sound : IsSound k.mounted.volume.layout k.windows (k.changes ++ changes_in turns) (length (k.changes ++ changes_in turns)) new.image
   pub tells : told k.mounted.volume.layout new.image ≡ Some (telling_of after)
   pub lasts : AllWorn (weak_of k.windows) (λ j. told k.mounted.volume.layout j ≡ Some (telling_of after)) new.image
-
--- the status of a reply
-abbrev pub IsStatusOfReply : ℕ → Type 0
-IsStatusOfReply status = (reply : Reply) × (status ≡ reply_status reply)
 
 -- the status of its reply
 abbrev pub status_alone : Command → List Met → Volume → ℕ

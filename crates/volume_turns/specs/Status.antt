@@ -1,11 +1,11 @@
 -- The status of a run, over any machine.
-use Rattle.std.specs.Prelude.{◌≡◌, ◌⊎◌, ◌≤◌, ℕ}
+use Rattle.std.specs.Prelude.{◌≡◌, ◌⊎◌, ◌≤◌, ◌==◌, ◌||◌, ℕ, Bool, [], ◌∷◌, IsTrue}
+use Rattle.std.specs.List.{list_any}
 use Rattle.sector_disk.specs.Machine.{Report, Rose}
 use Rattle.fsd_texts.specs.declared.command.Command.{Command}
-use Rattle.fsd_texts.specs.declared.command.Command.TheVariants.{Put}
+use Rattle.fsd_texts.specs.declared.command.Command.TheVariants.{Delete, Get, Keep, Put}
 use Rattle.fsd_texts.specs.declared.fault.Fault.{Fault}
 use Rattle.fsd_runs.specs.Errands.{fault_status}
-use Rattle.volume_turns.specs.Once.{IsStatusOfReply}
 use Rattle.volume_turns.specs.Steps.{IsOfVolume}
 
 -- ---- which statuses there are
@@ -18,10 +18,14 @@ IsStatusOfFault status = (why : Fault) × IsOfVolume why × (status ≡ fault_st
 abbrev pub IsStatusBroken : ℕ → Type 0
 IsStatusBroken status = IsStatusOfFault status ⊎ (status ≡ 6)
 
--- the status of a reply to this command; to a put a version that is made, or a refusal
+-- the status of a reply to this command: a change is made or refused; so a version is read, or a sector of it is damaged; of what is
+-- told, and of a force, nothing is refused
 abbrev pub IsStatusFrom : Command → ℕ → Type 0
 IsStatusFrom (Put name bytes keep) status = status ≤ 1
-IsStatusFrom command status = IsStatusOfReply status
+IsStatusFrom (Delete key) status = status ≤ 1
+IsStatusFrom (Keep name keep) status = status ≤ 1
+IsStatusFrom (Get key) status = (status ≤ 1) ⊎ (status ≡ 8)
+IsStatusFrom command status = status ≡ 0
 
 -- one command ends with the status of its reply, or of a fault, or its output failed
 abbrev pub IsOneStatus : Command → ℕ → Type 0
@@ -41,16 +45,38 @@ IsMadeStatus status = (status ≡ 0) ⊎ IsStatusBroken status
 
 -- ---- what is counted
 
--- A run that takes no input: where its status tells a fault of the disk or of the output, this is counted.
+-- No fault is counted.
+pub record CountsNone (old new : Report) : Type 0 where
+  pub disk : new.disk_faults ≡ old.disk_faults
+  pub input : new.input_faults ≡ old.input_faults
+  pub output : new.output_faults ≡ old.output_faults
+
+-- None of the disk or of the output is.
+pub record CountsInput (old new : Report) : Type 0 where
+  pub disk : new.disk_faults ≡ old.disk_faults
+  pub output : new.output_faults ≡ old.output_faults
+
+-- the statuses of a run that was answered to its end, or to a line that is bad
+abbrev pub is_quiet : ℕ → Bool
+is_quiet status = list_any (λ s. s == status) (0 ∷ 1 ∷ 2 ∷ 8 ∷ [])
+
+-- these, and those of a fault that was found in the volume, or of one that is worn out
+abbrev pub is_calm : ℕ → Bool
+is_calm status = is_quiet status || list_any (λ s. s == status) (3 ∷ 9 ∷ [])
+
+-- A run that takes no input: where its status tells a fault of the disk or of the output, this is counted, and where it tells no call
+-- of the outside none is.
 pub record CountsRun (old new : Report) (status : ℕ) : Type 0 where
   pub sectors : new.sectors ≡ old.sectors
   pub disk : status ≡ 4 → Rose old.disk_faults new.disk_faults
   pub input : new.input_faults ≡ old.input_faults
   pub output : status ≡ 6 → Rose old.output_faults new.output_faults
+  pub quiet : IsTrue (is_calm status) → CountsNone old new
 
--- One that takes the input: so it is of the disk and the output, and where all is done no fault of the input is counted.
-pub record CountsScript (old new : Report) (status : ℕ) : Type 0 where
+-- One that takes the input: so it is of the disk and the output. A fault found in the volume may end one whose input has failed.
+pub record CountsTaking (old new : Report) (status : ℕ) : Type 0 where
   pub sectors : new.sectors ≡ old.sectors
   pub disk : status ≡ 4 → Rose old.disk_faults new.disk_faults
-  pub input : status ≡ 0 → new.input_faults ≡ old.input_faults
   pub output : status ≡ 6 → Rose old.output_faults new.output_faults
+  pub quiet : IsTrue (is_quiet status) → CountsNone old new
+  pub calm : IsTrue (is_calm status) → CountsInput old new

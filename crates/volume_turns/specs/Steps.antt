@@ -51,6 +51,18 @@ IsOfVolume Ends.Input = ⊥
 IsOfVolume Ends.InputTooLong = ⊥
 IsOfVolume fault = ⊤
 
+-- a fault that a call of a mounted volume tells
+abbrev pub IsOfCall : Fault → Type 0
+IsOfCall Ends.NotVolume = ⊥
+IsOfCall Ends.NoAnchor = ⊥
+IsOfCall fault = IsOfVolume fault
+
+-- and one that it tells of the image
+abbrev pub IsOfImage : Fault → Type 0
+IsOfImage (Ends.Lost a b) = ⊤
+IsOfImage (Ends.Unsound s) = ⊤
+IsOfImage fault = ⊥
+
 -- the place of the call of the disk that failed
 abbrev pub device_told : Fault → Option ℕ
 device_told (Ends.Device s) = Some s

@@ -19,7 +19,7 @@ use Rattle.fsd_runs.specs.Leaves.{SaysNext}
 use Rattle.volume_turns.specs.declared.turns.End.{End}
 use Rattle.volume_turns.specs.declared.turns.End.TheVariants.{Fault as Stopped, Output}
 use Rattle.sector_disk.specs.Calls.{DiskFaults, Since}
-use Rattle.volume_turns.specs.Steps.{IsOfVolume, device_told}
+use Rattle.volume_turns.specs.Steps.{IsOfCall, device_told}
 use Rattle.volume_contract.specs.State.{State, Ages, Known, volume_of, forced_of, Stands}
 
 -- A moment of a run of these turns over a volume that stands so: some are said whole, and a part of what comes next. The disk is
@@ -64,9 +64,9 @@ EndsAtOnce (Ends.Device s) = ⊤
 EndsAtOnce Ends.Memory = ⊤
 EndsAtOnce fault = ⊥
 
--- an end by a fault that is none of the input, or by the output
+-- an end by a fault of a call of the volume, or by the output
 abbrev pub IsEndOfVolume : End → Type 0
-IsEndOfVolume (Stopped fault) = IsOfVolume fault
+IsEndOfVolume (Stopped fault) = IsOfCall fault
 IsEndOfVolume Output = ⊤
 
 -- What was said is whole turns, and not all that were begun, or no more were. The disk is sound for the changes of these and of the
@@ -146,9 +146,10 @@ abbrev pub device_end : {T : Type 0} → Result T End → Option ℕ
 device_end (Err (Stopped fault)) = device_told fault
 device_end result = None
 
+-- the output's fault that ends it is counted, or there was none
 abbrev pub Unheard : {T : Type 0} → Report → Report → Result T End → Type 0
 Unheard old new (Err Output) = Rose old.output_faults new.output_faults
-Unheard old new result = ⊤
+Unheard old new result = new.output_faults ≡ old.output_faults
 
 -- Of a run of commands the fault that ends it is counted, and no other of the disk.
 pub record Told {T : Type 0} (old new : Report) (result : Result T End) : Type 0 where

@@ -1,7 +1,7 @@
 //! What a command answers.
 ghost use Rattle.std.specs.Prelude.{◌≡◌, IfErr, IfOk};
 ghost use Rattle.volume_turns.specs.declared.answer.Answer.TheVariants as Said;
-ghost use Rattle.volume_turns.specs.Steps.{IsOfVolume, ended_by, read_ended_by};
+ghost use Rattle.volume_turns.specs.Steps.{IsOfCall, ended_by, read_ended_by};
 
 use fsd_bytes::{Key, Refusal};
 use fsd_formats::Entry;
@@ -26,7 +26,7 @@ pub enum Answer {
 pub(crate) fn ended_by(why: Refusal) -> Result<Answer, Fault>
     ensures is { result ≡ ended_by why }
     ensures said { IfOk result (λ a. a ≡ Said.Refused why) }
-    ensures fault { IfErr result IsOfVolume }
+    ensures fault { IfErr result IsOfCall }
 {
     match why {
         Refusal::Device(s) => Err(Fault::Device(s)),
@@ -42,7 +42,7 @@ pub(crate) fn ended_by(why: Refusal) -> Result<Answer, Fault>
 // So it is of a read, whose damaged sector is said.
 pub(crate) fn read_ended_by(key: &Key, why: Refusal) -> Result<Answer, Fault>
     ensures is { result ≡ read_ended_by key.now why }
-    ensures fault { IfErr result IsOfVolume }
+    ensures fault { IfErr result IsOfCall }
 {
     match why {
         Refusal::Damaged(sector) => Ok(Answer::Damaged {

@@ -7,7 +7,7 @@ ghost use Rattle.fsd_runs.specs.Errands.{reply_status};
 ghost use Rattle.sector_disk.specs.Calls.{OnlyReads, WritesDisk};
 ghost use Rattle.volume_contract.specs.State.{Known, Stands, volume_of};
 ghost use Rattle.volume_turns.specs.Status.{IsStatusFrom};
-ghost use Rattle.volume_turns.specs.Steps.{Does, IsOfVolume, Stays, device_by, reply_of};
+ghost use Rattle.volume_turns.specs.Steps.{Does, IsOfCall, Stays, device_by, reply_of};
 
 use crate::answer::{Answer, ended_by, read_ended_by};
 use crate::listing::list;
@@ -30,7 +30,7 @@ pub(crate) fn put<M: Machine, V: Files<M>>(
     ensures layout { (V.state v.new).layout ≡ (V.state v.old).layout }
     ensures up { OnOk result ((V.state v.new).down ≡ None) }
     ensures disk { WritesDisk M.Machine (device_by result) (Stays V.state V.holds v.old) m.old m.new }
-    ensures fault { IfErr result IsOfVolume }
+    ensures fault { IfErr result IsOfCall }
     ensures status { IfOk result (λ a. reply_status (reply_of a) ≤ 1) }
     ensures done { M.honest m.new → (k : Known) → Stands V.state V.holds v.old k (M.now m.old) →
         Does V.state V.holds (Word.Put name.now bytes.now keep) v.old v.new k (M.now m.old) (M.now m.new) result }
@@ -55,7 +55,8 @@ pub(crate) fn delete<M: Machine, V: Files<M>>(
     ensures layout { (V.state v.new).layout ≡ (V.state v.old).layout }
     ensures up { OnOk result ((V.state v.new).down ≡ None) }
     ensures disk { WritesDisk M.Machine (device_by result) (Stays V.state V.holds v.old) m.old m.new }
-    ensures fault { IfErr result IsOfVolume }
+    ensures fault { IfErr result IsOfCall }
+    ensures status { IfOk result (λ a. reply_status (reply_of a) ≤ 1) }
     ensures done { M.honest m.new → (k : Known) → Stands V.state V.holds v.old k (M.now m.old) →
         Does V.state V.holds (Word.Delete key.now) v.old v.new k (M.now m.old) (M.now m.new) result }
 {
@@ -77,7 +78,8 @@ pub(crate) fn set_keep<M: Machine, V: Files<M>>(
     ensures layout { (V.state v.new).layout ≡ (V.state v.old).layout }
     ensures up { OnOk result ((V.state v.new).down ≡ None) }
     ensures disk { WritesDisk M.Machine (device_by result) (Stays V.state V.holds v.old) m.old m.new }
-    ensures fault { IfErr result IsOfVolume }
+    ensures fault { IfErr result IsOfCall }
+    ensures status { IfOk result (λ a. reply_status (reply_of a) ≤ 1) }
     ensures done { M.honest m.new → (k : Known) → Stands V.state V.holds v.old k (M.now m.old) →
         Does V.state V.holds (Word.Keep name.now keep) v.old v.new k (M.now m.old) (M.now m.new) result }
 {
@@ -94,7 +96,8 @@ pub(crate) fn force<M: Machine, V: Files<M>>(v: &mut V, m: &mut M) -> Result<Ans
     ensures layout { (V.state v.new).layout ≡ (V.state v.old).layout }
     ensures up { OnOk result ((V.state v.new).down ≡ None) }
     ensures disk { WritesDisk M.Machine (device_by result) (Stays V.state V.holds v.old) m.old m.new }
-    ensures fault { IfErr result IsOfVolume }
+    ensures fault { IfErr result IsOfCall }
+    ensures status { IfOk result (λ a. reply_status (reply_of a) ≡ 0) }
     ensures done { M.honest m.new → (k : Known) → Stands V.state V.holds v.old k (M.now m.old) →
         Does V.state V.holds Word.Force v.old v.new k (M.now m.old) (M.now m.new) result }
 {
@@ -111,7 +114,8 @@ pub(crate) fn tick<M: Machine, V: Files<M>>(v: &mut V, m: &mut M) -> Result<Answ
     ensures layout { (V.state v.new).layout ≡ (V.state v.old).layout }
     ensures up { OnOk result ((V.state v.new).down ≡ None) }
     ensures disk { WritesDisk M.Machine (device_by result) (Stays V.state V.holds v.old) m.old m.new }
-    ensures fault { IfErr result IsOfVolume }
+    ensures fault { IfErr result IsOfCall }
+    ensures status { IfOk result (λ a. reply_status (reply_of a) ≡ 0) }
     ensures done { M.honest m.new → (k : Known) → Stands V.state V.holds v.old k (M.now m.old) →
         Does V.state V.holds Word.Tick v.old v.new k (M.now m.old) (M.now m.new) result }
 {
@@ -133,7 +137,8 @@ pub(crate) fn get<M: Machine, V: Files<M>>(
     ensures layout { (V.state v.new).layout ≡ (V.state v.old).layout }
     ensures up { OnOk result ((V.state v.new).down ≡ None) }
     ensures disk { WritesDisk M.Machine (device_by result) (Stays V.state V.holds v.old) m.old m.new }
-    ensures fault { IfErr result IsOfVolume }
+    ensures fault { IfErr result IsOfCall }
+    ensures status { IfOk result (λ a. IsStatusFrom (Word.Get key.now) (reply_status (reply_of a))) }
     ensures done { M.honest m.new → (k : Known) → Stands V.state V.holds v.old k (M.now m.old) →
         Does V.state V.holds (Word.Get key.now) v.old v.new k (M.now m.old) (M.now m.new) result }
 {
@@ -156,7 +161,8 @@ fn read_whole<M: Machine, V: Files<M>>(
     ensures layout { (V.state v.new).layout ≡ (V.state v.old).layout }
     ensures up { OnOk result ((V.state v.new).down ≡ None) }
     ensures disk { OnlyReads M.Machine (device_by result) m.old m.new }
-    ensures fault { IfErr result IsOfVolume }
+    ensures fault { IfErr result IsOfCall }
+    ensures status { IfOk result (λ a. IsStatusFrom (Word.Get key.now) (reply_status (reply_of a))) }
     ensures done { M.honest m.new → (k : Known) → Stands V.state V.holds v.old k (M.now m.old) → IfSome (entry_of key.now (volume_of k).entries) (λ e. e.length ≡ length) →
         Does V.state V.holds (Word.Get key.now) v.old v.new k (M.now m.old) (M.now m.new) result }
 {
@@ -184,7 +190,7 @@ pub(crate) fn answer<M: Machine, V: Files<M>>(
     ensures layout { (V.state v.new).layout ≡ (V.state v.old).layout }
     ensures up { OnOk result ((V.state v.new).down ≡ None) }
     ensures disk { WritesDisk M.Machine (device_by result) (Stays V.state V.holds v.old) m.old m.new }
-    ensures fault { IfErr result IsOfVolume }
+    ensures fault { IfErr result IsOfCall }
     ensures status { IfOk result (λ a. IsStatusFrom c.now (reply_status (reply_of a))) }
     ensures done { M.honest m.new → (k : Known) → Stands V.state V.holds v.old k (M.now m.old) →
         Does V.state V.holds c.now v.old v.new k (M.now m.old) (M.now m.new) result }
@@ -205,7 +211,8 @@ pub(crate) fn answer<M: Machine, V: Files<M>>(
 fn count<M: Machine, V: Files<M>>(v: &mut V, m: &mut M) -> Result<Answer, Fault>
     ensures same { v.new ≡ v.old }
     ensures disk { WritesDisk M.Machine (device_by result) (Stays V.state V.holds v.old) m.old m.new }
-    ensures fault { IfErr result IsOfVolume }
+    ensures fault { IfErr result IsOfCall }
+    ensures status { IfOk result (λ a. reply_status (reply_of a) ≡ 0) }
     ensures done { M.honest m.new → (k : Known) → Stands V.state V.holds v.old k (M.now m.old) →
         Does V.state V.holds Word.Stat v.old v.new k (M.now m.old) (M.now m.new) result }
 {

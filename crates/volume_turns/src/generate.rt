@@ -1,5 +1,5 @@
 //! Commands that are made up, from the mount to the line that tells what came of them.
-ghost use Rattle.std.specs.Prelude.{◌≡◌, ◌≤◌, ◌<◌, ◌+◌, ◌^◌, ◌-◌, ℕ, List, None, OnOk, IfErr, IfOk, IfSome};
+ghost use Rattle.std.specs.Prelude.{◌≡◌, ◌≤◌, ◌<◌, ◌+◌, ◌^◌, ◌-◌, ℕ, List, None, OnOk, IfErr, IfOk, IfSome, IsTrue};
 ghost use Rattle.sector_disk.specs.declared.sector.WeakRun.{WeakRun};
 ghost use Rattle.sector_disk.specs.Calls.{Since};
 ghost use Rattle.sector_disk.specs.Machine.{LeavesOnly, OnlyWrites, Trusts};
@@ -11,6 +11,7 @@ ghost use Rattle.fsd_runs.specs.Leaves.{LeavesRun};
 ghost use Rattle.fsd_runs.specs.declared.request.Request.TheVariants.{Generate};
 ghost use Rattle.volume_contract.specs.Mount.{IsSoundAt};
 ghost use Rattle.volume_contract.specs.State.{Known, Stands};
+ghost use Rattle.volume_turns.specs.Causes.{SaysFault, SaysOfCall, TellsImage, is_of_fault};
 ghost use Rattle.volume_turns.specs.Generate.{CountedGroup, Draws, RunsCounted, StepsCounted};
 ghost use Rattle.volume_turns.specs.Once.{ClosesAndSays, unit_of};
 ghost use Rattle.volume_turns.specs.Status.{CountsRun, IsMadeStatus};
@@ -214,6 +215,8 @@ fn generate_on<M: Machine, V: Files<M> + Drop>(
     ensures counts { CountsRun (M.report m.old) (M.report m.new) result }
     ensures trust { Trusts (M.tells m.old) (M.tells m.new) (M.honest m.old) (M.honest m.new) }
     ensures since { M.honest m.new → Since M.Machine m.old m.new }
+    ensures says { result ≡ 3 → M.honest m.new → SaysOfCall (M.now m.new) }
+    ensures last { IsTrue (is_of_fault result) → M.honest m.new → SaysFault (M.report m.new).fault_place (M.now m.new) result }
     ensures runs { M.honest m.new → (input rest : List ℕ) (k : Known) → Stands V.state V.holds v k (M.now m.old) → RunsOut M.Machine (Generate seed count) input rest (M.report m.old) k m.old m.new result }
 {
     match make_group(alloc, v, m, seed, count) {
@@ -238,6 +241,8 @@ pub fn run_generate<M: Machine, V: Files<M> + Drop>(
     ensures status { IsMadeStatus result }
     ensures counts { CountsRun (M.report m.old) (M.report m.new) result }
     ensures trust { Trusts (M.tells m.old) (M.tells m.new) (M.honest m.old) (M.honest m.new) }
+    ensures image { M.honest m.new → TellsImage sectors (M.now m.old) (M.now m.new) result }
+    ensures last { IsTrue (is_of_fault result) → M.honest m.new → SaysFault (M.report m.new).fault_place (M.now m.new) result }
     ensures leaves { M.honest m.new → (input rest : List ℕ) (l : Plan) (windows : List WeakRun) (h : List Change) (f : ℕ) → IsSoundAt sectors l windows h f (M.now m.old) →
         LeavesRun (Generate seed count) input rest l windows h f (M.left_since m.new) (LeavesOnly M.moment M.left_since m.old m.new) (M.report m.old) (M.report m.new) (M.now m.old) (M.now m.new) result }
 {

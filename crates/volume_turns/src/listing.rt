@@ -7,7 +7,8 @@ ghost use Rattle.volume_contract.specs.Ends.{Looks, device_of};
 ghost use Rattle.volume_contract.specs.Order.{Follows, IsLookUp, next_steps};
 ghost use Rattle.volume_contract.specs.State.{Known, Stands, volume_of};
 ghost use Rattle.volume_turns.specs.Listing.{IsFromOutside, fitting};
-ghost use Rattle.volume_turns.specs.Steps.{Does, IsOfVolume, Stays, device_by};
+ghost use Rattle.fsd_runs.specs.Errands.{reply_status};
+ghost use Rattle.volume_turns.specs.Steps.{Does, IsOfCall, Stays, device_by, reply_of};
 
 use crate::answer::{Answer, ended_by};
 use fsd_bytes::{Key, Pattern, Refusal};
@@ -91,7 +92,8 @@ pub(crate) fn list<M: Machine, V: Files<M>>(
     ensures layout { (V.state v.new).layout ≡ (V.state v.old).layout }
     ensures up { OnOk result ((V.state v.new).down ≡ None) }
     ensures disk { WritesDisk M.Machine (device_by result) (Stays V.state V.holds v.old) m.old m.new }
-    ensures fault { IfErr result IsOfVolume }
+    ensures fault { IfErr result IsOfCall }
+    ensures status { IfOk result (λ a. reply_status (reply_of a) ≡ 0) }
     ensures done { M.honest m.new → (k : Known) → Stands V.state V.holds v.old k (M.now m.old) →
         Does V.state V.holds (Word.List pattern.now) v.old v.new k (M.now m.old) (M.now m.new) result }
 {

@@ -1,5 +1,5 @@
 //! A script, from the mount to the last line.
-ghost use Rattle.std.specs.Prelude.{◌≡◌, ◌≤◌, ◌+◌, List, ℕ, None, OnErr, OnOk, IfErr, IfOk, IsTrue, Some};
+ghost use Rattle.std.specs.Prelude.{◌≡◌, ◌≤◌, ◌+◌, List, [], ℕ, None, Ok, OnErr, OnOk, IfErr, IfOk, IsTrue, Some};
 ghost use Rattle.sector_disk.specs.Calls.{Since};
 ghost use Rattle.sector_disk.specs.Machine.{LeavesOnly, OnlyWrites, Trusts};
 ghost use Rattle.sector_disk.specs.declared.sector.WeakRun.{WeakRun};
@@ -12,12 +12,16 @@ ghost use Rattle.volume_turns.specs.Whole.{RunsOut};
 ghost use Rattle.fsd_files.specs.Answers.{Met};
 ghost use Rattle.fsd_files.specs.Volume.{Volume};
 ghost use Rattle.fsd_texts.specs.declared.command.Command.{Command as Word};
-ghost use Rattle.fsd_texts.specs.Script.{max_input};
+ghost use Rattle.fsd_texts.specs.Script.{max_input, script_in};
 ghost use Rattle.fsd_runs.specs.Commands.{answer, reply_text};
 ghost use Rattle.fsd_runs.specs.Errands.{forced_turn, is_forced};
 ghost use Rattle.volume_contract.specs.State.{Known, Stands};
+ghost use Rattle.volume_turns.specs.Causes.{FailsInput, SaysBadLine, SaysFault, SaysOfCall, TellsImage, is_of_fault};
 ghost use Rattle.volume_turns.specs.Once.{ClosesAndSays, unit_of};
-ghost use Rattle.volume_turns.specs.Status.{CountsScript, IsScriptStatus};
+ghost use Rattle.volume_turns.specs.Status.{CountsTaking, IsScriptStatus};
+ghost use Rattle.fsd_texts.specs.declared.end.End.{End as EndOf};
+ghost use Rattle.fsd_texts.specs.declared.end.End.TheVariants.{Done};
+ghost use Rattle.volume_turns.specs.declared.script.Stop.TheVariants.{Ended};
 ghost use Rattle.volume_turns.specs.Turns.{IsEndOfVolume, Told};
 ghost use Rattle.volume_turns.specs.Script.{GoesOn, GroupsBy, Heard, Reads, RoseBy, WholeRead};
 
@@ -65,6 +69,7 @@ fn read_on<M: Machine, V: Files<M>, T: Says>(
     ensures later { M.honest m.new → M.moment m.old ≤ M.moment m.new }
     ensures on { IfOk result (GoesOn reader.old reader.new) }
     ensures few { reader.new.end ≡ None → reader.new.taken ≤ max_input }
+    ensures whole { result ≡ Ok (Some (Ended Done)) → reader.old.end ≡ None → M.tells m.new → (M.ledger m.new).input ≡ [] }
     ensures reads { M.tells m.new → Reads V.state V.holds M.Machine T.errand reader.old reader.new v.old m.old v.new m.new result }
 {
     match reader.next_command(alloc, m) {
@@ -98,6 +103,7 @@ fn read_all<M: Machine, V: Files<M>, T: Says>(
     ensures trust { Trusts (M.tells m.old) (M.tells m.new) (M.honest m.old) (M.honest m.new) }
     ensures since { M.honest m.new → Since M.Machine m.old m.new }
     ensures later { M.honest m.new → M.moment m.old ≤ M.moment m.new }
+    ensures whole { result ≡ Ok (Ended Done) → M.tells m.new → (M.ledger m.new).input ≡ [] }
     ensures reads { M.tells m.new → WholeRead V.state V.holds M.Machine T.errand v.old m.old v.new m.new result }
 {
     let mut reader = Reader::new(alloc);
@@ -123,6 +129,8 @@ fn group_read<M: Machine, V: Files<M> + Drop, T: Says>(
     ensures attaches { M.tells m.new → (M.ledger m.new).attaches ≡ (M.ledger m.old).attaches }
     ensures fault { IfErr result IsEndOfVolume }
     ensures rose { IfOk result (λ stop. RoseBy (M.report m.old) (M.report m.new) (Some stop)) }
+    ensures ends { (end : EndOf) → result ≡ Ok (Ended end) → M.tells m.new → (script_in (M.ledger m.old).input).1 ≡ end }
+    ensures whole { result ≡ Ok (Ended Done) → M.tells m.new → (M.ledger m.new).input ≡ [] }
     ensures trust { Trusts (M.tells m.old) (M.tells m.new) (M.honest m.old) (M.honest m.new) }
     ensures since { M.honest m.new → Since M.Machine m.old m.new }
     ensures later { M.honest m.new → M.moment m.old ≤ M.moment m.new }
@@ -173,9 +181,15 @@ fn script_on<M: Machine, V: Files<M> + Drop, T: Says>(alloc: Global, v: V, m: &m
     requires forces { T.errand.forces ≡ is_forced }
     ensures attaches { M.tells m.new → (M.ledger m.new).attaches ≡ (M.ledger m.old).attaches }
     ensures status { IsScriptStatus result }
-    ensures counts { CountsScript (M.report m.old) (M.report m.new) result }
+    ensures counts { CountsTaking (M.report m.old) (M.report m.new) result }
+    ensures input { result ≡ 5 → M.tells m.new → FailsInput (M.ledger m.old).input (M.report m.old) (M.report m.new) }
+    ensures whole { result ≡ 0 → M.tells m.new → (M.ledger m.new).input ≡ [] }
+    ensures spelled { result ≡ 0 → M.tells m.new → (script_in (M.ledger m.old).input).1 ≡ Done }
+    ensures bad { result ≡ 2 → M.honest m.new → SaysBadLine (M.ledger m.old).input (M.now m.new) }
     ensures trust { Trusts (M.tells m.old) (M.tells m.new) (M.honest m.old) (M.honest m.new) }
     ensures since { M.honest m.new → Since M.Machine m.old m.new }
+    ensures says { result ≡ 3 → M.honest m.new → SaysOfCall (M.now m.new) }
+    ensures last { IsTrue (is_of_fault result) → M.honest m.new → SaysFault (M.report m.new).fault_place (M.now m.new) result }
     ensures runs { M.honest m.new → (k : Known) → Stands V.state V.holds v k (M.now m.old) → RunsOut M.Machine Script (M.ledger m.old).input (M.ledger m.new).input (M.report m.old) k m.old m.new result }
 {
     match group_read::<M, V, T>(alloc, v, m) {
@@ -204,8 +218,14 @@ pub fn run_script<M: Machine, V: Files<M> + Drop, T: Says>(
     requires forces { T.errand.forces ≡ is_forced }
     ensures attaches { M.tells m.new → (M.ledger m.new).attaches ≡ (M.ledger m.old).attaches }
     ensures status { IsScriptStatus result }
-    ensures counts { CountsScript (M.report m.old) (M.report m.new) result }
+    ensures counts { CountsTaking (M.report m.old) (M.report m.new) result }
+    ensures input { result ≡ 5 → M.tells m.new → FailsInput (M.ledger m.old).input (M.report m.old) (M.report m.new) }
+    ensures whole { result ≡ 0 → M.tells m.new → (M.ledger m.new).input ≡ [] }
+    ensures spelled { result ≡ 0 → M.tells m.new → (script_in (M.ledger m.old).input).1 ≡ Done }
+    ensures bad { result ≡ 2 → M.honest m.new → SaysBadLine (M.ledger m.old).input (M.now m.new) }
     ensures trust { Trusts (M.tells m.old) (M.tells m.new) (M.honest m.old) (M.honest m.new) }
+    ensures image { M.honest m.new → TellsImage sectors (M.now m.old) (M.now m.new) result }
+    ensures last { IsTrue (is_of_fault result) → M.honest m.new → SaysFault (M.report m.new).fault_place (M.now m.new) result }
     ensures leaves { M.honest m.new → (l : Plan) (windows : List WeakRun) (h : List Change) (f : ℕ) → IsSoundAt sectors l windows h f (M.now m.old) →
         LeavesRun Script (M.ledger m.old).input (M.ledger m.new).input l windows h f (M.left_since m.new) (LeavesOnly M.moment M.left_since m.old m.new) (M.report m.old) (M.report m.new) (M.now m.old) (M.now m.new) result }
 {

@@ -1,5 +1,5 @@
 //! One command, from the mount to its reply or to the line of the fault that ended it.
-ghost use Rattle.std.specs.Prelude.{◌≡◌, ◌≤◌, ℕ, List, [], None, false};
+ghost use Rattle.std.specs.Prelude.{◌≡◌, ◌≤◌, ℕ, List, [], None, false, IsTrue};
 ghost use Rattle.sector_disk.specs.declared.sector.WeakRun.{WeakRun};
 ghost use Rattle.sector_disk.specs.Calls.{Since};
 ghost use Rattle.sector_disk.specs.Machine.{LeavesOnly, OnlyWrites, Trusts};
@@ -9,6 +9,7 @@ ghost use Rattle.fsd_runs.specs.Commands.{reply_alone};
 ghost use Rattle.fsd_runs.specs.Leaves.{LeavesRun};
 ghost use Rattle.fsd_runs.specs.declared.request.Request.TheVariants.{One};
 ghost use Rattle.volume_contract.specs.Mount.{IsSoundAt};
+ghost use Rattle.volume_turns.specs.Causes.{SaysFault, SaysOfCall, TellsImage, is_of_fault};
 ghost use Rattle.volume_turns.specs.Status.{CountsRun, IsOneStatus};
 ghost use Rattle.volume_contract.specs.State.{Known, Stands, is_worn, volume_of};
 ghost use Rattle.volume_turns.specs.Whole.{RunsOut};
@@ -21,8 +22,8 @@ use sector_disk::Machine;
 use std::alloc::Global;
 use volume_contract::Files;
 
-// Does one command over a volume that was just mounted, to the last line. It gives the status.
-fn one_on<M: Machine, V: Files<M> + Drop, T: Says>(
+/// Does one command over a volume that was just mounted, to the last line. It gives the status.
+pub(crate) fn one_on<M: Machine, V: Files<M> + Drop, T: Says>(
     alloc: Global,
     v: V,
     m: &mut M,
@@ -37,6 +38,8 @@ fn one_on<M: Machine, V: Files<M> + Drop, T: Says>(
     ensures status { IsOneStatus c.now result }
     ensures counts { CountsRun (M.report m.old) (M.report m.new) result }
     ensures since { M.honest m.new → Since M.Machine m.old m.new }
+    ensures says { result ≡ 3 → M.honest m.new → SaysOfCall (M.now m.new) }
+    ensures last { IsTrue (is_of_fault result) → M.honest m.new → SaysFault (M.report m.new).fault_place (M.now m.new) result }
     ensures runs { M.honest m.new → (rest : List ℕ) (k : Known) → (volume_of k).unforced ≡ 0 → Stands V.state V.holds v k (M.now m.old) → RunsOut M.Machine (One c.now) [] rest (M.report m.old) k m.old m.new result }
 {
     match alone::<M, V, T>(alloc, v, m, c) {
@@ -59,6 +62,8 @@ pub fn run_one<M: Machine, V: Files<M> + Drop, T: Says>(
     ensures status { IsOneStatus c.now result }
     ensures counts { CountsRun (M.report m.old) (M.report m.new) result }
     ensures trust { Trusts (M.tells m.old) (M.tells m.new) (M.honest m.old) (M.honest m.new) }
+    ensures image { M.honest m.new → TellsImage sectors (M.now m.old) (M.now m.new) result }
+    ensures last { IsTrue (is_of_fault result) → M.honest m.new → SaysFault (M.report m.new).fault_place (M.now m.new) result }
     ensures leaves { M.honest m.new → (rest : List ℕ) (l : Plan) (windows : List WeakRun) (h : List Change) (f : ℕ) → IsSoundAt sectors l windows h f (M.now m.old) →
         LeavesRun (One c.now) [] rest l windows h f (M.left_since m.new) (LeavesOnly M.moment M.left_since m.old m.new) (M.report m.old) (M.report m.new) (M.now m.old) (M.now m.new) result }
 {

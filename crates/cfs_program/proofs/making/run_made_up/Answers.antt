@@ -2,7 +2,9 @@ use Rattle.std.proofs.Common.{inr, sym, ◌∙◌, arith, []}
 use Rattle.fsd_texts.specs.declared.fault.Fault.TheVariants as Ends
 use Rattle.fsd_runs.specs.declared.request.Request.TheVariants.{Generate}
 use Rattle.cfs_program.proofs.EndedLaws.{ended_run, failed_status}
+use Rattle.cfs_program.proofs.FoundLaws.{line_last, tells_found, tells_unfound}
 use Rattle.cfs_program.proofs.OpeningLaws.{finds_keep, opened_run, sound_found}
+use Rattle.cfs_program.proofs.CountsLaws.{counts_failed, counts_opened}
 use Rattle.cfs_program.proofs.making.run_made_up.Goals as goal
 
 pub returns-in-Ok-clause-leaves : goal.returns-in-Ok-clause-leaves
@@ -35,3 +37,40 @@ returns-in-Err-clause-leaves g c honest rest l windows h f sound =
     ended_run M (Generate c.args.seed c.args.count) [] rest l windows h f a b c.end_with.new.m (Ends.Device c.in-Err.failed.place) tt c.end_with.result sound (g.met.M.Machine.short a first) (λ left was. g.met.M.Machine.only_now a left first was)
     (c.attach.ensures.time back) (c.in-Err.ensures.failed back) says honest (c.end_with.ensures.ends honest)
     (let rose = cause.disk.failed in let disk = spares.disk in record { rose = omega (arith, rose, disk); told = cause.names ∙ sym cause.told ∙ sym spares.place }) (omega (arith, output))
+
+-- ---- the image
+
+pub returns-in-Ok-clause-image : goal.returns-in-Ok-clause-image
+returns-in-Ok-clause-image g c honest =
+    let M = g.M.Machine in
+    let back = c.run_generate.ensures.trust.honest honest in
+    tells_found (M.now c.args.m.now) (M.now c.attach.new.self) (M.now c.run_generate.new.m) c.in-Ok.sectors c.run_generate.result (c.in-Ok.ensures.attached back) (c.in-Ok.ensures.size back) (c.run_generate.ensures.image honest)
+
+pub returns-in-Err-clause-image : goal.returns-in-Err-clause-image
+returns-in-Err-clause-image g c honest = tells_unfound (g.M.Machine.now c.args.m.now) (g.M.Machine.now c.end_with.new.m) c.end_with.result c.end_with.ensures.status
+
+-- ---- what is counted
+
+pub returns-in-Ok-clause-counts : goal.returns-in-Ok-clause-counts
+returns-in-Ok-clause-counts g c =
+    let report = g.M.Machine.report in
+    let cause = c.in-Ok.ensures.cause in
+    counts_opened (report c.args.m.now) (report c.attach.new.self) (report c.run_generate.new.m) c.run_generate.result (record { disk = cause.disk.stays; input = cause.input; output = cause.output }) c.run_generate.ensures.counts
+
+pub returns-in-Err-clause-counts : goal.returns-in-Err-clause-counts
+returns-in-Err-clause-counts g c =
+    let report = g.M.Machine.report in
+    let cause = c.in-Err.ensures.cause in
+    counts_failed (report c.args.m.now) (report c.attach.new.self) (report c.end_with.new.m) c.end_with.result cause.input cause.output c.end_with.ensures.says.spares cause.disk.failed c.end_with.ensures.status
+
+-- ---- the fault that is said
+
+pub returns-in-Ok-clause-last : goal.returns-in-Ok-clause-last
+returns-in-Ok-clause-last g c = c.run_generate.ensures.last
+
+pub returns-in-Err-clause-last : goal.returns-in-Err-clause-last
+returns-in-Err-clause-last g c of h =
+    let M = g.M.Machine in
+    let cause = c.in-Err.ensures.cause in
+    let line = c.end_with in
+    line_last (Ends.Device c.in-Err.failed.place) (M.report line.new.m).fault_place (M.now c.attach.new.self) (M.now line.new.m) line.result (cause.names ∙ sym cause.told ∙ sym line.ensures.says.spares.place) (line.ensures.ends h) of

@@ -1,11 +1,16 @@
 use Rattle.std.proofs.Common.{◌≡◌, inr, List, ℕ, sym, ◌∙◌, ap, subst, arith}
 use Rattle.sector_disk.specs.Machine.{Ledger, LeavesOnly}
+use Rattle.fsd_texts.specs.declared.end.End.TheVariants.{Done}
 use Rattle.fsd_texts.specs.declared.fault.Fault.TheVariants as Ends
+use Rattle.fsd_texts.specs.Script.{script_in}
 use Rattle.fsd_runs.specs.declared.request.Request.TheVariants.{Script}
 use Rattle.fsd_runs.specs.Leaves.{LeavesRun}
 use Rattle.cfs_program.proofs.EndedLaws.{ended_run, failed_status}
 use Rattle.cfs_program.proofs.ForcedLaws.{forced_all}
+use Rattle.cfs_program.proofs.FoundLaws.{fails_attached, line_last, line_not, tells_found, tells_unfound}
 use Rattle.cfs_program.proofs.OpeningLaws.{finds_keep, opened_run, sound_found}
+use Rattle.cfs_program.proofs.CountsLaws.{counts_failed, reading_of, reading_opened}
+use Rattle.volume_turns.specs.Causes.{SaysBadLine}
 use Rattle.cfs_program.proofs.scripting.run_commands.Goals as goal
 
 pub run_script-requires-clause-lazily : goal.run_script-requires-clause-lazily
@@ -45,3 +50,80 @@ returns-in-Err-clause-leaves g c honest l windows h f sound =
     ended_run M Script (M.ledger a).input (M.ledger z).input l windows h f a b z (Ends.Device c.in-Err.failed.place) tt c.end_with.result sound (g.met.M.Machine.short a first) (λ left was. g.met.M.Machine.only_now a left first was)
     (c.attach.ensures.time back) (c.in-Err.ensures.failed back) says honest (c.end_with.ensures.ends honest)
     (let rose = cause.disk.failed in let disk = spares.disk in record { rose = omega (arith, rose, disk); told = cause.names ∙ sym cause.told ∙ sym spares.place }) (omega (arith, output))
+
+-- ---- the image
+
+pub returns-in-Ok-clause-image : goal.returns-in-Ok-clause-image
+returns-in-Ok-clause-image g c honest =
+    let M = g.M.Machine in
+    let back = c.run_script.ensures.trust.honest honest in
+    tells_found (M.now c.args.m.now) (M.now c.attach.new.self) (M.now c.run_script.new.m) c.in-Ok.sectors c.run_script.result (c.in-Ok.ensures.attached back) (c.in-Ok.ensures.size back) (c.run_script.ensures.image honest)
+
+pub returns-in-Err-clause-image : goal.returns-in-Err-clause-image
+returns-in-Err-clause-image g c honest = tells_unfound (g.M.Machine.now c.args.m.now) (g.M.Machine.now c.end_with.new.m) c.end_with.result c.end_with.ensures.status
+
+-- ---- the input
+
+pub returns-in-Ok-clause-input : goal.returns-in-Ok-clause-input
+returns-in-Ok-clause-input g c five t =
+    let M = g.M.Machine in
+    let a = c.args.m.now in
+    let b = c.attach.new.self in
+    fails_attached (M.report a) (M.report b) (M.report c.run_script.new.m) (M.ledger a).input (M.ledger b).input c.attach.ensures.cause.input (ap (λ (x : Ledger). x.input) (c.in-Ok.ensures.asked (c.run_script.ensures.trust.tells t))) (c.run_script.ensures.input five t)
+
+pub returns-in-Err-clause-input : goal.returns-in-Err-clause-input
+returns-in-Err-clause-input g c five t = absurd (line_not 5 4 c.end_with.result c.end_with.ensures.status (λ e. omega (arith, e)) (λ e. omega (arith, e)) (λ e. omega (arith, e)) five)
+
+-- ---- what is counted
+
+pub returns-in-Ok-clause-counts : goal.returns-in-Ok-clause-counts
+returns-in-Ok-clause-counts g c =
+    let report = g.M.Machine.report in
+    let cause = c.in-Ok.ensures.cause in
+    reading_opened (report c.args.m.now) (report c.attach.new.self) (report c.run_script.new.m) c.run_script.result (record { disk = cause.disk.stays; input = cause.input; output = cause.output }) c.run_script.ensures.counts
+
+pub returns-in-Err-clause-counts : goal.returns-in-Err-clause-counts
+returns-in-Err-clause-counts g c =
+    let report = g.M.Machine.report in
+    let cause = c.in-Err.ensures.cause in
+    reading_of (report c.args.m.now) (report c.end_with.new.m) c.end_with.result
+    (counts_failed (report c.args.m.now) (report c.attach.new.self) (report c.end_with.new.m) c.end_with.result cause.input cause.output c.end_with.ensures.says.spares cause.disk.failed c.end_with.ensures.status)
+
+pub returns-in-Ok-clause-whole : goal.returns-in-Ok-clause-whole
+returns-in-Ok-clause-whole g c = c.run_script.ensures.whole
+
+pub returns-in-Err-clause-whole : goal.returns-in-Err-clause-whole
+returns-in-Err-clause-whole g c zero t = absurd (line_not 0 4 c.end_with.result c.end_with.ensures.status (λ e. omega (arith, e)) (λ e. omega (arith, e)) (λ e. omega (arith, e)) zero)
+
+pub returns-in-Ok-clause-spelled : goal.returns-in-Ok-clause-spelled
+returns-in-Ok-clause-spelled g c zero t =
+    let same = ap (λ (x : Ledger). x.input) (c.in-Ok.ensures.asked (c.run_script.ensures.trust.tells t)) in
+    subst (λ (x : List ℕ). (script_in x).1 ≡ Done) same (c.run_script.ensures.spelled zero t)
+
+pub returns-in-Err-clause-spelled : goal.returns-in-Err-clause-spelled
+returns-in-Err-clause-spelled g c zero t = absurd (line_not 0 4 c.end_with.result c.end_with.ensures.status (λ e. omega (arith, e)) (λ e. omega (arith, e)) (λ e. omega (arith, e)) zero)
+
+-- ---- a bad line
+
+pub returns-in-Ok-clause-bad : goal.returns-in-Ok-clause-bad
+returns-in-Ok-clause-bad g c two h =
+    let M = g.M.Machine in
+    let b = c.attach.new.self in
+    let back = c.run_script.ensures.trust.honest h in
+    let input : (M.ledger b).input ≡ (M.ledger c.args.m.now).input = ap (λ (x : Ledger). x.input) (c.in-Ok.ensures.asked (g.met.M.Machine.honest_tells b back)) in
+    subst (λ (x : List ℕ). SaysBadLine x (M.now c.run_script.new.m)) input (c.run_script.ensures.bad two h)
+
+pub returns-in-Err-clause-bad : goal.returns-in-Err-clause-bad
+returns-in-Err-clause-bad g c two h = absurd (line_not 2 4 c.end_with.result c.end_with.ensures.status (λ e. omega (arith, e)) (λ e. omega (arith, e)) (λ e. omega (arith, e)) two)
+
+-- ---- the fault that is said
+
+pub returns-in-Ok-clause-last : goal.returns-in-Ok-clause-last
+returns-in-Ok-clause-last g c = c.run_script.ensures.last
+
+pub returns-in-Err-clause-last : goal.returns-in-Err-clause-last
+returns-in-Err-clause-last g c of h =
+    let M = g.M.Machine in
+    let cause = c.in-Err.ensures.cause in
+    let line = c.end_with in
+    line_last (Ends.Device c.in-Err.failed.place) (M.report line.new.m).fault_place (M.now c.attach.new.self) (M.now line.new.m) line.result (cause.names ∙ sym cause.told ∙ sym line.ensures.says.spares.place) (line.ensures.ends h) of

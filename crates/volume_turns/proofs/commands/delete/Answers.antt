@@ -16,6 +16,7 @@ use Rattle.volume_turns.specs.Steps.{Does, IsAnswered, Stays, device_by}
 use Rattle.sector_disk.proofs.CallLaws.{writes_more}
 use Rattle.volume_turns.proofs.OrderLaws.{delete_all, delete_down, delete_unworn, delete_worn, delete_through}
 use Rattle.volume_turns.proofs.StepLaws.{same_device, less_touched, answered_does, refused_does}
+use Rattle.volume_turns.proofs.StatusLaws.{refused_low}
 use Rattle.volume_turns.proofs.commands.delete.Goals as goal
 
 pub returns-in-Ok-clause-disk : goal.returns-in-Ok-clause-disk
@@ -54,3 +55,6 @@ returns-in-Err-clause-done g c h k stands =
     (λ other may. delete_unworn s c.requires.up why order other)
     (λ is. record { may = refl; worn = delete_worn s c.requires.up (subst (λ (x : Refusal). Comes (down s ∷ delete_all s) x) is order) })
     (c.in-Err.ensures.done h k stands))
+
+pub returns-in-Err-clause-status : goal.returns-in-Err-clause-status
+returns-in-Err-clause-status g c = refused_low c.in-Err.why c.ended_by.result c.ended_by.ensures.said

@@ -1,4 +1,4 @@
-use Rattle.std.proofs.Common.{ℕ, [], ◌∙◌, sym, ap, subst, refl, Option}
+use Rattle.std.proofs.Common.{◌≡◌, ℕ, [], ◌∙◌, sym, ap, subst, refl, Option}
 use Rattle.std.specs.Prelude.{Result}
 use Rattle.fsd_files.specs.Answers.{force_outcome}
 use Rattle.fsd_files.specs.Replies.{Reply}
@@ -12,6 +12,9 @@ use Rattle.volume_turns.specs.Steps.{Does, Stays, device_by}
 use Rattle.sector_disk.proofs.CallLaws.{writes_more}
 use Rattle.volume_turns.proofs.OrderLaws.{force_down}
 use Rattle.volume_turns.proofs.StepLaws.{same_device, less_touched, answered_does, force_does}
+use Rattle.fsd_runs.specs.Errands.{reply_status}
+use Rattle.volume_turns.specs.Steps.{reply_of}
+use Rattle.volume_turns.proofs.StatusLaws.{force_ends}
 use Rattle.volume_turns.proofs.commands.force.Goals as goal
 
 pub returns-in-Ok-clause-disk : goal.returns-in-Ok-clause-disk
@@ -41,3 +44,6 @@ returns-in-Err-clause-done g c h k stands =
     let M = g.M.Machine in
     subst (λ (r : Result Answer Fault). Does V.state V.holds Word.Force c.args.v.now c.force.new.self k (M.now c.args.m.now) (M.now c.force.new.m) r) (sym c.ended_by.ensures.is)
     (force_does V.state V.holds Word.Force c.args.v.now c.force.new.self k (M.now c.args.m.now) (M.now c.force.new.m) (λ met. force_outcome (volume_of k)) Reply.Forced c.in-Err.why (c.in-Err.ensures.done h k stands))
+
+pub returns-in-Err-clause-status : goal.returns-in-Err-clause-status
+returns-in-Err-clause-status g c = force_ends (λ a. reply_status (reply_of a) ≡ 0) (g.V.Files.state c.args.v.now) c.requires.up _ c.in-Err.why c.in-Err.ensures.order c.ended_by.result c.ended_by.ensures.is

@@ -12,6 +12,7 @@ use Rattle.sector_disk.proofs.CallLaws.{reads_as_writes, reads_then}
 use Rattle.volume_turns.proofs.OrderLaws.{entry_down}
 use Rattle.volume_turns.proofs.ReadLaws.{does_earlier, found_length, unfound_does}
 use Rattle.volume_turns.proofs.StepLaws.{same_device, wear_stays}
+use Rattle.volume_turns.proofs.StatusLaws.{refused_get}
 use Rattle.volume_turns.proofs.commands.get.Goals as goal
 
 pub returns-in-Ok-clause-disk : goal.returns-in-Ok-clause-disk
@@ -46,3 +47,9 @@ returns-in-Err-clause-done g c h k stands =
     let M = g.M.Machine in
     subst (λ (r : Result Answer Fault). Does V.state V.holds (Word.Get c.args.key.now) c.args.v.now c.entry.new.self k (M.now c.args.m.now) (M.now c.entry.new.m) r) (sym c.ended_by.ensures.is)
     (unfound_does V.state V.holds c.args.key.now c.args.v.now c.entry.new.self k (M.now c.args.m.now) (M.now c.entry.new.m) c.in-Err.why (c.in-Err.ensures.stands h k stands) (c.in-Err.ensures.done h k stands))
+
+pub returns-in-Ok-clause-status : goal.returns-in-Ok-clause-status
+returns-in-Ok-clause-status g c = c.read_whole.ensures.status
+
+pub returns-in-Err-clause-status : goal.returns-in-Err-clause-status
+returns-in-Err-clause-status g c = refused_get c.in-Err.why c.ended_by.result c.ended_by.ensures.is

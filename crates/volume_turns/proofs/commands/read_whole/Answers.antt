@@ -1,4 +1,4 @@
-use Rattle.std.proofs.Common.{◌≡◌, ℕ, List, ◌++◌, ◌∙◌, sym, ap, subst, Option, length, take, drop, arith}
+use Rattle.std.proofs.Common.{inl, ◌≡◌, ℕ, List, ◌++◌, ◌∙◌, sym, ap, subst, Option, length, take, drop, arith}
 use Rattle.std.specs.Prelude.{Result, IfSome}
 use Rattle.std.proofs.lemmas.List.{take_at}
 use Rattle.fsd_bytes.specs.declared.key.Key.{Key}
@@ -13,6 +13,7 @@ use Rattle.volume_turns.specs.Steps.{Does, IsAnswered, device_by}
 use Rattle.volume_turns.proofs.OrderLaws.{read_down}
 use Rattle.volume_turns.proofs.ReadLaws.{read_does, unread_does}
 use Rattle.volume_turns.proofs.StepLaws.{same_read_device}
+use Rattle.volume_turns.proofs.StatusLaws.{refused_read}
 use Rattle.volume_turns.proofs.commands.read_whole.Goals as goal
 
 pub returns-in-Ok-read-clause-done : goal.returns-in-Ok-read-clause-done
@@ -42,3 +43,9 @@ returns-in-Err-clause-done g c h k stands len =
     let lens = subst (λ (n : ℕ). IfSome e (λ x. x.length ≡ n)) (sym size) len in
     subst (λ (r : Result Answer Fault). Does V.state V.holds (Word.Get c.args.key.now) c.args.v.now c.read.new.self k (M.now c.args.m.now) (M.now c.read.new.m) r) (sym c.read_ended_by.ensures.is)
     (unread_does V.state V.holds c.args.key.now c.args.v.now c.read.new.self k (M.now c.args.m.now) (M.now c.read.new.m) c.as_mut_slice.result.now c.read.new.buf c.in-Err.why lens (c.in-Err.ensures.stands h k stands) (c.in-Err.ensures.done h k stands))
+
+pub returns-in-Err-clause-status : goal.returns-in-Err-clause-status
+returns-in-Err-clause-status g c = refused_read c.args.key.now c.in-Err.why c.read_ended_by.result c.read_ended_by.ensures.is
+
+pub returns-in-Ok-read-clause-status : goal.returns-in-Ok-read-clause-status
+returns-in-Ok-read-clause-status g c = inl (omega arith)

@@ -17,6 +17,7 @@ use Rattle.volume_turns.specs.Steps.{Does, Stays, device_by}
 use Rattle.sector_disk.proofs.CallLaws.{writes_more}
 use Rattle.volume_turns.proofs.OrderLaws.{steps_of, edit_rest, edit_never, keep_never, never_down, unworn_by, worn_by, unworn_through, keep_fits, fits_keep}
 use Rattle.volume_turns.proofs.StepLaws.{same_device, less_touched, answered_does, refused_does}
+use Rattle.volume_turns.proofs.StatusLaws.{refused_low}
 use Rattle.volume_turns.proofs.commands.set_keep.Goals as goal
 
 pub returns-in-Ok-clause-disk : goal.returns-in-Ok-clause-disk
@@ -54,3 +55,6 @@ returns-in-Err-clause-done g c h k stands =
     (λ other may. unworn_by s c.requires.up (cond (nat_lt max_keep c.args.keep) (Some (Why.KeepTooLarge c.args.keep)) None) (edit_rest s) (keep_never c.args.keep) (edit_never s) why order other (keep_fits (nat_lt max_keep c.args.keep) (Why.KeepTooLarge c.args.keep) may))
     (λ is. let w = worn_by s c.requires.up (cond (nat_lt max_keep c.args.keep) (Some (Why.KeepTooLarge c.args.keep)) None) (edit_rest s) (keep_never c.args.keep) (edit_never s) (subst (λ (x : Refusal). Comes (steps_of s (cond (nat_lt max_keep c.args.keep) (Some (Why.KeepTooLarge c.args.keep)) None) (edit_rest s)) x) is order) in record { may = fits_keep (nat_lt max_keep c.args.keep) (Why.KeepTooLarge c.args.keep) w.0; worn = w.1 })
     (c.in-Err.ensures.done h k stands))
+
+pub returns-in-Err-clause-status : goal.returns-in-Err-clause-status
+returns-in-Err-clause-status g c = refused_low c.in-Err.why c.ended_by.result c.ended_by.ensures.said

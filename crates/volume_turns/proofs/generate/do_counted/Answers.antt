@@ -1,6 +1,6 @@
 use Rattle.std.proofs.Common.{subst, sym}
 use Rattle.sector_disk.specs.Image.{AreShort, Windows}
-use Rattle.volume_turns.specs.Steps.{IsOfVolume, reply_of}
+use Rattle.volume_turns.specs.Steps.{IsOfCall, reply_of}
 use Rattle.volume_turns.proofs.CountLaws.{counted_fault, counted_none, counted_step}
 use Rattle.volume_turns.proofs.generate.do_counted.Goals as goal
 
@@ -45,4 +45,4 @@ returns-clause-steps g c h k from stood aged =
     counted_fault V.state V.holds M g.met.V.Files.wears short g.met.M.Machine.counts_now c.args.c.now v c.answer.new.v a c.answer.new.m k from stood aged at _ disk c.in-Err.ensures.layout h c.in-Err.fault (c.in-Err.ensures.done h k at)
 
 pub returns-in-Ok-clause-fault : goal.returns-in-Ok-clause-fault
-returns-in-Ok-clause-fault g c = subst IsOfVolume (sym c.in-Err-count.ensures.err) tt
+returns-in-Ok-clause-fault g c = subst IsOfCall (sym c.in-Err-count.ensures.err) tt

@@ -1,11 +1,14 @@
-use Rattle.std.proofs.Common.{Option, Ok, Err, subst, arith}
+use Rattle.std.proofs.Common.{refl, Option, Ok, Err, subst, arith}
 use Rattle.fsd_texts.specs.Generator.{made_up}
 use Rattle.volume_turns.specs.declared.turns.End.{End}
 use Rattle.volume_turns.specs.Generate.{CountedGroup}
 use Rattle.volume_turns.specs.Tally.{Counting}
 use Rattle.volume_turns.specs.Turns.{IsEndOfVolume, Told}
 use Rattle.volume_turns.proofs.GenerateLaws.{made_broken, made_said, made_unsaid, made_worn}
-use Rattle.volume_turns.proofs.StatusLaws.{all_is_made, fault_counts, fault_is_made, line_counts, unsaid_counts, worn_is_made}
+use Rattle.volume_turns.proofs.CauseLaws.{call_says}
+use Rattle.volume_turns.proofs.StatusLaws.{not_as, call_of_volume, all_is_made, fault_counts, fault_is_made, line_counts, unsaid_counts, worn_is_made}
+use Rattle.fsd_texts.specs.declared.fault.Fault.TheVariants as Ends
+use Rattle.volume_turns.proofs.LastLaws.{ends_fault, line_fault, line_other, told_place}
 use Rattle.volume_turns.proofs.generate.generate_on.Goals as goal
 
 pub returns-in-Ok-Some-clause-since : goal.returns-in-Ok-Some-clause-since
@@ -79,7 +82,7 @@ pub returns-in-Ok-None-clause-status : goal.returns-in-Ok-None-clause-status
 returns-in-Ok-None-clause-status g c = worn_is_made c.last_line-in-Ok-None.result c.last_line-in-Ok-None.ensures.status
 
 pub returns-in-Err-Fault-clause-status : goal.returns-in-Err-Fault-clause-status
-returns-in-Err-Fault-clause-status g c = fault_is_made c.in-Err-Fault.why c.end_with.result (subst IsEndOfVolume c.in-Err-Fault.field-0-is c.in-Err-Fault.ensures.fault) c.end_with.ensures.status
+returns-in-Err-Fault-clause-status g c = fault_is_made c.in-Err-Fault.why c.end_with.result (call_of_volume c.in-Err-Fault.why (subst IsEndOfVolume c.in-Err-Fault.field-0-is c.in-Err-Fault.ensures.fault)) c.end_with.ensures.status
 
 pub returns-in-Ok-Some-clause-counts : goal.returns-in-Ok-Some-clause-counts
 returns-in-Ok-Some-clause-counts g c =
@@ -105,3 +108,45 @@ returns-in-Err-Output-clause-counts g c =
     let a = report c.args.m.now in
     let b = report c.make_group.new.m in
     unsaid_counts a b (subst (λ (e : End). Told {T = Option Counting} a b (Err e)) c.in-Err-Output.field-0-is c.in-Err-Output.ensures.told)
+
+-- ---- a fault of the image
+
+pub returns-in-Ok-Some-clause-says : goal.returns-in-Ok-Some-clause-says
+returns-in-Ok-Some-clause-says g c three h = absurd (not_as 3 0 c.last_line.result (λ e. omega (arith, e)) (λ e. omega (arith, e)) (λ e. omega (arith, e)) c.last_line.ensures.status three)
+
+pub returns-in-Ok-None-clause-says : goal.returns-in-Ok-None-clause-says
+returns-in-Ok-None-clause-says g c three h = absurd (not_as 3 9 c.last_line-in-Ok-None.result (λ e. omega (arith, e)) (λ e. omega (arith, e)) (λ e. omega (arith, e)) c.last_line-in-Ok-None.ensures.status three)
+
+pub returns-in-Err-Fault-clause-says : goal.returns-in-Err-Fault-clause-says
+returns-in-Err-Fault-clause-says g c three h =
+    let now = g.M.Machine.now in
+    call_says c.in-Err-Fault.why (subst IsEndOfVolume c.in-Err-Fault.field-0-is c.in-Err-Fault.ensures.fault) (now c.make_group.new.m) (now c.end_with.new.m) c.end_with.result (c.end_with.ensures.ends h) three
+
+pub returns-in-Err-Output-clause-says : goal.returns-in-Err-Output-clause-says
+returns-in-Err-Output-clause-says g c three h = absurd (omega (arith, three))
+
+-- ---- the fault that is said
+
+pub returns-in-Ok-Some-clause-last : goal.returns-in-Ok-Some-clause-last
+returns-in-Ok-Some-clause-last g c of h =
+    let line = c.last_line in
+    line_other (g.M.Machine.report line.new.m).fault_place (g.M.Machine.now c.make_group.new.m) (g.M.Machine.now line.new.m) line.result c.line.result 0 refl (line.ensures.ends h) of
+
+pub returns-in-Ok-None-clause-last : goal.returns-in-Ok-None-clause-last
+returns-in-Ok-None-clause-last g c of h =
+    let line = c.last_line-in-Ok-None in
+    line_fault (g.M.Machine.report line.new.m).fault_place (g.M.Machine.now c.make_group.new.m) (g.M.Machine.now line.new.m) line.result Ends.WornOut tt (line.ensures.ends h) of
+
+pub returns-in-Err-Fault-clause-last : goal.returns-in-Err-Fault-clause-last
+returns-in-Err-Fault-clause-last g c of h =
+    let report = g.M.Machine.report in
+    let now = g.M.Machine.now in
+    let a = report c.args.m.now in
+    let p = report c.make_group.new.m in
+    let b = report c.end_with.new.m in
+    let x = c.in-Err-Fault in
+    let told = subst (λ (e : End). Told {T = Option Counting} a p (Err e)) x.field-0-is x.ensures.told in
+    ends_fault b.fault_place (now c.make_group.new.m) (now c.end_with.new.m) c.end_with.result x.why (told_place x.why a p b told.disk c.end_with.ensures.says.spares.place) (c.end_with.ensures.ends h) of
+
+pub returns-in-Err-Output-clause-last : goal.returns-in-Err-Output-clause-last
+returns-in-Err-Output-clause-last g c of h = absurd (cc of)

@@ -4,10 +4,13 @@ use Rattle.fsd_texts.specs.declared.fault.Fault.{Fault}
 use Rattle.fsd_sound.specs.Writes.{force_writes}
 use Rattle.volume_turns.specs.Line.{EndsWith, UttersFault, is_unsaid, IsStatusFor}
 use Rattle.volume_turns.specs.Once.{close_fault}
-use Rattle.volume_turns.specs.Steps.{IsOfVolume}
-use Rattle.volume_turns.proofs.InputLaws.{close_of_volume, device_close, refused_broken, refused_input}
+use Rattle.volume_turns.specs.Steps.{IsOfCall}
+use Rattle.volume_turns.proofs.CauseLaws.{call_says}
+use Rattle.volume_turns.proofs.InputLaws.{close_of_call, device_close, refused_broken, refused_input}
 use Rattle.volume_turns.proofs.RunLaws.{told_fault}
-use Rattle.volume_turns.proofs.StatusLaws.{fault_counts, fault_is_put, line_counts, long_is_put}
+use Rattle.volume_turns.proofs.StatusLaws.{fault_not_zero, call_of_volume, not_as, fault_counts, fault_is_put, line_counts, long_is_put}
+use Rattle.fsd_texts.specs.declared.fault.Fault.TheVariants as Ends
+use Rattle.volume_turns.proofs.LastLaws.{ends_fault, line_fault, told_place}
 use Rattle.volume_turns.proofs.input.refuse_input.Goals as goal
 
 pub returns-in-Ok-clause-runs : goal.returns-in-Ok-clause-runs
@@ -47,10 +50,10 @@ returns-in-Ok-clause-counts g c =
     let disk = c.in-Ok.ensures.disk in
     let output = disk.uses.output in
     line_counts a (report c.close.new.m) (report c.last_line.new.m) c.last_line.result c.last_line.ensures.says.spares {T = Unit {0}} tt 5 (λ e. omega (arith, e))
-    (record { sectors = disk.uses.sectors; disk = disk.faults; input = disk.uses.input; later = omega (arith, output); output = tt }) c.last_line.ensures.status
+    (record { sectors = disk.uses.sectors; disk = disk.faults; input = disk.uses.input; later = omega (arith, output); output = output }) c.last_line.ensures.status
 
 pub returns-in-Err-clause-status : goal.returns-in-Err-clause-status
-returns-in-Err-clause-status g c = fault_is_put c.close_fault.result c.end_with.result (subst IsOfVolume (sym c.close_fault.ensures) (close_of_volume c.in-Err.why)) c.end_with.ensures.status
+returns-in-Err-clause-status g c = fault_is_put c.close_fault.result c.end_with.result (call_of_volume c.close_fault.result (subst IsOfCall (sym c.close_fault.ensures) (close_of_call c.in-Err.why))) c.end_with.ensures.status
 
 pub returns-in-Err-clause-counts : goal.returns-in-Err-clause-counts
 returns-in-Err-clause-counts g c =
@@ -61,3 +64,38 @@ returns-in-Err-clause-counts g c =
     let disk = c.in-Err.ensures.disk in
     fault_counts a m (report c.end_with.new.m) c.end_with.result c.end_with.ensures.says.spares {T = Unit {0}} why
     (told_fault a m why disk.uses (subst (λ (o : Option ℕ). DiskFaults o a m) (device_close c.in-Err.why) disk.faults)) (subst (λ (x : Fault). IsStatusFor x c.end_with.result) c.close_fault.ensures c.end_with.ensures.status)
+
+-- ---- a fault of the image
+
+pub returns-in-Ok-clause-says : goal.returns-in-Ok-clause-says
+returns-in-Ok-clause-says g c three h = absurd (not_as 3 5 c.last_line.result (λ e. omega (arith, e)) (λ e. omega (arith, e)) (λ e. omega (arith, e)) c.last_line.ensures.status three)
+
+pub returns-in-Err-clause-says : goal.returns-in-Err-clause-says
+returns-in-Err-clause-says g c three h =
+    let now = g.M.Machine.now in
+    call_says c.close_fault.result (subst IsOfCall (sym c.close_fault.ensures) (close_of_call c.in-Err.why)) (now c.close.new.m) (now c.end_with.new.m) c.end_with.result (c.end_with.ensures.ends h) three
+
+pub returns-in-Ok-clause-unmade : goal.returns-in-Ok-clause-unmade
+returns-in-Ok-clause-unmade g c zero = not_as 0 5 c.last_line.result (λ e. omega (arith, e)) (λ e. omega (arith, e)) (λ e. omega (arith, e)) c.last_line.ensures.status zero
+
+pub returns-in-Err-clause-unmade : goal.returns-in-Err-clause-unmade
+returns-in-Err-clause-unmade g c zero = fault_not_zero c.close_fault.result c.end_with.result c.end_with.ensures.status zero
+
+-- ---- the fault that is said
+
+pub returns-in-Ok-clause-last : goal.returns-in-Ok-clause-last
+returns-in-Ok-clause-last g c of h =
+    let line = c.last_line in
+    line_fault (g.M.Machine.report line.new.m).fault_place (g.M.Machine.now c.close.new.m) (g.M.Machine.now line.new.m) line.result Ends.InputTooLong tt (line.ensures.ends h) of
+
+pub returns-in-Err-clause-last : goal.returns-in-Err-clause-last
+returns-in-Err-clause-last g c of h =
+    let report = g.M.Machine.report in
+    let now = g.M.Machine.now in
+    let a = report c.args.m.now in
+    let m = report c.close.new.m in
+    let b = report c.end_with.new.m in
+    let why = close_fault c.in-Err.why in
+    ends_fault b.fault_place (now c.close.new.m) (now c.end_with.new.m) c.end_with.result why
+    (told_place why a m b (subst (λ (o : Option ℕ). DiskFaults o a m) (device_close c.in-Err.why) c.in-Err.ensures.disk.faults) c.end_with.ensures.says.spares.place)
+    (subst (λ (x : Fault). EndsWith x (now c.close.new.m) (now c.end_with.new.m) c.end_with.result) c.close_fault.ensures (c.end_with.ensures.ends h)) of

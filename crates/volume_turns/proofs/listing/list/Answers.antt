@@ -13,6 +13,9 @@ use Rattle.volume_contract.specs.State.{volume_of}
 use Rattle.volume_turns.specs.declared.answer.Answer.{Answer}
 use Rattle.volume_turns.specs.Steps.{Does, Stays, device_by}
 use Rattle.volume_turns.proofs.StepLaws.{outside_does, same_device, wear_stays}
+use Rattle.fsd_runs.specs.Errands.{reply_status}
+use Rattle.volume_turns.specs.Steps.{reply_of}
+use Rattle.volume_turns.proofs.StatusLaws.{look_up_ends}
 use Rattle.volume_turns.proofs.listing.list.Goals as goal
 
 pub returns-in-Ok-clause-disk : goal.returns-in-Ok-clause-disk
@@ -53,3 +56,6 @@ returns-in-Err-clause-done g c h k stands =
     let M = g.M.Machine in
     subst (λ (r : Result Answer Fault). Does V.state V.holds (Word.List c.args.pattern.now) c.args.v.now c.collect.new.v k (M.now c.args.m.now) (M.now c.collect.new.m) r) (sym c.ended_by.ensures.is)
     (outside_does V.state V.holds (Word.List c.args.pattern.now) c.args.v.now c.collect.new.v k (M.now c.args.m.now) (M.now c.collect.new.m) c.in-Err.why (c.in-Err.ensures.done h k stands))
+
+pub returns-in-Err-clause-status : goal.returns-in-Err-clause-status
+returns-in-Err-clause-status g c = look_up_ends (λ a. reply_status (reply_of a) ≡ 0) c.in-Err.why c.ended_by.result c.ended_by.ensures.is c.in-Err.ensures.refusal

@@ -1,7 +1,13 @@
-use Rattle.std.proofs.Common.{sym, ◌∙◌, arith}
-use Rattle.volume_turns.specs.declared.script.Stop.TheVariants.{WornOut}
+use Rattle.std.proofs.Common.{◌≡◌, sym, ◌∙◌, arith}
+use Rattle.volume_turns.specs.declared.script.Stop.TheVariants.{Ended, WornOut}
+use Rattle.fsd_texts.specs.declared.end.End.TheVariants.{Done}
+use Rattle.volume_turns.proofs.CauseLaws.{passes_on, read_ends}
 use Rattle.volume_turns.proofs.ScriptGroupLaws.{group_broken, group_stopped, group_worn_out, heard_worn}
 use Rattle.volume_turns.proofs.ScriptLaws.{heard_of, heard_then, rose_forced}
+use Rattle.std.proofs.Common.{Ok, ap}
+use Rattle.std.specs.Prelude.{Result}
+use Rattle.volume_turns.specs.declared.turns.End.{End}
+use Rattle.volume_turns.specs.declared.script.Stop.{Stop}
 use Rattle.volume_turns.proofs.script.group_read.Goals as goal
 
 pub returns-in-Ok-clause-group : goal.returns-in-Ok-clause-group
@@ -75,3 +81,37 @@ pub returns-then-is_worn_end-clause-attaches : goal.returns-then-is_worn_end-cla
 returns-then-is_worn_end-clause-attaches g c t =
     let done = c.force_read-then-is_worn_end in
     (done.ensures.ledger t).attaches ∙ c.read_all.ensures.attaches (done.ensures.trust.tells t)
+
+-- ---- how the script ends
+
+pub returns-in-Ok-clause-ends : goal.returns-in-Ok-clause-ends
+returns-in-Ok-clause-ends g c end is t =
+    let V = g.V.Files in
+    read_ends V.state V.holds g.M.Machine g.T.Says.errand c.args.v c.args.m.now c.read_all.new.v c.read_all.new.m c.in-Ok.stop end (c.in-Ok.ensures.reads (c.force_read.ensures.trust.tells t)) (passes_on c.in-Ok.stop end c.force_read.result c.force_read.ensures.same is)
+
+pub returns-then-is_worn_end-clause-ends : goal.returns-then-is_worn_end-clause-ends
+returns-then-is_worn_end-clause-ends g c end is t =
+    let done = c.force_read-then-is_worn_end in
+    absurd (let e : WornOut ≡ Ended end = passes_on WornOut end done.result done.ensures.same is in cc e)
+
+pub returns-else-is_worn_end-clause-ends : goal.returns-else-is_worn_end-clause-ends
+returns-else-is_worn_end-clause-ends g c end is t = absurd (cc is)
+
+-- ---- where all is read
+
+abbrev come_to : Stop → Result Stop End
+come_to stop = Ok stop
+
+pub returns-in-Ok-clause-whole : goal.returns-in-Ok-clause-whole
+returns-in-Ok-clause-whole g c is t =
+    let done = c.force_read in
+    let stop = passes_on c.in-Ok.stop Done done.result done.ensures.same is in
+    (done.ensures.ledger t).input ∙ c.in-Ok.ensures.whole (ap come_to stop) (done.ensures.trust.tells t)
+
+pub returns-then-is_worn_end-clause-whole : goal.returns-then-is_worn_end-clause-whole
+returns-then-is_worn_end-clause-whole g c is t =
+    let done = c.force_read-then-is_worn_end in
+    absurd (let e : WornOut ≡ Ended Done = passes_on WornOut Done done.result done.ensures.same is in cc e)
+
+pub returns-else-is_worn_end-clause-whole : goal.returns-else-is_worn_end-clause-whole
+returns-else-is_worn_end-clause-whole g c is t = absurd (cc is)

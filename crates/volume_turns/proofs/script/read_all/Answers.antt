@@ -7,6 +7,11 @@ use Rattle.volume_turns.specs.declared.script.Stop.{Stop}
 use Rattle.volume_turns.specs.Turns.{Follows}
 use Rattle.volume_turns.proofs.RunLaws.{follows_then}
 use Rattle.volume_turns.proofs.ScriptLaws.{done_none, heard_as, heard_end, heard_none, heard_then, reads_then, rose_then}
+use Rattle.std.proofs.Common.{◌≡◌}
+use Rattle.std.specs.Prelude.{Result}
+use Rattle.fsd_texts.specs.declared.end.End.TheVariants.{Done}
+use Rattle.volume_turns.specs.declared.turns.End.{End}
+use Rattle.volume_turns.specs.declared.script.Stop.TheVariants.{Ended}
 use Rattle.volume_turns.proofs.script.read_all.Goals as goal
 
 pub loop-stop-init : goal.loop-stop-init
@@ -23,6 +28,7 @@ loop-stop-init g c =
       since = λ h t left le was. was;
       later = λ h. omega arith;
       few = let same = ap (λ (r : Reading). r.given) c.new-reader.ensures in omega (arith, same);
+      going = ap (λ (r : Reading). r.end) c.new-reader.ensures;
       so_far = λ t. subst (λ (r : Reading). DoneSo V.state V.holds M g.T.Says.errand fresh r c.args.v.now c.args.m.now c.args.v.now c.args.m.now) (sym c.new-reader.ensures) (done_none V.state V.holds M g.T.Says.errand fresh c.args.v.now c.args.m.now);
     }
 
@@ -124,6 +130,21 @@ loop-stop-preserved g c =
       since = both.since;
       later = both.later;
       few = goes.2;
+      going = goes.1;
       so_far = λ t. reads_then V.state V.holds M g.T.Says.errand fresh l.reader c.read_on.new.reader c.args.v.now l.v c.read_on.new.v c.args.m.now l.m c.read_on.new.m (Ok None) step (was.so_far (c.read_on.ensures.trust.tells t))
           (subst (λ (o : Option Stop). Reads V.state V.holds M g.T.Says.errand l.reader c.read_on.new.reader l.v l.m c.read_on.new.v c.read_on.new.m (Ok o)) c.in-Ok-None.field-0-is (c.in-Ok-None.ensures.reads t));
     }
+
+-- ---- where all is read
+
+abbrev read_so : Option Stop → Result (Option Stop) End
+read_so stop = Ok stop
+
+pub returns-in-Ok-Some-clause-whole : goal.returns-in-Ok-Some-clause-whole
+returns-in-Ok-Some-clause-whole g c is t =
+    let x = c.in-Ok-Some in
+    let same : x.stop ≡ Ended Done = cc is in
+    x.ensures.whole (ap read_so (x.field-0-is ∙ ap (λ (s : Stop). Some s) same)) c.loop-stop.invariant.going t
+
+pub returns-in-Err-clause-whole : goal.returns-in-Err-clause-whole
+returns-in-Err-clause-whole g c is t = absurd (cc is)

@@ -20,6 +20,7 @@ invariant-loop-stop g l =
       since : M.honest l.m → Since M l.fn.m l.m;
       later : M.honest l.m → M.moment l.fn.m ≤ M.moment l.m;
       few : l.reader.given ≤ max_input;
+      going : l.reader.end ≡ None;
       so_far : M.tells l.m → DoneSo g.V.Files.state g.V.Files.holds M g.T.Says.errand fresh l.reader l.fn.v l.fn.m l.v l.m;
     }
 

@@ -9,6 +9,7 @@ use Rattle.fsd_texts.specs.declared.end.End.TheVariants.{Bad}
 use Rattle.volume_turns.specs.Script.{Reads}
 use Rattle.volume_turns.specs.declared.script.Stop.TheVariants.{Ended}
 use Rattle.volume_turns.proofs.ScriptLaws.{ended_so, moves_spells, none_done, none_read, one_done, one_stops}
+use Rattle.volume_turns.proofs.CauseLaws.{none_left}
 use Rattle.volume_turns.proofs.script.read_on.Goals as goal
 
 pub returns-in-Ok-clause-reads : goal.returns-in-Ok-clause-reads
@@ -74,7 +75,7 @@ returns-in-Err-TooLong-clause-reads g c t =
 pub returns-in-Err-Input-clause-heard : goal.returns-in-Err-Input-clause-heard
 returns-in-Err-Input-clause-heard g c =
     let spares = c.next_command.ensures.calls.spares in
-    record { sectors = spares.sectors; disk = (spares.disk, spares.place); later = let same = spares.output in omega (arith, same); output = tt }
+    record { sectors = spares.sectors; disk = (spares.disk, spares.place); later = let same = spares.output in omega (arith, same); output = spares.output }
 
 pub returns-in-Err-Input-clause-reads : goal.returns-in-Err-Input-clause-reads
 returns-in-Err-Input-clause-reads g c t =
@@ -124,3 +125,32 @@ returns-in-Err-Input-clause-attaches g c t = ap (λ (l : Ledger). l.attaches) (c
 
 pub returns-clause-attaches : goal.returns-clause-attaches
 returns-clause-attaches g c t = ap (λ (l : Ledger). l.attaches) (c.next_command.ensures.moves t).left
+
+-- ---- where all is read
+
+pub returns-in-Ok-clause-whole : goal.returns-in-Ok-clause-whole
+returns-in-Ok-clause-whole g c is still t = absurd (cc is)
+
+pub returns-in-Ok-Some-clause-whole : goal.returns-in-Ok-Some-clause-whole
+returns-in-Ok-Some-clause-whole g c is still t = absurd (cc is)
+
+pub returns-in-Err-Bad-clause-whole : goal.returns-in-Err-Bad-clause-whole
+returns-in-Err-Bad-clause-whole g c is still t = absurd (cc is)
+
+pub returns-in-Err-TooLong-clause-whole : goal.returns-in-Err-TooLong-clause-whole
+returns-in-Err-TooLong-clause-whole g c is still t = absurd (cc is)
+
+pub returns-in-Err-Input-clause-whole : goal.returns-in-Err-Input-clause-whole
+returns-in-Err-Input-clause-whole g c is still t = absurd (cc is)
+
+pub returns-clause-whole : goal.returns-clause-whole
+returns-clause-whole g c is still t = absurd (cc is)
+
+pub returns-in-Ok-None-clause-whole : goal.returns-in-Ok-None-clause-whole
+returns-in-Ok-None-clause-whole g c is still t =
+    let M = g.M.Machine in
+    let a = c.args.m.now in
+    let m = c.next_command.new.m in
+    let script = subst (λ (o : Option Word). Answers (Ok o) (script_left c.args.reader.now (M.ledger a).input) (script_left c.next_command.new.self (M.ledger m).input)) c.in-Ok-None.field-0-is (c.in-Ok-None.ensures.script t) in
+    let moves = c.in-Ok-None.ensures.moves t in
+    none_left c.args.reader.now (M.ledger a) (M.ledger m) moves.count still script.0 moves.left

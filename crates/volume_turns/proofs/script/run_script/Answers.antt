@@ -1,12 +1,17 @@
-use Rattle.std.proofs.Common.{ℕ, List, false, subst, arith}
+use Rattle.std.proofs.Common.{◌≡◌, ℕ, List, false, subst, arith}
 use Rattle.volume_turns.specs.Whole.{RunsOut}
 use Rattle.sector_disk.specs.Calls.{LeavesDisk}
 use Rattle.fsd_texts.specs.declared.fault.Fault.{Fault}
+use Rattle.fsd_texts.specs.declared.end.End.TheVariants.{Done}
+use Rattle.fsd_texts.specs.Script.{script_in}
 use Rattle.fsd_runs.specs.declared.request.Request.TheVariants.{Script}
 use Rattle.volume_turns.specs.Line.{EndsWith, IsStatusFor, UttersFault, is_unsaid}
 use Rattle.volume_turns.proofs.ScriptRunLaws.{some_forced}
-use Rattle.volume_turns.proofs.StatusLaws.{fault_is_script, mount_counts, mount_of_volume, script_counts, script_counts_after}
+use Rattle.volume_turns.proofs.CauseLaws.{tells_mounted, tells_refused}
+use Rattle.volume_turns.proofs.StatusLaws.{fault_not_bad, fault_not_zero, fails_behind, fault_not_five, fault_is_script, mount_counts, mount_of_volume, script_counts, script_counts_after}
 use Rattle.volume_turns.proofs.WholeLaws.{joined_run, refused_run}
+use Rattle.volume_turns.specs.Causes.{SaysBadLine}
+use Rattle.volume_turns.proofs.LastLaws.{mount_fault}
 use Rattle.volume_turns.proofs.script.run_script.Goals as goal
 
 pub returns-in-Ok-clause-leaves : goal.returns-in-Ok-clause-leaves
@@ -56,3 +61,72 @@ returns-in-Err-clause-counts g c =
     script_counts (M.report c.args.m.now) (M.report c.end_with.new.m) c.end_with.result
     (mount_counts (M.report c.args.m.now) (M.report c.mount.new.m) (M.report c.end_with.new.m) c.end_with.result c.end_with.ensures.says.spares c.in-Err.fault c.in-Err.ensures.disk.uses c.in-Err.ensures.disk.faults
     (subst (λ (why : Fault). IsStatusFor why c.end_with.result) c.fault_of.ensures c.end_with.ensures.status))
+
+-- ---- the image
+
+pub returns-in-Ok-clause-image : goal.returns-in-Ok-clause-image
+returns-in-Ok-clause-image g c h =
+    let M = g.M.Machine in
+    let does = c.script_on.ensures in
+    tells_mounted c.args.sectors (g.V.Files.state c.in-Ok.v) (M.now c.args.m.now) (M.now c.script_on.new.m) c.script_on.result (c.in-Ok.ensures.found (does.trust.honest h)) (λ three. does.says three h)
+
+pub returns-in-Err-clause-image : goal.returns-in-Err-clause-image
+returns-in-Err-clause-image g c h =
+    let M = g.M.Machine in
+    let said = c.end_with.ensures in
+    let back = said.says.trust.honest h in
+    let why = c.in-Err.ensures in
+    tells_refused c.args.sectors c.in-Err.fault c.fault_of.result (M.now c.args.m.now) (M.now c.mount.new.m) (M.now c.end_with.new.m) c.end_with.result c.fault_of.ensures (why.refused back) (why.lost back) (why.unsound back) (why.unchanged back) (why.rest back) (said.says.exit h) (said.ends h) said.status
+
+-- ---- the input
+
+pub returns-in-Ok-clause-input : goal.returns-in-Ok-clause-input
+returns-in-Ok-clause-input g c five t =
+    let M = g.M.Machine in
+    let disk = c.in-Ok.ensures.disk in
+    fails_behind (M.report c.args.m.now) (M.report c.mount.new.m) (M.report c.script_on.new.m) (M.ledger c.args.m.now) (M.ledger c.mount.new.m) disk.uses (disk.ledger (c.script_on.ensures.trust.tells t)) (c.script_on.ensures.input five t)
+
+pub returns-in-Err-clause-input : goal.returns-in-Err-clause-input
+returns-in-Err-clause-input g c five t = absurd (fault_not_five c.fault_of.result c.end_with.result (mount_of_volume c.in-Err.fault c.fault_of.result c.fault_of.ensures) c.end_with.ensures.status five)
+
+-- ---- where all is done
+
+pub returns-in-Ok-clause-whole : goal.returns-in-Ok-clause-whole
+returns-in-Ok-clause-whole g c = c.script_on.ensures.whole
+
+pub returns-in-Err-clause-whole : goal.returns-in-Err-clause-whole
+returns-in-Err-clause-whole g c zero t = absurd (fault_not_zero c.fault_of.result c.end_with.result c.end_with.ensures.status zero)
+
+-- ---- no line is bad
+
+pub returns-in-Ok-clause-spelled : goal.returns-in-Ok-clause-spelled
+returns-in-Ok-clause-spelled g c zero t =
+    let same = (c.in-Ok.ensures.disk.ledger (c.script_on.ensures.trust.tells t)).input in
+    subst (λ (x : List ℕ). (script_in x).1 ≡ Done) same (c.script_on.ensures.spelled zero t)
+
+pub returns-in-Err-clause-spelled : goal.returns-in-Err-clause-spelled
+returns-in-Err-clause-spelled g c zero t = absurd (fault_not_zero c.fault_of.result c.end_with.result c.end_with.ensures.status zero)
+
+-- ---- a bad line
+
+pub returns-in-Ok-clause-bad : goal.returns-in-Ok-clause-bad
+returns-in-Ok-clause-bad g c two h =
+    let M = g.M.Machine in
+    let m = c.mount.new.m in
+    let same = (c.in-Ok.ensures.disk.ledger (g.met.M.Machine.honest_tells m (c.script_on.ensures.trust.honest h))).input in
+    subst (λ (x : List ℕ). SaysBadLine x (M.now c.script_on.new.m)) same (c.script_on.ensures.bad two h)
+
+pub returns-in-Err-clause-bad : goal.returns-in-Err-clause-bad
+returns-in-Err-clause-bad g c two h = absurd (fault_not_bad c.fault_of.result c.end_with.result c.end_with.ensures.status two)
+
+-- ---- the fault that is said
+
+pub returns-in-Ok-clause-last : goal.returns-in-Ok-clause-last
+returns-in-Ok-clause-last g c = c.script_on.ensures.last
+
+pub returns-in-Err-clause-last : goal.returns-in-Err-clause-last
+returns-in-Err-clause-last g c of h =
+    let M = g.M.Machine in
+    let said = c.end_with in
+    mount_fault c.in-Err.fault c.fault_of.result (M.report c.args.m.now) (M.report c.mount.new.m) (M.report said.new.m) (M.now c.mount.new.m) (M.now said.new.m) said.result c.fault_of.ensures c.in-Err.ensures.disk.faults
+    said.ensures.says.spares.place (said.ensures.ends h) of

@@ -1,4 +1,5 @@
-use Rattle.std.proofs.Common.{ℕ, [], ◌∷◌, ◌++◌, inl, inr, Some, Ok, Err, sym, ◌∙◌, ap, subst, arith}
+use Rattle.std.proofs.Common.{refl, ℕ, [], ◌∷◌, ◌++◌, inl, inr, Some, Ok, Err, sym, ◌∙◌, ap, subst, arith}
+use Rattle.std.specs.Prelude.{Result}
 use Rattle.sector_disk.specs.Machine.{Ledger, Rose}
 use Rattle.fsd_texts.specs.declared.bad_line.BadLine.{BadLine}
 use Rattle.fsd_texts.specs.declared.end.End.{End as ScriptEnd}
@@ -14,7 +15,10 @@ use Rattle.volume_turns.specs.Script.{GroupsBy, Heard, RoseBy}
 use Rattle.volume_turns.specs.Turns.{IsEndOfVolume}
 use Rattle.volume_turns.proofs.ScriptEndLaws.{but_input, group_fault, group_fault_all, group_quiet, group_said, group_unsaid, group_unsaid_all, group_worn_said, told_but}
 use Rattle.volume_turns.proofs.ScriptRunLaws.{runs_either, runs_ended, runs_failed, runs_worn}
-use Rattle.volume_turns.proofs.StatusLaws.{bad_is_script, fault_is_script, input_is_script, script_done_counts, script_fault_counts, script_line_counts, script_unsaid_counts, worn_is_script}
+use Rattle.volume_turns.proofs.CauseLaws.{long_input, says_bad, call_says}
+use Rattle.volume_turns.proofs.StatusLaws.{fault_not_bad, fault_not_zero, fault_not_five, not_as, call_of_volume, bad_is_script, fault_is_script, input_is_script, script_done_counts, script_fault_counts, script_line_counts, script_unsaid_counts, worn_is_script}
+use Rattle.fsd_texts.specs.Script.{max_input}
+use Rattle.volume_turns.proofs.LastLaws.{ends_fault, line_fault, line_other, told_place}
 use Rattle.volume_turns.proofs.script.script_on.Goals as goal
 
 pub returns-in-Ok-Ended-Done-clause-runs : goal.returns-in-Ok-Ended-Done-clause-runs
@@ -150,7 +154,7 @@ pub returns-in-Ok-WornOut-clause-status : goal.returns-in-Ok-WornOut-clause-stat
 returns-in-Ok-WornOut-clause-status g c = worn_is_script c.last_line-in-Ok-WornOut.result c.last_line-in-Ok-WornOut.ensures.status
 
 pub returns-in-Err-Fault-clause-status : goal.returns-in-Err-Fault-clause-status
-returns-in-Err-Fault-clause-status g c = fault_is_script c.in-Err-Fault.why c.end_with.result (subst IsEndOfVolume c.in-Err-Fault.field-0-is c.in-Err-Fault.ensures.fault) c.end_with.ensures.status
+returns-in-Err-Fault-clause-status g c = fault_is_script c.in-Err-Fault.why c.end_with.result (call_of_volume c.in-Err-Fault.why (subst IsEndOfVolume c.in-Err-Fault.field-0-is c.in-Err-Fault.ensures.fault)) c.end_with.ensures.status
 
 -- ---- what is counted
 
@@ -166,25 +170,29 @@ pub returns-in-Ok-Ended-Bad-clause-counts : goal.returns-in-Ok-Ended-Bad-clause-
 returns-in-Ok-Ended-Bad-clause-counts g c =
     let report = g.M.Machine.report in
     let line = c.last_line in
-    script_line_counts (report c.args.m.now) (report c.group_read.new.m) (report line.new.m) line.result line.ensures.says.spares c.in-Ok-Ended-Bad.field-0 2 (λ e. omega (arith, e)) (λ e. omega (arith, e)) c.in-Ok-Ended-Bad.ensures.heard line.ensures.status
+    let a = report c.args.m.now in
+    let p = report c.group_read.new.m in
+    let x = c.in-Ok-Ended-Bad in
+    script_line_counts a p (report line.new.m) line.result line.ensures.says.spares x.field-0 2 (λ e. omega (arith, e))
+    (λ quiet. subst (λ (s : Stop). RoseBy a p (Some s)) (x.field-0-is ∙ ap (λ (y : ScriptEnd). Ended y) x.field-0-0-is) x.ensures.rose) x.ensures.heard line.ensures.status
 
 pub returns-in-Ok-Ended-TooLong-clause-counts : goal.returns-in-Ok-Ended-TooLong-clause-counts
 returns-in-Ok-Ended-TooLong-clause-counts g c =
     let report = g.M.Machine.report in
     let line = c.last_line-in-Ok-Ended-TooLong in
-    script_line_counts (report c.args.m.now) (report c.group_read.new.m) (report line.new.m) line.result line.ensures.says.spares c.in-Ok-Ended-TooLong.field-0 5 (λ e. omega (arith, e)) (λ e. omega (arith, e)) c.in-Ok-Ended-TooLong.ensures.heard line.ensures.status
+    script_line_counts (report c.args.m.now) (report c.group_read.new.m) (report line.new.m) line.result line.ensures.says.spares c.in-Ok-Ended-TooLong.field-0 5 (λ e. omega (arith, e)) (λ quiet. cc quiet) c.in-Ok-Ended-TooLong.ensures.heard line.ensures.status
 
 pub returns-in-Ok-Input-clause-counts : goal.returns-in-Ok-Input-clause-counts
 returns-in-Ok-Input-clause-counts g c =
     let report = g.M.Machine.report in
     let line = c.last_line-in-Ok-Input in
-    script_line_counts (report c.args.m.now) (report c.group_read.new.m) (report line.new.m) line.result line.ensures.says.spares c.in-Ok-Input.field-0 5 (λ e. omega (arith, e)) (λ e. omega (arith, e)) c.in-Ok-Input.ensures.heard line.ensures.status
+    script_line_counts (report c.args.m.now) (report c.group_read.new.m) (report line.new.m) line.result line.ensures.says.spares c.in-Ok-Input.field-0 5 (λ e. omega (arith, e)) (λ quiet. cc quiet) c.in-Ok-Input.ensures.heard line.ensures.status
 
 pub returns-in-Ok-WornOut-clause-counts : goal.returns-in-Ok-WornOut-clause-counts
 returns-in-Ok-WornOut-clause-counts g c =
     let report = g.M.Machine.report in
     let line = c.last_line-in-Ok-WornOut in
-    script_line_counts (report c.args.m.now) (report c.group_read.new.m) (report line.new.m) line.result line.ensures.says.spares c.in-Ok-WornOut.field-0 9 (λ e. omega (arith, e)) (λ e. omega (arith, e)) c.in-Ok-WornOut.ensures.heard line.ensures.status
+    script_line_counts (report c.args.m.now) (report c.group_read.new.m) (report line.new.m) line.result line.ensures.says.spares c.in-Ok-WornOut.field-0 9 (λ e. omega (arith, e)) (λ quiet. cc quiet) c.in-Ok-WornOut.ensures.heard line.ensures.status
 
 pub returns-in-Err-Fault-clause-counts : goal.returns-in-Err-Fault-clause-counts
 returns-in-Err-Fault-clause-counts g c =
@@ -201,3 +209,181 @@ returns-in-Err-Output-clause-counts g c =
     let b = report c.group_read.new.m in
     let x = c.in-Err-Output in
     script_unsaid_counts a b (subst (λ (y : End). Heard {T = Stop} a b (Err y)) x.field-0-is x.ensures.heard)
+
+-- ---- a fault of the image
+
+pub returns-in-Ok-Ended-Done-clause-says : goal.returns-in-Ok-Ended-Done-clause-says
+returns-in-Ok-Ended-Done-clause-says g c three h = absurd (omega (arith, three))
+
+pub returns-in-Ok-Ended-Bad-clause-says : goal.returns-in-Ok-Ended-Bad-clause-says
+returns-in-Ok-Ended-Bad-clause-says g c three h = absurd (not_as 3 2 c.last_line.result (λ e. omega (arith, e)) (λ e. omega (arith, e)) (λ e. omega (arith, e)) c.last_line.ensures.status three)
+
+pub returns-in-Ok-Ended-TooLong-clause-says : goal.returns-in-Ok-Ended-TooLong-clause-says
+returns-in-Ok-Ended-TooLong-clause-says g c three h = absurd (not_as 3 5 c.last_line-in-Ok-Ended-TooLong.result (λ e. omega (arith, e)) (λ e. omega (arith, e)) (λ e. omega (arith, e)) c.last_line-in-Ok-Ended-TooLong.ensures.status three)
+
+pub returns-in-Ok-Input-clause-says : goal.returns-in-Ok-Input-clause-says
+returns-in-Ok-Input-clause-says g c three h = absurd (not_as 3 5 c.last_line-in-Ok-Input.result (λ e. omega (arith, e)) (λ e. omega (arith, e)) (λ e. omega (arith, e)) c.last_line-in-Ok-Input.ensures.status three)
+
+pub returns-in-Ok-WornOut-clause-says : goal.returns-in-Ok-WornOut-clause-says
+returns-in-Ok-WornOut-clause-says g c three h = absurd (not_as 3 9 c.last_line-in-Ok-WornOut.result (λ e. omega (arith, e)) (λ e. omega (arith, e)) (λ e. omega (arith, e)) c.last_line-in-Ok-WornOut.ensures.status three)
+
+pub returns-in-Err-Fault-clause-says : goal.returns-in-Err-Fault-clause-says
+returns-in-Err-Fault-clause-says g c three h =
+    let now = g.M.Machine.now in
+    call_says c.in-Err-Fault.why (subst IsEndOfVolume c.in-Err-Fault.field-0-is c.in-Err-Fault.ensures.fault) (now c.group_read.new.m) (now c.end_with.new.m) c.end_with.result (c.end_with.ensures.ends h) three
+
+pub returns-in-Err-Output-clause-says : goal.returns-in-Err-Output-clause-says
+returns-in-Err-Output-clause-says g c three h = absurd (omega (arith, three))
+
+-- ---- the input
+
+abbrev come_to : Stop → Result Stop End
+come_to stop = Ok stop
+
+pub returns-in-Ok-Ended-Done-clause-input : goal.returns-in-Ok-Ended-Done-clause-input
+returns-in-Ok-Ended-Done-clause-input g c five t = absurd (omega (arith, five))
+
+pub returns-in-Ok-Ended-Bad-clause-input : goal.returns-in-Ok-Ended-Bad-clause-input
+returns-in-Ok-Ended-Bad-clause-input g c five t = absurd (not_as 5 2 c.last_line.result (λ e. omega (arith, e)) (λ e. omega (arith, e)) (λ e. omega (arith, e)) c.last_line.ensures.status five)
+
+pub returns-in-Ok-Ended-TooLong-clause-input : goal.returns-in-Ok-Ended-TooLong-clause-input
+returns-in-Ok-Ended-TooLong-clause-input g c five t =
+    let x = c.in-Ok-Ended-TooLong in
+    inr (long_input max_input 1 (g.M.Machine.ledger c.args.m.now).input (x.ensures.ends TooLong (ap come_to (x.field-0-is ∙ ap (λ (y : ScriptEnd). Ended y) x.field-0-0-is)) (c.last_line-in-Ok-Ended-TooLong.ensures.says.trust.tells t)))
+
+pub returns-in-Ok-Input-clause-input : goal.returns-in-Ok-Input-clause-input
+returns-in-Ok-Input-clause-input g c five t =
+    let report = g.M.Machine.report in
+    let a = report c.args.m.now in
+    let p = report c.group_read.new.m in
+    let x = c.in-Ok-Input in
+    let rose : Rose a.input_faults p.input_faults = subst (λ (s : Stop). RoseBy a p (Some s)) x.field-0-is x.ensures.rose in
+    inl (subst (λ (n : ℕ). Rose a.input_faults n) (sym c.last_line-in-Ok-Input.ensures.says.spares.input) rose)
+
+pub returns-in-Ok-WornOut-clause-input : goal.returns-in-Ok-WornOut-clause-input
+returns-in-Ok-WornOut-clause-input g c five t = absurd (not_as 5 9 c.last_line-in-Ok-WornOut.result (λ e. omega (arith, e)) (λ e. omega (arith, e)) (λ e. omega (arith, e)) c.last_line-in-Ok-WornOut.ensures.status five)
+
+pub returns-in-Err-Fault-clause-input : goal.returns-in-Err-Fault-clause-input
+returns-in-Err-Fault-clause-input g c five t =
+    absurd (fault_not_five c.in-Err-Fault.why c.end_with.result (call_of_volume c.in-Err-Fault.why (subst IsEndOfVolume c.in-Err-Fault.field-0-is c.in-Err-Fault.ensures.fault)) c.end_with.ensures.status five)
+
+pub returns-in-Err-Output-clause-input : goal.returns-in-Err-Output-clause-input
+returns-in-Err-Output-clause-input g c five t = absurd (omega (arith, five))
+
+-- ---- where all is done
+
+pub returns-in-Ok-Ended-Bad-clause-whole : goal.returns-in-Ok-Ended-Bad-clause-whole
+returns-in-Ok-Ended-Bad-clause-whole g c zero t = absurd (not_as 0 2 c.last_line.result (λ e. omega (arith, e)) (λ e. omega (arith, e)) (λ e. omega (arith, e)) c.last_line.ensures.status zero)
+
+pub returns-in-Ok-Ended-TooLong-clause-whole : goal.returns-in-Ok-Ended-TooLong-clause-whole
+returns-in-Ok-Ended-TooLong-clause-whole g c zero t = absurd (not_as 0 5 c.last_line-in-Ok-Ended-TooLong.result (λ e. omega (arith, e)) (λ e. omega (arith, e)) (λ e. omega (arith, e)) c.last_line-in-Ok-Ended-TooLong.ensures.status zero)
+
+pub returns-in-Ok-Input-clause-whole : goal.returns-in-Ok-Input-clause-whole
+returns-in-Ok-Input-clause-whole g c zero t = absurd (not_as 0 5 c.last_line-in-Ok-Input.result (λ e. omega (arith, e)) (λ e. omega (arith, e)) (λ e. omega (arith, e)) c.last_line-in-Ok-Input.ensures.status zero)
+
+pub returns-in-Ok-WornOut-clause-whole : goal.returns-in-Ok-WornOut-clause-whole
+returns-in-Ok-WornOut-clause-whole g c zero t = absurd (not_as 0 9 c.last_line-in-Ok-WornOut.result (λ e. omega (arith, e)) (λ e. omega (arith, e)) (λ e. omega (arith, e)) c.last_line-in-Ok-WornOut.ensures.status zero)
+
+pub returns-in-Ok-Ended-Done-clause-whole : goal.returns-in-Ok-Ended-Done-clause-whole
+returns-in-Ok-Ended-Done-clause-whole g c zero t =
+    let x = c.in-Ok-Ended-Done in
+    x.ensures.whole (ap come_to (x.field-0-is ∙ ap (λ (y : ScriptEnd). Ended y) x.field-0-0-is)) t
+
+pub returns-in-Err-Fault-clause-whole : goal.returns-in-Err-Fault-clause-whole
+returns-in-Err-Fault-clause-whole g c zero t = absurd (fault_not_zero c.in-Err-Fault.why c.end_with.result c.end_with.ensures.status zero)
+
+pub returns-in-Err-Output-clause-whole : goal.returns-in-Err-Output-clause-whole
+returns-in-Err-Output-clause-whole g c zero t = absurd (omega (arith, zero))
+
+-- ---- no line is bad
+
+pub returns-in-Ok-Ended-Bad-clause-spelled : goal.returns-in-Ok-Ended-Bad-clause-spelled
+returns-in-Ok-Ended-Bad-clause-spelled g c zero t = absurd (not_as 0 2 c.last_line.result (λ e. omega (arith, e)) (λ e. omega (arith, e)) (λ e. omega (arith, e)) c.last_line.ensures.status zero)
+
+pub returns-in-Ok-Ended-TooLong-clause-spelled : goal.returns-in-Ok-Ended-TooLong-clause-spelled
+returns-in-Ok-Ended-TooLong-clause-spelled g c zero t = absurd (not_as 0 5 c.last_line-in-Ok-Ended-TooLong.result (λ e. omega (arith, e)) (λ e. omega (arith, e)) (λ e. omega (arith, e)) c.last_line-in-Ok-Ended-TooLong.ensures.status zero)
+
+pub returns-in-Ok-Input-clause-spelled : goal.returns-in-Ok-Input-clause-spelled
+returns-in-Ok-Input-clause-spelled g c zero t = absurd (not_as 0 5 c.last_line-in-Ok-Input.result (λ e. omega (arith, e)) (λ e. omega (arith, e)) (λ e. omega (arith, e)) c.last_line-in-Ok-Input.ensures.status zero)
+
+pub returns-in-Ok-WornOut-clause-spelled : goal.returns-in-Ok-WornOut-clause-spelled
+returns-in-Ok-WornOut-clause-spelled g c zero t = absurd (not_as 0 9 c.last_line-in-Ok-WornOut.result (λ e. omega (arith, e)) (λ e. omega (arith, e)) (λ e. omega (arith, e)) c.last_line-in-Ok-WornOut.ensures.status zero)
+
+pub returns-in-Ok-Ended-Done-clause-spelled : goal.returns-in-Ok-Ended-Done-clause-spelled
+returns-in-Ok-Ended-Done-clause-spelled g c zero t =
+    let x = c.in-Ok-Ended-Done in
+    x.ensures.ends Done (ap come_to (x.field-0-is ∙ ap (λ (y : ScriptEnd). Ended y) x.field-0-0-is)) t
+
+pub returns-in-Err-Fault-clause-spelled : goal.returns-in-Err-Fault-clause-spelled
+returns-in-Err-Fault-clause-spelled g c zero t = absurd (fault_not_zero c.in-Err-Fault.why c.end_with.result c.end_with.ensures.status zero)
+
+pub returns-in-Err-Output-clause-spelled : goal.returns-in-Err-Output-clause-spelled
+returns-in-Err-Output-clause-spelled g c zero t = absurd (omega (arith, zero))
+
+-- ---- a bad line
+
+pub returns-in-Ok-Ended-TooLong-clause-bad : goal.returns-in-Ok-Ended-TooLong-clause-bad
+returns-in-Ok-Ended-TooLong-clause-bad g c two h = absurd (not_as 2 5 c.last_line-in-Ok-Ended-TooLong.result (λ e. omega (arith, e)) (λ e. omega (arith, e)) (λ e. omega (arith, e)) c.last_line-in-Ok-Ended-TooLong.ensures.status two)
+
+pub returns-in-Ok-Input-clause-bad : goal.returns-in-Ok-Input-clause-bad
+returns-in-Ok-Input-clause-bad g c two h = absurd (not_as 2 5 c.last_line-in-Ok-Input.result (λ e. omega (arith, e)) (λ e. omega (arith, e)) (λ e. omega (arith, e)) c.last_line-in-Ok-Input.ensures.status two)
+
+pub returns-in-Ok-WornOut-clause-bad : goal.returns-in-Ok-WornOut-clause-bad
+returns-in-Ok-WornOut-clause-bad g c two h = absurd (not_as 2 9 c.last_line-in-Ok-WornOut.result (λ e. omega (arith, e)) (λ e. omega (arith, e)) (λ e. omega (arith, e)) c.last_line-in-Ok-WornOut.ensures.status two)
+
+pub returns-in-Ok-Ended-Done-clause-bad : goal.returns-in-Ok-Ended-Done-clause-bad
+returns-in-Ok-Ended-Done-clause-bad g c two h = absurd (omega (arith, two))
+
+pub returns-in-Ok-Ended-Bad-clause-bad : goal.returns-in-Ok-Ended-Bad-clause-bad
+returns-in-Ok-Ended-Bad-clause-bad g c two h =
+    let M = g.M.Machine in
+    let x = c.in-Ok-Ended-Bad in
+    let p = c.group_read.new.m in
+    let back = c.last_line.ensures.says.trust.honest h in
+    let is = x.ensures.ends (Bad x.bad) (ap come_to (x.field-0-is ∙ ap (λ (y : ScriptEnd). Ended y) x.field-0-0-is)) (g.met.M.Machine.honest_tells p back) in
+    says_bad (M.ledger c.args.m.now).input x.bad (M.now p) (M.now c.last_line.new.m) c.last_line.result is (c.last_line.ensures.ends h) two
+
+pub returns-in-Err-Fault-clause-bad : goal.returns-in-Err-Fault-clause-bad
+returns-in-Err-Fault-clause-bad g c two h = absurd (fault_not_bad c.in-Err-Fault.why c.end_with.result c.end_with.ensures.status two)
+
+pub returns-in-Err-Output-clause-bad : goal.returns-in-Err-Output-clause-bad
+returns-in-Err-Output-clause-bad g c two h = absurd (omega (arith, two))
+
+-- ---- the fault that is said
+
+pub returns-in-Ok-Ended-Done-clause-last : goal.returns-in-Ok-Ended-Done-clause-last
+returns-in-Ok-Ended-Done-clause-last g c of h = absurd (cc of)
+
+pub returns-in-Ok-Ended-Bad-clause-last : goal.returns-in-Ok-Ended-Bad-clause-last
+returns-in-Ok-Ended-Bad-clause-last g c of h =
+    let line = c.last_line in
+    line_other (g.M.Machine.report line.new.m).fault_place (g.M.Machine.now c.group_read.new.m) (g.M.Machine.now line.new.m) line.result (Says.Bad c.in-Ok-Ended-Bad.bad) 2 refl (line.ensures.ends h) of
+
+pub returns-in-Ok-Ended-TooLong-clause-last : goal.returns-in-Ok-Ended-TooLong-clause-last
+returns-in-Ok-Ended-TooLong-clause-last g c of h =
+    let line = c.last_line-in-Ok-Ended-TooLong in
+    line_fault (g.M.Machine.report line.new.m).fault_place (g.M.Machine.now c.group_read.new.m) (g.M.Machine.now line.new.m) line.result Ends.InputTooLong tt (line.ensures.ends h) of
+
+pub returns-in-Ok-Input-clause-last : goal.returns-in-Ok-Input-clause-last
+returns-in-Ok-Input-clause-last g c of h =
+    let line = c.last_line-in-Ok-Input in
+    line_fault (g.M.Machine.report line.new.m).fault_place (g.M.Machine.now c.group_read.new.m) (g.M.Machine.now line.new.m) line.result Ends.Input tt (line.ensures.ends h) of
+
+pub returns-in-Ok-WornOut-clause-last : goal.returns-in-Ok-WornOut-clause-last
+returns-in-Ok-WornOut-clause-last g c of h =
+    let line = c.last_line-in-Ok-WornOut in
+    line_fault (g.M.Machine.report line.new.m).fault_place (g.M.Machine.now c.group_read.new.m) (g.M.Machine.now line.new.m) line.result Ends.WornOut tt (line.ensures.ends h) of
+
+pub returns-in-Err-Fault-clause-last : goal.returns-in-Err-Fault-clause-last
+returns-in-Err-Fault-clause-last g c of h =
+    let report = g.M.Machine.report in
+    let now = g.M.Machine.now in
+    let a = report c.args.m.now in
+    let p = report c.group_read.new.m in
+    let b = report c.end_with.new.m in
+    let x = c.in-Err-Fault in
+    let told = subst (λ (y : End). Heard {T = Stop} a p (Err y)) x.field-0-is x.ensures.heard in
+    ends_fault b.fault_place (now c.group_read.new.m) (now c.end_with.new.m) c.end_with.result x.why (told_place x.why a p b told.disk c.end_with.ensures.says.spares.place) (c.end_with.ensures.ends h) of
+
+pub returns-in-Err-Output-clause-last : goal.returns-in-Err-Output-clause-last
+returns-in-Err-Output-clause-last g c of h = absurd (cc of)

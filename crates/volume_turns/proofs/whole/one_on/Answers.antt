@@ -2,8 +2,10 @@ use Rattle.std.proofs.Common.{ℕ, Err, subst, arith}
 use Rattle.volume_turns.specs.declared.turns.End.{End}
 use Rattle.volume_turns.specs.Once.{IsAlone}
 use Rattle.volume_turns.specs.Turns.{IsEndOfVolume, Told}
-use Rattle.volume_turns.proofs.StatusLaws.{fault_counts, fault_is_one}
+use Rattle.volume_turns.proofs.CauseLaws.{call_says}
+use Rattle.volume_turns.proofs.StatusLaws.{counts_said, unsaid_counts, from_not, call_of_volume, fault_counts, fault_is_one}
 use Rattle.volume_turns.proofs.OneLaws.{one_broken, one_said, one_unsaid}
+use Rattle.volume_turns.proofs.LastLaws.{ends_fault, reply_not, told_place}
 use Rattle.volume_turns.proofs.whole.one_on.Goals as goal
 
 pub returns-in-Ok-clause-runs : goal.returns-in-Ok-clause-runs
@@ -36,7 +38,7 @@ returns-in-Err-Output-clause-runs g c h rest k none stands =
     (subst (λ (e : End). Told {T = ℕ} (M.report a) (M.report b) (Err e)) c.in-Err-Output.field-0-is c.in-Err-Output.ensures.told)
 
 pub returns-in-Err-Fault-clause-status : goal.returns-in-Err-Fault-clause-status
-returns-in-Err-Fault-clause-status g c = fault_is_one c.args.c.now c.in-Err-Fault.why c.end_with.result (subst IsEndOfVolume c.in-Err-Fault.field-0-is c.in-Err-Fault.ensures.fault) c.end_with.ensures.status
+returns-in-Err-Fault-clause-status g c = fault_is_one c.args.c.now c.in-Err-Fault.why c.end_with.result (call_of_volume c.in-Err-Fault.why (subst IsEndOfVolume c.in-Err-Fault.field-0-is c.in-Err-Fault.ensures.fault)) c.end_with.ensures.status
 
 pub returns-in-Err-Fault-clause-counts : goal.returns-in-Err-Fault-clause-counts
 returns-in-Err-Fault-clause-counts g c =
@@ -44,3 +46,47 @@ returns-in-Err-Fault-clause-counts g c =
     let a = M.report c.args.m.now in
     let p = M.report c.alone.new.m in
     fault_counts a p (M.report c.end_with.new.m) c.end_with.result c.end_with.ensures.says.spares c.in-Err-Fault.why (subst (λ (e : End). Told {T = ℕ} a p (Err e)) c.in-Err-Fault.field-0-is c.in-Err-Fault.ensures.told) c.end_with.ensures.status
+
+pub returns-in-Ok-clause-counts : goal.returns-in-Ok-clause-counts
+returns-in-Ok-clause-counts g c =
+    let report = g.M.Machine.report in
+    counts_said c.args.c.now (report c.args.m.now) (report c.alone.new.m) c.in-Ok.status c.in-Ok.ensures.status c.in-Ok.ensures.told
+
+pub returns-in-Err-Output-clause-counts : goal.returns-in-Err-Output-clause-counts
+returns-in-Err-Output-clause-counts g c =
+    let report = g.M.Machine.report in
+    let a = report c.args.m.now in
+    let b = report c.alone.new.m in
+    unsaid_counts a b (subst (λ (e : End). Told {T = ℕ} a b (Err e)) c.in-Err-Output.field-0-is c.in-Err-Output.ensures.told)
+
+-- ---- a fault of the image
+
+pub returns-in-Ok-clause-says : goal.returns-in-Ok-clause-says
+returns-in-Ok-clause-says g c three h = absurd (from_not 3 c.args.c.now c.in-Ok.status (omega arith) (λ e. omega (arith, e)) c.in-Ok.ensures.status three)
+
+pub returns-in-Err-Fault-clause-says : goal.returns-in-Err-Fault-clause-says
+returns-in-Err-Fault-clause-says g c three h =
+    let now = g.M.Machine.now in
+    call_says c.in-Err-Fault.why (subst IsEndOfVolume c.in-Err-Fault.field-0-is c.in-Err-Fault.ensures.fault) (now c.alone.new.m) (now c.end_with.new.m) c.end_with.result (c.end_with.ensures.ends h) three
+
+pub returns-in-Err-Output-clause-says : goal.returns-in-Err-Output-clause-says
+returns-in-Err-Output-clause-says g c three h = absurd (omega (arith, three))
+
+-- ---- the fault that is said
+
+pub returns-in-Ok-clause-last : goal.returns-in-Ok-clause-last
+returns-in-Ok-clause-last g c of h = absurd (reply_not c.args.c.now c.in-Ok.status c.in-Ok.ensures.status of)
+
+pub returns-in-Err-Fault-clause-last : goal.returns-in-Err-Fault-clause-last
+returns-in-Err-Fault-clause-last g c of h =
+    let report = g.M.Machine.report in
+    let now = g.M.Machine.now in
+    let a = report c.args.m.now in
+    let p = report c.alone.new.m in
+    let b = report c.end_with.new.m in
+    let x = c.in-Err-Fault in
+    let told = subst (λ (e : End). Told {T = ℕ} a p (Err e)) x.field-0-is x.ensures.told in
+    ends_fault b.fault_place (now c.alone.new.m) (now c.end_with.new.m) c.end_with.result x.why (told_place x.why a p b told.disk c.end_with.ensures.says.spares.place) (c.end_with.ensures.ends h) of
+
+pub returns-in-Err-Output-clause-last : goal.returns-in-Err-Output-clause-last
+returns-in-Err-Output-clause-last g c of h = absurd (cc of)

@@ -4,9 +4,11 @@ use Rattle.fsd_texts.specs.declared.fault.Fault.{Fault}
 use Rattle.fsd_runs.specs.declared.request.Request.TheVariants.{One}
 use Rattle.volume_turns.specs.Line.{EndsWith, UttersFault, is_unsaid}
 use Rattle.volume_turns.proofs.OneLaws.{some_one}
+use Rattle.volume_turns.proofs.CauseLaws.{tells_mounted, tells_refused}
 use Rattle.volume_turns.proofs.StatusLaws.{counts_after, fault_is_one, mount_counts, mount_of_volume}
 use Rattle.volume_turns.specs.Line.{IsStatusFor}
 use Rattle.volume_turns.proofs.WholeLaws.{joined_run, refused_run}
+use Rattle.volume_turns.proofs.LastLaws.{mount_fault}
 use Rattle.volume_turns.proofs.whole.run_one.Goals as goal
 
 pub returns-in-Ok-clause-leaves : goal.returns-in-Ok-clause-leaves
@@ -48,3 +50,31 @@ returns-in-Err-clause-counts g c =
     let M = g.M.Machine in
     mount_counts (M.report c.args.m.now) (M.report c.mount.new.m) (M.report c.end_with.new.m) c.end_with.result c.end_with.ensures.says.spares c.in-Err.fault c.in-Err.ensures.disk.uses c.in-Err.ensures.disk.faults
     (subst (λ (why : Fault). IsStatusFor why c.end_with.result) c.fault_of.ensures c.end_with.ensures.status)
+
+-- ---- the image
+
+pub returns-in-Ok-clause-image : goal.returns-in-Ok-clause-image
+returns-in-Ok-clause-image g c h =
+    let M = g.M.Machine in
+    let does = c.one_on.ensures in
+    tells_mounted c.args.sectors (g.V.Files.state c.in-Ok.v) (M.now c.args.m.now) (M.now c.one_on.new.m) c.one_on.result (c.in-Ok.ensures.found (does.trust.honest h)) (λ three. does.says three h)
+
+pub returns-in-Err-clause-image : goal.returns-in-Err-clause-image
+returns-in-Err-clause-image g c h =
+    let M = g.M.Machine in
+    let said = c.end_with.ensures in
+    let back = said.says.trust.honest h in
+    let why = c.in-Err.ensures in
+    tells_refused c.args.sectors c.in-Err.fault c.fault_of.result (M.now c.args.m.now) (M.now c.mount.new.m) (M.now c.end_with.new.m) c.end_with.result c.fault_of.ensures (why.refused back) (why.lost back) (why.unsound back) (why.unchanged back) (why.rest back) (said.says.exit h) (said.ends h) said.status
+
+-- ---- the fault that is said
+
+pub returns-in-Ok-clause-last : goal.returns-in-Ok-clause-last
+returns-in-Ok-clause-last g c = c.one_on.ensures.last
+
+pub returns-in-Err-clause-last : goal.returns-in-Err-clause-last
+returns-in-Err-clause-last g c of h =
+    let M = g.M.Machine in
+    let said = c.end_with in
+    mount_fault c.in-Err.fault c.fault_of.result (M.report c.args.m.now) (M.report c.mount.new.m) (M.report said.new.m) (M.now c.mount.new.m) (M.now said.new.m) said.result c.fault_of.ensures c.in-Err.ensures.disk.faults
+    said.ensures.says.spares.place (said.ensures.ends h) of

@@ -1,7 +1,7 @@
 -- What taking the whole input tells.
 use Rattle.std.specs.Prelude.{Bool, true, false, Result, Ok, Err}
-use Rattle.cfs_program.specs.declared.input.InputFault.{InputFault}
-use Rattle.cfs_program.specs.declared.input.InputFault.TheVariants.{Failed}
+use Rattle.volume_turns.specs.declared.taking.InputFault.{InputFault}
+use Rattle.volume_turns.specs.declared.taking.InputFault.TheVariants.{Failed}
 
 -- whether the input failed
 abbrev pub input_in : {T : Type 0} → Result T InputFault → Bool

@@ -1,11 +1,11 @@
 //! The input, taken to its end.
-ghost use Rattle.std.specs.Prelude.{◌≡◌, ◌+◌, ◌<◌, ◌≤◌, length, IfErr, IfOk, Err, false};
+ghost use Rattle.std.specs.Prelude.{◌≡◌, ◌+◌, ◌<◌, ◌≤◌, [], length, IfErr, IfOk, Err, false};
 ghost use Rattle.sector_disk.specs.Calls.{LeavesDisk};
 ghost use Rattle.sector_disk.specs.Machine.{Wears};
 ghost use Rattle.fsd_texts.specs.Script.{max_input};
 ghost use Rattle.script_text.specs.Taking.{Comes};
-ghost use Rattle.cfs_program.specs.declared.input.InputFault.TheVariants.{TooLong as Long};
-ghost use Rattle.cfs_program.specs.Input.{input_in};
+ghost use Rattle.volume_turns.specs.declared.taking.InputFault.TheVariants.{TooLong as Long};
+ghost use Rattle.volume_turns.specs.Taking.{input_in};
 
 use fsd_texts::Bytes;
 use sector_disk::Machine;
@@ -47,6 +47,8 @@ fn take_piece<M: Machine>(m: &mut M, bytes: &mut Bytes) -> Result<usize, InputFa
 pub(crate) fn read_input<M: Machine>(alloc: Global, m: &mut M) -> Result<Bytes, InputFault>
     ensures calls { LeavesDisk M.Machine (input_in result) false Wears m.old m.new }
     ensures whole { IfOk result (λ bytes. M.tells m.new → bytes ≡ (M.ledger m.old).input) }
+    ensures end { IfOk result (λ bytes. M.tells m.new → (M.ledger m.new).input ≡ []) }
+    ensures few { IfOk result (λ bytes. length bytes ≤ max_input) }
     ensures long { result ≡ Err Long → M.tells m.new → max_input < length (M.ledger m.old).input }
     ensures attaches { M.tells m.new → (M.ledger m.new).attaches ≡ (M.ledger m.old).attaches }
 {

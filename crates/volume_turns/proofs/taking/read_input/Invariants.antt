@@ -2,8 +2,8 @@ use Rattle.std.proofs.Common.{◌≡◌, ◌≤◌, false, length}
 use Rattle.sector_disk.specs.Calls.{LeavesDisk}
 use Rattle.sector_disk.specs.Machine.{Wears}
 use Rattle.fsd_texts.specs.Script.{max_input}
-use Rattle.cfs_program.proofs.InputLaws.{SoFar}
-use Rattle.cfs_program.proofs.input.read_input.Given as goal
+use Rattle.volume_turns.proofs.TakingLaws.{SoFar}
+use Rattle.volume_turns.proofs.taking.read_input.Given as goal
 
 -- these bytes were taken, each turn some
 abbrev pub invariant-loop : goal.invariant-loop

@@ -1,11 +1,11 @@
 use Rattle.std.proofs.Common.{◌≡◌, List, ℕ, length, refl, sym, ◌∙◌, ap, subst, arith}
-use Rattle.sector_disk.specs.Machine.{Wears}
+use Rattle.sector_disk.specs.Machine.{Ledger, Wears}
 use Rattle.sector_disk.proofs.CallLaws.{leaves_none, takes_then}
 use Rattle.sector_disk.proofs.Holding.{wears_none}
 use Rattle.script_text.specs.Taking.{Comes}
-use Rattle.cfs_program.specs.declared.input.InputFault.TheVariants.{TooLong}
-use Rattle.cfs_program.proofs.InputLaws.{SoFar, nothing_so_far, so_far_more, whole_so_far}
-use Rattle.cfs_program.proofs.input.read_input.Goals as goal
+use Rattle.volume_turns.specs.declared.taking.InputFault.TheVariants.{TooLong}
+use Rattle.volume_turns.proofs.TakingLaws.{SoFar, nothing_so_far, so_far_more, whole_so_far}
+use Rattle.volume_turns.proofs.taking.read_input.Goals as goal
 
 pub loop-init : goal.loop-init
 loop-init g c =
@@ -58,6 +58,19 @@ returns-then-count-eq0-clause-whole g c t =
     let before = M.ledger c.loop.m in
     let now = M.ledger c.take_piece.new.m in
     whole_so_far (M.ledger c.args.m.now) before now old new (c.loop.invariant.taken (c.take_piece.ensures.calls.trust.tells t)) (subst (λ (n : ℕ). Comes old new n before now) c.if-count-eq0.true (c.in-Ok.ensures.comes t))
+
+pub returns-then-count-eq0-clause-end : goal.returns-then-count-eq0-clause-end
+returns-then-count-eq0-clause-end g c t =
+    let M = g.M.Machine in
+    let comes = subst (λ (n : ℕ). Comes c.loop.bytes c.take_piece.new.bytes n (M.ledger c.loop.m) (M.ledger c.take_piece.new.m)) c.if-count-eq0.true (c.in-Ok.ensures.comes t) in
+    ap (λ (l : Ledger). l.input) comes.left ∙ comes.end refl
+
+pub returns-then-count-eq0-clause-few : goal.returns-then-count-eq0-clause-few
+returns-then-count-eq0-clause-few g c =
+    let more = c.in-Ok.ensures.more in
+    let most = c.loop.invariant.most in
+    let none = c.if-count-eq0.true in
+    omega (arith, more, most, none)
 
 pub returns-then-count-eq0-clause-attaches : goal.returns-then-count-eq0-clause-attaches
 returns-then-count-eq0-clause-attaches g c t = c.take_piece.ensures.attaches t ∙ c.loop.invariant.attaches (c.take_piece.ensures.calls.trust.tells t)

@@ -1,0 +1,85 @@
+-- What is counted behind an attach, and of a line that is said.
+use Rattle.std.proofs.Common.{◌≡◌, inl, inr, refl, ℕ, Bool, false, Some, None, sym, ◌∙◌, subst, arith}
+use Rattle.std.specs.Prelude.{IsFalse, IsTrue}
+use Rattle.std.proofs.lemmas.Bool.{eq-eqb}
+use Rattle.sector_disk.specs.Calls.{Counts, SparesDisk}
+use Rattle.sector_disk.specs.Machine.{Report, Rose}
+use Rattle.volume_turns.specs.Status.{CountsInput, CountsNone, CountsRun, CountsTaking, is_calm}
+use Rattle.volume_turns.proofs.QuietLaws.{calm_not, calm_said, quiet_calm}
+use Rattle.cfs_program.specs.Ending.{IsStatusAs, is_unsaid}
+use Rattle.cfs_program.specs.Formatting.{CountsFaults, UsesAttach}
+use Rattle.cfs_program.specs.Opening.{CountsReading}
+use Rattle.cfs_program.proofs.FoundLaws.{line_not}
+
+-- ---- behind an attach
+
+pub counts_opened : (a b c : Report) (status : ℕ) → CountsNone a b → CountsRun b c status → CountsFaults a c status
+counts_opened a b c status same counts = record {
+  disk = λ four. subst (λ (n : ℕ). Rose n c.disk_faults) same.disk (counts.disk four);
+  input = counts.input ∙ same.input;
+  output = λ six. subst (λ (n : ℕ). Rose n c.output_faults) same.output (counts.output six);
+  quiet = λ calm. let none = counts.quiet calm in record { disk = none.disk ∙ same.disk; input = none.input ∙ same.input; output = none.output ∙ same.output };
+}
+
+pub reading_opened : (a b c : Report) (status : ℕ) → CountsNone a b → CountsTaking b c status → CountsReading a c status
+reading_opened a b c status same counts = record {
+  disk = λ four. subst (λ (n : ℕ). Rose n c.disk_faults) same.disk (counts.disk four);
+  output = λ six. subst (λ (n : ℕ). Rose n c.output_faults) same.output (counts.output six);
+  quiet = λ quiet. let none = counts.quiet quiet in record { disk = none.disk ∙ same.disk; input = none.input ∙ same.input; output = none.output ∙ same.output };
+  calm = λ calm. let none = counts.calm calm in record { disk = none.disk ∙ same.disk; output = none.output ∙ same.output };
+}
+
+pub input_alone : (a b : Report) → CountsNone a b → CountsInput a b
+input_alone a b none = record { disk = none.disk; output = none.output }
+
+pub reading_of : (a b : Report) (status : ℕ) → CountsFaults a b status → CountsReading a b status
+reading_of a b status counts = record {
+  disk = counts.disk;
+  output = counts.output;
+  quiet = λ quiet. counts.quiet (quiet_calm status quiet);
+  calm = λ calm. input_alone a b (counts.quiet calm);
+}
+
+-- ---- a line that is said
+
+-- the status of such a fault
+pub line_loud : (gives status : ℕ) → IsStatusAs gives status → IsFalse (is_calm gives) → IsTrue (is_calm status) → ⊥
+line_loud gives status (inl is) other calm = calm_not gives status other calm is
+line_loud gives status (inr (inl seven)) other calm = calm_not 7 status refl calm seven
+line_loud gives status (inr (inr six)) other calm = calm_not 6 status refl calm six
+
+-- a line alone
+pub spares_none : (a b : Report) (status : ℕ) → SparesDisk false (is_unsaid status) a b → IsTrue (is_calm status) → CountsNone a b
+spares_none a b status spares calm = record { disk = spares.disk; input = spares.input; output = subst (λ (x : Bool). Counts x a.output_faults b.output_faults) (calm_said status calm) spares.output }
+
+module _ (a b c : Report) (status : ℕ) (input : b.input_faults ≡ a.input_faults) (output : b.output_faults ≡ a.output_faults) (spares : SparesDisk false (is_unsaid status) b c) where
+  output_rose : status ≡ 6 → Rose a.output_faults c.output_faults
+  output_rose six = subst (λ (n : ℕ). Rose n c.output_faults) output (subst (λ (x : Bool). Counts x b.output_faults c.output_faults) (eq-eqb status 6 six) spares.output)
+
+  -- of a fault of the disk, which is counted
+  pub counts_failed : Rose a.disk_faults b.disk_faults → IsStatusAs 4 status → CountsFaults a c status
+  counts_failed rose is = record {
+    disk = λ four. subst (λ (n : ℕ). Rose a.disk_faults n) (sym spares.disk) rose;
+    input = spares.input ∙ input;
+    output = output_rose;
+    quiet = λ calm. absurd (line_loud 4 status is refl calm);
+  }
+
+  -- of anything else
+  pub counts_line : (gives : ℕ) → (4 ≡ gives → ⊥) → b.disk_faults ≡ a.disk_faults → IsStatusAs gives status → CountsFaults a c status
+  counts_line gives other disk is = record {
+    disk = λ four. absurd (line_not 4 gives status is other (λ e. omega (arith, e)) (λ e. omega (arith, e)) four);
+    input = spares.input ∙ input;
+    output = output_rose;
+    quiet = λ calm. record {
+      disk = spares.disk ∙ disk;
+      input = spares.input ∙ input;
+      output = subst (λ (x : Bool). Counts x b.output_faults c.output_faults) (calm_said status calm) spares.output ∙ output;
+    };
+  }
+
+pub made_failed : (a b c : Report) (place status : ℕ) → UsesAttach (Some place) a b → SparesDisk false (is_unsaid status) b c → IsStatusAs 4 status → CountsFaults a c status
+made_failed a b c place status uses spares is = counts_failed a b c status uses.input uses.output spares uses.faults.rose is
+
+pub made_counts : (a b c : Report) (status : ℕ) → UsesAttach None a b → SparesDisk false (is_unsaid status) b c → IsStatusAs 0 status → CountsFaults a c status
+made_counts a b c status uses spares is = counts_line a b c status uses.input uses.output spares 0 (λ e. omega (arith, e)) uses.faults.0 is

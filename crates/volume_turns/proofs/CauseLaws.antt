@@ -1,0 +1,161 @@
+-- What the status of a run tells of the image that it found, and of its input.
+use Rattle.std.proofs.Common.{◌≡◌, inl, inr, ℕ, zero, suc, ◌+◌, ◌<◌, Bool, true, false, List, [], ◌∷◌, ◌++◌, length, take, drop, None, refl, sym, ◌∙◌, ap, subst, arith}
+use Rattle.std.specs.Prelude.{◌&&◌, if◌then◌else◌, nat_lt, IfOk, IsTrue, Result, Ok, Err}
+use Rattle.std.proofs.lemmas.Bool.{ltb-true}
+use Rattle.sector_disk.specs.Machine.{Ledger, Moment, took}
+use Rattle.fsd_sound.specs.Lost.{AreCopiesOn, LostIn}
+use Rattle.fsd_sound.specs.Writes.{MountKeeps}
+use Rattle.fsd_sound.specs.declared.fault.MountFault.{MountFault}
+use Rattle.fsd_sound.specs.declared.fault.MountFault.TheVariants as Refused
+use Rattle.fsd_texts.specs.declared.bad_line.Cause.{Cause}
+use Rattle.fsd_texts.specs.declared.command.Command.{Command}
+use Rattle.fsd_texts.specs.declared.end.End.{End as ScriptEnd}
+use Rattle.fsd_texts.specs.declared.end.End.TheVariants.{Bad, Done, TooLong}
+use Rattle.fsd_texts.specs.declared.bad_line.BadLine.{BadLine}
+use Rattle.fsd_texts.specs.declared.line.Line.TheVariants as Says
+use Rattle.volume_turns.specs.Whole.{EndsLast}
+use Rattle.fsd_texts.specs.declared.fault.Fault.{Fault}
+use Rattle.fsd_texts.specs.declared.fault.Fault.TheVariants as Ends
+use Rattle.fsd_texts.specs.Script.{Script, command_at, commands_from, needs_more, script_from, script_in, then_more}
+use Rattle.fsd_texts.specs.Text.{fault_text}
+use Rattle.fsd_runs.specs.Errands.{Errand, fault_status}
+use Rattle.script_text.specs.Reading.{Reading, script_left}
+use Rattle.script_text.proofs.WholeLaws.{all_is_read}
+use Rattle.volume_contract.specs.Mount.{IsFound, IsRefused, KeepsAll, UnsoundFor}
+use Rattle.volume_contract.specs.State.{State}
+use Rattle.volume_turns.specs.declared.script.Stop.{Stop}
+use Rattle.volume_turns.specs.declared.script.Stop.TheVariants.{Ended}
+use Rattle.volume_turns.specs.declared.turns.End.{End}
+use Rattle.volume_turns.specs.Causes.{HasVolume, SaysBadLine, SaysOfCall, SaysOfImage, TellsImage, is_of_mounted}
+use Rattle.volume_turns.specs.Line.{EndsWith, IsStatusFor, UttersFault}
+use Rattle.volume_turns.specs.Once.{fault_of}
+use Rattle.volume_turns.specs.Script.{WholeRead}
+use Rattle.fsd_log.specs.Scan.{Placed}
+use Rattle.sector_disk.specs.declared.machine.Machine.{Ghosts}
+use Rattle.fsd_sound.specs.Mounted.{Mounted}
+use Rattle.volume_turns.specs.Steps.{IsOfCall, IsOfImage}
+
+-- ---- a fault of the image
+
+pub of_fault : (why : Fault) (old new : Moment) (status : ℕ) → EndsWith why old new status → status ≡ 3 → SaysOfImage why new
+of_fault why old new status (inl six) three = absurd (omega (arith, six, three))
+of_fault why old new status (inr (said, inl is, gives, all)) three = record {
+  status = ap fault_status (sym is) ∙ sym gives ∙ three;
+  front = old.said;
+  said = all.said ∙ ap (λ (w : Fault). old.said ++ fault_text w) is;
+}
+of_fault why old new status (inr (said, inr is, gives, all)) three = let seven : status ≡ 7 = gives ∙ ap fault_status is in absurd (omega (arith, seven, three))
+
+-- a call's fault of this status is one of the image
+image_of_call : (why : Fault) → IsOfCall why → fault_status why ≡ 3 → IsOfImage why
+image_of_call (Ends.Lost a b) of three = tt
+image_of_call (Ends.Unsound s) of three = tt
+image_of_call (Ends.Device s) of three = absurd (omega (arith, three))
+image_of_call Ends.Memory of three = absurd (omega (arith, three))
+image_of_call Ends.WornOut of three = absurd (omega (arith, three))
+image_of_call why of three = absurd of
+
+pub call_says : (why : Fault) → IsOfCall why → (old new : Moment) (status : ℕ) → EndsWith why old new status → status ≡ 3 → SaysOfCall new
+call_says why of old new status ended three =
+    let says = of_fault why old new status ended three in
+    record { why = why; of = image_of_call why of says.status; says = says }
+
+-- ---- a mount
+
+has_volume : (sectors : ℕ) (s : State) (old : Moment) → IsFound sectors s old → HasVolume sectors old
+has_volume sectors s old f = record { seen = f.seen; from = f.from; layout = s.layout; anchor = f.anchor; found = f.found }
+
+pub tells_mounted : (sectors : ℕ) (s : State) (old new : Moment) (status : ℕ) → IsFound sectors s old → (status ≡ 3 → SaysOfCall new) → TellsImage sectors old new status
+tells_mounted sectors s old new status f says = record {
+  mounted = λ any. has_volume sectors s old f;
+  refused = λ three. let x = says three in record { why = x.why; says = x.says; cause = inr (record { mounted = has_volume sectors s old f; of = x.of }) };
+  spent = λ nine. inl (has_volume sectors s old f);
+}
+
+-- no status of a mount's fault is one of a volume that is mounted
+not_mounted : (fault : MountFault) → IsTrue (is_of_mounted (fault_status (fault_of fault))) → ⊥
+not_mounted Refused.NotVolume is = cc is
+not_mounted Refused.NoAnchor is = cc is
+not_mounted (Refused.Lost a b) is = cc is
+not_mounted (Refused.Unsound s) is = cc is
+not_mounted (Refused.Device s) is = cc is
+not_mounted Refused.Memory is = cc is
+not_mounted Refused.WornOut is = cc is
+
+refused_not : (fault : MountFault) (status : ℕ) → IsStatusFor (fault_of fault) status → IsTrue (is_of_mounted status) → ⊥
+refused_not fault status (inl is) any = not_mounted fault (subst (λ (n : ℕ). IsTrue (is_of_mounted n)) is any)
+refused_not fault status (inr (inl seven)) any = let no : IsTrue (is_of_mounted 7) = subst (λ (n : ℕ). IsTrue (is_of_mounted n)) seven any in cc no
+refused_not fault status (inr (inr six)) any = let no : IsTrue (is_of_mounted 6) = subst (λ (n : ℕ). IsTrue (is_of_mounted n)) six any in cc no
+
+-- status 9 is that of an epoch that is the last one
+worn_of : (sectors : ℕ) (old : Moment) (fault : MountFault) (status : ℕ) → IsStatusFor (fault_of fault) status → status ≡ 9 → IsRefused sectors fault old → IsRefused sectors Refused.WornOut old
+worn_of sectors old fault status (inr (inl seven)) nine refused = absurd (omega (arith, seven, nine))
+worn_of sectors old fault status (inr (inr six)) nine refused = absurd (omega (arith, six, nine))
+worn_of sectors old Refused.WornOut status (inl is) nine refused = refused
+worn_of sectors old Refused.NotVolume status (inl is) nine refused = absurd (omega (arith, is, nine))
+worn_of sectors old Refused.NoAnchor status (inl is) nine refused = absurd (omega (arith, is, nine))
+worn_of sectors old (Refused.Lost a b) status (inl is) nine refused = absurd (omega (arith, is, nine))
+worn_of sectors old (Refused.Unsound s) status (inl is) nine refused = absurd (omega (arith, is, nine))
+worn_of sectors old (Refused.Device s) status (inl is) nine refused = absurd (omega (arith, is, nine))
+worn_of sectors old Refused.Memory status (inl is) nine refused = absurd (omega (arith, is, nine))
+
+pub tells_refused : (sectors : ℕ) (fault : MountFault) (why : Fault) (old ended new : Moment) (status : ℕ) → why ≡ fault_of fault → IsRefused sectors fault old → LostIn (AreCopiesOn sectors old) ended.image fault → UnsoundFor sectors old ended fault
+    → KeepsAll fault old ended → MountKeeps sectors old ended → UttersFault why ended new → EndsWith why ended new status → IsStatusFor why status → TellsImage sectors old new status
+tells_refused sectors fault why old ended new status is refused lost unsound kept rest (said, which, utters) ends for = record {
+  mounted = λ any. absurd (refused_not fault status (subst (λ (w : Fault). IsStatusFor w status) is for) any);
+  refused = λ three. record {
+    why = why;
+    says = of_fault why ended new status ends three;
+    cause = inl (record { fault = fault; is = is; refused = refused; ended = ended; since = record { image = utters.image; windows = utters.windows }; lost = lost; unsound = unsound; kept = kept; rest = rest });
+  };
+  spent = λ nine. inr (worn_of sectors old fault status (subst (λ (w : Fault). IsStatusFor w status) is for) nine refused);
+}
+
+-- ---- an input that is too long
+
+then_end : (ordinal : ℕ) (more : List ℕ → Script) → ((rest : List ℕ) → (more rest).1 ≡ TooLong → ⊥) → (read : Result (Command × List ℕ) Cause) → (then_more ordinal more read).1 ≡ TooLong → ⊥
+then_end ordinal more other (Err cause) is = cc is
+then_end ordinal more other (Ok x) is = other x.1 is
+
+commands_end : (most ordinal : ℕ) (bytes : List ℕ) → (commands_from most ordinal bytes).1 ≡ TooLong → ⊥
+commands_end most ordinal [] is = cc is
+commands_end zero ordinal (b ∷ bytes) is = cc is
+commands_end (suc most) ordinal (b ∷ bytes) is = then_end ordinal (λ rest. commands_from most (ordinal + 1) rest) (λ rest. commands_end most (ordinal + 1) rest) (command_at (b ∷ bytes)) is
+
+cut_long : (most : ℕ) (input : List ℕ) (s : Script) → (s.1 ≡ TooLong → ⊥) → (over : Bool) → nat_lt most (length input) ≡ over → (if over && needs_more s.1 then (s.0, TooLong) else s).1 ≡ TooLong → most < length input
+cut_long most input s other true over end = ltb-true most (length input) over
+cut_long most input s other false over end = absurd (other end)
+
+pub long_input : (most ordinal : ℕ) (input : List ℕ) → (script_from most ordinal input).1 ≡ TooLong → most < length input
+long_input most ordinal input is =
+    cut_long most input (commands_from (length (take most input)) ordinal (take most input)) (commands_end (length (take most input)) ordinal (take most input)) (nat_lt most (length input)) refl is
+
+-- ---- a script that was read
+
+-- all that a closing volume passes on
+pub passes_on : (stop : Stop) (end : ScriptEnd) (result : Result Stop End) → IfOk result (λ x. x ≡ stop) → result ≡ Ok (Ended end) → stop ≡ Ended end
+passes_on stop end (Ok x) same is = let e : x ≡ Ended end = cc is in sym same ∙ e
+passes_on stop end (Err why) same is = absurd (cc is)
+
+pub read_ends : {S D : Type 0} (state : S → State) (has : S → Mounted → List Placed → Type 0) (M : Ghosts D) (e : Errand) (old : S) (a : D) (new : S) (b : D) (stop : Stop) (end : ScriptEnd) → WholeRead state has M e old a new b (Ok stop) → stop ≡ Ended end → (script_in (M.ledger a).input).1 ≡ end
+read_ends state has M e old a new b stop end x is =
+    let all : WholeRead state has M e old a new b (Ok (Ended end)) = subst (λ (s : Stop). WholeRead state has M e old a new b (Ok s)) is x in
+    all.reads.0
+
+-- a bad line is said whole at its status
+pub says_bad : (input : List ℕ) (bad : BadLine) (old new : Moment) (status : ℕ) → (script_in input).1 ≡ Bad bad → EndsLast (Says.Bad bad) 2 old new status → status ≡ 2 → SaysBadLine input new
+says_bad input bad old new status is (inl six) two = absurd (omega (arith, six, two))
+says_bad input bad old new status is (inr (inl (gives, all))) two = record { bad = bad; ends = is; front = old.said; said = all.said }
+says_bad input bad old new status is (inr (inr (seven, all))) two = absurd (omega (arith, seven, two))
+
+-- ---- an input that is taken to its end
+
+drop_none : (n : ℕ) (xs : List ℕ) → xs ≡ [] → drop n xs ≡ []
+drop_none zero xs none = none
+drop_none (suc n) [] none = refl
+drop_none (suc n) (x ∷ xs) none = cc none
+
+pub none_left : (r : Reading) (before now : Ledger) (count : ℕ) → r.end ≡ None → script_left r before.input ≡ ([], Done) → now ≡ took before count → now.input ≡ []
+none_left r before now count still is left =
+    let all = all_is_read r before.input still is in
+    ap (λ (l : Ledger). l.input) left ∙ drop_none count before.input all.1

@@ -1,0 +1,194 @@
+-- A put of the input over a mounted volume: its input is taken first, which wears the disk and no more.
+use Rattle.std.proofs.Common.{◌≡◌, ◌⊎◌, inl, inr, ℕ, ◌≤◌, Bool, true, false, List, [], ◌∷◌, ◌++◌, length, take, Option, Some, None, refl, sym, ◌∙◌, ap, subst, arith}
+use Rattle.fsd_log.specs.Scan.{Placed}
+use Rattle.std.specs.Prelude.{if◌then◌else◌, nat_lt, IfSome, IsSome, slice_get}
+use Rattle.std.proofs.lemmas.List.{append-nil}
+use Rattle.sector_disk.specs.declared.machine.Machine.{Ghosts}
+use Rattle.sector_disk.specs.Calls.{Counts, LeavesDisk}
+use Rattle.sector_disk.specs.Image.{AreShort, Windows}
+use Rattle.sector_disk.specs.Machine.{LeavesOnly, Moment, Report, UsesDisk, Wears}
+use Rattle.sector_disk.proofs.Moments.{leaves_more, then_on}
+use Rattle.fsd_files.specs.Answers.{Met}
+use Rattle.fsd_files.specs.Disk.{Image, in_runs}
+use Rattle.fsd_files.specs.Volume.{Volume}
+use Rattle.fsd_sound.specs.Mounted.{Mounted}
+use Rattle.fsd_sound.proofs.MoreLaws.{sound_more}
+use Rattle.fsd_sound.proofs.MountedLaws.{mounted_sound, mounted_tells}
+use Rattle.fsd_texts.specs.declared.command.Command.{Command}
+use Rattle.fsd_texts.specs.declared.command.Command.TheVariants as Word
+use Rattle.fsd_texts.specs.declared.fault.Fault.{Fault}
+use Rattle.fsd_texts.specs.declared.fault.Fault.TheVariants as Ends
+use Rattle.fsd_texts.specs.Script.{max_input}
+use Rattle.fsd_texts.specs.Text.{fault_text}
+use Rattle.fsd_runs.specs.declared.request.Request.TheVariants.{Put}
+use Rattle.fsd_runs.specs.Commands.{MayFind}
+use Rattle.fsd_runs.specs.Errands.{Cut, Errand, MayCut, Turn, alone, errand_of, nothing_but}
+use Rattle.fsd_runs.specs.Leaves.{IsBroken, IsOutside, IsUnsaid, MayEnd}
+use Rattle.fsd_runs.specs.Runs.{Goes, IsCutAt, changes_in, errand_in, said_in, turns_of}
+use Rattle.volume_contract.specs.State.{State, Ages, Known, Stands, forced_of, is_worn, volume_of}
+use Rattle.volume_turns.specs.Line.{EndsWith, UttersFault, is_unsaid}
+use Rattle.volume_turns.specs.Steps.{StaysSound}
+use Rattle.volume_turns.specs.Turns.{InRun}
+use Rattle.volume_turns.specs.Whole.{Finishes, Halted, RunsOut, SaysOut}
+use Rattle.volume_turns.proofs.HaltLaws.{stopped_ends, stopped_moments}
+use Rattle.volume_turns.proofs.OneLaws.{some_one}
+use Rattle.volume_turns.proofs.ScriptLaws.{in_from}
+use Rattle.volume_turns.proofs.TurnLaws.{in_before, worn_state}
+use Rattle.volume_turns.proofs.WholeLaws.{runs_on}
+
+-- ---- what a put asks for, by how long its input is
+
+abbrev asked : Bool → (name input : List ℕ) → Option ℕ → Errand
+asked long name input keep = if long then nothing_but Ends.InputTooLong else alone (Word.Put name input keep)
+
+-- the run has a turn to say, whatever the volume
+pub some_put : (name : List ℕ) (keep : Option ℕ) (input : List ℕ) (v : Volume) → IsSome (slice_get (turns_of (errand_of (Put name keep) input) [] v) 0)
+some_put name keep input v = by (nat_lt max_input (length input))
+  where
+    by : (long : Bool) → IsSome (slice_get (turns_of (asked long name input keep) [] v) 0)
+    by true = refl
+    by false = some_one (Word.Put name input keep) v
+
+-- its command reads no data of a version
+put_finds : (name : List ℕ) (keep : Option ℕ) (input : List ℕ) (i j : Image) (v : Volume) (met : Met) → IfSome (slice_get (errand_of (Put name keep) input).commands 0) (λ c. MayFind i j v c met)
+put_finds name keep input i j v met = by (nat_lt max_input (length input))
+  where
+    by : (long : Bool) → IfSome (slice_get (asked long name input keep).commands 0) (λ c. MayFind i j v c met)
+    by true = tt
+    by false = tt
+
+-- ---- over a volume that stands
+
+module _ {S D : Type 0} (state : S → State) (has : S → Mounted → List Placed → Type 0) (M : Ghosts D) (name : List ℕ) (keep : Option ℕ) (input rest : List ℕ) (v : S) (k : Known) (a m b : D)
+    (wears : (old new : Moment) → AreShort old.windows → Ages old new → Stands state has v k old → Stands state has v k new) (short : AreShort (M.now a).windows) (stands : Stands state has v k (M.now a))
+    (takes : Bool) (read : LeavesDisk M takes false Wears a m) (back : M.honest m) (status : ℕ) where
+  abbrev e : Errand
+  e = errand_of (Put name keep) input
+
+  worn : Wears (M.now a) (M.now m)
+  worn = read.exit back
+
+  pub stands_on : Stands state has v k (M.now m)
+  stands_on = wears (M.now a) (M.now m) short (record { image = worn.image; windows = worn.windows }) stands
+
+  stays : (left : Moment) → Wears (M.now a) left → StaysSound k (M.now a) left
+  stays left w =
+      let now = wears (M.now a) left short (record { image = w.image; windows = w.windows }) stands in
+      record { sound = mounted_sound k.mounted k.windows k.changes (forced_of k) left.image now.disk; windows = w.windows; said = w.said }
+
+  taking : (turns : List Turn) → LeavesOnly M.moment M.left_since a m (InRun k turns (M.now a))
+  taking turns = leaves_more M.moment M.left_since a m (Wears (M.now a)) (InRun k turns (M.now a)) (λ left w. in_before k turns (M.now a) left (stays left w)) (read.any_moment back)
+
+  -- the run goes on from there
+  module _ (unworn : is_worn (state v) ≡ false) (before : Report) where
+    goes_from : (P : Moment → Type 0) (x : Errand) (said : List ℕ) (mets : List Met) (commands : List Command) → ((i j : Image) (u : Volume) (met : Met) → IfSome (slice_get commands 0) (λ c. MayFind i j u c met))
+        → Goes (in_runs k.windows) P (IsCutAt None) x said (M.now m).image (volume_of k) mets commands → Goes (in_runs k.windows) P (IsCutAt None) x said (M.now a).image (volume_of k) mets commands
+    goes_from P x said [] commands finds goes = tt
+    goes_from P x said (met ∷ mets) [] finds goes = absurd goes
+    goes_from P x said (met ∷ mets) (c ∷ commands) finds goes = (
+      goes.0,
+      record {
+        kept = stands.disk.described.kept;
+        tells = mounted_tells k.mounted k.windows k.changes (forced_of k) (M.now a).image stands.disk;
+        unworn = λ may full. let so = worn_state state has v k (M.now a) stands full in cc (so, unworn);
+        exit = goes.1.exit;
+        may = record { find = finds (M.now a).image goes.0 (volume_of k) met; reach = goes.1.may.reach };
+      },
+      goes.2,
+    )
+
+    abbrev Over : Moment → List Met → Type 0
+    Over old mets = SaysOut e k mets old (M.now b) status ⊎ (IsUnsaid before (M.report b) status ⊎ IsBroken (Put name keep) before (M.report b) (turns_of e mets (volume_of k)) old (M.now b) status)
+
+    ends_from : (mets : List Met) → Over (M.now m) mets → Over (M.now a) mets
+    ends_from mets (inl out) = inl (record {
+      through = out.through;
+      gives = out.gives;
+      done = record {
+        windows = out.done.windows ∙ worn.windows;
+        said = out.done.said ∙ ap (λ (x : List ℕ). x ++ said_in (turns_of e mets (volume_of k))) worn.said;
+        sound = out.done.sound;
+        tells = out.done.tells;
+        lasts = out.done.lasts;
+      };
+    })
+    ends_from mets (inr (inl u)) = inr (inl u)
+    ends_from mets (inr (inr x)) = inr (inr (record {
+      why = x.why;
+      outside = x.outside;
+      ends = x.ends;
+      says = record {
+        whole = x.says.whole;
+        more = x.says.more;
+        said = x.says.said ∙ ap (λ (y : List ℕ). y ++ (said_in (take x.says.whole (turns_of e mets (volume_of k))) ++ fault_text x.why)) worn.said;
+      };
+    }))
+
+    from_there : (cut : Cut) → MayCut (Put name keep) cut → Finishes M (Put name keep) (errand_in (Put name keep) input cut) (IsCutAt cut) before k m b status → RunsOut M (Put name keep) input rest before k a b status
+    from_there (Some (n, why)) may f = absurd may
+    from_there None may f = record {
+      cut = None;
+      may = tt;
+      ahead = tt;
+      cause = tt;
+      finishes = record {
+        mets = f.mets;
+        goes = λ t le. let later = (read.any_moment back).later in
+            subst (λ (x : List ℕ). Goes (in_runs k.windows) (M.left_since b t) (IsCutAt None) e x (M.now a).image (volume_of k) f.mets e.commands) worn.said
+            (goes_from (M.left_since b t) e (M.now m).said f.mets e.commands (put_finds name keep input) (f.goes t (omega (arith, le, later))));
+        moments = then_on M.moment M.left_since a m b (InRun k (turns_of e f.mets (volume_of k)) (M.now a)) (taking (turns_of e f.mets (volume_of k)))
+            (leaves_more M.moment M.left_since m b (InRun k (turns_of e f.mets (volume_of k)) (M.now m)) (InRun k (turns_of e f.mets (volume_of k)) (M.now a))
+            (λ left x. in_from k (M.now a) (M.now m) worn (turns_of e f.mets (volume_of k)) left x) f.moments);
+        ends = ends_from f.mets f.ends;
+      };
+    }
+
+  counted : takes ≡ false → UsesDisk (M.report a) (M.report m)
+  counted none = record {
+    sectors = read.spares.sectors;
+    disk = let same = read.spares.disk in omega (arith, same);
+    input = subst (λ (x : Bool). Counts x (M.report a).input_faults (M.report m).input_faults) none read.spares.input;
+    output = read.spares.output;
+  }
+
+  pub taken_on : takes ≡ false → is_worn (state v) ≡ false → RunsOut M (Put name keep) input rest (M.report m) k m b status → RunsOut M (Put name keep) input rest (M.report a) k a b status
+  taken_on none unworn r =
+      runs_on M (Put name keep) input rest (M.report a) (M.report m) (counted none) (read.spares.disk, read.spares.place) k a b status (from_there unworn (M.report m) r.cut r.may r.finishes)
+
+  -- it ends there, by a fault of the input or for want of memory
+  module _ (why : Fault) (may : MayEnd why) (out : IsOutside (Put name keep) (M.report a) (M.report b) why) (says : LeavesDisk M false (is_unsaid status) (UttersFault why) m b) (honest : M.honest b)
+      (ended : EndsWith why (M.now m) (M.now b) status) where
+    abbrev turns : List Turn
+    turns = turns_of e [] (volume_of k)
+
+    halted : Halted k turns (M.now a) (M.now m)
+    halted = record {
+      windows = worn.windows;
+      whole = 0;
+      more = some_put name keep input (volume_of k);
+      said = worn.said ∙ sym (append-nil (M.now a).said);
+      forced = forced_of k;
+      least = omega arith;
+      enough = λ any. absurd (cc any);
+      sound = sound_more k.mounted.volume.layout k.windows k.changes (changes_in (take 1 turns)) (forced_of k) (M.now m).image (stays (M.now m) worn).sound;
+    }
+
+    short_there : AreShort (M.now m).windows
+    short_there = subst (λ (w : Windows). AreShort w) (sym worn.windows) short
+
+    later : (M.report a).output_faults ≤ (M.report m).output_faults
+    later = let same = read.spares.output in omega (arith, same)
+
+    pub taken_ended : RunsOut M (Put name keep) input rest (M.report a) k a b status
+    taken_ended = record {
+      cut = None;
+      may = tt;
+      ahead = tt;
+      cause = tt;
+      finishes = record {
+        mets = [];
+        goes = λ t le. tt;
+        moments = stopped_moments M (Put name keep) (M.report a) k turns a m b (taking turns) halted short_there stands.ends why may out later status says honest ended;
+        ends = inr (stopped_ends M (Put name keep) (M.report a) k turns a m b (taking turns) halted short_there stands.ends why may out later status says honest ended);
+      };
+    }

@@ -1,0 +1,115 @@
+-- What the status of a run tells of the image that it found, and of its input, whatever these were.
+use Rattle.std.specs.Prelude.{◌≡◌, ◌⊎◌, ◌<◌, ◌==◌, ℕ, Bool, List, [], ◌∷◌, ◌++◌, length, IfSome, IsTrue}
+use Rattle.std.specs.List.{list_any}
+use Rattle.volume_layout.specs.declared.layout.Layout.{Layout}
+use Rattle.sector_disk.specs.Image.{IsWorn, open_damage}
+use Rattle.sector_disk.specs.Machine.{Moment, Report, Rose}
+use Rattle.fsd_formats.specs.declared.anchor.Anchor.{Anchor}
+use Rattle.fsd_files.specs.Disk.{Image}
+use Rattle.fsd_sound.specs.Lost.{AreCopiesOn, LostIn}
+use Rattle.fsd_sound.specs.Mounting.{IsVolume}
+use Rattle.fsd_sound.specs.Writes.{MountKeeps}
+use Rattle.fsd_sound.specs.declared.fault.MountFault.{MountFault}
+use Rattle.fsd_sound.specs.declared.fault.MountFault.TheVariants.{WornOut}
+use Rattle.fsd_texts.specs.declared.fault.Fault.{Fault}
+use Rattle.fsd_texts.specs.declared.bad_line.BadLine.{BadLine}
+use Rattle.fsd_texts.specs.declared.end.End.TheVariants.{Bad}
+use Rattle.fsd_texts.specs.declared.line.Line.TheVariants as Says
+use Rattle.fsd_texts.specs.Script.{max_input, script_in}
+use Rattle.fsd_texts.specs.Text.{fault_text, text}
+use Rattle.fsd_runs.specs.Errands.{fault_status}
+use Rattle.volume_contract.specs.Mount.{IsRefused, KeepsAll, UnsoundFor}
+use Rattle.volume_contract.specs.State.{Ages}
+use Rattle.volume_turns.specs.Once.{fault_of}
+use Rattle.volume_turns.specs.Steps.{IsOfImage, device_told}
+
+-- ---- it was mounted
+
+-- A root and an anchor of the image were seen, as it may be worn.
+pub record HasVolume (sectors : ℕ) (old : Moment) : Type 0 where
+  pub seen : Image
+  pub from : IsWorn (open_damage old.windows) old.image seen
+  pub layout : Layout
+  pub anchor : Anchor
+  pub found : IsVolume sectors seen layout anchor
+
+-- the statuses of a run that has done what it was asked for, or was refused it, or could not take its input
+abbrev pub is_of_mounted : ℕ → Bool
+is_of_mounted status = list_any (λ s. s == status) (0 ∷ 1 ∷ 2 ∷ 5 ∷ 8 ∷ [])
+
+-- ---- it was refused
+
+-- The mount was refused for this fault: the image was so, as it was seen, and what is lost or unsound was so as the mount ended. What
+-- is refused before anything is written stays as it was, and a mount writes only where it may.
+pub record IsMountRefused (sectors : ℕ) (why : Fault) (old new : Moment) : Type 0 where
+  pub fault : MountFault
+  pub is : why ≡ fault_of fault
+  pub refused : IsRefused sectors fault old
+  pub ended : Moment
+  pub since : Ages ended new
+  pub lost : LostIn (AreCopiesOn sectors old) ended.image fault
+  pub unsound : UnsoundFor sectors old ended fault
+  pub kept : KeepsAll fault old ended
+  pub rest : MountKeeps sectors old ended
+
+-- The image was mounted, and a call of the volume told this of it.
+pub record IsCallRefused (sectors : ℕ) (why : Fault) (old : Moment) : Type 0 where
+  pub mounted : HasVolume sectors old
+  pub of : IsOfImage why
+
+-- the last line that is said is this fault's, and its status is 3
+pub record SaysOfImage (why : Fault) (new : Moment) : Type 0 where
+  pub status : fault_status why ≡ 3
+  pub front : List ℕ
+  pub said : new.said ≡ front ++ fault_text why
+
+-- A fault of the image is said last, and has its cause.
+pub record SaysCause (sectors : ℕ) (old new : Moment) : Type 0 where
+  pub why : Fault
+  pub says : SaysOfImage why new
+  pub cause : IsMountRefused sectors why old new ⊎ IsCallRefused sectors why old
+
+-- it was mounted, or the mount was refused for an epoch that was seen to be the last one
+abbrev pub IsSpent : ℕ → Moment → Type 0
+IsSpent sectors old = HasVolume sectors old ⊎ IsRefused sectors WornOut old
+
+-- ---- all of these
+
+-- What a run tells of the image that it found, by its status.
+pub record TellsImage (sectors : ℕ) (old new : Moment) (status : ℕ) : Type 0 where
+  pub mounted : IsTrue (is_of_mounted status) → HasVolume sectors old
+  pub refused : status ≡ 3 → SaysCause sectors old new
+  pub spent : status ≡ 9 → IsSpent sectors old
+
+-- Over a mounted volume: status 3 is that of a fault that a call told.
+pub record SaysOfCall (new : Moment) : Type 0 where
+  pub why : Fault
+  pub of : IsOfImage why
+  pub says : SaysOfImage why new
+
+-- ---- the fault that is said
+
+-- the statuses of a fault of the disk, of the input and of memory, and of a mount that is worn out
+abbrev pub is_of_fault : ℕ → Bool
+is_of_fault status = list_any (λ s. s == status) (4 ∷ 5 ∷ 7 ∷ 9 ∷ [])
+
+-- The last line that is said is that of a fault of this status; a fault of the disk has the place that was last told.
+pub record SaysFault (place : ℕ) (new : Moment) (status : ℕ) : Type 0 where
+  pub why : Fault
+  pub gives : status ≡ fault_status why
+  pub at : IfSome (device_told why) (λ s. s ≡ place)
+  pub front : List ℕ
+  pub said : new.said ≡ front ++ fault_text why
+
+-- ---- the input
+
+-- a fault of the input is counted, or it has more bytes than a run takes
+abbrev pub FailsInput : List ℕ → (old new : Report) → Type 0
+FailsInput input old new = Rose old.input_faults new.input_faults ⊎ (max_input < length input)
+
+-- A line of the script is outside the grammar, and this is said last.
+pub record SaysBadLine (input : List ℕ) (new : Moment) : Type 0 where
+  pub bad : BadLine
+  pub ends : (script_in input).1 ≡ Bad bad
+  pub front : List ℕ
+  pub said : new.said ≡ front ++ text (Says.Bad bad)
