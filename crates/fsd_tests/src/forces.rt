@@ -1,42 +1,18 @@
 //! A force, and the newest pages behind it.
-ghost use Rattle.std.specs.Prelude.{◌≡◌, ◌<◌, ◌≤◌, ◌∷◌, [], take, codes, length, IfSome};
-ghost use Rattle.fsd_bytes.specs.Bytes.{u32_at};
-ghost use Rattle.group_commit.specs.Resident.{AreImages};
+ghost use Rattle.std.specs.Prelude.{◌≡◌, ◌<◌, ◌≤◌, IfSome};
 
 use crate::machines::calm;
+use crate::waiting::force_page;
 use fsd_formats::Anchor;
-use group_commit::{Group, Newest, Resident};
+use group_commit::Newest;
 use log_record::anchor_bytes;
 use log_thirds::Log;
-use name_page::write_free;
 use page_cache::PageSource;
 use sector_disk::{Attach, LoadFault, Machine, MemoryMachine, Sector};
 use std::alloc::{AllocError, Global};
 use std::test::Fail;
 use twin_home::{write_a, write_b};
 use volume_layout::Layout;
-
-fn free_page(page: u32) -> [u8; 512]
-    ensures magic { take 4 result ≡ codes "CNPG" }
-    ensures number { u32_at 12 result ≡ page }
-{
-    let mut bytes = [0; 512];
-    write_free(page, &mut bytes);
-    bytes
-}
-
-// 64 pages, of which page 3 waits.
-fn table(alloc: Global) -> Option<Resident>
-    ensures pages { IfSome result (λ s. length s.pages ≡ 64) }
-    ensures dirty { IfSome result (λ s. s.dirty ≡ 3 ∷ []) }
-    ensures images { IfSome result AreImages }
-{
-    let images = vec![in alloc; [0; 512]; 64].ok()?;
-    let mut pages = Resident::new(alloc, images).ok()?;
-    pages.put(3, &free_page(3));
-    pages.dirty(3);
-    Some(pages)
-}
 
 // A disk whose only whole sector is its first anchor.
 fn bare_disk(alloc: Global) -> Result<MemoryMachine, AllocError> {
@@ -52,19 +28,16 @@ fn bare_disk(alloc: Global) -> Result<MemoryMachine, AllocError> {
     Ok(calm(alloc, image))
 }
 
-// The log once page 3 is forced by its first record.
+// The log once page 3, whose first home is whole, is forced by its first record.
 fn forced_log<M: Machine>(alloc: Global, m: &mut M, layout: &Layout) -> Option<Log>
     requires pages { layout.now.pages ≡ 64 }
     requires sectors { layout.now.sectors ≤ (M.report m.old).sectors }
     ensures layout { IfSome result (λ log. log.layout ≡ layout.now) }
     ensures sectors { (M.report m.new).sectors ≡ (M.report m.old).sectors }
 {
+    write_a(m, layout, 3, &[9; 512]).ok()?;
     let mut log = Log::scan(alloc, m, layout).ok()?;
-    let mut pages = table(alloc)?;
-    if log.next_number() != 1 {
-        return None;
-    }
-    match Group::force(m, &mut log, &mut pages) {
+    match force_page(alloc, m, &mut log, 3)? {
         Ok(_) => Some(log),
         Err(_) => None,
     }

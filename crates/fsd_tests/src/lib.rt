@@ -1,6 +1,8 @@
-//! Tests that cross crates: runs over a machine in memory whose sectors wear, and the volumes, mounts and forces below them.
+//! Tests that cross crates: runs over a machine in memory whose sectors wear, and the mounts and forces below them.
 #![tactic(auto)]
 
+#[cfg(test)]
+mod commands;
 #[cfg(test)]
 mod forces;
 #[cfg(test)]
@@ -14,8 +16,10 @@ mod rounds;
 #[cfg(test)]
 mod runs;
 #[cfg(test)]
+mod stops;
+#[cfg(test)]
 mod sweeps;
 #[cfg(test)]
-mod volumes;
+mod waiting;
 #[cfg(test)]
 mod wear;

@@ -1,7 +1,8 @@
 //! What the tests share: machines in memory, and lines that run over them.
-use cfs_run::run_cfs;
+use cfs_program::run_words;
 use sector_disk::{Event, MemoryMachine, Sector, WeakRun, When};
 use std::alloc::{AllocError, Global};
+use table_volume::Volume;
 
 /// An event that never comes.
 pub const NEVER: Event = Event::FailCall { call: 0, stand: 0 };
@@ -48,8 +49,29 @@ pub fn run(
 ) -> Result<(MemoryMachine, u8), AllocError> {
     let mut m = m.again(events.to_vec(alloc)?, input.to_vec(alloc)?);
     let words = words_of(alloc, line)?;
-    let status = run_cfs(alloc, words.as_slice(), &mut m);
+    let status = run_words::<MemoryMachine, Volume>(alloc, words.as_slice(), &mut m);
     Ok((m, status))
+}
+
+/// A line, its input, and the status and the text with which it ends.
+pub type Row<'a> = (&'a str, &'a [u8], u8, &'a str);
+
+/// These lines one after another, and the first that ends otherwise.
+pub fn first_wrong(
+    alloc: Global,
+    m: MemoryMachine,
+    rows: &[Row],
+) -> Result<(MemoryMachine, Option<usize>), AllocError> {
+    let mut wrong = None;
+    let mut m = m;
+    for (i, (line, input, status, said)) in rows.iter().enumerate() {
+        let (next, ended) = run(alloc, m, &[], line, input)?;
+        if wrong.is_none() && (ended != *status || next.said() != said.as_bytes()) {
+            wrong = Some(i);
+        }
+        m = next;
+    }
+    Ok((m, wrong))
 }
 
 /// An empty volume, as this line formats it.

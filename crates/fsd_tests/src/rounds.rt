@@ -1,62 +1,17 @@
 //! A log that comes round: a force that enters its first third again, on a volume of 721 sectors whose thirds have 200, so that
 //! each takes 28 records of one page, and whose 16 pages have their homes from 616 and from 636 on.
-ghost use Rattle.std.specs.Prelude.{◌≡◌, ◌<◌, ◌≤◌, ◌∷◌, [], take, codes, length, IfSome, IfOk};
-ghost use Rattle.fsd_bytes.specs.Bytes.{u32_at};
-ghost use Rattle.group_commit.specs.Resident.{AreImages};
+ghost use Rattle.std.specs.Prelude.{◌≡◌, ◌<◌, ◌≤◌};
 
 use crate::machines::{calm, formatted};
-use group_commit::{ForceFault, Forced, Group, Resident};
+use crate::waiting::force_page;
+use group_commit::{ForceFault, Forced};
 use log_thirds::Log;
 use mount_recover::{Settled, recover};
-use name_page::write_free;
 use sector_disk::{Attach, Event, Machine, MemoryMachine, Sector};
 use std::alloc::Global;
 use std::test::Fail;
 
 const FORMAT: &str = "cfs format w 721 200 16";
-
-fn free_page(page: u32) -> [u8; 512]
-    ensures magic { take 4 result ≡ codes "CNPG" }
-    ensures number { u32_at 12 result ≡ page }
-{
-    let mut bytes = [0; 512];
-    write_free(page, &mut bytes);
-    bytes
-}
-
-// 16 pages, of which this one waits.
-fn table(alloc: Global, page: u32) -> Option<Resident>
-    requires { page < 16 }
-    ensures pages { IfSome result (λ s. length s.pages ≡ 16) }
-    ensures dirty { IfSome result (λ s. s.dirty ≡ page ∷ []) }
-    ensures images { IfSome result AreImages }
-{
-    let images = vec![in alloc; [0; 512]; 16].ok()?;
-    let mut pages = Resident::new(alloc, images).ok()?;
-    pages.put(page, &free_page(page));
-    pages.dirty(page);
-    Some(pages)
-}
-
-// Forces this page; nothing is answered where memory is short or the log has no number more.
-fn force_page<M: Machine>(
-    alloc: Global,
-    m: &mut M,
-    log: &mut Log,
-    page: u32,
-) -> Option<Result<Forced, ForceFault>>
-    requires pages { log.old.layout.pages ≡ 16 }
-    requires page { page < 16 }
-    requires sectors { log.old.layout.sectors ≤ (M.report m.old).sectors }
-    ensures layout { log.new.layout ≡ log.old.layout }
-    ensures sectors { (M.report m.new).sectors ≡ (M.report m.old).sectors }
-{
-    let mut pages = table(alloc, page)?;
-    if log.next_number() > 1000 {
-        return None;
-    }
-    Some(Group::force(m, log, &mut pages))
-}
 
 // Page 5 in the first record, and this page in each of the 83 behind it.
 fn fill<M: Machine>(alloc: Global, m: &mut M, log: &mut Log, page: u32) -> Option<()>

@@ -99,12 +99,7 @@ fn puts_and_gets(rt: HostRuntime) -> Result<(), Fail> {
         ("cfs put v a", b"hi".as_slice(), 0, "made a!1 2\n"),
         ("cfs get v a!1", b"".as_slice(), 0, "hi"),
         ("cfs get v a!2", b"".as_slice(), 1, "refused no-such\n"),
-        (
-            "cfs put v a",
-            b"hi".as_slice(),
-            1,
-            "refused versions-used\n",
-        ),
+        ("cfs put v a", b"hi".as_slice(), 0, "made a!2 2\n"),
         (
             "cfs format v 2048 256 64",
             b"".as_slice(),

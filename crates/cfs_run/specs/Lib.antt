@@ -1,9 +1,0 @@
-pub mod Answer
-pub mod Ends
-pub mod Formatting
-pub mod Input
-pub mod Leaves
-pub mod Lines
-pub mod Mounting
-pub mod Words
-pub mod Working

@@ -1,0 +1,134 @@
+//! Runs that are stopped, or in which a call of the outside fails, and what the next run says.
+use crate::machines::{calm, formatted, run};
+use sector_disk::Event;
+use std::alloc::{AllocError, Global};
+use std::test::Fail;
+
+const FORMAT: &str = "cfs format v 2048 256 64";
+
+fn stop(first: u32, nth: u32, stand: u32) -> Event {
+    Event::StopIn { first, nth, stand }
+}
+
+// One run with an event on a fresh volume, and what it and a list say then.
+#[derive(Drop)]
+struct Stopped<'a> {
+    event: Event,
+    line: &'a str,
+    input: &'a [u8],
+    said: &'a str,
+    status: u8,
+    listed: &'a str,
+}
+
+fn goes_so(alloc: Global, row: &Stopped) -> Result<bool, AllocError> {
+    let image = formatted(alloc, FORMAT)?;
+    let m = calm(alloc, image);
+    let (m, status) = run(alloc, m, &[row.event], row.line, row.input)?;
+    let first = status == row.status && m.said() == row.said.as_bytes();
+    let (m, _) = run(alloc, m, &[], "cfs list v *", b"")?;
+    Ok(first && m.said() == row.listed.as_bytes())
+}
+
+#[test]
+fn the_next_run_lists_what_stands(rt: HostRuntime) -> Result<(), Fail> {
+    let alloc = rt.alloc();
+    let script = b"put d 1\nx\nforce\ndelete d!1\nput e 1\ny\n".as_slice();
+    let cut = b"put a 1\nx\nput b 1\ny\nput c 1\nz\n".as_slice();
+    let rows = [
+        // The record stands at 16..23: a header, a blank, the header's copy, the page and the end, and the copies of both.
+        Stopped {
+            event: stop(16, 1, 4),
+            line: "cfs put v a",
+            input: b"x",
+            said: "",
+            status: 6,
+            listed: "listed 0\n",
+        },
+        Stopped {
+            event: stop(16, 1, 5),
+            line: "cfs put v a",
+            input: b"x",
+            said: "",
+            status: 6,
+            listed: "a!1 1 2 2\nlisted 1\n",
+        },
+        Stopped {
+            event: Event::FailIn {
+                first: 16,
+                nth: 1,
+                stand: 2,
+            },
+            line: "cfs put v a",
+            input: b"x",
+            said: "fault device 16\n",
+            status: 4,
+            listed: "listed 0\n",
+        },
+        // The sectors of what was deleted are not free before the force.
+        Stopped {
+            event: stop(23, 1, 0),
+            line: "cfs script v",
+            input: script,
+            said: "made d!1 2\nforced\ndeleted d!1\nmade e!1 2\n",
+            status: 6,
+            listed: "d!1 1 2 2\nlisted 1\n",
+        },
+        Stopped {
+            event: Event::Pieces { most: 1 },
+            line: "cfs script v",
+            input: cut,
+            said: "made a!1 2\nmade b!1 2\nmade c!1 2\nforced\n",
+            status: 0,
+            listed: "a!1 1 2 2\nb!1 1 2 2\nc!1 1 2 2\nlisted 3\n",
+        },
+    ];
+    for (i, row) in rows.iter().enumerate() {
+        assert!(rt; goes_so(alloc, row)?, "{i}");
+    }
+    Ok(())
+}
+
+// The script puts a version and sets its keep 84 times, each with a force.
+fn keeps(alloc: Global) -> Result<Vec<u8>, AllocError> {
+    let mut script = Vec::new(alloc);
+    script.extend_from_slice(b"put x 0\n\nforce\n")?;
+    for tens in b'0'..=b'8' {
+        for ones in b'0'..=b'9' {
+            let first = tens == b'0' && ones == b'0';
+            let last = tens == b'8' && ones > b'4';
+            if !first && !last {
+                script.extend_from_slice(b"keep x ")?;
+                if tens != b'0' {
+                    script.push(tens)?;
+                }
+                script.push(ones)?;
+                script.extend_from_slice(b"\nforce\n")?;
+            }
+        }
+    }
+    Ok(script)
+}
+
+// A third of 200 sectors has 28 records of one page. The 85th enters the first third again: the anchor goes to 8 and 12 before it.
+#[test]
+fn the_log_comes_round(rt: HostRuntime) -> Result<(), Fail> {
+    let alloc = rt.alloc();
+    let script = keeps(alloc)?;
+    let image = formatted(alloc, "cfs format w 721 200 16")?;
+    let rows = [
+        (stop(8, 2, 0), "x!1 0 1 83\nlisted 1\n"),
+        (stop(12, 2, 0), "x!1 0 1 83\nlisted 1\n"),
+        (stop(16, 2, 0), "x!1 0 1 83\nlisted 1\n"),
+        (stop(16, 2, 4), "x!1 0 1 83\nlisted 1\n"),
+        (stop(16, 2, 5), "x!1 0 1 84\nlisted 1\n"),
+    ];
+    for (event, listed) in rows {
+        let m = calm(alloc, image.to_vec(alloc)?);
+        let (m, _) = run(alloc, m, &[event], "cfs script w", script.as_slice())?;
+        let (m, status) = run(alloc, m, &[], "cfs list w *", b"")?;
+        assert_eq!(rt; status, 0);
+        assert_eq!(rt; m.said(), listed.as_bytes());
+    }
+    Ok(())
+}
