@@ -2,10 +2,10 @@
 use Rattle.std.proofs.Common.{◌≡◌, ℕ, zero, suc, ◌+◌, ◌<◌, ◌≤◌, Bool, true, false, cond, List, [], ◌∷◌, length, take, Option, Some, None, Ok, Err, refl, sym, ap, ◌∙◌, arith}
 use Rattle.std.specs.Prelude.{nat_le, nat_lt, find}
 use Rattle.std.proofs.lemmas.Bool.{le-leb, lt-leb, le-ltb}
-use Rattle.std.proofs.lemmas.List.Sums.{sum_by-cons}
 use Rattle.run_table.specs.declared.run.Run.{Run}
 use Rattle.run_table.specs.RunTable.{run_of, total}
 use Rattle.run_table.specs.Space.{runs_of, by_length, longest_first, longest, best, pick, picked, cut_to}
+use Rattle.run_table.proofs.SectorLaws.{total-cons}
 use Rattle.sector_set.proofs.FreeLaws.{total_of_runs}
 use Rattle.alloc_map.specs.declared.no_place.NoPlace.TheVariants.{NoSpace, TooFragmented}
 use Rattle.alloc_map.specs.NoPlace.{choice, picked_or}
@@ -47,9 +47,6 @@ chosen_cut free need kept h none is many =
     chosen_longest free need kept h none is ∙ ap (λ (b : Bool). picked_or need (total kept) (cond b (Some (cut_to need kept)) None)) (le-leb need (total kept) many)
 
 -- ---- no more than all
-
-total-cons : (r : Run) (runs : List Run) → total (r ∷ runs) ≡ r.length + total runs
-total-cons r runs = sum_by-cons (λ (r : Run). r.length) r runs
 
 total_by_length : (r : Run) (runs : List Run) → total (by_length r runs) ≡ r.length + total runs
 total_by_length r [] = total-cons r []

@@ -2,34 +2,20 @@
 use Rattle.std.proofs.Common.{◌≡◌, ◌&&◌, ◌<◌, ◌^◌, ℕ, Bool, true, false, cond, List, [], ◌∷◌, length, Some, None, Ok, Err, refl, sym, ap, ◌∙◌, nat_le, true≢false, arith}
 use Rattle.std.specs.Prelude.{ok_or}
 use Rattle.std.proofs.lemmas.Bool.Decides.{nat_tests}
-use Rattle.std.proofs.lemmas.Str.Parse.{IsNumeralModel, numerals_by_value, parse_digits, tells_all_ascii_digits}
+use Rattle.std.proofs.lemmas.Str.Parse.{parse_digits}
 use Rattle.std.specs.Char.{is_ascii_digit}
 use Rattle.std.specs.List.{list_all}
 use Rattle.std.specs.Str.{all_ascii_digits}
 use Rattle.std.specs.Str.Parse.{ParsesUnsigned, digits_value}
 use Rattle.clap.proofs.WalkLemmas.{both as two}
 use Rattle.fsd_bytes.specs.Keys.{is_plain}
+use Rattle.fsd_bytes.proofs.NumberLaws.{digits_are_numerals, all_digits}
 use Rattle.fsd_texts.specs.declared.bad_line.Cause.TheVariants.{BadNumber}
 use Rattle.fsd_runs.specs.Words.{max_u64, seed_in}
-
-own : IsNumeralModel (λ ds. all_ascii_digits ds ≡ true) (digits_value 10)
-own = numerals_by_value (λ ds. all_ascii_digits ds ≡ true) tells_all_ascii_digits
-
-same_test : (ds : List ℕ) → all_ascii_digits ds ≡ list_all is_ascii_digit ds
-same_test [] = refl
-same_test (d ∷ ds) = ap (λ (x : Bool). is_ascii_digit d && x) (same_test ds)
 
 some_digit : (ds : List ℕ) → is_plain ds ≡ true → 0 < length ds
 some_digit [] e = absurd (true≢false (sym e))
 some_digit (d ∷ ds) e = omega arith
-
-pub no_seed : (bs : List ℕ) → (is_plain bs && list_all is_ascii_digit bs) ≡ false → Err BadNumber ≡ seed_in bs
-no_seed bs e = go (is_plain bs) (list_all is_ascii_digit bs) e
-  where
-    go : (a b : Bool) → (a && b) ≡ false → Err BadNumber ≡ ok_or (cond (a && b && nat_le (digits_value 10 bs) max_u64) (Some (digits_value 10 bs)) None) BadNumber
-    go true true f = absurd (true≢false f)
-    go true false f = refl
-    go false b f = refl
 
 seed_by : (bs : List ℕ) (c : Bool) → (is_plain bs && list_all is_ascii_digit bs) ≡ true → nat_le (digits_value 10 bs) max_u64 ≡ c
     → seed_in bs ≡ ok_or (cond c (Some (digits_value 10 bs)) None) BadNumber
@@ -44,18 +30,18 @@ seed_by bs c e le =
 
 module _ (bs : List ℕ) (e : (is_plain bs && list_all is_ascii_digit bs) ≡ true) where
   digits : all_ascii_digits bs ≡ true
-  digits = same_test bs ∙ (two (is_plain bs) (list_all is_ascii_digit bs) e).1
+  digits = all_digits bs ∙ (two (is_plain bs) (list_all is_ascii_digit bs) e).1
 
   pub seed_read : (s : ℕ) → ParsesUnsigned {E = ℕ} 64 10 bs (Ok s) → Ok s ≡ seed_in bs
   seed_read s h =
-      let p = parse_digits own {E = ℕ} 64 bs (Ok s) h digits in
+      let p = parse_digits digits_are_numerals {E = ℕ} 64 bs (Ok s) h digits in
       let small : digits_value 10 bs < 2 ^ 64 = p.0.1 in
       let le : nat_le (digits_value 10 bs) max_u64 ≡ true = grind (arith, nat_tests) in
       ap (λ (n : ℕ). Ok n) p.1 ∙ sym (seed_by bs true e le)
 
   pub seed_refused : ParsesUnsigned {E = ℕ} 64 10 bs (Err 0) → Err BadNumber ≡ seed_in bs
   seed_refused h =
-      let p = parse_digits own {E = ℕ} 64 bs (Err 0) h digits in
+      let p = parse_digits digits_are_numerals {E = ℕ} 64 bs (Err 0) h digits in
       let some : 0 < length bs = some_digit bs (two (is_plain bs) (list_all is_ascii_digit bs) e).0 in
       go (nat_le (digits_value 10 bs) max_u64) refl (λ (less : digits_value 10 bs < 2 ^ 64). p (some, less))
     where

@@ -33,7 +33,7 @@ use Rattle.fsd_files.proofs.WaitLaws.{forced_is_spaced}
 
 -- ---- how often a sector stands in plans
 
-used-append : (s : ℕ) (xs ys : List (List Run)) → used s (xs ++ ys) ≡ used s xs + used s ys
+pub used-append : (s : ℕ) (xs ys : List (List Run)) → used s (xs ++ ys) ≡ used s xs + used s ys
 used-append s xs ys = ap (occurs s) (flat_map-append sectors_of xs ys) ∙ occurs-append s (flat_map sectors_of xs) (flat_map sectors_of ys)
 
 all_pass : (p : ℕ → Bool) (xs : List ℕ) → list_all p xs ≡ true → (s : ℕ) → 0 < occurs s xs → IsTrue (p s)
@@ -388,9 +388,6 @@ module _ (v w : Volume) (keys : List Key) (runs : List Run) (m : Moves v w keys 
   leaders_then : (s : ℕ) → IsFalse (is_let_go v s) → IsTrue (is_leader w.entries s) → IsTrue (is_leader v.entries s)
   leaders_then s out leads = by (is_leader v.entries s) refl
     where
-      leads_not : List Run → Bool
-      leads_not r = not (contains (take 1 (sectors_of r)) s)
-
       all_not : (entries : List Entry) → is_leader entries s ≡ false → list_all (λ e. not (contains (take 1 (sectors_of e.runs)) s)) entries ≡ true
       all_not [] e = refl
       all_not (z ∷ entries) e =
@@ -497,7 +494,7 @@ kept_runs : (b : Bool) (keep : ℕ) (z : Entry) → (entry_kept b keep z).runs �
 kept_runs true keep z = refl
 kept_runs false keep z = refl
 
-same_plans : (key : Key) (keep : ℕ) (entries : List Entry) → plans_of (entries_with_keep key keep entries) ≡ plans_of entries
+pub same_plans : (key : Key) (keep : ℕ) (entries : List Entry) → plans_of (entries_with_keep key keep entries) ≡ plans_of entries
 same_plans key keep [] = refl
 same_plans key keep (z ∷ entries) =
     ap (λ (r : List Run). r ∷ plans_of (entries_with_keep key keep entries)) (kept_runs (same_key z.key key) keep z) ∙ ap (λ (p : List (List Run)). z.runs ∷ p) (same_plans key keep entries)

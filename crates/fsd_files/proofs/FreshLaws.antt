@@ -19,7 +19,7 @@ use Rattle.fsd_files.specs.Files.{File, Files, highest, new_key, of_name, versio
 use Rattle.fsd_files.specs.Kept.{Lists}
 use Rattle.fsd_files.proofs.ListingLaws.{alike_is}
 
-less_is : (x y : ℕ) → is_lt (nat_cmp x y) ≡ true → x < y
+pub less_is : (x y : ℕ) → is_lt (nat_cmp x y) ≡ true → x < y
 less_is x y e = by (cases_lt x y)
   where
     by : (x < y) ⊎ (y ≤ x) → x < y

@@ -2,10 +2,11 @@
 use Rattle.std.proofs.Common.{◌≡◌, inl, inr, ℕ, Bool, true, false, ◌||◌, List, [], ◌∷◌, ◌++◌, refl, ◌∙◌}
 use Rattle.std.specs.Prelude.{IsTrue, ◌==◌, drop}
 use Rattle.std.specs.List.{AllZip, flat_map}
-use Rattle.std.proofs.lemmas.Bool.{eq-eqb, or_left, or_right}
+use Rattle.std.proofs.lemmas.Bool.{or_right}
 use Rattle.run_table.specs.declared.run.Run.{Run}
 use Rattle.run_table.specs.RunTable.{sectors_of}
 use Rattle.run_table.specs.Space.{contains}
+use Rattle.run_table.proofs.SectorLaws.{first_there, rest_there}
 use Rattle.sector_disk.specs.Image.{sector_at}
 use Rattle.fsd_formats.specs.declared.entry.Entry.{Entry}
 use Rattle.fsd_files.specs.Disk.{Image, Sectors, SectorWorn, Has}
@@ -14,12 +15,6 @@ use Rattle.fsd_files.specs.Kept.{slices, data_sectors, KeptIn, Kept}
 use Rattle.fsd_files.specs.Volume.{plans_of}
 
 -- ---- members
-
-pub first_there : (s : ℕ) (xs : List ℕ) → IsTrue (contains (s ∷ xs) s)
-first_there s xs = or_left (s == s) (contains xs s) (eq-eqb s s refl)
-
-pub rest_there : (t s : ℕ) (xs : List ℕ) → IsTrue (contains xs s) → IsTrue (contains (t ∷ xs) s)
-rest_there t s xs h = or_right (t == s) (contains xs s) h
 
 there_by : (b c d : Bool) → IsTrue (b || c) → (IsTrue c → IsTrue d) → IsTrue (b || d)
 there_by true c d h more = refl

@@ -1,5 +1,5 @@
 -- The entries stay those of the files, in order, whatever is answered.
-use Rattle.std.proofs.Common.{◌≡◌, ℕ, Bool, true, false, cond, List, [], ◌∷◌, length, filter, Option, Some, None, refl, sym, ap, subst, ◌∙◌}
+use Rattle.std.proofs.Common.{◌≡◌, ℕ, suc, Bool, true, false, cond, List, [], ◌∷◌, length, filter, Option, Some, None, refl, sym, ap, subst, ◌∙◌}
 use Rattle.std.specs.Prelude.{not, nat_lt, nat_le, is_none, ◌&&◌, ◌==◌}
 use Rattle.std.specs.List.{list_any, last_or}
 use Rattle.std.specs.Ordering.{nat_cmp, ordering_then}
@@ -62,7 +62,7 @@ entries_at_none [] = refl
 entries_at_none (e ∷ entries) = entries_at_none entries
 
 -- the same test of the keys
-lists_kept : (p : Key → Bool) (s : Files) (entries : List Entry) → Lists s entries → Lists (filter (λ e. p e.0) s) (filter (λ e. p e.key) entries)
+pub lists_kept : (p : Key → Bool) (s : Files) (entries : List Entry) → Lists s entries → Lists (filter (λ e. p e.0) s) (filter (λ e. p e.key) entries)
 lists_kept p [] [] lists = tt
 lists_kept p [] (z ∷ entries) lists = absurd lists
 lists_kept p (y ∷ s) [] lists = absurd lists
@@ -74,6 +74,12 @@ lists_kept p (y ∷ s) (z ∷ entries) lists =
         → Lists (cond b (y ∷ filter (λ e. p e.0) s) (filter (λ e. p e.0) s)) (cond b (z ∷ filter (λ e. p e.key) entries) (filter (λ e. p e.key) entries))
     by true rest = (lists.0, rest)
     by false rest = rest
+
+pub lists_length : (s : Files) (entries : List Entry) → Lists s entries → length s ≡ length entries
+lists_length [] [] lists = refl
+lists_length [] (z ∷ entries) lists = absurd lists
+lists_length (y ∷ s) [] lists = absurd lists
+lists_length (y ∷ s) (z ∷ entries) lists = ap (λ (n : ℕ). suc n) (lists_length s entries lists.1)
 
 lists_without : (keys : List Key) (s : Files) (entries : List Entry) → Lists s entries → Lists (without keys s) (entries_without keys entries)
 lists_without keys s entries lists = lists_kept (λ k. not (list_any (same_key k) keys)) s entries lists
@@ -97,7 +103,7 @@ highest_both name s entries lists = lists_last None None _ _ tt (lists_kept (λ 
 
 -- ---- the steps
 
-abbrev IsListed : Volume → Type 0
+abbrev pub IsListed : Volume → Type 0
 IsListed v = Lists v.files v.entries
 
 version_listed : (v : Volume) (name bytes : List ℕ) (given : Option ℕ) (runs : List Run) (serial : Serial) (r : ℕ) → IsListed v → IsListed (with_version v name bytes given runs serial r)

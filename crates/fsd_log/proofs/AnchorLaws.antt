@@ -1,11 +1,12 @@
 -- Anchors that are read.
-use Rattle.std.proofs.Common.{◌≡◌, ℕ, ◌≤◌, ◌&&◌, List, Option, Some, None, nat_le, subst}
+use Rattle.std.proofs.Common.{◌≡◌, ◌⊎◌, inl, inr, ℕ, ◌≤◌, Bool, true, false, ◌&&◌, List, Option, Some, None, nat_le, subst}
+use Rattle.std.specs.Prelude.{if◌then◌else◌}
 use Rattle.std.proofs.lemmas.Bool.{and_parts, leb-true}
 use Rattle.fsd_bytes.specs.Bytes.{same_bytes, u8_at, u32_at}
 use Rattle.fsd_bytes.proofs.SameLaws.{given_if}
 use Rattle.fsd_formats.specs.declared.anchor.Anchor.{Anchor}
 use Rattle.fsd_formats.specs.Anchors.{is_anchor, anchor_bytes, read_anchor}
-use Rattle.fsd_log.specs.Scan.{anchor_in}
+use Rattle.fsd_log.specs.Scan.{anchor_in, is_newer, newer_of}
 
 pub read_third : (bytes : List ℕ) (a : Anchor) → read_anchor bytes ≡ Some a → a.third ≤ 2
 read_third bytes a is =
@@ -37,3 +38,13 @@ read_epoch bytes a is =
 pub third_in : (o : Option (List ℕ)) (a : Anchor) → anchor_in o ≡ Some a → a.third ≤ 2
 third_in None a is = absurd cc
 third_in (Some bytes) a is = read_third bytes a is
+
+-- the newer of two is one of them
+pub newer_is_one : (x y : Option Anchor) (a : Anchor) → newer_of x y ≡ Some a → (x ≡ Some a) ⊎ (y ≡ Some a)
+newer_is_one None y a is = inr is
+newer_is_one (Some x) None a is = inl is
+newer_is_one (Some x) (Some y) a is = by (is_newer y x) is
+  where
+    by : (c : Bool) → Some (if c then y else x) ≡ Some a → (Some x ≡ Some a) ⊎ (Some y ≡ Some a)
+    by true e = inr e
+    by false e = inl e

@@ -1,8 +1,7 @@
 -- Sectors that bear nothing of a record.
-use Rattle.std.proofs.Common.{◌≡◌, ℕ, Bool, true, false, ◌&&◌, ◌||◌, List, take, Option, Some, None, refl, sym, ap, ◌∙◌, arith}
+use Rattle.std.proofs.Common.{◌≡◌, ℕ, Bool, true, false, ◌&&◌, ◌||◌, List, take, Option, Some, None, refl, sym, ap, ◌∙◌}
 use Rattle.std.specs.Prelude.{codes, if◌then◌else◌, ◌==◌}
-use Rattle.std.proofs.lemmas.Bool.{and_parts}
-use Rattle.std.proofs.lemmas.Bool.Decides.{nat_tests}
+use Rattle.std.proofs.lemmas.Bool.{and_parts, eqb-true}
 use Rattle.std.proofs.lemmas.Nat.{from_be_bytes-to_be_bytes_4}
 use Rattle.fsd_bytes.specs.Bytes.{u32_at, same_bytes}
 use Rattle.fsd_formats.specs.Record.{Stamp, same_stamp, header_bytes, end_bytes, read_header, is_end, bears}
@@ -33,9 +32,6 @@ module _ (stamp : Stamp) (fits : FitsStamp stamp) where
       let m : u32_at 8 (end_bytes stamp n) ≡ stamp.number = from_be_bytes-to_be_bytes_4 stamp.number fits.number in
       λ i. Some (record { epoch = e i; number = m i })
 
-pub same_number : (a b : ℕ) → (a == b) ≡ true → a ≡ b
-same_number a b e = grind (arith, nat_tests)
-
 by_front : List ℕ → List ℕ → Option Stamp
 by_front front bytes =
     if same_bytes front (codes "CLHD") || same_bytes front (codes "CLEN") then Some (stamp_at 4 bytes)
@@ -47,8 +43,8 @@ page_bears page stamp bytes h =
     let outer = and_parts (same_bytes (take 4 bytes) (codes "CNPG") && u32_at 12 bytes == page) (same_stamp (stamp_at 16 bytes) stamp) h in
     let front : take 4 bytes ≡ codes "CNPG" = same_is (take 4 bytes) (codes "CNPG") (and_parts (same_bytes (take 4 bytes) (codes "CNPG")) (u32_at 12 bytes == page) outer.0).0 in
     let inner = and_parts (u32_at 16 bytes == stamp.epoch) (u32_at 20 bytes == stamp.number) outer.1 in
-    let e : u32_at 16 bytes ≡ stamp.epoch = same_number (u32_at 16 bytes) stamp.epoch inner.0 in
-    let n : u32_at 20 bytes ≡ stamp.number = same_number (u32_at 20 bytes) stamp.number inner.1 in
+    let e : u32_at 16 bytes ≡ stamp.epoch = eqb-true (u32_at 16 bytes) stamp.epoch inner.0 in
+    let n : u32_at 20 bytes ≡ stamp.number = eqb-true (u32_at 20 bytes) stamp.number inner.1 in
     ap (λ (f : List ℕ). by_front f bytes) front ∙ λ i. Some (record { epoch = e i; number = n i })
 
 -- a sector that bears nothing of a record is no part of it

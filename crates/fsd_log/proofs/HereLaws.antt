@@ -1,16 +1,9 @@
 -- Where a record is looked for.
-use Rattle.std.proofs.Common.{◌≡◌, ℕ, ◌<◌, ◌≤◌, Bool, true, false, cond, Option, Some, None, nat_lt, refl, arith}
-use Rattle.std.proofs.lemmas.Bool.{cond-true, cond-false, ltb-true, lt-ltb}
+use Rattle.std.proofs.Common.{◌≡◌, ℕ, ◌<◌, ◌≤◌, Bool, true, false, cond, Option, Some, None, nat_lt, refl}
+use Rattle.std.proofs.lemmas.Bool.{cond-true, cond-false, ltb-true, lt-ltb, le-ltb}
 use Rattle.volume_layout.specs.Shape.{Shape}
 use Rattle.fsd_log.specs.Judged.{Reader, Logged, record_in}
 use Rattle.fsd_log.specs.Scan.{last_number, room_at, window, record_here}
-
-pub not_below : (k n : ℕ) → n ≤ k → nat_lt k n ≡ false
-not_below k n past = by_test (nat_lt k n) refl
-  where
-    by_test : (b : Bool) → nat_lt k n ≡ b → b ≡ false
-    by_test true is = absurd (let lt : k < n = ltb-true k n is in omega arith)
-    by_test false is = refl
 
 module _ (l : Shape) (epoch : ℕ) (disk : Reader) (number at end : ℕ) where
   abbrev pub looked : Option Logged
@@ -20,7 +13,7 @@ module _ (l : Shape) (epoch : ℕ) (disk : Reader) (number at end : ℕ) where
   here_looks lt = cond-true (nat_lt number last_number) looked None (lt-ltb number last_number lt)
 
   pub here_last : last_number ≤ number → record_here l epoch disk number at end ≡ None
-  here_last ge = cond-false (nat_lt number last_number) looked None (not_below number last_number ge)
+  here_last ge = cond-false (nat_lt number last_number) looked None (le-ltb number last_number ge)
 
   pub here_none : looked ≡ None → record_here l epoch disk number at end ≡ None
   here_none none = by_test (nat_lt number last_number)

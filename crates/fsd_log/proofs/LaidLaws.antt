@@ -36,7 +36,7 @@ slice_within front rest m j long lt =
 
 -- ---- lengths
 
-numbers_long : (pages : List ℕ) → length (flat_map u32 pages) ≡ 4 * length pages
+pub numbers_long : (pages : List ℕ) → length (flat_map u32 pages) ≡ 4 * length pages
 numbers_long [] = refl
 numbers_long (page ∷ pages) = omega (arith, numbers_long pages)
 

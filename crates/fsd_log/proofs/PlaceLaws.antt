@@ -1,9 +1,8 @@
 -- Where the places of the tape lie on the disk.
 use Rattle.std.proofs.Common.{◌≡◌, ℕ, ◌+◌, ◌-◌, ◌*◌, ◌<◌, ◌≤◌, nat_lt, ap, ◌∙◌, arith, inl, inr, ◌⊎◌, ⊎_elim}
-use Rattle.std.proofs.lemmas.Bool.{cond-true, cond-false, lt-ltb, cases_lt}
+use Rattle.std.proofs.lemmas.Bool.{cond-true, cond-false, lt-ltb, cases_lt, le-ltb}
 use Rattle.volume_layout.specs.Shape.{Shape}
 use Rattle.fsd_log.specs.Scan.{IsEnd, place_of}
-use Rattle.fsd_log.proofs.HereLaws.{not_below}
 
 -- some sectors of the tape that lie in one third
 pub record InThird (l : Shape) (first at n end : ℕ) : Type 0 where
@@ -34,7 +33,7 @@ Around l first w = (place_of l first w ≡ 16 + (first * l.third + w - 3 * l.thi
 pub place_cases : (l : Shape) (first w : ℕ) → Straight l first w ⊎ Around l first w
 place_cases l first w = elim (cases_lt (first * l.third + w) (3 * l.third)) [
   | inl lt ↦ inl (cond-true (nat_lt (first * l.third + w) (3 * l.third)) _ _ (lt-ltb _ _ lt), lt)
-  | inr ge ↦ inr (cond-false (nat_lt (first * l.third + w) (3 * l.third)) _ _ (not_below _ _ ge), ge)
+  | inr ge ↦ inr (cond-false (nat_lt (first * l.third + w) (3 * l.third)) _ _ (le-ltb _ _ ge), ge)
 ]
 
 -- numbers alone

@@ -10,6 +10,7 @@ use Rattle.fsd_log.specs.Borne.{Foreign, FitsStamp, ReadsLess}
 use Rattle.fsd_log.proofs.JudgedLaws.{record_less, record_keeps, record_room}
 use Rattle.fsd_log.proofs.HereLaws.{here_looks, here_none, here_some}
 use Rattle.fsd_log.specs.Scan.{IsEnd, IsIn, Head, Placed, on, room_at, window, record_here, behind, next, walk}
+use Rattle.fsd_log.proofs.PlaceLaws.{end_most}
 
 abbrev pub stamp_of : ℕ → ℕ → Stamp
 stamp_of epoch number = record { epoch = epoch; number = number }
@@ -38,11 +39,6 @@ pub record IsFound (l : Shape) (epoch : ℕ) (disk : Reader) (h : Head) (r : Pla
   pub place : IsHere h r.at end ⊎ IsThere l epoch disk h r.at end
   pub found : record_here l epoch disk h.number r.at end ≡ Some r.entry
   pub goes_on : h1 ≡ head_behind h.number end r
-
-pub ends_inside : (l : Shape) (end : ℕ) → IsEnd l end → end ≤ 3 * l.third
-ends_inside l end (inl e) = omega arith
-ends_inside l end (inr (inl e)) = omega arith
-ends_inside l end (inr (inr e)) = omega arith
 
 pub next_end : (l : Shape) (end : ℕ) → IsEnd l end → end < 3 * l.third → IsEnd l (end + l.third)
 next_end l end (inl e) lt = inr (inl (omega arith))
@@ -172,7 +168,7 @@ full_none l epoch disk h is_in full = by_next (next l epoch disk h) refl
     by_next None is = refl
     by_next (Some found) is =
         let one = found_goes_on l epoch disk h found.0 found.1 is_in (next_found l epoch disk h found is) in
-        absurd (omega (arith, one.from, one.to, one.is_in.before, ends_inside l found.1.end one.is_in.ends))
+        absurd (omega (arith, one.from, one.to, one.is_in.before, end_most l found.1.end one.is_in.ends))
 
 pub end_of_walk : (most : ℕ) (l : Shape) (epoch : ℕ) (disk : Reader) (h : Head) → IsIn l h → 3 * l.third ≤ most + h.at → next l epoch disk (walk most l epoch disk h).head ≡ None
 end_of_walk zero l epoch disk h is_in enough = full_none l epoch disk h is_in (omega arith)
@@ -190,7 +186,7 @@ pub walk_of_goes : (most : ℕ) (l : Shape) (epoch : ℕ) (disk : Reader) (h : H
 walk_of_goes zero l epoch disk h [] end is_in enough goes none = λ i. record { records = []; head = sym goes i }
 walk_of_goes zero l epoch disk h (r ∷ rs) end is_in enough goes none =
     let one = found_goes_on l epoch disk h r goes.0 is_in goes.1 in
-    absurd (omega (arith, one.from, one.to, one.is_in.before, ends_inside l goes.0.end one.is_in.ends))
+    absurd (omega (arith, one.from, one.to, one.is_in.before, end_most l goes.0.end one.is_in.ends))
 walk_of_goes (suc most) l epoch disk h [] end is_in enough goes none =
     let here : next l epoch disk h ≡ None = ap (next l epoch disk) (sym goes) ∙ none in
     (λ i. unwrap_or (option_map (λ found. on found.0 (walk most l epoch disk found.1)) (here i)) (record { records = []; head = h }))

@@ -108,9 +108,6 @@ keep_tried met v at name keep false same = does_from met v at (Word.Keep name ke
 still : (met : Met) (v : Volume) (command : Command) (out : Outcome) → changes_of command out.0 ≡ [] → IsSame v out.1 → Does met v command out
 still met v command out none same = inl (record { none = none; same = same })
 
-got_none : (key : Key) (damaged : Option ℕ) (o : Option File) → changes_of (Word.Get key) (got key damaged o) ≡ []
-got_none key damaged o = refl
-
 does : (met : Met) (v : Volume) (command : Command) → Does met v command (answer met v command)
 does met v (Word.Put name bytes given) = put_does met v name bytes given (size_fault (keep_given given) (length bytes))
 does met v (Word.Delete key) =
@@ -154,7 +151,7 @@ command_grows met v command = by (does met v command)
     by (inr c) = let one : length (changes_of command (answer met v command).0) ≡ 1 = ap length c.is in omega (arith, c.unforced, one)
 
 -- a command that is answered by this is a force
-forces_all : (met : Met) (v : Volume) (command : Command) → is_forced (answer met v command).0 ≡ true → (answer met v command).1.unforced ≡ 0
+pub forces_all : (met : Met) (v : Volume) (command : Command) → is_forced (answer met v command).0 ≡ true → (answer met v command).1.unforced ≡ 0
 forces_all met v Word.Force e = refl
 forces_all met v Word.Tick e = refl
 forces_all met v Word.Stat e = absurd cc

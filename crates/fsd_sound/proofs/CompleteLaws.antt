@@ -12,7 +12,7 @@ use Rattle.fsd_formats.specs.Record.{Stamp, header_bytes, end_bytes, is_end, bea
 use Rattle.sector_disk.specs.declared.sector.Sector.{Sector}
 use Rattle.sector_disk.specs.declared.sector.Sector.TheVariants.{Whole, Damaged}
 use Rattle.sector_disk.specs.Image.{sector_at, with_sector, IsWorn}
-use Rattle.sector_disk.proofs.Wear.{worn_whole}
+use Rattle.sector_disk.proofs.Wear.{worn_whole, whole_of}
 use Rattle.fsd_log.specs.Judged.{Reader, Logged, Serving, passes, judged, logged_of, record_in}
 use Rattle.fsd_log.specs.Good.{Serves}
 use Rattle.fsd_log.proofs.GoodLaws.{judged_is_good}
@@ -36,7 +36,6 @@ use Rattle.fsd_log.specs.Scan.{last_number, Head, Placed, place_of, tape, room_a
 use Rattle.fsd_files.specs.Disk.{Image, Sectors, Has, bytes_of, bytes_at}
 use Rattle.fsd_sound.specs.Laid.{AllStand, HasFront, HasCopies, GoodCopies, IsLaid}
 use Rattle.fsd_sound.specs.Windows.{IsApart}
-use Rattle.fsd_sound.proofs.SectorFacts.{whole_of}
 
 -- ---- sectors one behind the other
 

@@ -1,8 +1,7 @@
 -- Once the last record's copies stand, a page that the newer anchor's log has is in the log of each anchor, however the run wears.
 use Rattle.std.proofs.Common.{◌≡◌, ◌⊎◌, inl, inr, ⊎_elim, ℕ, ◌+◌, ◌^◌, ◌<◌, ◌≤◌, Bool, true, false, cond, List, [], ◌∷◌, ◌++◌, length, map, Option, Some, None, refl, sym, ap, subst, ◌∙◌, arith}
-use Rattle.std.specs.Prelude.{IsTrue, IfSome}
+use Rattle.std.specs.Prelude.{IfSome}
 use Rattle.std.specs.Option.{option_or}
-use Rattle.std.specs.List.{AllByRecursion}
 use Rattle.std.proofs.lemmas.Bool.{cases_lt}
 use Rattle.std.proofs.lemmas.Bool.Decides.{nat_tests}
 use Rattle.volume_layout.specs.declared.layout.Layout.{Layout}
@@ -135,7 +134,7 @@ ends_so (x ∷ xs) = ⊎_elim
     (λ none. inr ([], x, ap (λ ys. x ∷ ys) none))
     (λ last. inr (x ∷ last.0, last.1, ap (λ ys. x ∷ ys) last.2)) (ends_so xs)
 
-stand_any : (l : Layout) (t c : Anchor) (weak : Sectors) (i : Image) (s : ℕ) (xs : List (List ℕ)) → AllStand l t weak i s xs → AllStand l c weak i s xs
+pub stand_any : (l : Layout) (t c : Anchor) (weak : Sectors) (i : Image) (s : ℕ) (xs : List (List ℕ)) → AllStand l t weak i s xs → AllStand l c weak i s xs
 stand_any l t c weak i s [] stand = tt
 stand_any l t c weak i s (x ∷ xs) stand = (stand.0, stand_any l t c weak i (s + 1) xs stand.1)
 

@@ -2,7 +2,7 @@
 use Rattle.std.proofs.Common.{◌≡◌, inl, inr, ⊎_elim, ℕ, suc, ◌+◌, ◌-◌, ◌*◌, ◌<◌, ◌≤◌, Bool, List, [], ◌∷◌, length, Option, Some, None, nat_lt, refl, sym, ap, subst, ◌∙◌, arith}
 use Rattle.std.specs.Prelude.{option_map}
 use Rattle.std.specs.List.{AllByRecursion}
-use Rattle.std.proofs.lemmas.Bool.{cases_lt, cond-true, cond-false, lt-ltb}
+use Rattle.std.proofs.lemmas.Bool.{cases_lt, cond-true, cond-false, lt-ltb, le-ltb}
 use Rattle.std.proofs.lemmas.List.{length-append}
 use Rattle.volume_layout.specs.declared.layout.Layout.{Layout}
 use Rattle.volume_layout.specs.Layout.{InLog}
@@ -15,7 +15,7 @@ use Rattle.fsd_log.proofs.JudgedLaws.{is_judged, length-copies}
 use Rattle.fsd_files.specs.Disk.{Image, Sectors, Has, bytes_of, bytes_at}
 use Rattle.fsd_sound.specs.Laid.{AllStand, HasFront, HasCopies, GoodCopies, IsLaid, stamp_of}
 use Rattle.fsd_sound.specs.Shown.{scan_by, records_by}
-use Rattle.fsd_log.proofs.HereLaws.{here_some, not_below}
+use Rattle.fsd_log.proofs.HereLaws.{here_some}
 use Rattle.fsd_log.proofs.PlaceLaws.{InThird, place_cases, place_inside, place_from, first_most}
 use Rattle.fsd_log.proofs.WalkLaws.{IsFound, found_goes_on, Goes, goes_of_walk}
 
@@ -29,7 +29,7 @@ pub on_tape : (l : Layout) (third w : ℕ) (disk : Reader) → w < 3 * l.third �
 on_tape l third w disk lt = cond-true (nat_lt w (3 * l.third)) (disk (place_of l third w)) None (lt-ltb w (3 * l.third) lt)
 
 pub off_tape : (l : Layout) (third w : ℕ) (disk : Reader) → 3 * l.third ≤ w → tape l third disk w ≡ None
-off_tape l third w disk past = cond-false (nat_lt w (3 * l.third)) (disk (place_of l third w)) None (not_below w (3 * l.third) past)
+off_tape l third w disk past = cond-false (nat_lt w (3 * l.third)) (disk (place_of l third w)) None (le-ltb w (3 * l.third) past)
 
 pub place_in_log : (l : Layout) (third w : ℕ) → third ≤ 2 → w < 3 * l.third → InLog l (place_of l third w)
 place_in_log l third w le lt = (

@@ -5,11 +5,12 @@ use Rattle.std.specs.List.{AllZip, flat_map}
 use Rattle.std.proofs.lemmas.Bool.{or_left, or_right}
 use Rattle.run_table.specs.declared.run.Run.{Run}
 use Rattle.run_table.specs.RunTable.{sectors_of}
+use Rattle.run_table.proofs.SectorLaws.{first_there, rest_there}
 use Rattle.sector_disk.specs.Image.{sector_at}
 use Rattle.fsd_files.specs.Disk.{Image, Sectors, SectorWorn}
 use Rattle.fsd_files.specs.Kept.{KeptIn, data_sectors}
 use Rattle.fsd_files.specs.Volume.{is_in}
-use Rattle.fsd_files.proofs.KeptLaws.{AgreeWorn, has_on, kept_in_worn, first_there, rest_there, behind_there, front_there, back_there}
+use Rattle.fsd_files.proofs.KeptLaws.{AgreeWorn, has_on, kept_in_worn, behind_there, front_there, back_there}
 use Rattle.fsd_sound.specs.Mounted.{Wrote, HasOpen, Mounted}
 
 module _ (hurt : Sectors) (i j : Image) where

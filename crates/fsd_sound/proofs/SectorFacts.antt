@@ -1,10 +1,10 @@
 -- A sector is whole or damaged, and whole by one list of bytes.
-use Rattle.std.proofs.Common.{◌≡◌, ◌⊎◌, inl, inr, ℕ, Bool, List, Some, refl, sym, ap, ◌∙◌}
+use Rattle.std.proofs.Common.{◌≡◌, ◌⊎◌, inl, inr, ℕ, Bool, List, refl, sym, ◌∙◌}
 use Rattle.std.specs.Prelude.{IsTrue}
 use Rattle.sector_disk.specs.declared.sector.Sector.{Sector}
 use Rattle.sector_disk.specs.declared.sector.Sector.TheVariants.{Whole, Damaged}
 use Rattle.sector_disk.specs.Image.{sector_at}
-use Rattle.fsd_files.specs.Disk.{Image, Sectors, SectorWorn, Has, bytes_of}
+use Rattle.fsd_files.specs.Disk.{Image, Sectors, SectorWorn, Has}
 
 pub whole_or_damaged : (x : Sector) → ((bytes : List ℕ) × (x ≡ Whole bytes)) ⊎ (x ≡ Damaged)
 whole_or_damaged (Whole bytes) = inl (bytes, refl)
@@ -15,10 +15,6 @@ same_bytes s x y a b = let e : Whole y ≡ Whole x = sym b ∙ a in cc
 
 pub not_damaged : (s : Sector) (x : List ℕ) → s ≡ Whole x → s ≡ Damaged → ⊥
 not_damaged s x is hurt = absurd (cc (is, hurt))
-
-pub whole_of : (s : Sector) (bytes : List ℕ) → bytes_of s ≡ Some bytes → s ≡ Whole bytes
-whole_of (Whole b) bytes is = let same : b ≡ bytes = cc in ap (λ (x : List ℕ). Whole x) same
-whole_of Damaged bytes is = absurd (cc is)
 
 -- what stands whole stood so before it was worn
 pub whole_before : (b : Bool) (x y : Sector) (bytes : List ℕ) → SectorWorn b x y → y ≡ Whole bytes → x ≡ Whole bytes

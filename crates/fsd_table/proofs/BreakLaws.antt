@@ -2,7 +2,7 @@
 use Rattle.std.proofs.Common.{◌≡◌, ◌⊎◌, inl, inr, ℕ, zero, suc, ◌+◌, ◌≤◌, ◌<◌, Bool, true, false, cond, not, ◌&&◌, ◌||◌, List, [], ◌∷◌, ◌++◌, length, map, Option, Some, None, refl, sym, ap, subst, ◌∙◌, arith}
 use Rattle.std.specs.Prelude.{nat_le, slice_index_or, ◌==◌, count_by}
 use Rattle.std.specs.List.{list_all, flat_map, AllByRecursion, Contains}
-use Rattle.std.proofs.lemmas.Bool.{and_parts}
+use Rattle.std.proofs.lemmas.Bool.{and_parts, and_left, and_right}
 use Rattle.std.proofs.lemmas.Bool.Decides.{nat_tests}
 use Rattle.std.proofs.lemmas.List.Sums.{sum_by-cons}
 use Rattle.run_table.specs.Space.{contains}
@@ -142,29 +142,21 @@ above_visited pages depth c deep h = by (page_at pages 0) refl (in_from (visit_o
 
 -- ---- what breaks a table
 
-and_false : (a b : Bool) → a ≡ false → (a && b) ≡ false
-and_false false b e = refl
-and_false true b e = absurd cc
-
-and_false_right : (a b : Bool) → b ≡ false → (a && b) ≡ false
-and_false_right false b e = refl
-and_false_right true b e = e
-
 unfit_breaks : (pages : List (List ℕ)) (depth : ℕ) (c : Child) → IsVisited pages depth c → visit_fits (visit_of pages depth c) ≡ false → BreaksTable pages c.page
 unfit_breaks pages depth c h e = record {
   visit = visit_of pages depth c;
   reached = h;
   page_is = refl;
   broken =
-      and_false (visit_fits (visit_of pages depth c) && alone (visits pages) (visit_of pages depth c)) (same_kind (visits pages) (visit_of pages depth c))
-      (and_false (visit_fits (visit_of pages depth c)) (alone (visits pages) (visit_of pages depth c)) e);
+      and_left (visit_fits (visit_of pages depth c) && alone (visits pages) (visit_of pages depth c)) (same_kind (visits pages) (visit_of pages depth c))
+      (and_left (visit_fits (visit_of pages depth c)) (alone (visits pages) (visit_of pages depth c)) e);
 }
 
 pub misfit_breaks : (pages : List (List ℕ)) (depth : ℕ) (c : Child) → IsVisited pages depth c → content_fits c.low c.high (page_at pages c.page) ≡ false → BreaksTable pages c.page
-misfit_breaks pages depth c h e = unfit_breaks pages depth c h (and_false_right (nat_le depth max_height) (content_fits c.low c.high (page_at pages c.page)) e)
+misfit_breaks pages depth c h e = unfit_breaks pages depth c h (and_right (nat_le depth max_height) (content_fits c.low c.high (page_at pages c.page)) e)
 
 pub too_deep_breaks : (pages : List (List ℕ)) (depth : ℕ) (c : Child) → IsVisited pages depth c → max_height < depth → BreaksTable pages c.page
-too_deep_breaks pages depth c h deep = unfit_breaks pages depth c h (and_false (nat_le depth max_height) (content_fits c.low c.high (page_at pages c.page)) (too_deep depth deep))
+too_deep_breaks pages depth c h deep = unfit_breaks pages depth c h (and_left (nat_le depth max_height) (content_fits c.low c.high (page_at pages c.page)) (too_deep depth deep))
   where
     too_deep : (n : ℕ) → max_height < n → nat_le n max_height ≡ false
     too_deep n h = grind (arith, nat_tests)
@@ -182,16 +174,13 @@ visited_between pages levels depth c cs before after some parts =
 is_itself : (m n : ℕ) → m ≡ n → (m == n) ≡ true
 is_itself m n e = grind (arith, nat_tests)
 
-abbrev one_if : Bool → ℕ
-one_if b = cond b 1 0
-
 counts_one : (page : ℕ) (v : Visit) (xs : List Visit) → count_by (λ w. w.page == page) (v ∷ xs) ≡ cond (v.page == page) 1 0 + count_by (λ w. w.page == page) xs
 counts_one page v xs = sum_by-cons (λ (w : Visit). cond (w.page == page) 1 0) v xs
 
 counts_here : (page : ℕ) (xs : List Visit) (v : Visit) → In v xs → v.page ≡ page → 1 ≤ count_by (λ w. w.page == page) xs
 counts_here page [] v h e = absurd h
 counts_here page (w ∷ xs) v (inl same) e =
-    let here = ap one_if (is_itself w.page page (ap (λ (x : Visit). x.page) same ∙ e)) in
+    let here = ap {B = ℕ} (λ (b : Bool). cond b 1 0) (is_itself w.page page (ap (λ (x : Visit). x.page) same ∙ e)) in
     omega (arith, counts_one page w xs, here)
 counts_here page (w ∷ xs) v (inr h) e = omega (arith, counts_one page w xs, counts_here page xs v h e)
 
@@ -205,7 +194,7 @@ counts_twice page (w ∷ xs) ys v has h e = by (λ more. counts_twice page xs ys
     by : (contains (map (λ w. w.page) xs) page ≡ true → 2 ≤ count_by (λ w. w.page == page) (xs ++ ys)) → (b : Bool) → (w.page == page) ≡ b → (b || contains (map (λ w. w.page) xs) page) ≡ true
         → 2 ≤ count_by (λ w. w.page == page) (w ∷ (xs ++ ys))
     by later true is h =
-        let here = ap one_if is in
+        let here = ap {B = ℕ} (λ (b : Bool). cond b 1 0) is in
         omega (arith, counts_one page w (xs ++ ys), here, rest)
     by later false is h = omega (arith, counts_one page w (xs ++ ys), later h)
 
@@ -222,7 +211,7 @@ again_breaks pages levels depth c cs before after some parts has =
       visit = v;
       reached = visited_between pages levels depth c cs before after some parts;
       page_is = refl;
-      broken = and_false (visit_fits v && alone (visits pages) v) (same_kind (visits pages) v) (and_false_right (visit_fits v) (alone (visits pages) v) (not_one (count_by (λ w. w.page == c.page) (visits pages)) many));
+      broken = and_left (visit_fits v && alone (visits pages) v) (same_kind (visits pages) v) (and_right (visit_fits v) (alone (visits pages) v) (not_one (count_by (λ w. w.page == c.page) (visits pages)) many));
     }
   where
     not_one : (n : ℕ) → 2 ≤ n → (n == 1) ≡ false
@@ -236,7 +225,7 @@ kind_breaks pages depth c d h other unlike =
       visit = v;
       reached = h;
       page_is = refl;
-      broken = and_false_right (visit_fits v && alone (visits pages) v) (same_kind (visits pages) v) (by (same_kind (visits pages) v) refl);
+      broken = and_right (visit_fits v && alone (visits pages) v) (same_kind (visits pages) v) (by (same_kind (visits pages) v) refl);
     }
   where
     by : (b : Bool) → same_kind (visits pages) (visit_of pages depth c) ≡ b → b ≡ false

@@ -6,6 +6,7 @@ use Rattle.std.specs.Ordering.{is_lt, ordering_reverse}
 use Rattle.std.specs.declared.cmp.Ordering.{Ordering}
 use Rattle.std.specs.declared.cmp.Ordering.TheVariants.{Less, Equal, Greater}
 use Rattle.std.proofs.lemmas.Cmp.{alike_right, tied_itself}
+use Rattle.std.proofs.lemmas.Bool.{false_from_ne_true}
 use Rattle.fsd_bytes.specs.declared.key.Key.{Key}
 use Rattle.fsd_bytes.specs.Keys.{key_cmp, key_lt}
 use Rattle.fsd_table.specs.Pages.{not_below, below}
@@ -44,6 +45,9 @@ lt_le a b c ab bc = elim (upto_cases b c bc) [
 
 pub lt_itself : (a : Key) → key_lt a a ≡ false
 lt_itself a = ap is_lt (tied_itself keys_total a)
+
+pub lt_not_back : (a b : Key) → key_lt a b ≡ true → key_lt b a ≡ false
+lt_not_back a b lt = false_from_ne_true (key_lt b a) (λ back. let bad : true ≡ false = sym (lt_lt a b a lt back) ∙ lt_itself a in cc)
 
 pub le_itself : (a : Key) → not (key_lt a a) ≡ true
 le_itself a = ap not (lt_itself a)

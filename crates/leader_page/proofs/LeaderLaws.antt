@@ -11,7 +11,7 @@ use Rattle.fsd_formats.specs.Leader.{leader_bytes, read_leader}
 use Rattle.run_table.specs.declared.run.Run.{Run}
 use Rattle.run_table.specs.RunTable.{run_bytes, run_at, runs_from, read_runs, are_runs}
 use Rattle.fsd_bytes.specs.Names.{is_between}
-use Rattle.run_table.proofs.RunLaws.{length_bytes}
+use Rattle.run_table.proofs.RunLaws.{AreSmall, length_bytes}
 use borrow.Rule.Slice.PartMut.{put_mid, mid_of}
 
 -- ---- the spelling
@@ -31,9 +31,6 @@ leader_spelled x b out few was put =
     ∙ ap (λ (y : List ℕ). front x ++ y) (append-nil out ∙ filled ∙ ap (λ (k : ℕ). runs ++ zeros k) left)
 
 -- ---- the reading
-
-abbrev pub AreSmall : List ℕ → Type 0
-AreSmall bytes = (i : ℕ) → get_or bytes i 0 < 256
 
 runs_from_part : (n k : ℕ) (b : List ℕ) → k ≡ 6 * n → k ≤ length b → runs_from n (take k b) ≡ runs_from n b
 runs_from_part zero k b e h = refl

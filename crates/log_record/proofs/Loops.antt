@@ -11,23 +11,9 @@ use Rattle.fsd_bytes.specs.Bytes.{u16, u32, zeros, sector, u16_at, u32_at, same_
 use Rattle.fsd_bytes.specs.Names.{is_between}
 use Rattle.fsd_formats.specs.Record.{Stamp, stamp_bytes, header_bytes, read_header, are_pages, ascending, numbers_from, bears}
 use Rattle.fsd_log.specs.Judged.{Reader, passes, serving, page_copies}
+use Rattle.fsd_log.proofs.LaidLaws.{numbers_long}
 
 -- ---- ascending
-
-pub ascend_step : (pages : List ℕ) (k : ℕ) → 1 ≤ k → k < length pages → nat_lt (get_or pages (k - 1) 0) (get_or pages k 0) ≡ true → ascending (drop (k - 1) pages) ≡ ascending (drop k pages)
-ascend_step pages k from below lt =
-    let before : k - 1 < length pages = omega arith in
-    let back : k - 1 + 1 ≡ k = omega arith in
-    ap ascending (drop_more pages (k - 1) 0 before ∙ ap (λ (n : ℕ). get_or pages (k - 1) 0 ∷ drop n pages) back ∙ ap (λ (x : List ℕ). get_or pages (k - 1) 0 ∷ x) (drop_more pages k 0 below))
-    ∙ ap (λ (b : Bool). b && ascending (get_or pages k 0 ∷ drop (k + 1) pages)) lt
-    ∙ ap ascending (sym (drop_more pages k 0 below))
-
-pub ascend_stop : (pages : List ℕ) (k : ℕ) → 1 ≤ k → k < length pages → nat_lt (get_or pages (k - 1) 0) (get_or pages k 0) ≡ false → ascending (drop (k - 1) pages) ≡ false
-ascend_stop pages k from below lt =
-    let before : k - 1 < length pages = omega arith in
-    let back : k - 1 + 1 ≡ k = omega arith in
-    ap ascending (drop_more pages (k - 1) 0 before ∙ ap (λ (n : ℕ). get_or pages (k - 1) 0 ∷ drop n pages) back ∙ ap (λ (x : List ℕ). get_or pages (k - 1) 0 ∷ x) (drop_more pages k 0 below))
-    ∙ ap (λ (b : Bool). b && ascending (get_or pages k 0 ∷ drop (k + 1) pages)) lt
 
 short_ascends : (xs : List ℕ) → length xs ≤ 1 → ascending xs ≡ true
 short_ascends [] le = refl
@@ -81,15 +67,11 @@ front_of stamp n = codes "CLHD" ++ stamp_bytes stamp ++ u16 n ++ zeros 18
 abbrev pub header_with : Stamp → ℕ → List ℕ → List ℕ
 header_with stamp n pages = sector (front_of stamp n ++ flat_map u32 pages)
 
-length-numbers_bytes : (pages : List ℕ) → length (flat_map u32 pages) ≡ 4 * length pages
-length-numbers_bytes [] = refl
-length-numbers_bytes (page ∷ pages) = omega (arith, length-numbers_bytes pages)
-
 pub header_more : (stamp : Stamp) (n : ℕ) (pages : List ℕ) (k place : ℕ) → k < length pages → length pages ≤ 96 → place ≡ 32 + 4 * k
     → take place (header_with stamp n (take k pages)) ++ (u32 (get_or pages k 0) ++ drop (place + 4) (header_with stamp n (take k pages))) ≡ header_with stamp n (take (k + 1) pages)
 header_more stamp n pages k place below few at =
     let some : length (take k pages) ≡ k = length-take-le k pages (omega arith) in
-    let long : length (front_of stamp n ++ flat_map u32 (take k pages)) ≡ place = omega (arith, length-numbers_bytes (take k pages)) in
+    let long : length (front_of stamp n ++ flat_map u32 (take k pages)) ≡ place = omega (arith, numbers_long (take k pages)) in
     put_behind (front_of stamp n ++ flat_map u32 (take k pages)) place (get_or pages k 0) long (omega arith)
     ∙ ap sector (append_assoc (front_of stamp n) (flat_map u32 (take k pages)) (u32 (get_or pages k 0))
     ∙ ap (λ (x : List ℕ). front_of stamp n ++ x) (sym (flat_map-append u32 (take k pages) (get_or pages k 0 ∷ [])) ∙ ap (flat_map u32) (sym (take_more pages k 0 below))))
@@ -111,13 +93,6 @@ copies_more stamp at pages so_far k a c d whole new a1 c1 below serves is pushed
     regroup : (xs : List Bool) (x : Bool) (o : Option (List Bool)) → option_map (λ more. xs ++ more) (option_map (λ more. x ∷ more) o) ≡ option_map (λ more. (xs ++ x ∷ []) ++ more) o
     regroup xs x None = refl
     regroup xs x (Some more) = ap Some (sym (append_assoc xs (x ∷ []) more))
-
-pub copies_stop : (stamp : Stamp) (at : Reader) (pages : List ℕ) (so_far : List Bool) (k a c : ℕ) (whole : Option (List Bool))
-    → k < length pages → serving (bears (get_or pages k 0) stamp) (at a) (at c) ≡ None
-    → whole ≡ option_map (λ more. so_far ++ more) (page_copies stamp at a c (drop k pages)) → whole ≡ None
-copies_stop stamp at pages so_far k a c whole below serves is =
-    is ∙ ap (λ (xs : List ℕ). option_map (λ more. so_far ++ more) (page_copies stamp at a c xs)) (drop_more pages k 0 below)
-    ∙ ap (λ (o : Option Bool). option_map (λ more. so_far ++ more) (option_and_then (λ x. option_map (λ more. x ∷ more) (page_copies stamp at (a + 1) (c + 1) (drop (k + 1) pages))) o)) serves
 
 pub which_serves : (test : List ℕ → Bool) (first copy f s : Option (List ℕ)) (x y : Bool) (r d : Option Bool) → f ≡ first → s ≡ copy → x ≡ passes test f → y ≡ passes test s
     → r ≡ (if x then Some false else (if y then Some true else None)) → r ≡ d → serving test first copy ≡ d

@@ -1,7 +1,7 @@
 -- The copies of a record that was read.
 use Rattle.std.proofs.Common.{◌≡◌, inl, inr, ℕ, suc, ◌+◌, ◌*◌, ◌<◌, Bool, true, false, cond, List, [], ◌∷◌, ◌++◌, length, get_or, Option, Some, None, nat_lt, refl, sym, ap, subst, ◌∙◌, arith}
 use Rattle.std.specs.Prelude.{if◌then◌else◌, unwrap_or, option_map, option_and_then}
-use Rattle.std.proofs.lemmas.Bool.{cond-true, cond-false, lt-ltb, cases_lt, false≢true}
+use Rattle.std.proofs.lemmas.Bool.{cond-true, cond-false, lt-ltb, cases_lt, false≢true, le-ltb}
 use Rattle.std.proofs.lemmas.List.{length-append}
 use Rattle.volume_layout.specs.Shape.{Shape}
 use Rattle.fsd_bytes.proofs.SameLaws.{same_is}
@@ -10,7 +10,6 @@ use Rattle.log_record.specs.Found.{read_of}
 use Rattle.fsd_log.specs.Judged.{Reader, Serving, passes, serving, page_copies, judged_with, judged, images_of, slice_of}
 use Rattle.fsd_log.specs.Laid.{slices_from, slices}
 use Rattle.fsd_log.specs.Scan.{Placed}
-use Rattle.fsd_log.proofs.HereLaws.{not_below}
 use Rattle.fsd_log.proofs.JudgedLaws.{length-copies, is_judged, if_some, serving_with}
 use Rattle.fsd_log.proofs.LaidLaws.{slice_within, slice_behind, slice_all}
 use Rattle.log_thirds.specs.Copies.{served_at, AreServed, Copies, AreCopies, AreCopiesOf, AreLastCopies}
@@ -97,7 +96,7 @@ module _ (whole : List Bool) (bytes : List ℕ) where
       end_served =
           let n : ℕ = length s.pages in
           let at : slice_of copies (length s.pages) ≡ slice_of bytes (if s.end_copy then 4 + 2 * length s.pages else 3 + length s.pages) =
-          are.each (length s.pages) (omega arith) ∙ ap (slice_of bytes) (cond-false (nat_lt (length s.pages) (length s.pages)) _ _ (not_below (length s.pages) (length s.pages) (omega arith))) in
+          are.each (length s.pages) (omega arith) ∙ ap (slice_of bytes) (cond-false (nat_lt (length s.pages) (length s.pages)) _ _ (le-ltb (length s.pages) (length s.pages) (omega arith))) in
           let ends = serves (is_end stamp (length s.pages)) (3 + length s.pages) (4 + 2 * length s.pages) s.end_copy
           (elim (is_judged p stamp (length whole) (read_of whole bytes) s is).by [ inl by ↦ end_serving false by.good | inr by ↦ end_serving true by.1.good ]) in
           record { long = are.long; end = at ∙ sym (same_is (end_bytes stamp (length s.pages)) _ ends.1) }

@@ -1,6 +1,6 @@
 -- Looking for a record: what is read is the tape's window.
 use Rattle.std.proofs.Common.{◌≡◌, inl, inr, ℕ, ◌+◌, ◌-◌, ◌*◌, ◌<◌, ◌≤◌, true, length, Option, Some, None, nat_lt, sym, ap, subst, ◌∙◌, arith}
-use Rattle.std.specs.Prelude.{Result, Ok, Err, IfOk, ◌&&◌, option_map}
+use Rattle.std.specs.Prelude.{◌&&◌, option_map}
 use Rattle.std.proofs.lemmas.Bool.{cases_lt, cond-true, lt-ltb, leb-true, and_from}
 use Rattle.volume_layout.specs.Shape.{Shape}
 use Rattle.fsd_formats.specs.Record.{Stamp, record_len}
@@ -57,7 +57,3 @@ module _ (l : Shape) (epoch : ℕ) (disk : Reader) (h : Head) where
   not_there some further none =
       ap (λ (o : Option (Placed × Head)). option_map stepped_of o)
       (ap (λ (r : Option Logged). option_map (behind h.number h.end (h.end + l.third)) r) none ∙ sym (cond-true _ (option_map (behind h.number h.end (h.end + l.third)) (record_here l epoch disk h.number h.end (h.end + l.third))) None (may some further)))
-
-pub if_ok : {T E : Type 0} (r : Result T E) (P Q : T → Type 0) → ((x : T) → P x → Q x) → IfOk r P → IfOk r Q
-if_ok (Ok x) P Q more p = more x p
-if_ok (Err e) P Q more p = tt

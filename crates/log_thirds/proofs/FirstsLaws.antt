@@ -2,8 +2,7 @@
 use Rattle.std.proofs.Common.{◌≡◌, ◌⊎◌, inl, inr, ℕ, ◌+◌, ◌*◌, ◌<◌, ◌≤◌, Bool, true, false, cond, List, [], ◌∷◌, ◌++◌, nat_lt, sym, ap, ◌∙◌, arith}
 use Rattle.std.specs.Prelude.{count_by, if◌then◌else◌}
 use Rattle.std.proofs.lemmas.List.Sums.{sum_by-append}
-use Rattle.std.proofs.lemmas.Bool.{cases_lt, cond-true, cond-false, lt-ltb}
-use Rattle.fsd_log.proofs.HereLaws.{not_below}
+use Rattle.std.proofs.lemmas.Bool.{cases_lt, cond-true, cond-false, lt-ltb, le-ltb}
 use Rattle.fsd_log.specs.Scan.{Placed}
 use Rattle.log_thirds.specs.declared.firsts.Firsts.{Firsts}
 use Rattle.log_thirds.specs.Firsts.{first_from, firsts_with, AreFirsts, AreNumbers}
@@ -34,14 +33,14 @@ numbers_more third number at f are = by_place (cases_lt at third) (cases_lt at (
       where
         second_some : (at < third) ⊎ (third ≤ at) → 1 ≤ (if nat_lt at third then f.second + 1 else f.second)
         second_some (inl lt) = omega (arith, are.some, cond-true (nat_lt at third) (f.second + 1) f.second (lt-ltb at third lt))
-        second_some (inr ge) = omega (arith, are.some, cond-false (nat_lt at third) (f.second + 1) f.second (not_below at third ge))
+        second_some (inr ge) = omega (arith, are.some, cond-false (nat_lt at third) (f.second + 1) f.second (le-ltb at third ge))
 
         last_most : (at < 2 * third) ⊎ (2 * third ≤ at) → (if nat_lt at (2 * third) then f.last + 1 else f.last) ≤ number + 1
         last_most (inl lt) = omega (arith, are.most, cond-true (nat_lt at (2 * third)) (f.last + 1) f.last (lt-ltb at (2 * third) lt))
-        last_most (inr ge) = omega (arith, are.most, cond-false (nat_lt at (2 * third)) (f.last + 1) f.last (not_below at (2 * third) ge))
+        last_most (inr ge) = omega (arith, are.most, cond-false (nat_lt at (2 * third)) (f.last + 1) f.last (le-ltb at (2 * third) ge))
 
         in_order : (at < third) ⊎ (third ≤ at) → (at < 2 * third) ⊎ (2 * third ≤ at) → (if nat_lt at third then f.second + 1 else f.second) ≤ (if nat_lt at (2 * third) then f.last + 1 else f.last)
         in_order (inl lt) (inl lt2) = omega (arith, are.in_order, cond-true (nat_lt at third) (f.second + 1) f.second (lt-ltb at third lt), cond-true (nat_lt at (2 * third)) (f.last + 1) f.last (lt-ltb at (2 * third) lt2))
         in_order (inl lt) (inr ge2) = absurd (omega arith)
-        in_order (inr ge) (inl lt2) = omega (arith, are.in_order, cond-false (nat_lt at third) (f.second + 1) f.second (not_below at third ge), cond-true (nat_lt at (2 * third)) (f.last + 1) f.last (lt-ltb at (2 * third) lt2))
-        in_order (inr ge) (inr ge2) = omega (arith, are.in_order, cond-false (nat_lt at third) (f.second + 1) f.second (not_below at third ge), cond-false (nat_lt at (2 * third)) (f.last + 1) f.last (not_below at (2 * third) ge2))
+        in_order (inr ge) (inl lt2) = omega (arith, are.in_order, cond-false (nat_lt at third) (f.second + 1) f.second (le-ltb at third ge), cond-true (nat_lt at (2 * third)) (f.last + 1) f.last (lt-ltb at (2 * third) lt2))
+        in_order (inr ge) (inr ge2) = omega (arith, are.in_order, cond-false (nat_lt at third) (f.second + 1) f.second (le-ltb at third ge), cond-false (nat_lt at (2 * third)) (f.last + 1) f.last (le-ltb at (2 * third) ge2))

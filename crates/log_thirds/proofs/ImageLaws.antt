@@ -16,6 +16,7 @@ use Rattle.log_thirds.specs.declared.slots.Slot.{Slot}
 use Rattle.sector_disk.specs.declared.sector.Sector.TheVariants.{Whole}
 use Rattle.sector_disk.specs.Image.{sector_at}
 use Rattle.sector_disk.specs.Machine.{Moment}
+use Rattle.sector_disk.proofs.Wear.{whole_of}
 use Rattle.log_thirds.specs.Disk.{reads}
 use Rattle.log_thirds.specs.LogValue.{LogValue}
 use Rattle.log_thirds.specs.Append.{IsCalm, IsIndexed, scan_of}
@@ -26,7 +27,6 @@ use Rattle.fsd_log.proofs.HereLaws.{here_some}
 use Rattle.fsd_log.proofs.PlaceLaws.{InThird, place_add, end_most}
 use Rattle.fsd_log.proofs.WalkLaws.{IsFound, Goes, found_goes_on, goes_of_walk}
 use Rattle.log_thirds.proofs.ScanLaws.{found_number}
-use Rattle.log_thirds.proofs.SeenLaws.{whole_of}
 
 -- ---- in one record
 

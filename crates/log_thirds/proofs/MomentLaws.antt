@@ -1,7 +1,7 @@
 -- A record that is written behind the last one, on a machine whose sectors don't wear.
-use Rattle.std.proofs.Common.{◌≡◌, ℕ, suc, ◌+◌, ◌-◌, ◌*◌, ◌^◌, ◌<◌, ◌≤◌, Bool, true, false, List, [], ◌∷◌, length, get_or, nat_le, refl, sym, subst, arith, inl, inr}
+use Rattle.std.proofs.Common.{◌≡◌, ℕ, suc, ◌+◌, ◌-◌, ◌*◌, ◌^◌, ◌<◌, ◌≤◌, true, List, [], ◌∷◌, length, get_or, nat_le, refl, sym, subst, arith, inl, inr}
 use Rattle.std.specs.List.{AllByRecursion}
-use Rattle.std.proofs.lemmas.Bool.{cond-true, cond-false, le-leb, leb-true, cases_lt}
+use Rattle.std.proofs.lemmas.Bool.{cond-true, cond-false, le-leb, cases_lt, lt-leb}
 use Rattle.volume_layout.specs.Shape.{Shape}
 use Rattle.fsd_formats.specs.Record.{are_pages, AreStamped, record_len}
 use Rattle.fsd_log.specs.Laid.{laid_bytes, slices}
@@ -19,13 +19,6 @@ pub all_small : (xs : List ℕ) → ((i : ℕ) → get_or xs i 0 < 2 ^ 32) → A
 all_small [] each = tt
 all_small (x ∷ xs) each = (each 0, all_small xs (λ i. each (suc i)))
 
-not_at_most : (a b : ℕ) → b < a → nat_le a b ≡ false
-not_at_most a b lt = by_test (nat_le a b) refl
-  where
-    by_test : (x : Bool) → nat_le a b ≡ x → x ≡ false
-    by_test true is = absurd (let le : a ≤ b = leb-true a b is in omega arith)
-    by_test false is = refl
-
 pub spot_is : (l : Shape) (n : ℕ) (h : Head) → 200 ≤ l.third → n ≤ 96 → IsIn l h → HasRoom l n h → IsSpot l n h (spot_for l n h) × InThird l 0 (spot_for l n h).at (record_len n) (spot_for l n h).end
 spot_is l n h third few is_in room = elim (cases_lt h.end (h.at + record_len n)) [
   | inr fits ↦
@@ -34,7 +27,7 @@ spot_is l n h third few is_in room = elim (cases_lt h.end (h.at + record_len n))
   | inl over ↦
       let further : h.end < 3 * l.third = elim room [ inl fits ↦ absurd (omega arith) | inr lt ↦ lt ] in
       let some : 0 < h.at = elim is_in.ends [ inl e ↦ omega (arith, is_in.from) | inr (inl e) ↦ omega (arith, is_in.from) | inr (inr e) ↦ omega (arith, is_in.from) ] in
-      subst (λ (s : Head). IsSpot l n h s × InThird l 0 s.at (record_len n) s.end) (sym (cond-false (nat_le (h.at + record_len n) h.end) h (record { number = h.number; at = h.end; end = h.end + l.third }) (not_at_most _ _ over))) (
+      subst (λ (s : Head). IsSpot l n h s × InThird l 0 s.at (record_len n) s.end) (sym (cond-false (nat_le (h.at + record_len n) h.end) h (record { number = h.number; at = h.end; end = h.end + l.third }) (lt-leb _ _ over))) (
         record { number = refl; place = inr (record { some = some; further = further }, refl, refl); fits = omega arith },
         record { one_of = omega arith; ends = next_end l h.end is_in.ends further; from = omega arith; to = omega arith },
       )

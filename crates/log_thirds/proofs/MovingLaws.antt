@@ -5,14 +5,15 @@ use Rattle.std.specs.List.{AllByRecursion}
 use Rattle.std.specs.Option.{option_or}
 use Rattle.std.proofs.lemmas.List.{get_or-map, get_or_past, length-map, length-append}
 use Rattle.std.proofs.lemmas.List.Sums.{sum_by-append}
-use Rattle.std.proofs.lemmas.Bool.{cases_lt, cond-true, cond-false, lt-ltb, le-ltb, le-leb, lt-leb, and_from}
+use Rattle.std.proofs.lemmas.Bool.{cases_lt, cond-true, cond-false, lt-ltb, le-ltb, le-leb, lt-leb, and_from, and_right}
 use Rattle.volume_layout.specs.Shape.{Shape}
 use Rattle.volume_layout.specs.Layout.{third_start}
 use Rattle.fsd_formats.specs.Record.{record_len}
 use Rattle.sector_disk.specs.declared.sector.Sector.{Sector}
-use Rattle.sector_disk.specs.Image.{stand, sector_at, IsWorn, Windows, open_damage}
+use Rattle.sector_disk.specs.Image.{stand, sector_at, IsWorn, Windows, open_damage, bytes_of}
 use Rattle.sector_disk.specs.Machine.{Moment, Holds}
 use Rattle.sector_disk.proofs.Wear.{worn_trans, length-stand}
+use Rattle.sector_disk.proofs.ResultLaws.{option_or-none}
 use Rattle.fsd_formats.specs.Anchors.{anchor_bytes}
 use Rattle.fsd_log.specs.Judged.{Reader}
 use Rattle.fsd_log.specs.Scan.{IsEnd, IsIn, Head, Placed, Walked, IsLog, scan, start, place_of, tape}
@@ -20,7 +21,7 @@ use Rattle.fsd_log.proofs.PlaceLaws.{InThird, place_cases, place_from, first_mos
 use Rattle.fsd_log.proofs.WalkLaws.{Goes, found_goes_on, goes_far, goes_of_walk}
 use Rattle.log_thirds.specs.declared.slots.Slot.{Slot}
 use Rattle.log_thirds.specs.declared.firsts.Firsts.{Firsts}
-use Rattle.log_thirds.specs.Disk.{bytes_in, reads}
+use Rattle.log_thirds.specs.Disk.{reads}
 use Rattle.log_thirds.specs.Firsts.{AreFirsts}
 use Rattle.log_thirds.specs.Slots.{slot_in, slot_at, slot_of, lies_in, AreSlots}
 use Rattle.log_thirds.specs.LogValue.{LogValue}
@@ -159,12 +160,8 @@ assoc : (a b c : Option Slot) → option_or (option_or a b) c ≡ option_or a (o
 assoc None b c = refl
 assoc (Some x) b c = refl
 
-or_none : (a : Option Slot) → a ≡ option_or a None
-or_none None = refl
-or_none (Some x) = refl
-
 pub slot_of-joined : (l : Shape) (third page : ℕ) (front rest : List Placed) → slot_of l third page (front ++ rest) ≡ option_or (slot_of l third page rest) (slot_of l third page front)
-slot_of-joined l third page [] rest = or_none (slot_of l third page rest)
+slot_of-joined l third page [] rest = option_or-none (slot_of l third page rest)
 slot_of-joined l third page (r ∷ front) rest =
     ap (λ (o : Option Slot). option_or o (slot_at l third page r)) (slot_of-joined l third page front rest)
     ∙ assoc (slot_of l third page rest) (slot_of l third page front) (slot_at l third page r)
@@ -172,16 +169,9 @@ slot_of-joined l third page (r ∷ front) rest =
 lies_yes : (start count : ℕ) (s : Slot) → start ≤ s.place → s.place < start + count → lies_in start count (Some s) ≡ true
 lies_yes start count s low high = and_from (nat_le start s.place) (nat_lt s.place (start + count)) (le-leb start s.place low) (lt-ltb s.place (start + count) high)
 
-and_no : (a b : Bool) → b ≡ false → (a && b) ≡ false
-and_no a b is = ap (λ (x : Bool). a && x) is ∙ never a
-  where
-    never : (a : Bool) → (a && false) ≡ false
-    never true = refl
-    never false = refl
-
 lies_no : (start count : ℕ) (s : Slot) → (s.place < start) ⊎ (start + count ≤ s.place) → lies_in start count (Some s) ≡ false
 lies_no start count s (inl low) = ap (λ (b : Bool). b && nat_lt s.place (start + count)) (lt-leb start s.place low)
-lies_no start count s (inr high) = and_no (nat_le start s.place) (nat_lt s.place (start + count)) (le-ltb s.place (start + count) high)
+lies_no start count s (inr high) = and_right (nat_le start s.place) (nat_lt s.place (start + count)) (le-ltb s.place (start + count) high)
 
 -- a record behind the first third lies on the disk where it did
 pub place_back : (l : Shape) (third next : ℕ) → IsNextThird third next → (r : Placed) → LiesOn l third r → l.third ≤ r.at → place_of l next (r.at - l.third) ≡ place_of l third r.at
@@ -407,7 +397,7 @@ tape_same : (l : Shape) (third : ℕ) (i j : List Sector) → ((s : ℕ) → 16 
 tape_same l third i j same = λ k w. pointwise w k
   where
     pointwise : (w : ℕ) → tape l third (reads i) w ≡ tape l third (reads j) w
-    pointwise w = ap (λ (o : Option (List ℕ)). if nat_lt w (3 * l.third) then o else None) (ap bytes_in (same (place_of l third w) (place_from l third w)))
+    pointwise w = ap (λ (o : Option (List ℕ)). if nat_lt w (3 * l.third) then o else None) (ap bytes_of (same (place_of l third w) (place_from l third w)))
 
 module _ (log : LogValue) (records : List Placed) (old left : Moment) (room : 16 ≤ length old.image) (part : AnchorsIn (moved_anchor log) old left) (is_log : IsLogWorn log records old) where
   module _ (i : List Sector) (worn : IsWorn (open_damage left.windows) left.image i) where

@@ -1,38 +1,37 @@
 -- Sectors that are read one after another.
 use Rattle.std.proofs.Common.{◌≡◌, inl, inr, ℕ, ◌+◌, ◌*◌, ◌<◌, ◌≤◌, Bool, false, List, [], ◌∷◌, ◌++◌, length, get_or, Option, Some, None, refl, sym, ap, subst, ◌∙◌, arith}
-use Rattle.std.specs.Prelude.{IsTrue, if◌then◌else◌, min, max, Result, Ok, Err, OnOk}
+use Rattle.std.specs.Prelude.{IsTrue, if◌then◌else◌, min, max}
 use Rattle.std.proofs.lemmas.Bool.{cases_lt}
 use Rattle.std.proofs.lemmas.List.{length-append, get_or_append_left, get_or_past}
 use Rattle.std.proofs.Math.Seq.{get_or-append_seam}
 use Rattle.sector_disk.specs.Calls.{as_sector}
-use Rattle.sector_disk.specs.Image.{sector_at, Windows, open_damage}
+use Rattle.sector_disk.specs.Image.{sector_at, Windows, open_damage, bytes_of}
 use Rattle.sector_disk.specs.Machine.{Moment, Wears}
 use Rattle.sector_disk.proofs.Wear.{worn_damaged}
 use Rattle.fsd_log.specs.Judged.{slice_of}
 use Rattle.log_record.specs.Found.{read_of}
 use Rattle.fsd_log.proofs.LaidLaws.{slice_within, slice_behind, slice_all}
-use Rattle.log_thirds.specs.Disk.{bytes_in}
 use Rattle.fsd_formats.specs.Record.{Stamp}
 use Rattle.fsd_log.specs.Reach.{headers_len, len_by, reach}
 use Rattle.fsd_log.proofs.ReachLaws.{reach_most}
 use Rattle.log_thirds.specs.Reading.{ReadInto, ReadWorn, Sees, ReadsOn, ReadsRecord}
 
-pub bytes_back : (o : Option (List ℕ)) → bytes_in (as_sector o) ≡ o
+pub bytes_back : (o : Option (List ℕ)) → bytes_of (as_sector o) ≡ o
 bytes_back None = refl
 bytes_back (Some bytes) = refl
 
 -- what a read shows as it ends, it sees
 pub read_shown : (old new : Moment) (place : ℕ) (o : Option (List ℕ)) → Wears old new → sector_at new.image place ≡ as_sector o → ReadWorn old place o
 read_shown old new place o wears shown = elim (wears.image.each place) [
-  | inl same ↦ inl (sym (bytes_back o) ∙ ap bytes_in (sym shown) ∙ ap bytes_in same)
-  | inr hurt ↦ inr (hurt.0, sym (bytes_back o) ∙ ap bytes_in (sym shown) ∙ ap bytes_in hurt.1)
+  | inl same ↦ inl (sym (bytes_back o) ∙ ap bytes_of (sym shown) ∙ ap bytes_of same)
+  | inr hurt ↦ inr (hurt.0, sym (bytes_back o) ∙ ap bytes_of (sym shown) ∙ ap bytes_of hurt.1)
 ]
 
 -- what is read later may have worn before
 pub read_back : (old mid : Moment) (place : ℕ) (o : Option (List ℕ)) → Wears old mid → ReadWorn mid place o → ReadWorn old place o
 read_back old mid place o wears (inl is) = elim (wears.image.each place) [
-  | inl same ↦ inl (is ∙ ap bytes_in same)
-  | inr hurt ↦ inr (hurt.0, is ∙ ap bytes_in hurt.1)
+  | inl same ↦ inl (is ∙ ap bytes_of same)
+  | inr hurt ↦ inr (hurt.0, is ∙ ap bytes_of hurt.1)
 ]
 read_back old mid place o wears (inr hurt) = inr (subst (λ (w : Windows). IsTrue (open_damage w place)) wears.windows hurt.0, hurt.1)
 
@@ -99,7 +98,3 @@ record_read honest honest1 old mid new p stamp place room first count whole whol
       | inl there ↦ sym (rest.kept k there)
       | inr past ↦ read_past whole1 bytes1 k past ∙ sym (read_past whole2 bytes2 k (omega (arith, within, front.many, is_first, past, lt)))
     ]
-
-pub on_ok : {T E : Type 0} (r : Result T E) (P Q : Type 0) → (P → Q) → OnOk r P → OnOk r Q
-on_ok (Ok x) P Q more p = more p
-on_ok (Err e) P Q more p = tt

@@ -6,17 +6,16 @@ use Rattle.std.proofs.lemmas.List.{length-set, get_or_past, get_or-set_same, get
 use Rattle.sector_disk.specs.declared.sector.Sector.{Sector}
 use Rattle.sector_disk.specs.declared.sector.Sector.TheVariants.{Whole, Damaged}
 use Rattle.sector_disk.specs.Calls.{as_sector}
-use Rattle.sector_disk.specs.Image.{sector_at, Windows, IsWorn, open_damage}
+use Rattle.sector_disk.specs.Image.{sector_at, Windows, IsWorn, open_damage, bytes_of}
 use Rattle.sector_disk.specs.Machine.{Moment, Wears}
-use Rattle.sector_disk.proofs.Wear.{worn_trans, worn_whole}
+use Rattle.sector_disk.proofs.Wear.{worn_trans, worn_whole, whole_of, damaged_of}
 use Rattle.fsd_formats.specs.declared.anchor.Anchor.{Anchor}
 use Rattle.fsd_log.specs.Scan.{anchor_in, newer_of}
-use Rattle.log_thirds.specs.Disk.{bytes_in, reads}
+use Rattle.log_thirds.specs.Disk.{reads}
 use Rattle.log_thirds.specs.LogValue.{LogValue}
 use Rattle.log_thirds.specs.Reading.{Sees}
 use Rattle.log_thirds.specs.Seen.{AnchorsOn, LogOn, ScansOn, ReadsAnchor}
 use Rattle.log_thirds.proofs.ReadingLaws.{bytes_back}
-use Rattle.log_thirds.proofs.SeenLaws.{whole_of, damaged_of}
 
 module _ (old new : Moment) (wears : Wears old new) (place : ℕ) (o : Option (List ℕ)) (sees : Sees old new place o) (j : List Sector) (jw : IsWorn (open_damage old.windows) j old.image) where
   abbrev Worn1 : ℕ → Sector → Sector → Type 0
@@ -41,7 +40,7 @@ module _ (old new : Moment) (wears : Wears old new) (place : ℕ) (o : Option (L
   with_other s other = get_or-set_other j place s (as_sector o) Damaged other
 
   pub with_reads : reads (set j place (as_sector o)) place ≡ o
-  with_reads = ap bytes_in with_at ∙ bytes_back o
+  with_reads = ap bytes_of with_at ∙ bytes_back o
 
   from_at : (x : Option (List ℕ)) → o ≡ x → Worn1 place (sector_at j place) (as_sector x)
   from_at (Some b) is = inl (sym (worn_whole (open_damage old.windows) j old.image place b jw (whole_then b is)))
@@ -83,7 +82,7 @@ anchors_seen old mid new first copy anchor wears later one two is j jw =
     let j2 : List Sector = set j1 12 (as_sector two.bytes) in
     let from2 : IsWorn (open_damage old.windows) (set j 8 (as_sector one.bytes)) (set (set j 8 (as_sector one.bytes)) 12 (as_sector two.bytes)) = subst (λ (w : Windows). IsWorn (open_damage w) (set j 8 (as_sector one.bytes)) (set (set j 8 (as_sector one.bytes)) 12 (as_sector two.bytes))) same (with_from mid new later 12 two.bytes two.read (set j 8 (as_sector one.bytes)) to_mid) in
     let to2 : IsWorn (open_damage old.windows) (set (set j 8 (as_sector one.bytes)) 12 (as_sector two.bytes)) new.image = subst (λ (w : Windows). IsWorn (open_damage w) (set (set j 8 (as_sector one.bytes)) 12 (as_sector two.bytes)) new.image) same (with_to mid new later 12 two.bytes two.read (set j 8 (as_sector one.bytes)) to_mid) in
-    let at8 : reads (set (set j 8 (as_sector one.bytes)) 12 (as_sector two.bytes)) 8 ≡ one.bytes = ap bytes_in (with_other mid new later 12 two.bytes two.read (set j 8 (as_sector one.bytes)) to_mid 8 (λ e. omega arith)) ∙ with_reads old mid wears 8 one.bytes one.read j jw in
+    let at8 : reads (set (set j 8 (as_sector one.bytes)) 12 (as_sector two.bytes)) 8 ≡ one.bytes = ap bytes_of (with_other mid new later 12 two.bytes two.read (set j 8 (as_sector one.bytes)) to_mid 8 (λ e. omega arith)) ∙ with_reads old mid wears 8 one.bytes one.read j jw in
     let at12 : reads (set (set j 8 (as_sector one.bytes)) 12 (as_sector two.bytes)) 12 ≡ two.bytes = with_reads mid new later 12 two.bytes two.read (set j 8 (as_sector one.bytes)) to_mid in
     record {
       image = set (set j 8 (as_sector one.bytes)) 12 (as_sector two.bytes);
@@ -101,8 +100,8 @@ log_seen log may before mid new first scans = record {
   to = scans.to;
   head = λ s lt. scans.front s (omega arith) ∙ first.rest s (λ e. omega arith) (λ e. omega arith);
   taken =
-      (let at8 : reads scans.image 8 ≡ reads first.image 8 = ap bytes_in (scans.front 8 (omega arith)) in
-      let at12 : reads scans.image 12 ≡ reads first.image 12 = ap bytes_in (scans.front 12 (omega arith)) in
+      (let at8 : reads scans.image 8 ≡ reads first.image 8 = ap bytes_of (scans.front 8 (omega arith)) in
+      let at12 : reads scans.image 12 ≡ reads first.image 12 = ap bytes_of (scans.front 12 (omega arith)) in
       λ i. newer_of (anchor_in (at8 i)) (anchor_in (at12 i))) ∙ sym first.is;
   scanned = scans.scanned;
 }

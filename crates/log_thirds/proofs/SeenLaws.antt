@@ -1,14 +1,14 @@
 -- What was read of a run of sectors, each at its own moment, is one image.
 use Rattle.std.proofs.Common.{◌≡◌, ◌≢◌, ◌⊎◌, inl, inr, ⊎_elim, ℕ, zero, suc, ◌+◌, ◌-◌, ◌*◌, ◌^◌, ◌<◌, ◌≤◌, Bool, true, false, List, length, Option, Some, None, nat_lt, refl, sym, ap, subst, ◌∙◌, arith}
 use Rattle.std.specs.Prelude.{IsTrue, option_map, if◌then◌else◌}
-use Rattle.std.proofs.lemmas.Bool.{cases_eq, cases_lt, cond-true, cond-false, lt-ltb, ltb-true}
+use Rattle.std.proofs.lemmas.Bool.{cases_eq, cases_lt, cond-true, cond-false, lt-ltb, ltb-true, le-ltb}
 use Rattle.std.proofs.lemmas.List.{get_or_past, get_or-set_same, get_or-set_other}
 use Rattle.sector_disk.specs.declared.sector.Sector.{Sector}
 use Rattle.sector_disk.specs.declared.sector.Sector.TheVariants.{Whole, Damaged}
 use Rattle.sector_disk.specs.Calls.{as_sector}
-use Rattle.sector_disk.specs.Image.{sector_at, lay, IsWorn, open_damage}
+use Rattle.sector_disk.specs.Image.{sector_at, lay, IsWorn, open_damage, bytes_of}
 use Rattle.sector_disk.specs.Machine.{Moment, Wears}
-use Rattle.sector_disk.proofs.Wear.{worn_trans, worn_whole, length-lay, lay_other, outside_cases}
+use Rattle.sector_disk.proofs.Wear.{worn_trans, worn_whole, length-lay, lay_other, outside_cases, whole_of, damaged_of}
 use Rattle.volume_layout.specs.Shape.{Shape}
 use Rattle.fsd_formats.specs.Record.{Stamp}
 use Rattle.fsd_log.specs.Judged.{Reader, Serving, judged, logged_of, record_in}
@@ -21,22 +21,13 @@ use Rattle.log_thirds.specs.declared.slots.Slot.{Slot}
 use Rattle.log_thirds.specs.Copies.{Copies}
 use Rattle.log_thirds.proofs.ScanLaws.{Reaches}
 use Rattle.log_record.specs.Found.{read_of}
-use Rattle.log_thirds.specs.Disk.{bytes_in, reads}
+use Rattle.log_thirds.specs.Disk.{reads}
 use Rattle.fsd_log.specs.Reach.{headers_len}
 use Rattle.fsd_log.proofs.ReachLaws.{record_within}
 use Rattle.log_thirds.specs.Reading.{ReadsRecord}
 use Rattle.log_thirds.proofs.ReadingLaws.{bytes_back, read_past}
 use Rattle.log_thirds.specs.Seen.{SeesOn}
 use Rattle.fsd_log.proofs.PlaceLaws.{InThird, place_add, place_cases, place_from, below_numbers, first_most, end_most}
-use Rattle.fsd_log.proofs.HereLaws.{not_below}
-
-pub whole_of : (s : Sector) (bytes : List ℕ) → bytes_in s ≡ Some bytes → s ≡ Whole bytes
-whole_of (Whole b) bytes is = let same : b ≡ bytes = cc in ap Whole same
-whole_of Damaged bytes is = absurd (cc is)
-
-pub damaged_of : (s : Sector) → bytes_in s ≡ None → s ≡ Damaged
-damaged_of (Whole b) is = absurd (cc is)
-damaged_of Damaged is = refl
 
 -- a sector that was laid, where the image has it
 lay_at : (image : List Sector) (first : ℕ) (sector : ℕ → Sector) (k j : ℕ) → j < k → first + j < length image → sector_at (lay image first sector k) (first + j) ≡ sector j
@@ -146,14 +137,14 @@ module _ (l : Shape) (first at end : ℕ) (one : first ≤ 2) (before : at ≤ e
       let inside : w < 3 * l.third = omega (arith, lt, before, end_most l end ends) in
       let away = below_numbers l.third (first * l.third) at (length whole) end (place_of l first at) w (place_of l first w) (first_most l first one) (end_most l end ends) (omega (arith, is.within, before)) lt (place_cases l first at) (place_cases l first w) in
       on_tape seen w inside
-      ∙ ap bytes_in (seen_other (place_of l first w) (⊎_elim (λ low. inl (omega (arith, low, is_place))) (λ high. inr (omega (arith, high, is_place))) away))
+      ∙ ap bytes_of (seen_other (place_of l first w) (⊎_elim (λ low. inl (omega (arith, low, is_place))) (λ high. inr (omega (arith, high, is_place))) away))
       ∙ sym (on_tape j w inside)
 
   seen_read : (k : ℕ) → k < length whole → tape l first (reads seen) (at + k) ≡ read_of whole bytes k
   seen_read k lt =
       on_tape seen (at + k) (omega (arith, lt, is.within, end_most l end ends))
       ∙ ap (reads seen) (place_add l first at (end - at) end k in_third (omega (arith, lt, is.within)) ∙ ap (λ (s : ℕ). s + k) (sym is_place))
-      ∙ ap bytes_in (seen_at k lt) ∙ bytes_back (read_of whole bytes k)
+      ∙ ap bytes_of (seen_at k lt) ∙ bytes_back (read_of whole bytes k)
 
   read_window : (k : ℕ) → k < length whole → read_of whole bytes k ≡ window (tape l first (reads seen)) at (room_at at end) k
   read_window k lt = sym (seen_read k lt) ∙ sym (cond-true (nat_lt k (room_at at end)) (tape l first (reads seen) (at + k)) None (lt-ltb _ _ (omega (arith, is.within))))
@@ -161,7 +152,7 @@ module _ (l : Shape) (first at end : ℕ) (one : first ≤ 2) (before : at ≤ e
   read_header : (k : ℕ) → k < headers_len → read_of whole bytes k ≡ window (tape l first (reads seen)) at (room_at at end) k
   read_header k lt = elim (cases_lt k (length whole)) [
     | inl there ↦ read_window k there
-    | inr past ↦ read_past whole bytes k past ∙ sym (cond-false (nat_lt k (room_at at end)) (tape l first (reads seen) (at + k)) None (not_below _ _ (omega (arith, is.reaches, past, lt))))
+    | inr past ↦ read_past whole bytes k past ∙ sym (cond-false (nat_lt k (room_at at end)) (tape l first (reads seen) (at + k)) None (le-ltb _ _ (omega (arith, is.reaches, past, lt))))
   ]
 
   pub judged_seen : (o : Option Serving) → o ≡ judged p stamp (length whole) (read_of whole bytes)
@@ -190,14 +181,14 @@ here_below l epoch old new number at end le same =
 pub tape_worn : (l : Shape) (third : ℕ) (may : ℕ → Bool) (i j : List Sector) → IsWorn may i j → (w : ℕ) → (tape l third (reads j) w ≡ tape l third (reads i) w) ⊎ (tape l third (reads j) w ≡ None)
 tape_worn l third may i j worn w = elim (cases_lt w (3 * l.third)) [
   | inr past ↦ inl (off j past ∙ sym (off i past))
-  | inl lt ↦ ⊎_elim (λ same. inl (on j lt ∙ ap bytes_in same ∙ sym (on i lt))) (λ hurt. inr (on j lt ∙ ap bytes_in hurt.1)) (worn.each (place_of l third w))
+  | inl lt ↦ ⊎_elim (λ same. inl (on j lt ∙ ap bytes_of same ∙ sym (on i lt))) (λ hurt. inr (on j lt ∙ ap bytes_of hurt.1)) (worn.each (place_of l third w))
 ]
   where
     on : (k : List Sector) → w < 3 * l.third → tape l third (reads k) w ≡ reads k (place_of l third w)
     on k lt = cond-true (nat_lt w (3 * l.third)) (reads k (place_of l third w)) None (lt-ltb w (3 * l.third) lt)
 
     off : (k : List Sector) → 3 * l.third ≤ w → tape l third (reads k) w ≡ None
-    off k past = cond-false (nat_lt w (3 * l.third)) (reads k (place_of l third w)) None (not_below w (3 * l.third) past)
+    off k past = cond-false (nat_lt w (3 * l.third)) (reads k (place_of l third w)) None (le-ltb w (3 * l.third) past)
 
 -- the records that were found in front of the head are there still
 pub reaches_keeps : (l : Shape) (epoch first third : ℕ) → epoch < 2 ^ 32 → (old new : Reader) (h : Head) (f : Firsts) (slots : List (Option Slot)) (c : Copies) → h.number ≤ 2 ^ 32 → ((w : ℕ) → (new w ≡ old w) ⊎ (new w ≡ None)) → ((w : ℕ) → w < h.at → new w ≡ old w)

@@ -1,8 +1,8 @@
 -- The anchor moves on by a third: the scan from there is the rest of the old one.
 use Rattle.std.proofs.Common.{◌≡◌, ◌⊎◌, inl, inr, ⊎_elim, ℕ, ◌+◌, ◌-◌, ◌*◌, ◌^◌, ◌<◌, ◌≤◌, List, [], ◌∷◌, ◌++◌, length, map, Option, Some, None, nat_lt, refl, sym, ap, subst, ◌∙◌, arith}
-use Rattle.std.specs.Prelude.{if◌then◌else◌}
 use Rattle.std.specs.List.{AllByRecursion}
-use Rattle.std.proofs.lemmas.Bool.{cases_lt, cond-true, cond-false, lt-ltb}
+use Rattle.std.proofs.lemmas.Bool.{cases_lt, cond-true, cond-false, lt-ltb, le-ltb}
+use Rattle.std.specs.Prelude.{if◌then◌else◌}
 use Rattle.volume_layout.specs.Shape.{Shape}
 use Rattle.fsd_formats.specs.Record.{record_len}
 use Rattle.fsd_log.specs.Judged.{Reader, record_in}
@@ -11,9 +11,9 @@ use Rattle.fsd_log.proofs.JudgedLaws.{foreign_absent}
 use Rattle.fsd_log.proofs.HereLaws.{here_none}
 use Rattle.fsd_log.specs.Scan.{last_number, IsIn, Head, Placed, Walked, room_at, window, record_here, next, scan, start, place_of, tape, IsLog}
 use Rattle.log_thirds.specs.Moves.{back, head_back, IsNextThird, MovesOn}
-use Rattle.fsd_log.proofs.WalkLaws.{stamp_of, IsHere, IsThere, IsFound, GoesOn, found_goes_on, Goes, goes_of_walk, walk_of_goes, none_next, ends_inside}
+use Rattle.fsd_log.proofs.WalkLaws.{stamp_of, IsHere, IsThere, IsFound, GoesOn, found_goes_on, Goes, goes_of_walk, walk_of_goes, none_next}
 use Rattle.fsd_log.proofs.AppendLaws.{none_foreign, window_foreign}
-use Rattle.fsd_log.proofs.HereLaws.{not_below}
+use Rattle.fsd_log.proofs.PlaceLaws.{end_most}
 
 -- the tape of the next third: the old one from its second third on, and then its first third
 pub record IsShifted (l : Shape) (old new : Reader) : Type 0 where
@@ -31,8 +31,8 @@ module _ (l : Shape) (epoch : ℕ) (old new : Reader) (shifted : IsShifted l old
       pointwise k = elim (cases_lt k (room_at at end)) [
         | inl lt ↦ ap (λ (o : Option (List ℕ)). if nat_lt k (room_at at end) then o else None) (shifted.moved (at - l.third + k) (omega arith) ∙ ap old (omega arith))
         | inr past ↦
-            cond-false (nat_lt k (room_at at end)) (new (at - l.third + k)) None (not_below k (room_at at end) past)
-            ∙ sym (cond-false (nat_lt k (room_at at end)) (old (at + k)) None (not_below k (room_at at end) past))
+            cond-false (nat_lt k (room_at at end)) (new (at - l.third + k)) None (le-ltb k (room_at at end) past)
+            ∙ sym (cond-false (nat_lt k (room_at at end)) (old (at + k)) None (le-ltb k (room_at at end) past))
       ]
 
   -- behind the first third each step goes alike
@@ -45,12 +45,12 @@ module _ (l : Shape) (epoch : ℕ) (old new : Reader) (shifted : IsShifted l old
         place = ⊎_elim
             (λ here. inl (record { at_head = ap (λ (x : ℕ). x - l.third) here.at_head; in_third = ap (λ (x : ℕ). x - l.third) here.in_third }))
             (λ there. inr (record {
-              none = same_here h.number h.at h.end (omega arith) is_in.before (ends_inside l h.end is_in.ends) ∙ there.none;
+              none = same_here h.number h.at h.end (omega arith) is_in.before (end_most l h.end is_in.ends) ∙ there.none;
               enters = record { some = omega arith; further = omega (arith, there.enters.further) };
               at_start = ap (λ (x : ℕ). x - l.third) there.at_start;
               in_third = ap (λ (x : ℕ). x - l.third) there.in_third ∙ omega (arith, is_in.before);
             })) is.place;
-        found = same_here h.number r.at is.end (omega (arith, one.from)) (omega (arith, one.to, one.is_in.before, end)) (omega (arith, end, ends_inside l h1.end one.is_in.ends)) ∙ is.found;
+        found = same_here h.number r.at is.end (omega (arith, one.from)) (omega (arith, one.to, one.is_in.before, end)) (omega (arith, end, end_most l h1.end one.is_in.ends)) ∙ is.found;
         goes_on = (λ i. head_back l.third (is.goes_on i)) ∙ λ i. record { number = h.number + 1; at = moved_on i; end = is.end - l.third };
       }
     where
@@ -107,7 +107,7 @@ module _ (l : Shape) (epoch : ℕ) (old new : Reader) (shifted : IsShifted l old
           let at : r.at ≡ l.third = there.at_start ∙ first in
           let last : goes.1.end ≡ l.third + l.third = there.in_third ∙ ap (λ (x : ℕ). x + l.third) first in
           let found : record_here l epoch new h.number (r.at - l.third) (goes.1.end - l.third) ≡ Some r.entry =
-          same_here h.number r.at goes.1.end (omega (arith, at)) (omega (arith, at, last)) (omega (arith, ends, ends_inside l goes.0.end one.is_in.ends)) ∙ goes.1.found in
+          same_here h.number r.at goes.1.end (omega (arith, at)) (omega (arith, at, last)) (omega (arith, ends, end_most l goes.0.end one.is_in.ends)) ∙ goes.1.found in
           let count : h.number ≡ h.number + length {A = Placed} [] = omega arith in
           let moved : r.at + record_len (length r.entry.pages) - l.third ≡ r.at - l.third + record_len (length r.entry.pages) = omega (arith, at) in
           let step : IsFound l epoch new (start l h.number) (back l.third r) (head_back l.third goes.0) = record {
@@ -178,7 +178,7 @@ straight : (l : Shape) (first w p : ℕ) → first * l.third + w < 3 * l.third �
 straight l first w p lt is = cond-true (nat_lt (first * l.third + w) (3 * l.third)) _ _ (lt-ltb _ _ lt) ∙ sym is
 
 wrapped : (l : Shape) (first w p : ℕ) → 3 * l.third ≤ first * l.third + w → p ≡ 16 + (first * l.third + w - 3 * l.third) → place_of l first w ≡ p
-wrapped l first w p ge is = cond-false (nat_lt (first * l.third + w) (3 * l.third)) _ _ (not_below _ _ ge) ∙ sym is
+wrapped l first w p ge is = cond-false (nat_lt (first * l.third + w) (3 * l.third)) _ _ (le-ltb _ _ ge) ∙ sym is
 
 pub place_moved : (l : Shape) (first next w : ℕ) → IsNextThird first next → w < 2 * l.third → place_of l next w ≡ place_of l first (w + l.third)
 place_moved l first next w (inl e) lt =
@@ -221,6 +221,6 @@ pub tape_around : (l : Shape) (first next : ℕ) (disk : Reader) → IsNextThird
 tape_around l first next disk is = record {
   first = λ w ge. elim (cases_lt w (3 * l.third)) [
     | inl lt ↦ inr (on_tape l next w disk lt ∙ ap disk (place_around l first next w is ge lt) ∙ sym (on_tape l first (w - 2 * l.third) disk (omega arith)))
-    | inr past ↦ inl (cond-false (nat_lt w (3 * l.third)) (disk (place_of l next w)) None (not_below w (3 * l.third) past))
+    | inr past ↦ inl (cond-false (nat_lt w (3 * l.third)) (disk (place_of l next w)) None (le-ltb w (3 * l.third) past))
   ];
 }

@@ -10,6 +10,7 @@ use Rattle.log_thirds.specs.declared.slots.Slot.{Slot}
 use Rattle.log_thirds.specs.Slots.{slot_in, slot_at, slot_of, noted, slots_with, AreSlots, LieInRecords, SlotsInside}
 use Rattle.fsd_log.proofs.PlaceLaws.{InThird, place_from, place_inside}
 use Rattle.fsd_log.specs.Places.{LieInRecord}
+use Rattle.sector_disk.proofs.ResultLaws.{option_or-assoc}
 
 module _ (number : ℕ) (slots : List (Option Slot)) where
   pub length-noted : (place copy : ℕ) (pages : List ℕ) → length (noted number place copy pages slots) ≡ length slots
@@ -45,10 +46,6 @@ module _ (number : ℕ) (slots : List (Option Slot)) where
       by_page rest false is =
           get_or-set_other (noted number (place + 1) (copy + 1) pages slots) p page _ None (λ e. eqb-false p page is (sym e))
           ∙ rest
-
-option_or-assoc : {T : Type 0} (a b c : Option T) → option_or (option_or a b) c ≡ option_or a (option_or b c)
-option_or-assoc None b c = refl
-option_or-assoc (Some x) b c = refl
 
 pub slot_of-append : (l : Shape) (third page : ℕ) (records : List Placed) (r : Placed) → slot_of l third page (records ++ r ∷ []) ≡ option_or (slot_at l third page r) (slot_of l third page records)
 slot_of-append l third page [] r = option_or-none (slot_at l third page r)

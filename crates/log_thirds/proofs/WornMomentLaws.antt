@@ -1,10 +1,10 @@
 -- A record that is written behind the last one, on a machine whose weak run wears.
 use Rattle.std.proofs.Common.{◌≡◌, ℕ, ◌+◌, ◌-◌, ◌*◌, ◌<◌, ◌≤◌, Bool, List, [], ◌∷◌, ◌++◌, length, None, nat_lt, refl, sym, ap, subst, ◌∙◌, arith, inl, inr, ◌⊎◌, ⊎_elim}
 use Rattle.std.specs.Prelude.{IsTrue}
-use Rattle.std.proofs.lemmas.Bool.{cond-true, cond-false, lt-ltb, cases_lt}
+use Rattle.std.proofs.lemmas.Bool.{cond-true, cond-false, lt-ltb, cases_lt, le-ltb}
 use Rattle.sector_disk.specs.declared.sector.Sector.{Sector}
 use Rattle.sector_disk.specs.declared.sector.Sector.TheVariants.{Damaged}
-use Rattle.sector_disk.specs.Image.{IsWorn, Windows, sector_at, lay, stand, open_damage}
+use Rattle.sector_disk.specs.Image.{IsWorn, Windows, sector_at, lay, stand, open_damage, bytes_of}
 use Rattle.sector_disk.specs.Machine.{Moment, Holds}
 use Rattle.sector_disk.proofs.Wear.{length-lay, lay_in, lay_other, length-stand, stand_in, stand_other, worn_trans}
 use Rattle.volume_layout.specs.Shape.{Shape}
@@ -12,11 +12,10 @@ use Rattle.fsd_formats.specs.Record.{record_len}
 use Rattle.fsd_log.specs.Judged.{Reader}
 use Rattle.fsd_log.specs.Laid.{laid_bytes}
 use Rattle.fsd_log.specs.Scan.{Placed, IsLog, spot_for, place_of, tape}
-use Rattle.log_thirds.specs.Disk.{bytes_in, reads}
+use Rattle.log_thirds.specs.Disk.{reads}
 use Rattle.log_thirds.specs.LogValue.{LogValue}
 use Rattle.log_thirds.specs.Append.{StandsInPart, stamp_now, next_record, head_past, log_past, scan_of, IsLogWorn, IsNarrow, AppendsWorn}
 use Rattle.fsd_log.proofs.PlaceLaws.{InThird, place_add, place_cases, below_numbers, above_numbers, first_most, end_most}
-use Rattle.fsd_log.proofs.HereLaws.{not_below}
 use Rattle.log_thirds.proofs.MomentLaws.{MayAppend, write_inside, laid, are, spots, in_third}
 use Rattle.log_thirds.proofs.WornAppendLaws.{TapeWorn, worn_before, worn_either, worn_whole_there, fresh_after}
 use Rattle.fsd_log.proofs.TornLaws.{are_some}
@@ -63,11 +62,11 @@ module _ (l : Shape) (first at n end : ℕ) (is : InThird l first at n end) (may
   other w out = elim (cases_lt w (3 * l.third)) [
     | inl lt ↦
         on_tape w lt (reads left)
-        ∙ ap bytes_in (sym (under_other may old left (place_of l first at) bytes stood room worn (place_of l first w) (out lt)))
+        ∙ ap bytes_of (sym (under_other may old left (place_of l first at) bytes stood room worn (place_of l first w) (out lt)))
         ∙ sym (on_tape w lt (reads (under may old left (place_of l first at) bytes stood room worn)))
     | inr past ↦
-        cond-false (nat_lt w (3 * l.third)) (reads left (place_of l first w)) None (not_below w (3 * l.third) past)
-        ∙ sym (cond-false (nat_lt w (3 * l.third)) (reads (under may old left (place_of l first at) bytes stood room worn) (place_of l first w)) None (not_below w (3 * l.third) past))
+        cond-false (nat_lt w (3 * l.third)) (reads left (place_of l first w)) None (le-ltb w (3 * l.third) past)
+        ∙ sym (cond-false (nat_lt w (3 * l.third)) (reads (under may old left (place_of l first at) bytes stood room worn) (place_of l first w)) None (le-ltb w (3 * l.third) past))
   ]
 
   pub tape_worn : TapeWorn (λ w. may (place_of l first w)) bytes at stood (tape l first (reads (under may old left (place_of l first at) bytes stood room worn))) (tape l first (reads left))
@@ -76,8 +75,8 @@ module _ (l : Shape) (first at n end : ℕ) (is : InThird l first at n end) (may
         let place : place_of l first (at + k) ≡ place_of l first at + k = place_add l first at n end k is (omega arith) in
         let here = on_tape (at + k) (omega (arith, is.to, end_most l end is.ends)) (reads left) ∙ ap (λ (p : ℕ). reads left p) place in
         ⊎_elim
-        (λ same. inl (here ∙ ap bytes_in (same ∙ stand_in old (place_of l first at) bytes stood k lt room)))
-        (λ hurt. inr (subst (λ (p : ℕ). IsTrue (may p)) (sym place) hurt.0, here ∙ ap bytes_in hurt.1))
+        (λ same. inl (here ∙ ap bytes_of (same ∙ stand_in old (place_of l first at) bytes stood k lt room)))
+        (λ hurt. inr (subst (λ (p : ℕ). IsTrue (may p)) (sym place) hurt.0, here ∙ ap bytes_of hurt.1))
         (worn.each (place_of l first at + k));
     below = λ w lt. other w (λ inside. below_numbers l.third (first * l.third) at stood end (place_of l first at) w (place_of l first w) (first_most l first is.one_of) (end_most l end is.ends) (omega (arith, is.to)) lt (place_cases l first at) (place_cases l first w));
     above = λ w ge. other w (λ inside. above_numbers l.third (first * l.third) at stood (place_of l first at) w (place_of l first w) ge inside (place_cases l first at) (place_cases l first w));

@@ -1,6 +1,7 @@
 -- What a page's slot gives of its last image.
 use Rattle.std.specs.Prelude.{◌≡◌, ◌⊎◌, ⊤, ℕ, Bool, List, Option, Some, None, IfSome, slice_index_or}
 use Rattle.std.specs.Option.{option_or}
+use Rattle.volume_layout.specs.Shape.{Shape}
 use Rattle.sector_disk.specs.declared.sector.Sector.{Sector}
 use Rattle.sector_disk.specs.declared.sector.Sector.TheVariants.{Whole}
 use Rattle.sector_disk.specs.Image.{sector_at}
@@ -51,10 +52,14 @@ abbrev pub NamesSlot : Option Slot → LoadFault → Type 0
 NamesSlot slot (Device place) = ⊤
 NamesSlot slot (Lost a b) = LiesAt slot a b
 
--- The sectors are a page's own and its copy in the record that the log names as the page's last, and that lies in its layout.
-pub record AreLogged (log : LogValue) (page a b : ℕ) : Type 0 where
-  pub lies : LiesAt (slice_index_or log.slots page None) a b
-  pub in_record : LieInRecord log.layout a b
+-- The sectors are those of a slot, and a page's own and its copy in a record that lies in the log.
+pub record AreOfSlot (l : Shape) (slot : Option Slot) (a b : ℕ) : Type 0 where
+  pub lies : LiesAt slot a b
+  pub in_record : LieInRecord l a b
+
+-- those of the page's slot, in the record that the log names as the page's last
+abbrev pub AreLogged : LogValue → (page a b : ℕ) → Type 0
+AreLogged log page a b = AreOfSlot log.layout (slice_index_or log.slots page None) a b
 
 -- The bytes stand whole in one of a slot's two sectors.
 pub record StandsAt (slot : Option Slot) (image : List Sector) (bytes : List ℕ) : Type 0 where

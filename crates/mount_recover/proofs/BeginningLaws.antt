@@ -16,8 +16,8 @@ use Rattle.sector_disk.specs.declared.sector.WeakRun.{WeakRun}
 use Rattle.sector_disk.specs.Image.{Windows, sector_at, with_sector, stand, IsWorn, AreShort, open_damage, settled}
 use Rattle.sector_disk.specs.Machine.{Moment, Holds, Wears, Before, Settles}
 use Rattle.sector_disk.proofs.Calm.{stand_one}
-use Rattle.sector_disk.proofs.Holding.{holds_wears}
-use Rattle.sector_disk.proofs.Wear.{worn_trans, worn_more}
+use Rattle.sector_disk.proofs.Holding.{holds_wears, over_two}
+use Rattle.sector_disk.proofs.Wear.{worn_trans, worn_more, worn_twice}
 use Rattle.fsd_log.specs.Scan.{is_newer, newer_of, start}
 use Rattle.fsd_files.specs.Disk.{Image, SectorWorn, Has, bytes_of}
 use Rattle.fsd_sound.specs.Anchors.{anchor_at, EachAnchor, fresh_anchor}
@@ -38,9 +38,9 @@ use Rattle.fsd_sound.proofs.WritesLaws.{elsewhere}
 use Rattle.mount_recover.specs.Mending.{StaysBut, SameElsewhere, IsCompleted, IsMended, Stays, Settled, Begins}
 use Rattle.mount_recover.specs.Recover.{HasAnchors}
 use Rattle.mount_recover.specs.Replay.{IsReplayed}
-use Rattle.mount_recover.proofs.KeepsLaws.{sector_on, two_written}
+use Rattle.mount_recover.proofs.KeepsLaws.{two_written}
 use Rattle.mount_recover.proofs.MountLaws.{open_settled}
-use Rattle.mount_recover.proofs.MendingLaws.{narrow, over_two}
+use Rattle.mount_recover.proofs.MendingLaws.{narrow}
 use Rattle.fsd_sound.proofs.AnchorFacts.{newer_one}
 use Rattle.fsd_sound.proofs.EachLaws.{each_size}
 use Rattle.fsd_sound.proofs.SectorFacts.{whole_before}
@@ -121,7 +121,7 @@ module _ (l : Layout) (epoch : ℕ) (pages : List (List ℕ)) (i : Image) (s : �
 
 stays_over : (bytes : List ℕ) (now left : Moment) (first copy : ℕ) → first ≤ 1 → copy ≤ 1 → IsWorn (open_damage now.windows) (stand (stand now.image 8 bytes first) 12 bytes copy) left.image → StaysBut 8 12 now left
 stays_over bytes now left first copy once once_more worn s not_first not_copy =
-    sector_on (open_damage now.windows s) (sector_at now.image s) (sector_at (stand (stand now.image 8 bytes first) 12 bytes copy) s) (sector_at left.image s)
+    worn_twice (open_damage now.windows s) (sector_at now.image s) (sector_at (stand (stand now.image 8 bytes first) 12 bytes copy) s) (sector_at left.image s)
     (inl (two_written 8 12 bytes first copy once once_more now.image s not_first not_copy)) (worn.each s)
 
 -- the anchors' writes leave every other sector
@@ -314,8 +314,8 @@ module _ (l : Layout) (windows : List WeakRun) (choices : List (List (List ℕ))
       pub settled_so : Settled l windows choices first new
       settled_so = record {
         after = record { run = named.0; settled = mounted.settled; pages = c.pages; chosen = c.chosen; shows = mounted.shows };
-        log = λ s from inside. sector_on (weak_of windows s) (sector_at first.image s) (sector_at two s) (sector_at new.image s) (inl (behind_two s from ∙ at.body s (omega (arith, from)) inside)) (worn_last.each s);
-        rest = λ s out. sector_on (weak_of windows s) (sector_at first.image s) (sector_at two s) (sector_at new.image s) (inl (rest_two s out)) (worn_last.each s);
+        log = λ s from inside. worn_twice (weak_of windows s) (sector_at first.image s) (sector_at two s) (sector_at new.image s) (inl (behind_two s from ∙ at.body s (omega (arith, from)) inside)) (worn_last.each s);
+        rest = λ s out. worn_twice (weak_of windows s) (sector_at first.image s) (sector_at two s) (sector_at new.image s) (inl (rest_two s out)) (worn_last.each s);
         said = done.said ∙ holds_mid.said;
       }
 

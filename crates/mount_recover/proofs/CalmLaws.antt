@@ -12,14 +12,14 @@ use Rattle.sector_disk.specs.declared.sector.Sector.{Sector}
 use Rattle.sector_disk.specs.declared.sector.Sector.TheVariants.{Whole, Damaged}
 use Rattle.sector_disk.specs.declared.sector.WeakRun.{WeakRun}
 use Rattle.sector_disk.specs.Damage.{LostCause, IsDevice}
-use Rattle.sector_disk.specs.Image.{Windows, IsEmpty, IsCalm, IsWorn, sector_at, slice_of, with_sector, stand, open_damage, settled}
+use Rattle.sector_disk.specs.Image.{Windows, IsEmpty, IsCalm, IsWorn, sector_at, slice_of, with_sector, stand, open_damage, settled, bytes_of}
 use Rattle.sector_disk.specs.Machine.{Moment, Holds, Wears, Names}
 use Rattle.sector_disk.proofs.Calm.{calm_wears, calm_worn, worn_not, stand_one}
 use Rattle.sector_disk.proofs.Wear.{stand_in, stand_other, length-stand}
 use Rattle.fsd_log.specs.Images.{last_image}
 use Rattle.fsd_log.specs.Judged.{Reader}
 use Rattle.fsd_log.specs.Scan.{Placed}
-use Rattle.fsd_files.specs.Disk.{Image, bytes_of, bytes_at, either_copy}
+use Rattle.fsd_files.specs.Disk.{Image, bytes_at, either_copy}
 use Rattle.fsd_sound.specs.Homes.{home_of}
 use Rattle.fsd_formats.specs.declared.anchor.Anchor.{Anchor}
 use Rattle.volume_layout.specs.Root.{read_root}
@@ -29,7 +29,7 @@ use Rattle.fsd_sound.specs.Shown.{records_by, newest}
 use Rattle.fsd_sound.proofs.LogPlaces.{scan_records}
 use Rattle.log_thirds.specs.Append.{IsCalm as IsCalmNow, IsIndexed}
 use Rattle.log_thirds.specs.declared.slots.Slot.{Slot}
-use Rattle.log_thirds.specs.Disk.{bytes_in, reads}
+use Rattle.log_thirds.specs.Disk.{reads}
 use Rattle.log_thirds.specs.Images.{GivesSlot, GivesLast}
 use Rattle.log_thirds.specs.LogValue.{LogValue}
 use Rattle.log_thirds.specs.Copies.{copies_count}
@@ -102,7 +102,7 @@ pub given_on : (l : Layout) (log : LogValue) (same : log.layout ≡ l) (records 
 given_on l log same records i j page front given = by_slot (slot_of log.layout log.anchor.third page records) (given.inside page) (given.gives page)
   where
     reads_same : (s : ℕ) → s < 16 + 3 * log.layout.third → reads j s ≡ reads i s
-    reads_same s within = let third : log.layout.third ≡ l.third = ap (λ (k : Layout). k.third) same in ap bytes_in (front s (omega (arith, within, third)))
+    reads_same s within = let third : log.layout.third ≡ l.third = ap (λ (k : Layout). k.third) same in ap bytes_of (front s (omega (arith, within, third)))
 
     by_slot : (o : Option Slot) → IfSome o (λ slot. (slot.place < 16 + 3 * log.layout.third) × (slot.copy < 16 + 3 * log.layout.third))
         → IfSome o (λ slot. GivesSlot page log.anchor.epoch (reads i) slot (last_image page records)) → IfSome o (λ slot. GivesSlot page log.anchor.epoch (reads j) slot (last_image page records))

@@ -10,7 +10,7 @@ use Rattle.fsd_formats.specs.Record.{record_len}
 use Rattle.sector_disk.specs.declared.sector.WeakRun.{WeakRun}
 use Rattle.sector_disk.specs.Image.{Windows, sector_at, stand, IsWorn, open_damage}
 use Rattle.sector_disk.specs.Machine.{Moment, Holds, Wears, Names, Before}
-use Rattle.sector_disk.proofs.Wear.{worn_refl, worn_trans, stand_worn, stand_other}
+use Rattle.sector_disk.proofs.Wear.{worn_refl, worn_trans, stand_worn, stand_other, worn_twice}
 use Rattle.fsd_log.specs.Images.{last_image}
 use Rattle.fsd_log.specs.Scan.{Placed}
 use Rattle.fsd_log.proofs.PlaceLaws.{place_inside, place_from}
@@ -35,7 +35,6 @@ use Rattle.fsd_sound.proofs.CompletingLaws.{completing, laid, last_copies}
 use Rattle.fsd_sound.proofs.WritesLaws.{elsewhere}
 use Rattle.mount_recover.specs.Mending.{KnowsLog, StaysElsewhere, IsSeen, Completed}
 use Rattle.mount_recover.specs.Replay.{HasLastCopies, KeepsBehindLog, Replays}
-use Rattle.mount_recover.proofs.KeepsLaws.{sector_on}
 
 -- ---- where the copies lie
 
@@ -83,13 +82,13 @@ module _ (l : Layout) (log : LogValue) (j : Image) (knows : KnowsLog l log j) wh
   pub rest_stays : (old mid new : Moment) → Holds old (stand old.image log.copies.place log.copies.bytes (copies_count log.copies)) mid → IsWorn (open_damage mid.windows) mid.image new.image → StaysElsewhere l old new
   rest_stays old mid new holds worn s out =
       let last : IsWorn (open_damage old.windows) mid.image new.image = subst (λ (w : Windows). IsWorn (open_damage w) mid.image new.image) holds.windows worn in
-      sector_on (open_damage old.windows s) (sector_at old.image s) (sector_at (stand old.image log.copies.place log.copies.bytes (copies_count log.copies)) s) (sector_at new.image s)
+      worn_twice (open_damage old.windows s) (sector_at old.image s) (sector_at (stand old.image log.copies.place log.copies.bytes (copies_count log.copies)) s) (sector_at new.image s)
       (inl (copies_elsewhere (copies_count log.copies) (omega arith) s out old.image))
       ((worn_trans (open_damage old.windows) _ mid.image new.image holds.worn last).each s)
 
   pub rest_in_part : (old new : Moment) → StandsInPart log.copies.place log.copies.bytes (copies_count log.copies) old new → StaysElsewhere l old new
   rest_in_part old new part s out =
-      sector_on (open_damage old.windows s) (sector_at old.image s) (sector_at (stand old.image log.copies.place log.copies.bytes part.stood) s) (sector_at new.image s)
+      worn_twice (open_damage old.windows s) (sector_at old.image s) (sector_at (stand old.image log.copies.place log.copies.bytes part.stood) s) (sector_at new.image s)
       (inl (copies_elsewhere part.stood part.within s out old.image)) (part.holds.worn.each s)
 
 -- ---- where each record is whole
@@ -133,11 +132,11 @@ module _ (l : Layout) (windows : List WeakRun) (choices : List (List (List ℕ))
     shows_at = shows_still l windows narrow choices (stand seen.image log.copies.place log.copies.bytes m) left.image (weaker (stand seen.image log.copies.place log.copies.bytes m) left.image from_seen) (follows m le).shows
 
     kept_at : KeepsBehindLog l (weak_of windows) old.image left.image
-    kept_at s from = sector_on (weak_of windows s) (sector_at old.image s) (sector_at (stand old.image log.copies.place log.copies.bytes m) s) (sector_at left.image s)
+    kept_at s from = worn_twice (weak_of windows s) (sector_at old.image s) (sector_at (stand old.image log.copies.place log.copies.bytes m) s) (sector_at left.image s)
         (inl (copies_inside l log seen.image seen.knows m le s from old.image)) ((weaker (stand old.image log.copies.place log.copies.bytes m) left.image worn).each s)
 
     rest_at : WritesAsMount l (weak_of windows) old left
-    rest_at s out = sector_on (weak_of windows s) (sector_at old.image s) (sector_at (stand old.image log.copies.place log.copies.bytes m) s) (sector_at left.image s)
+    rest_at s out = worn_twice (weak_of windows s) (sector_at old.image s) (sector_at (stand old.image log.copies.place log.copies.bytes m) s) (sector_at left.image s)
         (inl (copies_elsewhere l log seen.image seen.knows m le s out old.image)) ((weaker (stand old.image log.copies.place log.copies.bytes m) left.image worn).each s)
 
     replays_at : left.windows.present ≡ old.windows.present → left.said ≡ old.said → Replays l windows choices old left

@@ -1,6 +1,6 @@
 -- What a mount tells as a fault.
 use Rattle.std.proofs.Common.{◌≡◌, ℕ, List, Result, Ok, Err, refl, sym, ap, subst, ◌∙◌, arith}
-use Rattle.std.specs.Prelude.{IfErr, IsErrAnd, OnOk, OnErr}
+use Rattle.std.specs.Prelude.{IfErr, IsErrAnd}
 use Rattle.volume_layout.specs.declared.layout.Layout.{Layout}
 use Rattle.volume_layout.specs.Layout.{home_a, home_b}
 use Rattle.sector_disk.specs.declared.machine.LoadFault.{LoadFault}
@@ -27,23 +27,9 @@ use Rattle.fsd_sound.specs.Mounting.{device_of_mount}
 use Rattle.mount_recover.specs.Mending.{IsLoadFault, AreRoots}
 use Rattle.fsd_sound.specs.Mounting.{load_fault_of}
 
-pub if_err_more : {T : Type 0} (r : Result T MountFault) (P Q : MountFault → Type 0) → ((fault : MountFault) → P fault → Q fault) → IfErr r P → IfErr r Q
-if_err_more (Ok x) P Q more p = tt
-if_err_more (Err e) P Q more p = more e p
-
 pub if_err_both : {T : Type 0} (r : Result T MountFault) (P Q R : MountFault → Type 0) → ((fault : MountFault) → P fault → Q fault → R fault) → IfErr r P → IfErr r Q → IfErr r R
 if_err_both (Ok x) P Q R more p q = tt
 if_err_both (Err e) P Q R more p q = more e p q
-
--- what is so is so at Ok
-pub ok_as : {T E : Type 0} (P : Type 0) (r : Result T E) → P → OnOk r P
-ok_as P (Ok x) p = p
-ok_as P (Err e) p = tt
-
--- and at Err
-pub err_as : {T E : Type 0} (P : Type 0) (r : Result T E) → P → OnErr r P
-err_as P (Ok x) p = tt
-err_as P (Err e) p = p
 
 pub load_excused : (fault : LoadFault) → IsDevice fault → IsExcuse (load_fault_of fault)
 load_excused (load.Device s) device = tt

@@ -12,21 +12,19 @@ use Rattle.sector_disk.proofs.Calm.{stand_one}
 use Rattle.fsd_files.specs.Disk.{Image, SectorWorn, Has}
 use Rattle.fsd_files.proofs.KeptLaws.{has_on}
 use Rattle.fsd_sound.proofs.CommuteLaws.{with_same, with_other}
+use Rattle.fsd_sound.specs.Homes.{HasBothHomes}
 use Rattle.twin_home.specs.Heal.{Healed}
 use Rattle.mount_recover.specs.Mending.{KeepsBut, StaysBut}
-use Rattle.mount_recover.specs.Recover.{HasBothHomes}
 use Rattle.mount_recover.proofs.MountLaws.{open_settled}
 
 -- ---- a page that was written, or was whole
 
 module _ (l : Layout) (page : ℕ) (old new : Moment) where
   both_held : (image : Image) → Holds old image new → (x y : List ℕ) → sector_at image (home_a l page) ≡ Whole x → sector_at image (home_b l page) ≡ Whole y → HasBothHomes l new page
-  both_held image holds x y first second = record {
-    first = x;
-    second = y;
-    stands = subst (λ (w : Windows). Has (open_damage w) new.image x (home_a l page)) (sym holds.windows) (has_on (open_damage old.windows) image new.image x (home_a l page) (holds.worn.each (home_a l page)) (inl first));
-    stands_too = subst (λ (w : Windows). Has (open_damage w) new.image y (home_b l page)) (sym holds.windows) (has_on (open_damage old.windows) image new.image y (home_b l page) (holds.worn.each (home_b l page)) (inl second));
-  }
+  both_held image holds x y first second = (
+    (x, subst (λ (w : Windows). Has (open_damage w) new.image x (home_a l page)) (sym holds.windows) (has_on (open_damage old.windows) image new.image x (home_a l page) (holds.worn.each (home_a l page)) (inl first))),
+    (y, subst (λ (w : Windows). Has (open_damage w) new.image y (home_b l page)) (sym holds.windows) (has_on (open_damage old.windows) image new.image y (home_b l page) (holds.worn.each (home_b l page)) (inl second))),
+  )
 
   module _ (lt : page < l.pages) (long : home_b l l.pages ≤ length old.image) where
     pub both_written : (bytes : List ℕ) → length bytes ≡ 512 → Holds old (stand (stand old.image (home_a l page) bytes 1) (home_b l page) bytes 1) new → HasBothHomes l new page
@@ -51,12 +49,10 @@ module _ (l : Layout) (page : ℕ) (old new : Moment) where
 -- ---- the pages before it
 
 both_on : (l : Layout) (page : ℕ) (old new : Moment) (a b : ℕ) → home_a l page ≢ a → home_a l page ≢ b → home_b l page ≢ a → home_b l page ≢ b → KeepsBut a b old new → HasBothHomes l old page → HasBothHomes l new page
-both_on l page old new a b aa ab ba bb but has = record {
-  first = has.first;
-  second = has.second;
-  stands = subst (λ (w : Windows). Has (open_damage w) new.image has.first (home_a l page)) (sym but.windows) (has_on (open_damage old.windows) old.image new.image has.first (home_a l page) (but.others (home_a l page) aa ab) has.stands);
-  stands_too = subst (λ (w : Windows). Has (open_damage w) new.image has.second (home_b l page)) (sym but.windows) (has_on (open_damage old.windows) old.image new.image has.second (home_b l page) (but.others (home_b l page) ba bb) has.stands_too);
-}
+both_on l page old new a b aa ab ba bb but has = (
+  (has.0.0, subst (λ (w : Windows). Has (open_damage w) new.image has.0.0 (home_a l page)) (sym but.windows) (has_on (open_damage old.windows) old.image new.image has.0.0 (home_a l page) (but.others (home_a l page) aa ab) has.0.1)),
+  (has.1.0, subst (λ (w : Windows). Has (open_damage w) new.image has.1.0 (home_b l page)) (sym but.windows) (has_on (open_damage old.windows) old.image new.image has.1.0 (home_b l page) (but.others (home_b l page) ba bb) has.1.1)),
+)
 
 -- with this page so many and one have their homes
 pub both_next : (l : Layout) (n : ℕ) → n < l.pages → (old new : Moment) → KeepsBut (home_a l n) (home_b l n) old new → ((page : ℕ) → page < n → HasBothHomes l old page) → HasBothHomes l new n → (page : ℕ) → page < n + 1 → HasBothHomes l new page
@@ -78,9 +74,7 @@ settled_has old new s bytes some is worn has = ⊎_elim (λ stands. inl stands)
     (has_on (open_damage old.windows) old.image new.image bytes s worn has)
 
 pub both_settled : (l : Layout) (page : ℕ) (old new : Moment) → IsSome old.windows.next → new.windows ≡ settled old.windows.present old.windows.next → StaysBut 8 12 old new → HasBothHomes l old page → HasBothHomes l new page
-both_settled l page old new some is stays has = record {
-  first = has.first;
-  second = has.second;
-  stands = settled_has old new (home_a l page) has.first some is (stays (home_a l page) (λ e. omega (arith, e)) (λ e. omega (arith, e))) has.stands;
-  stands_too = settled_has old new (home_b l page) has.second some is (stays (home_b l page) (λ e. omega (arith, e)) (λ e. omega (arith, e))) has.stands_too;
-}
+both_settled l page old new some is stays has = (
+  (has.0.0, settled_has old new (home_a l page) has.0.0 some is (stays (home_a l page) (λ e. omega (arith, e)) (λ e. omega (arith, e))) has.0.1),
+  (has.1.0, settled_has old new (home_b l page) has.1.0 some is (stays (home_b l page) (λ e. omega (arith, e)) (λ e. omega (arith, e))) has.1.1),
+)

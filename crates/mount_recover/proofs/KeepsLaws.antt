@@ -1,21 +1,15 @@
 -- The calls of a mount keep the windows, what was said, and each sector where they do not write.
-use Rattle.std.proofs.Common.{◌≡◌, ◌≢◌, inl, inr, ℕ, ◌<◌, ◌≤◌, Bool, List, refl, subst, ◌∙◌, arith}
+use Rattle.std.proofs.Common.{◌≡◌, ◌≢◌, inl, inr, ℕ, ◌<◌, ◌≤◌, List, refl, subst, ◌∙◌, arith}
 use Rattle.volume_layout.specs.declared.layout.Layout.{Layout}
 use Rattle.volume_layout.specs.Layout.{home_a, home_b}
-use Rattle.sector_disk.specs.declared.sector.Sector.{Sector}
 use Rattle.sector_disk.specs.Image.{Windows, sector_at, stand, open_damage}
 use Rattle.sector_disk.specs.Machine.{Moment, Holds, Wears}
-use Rattle.sector_disk.proofs.Wear.{stand_other}
+use Rattle.sector_disk.proofs.Wear.{stand_other, worn_twice}
 use Rattle.fsd_files.specs.Disk.{Image, SectorWorn}
 use Rattle.fsd_sound.proofs.WritesLaws.{beside, elsewhere}
 use Rattle.twin_home.specs.Home.{HomesIn}
 use Rattle.twin_home.specs.Heal.{Heals, RootsIn}
 use Rattle.mount_recover.specs.Mending.{Keeps, KeepsBut}
-
-pub sector_on : (b : Bool) (x y z : Sector) → SectorWorn b x y → SectorWorn b y z → SectorWorn b x z
-sector_on b x y z first (inr worn) = inr worn
-sector_on b x y z (inl same) (inl is) = inl (is ∙ same)
-sector_on b x y z (inr worn) (inl is) = inr (worn.0, is ∙ worn.1)
 
 -- ---- but for two sectors
 
@@ -27,7 +21,7 @@ but_holds : (a b : ℕ) (old new : Moment) (image : Image) → Holds old image n
 but_holds a b old new image holds same = record {
   windows = holds.windows;
   said = holds.said;
-  others = λ s not_a not_b. sector_on (open_damage old.windows s) (sector_at old.image s) (sector_at image s) (sector_at new.image s) (inl (same s not_a not_b)) (holds.worn.each s);
+  others = λ s not_a not_b. worn_twice (open_damage old.windows s) (sector_at old.image s) (sector_at image s) (sector_at new.image s) (inl (same s not_a not_b)) (holds.worn.each s);
 }
 
 pub but_homes : (l : Layout) (page : ℕ) (bytes : List ℕ) (old new : Moment) → HomesIn l page bytes old new → KeepsBut (home_a l page) (home_b l page) old new
@@ -50,7 +44,7 @@ pub but_then : (a b : ℕ) (old mid new : Moment) → Wears old mid → KeepsBut
 but_then a b old mid new wears but = record {
   windows = but.windows ∙ wears.windows;
   said = but.said ∙ wears.said;
-  others = λ s not_a not_b. sector_on (open_damage old.windows s) (sector_at old.image s) (sector_at mid.image s) (sector_at new.image s) (wears.image.each s)
+  others = λ s not_a not_b. worn_twice (open_damage old.windows s) (sector_at old.image s) (sector_at mid.image s) (sector_at new.image s) (wears.image.each s)
       (subst (λ (w : Windows). SectorWorn (open_damage w s) (sector_at mid.image s) (sector_at new.image s)) wears.windows (but.others s not_a not_b));
 }
 
@@ -67,7 +61,7 @@ pub keeps_on : (l : Layout) (a b c : Moment) → Keeps l a b → Keeps l b c →
 keeps_on l a b c first second = record {
   windows = second.windows ∙ first.windows;
   said = second.said ∙ first.said;
-  rest = λ s out. sector_on (open_damage a.windows s) (sector_at a.image s) (sector_at b.image s) (sector_at c.image s) (first.rest s out)
+  rest = λ s out. worn_twice (open_damage a.windows s) (sector_at a.image s) (sector_at b.image s) (sector_at c.image s) (first.rest s out)
       (subst (λ (w : Windows). SectorWorn (open_damage w s) (sector_at b.image s) (sector_at c.image s)) first.windows (second.rest s out));
 }
 

@@ -1,6 +1,5 @@
 -- A mount from `healing` on: the pages are mended, one after another.
 use Rattle.std.proofs.Common.{◌≡◌, ◌≢◌, ◌⊎◌, inl, inr, ⊎_elim, ℕ, zero, suc, ◌+◌, ◌*◌, ◌<◌, ◌≤◌, List, [], length, get_or, Option, Some, None, refl, sym, ap, subst, ◌∙◌, arith}
-use Rattle.std.specs.Prelude.{IsTrue}
 use Rattle.std.proofs.lemmas.List.{length-set}
 use Rattle.std.proofs.lemmas.Bool.{cases_lt}
 use Rattle.volume_layout.specs.declared.layout.Layout.{Layout}
@@ -9,11 +8,11 @@ use Rattle.volume_layout.specs.Root.{root_bytes}
 use Rattle.volume_layout.proofs.RootLaws.{planned_bounds}
 use Rattle.sector_disk.specs.declared.sector.Sector.TheVariants.{Whole}
 use Rattle.sector_disk.specs.declared.sector.WeakRun.{WeakRun}
-use Rattle.sector_disk.specs.Image.{Windows, sector_at, with_sector, stand, IsWorn, open_damage}
+use Rattle.sector_disk.specs.Image.{sector_at, with_sector, stand, IsWorn, open_damage}
 use Rattle.sector_disk.specs.Machine.{Moment, Holds, Wears}
 use Rattle.sector_disk.proofs.Calm.{stand_one}
-use Rattle.sector_disk.proofs.Holding.{holds_now, holds_wears}
-use Rattle.sector_disk.proofs.Wear.{worn_trans, worn_whole, stand_worn, stand_other, length-stand, AllWorn-worn}
+use Rattle.sector_disk.proofs.Holding.{holds_now, holds_wears, over_two, holds_on}
+use Rattle.sector_disk.proofs.Wear.{worn_whole, stand_other, length-stand, AllWorn-worn}
 use Rattle.fsd_log.specs.Images.{last_image}
 use Rattle.fsd_files.specs.Disk.{Image}
 use Rattle.fsd_sound.specs.Anchors.{EachAnchor}
@@ -24,8 +23,7 @@ use Rattle.fsd_sound.proofs.WindowLaws.{open_is_weak}
 use Rattle.log_thirds.specs.LogValue.{LogValue}
 use Rattle.twin_home.specs.Home.{HomesIn}
 use Rattle.twin_home.specs.Heal.{Mends, Heals, Mended, Healed, RootsIn, NeedsRoot, RootsHealed}
-use Rattle.twin_home.proofs.WriteLaws.{holds_on}
-use Rattle.fsd_sound.specs.Homes.{AreTwins}
+use Rattle.fsd_sound.specs.Homes.{AreTwins, IsAtHome}
 use Rattle.fsd_sound.specs.Logged.{IsLogged}
 use Rattle.fsd_sound.specs.Windows.{IsNarrow}
 use Rattle.fsd_sound.proofs.CommuteLaws.{with_same, with_other, all_over}
@@ -33,20 +31,9 @@ use Rattle.fsd_sound.proofs.WritesLaws.{elsewhere}
 use Rattle.fsd_sound.proofs.MendLaws.{logged_shows, mended_shows, rooted_shows}
 use Rattle.fsd_sound.proofs.PagesLaws.{home_is, logged_is}
 use Rattle.fsd_sound.proofs.AlikeLaws.{each_same, records_same}
-use Rattle.mount_recover.specs.Mending.{IsCompleted, IsAtHome, IsMending, IsMended, Stays}
+use Rattle.mount_recover.specs.Mending.{IsCompleted, IsMending, IsMended, Stays}
 
 -- ---- moments
-
-pub over_two : (old mid left : Moment) (image : Image) (a b : ℕ) (bytes : List ℕ) (j k : ℕ) → Holds old image mid → Holds mid (stand (stand mid.image a bytes j) b bytes k) left → Holds old (stand (stand image a bytes j) b bytes k) left
-over_two old mid left image a b bytes j k first second =
-    let may = open_damage old.windows in
-    let worn : IsWorn (open_damage old.windows) (stand (stand mid.image a bytes j) b bytes k) left.image = subst (λ (w : Windows). IsWorn (open_damage w) (stand (stand mid.image a bytes j) b bytes k) left.image) first.windows second.worn in
-    record {
-      worn = worn_trans may (stand (stand image a bytes j) b bytes k) (stand (stand mid.image a bytes j) b bytes k) left.image
-          (stand_worn may (stand image a bytes j) (stand mid.image a bytes j) b bytes k (stand_worn may image mid.image a bytes j first.worn)) worn;
-      windows = second.windows ∙ first.windows;
-      said = second.said ∙ first.said;
-    }
 
 -- a home is written, so the log stays
 pub logged_on : (l : Layout) (weak : ℕ → Rattle.std.specs.Prelude.Bool) (page s : ℕ) (bytes : List ℕ) (i : Image) → s < length i → 16 + 3 * l.third ≤ s → IsLogged l weak page i → IsLogged l weak page (with_sector i s bytes)

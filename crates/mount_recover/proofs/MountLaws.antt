@@ -1,8 +1,8 @@
 -- The calls of a mount, one after another.
-use Rattle.std.proofs.Common.{◌≡◌, inl, inr, ⊎_elim, ℕ, ◌+◌, ◌*◌, ◌<◌, ◌≤◌, Bool, true, false, ◌||◌, List, [], ◌∷◌, ◌++◌, length, Option, Some, None, Ok, refl, sym, ap, subst, ◌∙◌, arith}
+use Rattle.std.proofs.Common.{◌≡◌, inl, inr, ⊎_elim, ℕ, ◌+◌, ◌*◌, ◌<◌, ◌≤◌, Bool, ◌||◌, List, [], ◌∷◌, ◌++◌, length, Option, Some, None, Ok, refl, sym, ap, subst, ◌∙◌, arith}
 use Rattle.std.specs.Prelude.{IsTrue, IsSome, option_and_then, nat_le}
 use Rattle.std.specs.List.{AllByRecursion}
-use Rattle.std.proofs.lemmas.Bool.{cond-true, le-leb, and_parts}
+use Rattle.std.proofs.lemmas.Bool.{cond-true, le-leb, and_parts, or_left, or_right}
 use Rattle.volume_layout.specs.declared.layout.Layout.{Layout}
 use Rattle.volume_layout.specs.Layout.{plan}
 use Rattle.volume_layout.specs.Root.{root_bytes, read_root}
@@ -16,7 +16,7 @@ use Rattle.sector_disk.specs.Image.{Windows, sector_at, IsWorn, IsCalm, AreShort
 use Rattle.sector_disk.specs.Machine.{Moment, Wears}
 use Rattle.sector_disk.proofs.Calm.{calm_worn}
 use Rattle.sector_disk.proofs.Damage.{lost_as}
-use Rattle.sector_disk.proofs.Wear.{worn_trans}
+use Rattle.sector_disk.proofs.Wear.{worn_trans, worn_twice}
 use Rattle.fsd_log.specs.Scan.{Placed, place_of}
 use Rattle.fsd_log.proofs.PlaceLaws.{place_inside, place_from}
 use Rattle.fsd_files.specs.Disk.{Image, Sectors, SectorWorn, bytes_of, either_copy}
@@ -44,7 +44,6 @@ use Rattle.mount_recover.specs.Replay.{HasLastCopies, IsCompletedFrom, Replays}
 use Rattle.fsd_sound.proofs.WindowLaws.{short_apart}
 use Rattle.mount_recover.proofs.PlaceLaws.{lies_last}
 use Rattle.mount_recover.proofs.CompletingLaws.{last_by, low_third}
-use Rattle.mount_recover.proofs.KeepsLaws.{sector_on}
 use Rattle.mount_recover.proofs.MendingLaws.{stays_show}
 use Rattle.fsd_log.proofs.RobustLaws.{length_more}
 use Rattle.fsd_log.specs.Places.{LieInRecord, last_places}
@@ -150,7 +149,7 @@ module _ (sectors : ℕ) (l : Layout) (windows : List WeakRun) (choices : List (
     first_worn s = (weaker old.image one.image wears.image).each s
 
     from_one : (s : ℕ) (x : Sector) → SectorWorn (weak_of windows s) (sector_at one.image s) x → SectorWorn (weak_of windows s) (sector_at old.image s) x
-    from_one s x later = sector_on (weak_of windows s) (sector_at old.image s) (sector_at one.image s) x (first_worn s) later
+    from_one s x later = worn_twice (weak_of windows s) (sector_at old.image s) (sector_at one.image s) x (first_worn s) later
 
     pub replays_from : (left : Moment) → Replays l windows choices one left → Replays l windows choices old left
     replays_from left now = record {
@@ -179,7 +178,7 @@ module _ (sectors : ℕ) (l : Layout) (windows : List WeakRun) (choices : List (
       }
 
       rest_two : (left : Moment) → WritesAsMount l (weak_of windows) two left → WritesAsMount l (weak_of windows) old left
-      rest_two left on s out = from_one s (sector_at left.image s) (sector_on (weak_of windows s) (sector_at one.image s) (sector_at two.image s) (sector_at left.image s) (done.rest s out) (on s out))
+      rest_two left on s out = from_one s (sector_at left.image s) (worn_twice (weak_of windows s) (sector_at one.image s) (sector_at two.image s) (sector_at left.image s) (done.rest s out) (on s out))
 
       pub stays_replays : (left : Moment) → Stays l windows choices two left → Replays l windows choices old left
       stays_replays left at =
@@ -189,8 +188,8 @@ module _ (sectors : ℕ) (l : Layout) (windows : List WeakRun) (choices : List (
               present = ap (λ (w : Windows). w.present) at.holds.windows ∙ done.present ∙ ap (λ (w : Windows). w.present) wears.windows;
               shows = stays_show l windows choices log two done.is left at;
             });
-            order = inr (in_order left (λ s from inside. sector_on (weak_of windows s) (sector_at two.image s) (sector_at at.image s) (sector_at left.image s) (inl (at.log s from inside)) (worn.each s)));
-            rest = rest_two left (λ s out. sector_on (weak_of windows s) (sector_at two.image s) (sector_at at.image s) (sector_at left.image s) (inl (at.rest s out)) (worn.each s));
+            order = inr (in_order left (λ s from inside. worn_twice (weak_of windows s) (sector_at two.image s) (sector_at at.image s) (sector_at left.image s) (inl (at.log s from inside)) (worn.each s)));
+            rest = rest_two left (λ s out. worn_twice (weak_of windows s) (sector_at two.image s) (sector_at at.image s) (sector_at left.image s) (inl (at.rest s out)) (worn.each s));
             said = at.holds.said ∙ done.said ∙ wears.said;
           }
 
@@ -264,14 +263,6 @@ mend_refused sectors l log old one fits is WornOut cause = absurd cause
 
 -- ---- where a mount does not write
 
-or_first : (a b : Bool) → IsTrue a → IsTrue (a || b)
-or_first true b e = refl
-or_first false b e = absurd (cc e)
-
-or_second : (a b : Bool) → IsTrue b → IsTrue (a || b)
-or_second true b e = refl
-or_second false b e = e
-
 worn_more_at : (b c : Bool) (x y : Sector) → (IsTrue b → IsTrue c) → SectorWorn b x y → SectorWorn c x y
 worn_more_at b c x y more (inl same) = inl same
 worn_more_at b c x y more (inr hurt) = inr (more hurt.0, hurt.1)
@@ -286,25 +277,21 @@ rest_through : (l : Layout) (old one two three new : Moment) → Wears old one �
 rest_through l old one two three new wears first second third in_new s out =
     let both : Bool = open_damage old.windows s || open_damage new.windows s in
     let to_one : SectorWorn (open_damage old.windows s || open_damage new.windows s) (sector_at old.image s) (sector_at one.image s) =
-    worn_more_at (open_damage old.windows s) both (sector_at old.image s) (sector_at one.image s) (or_first (open_damage old.windows s) (open_damage new.windows s)) (wears.image.each s) in
+    worn_more_at (open_damage old.windows s) both (sector_at old.image s) (sector_at one.image s) (or_left (open_damage old.windows s) (open_damage new.windows s)) (wears.image.each s) in
     let to_two : SectorWorn (open_damage old.windows s || open_damage new.windows s) (sector_at one.image s) (sector_at two.image s) =
-    worn_more_at (open_damage one.windows s) both (sector_at one.image s) (sector_at two.image s) (λ hurt. or_first (open_damage old.windows s) (open_damage new.windows s) (subst (λ (w : Windows). IsTrue (open_damage w s)) wears.windows hurt)) (first s out) in
+    worn_more_at (open_damage one.windows s) both (sector_at one.image s) (sector_at two.image s) (λ hurt. or_left (open_damage old.windows s) (open_damage new.windows s) (subst (λ (w : Windows). IsTrue (open_damage w s)) wears.windows hurt)) (first s out) in
     let to_three : SectorWorn (open_damage old.windows s || open_damage new.windows s) (sector_at two.image s) (sector_at three.image s) =
     worn_more_at (open_damage two.windows s) both (sector_at two.image s) (sector_at three.image s)
-    (λ hurt. or_second (open_damage old.windows s) (open_damage new.windows s) (in_new s (subst (λ (w : Windows). IsTrue (open_damage w s)) (sym second.windows) hurt))) (second.rest s out) in
+    (λ hurt. or_right (open_damage old.windows s) (open_damage new.windows s) (in_new s (subst (λ (w : Windows). IsTrue (open_damage w s)) (sym second.windows) hurt))) (second.rest s out) in
     let to_new : SectorWorn (open_damage old.windows s || open_damage new.windows s) (sector_at three.image s) (sector_at new.image s) =
-    worn_more_at (open_damage three.windows s) both (sector_at three.image s) (sector_at new.image s) (λ hurt. or_second (open_damage old.windows s) (open_damage new.windows s) (in_new s hurt)) (third s out) in
-    sector_on both (sector_at old.image s) (sector_at three.image s) (sector_at new.image s)
-    (sector_on both (sector_at old.image s) (sector_at two.image s) (sector_at three.image s) (sector_on both (sector_at old.image s) (sector_at one.image s) (sector_at two.image s) to_one to_two) to_three) to_new
+    worn_more_at (open_damage three.windows s) both (sector_at three.image s) (sector_at new.image s) (λ hurt. or_right (open_damage old.windows s) (open_damage new.windows s) (in_new s hurt)) (third s out) in
+    worn_twice both (sector_at old.image s) (sector_at three.image s) (sector_at new.image s)
+    (worn_twice both (sector_at old.image s) (sector_at two.image s) (sector_at three.image s) (worn_twice both (sector_at old.image s) (sector_at one.image s) (sector_at two.image s) to_one to_two) to_three) to_new
 
 pub rest_kept : (l : Layout) (old one two three new : Moment) → Wears old one → StaysElsewhere l one two → Keeps l two three → StaysElsewhere l three new → IsSome two.windows.next → new.windows ≡ settled three.windows.present three.windows.next → KeepsElsewhere l old new
 rest_kept l old one two three new wears first second third some is =
     rest_through l old one two three new wears first second third
     (λ s hurt. subst (λ (w : Windows). IsTrue (open_damage w s)) (sym is) (open_settled three.windows.present three.windows.next (subst (λ (w : Windows). IsSome w.next) (sym second.windows) some) s hurt))
-
--- nothing is written yet
-pub keeps_all : (l : Layout) (now : Moment) → Keeps l now now
-keeps_all l now = record { windows = refl; said = refl; rest = λ s out. inl refl }
 
 -- so it is where the windows stayed, too
 pub rest_left : (l : Layout) (old one two three new : Moment) → Wears old one → StaysElsewhere l one two → Keeps l two three → StaysElsewhere l three new → new.windows ≡ three.windows → KeepsElsewhere l old new

@@ -7,7 +7,7 @@ use Rattle.volume_layout.specs.Layout.{plan}
 use Rattle.volume_layout.specs.Root.{read_root}
 use Rattle.fsd_formats.specs.declared.anchor.Anchor.{Anchor}
 use Rattle.sector_disk.specs.declared.sector.Sector.{Sector}
-use Rattle.sector_disk.specs.declared.sector.Sector.TheVariants.{Whole, Damaged}
+use Rattle.sector_disk.specs.declared.sector.Sector.TheVariants.{Damaged}
 use Rattle.sector_disk.specs.Image.{Windows, sector_at, IsWorn, open_damage}
 use Rattle.sector_disk.specs.Machine.{Moment, Wears}
 use Rattle.sector_disk.proofs.Wear.{worn_refl, worn_trans}
@@ -21,7 +21,7 @@ use Rattle.log_thirds.specs.Append.{IsIndexed}
 use Rattle.log_thirds.specs.Copies.{AreLastCopies}
 use Rattle.log_thirds.specs.declared.fault.LogFault.{LogFault}
 use Rattle.log_thirds.specs.declared.fault.LogFault.TheVariants as log
-use Rattle.log_thirds.specs.Disk.{bytes_in, reads}
+use Rattle.log_thirds.specs.Disk.{reads}
 use Rattle.log_thirds.specs.LogValue.{LogValue}
 use Rattle.log_thirds.specs.Reading.{ReadWorn, SeesAnchor, SeesLastEpoch}
 use Rattle.log_thirds.specs.Seen.{IsScanOf, LogOn}
@@ -30,12 +30,8 @@ use Rattle.fsd_sound.specs.declared.fault.MountFault.{MountFault}
 use Rattle.mount_recover.specs.Finding.{mount_fault_of, IsFound, IsNotFound}
 use Rattle.mount_recover.specs.Mending.{KnowsLog}
 
-bytes_alike : (s : Sector) → bytes_in s ≡ bytes_of s
-bytes_alike (Whole bytes) = refl
-bytes_alike Damaged = refl
-
 pub reads_bytes : (i : Image) → ◌≡◌ {A = Reader} (reads i) (bytes_at i)
-reads_bytes i = λ x s. bytes_alike (sector_at i s) x
+reads_bytes i = refl
 
 -- the roots are the first sectors
 root_same : (sectors : ℕ) (i j : Image) → sector_at j 0 ≡ sector_at i 0 → sector_at j 4 ≡ sector_at i 4 → root_of sectors j ≡ root_of sectors i
@@ -74,7 +70,7 @@ see_one : (at : Moment) (i : Image) (s : ℕ) (bytes : Option (List ℕ)) → s 
 see_one at i s bytes room same (inl is) = record {
   image = i;
   worn = worn_refl (open_damage at.windows) i;
-  is = ap bytes_of same ∙ sym (bytes_alike (sector_at at.image s)) ∙ sym is;
+  is = ap bytes_of same ∙ sym is;
   rest = λ p other. refl;
 }
 see_one at i s bytes room same (inr hurt) = record {

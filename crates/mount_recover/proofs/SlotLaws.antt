@@ -11,6 +11,7 @@ use Rattle.sector_disk.specs.Damage.{LostCause, IsDevice}
 use Rattle.sector_disk.specs.Image.{sector_at}
 use Rattle.sector_disk.specs.Machine.{Moment, Wears}
 use Rattle.sector_disk.proofs.Holding.{holds_wears}
+use Rattle.sector_disk.proofs.Wear.{worn_twice}
 use Rattle.fsd_formats.specs.declared.anchor.Anchor.{Anchor}
 use Rattle.fsd_log.specs.Images.{last_image}
 use Rattle.fsd_log.specs.Scan.{Placed}
@@ -30,7 +31,6 @@ use Rattle.log_thirds.proofs.ImageLaws.{logged_by}
 use Rattle.log_thirds.proofs.GivesLaws.{EachImage, Gives, slot_gives as slot_gives_at}
 use Rattle.mount_recover.specs.Mending.{IsCompleted, IsMending}
 use Rattle.mount_recover.proofs.GivenLaws.{slot_inside}
-use Rattle.mount_recover.proofs.KeepsLaws.{sector_on}
 use Rattle.mount_recover.proofs.MendingLaws.{weaker}
 
 -- ---- a record that was laid whole
@@ -51,7 +51,7 @@ module _ (l : Layout) (windows : List WeakRun) (choices : List (List (List ℕ))
   log_worn : (left : Moment) → Wears now left → (s : ℕ) → s < 16 + 3 * l.third → SectorWorn (weak_of windows s) (sector_at c.clean s) (sector_at left.image s)
   log_worn left wears s inside =
       let later = holds_wears first at.image now left at.holds wears in
-      sector_on (weak_of windows s) (sector_at c.clean s) (sector_at at.image s) (sector_at left.image s)
+      worn_twice (weak_of windows s) (sector_at c.clean s) (sector_at at.image s) (sector_at left.image s)
       (subst (λ (x : Sector). SectorWorn (weak_of windows s) (sector_at c.clean s) x) (sym (at.front s inside)) (c.worn.each s))
       ((weaker l windows choices log first c at.image left.image later.worn).each s)
 

@@ -24,6 +24,7 @@ use Rattle.mount_recover.specs.Replay.{HasLastCopies, KeepsBehindLog, IsAfter}
 use Rattle.fsd_sound.specs.Logged.{IsLogged}
 use Rattle.fsd_sound.specs.Windows.{IsApart}
 use Rattle.fsd_sound.specs.Writes.{WritesAsMount, mount_writes}
+use Rattle.fsd_sound.specs.Homes.{IsAtHome}
 
 -- ---- faults
 
@@ -119,10 +120,6 @@ pub record Completed (l : Layout) (windows : List WeakRun) (choices : List (List
   pub rest : WritesAsMount l (weak_of windows) old new
   pub present : new.windows.present ≡ old.windows.present
   pub said : new.said ≡ old.said
-
--- both homes of the page are whole, with these bytes
-abbrev pub IsAtHome : Layout → Image → (page : ℕ) → List ℕ → Type 0
-IsAtHome l i page bytes = (sector_at i (home_a l page) ≡ Whole bytes) × (sector_at i (home_b l page) ≡ Whole bytes)
 
 -- Of the disk as `healing` left it the first pages are mended, so many of them; the moment is worn from that.
 pub record IsMending (l : Layout) (windows : List WeakRun) (choices : List (List (List ℕ))) (log : LogValue) (first : Moment) (c : IsCompleted l windows choices log first) (n : ℕ) (now : Moment) : Type 0 where

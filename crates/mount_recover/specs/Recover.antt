@@ -1,7 +1,7 @@
 -- What a mount settles, and what it leaves.
 use Rattle.std.specs.Prelude.{◌≡◌, ⊤, ℕ, ◌+◌, ◌*◌, ◌≤◌, List, [], Ok}
 use Rattle.volume_layout.specs.declared.layout.Layout.{Layout}
-use Rattle.volume_layout.specs.Layout.{plan, home_a, home_b}
+use Rattle.volume_layout.specs.Layout.{plan}
 use Rattle.fsd_formats.specs.declared.anchor.Anchor.{Anchor}
 use Rattle.fsd_formats.specs.Anchors.{anchor_bytes}
 use Rattle.sector_disk.specs.declared.sector.WeakRun.{WeakRun}
@@ -45,13 +45,6 @@ pub record IsRefusedFor (sectors : ℕ) (fault : MountFault) (old : Moment) : Ty
 -- the anchor stands at both of its places, or is damaged where it may be
 abbrev pub HasAnchors : Anchor → Moment → Type 0
 HasAnchors a now = Has (open_damage now.windows) now.image (anchor_bytes a) 8 × Has (open_damage now.windows) now.image (anchor_bytes a) 12
-
--- Each home of the page has its bytes, or is damaged where it may be.
-pub record HasBothHomes (l : Layout) (now : Moment) (page : ℕ) : Type 0 where
-  pub first : List ℕ
-  pub second : List ℕ
-  pub stands : Has (open_damage now.windows) now.image first (home_a l page)
-  pub stands_too : Has (open_damage now.windows) now.image second (home_b l page)
 
 -- The sectors that a mount of so many pages writes at most: the copies of 96 images and of their end, two homes of each page,
 -- the roots and the anchors.

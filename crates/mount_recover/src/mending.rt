@@ -16,7 +16,7 @@ ghost use Rattle.mount_recover.specs.Finding.{IsExcuse};
 ghost use Rattle.fsd_sound.specs.Lost.{AreHomes, LostIn};
 ghost use Rattle.fsd_sound.specs.Mounting.{load_fault_of};
 ghost use Rattle.mount_recover.specs.Mending.{IsLoadFault, AreOfVolume, AreOfAll, AreRoots, IsCompleted, IsMending, IsMended, Stays, Keeps, KeepsBut};
-ghost use Rattle.mount_recover.specs.Recover.{HasBothHomes};
+ghost use Rattle.fsd_sound.specs.Homes.{HasBothHomes};
 ghost use Rattle.fsd_sound.specs.Mounting.{device_of_mount};
 ghost use Rattle.mount_recover.specs.Showing.{GivesPages, ChangesHome, HasNoRoot, IsShowing, LosesNone, LosesHome, shows_of};
 

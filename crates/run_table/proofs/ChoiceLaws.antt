@@ -1,20 +1,15 @@
 -- Laws of the choice of sectors: as many as are needed, all of them free; and none only where eight runs don't suffice.
-use Rattle.std.proofs.Common.{◌≡◌, ◌⊎◌, ◌↔◌, ℕ, zero, suc, ◌+◌, ◌-◌, ◌<◌, ◌≤◌, Bool, true, false, cond, ◌||◌, List, [], ◌∷◌, ◌++◌, take, Option, Some, None, refl, sym, subst, inl, inr, arith}
+use Rattle.std.proofs.Common.{◌≡◌, ◌⊎◌, ◌↔◌, ℕ, zero, suc, ◌+◌, ◌-◌, ◌<◌, ◌≤◌, Bool, true, false, cond, List, [], ◌∷◌, take, Option, Some, None, refl, sym, subst, inl, inr, arith}
 use Rattle.std.specs.Prelude.{IsTrue, IfSome, nat_le, nat_lt, ◌==◌, find}
 use Rattle.std.specs.List.{range_with_len}
 use Rattle.std.proofs.lemmas.Bool.{leb-true, leb-false, ltb-true, ltb-false, eqb-true, or_cases, or_left, or_right}
-use Rattle.std.proofs.lemmas.List.Folds.{list_any-append}
-use Rattle.std.proofs.lemmas.List.Sums.{sum_by-cons}
 use Rattle.run_table.specs.declared.run.Run.{Run}
 use Rattle.run_table.specs.RunTable.{run_of, total, max_runs}
 use Rattle.run_table.specs.RunTable.{sectors_of}
 use Rattle.run_table.specs.Space.{contains, by_length, longest_first, cut_to, longest, best, picked, pick}
+use Rattle.run_table.proofs.SectorLaws.{contains-append, total-cons}
 
 -- ---- as many as are needed
-
--- `total` is std's `sum_by`, which goes from the left
-total-cons : (r : Run) (runs : List Run) → total (r ∷ runs) ≡ r.length + total runs
-total-cons r runs = sum_by-cons (λ (r : Run). r.length) r runs
 
 total_of_cut : (need : ℕ) (runs : List Run) → need ≤ total runs → total (cut_to need runs) ≡ need
 total_of_cut need [] h = omega arith
@@ -45,9 +40,6 @@ total_of_pick runs need = by (find (λ r. nat_le need r.length) runs)
 -- each sector of the first is one of the second
 abbrev pub Among : List ℕ → List ℕ → Type 0
 Among xs ys = (s : ℕ) → IsTrue (contains xs s) → IsTrue (contains ys s)
-
-contains-append : (xs ys : List ℕ) (s : ℕ) → contains (xs ++ ys) s ≡ (contains xs s || contains ys s)
-contains-append xs ys s = list_any-append (λ t. t == s) xs ys
 
 front_among : (a n m : ℕ) → n ≤ m → Among (range_with_len a n) (range_with_len a m)
 front_among a zero m h s c = absurd cc

@@ -1,14 +1,9 @@
 -- Texts that are put together.
-use Rattle.std.proofs.Common.{◌≡◌, ℕ, List, ◌++◌, Result, Ok, Err, append_assoc, codes}
-use Rattle.std.specs.Prelude.{IfOk, decimal}
+use Rattle.std.proofs.Common.{◌≡◌, ℕ, List, ◌++◌, append_assoc, codes}
+use Rattle.std.specs.Prelude.{decimal}
 use Rattle.fsd_texts.specs.declared.line.Line.{Line}
 use Rattle.fsd_texts.specs.declared.line.Line.TheVariants.{Generated}
 use Rattle.fsd_texts.specs.Text.{newline, text}
-
--- what follows from what holds of a value that is there
-pub if_ok : {A E : Type 0} (r : Result A E) (P Q : A → Type 0) → ((x : A) → P x → Q x) → IfOk r P → IfOk r Q
-if_ok (Ok x) P Q more h = more x h
-if_ok (Err e) P Q more h = tt
 
 regroup : (a b c d e f g h i j k l m n o : List ℕ) → (a ++ b ++ c ++ d ++ e ++ f ++ g ++ h) ++ (i ++ j ++ k ++ l ++ m ++ n ++ o)
     ≡ a ++ (b ++ (c ++ (d ++ (e ++ (f ++ (g ++ (h ++ (i ++ (j ++ (k ++ (l ++ (m ++ (n ++ o)))))))))))))

@@ -2,11 +2,9 @@
 use Rattle.std.proofs.Common.{◌≡◌, ◌≤◌, ◌∙◌, refl, sym, ap, subst, arith, ℕ, Bool, true, false, Option, Some, None}
 use Rattle.std.specs.Prelude.{Result, Ok, Err, IsErrAnd}
 use Rattle.sector_disk.specs.declared.machine.Failed.{Failed}
-use Rattle.sector_disk.specs.declared.machine.LoadFault.{LoadFault}
-use Rattle.sector_disk.specs.declared.machine.LoadFault.TheVariants.{Device}
 use Rattle.sector_disk.specs.declared.machine.Machine.{Ghosts}
 use Rattle.sector_disk.specs.Machine.{Before, DiskCause, Elapses, Ledger, LeavesOnly, Moment, OnlyWrites, Report, Trusts, UsesDisk, Wears}
-use Rattle.sector_disk.specs.Calls.{Counts, DiskFaults, HealsDisk, LeavesDisk, OnlyReads, Since, SparesDisk, WritesDisk, device_in, failed_at, load_failed_at}
+use Rattle.sector_disk.specs.Calls.{Counts, DiskFaults, HealsDisk, LeavesDisk, OnlyReads, Since, SparesDisk, WritesDisk, device_in, failed_at}
 use Rattle.sector_disk.proofs.Holding.{trusts_on, wears_none, wears_on}
 use Rattle.sector_disk.proofs.Moments.{started, then_on, leaves_more}
 
@@ -38,23 +36,15 @@ spares_then takes says a b c first second = record {
   output = counts_then says a.output_faults b.output_faults c.output_faults first.output second.output;
 }
 
-only_writes_then : (a b c : Ledger) → OnlyWrites a b → OnlyWrites b c → OnlyWrites a c
+pub only_writes_then : (a b c : Ledger) → OnlyWrites a b → OnlyWrites b c → OnlyWrites a c
 only_writes_then a b c first second = record { input = second.input ∙ first.input; attaches = second.attaches ∙ first.attaches }
 
 -- ---- faults handed on
 
--- a fault that is handed on tells the place that it told
-pub told_on : {T U E : Type 0} (at : E → Option ℕ) (was : Result T E) (is : Result U E) (fault : E) → was ≡ Err fault → is ≡ Err fault → device_in at is ≡ device_in at was
-told_on at was is fault first second = ap (device_in at) second ∙ sym (ap (device_in at) first)
-
--- and so does one that `?` hands on
+-- a fault that `?` hands on tells the place that it told
 pub told_up : {T E : Type 0} (at : E → Option ℕ) (is : Result T E) (fault : E) → IsErrAnd is (λ told. told ≡ fault) → device_in at is ≡ at fault
 told_up at (Ok x) fault same = absurd same
 told_up at (Err told) fault same = ap at same
-
--- a call of the disk that failed, handed on as a fault of a load
-pub failed_on : {T U : Type 0} (was : Result T Failed) (is : Result U LoadFault) (failed : Failed) → was ≡ Err failed → is ≡ Err (Device failed.place) → device_in load_failed_at is ≡ device_in failed_at was
-failed_on was is failed first second = ap (device_in load_failed_at) second ∙ sym (ap (device_in failed_at) first)
 
 -- ---- two calls in a row
 

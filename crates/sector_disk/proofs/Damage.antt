@@ -1,21 +1,11 @@
 -- Laws of what is lost.
-use Rattle.std.proofs.Common.{ℕ, Bool, List}
+use Rattle.std.proofs.Common.{ℕ, List}
 use Rattle.sector_disk.specs.declared.sector.Sector.{Sector}
 use Rattle.sector_disk.specs.declared.machine.LoadFault.{LoadFault}
 use Rattle.sector_disk.specs.declared.machine.LoadFault.TheVariants.{Device, Lost}
 use Rattle.sector_disk.specs.Damage.{AreLost, LostCause}
-use Rattle.sector_disk.specs.Image.{IsWorn}
-use Rattle.sector_disk.proofs.Wear.{worn_damaged}
 
 module _ (P : ℕ → ℕ → Type 0) (a b : ℕ) where
-  -- what is lost stays so while sectors wear
-  pub lost_worn : (may : ℕ → Bool) (i j : List Sector) → IsWorn may i j → AreLost P i a b → AreLost P j a b
-  lost_worn may i j worn lost = record {
-    copies = lost.copies;
-    first = worn_damaged may i j a worn lost.first;
-    second = worn_damaged may i j b worn lost.second;
-  }
-
   -- what is said of the two copies may be said in other words
   pub lost_as : (Q : ℕ → ℕ → Type 0) (i : List Sector) → (P a b → Q a b) → AreLost P i a b → AreLost Q i a b
   lost_as Q i say lost = record { copies = say lost.copies; first = lost.first; second = lost.second }

@@ -252,10 +252,6 @@ by_ok (Err e) P ok is = absurd (cc ok)
 pub then_does : (settle : Bool) (does : State → State) (old new end : State) → Calls settle same old new true → end ≡ does new → Calls settle does old end true
 then_does settle does old new end call is = record { running = call.running; goes = call.goes; after = is ∙ ap does call.after }
 
--- a growth is refused before the call is noted
-pub starves : (old new : State) → old.stopped ≡ false → new ≡ record old { starved = min (old.starved + 1) (2 ^ 64 - 1) } → Rests old new
-starves old new running is = inr (running, is)
-
 -- a write, by the parts of its verdict
 pub written_as : (first : ℕ) (text : List ℕ) (some : ℕ) (goes stops : Bool) (verdict : Verdict) (old new : State) (ok : Bool) → some ≡ stood_by verdict (length text / 512) → goes ≡ is_going verdict → stops ≡ is_stop verdict → verdict ≡ write_verdict first (length text / 512) old
     → Exactly goes (put first text some goes stops (noted false old)) (put first text some goes stops (noted false old)) old new ok → Written first text old new ok

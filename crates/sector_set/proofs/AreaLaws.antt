@@ -1,14 +1,13 @@
 -- Sets of an interval and their numbers.
 use Rattle.std.proofs.Common.{[], IfSome, Bool, List, None, Option, Some, ap, arith, drop, false, get_or, inl, inr, length, not, refl, subst, sym, true, ℕ, ◌&&◌, ◌+◌, ◌-◌, ◌<◌, ◌^◌, ◌||◌, ◌∙◌, ◌∷◌, ◌≡◌, ◌≤◌}
 use Rattle.std.specs.Prelude.{nat_lt}
-use Rattle.std.specs.List.{range_with_len}
 use Rattle.std.proofs.lemmas.Bool.{cases_lt, both_ways, le-leb, lt-ltb}
-use Rattle.std.proofs.lemmas.List.{drop_more, drop_all}
-use Rattle.std.proofs.lemmas.List.Folds.{list_any-append}
+use Rattle.std.proofs.lemmas.List.{drop_more}
 use Rattle.std.proofs.lemmas.List.Sums.{sum_by-cons}
 use Rattle.run_table.specs.declared.run.Run.{Run}
 use Rattle.run_table.specs.RunTable.{run_of, total, sectors_of}
 use Rattle.run_table.specs.Space.{contains, all_differ, where_free, runs_of}
+use Rattle.run_table.proofs.SectorLaws.{contains-cons}
 use Rattle.sector_set.specs.SectorSet.{SectorsBelow, below, in_run, runs_from, IsFirstRun}
 use Rattle.sector_set.proofs.FreeLaws.{where_same, contains_where, contains_where_outside, contains_range, total_of_runs}
 use Rattle.sector_set.proofs.SetLaws.{contains_below}
@@ -16,9 +15,6 @@ use Rattle.sector_set.specs.Area.{Area, area, without, together, AreIn, AreOut, 
 use Rattle.sector_set.proofs.CountLaws.{none_where, count_without, count_together, no_more_than}
 
 -- ---- one run more
-
-contains-cons : (r : Run) (runs : List Run) (s : ℕ) → contains (sectors_of (r ∷ runs)) s ≡ (in_run r s || contains (sectors_of runs) s)
-contains-cons r runs s = list_any-append _ (range_with_len r.start r.length) (sectors_of runs)
 
 pub remove_step : (runs : List Run) (i : ℕ) (d : Run) (set new : SectorsBelow) (s : ℕ) (all : Bool) → i < length runs → new ≡ below set.end (λ s. contains set.sectors s && not (in_run (get_or runs i d) s)) → s < set.end
     → (contains set.sectors s && not (contains (sectors_of (drop i runs)) s)) ≡ all
@@ -90,21 +86,6 @@ counts_together from end old new runs are h =
     ap length (where_same (contains new) (λ s. contains old s || contains (sectors_of runs) s) from end (λ s low high. h s high))
     ∙ count_together (contains old) runs from end are.differ are.within
     (λ s c. let within = are.within s c in sym (contains_where (contains old) from end s within.0 within.1) ∙ are.outside s c)
-
--- nothing is left
-pub as_it_is_remove : (set : SectorsBelow) (runs : List Run) (i s : ℕ) (all : Bool) → length runs ≤ i → (contains set.sectors s && not (contains (sectors_of (drop i runs)) s)) ≡ all → contains set.sectors s ≡ all
-as_it_is_remove set runs i s all over so_far = yes (contains set.sectors s) ∙ ap (λ (x : List Run). contains set.sectors s && not (contains (sectors_of x) s)) (sym (drop_all i runs over)) ∙ so_far
-  where
-    yes : (a : Bool) → a ≡ (a && not false)
-    yes true = refl
-    yes false = refl
-
-pub as_it_is_insert : (set : SectorsBelow) (runs : List Run) (i s : ℕ) (all : Bool) → length runs ≤ i → (contains set.sectors s || contains (sectors_of (drop i runs)) s) ≡ all → contains set.sectors s ≡ all
-as_it_is_insert set runs i s all over so_far = yes (contains set.sectors s) ∙ ap (λ (x : List Run). contains set.sectors s || contains (sectors_of x) s) (sym (drop_all i runs over)) ∙ so_far
-  where
-    yes : (a : Bool) → a ≡ (a || false)
-    yes true = refl
-    yes false = refl
 
 -- ---- counting by runs
 

@@ -2,8 +2,7 @@
 use Rattle.std.proofs.Common.{◌≡◌, ◌≢◌, ℕ, zero, suc, ◌+◌, ◌-◌, ◌*◌, ◌/◌, ◌%◌, ◌^◌, ◌<◌, ◌≤◌, min, max, Bool, true, false, not, ◌&&◌, ◌||◌, List, length, get_or, set, bit_and, bit_or, w64, refl, sym, ap, ◌∙◌, inl, inr, arith}
 use Rattle.std.specs.Prelude.{nat_le, nat_lt, ◌==◌}
 use Rattle.std.specs.Int.{bit_at, bit_not, trailing_zeros}
-use Rattle.std.proofs.lemmas.Bool.{and_parts, cases_Bool, cases_lt, eqb-true, eqb-false, leb-true, leb-false, ltb-true, ltb-false, lt-ltb, le-leb}
-use Rattle.std.proofs.lemmas.Bool.Decides.{nat_tests}
+use Rattle.std.proofs.lemmas.Bool.{and_parts, cases_Bool, cases_lt, eqb-true, eqb-false, leb-true, leb-false, ltb-true, ltb-false, lt-ltb, le-leb, le-ltb}
 use Rattle.std.proofs.lemmas.Nat.Bits.{bit_at_and, bit_at_or, bit_at_not, bit_at-lt, bit_at_mask_inside, bit_at_mask_below, bit_at_ones, bit_at_ones_above, ones_shl, ones_shr, bit_at-trailing_zeros, bit_at-zero}
 use Rattle.std.proofs.lemmas.List.{get_or-set_same, get_or-set_other}
 use Rattle.sector_set.specs.Bits.{has_bit, is_set, in_range, agrees}
@@ -92,12 +91,6 @@ same_lt a b c d f g =
       ]
     ]
 
-pub part_is : (w start stop i : ℕ) → start < 64 * w + 64 → 64 * w < stop → i < 64
-    → in_range (max start (64 * w) - 64 * w) (min stop (64 * w + 64) - 64 * w) i ≡ in_range start stop (64 * w + i)
-part_is w start stop i first last h =
-    ap (λ (b : Bool). b && nat_lt i (min stop (64 * w + 64) - 64 * w)) (same_le (max start (64 * w) - 64 * w) i start (64 * w + i) (λ e. omega arith) (λ e. omega arith))
-    ∙ ap (λ (b : Bool). nat_le start (64 * w + i) && b) (same_lt i (min stop (64 * w + 64) - 64 * w) (64 * w + i) stop (λ e. omega arith) (λ e. omega arith))
-
 -- ---- ranges of bits
 
 set_here : (words : List ℕ) (w v s : ℕ) → w < length words → s / 64 ≡ w → is_set (set words w v) s ≡ has_bit v (s % 64)
@@ -126,9 +119,6 @@ and_more true false = refl
 and_more false true = refl
 and_more false false = refl
 
-not_lt : (a b : ℕ) → b ≤ a → nat_lt a b ≡ false
-not_lt a b h = grind (arith, nat_tests)
-
 -- the bits of the range as far as a word
 pub insert_step : (words old : List ℕ) (start stop w p s : ℕ) → w < length words → ((i : ℕ) → i < 64 → has_bit p i ≡ in_range start stop (64 * w + i))
     → is_set words s ≡ (is_set old s || (in_range start stop s && nat_lt s (64 * w)))
@@ -139,7 +129,7 @@ insert_step words old start stop w p s inside part so_far =
           let place : 64 * w + s % 64 ≡ s = omega arith in
           let now : has_bit p (s % 64) ≡ in_range start stop s = part (s % 64) (omega arith) ∙ ap (in_range start stop) place in
           let was : has_bit (get_or words w 0) (s % 64) ≡ (is_set old s || (in_range start stop s && false)) =
-          sym (is_bit words w s at) ∙ so_far ∙ ap (λ (b : Bool). is_set old s || (in_range start stop s && b)) (not_lt s (64 * w) (omega arith)) in
+          sym (is_bit words w s at) ∙ so_far ∙ ap (λ (b : Bool). is_set old s || (in_range start stop s && b)) (le-ltb s (64 * w) (omega arith)) in
           set_here words w (bit_or (get_or words w 0) p) s inside at
           ∙ has_or (get_or words w 0) p (s % 64)
           ∙ ap (λ (b : Bool). b || has_bit p (s % 64)) was
@@ -161,7 +151,7 @@ remove_step words old start stop w p s inside fits part so_far =
           let place : 64 * w + s % 64 ≡ s = omega arith in
           let now : has_bit (bit_not w64 p) (s % 64) ≡ not (in_range start stop s) = has_not p (s % 64) fits (omega arith) ∙ ap not (part (s % 64) (omega arith) ∙ ap (in_range start stop) place) in
           let was : has_bit (get_or words w 0) (s % 64) ≡ (is_set old s && not (in_range start stop s && false)) =
-          sym (is_bit words w s at) ∙ so_far ∙ ap (λ (b : Bool). is_set old s && not (in_range start stop s && b)) (not_lt s (64 * w) (omega arith)) in
+          sym (is_bit words w s at) ∙ so_far ∙ ap (λ (b : Bool). is_set old s && not (in_range start stop s && b)) (le-ltb s (64 * w) (omega arith)) in
           set_here words w (bit_and (get_or words w 0) (bit_not w64 p)) s inside at
           ∙ has_and (get_or words w 0) (bit_not w64 p) (s % 64)
           ∙ ap (λ (b : Bool). b && has_bit (bit_not w64 p) (s % 64)) was
@@ -173,13 +163,6 @@ remove_step words old start stop w p s inside fits part so_far =
           ∙ so_far
           ∙ ap (λ (b : Bool). is_set old s && not (in_range start stop s && b)) (same_lt s (64 * w) s (64 * (w + 1)) (λ h. omega arith) (λ h. omega arith)))
     ]
-
--- before the first word nothing is done, and behind the last all is
-pub none_before : (start stop w s : ℕ) → 64 * w ≤ start → (in_range start stop s && nat_lt s (64 * w)) ≡ false
-none_before start stop w s h = grind (arith, nat_tests)
-
-pub all_after : (start stop w s : ℕ) → stop ≤ 64 * w → (in_range start stop s && nat_lt s (64 * w)) ≡ in_range start stop s
-all_after start stop w s h = grind (arith, nat_tests)
 
 -- ---- the first bit of a kind
 

@@ -1,13 +1,13 @@
 -- How many sectors of an interval pass a test.
-use Rattle.std.proofs.Common.{◌≡◌, ℕ, suc, ◌+◌, ◌-◌, ◌<◌, ◌≤◌, Bool, true, false, cond, not, ◌&&◌, ◌||◌, List, [], ◌∷◌, length, filter, refl, sym, ap, ◌∙◌, arith, length-append}
+use Rattle.std.proofs.Common.{◌≡◌, ℕ, suc, ◌+◌, ◌-◌, ◌<◌, ◌≤◌, Bool, true, false, cond, not, ◌&&◌, ◌||◌, List, [], ◌∷◌, length, filter, refl, sym, ap, ◌∙◌, arith}
 use Rattle.std.specs.Prelude.{◌==◌}
 use Rattle.std.specs.List.{range_with_len}
 use Rattle.std.proofs.lemmas.Bool.{and_parts, or_left, or_right, eqb-true, eq-eqb, ne_eqb, not-true}
 use Rattle.std.proofs.lemmas.List.FromFn.{length-range_with_len}
-use Rattle.std.proofs.lemmas.List.Sums.{sum_by-cons}
 use Rattle.run_table.specs.declared.run.Run.{Run}
 use Rattle.run_table.specs.RunTable.{run_of, total, sectors_of}
 use Rattle.run_table.specs.Space.{contains, all_differ, where_free}
+use Rattle.run_table.proofs.SectorLaws.{length_of_sectors}
 use Rattle.sector_set.proofs.FreeLaws.{where_same, total_of_runs, no_run, first_run}
 
 -- those that pass a second test, and the others
@@ -82,11 +82,6 @@ count_of_list (t ∷ xs) from to differ within =
     after n = omega arith
 
 -- ---- the sectors of runs
-
-pub length_of_sectors : (runs : List Run) → length (sectors_of runs) ≡ total runs
-length_of_sectors [] = refl
-length_of_sectors (r ∷ runs) =
-    omega (arith, length-append (range_with_len r.start r.length) (sectors_of runs), length-range_with_len r.start r.length, length_of_sectors runs, sum_by-cons (λ (r : Run). r.length) r runs)
 
 -- taken out of those that pass, or added to them
 pub count_without : (f : ℕ → Bool) (runs : List Run) (from to : ℕ) → all_differ (sectors_of runs) ≡ true

@@ -4,10 +4,10 @@ use Rattle.std.specs.Prelude.{nat_le, nat_lt, ◌==◌}
 use Rattle.std.specs.List.{range_with_len}
 use Rattle.std.proofs.lemmas.Bool.{cases_Bool, cases_lt, leb-true, eqb-true, eqb-false, eq-eqb, le-leb, lt-ltb, le-ltb, ne_eqb}
 use Rattle.std.proofs.lemmas.Bool.Decides.{nat_tests}
-use Rattle.std.proofs.lemmas.List.Sums.{sum_by-cons}
 use Rattle.run_table.specs.declared.run.Run.{Run}
 use Rattle.run_table.specs.RunTable.{run_of, total}
 use Rattle.run_table.specs.Space.{contains, where_free, joined, runs_of}
+use Rattle.run_table.proofs.SectorLaws.{total-cons}
 
 -- ---- tests that agree
 
@@ -110,9 +110,6 @@ contains_range a n s = ap (λ (xs : List ℕ). contains xs s) (sym (all_of a n))
     all_of a (suc n) = ap (λ (xs : List ℕ). a ∷ xs) (all_of (a + 1) n)
 
 -- ---- as many as the runs have
-
-total-cons : (r : Run) (runs : List Run) → total (r ∷ runs) ≡ r.length + total runs
-total-cons r runs = sum_by-cons (λ (r : Run). r.length) r runs
 
 total_of_joined : (s : ℕ) (runs : List Run) → total (joined s runs) ≡ total runs + 1
 total_of_joined s [] = omega arith

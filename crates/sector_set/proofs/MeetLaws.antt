@@ -4,12 +4,11 @@ use Rattle.std.specs.Prelude.{nat_lt, nat_le, ◌==◌}
 use Rattle.std.specs.List.{list_any, range_with_len}
 use Rattle.std.proofs.lemmas.Bool.{cases_Bool, or_cases, or_parts, and_parts, both_ways, false_from_ne_true, eqb-true, leb-true, ltb-true, ltb-false, le-leb, lt-ltb, eq-eqb}
 use Rattle.std.proofs.lemmas.List.{drop_more, drop_all}
-use Rattle.std.proofs.lemmas.List.Folds.{list_any-append}
 use Rattle.run_table.specs.declared.run.Run.{Run}
 use Rattle.run_table.specs.RunTable.{sectors_of}
 use Rattle.run_table.specs.Space.{contains}
+use Rattle.run_table.proofs.SectorLaws.{contains-cons}
 use Rattle.sector_set.proofs.FreeLaws.{contains_range}
-use Rattle.sector_set.specs.Meet.{meets}
 
 -- ---- any of a list
 
@@ -89,9 +88,6 @@ meet_out a m b n first tight beyond =
 
 -- ---- one run more
 
-contains-cons : (r : Run) (runs : List Run) (s : ℕ) → contains (sectors_of (r ∷ runs)) s ≡ (contains (range_with_len r.start r.length) s || contains (sectors_of runs) s)
-contains-cons r runs s = list_any-append _ (range_with_len r.start r.length) (sectors_of runs)
-
 -- the run meets one of these, or one of those behind it
 pub meet_step : (others : List Run) (i : ℕ) (d : Run) (xs : List ℕ) → i < length others
     → list_any (contains (sectors_of (drop i others))) xs ≡ (list_any (contains (range_with_len (get_or others i d).start (get_or others i d).length)) xs || list_any (contains (sectors_of (drop (i + 1) others))) xs)
@@ -102,15 +98,6 @@ meet_step others i d xs inside =
 
 pub meet_end : (others : List Run) (i : ℕ) (xs : List ℕ) → length others ≤ i → list_any (contains (sectors_of (drop i others))) xs ≡ false
 meet_end others i xs over = ap (λ (x : List Run). list_any (contains (sectors_of x)) xs) (drop_all i others over) ∙ any_none (λ s. false) xs (λ s c. refl)
-
-pub meets_step : (sectors : List ℕ) (runs : List Run) (i : ℕ) (d : Run) → i < length runs
-    → meets sectors (drop i runs) ≡ (list_any (contains sectors) (range_with_len (get_or runs i d).start (get_or runs i d).length) || meets sectors (drop (i + 1) runs))
-meets_step sectors runs i d inside =
-    ap (meets sectors) (drop_more runs i d inside)
-    ∙ list_any-append (contains sectors) (range_with_len (get_or runs i d).start (get_or runs i d).length) (sectors_of (drop (i + 1) runs))
-
-pub meets_end : (sectors : List ℕ) (runs : List Run) (i : ℕ) → length runs ≤ i → meets sectors (drop i runs) ≡ false
-meets_end sectors runs i over = ap (meets sectors) (drop_all i runs over)
 
 -- ---- the first sector decides
 

@@ -18,12 +18,6 @@ use Rattle.sector_set.proofs.MeetLaws.{none_any, any_none, all_any}
 
 -- ---- two versions are the same, or apart
 
-pub shared_is_same : (a b : List Run) (s : ℕ) → Agrees a (Some b) → contains (sectors_of a) s ≡ true → contains (sectors_of b) s ≡ true → b ≡ a
-shared_is_same a b s agree in_a in_b = elim agree [
-  | inl e ↦ e
-  | inr fails ↦ absurd (both_ways (contains (sectors_of a) s) (none_any (contains (sectors_of a)) (sectors_of b) fails s in_b) in_a)
-]
-
 pub agrees_back : (a b : List Run) → Agrees a (Some b) → Agrees b (Some a)
 agrees_back a b agree = elim agree [
   | inl e ↦ inl (sym e)

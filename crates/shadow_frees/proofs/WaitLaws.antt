@@ -3,12 +3,12 @@ use Rattle.std.proofs.Common.{◌≡◌, ℕ, zero, suc, ◌+◌, ◌-◌, ◌<�
 use Rattle.std.specs.Prelude.{nat_lt, ◌==◌, ◌↔◌, IsNone}
 use Rattle.std.specs.List.{range_with_len}
 use Rattle.std.proofs.lemmas.Bool.{or_cases, and_parts, and_from, both_ways, false_from_ne_true, not_from_false, lt-leb, eqb-true}
-use Rattle.std.proofs.lemmas.List.Folds.{list_any-append}
 use Rattle.std.proofs.lemmas.List.{append-nil}
 use Rattle.std.proofs.lemmas.List.Sums.{sum_by-cons}
 use Rattle.run_table.specs.declared.run.Run.{Run}
 use Rattle.run_table.specs.RunTable.{run_of, total, sectors_of}
 use Rattle.run_table.specs.Space.{contains, all_differ, where_free, joined, runs_of}
+use Rattle.run_table.proofs.SectorLaws.{contains-append}
 use Rattle.sector_set.specs.Area.{Area, area, without, together, AreIn, AreOut, IsOwn}
 use Rattle.sector_set.proofs.FreeLaws.{where_same, contains_range, total_of_runs}
 use Rattle.sector_set.proofs.CountLaws.{count_without, no_more_than, split_where}
@@ -64,17 +64,10 @@ given_apart removed unfinished new runs is apart = record {
 
 -- ---- a run of the set
 
-contains-append : (xs ys : List ℕ) (s : ℕ) → contains (xs ++ ys) s ≡ (contains xs s || contains ys s)
-contains-append xs ys s = list_any-append (λ t. t == s) xs ys
-
 contains-joined : (t : ℕ) (runs : List Run) (s : ℕ) → contains (sectors_of (joined t runs)) s ≡ ((t == s) || contains (sectors_of runs) s)
 contains-joined t [] s = refl
 contains-joined t (r ∷ runs) s = by (t + 1 == r.start) refl
   where
-    or_same : (a b c : Bool) → ((a || b) || c) ≡ (a || (b || c))
-    or_same true b c = refl
-    or_same false b c = refl
-
     by : (b : Bool) → (t + 1 == r.start) ≡ b → contains (sectors_of (cond b (run_of t (r.length + 1) ∷ runs) (run_of t 1 ∷ r ∷ runs))) s ≡ ((t == s) || contains (sectors_of (r ∷ runs)) s)
     by true e =
         let longer : r.length + 1 ≡ suc r.length = omega arith in

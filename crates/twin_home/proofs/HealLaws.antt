@@ -5,11 +5,10 @@ use Rattle.sector_disk.specs.declared.sector.Sector.TheVariants.{Whole, Damaged}
 use Rattle.sector_disk.specs.Calls.{as_sector}
 use Rattle.sector_disk.specs.Image.{sector_at, stand, IsWorn, Windows, open_damage}
 use Rattle.sector_disk.specs.Machine.{Moment, Wears, Holds}
-use Rattle.sector_disk.proofs.Holding.{holds_now, holds_wears}
+use Rattle.sector_disk.proofs.Holding.{holds_now, holds_wears, holds_on}
 use Rattle.sector_disk.proofs.Wear.{stand_worn, worn_damaged, worn_trans, worn_whole}
 use Rattle.twin_home.specs.Home.{WritesPart}
 use Rattle.twin_home.specs.Heal.{MayReadDamaged, ReadsCopy, ReadsBoth, Mends, Heals, Mended, SetsRoot, SetsRoots, RootsIn, NeedsRoot, RootsHealed, WasWhole}
-use Rattle.twin_home.proofs.WriteLaws.{holds_on}
 
 -- a moment that is only worn
 pub still : (old left : Moment) → Wears old left → Holds old old.image left

@@ -1,13 +1,10 @@
 -- A page that is written home.
-use Rattle.std.proofs.Common.{◌≡◌, ℕ, ◌/◌, List, length, Result, Ok, Err, subst, ◌∙◌, arith}
-use Rattle.std.specs.Prelude.{OnOk}
+use Rattle.std.proofs.Common.{◌≡◌, ℕ, ◌/◌, List, length, arith}
 use Rattle.volume_layout.specs.declared.layout.Layout.{Layout}
 use Rattle.volume_layout.specs.Layout.{home_a, home_b}
-use Rattle.sector_disk.specs.Image.{stand, IsWorn, Windows, open_damage}
+use Rattle.sector_disk.specs.Image.{stand}
 use Rattle.sector_disk.specs.Machine.{Moment, Tears, Holds}
-use Rattle.sector_disk.proofs.Holding.{holds_now, holds_tears}
-use Rattle.sector_disk.proofs.Wear.{worn_trans, stand_worn}
-use Rattle.sector_disk.specs.declared.sector.Sector.{Sector}
+use Rattle.sector_disk.proofs.Holding.{holds_now, holds_tears, holds_on}
 use Rattle.twin_home.specs.Home.{WritesPart, with_homes, HomesIn}
 
 module _ (place : ℕ) (bytes : List ℕ) (long : length bytes ≡ 512) (old left : Moment) where
@@ -18,21 +15,6 @@ module _ (place : ℕ) (bytes : List ℕ) (long : length bytes ≡ 512) (old lef
   torn_part torn =
       let some = holds_tears old old.image old left (holds_now old) place bytes torn in
       record { stood = some.stood; within = omega (arith, some.some, one); holds = some.holds }
-
--- a write over what holds
-pub holds_on : (old mid left : Moment) (image : List Sector) (place : ℕ) (bytes : List ℕ) (k : ℕ) → Holds old image mid → Holds mid (stand mid.image place bytes k) left → Holds old (stand image place bytes k) left
-holds_on old mid left image place bytes k first second =
-    let may = open_damage old.windows in
-    let worn : IsWorn (open_damage old.windows) (stand mid.image place bytes k) left.image = subst (λ (w : Windows). IsWorn (open_damage w) (stand mid.image place bytes k) left.image) first.windows second.worn in
-    record {
-      worn = worn_trans may (stand image place bytes k) (stand mid.image place bytes k) left.image (stand_worn may image mid.image place bytes k first.worn) worn;
-      windows = second.windows ∙ first.windows;
-      said = second.said ∙ first.said;
-    }
-
-pub on_ok_more : {T E : Type 0} (P Q : Type 0) (r : Result T E) → (P → Q) → OnOk r P → OnOk r Q
-on_ok_more P Q (Ok x) more p = more p
-on_ok_more P Q (Err e) more p = tt
 
 module _ (l : Layout) (page : ℕ) (bytes : List ℕ) (long : length bytes ≡ 512) (old : Moment) where
   pub first_only : (left : Moment) → Tears (home_a l page) bytes old left → HomesIn l page bytes old left

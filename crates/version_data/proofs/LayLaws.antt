@@ -2,12 +2,12 @@
 use Rattle.std.proofs.Common.{◌≡◌, ◌≢◌, inl, inr, ℕ, zero, suc, ◌+◌, ◌-◌, ◌*◌, ◌/◌, ◌<◌, ◌≤◌, Bool, min, List, [], ◌∷◌, ◌++◌, length, take, drop, refl, sym, ◌∙◌, ap, subst, arith, length-take}
 use Rattle.std.specs.Prelude.{replicate, slice_set}
 use Rattle.std.proofs.lemmas.Bool.{cases_eq, cases_lt}
-use Rattle.std.proofs.lemmas.List.{drop-replicate, drop-take, drop_all, take-take, take_min, length-set, get_or-set_same, get_or-set_other}
+use Rattle.std.proofs.lemmas.List.{drop-replicate, drop-take, drop_all, take_min, length-set, get_or-set_same, get_or-set_other}
 use Rattle.sector_disk.specs.declared.sector.Sector.{Sector}
 use Rattle.sector_disk.specs.declared.sector.Sector.TheVariants.{Whole, Damaged}
 use Rattle.sector_disk.specs.Image.{IsWorn, Windows, lay, open_damage, sector_at, slice_of, stand, with_sector}
 use Rattle.sector_disk.specs.Machine.{Holds, Moment}
-use Rattle.sector_disk.proofs.Wear.{lay_worn, stand_worn, worn_trans}
+use Rattle.sector_disk.proofs.Wear.{lay_worn, stand_worn, worn_trans, slice_in_front}
 use Rattle.fsd_bytes.specs.Bytes.{sector}
 use Rattle.fsd_files.specs.Kept.{slice_of as slice_of_version}
 use Rattle.version_data.specs.Writing.{lay_at}
@@ -84,14 +84,6 @@ laid_more row new piece j content before here room is so_far i lt = elim (cases_
 -- the sectors in front of a buffer
 pub many_in_front : (row : List ℕ) (n : ℕ) → 512 * n ≤ length row → length (take (512 * n) row) / 512 ≡ n
 many_in_front row n room = let size : length (take (512 * n) row) ≡ 512 * n = omega (arith, length-take (512 * n) row) in omega (arith, size)
-
-slice_in_front : (row : List ℕ) (n j : ℕ) → j < n → slice_of (take (512 * n) row) j ≡ slice_of row j
-slice_in_front row n j lt =
-    let more : ℕ = 512 * n - 512 * j in
-    let split : 512 * n ≡ 512 * j + more = omega arith in
-    ap (λ (m : ℕ). take 512 (drop (512 * j) (take m row))) split
-    ∙ ap (take 512) (drop-take (512 * j) more row)
-    ∙ take-take 512 more (drop (512 * j) row) (omega arith)
 
 -- one row more
 pub holds_row : (old mid new : Moment) (first : ℕ) (sector : ℕ → Sector) (k n : ℕ) (row : List ℕ) → 512 * n ≤ length row → ((j : ℕ) → j < n → sector (k + j) ≡ Whole (slice_of row j))

@@ -1,20 +1,19 @@
 -- Where the sectors of runs lie, by their numbers.
-use Rattle.std.proofs.Common.{◌≡◌, ◌≢◌, ℕ, zero, suc, ◌+◌, ◌-◌, ◌<◌, ◌≤◌, Bool, not, ◌&&◌, nat_le, List, [], ◌∷◌, ◌++◌, length, get_or, drop, Some, refl, sym, ap, subst, ◌∙◌, arith, length-append}
+use Rattle.std.proofs.Common.{◌≡◌, ◌≢◌, ℕ, zero, suc, ◌+◌, ◌-◌, ◌<◌, ◌≤◌, Bool, not, ◌&&◌, nat_le, List, [], ◌∷◌, length, get_or, drop, Some, refl, sym, ap, subst, ◌∙◌, arith, length-append}
 use Rattle.std.specs.Prelude.{IsTrue, ◌==◌, All, Option, IsSome, slice_get, slice_index_or}
 use Rattle.std.specs.List.{list_all, range_with_len}
 use Rattle.std.proofs.lemmas.Bool.{and_parts, both_ways, eqb-true, leb-true, not-true}
 use Rattle.std.proofs.lemmas.List.{drop_more}
 use Rattle.std.proofs.lemmas.List.FromFn.{length-range_with_len}
-use Rattle.std.proofs.lemmas.List.Sums.{sum_by-cons}
 use Rattle.fsd_bytes.specs.Keys.{is_key}
 use Rattle.fsd_bytes.specs.Names.{is_between}
 use Rattle.run_table.specs.declared.run.Run.{Run}
 use Rattle.run_table.specs.RunTable.{are_runs, max_runs, sectors_of, total}
 use Rattle.run_table.specs.Space.{all_differ, contains}
 use Rattle.run_table.proofs.RunLaws.{sector_here, sector_beyond}
+use Rattle.run_table.proofs.SectorLaws.{length_of_sectors, first_there, rest_there}
 use Rattle.fsd_formats.specs.declared.entry.Entry.{Entry}
 use Rattle.fsd_formats.specs.NamePage.{is_entry, max_keep, max_length, sectors_for}
-use Rattle.fsd_files.proofs.KeptLaws.{first_there, rest_there}
 
 -- ---- lists by number
 
@@ -58,13 +57,6 @@ differ_at (x ∷ xs) (suc j) (suc k) d lt inside = differ_at xs j k (and_parts (
 
 -- ---- the sectors of an entry
 
-pub length-sectors_of : (runs : List Run) → length (sectors_of runs) ≡ total runs
-length-sectors_of [] = refl
-length-sectors_of (r ∷ runs) =
-    let first : length (range_with_len r.start r.length ++ sectors_of runs) ≡ r.length + total runs =
-    length-append (range_with_len r.start r.length) (sectors_of runs) ∙ ap (λ (n : ℕ). n + length (sectors_of runs)) (length-range_with_len r.start r.length) ∙ ap (λ (n : ℕ). r.length + n) (length-sectors_of runs) in
-    first ∙ sym (sum_by-cons (λ (q : Run). q.length) r runs)
-
 pub all_at : (p : Run → Bool) (runs : List Run) (k : ℕ) (d : Run) → IsTrue (list_all p runs) → k < length runs → IsTrue (p (slice_index_or runs k d))
 all_at p [] k d all lt = absurd (omega arith)
 all_at p (r ∷ runs) zero d all lt = (and_parts (p r) (list_all p runs) all).0
@@ -81,7 +73,7 @@ module _ (e : Entry) (good : IsTrue (is_entry e)) where
   entry_length = leb-true e.length max_length (and_parts (is_key e.key && nat_le e.keep max_keep) (nat_le e.length max_length) parts_3.0).1
 
   pub entry_count : length (sectors_of e.runs) ≡ sectors_for e.length
-  entry_count = length-sectors_of e.runs ∙ eqb-true (total e.runs) (sectors_for e.length) parts_4.1
+  entry_count = length_of_sectors e.runs ∙ eqb-true (total e.runs) (sectors_for e.length) parts_4.1
 
   pub entry_lengths : All (λ r. (1 ≤ r.length) × (r.length ≤ 65535)) e.runs
   entry_lengths k d lt =

@@ -1,27 +1,21 @@
 -- What calls leave that write in some sectors alone.
 use Rattle.std.proofs.Common.{◌≡◌, ◌⊎◌, inl, inr, ℕ, ◌+◌, ◌-◌, ◌/◌, ◌<◌, ◌≤◌, Bool, true, false, nat_le, nat_lt, List, length, Option, Some, None, refl, sym, ap, subst, ◌∙◌, arith}
-use Rattle.std.specs.Prelude.{IsTrue, IsFalse, IfErr, IsErrAnd, OnErr, Result, Ok, Err}
+use Rattle.std.specs.Prelude.{IsTrue, IsFalse, IfErr, IsErrAnd, Result, Ok, Err}
 use Rattle.std.proofs.lemmas.Bool.{and_from, and_parts, cases_lt, le-leb, leb-true, lt-ltb, ltb-true}
 use Rattle.run_table.specs.declared.run.Run.{Run}
 use Rattle.run_table.specs.RunTable.{sectors_of}
 use Rattle.run_table.specs.Space.{contains}
 use Rattle.sector_disk.specs.declared.machine.Failed.{Failed}
 use Rattle.sector_disk.specs.declared.machine.Machine.{Ghosts}
-use Rattle.sector_disk.specs.declared.sector.Sector.{Sector}
 use Rattle.sector_disk.specs.declared.sector.WeakRun.{WeakRun}
 use Rattle.sector_disk.specs.Calls.{WritesDisk, device_in, failed_at}
 use Rattle.sector_disk.specs.Image.{Windows, in_run, open_damage, sector_at}
 use Rattle.sector_disk.specs.Machine.{Ledger, Moment, Tears, wrote}
 use Rattle.sector_disk.proofs.CallLaws.{writes_then}
-use Rattle.sector_disk.proofs.Wear.{length-stand, stand_other}
+use Rattle.sector_disk.proofs.Wear.{length-stand, stand_other, worn_twice}
 use Rattle.fsd_files.specs.Disk.{Sectors, SectorWorn}
 use Rattle.version_data.specs.Writing.{WritesIn, WroteMost}
 use Rattle.version_data.proofs.PlaceLaws.{LiesBehind, get_there}
-
-worn_twice : (weak : Bool) (a b c : Sector) → SectorWorn weak a b → SectorWorn weak b c → SectorWorn weak a c
-worn_twice weak a b c first (inr hurt) = inr hurt
-worn_twice weak a b c (inl same) (inl again) = inl (again ∙ same)
-worn_twice weak a b c (inr hurt) (inl again) = inr (hurt.0, again ∙ hurt.1)
 
 pub writes_on : (may : Sectors) (a b c : Moment) → WritesIn may a b → WritesIn may b c → WritesIn may a c
 writes_on may a b c first second = record {
@@ -124,10 +118,6 @@ failed_told (Err told) failed is = ap (λ (f : Failed). Some f.place) is
 pub handed_on : {T : Type 0} (P : Failed → Type 0) (r : Result T Failed) (failed : Failed) → IsErrAnd r (λ told. told ≡ failed) → P failed → IfErr r P
 handed_on P (Ok x) failed is holds = tt
 handed_on P (Err told) failed is holds = subst P (sym is) holds
-
-pub on_err : {T : Type 0} (P : Type 0) (r : Result T Failed) → P → OnErr r P
-on_err P (Ok x) holds = tt
-on_err P (Err told) holds = holds
 
 -- ---- counts
 

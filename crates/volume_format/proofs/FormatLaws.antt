@@ -1,6 +1,6 @@
 -- What a format leaves.
-use Rattle.std.proofs.Common.{◌≡◌, inl, ℕ, ◌+◌, ◌*◌, ◌<◌, ◌≤◌, List, length, Option, Some, None, Ok, refl, sym, ◌∙◌, ap, subst, arith}
-use Rattle.std.specs.Prelude.{IsSome, Result, Err, OnOk}
+use Rattle.std.proofs.Common.{◌≡◌, inl, ℕ, ◌+◌, ◌*◌, ◌<◌, ◌≤◌, List, length, Option, Some, None, Ok, sym, ◌∙◌, ap, subst, arith}
+use Rattle.std.specs.Prelude.{Result, Err, OnOk}
 use Rattle.volume_layout.specs.declared.layout.Layout.{Layout}
 use Rattle.volume_layout.specs.Layout.{plan, home_a, home_b, InLog}
 use Rattle.volume_layout.proofs.RootLaws.{planned_bounds}
@@ -10,6 +10,7 @@ use Rattle.sector_disk.specs.declared.sector.WeakRun.{WeakRun}
 use Rattle.sector_disk.specs.Image.{sector_at, IsWorn, in_run, Windows, open_damage, settled}
 use Rattle.sector_disk.specs.Machine.{Moment, Names, Settles, Holds}
 use Rattle.sector_disk.proofs.Wear.{length-lay, lay_in, lay_other, worn_trans, worn_damaged}
+use Rattle.sector_disk.proofs.ResultLaws.{some_is}
 use Rattle.fsd_sound.specs.Format.{IsFormatted, format_page}
 use Rattle.volume_format.specs.Formatting.{IsNew, Formats, with_pages, with_head, with_volume}
 use Rattle.version_data.proofs.LayLaws.{holds_then, monotone_lay}
@@ -82,10 +83,6 @@ windows_are : (w : Windows) (present next : Option WeakRun) → w.present ≡ pr
 windows_are w present next p n =
     let made : Option WeakRun → Option WeakRun → Windows = λ x y. record { present = x; next = y } in
     ap (λ (x : Option WeakRun). made x w.next) p ∙ ap (λ (y : Option WeakRun). made present y) n
-
-some_is : {A : Type 0} (o : Option A) → IsSome o → (x : A) × (o ≡ Some x)
-some_is None is = absurd (cc is)
-some_is (Some x) is = (x, refl)
 
 module _ (l : Layout) (planned : plan l.sectors l.third l.pages ≡ Ok l) (old opened mid new : Moment) (long : l.sectors ≤ length old.image)
     (fresh : IsNew old) (named : Names old opened) (holds : Holds opened (with_volume l opened.image) mid) (settles : Settles mid new) where

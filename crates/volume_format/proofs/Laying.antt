@@ -1,6 +1,5 @@
 -- Images that are laid one over another, worn.
 use Rattle.std.proofs.Common.{◌≡◌, ℕ, ◌+◌, ◌/◌, List, length, set, sym, ap, subst, arith, add-one}
-use Rattle.std.proofs.lemmas.List.{take_all}
 use Rattle.sector_disk.specs.declared.sector.Sector.{Sector}
 use Rattle.sector_disk.specs.declared.sector.Sector.TheVariants.{Whole}
 use Rattle.sector_disk.specs.Image.{lay, stand, slice_of}
@@ -9,13 +8,10 @@ use Rattle.sector_disk.proofs.Wear.{set_worn}
 use Rattle.sector_disk.proofs.Holding.{holds_now, holds_writes}
 use Rattle.sector_disk.specs.Image.{with_sector}
 use Rattle.version_data.proofs.LayLaws.{Monotone, holds_then}
+use Rattle.fsd_log.proofs.LaidLaws.{slice_all}
 
 pub monotone_sector : (place : ℕ) (bytes : List ℕ) → Monotone (λ image. with_sector image place bytes)
 monotone_sector place bytes = record { worn = λ may a b worn. set_worn may a b place (Whole bytes) worn }
-
--- a write of one sector
-pub one_slice : (bytes : List ℕ) → length bytes ≡ 512 → slice_of bytes 0 ≡ bytes
-one_slice bytes size = take_all 512 bytes (omega (arith, size))
 
 pub holds_sector : (old new : Moment) (place : ℕ) (bytes : List ℕ) → length bytes ≡ 512 → Writes place bytes old new → Holds old (with_sector old.image place bytes) new
 holds_sector old new place bytes size written =
@@ -23,7 +19,7 @@ holds_sector old new place bytes size written =
     let here : place + 0 ≡ place = omega arith in
     let laid = subst (λ (n : ℕ). Holds old (stand old.image place bytes n) new) one (holds_writes old old.image old new (holds_now old) place bytes written) in
     let moved = subst (λ (p : ℕ). Holds old (set old.image p (Whole (slice_of bytes 0))) new) here laid in
-    subst (λ (b : List ℕ). Holds old (set old.image place (Whole b)) new) (one_slice bytes size) moved
+    subst (λ (b : List ℕ). Holds old (set old.image place (Whole b)) new) (slice_all bytes size) moved
 
 -- one sector more of a row
 pub holds_row : (old mid new : Moment) (first : ℕ) (sector : ℕ → Sector) (k : ℕ) (bytes : List ℕ) → Whole bytes ≡ sector k

@@ -6,6 +6,7 @@ use Rattle.sector_disk.specs.declared.sector.Sector.{Sector}
 use Rattle.sector_disk.specs.declared.sector.WeakRun.{WeakRun}
 use Rattle.sector_disk.specs.Image.{Windows, in_run, open_damage, sector_at, settled, weak}
 use Rattle.sector_disk.specs.Machine.{Moment, Names, Settles, Wears}
+use Rattle.sector_disk.proofs.Wear.{worn_twice}
 use Rattle.fsd_files.specs.Disk.{Sectors, SectorWorn}
 use Rattle.version_data.specs.Writing.{WritesIn}
 use Rattle.volume_format.specs.Formatting.{KeepsOutside}
@@ -13,11 +14,6 @@ use Rattle.volume_format.specs.Formatting.{KeepsOutside}
 more_worn : (few may : Bool) → (IsTrue few → IsTrue may) → (a b : Sector) → SectorWorn few a b → SectorWorn may a b
 more_worn few may more a b (inl same) = inl same
 more_worn few may more a b (inr hurt) = inr (more hurt.0, hurt.1)
-
-worn_on : (may : Bool) (a b c : Sector) → SectorWorn may a b → SectorWorn may b c → SectorWorn may a c
-worn_on may a b c first (inr hurt) = inr hurt
-worn_on may a b c (inl same) (inl again) = inl (again ∙ same)
-worn_on may a b c (inr hurt) (inl again) = inr (hurt.0, again ∙ hurt.1)
 
 settled_more : (present next : Option WeakRun) (s : ℕ) → IsTrue (weak present next s) → IsTrue (open_damage (settled present next) s)
 settled_more None None s is = is
@@ -30,11 +26,6 @@ pub ends : {T E H : Type 0} {mid new : Moment} (r : Result T E) → OnOk r (H �
 ends (Ok x) settles fails h = inl (settles h)
 ends (Err e) settles fails h = inr (fails h)
 
--- before the windows turn
-pub kept_worn : (may : Sectors) (old new : Moment) → Wears old new → KeepsOutside may old new
-kept_worn may old new worn s out =
-    more_worn (open_damage old.windows s) (open_damage old.windows s || open_damage new.windows s) (or_left (open_damage old.windows s) (open_damage new.windows s)) (sector_at old.image s) (sector_at new.image s) (worn.image.each s)
-
 -- behind the naming of a window
 module _ (may : Sectors) (old opened : Moment) (named : Names old opened) where
   named_then : (new : Moment) (s : ℕ) → (IsTrue (open_damage opened.windows s) → IsTrue (open_damage new.windows s)) → SectorWorn (open_damage opened.windows s) (sector_at opened.image s) (sector_at new.image s)
@@ -42,7 +33,7 @@ module _ (may : Sectors) (old opened : Moment) (named : Names old opened) where
   named_then new s more next =
       let before = open_damage old.windows s in
       let behind = open_damage new.windows s in
-      worn_on (before || behind) (sector_at old.image s) (sector_at opened.image s) (sector_at new.image s)
+      worn_twice (before || behind) (sector_at old.image s) (sector_at opened.image s) (sector_at new.image s)
       (more_worn before (before || behind) (or_left before behind) (sector_at old.image s) (sector_at opened.image s) (named.image.each s))
       (more_worn (open_damage opened.windows s) (before || behind) (λ is. or_right before behind (more is)) (sector_at opened.image s) (sector_at new.image s) next)
 
@@ -55,10 +46,10 @@ module _ (may : Sectors) (old opened : Moment) (named : Names old opened) where
       subst (λ (w : Windows). IsTrue (open_damage w s)) (sym settles.windows)
       (settled_more mid.windows.present mid.windows.next s (subst (λ (w : Windows). IsTrue (open_damage w s)) (sym writes.windows) is)) in
       named_then new s turned
-      (worn_on (open_damage opened.windows s) (sector_at opened.image s) (sector_at mid.image s) (sector_at new.image s) (writes.touches.others s out)
+      (worn_twice (open_damage opened.windows s) (sector_at opened.image s) (sector_at mid.image s) (sector_at new.image s) (writes.touches.others s out)
       (subst (λ (w : Windows). SectorWorn (open_damage w s) (sector_at mid.image s) (sector_at new.image s)) writes.windows (settles.image.each s)))
   kept_settled mid new writes (inr worn) s out =
       let same : new.windows ≡ opened.windows = worn.windows ∙ writes.windows in
       named_then new s (λ is. subst (λ (w : Windows). IsTrue (open_damage w s)) (sym same) is)
-      (worn_on (open_damage opened.windows s) (sector_at opened.image s) (sector_at mid.image s) (sector_at new.image s) (writes.touches.others s out)
+      (worn_twice (open_damage opened.windows s) (sector_at opened.image s) (sector_at mid.image s) (sector_at new.image s) (writes.touches.others s out)
       (subst (λ (w : Windows). SectorWorn (open_damage w s) (sector_at mid.image s) (sector_at new.image s)) writes.windows (worn.image.each s)))

@@ -1,7 +1,7 @@
 -- Calls that write sectors one after another, and what they count.
 use Rattle.std.proofs.Common.{◌≡◌, ℕ, ◌+◌, ◌/◌, ◌<◌, ◌≤◌, List, length, Option, None, subst, ap, ◌∙◌, arith}
 use Rattle.std.proofs.lemmas.Bool.{or_left, or_right}
-use Rattle.std.specs.Prelude.{IsTrue, ◌||◌, Result, Ok, Err, OnOk}
+use Rattle.std.specs.Prelude.{IsTrue, ◌||◌}
 use Rattle.volume_layout.specs.declared.layout.Layout.{Layout}
 use Rattle.volume_layout.specs.Layout.{home_a, home_b}
 use Rattle.sector_disk.specs.declared.machine.Machine.{Ghosts}
@@ -11,10 +11,6 @@ use Rattle.sector_disk.proofs.CallLaws.{writes_more}
 use Rattle.version_data.specs.Writing.{WritesIn, WroteMost}
 use Rattle.version_data.proofs.WritingLaws.{in_run_all, in_run_at, run_written, writes_in_more, tears_in, wrote_most}
 use Rattle.volume_format.specs.Formatting.{format_writes, row}
-
-pub on_ok : {T E : Type 0} {P Q : Type 0} (r : Result T E) → (P → Q) → OnOk r P → OnOk r Q
-on_ok (Ok x) more holds = more holds
-on_ok (Err e) more holds = tt
 
 pub one : (bytes : List ℕ) → length bytes ≡ 512 → length bytes / 512 ≡ 1
 one bytes size = ap (λ (n : ℕ). n / 512) size

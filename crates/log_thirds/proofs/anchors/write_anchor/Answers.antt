@@ -1,8 +1,9 @@
 use Rattle.sector_disk.specs.Calls.{failed_at}
 use Rattle.sector_disk.specs.Image.{stand}
 use Rattle.sector_disk.proofs.CallLaws.{told_up, writes_more, writes_then, writes_told}
+use Rattle.sector_disk.proofs.Holding.{holds_on}
 use Rattle.fsd_formats.specs.Anchors.{anchor_bytes}
-use Rattle.log_thirds.proofs.AnchoringLaws.{holds_on, first_only, then_copy}
+use Rattle.log_thirds.proofs.AnchoringLaws.{first_only, then_copy}
 use Rattle.log_thirds.proofs.anchors.write_anchor.Goals as goal
 
 pub returns-in_err-write_copy-clause-writes : goal.returns-in_err-write_copy-clause-writes

@@ -1,11 +1,12 @@
 use Rattle.std.proofs.Common.{◌≡◌, ◌+◌, ◌*◌, ◌≤◌, length, Some, arith, subst, ap, ◌∙◌, sym, refl, Option}
 use Rattle.std.specs.Prelude.{option_map, IfSome}
+use Rattle.std.proofs.lemmas.Result.{IfOk-weaker}
 use Rattle.fsd_log.specs.Scan.{Head, tape, entered}
 use Rattle.log_thirds.specs.Disk.{reads}
 use Rattle.log_record.specs.declared.judging.Found.{Found}
 use Rattle.log_thirds.specs.Copies.{entry_in}
 use Rattle.log_thirds.specs.Reading.{stepped_in, stepped_of}
-use Rattle.log_thirds.proofs.FindLaws.{goes_to, here_found, not_here, if_ok}
+use Rattle.log_thirds.proofs.FindLaws.{goes_to, here_found, not_here}
 use Rattle.sector_disk.proofs.CallLaws.{reads_then}
 use Rattle.sector_disk.specs.Image.{Windows, IsWorn, open_damage}
 use Rattle.log_thirds.specs.Seen.{SeesOn}
@@ -47,7 +48,7 @@ returns-in-Ok-None-clause-seen g c =
     let mid = M.now c.find.new.m in
     let l = c.args.layout.now in let third = c.args.anchor.now.third in let epoch = c.args.anchor.now.epoch in
     let head : Head = record { number = c.args.number; at = c.args.at; end = c.args.end } in
-    if_ok c.enter.result _ _
+    IfOk-weaker c.enter.result _ _
     (λ o later j h jw.
     let h1 = c.enter.ensures.reads.trust.honest h in
     let same = (c.find.ensures.reads.worn h1).windows in

@@ -1,10 +1,11 @@
 use Rattle.std.proofs.Common.{◌≡◌, ◌∙◌, arith}
 use Rattle.std.specs.Prelude.{min}
+use Rattle.std.proofs.lemmas.Result.{on_ok_weaker}
 use Rattle.sector_disk.proofs.CallLaws.{reads_then}
 use Rattle.fsd_formats.specs.Record.{Stamp}
 use Rattle.fsd_log.specs.Reach.{headers_len, reach}
 use Rattle.log_record.specs.Found.{read_of}
-use Rattle.log_thirds.proofs.ReadingLaws.{record_read, on_ok}
+use Rattle.log_thirds.proofs.ReadingLaws.{record_read}
 use Rattle.log_thirds.proofs.reading.read_record.Goals as goal
 
 pub returns-clause-reads : goal.returns-clause-reads
@@ -17,7 +18,7 @@ returns-clause-read g c =
     let first : c.min.result ≡ min c.args.room headers_len = omega (arith, c.min.ensures) in
     let count : c.reach-count.result ≡ reach c.args.p stamp c.args.room (read_of c.read_on.new.reading.whole.items c.read_on.new.reading.bytes.items) =
     c.reach-count.ensures.reach ∙ λ i. reach c.args.p stamp c.args.room (read_of (c.as_slice.ensures.value i) (c.as_slice-2.ensures.value i)) in
-    on_ok c.read_on-2.result _ _
+    on_ok_weaker c.read_on-2.result
     (λ rest. record_read (M.honest c.read_on.new.m) (M.honest c.read_on-2.new.m) (M.now c.args.m.now) (M.now c.read_on.new.m) (M.now c.read_on-2.new.m) c.args.p stamp c.args.place c.args.room c.min.result c.reach-count.result
     c.clear.new.self.whole.items c.read_on.new.reading.whole.items c.read_on-2.new.reading.whole.items c.clear.new.self.bytes.items c.read_on.new.reading.bytes.items c.read_on-2.new.reading.bytes.items
     c.clear.ensures.whole c.read_on-2.ensures.reads.trust.honest (λ h. c.read_on.ensures.reads.worn (c.read_on-2.ensures.reads.trust.honest h)) c.read_on-2.ensures.reads.worn first c.in_ok-read_on.ensures.read count rest)

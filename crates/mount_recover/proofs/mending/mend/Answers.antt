@@ -1,22 +1,22 @@
 use Rattle.std.proofs.Common.{◌≡◌, ◌<◌, ◌≤◌, ℕ, List, arith}
-use Rattle.mount_recover.specs.Recover.{HasBothHomes}
+use Rattle.std.proofs.lemmas.Result.{IfErr-weaker, on_ok_weaker}
 use Rattle.mount_recover.proofs.HomesLaws.{both_rooted}
 use Rattle.mount_recover.proofs.KeepsLaws.{keeps_on, keeps_roots}
 use Rattle.sector_disk.specs.declared.sector.WeakRun.{WeakRun}
 use Rattle.sector_disk.specs.Machine.{Moment}
 use Rattle.sector_disk.proofs.CallLaws.{heals_then, heals_told, told_up}
 use Rattle.sector_disk.proofs.Moments.{then_on}
+use Rattle.sector_disk.proofs.ResultLaws.{ok_as}
 use Rattle.fsd_log.specs.Scan.{Placed}
-use Rattle.fsd_sound.specs.Homes.{home_of}
+use Rattle.fsd_sound.specs.Homes.{home_of, HasBothHomes}
 use Rattle.log_thirds.specs.Append.{IsCalm as IsCalmNow}
 use Rattle.log_thirds.specs.LogValue.{LogValue}
-use Rattle.twin_home.proofs.WriteLaws.{on_ok_more}
 use Rattle.mount_recover.specs.Finding.{IsExcuse}
 use Rattle.mount_recover.specs.Mending.{IsLoadFault, IsCompleted, IsMending, IsMended, Stays}
 use Rattle.fsd_sound.specs.Mounting.{device_of_mount}
 use Rattle.mount_recover.specs.Showing.{GivesPages, HasNoRoot, LosesNone, shows_of}
 use Rattle.mount_recover.proofs.CalmLaws.{all_shown, excuse_loses, roots_kept, still_next}
-use Rattle.mount_recover.proofs.FaultLaws.{handed_up, if_err_more, ok_as}
+use Rattle.mount_recover.proofs.FaultLaws.{handed_up}
 use Rattle.mount_recover.proofs.mending.mend.Goals as goal
 
 pub returns-in_err-mend_pages-clause-load : goal.returns-in_err-mend_pages-clause-load
@@ -40,9 +40,7 @@ pub returns-clause-done : goal.returns-clause-done
 returns-clause-done g c =
     let M = g.M.Machine in
     let l = c.args.l.now in let old = M.now c.args.m.now in let mid = M.now c.mend_pages.new.m in let new = M.now c.mend_roots.new.m in
-    on_ok_more ((windows : List WeakRun) (choices : List (List (List ℕ))) (log : LogValue) (first : Moment) (is : IsCompleted l windows choices log first) → M.honest c.mend_roots.new.m → IsMending l windows choices log first is l.pages mid → IsMended l windows choices log first is new)
-    ((windows : List WeakRun) (choices : List (List (List ℕ))) (is : IsCompleted l windows choices c.args.log.now old) → M.honest c.mend_roots.new.m → IsMended l windows choices c.args.log.now old is new)
-    c.mend_roots.result
+    on_ok_weaker {P = (windows : List WeakRun) (choices : List (List (List ℕ))) (log : LogValue) (first : Moment) (is : IsCompleted l windows choices log first) → M.honest c.mend_roots.new.m → IsMending l windows choices log first is l.pages mid → IsMended l windows choices log first is new} {Q = (windows : List WeakRun) (choices : List (List (List ℕ))) (is : IsCompleted l windows choices c.args.log.now old) → M.honest c.mend_roots.new.m → IsMended l windows choices c.args.log.now old is new} c.mend_roots.result
     (λ done windows choices is h. done windows choices c.args.log.now old is h (c.in_ok-mend_pages.ensures.done windows choices is (c.mend_roots.ensures.disk.trust.honest h)))
     c.mend_roots.ensures.done
 
@@ -50,7 +48,7 @@ pub returns-clause-never_lost : goal.returns-clause-never_lost
 returns-clause-never_lost g c =
     let M = g.M.Machine in
     let l = c.args.l.now in let old = M.now c.args.m.now in let mid = M.now c.mend_pages.new.m in
-    if_err_more c.mend_roots.result
+    IfErr-weaker c.mend_roots.result
     (λ fault. (windows : List WeakRun) (choices : List (List (List ℕ))) (log : LogValue) (first : Moment) (is : IsCompleted l windows choices log first) → M.honest c.mend_roots.new.m → IsMending l windows choices log first is l.pages mid → IsExcuse fault)
     (λ fault. (windows : List WeakRun) (choices : List (List (List ℕ))) (is : IsCompleted l windows choices c.args.log.now old) → M.honest c.mend_roots.new.m → IsExcuse fault)
     (λ fault excused windows choices is h. excused windows choices c.args.log.now old is h (c.in_ok-mend_pages.ensures.done windows choices is (c.mend_roots.ensures.disk.trust.honest h)))
@@ -70,7 +68,7 @@ pub returns-clause-not_shown : goal.returns-clause-not_shown
 returns-clause-not_shown g c =
     let M = g.M.Machine in
     let l = c.args.l.now in let log = c.args.log.now in let old = M.now c.args.m.now in let mid = M.now c.mend_pages.new.m in
-    if_err_more c.mend_roots.result (λ fault. M.honest c.mend_roots.new.m → IsCalmNow mid → (HasNoRoot mid.image → ⊥) → IsExcuse fault)
+    IfErr-weaker c.mend_roots.result (λ fault. M.honest c.mend_roots.new.m → IsCalmNow mid → (HasNoRoot mid.image → ⊥) → IsExcuse fault)
     (λ fault. (records : List Placed) → M.honest c.mend_roots.new.m → IsCalmNow old → GivesPages log records old.image → (HasNoRoot old.image → ⊥) → LosesNone l records old.image fault)
     (λ fault excused records h still given some.
     let h1 = c.mend_roots.ensures.disk.trust.honest h in
@@ -100,5 +98,4 @@ returns-clause-homes g c =
 pub returns-clause-grows : goal.returns-clause-grows
 returns-clause-grows g c =
     let M = g.M.Machine in
-    on_ok_more (M.tells c.mend_roots.new.m → (M.ledger c.mend_pages.new.m).written ≤ (M.ledger c.mend_roots.new.m).written) (M.tells c.mend_roots.new.m → (M.ledger c.args.m.now).written ≤ (M.ledger c.mend_roots.new.m).written)
-    c.mend_roots.result (λ grows t. omega (arith, grows t, c.in_ok-mend_pages.ensures.grows (c.mend_roots.ensures.disk.trust.tells t))) c.mend_roots.ensures.grows
+    on_ok_weaker {P = M.tells c.mend_roots.new.m → (M.ledger c.mend_pages.new.m).written ≤ (M.ledger c.mend_roots.new.m).written} {Q = M.tells c.mend_roots.new.m → (M.ledger c.args.m.now).written ≤ (M.ledger c.mend_roots.new.m).written} c.mend_roots.result (λ grows t. omega (arith, grows t, c.in_ok-mend_pages.ensures.grows (c.mend_roots.ensures.disk.trust.tells t))) c.mend_roots.ensures.grows

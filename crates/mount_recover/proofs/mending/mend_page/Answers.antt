@@ -1,6 +1,7 @@
 use Rattle.std.proofs.Common.{◌≡◌, ◌+◌, ◌≤◌, ℕ, Bool, List, Some, None, Ok, sym, ap, subst, ◌∙◌, arith}
 use Rattle.volume_layout.specs.Layout.{home_a, home_b}
 use Rattle.std.specs.Prelude.{if◌then◌else◌}
+use Rattle.std.proofs.lemmas.Result.{IfErr-weaker, on_ok_weaker}
 use Rattle.sector_disk.specs.declared.sector.WeakRun.{WeakRun}
 use Rattle.sector_disk.specs.Machine.{Ledger, Moment, Wears}
 use Rattle.sector_disk.proofs.CallLaws.{heals_then, heals_told, reads_as_heals}
@@ -13,13 +14,12 @@ use Rattle.fsd_sound.specs.Homes.{home_of}
 use Rattle.log_thirds.specs.Append.{IsCalm as IsCalmNow}
 use Rattle.fsd_sound.specs.Shown.{records_by}
 use Rattle.log_thirds.specs.LogValue.{LogValue}
-use Rattle.twin_home.proofs.WriteLaws.{on_ok_more}
 use Rattle.mount_recover.specs.Finding.{IsExcuse}
 use Rattle.fsd_sound.specs.Lost.{AreHomes, LostIn}
 use Rattle.mount_recover.specs.Mending.{IsLoadFault, IsCompleted, IsMending, Stays}
 use Rattle.mount_recover.specs.Showing.{GivesPages, ChangesHome, IsShowing, LosesHome, LosesNone}
 use Rattle.mount_recover.proofs.CalmLaws.{still_worn, still_next, given_on, showing_next, at_home, in_log, loses_so, device_loses, excuse_loses}
-use Rattle.mount_recover.proofs.FaultLaws.{if_err_more, if_err_both, load_excused, cause_excused, homes_serve, is_load, load_told}
+use Rattle.mount_recover.proofs.FaultLaws.{if_err_both, load_excused, cause_excused, homes_serve, is_load, load_told}
 use Rattle.mount_recover.proofs.KeepsLaws.{but_read, but_then}
 use Rattle.mount_recover.proofs.MendingLaws.{stays, still, not_none, narrow, stays_show}
 use Rattle.mount_recover.proofs.SlotLaws.{slot_gives, slot_not_lost, slot_none}
@@ -51,10 +51,8 @@ pub returns-in-Ok-true-clause-done : goal.returns-in-Ok-true-clause-done
 returns-in-Ok-true-clause-done g c =
     let M = g.M.Machine in
     let l = c.args.l.now in let log = c.args.log.now in let now = M.now c.args.m.now in let read = M.now c.image_of.new.m in let new = M.now c.home_logged.new.m in
-    on_ok_more ((windows : List WeakRun) (choices : List (List (List ℕ))) (log : LogValue) (first : Moment) (is : IsCompleted l windows choices log first) → M.honest c.home_logged.new.m →
-    last_image c.args.page (records_by l is.clean log.anchor) ≡ Some c.image_of.new.buf → IsMending l windows choices log first is c.args.page read → IsMending l windows choices log first is (c.args.page + 1) new)
-    ((windows : List WeakRun) (choices : List (List (List ℕ))) (first : Moment) (is : IsCompleted l windows choices log first) → M.honest c.home_logged.new.m → IsMending l windows choices log first is c.args.page now → IsMending l windows choices log first is (c.args.page + 1) new)
-    c.home_logged.result
+    on_ok_weaker {P = (windows : List WeakRun) (choices : List (List (List ℕ))) (log : LogValue) (first : Moment) (is : IsCompleted l windows choices log first) → M.honest c.home_logged.new.m →
+    last_image c.args.page (records_by l is.clean log.anchor) ≡ Some c.image_of.new.buf → IsMending l windows choices log first is c.args.page read → IsMending l windows choices log first is (c.args.page + 1) new} {Q = (windows : List WeakRun) (choices : List (List (List ℕ))) (first : Moment) (is : IsCompleted l windows choices log first) → M.honest c.home_logged.new.m → IsMending l windows choices log first is c.args.page now → IsMending l windows choices log first is (c.args.page + 1) new} c.home_logged.result
     (λ done windows choices first is h at.
     let h1 = c.home_logged.ensures.disk.trust.honest h in
     done windows choices log first is h
@@ -75,10 +73,8 @@ pub returns-in-Ok-false-clause-done : goal.returns-in-Ok-false-clause-done
 returns-in-Ok-false-clause-done g c =
     let M = g.M.Machine in
     let l = c.args.l.now in let log = c.args.log.now in let now = M.now c.args.m.now in let read = M.now c.image_of.new.m in let new = M.now c.heal_home.new.m in
-    on_ok_more ((windows : List WeakRun) (choices : List (List (List ℕ))) (log : LogValue) (first : Moment) (is : IsCompleted l windows choices log first) → M.honest c.heal_home.new.m →
-    last_image c.args.page (records_by l is.clean log.anchor) ≡ None → IsMending l windows choices log first is c.args.page read → IsMending l windows choices log first is (c.args.page + 1) new)
-    ((windows : List WeakRun) (choices : List (List (List ℕ))) (first : Moment) (is : IsCompleted l windows choices log first) → M.honest c.heal_home.new.m → IsMending l windows choices log first is c.args.page now → IsMending l windows choices log first is (c.args.page + 1) new)
-    c.heal_home.result
+    on_ok_weaker {P = (windows : List WeakRun) (choices : List (List (List ℕ))) (log : LogValue) (first : Moment) (is : IsCompleted l windows choices log first) → M.honest c.heal_home.new.m →
+    last_image c.args.page (records_by l is.clean log.anchor) ≡ None → IsMending l windows choices log first is c.args.page read → IsMending l windows choices log first is (c.args.page + 1) new} {Q = (windows : List WeakRun) (choices : List (List (List ℕ))) (first : Moment) (is : IsCompleted l windows choices log first) → M.honest c.heal_home.new.m → IsMending l windows choices log first is c.args.page now → IsMending l windows choices log first is (c.args.page + 1) new} c.heal_home.result
     (λ done windows choices first is h at.
     let h1 = c.heal_home.ensures.disk.trust.honest h in
     done windows choices log first is h
@@ -116,9 +112,7 @@ pub returns-in-Ok-true-clause-shown : goal.returns-in-Ok-true-clause-shown
 returns-in-Ok-true-clause-shown g c =
     let M = g.M.Machine in
     let l = c.args.l.now in let log = c.args.log.now in let now = M.now c.args.m.now in let read = M.now c.image_of.new.m in let new = M.now c.home_logged.new.m in
-    on_ok_more (M.honest c.home_logged.new.m → IsCalmNow read → ChangesHome l c.args.page read.image new.image (Some c.image_of.new.buf))
-    ((records : List Placed) (first : Image) → M.honest c.home_logged.new.m → IsCalmNow now → GivesPages log records first → IsShowing l records first c.args.page now.image → IsShowing l records first (c.args.page + 1) new.image)
-    c.home_logged.result
+    on_ok_weaker {P = M.honest c.home_logged.new.m → IsCalmNow read → ChangesHome l c.args.page read.image new.image (Some c.image_of.new.buf)} {Q = (records : List Placed) (first : Image) → M.honest c.home_logged.new.m → IsCalmNow now → GivesPages log records first → IsShowing l records first c.args.page now.image → IsShowing l records first (c.args.page + 1) new.image} c.home_logged.result
     (λ done records first h still given at.
     let h1 = c.home_logged.ensures.disk.trust.honest h in
     let worn = c.image_of.ensures.reads.worn h1 in
@@ -132,7 +126,7 @@ returns-in-Ok-true-clause-shown g c =
 pub returns-in-Ok-true-clause-not_shown : goal.returns-in-Ok-true-clause-not_shown
 returns-in-Ok-true-clause-not_shown g c =
     let M = g.M.Machine in
-    if_err_more c.home_logged.result IsExcuse
+    IfErr-weaker c.home_logged.result IsExcuse
     (λ fault. (records : List Placed) (first : Image) → M.honest c.home_logged.new.m → IsCalmNow (M.now c.args.m.now) → GivesPages c.args.log.now records first → IsShowing c.args.l.now records first c.args.page (M.now c.args.m.now).image → LosesNone c.args.l.now records first fault)
     (λ fault excuse records first h still given at. excuse_loses c.args.l.now records first fault excuse) c.home_logged.ensures.never_lost
 
@@ -140,9 +134,7 @@ pub returns-in-Ok-false-clause-shown : goal.returns-in-Ok-false-clause-shown
 returns-in-Ok-false-clause-shown g c =
     let M = g.M.Machine in
     let l = c.args.l.now in let log = c.args.log.now in let now = M.now c.args.m.now in let read = M.now c.image_of.new.m in let new = M.now c.heal_home.new.m in
-    on_ok_more (M.honest c.heal_home.new.m → IsCalmNow read → ChangesHome l c.args.page read.image new.image (home_of l read.image c.args.page))
-    ((records : List Placed) (first : Image) → M.honest c.heal_home.new.m → IsCalmNow now → GivesPages log records first → IsShowing l records first c.args.page now.image → IsShowing l records first (c.args.page + 1) new.image)
-    c.heal_home.result
+    on_ok_weaker {P = M.honest c.heal_home.new.m → IsCalmNow read → ChangesHome l c.args.page read.image new.image (home_of l read.image c.args.page)} {Q = (records : List Placed) (first : Image) → M.honest c.heal_home.new.m → IsCalmNow now → GivesPages log records first → IsShowing l records first c.args.page now.image → IsShowing l records first (c.args.page + 1) new.image} c.heal_home.result
     (λ done records first h still given at.
     let h1 = c.heal_home.ensures.disk.trust.honest h in
     let worn = c.image_of.ensures.reads.worn h1 in
@@ -155,7 +147,7 @@ pub returns-in-Ok-false-clause-not_shown : goal.returns-in-Ok-false-clause-not_s
 returns-in-Ok-false-clause-not_shown g c =
     let M = g.M.Machine in
     let l = c.args.l.now in let log = c.args.log.now in let now = M.now c.args.m.now in let read = M.now c.image_of.new.m in let new = M.now c.heal_home.new.m in
-    if_err_more c.heal_home.result (λ fault. M.honest c.heal_home.new.m → IsCalmNow read → LosesHome l c.args.page read.image fault)
+    IfErr-weaker c.heal_home.result (λ fault. M.honest c.heal_home.new.m → IsCalmNow read → LosesHome l c.args.page read.image fault)
     (λ fault. (records : List Placed) (first : Image) → M.honest c.heal_home.new.m → IsCalmNow now → GivesPages log records first → IsShowing l records first c.args.page now.image → LosesNone l records first fault)
     (λ fault loses records first h still given at.
     let h1 = c.heal_home.ensures.disk.trust.honest h in
@@ -196,12 +188,10 @@ pub returns-in-Ok-true-clause-grows : goal.returns-in-Ok-true-clause-grows
 returns-in-Ok-true-clause-grows g c =
     let M = g.M.Machine in
     let read = λ (t : M.tells c.home_logged.new.m). c.image_of.ensures.reads.ledger (c.home_logged.ensures.disk.trust.tells t) in
-    on_ok_more (M.tells c.home_logged.new.m → (M.ledger c.image_of.new.m).written ≤ (M.ledger c.home_logged.new.m).written) (M.tells c.home_logged.new.m → (M.ledger c.args.m.now).written ≤ (M.ledger c.home_logged.new.m).written)
-    c.home_logged.result (λ grows t. omega (arith, grows t, ap (λ (x : Ledger). x.written) (read t))) c.home_logged.ensures.grows
+    on_ok_weaker {P = M.tells c.home_logged.new.m → (M.ledger c.image_of.new.m).written ≤ (M.ledger c.home_logged.new.m).written} {Q = M.tells c.home_logged.new.m → (M.ledger c.args.m.now).written ≤ (M.ledger c.home_logged.new.m).written} c.home_logged.result (λ grows t. omega (arith, grows t, ap (λ (x : Ledger). x.written) (read t))) c.home_logged.ensures.grows
 
 pub returns-in-Ok-false-clause-grows : goal.returns-in-Ok-false-clause-grows
 returns-in-Ok-false-clause-grows g c =
     let M = g.M.Machine in
     let read = λ (t : M.tells c.heal_home.new.m). c.image_of.ensures.reads.ledger (c.heal_home.ensures.disk.trust.tells t) in
-    on_ok_more (M.tells c.heal_home.new.m → (M.ledger c.image_of.new.m).written ≤ (M.ledger c.heal_home.new.m).written) (M.tells c.heal_home.new.m → (M.ledger c.args.m.now).written ≤ (M.ledger c.heal_home.new.m).written)
-    c.heal_home.result (λ grows t. omega (arith, grows t, ap (λ (x : Ledger). x.written) (read t))) c.heal_home.ensures.grows
+    on_ok_weaker {P = M.tells c.heal_home.new.m → (M.ledger c.image_of.new.m).written ≤ (M.ledger c.heal_home.new.m).written} {Q = M.tells c.heal_home.new.m → (M.ledger c.args.m.now).written ≤ (M.ledger c.heal_home.new.m).written} c.heal_home.result (λ grows t. omega (arith, grows t, ap (λ (x : Ledger). x.written) (read t))) c.heal_home.ensures.grows

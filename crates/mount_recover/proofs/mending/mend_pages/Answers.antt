@@ -1,5 +1,4 @@
 use Rattle.std.proofs.Common.{◌≡◌, ◌<◌, ℕ, List, None, subst, arith}
-use Rattle.mount_recover.specs.Recover.{HasBothHomes}
 use Rattle.sector_disk.specs.declared.sector.WeakRun.{WeakRun}
 use Rattle.sector_disk.proofs.Moments.{started, then_on}
 use Rattle.sector_disk.proofs.CallLaws.{heals_then, heals_told, reads_as_heals, reads_none, told_up}
@@ -9,6 +8,7 @@ use Rattle.mount_recover.specs.Mending.{IsLoadFault, AreOfVolume, IsCompleted, I
 use Rattle.fsd_log.specs.Scan.{Placed}
 use Rattle.log_thirds.specs.Append.{IsCalm as IsCalmNow}
 use Rattle.fsd_sound.specs.Mounting.{device_of_mount}
+use Rattle.fsd_sound.specs.Homes.{HasBothHomes}
 use Rattle.mount_recover.specs.Showing.{GivesPages, IsShowing, LosesNone}
 use Rattle.mount_recover.proofs.CalmLaws.{still_next, showing_none}
 use Rattle.mount_recover.proofs.FaultLaws.{handed_up}

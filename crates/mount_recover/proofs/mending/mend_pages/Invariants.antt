@@ -6,8 +6,8 @@ use Rattle.fsd_log.specs.Scan.{Placed}
 use Rattle.log_thirds.specs.Append.{IsCalm as IsCalmNow}
 use Rattle.mount_recover.specs.Showing.{GivesPages, IsShowing}
 use Rattle.mount_recover.specs.Mending.{IsCompleted, IsMending, Stays, Keeps}
-use Rattle.mount_recover.specs.Recover.{HasBothHomes}
 use Rattle.mount_recover.proofs.mending.mend_pages.Given as goal
+use Rattle.fsd_sound.specs.Homes.{HasBothHomes}
 
 abbrev pub invariant-loop-page : goal.invariant-loop-page
 invariant-loop-page g l = let M = g.M.Machine in let old = l.fn.m in record {

@@ -17,14 +17,16 @@ use Rattle.mount_recover.specs.Replay.{IsReplayed, IsUnturned, Replays, TurnsLas
 use Rattle.std.specs.Prelude.{IfSome, IsSome}
 use Rattle.volume_layout.proofs.RootLaws.{planned_bounds}
 use Rattle.sector_disk.specs.Image.{Windows, IsCalm, IsEmpty}
+use Rattle.sector_disk.proofs.ResultLaws.{err_as}
 use Rattle.fsd_sound.specs.Shown.{records_by}
 use Rattle.mount_recover.proofs.CalmLaws.{calm_now, calm_two, knows_one, loses_shown, next_kept, next_settled, some_root, stand_shown, still_next, still_one}
-use Rattle.mount_recover.proofs.FaultLaws.{err_as, handed_up, load_left, load_sound, worn_left}
+use Rattle.mount_recover.proofs.FaultLaws.{handed_up, load_left, load_sound, worn_left}
 use Rattle.fsd_sound.specs.declared.fault.MountFault.TheVariants.{Device}
-use Rattle.mount_recover.proofs.MountLaws.{wears_replays, not_found_excused, found_same, is_seen, replays_from, stays_replays, begins_replays, lost_on, keeps_all, rest_kept, rest_left, mend_refused, none_found}
+use Rattle.mount_recover.proofs.MountLaws.{wears_replays, not_found_excused, found_same, is_seen, replays_from, stays_replays, begins_replays, lost_on, rest_kept, rest_left, mend_refused, none_found}
 use Rattle.mount_recover.proofs.HomesLaws.{both_settled}
 use Rattle.mount_recover.proofs.TurningLaws.{beginning_turns, completing_turns, stays_turns, still_unturned, worn_turns}
 use Rattle.mount_recover.proofs.mounting.recover.Goals as goal
+use Rattle.mount_recover.proofs.KeepsLaws.{keeps_none}
 
 pub returns-in_err-layout-clause-sound : goal.returns-in_err-layout-clause-sound
 returns-in_err-layout-clause-sound g c = handed_up IsNotUnsound c.from_residual.result c.in_err-layout.field-0.0 c.from_residual.ensures.1 c.in_err-layout.ensures.sound
@@ -338,7 +340,7 @@ returns-in_err-complete-clause-rest_err g c =
     let found = c.in_ok-layout.field-0 in let one = M.now c.find_volume.new.m in let two = M.now c.complete.new.m in
     let is = c.in_ok-layout.ensures.seen h1 in
     let kept = c.complete.ensures.rest found.layout is.seen h2 c.in_ok-layout.ensures.planned c.in_ok-layout.ensures.layout is.knows in
-    inr (record { layout = found.layout; root = c.in_ok-layout.ensures.root h1; rest = rest_left found.layout old one two two two (c.find_volume.ensures.reads.worn h1) kept (keeps_all found.layout two) (keeps_all found.layout two).rest refl }))
+    inr (record { layout = found.layout; root = c.in_ok-layout.ensures.root h1; rest = rest_left found.layout old one two two two (c.find_volume.ensures.reads.worn h1) kept (keeps_none found.layout two) (keeps_none found.layout two).rest refl }))
 
 pub returns-in_err-mend-clause-rest_err : goal.returns-in_err-mend-clause-rest_err
 returns-in_err-mend-clause-rest_err g c =
@@ -351,7 +353,7 @@ returns-in_err-mend-clause-rest_err g c =
     let is = c.in_ok-layout.ensures.seen h1 in
     let kept = c.complete.ensures.rest found.layout is.seen h2 c.in_ok-layout.ensures.planned c.in_ok-layout.ensures.layout is.knows in
     let three = M.now c.mend.new.m in
-    inr (record { layout = found.layout; root = c.in_ok-layout.ensures.root h1; rest = rest_left found.layout old one two three three (c.find_volume.ensures.reads.worn h1) kept (c.mend.ensures.keeps h3) (keeps_all found.layout three).rest refl }))
+    inr (record { layout = found.layout; root = c.in_ok-layout.ensures.root h1; rest = rest_left found.layout old one two three three (c.find_volume.ensures.reads.worn h1) kept (c.mend.ensures.keeps h3) (keeps_none found.layout three).rest refl }))
 
 pub returns-in_err-begin_epoch-clause-rest_err : goal.returns-in_err-begin_epoch-clause-rest_err
 returns-in_err-begin_epoch-clause-rest_err g c =

@@ -4,8 +4,9 @@ use Rattle.sector_disk.proofs.CallLaws.{told_up, writes_more, writes_then, write
 use Rattle.sector_disk.specs.Calls.{failed_at}
 use Rattle.volume_layout.specs.Layout.{home_b}
 use Rattle.twin_home.specs.Home.{with_homes}
-use Rattle.twin_home.proofs.WriteLaws.{first_only, then_second, both_stand, on_ok_more}
+use Rattle.twin_home.proofs.WriteLaws.{first_only, then_second, both_stand}
 use Rattle.twin_home.proofs.home.write_home.Goals as goal
+use Rattle.std.proofs.lemmas.Result.{on_ok_weaker}
 
 pub returns-in_err-write_a-clause-writes : goal.returns-in_err-write_a-clause-writes
 returns-in_err-write_a-clause-writes g c =
@@ -24,5 +25,5 @@ pub returns-clause-done : goal.returns-clause-done
 returns-clause-done g c =
     let M = g.M.Machine in
     let l = c.args.l.now in let page = c.args.page in let bytes = c.args.b.now in let old = M.now c.args.m.now in let mid = M.now c.write_a.new.m in let new = M.now c.write_b.new.m in
-    on_ok_more (M.honest c.write_b.new.m → Holds mid (stand mid.image (home_b l page) bytes 1) new) (M.honest c.write_b.new.m → Holds old (with_homes l page bytes old.image 1 1) new) c.write_b.result
+    on_ok_weaker {P = M.honest c.write_b.new.m → Holds mid (stand mid.image (home_b l page) bytes 1) new} {Q = M.honest c.write_b.new.m → Holds old (with_homes l page bytes old.image 1 1) new} c.write_b.result
     (λ done h. both_stand l page bytes c.told-b old mid new (c.in_ok-write_a.ensures.done (c.write_b.ensures.writes.trust.honest h)) (done h)) c.write_b.ensures.done

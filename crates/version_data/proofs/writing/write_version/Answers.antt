@@ -8,10 +8,11 @@ use Rattle.fsd_formats.specs.NamePage.{sectors_for}
 use Rattle.sector_disk.specs.Image.{in_run}
 use Rattle.sector_disk.specs.Machine.{Holds, Ledger, wrote}
 use Rattle.sector_disk.proofs.CallLaws.{writes_told}
+use Rattle.sector_disk.proofs.ResultLaws.{err_as}
 use Rattle.version_data.specs.Writing.{WroteMost, place_of, with_parts}
 use Rattle.version_data.proofs.PlaceLaws.{all_behind, entry_count, entry_length, entry_lengths, left_next, lies_behind, run_below}
 use Rattle.version_data.proofs.VersionLaws.{holds_run, version_stands}
-use Rattle.version_data.proofs.WritingLaws.{failed_told, handed_on, on_err, run_among, run_written, wrote_most_on, wrote_on}
+use Rattle.version_data.proofs.WritingLaws.{failed_told, handed_on, run_among, run_written, wrote_most_on, wrote_on}
 use Rattle.version_data.proofs.writing.write_version.Goals as goal
 
 pub leader_bytes-leader-requires : goal.leader_bytes-leader-requires
@@ -60,7 +61,7 @@ returns-in_err-write_run-clause-counted_err g c =
     let r : Run = get_or c.as_slice-run-items.result.now c.loop-run.run-index d in
     let lies = lies_behind d c.as_slice-run-items.ensures.value c.loop-run-test.true c.loop-run.invariant.left in
     let total : length (sectors_of c.args.entry.now.runs) ≡ sectors_for (length c.args.bytes.now) = entry_count c.args.entry.now c.requires.entry ∙ ap sectors_for c.requires.len in
-    on_err (M.tells c.write_run.new.m → WroteMost (sectors_for (length c.args.bytes.now)) (M.ledger c.args.m.now) (M.ledger c.write_run.new.m)) c.from_residual.result
+    err_as (M.tells c.write_run.new.m → WroteMost (sectors_for (length c.args.bytes.now)) (M.ledger c.args.m.now) (M.ledger c.write_run.new.m)) c.from_residual.result
     (λ t. wrote_most_on (M.ledger c.args.m.now) (M.ledger c.loop-run.m) (M.ledger c.write_run.new.m) c.loop-run.before r.length (sectors_for (length c.args.bytes.now))
     (c.loop-run.invariant.counted (c.write_run.ensures.disk.trust.tells t)) (c.in_err-write_run.ensures.counted_err t) (omega (arith, lies.size, total)))
 

@@ -1,7 +1,8 @@
 use Rattle.std.proofs.Common.{◌≡◌, ◌∙◌, ◌<◌, ℕ, List, length, get_or, ap, subst, arith}
 use Rattle.sector_disk.specs.Machine.{Ledger, wrote}
 use Rattle.sector_disk.proofs.CallLaws.{writes_told}
-use Rattle.version_data.proofs.WritingLaws.{failed_told, on_err, wrote_on}
+use Rattle.sector_disk.proofs.ResultLaws.{err_as}
+use Rattle.version_data.proofs.WritingLaws.{failed_told, wrote_on}
 use Rattle.volume_format.specs.Formatting.{head_place}
 use Rattle.volume_format.proofs.WriteLaws.{head_one, one_counted}
 use Rattle.volume_format.proofs.HeadLaws.{head_more, low}
@@ -19,7 +20,7 @@ pub returns-in_err-write_one-clause-counted_err : goal.returns-in_err-write_one-
 returns-in_err-write_one-clause-counted_err g c =
     let M = g.M.Machine in
     let few : c.loop-place.place-index < 16 = subst (λ (places : List ℕ). c.loop-place.place-index < length places) c.as_slice-place-items.ensures c.loop-place-test.true in
-    on_err _ c.from_residual.result (λ t. one_counted (M.ledger c.args.m.now) (M.ledger c.loop-place.m) (M.ledger c.write_one.new.m) c.loop-place.place-index few
+    err_as _ c.from_residual.result (λ t. one_counted (M.ledger c.args.m.now) (M.ledger c.loop-place.m) (M.ledger c.write_one.new.m) c.loop-place.place-index few
     (c.loop-place.invariant.counted (c.write_one.ensures.disk.trust.tells t)) (c.in_err-write_one.ensures.counted_err t))
 
 pub loop-place-preserved : goal.loop-place-preserved

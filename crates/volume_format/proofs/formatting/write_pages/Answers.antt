@@ -2,8 +2,9 @@ use Rattle.std.proofs.Common.{◌∙◌, ℕ, List, ap}
 use Rattle.sector_disk.specs.Machine.{Ledger, wrote}
 use Rattle.sector_disk.specs.declared.sector.Sector.TheVariants.{Whole}
 use Rattle.sector_disk.proofs.CallLaws.{writes_told}
+use Rattle.sector_disk.proofs.ResultLaws.{err_as}
 use Rattle.fsd_sound.specs.Format.{format_page}
-use Rattle.version_data.proofs.WritingLaws.{failed_told, on_err, wrote_on}
+use Rattle.version_data.proofs.WritingLaws.{failed_told, wrote_on}
 use Rattle.volume_format.proofs.Laying.{holds_row}
 use Rattle.volume_format.proofs.WriteLaws.{one_counted, one_written}
 use Rattle.volume_format.proofs.formatting.write_pages.Goals as goal
@@ -16,7 +17,7 @@ returns-in_err-write_one-clause-disk g c =
 pub returns-in_err-write_one-clause-counted_err : goal.returns-in_err-write_one-clause-counted_err
 returns-in_err-write_one-clause-counted_err g c =
     let M = g.M.Machine in
-    on_err _ c.from_residual.result (λ t. one_counted (M.ledger c.args.m.now) (M.ledger c.loop-page.m) (M.ledger c.write_one.new.m) c.loop-page.page c.loop-page-test.true
+    err_as _ c.from_residual.result (λ t. one_counted (M.ledger c.args.m.now) (M.ledger c.loop-page.m) (M.ledger c.write_one.new.m) c.loop-page.page c.loop-page-test.true
     (c.loop-page.invariant.counted (c.write_one.ensures.disk.trust.tells t)) (c.in_err-write_one.ensures.counted_err t))
 
 pub loop-page-preserved : goal.loop-page-preserved

@@ -1,8 +1,9 @@
 use Rattle.std.proofs.Common.{arith}
+use Rattle.std.proofs.lemmas.Result.{on_ok_weaker}
 use Rattle.sector_disk.proofs.CallLaws.{writes_told}
 use Rattle.version_data.proofs.WritingLaws.{failed_told}
 use Rattle.volume_format.proofs.FormatLaws.{fits, some_page, volume_laid}
-use Rattle.volume_format.proofs.WriteLaws.{copies_written, head_written, on_ok, pages_written}
+use Rattle.volume_format.proofs.WriteLaws.{copies_written, head_written, pages_written}
 use Rattle.volume_format.proofs.formatting.write_volume.Goals as goal
 
 pub home_a-requires : goal.home_a-requires
@@ -23,7 +24,7 @@ write_head-requires g c = omega (arith, fits c.args.l.now c.pages-pages.ensures.
 pub returns-clause-done : goal.returns-clause-done
 returns-clause-done g c =
     let M = g.M.Machine in
-    on_ok c.write_head.result (λ done h3.
+    on_ok_weaker c.write_head.result (λ done h3.
     let h2 = c.write_head.ensures.disk.trust.honest h3 in
     let h1 = c.write_pages-2.ensures.disk.trust.honest h2 in
     volume_laid c.args.l.now (M.now c.args.m.now) (M.now c.write_pages.new.m) (M.now c.write_pages-2.new.m) (M.now c.write_head.new.m) c.home_a.result c.home_b.result c.pages-pages.result

@@ -10,11 +10,10 @@ use Rattle.log_thirds.specs.Disk.{reads}
 use Rattle.log_thirds.specs.Slots.{noted, slots_with, LieInRecords, SlotsInside}
 use Rattle.log_thirds.specs.Reading.{StepsOn, stepped_in, stepped_of}
 use Rattle.volume_layout.proofs.RootLaws.{planned_bounds}
-use Rattle.fsd_log.proofs.WalkLaws.{ends_inside}
 use Rattle.log_thirds.proofs.FindLaws.{place_most}
 use Rattle.log_thirds.proofs.SlotLaws.{length-noted, none_inside, none_lie, record_inside, record_lies}
 use Rattle.log_thirds.specs.Copies.{FitsDisk, AreCopies, AreLastCopies, copies_count}
-use Rattle.fsd_log.proofs.PlaceLaws.{place_inside}
+use Rattle.fsd_log.proofs.PlaceLaws.{place_inside, end_most}
 use Rattle.log_thirds.proofs.ScanLaws.{Reaches, EndsThere, reaches_start, reaches_as, reaches_on, reaches_end}
 use Rattle.log_thirds.specs.Firsts.{AreNumbers, firsts_of, firsts_with}
 use Rattle.log_thirds.proofs.FirstsLaws.{numbers_more}
@@ -51,25 +50,25 @@ loop-from-init g c =
 pub place_of-place-requires-clause-at : goal.place_of-place-requires-clause-at
 place_of-place-requires-clause-at g c =
     let gone = subst (λ (o : Option Step). IfSome o (StepsOn c.args.layout.now c.loop-from.at)) c.in-Ok-Some.field-0-is c.in-Ok-Some.ensures.goes in
-    omega (arith, gone.lies, gone.goes.before, ends_inside c.args.layout.now c.in-Ok-Some.field-0-0.past.end gone.goes.ends)
+    omega (arith, gone.lies, gone.goes.before, end_most c.args.layout.now c.in-Ok-Some.field-0-0.past.end gone.goes.ends)
 
 pub overflow_add-place : goal.overflow_add-place
 overflow_add-place g c =
     let gone = subst (λ (o : Option Step). IfSome o (StepsOn c.args.layout.now c.loop-from.at)) c.in-Ok-Some.field-0-is c.in-Ok-Some.ensures.goes in
-    let inside : c.in-Ok-Some.field-0-0.from ≤ 3 * c.args.layout.now.third = omega (arith, gone.lies, gone.goes.before, ends_inside c.args.layout.now c.in-Ok-Some.field-0-0.past.end gone.goes.ends) in
+    let inside : c.in-Ok-Some.field-0-0.from ≤ 3 * c.args.layout.now.third = omega (arith, gone.lies, gone.goes.before, end_most c.args.layout.now c.in-Ok-Some.field-0-0.past.end gone.goes.ends) in
     omega (arith, place_most c.args.layout.now c.args.anchor.now.third c.in-Ok-Some.field-0-0.from c.requires.third inside, c.place_of-place.ensures, c.third-third.ensures.most, c.third-third.ensures.value)
 
 pub note-requires : goal.note-requires
 note-requires g c =
     let gone = subst (λ (o : Option Step). IfSome o (StepsOn c.args.layout.now c.loop-from.at)) c.in-Ok-Some.field-0-is c.in-Ok-Some.ensures.goes in
-    let inside : c.in-Ok-Some.field-0-0.from ≤ 3 * c.args.layout.now.third = omega (arith, gone.lies, gone.goes.before, ends_inside c.args.layout.now c.in-Ok-Some.field-0-0.past.end gone.goes.ends) in
+    let inside : c.in-Ok-Some.field-0-0.from ≤ 3 * c.args.layout.now.third = omega (arith, gone.lies, gone.goes.before, end_most c.args.layout.now c.in-Ok-Some.field-0-0.past.end gone.goes.ends) in
     omega (
       arith,
       place_most c.args.layout.now c.args.anchor.now.third c.in-Ok-Some.field-0-0.from c.requires.third inside,
       c.place_of-place.ensures,
       gone.lies,
       gone.goes.before,
-      ends_inside c.args.layout.now c.in-Ok-Some.field-0-0.past.end gone.goes.ends,
+      end_most c.args.layout.now c.in-Ok-Some.field-0-0.past.end gone.goes.ends,
       ap length c.as_slice.ensures.value,
       c.third-third.ensures.most,
       c.third-third.ensures.value,
@@ -78,14 +77,14 @@ note-requires g c =
 pub overflow_add-copies_at : goal.overflow_add-copies_at
 overflow_add-copies_at g c =
     let gone = subst (λ (o : Option Step). IfSome o (StepsOn c.args.layout.now c.loop-from.at)) c.in-Ok-Some.field-0-is c.in-Ok-Some.ensures.goes in
-    let inside : c.in-Ok-Some.field-0-0.from ≤ 3 * c.args.layout.now.third = omega (arith, gone.lies, gone.goes.before, ends_inside c.args.layout.now c.in-Ok-Some.field-0-0.past.end gone.goes.ends) in
+    let inside : c.in-Ok-Some.field-0-0.from ≤ 3 * c.args.layout.now.third = omega (arith, gone.lies, gone.goes.before, end_most c.args.layout.now c.in-Ok-Some.field-0-0.past.end gone.goes.ends) in
     omega (
       arith,
       place_most c.args.layout.now c.args.anchor.now.third c.in-Ok-Some.field-0-0.from c.requires.third inside,
       c.place_of-place.ensures,
       gone.lies,
       gone.goes.before,
-      ends_inside c.args.layout.now c.in-Ok-Some.field-0-0.past.end gone.goes.ends,
+      end_most c.args.layout.now c.in-Ok-Some.field-0-0.past.end gone.goes.ends,
       c.len.ensures.value,
       c.third-third.ensures.most,
       c.third-third.ensures.value,
@@ -94,14 +93,14 @@ overflow_add-copies_at g c =
 pub overflow_add-copies_at-in-Ok-Some : goal.overflow_add-copies_at-in-Ok-Some
 overflow_add-copies_at-in-Ok-Some g c =
     let gone = subst (λ (o : Option Step). IfSome o (StepsOn c.args.layout.now c.loop-from.at)) c.in-Ok-Some.field-0-is c.in-Ok-Some.ensures.goes in
-    let inside : c.in-Ok-Some.field-0-0.from ≤ 3 * c.args.layout.now.third = omega (arith, gone.lies, gone.goes.before, ends_inside c.args.layout.now c.in-Ok-Some.field-0-0.past.end gone.goes.ends) in
+    let inside : c.in-Ok-Some.field-0-0.from ≤ 3 * c.args.layout.now.third = omega (arith, gone.lies, gone.goes.before, end_most c.args.layout.now c.in-Ok-Some.field-0-0.past.end gone.goes.ends) in
     omega (
       arith,
       place_most c.args.layout.now c.args.anchor.now.third c.in-Ok-Some.field-0-0.from c.requires.third inside,
       c.place_of-place.ensures,
       gone.lies,
       gone.goes.before,
-      ends_inside c.args.layout.now c.in-Ok-Some.field-0-0.past.end gone.goes.ends,
+      end_most c.args.layout.now c.in-Ok-Some.field-0-0.past.end gone.goes.ends,
       c.len.ensures.value,
       c.third-third.ensures.most,
       c.third-third.ensures.value,
@@ -130,7 +129,7 @@ with-firsts-requires-clause-third g c = omega (arith, c.third-third.ensures.most
 pub loop-from-smaller : goal.loop-from-smaller
 loop-from-smaller g c =
     let gone = subst (λ (o : Option Step). IfSome o (StepsOn c.args.layout.now c.loop-from.at)) c.in-Ok-Some.field-0-is c.in-Ok-Some.ensures.goes in
-    omega (arith, gone.goes.on, gone.goes.before, ends_inside c.args.layout.now c.in-Ok-Some.field-0-0.past.end gone.goes.ends)
+    omega (arith, gone.goes.on, gone.goes.before, end_most c.args.layout.now c.in-Ok-Some.field-0-0.past.end gone.goes.ends)
 
 pub loop-from-preserved : goal.loop-from-preserved
 loop-from-preserved g c =
