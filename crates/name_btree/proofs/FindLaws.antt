@@ -38,7 +38,7 @@ find_before test (e ∷ xs) right fail = ap (λ (o : Option Entry). cond (test e
 
 -- ---- one key
 
-unequal_less : (o : Ordering) → is_lt o ≡ true → is_eq o ≡ false
+pub unequal_less : (o : Ordering) → is_lt o ≡ true → is_eq o ≡ false
 unequal_less Less e = refl
 unequal_less Equal e = absurd cc
 unequal_less Greater e = refl

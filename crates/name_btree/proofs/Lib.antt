@@ -48,6 +48,8 @@ mod VisitedLaws
 pub mod WalkLaws
 pub mod WayLaws
 pub mod WayTreeLaws
+mod LeadLaws
+mod MetLaws
 mod WaysGrowthLaws
 pub mod WithinLaws
 pub mod WrittenPages

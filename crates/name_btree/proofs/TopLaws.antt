@@ -8,7 +8,7 @@ use Rattle.fsd_table.specs.declared.child.Child.{Child}
 use Rattle.fsd_table.specs.Pages.{page_at, children}
 use Rattle.fsd_table.specs.Table.{top, max_height, IsVisited, BreaksTable}
 use Rattle.fsd_table.specs.Tree.{pages_below}
-use Rattle.fsd_table.proofs.BreakLaws.{visited_top, visited_children, misfit_breaks, too_deep_breaks}
+use Rattle.fsd_table.proofs.BreakLaws.{visited_top, visited_children, misfit_breaks}
 use Rattle.name_btree.specs.declared.fault.TreeFault.{TreeFault}
 use Rattle.name_page.specs.declared.pages.Pages.{Ghosts}
 use Rattle.name_page.specs.Pages.{Step}
@@ -45,12 +45,6 @@ down_ends pages i c entries at few on = (few, subst (HasKinds pages 1) (none_mor
   where
     none_more : (n : ℕ) → n + zero ≡ n
     none_more n = omega arith
-
-pub down_too_long : (pages : List (List ℕ)) (i : ℕ) (c : Child) → max_height ≤ i → IsDown pages i c → BreaksTable pages c.page
-down_too_long pages i c long on = too_deep_breaks pages (i + 1) c on.0 (deeper i long)
-  where
-    deeper : (n : ℕ) → max_height ≤ n → max_height < n + 1
-    deeper n h = omega arith
 
 pub down_breaks : {D : Type 0} (P : Ghosts D) (new : D) (fault : TreeFault) (i : ℕ) (c : Child)
     → (P.trusted new → IsDown (P.step new).images i c) → HasCause (P.step new) (IsMisfit (P.step new).images c) (BarsPage (P.step new) c.page) fault → FailsTable P new fault

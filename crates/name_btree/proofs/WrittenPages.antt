@@ -1,16 +1,17 @@
 -- What the pages that are changed have, once a page or a draft is written.
-use Rattle.std.proofs.Common.{◌≡◌, ◌⊎◌, inl, inr, ℕ, ◌<◌, Bool, true, false, List, [], ◌∷◌, length, Option, refl, sym, ap, subst, ◌∙◌, arith, length-set}
+use Rattle.std.proofs.Common.{◌≡◌, ◌⊎◌, inl, inr, ℕ, ◌<◌, Bool, true, false, List, [], ◌∷◌, length, Option, None, refl, sym, ap, subst, ◌∙◌, arith, length-set}
 use Rattle.std.specs.Prelude.{IsSome, slice_get, slice_set, ◌==◌}
 use Rattle.std.specs.List.{AllByRecursion}
 use Rattle.std.proofs.lemmas.Bool.{eqb-true, eqb-false}
 use Rattle.fsd_formats.specs.NamePage.{Content, read_page}
 use Rattle.fsd_table.specs.Pages.{page_at}
-use Rattle.name_page.specs.Looks.{ChangesPages, IsAccepted, IsAsChanged}
-use Rattle.name_page.specs.Pages.{Step, is_one_of, with_one, with_page}
-use Rattle.name_page.proofs.LookLaws.{pages_same, pages_then}
+use Rattle.name_page.specs.declared.pages.Pages.{Ghosts}
+use Rattle.name_page.specs.Looks.{ChangesPages, IsAccepted, IsAsChanged, OnlyEdits, OnlyReaches}
+use Rattle.name_page.specs.Pages.{Step, is_one_of, is_spare, with_one, with_page}
+use Rattle.name_page.proofs.LookLaws.{edits_then, pages_same, pages_then, reaches_edits, Joins, Trusts}
 use Rattle.name_btree.specs.declared.draft.Sheet.{Sheet}
 use Rattle.name_btree.specs.Draft.{AreSheets, committed, freed}
-use Rattle.name_btree.specs.Replace.{IsWritten}
+use Rattle.name_btree.specs.Replace.{IsWritten, WritesOne}
 use Rattle.name_btree.proofs.CommitLaws.{freed_changed}
 use Rattle.name_btree.proofs.DraftLaws.{committed_images, drafted_length, freed_images}
 use Rattle.name_btree.proofs.SetLaws.{set_at, set_other}
@@ -39,6 +40,30 @@ written_pages old new page x is lt =
 
 pub written_count : (old new : Step) (page : ℕ) (x : Content) → IsWritten old new page x → length new.images ≡ length old.images
 written_count old new page x is = ap (λ (s : Step). length s.images) is.step ∙ length-set old.images page is.bytes
+
+-- behind a look that has reached it
+pub written_edits : {D : Type 0} (G : Ghosts D) (law : Joins G) (trust : Trusts G) (old mid new : D) (page : ℕ) (x : Content) → OnlyReaches G None old mid → G.outside None mid new → IsWritten (G.step mid) (G.step new) page x → OnlyEdits G None old new
+written_edits G law trust old mid new page x looks outside is = edits_then G law old mid new (reaches_edits G old mid looks)
+    (record {
+      count = written_count (G.step mid) (G.step new) page x is;
+      home_a = ap (λ (s : Step). s.home_a) is.step;
+      most_reached = ap (λ (s : Step). s.most_reached) is.step;
+      most_changed = ap (λ (s : Step). s.most_changed) is.step;
+      outside = outside;
+      trust = trust mid new None outside;
+    })
+
+pub written_one : {D : Type 0} (G : Ghosts D) (trust : Trusts G) (old mid new : D) (page : ℕ) (x : Content) → OnlyReaches G None old mid → G.outside None mid new → IsWritten (G.step mid) (G.step new) page x
+    → page < length (G.step mid).images → is_spare (G.step old).spares page ≡ false → WritesOne G old new
+written_one G trust old mid new page x looks outside is low used = record {
+  page = page;
+  bytes = is.bytes;
+  there = omega (arith, low, looks.looks.count);
+  used = used;
+  spares = ap (λ (s : Step). s.spares) is.step ∙ looks.looks.spares;
+  changed = ap (λ (s : Step). s.changed) is.step ∙ ap (λ (pages : List ℕ). with_one pages page) looks.looks.changed;
+  images = λ t. ap (λ (s : Step). s.images) is.step ∙ ap (λ (pages : List (List ℕ)). slice_set pages page is.bytes) (looks.stays (trust mid new None outside t));
+}
 
 -- ---- a draft
 

@@ -5,8 +5,10 @@ pub mod Fault
 pub mod Grown
 pub mod Lookup
 pub mod Map
+pub mod Path
 pub mod Remove
 pub mod Replace
+pub mod Sheets
 pub mod Still
 pub mod Trim
 pub mod Walk

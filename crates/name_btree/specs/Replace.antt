@@ -19,6 +19,11 @@ use Rattle.name_btree.specs.Remove.{IsAround}
 abbrev pub HasAsLong : Entry → List Entry → Type 0
 HasAsLong entry table = (old : Entry) × (entry_with entry.key table ≡ Some old) × (length (entry_bytes old) ≡ length (entry_bytes entry))
 
+-- another entry has the key, and takes as many bytes
+pub record IsAsLong (entry old : Entry) : Type 0 where
+  pub key : old.key ≡ entry.key
+  pub long : length (entry_bytes old) ≡ length (entry_bytes entry)
+
 -- what a page has was changed, and nothing else of the pages
 pub record IsWritten (old new : Step) (page : ℕ) (x : Content) : Type 0 where
   pub bytes : List ℕ

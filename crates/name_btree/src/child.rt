@@ -4,6 +4,7 @@ ghost use Rattle.fsd_table.specs.Pages.{page_at, content_fits};
 ghost use Rattle.name_page.specs.Node.{content_of};
 ghost use Rattle.name_btree.specs.Still.{HasRefusal};
 ghost use Rattle.name_btree.specs.Fault.{outer_told, HasCause, IsMisfit, Never, BarsPage, ShowsMisfit};
+ghost use Rattle.name_btree.specs.Path.{TakesNone};
 ghost use Rattle.name_page.specs.Looks.{OnlyReaches};
 ghost use Rattle.name_page.specs.Pages.{reaches, is_spare, IsReached};
 
@@ -20,6 +21,7 @@ pub(crate) fn node_at<T: Pages>(t: &mut T, page: u32) -> Result<Node, TreeFault>
     ensures reached { OnOk result (IsReached (T.step t.new) page) }
     ensures used { OnOk result (is_spare (T.step t.old).spares page ≡ false) }
     ensures node { IfOk result (λ node. page_at (T.step t.new).images page ≡ Some (content_of node)) }
+    ensures memory { T.in_memory t.old page → TakesNone T.Pages (outer_told result) t.old t.new }
     ensures fault { IfErr result (HasCause (T.step t.new) Never (BarsPage (T.step t.new) page)) }
     ensures refused { IfErr result (HasRefusal (T.step t.old) (T.step t.new)) }
 {
@@ -37,6 +39,7 @@ pub(crate) fn child_node<T: Pages>(t: &mut T, child: &Child) -> Result<Node, Tre
     ensures reached { OnOk result (IsReached (T.step t.new) child.now.page) }
     ensures used { OnOk result (is_spare (T.step t.old).spares child.now.page ≡ false) }
     ensures node { IfOk result (λ node. page_at (T.step t.new).images child.now.page ≡ Some (content_of node)) }
+    ensures memory { T.in_memory t.old child.now.page → TakesNone T.Pages (outer_told result) t.old t.new }
     ensures fits { IfOk result (λ node. content_fits child.now.low child.now.high (Some (content_of node)) ≡ true) }
     ensures fault { IfErr result (HasCause (T.step t.new) (IsMisfit (T.step t.new).images child.now) (BarsPage (T.step t.new) child.now.page)) }
     ensures shown { IfErr result (ShowsMisfit (T.step t.new) child.now) }

@@ -1,15 +1,19 @@
 //! The way to a leaf.
-ghost use Rattle.std.specs.List.{AllByRecursion};
-ghost use Rattle.std.specs.Prelude.{◌≡◌, ◌+◌, ◌-◌, ◌<◌, ◌≤◌, ℕ, IfOk, IfErr, IfSome, Some, length, drop, slice_get, true, false};
+ghost use Rattle.std.specs.List.{AllByRecursion, Contains};
+ghost use Rattle.std.specs.Prelude.{◌≡◌, ◌+◌, ◌-◌, ◌<◌, ◌≤◌, ℕ, IfOk, IfErr, IfSome, MatchResult, Some, length, drop, slice_get, true, false};
+ghost use Rattle.fsd_formats.specs.declared.entry.Entry.{Entry};
 ghost use Rattle.fsd_formats.specs.NamePage.{Leaf};
 ghost use Rattle.fsd_table.specs.declared.child.Child.{Child};
 ghost use Rattle.fsd_table.specs.Pages.{children, not_below, page_at};
+ghost use Rattle.fsd_table.specs.Table.{max_height};
 ghost use Rattle.fsd_forest.specs.Ways.{end_of};
 ghost use Rattle.name_page.specs.Cut.{is_before};
+ghost use Rattle.name_page.specs.declared.cut.Cut.TheVariants.{UpTo};
 ghost use Rattle.name_btree.specs.Descent.{way_to, IsPlace, HasNeighbours};
-ghost use Rattle.name_btree.specs.Fault.{outer_told, HasCause, BreaksBelow, BarsBelow, ShowsCause};
+ghost use Rattle.name_btree.specs.Fault.{outer_told, HasCause, BreaksBelow, BarsBelow, ShowsCause, is_inner};
 ghost use Rattle.name_btree.specs.Lookup.{BeginsBehind, IsBelow};
 ghost use Rattle.name_btree.specs.Replace.{IsLeafAt};
+ghost use Rattle.name_btree.specs.Path.{TakesNone, HasAll, HasMet, HasNone, Leads, LeadsBack, met_beside};
 ghost use Rattle.name_page.specs.Looks.{OnlyReaches, Shows};
 ghost use Rattle.name_page.specs.Pages.{reaches, is_spare, IsReached};
 
@@ -139,6 +143,11 @@ pub(crate) fn leaf_below<T: Pages>(
     ensures at { IfOk result (λ found. Shows (T.step t.new) (λ pages. IsLeafAt cut.now pages start found)) }
     ensures place { IfOk result (λ found. Shows (T.step t.new) (λ pages. IsPlace (is_before cut.now) pages start found)) }
     ensures beside { IfOk result (λ found. Shows (T.step t.new) (λ pages. HasNeighbours pages above start found)) }
+    // Where all that it meets is in memory it takes none, and the next way to an entry that it has found leads to the same leaf.
+    ensures memory { HasMet T.Pages above (is_before cut.now) start t.old → TakesNone T.Pages (outer_told result) t.old t.new }
+    ensures left { HasMet T.Pages above (is_before cut.now) start t.old → IfOk result (λ found. HasNone (is_before cut.now) found.entries → HasAll T.Pages t.old (met_beside (page_at (T.step t.old).images) found.previous)) }
+    ensures back { HasMet T.Pages above (is_before cut.now) start t.old → IfOk result (λ found. LeadsBack T.Pages above start t.new found) }
+    ensures again { (e : Entry) → cut.now ≡ UpTo e.key → Leads T.Pages (max_height - above) t.old e start → MatchResult result (λ found. Contains found.entries e) (λ fault. is_inner fault ≡ false) }
     ensures fault { IfErr result (HasCause (T.step t.new) (BreaksBelow (T.step t.new).images above start) (BarsBelow (T.step t.new) above start)) }
     ensures shown { IfErr result (ShowsCause (T.step t.new) (λ pages. BreaksBelow pages above start) (λ pages. IsBelow pages above start)) }
 {

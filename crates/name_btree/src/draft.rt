@@ -9,17 +9,23 @@ ghost use Rattle.name_btree.specs.declared.draft.Sheet.{Sheet};
 ghost use Rattle.name_btree.specs.Draft.{IsDraft, with_freed, drafted, committed, freed, last_sheet, AreSheets, MayGo, IsDrafted};
 ghost use Rattle.name_btree.specs.Fault.{outer_told, FailsBy, IsMisfit};
 ghost use Rattle.name_btree.specs.Grown.{Takes};
+ghost use Rattle.fsd_formats.specs.declared.entry.Entry.{Entry};
+ghost use Rattle.fsd_formats.specs.NamePage as grammar;
 ghost use Rattle.name_page.specs.Node.{content_of};
+ghost use Rattle.name_page.specs.Text.{IsTextOf};
 ghost use Rattle.name_page.specs.declared.pages.TheConstants.{MOST_CHANGED};
 ghost use Rattle.name_page.specs.Looks.{OnlyReaches, Shows};
 ghost use Rattle.name_page.specs.Pages.{reaches, changes, is_spare, with_page, IsReached, MayChange};
 
 use crate::child::node_at;
 use crate::fault::TreeFault;
+use crate::sheets::Sheets;
 use arrayvec::ArrayVec;
 use fsd_formats::{Entry, Separator};
 use fsd_table::Child;
-use name_page::{MOST_CHANGED, Node, Pages, node_fits, node_in, write_entries, write_ways};
+use name_page::{
+    LeafText, MOST_CHANGED, Node, Pages, node_fits, node_in, write_entries, write_text, write_ways,
+};
 
 /// What a page is to have.
 #[derive(Drop)]
@@ -40,7 +46,7 @@ impl Default for Sheet {
 /// Pages that are to be written one after another, and such that are to be spare then.
 #[derive(Drop)]
 pub(crate) struct Draft {
-    sheets: ArrayVec<Sheet, MOST_CHANGED>,
+    sheets: Sheets,
     freed: ArrayVec<u32, 20>,
 }
 
@@ -107,7 +113,7 @@ impl Draft {
         ensures freed { result.freed.items ≡ [] }
     {
         Draft {
-            sheets: ArrayVec::new(),
+            sheets: Sheets::new(),
             freed: ArrayVec::new(),
         }
     }
@@ -167,6 +173,22 @@ impl Draft {
     {
         let mut image = *t.look(page);
         write_entries(page, entries, &mut image);
+        self.sheets.push(Sheet { page, image });
+    }
+
+    /// The page is to be a leaf of the entries of these bytes.
+    pub(crate) fn put_text<T: Pages>(&mut self, t: &T, page: u32, text: &LeafText)
+        requires room { length self.old.sheets.items < MOST_CHANGED }
+        requires sheets { AreSheets (T.step t.now) self.old.sheets.items }
+        requires reached { IsReached (T.step t.now) page }
+        requires used { is_spare (T.step t.now).spares page ≡ false }
+        requires most { length text.now.bytes.items ≤ grammar.room }
+        ensures sheets { (entries : List Entry) → IsTextOf text.now entries → is_page page 0 (Leaf entries) ≡ true → AllByRecursion FitsEntry entries
+            → IsDrafted (T.step t.now) self.old.sheets.items self.new.sheets.items page (Leaf entries) }
+        ensures freed { self.new.freed.items ≡ self.old.freed.items }
+    {
+        let mut image = *t.look(page);
+        write_text(page, text, &mut image);
         self.sheets.push(Sheet { page, image });
     }
 

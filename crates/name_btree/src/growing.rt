@@ -1,15 +1,18 @@
 //! What is put into a page, which is parted where it is too much for one.
 ghost use Rattle.std.specs.Prelude.{◌≡◌, ◌+◌, ◌<◌, ◌≤◌, None, length, true, false};
-ghost use Rattle.std.specs.List.{AllByRecursion};
-ghost use Rattle.fsd_formats.specs.NamePage.{FitsEntry, FitsSeparator};
+ghost use Rattle.std.specs.List.{AllByRecursion, flat_map};
+ghost use Rattle.fsd_formats.specs.NamePage.{FitsEntry, FitsSeparator, entry_bytes, is_entry};
 ghost use Rattle.name_btree.specs.Draft.{drafted, AreSheets, TakesSheets};
 ghost use Rattle.name_btree.specs.Grown.{Takes, Over, most_parted, front_came, FitsTwoLeaves, FitsTwoInteriors, IsGrown, AreLeavesOf, AreInteriorsOf};
+ghost use Rattle.name_page.specs.Edits.{with_entry};
 ghost use Rattle.name_page.specs.declared.pages.TheConstants.{MOST_CHANGED};
 ghost use Rattle.name_page.specs.Pages.{changes, is_spare, with_images, IsReached};
 
 use crate::draft::{Draft, take_page};
-use fsd_formats::Separator;
-use name_page::{EntryList, Pages, SeparatorList, leaf_cut, middle, used};
+use fsd_formats::{Entry, Separator};
+use name_page::{
+    Entries, EntryList, Pages, SeparatorList, entries_with, leaf_cut, middle, text_with, used,
+};
 
 /// What became of a page: it has all, or there are two with a separator between them.
 #[derive(Drop)]
@@ -38,13 +41,8 @@ fn front_page<T: Pages>(t: &mut T, page: u32) -> u32
     if page == 0 { take_page(t) } else { page }
 }
 
-/// The page is to be a leaf of these entries, or two are where they are too many for one.
-pub(crate) fn grow_leaf<T: Pages>(
-    t: &mut T,
-    draft: &mut Draft,
-    page: u32,
-    entries: &EntryList,
-) -> Grown
+// The page is to be a leaf of these entries, or two are where they are too many for one.
+fn grow_leaf<T: Pages>(t: &mut T, draft: &mut Draft, page: u32, entries: &EntryList) -> Grown
     requires promised { most_parted page ≤ (T.step t.old).promised }
     requires more { most_parted page ≤ changes (T.step t.old) }
     requires room { length draft.old.sheets.items + 2 ≤ MOST_CHANGED }
@@ -77,6 +75,43 @@ pub(crate) fn grow_leaf<T: Pages>(
         child: right,
     };
     Grown::Parted(left, separator)
+}
+
+/// The page is to be a leaf of these entries and one more, or two are where they are too many for one.
+pub(crate) fn grow_leaf_with<T: Pages>(
+    t: &mut T,
+    draft: &mut Draft,
+    page: u32,
+    entries: &Entries,
+    entry: &Entry,
+) -> Grown
+    requires promised { most_parted page ≤ (T.step t.old).promised }
+    requires more { most_parted page ≤ changes (T.step t.old) }
+    requires room { length draft.old.sheets.items + 2 ≤ MOST_CHANGED }
+    requires sheets { AreSheets (T.step t.old) draft.old.sheets.items }
+    requires reached { IsReached (T.step t.old) page }
+    requires used { is_spare (T.step t.old).spares page ≡ false }
+    requires few { length entries.now ≤ 18 }
+    requires most { length (flat_map entry_bytes entries.now) ≤ 488 }
+    requires entries { FitsTwoLeaves page (with_entry entry.now entries.now) }
+    requires entry { is_entry entry.now ≡ true }
+    requires fits { FitsEntry entry.now }
+    ensures outside { T.outside None t.old t.new }
+    ensures grown { Over (T.step t.old) (λ pages. IsGrown (with_images pages (T.step t.old)) (with_images pages (T.step t.new)) draft.old.sheets.items draft.new.sheets.items page result) }
+    ensures leaves { Over (T.step t.old) (λ pages. AreLeavesOf (drafted draft.new.sheets.items pages) page (with_entry entry.now entries.now) result) }
+    ensures freed { draft.new.freed.items ≡ draft.old.freed.items }
+    ensures drawn { TakesSheets (T.step t.old) (T.step t.new) draft.old.sheets.items draft.new.sheets.items }
+    ensures images { (T.step t.new).images ≡ (T.step t.old).images }
+    ensures home { (T.step t.new).home_a ≡ (T.step t.old).home_a }
+    ensures reached { (T.step t.new).reached ≡ (T.step t.old).reached }
+{
+    let text = text_with(entries, entry);
+    if text.bytes.len() <= 488 {
+        draft.put_text(t, page, &text);
+        return Grown::Whole;
+    }
+    let list = entries_with(entries, entry);
+    grow_leaf(t, draft, page, &list)
 }
 
 /// The page is to lead to a first child, and behind each separator to another, or two are where they are too many for one.

@@ -18,7 +18,7 @@ ghost use Rattle.name_page.specs.Pages.{with_images, reaches, changes, free_coun
 
 use crate::draft::Draft;
 use crate::fault::TreeFault;
-use crate::growing::{Grown, grow_leaf, grow_ways};
+use crate::growing::{Grown, grow_leaf_with, grow_ways};
 use crate::lookup::{entry_in, top};
 use crate::removing::remove_in;
 use crate::searching::fault_of;
@@ -27,7 +27,7 @@ use arrayvec::ArrayVec;
 use fsd_bytes::Key;
 use fsd_formats::Entry;
 use fsd_table::Child;
-use name_page::{Cut, Entries, Node, Pages, Ways, entries_with, ways_before, ways_with};
+use name_page::{Cut, Entries, Node, Pages, Ways, ways_before, ways_with};
 
 /// Puts an entry in, whose key no entry has, and takes those with two keys at most out. It takes 7 pages at most. Where it
 /// answers Broken it has walked all pages up to that one, and the step has ended.
@@ -221,6 +221,5 @@ fn insert_here<T: Pages>(
     if entry_in(entries, &entry.key).is_some() {
         return Err(TreeFault::Broken(child.page));
     }
-    let list = entries_with(entries, entry);
-    Ok(grow_leaf(t, draft, child.page, &list))
+    Ok(grow_leaf_with(t, draft, child.page, entries, entry))
 }

@@ -13,6 +13,7 @@ mod removing;
 mod renewing;
 mod replacing;
 mod searching;
+mod sheets;
 mod trimming;
 mod walking;
 mod writing;

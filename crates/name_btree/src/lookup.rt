@@ -1,13 +1,14 @@
 //! Looking up entries.
-ghost use Rattle.std.specs.Prelude.{◌≡◌, ◌+◌, ◌<◌, ◌≤◌, ℕ, IfOk, IfErr, IfSome, Some, None, length, find, drop, take, true, not, if◌then◌else◌};
+ghost use Rattle.std.specs.Prelude.{◌≡◌, ◌+◌, ◌-◌, ◌<◌, ◌≤◌, ℕ, IfOk, IfErr, IfSome, Some, None, length, find, drop, take, true, not, if◌then◌else◌};
 ghost use Rattle.std.specs.Option.{option_copied};
 ghost use Rattle.fsd_formats.specs.NamePage.{is_entry, FitsEntry};
-ghost use Rattle.fsd_table.specs.Pages.{not_below};
-ghost use Rattle.fsd_table.specs.Table.{top, BreaksTable};
+ghost use Rattle.fsd_table.specs.Pages.{not_below, page_at};
+ghost use Rattle.fsd_table.specs.Table.{max_height, top, BreaksTable};
 ghost use Rattle.fsd_table.specs.Tree.{IsTree, table_of};
 ghost use Rattle.name_page.specs.Cut.{after_cut, is_before};
 ghost use Rattle.name_btree.specs.Descent.{BeginsWith, EndsWith};
 ghost use Rattle.name_btree.specs.Fault.{outer_told, HasCause, BreaksBeside, BarsBeside, BarsTable, IsAmong, IsBeside, IsOnWay, ShowsCause};
+ghost use Rattle.name_btree.specs.Path.{TakesNone, HasAll, HasPath, HasWayTo, Leads, met_beside};
 ghost use Rattle.name_page.specs.Lookups.{entry_with, entry_after, highest_of, last_that, same_name, is_after};
 ghost use Rattle.name_btree.specs.Lookup.{entry_of, StandsIn, IsLedTo, IsLedBeside};
 ghost use Rattle.name_page.specs.declared.pages.TheConstants.{MOST_REACHED};
@@ -146,6 +147,8 @@ fn last_below<T: Pages>(t: &mut T, previous: Neighbour) -> Result<FoundEntry, Tr
     ensures there { IfOk result (StandsIn (T.step t.new)) }
     ensures way { IfOk result (IsLedBeside (T.step t.new) previous) }
     ensures fits { IfOk result (λ last. FitsEntry last.entry) }
+    ensures memory { HasAll T.Pages t.old (met_beside (page_at (T.step t.old).images) (Some previous)) → TakesNone T.Pages (outer_told result) t.old t.new }
+    ensures back { HasAll T.Pages t.old (met_beside (page_at (T.step t.old).images) (Some previous)) → IfOk result (λ last. Leads T.Pages (max_height - previous.above) t.new last.entry previous.child) }
     ensures last { IfOk result (λ last. Shows (T.step t.new) (λ pages. EndsWith pages previous.child last.entry)) }
     ensures fault { IfErr result (HasCause (T.step t.new) (BreaksBeside (T.step t.new).images previous) (BarsBeside (T.step t.new) previous)) }
     ensures shown { IfErr result (ShowsCause (T.step t.new) (λ pages. BreaksBeside pages previous) (λ pages. IsBeside pages previous)) }
@@ -209,6 +212,8 @@ pub fn highest<T: Pages>(t: &mut T, name: &FileName) -> Result<Option<FoundEntry
     ensures way { IfOk result (λ found. IfSome found (IsLedTo (T.step t.new))) }
     ensures entry { IfOk result (λ found. IfSome found (λ f. is_entry f.entry ≡ true)) }
     ensures fits { IfOk result (λ found. IfSome found (λ f. FitsEntry f.entry)) }
+    ensures memory { HasPath T.Pages name.now t.old → TakesNone T.Pages (outer_told result) t.old t.new }
+    ensures back { HasPath T.Pages name.now t.old → IfOk result (λ found. IfSome found (λ f. HasWayTo T.Pages f.entry t.new)) }
     ensures name { IfOk result (λ found. IfSome found (λ f. f.entry.key.name ≡ name.now)) }
     ensures found { IfOk result (λ found. T.trusted t.new → (height : ℕ) → IsTree (T.step t.old).images height → entry_of found ≡ highest_of name.now (table_of (T.step t.old).images height)) }
     ensures fault { IfErr result (HasCause (T.step t.new) (BreaksTable (T.step t.new).images) (BarsTable (T.step t.new))) }

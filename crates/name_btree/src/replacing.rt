@@ -1,12 +1,14 @@
 //! Replacing an entry.
 ghost use Rattle.std.specs.Prelude.{◌≡◌, ◌<◌, ◌≤◌, ◌+◌, ℕ, IsTrue, IfErr, OnErr, OnOk, Some, true, false, length, map};
 ghost use Rattle.fsd_bytes.specs.declared.refusal.Refusal.TheVariants.{Memory};
+ghost use Rattle.fsd_formats.specs.declared.entry.Entry.{Entry};
 ghost use Rattle.fsd_formats.specs.NamePage.{is_entry, FitsEntry};
 ghost use Rattle.fsd_table.specs.Tree.{IsTree, table_of};
 ghost use Rattle.name_btree.specs.Fault.{outer_told, FailsTable, IsAmong};
 ghost use Rattle.name_btree.specs.Map.{IsTable, HasTable};
 ghost use Rattle.name_page.specs.Edits.{put};
-ghost use Rattle.name_btree.specs.Replace.{HasAsLong, HasEdit, WritesOne};
+ghost use Rattle.name_btree.specs.Path.{HasWayTo};
+ghost use Rattle.name_btree.specs.Replace.{HasAsLong, IsAsLong, HasEdit, WritesOne};
 ghost use Rattle.name_page.specs.declared.pages.TheConstants.{MOST_CHANGED, MOST_REACHED};
 ghost use Rattle.name_page.specs.Looks.{ChangesPages, OnlyEdits, OnlyWalks};
 ghost use Rattle.name_page.specs.Pages.{reaches, changes};
@@ -41,7 +43,7 @@ pub fn replace_same_size<T: Pages>(t: &mut T, entry: &Entry) -> Result<(), TreeF
     ensures calls { OnlyEdits T.Pages (outer_told result) t.old t.new }
     ensures pages { ChangesPages (T.step t.old) (T.step t.new) }
     ensures kept { OnErr result (OnlyWalks T.Pages (outer_told result) t.old t.new) }
-    ensures memory { T.in_memory t.old → outer_told result ≡ Some Memory → ⊥ }
+    ensures memory { (old : Entry) → IsAsLong entry.now old → HasWayTo T.Pages old t.old → outer_told result ≡ Some Memory → ⊥ }
     ensures written { OnOk result (WritesOne T.Pages t.old t.new) }
     ensures reaches { reaches (T.step t.old) ≤ reaches (T.step t.new) + 6 }
     ensures among { 0 < length (T.step t.old).images → IfErr result (IsAmong (length (T.step t.old).images)) }

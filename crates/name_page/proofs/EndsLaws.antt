@@ -1,5 +1,5 @@
 -- Keys that ascend stand between two others where the first and the last do.
-use Rattle.std.proofs.Common.{◌≡◌, ℕ, zero, suc, ◌+◌, ◌-◌, ◌<◌, ◌^◌, Bool, true, false, ◌&&◌, List, [], ◌∷◌, map, length, Option, Some, None, refl, sym, ap, subst, ◌∙◌, arith}
+use Rattle.std.proofs.Common.{◌≡◌, ℕ, zero, suc, ◌-◌, ◌<◌, ◌^◌, Bool, true, false, ◌&&◌, List, [], ◌∷◌, length, Option, Some, None, refl, sym, ap, subst, ◌∙◌, arith}
 use Rattle.std.specs.Prelude.{slice_get, option_map}
 use Rattle.std.proofs.lemmas.Bool.{and_parts}
 use Rattle.std.proofs.lemmas.List.{length-map}
@@ -9,7 +9,7 @@ use Rattle.fsd_bytes.specs.declared.key.Key.{Key}
 use Rattle.fsd_bytes.specs.Keys.{key_lt}
 use Rattle.fsd_formats.specs.declared.entry.Entry.{Entry}
 use Rattle.fsd_formats.specs.declared.page.Separator.{Separator}
-use Rattle.fsd_formats.specs.NamePage.{Content, Free, Leaf, Interior, are_ascending, read_page}
+use Rattle.fsd_formats.specs.NamePage.{Content, Free, Leaf, Interior, are_ascending}
 use Rattle.fsd_table.specs.Pages.{not_below, below, keys_fit, entry_keys, separator_keys}
 use Rattle.fsd_table.proofs.BoundLaws.{ascend_skip}
 use Rattle.fsd_table.proofs.KeyLaws.{lt_is_le, not_below_more, below_less}
@@ -93,3 +93,9 @@ separators_told low high xs n first last asc some count at0 at =
     let key : Separator → Key = λ s. s.key in
     keys_told low high (separator_keys xs) n first.key last.key asc (length-map xs key ∙ less_one n (length xs) count some)
     (slice_get-map key xs 0 ∙ ap (option_map key) at0) (slice_get-map key xs n ∙ ap (option_map key) at)
+
+-- at each place before the end something stands
+pub some_there : {A : Type 0} (xs : List A) (i : ℕ) → i < length xs → (x : A) × (slice_get xs i ≡ Some x)
+some_there [] i h = absurd (omega (arith, h))
+some_there (x ∷ xs) zero h = (x, refl)
+some_there (x ∷ xs) (suc i) h = some_there xs i (omega (arith, h))

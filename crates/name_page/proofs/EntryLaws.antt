@@ -4,6 +4,7 @@ use Rattle.std.specs.Prelude.{slice_range}
 use Rattle.std.specs.List.{flat_map}
 use Rattle.std.proofs.lemmas.List.{drop-drop, append-nil}
 use Rattle.std.proofs.lemmas.List.Folds.{drop_split}
+use Rattle.std.proofs.Math.Seq.{take-append_seam}
 use Rattle.fsd_bytes.specs.Bytes.{u16, u32, u8_at, u16_at, u32_at}
 use Rattle.fsd_bytes.specs.Keys.{key_of}
 use Rattle.run_table.specs.RunTable.{run_bytes, runs_from}
@@ -74,3 +75,11 @@ entry_again place end bytes small ends inside =
     ∙ ap (λ (x : List ℕ). length name ∷ x) (sym (drop_split bytes (place + 1) v (omega arith)))
     ∙ ap (λ (x : ℕ). x ∷ drop (place + 1) bytes) named
     ∙ u8_again bytes place (place + 1) refl (omega arith)
+
+-- the bytes from the place to the end are the entry's
+pub entry_spelled : (place end : ℕ) (bytes : List ℕ) → AreSmall bytes → end ≡ entry_end place bytes → end ≤ length bytes → slice_range bytes place end ≡ entry_bytes (entry_at place bytes)
+entry_spelled place end bytes small ends inside =
+    let e : List ℕ = entry_bytes (entry_at place bytes) in
+    let long : end ≡ place + length e = ends ∙ entry_ends place bytes (omega (arith, ends, inside)) in
+    let size : end - place ≡ length e = omega (arith, long) in
+    ap (take (end - place)) (sym (entry_again place end bytes small ends inside)) ∙ ap (λ (n : ℕ). take n (e ++ drop end bytes)) size ∙ take-append_seam e (drop end bytes)

@@ -1,5 +1,5 @@
 -- Calls that only reach pages, one after another, and what the pages show.
-use Rattle.std.proofs.Common.{◌≡◌, inl, inr, ℕ, ◌<◌, ◌≤◌, Bool, true, false, List, length, Option, Some, None, refl, sym, ap, subst, ◌∙◌, arith}
+use Rattle.std.proofs.Common.{◌≡◌, inl, inr, ℕ, ◌<◌, Bool, true, false, List, length, Option, Some, None, refl, sym, ap, subst, ◌∙◌, arith}
 use Rattle.std.specs.Prelude.{IsSome, slice_get, option_and_then}
 use Rattle.std.proofs.lemmas.Bool.{cases_lt, or_right}
 use Rattle.std.proofs.lemmas.Option.{slice_get_past}
@@ -36,22 +36,22 @@ looks_still a = record { count = refl; images = λ page is. refl; reached = λ p
 
 -- ---- no memory is wanting
 
-pub memory_still : {D : Type 0} (InMemory : D → Type 0) (a : D) → NeedsNoMemory InMemory None a a
-memory_still InMemory a = record { stays = λ there. there; enough = λ there is. cc is }
+module _ {D : Type 0} (P : Ghosts D) where
+  pub memory_still : (a : D) → NeedsNoMemory P.step P.in_memory None a a
+  memory_still a = record { images = refl; spares = refl; stays = λ page there. there; enough = λ is. cc is }
 
-pub memory_then : {D : Type 0} (InMemory : D → Type 0) {refusal : Option Refusal} (a b c : D) → NeedsNoMemory InMemory None a b → NeedsNoMemory InMemory refusal b c → NeedsNoMemory InMemory refusal a c
-memory_then InMemory a b c x y = record { stays = λ there. y.stays (x.stays there); enough = λ there. y.enough (x.stays there) }
+  pub memory_then : {refusal : Option Refusal} (a b c : D) → NeedsNoMemory P.step P.in_memory None a b → NeedsNoMemory P.step P.in_memory refusal b c → NeedsNoMemory P.step P.in_memory refusal a c
+  memory_then a b c x y = record { images = y.images ∙ x.images; spares = y.spares ∙ x.spares; stays = λ page there. y.stays page (x.stays page there); enough = y.enough }
 
 -- ---- calls that reach pages
 
 pub reaches_still : {D : Type 0} (P : Ghosts D) (a : D) → P.outside None a a → OnlyReaches P None a a
-reaches_still P a still = record { looks = looks_still (P.step a); outside = still; memory = memory_still P.in_memory a; trust = λ t. t; stays = λ t. refl }
+reaches_still P a still = record { looks = looks_still (P.step a); outside = still; trust = λ t. t; stays = λ t. refl }
 
 pub reaches_then : {D : Type 0} (P : Ghosts D) {refusal : Option Refusal} (law : Joins P) (a b c : D) → OnlyReaches P None a b → OnlyReaches P refusal b c → OnlyReaches P refusal a c
 reaches_then P law a b c x y = record {
   looks = looks_then (P.step a) (P.step b) (P.step c) x.looks y.looks;
   outside = law a b c _ x.outside y.outside;
-  memory = memory_then P.in_memory a b c x.memory y.memory;
   trust = λ t. x.trust (y.trust t);
   stays = λ t. y.stays t ∙ x.stays (y.trust t);
 }
@@ -111,9 +111,6 @@ agrees_now s = record { count = refl; reached = λ page is used. refl }
 
 pub agrees_before : (a b : Step) (images : List (List ℕ)) → Looks a b → Agrees images b → Agrees images a
 agrees_before a b images x h = record { count = h.count ∙ x.count; reached = λ page is used. h.reached page (x.reached page is) (ap (λ (t : List Bool). is_spare t page) x.spares ∙ used) ∙ x.images page is }
-
-pub shows_later : (P : List (List ℕ) → Type 0) (a b : Step) → Looks a b → Shows a P → Shows b P
-shows_later P a b x h = λ images is. h images (agrees_before a b images x is)
 
 pub shows_now : (P : List (List ℕ) → Type 0) (s : Step) → Shows s P → P s.images
 shows_now P s h = h s.images (agrees_now s)

@@ -1,17 +1,17 @@
 -- The places of a leaf's entries.
-use Rattle.std.proofs.Common.{◌≡◌, ◌⊎◌, inl, inr, ℕ, zero, suc, ◌+◌, ◌*◌, ◌<◌, ◌≤◌, true, List, [], ◌∷◌, length, Some, refl, sym, ap, subst, ◌∙◌, arith}
-use Rattle.std.specs.Prelude.{◌&&◌, ◌==◌, nat_le, slice_get, slice_set, slice_index}
+use Rattle.std.proofs.Common.{◌≡◌, ◌⊎◌, inl, inr, ℕ, zero, suc, ◌+◌, ◌*◌, ◌<◌, ◌≤◌, true, List, [], ◌∷◌, length, refl, sym, subst, ◌∙◌, arith}
+use Rattle.std.specs.Prelude.{◌&&◌, ◌==◌, nat_le, slice_set, slice_index}
 use Rattle.std.specs.List.{flat_map, list_all}
 use Rattle.std.proofs.lemmas.Bool.{and_parts}
 use Rattle.std.proofs.lemmas.List.{get_or-set_same, get_or-set_other, length-set, length-append}
-use Rattle.fsd_bytes.specs.Bytes.{u8_at, u16_at}
+use Rattle.fsd_bytes.specs.Bytes.{u16_at}
 use Rattle.fsd_bytes.specs.Keys.{is_key}
 use Rattle.fsd_bytes.specs.Names.{is_name, is_between, is_name_byte, max_name_len}
 use Rattle.run_table.specs.RunTable.{are_runs, total, max_runs}
 use Rattle.fsd_formats.specs.declared.entry.Entry.{Entry}
 use Rattle.fsd_formats.specs.NamePage.{entry_bytes, is_entry, max_keep, max_length, sectors_for}
 use Rattle.name_page.specs.Fault.{entry_end}
-use Rattle.name_page.specs.Reading.{entry_at, entries_in, StandsAt, ArePlaces}
+use Rattle.name_page.specs.Reading.{entries_in, StandsAt}
 use Rattle.fsd_table.proofs.EntryLaws.{length_entry}
 use Rattle.name_page.proofs.LeafLaws.{between}
 use Rattle.name_page.proofs.PieceLaws.{AreSmall}
@@ -85,6 +85,3 @@ placed_next b places k place long more p = record {
     by i h (inr below) =
         let at : slice_index (slice_set places k place) i ≡ slice_index places i = get_or-set_other places k i place 0 (λ e. omega (arith, e)) in
         subst (StandsAt b i) (sym at) (p.done i below)
-
-pub all_placed : (b places : List ℕ) (k place : ℕ) → length (entries_in b) ≤ k → Placed b places k place → ArePlaces b places
-all_placed b places k place all p = record { few = p.few; each = λ i h. p.done i (omega (arith, h, all)) }

@@ -7,6 +7,7 @@ use Rattle.std.specs.declared.cmp.Ordering.{Ordering}
 use Rattle.std.specs.declared.cmp.Ordering.TheVariants as orders
 use Rattle.std.proofs.lemmas.Bool.{and_parts, and_from}
 use Rattle.std.proofs.lemmas.List.{append-nil}
+use Rattle.std.proofs.lemmas.Grind.{flat_map-append}
 use Rattle.std.proofs.lemmas.List.Folds.{list_all-append}
 use Rattle.fsd_bytes.specs.declared.key.Key.{Key}
 use Rattle.fsd_bytes.specs.Keys.{key_cmp, key_lt}
@@ -14,14 +15,13 @@ use Rattle.fsd_formats.specs.declared.entry.Entry.{Entry}
 use Rattle.fsd_formats.specs.NamePage.{are_ascending, entry_bytes}
 use Rattle.fsd_table.specs.Pages.{not_below, below, keys_fit, entry_keys}
 use Rattle.fsd_table.proofs.BoundLaws.{Ascend, ascend_tail, ascend_append, all_weaker}
-use Rattle.fsd_table.proofs.KeyLaws.{lt_is_le, lt_le, le_itself}
+use Rattle.fsd_table.proofs.KeyLaws.{lt_is_le, le_itself}
 use Rattle.name_page.specs.declared.entries.Side.{Side}
 use Rattle.name_page.specs.declared.entries.Side.TheVariants.{Lesser, Greater}
 use Rattle.name_page.specs.Edits.{is_on, beside, without, with_entry}
 use Rattle.name_page.specs.Cut.{AtLow, AtHigh}
 use Rattle.name_page.specs.declared.cut.Cut.TheVariants.{UpTo}
 use Rattle.name_page.specs.Cut.{is_before}
-use Rattle.name_page.specs.Cut.{IsLesser}
 use Rattle.name_page.proofs.CutLaws.{greater}
 use Rattle.name_page.proofs.PutLaws.{ascend_head}
 
@@ -135,7 +135,7 @@ pub ascend_cons : (x : Entry) (xs : List Entry) → AllByRecursion (λ e. key_lt
 ascend_cons x [] a asc = refl
 ascend_cons x (y ∷ xs) a asc = and_from (key_lt x.key y.key) (are_ascending (entry_keys (y ∷ xs))) a.0 asc
 
-each_beside : (P : Entry → Type 0) (side : Side) (key : Key) (xs : List Entry) → AllByRecursion P xs → AllByRecursion P (beside side key xs)
+pub each_beside : (P : Entry → Type 0) (side : Side) (key : Key) (xs : List Entry) → AllByRecursion P xs → AllByRecursion P (beside side key xs)
 each_beside P side key [] a = tt
 each_beside P side key (x ∷ xs) a =
     subst (AllByRecursion P) (sym (beside_cons side key x xs (is_on side key x) refl)) (by (is_on side key x) a.0 (each_beside P side key xs a.1))
@@ -254,9 +254,6 @@ with_fits e low high xs a b fit =
 
 -- ---- the entries beside a leaf at a place
 
-pub all_lesser : (key : Key) (xs : List Entry) → AllByRecursion (IsLesser (is_before (UpTo key))) xs → AllLesser key xs
-all_lesser key xs a = all_weaker (IsLesser (is_before (UpTo key))) (λ e. is_on Lesser key e ≡ true) xs (λ e h. lt_le e.key h.0 key h.2 (ap not (sym (greater h.0 key)) ∙ h.1)) a
-
 pub all_greater : (key : Key) (xs : List Entry) → AllByRecursion (λ e. is_before (UpTo key) e.key ≡ false) xs → AllGreater key xs
 all_greater key xs a = all_weaker (λ e. is_before (UpTo key) e.key ≡ false) (λ e. is_on Greater key e ≡ true) xs (λ e h. unnot (is_gt (key_cmp e.key key)) h) a
   where
@@ -281,7 +278,7 @@ one_used orders.Less x = omega (arith, used_one x)
 one_used orders.Equal x = omega arith
 one_used orders.Greater x = omega (arith, used_one x)
 
-sides_used : (key : Key) (xs : List Entry) → used (beside Lesser key xs) + used (beside Greater key xs) ≤ used xs
+pub sides_used : (key : Key) (xs : List Entry) → used (beside Lesser key xs) + used (beside Greater key xs) ≤ used xs
 sides_used key [] = omega arith
 sides_used key (x ∷ xs) =
     let l : Bool = is_on Lesser key x in
@@ -295,3 +292,33 @@ sides_used key (x ∷ xs) =
 
 pub without_used : (key : Key) (xs : List Entry) → length (flat_map entry_bytes (without key xs)) ≤ length (flat_map entry_bytes xs)
 without_used key xs = omega (arith, used_append (beside Lesser key xs) (beside Greater key xs), sides_used key xs)
+
+front_used : (side : Side) (key : Key) (xs : List Entry) (i : ℕ) → used (beside side key (take i xs)) ≤ used (beside side key xs)
+front_used side key xs zero = omega arith
+front_used side key [] (suc i) = omega arith
+front_used side key (x ∷ xs) (suc i) =
+    let b : Bool = is_on side key x in
+    let one : List Entry = cond b (x ∷ []) [] in
+    front (used (beside side key (x ∷ take i xs))) (used (beside side key (x ∷ xs))) (used one) (used (beside side key (take i xs))) (used (beside side key xs)) (ap used (beside_cons side key x (take i xs) b refl) ∙ used_append one (beside side key (take i xs)))
+    (ap used (beside_cons side key x xs b refl) ∙ used_append one (beside side key xs)) (front_used side key xs i)
+  where
+    front : (a b one m n : ℕ) → a ≡ one + m → b ≡ one + n → m ≤ n → a ≤ b
+    front a b one m n e f h = omega arith
+
+pub bytes_more : (side : Side) (key : Key) (xs : List Entry) (i : ℕ) (x : Entry) → slice_get xs i ≡ Some x → true ≡ is_on side key x
+    → flat_map entry_bytes (beside side key (take (i + 1) xs)) ≡ flat_map entry_bytes (beside side key (take i xs)) ++ entry_bytes x
+bytes_more side key xs i x at e =
+    ap (flat_map entry_bytes) (beside_more side key xs i x true at e)
+    ∙ flat_map-append entry_bytes (beside side key (take i xs)) (x ∷ [])
+    ∙ ap (λ (bytes : List ℕ). flat_map entry_bytes (beside side key (take i xs)) ++ bytes) (append-nil (entry_bytes x))
+
+pub bytes_room : (side : Side) (key : Key) (xs : List Entry) (i : ℕ) (x : Entry) → slice_get xs i ≡ Some x → true ≡ is_on side key x
+    → length (flat_map entry_bytes (beside side key (take i xs))) + length (entry_bytes x) ≤ length (flat_map entry_bytes (beside side key xs))
+bytes_room side key xs i x at e =
+    omega (arith, front_used side key xs (i + 1), ap length (bytes_more side key xs i x at e), length-append (flat_map entry_bytes (beside side key (take i xs))) (entry_bytes x))
+
+pub with_bytes : (e : Entry) (xs : List Entry)
+    → (flat_map entry_bytes (beside Lesser e.key xs) ++ entry_bytes e) ++ flat_map entry_bytes (beside Greater e.key xs) ≡ flat_map entry_bytes (with_entry e xs)
+with_bytes e xs =
+    append_assoc (flat_map entry_bytes (beside Lesser e.key xs)) (entry_bytes e) (flat_map entry_bytes (beside Greater e.key xs))
+    ∙ sym (flat_map-append entry_bytes (beside Lesser e.key xs) (e ∷ beside Greater e.key xs))

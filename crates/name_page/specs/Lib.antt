@@ -10,4 +10,5 @@ pub mod Pages
 pub mod Parting
 pub mod Reading
 pub mod Spelling
+pub mod Text
 pub mod VecPages

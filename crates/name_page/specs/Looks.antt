@@ -3,7 +3,7 @@ use Rattle.std.specs.Prelude.{◌≡◌, ◌⊎◌, ℕ, ◌<◌, true, false, L
 use Rattle.fsd_bytes.specs.declared.refusal.Refusal.{Refusal}
 use Rattle.name_page.specs.declared.pages.Pages.{Ghosts}
 use Rattle.fsd_table.specs.Pages.{page_at}
-use Rattle.name_page.specs.Pages.{Step, is_one_of, is_spare, IsReached, NeedsNoMemory}
+use Rattle.name_page.specs.Pages.{Step, is_one_of, is_spare, IsReached}
 
 -- a step that has reached pages since, and done nothing else
 pub record Looks (old new : Step) : Type 0 where
@@ -21,7 +21,6 @@ pub record Looks (old new : Step) : Type 0 where
 pub record OnlyReaches {D : Type 0} (P : Ghosts D) (refusal : Option Refusal) (old new : D) : Type 0 where
   pub looks : Looks (P.step old) (P.step new)
   pub outside : P.outside refusal old new
-  pub memory : NeedsNoMemory P.in_memory refusal old new
   pub trust : P.trusted new → P.trusted old
   pub stays : P.trusted new → (P.step new).images ≡ (P.step old).images
 

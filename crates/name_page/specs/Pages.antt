@@ -119,10 +119,12 @@ renewed s = record (rested s) { changed = [] }
 
 -- ---- what stays
 
--- where all is in memory it stays there, and memory was not what was wanting
-pub record NeedsNoMemory {D : Type 0} (InMemory : D → Type 0) (refusal : Option Refusal) (old new : D) : Type 0 where
-  pub stays : InMemory old → InMemory new
-  pub enough : InMemory old → refusal ≡ Some Memory → ⊥
+-- The pages are as they were, those in memory are there still, and memory was not what was wanting.
+pub record NeedsNoMemory {D : Type 0} (step : D → Step) (InMemory : D → ℕ → Type 0) (refusal : Option Refusal) (old new : D) : Type 0 where
+  pub images : (step new).images ≡ (step old).images
+  pub spares : (step new).spares ≡ (step old).spares
+  pub stays : (page : ℕ) → InMemory old page → InMemory new page
+  pub enough : refusal ≡ Some Memory → ⊥
 
 -- as many pages, and those that were reached are as they were
 pub record Keeps (s : Step) (images : List (List ℕ)) : Type 0 where

@@ -62,7 +62,7 @@ pub enum Side {
 
 impl Side {
     // Whether what compares so with a key stands on this side of it.
-    fn has(self, order: Ordering) -> bool
+    pub(crate) fn has(self, order: Ordering) -> bool
         ensures { result ≡ has_order self order }
     {
         match self {

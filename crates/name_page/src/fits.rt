@@ -1,33 +1,31 @@
 //! Whether what a page has stands between the keys of a child.
-ghost use Rattle.std.specs.Prelude.{◌≡◌, ◌&&◌, Some};
+ghost use Rattle.std.specs.Prelude.{◌≡◌, ◌<◌, Some, length, slice_get};
+ghost use Rattle.fsd_formats.specs.declared.entry.Entry.{Entry};
+ghost use Rattle.fsd_formats.specs.declared.page.Separator.{Separator};
 ghost use Rattle.fsd_table.specs.Pages.{not_below, below, keys_fit, entry_keys, separator_keys, content_fits};
 ghost use Rattle.name_page.specs.Node.{content_of};
 
 use crate::node::{Entries, Node, Ways};
-use fsd_bytes::Key;
 use fsd_table::Child;
 
-// Whether the keys from the first one to the last stand between the child's.
-fn is_within(child: &Child, first: &Key, last: &Key) -> bool
-    ensures { result ≡ (not_below child.now.low first.now && below child.now.high last.now) }
+// Whether the first key of a leaf is none below the child's.
+fn entries_begin(child: &Child, entries: &Entries) -> bool
+    requires { 0 < length entries.now }
+    ensures { (first : Entry) × (slice_get entries.now 0 ≡ Some first) × (result ≡ not_below child.now.low first.key) }
 {
-    is_not_below(&child.low, first) && is_below(&child.high, last)
-}
-
-fn is_not_below(low: &Option<Key>, key: &Key) -> bool
-    ensures { result ≡ not_below low.now key.now }
-{
-    match low {
-        Some(low) => !key.cmp(low).is_lt(),
+    match &child.low {
+        Some(low) => !entries.compare(0, low).is_lt(),
         None => true,
     }
 }
 
-fn is_below(high: &Option<Key>, key: &Key) -> bool
-    ensures { result ≡ below high.now key.now }
+// Whether the last key of a leaf is below the child's end.
+fn entries_end(child: &Child, entries: &Entries, last: u32) -> bool
+    requires { last < length entries.now }
+    ensures { (end : Entry) × (slice_get entries.now last ≡ Some end) × (result ≡ below child.now.high end.key) }
 {
-    match high {
-        Some(high) => key.cmp(high).is_lt(),
+    match &child.high {
+        Some(high) => entries.compare(last, high).is_lt(),
         None => true,
     }
 }
@@ -40,7 +38,32 @@ fn entries_fit(child: &Child, entries: &Entries) -> bool
     if count == 0 {
         return true;
     }
-    is_within(child, &entries.get(0).key, &entries.get(count - 1).key)
+    if !entries_begin(child, entries) {
+        return false;
+    }
+    entries_end(child, entries, count - 1)
+}
+
+// Whether the first key of an interior page is none below the child's.
+fn ways_begin(child: &Child, ways: &Ways) -> bool
+    requires { 0 < length ways.now.1 }
+    ensures { (first : Separator) × (slice_get ways.now.1 0 ≡ Some first) × (result ≡ not_below child.now.low first.key) }
+{
+    match &child.low {
+        Some(low) => !ways.compare(0, low).is_lt(),
+        None => true,
+    }
+}
+
+// Whether the last key of an interior page is below the child's end.
+fn ways_end(child: &Child, ways: &Ways, last: u32) -> bool
+    requires { last < length ways.now.1 }
+    ensures { (end : Separator) × (slice_get ways.now.1 last ≡ Some end) × (result ≡ below child.now.high end.key) }
+{
+    match &child.high {
+        Some(high) => ways.compare(last, high).is_lt(),
+        None => true,
+    }
 }
 
 fn ways_fit(child: &Child, ways: &Ways) -> bool
@@ -50,7 +73,10 @@ fn ways_fit(child: &Child, ways: &Ways) -> bool
     if count == 0 {
         return true;
     }
-    is_within(child, &ways.get(0).key, &ways.get(count - 1).key)
+    if !ways_begin(child, ways) {
+        return false;
+    }
+    ways_end(child, ways, count - 1)
 }
 
 /// Whether the page's keys stand between the child's.

@@ -11,6 +11,7 @@ mod node;
 mod pages;
 mod parting;
 mod reading;
+mod text;
 mod vec_pages;
 mod ways;
 mod writing;
@@ -27,6 +28,7 @@ pub use node::{Entries, Node, Ways, node_in};
 pub use pages::{MOST_CHANGED, MOST_REACHED, Pages};
 pub use parting::{leaf_cut, middle};
 pub use reading::{first_child, leaf_entry, separator};
+pub use text::{LeafText, text_with, write_text};
 pub use vec_pages::VecPages;
 pub use ways::{
     SeparatorList, WideList, joined_ways, listed_ways, ways_before, ways_replaced, ways_with,

@@ -1,14 +1,15 @@
 //! Pages as values.
 ghost use Rattle.std.specs.Prelude.{◌≡◌, ◌<◌, IsSome, Some, length, slice_get, true};
+ghost use Rattle.std.specs.List.{AllByRecursion};
 ghost use Rattle.fsd_bytes.specs.Keys.{key_cmp};
-ghost use Rattle.fsd_formats.specs.NamePage.{are_ascending, FitsEntry, FitsSeparator};
+ghost use Rattle.fsd_formats.specs.NamePage.{are_ascending, entry_bytes, FitsEntry, FitsSeparator};
 ghost use Rattle.fsd_formats.specs.declared.entry.Entry.{Entry};
 ghost use Rattle.fsd_formats.specs.declared.page.Separator.{Separator};
 ghost use Rattle.fsd_table.specs.Pages.{entry_keys, separator_keys};
 ghost use Rattle.name_page.specs.Reading.{content_in};
 ghost use Rattle.name_page.specs.Node.{content_of};
 
-use crate::reading::{compare_entry, compare_separator, entry_at, places_in, separator};
+use crate::reading::{compare_entry, compare_separator, entry_at, places_in, separator, text_at};
 use fsd_bytes::{Key, u8_at, u16_at, u32_at};
 use fsd_formats::{Entry, Separator};
 use std::cmp::Ordering;
@@ -41,6 +42,7 @@ impl Entries {
     pub fn len(&self) -> u32
         ensures value { result ≡ length self.now }
         ensures order { are_ascending (entry_keys self.now) ≡ true }
+        ensures fits { AllByRecursion FitsEntry self.now }
     {
         self.count
     }
@@ -60,6 +62,14 @@ impl Entries {
         ensures fits { FitsEntry result }
     {
         entry_at(&self.image, usize::from(self.places[i as usize]))
+    }
+
+    /// The bytes of entry `i`, as they stand in the leaf.
+    pub(crate) fn text(&self, i: u32) -> &[u8]
+        requires { i < length self.now }
+        ensures { (entry : Entry) × (slice_get self.now i ≡ Some entry) × (result.now ≡ entry_bytes entry) }
+    {
+        text_at(&self.image, usize::from(self.places[i as usize]))
     }
 }
 

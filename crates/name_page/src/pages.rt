@@ -32,8 +32,8 @@ pub trait Pages {
     /// The outside gave pages as it is to, so far.
     ghost trusted: { Self → Type 0 };
 
-    /// All pages in use are in memory.
-    ghost in_memory: { Self → Type 0 };
+    /// A page is in memory, so that it can be reached where no memory is left.
+    ghost in_memory: { Self → ℕ → Type 0 };
 
     /// What has happened outside between an old state and a new one, of which the last call was refused so by the outside,
     /// or none was.
@@ -48,7 +48,7 @@ pub trait Pages {
         requires more { 0 < reaches (step self.old) }
         requires within { page < length (step self.old).images }
         ensures outside { outside (outer_in result) self.old self.new }
-        ensures memory { NeedsNoMemory in_memory (outer_in result) self.old self.new }
+        ensures memory { in_memory self.old page → NeedsNoMemory step in_memory (outer_in result) self.old self.new }
         ensures kept { Keeps (step self.old) (step self.new).images }
         ensures stays { trusted self.new → (step self.new).images ≡ (step self.old).images }
         ensures step { OnOk result (step self.new ≡ with_reached page (with_images (step self.new).images (step self.old))) }
@@ -101,7 +101,7 @@ pub trait Pages {
     /// Ends the step. The next one may reach as many pages again.
     fn rest(&mut self)
         ensures outside { outside None self.old self.new }
-        ensures memory { NeedsNoMemory in_memory None self.old self.new }
+        ensures memory { NeedsNoMemory step in_memory None self.old self.new }
         ensures step { step self.new ≡ rested (step self.old) };
 
     /// What the step knows once the bytes that were lent have come back.

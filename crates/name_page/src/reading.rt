@@ -4,7 +4,7 @@ ghost use Rattle.fsd_bytes.specs.Bytes.{u8_at};
 ghost use Rattle.fsd_bytes.specs.Keys.{key_cmp};
 ghost use Rattle.fsd_bytes.specs.Names.{is_name};
 ghost use Rattle.run_table.specs.RunTable.{runs_from};
-ghost use Rattle.fsd_formats.specs.NamePage.{is_entry};
+ghost use Rattle.fsd_formats.specs.NamePage.{entry_bytes, is_entry};
 ghost use Rattle.fsd_formats.specs.declared.page.Separator.{Separator};
 ghost use Rattle.name_page.specs.Fault.{entry_end, key_at, separator_key_at};
 ghost use Rattle.name_page.specs.Reading.{ArePlaces, entry_at, entries_in, separator_at, first_in, separators_in};
@@ -71,6 +71,15 @@ pub(crate) fn entry_at(b: &[u8; 512], place: usize) -> Entry
         length: u32_at(b, at + 14),
         runs: runs_at(b, at + 18),
     }
+}
+
+/// The bytes of the entry at a place.
+pub(crate) fn text_at(b: &[u8; 512], place: usize) -> &[u8]
+    requires entry { is_entry (entry_at place b.now) ≡ true }
+    requires within { entry_end place b.now ≤ 512 }
+    ensures { result.now ≡ entry_bytes (entry_at place b.now) }
+{
+    &b[place..entry_end(b, place)]
 }
 
 /// How the key of the entry at a place compares with another.

@@ -89,7 +89,7 @@ impl Pages for VecPages {
 
     ghost trusted = { λ s. ⊤ };
 
-    ghost in_memory = { λ s. ⊤ };
+    ghost in_memory = { λ s page. ⊤ };
 
     ghost outside = { λ refusal a b. refusal ≡ None };
 

@@ -59,7 +59,7 @@ pub fn stamp_page(out: &mut [u8; 512], epoch: u32, number: u32)
 }
 
 // The head of a page, and zeros.
-fn put_head(out: &mut [u8; 512], kind: u8, count: u16, used: u16, page: u32)
+pub(crate) fn put_head(out: &mut [u8; 512], kind: u8, count: u16, used: u16, page: u32)
     ensures { out.new ≡ head kind count used page (stamp_at 16 out.old) ++ replicate 488 0 }
 {
     let (epoch, number) = (u32_at(out, 16), u32_at(out, 20));
@@ -126,7 +126,7 @@ fn separator_text(s: &Separator) -> ArrayVec<u8, 49>
 }
 
 // The bytes of an entry.
-fn entry_text(e: &Entry) -> ArrayVec<u8, 108>
+pub(crate) fn entry_text(e: &Entry) -> ArrayVec<u8, 108>
     requires { IsTrue (is_entry e.now) }
     ensures { result.items ≡ entry_bytes e.now }
 {

@@ -1,5 +1,5 @@
 -- Entries whose sectors are taken out of an area, one after another.
-use Rattle.std.proofs.Common.{◌≡◌, ◌⊎◌, inl, inr, ℕ, zero, suc, ◌+◌, ◌<◌, ◌≤◌, Bool, true, false, cond, not, ◌&&◌, ◌||◌, List, [], ◌∷◌, ◌++◌, length, filter, refl, sym, ap, subst, ◌∙◌, arith}
+use Rattle.std.proofs.Common.{◌≡◌, ◌⊎◌, inl, inr, ℕ, zero, suc, ◌+◌, ◌<◌, ◌≤◌, Bool, true, false, cond, not, ◌&&◌, ◌||◌, List, [], ◌∷◌, ◌++◌, length, filter, refl, sym, ap, ◌∙◌, arith}
 use Rattle.std.specs.Prelude.{nat_le, nat_lt, ◌==◌}
 use Rattle.std.specs.List.{flat_map, list_any}
 use Rattle.std.proofs.lemmas.Bool.{and_parts, and_from, or_cases, or_left, or_right, leb-true, ltb-true, le-leb, lt-ltb, cases_Bool, false_from_ne_true, both_ways, not-true, not_from_false}
@@ -8,6 +8,7 @@ use Rattle.volume_layout.specs.Layout.{data_start, is_data}
 use Rattle.run_table.specs.declared.run.Run.{Run}
 use Rattle.run_table.specs.RunTable.{sectors_of, total, are_runs, max_runs}
 use Rattle.run_table.specs.Space.{contains, all_differ, where_free}
+use Rattle.run_table.proofs.SectorLaws.{all_from}
 use Rattle.fsd_bytes.specs.declared.key.Key.{Key}
 use Rattle.fsd_bytes.specs.Keys.{key_lt, is_key}
 use Rattle.fsd_bytes.specs.Names.{is_between}
@@ -107,9 +108,6 @@ module _ (start : Area) (done : List Entry) (now : Area) (c : IsClaimed start do
       let both = and_parts (contains start.sectors s) (not (is_in (plans_of done) s))
       (free_passes start.from start.to left_free s (ap (λ (a : Area). contains a.sectors s) (sym c.left) ∙ there)) in
       (both.0, not-true (is_in (plans_of done) s) both.1)
-
-  pub now_own : IsOwn now
-  now_own = subst (λ (m : Area). IsOwn m) (sym c.left) (area_own start.from start.to left_free)
 
   module _ (e : Entry) (are : AreIn now e.runs) where
     abbrev sectors : List ℕ
@@ -301,11 +299,6 @@ claimed_fit l entries now e c there clash = both_ways (not (all_differ sectors) 
         (false_from_ne_true (contains before s) (λ again. absurd (omega (arith, both_used s e entries there, differ_occurs all c.differ s, contains_occurs s sectors is, contains_occurs s before again)))))
 
 -- ---- all entries
-
-all_from : (p : ℕ → Bool) (xs : List ℕ) → ((s : ℕ) → contains xs s ≡ true → p s ≡ true) → list_all p xs ≡ true
-all_from p [] each = refl
-all_from p (x ∷ xs) each =
-    and_from (p x) (list_all p xs) (each x (or_left (x == x) (contains xs x) (Rattle.std.proofs.lemmas.Bool.eq-eqb x x refl))) (all_from p xs (λ s there. each s (or_right (x == s) (contains xs s) there)))
 
 pub claimed_apart : (l : Layout) (entries : List Entry) (now : Area) → IsClaimed (whole_area l) entries now → Apart l (plans_of entries)
 claimed_apart l entries now c =

@@ -53,10 +53,3 @@ module _ {D : Type 0} (P : Ghosts D) (new : D) (fault : TreeFault) where
       let s = P.step new in
       cause_map s (λ page. P.trusted new → BreaksTable s.images page) (λ page. P.trusted new → Breaks l s.images page)
       (λ page. P.trusted new → BarsTable s page) (λ page. P.trusted new → BarsTable s page) (λ page b t. inl (b t)) (λ page b. b) fault h
-
-  -- claims that fail
-  pub claims_fail : (l : Layout) (old : Area) → old ≡ whole_area l → (P.trusted new → (height : ℕ) × IsTree (P.step new).images height) → FailsClaims P old new fault → FailsSurvey l P new fault
-  claims_fail l old whole tree h =
-      let s = P.step new in
-      cause_map s (λ page. P.trusted new → (m : Layout) → old ≡ whole_area m → (height : ℕ) → IsTree s.images height → Breaks m s.images page) (λ page. P.trusted new → Breaks l s.images page)
-      (λ page. P.trusted new → BarsTable s page) (λ page. P.trusted new → BarsTable s page) (λ page b t. let x = tree t in b t l whole x.0 x.1) (λ page b. b) fault h

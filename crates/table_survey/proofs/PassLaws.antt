@@ -15,6 +15,7 @@ use Rattle.name_page.specs.Lookups.{entry_after, is_after}
 use Rattle.sector_set.specs.Area.{Area, without, AreIn, IsOwn}
 use Rattle.table_survey.specs.Claims.{IsClaimed}
 use Rattle.table_survey.proofs.ClaimLaws.{none_claimed, one_more}
+use Rattle.name_btree.proofs.FindLaws.{find_behind}
 
 -- those up to a key are claimed, and the others come behind it
 pub record IsPassed (table : List Entry) (start : Area) (after : Option Key) (now : Area) : Type 0 where
@@ -27,14 +28,6 @@ pub record IsPassed (table : List Entry) (start : Area) (after : Option Key) (no
   pub claimed : IsClaimed start done now
 
 -- ---- the first later entry
-
-later_only : (test : Entry → Bool) (done rest : List Entry) → AllByRecursion (λ e. test e ≡ false) done → find test (done ++ rest) ≡ find test rest
-later_only test [] rest out = refl
-later_only test (x ∷ done) rest out = by (test x) out.0 (later_only test done rest out.1)
-  where
-    by : (b : Bool) → b ≡ false → find test (done ++ rest) ≡ find test rest → cond b (Some x) (find test (done ++ rest)) ≡ find test rest
-    by true is more = absurd (both_ways true is refl)
-    by false is more = more
 
 is_first : (test : Entry → Bool) (x e : Entry) (xs : List Entry) → test x ≡ true → find test (x ∷ xs) ≡ Some e → x ≡ e
 is_first test x e xs is found = by (test x) is found
@@ -80,7 +73,7 @@ passed_none table start own ascend = record { done = []; rest = table; parts = r
 pub passed_more : (table : List Entry) (start : Area) (after : Option Key) (now : Area) (e : Entry) → IsPassed table start after now → entry_after after table ≡ Some e → AreIn now e.runs
     → IsPassed table start (Some e.key) (without now e.runs)
 passed_more table start after now e p found are =
-    by p.rest p.later p.ascend p.parts (sym (later_only (λ x. is_after after x.key) p.done p.rest p.passed) ∙ sym (ap (find (λ x. is_after after x.key)) p.parts) ∙ found)
+    by p.rest p.later p.ascend p.parts (sym (find_behind (λ x. is_after after x.key) p.done p.rest p.passed) ∙ sym (ap (find (λ x. is_after after x.key)) p.parts) ∙ found)
   where
     by : (rest : List Entry) → AllByRecursion (λ x. is_after after x.key ≡ true) rest → are_ascending (entry_keys rest) ≡ true → table ≡ p.done ++ rest
         → find (λ x. is_after after x.key) rest ≡ Some e → IsPassed table start (Some e.key) (without now e.runs)
@@ -102,7 +95,7 @@ passed_more table start after now e p found are =
 
 pub passed_all : (table : List Entry) (start : Area) (after : Option Key) (now : Area) → IsPassed table start after now → entry_after after table ≡ None → IsClaimed start table now
 passed_all table start after now p none =
-    by p.rest p.later p.parts (sym (later_only (λ x. is_after after x.key) p.done p.rest p.passed) ∙ sym (ap (find (λ x. is_after after x.key)) p.parts) ∙ none)
+    by p.rest p.later p.parts (sym (find_behind (λ x. is_after after x.key) p.done p.rest p.passed) ∙ sym (ap (find (λ x. is_after after x.key)) p.parts) ∙ none)
   where
     by : (rest : List Entry) → AllByRecursion (λ x. is_after after x.key ≡ true) rest → table ≡ p.done ++ rest → find (λ x. is_after after x.key) rest ≡ None → IsClaimed start table now
     by [] later parts is = subst (λ (xs : List Entry). IsClaimed start xs now) (sym (parts ∙ append-nil p.done)) p.claimed

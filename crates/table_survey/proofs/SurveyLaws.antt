@@ -1,10 +1,10 @@
 -- What a survey shows.
-use Rattle.std.proofs.Common.{◌≡◌, inl, inr, ℕ, ◌-◌, ◌<◌, Bool, true, List, [], ◌∷◌, length, sym, ap, subst, ◌∙◌}
-use Rattle.std.specs.Prelude.{count_by, ◌==◌}
+use Rattle.std.proofs.Common.{◌≡◌, inl, inr, ℕ, ◌-◌, ◌<◌, Bool, true, List, length, sym, ap, subst, ◌∙◌}
+use Rattle.std.specs.Prelude.{count_by}
 use Rattle.std.specs.List.{AllByRecursion}
-use Rattle.std.proofs.lemmas.Bool.{or_cases, eqb-true}
 use Rattle.volume_layout.specs.declared.layout.Layout.{Layout}
 use Rattle.run_table.specs.Space.{contains}
+use Rattle.run_table.proofs.SectorLaws.{each_in}
 use Rattle.fsd_formats.specs.declared.entry.Entry.{Entry}
 use Rattle.fsd_table.specs.Breaks.{Breaks, entry_clashes}
 use Rattle.fsd_table.specs.Table.{visits, top}
@@ -19,13 +19,6 @@ use Rattle.table_survey.specs.Claims.{IsClaimed, whole_area}
 use Rattle.table_survey.specs.Survey.{IsSurveyed}
 use Rattle.table_survey.proofs.ClaimLaws.{Among, claimed_apart, claimed_left, claimed_fit}
 use Rattle.table_survey.proofs.VisitLaws.{among_all, tree_entries, tree_pages, marks_count}
-
-each_in : (P : ℕ → Type 0) (xs : List ℕ) (s : ℕ) → AllByRecursion P xs → contains xs s ≡ true → P s
-each_in P [] s all there = absurd cc
-each_in P (x ∷ xs) s all there = elim (or_cases (x == s) (contains xs s) there) [
-  | inl here ↦ subst P (eqb-true x s here) all.0
-  | inr more ↦ each_in P xs s all.1 more
-]
 
 -- claims over images that stayed as they were
 pub claims_then : (l : Layout) (old free : Area) (was now : List (List ℕ)) → now ≡ was → old ≡ whole_area l → ((height : ℕ) → IsTree now height → IsClaimed old (table_of now height) free)

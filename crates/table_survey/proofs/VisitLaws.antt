@@ -1,17 +1,17 @@
 -- What a tree's visits have, and how many of its pages are marked.
 use Rattle.std.proofs.Common.{◌≡◌, inl, inr, ℕ, zero, suc, ◌+◌, ◌-◌, ◌<◌, ◌≤◌, Bool, true, false, cond, List, [], ◌∷◌, ◌++◌, length, map, filter, Option, Some, None, refl, sym, ap, subst, ◌∙◌, arith}
 use Rattle.std.specs.Prelude.{count_by, slice_get, slice_index_or, Contains}
-use Rattle.std.specs.List.{flat_map, range_with_len, AllByRecursion}
+use Rattle.std.specs.List.{range_with_len, AllByRecursion}
 use Rattle.std.proofs.lemmas.List.{append-nil}
 use Rattle.std.proofs.lemmas.List.Sums.{sum_by-cons}
 use Rattle.std.proofs.lemmas.Option.{get_or_from_slice_get}
-use Rattle.run_table.specs.Space.{contains, where_free}
+use Rattle.run_table.specs.Space.{contains}
 use Rattle.fsd_formats.specs.declared.entry.Entry.{Entry}
 use Rattle.fsd_table.specs.declared.child.Child.{Child}
 use Rattle.fsd_table.specs.Pages.{page_at, children_of, entries_of}
 use Rattle.fsd_table.specs.Table.{Visit, Telling, visits_below, visits, max_height, top, told_in, entries_in}
 use Rattle.fsd_table.specs.Tree.{IsTree, table_of, pages_of}
-use Rattle.fsd_table.proofs.BoundLaws.{all_append}
+use Rattle.fsd_table.proofs.BoundLaws.{all_flat}
 use Rattle.fsd_table.proofs.VisitLaws.{all_in_shape, tree_told, visited_pages}
 use Rattle.sector_set.proofs.CountLaws.{count_of_list}
 use Rattle.table_survey.proofs.ClaimLaws.{Among}
@@ -20,10 +20,6 @@ use Rattle.table_survey.proofs.ClaimLaws.{Among}
 
 abbrev pub HasContent : List (List ℕ) → Visit → Type 0
 HasContent pages v = v.content ≡ page_at pages v.page
-
-all_flat : (P : Visit → Type 0) (f : Child → List Visit) → ((c : Child) → AllByRecursion P (f c)) → (cs : List Child) → AllByRecursion P (flat_map f cs)
-all_flat P f each [] = tt
-all_flat P f each (c ∷ cs) = all_append P (f c) (flat_map f cs) (each c) (all_flat P f each cs)
 
 contents_below : (levels : ℕ) (pages : List (List ℕ)) (depth : ℕ) (c : Child) → AllByRecursion (HasContent pages) (visits_below levels pages depth c)
 contents_below zero pages depth c = tt
@@ -82,7 +78,7 @@ tree_pages pages height t =
 
 -- ---- how many flags are set
 
-count_from : (P : ℕ → Bool) (flags : List Bool) (from : ℕ) → ((i : ℕ) → i < length flags → P (from + i) ≡ slice_index_or flags i false) → length (filter P (range_with_len from (length flags))) ≡ count_by (λ flag. flag) flags
+pub count_from : (P : ℕ → Bool) (flags : List Bool) (from : ℕ) → ((i : ℕ) → i < length flags → P (from + i) ≡ slice_index_or flags i false) → length (filter P (range_with_len from (length flags))) ≡ count_by (λ flag. flag) flags
 count_from P [] from same = refl
 count_from P (flag ∷ flags) from same =
     let here : from ≡ from + 0 = omega arith in

@@ -1,6 +1,5 @@
 -- What a version that comes, and one that gets another keep, make of the table.
 use Rattle.std.proofs.Common.{◌≡◌, ℕ, Bool, true, false, cond, List, [], ◌∷◌, map, filter, Some, None, refl, sym, ap, subst, ◌∙◌}
-use Rattle.std.specs.Prelude.{OnOk, Result, Ok, Err}
 use Rattle.std.specs.List.{list_any}
 use Rattle.fsd_bytes.specs.declared.key.Key.{Key}
 use Rattle.fsd_bytes.specs.declared.key.Serial.{Serial}
@@ -14,15 +13,11 @@ use Rattle.fsd_files.specs.Volume.{entries_without}
 use Rattle.name_page.specs.Edits.{put, with_entry}
 use Rattle.name_page.specs.Lookups.{entry_with}
 use Rattle.name_btree.specs.Map.{without_all}
-use Rattle.name_btree.specs.Replace.{HasAsLong}
+use Rattle.name_btree.specs.Replace.{HasAsLong, IsAsLong}
 use Rattle.version_table.specs.declared.planning.Plan.{Plan}
 use Rattle.version_table.specs.Plan.{IsReady, keys_left, planned_entry, with_planned}
 use Rattle.version_table.proofs.EditLaws.{entered_is, kept_is, with_is, without_some}
 use Rattle.version_table.proofs.PlanLaws.{new_stays}
-
-pub on_ok : {T F : Type 0} {A B : Type 0} (r : Result T F) → (A → B) → OnOk r A → OnOk r B
-on_ok (Ok x) f a = f a
-on_ok (Err e) f a = a
 
 -- ---- another keep
 
@@ -31,6 +26,10 @@ as_long version copy keep table same there =
     let kept : Entry = record version { keep = keep } in
     let is : HasAsLong kept table = (version, with_is version.key table ∙ there, length_entry version ∙ sym (length_entry kept)) in
     subst (λ (e : Entry). HasAsLong (record e { keep = keep }) table) (sym same) is
+
+pub copy_long : (version copy : Entry) (keep : ℕ) → copy ≡ version → IsAsLong (record copy { keep = keep }) version
+copy_long version copy keep same =
+    subst (λ (e : Entry). IsAsLong (record e { keep = keep }) version) (sym same) (record { key = refl; long = length_entry version ∙ sym (length_entry (record version { keep = keep })) })
 
 pub copy_kept : (version copy : Entry) (keep : ℕ) (table : List Entry) → copy ≡ version → Ascend table → entry_of version.key table ≡ Some version
     → map (put (record copy { keep = keep })) table ≡ entries_with_keep version.key keep table

@@ -1,8 +1,7 @@
 -- The versions of a name that are met, one after another.
-use Rattle.std.proofs.Common.{◌≡◌, ℕ, Bool, true, false, cond, List, [], ◌∷◌, ◌++◌, length, take, Option, Some, None, refl, sym, ap, subst, ◌∙◌, arith}
+use Rattle.std.proofs.Common.{◌≡◌, ℕ, Bool, true, false, cond, List, [], ◌∷◌, ◌++◌, length, take, Option, Some, None, sym, ap, subst, ◌∙◌, arith}
 use Rattle.std.specs.Prelude.{IfSome}
 use Rattle.std.proofs.lemmas.List.{take-append-le, take_all}
-use Rattle.fsd_bytes.proofs.SameLaws.{same_is}
 use Rattle.fsd_bytes.specs.Bytes.{same_bytes}
 use Rattle.fsd_bytes.specs.declared.key.Key.{Key}
 use Rattle.fsd_formats.specs.declared.entry.Entry.{Entry}
@@ -12,15 +11,8 @@ use Rattle.name_btree.specs.declared.lookup.FoundEntry.{FoundEntry}
 use Rattle.version_table.specs.Versions.{IsFirst, versions_behind}
 use Rattle.version_table.proofs.VersionLaws.{IsNext, first_behind, same_both}
 
-pub if_named : (Q : FoundEntry → Type 0) (f : FoundEntry) (b : Bool) (r : Option FoundEntry) → r ≡ cond b (Some f) None → (b ≡ true → Q f) → IfSome r Q
-if_named Q f true r is h = subst (λ (o : Option FoundEntry). IfSome o Q) (sym is) (h refl)
-if_named Q f false r is h = subst (λ (o : Option FoundEntry). IfSome o Q) (sym is) tt
-
 pub of_some : (Q : FoundEntry → Type 0) (o : Option FoundEntry) (f : FoundEntry) → o ≡ Some f → IfSome o Q → Q f
 of_some Q o f is h = subst (λ (x : Option FoundEntry). IfSome x Q) is h
-
-pub one_name : (a b : List ℕ) → same_name a b ≡ true → a ≡ b
-one_name a b is = sym (same_is b a (sym (same_both a b) ∙ is))
 
 -- the next one, if it has the name
 pub next_named : (key : Key) (f : FoundEntry) (r : Option FoundEntry) (table : List Entry) → Ascend table → r ≡ cond (same_name f.entry.key.name key.name) (Some f) None → entry_after (Some key) table ≡ Some f.entry → IsFirst key table r

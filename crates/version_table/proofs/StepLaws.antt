@@ -1,11 +1,17 @@
 -- A step that begins, and what holds of the table before it.
-use Rattle.std.proofs.Common.{◌≡◌, ℕ, ◌-◌, List, length, Bool, not, Option, sym, ap, subst, ◌∙◌}
-use Rattle.std.specs.Prelude.{◌<◌, IfOk, Result, Ok, slice_get}
+use Rattle.std.proofs.Common.{◌≡◌, ℕ, ◌-◌, List, length, Option, sym, ap, subst, ◌∙◌, zero, suc, Some, None, Bool, not}
+use Rattle.std.specs.Prelude.{IfOk, Result, Ok, slice_get, ◌<◌}
 use Rattle.run_table.specs.Space.{contains}
 use Rattle.fsd_formats.specs.declared.entry.Entry.{Entry}
-use Rattle.fsd_table.specs.Tree.{IsTree, pages_of, table_of}
-use Rattle.fsd_table.proofs.BoundLaws.{Ascend, entries_ascend}
-use Rattle.fsd_table.specs.Table.{top}
+use Rattle.fsd_table.specs.Tree.{IsTree, table_of, pages_of}
+use Rattle.fsd_table.proofs.BoundLaws.{Ascend, entries_ascend, all_weaker}
+use Rattle.fsd_table.specs.Table.{top, max_height}
+use Rattle.std.specs.List.{AllByRecursion}
+use Rattle.fsd_formats.specs.NamePage.{Content, Free, Leaf, Interior}
+use Rattle.fsd_table.specs.declared.child.Child.{Child}
+use Rattle.fsd_table.specs.Pages.{content_fits, page_at}
+use Rattle.fsd_forest.specs.Met.{path_of}
+use Rattle.name_btree.specs.Path.{GoesOn, HasPath, HasWayTo, Leads, TakesNone}
 use Rattle.name_page.specs.declared.pages.Pages.{Ghosts}
 use Rattle.name_page.specs.Looks.{ChangesPages}
 use Rattle.name_page.specs.Pages.{Step, is_spare, rested}
@@ -21,7 +27,7 @@ pub tree_ascends : (pages : List (List ℕ)) (height : ℕ) → IsTree pages hei
 tree_ascends pages height tree = entries_ascend (height - 1) pages top tree.subtree
 
 -- a table stays one where its pages stay, and the same of them are spare
-same_table : (a b : Step) (height : ℕ) → b.images ≡ a.images → b.spares ≡ a.spares → IsTable a height → IsTable b height
+pub same_table : (a b : Step) (height : ℕ) → b.images ≡ a.images → b.spares ≡ a.spares → IsTable a height → IsTable b height
 same_table a b height images spares t = record {
   tree = subst (λ (p : List (List ℕ)). IsTree p height) (sym images) t.tree;
   spare = λ page low.
@@ -62,3 +68,32 @@ module _ {D : Type 0} (P : Ghosts D) (a b c : D) (is : P.step b ≡ rested (P.st
 pub rested_pages : (a b c : Step) → b ≡ rested a → length c.images ≡ length b.images → ChangesPages b c → ChangesPages a c
 rested_pages a b c rest count pages =
     pages_then a b c count (pages_same a b (ap (λ (s : Step). length s.images) rest) (ap (λ (s : Step). s.changed) rest) (λ page lt was. ap (λ (s : Step). slice_get s.images page) rest)) pages
+
+-- ---- what is in memory once it has begun
+
+module _ {D : Type 0} (P : Ghosts D) (t t' : D) (takes : TakesNone P None t t') where
+  pub path_later : (name : List ℕ) → HasPath P name t → HasPath P name t'
+  path_later name has =
+      let path : List (List ℕ) → List ℕ = λ (pages : List (List ℕ)). path_of (page_at pages) name in
+      subst (λ (pages : List (List ℕ)). AllByRecursion (P.in_memory t') (path pages)) (sym takes.images) (all_weaker (P.in_memory t) (P.in_memory t') (path (P.step t).images) takes.stays has)
+
+  on_later : (levels : ℕ) (e : Entry) (c : Child) (x : Option Content) → ((d : Child) → Leads P levels t e d → Leads P levels t' e d) → GoesOn (Leads P levels t e) e c x → GoesOn (Leads P levels t' e) e c x
+  on_later levels e c None f h = absurd h
+  on_later levels e c (Some Free) f h = absurd h
+  on_later levels e c (Some (Leaf entries)) f h = h
+  on_later levels e c (Some (Interior first separators)) f h = f _ h
+
+  leads_later : (levels : ℕ) (e : Entry) (c : Child) → Leads P levels t e c → Leads P levels t' e c
+  leads_later zero e c h = absurd h
+  leads_later (suc levels) e c h = (
+    record {
+      there = takes.stays c.page h.0.there;
+      used = ap (λ (spares : List Bool). is_spare spares c.page) takes.spares ∙ h.0.used;
+      inside = h.0.inside;
+      fits = ap (λ (pages : List (List ℕ)). content_fits c.low c.high (page_at pages c.page)) takes.images ∙ h.0.fits;
+    },
+    subst (λ (pages : List (List ℕ)). GoesOn (Leads P levels t' e) e c (page_at pages c.page)) (sym takes.images) (on_later levels e c (page_at (P.step t).images c.page) (leads_later levels e) h.1),
+  )
+
+  pub way_later : (e : Entry) → HasWayTo P e t → HasWayTo P e t'
+  way_later e way = leads_later max_height e top way

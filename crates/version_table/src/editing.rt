@@ -5,6 +5,7 @@ ghost use Rattle.fsd_files.specs.Answers.{entries_with_keep, entry_of};
 ghost use Rattle.fsd_files.specs.Volume.{entries_without};
 ghost use Rattle.fsd_formats.specs.NamePage.{is_entry, FitsEntry};
 ghost use Rattle.name_btree.specs.Fault.{outer_told, FailsSpare, FailsTable, IsAmong};
+ghost use Rattle.name_btree.specs.Path.{HasWayTo};
 ghost use Rattle.name_btree.specs.Replace.{WritesOne};
 ghost use Rattle.name_page.specs.declared.pages.TheConstants.{MOST_CHANGED, MOST_REACHED};
 ghost use Rattle.name_page.specs.Looks.{ChangesPages, OnlyEdits, OnlyWalks};
@@ -103,7 +104,7 @@ pub fn set_keep<T: Pages>(t: &mut T, version: &Entry, keep: u32) -> Result<(), T
     ensures pages { ChangesPages (T.step t.old) (T.step t.new) }
     ensures kept { OnErr result (OnlyWalks T.Pages (outer_told result) t.old t.new) }
     ensures among { 0 < length (T.step t.old).images → IfErr result (IsAmong (length (T.step t.old).images)) }
-    ensures memory { T.in_memory t.old → outer_told result ≡ Some Memory → ⊥ }
+    ensures memory { HasWayTo T.Pages version.now t.old → outer_told result ≡ Some Memory → ⊥ }
     ensures written { OnOk result (WritesOne T.Pages t.old t.new) }
     ensures set { OnOk result (MakesTable T.Pages t.old t.new (entries_with_keep version.now.key keep)) }
     ensures fault { IfErr result (FailsTable T.Pages t.new) }

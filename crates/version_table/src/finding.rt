@@ -3,9 +3,9 @@ ghost use Rattle.std.specs.Prelude.{◌≡◌, ◌<◌, ◌≤◌, IfOk, IfErr, 
 ghost use Rattle.fsd_files.specs.Answers.{entry_of, highest_entry};
 ghost use Rattle.fsd_formats.specs.NamePage.{is_entry, FitsEntry};
 ghost use Rattle.name_btree.specs.Lookup.{StandsIn, IsLedTo};
+ghost use Rattle.name_btree.specs.Path.{TakesNone, HasPath, HasWayTo};
 ghost use Rattle.name_page.specs.declared.pages.TheConstants.{MOST_REACHED};
 ghost use Rattle.name_page.specs.Looks.{OnlyWalks};
-ghost use Rattle.name_page.specs.Pages.{NeedsNoMemory};
 ghost use Rattle.version_table.specs.Fault.{outer_met, FailsLook, IsInside};
 ghost use Rattle.version_table.specs.Table.{OfTable};
 
@@ -39,7 +39,8 @@ pub fn version_at<T: Pages>(t: &mut T, key: &Key) -> Result<FoundEntry, VersionF
 pub fn newest<T: Pages>(t: &mut T, name: &FileName) -> Result<FoundEntry, VersionFault>
     requires { MOST_REACHED ≤ (T.step t.old).most_reached }
     ensures walks { OnlyWalks T.Pages (outer_met result) t.old t.new }
-    ensures memory { NeedsNoMemory T.in_memory (outer_met result) t.old t.new }
+    ensures memory { HasPath T.Pages name.now t.old → TakesNone T.Pages (outer_met result) t.old t.new }
+    ensures back { HasPath T.Pages name.now t.old → IfOk result (λ found. HasWayTo T.Pages found.entry t.new) }
     ensures among { 0 < length (T.step t.old).images → IfErr result (IsInside (length (T.step t.old).images)) }
     ensures there { IfOk result (StandsIn (T.step t.new)) }
     ensures way { IfOk result (IsLedTo (T.step t.new)) }

@@ -1,11 +1,10 @@
 use Rattle.std.proofs.Common.{◌≡◌, ◌≤◌, Bool, false, List, length, ap, refl, sym, ◌∙◌, arith}
 use Rattle.std.proofs.lemmas.Result.{err_from_is_err_and}
 use Rattle.fsd_table.specs.Pages.{content_fits}
-use Rattle.name_page.specs.Node.{content_of}
 use Rattle.name_page.specs.Pages.{is_spare}
 use Rattle.name_page.proofs.LookLaws.{agrees_at}
 use Rattle.name_page.proofs.NodeLaws.{past_end}
-use Rattle.name_btree.proofs.CauseLaws.{if_err_more, none_shown}
+use Rattle.name_btree.proofs.CauseLaws.{none_shown}
 use Rattle.name_btree.proofs.child.child_node.Goals as goal
 
 pub returns-then-child-count-clause-fault : goal.returns-then-child-count-clause-fault

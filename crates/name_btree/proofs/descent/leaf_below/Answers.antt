@@ -1,4 +1,4 @@
-use Rattle.std.proofs.Common.{◌≡◌, ◌∙◌, ◌+◌, ◌-◌, refl, sym, ap, subst, Bool, true, false, List, ℕ, Some, None, arith}
+use Rattle.std.proofs.Common.{◌≡◌, ◌∙◌, ◌+◌, ◌-◌, refl, sym, ap, subst, Bool, true, false, List, [], ℕ, Some, None, arith}
 use Rattle.std.proofs.lemmas.Result.{err_from_is_err_and}
 use Rattle.fsd_formats.specs.NamePage.{Leaf, Interior}
 use Rattle.fsd_table.specs.Pages.{page_at, content_fits}
@@ -15,6 +15,13 @@ use Rattle.name_btree.proofs.DescentLaws.{IsOnWay, way_begins, way_down, way_end
 use Rattle.name_btree.proofs.LookupLaws.{Narrows, way_narrows, leaf_least}
 use Rattle.name_btree.proofs.PathLaws.{IsPath, path_begins, path_down, path_ends}
 use Rattle.name_btree.proofs.VisitedLaws.{IsVisitedWay, visited_down, misfit_below, shown_below, deep_below, deep_shown}
+use Rattle.name_page.specs.declared.cut.Cut.{Cut}
+use Rattle.name_page.specs.declared.cut.Cut.TheVariants.{UpTo}
+use Rattle.name_page.proofs.LookLaws.{memory_then}
+use Rattle.fsd_table.specs.Table.{max_height}
+use Rattle.name_btree.specs.Descent.{way_to}
+use Rattle.name_btree.specs.Path.{HasMet, Leads, TakesNone}
+use Rattle.name_btree.proofs.LeadLaws.{back_begins, back_down, back_ends, lead_down, lead_ends, lead_high, lead_met, lead_outer, met_begins, met_down, met_here, met_left, IsBack, IsMet, IsReadSafe}
 use Rattle.name_btree.proofs.descent.leaf_below.Goals as goal
 
 pub loop-above-init : goal.loop-above-init
@@ -31,6 +38,9 @@ loop-above-init g c =
       path = λ pages is. path_begins c.args.cut.now pages c.args.start;
       way = λ pages is. subst (λ (n : ℕ). IsOnWay before pages c.args.start n way) none (way_begins before pages c.args.start);
       visited = λ pages is v. (v, (tt, tt));
+      memory = λ has. met_begins g.T.Pages before c.args.t.now c.args.above c.args.start has;
+      back = λ has. back_begins g.T.Pages c.args.above c.args.start c.args.t.now;
+      again = λ e same h. h;
     }
 
 pub returns-in_err-child_node-clause-fault : goal.returns-in_err-child_node-clause-fault
@@ -113,6 +123,13 @@ loop-above-preserved g c =
     let old : (pages : List (List ℕ)) → Agrees pages s → Agrees pages (g.T.Pages.step c.loop-above.t) = λ pages is. agrees_before (g.T.Pages.step c.loop-above.t) s pages c.in_ok-child_node.ensures.calls.looks is in
     let new : Way = c.way_to-way.result in
     let is = sym c.way_to-way.ensures in
+    let P = g.T.Pages in
+    let first = c.args.t.now in
+    let mid = c.child_node.new.t in
+    let low = c.loop-above-test.true in
+    let here : page_at s.images w.child.page ≡ Some (Interior ways.0 ways.1) = c.in_ok-child_node.ensures.node ∙ ap (λ (n : Node). Some (content_of n)) c.in-Interior.is in
+    let takes : HasMet P c.args.above before start first → TakesNone P None c.loop-above.t mid = λ has.
+    c.in_ok-child_node.ensures.memory (met_here P before first above w c.loop-above.t low (c.loop-above.invariant.memory has)) in
     record {
       least = omega arith;
       most = omega (arith, c.loop-above-test.true);
@@ -125,6 +142,21 @@ loop-above-preserved g c =
           (way_down before (cuts_monotone c.args.cut.now) pages start gone (above + 1) w ways.0 ways.1 (at pages seen) (c.loop-above.invariant.way pages (old pages seen))));
       visited = λ pages seen. subst (λ (x : Way). IsVisitedWay pages c.args.above start (above + 1) x) is
           (visited_down before pages c.args.above start above w ways.0 ways.1 (at pages seen) c.loop-above-test.true (c.loop-above.invariant.visited pages (old pages seen)));
+      memory = λ has. subst (λ (x : Way). IsMet P before first (above + 1) x mid) is (met_down P before first above w c.loop-above.t low (c.loop-above.invariant.memory has) mid (takes has) ways.0 ways.1 here);
+      back = λ has. subst (λ (x : Way). IsBack P c.args.above start (above + 1) x mid) is
+          (back_down P c.args.above start above w c.loop-above.t mid low (takes has) (c.loop-above.invariant.back has) before ways.0 ways.1
+          (record {
+            there = (takes has).stays w.child.page (met_here P before first above w c.loop-above.t low (c.loop-above.invariant.memory has));
+            used = used;
+            fits = subst (λ (n : Node). content_fits w.child.low w.child.high (Some (content_of n)) ≡ true) c.in-Interior.is c.in_ok-child_node.ensures.fits;
+            has = here;
+          }));
+      again = λ e same h.
+          let has = subst (λ (k : Cut). HasMet P c.args.above (is_before k) start first) (sym same) (lead_met P (max_height - c.args.above) first e start [] h) in
+          let none = memory_then P first c.loop-above.t mid (c.loop-above.invariant.memory has).none (takes has) in
+          let way_e : Way = way_to (is_before (UpTo e.key)) (above + 1) w.previous w.next ways.0 w.child.low w.child.high ways.1 in
+          let same_way : way_e ≡ new = ap (λ (k : Cut). way_to (is_before k) (above + 1) w.previous w.next ways.0 w.child.low w.child.high ways.1) (sym same) ∙ is in
+          subst (λ (x : Way). Leads P (max_height - (above + 1)) first e x.child) same_way (lead_down P first mid e above w ways.0 ways.1 low none here (c.loop-above.invariant.again e same h));
     }
 
 pub returns-clause-fault : goal.returns-clause-fault
@@ -137,3 +169,76 @@ returns-clause-reaches g c = omega (arith, c.loop-above.invariant.reaches, c.loo
 
 pub returns-clause-shown : goal.returns-clause-shown
 returns-clause-shown g c = deep_shown (g.T.Pages.step c.loop-above.t) c.args.above c.args.start c.loop-above.above c.loop-above.way c.loop-above.invariant.visited c.loop-above-test.false
+
+-- ---- memory is not wanting
+
+pub returns-in_err-child_node-clause-memory : goal.returns-in_err-child_node-clause-memory
+returns-in_err-child_node-clause-memory g c = λ has.
+    let P = g.T.Pages in
+    let before = is_before c.args.cut.now in
+    let is = c.loop-above.invariant.memory has in
+    let takes = c.in_err-child_node.ensures.memory (met_here P before c.args.t.now c.loop-above.above c.loop-above.way c.loop-above.t c.loop-above-test.true is) in
+    let p = err_from_is_err_and c.from_residual.result c.from_residual.ensures.1 in
+    rw (p.1, p.2) (memory_then P c.args.t.now c.loop-above.t c.child_node.new.t is.none takes)
+
+pub returns-in_err-child_node-clause-again : goal.returns-in_err-child_node-clause-again
+returns-in_err-child_node-clause-again g c = λ e same h.
+    let P = g.T.Pages in
+    let first = c.args.t.now in
+    let before = is_before c.args.cut.now in
+    let has = subst (λ (k : Cut). HasMet P c.args.above (is_before k) c.args.start first) (sym same) (lead_met P (max_height - c.args.above) first e c.args.start [] h) in
+    let is = c.loop-above.invariant.memory has in
+    let takes = c.in_err-child_node.ensures.memory (met_here P before first c.loop-above.above c.loop-above.way c.loop-above.t c.loop-above-test.true is) in
+    let p = err_from_is_err_and c.from_residual.result c.from_residual.ensures.1 in
+    rw (p.1, p.2) (lead_outer P _ first c.child_node.new.t e c.loop-above.above c.loop-above.way.child c.in_err-child_node.field-0.0 c.loop-above-test.true
+    (memory_then P first c.loop-above.t c.child_node.new.t is.none takes) (c.loop-above.invariant.again e same h) c.in_err-child_node.ensures.fault)
+
+pub returns-in-Leaf-clause-memory : goal.returns-in-Leaf-clause-memory
+returns-in-Leaf-clause-memory g c = λ has.
+    let P = g.T.Pages in
+    let is = c.loop-above.invariant.memory has in
+    let takes = c.in_ok-child_node.ensures.memory (met_here P (is_before c.args.cut.now) c.args.t.now c.loop-above.above c.loop-above.way c.loop-above.t c.loop-above-test.true is) in
+    memory_then P c.args.t.now c.loop-above.t c.child_node.new.t is.none takes
+
+pub returns-in-Leaf-clause-left : goal.returns-in-Leaf-clause-left
+returns-in-Leaf-clause-left g c = λ has none.
+    let P = g.T.Pages in
+    let before = is_before c.args.cut.now in
+    let w = c.loop-above.way in
+    let is = c.loop-above.invariant.memory has in
+    let takes = c.in_ok-child_node.ensures.memory (met_here P before c.args.t.now c.loop-above.above w c.loop-above.t c.loop-above-test.true is) in
+    met_left P before c.args.t.now c.loop-above.above w c.loop-above.t c.loop-above-test.true is c.child_node.new.t takes c.in-Leaf.entries
+    (c.in_ok-child_node.ensures.node ∙ ap (λ (n : Node). Some (content_of n)) c.in-Leaf.is) none
+
+pub returns-in-Leaf-clause-back : goal.returns-in-Leaf-clause-back
+returns-in-Leaf-clause-back g c = λ has.
+    let P = g.T.Pages in
+    let before = is_before c.args.cut.now in
+    let w = c.loop-above.way in
+    let s = g.T.Pages.step c.child_node.new.t in
+    let there = met_here P before c.args.t.now c.loop-above.above w c.loop-above.t c.loop-above-test.true (c.loop-above.invariant.memory has) in
+    let takes = c.in_ok-child_node.ensures.memory there in
+    let read : IsReadSafe P c.child_node.new.t w.child (Leaf c.in-Leaf.entries) = record {
+      there = takes.stays w.child.page there;
+      used = ap (λ (x : List Bool). is_spare x w.child.page) c.in_ok-child_node.ensures.calls.looks.spares ∙ c.in_ok-child_node.ensures.used;
+      fits = subst (λ (n : Node). content_fits w.child.low w.child.high (Some (content_of n)) ≡ true) c.in-Leaf.is c.in_ok-child_node.ensures.fits;
+      has = c.in_ok-child_node.ensures.node ∙ ap (λ (n : Node). Some (content_of n)) c.in-Leaf.is;
+    } in
+    back_ends P c.args.above c.args.start c.loop-above.above w c.loop-above.t c.child_node.new.t c.loop-above-test.true takes (c.loop-above.invariant.back has) c.in-Leaf.entries read w.next
+
+pub returns-in-Leaf-clause-again : goal.returns-in-Leaf-clause-again
+returns-in-Leaf-clause-again g c = λ e same h.
+    let P = g.T.Pages in
+    let first = c.args.t.now in
+    let w = c.loop-above.way in
+    let has = subst (λ (k : Cut). HasMet P c.args.above (is_before k) c.args.start first) (sym same) (lead_met P (max_height - c.args.above) first e c.args.start [] h) in
+    let is = c.loop-above.invariant.memory has in
+    let takes = c.in_ok-child_node.ensures.memory (met_here P (is_before c.args.cut.now) first c.loop-above.above w c.loop-above.t c.loop-above-test.true is) in
+    lead_ends P first c.child_node.new.t e c.loop-above.above w.child c.in-Leaf.entries c.loop-above-test.true (memory_then P first c.loop-above.t c.child_node.new.t is.none takes)
+    (c.in_ok-child_node.ensures.node ∙ ap (λ (n : Node). Some (content_of n)) c.in-Leaf.is) (c.loop-above.invariant.again e same h)
+
+pub returns-clause-memory : goal.returns-clause-memory
+returns-clause-memory g c = λ has. (c.loop-above.invariant.memory has).none
+
+pub returns-clause-again : goal.returns-clause-again
+returns-clause-again g c = λ e same h. absurd (lead_high g.T.Pages c.args.t.now e c.loop-above.above c.loop-above.way.child (omega (arith, c.loop-above-test.false)) (c.loop-above.invariant.again e same h))

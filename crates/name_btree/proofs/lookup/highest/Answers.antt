@@ -1,4 +1,4 @@
-use Rattle.std.proofs.Common.{◌≡◌, ◌∙◌, length, sym, ap, subst, List, ℕ, Option}
+use Rattle.std.proofs.Common.{◌≡◌, ◌∙◌, ◌-◌, length, sym, ap, subst, List, ℕ, Option, Some}
 use Rattle.std.specs.Prelude.{IfSome}
 use Rattle.std.proofs.lemmas.Option.{IfSome_then}
 use Rattle.fsd_formats.specs.declared.entry.Entry.{Entry}
@@ -19,6 +19,11 @@ use Rattle.name_btree.proofs.HighestLaws.{highest_in_leaf, highest_at_start, hig
 use Rattle.std.proofs.lemmas.Result.{err_from_is_err_and}
 use Rattle.name_btree.proofs.VisitedLaws.{shown_previous, shown_top, top_breaks, previous_breaks}
 use Rattle.name_btree.proofs.WithinLaws.{fails_among}
+use Rattle.fsd_table.specs.Pages.{page_at}
+use Rattle.fsd_table.specs.Table.{max_height}
+use Rattle.name_page.proofs.LookLaws.{memory_then}
+use Rattle.name_btree.specs.Path.{met_beside, HasAll, HasWayTo, Leads}
+use Rattle.name_btree.proofs.LeadLaws.{beside_later, led_beside, led_here, none_before, path_met}
 use Rattle.name_btree.proofs.lookup.highest.Goals as goal
 
 pub returns-in-Some-clause-found : goal.returns-in-Some-clause-found
@@ -188,3 +193,70 @@ returns-in_err-last_below-in-Some-previous-clause-shown g c =
     let h : P c.in-Some-previous.previous = subst P c.in-Some-previous.previous-is kept.shown in
     let p = err_from_is_err_and c.from_residual-in_err-last_below-in-Some-previous.result c.from_residual-in_err-last_below-in-Some-previous.ensures.1 in
     rw (p.1, p.2) (shown_previous (g.T.Pages.step c.leaf_below.new.t) s c.top.result c.in_ok-found.found c.top.ensures kept.calls.looks c.in_ok-found.ensures.beside c.in-Some-previous.previous c.in-Some-previous.is fault h)
+
+-- ---- memory is not wanting
+
+pub returns-in_err-found-clause-memory : goal.returns-in_err-found-clause-memory
+returns-in_err-found-clause-memory g c = λ has.
+    let p = err_from_is_err_and c.from_residual.result c.from_residual.ensures.1 in
+    rw (p.1, p.2) (c.in_err-found.ensures.memory (path_met g.T.Pages c.args.t.now c.args.name.now c.copied.result c.top.result c.copied.ensures c.top.ensures has))
+
+pub returns-in-Some-clause-memory : goal.returns-in-Some-clause-memory
+returns-in-Some-clause-memory g c = λ has. c.in_ok-found.ensures.memory (path_met g.T.Pages c.args.t.now c.args.name.now c.copied.result c.top.result c.copied.ensures c.top.ensures has)
+
+pub returns-in-None-clause-memory : goal.returns-in-None-clause-memory
+returns-in-None-clause-memory g c = λ has. c.in_ok-found.ensures.memory (path_met g.T.Pages c.args.t.now c.args.name.now c.copied.result c.top.result c.copied.ensures c.top.ensures has)
+
+pub returns-in-Some-clause-back : goal.returns-in-Some-clause-back
+returns-in-Some-clause-back g c = λ has.
+    let P = g.T.Pages in
+    let leaf = c.in_ok-found.found in
+    let f : FoundEntry = record { entry = c.in-Some.entry; page = leaf.page } in
+    if_named (λ x. HasWayTo P x.entry c.leaf_below.new.t) f (same_name f.entry.key.name c.args.name.now) c.named.result c.named.ensures
+    (λ same. led_here P c.leaf_below.new.t c.top.result leaf f.entry c.top.ensures (c.in_ok-found.ensures.back (path_met P c.args.t.now c.args.name.now c.copied.result c.top.result c.copied.ensures c.top.ensures has))
+    (last_contains (λ x. is_before (Named c.copied.result) x.key) leaf.entries f.entry (sym c.last_before.ensures.last ∙ c.in-Some.is)))
+
+pub returns-in_err-last_below-in-Some-previous-clause-memory : goal.returns-in_err-last_below-in-Some-previous-clause-memory
+returns-in_err-last_below-in-Some-previous-clause-memory g c = λ has.
+    let P = g.T.Pages in
+    let old = c.args.t.now in
+    let mid = c.leaf_below.new.t in
+    let met = path_met P old c.args.name.now c.copied.result c.top.result c.copied.ensures c.top.ensures has in
+    let takes = c.in_ok-found.ensures.memory met in
+    let none = none_before (is_before (Named c.copied.result)) c.in_ok-found.found.entries (sym c.last_before.ensures.last ∙ c.in_default.is) in
+    let Left : Option Neighbour → Type 0 = λ (o : Option Neighbour). HasAll P mid (met_beside (page_at (P.step mid).images) o) in
+    let left : Left (Some c.in-Some-previous.previous) = subst Left c.in-Some-previous.is (beside_later P old mid takes c.in_ok-found.found.previous (c.in_ok-found.ensures.left met none)) in
+    let here = subst (λ (n : Neighbour). Left (Some n)) (sym c.in-Some-previous.previous-is) left in
+    let p = err_from_is_err_and c.from_residual-in_err-last_below-in-Some-previous.result c.from_residual-in_err-last_below-in-Some-previous.ensures.1 in
+    rw (p.1, p.2) (memory_then P old mid c.last_below.new.t takes (c.in_err-last_below-in-Some-previous.ensures.memory here))
+
+pub returns-in_ok-last_below-in-Some-previous-clause-memory : goal.returns-in_ok-last_below-in-Some-previous-clause-memory
+returns-in_ok-last_below-in-Some-previous-clause-memory g c = λ has.
+    let P = g.T.Pages in
+    let old = c.args.t.now in
+    let mid = c.leaf_below.new.t in
+    let met = path_met P old c.args.name.now c.copied.result c.top.result c.copied.ensures c.top.ensures has in
+    let takes = c.in_ok-found.ensures.memory met in
+    let none = none_before (is_before (Named c.copied.result)) c.in_ok-found.found.entries (sym c.last_before.ensures.last ∙ c.in_default.is) in
+    let Left : Option Neighbour → Type 0 = λ (o : Option Neighbour). HasAll P mid (met_beside (page_at (P.step mid).images) o) in
+    let left : Left (Some c.in-Some-previous.previous) = subst Left c.in-Some-previous.is (beside_later P old mid takes c.in_ok-found.found.previous (c.in_ok-found.ensures.left met none)) in
+    let here = subst (λ (n : Neighbour). Left (Some n)) (sym c.in-Some-previous.previous-is) left in
+    memory_then P old mid c.last_below.new.t takes (c.in_ok-last_below-in-Some-previous.ensures.memory here)
+
+pub returns-in_ok-last_below-in-Some-previous-clause-back : goal.returns-in_ok-last_below-in-Some-previous-clause-back
+returns-in_ok-last_below-in-Some-previous-clause-back g c = λ has.
+    let P = g.T.Pages in
+    let old = c.args.t.now in
+    let mid = c.leaf_below.new.t in
+    let new = c.last_below.new.t in
+    let f = c.in_ok-last_below-in-Some-previous.field-0 in
+    let second = c.in_ok-last_below-in-Some-previous.ensures in
+    let met = path_met P old c.args.name.now c.copied.result c.top.result c.copied.ensures c.top.ensures has in
+    let takes = c.in_ok-found.ensures.memory met in
+    let none = none_before (is_before (Named c.copied.result)) c.in_ok-found.found.entries (sym c.last_before.ensures.last ∙ c.in_default.is) in
+    let Left : Option Neighbour → Type 0 = λ (o : Option Neighbour). HasAll P mid (met_beside (page_at (P.step mid).images) o) in
+    let left : Left (Some c.in-Some-previous.previous) = subst Left c.in-Some-previous.is (beside_later P old mid takes c.in_ok-found.found.previous (c.in_ok-found.ensures.left met none)) in
+    let here = subst (λ (n : Neighbour). Left (Some n)) (sym c.in-Some-previous.previous-is) left in
+    let lead = subst (λ (n : Neighbour). Leads P (max_height - n.above) new f.entry n.child) c.in-Some-previous.previous-is (second.back here) in
+    if_named (λ x. HasWayTo P x.entry new) f (same_name f.entry.key.name c.args.name.now) c.named-in-Some-previous.result c.named-in-Some-previous.ensures
+    (λ same. led_beside P mid new c.top.result c.in_ok-found.found c.in-Some-previous.previous f.entry c.top.ensures c.in-Some-previous.is (second.memory here) (c.in_ok-found.ensures.back met) lead)

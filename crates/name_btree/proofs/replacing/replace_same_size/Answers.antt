@@ -1,4 +1,4 @@
-use Rattle.std.proofs.Common.{◌≡◌, ◌∙◌, ℕ, ap, subst, length, List, map}
+use Rattle.std.proofs.Common.{◌≡◌, ◌∙◌, ℕ, ap, subst, sym, length, List, [], map}
 use Rattle.fsd_bytes.specs.declared.key.Key.{Key}
 use Rattle.fsd_formats.specs.declared.entry.Entry.{Entry}
 use Rattle.fsd_formats.specs.NamePage.{Leaf, is_page}
@@ -16,7 +16,13 @@ use Rattle.name_btree.proofs.ReplaceLaws.{few_in_leaf, put_is_page, not_in_tree}
 use Rattle.name_btree.proofs.SearchLaws.{fails_tree}
 use Rattle.name_btree.proofs.VisitedLaws.{top_breaks}
 use Rattle.name_btree.proofs.WithinLaws.{among_since}
-use Rattle.name_btree.proofs.WrittenPages.{written_count, written_pages}
+use Rattle.name_btree.proofs.WrittenPages.{written_count, written_edits, written_one, written_pages}
+use Rattle.name_page.specs.declared.cut.Cut.{Cut}
+use Rattle.fsd_table.specs.Table.{max_height}
+use Rattle.name_btree.specs.Fault.{outer_of}
+use Rattle.name_btree.specs.Path.{HasMet, Leads}
+use Rattle.name_btree.proofs.LeadLaws.{lead_met}
+use Rattle.name_btree.proofs.ReplaceLaws.{as_long_there}
 use Rattle.name_btree.proofs.replacing.replace_same_size.Goals as goal
 
 pub put_among-list-requires-clause-few : goal.put_among-list-requires-clause-few
@@ -77,6 +83,14 @@ returns-then-not-has_as_long-clause-fault g c =
     let none = not_in_tree pages c.args.entry.now found place (c.has_as_long.ensures.not c.if-not-has_as_long.true) (c.requires.present (calls.trust trusted)) in
     λ height t used. none height (subst (λ (p : List (List ℕ)). IsTree p height) (calls.stays trusted) t) in
     c.fault_of-then-not-has_as_long.ensures.cause fails
+
+pub returns-clause-calls : goal.returns-clause-calls
+returns-clause-calls g c =
+    written_edits g.T.Pages g.met.T.Pages.then g.met.T.Pages.trust c.args.t.now c.leaf_below.new.t c.put_leaf.new.t c.in-Ok.found.page _ c.in-Ok.ensures.calls c.put_leaf.ensures.outside c.put_leaf.ensures.written
+
+pub returns-clause-written : goal.returns-clause-written
+returns-clause-written g c =
+    written_one g.T.Pages g.met.T.Pages.trust c.args.t.now c.leaf_below.new.t c.put_leaf.new.t c.in-Ok.found.page _ c.in-Ok.ensures.calls c.put_leaf.ensures.outside c.put_leaf.ensures.written c.in-Ok.ensures.reached.0 c.in-Ok.ensures.used
 
 pub returns-clause-tree : goal.returns-clause-tree
 returns-clause-tree g c = λ trusted.
@@ -151,10 +165,23 @@ returns-then-not-has_as_long-clause-pages g c =
 -- ---- memory is not wanting
 
 pub returns-in-Err-clause-memory : goal.returns-in-Err-clause-memory
-returns-in-Err-clause-memory g c = (c.fault_of.ensures.memory c.args.t.now c.in-Err.ensures.calls.memory).enough
+returns-in-Err-clause-memory g c = λ old long way wants.
+    let P = g.T.Pages in
+    let t = c.args.t.now in
+    let same : UpTo c.copied.result ≡ UpTo old.key = ap (λ (k : Key). UpTo k) (c.copied.ensures ∙ sym long.key) in
+    let lead : Leads P max_height t old c.top.result = subst (Leads P max_height t old) (sym c.top.ensures) way in
+    let has = subst (λ (k : Cut). HasMet P 0 (is_before k) c.top.result t) (sym same) (lead_met P max_height t old c.top.result [] lead) in
+    (c.in-Err.ensures.memory has).enough (ap outer_of (sym (c.fault_of.ensures.outer (c.in-Err.ensures.again old same lead))) ∙ wants)
 
 pub returns-then-not-has_as_long-clause-memory : goal.returns-then-not-has_as_long-clause-memory
-returns-then-not-has_as_long-clause-memory g c = (c.fault_of-then-not-has_as_long.ensures.memory c.args.t.now c.in-Ok.ensures.calls.memory).enough
+returns-then-not-has_as_long-clause-memory g c = λ old long way wants.
+    let P = g.T.Pages in
+    let t = c.args.t.now in
+    let found = c.in-Ok.found in
+    let same : UpTo c.copied.result ≡ UpTo old.key = ap (λ (k : Key). UpTo k) (c.copied.ensures ∙ sym long.key) in
+    let lead : Leads P max_height t old c.top.result = subst (Leads P max_height t old) (sym c.top.ensures) way in
+    c.has_as_long.ensures.not c.if-not-has_as_long.true
+    (as_long_there (P.step c.leaf_below.new.t).images found.page found.entries c.args.entry.now old c.in-Ok.ensures.leaf (c.in-Ok.ensures.again old same lead) long)
 
 pub returns-clause-memory : goal.returns-clause-memory
-returns-clause-memory g c = λ there is. cc is
+returns-clause-memory g c = λ old long way is. cc is

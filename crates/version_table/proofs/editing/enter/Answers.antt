@@ -1,11 +1,12 @@
 use Rattle.std.proofs.Common.{List, None, ◌≡◌}
+use Rattle.std.proofs.lemmas.Result.{on_ok_weaker}
 use Rattle.fsd_formats.specs.declared.entry.Entry.{Entry}
 use Rattle.fsd_table.specs.Tree.{table_of}
 use Rattle.name_btree.specs.Map.{without_all}
 use Rattle.name_page.specs.Edits.{with_entry}
 use Rattle.name_page.specs.Lookups.{entry_with}
 use Rattle.version_table.specs.Plan.{planned_entry, with_planned}
-use Rattle.version_table.proofs.EnterLaws.{on_ok, planned_made, planned_new}
+use Rattle.version_table.proofs.EnterLaws.{planned_made, planned_new}
 use Rattle.version_table.proofs.StepLaws.{for_rested, makes_rested, rested_pages, tree_ascends}
 use Rattle.version_table.proofs.editing.enter.Goals as goal
 
@@ -30,7 +31,7 @@ returns-clause-entered g c =
     let entry = c.planned_entry-entry.result in
     let keys = c.keys_left-gone.result.items in
     let e = c.insert.ensures in
-    on_ok c.insert.result (makes_rested P a b c.insert.new.t c.rest.ensures.step (with_planned plan (planned_entry plan c.args.serial c.args.bytes c.args.runs)) (λ (table : List Entry). with_entry entry (without_all keys table))
+    on_ok_weaker c.insert.result (makes_rested P a b c.insert.new.t c.rest.ensures.step (with_planned plan (planned_entry plan c.args.serial c.args.bytes c.args.runs)) (λ (table : List Entry). with_entry entry (without_all keys table))
     (λ height tree trusted. planned_made plan c.args.serial c.args.bytes c.args.runs entry c.planned_entry-entry.ensures keys c.keys_left-gone.ensures (table_of (P.step a).images height) (tree_ascends (P.step a).images height tree)
     (c.requires.ready (g.met.T.Pages.trust a b None c.rest.ensures.outside (e.calls.trust trusted)) height tree))) e.inserted
 

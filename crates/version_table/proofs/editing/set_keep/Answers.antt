@@ -1,11 +1,12 @@
 use Rattle.std.proofs.Common.{List, None, map}
+use Rattle.std.proofs.lemmas.Result.{on_ok_weaker}
 use Rattle.fsd_formats.specs.declared.entry.Entry.{Entry}
 use Rattle.fsd_files.specs.Answers.{entries_with_keep}
 use Rattle.fsd_table.specs.Tree.{table_of}
 use Rattle.name_btree.specs.Replace.{HasAsLong}
 use Rattle.name_page.specs.Edits.{put}
-use Rattle.version_table.proofs.EnterLaws.{as_long, copy_kept, on_ok}
-use Rattle.version_table.proofs.StepLaws.{rested_pages, for_rested, makes_rested, tree_ascends}
+use Rattle.version_table.proofs.EnterLaws.{as_long, copy_kept, copy_long}
+use Rattle.version_table.proofs.StepLaws.{rested_pages, for_rested, makes_rested, tree_ascends, way_later}
 use Rattle.version_table.proofs.editing.set_keep.Goals as goal
 
 pub replace_same_size-requires-clause-present : goal.replace_same_size-requires-clause-present
@@ -28,7 +29,7 @@ returns-clause-set g c =
     let version = c.args.version.now in
     let copy = c.copied-entry.result in
     let e = c.replace_same_size.ensures in
-    on_ok c.replace_same_size.result (makes_rested P a b c.replace_same_size.new.t c.rest.ensures.step (entries_with_keep version.key keep) (map (put (record copy { keep = keep })))
+    on_ok_weaker c.replace_same_size.result (makes_rested P a b c.replace_same_size.new.t c.rest.ensures.step (entries_with_keep version.key keep) (map (put (record copy { keep = keep })))
     (λ height tree trusted. copy_kept version copy keep (table_of (P.step a).images height) c.copied-entry.ensures (tree_ascends (P.step a).images height tree)
     (c.requires.there (g.met.T.Pages.trust a b None c.rest.ensures.outside (e.calls.trust trusted)) height tree))) e.replaced
 
@@ -39,4 +40,4 @@ returns-clause-pages g c =
 
 -- memory is not wanting
 pub returns-clause-memory : goal.returns-clause-memory
-returns-clause-memory g c = λ there. c.replace_same_size.ensures.memory (c.rest.ensures.memory.stays there)
+returns-clause-memory g c = λ way. c.replace_same_size.ensures.memory c.args.version.now (copy_long c.args.version.now c.copied-entry.result c.args.keep c.copied-entry.ensures) (way_later g.T.Pages c.args.t.now c.rest.new.self c.rest.ensures.memory c.args.version.now way)

@@ -1,9 +1,13 @@
-use Rattle.std.proofs.Common.{◌∙◌, Ok, None, Some, ap}
+use Rattle.std.proofs.Common.{◌∙◌, Ok, None, Option, Result, Some, ap, subst}
+use Rattle.std.specs.Prelude.{IfOk, IfSome}
+use Rattle.name_btree.specs.declared.fault.TreeFault.{TreeFault}
+use Rattle.name_btree.specs.declared.lookup.FoundEntry.{FoundEntry}
+use Rattle.name_btree.specs.Path.{HasWayTo}
 use Rattle.fsd_files.specs.Answers.{highest_entry}
 use Rattle.name_page.specs.Lookups.{highest_of}
 use Rattle.name_page.proofs.LookLaws.{memory_then}
 use Rattle.version_table.proofs.VersionLaws.{highest_is}
-use Rattle.version_table.proofs.StepLaws.{found_rested}
+use Rattle.version_table.proofs.StepLaws.{found_rested, path_later}
 use Rattle.version_table.proofs.finding.newest.Goals as goal
 
 pub returns-in-Ok-Some-clause-found : goal.returns-in-Ok-Some-clause-found
@@ -19,10 +23,17 @@ returns-in-Ok-None-clause-fault g c =
 -- ---- memory is not wanting
 
 pub returns-in-Ok-Some-clause-memory : goal.returns-in-Ok-Some-clause-memory
-returns-in-Ok-Some-clause-memory g c = memory_then g.T.Pages.in_memory c.args.t.now c.rest.new.self c.highest.new.t c.rest.ensures.memory (rw c.in-Ok-Some.is at c.highest.ensures.calls.memory)
+returns-in-Ok-Some-clause-memory g c = λ path. memory_then g.T.Pages c.args.t.now c.rest.new.self c.highest.new.t c.rest.ensures.memory (rw c.in-Ok-Some.is at (c.highest.ensures.memory (path_later g.T.Pages c.args.t.now c.rest.new.self c.rest.ensures.memory c.args.name.now path)))
 
 pub returns-in-Ok-None-clause-memory : goal.returns-in-Ok-None-clause-memory
-returns-in-Ok-None-clause-memory g c = memory_then g.T.Pages.in_memory c.args.t.now c.rest.new.self c.highest.new.t c.rest.ensures.memory (rw c.in-Ok-None.is at c.highest.ensures.calls.memory)
+returns-in-Ok-None-clause-memory g c = λ path. memory_then g.T.Pages c.args.t.now c.rest.new.self c.highest.new.t c.rest.ensures.memory (rw c.in-Ok-None.is at (c.highest.ensures.memory (path_later g.T.Pages c.args.t.now c.rest.new.self c.rest.ensures.memory c.args.name.now path)))
 
 pub returns-in-Err-clause-memory : goal.returns-in-Err-clause-memory
-returns-in-Err-clause-memory g c = memory_then g.T.Pages.in_memory c.args.t.now c.rest.new.self c.highest.new.t c.rest.ensures.memory (rw c.in-Err.is at c.highest.ensures.calls.memory)
+returns-in-Err-clause-memory g c = λ path. memory_then g.T.Pages c.args.t.now c.rest.new.self c.highest.new.t c.rest.ensures.memory (rw c.in-Err.is at (c.highest.ensures.memory (path_later g.T.Pages c.args.t.now c.rest.new.self c.rest.ensures.memory c.args.name.now path)))
+
+pub returns-in-Ok-Some-clause-back : goal.returns-in-Ok-Some-clause-back
+returns-in-Ok-Some-clause-back g c = λ path.
+    let P = g.T.Pages in
+    let new = c.highest.new.t in
+    subst (λ (r : Result (Option FoundEntry) TreeFault). IfOk r (λ found. IfSome found (λ f. HasWayTo P f.entry new))) (c.in-Ok-Some.is ∙ ap Ok c.in-Ok-Some.field-0-is)
+    (c.highest.ensures.back (path_later P c.args.t.now c.rest.new.self c.rest.ensures.memory c.args.name.now path))

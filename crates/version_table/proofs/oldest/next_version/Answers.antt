@@ -6,11 +6,12 @@ use Rattle.name_page.specs.Lookups.{entry_after, same_name}
 use Rattle.name_page.proofs.LookLaws.{reaches_still, reaches_walks, rest_reaches}
 use Rattle.name_btree.specs.declared.lookup.FoundEntry.{FoundEntry}
 use Rattle.name_btree.specs.Lookup.{IsLedTo, StandsIn, entry_of}
+use Rattle.name_btree.proofs.LookupLaws.{if_named, one_name}
 use Rattle.std.proofs.Common.{true}
 use Rattle.version_table.specs.Met.{IsMet, leaving_of}
 use Rattle.version_table.specs.Versions.{IsFirst, versions_behind}
 use Rattle.std.proofs.Common.{[]}
-use Rattle.version_table.proofs.OldestLaws.{if_named, next_named, next_none, of_some, one_name}
+use Rattle.version_table.proofs.OldestLaws.{next_named, next_none, of_some}
 use Rattle.version_table.proofs.StepLaws.{of_rested, tree_ascends}
 use Rattle.version_table.proofs.oldest.next_version.Goals as goal
 

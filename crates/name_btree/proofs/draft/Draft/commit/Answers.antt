@@ -11,7 +11,7 @@ free_pages-requires-clause-pages g c =
     let step = g.T.Pages.step c.args.t.now in
     let sheets = c.args.self.now.sheets.items in
     let pages = c.args.self.now.freed.items in
-    let is : g.T.Pages.step c.write_sheets.new.t ≡ committed sheets step = c.write_sheets.ensures.step ∙ ap (λ (xs : List Sheet). committed xs step) c.as_slice.ensures.value in
+    let is : g.T.Pages.step c.write_sheets.new.t ≡ committed sheets step = c.write_sheets.ensures.step ∙ ap (λ (xs : List Sheet). committed xs step) c.as_slice.ensures in
     let all = may_go sheets step pages c.requires.freed in
     subst (λ (x : Step). AllByRecursion (MayGo x) c.as_slice-2.result.now) (sym is) (subst (AllByRecursion (MayGo (committed sheets step))) (sym c.as_slice-2.ensures.value) all)
 
@@ -19,7 +19,7 @@ pub returns-clause-images : goal.returns-clause-images
 returns-clause-images g c =
     let step = g.T.Pages.step c.args.t.now in
     let sheets = c.args.self.now.sheets.items in
-    let is : g.T.Pages.step c.write_sheets.new.t ≡ committed sheets step = c.write_sheets.ensures.step ∙ ap (λ (xs : List Sheet). committed xs step) c.as_slice.ensures.value in
+    let is : g.T.Pages.step c.write_sheets.new.t ≡ committed sheets step = c.write_sheets.ensures.step ∙ ap (λ (xs : List Sheet). committed xs step) c.as_slice.ensures in
     ap (λ (x : Step). x.images) c.free_pages.ensures.step
     ∙ freed_images c.as_slice-2.result.now (g.T.Pages.step c.write_sheets.new.t)
     ∙ ap (λ (x : Step). x.images) is

@@ -19,18 +19,18 @@ pub node_in-requires : goal.node_in-requires
 node_in-requires g c =
     let step = g.T.Pages.step c.args.t.now in
     let sheets = c.args.self.now.sheets.items in
-    let found : last_sheet c.args.page sheets ≡ Some c.in-Some.image = ap (last_sheet c.args.page) (sym c.as_slice.ensures.value) ∙ sym c.in-Some.ensures in
+    let found : last_sheet c.args.page sheets ≡ Some c.in-Some.image = ap (last_sheet c.args.page) (sym c.as_slice.ensures) ∙ sym c.in-Some.ensures in
     let is = sheet_is step sheets c.args.page c.in-Some.image c.requires.sheets found in
     (sheet_has step (record { page = c.args.page; image = c.in-Some.image }) is (omega (arith, g.met.T.Pages.small c.args.t.now))).1
 
 pub returns-in-Some-clause-reached : goal.returns-in-Some-clause-reached
 returns-in-Some-clause-reached g c =
-    let found : last_sheet c.args.page c.args.self.now.sheets.items ≡ Some c.in-Some.image = ap (last_sheet c.args.page) (sym c.as_slice.ensures.value) ∙ sym c.in-Some.ensures in
+    let found : last_sheet c.args.page c.args.self.now.sheets.items ≡ Some c.in-Some.image = ap (last_sheet c.args.page) (sym c.as_slice.ensures) ∙ sym c.in-Some.ensures in
     (sheet_is (g.T.Pages.step c.args.t.now) c.args.self.now.sheets.items c.args.page c.in-Some.image c.requires.sheets found).reached
 
 pub returns-in-Some-clause-used : goal.returns-in-Some-clause-used
 returns-in-Some-clause-used g c =
-    let found : last_sheet c.args.page c.args.self.now.sheets.items ≡ Some c.in-Some.image = ap (last_sheet c.args.page) (sym c.as_slice.ensures.value) ∙ sym c.in-Some.ensures in
+    let found : last_sheet c.args.page c.args.self.now.sheets.items ≡ Some c.in-Some.image = ap (last_sheet c.args.page) (sym c.as_slice.ensures) ∙ sym c.in-Some.ensures in
     (sheet_is (g.T.Pages.step c.args.t.now) c.args.self.now.sheets.items c.args.page c.in-Some.image c.requires.sheets found).used
 
 pub returns-in-Some-clause-calls : goal.returns-in-Some-clause-calls
@@ -41,7 +41,7 @@ returns-in-Some-clause-node g c = λ pages agrees.
     let step = g.T.Pages.step c.args.t.now in
     let sheets = c.args.self.now.sheets.items in
     let page : ℕ = c.args.page in
-    let found : last_sheet page sheets ≡ Some c.in-Some.image = ap (last_sheet page) (sym c.as_slice.ensures.value) ∙ sym c.in-Some.ensures in
+    let found : last_sheet page sheets ≡ Some c.in-Some.image = ap (last_sheet page) (sym c.as_slice.ensures) ∙ sym c.in-Some.ensures in
     let is = sheet_is step sheets page c.in-Some.image c.requires.sheets found in
     let has : content_in c.in-Some.image ≡ read_page page (length step.images) c.in-Some.image = (sheet_has step (record { page = page; image = c.in-Some.image }) is (omega (arith, g.met.T.Pages.small c.args.t.now))).0 in
     let within : page < length pages = subst (λ (n : ℕ). page < n) (sym agrees.count) c.requires.within in
@@ -62,7 +62,7 @@ returns-in-None-clause-node g c =
     let new = g.T.Pages.step c.node_at.new.t in
     let sheets = c.args.self.now.sheets.items in
     let page : ℕ = c.args.page in
-    let none : last_sheet page sheets ≡ None = ap (last_sheet page) (sym c.as_slice.ensures.value) ∙ sym c.in-None.ensures in
+    let none : last_sheet page sheets ≡ None = ap (last_sheet page) (sym c.as_slice.ensures) ∙ sym c.in-None.ensures in
     let count = c.node_at.ensures.calls.looks.count in
     both c.node_at.result (IsReached new page) (is_spare step.spares page ≡ false) (λ node. page_at new.images page ≡ Some (content_of node)) (λ node. Shows new (λ pages. page_at (drafted sheets pages) page ≡ Some (content_of node)))
     (λ node reached used at pages agrees. drafted_at sheets pages page (subst (λ (n : ℕ). page < n) (sym (agrees.count ∙ count)) c.requires.within) ∙ ap (by_sheet page pages) none ∙ agrees_at new pages page reached (ap (λ (x : List Bool). is_spare x page) c.node_at.ensures.calls.looks.spares ∙ used) agrees ∙ at)
@@ -77,7 +77,7 @@ returns-in-None-clause-fault g c =
     let new = g.T.Pages.step c.node_at.new.t in
     let sheets = c.args.self.now.sheets.items in
     let page : ℕ = c.args.page in
-    let none : last_sheet page sheets ≡ None = ap (last_sheet page) (sym c.as_slice.ensures.value) ∙ sym c.in-None.ensures in
+    let none : last_sheet page sheets ≡ None = ap (last_sheet page) (sym c.as_slice.ensures) ∙ sym c.in-None.ensures in
     let count = c.node_at.ensures.calls.looks.count in
     let B : List (List ℕ) → ℕ → Type 0 = λ (pages : List (List ℕ)) (other : ℕ). (other ≡ page) × (page_at (drafted sheets pages) page ≡ None) in
     if_err_more c.node_at.result (HasCause new Never (BarsPage new page)) (FailsBy new B)

@@ -1,4 +1,4 @@
-use Rattle.std.proofs.Common.{◌≡◌, ◌∙◌, refl}
+use Rattle.std.proofs.Common.{◌∙◌, refl}
 use Rattle.std.proofs.lemmas.Option.{slice_get_read}
 use Rattle.name_page.proofs.AcceptLaws.{read_tells}
 use Rattle.name_page.proofs.vec_pages.VecPages.is_accepted.Goals as goal

@@ -1,0 +1,73 @@
+-- The pages that a look-up meets, where they are in memory.
+use Rattle.std.specs.Prelude.{◌≡◌, ℕ, zero, suc, ◌-◌, Bool, true, false, List, [], Option, Some, None, IfSome}
+use Rattle.std.specs.List.{AllByRecursion, Contains, list_any}
+use Rattle.fsd_formats.specs.declared.entry.Entry.{Entry}
+use Rattle.fsd_formats.specs.NamePage.{Content, Leaf, Interior}
+use Rattle.fsd_bytes.specs.declared.key.Key.{Key}
+use Rattle.fsd_bytes.specs.declared.refusal.Refusal.{Refusal}
+use Rattle.fsd_table.specs.declared.child.Child.{Child}
+use Rattle.fsd_table.specs.Pages.{page_at, content_fits}
+use Rattle.fsd_table.specs.Table.{max_height, top}
+use Rattle.fsd_forest.specs.Met.{met, path_of}
+use Rattle.fsd_forest.specs.Parts.{is_inside}
+use Rattle.name_page.specs.Cut.{is_before}
+use Rattle.name_page.specs.declared.cut.Cut.TheVariants.{UpTo}
+use Rattle.name_page.specs.declared.pages.Pages.{Ghosts}
+use Rattle.name_page.specs.Pages.{is_spare, NeedsNoMemory}
+use Rattle.name_btree.specs.declared.descent.Found.{Found}
+use Rattle.name_btree.specs.declared.descent.Neighbour.{Neighbour}
+use Rattle.name_btree.specs.Descent.{way_to}
+
+-- what is met from a child beside the way on, down its last children
+abbrev pub met_beside : (at : ℕ → Option Content) → Option Neighbour → List ℕ
+met_beside at None = []
+met_beside at (Some n) = met (max_height - n.above) at (λ key. true) [] n.child.page
+
+-- at a page the way of an entry's key goes on, or the entry is there
+abbrev pub GoesOn : (Down : Child → Type 0) → Entry → Child → Option Content → Type 0
+GoesOn Down e c (Some (Leaf entries)) = Contains entries e
+GoesOn Down e c (Some (Interior first separators)) = Down (way_to (is_before (UpTo e.key)) 0 None None first c.low c.high separators).child
+GoesOn Down e c other = ⊥
+
+-- none of these entries stands before a place
+abbrev pub HasNone : (before : Key → Bool) → List Entry → Type 0
+HasNone before entries = list_any (λ e. before e.key) entries ≡ false
+
+module _ {D : Type 0} (P : Ghosts D) where
+  -- these pages are in memory
+  abbrev pub HasAll : D → List ℕ → Type 0
+  HasAll t pages = AllByRecursion (P.in_memory t) pages
+
+  -- all that the search from a child at a place meets is in memory
+  abbrev pub HasMet : (above : ℕ) → (before : Key → Bool) → Child → D → Type 0
+  HasMet above before start t = HasAll t (met (max_height - above) (page_at (P.step t).images) before [] start.page)
+
+  -- all that the search for the highest version of a name meets is in memory
+  abbrev pub HasPath : (name : List ℕ) → D → Type 0
+  HasPath name t = HasAll t (path_of (page_at (P.step t).images) name)
+
+  -- a call that needed no memory, since all that it met was there
+  abbrev pub TakesNone : Option Refusal → D → D → Type 0
+  TakesNone refusal old new = NeedsNoMemory P.step P.in_memory refusal old new
+
+  -- the page of a child is in memory, isn't spare, and has keys between the child's
+  pub record IsSafe (t : D) (key : Key) (c : Child) : Type 0 where
+    pub there : P.in_memory t c.page
+    pub used : is_spare (P.step t).spares c.page ≡ false
+    pub inside : is_inside c key ≡ true
+    pub fits : content_fits c.low c.high (page_at (P.step t).images c.page) ≡ true
+
+  -- the way of an entry's key leads over such pages to a leaf that has the entry, in so many levels
+  abbrev pub Leads : (levels : ℕ) → D → Entry → Child → Type 0
+  Leads zero t e c = ⊥
+  Leads (suc levels) t e c = IsSafe t e.key c × GoesOn (Leads levels t e) e c (page_at (P.step t).images c.page)
+
+  -- The way to an entry that was found leads to it again, and so does that to one below the child left of the way, where the
+  -- way from that child leads to it later.
+  pub record LeadsBack (above : ℕ) (start : Child) (t : D) (found : Found) : Type 0 where
+    pub here : (e : Entry) → Contains found.entries e → Leads (max_height - above) t e start
+    pub beside : IfSome found.previous (λ n. (later : D) → TakesNone None t later → (e : Entry) → Leads (max_height - n.above) later e n.child → Leads (max_height - above) later e start)
+
+  -- the same from page 0
+  abbrev pub HasWayTo : Entry → D → Type 0
+  HasWayTo e t = Leads max_height t e top
