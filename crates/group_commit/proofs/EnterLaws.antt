@@ -16,6 +16,8 @@ use Rattle.sector_disk.specs.Image.{sector_at, with_sector, stand, IsWorn, open_
 use Rattle.sector_disk.specs.Machine.{Moment, Holds}
 use Rattle.sector_disk.proofs.Calm.{stand_one}
 use Rattle.sector_disk.proofs.Wear.{length-stand, worn_refl, worn_whole}
+use Rattle.sector_disk.proofs.Holding.{over_two}
+use Rattle.sector_disk.proofs.ResultLaws.{option_or-assoc, option_or-none}
 use Rattle.fsd_log.specs.Images.{image_in, last_image}
 use Rattle.fsd_log.specs.Scan.{Placed, Walked, newer_of, is_newer, place_of}
 use Rattle.fsd_files.specs.Disk.{Image, Sectors, Has}
@@ -38,7 +40,7 @@ use Rattle.log_thirds.proofs.ImageLaws.{no_last_image}
 use Rattle.log_thirds.proofs.MovingLaws.{MayMove, LiesOn, IsParted, parted, place_back, next_is, next_low, later_first, log_moved, front_slots, slot_of-joined, all_right}
 use Rattle.fsd_sound.specs.Stands.{Stands}
 use Rattle.fsd_sound.proofs.CommuteLaws.{with_same, with_other, worn_or_over, shows_all, all_shows}
-use Rattle.fsd_sound.proofs.CoverLaws.{copies_alike}
+use Rattle.fsd_sound.proofs.CoverLaws.{copies_alike, stand_any}
 use Rattle.group_commit.proofs.GivenLaws.{gives_last}
 use Rattle.fsd_sound.proofs.HomedLaws.{either_reads}
 use Rattle.fsd_sound.proofs.SectorFacts.{same_bytes}
@@ -46,8 +48,7 @@ use Rattle.fsd_sound.proofs.LaidLaws.{all_laid_worn}
 use Rattle.fsd_sound.proofs.MoveLaws.{IsLater, IsHomedIn, MayMoveOn, anchor_found, moved_stands}
 use Rattle.group_commit.specs.Entering.{Shows, IsHoming, IsEntered, MayHome}
 use Rattle.group_commit.proofs.ForceLaws.{is_laid}
-use Rattle.group_commit.proofs.HomingLaws.{over_two, all_laid_same, narrow, weaker, own_later, shows_now}
-use Rattle.group_commit.proofs.ShownLaws.{or_assoc, or_nothing}
+use Rattle.group_commit.proofs.HomingLaws.{all_laid_same, narrow, weaker, own_later, shows_now}
 use Rattle.group_commit.proofs.StandsLaws.{is_shown, page_shown}
 
 -- ---- what is so of each anchor is so of the one that is taken
@@ -69,18 +70,14 @@ last_back t page [] = refl
 last_back t page (r ∷ rs) = ap (λ (o : Option (List ℕ)). option_or o (image_in page r.entry.pages r.entry.images)) (last_back t page rs)
 
 last_joined : (page : ℕ) (front rs : List Placed) → last_image page (front ++ rs) ≡ option_or (last_image page rs) (last_image page front)
-last_joined page [] rs = or_nothing (last_image page rs)
+last_joined page [] rs = option_or-none (last_image page rs)
 last_joined page (r ∷ front) rs =
     ap (λ (o : Option (List ℕ)). option_or o (image_in page r.entry.pages r.entry.images)) (last_joined page front rs)
-    ∙ or_assoc (last_image page rs) (last_image page front) (image_in page r.entry.pages r.entry.images)
+    ∙ option_or-assoc (last_image page rs) (last_image page front) (image_in page r.entry.pages r.entry.images)
 
 many_of : (l : Layout) (third : ℕ) (rs : List Placed) → AllByRecursion (IsRecord l third) rs → AllByRecursion (λ r. length r.entry.images ≡ length r.entry.pages) rs
 many_of l third [] all = tt
 many_of l third (r ∷ rs) all = (all.0.images, many_of l third rs all.1)
-
-stand_by : (l : Layout) (a b : Anchor) (weak : Sectors) (i : Image) (s : ℕ) (xs : List (List ℕ)) → AllStand l a weak i s xs → AllStand l b weak i s xs
-stand_by l a b weak i s [] all = tt
-stand_by l a b weak i s (x ∷ xs) all = (all.0, stand_by l a b weak i (s + 1) xs all.1)
 
 front_alike : (l : Layout) (t c : Anchor) (weak : Sectors) (i : Image) (r q : Placed) → c.epoch ≡ t.epoch → on_disk l c q ≡ on_disk l t r → HasFront l t weak i r → HasFront l c weak i q
 front_alike l t c weak i r q epoch same front =
@@ -91,7 +88,7 @@ front_alike l t c weak i r q epoch same front =
           (transport_header (place_of l t.third r.at) front.header);
       header_copy = subst (λ (s : ℕ). Has weak i (header_bytes (record { epoch = c.epoch; number = q.entry.number }) q.entry.pages) (s + 2)) place
           (transport_header (place_of l t.third r.at + 2) front.header_copy);
-      pages = stand_by l t c weak i (place_of l c.third q.at + 3) _ (subst (λ (s : ℕ). AllStand l t weak i (s + 3) (q.entry.images ++ end_bytes (record { epoch = c.epoch; number = q.entry.number }) (length q.entry.pages) ∷ [])) place
+      pages = stand_any l t c weak i (place_of l c.third q.at + 3) _ (subst (λ (s : ℕ). AllStand l t weak i (s + 3) (q.entry.images ++ end_bytes (record { epoch = c.epoch; number = q.entry.number }) (length q.entry.pages) ∷ [])) place
           (subst (λ (x : Rattle.fsd_log.specs.Judged.Logged). AllStand l t weak i (place_of l t.third r.at + 3) (x.images ++ end_bytes (record { epoch = c.epoch; number = x.number }) (length x.pages) ∷ [])) entry
           (subst (λ (n : ℕ). AllStand l t weak i (place_of l t.third r.at + 3) (r.entry.images ++ end_bytes (record { epoch = n; number = r.entry.number }) (length r.entry.pages) ∷ [])) (sym epoch) front.pages)));
     }

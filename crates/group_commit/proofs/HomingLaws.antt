@@ -1,5 +1,5 @@
 -- The pages whose last images lie in the log's first third are written home, one after another.
-use Rattle.std.proofs.Common.{◌≡◌, ◌≢◌, ◌⊎◌, inl, inr, ⊎_elim, ℕ, zero, suc, ◌+◌, ◌*◌, ◌<◌, ◌≤◌, List, [], ◌∷◌, length, get_or, Option, Some, None, refl, sym, ap, subst, ◌∙◌, arith}
+use Rattle.std.proofs.Common.{◌≡◌, ◌≢◌, ◌⊎◌, inl, inr, ⊎_elim, ℕ, zero, suc, ◌+◌, ◌*◌, ◌<◌, ◌≤◌, List, [], ◌∷◌, length, Option, Some, None, refl, sym, ap, subst, ◌∙◌, arith}
 use Rattle.std.specs.Prelude.{IfSome}
 use Rattle.std.specs.List.{AllByRecursion}
 use Rattle.std.proofs.lemmas.List.{length-set}
@@ -16,8 +16,8 @@ use Rattle.sector_disk.specs.Damage.{IsDevice, LostCause}
 use Rattle.sector_disk.specs.Image.{Windows, sector_at, with_sector, stand, IsWorn, open_damage}
 use Rattle.sector_disk.specs.Machine.{Moment, Holds, Wears}
 use Rattle.sector_disk.proofs.Calm.{stand_one}
-use Rattle.sector_disk.proofs.Holding.{holds_now, holds_wears}
-use Rattle.sector_disk.proofs.Wear.{worn_trans, stand_worn}
+use Rattle.sector_disk.proofs.Holding.{holds_now, holds_wears, over_two}
+use Rattle.sector_disk.proofs.Wear.{worn_trans}
 use Rattle.fsd_log.specs.Images.{last_image}
 use Rattle.fsd_log.specs.Scan.{Head, Placed, Walked, IsLog, start, tape}
 use Rattle.fsd_files.specs.Disk.{Image, Sectors, bytes_at}
@@ -32,7 +32,7 @@ use Rattle.log_thirds.specs.Append.{IsLogWorn, LastLiesIn}
 use Rattle.log_thirds.specs.Images.{AreLogged, LiesAt, StandsAt}
 use Rattle.log_thirds.specs.LogValue.{LogValue}
 use Rattle.log_thirds.specs.Slots.{slot_of}
-use Rattle.fsd_sound.specs.Homes.{home_of}
+use Rattle.fsd_sound.specs.Homes.{home_of, IsAtHome}
 use Rattle.group_commit.proofs.StandsLaws.{page_shown}
 use Rattle.std.specs.Option.{option_or}
 use Rattle.log_thirds.proofs.ImageLaws.{logged_by}
@@ -45,19 +45,7 @@ use Rattle.fsd_sound.proofs.LaidLaws.{own_worn}
 use Rattle.fsd_sound.proofs.MendLaws.{logged_shows}
 use Rattle.fsd_sound.proofs.AlikeLaws.{log_same, each_same}
 use Rattle.group_commit.specs.Force.{MayWrite}
-use Rattle.group_commit.specs.Entering.{Shows, IsAtHome, OwnsLog, IsHoming, MayHome}
-
--- a write of two sectors over what holds
-pub over_two : (old mid left : Moment) (image : Image) (a b : ℕ) (bytes : List ℕ) (j k : ℕ) → Holds old image mid → Holds mid (stand (stand mid.image a bytes j) b bytes k) left → Holds old (stand (stand image a bytes j) b bytes k) left
-over_two old mid left image a b bytes j k first second =
-    let may = open_damage old.windows in
-    let worn : IsWorn (open_damage old.windows) (stand (stand mid.image a bytes j) b bytes k) left.image = subst (λ (w : Windows). IsWorn (open_damage w) (stand (stand mid.image a bytes j) b bytes k) left.image) first.windows second.worn in
-    record {
-      worn = worn_trans may (stand (stand image a bytes j) b bytes k) (stand (stand mid.image a bytes j) b bytes k) left.image
-          (stand_worn may (stand image a bytes j) (stand mid.image a bytes j) b bytes k (stand_worn may image mid.image a bytes j first.worn)) worn;
-      windows = second.windows ∙ first.windows;
-      said = second.said ∙ first.said;
-    }
+use Rattle.group_commit.specs.Entering.{Shows, OwnsLog, IsHoming, MayHome}
 
 -- ---- where only homes are written the log stays
 

@@ -8,6 +8,7 @@ use Rattle.std.proofs.lemmas.Bool.Decides.{nat_tests}
 use Rattle.std.proofs.lemmas.Nat.{from_be_bytes-to_be_bytes_4}
 use Rattle.std.proofs.lemmas.List.{drop_at, drop-drop, take-take, drop-take, take-append-le, drop-append-le, length-append, length-drop, length-take-le, length-set, get_or-set_same, get_or-set_other}
 use Rattle.run_table.specs.Space.{contains}
+use Rattle.run_table.proofs.SectorLaws.{first_there}
 use Rattle.fsd_bytes.specs.Bytes.{u32_at, same_bytes}
 use Rattle.fsd_bytes.specs.Names.{is_between}
 use Rattle.fsd_bytes.proofs.SameLaws.{is_same}
@@ -26,9 +27,6 @@ differ_of a b e same = absurd (let t : (a == b) ≡ true = eq-eqb a b (sym same)
 
 unlike : (a b : ℕ) → b < a → (a == b) ≡ false
 unlike a b lt = grind (arith, nat_tests)
-
-pub contains_first : (x : ℕ) (xs : List ℕ) → contains (x ∷ xs) x ≡ true
-contains_first x xs = ap (λ (b : Bool). b || contains xs x) (eq-eqb x x refl)
 
 pub contains_more : (x : ℕ) (xs : List ℕ) (p : ℕ) → contains xs p ≡ true → contains (x ∷ xs) p ≡ true
 contains_more x xs p is = or_right (x == p) (contains xs p) is
@@ -49,7 +47,7 @@ below_at n (x ∷ xs) all p is =
       | inr more ↦ below_at n xs parts.1 p more
     ]
 
-ascending_tail : (a : ℕ) (xs : List ℕ) → ascending (a ∷ xs) ≡ true → ascending xs ≡ true
+pub ascending_tail : (a : ℕ) (xs : List ℕ) → ascending (a ∷ xs) ≡ true → ascending xs ≡ true
 ascending_tail a [] asc = refl
 ascending_tail a (b ∷ xs) asc = (and_parts (nat_lt a b) (ascending (b ∷ xs)) asc).1
 
@@ -154,7 +152,7 @@ module _ (f : ℕ → List ℕ) where
   slices_of : (xs front : List ℕ) (k : ℕ) → length front ≡ 512 * k → ((p : ℕ) → contains xs p ≡ true → length (f p) ≡ 512) → slices_from k (front ++ flat_map f xs) (length xs) ≡ map f xs
   slices_of [] front k long each = refl
   slices_of (x ∷ xs) front k long each =
-      let size : length (f x) ≡ 512 = each x (contains_first x xs) in
+      let size : length (f x) ≡ 512 = each x (first_there x xs) in
       let here : slice_of (front ++ (f x ++ flat_map f xs)) k ≡ f x = slice_behind front (f x ++ flat_map f xs) k 0 k long (omega arith) ∙ slice_whole (f x) (flat_map f xs) size in
       let more : slices_from (suc k) (front ++ (f x ++ flat_map f xs)) (length xs) ≡ map f xs =
       ap (λ (b : List ℕ). slices_from (suc k) b (length xs)) (sym (append_assoc front (f x) (flat_map f xs)))
@@ -167,12 +165,12 @@ module _ (f : ℕ → List ℕ) where
 
   pub are_stamped : (stamp : Stamp) (xs : List ℕ) → ((p : ℕ) → contains xs p ≡ true → bears p stamp (f p) ≡ true) → AreStamped stamp xs (map f xs)
   are_stamped stamp [] each = tt
-  are_stamped stamp (x ∷ xs) each = (each x (contains_first x xs), are_stamped stamp xs (λ p is. each p (contains_more x xs p is)))
+  are_stamped stamp (x ∷ xs) each = (each x (first_there x xs), are_stamped stamp xs (λ p is. each p (contains_more x xs p is)))
 
   -- others that are the same on these
   pub map_same : (h : ℕ → List ℕ) (xs : List ℕ) → ((p : ℕ) → contains xs p ≡ true → f p ≡ h p) → map f xs ≡ map h xs
   map_same h [] each = refl
-  map_same h (x ∷ xs) each = λ i. each x (contains_first x xs) i ∷ map_same h xs (λ p is. each p (contains_more x xs p is)) i
+  map_same h (x ∷ xs) each = λ i. each x (first_there x xs) i ∷ map_same h xs (λ p is. each p (contains_more x xs p is)) i
 
 -- what is laid, page by page
 pub record IsRecordOf (stamp : Stamp) (dirty : List ℕ) (pages : List (List ℕ)) (images : List ℕ) : Type 0 where

@@ -15,10 +15,10 @@ pub mod NewestLaws
 pub mod OrderLaws
 pub mod OutsideLaws
 pub mod PlaceLaws
-pub mod ResultLaws
 pub mod RoomLaws
 pub mod RoundLaws
 pub mod ShownLaws
+pub mod SlotLaws
 pub mod StampLaws
 pub mod StampedPages
 pub mod StandsLaws

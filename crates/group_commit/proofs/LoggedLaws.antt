@@ -1,9 +1,8 @@
 -- What stands in the log behind the write of a record.
-use Rattle.std.proofs.Common.{◌≡◌, ℕ, zero, suc, ◌+◌, ◌-◌, ◌*◌, ◌<◌, ◌≤◌, Bool, true, false, cond, List, [], ◌∷◌, length, take, drop, get_or, Option, Some, None, refl, sym, ap, subst, ◌∙◌, arith, eq-eqb}
+use Rattle.std.proofs.Common.{◌≡◌, ℕ, zero, suc, ◌+◌, ◌-◌, ◌*◌, ◌<◌, ◌≤◌, Bool, true, false, cond, List, [], ◌∷◌, length, take, get_or, Option, Some, None, refl, sym, ap, subst, ◌∙◌, arith, eq-eqb}
 use Rattle.std.specs.Prelude.{nat_eq}
 use Rattle.std.specs.Option.{option_or}
 use Rattle.std.proofs.lemmas.Bool.{or_parts}
-use Rattle.std.proofs.lemmas.List.{drop-take, take-take}
 use Rattle.run_table.specs.Space.{contains}
 use Rattle.fsd_formats.specs.Record.{record_len}
 use Rattle.sector_disk.specs.declared.sector.Sector.TheVariants.{Whole}
@@ -13,7 +12,9 @@ use Rattle.sector_disk.proofs.Wear.{stand_in}
 use Rattle.fsd_files.specs.Disk.{Image}
 use Rattle.fsd_log.specs.Judged.{slice_of}
 use Rattle.fsd_log.specs.Laid.{laid_bytes}
+use Rattle.fsd_log.specs.Places.{LieInRecord}
 use Rattle.fsd_log.specs.Scan.{place_of, spot_for}
+use Rattle.fsd_log.proofs.PlaceLaws.{place_from}
 use Rattle.log_thirds.specs.Append.{log_with, stamp_now}
 use Rattle.log_thirds.specs.LogValue.{LogValue}
 use Rattle.log_thirds.specs.Slots.{slot_in}
@@ -50,15 +51,6 @@ slot_in_at number place copy (p ∷ pages) (suc k) lt out =
 
 -- ---- a record that is written
 
--- the sectors in front of some bytes
-pub slice_in_front : (bytes : List ℕ) (n k : ℕ) → k < n → slice_of (take (512 * n) bytes) k ≡ slice_of bytes k
-slice_in_front bytes n k lt =
-    let more : ℕ = 512 * n - 512 * k in
-    let split : 512 * n ≡ 512 * k + more = omega arith in
-    ap (λ (m : ℕ). take 512 (drop (512 * k) (take m bytes))) split
-    ∙ ap (take 512) (drop-take (512 * k) more bytes)
-    ∙ take-take 512 more (drop (512 * k) bytes) (omega arith)
-
 module _ (log : LogValue) (pages images : List ℕ) (old new : Moment) (may : MayAppend log pages images (length old.image)) where
   abbrev place : ℕ
   place = place_of log.layout log.anchor.third (spot_for log.layout (length pages) log.head).at
@@ -89,6 +81,11 @@ module _ (log : LogValue) (pages images : List ℕ) (old new : Moment) (may : Ma
         get-noted log.head.number log.slots (place + 3) (place + 3 + length pages + 1) page pages below
         ∙ ap (λ (o : Option Slot). option_or o (get_or log.slots page None)) (slot_in_at log.head.number (place + 3) (place + 3 + length pages + 1) pages k lt (not_before pages k asked.ascends lt))
 
+    in_record : LieInRecord log.layout (place + 3 + k) (place + 3 + length pages + 1 + k)
+    in_record =
+        let from = place_from log.layout log.anchor.third (spot_for log.layout (length pages) log.head).at in
+        record { start = place; count = length pages; index = k; there = lt; first = refl; copy = refl; from = from; to = omega (arith, inside) }
+
     -- each image stands at the two places that the page's slot has
     pub stands_logged : length log.slots ≡ log.layout.pages → Holds old written new → StandsLogged (log_with log pages) new page (slice_of images k)
     stands_logged table holds =
@@ -98,11 +95,9 @@ module _ (log : LogValue) (pages images : List ℕ) (old new : Moment) (may : Ma
           worn = subst (λ (w : Windows). IsWorn (open_damage w) written new.image) (sym holds.windows) holds.worn;
           a = place + 3 + k;
           b = place + 3 + length pages + 1 + k;
-          lies = record { number = log.head.number; is = slot_is table };
+          logged = record { lies = record { number = log.head.number; is = slot_is table }; in_record = in_record };
           first = row (place + 3 + k) (3 + k) (omega arith) (omega (arith, lt)) (rows.image k lt);
           second = row (place + 3 + length pages + 1 + k) (4 + length pages + k) (omega arith) (omega (arith, lt)) (rows.copy k lt);
-          below_a = omega (arith, inside, lt);
-          below_b = omega (arith, inside, lt);
         }
 
 -- ---- the frames that it was laid from

@@ -1,9 +1,10 @@
 -- Pages in ascending order: they are the same ones, and a record may have them.
 use Rattle.std.proofs.Common.{◌≡◌, ℕ, zero, suc, ◌+◌, ◌<◌, ◌≤◌, Bool, true, false, cond, ◌&&◌, ◌||◌, List, [], ◌∷◌, ◌++◌, length, take, get_or, refl, sym, ap, ◌∙◌, arith, eqb-true}
-use Rattle.std.specs.Prelude.{nat_eq, nat_le, nat_lt, ◌==◌}
+use Rattle.std.specs.Prelude.{count_by, nat_eq, nat_le, nat_lt, ◌==◌}
 use Rattle.std.specs.List.{AllByRecursion, IsDistinct, list_all}
 use Rattle.std.proofs.lemmas.Bool.{and_from, le-leb, or_right}
 use Rattle.std.proofs.lemmas.List.{take_more}
+use Rattle.std.proofs.lemmas.List.Sums.{sum_by-cons}
 use Rattle.std.proofs.lemmas.Map.Keys.{IsDistinct-head, IsDistinct-tail}
 use Rattle.run_table.specs.Space.{contains}
 use Rattle.fsd_bytes.specs.Names.{is_between}
@@ -112,6 +113,45 @@ all_out (x ∷ xs) = (refl, all_out xs)
 pub length_ascending : (xs : List ℕ) → IsDistinct nat_eq xs → length (ascending_of xs) ≡ length xs
 length_ascending xs d = omega (arith, length_among xs [] d (all_out xs))
 
+-- ---- how many are less
+
+-- so many of them are less than a page
+abbrev pub rank : (page : ℕ) → List ℕ → ℕ
+rank page xs = count_by (λ q. nat_lt q page) xs
+
+pub rank_more : (page x : ℕ) (xs : List ℕ) → rank page (x ∷ xs) ≡ cond (nat_lt x page) 1 0 + rank page xs
+rank_more page x xs = sum_by-cons (λ (q : ℕ). cond (nat_lt q page) 1 0) x xs
+
+rank_with : (page x : ℕ) (ys : List ℕ) → is_one_of ys x ≡ false → rank page (with_page x ys) ≡ cond (nat_lt x page) 1 0 + rank page ys
+rank_with page x [] out = rank_more page x []
+rank_with page x (q ∷ ys) out = by_tests (λ none. rank_with page x ys none) (nat_lt x q) (q == x) refl
+  where
+    other : (a b : Bool) → (a || b) ≡ false → (a ≡ false) × (b ≡ false)
+    other true b e = absurd cc
+    other false b e = (refl, e)
+
+    by_tests : (is_one_of ys x ≡ false → rank page (with_page x ys) ≡ cond (nat_lt x page) 1 0 + rank page ys) → (below same : Bool) → (q == x) ≡ same
+        → rank page (cond below (x ∷ q ∷ ys) (cond same (q ∷ ys) (q ∷ with_page x ys))) ≡ cond (nat_lt x page) 1 0 + rank page (q ∷ ys)
+    by_tests more true same is = rank_more page x (q ∷ ys)
+    by_tests more false true is = absurd (let no = (other (nat_eq q x) (is_one_of ys x) out).0 in cc (is, no))
+    by_tests more false false is =
+        let first = rank_more page q (with_page x ys) in
+        let rest = more (other (nat_eq q x) (is_one_of ys x) out).1 in
+        let whole = rank_more page q ys in
+        omega (arith, first, rest, whole)
+
+rank_among : (page : ℕ) (xs ys : List ℕ) → IsDistinct nat_eq xs → AllByRecursion (λ q. is_one_of ys q ≡ false) xs → rank page (put_among xs ys) ≡ rank page xs + rank page ys
+rank_among page [] ys d out = omega arith
+rank_among page (x ∷ xs) ys d out =
+    let more = rank_among page xs (with_page x ys) (IsDistinct-tail nat_eq x xs d) (still_out x ys xs (IsDistinct-head nat_eq x xs d) out.1) in
+    let one = rank_with page x ys out.0 in
+    let first = rank_more page x xs in
+    omega (arith, more, one, first)
+
+-- so many as before, where none stood twice
+pub rank_ascending : (page : ℕ) (xs : List ℕ) → IsDistinct nat_eq xs → rank page (ascending_of xs) ≡ rank page xs
+rank_ascending page xs d = omega (arith, rank_among page xs [] d (all_out xs))
+
 -- ---- one after another
 
 among_last : (xs ys : List ℕ) (y : ℕ) → put_among (xs ++ y ∷ []) ys ≡ with_page y (put_among xs ys)
@@ -126,6 +166,9 @@ among_more xs k lt = ap (λ (ys : List ℕ). put_among ys []) (take_more xs k 0 
 ascends_among : (xs ys : List ℕ) → ascending ys ≡ true → ascending (put_among xs ys) ≡ true
 ascends_among [] ys asc = asc
 ascends_among (x ∷ xs) ys asc = ascends_among xs (with_page x ys) (ascends_with x ys asc)
+
+pub ascending_ascends : (xs : List ℕ) → ascending (ascending_of xs) ≡ true
+ascending_ascends xs = ascends_among xs [] refl
 
 below_among : (count : ℕ) (xs ys : List ℕ) → ((p : ℕ) → is_one_of xs p ≡ true → p < count) → list_all (λ q. nat_lt q count) ys ≡ true → list_all (λ q. nat_lt q count) (put_among xs ys) ≡ true
 below_among count [] ys inside all = all

@@ -8,7 +8,7 @@ use Rattle.fsd_formats.specs.Anchors.{anchor_bytes}
 use Rattle.fsd_formats.specs.Record.{record_len}
 use Rattle.sector_disk.specs.Image.{Windows, open_damage, sector_at, stand}
 use Rattle.sector_disk.specs.Machine.{Holds, Moment, Wears}
-use Rattle.sector_disk.proofs.Wear.{length-stand, stand_other}
+use Rattle.sector_disk.proofs.Wear.{length-stand, stand_other, worn_twice}
 use Rattle.fsd_files.specs.Disk.{Image, SectorWorn}
 use Rattle.fsd_log.specs.Laid.{laid_bytes}
 use Rattle.fsd_log.specs.Scan.{place_of, spot_for}
@@ -20,7 +20,6 @@ use Rattle.log_thirds.specs.LogValue.{LogValue}
 use Rattle.log_thirds.proofs.MomentLaws.{MayAppend, write_inside}
 use Rattle.twin_home.specs.Home.{HomesIn}
 use Rattle.group_commit.specs.Force.{KeepsOutside, MayWrite}
-use Rattle.group_commit.proofs.RoundLaws.{worn_on}
 
 -- ---- nothing, and one after the other
 
@@ -33,7 +32,7 @@ outside_read l old new wears = record { size = wears.image.size; others = λ s o
 pub outside_then : (l : Layout) (a b c : Moment) → b.windows ≡ a.windows → KeepsOutside l a b → KeepsOutside l b c → KeepsOutside l a c
 outside_then l a b c windows first second = record {
   size = second.size ∙ first.size;
-  others = λ s out. worn_on (open_damage a.windows s) (sector_at a.image s) (sector_at b.image s) (sector_at c.image s) (first.others s out)
+  others = λ s out. worn_twice (open_damage a.windows s) (sector_at a.image s) (sector_at b.image s) (sector_at c.image s) (first.others s out)
       (subst (λ (w : Windows). SectorWorn (open_damage w s) (sector_at b.image s) (sector_at c.image s)) windows (second.others s out));
 }
 

@@ -1,6 +1,6 @@
 -- A force that makes room first.
 use Rattle.std.proofs.Common.{◌≡◌, ℕ, ◌+◌, ◌*◌, ◌<◌, ◌≤◌, Bool, false, cond, ◌||◌, nat_lt, ap, ◌∙◌}
-use Rattle.std.specs.Prelude.{Result, Ok, Err, OnOk, OnErr}
+use Rattle.std.specs.Prelude.{Result, Ok, Err, OnOk}
 use Rattle.log_thirds.specs.LogValue.{LogValue}
 use Rattle.std.proofs.lemmas.Bool.{lt-leb, le-ltb}
 use Rattle.fsd_formats.specs.Record.{record_len}
@@ -20,7 +20,3 @@ before_again log n again = ap (λ (b : Bool). cond b 0 (2 * pages_in_first log +
 pub on_ok_both : {T E : Type 0} (P Q R : Type 0) (r : Result T E) → (P → Q → R) → OnOk r P → OnOk r Q → OnOk r R
 on_ok_both P Q R (Ok x) both p q = both p q
 on_ok_both P Q R (Err e) both p q = tt
-
-pub on_err_any : {T E : Type 0} (P : Type 0) (r : Result T E) → P → OnErr r P
-on_err_any P (Ok x) is = tt
-on_err_any P (Err e) is = is

@@ -1,6 +1,6 @@
 -- A force that makes room before it writes its record.
 use Rattle.std.specs.Prelude.{Ok}
-use Rattle.std.proofs.Common.{◌≡◌, ℕ, ◌≤◌, Bool, List, sym, subst, ◌∙◌, arith, inl, inr}
+use Rattle.std.proofs.Common.{◌≡◌, ℕ, ◌≤◌, List, sym, subst, ◌∙◌, arith, inl, inr}
 use Rattle.volume_layout.specs.declared.layout.Layout.{Layout}
 use Rattle.volume_layout.specs.Layout.{plan, map_start}
 use Rattle.fsd_formats.specs.Record.{Stamp}
@@ -8,6 +8,7 @@ use Rattle.sector_disk.specs.declared.sector.Sector.{Sector}
 use Rattle.sector_disk.specs.declared.sector.WeakRun.{WeakRun}
 use Rattle.sector_disk.specs.Image.{Windows, AreShort, open_damage, sector_at}
 use Rattle.sector_disk.specs.Machine.{Moment}
+use Rattle.sector_disk.proofs.Wear.{worn_twice}
 use Rattle.fsd_log.specs.Scan.{Placed}
 use Rattle.fsd_files.specs.Disk.{SectorWorn}
 use Rattle.fsd_sound.specs.Shown.{shown}
@@ -30,11 +31,6 @@ data_outside l s from (inr (inl (inl first))) = absurd (omega (arith, from, firs
 data_outside l s from (inr (inl (inr second))) = absurd (omega (arith, from, second))
 data_outside l s from (inr (inr (page, lt, inl home))) = absurd (omega (arith, from, lt, home))
 data_outside l s from (inr (inr (page, lt, inr home))) = absurd (omega (arith, from, lt, home))
-
-pub worn_on : (may : Bool) (a b c : Sector) → SectorWorn may a b → SectorWorn may b c → SectorWorn may a c
-worn_on may a b c first (inr hurt) = inr hurt
-worn_on may a b c (inl same) (inl is) = inl (is ∙ same)
-worn_on may a b c (inr hurt) (inl is) = inr (hurt.0, is ∙ hurt.1)
 
 pub may_home : (log : LogValue) (layout : Layout) (windows : List WeakRun) (old : Moment) → layout ≡ log.layout → plan layout.sectors layout.third layout.pages ≡ Ok layout → FitsLayout log → AreShort old.windows → EndIn old.windows windows → MayHome log windows old
 may_home log layout windows old same planned shape short ends = record {
@@ -63,7 +59,7 @@ module _ (log : LogValue) (s : ResidentValue) (records : List Placed) (disk : Li
     stands = record { shows = room.over.shows; own = room.over.own; clean = over.clean }
 
     on : (t : ℕ) (left : Sector) → (MayWrite after.layout t → ⊥) → SectorWorn (open_damage mid.windows t) (sector_at mid.image t) left → SectorWorn (open_damage old.windows t) (sector_at old.image t) left
-    on t left out then = worn_on (open_damage old.windows t) (sector_at old.image t) (sector_at mid.image t) left (room.outside.others t out)
+    on t left out then = worn_twice (open_damage old.windows t) (sector_at old.image t) (sector_at mid.image t) left (room.outside.others t out)
         (subst (λ (w : Windows). SectorWorn (open_damage w t) (sector_at mid.image t) left) same then)
 
     here : (left : Moment) → Commits after.layout windows disk (stamped (stamp_now after) s.dirty s.pages) mid left → Commits after.layout windows disk (stamped (stamp_now after) s.dirty s.pages) old left

@@ -7,6 +7,7 @@ use Rattle.run_table.specs.Space.{contains}
 use Rattle.fsd_log.specs.Scan.{Placed}
 use Rattle.fsd_log.specs.Images.{image_in, last_image}
 use Rattle.fsd_sound.specs.Shown.{each_of}
+use Rattle.sector_disk.proofs.ResultLaws.{option_or-assoc, option_or-none}
 
 -- ---- all or none
 
@@ -52,19 +53,11 @@ each_given f a (suc n) (y ∷ ys) g =
 
 -- ---- the last image, with a record more
 
-pub or_assoc : {A : Type 0} (x y z : Option A) → option_or (option_or x y) z ≡ option_or x (option_or y z)
-or_assoc None y z = refl
-or_assoc (Some x) y z = refl
-
-pub or_nothing : {A : Type 0} (x : Option A) → x ≡ option_or x None
-or_nothing None = refl
-or_nothing (Some x) = refl
-
 pub last_image-append : (page : ℕ) (rs : List Placed) (r : Placed) → last_image page (rs ++ r ∷ []) ≡ option_or (image_in page r.entry.pages r.entry.images) (last_image page rs)
-last_image-append page [] r = or_nothing (image_in page r.entry.pages r.entry.images)
+last_image-append page [] r = option_or-none (image_in page r.entry.pages r.entry.images)
 last_image-append page (q ∷ rs) r =
     ap (λ (o : Option (List ℕ)). option_or o (image_in page q.entry.pages q.entry.images)) (last_image-append page rs r)
-    ∙ or_assoc (image_in page r.entry.pages r.entry.images) (last_image page rs) (image_in page q.entry.pages q.entry.images)
+    ∙ option_or-assoc (image_in page r.entry.pages r.entry.images) (last_image page rs) (image_in page q.entry.pages q.entry.images)
 
 pub none_before : (page : ℕ) (rs : List Placed) (r : Placed) → last_image page (rs ++ r ∷ []) ≡ None → last_image page rs ≡ None
 none_before page rs r e = second (image_in page r.entry.pages r.entry.images) (last_image page rs) (sym (last_image-append page rs r) ∙ e)

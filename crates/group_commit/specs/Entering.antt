@@ -1,8 +1,7 @@
 -- A force that comes round to the log's first third.
 use Rattle.std.specs.Prelude.{◌≡◌, ⊤, false, ℕ, ◌<◌, List, [], ◌∷◌, length, Ok}
 use Rattle.volume_layout.specs.declared.layout.Layout.{Layout}
-use Rattle.volume_layout.specs.Layout.{plan, home_a, home_b}
-use Rattle.sector_disk.specs.declared.sector.Sector.TheVariants.{Whole}
+use Rattle.volume_layout.specs.Layout.{plan}
 use Rattle.sector_disk.specs.declared.sector.WeakRun.{WeakRun}
 use Rattle.sector_disk.specs.Image.{sector_at}
 use Rattle.sector_disk.specs.Damage.{LostCause}
@@ -21,10 +20,7 @@ use Rattle.log_thirds.specs.Moving.{moved, records_moved}
 use Rattle.group_commit.specs.Force.{MayWrite, KeepsOutside}
 use Rattle.group_commit.specs.Room.{goes_before}
 use Rattle.fsd_sound.specs.Windows.{IsApart}
-
--- both homes of the page are whole, with these bytes
-abbrev pub IsAtHome : Layout → Image → (page : ℕ) → List ℕ → Type 0
-IsAtHome l i page bytes = (sector_at i (home_a l page) ≡ Whole bytes) × (sector_at i (home_b l page) ≡ Whole bytes)
+use Rattle.fsd_sound.specs.Homes.{IsAtHome}
 
 -- The disk shows these pages, and only log, anchors and homes change.
 pub record Shows (l : Layout) (runs : List WeakRun) (disk : List (List ℕ)) (old left : Moment) : Type 0 where

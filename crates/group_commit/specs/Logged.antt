@@ -1,11 +1,10 @@
 -- What stands in the log behind a force.
-use Rattle.std.specs.Prelude.{◌≡◌, ◌<◌, ℕ, List, None, slice_index_or}
-use Rattle.volume_layout.specs.Layout.{home_a}
+use Rattle.std.specs.Prelude.{◌≡◌, ℕ, List}
 use Rattle.sector_disk.specs.declared.sector.Sector.TheVariants.{Whole}
 use Rattle.sector_disk.specs.Image.{IsWorn, open_damage, sector_at}
 use Rattle.sector_disk.specs.Machine.{Moment}
 use Rattle.fsd_files.specs.Disk.{Image}
-use Rattle.log_thirds.specs.Images.{LiesAt}
+use Rattle.log_thirds.specs.Images.{AreLogged}
 use Rattle.log_thirds.specs.LogValue.{LogValue}
 
 -- These bytes of the page stand in both of its copies in the last record that has it, but for what has been worn since.
@@ -14,8 +13,6 @@ pub record StandsLogged (log : LogValue) (now : Moment) (page : ℕ) (bytes : Li
   pub worn : IsWorn (open_damage now.windows) seen now.image
   pub a : ℕ
   pub b : ℕ
-  pub lies : LiesAt (slice_index_or log.slots page None) a b
+  pub logged : AreLogged log page a b
   pub first : sector_at seen a ≡ Whole bytes
   pub second : sector_at seen b ≡ Whole bytes
-  pub below_a : a < home_a log.layout 0
-  pub below_b : b < home_a log.layout 0

@@ -1,12 +1,12 @@
 -- Each call of a cache leaves a cache.
-use Rattle.std.proofs.Common.{◌≡◌, ℕ, suc, ◌<◌, ◌≤◌, true, false, cond, not, List, [], ◌∷◌, ◌++◌, map, reverse, length, option_map, is_some, Option, Some, None, IsSome, refl, sym, ap, ◌∙◌, subst, arith, eqb-true, length-append}
+use Rattle.std.proofs.Common.{◌≡◌, ◌≢◌, ℕ, suc, ◌<◌, ◌≤◌, true, false, cond, not, List, [], ◌∷◌, ◌++◌, map, reverse, length, option_map, is_some, Option, Some, None, IsSome, refl, sym, ap, ◌∙◌, subst, arith, eqb-true, length-append}
 use Rattle.std.specs.Prelude.{nat_eq, find, ◌==◌}
 use Rattle.std.specs.List.{AllByRecursion, IsDistinct, list_any}
 use Rattle.std.specs.Option.{option_map_or}
 use Rattle.std.specs.Map.{keys_of, lookup, lookup_entry, remove_entry}
 use Rattle.std.specs.Cmp.{nat_eq_equiv}
 use Rattle.std.proofs.lemmas.Bool.{ne_eqb, eqb-false, true≢false, and_parts, not-true, or_parts}
-use Rattle.std.proofs.lemmas.Map.Keys.{IsDistinct-cons, IsDistinct-push}
+use Rattle.std.proofs.lemmas.Map.Keys.{IsDistinct-head, IsDistinct-tail, IsDistinct-cons, IsDistinct-push}
 use Rattle.lru.specs.LruCache.{promoted}
 use Rattle.page_cache.specs.Cache.{Held, CacheValue, IsCache, IsResident, held, is_one_of, idle, busy, leaver, staying, frame_for, altered, used, entered, with_bytes, with_pins, with_dirty, cleaned, no_pages, frames_of}
 use Rattle.page_cache.proofs.Entries.{by_bool, by_option, key_flips, key_moves, All-at, Finds, entry_none, entry_some, All-entry, All-removed, distinct_removed, apart_removed, length-removed, lookup_removed, find_back, some_back}
@@ -264,3 +264,25 @@ module _ (c : CacheValue) (page : ℕ) (h : IsCache c) (new : held c page ≡ No
 
   pub entered_cache : (bytes : List ℕ) → IsCache (entered page bytes c)
   entered_cache bytes = stays_cache c page (frame_for c) bytes (staying (leaver c) c.resident) stays_of h
+
+-- pages that differ lie in frames that differ
+pub frames_apart : (es : List (ℕ × Held)) (p q : ℕ) (x y : Held) → IsDistinct nat_eq (frames_of es) → lookup (nat_eq p) es ≡ Some x → lookup (nat_eq q) es ≡ Some y → p ≢ q → x.frame ≢ y.frame
+frames_apart [] p q x y d is on ne e = cc
+frames_apart (z ∷ es) p q x y d is on ne e =
+    let head = IsDistinct-head nat_eq z.1.frame (frames_of es) d in
+    by_bool (nat_eq p z.0)
+    (λ t. let z_x : Some z.1 ≡ Some x = rw t at is in let one : z.1 ≡ x = cc in
+    by_bool (nat_eq q z.0)
+    (λ u. ne (eqb-true p z.0 t ∙ sym (eqb-true q z.0 u)))
+    (λ u. let rest = rw u at on in eqb-false z.1.frame y.frame (behind es q y head rest) (ap (λ (h : Held). h.frame) one ∙ e)))
+    (λ t. let rest = rw t at is in
+    by_bool (nat_eq q z.0)
+    (λ u. let z_y : Some z.1 ≡ Some y = rw u at on in let one : z.1 ≡ y = cc in eqb-false z.1.frame x.frame (behind es p x head rest) (ap (λ (h : Held). h.frame) one ∙ sym e))
+    (λ u. frames_apart es p q x y (IsDistinct-tail nat_eq z.1.frame (frames_of es) d) rest (rw u at on) ne e))
+  where
+    behind : (es : List (ℕ × Held)) (k : ℕ) (h : Held) → AllByRecursion (λ f. nat_eq z.1.frame f ≡ false) (frames_of es) → lookup (nat_eq k) es ≡ Some h → nat_eq z.1.frame h.frame ≡ false
+    behind es k h all is =
+        let finds = entry_some (nat_eq k) es (rw is refl) in
+        let same : Some h ≡ Some finds.entry.1 = sym is ∙ finds.value in
+        let eq : h ≡ finds.entry.1 = cc in
+        subst (λ (s : Held). nat_eq z.1.frame s.frame ≡ false) (sym eq) (All-entry (λ e. e.1.frame) (λ f. nat_eq z.1.frame f ≡ false) (nat_eq k) es finds.entry all finds.is)

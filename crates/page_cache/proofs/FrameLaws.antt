@@ -1,15 +1,14 @@
--- All frames of a cache are written, and two pages lie in two frames.
-use Rattle.std.proofs.Common.{◌≡◌, ◌≢◌, ℕ, zero, suc, ◌<◌, ◌≤◌, ◌+◌, false, List, [], ◌∷◌, map, length, get_or, get_or-take, option_map, Option, Some, IsSome, refl, sym, ap, ◌∙◌, subst, arith, eqb-true}
+-- All frames of a cache are written.
+use Rattle.std.proofs.Common.{◌≡◌, ℕ, zero, suc, ◌<◌, ◌≤◌, ◌+◌, List, [], ◌∷◌, map, replicate, length, get_or, get_or-take, option_map, Option, Some, IsSome, refl, sym, ap, ◌∙◌, subst, arith}
 use Rattle.std.specs.Prelude.{nat_eq, IfSome, slice_get, slice_index_or}
-use Rattle.std.specs.List.{AllByRecursion, IsDistinct, refill, length_refill}
+use Rattle.std.specs.List.{AllByRecursion, refill, length_refill}
 use Rattle.std.specs.Map.{keys_of, lookup}
-use Rattle.std.proofs.lemmas.Bool.{eqb-false}
-use Rattle.std.proofs.lemmas.Map.Keys.{IsDistinct-head, IsDistinct-tail}
 use Rattle.page_cache.specs.declared.cache.Slot.{Slot}
 use Rattle.page_cache.specs.declared.cache.Cache.TheInside.{Inside}
 use Rattle.page_cache.specs.Cache.{Held, CacheValue, IsCache, held, with_frames, frames_of}
 use Rattle.page_cache.specs.Inside.{shown, slot_shown, value_of, IsInside}
-use Rattle.page_cache.proofs.Entries.{by_bool, by_option, entry_some, All-entry}
+use Rattle.page_cache.proofs.Entries.{by_bool, by_option}
+use Rattle.page_cache.proofs.AcceptedLaws.{none_accepted}
 use Rattle.page_cache.proofs.CacheLaws.{same_cache}
 use Rattle.page_cache.proofs.ShownLaws.{shown_lookup, held_is, frame_in_pool}
 
@@ -71,7 +70,7 @@ module _ (i : Inside) (h : IsInside i) where
   frames_below = All-less (length (value_of i).resident) (length i.pool) (frames_of (value_of i).resident) h.whole.fit h.whole.first
 
   -- all frames are written over
-  pub frames_inside : (ws : List (List ℕ)) → let j : Inside = record i { pool = refill (length i.pool) i.pool ws } in IsInside j × (value_of j ≡ with_frames ws (value_of i))
+  pub frames_inside : (ws : List (List ℕ)) → let j : Inside = record i { pool = refill (length i.pool) i.pool ws; accepted = replicate 1024 0 } in IsInside j × (value_of j ≡ with_frames ws (value_of i))
   frames_inside ws =
       let long : length (refill (length i.pool) i.pool ws) ≡ length i.pool = sym (length_refill (length i.pool) i.pool ws refl) in
       let shows = shown_refilled i.pool ws (length i.pool) i.order.entries refl frames_below in
@@ -80,6 +79,7 @@ module _ (i : Inside) (h : IsInside i) where
           whole = subst IsCache (sym value) (with_frames_cache ws (value_of i) h.whole);
           room = h.room ∙ ap (λ n. n + 1) (sym long);
           few = subst (λ n. n ≤ 1024) (sym long) h.few;
+          accepted = none_accepted 1024 (value_of (record i { pool = refill (length i.pool) i.pool ws }));
         },
         value,
       )
@@ -90,25 +90,3 @@ module _ (i : Inside) (h : IsInside i) where
       (λ slot is. subst (λ (o : Option Held). IfSome o (λ x. slice_get i.pool x.frame ≡ Some x.bytes)) (sym (held_is i.pool page i.order.entries slot is))
       (got i.pool slot.frame [] (frame_in_pool i h page slot is)))
       (λ is. subst (λ (o : Option Held). IfSome o (λ x. slice_get i.pool x.frame ≡ Some x.bytes)) (sym (shown_lookup i.pool page i.order.entries ∙ ap (option_map (slot_shown i.pool)) is)) tt)
-
--- pages that differ lie in frames that differ
-pub frames_apart : (es : List (ℕ × Held)) (p q : ℕ) (x y : Held) → IsDistinct nat_eq (frames_of es) → lookup (nat_eq p) es ≡ Some x → lookup (nat_eq q) es ≡ Some y → p ≢ q → x.frame ≢ y.frame
-frames_apart [] p q x y d is on ne e = cc
-frames_apart (z ∷ es) p q x y d is on ne e =
-    let head = IsDistinct-head nat_eq z.1.frame (frames_of es) d in
-    by_bool (nat_eq p z.0)
-    (λ t. let z_x : Some z.1 ≡ Some x = rw t at is in let one : z.1 ≡ x = cc in
-    by_bool (nat_eq q z.0)
-    (λ u. ne (eqb-true p z.0 t ∙ sym (eqb-true q z.0 u)))
-    (λ u. let rest = rw u at on in eqb-false z.1.frame y.frame (behind es q y head rest) (ap (λ (h : Held). h.frame) one ∙ e)))
-    (λ t. let rest = rw t at is in
-    by_bool (nat_eq q z.0)
-    (λ u. let z_y : Some z.1 ≡ Some y = rw u at on in let one : z.1 ≡ y = cc in eqb-false z.1.frame x.frame (behind es p x head rest) (ap (λ (h : Held). h.frame) one ∙ sym e))
-    (λ u. frames_apart es p q x y (IsDistinct-tail nat_eq z.1.frame (frames_of es) d) rest (rw u at on) ne e))
-  where
-    behind : (es : List (ℕ × Held)) (k : ℕ) (h : Held) → AllByRecursion (λ f. nat_eq z.1.frame f ≡ false) (frames_of es) → lookup (nat_eq k) es ≡ Some h → nat_eq z.1.frame h.frame ≡ false
-    behind es k h all is =
-        let finds = entry_some (nat_eq k) es (rw is refl) in
-        let same : Some h ≡ Some finds.entry.1 = sym is ∙ finds.value in
-        let eq : h ≡ finds.entry.1 = cc in
-        subst (λ (s : Held). nat_eq z.1.frame s.frame ≡ false) (sym eq) (All-entry (λ e. e.1.frame) (λ f. nat_eq z.1.frame f ≡ false) (nat_eq k) es finds.entry all finds.is)

@@ -1,3 +1,4 @@
+pub mod AcceptedLaws
 pub mod Entries
 pub mod CacheLaws
 pub mod ShownLaws

@@ -1,6 +1,6 @@
 -- What a cache shows of a pool of frames and an order of use, and what a change of either shows.
 use Rattle.std.specs.Borrow.{MutBor}
-use Rattle.std.proofs.Common.{◌≡◌, ℕ, zero, suc, ◌+◌, ◌<◌, ◌≤◌, false, cond, List, [], ◌∷◌, ◌++◌, map, reverse, length, set, get_or, option_map, is_some, Option, Some, None, IsSome, refl, sym, ap, ◌∙◌, subst, arith, eqb-true, length-set}
+use Rattle.std.proofs.Common.{◌≡◌, ℕ, zero, suc, ◌+◌, ◌<◌, ◌≤◌, false, cond, List, [], ◌∷◌, ◌++◌, map, reverse, replicate, length, set, get_or, option_map, is_some, Option, Some, None, IsSome, refl, sym, ap, ◌∙◌, subst, arith, eqb-true, length-set}
 use Rattle.std.specs.Prelude.{nat_eq, find, slice_get, ◌==◌}
 use Rattle.std.specs.List.{AllByRecursion, IsDistinct}
 use Rattle.std.specs.Option.{option_map_or}
@@ -15,6 +15,8 @@ use Rattle.page_cache.specs.Cache.{Held, CacheValue, IsCache, held, bytes_of, pi
 use Rattle.page_cache.specs.declared.cache.Cache.TheInside.{Inside}
 use Rattle.page_cache.specs.Inside.{shown, slot_shown, value_of, IsInside}
 use Rattle.page_cache.proofs.Entries.{by_bool, by_option, entry_some, All-entry, removed_read, promoted_read, find_read, keys_read}
+use Rattle.page_cache.specs.Accepted.{AreAccepted}
+use Rattle.page_cache.proofs.AcceptedLaws.{none_accepted, used_accepted, pinned_accepted, written_accepted, entered_accepted}
 use Rattle.page_cache.proofs.CacheLaws.{Stays, stays_of, with_bytes_cache, with_pins_cache, used_cache, entered_cache, no_pages_cache}
 
 abbrev pub slot_frames : List (ℕ × Slot) → List ℕ
@@ -161,9 +163,12 @@ module _ (i : Inside) (h : IsInside i) (page : ℕ) (slot : Slot) where
       let below = frame_within i.pool page (length (shown i.pool i.order.entries)) i.order.entries slot h.whole.first is in
       let fits = h.whole.fit in omega arith
 
+  pub frame_below : lookup (nat_eq page) i.order.entries ≡ Some slot → slot.frame < 1024
+  frame_below is = let within = frame_in_pool is in let few = h.few in omega (arith, within, few)
+
   -- the frame of a page is written over
   pub written_inside : (w : List ℕ) → lookup (nat_eq page) i.order.entries ≡ Some slot
-      → let j : Inside = record i { pool = set i.pool slot.frame w } in IsInside j × (value_of j ≡ with_bytes page w (value_of i))
+      → let j : Inside = record i { pool = set i.pool slot.frame w; accepted = set i.accepted slot.frame 0 } in IsInside j × (value_of j ≡ with_bytes page w (value_of i))
   written_inside w is =
       let long : length (set i.pool slot.frame w) ≡ length i.pool = length-set i.pool slot.frame w in
       let keys = subst (IsDistinct nat_eq) (shown_keys i.pool i.order.entries) h.whole.pages in
@@ -174,6 +179,8 @@ module _ (i : Inside) (h : IsInside i) (page : ℕ) (slot : Slot) where
           whole = subst IsCache (sym value) (with_bytes_cache page w (value_of i) h.whole);
           room = h.room ∙ ap (λ n. n + 1) (sym long);
           few = subst (λ n. n ≤ 1024) (sym long) h.few;
+          accepted = subst (AreAccepted (set i.accepted slot.frame 0)) (sym value)
+              (written_accepted i.accepted page w (value_of i) (slot_shown i.pool slot) (held_is i.pool page i.order.entries slot is) h.accepted);
         },
         value,
       )
@@ -185,8 +192,15 @@ module _ (i : Inside) (h : IsInside i) (page : ℕ) (slot : Slot) where
       let keys = subst (IsDistinct nat_eq) (shown_keys i.pool i.order.entries) h.whole.pages in
       let shows = pinned_page i.pool page pins i.order.entries slot keys is in
       let value : value_of (record i { order = lru_cache (set_value (nat_eq page) i.order.entries (record { frame = slot.frame; pins = pins })) i.order.cap }) ≡ with_pins page pins (value_of i) =
-      (λ t. record { frames = length i.pool; resident = shows t; dirty = i.dirty.items }) in
-      (record { whole = subst IsCache (sym value) (with_pins_cache page pins (value_of i) h.whole); room = h.room; few = h.few }, value)
+      (λ t. record { frames = length i.pool; resident = shows t; dirty = i.dirty.items }) in (
+        record {
+          whole = subst IsCache (sym value) (with_pins_cache page pins (value_of i) h.whole);
+          room = h.room;
+          few = h.few;
+          accepted = subst (AreAccepted i.accepted) (sym value) (pinned_accepted i.accepted page pins (value_of i) h.accepted);
+        },
+        value,
+      )
 
 module _ (i : Inside) (page : ℕ) (slot : Slot) where
   pub bytes_shown : (bytes : List ℕ) → lookup (nat_eq page) i.order.entries ≡ Some slot → slice_get i.pool slot.frame ≡ Some bytes → bytes_of (value_of i) page ≡ Some bytes
@@ -205,8 +219,15 @@ module _ (i : Inside) (h : IsInside i) (page : ℕ) where
   pub used_inside : let j : Inside = record i { order = lru_cache (promoted (nat_eq page) i.order.entries) i.order.cap } in IsInside j × (value_of j ≡ used page (value_of i))
   used_inside =
       let value : value_of (record i { order = lru_cache (promoted (nat_eq page) i.order.entries) i.order.cap }) ≡ used page (value_of i) =
-      ap (λ (es : List (ℕ × Held)). record { frames = length i.pool; resident = es; dirty = i.dirty.items }) (shown_promoted i.pool page i.order.entries) in
-      (record { whole = subst IsCache (sym value) (used_cache page (value_of i) h.whole); room = h.room; few = h.few }, value)
+      ap (λ (es : List (ℕ × Held)). record { frames = length i.pool; resident = es; dirty = i.dirty.items }) (shown_promoted i.pool page i.order.entries) in (
+        record {
+          whole = subst IsCache (sym value) (used_cache page (value_of i) h.whole);
+          room = h.room;
+          few = h.few;
+          accepted = subst (AreAccepted i.accepted) (sym value) (used_accepted i.accepted page (value_of i) h.accepted);
+        },
+        value,
+      )
 
   pub frame_shown : option_map (λ (s : Slot). s.frame) (lookup (nat_eq page) i.order.entries) ≡ option_map (λ (x : Held). x.frame) (held (value_of i) page)
   frame_shown = by_found (lookup (nat_eq page) i.order.entries) ∙ ap (option_map (λ (x : Held). x.frame)) (sym (shown_lookup i.pool page i.order.entries))
@@ -229,10 +250,13 @@ module _ (i : Inside) (h : IsInside i) (page : ℕ) where
     pub frame_fits : (frame : ℕ) → frame ≡ frame_for (value_of i) → frame < length i.pool
     frame_fits frame is = let w = stays_inside.within in let f = stays_inside.fit in omega (arith, is)
 
+    pub frame_in : (frame : ℕ) → frame ≡ frame_for (value_of i) → frame < 1024
+    frame_in frame is = let within = frame_fits frame is in let few = h.few in omega (arith, within, few)
+
     pub entered_inside : (n : ℕ) (ds : List ℕ) (frame : ℕ) (bytes : List ℕ) (order : LruCache ℕ Slot) → n ≡ length i.pool → ds ≡ i.dirty.items
         → frame ≡ option_map_or (λ e. e.1.frame) (goes_in n ds) (length i.order.entries)
         → order ≡ lru_cache ((page, record { frame = frame; pins = 0 }) ∷ staying (goes_in n ds) i.order.entries) i.order.cap
-        → let j : Inside = record i { pool = set i.pool frame bytes; order = order } in IsInside j × (value_of j ≡ entered page bytes (value_of i))
+        → let j : Inside = record i { pool = set i.pool frame bytes; order = order; accepted = set i.accepted frame 0 } in IsInside j × (value_of j ≡ entered page bytes (value_of i))
     entered_inside n ds frame bytes order en ed is io =
         let within = frame_fits frame (frame_is n ds frame en ed is) in
         let is2 : frame ≡ option_map_or (λ e. e.1.frame) (goes_in (length i.pool) i.dirty.items) (length i.order.entries) = is ∙ (λ t. option_map_or (λ e. e.1.frame) (goes_in (en t) (ed t)) (length i.order.entries)) in
@@ -247,6 +271,8 @@ module _ (i : Inside) (h : IsInside i) (page : ℕ) where
             whole = subst IsCache (sym value) (entered_cache (value_of i) page h.whole new room bytes);
             room = ap (λ (o : LruCache ℕ Slot). o.cap) io2 ∙ h.room ∙ ap (λ k. k + 1) (sym long);
             few = subst (λ k. k ≤ 1024) (sym long) h.few;
+            accepted = subst (AreAccepted (set i.accepted frame 0)) (sym value)
+                (entered_accepted i.accepted page bytes (value_of i) frame h.whole (frame_is n ds frame en ed is) h.accepted);
           },
           value,
         )
@@ -262,7 +288,12 @@ slot_behind o x l value is = sym value ∙ ap (option_map (λ (y : MutBor Slot).
 
 -- ---- a new cache
 
-pub empty_inside : (i : Inside) → i.order.entries ≡ [] → i.order.cap ≡ length i.pool + 1 → i.dirty.items ≡ [] → length i.pool ≤ 1024 → IsInside i
-empty_inside i none room clean few =
+pub empty_inside : (i : Inside) → i.order.entries ≡ [] → i.order.cap ≡ length i.pool + 1 → i.dirty.items ≡ [] → length i.pool ≤ 1024 → i.accepted ≡ replicate 1024 0 → IsInside i
+empty_inside i none room clean few unmarked =
     let value : value_of i ≡ no_pages (length i.pool) = (λ t. record { frames = length i.pool; resident = shown i.pool (none t); dirty = clean t }) in
-    record { whole = subst IsCache (sym value) (no_pages_cache (length i.pool)); room = room; few = few }
+    record {
+      whole = subst IsCache (sym value) (no_pages_cache (length i.pool));
+      room = room;
+      few = few;
+      accepted = subst (λ (marks : List ℕ). AreAccepted marks (value_of i)) (sym unmarked) (none_accepted 1024 (value_of i));
+    }

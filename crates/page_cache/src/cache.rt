@@ -7,6 +7,7 @@ use crate::source::PageSource;
 use arrayvec::ArrayVec;
 use frame_pool::{FramePool, Sector, two_of};
 use lru::LruCache;
+use name_page::read_page;
 use sector_disk::Machine;
 use std::alloc::{AllocError, Global};
 use std::marker::Model;
@@ -14,6 +15,9 @@ use std::num::NonZeroUsize;
 
 /// The index of a frame in the pool.
 pub type Frame = usize;
+
+// The most frames that a cache has.
+const MOST_FRAMES: usize = 1024;
 
 // The frame of a page, and how often the page is pinned.
 #[derive(Clone, Copy)]
@@ -28,6 +32,8 @@ pub struct Cache {
     pool: FramePool,
     order: LruCache<u32, Slot>,
     dirty: ArrayVec<u32, 96>,
+    // For each frame the number of pages of a table in which the grammar accepts its page, or 0 where that is not known.
+    accepted: [u32; MOST_FRAMES],
 }
 
 impl Model for Cache {
@@ -43,10 +49,11 @@ impl Model for Cache {
 }
 
 impl Cache {
-    ghost use Rattle.std.specs.Prelude.{◌<◌, ◌≤◌, ◌≢◌, ◌⊎◌, ◌+◌, ◌-◌, ◌^◌, ℕ, List, Option, Ok, Some, None, true, IsTrue, slice_get, IfSome, IfOk, IfErr, OnOk, OnErr, length, option_map};
+    ghost use Rattle.std.specs.Prelude.{◌<◌, ◌≤◌, ◌≢◌, ◌⊎◌, ◌+◌, ◌-◌, ◌^◌, ℕ, List, Option, Ok, Some, None, true, IsTrue, slice_get, IfSome, IfOk, IfErr, OnOk, OnErr, length, option_map, is_some};
     ghost use Rattle.std.specs.Borrow.{sem};
     ghost use Rattle.sector_disk.specs.Calls.{OnlyReads, device_in};
     ghost use Rattle.page_cache.specs.Cache.{held, bytes_of, pins_of, busy, frame_for, is_one_of, IsResident, IsCache, KeepsNewest, no_pages, used, entered, with_pins, with_dirty, cleaned};
+    ghost use Rattle.page_cache.specs.Accepted.{content_in};
     ghost use Rattle.page_cache.specs.Fetch.{fetch_failed_at, LostCause, IsNotLost};
     ghost use Rattle.page_cache.specs.Lends.{LendsBytes, LendsFrames};
 
@@ -62,6 +69,7 @@ impl Cache {
             pool,
             order,
             dirty: ArrayVec::new(),
+            accepted: [0; MOST_FRAMES],
         })
     }
 
@@ -156,6 +164,7 @@ impl Cache {
     {
         let frames = self.pool.len();
         let frame = take_in(&mut self.order, self.dirty.as_slice(), frames, page)?;
+        self.accepted[frame] = 0;
         *self.pool.get_mut(frame) = *bytes;
         Ok(frame)
     }
@@ -190,6 +199,24 @@ impl Cache {
         self.pool.get(slot.frame)
     }
 
+    /// Whether the grammar accepts a page in memory, in a table of so many pages. A page that was accepted is read again only
+    /// when its bytes came anew or were lent to be changed, or for another number of pages.
+    pub fn is_accepted(&mut self, page: u32, pages: u32) -> bool
+        requires { IsResident self.old page }
+        ensures accepted { result ≡ is_some (content_in self.old pages page) }
+        ensures kept { self.new ≡ self.old }
+    {
+        let frame = slot_of(&self.order, page).frame;
+        if pages != 0 && self.accepted[frame] == pages {
+            return true;
+        }
+        let accepted = read_page(self.pool.get(frame), page, pages).is_ok();
+        if accepted {
+            self.accepted[frame] = pages;
+        }
+        accepted
+    }
+
     /// The bytes of a page in memory, to be changed.
     pub fn bytes_mut(&mut self, page: u32) -> &mut [u8; 512]
         requires { IsResident self.old page }
@@ -197,6 +224,7 @@ impl Cache {
         ensures value { bytes_of self.old page ≡ Some result.now }
     {
         let slot = slot_of(&self.order, page);
+        self.accepted[slot.frame] = 0;
         self.pool.get_mut(slot.frame)
     }
 
@@ -206,6 +234,7 @@ impl Cache {
         ensures count { length result.now ≡ self.old.frames }
         ensures value { (page : ℕ) → IfSome (held self.old page) (λ h. slice_get result.now h.frame ≡ Some h.bytes) }
     {
+        self.accepted = [0; MOST_FRAMES];
         self.pool.frames_mut()
     }
 

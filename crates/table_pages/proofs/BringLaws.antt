@@ -18,7 +18,7 @@ use Rattle.page_cache.proofs.FetchLaws.{Fetched, fetched_dirty}
 use Rattle.page_cache.proofs.KeepLaws.{fetched_keeps, fetched_pins, busy_within, bytes_resident, resident_bytes}
 use Rattle.page_cache.proofs.NewestLaws.{stood, used_held}
 use Rattle.name_page.specs.Pages.{outer_refusal}
-use Rattle.table_pages.specs.Bringing.{Brings, HasRoom, FetchesOnly, KeepsPages, given_by, refusal_for}
+use Rattle.table_pages.specs.Bringing.{Brings, HasRoom, FetchesOnly, IsHit, given_by, refusal_for}
 use Rattle.table_pages.specs.Reads.{Fills, LosesFor, Stood, device_of}
 
 -- ---- the cache
@@ -60,10 +60,11 @@ had_or_entered page old new whole (inr enters) q bytes is = by_bool (nat_eq q pa
     on o (inl same) is = sym (ap (option_map (λ (h : Held). h.bytes)) same) ∙ is
     on o (inr out) is = absurd (true≢false (ap is_some (sym is ∙ ap (option_map (λ (h : Held). h.bytes)) out.0)))
 
--- all pages stay where one of them is fetched
-pub fetched_all : (page : ℕ) (old new : CacheValue) → Fetched page old new → IsResident old page → KeepsPages old new
-fetched_all page old new (inl hit) there q is = subst (λ (c : CacheValue). IsResident c q) (sym hit.1) (subst IsSome (sym (used_held page old q)) is)
-fetched_all page old new (inr enters) there q is = absurd (cc (enters.0, there))
+-- where the page was there nothing else has changed
+pub hit_all : {D : Type 0} (m m' : D) (page : ℕ) (old new : CacheValue) (r : Result ℕ CacheFault) → IfSome (held old page) (λ h. (r ≡ Ok h.frame) × (new ≡ used page old) × (m' ≡ m)) → IsResident old page → IsHit m m' old new
+hit_all m m' page old new r hit there = by_option (held old page)
+    (λ h is. let ok = rw is at hit in record { machine = ok.2; bytes = λ q. ap (λ (c : CacheValue). bytes_of c q) ok.1 ∙ ap (λ (o : Option Held). option_map (λ h. h.bytes) o) (used_held page old q) })
+    (λ none. absurd (cc (none, there)))
 
 -- a page that is not fetched was not there
 pub failed_missing : (page : ℕ) (old new : CacheValue) (r : Result ℕ CacheFault) (fault : CacheFault) (E : Type 0) → r ≡ Err fault → IfSome (held old page) (λ h. (r ≡ Ok h.frame) × (new ≡ used page old) × E) → IsResident old page → ⊥

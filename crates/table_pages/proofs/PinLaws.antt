@@ -7,7 +7,7 @@ use Rattle.page_cache.specs.Cache.{CacheValue, IsResident, bytes_of, pins_of, wi
 use Rattle.page_cache.proofs.Entries.{by_bool, key_flips}
 use Rattle.page_cache.proofs.BusyLaws.{count_cons, one}
 use Rattle.page_cache.proofs.KeepLaws.{bytes_resident, resident_bytes, pinned_bytes, pinned_pins, pinned_resident}
-use Rattle.table_pages.specs.Bringing.{OnlyPins}
+use Rattle.table_pages.specs.Bringing.{KeepsBytes, OnlyPins}
 
 -- ---- how often a page stands in a list
 
@@ -47,8 +47,12 @@ module _ (old new : CacheValue) (page n : ℕ) (set : new ≡ with_pins page n o
   pub set_pins : IsResident old page → (q : ℕ) → pins_of new q ≡ cond (nat_eq page q) n (pins_of old q)
   set_pins there q = ap (λ (c : CacheValue). pins_of c q) set ∙ pinned_pins page n old q there
 
+-- the same bytes are of the same pages
+pub same_there : (old new : CacheValue) → KeepsBytes old new → (q : ℕ) → IsResident old q → IsResident new q
+same_there old new same q there = bytes_resident new q (subst (λ o. IsSome o) (sym (same q)) (resident_bytes old q there))
+
 pub only_there : (old new : CacheValue) → OnlyPins old new → (q : ℕ) → IsResident old q → IsResident new q
-only_there old new only q there = bytes_resident new q (subst (λ o. IsSome o) (sym (only.bytes q)) (resident_bytes old q there))
+only_there old new only q there = same_there old new only.bytes q there
 
 pub only_then : (a b c : CacheValue) → OnlyPins a b → OnlyPins b c → OnlyPins a c
 only_then a b c x y = record { frames = y.frames ∙ x.frames; dirty = y.dirty ∙ x.dirty; bytes = λ q. y.bytes q ∙ x.bytes q }

@@ -15,7 +15,8 @@ use Rattle.page_cache.specs.Cache.{CacheValue, IsResident, newest, bytes_of, pin
 use Rattle.page_cache.proofs.KeepLaws.{resident_bytes, pinned_bytes}
 use Rattle.page_cache.proofs.WrittenLaws.{now_dirty}
 use Rattle.name_page.specs.Pages.{Keeps, IsOuter, IsReached, with_taken, rested}
-use Rattle.table_pages.specs.Bringing.{OnlyPins, given_by, home_in, FetchesOnly, IsRefused, content_in}
+use Rattle.page_cache.specs.Accepted.{content_in}
+use Rattle.table_pages.specs.Bringing.{OnlyPins, given_by, home_in, FetchesOnly, IsRefused, IsHit}
 use Rattle.table_pages.specs.Kept.{IsKept, images_of}
 use Rattle.table_pages.specs.ImageLaws.{image_count, image_at, images_same}
 use Rattle.table_pages.specs.Reads.{Fills, HadRefused}
@@ -71,6 +72,12 @@ module _ {D E : Type 0} {M : MachineGhosts D} {S : SourceGhosts E} (t : Table D 
     count = image_count (newest c' (given_by M S t.source.now m')) (length t.free.now) ∙ sym (image_count (newest t.cache.now source) (length t.free.now));
     reached = λ q is. fetched_image M S t.source.now t.made_over.value t.made_with.value t.m.now t.cache.now t.free.now t.reached.items t.spares.items t.promised t.kept refusal m' c' fetches q is.1;
   }
+
+  -- and all do where nothing is asked of the machine
+  pub hit_images : (m' : D) (c' : CacheValue) → IsHit t.m.now m' t.cache.now c' → images_of (newest c' (given_by M S t.source.now m')) (length t.free.now) ≡ (step_of t).images
+  hit_images m' c' hit =
+      ap (λ (m : D). images_of (newest c' (given_by M S t.source.now m)) (length t.free.now)) hit.machine
+      ∙ same_images t.cache.now c' source (length t.free.now) hit.bytes
 
   -- ---- a table with a page written
 

@@ -1,13 +1,14 @@
 -- What is left where pages are brought into the cache, and why one is not brought.
-use Rattle.std.specs.Prelude.{◌≡◌, ◌⊎◌, ℕ, ◌+◌, ◌%◌, ◌^◌, ◌<◌, ◌≤◌, Bool, true, false, List, Option, None, length, count_by, nat_eq, slice_index_or, option_and_then}
+use Rattle.std.specs.Prelude.{◌≡◌, ◌⊎◌, ℕ, ◌+◌, ◌%◌, ◌^◌, ◌<◌, ◌≤◌, Bool, true, false, List, Option, None, length, count_by, nat_eq, slice_index_or, Some}
 use Rattle.fsd_bytes.specs.declared.refusal.Refusal.{Refusal}
 use Rattle.fsd_bytes.specs.declared.refusal.Refusal.TheVariants.{Device, Lost, Memory}
-use Rattle.fsd_formats.specs.NamePage.{Content, read_page}
+use Rattle.fsd_formats.specs.NamePage.{Content}
 use Rattle.sector_disk.specs.declared.machine.Machine.{Ghosts as MachineGhosts}
 use Rattle.sector_disk.specs.Calls.{OnlyReads}
 use Rattle.page_cache.specs.declared.fault.CacheFault.{CacheFault}
 use Rattle.page_cache.specs.declared.fault.CacheFault.TheVariants.{Device as CacheDevice, Memory as CacheMemory, Lost as CacheLost}
 use Rattle.page_cache.specs.declared.source.PageSource.{Ghosts as SourceGhosts}
+use Rattle.page_cache.specs.Accepted.{content_in}
 use Rattle.page_cache.specs.Cache.{CacheValue, IsResident, AreNewest, KeepsNewest, bytes_of, pins_of, is_one_of}
 use Rattle.table_pages.specs.Reads.{device_of, LosesFor, Fills}
 
@@ -19,17 +20,14 @@ pub record Brings (old new : CacheValue) : Type 0 where
   pub pins : (page : ℕ) → pins_of old page ≤ pins_of new page
   pub keeps : (page : ℕ) → IsResident old page → (is_one_of old.dirty page ≡ true) ⊎ (0 < pins_of old page) → bytes_of new page ≡ bytes_of old page
 
--- all pages that are in the cache stay there
-abbrev pub KeepsPages : (old new : CacheValue) → Type 0
-KeepsPages old new = (page : ℕ) → IsResident old page → IsResident new page
+-- the same pages are in the cache, with the same bytes
+abbrev pub KeepsBytes : (old new : CacheValue) → Type 0
+KeepsBytes old new = (page : ℕ) → bytes_of new page ≡ bytes_of old page
 
--- all of these pages are in the cache
-abbrev pub HasPages : (these : ℕ → Type 0) → CacheValue → Type 0
-HasPages these c = (page : ℕ) → these page → IsResident c page
-
--- the page is one of the table, and not free
-abbrev pub IsUsed : (free : List Bool) → ℕ → Type 0
-IsUsed free page = (page < length free) × (slice_index_or free page false ≡ false)
+-- the page was in the cache, so that nothing was asked of the machine
+pub record IsHit {D : Type 0} (m m' : D) (old new : CacheValue) : Type 0 where
+  pub machine : m' ≡ m
+  pub bytes : KeepsBytes old new
 
 -- the pages that are pinned, each as often as it stands here, leave room for so many more
 pub record HasRoom (more : ℕ) (c : CacheValue) : Type 0 where
@@ -74,9 +72,9 @@ refusal_for (CacheLost a b) = Lost a b
 
 -- ---- the grammar
 
--- what a page of the cache has, in a table of so many pages
-abbrev pub content_in : CacheValue → (pages page : ℕ) → Option Content
-content_in c pages page = option_and_then (read_page page pages) (bytes_of c page)
+-- what the grammar accepts stays so
+abbrev pub KeepsContent : (old new : CacheValue) → Type 0
+KeepsContent old new = (pages page : ℕ) (x : Content) → content_in old pages page ≡ Some x → content_in new pages page ≡ Some x
 
 -- the page is free, or the grammar refuses what the cache has of it
 abbrev pub IsRefused : List Bool → CacheValue → ℕ → Type 0

@@ -5,11 +5,11 @@ use Rattle.fsd_bytes.specs.declared.refusal.Refusal.{Refusal}
 use Rattle.fsd_bytes.specs.declared.refusal.Refusal.TheVariants.{Unsound}
 use Rattle.sector_disk.specs.declared.machine.Machine.{Ghosts as MachineGhosts}
 use Rattle.page_cache.specs.declared.source.PageSource.{Ghosts as SourceGhosts}
-use Rattle.page_cache.specs.Cache.{CacheValue, AreNewest, is_one_of, newest, with_written}
+use Rattle.page_cache.specs.Cache.{CacheValue, AreNewest, IsResident, is_one_of, newest, with_written}
 use Rattle.name_page.specs.Pages.{Step}
 use Rattle.sector_disk.specs.Calls.{OnlyReads}
 use Rattle.table_pages.specs.Reads.{device_of, LosesFor, Fills, HadRefused}
-use Rattle.table_pages.specs.Bringing.{HasPages, IsTrusted, IsUsed, given_by, home_in}
+use Rattle.table_pages.specs.Bringing.{IsTrusted, given_by, home_in}
 use Rattle.table_pages.specs.Kept.{IsReady, images_of, kept_written}
 use Rattle.table_pages.specs.declared.table.Table.{Table}
 
@@ -62,9 +62,9 @@ module _ {D E : Type 0} {M : MachineGhosts D} {S : SourceGhosts E} where
     pub taken : (page : ℕ) → slice_index_or old.free.now page false ≡ true → (slice_index_or new.free.now page false ≡ true) ⊎ (is_one_of new.cache.now.dirty page ≡ true)
     pub barred : M.honest new.m.now → (place : ℕ) → new.refusal ≡ Some (Unsound place) → (old.refusal ≡ Some (Unsound place)) ⊎ BarsPlace old new place
 
-  -- all pages that are not free are in the cache
-  abbrev pub HasUsed : Table D E M S → Type 0
-  HasUsed t = HasPages (IsUsed t.free.now) t.cache.now
+  -- the page is one of the table, and in the cache
+  abbrev pub HasPage : Table D E M S → ℕ → Type 0
+  HasPage t page = (page < length t.free.now) × IsResident t.cache.now page
 
   -- trusted since it was made
   abbrev pub Trusted : Table D E M S → Type 0

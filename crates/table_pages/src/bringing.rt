@@ -1,16 +1,16 @@
 //! Pages of the table that are brought into the cache and kept there.
-ghost use Rattle.std.specs.Prelude.{◌≡◌, ◌⊎◌, ℕ, ◌+◌, ◌-◌, ◌^◌, ◌<◌, ◌≤◌, ◌++◌, ◌∷◌, [], Err, true, false, is_some, IfErr, MatchResult, OnOk, IsSome, length, count_by, nat_eq, slice_index_or};
+ghost use Rattle.std.specs.Prelude.{◌≡◌, ◌⊎◌, ℕ, ◌+◌, ◌-◌, ◌^◌, ◌<◌, ◌≤◌, ◌++◌, ◌∷◌, [], Err, true, false, IfErr, MatchResult, OnOk, IsSome, length, count_by, nat_eq, slice_index_or, Some};
 ghost use Rattle.arrayvec.specs.ArrayVec.{array_vec_len};
 ghost use Rattle.fsd_bytes.specs.declared.refusal.Refusal.{Refusal};
-ghost use Rattle.fsd_bytes.specs.declared.refusal.Refusal.TheVariants.{Unsound};
-ghost use Rattle.name_page.specs.Pages.{IsOuter, NeedsNoMemory, outer_in};
+ghost use Rattle.fsd_bytes.specs.declared.refusal.Refusal.TheVariants.{Memory, Unsound};
+ghost use Rattle.name_page.specs.Pages.{IsOuter, outer_in};
 ghost use Rattle.page_cache.specs.Cache.{IsResident, pins_of, with_pins};
-ghost use Rattle.table_pages.specs.Bringing.{HasPages, HasRoom, KeepsPages, OnlyPins, FetchesOnly, IsRefused, IsUsed, content_in, home_in, refusal_for};
+ghost use Rattle.page_cache.specs.Accepted.{content_in};
+ghost use Rattle.table_pages.specs.Bringing.{HasRoom, OnlyPins, FetchesOnly, IsRefused, home_in, refusal_for, IsHit};
 
 use crate::free::FreePages;
 use arrayvec::ArrayVec;
 use fsd_bytes::Refusal;
-use name_page::read_page;
 use page_cache::{Cache, CacheFault, PageSource};
 use sector_disk::Machine;
 
@@ -37,7 +37,7 @@ pub fn bring<M: Machine, S: PageSource>(
     ensures fetches { FetchesOnly M.Machine S.PageSource source.now (outer_in result) m.old m.new cache.old cache.new }
     ensures pins { (q : ℕ) → pins_of cache.new q ≡ pins_of cache.old q }
     ensures there { OnOk result (IsResident cache.new page) }
-    ensures hit { IsResident cache.old page → MatchResult result (λ x. KeepsPages cache.old cache.new) (λ refusal. ⊥) }
+    ensures hit { IsResident cache.old page → MatchResult result (λ x. IsHit m.old m.new cache.old cache.new) (λ refusal. ⊥) }
     ensures cause { IfErr result IsOuter }
 {
     let _whole = cache.dirty_list();
@@ -45,14 +45,6 @@ pub fn bring<M: Machine, S: PageSource>(
         Ok(_) => Ok(()),
         Err(fault) => Err(refusal_of(fault)),
     }
-}
-
-// Whether the grammar accepts what the cache has of a page, in a table of so many pages.
-fn is_accepted(cache: &Cache, page: u32, pages: u32) -> bool
-    requires { IsResident cache.now page }
-    ensures { result ≡ is_some (content_in cache.now pages page) }
-{
-    read_page(cache.bytes(page), page, pages).is_ok()
 }
 
 /// Brings a page that is in use into the cache, if the grammar accepts it. `home_a` is the first sector of the homes A.
@@ -71,7 +63,8 @@ pub fn bring_used<M: Machine, S: PageSource>(
     ensures fetches { FetchesOnly M.Machine S.PageSource source.now (outer_in result) m.old m.new cache.old cache.new }
     ensures pins { (q : ℕ) → pins_of cache.new q ≡ pins_of cache.old q }
     ensures there { OnOk result (IsResident cache.new page) }
-    ensures memory { NeedsNoMemory (HasPages (IsUsed free.now)) (outer_in result) cache.old cache.new }
+    ensures hit { IsResident cache.old page → IsHit m.old m.new cache.old cache.new }
+    ensures memory { IsResident cache.old page → outer_in result ≡ Some Memory → ⊥ }
     ensures used { OnOk result (slice_index_or free.now page false ≡ false) }
     ensures accepted { OnOk result (IsSome (content_in cache.new (length free.now) page)) }
     ensures spare { slice_index_or free.now page false ≡ true → result ≡ Err (Unsound (home_in home_a page)) }
@@ -81,7 +74,7 @@ pub fn bring_used<M: Machine, S: PageSource>(
         return Err(Refusal::Unsound(home_a.wrapping_add(page)));
     }
     bring(m, cache, source, page)?;
-    if is_accepted(cache, page, free.pages()) {
+    if cache.is_accepted(page, free.pages()) {
         Ok(())
     } else {
         Err(Refusal::Unsound(home_a.wrapping_add(page)))

@@ -11,10 +11,10 @@ use Rattle.page_cache.specs.Cache.{CacheValue, IsResident, bytes_of}
 use Rattle.group_commit.proofs.FramedLaws.{record_frames, record_images, record_stamped}
 use Rattle.group_commit.proofs.FrameLaws.{there_then}
 use Rattle.group_commit.proofs.ImageLaws.{pages_of}
-use Rattle.group_commit.proofs.LoggedLaws.{slice_in_front}
 use Rattle.group_commit.proofs.OrderLaws.{index_contained}
 use Rattle.group_commit.proofs.cached.lay_record.Goals as goal
 use Rattle.group_commit.proofs.cached.lay_record.Goals.{After-lay_frames}
+use Rattle.sector_disk.proofs.Wear.{slice_in_front}
 
 pub stamp_frames-requires-clause-inside : goal.stamp_frames-requires-clause-inside
 stamp_frames-requires-clause-inside c = λ k lt. c.requires.inside (get_or c.args.waiting.now k 0) (index_contained c.args.waiting.now k lt)

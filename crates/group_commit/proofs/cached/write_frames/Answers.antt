@@ -1,10 +1,10 @@
 use Rattle.std.proofs.Common.{◌≡◌, ◌<◌, ℕ, List, Some, length, get_or, rules}
+use Rattle.std.proofs.lemmas.Result.{IfErr-weaker, on_ok_weaker}
 use Rattle.fsd_log.specs.Judged.{slice_of}
 use Rattle.page_cache.specs.Cache.{bytes_of}
 use Rattle.sector_disk.proofs.CallLaws.{writes_more}
 use Rattle.group_commit.specs.Cached.{HasImages}
 use Rattle.group_commit.proofs.LoggedLaws.{logged_of}
-use Rattle.group_commit.proofs.ResultLaws.{if_err_more, on_ok_more}
 use Rattle.group_commit.proofs.cached.write_frames.Goals as goal
 
 pub returns-clause-disk : goal.returns-clause-disk
@@ -12,19 +12,19 @@ returns-clause-disk g c = writes_more c.write_record.ensures.disk (λ h left lea
 
 pub returns-clause-never_lost : goal.returns-clause-never_lost
 returns-clause-never_lost g c =
-    if_err_more c.write_record.result
+    IfErr-weaker c.write_record.result _ _
     (λ fault more pages windows records disk agrees. more pages windows records disk (let has : HasImages c.args.log.now c.args.waiting.now c.as_slice.result.now pages = search rules in has))
     c.write_record.ensures.never_lost
 
 pub returns-clause-done : goal.returns-clause-done
 returns-clause-done g c =
-    on_ok_more c.write_record.result
+    on_ok_weaker c.write_record.result
     (λ more pages windows records disk agrees. more pages windows records disk (let has : HasImages c.args.log.now c.args.waiting.now c.as_slice.result.now pages = search rules in has))
     c.write_record.ensures.done
 
 pub returns-clause-knows : goal.returns-clause-knows
 returns-clause-knows g c =
-    on_ok_more c.write_record.result
+    on_ok_weaker c.write_record.result
     (λ more pages windows records disk agrees. more pages windows records disk (let has : HasImages c.args.log.now c.args.waiting.now c.as_slice.result.now pages = search rules in has))
     c.write_record.ensures.knows
 
@@ -32,6 +32,6 @@ pub returns-clause-logged : goal.returns-clause-logged
 returns-clause-logged g c =
     let room : List ℕ = c.as_slice.result.now in
     let frames : (k : ℕ) → k < length c.args.waiting.now → bytes_of c.lay_record.new.cache (get_or c.args.waiting.now k 0) ≡ Some (slice_of room k) = search rules in
-    on_ok_more c.write_record.result
+    on_ok_weaker c.write_record.result
     (λ logged h. logged_of c.write_record.new.log (g.M.Machine.now c.write_record.new.m) c.lay_record.new.cache c.args.waiting.now room (logged h) frames)
     c.write_record.ensures.logged

@@ -1,6 +1,7 @@
 use Rattle.std.proofs.Common.{◌+◌, ◌*◌, ap, subst, arith}
 use Rattle.sector_disk.specs.Machine.{Ledger}
 use Rattle.sector_disk.proofs.CallLaws.{writes_then}
+use Rattle.sector_disk.proofs.ResultLaws.{err_as}
 use Rattle.log_thirds.specs.Append.{IsIndexed, IsLogWorn}
 use Rattle.log_thirds.specs.LogValue.{LogValue}
 use Rattle.log_thirds.specs.Moving.{moved_anchor, records_moved}
@@ -9,7 +10,6 @@ use Rattle.group_commit.proofs.CountLaws.{wrote_on}
 use Rattle.group_commit.proofs.EnterLaws.{moving_shows, entered}
 use Rattle.group_commit.proofs.HomingLaws.{homing_log}
 use Rattle.group_commit.proofs.OutsideLaws.{outside_anchors, outside_then}
-use Rattle.group_commit.proofs.RoomLaws.{on_err_any}
 use Rattle.group_commit.proofs.entering.enter_third.Goals as goal
 
 pub home_third-requires-clause-low : goal.home_third-requires-clause-low
@@ -50,7 +50,7 @@ pub returns-in_err-home_third-clause-counted_err : goal.returns-in_err-home_thir
 returns-in_err-home_third-clause-counted_err g c =
     let M = g.M.Machine in
     let log = c.args.log.now in
-    on_err_any (M.tells c.home_third.new.m → WroteMost (2 * pages_in_first log + 2) (M.ledger c.args.m.now) (M.ledger c.home_third.new.m)) c.from_residual.result
+    err_as (M.tells c.home_third.new.m → WroteMost (2 * pages_in_first log + 2) (M.ledger c.args.m.now) (M.ledger c.home_third.new.m)) c.from_residual.result
     (λ t. wrote_on (M.ledger c.args.m.now) (M.ledger c.args.m.now) (M.ledger c.home_third.new.m) 0 (2 * pages_in_first log) _ (omega arith) (c.in_err-home_third.ensures.counted_err t) (omega arith))
 
 pub returns-in-Err-clause-counted_err : goal.returns-in-Err-clause-counted_err

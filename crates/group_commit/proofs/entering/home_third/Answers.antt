@@ -6,6 +6,7 @@ use Rattle.sector_disk.specs.Machine.{Ledger, wrote}
 use Rattle.sector_disk.specs.Calls.{load_failed_at}
 use Rattle.sector_disk.proofs.CallLaws.{told_up, writes_none, writes_then, writes_told}
 use Rattle.sector_disk.proofs.Holding.{wears_none}
+use Rattle.sector_disk.proofs.ResultLaws.{err_as}
 use Rattle.fsd_log.specs.Scan.{Placed}
 use Rattle.log_thirds.specs.Append.{IsIndexed, IsLeastOfThird, NoneOfThird}
 use Rattle.log_thirds.specs.Slots.{IsLeastIn, NoneLiesIn}
@@ -14,7 +15,6 @@ use Rattle.group_commit.specs.Room.{WroteMost, pages_in_first}
 use Rattle.group_commit.proofs.CountLaws.{count_next, count_done, count_part, wrote_on, wrote_twice, wrote_none, handed_up}
 use Rattle.group_commit.proofs.HomingLaws.{begin, stays, all_homed}
 use Rattle.group_commit.proofs.OutsideLaws.{outside_none, outside_then}
-use Rattle.group_commit.proofs.RoomLaws.{on_err_any}
 use Rattle.group_commit.proofs.entering.home_third.Goals as goal
 
 pub loop-page-init : goal.loop-page-init
@@ -87,7 +87,7 @@ returns-in_err-home_page-in-Some-clause-counted_err g c =
     let next = count_next log.slots c.loop-page.from start log.layout.third c.in-Some.page slot in
     let part = count_part log.slots start log.layout.third (c.in-Some.page + 1) in
     let said = c.in_err-home_page-in-Some.ensures in
-    on_err_any (M.tells c.home_page.new.m → WroteMost (2 * pages_in_first log) (M.ledger c.args.m.now) (M.ledger c.home_page.new.m)) c.from_residual.result
+    err_as (M.tells c.home_page.new.m → WroteMost (2 * pages_in_first log) (M.ledger c.args.m.now) (M.ledger c.home_page.new.m)) c.from_residual.result
     (λ t. wrote_on (M.ledger c.args.m.now) (M.ledger c.loop-page.m) (M.ledger c.home_page.new.m) _ 2 _ (ap (λ (l : Ledger). l.written) (c.loop-page.invariant.counted (said.disk.trust.tells t))) (said.counted_err t) (omega (arith, next, part)))
 
 pub returns-in-None-clause-counted : goal.returns-in-None-clause-counted

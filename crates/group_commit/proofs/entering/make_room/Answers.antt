@@ -1,7 +1,9 @@
 use Rattle.std.proofs.Common.{◌≡◌, ◌+◌, ◌*◌, ℕ, List, false, sym, subst}
+use Rattle.std.proofs.lemmas.Result.{on_err_weaker}
 use Rattle.sector_disk.specs.declared.sector.WeakRun.{WeakRun}
 use Rattle.sector_disk.proofs.CallLaws.{writes_none}
 use Rattle.sector_disk.proofs.Holding.{wears_none}
+use Rattle.sector_disk.proofs.ResultLaws.{err_as}
 use Rattle.fsd_log.specs.Scan.{Placed}
 use Rattle.log_thirds.specs.LogValue.{LogValue}
 use Rattle.log_thirds.specs.Moving.{moved, records_moved}
@@ -9,22 +11,21 @@ use Rattle.group_commit.specs.Entering.{ShowsStill, OwnsLog, IsEntered, HasRoomN
 use Rattle.group_commit.specs.Force.{KeepsOutside}
 use Rattle.group_commit.proofs.HomingLaws.{begin, stays}
 use Rattle.group_commit.proofs.OutsideLaws.{outside_none}
-use Rattle.group_commit.proofs.RoomLaws.{before_again, on_ok_both, on_err_any, first_again}
+use Rattle.group_commit.proofs.RoomLaws.{before_again, on_ok_both, first_again}
 use Rattle.group_commit.specs.Room.{goes_before, pages_in_first, sectors_before}
 use Rattle.group_commit.proofs.CountLaws.{wrote_at}
-use Rattle.group_commit.proofs.ResultLaws.{on_err_more}
 use Rattle.group_commit.proofs.entering.make_room.Goals as goal
 
 pub returns-in-FirstThird-clause-enters : goal.returns-in-FirstThird-clause-enters
 returns-in-FirstThird-clause-enters g c =
-    on_err_any (goes_before c.args.log.now c.args.count ≡ false) c.enter_third.result (first_again c.args.log.now c.args.count c.in-FirstThird.ensures.0.0 c.in-FirstThird.ensures.0.1)
+    err_as (goes_before c.args.log.now c.args.count ≡ false) c.enter_third.result (first_again c.args.log.now c.args.count c.in-FirstThird.ensures.0.0 c.in-FirstThird.ensures.0.1)
 
 pub returns-in-FirstThird-clause-counted_err : goal.returns-in-FirstThird-clause-counted_err
 returns-in-FirstThird-clause-counted_err g c =
     let M = g.M.Machine in
     let log = c.args.log.now in
     let again = first_again log c.args.count c.in-FirstThird.ensures.0.0 c.in-FirstThird.ensures.0.1 in
-    on_err_more c.enter_third.result (λ most t. wrote_at (2 * pages_in_first log + 2) (sectors_before log c.args.count) (M.ledger c.args.m.now) (M.ledger c.enter_third.new.m) (sym (before_again log c.args.count again)) (most t)) c.enter_third.ensures.counted_err
+    on_err_weaker c.enter_third.result (λ most t. wrote_at (2 * pages_in_first log + 2) (sectors_before log c.args.count) (M.ledger c.args.m.now) (M.ledger c.enter_third.new.m) (sym (before_again log c.args.count again)) (most t)) c.enter_third.ensures.counted_err
 
 pub returns-in-FirstThird-clause-done : goal.returns-in-FirstThird-clause-done
 returns-in-FirstThird-clause-done g c =

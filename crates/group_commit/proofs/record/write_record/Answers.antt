@@ -17,7 +17,8 @@ use Rattle.log_thirds.specs.Append.{StandsInPart, stamp_now, log_with}
 use Rattle.log_thirds.proofs.MomentLaws.{MayAppend, all_small}
 use Rattle.log_thirds.proofs.RunLaws.{narrow_runs}
 use Rattle.sector_disk.specs.Image.{open_damage}
-use Rattle.sector_disk.proofs.Wear.{worn_refl}
+use Rattle.sector_disk.proofs.Wear.{worn_refl, slice_in_front}
+use Rattle.sector_disk.proofs.ResultLaws.{err_as}
 use Rattle.group_commit.specs.Entering.{HasRoomNow, MayHome, ShowsStill}
 use Rattle.group_commit.specs.Force.{StandsOver, Committed, KeepsOutside}
 use Rattle.group_commit.specs.Cached.{HasImages, RecordLeaves}
@@ -28,10 +29,9 @@ use Rattle.group_commit.specs.Room.{WroteMost, sectors_before}
 use Rattle.group_commit.proofs.ImageLaws.{IsRecordOf}
 use Rattle.group_commit.proofs.RoundLaws.{may_home, owns, making, stands, commits_on, ends_then}
 use Rattle.group_commit.proofs.ForceLaws.{MayForce, commits, committed, log_in_window}
-use Rattle.group_commit.proofs.LoggedLaws.{slice_in_front, stands_logged}
+use Rattle.group_commit.proofs.LoggedLaws.{stands_logged}
 use Rattle.group_commit.proofs.StandsLaws.{knows_log}
 use Rattle.group_commit.proofs.OutsideLaws.{outside_record, outside_then}
-use Rattle.group_commit.proofs.RoomLaws.{on_err_any}
 use Rattle.group_commit.proofs.record.write_record.Given as given
 use Rattle.group_commit.proofs.record.write_record.Goals as goal
 use Rattle.group_commit.proofs.record.write_record.Goals.{After-append}
@@ -170,7 +170,7 @@ returns-in-Err-clause-lost g c h = tt
 pub returns-in_err-make_room-clause-counted_err : goal.returns-in_err-make_room-clause-counted_err
 returns-in_err-make_room-clause-counted_err g c =
     let M = g.M.Machine in
-    on_err_any (M.tells c.make_room.new.m → WroteMost (sectors_before c.args.log.now (length c.args.dirty.now)) (M.ledger c.args.m.now) (M.ledger c.make_room.new.m)) c.from_residual.result (λ t. c.in_err-make_room.ensures.counted_err t)
+    err_as (M.tells c.make_room.new.m → WroteMost (sectors_before c.args.log.now (length c.args.dirty.now)) (M.ledger c.args.m.now) (M.ledger c.make_room.new.m)) c.from_residual.result (λ t. c.in_err-make_room.ensures.counted_err t)
 
 pub returns-in-Err-clause-counted_err : goal.returns-in-Err-clause-counted_err
 returns-in-Err-clause-counted_err g c t =

@@ -7,7 +7,7 @@ use Rattle.page_cache.proofs.FetchLaws.{Fetched, fetched_of, fetched_there}
 use Rattle.page_cache.proofs.KeepLaws.{fetched_pins}
 use Rattle.name_page.specs.Pages.{outer_refusal}
 use Rattle.table_pages.specs.Bringing.{FetchesOnly}
-use Rattle.table_pages.proofs.BringLaws.{failed_missing, fetched_brings, fetched_fills, fetched_all, refused_fetch, room_busy}
+use Rattle.table_pages.proofs.BringLaws.{failed_missing, fetched_brings, fetched_fills, hit_all, refused_fetch, room_busy}
 use Rattle.table_pages.proofs.bringing.bring.Given as given
 use Rattle.table_pages.proofs.bringing.bring.Goals as goal
 
@@ -51,7 +51,7 @@ returns-in-Ok-clause-there g c = fetched_there c.args.page c.args.cache.now c.fe
 -- ---- the page is there
 
 pub returns-in-Ok-clause-hit : goal.returns-in-Ok-clause-hit
-returns-in-Ok-clause-hit g c = λ there. fetched_all c.args.page c.args.cache.now c.fetch.new.self (fetched g c) there
+returns-in-Ok-clause-hit g c = λ there. hit_all c.args.m.now c.fetch.new.m c.args.page c.args.cache.now c.fetch.new.self c.fetch.result c.fetch.ensures.hit there
 
 pub returns-in-Err-clause-hit : goal.returns-in-Err-clause-hit
 returns-in-Err-clause-hit g c = λ there. failed_missing c.args.page c.args.cache.now c.fetch.new.self c.fetch.result c.in-Err.fault _ c.in-Err.is c.fetch.ensures.hit there

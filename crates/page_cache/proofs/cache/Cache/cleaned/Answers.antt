@@ -9,4 +9,4 @@ invariant_of-self c =
     let old = c.self.inside in
     let whole : IsCache (record (value_of old) { dirty = c.clear.new.self.items }) =
     subst (λ (ds : List ℕ). IsCache (record (value_of old) { dirty = ds })) (sym c.clear.ensures) (cleaned_cache (value_of old) c.self.invariant.whole) in
-    record { whole = whole; room = c.self.invariant.room; few = c.self.invariant.few }
+    record { whole = whole; room = c.self.invariant.room; few = c.self.invariant.few; accepted = c.self.invariant.accepted }

@@ -28,6 +28,7 @@ invariant_of-self c =
       whole = subst (λ (ds : List ℕ). IsCache (record (value_of c.self.inside) { dirty = ds })) (sym list) (with_dirty_cache c.args.page (value_of c.self.inside) there (λ _. few) c.self.invariant.whole);
       room = c.self.invariant.room;
       few = c.self.invariant.few;
+      accepted = c.self.invariant.accepted;
     }
 
 pub returns-then-not-contains-clause-busy : goal.returns-then-not-contains-clause-busy

@@ -1,7 +1,7 @@
-use Rattle.std.proofs.Common.{◌≡◌, ◌<◌, ◌∙◌, ℕ, None, length, sym, ap, subst}
+use Rattle.std.proofs.Common.{◌≡◌, ◌<◌, ◌∙◌, ℕ, None, length, sym, ap, subst, arith}
 use Rattle.page_cache.specs.Cache.{CacheValue, IsCache, KeepsNewest, held, busy, frame_for, entered}
 use Rattle.page_cache.specs.Inside.{value_of}
-use Rattle.page_cache.proofs.ShownLaws.{order_lacks, frame_is, frame_fits, entered_inside}
+use Rattle.page_cache.proofs.ShownLaws.{order_lacks, frame_is, frame_fits, frame_in, entered_inside}
 use Rattle.page_cache.proofs.NewestLaws.{entered_newest}
 use Rattle.page_cache.specs.declared.cache.Cache.TheInside.{Inside}
 use Rattle.page_cache.proofs.BusyLaws.{busy_entered}
@@ -16,6 +16,23 @@ module _ (i : Inside) (v : CacheValue) (is : value_of i ≡ v) (page : ℕ) wher
 
 pub take_in-requires-clause-new : goal.take_in-requires-clause-new
 take_in-requires-clause-new c = order_lacks c.self.inside.pool c.args.page c.self.inside.order.entries (new c.self.inside c.args.self.now c.self.view_is c.args.page c.requires.new)
+
+pub bounds-self-inside-frame : goal.bounds-self-inside-frame
+bounds-self-inside-frame c =
+    let i = c.self.inside in
+    let none = new i c.args.self.now c.self.view_is c.args.page c.requires.new in
+    let free = room i c.args.self.now c.self.view_is c.args.page c.requires.room in
+    frame_in i c.self.invariant c.args.page none free c.in_ok-frame.frame
+    (frame_is i c.self.invariant c.args.page none free c.len-frames.result c.as_slice.result.now c.in_ok-frame.frame c.len-frames.ensures c.as_slice.ensures.value c.in_ok-frame.ensures.frame)
+
+pub offset_bounds-self-inside-frame : goal.offset_bounds-self-inside-frame
+offset_bounds-self-inside-frame c =
+    let i = c.self.inside in
+    let none = new i c.args.self.now c.self.view_is c.args.page c.requires.new in
+    let free = room i c.args.self.now c.self.view_is c.args.page c.requires.room in
+    let below = frame_in i c.self.invariant c.args.page none free c.in_ok-frame.frame
+    (frame_is i c.self.invariant c.args.page none free c.len-frames.result c.as_slice.result.now c.in_ok-frame.frame c.len-frames.ensures c.as_slice.ensures.value c.in_ok-frame.ensures.frame) in
+    omega (arith, below)
 
 pub get_mut-requires : goal.get_mut-requires
 get_mut-requires c =

@@ -3,7 +3,7 @@ use Rattle.std.specs.Prelude.{IfSome, slice_get}
 use Rattle.page_cache.specs.Cache.{CacheValue, Held, IsResident, held, bytes_of}
 use Rattle.page_cache.specs.Inside.{slot_shown, value_of}
 use Rattle.page_cache.proofs.ShownLaws.{order_has, held_is, frame_in_pool}
-use Rattle.page_cache.proofs.FrameLaws.{frames_apart}
+use Rattle.page_cache.proofs.CacheLaws.{frames_apart}
 use Rattle.page_cache.proofs.cache.Cache.two_mut.Goals as goal
 
 -- the frame of a page has the bytes of the page

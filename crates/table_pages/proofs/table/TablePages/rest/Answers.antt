@@ -1,10 +1,10 @@
-use Rattle.std.proofs.Common.{inl, List, ℕ, [], refl, sym, subst, arith}
+use Rattle.std.proofs.Common.{inl, List, ℕ, [], length, refl, sym, subst, arith}
 use Rattle.sector_disk.proofs.CallLaws.{reads_none}
 use Rattle.table_pages.specs.Kept.{IsKept}
 use Rattle.table_pages.proofs.KeptLaws.{spare_pins, reached_pins, kept_unreached, kept_unspared}
 use Rattle.table_pages.proofs.PinLaws.{only_then, only_there}
 use Rattle.table_pages.proofs.SpareLaws.{pinned_fills}
-use Rattle.table_pages.proofs.StepLaws.{rested_step}
+use Rattle.table_pages.proofs.StepLaws.{rested_step, same_images}
 use Rattle.table_pages.proofs.table.TablePages.rest.Given as given
 use Rattle.table_pages.proofs.table.TablePages.rest.Goals as goal
 use Rattle.table_pages.proofs.table.TablePages.rest.Goals.{After-release, After-release-2}
@@ -80,4 +80,4 @@ returns-clause-memory g c =
     let old = c.args.self.now.cache.now in
     let last = c.release-2.new.cache in
     let only = only_then old c.release.new.cache last c.release.ensures.only c.release-2.ensures.only in
-    record { stays = λ all q used. only_there old last only q (all q used); enough = λ all is. cc is }
+    record { images = same_images old last _ (length c.args.self.now.free.now) only.bytes; spares = refl; stays = λ q is. (is.0, only_there old last only q is.1); enough = λ is. cc is }
