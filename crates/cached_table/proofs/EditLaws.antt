@@ -1,8 +1,7 @@
 -- What a table over a cache leaves where it was edited.
 use Rattle.std.proofs.Common.{◌≡◌, ℕ, ◌+◌, ◌-◌, ◌<◌, ◌≤◌, Bool, List, length, Option, None, sym, ap, subst, ◌∙◌, arith}
-use Rattle.std.specs.Prelude.{Result, Ok, Err, IfErr, IfOk, OnErr, OnOk, not, count_by}
+use Rattle.std.specs.Prelude.{Result, Ok, Err, IfErr, IfOk, OnErr, OnOk, count_by}
 use Rattle.std.specs.Borrow.{MutBor}
-use Rattle.run_table.specs.Space.{contains}
 use Rattle.fsd_bytes.specs.declared.key.Key.{Key}
 use Rattle.fsd_bytes.specs.Keys.{max_u32}
 use Rattle.sector_set.specs.Area.{Area}
@@ -11,12 +10,12 @@ use Rattle.fsd_files.specs.Answers.{entries_with_keep, highest_entry}
 use Rattle.fsd_bytes.specs.declared.refusal.Refusal.{Refusal}
 use Rattle.fsd_formats.specs.declared.entry.Entry.{Entry}
 use Rattle.fsd_table.specs.Table.{BreaksTable}
-use Rattle.fsd_table.specs.Tree.{IsTree, pages_of, table_of}
+use Rattle.fsd_table.specs.Tree.{IsTree, table_of}
 use Rattle.sector_disk.specs.declared.machine.Machine.{Ghosts as MachineGhosts}
 use Rattle.sector_disk.specs.Calls.{OnlyReads}
 use Rattle.page_cache.specs.declared.source.PageSource.{Ghosts as SourceGhosts}
 use Rattle.page_cache.specs.Cache.{AreNewest, CacheValue, is_one_of, newest}
-use Rattle.name_page.specs.Pages.{Step, is_spare, rested, with_one, free_count}
+use Rattle.name_page.specs.Pages.{Step, rested, with_one, free_count}
 use Rattle.name_btree.specs.declared.fault.TreeFault.{TreeFault}
 use Rattle.name_btree.specs.Fault.{BarsTable, HasCause}
 use Rattle.version_table.specs.declared.fault.VersionFault.{VersionFault}
@@ -34,16 +33,7 @@ use Rattle.cached_table.proofs.LookLaws.{fault_there}
 use Rattle.cached_table.specs.Entering.{EntersNoneIn, LosesUntaken, OfTableIn, RefusesFor}
 use Rattle.cached_table.proofs.EnteringLaws.{refuses_so}
 use Rattle.version_table.specs.Versions.{next_key}
-
--- a table is one by its pages and their flags alone
-pub same_table : (a b : Step) (height : ℕ) → b.images ≡ a.images → b.spares ≡ a.spares → IsTable a height → IsTable b height
-same_table a b height images spares t = record {
-  tree = subst (λ (p : List (List ℕ)). IsTree p height) (sym images) t.tree;
-  spare = λ page low.
-      ap (λ (s : List Bool). is_spare s page) spares
-      ∙ t.spare page (subst (λ (p : List (List ℕ)). page < length p) images low)
-      ∙ ap (λ (p : List (List ℕ)). not (contains (pages_of p height) page)) (sym images);
-}
+use Rattle.version_table.proofs.StepLaws.{same_table}
 
 same_entries : (a b : Step) (table : List Entry) → b.images ≡ a.images → b.spares ≡ a.spares → HasTable a table → HasTable b table
 same_entries a b table images spares has = record {

@@ -2,10 +2,9 @@
 use Rattle.std.proofs.Common.{◌≡◌, inl, inr, ℕ, ◌<◌, ◌≤◌, ◌^◌, true, List, [], Option, None, refl, sym, ap, subst, ◌∙◌, arith}
 use Rattle.std.specs.Prelude.{◌&&◌, ◌==◌, nat_le}
 use Rattle.std.specs.List.{AllByRecursion}
-use Rattle.std.proofs.lemmas.Bool.{and_from, and_parts, le-leb}
+use Rattle.std.proofs.lemmas.Bool.{and_parts}
 use Rattle.std.proofs.lemmas.List.Elements.{All-contains, All-from_recursion}
 use Rattle.fsd_bytes.specs.Keys.{is_key, max_u32}
-use Rattle.fsd_bytes.specs.Names.{is_name}
 use Rattle.fsd_bytes.specs.declared.key.Key.{Key}
 use Rattle.fsd_bytes.specs.declared.refusal.Refusal.{Refusal}
 use Rattle.fsd_bytes.specs.declared.refusal.Refusal.TheVariants as Why
@@ -15,7 +14,6 @@ use Rattle.shadow_frees.specs.Waits.{Waits}
 use Rattle.fsd_formats.specs.declared.entry.Entry.{Entry}
 use Rattle.fsd_formats.specs.NamePage.{is_entry, max_keep, max_length, sectors_for}
 use Rattle.fsd_table.specs.Table.{BreaksTable}
-use Rattle.fsd_table.specs.Tree.{IsTree, table_of}
 use Rattle.name_page.specs.declared.pages.Pages.{Ghosts}
 use Rattle.name_page.specs.Looks.{OnlyWalks}
 use Rattle.name_page.specs.Pages.{IsOuter, free_count, outer_refusal}
@@ -25,10 +23,10 @@ use Rattle.name_btree.specs.Fault.{BarsTable, FailsSpare, FailsTable, HasCause, 
 use Rattle.version_table.specs.declared.fault.VersionFault.{VersionFault}
 use Rattle.version_table.specs.declared.fault.VersionFault.TheVariants.{Table, NoSuch, VersionsUsedUp}
 use Rattle.version_table.specs.declared.planning.Plan.{Plan}
-use Rattle.version_table.specs.Fault.{FailsLook, ShowsLook, outer_in as outer_planned}
+use Rattle.version_table.specs.Fault.{FailsLook, ShowsLook}
 use Rattle.version_table.specs.Met.{IsMet}
 use Rattle.version_table.specs.declared.oldest.Leaving.{Leaving}
-use Rattle.version_table.specs.Plan.{IsPlan, keys_left, planned_entry}
+use Rattle.version_table.specs.Plan.{IsPlan, keys_left}
 use Rattle.version_table.specs.Table.{OfTable}
 use Rattle.version_table.specs.Versions.{next_key}
 use Rattle.cached_table.specs.Entering.{AreInTurn, EntersNone, LosesUntaken, RefusesFor, ShowsRefusal, TellsUntaken, enter_refusal, plan_refusal}
@@ -47,26 +45,7 @@ module _ (draft : Entry) (plan : Plan) (good : is_entry draft ≡ true) where
   length_good : nat_le draft.length max_length ≡ true
   length_good = (and_parts (is_key draft.key && nat_le draft.keep max_keep) (nat_le draft.length max_length) runs_good.0).1
 
-  -- the planned version is an entry as its draft is
-  pub planned_good : is_name plan.key.name ≡ true → 1 ≤ plan.key.version → plan.keep ≤ 999 → is_entry (planned_entry plan draft.serial draft.length draft.runs) ≡ true
-  planned_good name version keep =
-      and_from (is_key plan.key && nat_le plan.keep max_keep && nat_le draft.length max_length && are_runs draft.runs) (total draft.runs == sectors_for draft.length)
-      (and_from (is_key plan.key && nat_le plan.keep max_keep && nat_le draft.length max_length) (are_runs draft.runs)
-      (and_from (is_key plan.key && nat_le plan.keep max_keep) (nat_le draft.length max_length)
-      (and_from (is_key plan.key) (nat_le plan.keep max_keep) (and_from (is_name plan.key.name) (nat_le 1 plan.key.version) name (le-leb 1 plan.key.version version)) (le-leb plan.keep max_keep keep)) length_good)
-      runs_good.1) sizes.1
-
 -- ---- what holds of the table
-
-module _ {D : Type 0} (P : Ghosts D) (old now : D) (walks : OnlyWalks P None old now) where
-  -- what was found holds as the next step begins
-  pub of_now : (Is : List Entry → Type 0) → OfTable P old now Is → OfTable P now now Is
-  of_now Is h trusted height tree =
-      let same = walks.stays trusted in
-      subst (λ (pages : List (List ℕ)). Is (table_of pages height)) (sym same) (h trusted height (subst (λ (pages : List (List ℕ)). IsTree pages height) same tree))
-
-pub of_later : {D : Type 0} (P : Ghosts D) (old now new : D) (Is : List Entry → Type 0) → (P.trusted new → P.trusted now) → OfTable P old now Is → OfTable P old new Is
-of_later P old now new Is trust h trusted = h (trust trusted)
 
 -- the number of a version that is planned is one
 pub is_usable : {D : Type 0} (P : Ghosts D) (old now new : D) (name : List ℕ) (given : Option ℕ) (plan : Plan) → plan.key.version < 2 ^ 32 → (P.trusted new → P.trusted now) → OfTable P old now (λ table. IsPlan name given table plan)
@@ -128,11 +107,6 @@ module _ {D : Type 0} (P : Ghosts D) (map : Area) (w : Waits) (name : List ℕ) 
 pub outer_told : (home_a : ℕ) (f : TreeFault) → outer_refusal (refusal_in home_a f) ≡ outer_of f
 outer_told home_a (Pages r) = refl
 outer_told home_a (Broken page) = refl
-
-pub outer_plan : (home_a : ℕ) (f : VersionFault) → outer_refusal (plan_refusal home_a f) ≡ outer_planned f
-outer_plan home_a (Table f) = outer_told home_a f
-outer_plan home_a NoSuch = refl
-outer_plan home_a VersionsUsedUp = refl
 
 pub outer_entered : (f : TreeFault) → outer_refusal (enter_refusal f) ≡ outer_of f
 outer_entered (Pages (Why.Unsound s)) = refl

@@ -21,9 +21,8 @@ use Rattle.version_table.specs.declared.fault.VersionFault.TheVariants.{Table, N
 use Rattle.version_table.specs.Fault.{FailsLook}
 use Rattle.version_table.specs.Table.{MakesTable, OfTable}
 use Rattle.version_table.proofs.PlanLaws.{each_found, each_kept}
-use Rattle.version_table.proofs.StepLaws.{tree_ascends}
+use Rattle.version_table.proofs.StepLaws.{tree_ascends, same_table}
 use Rattle.cached_table.specs.Editing.{ChangesNone, KeepFails, SetsKeep}
-use Rattle.cached_table.proofs.EditLaws.{same_table}
 
 last_one : (P : Entry → Type 0) (o : Option Entry) (xs : List Entry) → IfSome o P → AllByRecursion P xs → IfSome (last_or o xs) P
 last_one P o [] first all = first

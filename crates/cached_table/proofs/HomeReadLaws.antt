@@ -1,5 +1,5 @@
 -- Pages that are read from home, and stay there where nothing wears.
-use Rattle.std.proofs.Common.{◌≡◌, ℕ, ◌<◌, List, Some, None, sym, subst, ◌∙◌, inl, inr, ◌+◌, Option, refl, ap, arith}
+use Rattle.std.proofs.Common.{◌≡◌, ℕ, ◌<◌, List, Some, None, sym, subst, ◌∙◌, inl, inr, ◌+◌, ap, arith}
 use Rattle.std.specs.Prelude.{IsSome}
 use Rattle.std.proofs.lemmas.Bool.{cases_lt}
 use Rattle.volume_layout.specs.declared.layout.Layout.{Layout}
@@ -8,15 +8,12 @@ use Rattle.sector_disk.specs.declared.machine.Seen.TheVariants.{Whole, Damaged}
 use Rattle.sector_disk.specs.Machine.{Moment, Wears}
 use Rattle.sector_disk.specs.Image.{IsCalm}
 use Rattle.sector_disk.proofs.Calm.{calm_wears, calm_worn}
+use Rattle.sector_disk.proofs.ResultLaws.{some_is}
 use Rattle.fsd_sound.specs.Homes.{home_of}
 use Rattle.twin_home.specs.Home.{ShowsHome}
 use Rattle.cached_table.specs.HomeLaws.{home_stays, in_homes}
 use Rattle.cached_table.specs.Homes.{KnowsHomes, home_by}
 use Rattle.fsd_files.specs.Disk.{Image}
-
-some_is : {A : Type 0} (o : Option A) → IsSome o → (x : A) × (o ≡ Some x)
-some_is None some = absurd (cc some)
-some_is (Some x) some = (x, refl)
 
 pub calm_knows : (l : Layout) (at : Moment) → IsCalm at.windows → ((page : ℕ) → page < l.pages → IsSome (home_of l at.image page)) → KnowsHomes l at
 calm_knows l at calm there page lt =

@@ -6,6 +6,7 @@ pub mod LookLaws
 pub mod MetLaws
 pub mod OpeningLaws
 pub mod RefusalLaws
+pub mod PathLaws
 pub mod ResidentLaws
 pub mod StayLaws
 pub mod SurveyLaws

@@ -1,43 +1,37 @@
 -- What a table over a cache leaves where it was looked into.
 use Rattle.std.proofs.Common.{◌≡◌, ℕ, ◌<◌, Bool, true, List, length, Option, Some, None, Result, Ok, Err, refl, sym, ap, subst, ◌∙◌, arith, ◌⊎◌, inl, inr, ◌≤◌, false, ◌||◌}
-use Rattle.std.specs.Prelude.{Contains, IfErr, IfOk, IfSome, slice_get, slice_index_or, nat_eq, option_and_then}
+use Rattle.std.specs.Prelude.{IfErr, IfOk, IfSome, slice_get, slice_index_or, nat_eq, option_and_then}
 use Rattle.std.specs.Borrow.{MutBor}
 use Rattle.std.specs.Option.{option_or}
 use Rattle.std.proofs.lemmas.Bool.{both_ways, eqb-true, or_right}
 use Rattle.fsd_bytes.specs.declared.refusal.Refusal.{Refusal}
 use Rattle.fsd_bytes.specs.declared.refusal.Refusal.TheVariants.{Unsound}
-use Rattle.fsd_formats.specs.NamePage.{Content, Leaf, read_page}
-use Rattle.fsd_table.specs.Pages.{entries_of, page_at}
+use Rattle.fsd_formats.specs.NamePage.{read_page}
+use Rattle.fsd_table.specs.Pages.{page_at}
 use Rattle.fsd_table.specs.Table.{BreaksTable}
 use Rattle.sector_disk.specs.declared.machine.Machine.{Ghosts as MachineGhosts}
 use Rattle.sector_disk.specs.Calls.{OnlyReads}
 use Rattle.page_cache.specs.declared.source.PageSource.{Ghosts as SourceGhosts}
 use Rattle.page_cache.specs.Cache.{AreNewest, CacheValue, bytes_of, is_one_of, newest}
 use Rattle.name_page.specs.Looks.{Agrees, Shows}
-use Rattle.name_page.specs.Pages.{NeedsNoMemory, Step, rested, IsBarred, IsOuter, home_of, is_one_of as among, is_spare}
+use Rattle.name_page.specs.Pages.{Step, rested, IsBarred, IsOuter, home_of, is_one_of as among, is_spare}
 use Rattle.name_page.proofs.LookLaws.{agrees_at, agrees_now}
 use Rattle.name_btree.specs.declared.fault.TreeFault.{TreeFault}
 use Rattle.name_btree.specs.declared.fault.TreeFault.TheVariants.{Pages, Broken}
 use Rattle.name_btree.specs.Fault.{BarsTable, HasCause, IsOnWay, ShowsCause}
 use Rattle.name_btree.specs.declared.lookup.FoundEntry.{FoundEntry}
 use Rattle.name_btree.specs.Lookup.{IsLedTo, StandsIn}
-use Rattle.table_pages.specs.Bringing.{HasPages, IsTrusted, IsUsed, OnlyPins, given_by, home_in}
+use Rattle.table_pages.specs.Bringing.{IsTrusted, OnlyPins, given_by, home_in}
 use Rattle.table_pages.specs.Kept.{IsReady}
 use Rattle.table_pages.specs.ImageLaws.{image_at, image_count}
 use Rattle.table_pages.specs.Reads.{Fills, HadRefused, LosesFor, device_of}
-use Rattle.table_pages.specs.Table.{BarsPlace, HasUsed, IsAtRest, IsClean, IsOver, ReadsOnly, Trusted, begun, step_of}
+use Rattle.table_pages.specs.Table.{BarsPlace, IsAtRest, IsClean, IsOver, ReadsOnly, Trusted, begun, step_of}
 use Rattle.table_pages.specs.declared.table.Table.{Table}
 use Rattle.table_pages.proofs.KeptLaws.{reached_there}
 use Rattle.cached_table.proofs.ResidentLaws.{in_memory}
 use Rattle.cached_table.specs.Looking.{FaultIn, FaultsOver, Had, HaveOthers, HavePages, LeadsTo, LooksOnly, ShowsFault, ShowsPlace, images_by}
 use Rattle.cached_table.proofs.StayLaws.{StaysStep, agrees_then, kept_then, leads_then}
 use Rattle.cached_table.proofs.VisitLaws.{refused_breaks, way_within}
-
--- a table that is made over a cache has what is there
-pub used_first : {D E : Type 0} {M : MachineGhosts D} {S : SourceGhosts E} (m : MutBor D) (cache : MutBor CacheValue) (source : E) (free : MutBor (List Bool)) (a : Table D E M S)
-    → IsOver m cache source free a → HasPages (IsUsed free.now) cache.now → HasUsed a
-used_first m cache source free a over all =
-    subst (λ (f : MutBor (List Bool)). HasPages (IsUsed f.now) a.cache.now) (sym over.spared) (subst (λ (x : MutBor CacheValue). HasPages (IsUsed free.now) x.now) (sym over.cached) all)
 
 -- homes of pages of a table are not the same
 same_home : (count home_a page other : ℕ) → count ≤ 4096 → page < count → other < count → home_in home_a page ≡ home_in home_a other → other ≡ page
@@ -125,13 +119,6 @@ module _ {D E : Type 0} {M : MachineGhosts D} {S : SourceGhosts E} where
     leads_left cache' left (Err fault) there way = tt
     leads_left cache' left (Ok None) there way = tt
     leads_left cache' left (Ok (Some f)) there way = λ pages have. leads f there way pages (subst (λ (x : CacheValue). HavePages x (length free.now) pages) left have)
-
-    -- what it has in memory where all pages in use are there
-    pub memory_left : (cache' : CacheValue) → cache' ≡ c.cache.now → NeedsNoMemory HasUsed refusal a b → NeedsNoMemory HasUsed None b c → NeedsNoMemory (HasPages (IsUsed free.now)) refusal cache.now cache'
-    memory_left cache' left looked rested = record {
-      stays = λ all. subst (HasPages (IsUsed free.now)) (sym left) (subst (λ (f : List Bool). HasPages (IsUsed f) c.cache.now) free_c (rested.stays (looked.stays (used_first m cache source free a over all))));
-      enough = λ all. looked.enough (used_first m cache source free a over all);
-    }
 
     -- ---- what shows that a page breaks
 

@@ -29,10 +29,6 @@ use Rattle.cached_table.proofs.StayLaws.{StaysStep, met_shown, walks_stay}
 
 -- ---- over a cache
 
-pub on_err : {A B T F : Type 0} → (r : Result T F) → (A → B) → OnErr r A → OnErr r B
-on_err (Ok x) f h = tt
-on_err (Err fault) f h = f h
-
 -- A version was met between two, in a state to which pages were only reached, and from there on too.
 pub record MetBy {T : Type 0} (step : T → Step) (outside : Option Refusal → T → T → Type 0) (old new : T) (g : Leaving) : Type 0 where
   pub at : T

@@ -90,9 +90,6 @@ module _ {D E : Type 0} {M : MachineGhosts D} {S : SourceGhosts E} where
     images_still : Trusted b → (step_of b).images ≡ images_by M S source m.now cache.now (length free.now)
     images_still t = stays t ∙ images_first
 
-    pub free_left : c.free.now ≡ free.now
-    free_left = free_c
-
     -- ---- what is told
 
     pub told_of : (l : Layout) (map : Area) (marks : List Bool) (r : Result TableCounts TreeFault) → IfOk r (λ s. Trusted b → IsSurveyed l (step_of a) map marks s)

@@ -11,20 +11,16 @@ use Rattle.fsd_formats.specs.NamePage.{Content, Free, Leaf, Interior, is_page, a
 use Rattle.fsd_table.specs.declared.child.Child.{Child}
 use Rattle.fsd_table.specs.Pages.{children, children_of, content_fits, page_at}
 use Rattle.fsd_table.specs.Table.{BreaksTable, IsVisited, Visit, max_height, top, visits, visits_below}
-use Rattle.fsd_table.proofs.BoundLaws.{all_append}
+use Rattle.fsd_table.proofs.BoundLaws.{all_append, all_flat}
 use Rattle.fsd_table.proofs.BreakLaws.{misfit_breaks}
 use Rattle.fsd_table.proofs.PageLaws.{at_is_page}
 use Rattle.name_btree.specs.Fault.{IsOnWay}
 
 -- ---- what a visited page has
 
-all_below : (P : Visit → Type 0) (f : Child → List Visit) → ((d : Child) → AllByRecursion P (f d)) → (cs : List Child) → AllByRecursion P (flat_map f cs)
-all_below P f each [] = tt
-all_below P f each (d ∷ cs) = all_append P (f d) (flat_map f cs) (each d) (all_below P f each cs)
-
 each_own : (pages : List (List ℕ)) (levels depth : ℕ) (c : Child) → AllByRecursion (λ v. v.content ≡ page_at pages v.page) (visits_below levels pages depth c)
 each_own pages zero depth c = tt
-each_own pages (suc levels) depth c = (refl, all_below (λ v. v.content ≡ page_at pages v.page) (visits_below levels pages (depth + 1)) (each_own pages levels (depth + 1)) (children_of c.low c.high (page_at pages c.page)))
+each_own pages (suc levels) depth c = (refl, all_flat (λ v. v.content ≡ page_at pages v.page) (visits_below levels pages (depth + 1)) (each_own pages levels (depth + 1)) (children_of c.low c.high (page_at pages c.page)))
 
 pub one_of : (P : Visit → Type 0) (vs : List Visit) (v : Visit) → AllByRecursion P vs → (i : ℕ) → i < length vs → slice_index_or vs i v ≡ v → P v
 one_of P [] v all i lt is = absurd (omega arith)

@@ -1,5 +1,6 @@
 -- What a look-up leaves of a cache, and why one fails.
-use Rattle.std.specs.Prelude.{◌≡◌, ◌⊎◌, ⊤, ℕ, ◌<◌, Bool, true, false, nat_eq, List, Option, Some, Contains, length, slice_get, Result, Ok, Err}
+use Rattle.std.specs.Prelude.{◌≡◌, ◌⊎◌, ⊤, ℕ, ◌<◌, Bool, true, false, nat_eq, List, Option, Some, IsSome, Contains, length, slice_get, Result, Ok, Err}
+use Rattle.std.specs.List.{AllByRecursion}
 use Rattle.fsd_bytes.specs.declared.refusal.Refusal.{Refusal}
 use Rattle.fsd_bytes.specs.declared.refusal.Refusal.TheVariants.{Device, Memory, Unsound}
 use Rattle.fsd_formats.specs.declared.entry.Entry.{Entry}
@@ -8,9 +9,11 @@ use Rattle.sector_disk.specs.Calls.{OnlyReads}
 use Rattle.sector_disk.specs.Machine.{Moment}
 use Rattle.page_cache.specs.declared.source.PageSource.{Ghosts as SourceGhosts}
 use Rattle.page_cache.specs.Cache.{AreNewest, CacheValue, bytes_of, is_one_of, newest}
+use Rattle.page_cache.specs.Accepted.{content_in}
 use Rattle.table_pages.specs.Bringing.{IsTrusted, given_by, home_in}
 use Rattle.table_pages.specs.Kept.{IsReady, images_of}
 use Rattle.table_pages.specs.Reads.{Fills, LosesFor, Stood, device_of}
+use Rattle.fsd_forest.specs.Met.{path_of}
 use Rattle.fsd_table.specs.Pages.{entries_of}
 use Rattle.fsd_table.specs.Table.{BreaksTable, Visit, visits}
 use Rattle.name_page.specs.Pages.{IsOuter, is_spare}
@@ -33,6 +36,14 @@ FaultIn images free home_a (Broken page) = BreaksTable images page
 abbrev pub refusal_in : (home_a : ℕ) → TreeFault → Refusal
 refusal_in home_a (Pages refusal) = refusal
 refusal_in home_a (Broken page) = Unsound (home_in home_a page)
+
+-- the page is one of so many, and in the cache, where the grammar accepts it
+abbrev pub HasIn : CacheValue → (count page : ℕ) → Type 0
+HasIn c count page = (page < count) × IsSome (content_in c count page)
+
+-- so are all that the search for the highest version of a name meets
+pub record HasPathIn (count : ℕ) (name : List ℕ) (c : CacheValue) : Type 0 where
+  pub all : AllByRecursion (HasIn c count) (path_of (content_in c count) name)
 
 -- so many pages, with the bytes of those that the cache has
 pub record HavePages (c : CacheValue) (count : ℕ) (pages : List (List ℕ)) : Type 0 where

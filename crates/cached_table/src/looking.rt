@@ -1,15 +1,15 @@
 //! Look-ups in a table over a cache.
-ghost use Rattle.std.specs.Prelude.{◌≡◌, ◌<◌, ℕ, List, IfOk, IfErr, IfSome, length, true};
+ghost use Rattle.std.specs.Prelude.{◌≡◌, ◌<◌, ℕ, List, IfOk, IfErr, IfSome, Some, length, true};
 ghost use Rattle.std.specs.Option.{option_copied};
-ghost use Rattle.name_page.specs.Pages.{NeedsNoMemory};
-ghost use Rattle.table_pages.specs.Bringing.{HasPages, IsTrusted, IsUsed};
+ghost use Rattle.fsd_bytes.specs.declared.refusal.Refusal.TheVariants.{Memory};
+ghost use Rattle.table_pages.specs.Bringing.{IsTrusted};
 ghost use Rattle.table_pages.specs.Kept.{IsReady};
 ghost use Rattle.fsd_formats.specs.NamePage.{is_entry};
 ghost use Rattle.fsd_table.specs.Tree.{IsTree, table_of};
 ghost use Rattle.name_page.specs.Lookups.{entry_after, entry_with, highest_of, is_after};
 ghost use Rattle.name_btree.specs.Fault.{outer_told};
 ghost use Rattle.name_btree.specs.Lookup.{entry_of};
-ghost use Rattle.cached_table.specs.Looking.{FaultsOver, HavePages, LeadsTo, LooksOnly, ShowsFault, images_by, told};
+ghost use Rattle.cached_table.specs.Looking.{FaultsOver, HasPathIn, HavePages, LeadsTo, LooksOnly, ShowsFault, images_by, told};
 
 use fsd_bytes::{FileName, Key, Refusal};
 use name_btree::{FoundEntry, TreeFault, find, highest, next_after};
@@ -92,7 +92,8 @@ pub fn highest_in<M: Machine, S: PageSource>(
     requires { IsReady M.Machine S.PageSource m.old cache.old source.now free.old }
     ensures looks { LooksOnly M.Machine S.PageSource source.now (outer_told result) m.old m.new cache.old cache.new free.old }
     ensures free { free.new ≡ free.old }
-    ensures memory { NeedsNoMemory (HasPages (IsUsed free.old)) (outer_told result) cache.old cache.new }
+    ensures memory { HasPathIn (length free.old) name.now cache.old → outer_told result ≡ Some Memory → ⊥ }
+    ensures stays { HasPathIn (length free.old) name.now cache.old → HasPathIn (length free.old) name.now cache.new }
     ensures page { IfOk result (λ found. IfSome found (λ f. f.page < length free.old)) }
     ensures name { IfOk result (λ found. IfSome found (λ f. f.entry.key.name ≡ name.now)) }
     ensures way { IfOk result (λ found. IfSome found (λ f. (pages : List (List ℕ)) → HavePages cache.new (length free.old) pages → LeadsTo pages f)) }

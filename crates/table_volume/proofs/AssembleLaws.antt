@@ -1,32 +1,25 @@
 -- The volume that a mount assembles.
-use Rattle.std.proofs.Common.{inl, ◌≡◌, ℕ, zero, suc, ◌+◌, ◌-◌, false, ◌||◌, List, [], filter, replicate, None, Ok, refl, sym, ap, ◌∙◌}
+use Rattle.std.proofs.Common.{inl, ◌≡◌, ℕ, false, ◌||◌, List, [], replicate, None, Ok, refl, sym, ap, ◌∙◌}
 use Rattle.std.proofs.lemmas.Bool.{true≢false}
 use Rattle.page_cache.specs.Cache.{is_one_of}
-use Rattle.std.specs.List.{range_with_len}
 use Rattle.volume_layout.specs.declared.layout.Layout.{Layout}
 use Rattle.volume_layout.specs.Layout.{data_start, plan}
-use Rattle.run_table.specs.Space.{contains, where_free}
+use Rattle.run_table.specs.Space.{contains}
 use Rattle.sector_set.specs.Area.{area}
 use Rattle.shadow_frees.specs.Waits.{Waits, waits}
 use Rattle.log_thirds.specs.LogValue.{LogValue}
 use Rattle.table_volume.specs.Mounting.{assembled, no_area, none_waits}
 use Rattle.cached_table.specs.Opening.{IsOpened}
 use Rattle.volume_state.specs.Volume.{IsWhole}
+use Rattle.volume_state.proofs.FreeLaws.{nothing}
 use Rattle.cached_table.specs.Surveying.{IsOfData}
 use Rattle.cached_table.specs.declared.opening.Opened.{Opened}
 
 -- ---- no sector
 
-none_filtered : (a n : ℕ) → filter (λ s. false) (range_with_len a n) ≡ []
-none_filtered a zero = refl
-none_filtered a (suc n) = none_filtered (a + 1) n
-
-pub none_free : (from to : ℕ) → where_free (λ s. false) from to ≡ []
-none_free from to = none_filtered from (to - from)
-
 module _ (l : Layout) where
   pub none_of_area : (no_area l).sectors ≡ []
-  none_of_area = none_free (data_start l) l.sectors
+  none_of_area = nothing (data_start l) l.sectors
 
   none_of_data : IsOfData l (no_area l)
   none_of_data = ap (λ (xs : List ℕ). area (data_start l) l.sectors (contains xs)) (sym none_of_area)

@@ -127,10 +127,6 @@ calm_handed sectors i (Err told) fault is fails = subst (λ (f : MountFault). Mo
 
 -- ---- the parts of an opening
 
-pub opens_handed : (l : Layout) (at : Moment) (r : Result VolumeValue MountFault) (fault : MountFault) → IsErrAnd r (λ told. told ≡ fault) → IsUnread fault → OpensCalm l at r
-opens_handed l at (Ok v) fault is unread = absurd is
-opens_handed l at (Err told) fault is unread = inl (subst IsUnread (sym is) unread)
-
 module _ (l : Layout) (old mid : Moment) (same : mid ≡ old) (knows : KnowsHomes l old) where
   pub opens : (r : Result VolumeValue MountFault) → IfOk r (λ v. KnowsHomes l mid → IsTableOf l (home_pages l mid.image) (opened_of v)) → IfErr r (λ fault. KnowsHomes l mid → IsNoTable l (home_pages l mid.image) fault) → OpensCalm l old r
   opens (Ok v) table fails = (knows, subst (λ (x : Moment). KnowsHomes l x → IsTableOf l (home_pages l x.image) (opened_of v)) same table knows)

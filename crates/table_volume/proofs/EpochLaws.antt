@@ -11,6 +11,7 @@ use Rattle.sector_disk.proofs.Wear.{worn_refl}
 use Rattle.fsd_formats.specs.declared.anchor.Anchor.{Anchor}
 use Rattle.fsd_formats.specs.Anchors.{read_anchor}
 use Rattle.fsd_log.specs.Scan.{is_newer, newer_of}
+use Rattle.fsd_log.proofs.AnchorLaws.{newer_is_one}
 use Rattle.fsd_files.specs.Disk.{Image, SectorWorn, Sectors, bytes_of}
 use Rattle.fsd_runs.specs.Leaves.{AreNext, RaisesEpoch}
 use Rattle.fsd_sound.specs.Anchors.{EachAnchor, anchor_at, anchor_of}
@@ -68,16 +69,6 @@ all_anchors i s = by (anchor_at i s) refl
     by None is = tt
     by (Some a) is = is_anchor_at i s a is
 
--- the newer one is one of the two
-one_of_two : (x y : Option Anchor) (a : Anchor) → newer_of x y ≡ Some a → (x ≡ Some a) ⊎ (y ≡ Some a)
-one_of_two None y a is = inr is
-one_of_two (Some b) None a is = inl is
-one_of_two (Some b) (Some c) a is = by (is_newer c b) is
-  where
-    by : (test : Bool) → Some (cond test c b) ≡ Some a → (Some b ≡ Some a) ⊎ (Some c ≡ Some a)
-    by true e = inr e
-    by false e = inl e
-
 -- a mount that is refused for the last epoch was so by the image itself
 pub at_last_epoch : (sectors : ℕ) (old : Moment) → IsRefusedFor sectors WornOut old → IsAtLastEpoch old.image
 at_last_epoch sectors old is =
@@ -85,7 +76,7 @@ at_last_epoch sectors old is =
     let why = is.why in
     let weak = open_damage old.windows in
     let there : (anchor_at old.image 8 ≡ Some why.anchor) ⊎ (anchor_at old.image 12 ≡ Some why.anchor) =
-    ⊎_elim (λ e. inl (anchor_before weak old.image seen 8 why.anchor is.from e)) (λ e. inr (anchor_before weak old.image seen 12 why.anchor is.from e)) (one_of_two (anchor_at seen 8) (anchor_at seen 12) why.anchor why.found.anchor) in
+    ⊎_elim (λ e. inl (anchor_before weak old.image seen 8 why.anchor is.from e)) (λ e. inr (anchor_before weak old.image seen 12 why.anchor is.from e)) (newer_is_one (anchor_at seen 8) (anchor_at seen 12) why.anchor why.found.anchor) in
     let last = last_stays (anchor_at old.image 8) (anchor_at old.image 12) (all_anchors old.image 8) (all_anchors old.image 12) why.anchor why.epoch there in
     record { anchor = last.0; taken = last.1; last = last.2 }
 

@@ -15,8 +15,9 @@ use Rattle.table_volume.specs.Mounting.{IsAssembled, assembled, fresh_mounted, o
 use Rattle.cached_table.specs.Opening.{IsTableOf}
 use Rattle.volume_state.specs.State.{Holds, state}
 use Rattle.volume_state.specs.Volume.{VolumeValue}
-use Rattle.table_volume.proofs.AssembleLaws.{none_free, none_of_area}
+use Rattle.table_volume.proofs.AssembleLaws.{none_of_area}
 use Rattle.volume_state.proofs.CountLaws.{count_of_flags}
+use Rattle.volume_state.proofs.FreeLaws.{nothing}
 use Rattle.table_volume.proofs.MountLaws.{is_new}
 
 -- ---- where nothing waits
@@ -51,7 +52,7 @@ module _ (l : Layout) (planned : plan l.sectors l.third l.pages ≡ Ok l) (log :
       (λ s low high. free_there (is_data l s) (is_in (plans_of t.telling.entries) s) (in_data l s low high)) ∙ sym own)
 
   none_waits_there : where_free (waits (fresh_mounted l log pages t.telling files).volume) (data_start l) l.sectors ≡ []
-  none_waits_there = where_same (waits (fresh_mounted l log pages t.telling files).volume) (λ s. false) (data_start l) l.sectors (λ s low high. no_wait (is_in (plans_of t.telling.entries) s)) ∙ none_free (data_start l) l.sectors
+  none_waits_there = where_same (waits (fresh_mounted l log pages t.telling files).volume) (λ s. false) (data_start l) l.sectors (λ s low high. no_wait (is_in (plans_of t.telling.entries) s)) ∙ nothing (data_start l) l.sectors
 
   same_free : (s : ℕ) → contains v.map.sectors s ≡ is_free (fresh_mounted l log pages t.telling files).volume s
   same_free s = ap (λ (xs : List ℕ). contains xs s) own ∙ by (cases_Bool (is_data l s))

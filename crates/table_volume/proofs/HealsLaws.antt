@@ -8,11 +8,12 @@ use Rattle.sector_disk.specs.Machine.{Moment, Wears}
 use Rattle.fsd_files.specs.Disk.{Has}
 use Rattle.fsd_files.proofs.KeptLaws.{has_on}
 use Rattle.log_thirds.specs.LogValue.{LogValue}
-use Rattle.mount_recover.specs.Recover.{HasAnchors, HasBothHomes}
+use Rattle.mount_recover.specs.Recover.{HasAnchors}
 use Rattle.volume_contract.specs.Mount.{HealsAnchors, HealsHomes}
 use Rattle.table_volume.specs.Mounting.{IsAssembled}
 use Rattle.volume_state.specs.State.{state}
 use Rattle.volume_state.specs.Volume.{VolumeValue}
+use Rattle.fsd_sound.specs.Homes.{HasBothHomes}
 
 module _ (mid new : Moment) (wears : Wears mid new) where
   -- a sector that stands is only worn
@@ -30,4 +31,4 @@ module _ (mid new : Moment) (wears : Wears mid new) where
     pub homes_read : ((page : ℕ) → page < l.pages → HasBothHomes l mid page) → HealsHomes (state v) new
     homes_read has = subst (λ (x : VolumeValue). HealsHomes (state x) new) (sym a.is) (λ page lt.
         let both = has page lt in
-        ((both.first, stands_read both.first (home_a l page) both.stands), (both.second, stands_read both.second (home_b l page) both.stands_too)))
+        ((both.0.0, stands_read both.0.0 (home_a l page) both.0.1), (both.1.0, stands_read both.1.0 (home_b l page) both.1.1)))

@@ -1,6 +1,6 @@
 -- What a mount answers.
 use Rattle.std.proofs.Common.{◌≡◌, inl, inr, ℕ, ◌^◌, ◌<◌, false, not, ◌||◌, ◌&&◌, List, [], length, replicate, Some, None, Result, Ok, Err, refl, sym, ap, subst, ◌∙◌, arith}
-use Rattle.std.specs.Prelude.{IfErr, IfOk, ◌==◌}
+use Rattle.std.specs.Prelude.{IfOk, ◌==◌}
 use Rattle.std.proofs.Math.Bool.{or-false}
 use Rattle.std.proofs.lemmas.List.{ext_get_or, get_or-replicate, length-replicate}
 use Rattle.volume_layout.specs.declared.layout.Layout.{Layout}
@@ -28,18 +28,11 @@ use Rattle.table_volume.specs.Mounting.{IsAssembled, assembled, no_area, opened_
 use Rattle.cached_table.specs.Opening.{IsOpenFault}
 use Rattle.volume_state.specs.State.{freed_sectors, state}
 use Rattle.volume_state.specs.Volume.{VolumeValue}
+use Rattle.volume_state.proofs.FreeLaws.{nothing}
 use Rattle.cached_table.specs.declared.opening.Opened.{Opened}
-use Rattle.table_volume.proofs.AssembleLaws.{none_free, none_of_area, none_wait}
+use Rattle.table_volume.proofs.AssembleLaws.{none_of_area, none_wait}
 
 -- ---- results
-
-pub ok_more : {T E : Type 0} (P Q : T → Type 0) (r : Result T E) → ((x : T) → P x → Q x) → IfOk r P → IfOk r Q
-ok_more P Q (Ok x) more p = more x p
-ok_more P Q (Err fault) more p = tt
-
-pub err_more : {T E : Type 0} (P Q : E → Type 0) (r : Result T E) → ((fault : E) → P fault → Q fault) → IfErr r P → IfErr r Q
-err_more P Q (Ok x) more p = tt
-err_more P Q (Err fault) more p = more fault p
 
 -- what holds of what was opened holds of the volume with it
 pub opened_as : (Q : Opened → Type 0) (o : Opened) (r : Result VolumeValue MountFault) → Q o → IfOk r (λ v. opened_of v ≡ o) → IfOk r (λ v. Q (opened_of v))
@@ -61,7 +54,7 @@ module _ (l : Layout) (log : LogValue) (v : VolumeValue) (a : IsAssembled l log 
   none_unheld : (unheld (replicate 8 None) (no_area l)).sectors ≡ []
   none_unheld =
       where_same (λ s. contains (no_area l).sectors s && not (is_held (replicate 8 None) s)) (λ s. false) (data_start l) l.sectors (λ s from to. ap (λ (xs : List ℕ). contains xs s && not (is_held (replicate 8 None) s)) (none_of_area l))
-      ∙ none_free (data_start l) l.sectors
+      ∙ nothing (data_start l) l.sectors
 
   freed : freed_sectors (assembled l log (opened_of v)) ≡ v.map.sectors
   freed =
@@ -79,7 +72,7 @@ module _ (l : Layout) (log : LogValue) (v : VolumeValue) (a : IsAssembled l log 
     slots = slots;
     count = refl;
     dirty = a.opened.dirty;
-    waiting = where_same (waits (assembled l log (opened_of v)).shadow) (λ s. false) (data_start l) l.sectors (λ s from to. none_wait l s) ∙ none_free (data_start l) l.sectors;
+    waiting = where_same (waits (assembled l log (opened_of v)).shadow) (λ s. false) (data_start l) l.sectors (λ s from to. none_wait l s) ∙ nothing (data_start l) l.sectors;
     waits = ap (λ (xs : List ℕ). not (length xs == 0)) (none_of_area l);
     held = refl;
     freed = ap runs_of freed;

@@ -1,12 +1,13 @@
 -- Pages that tell entries whose sectors lie apart are broken by none.
-use Rattle.std.proofs.Common.{◌≡◌, inl, inr, ℕ, ◌&&◌, Bool, true, not, List, [], ◌∷◌, Some, refl, sym, ap, subst, ◌∙◌}
-use Rattle.std.specs.Prelude.{IsTrue, nat_le, nat_lt, ◌==◌}
+use Rattle.std.proofs.Common.{◌≡◌, inl, inr, ℕ, ◌&&◌, true, not, List, Some, refl, sym, ap, subst, ◌∙◌}
+use Rattle.std.specs.Prelude.{nat_le, nat_lt}
 use Rattle.std.specs.List.{flat_map, list_all}
-use Rattle.std.proofs.lemmas.Bool.{and_parts, eqb-true, leb-true, ltb-true, or_cases}
+use Rattle.std.proofs.lemmas.Bool.{and_parts, leb-true, ltb-true}
 use Rattle.volume_layout.specs.declared.layout.Layout.{Layout}
 use Rattle.volume_layout.specs.Layout.{data_start, is_data}
 use Rattle.run_table.specs.RunTable.{sectors_of}
 use Rattle.run_table.specs.Space.{all_differ, contains}
+use Rattle.run_table.proofs.SectorLaws.{all_in}
 use Rattle.sector_set.specs.Area.{area}
 use Rattle.sector_set.proofs.FreeLaws.{contains_where}
 use Rattle.fsd_formats.specs.declared.entry.Entry.{Entry}
@@ -21,15 +22,6 @@ use Rattle.table_survey.specs.Claims.{IsClaimed, whole_area}
 use Rattle.table_survey.proofs.ClaimLaws.{Among, claimed_fit}
 use Rattle.table_survey.proofs.VisitLaws.{among_all, tree_entries}
 
-each_of : (p : ℕ → Bool) (xs : List ℕ) (s : ℕ) → IsTrue (list_all p xs) → IsTrue (contains xs s) → IsTrue (p s)
-each_of p [] s all there = absurd (cc there)
-each_of p (x ∷ xs) s all there =
-    let parts = and_parts (p x) (list_all p xs) all in
-    elim (or_cases (x == s) (contains xs s) there) [
-      | inl here ↦ subst (λ (t : ℕ). IsTrue (p t)) (eqb-true x s here) parts.0
-      | inr more ↦ each_of p xs s parts.1 more
-    ]
-
 -- entries whose sectors lie apart are as if they were claimed
 apart_claimed : (l : Layout) (entries : List Entry) → Apart l (plans_of entries) → IsClaimed (whole_area l) entries (area (data_start l) l.sectors (λ s. contains (whole_area l).sectors s && not (is_in (plans_of entries) s)))
 apart_claimed l entries apart =
@@ -38,7 +30,7 @@ apart_claimed l entries apart =
     record {
       differ = parts.0;
       inside = λ s there.
-          let inside = and_parts (nat_le (data_start l) s) (nat_lt s l.sectors) (each_of (is_data l) all s parts.1 there) in
+          let inside = and_parts (nat_le (data_start l) s) (nat_lt s l.sectors) (all_in (is_data l) all s parts.1 there) in
           contains_where (λ t. true) (data_start l) l.sectors s (leb-true (data_start l) s inside.0) (ltb-true s l.sectors inside.1);
       left = refl;
     }

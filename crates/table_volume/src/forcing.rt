@@ -7,7 +7,7 @@ ghost use Rattle.fsd_sound.specs.Writes.{force_writes};
 ghost use Rattle.volume_contract.specs.State.{Counted, GoesOn, IsForced as HasForced, Known, Leaves, Stands, downs, enters_again, force_len, volume_of};
 ghost use Rattle.volume_contract.specs.Order.{Follows, Keeps, force_steps, is_idle, IsDevice};
 ghost use Rattle.volume_state.specs.Behind.{IsBehind};
-ghost use Rattle.table_pages.specs.Bringing.{KeepsPages};
+ghost use Rattle.table_pages.specs.Bringing.{KeepsContent};
 ghost use Rattle.volume_state.specs.Forcing.{force_refusal, place_of};
 ghost use Rattle.volume_state.specs.State.{resident, state, Holds};
 ghost use Rattle.fsd_files.specs.Answers.{force_outcome};
@@ -54,7 +54,7 @@ impl Volume {
         ensures state { GoesOn (downs result) (state self.old) (state self.new) }
         ensures idle { IsTrue (is_idle (force_steps (state self.old))) → m.new ≡ m.old }
         ensures kept { MatchResult result (λ x. HasForced (state self.old) (state self.new)) (λ why. Keeps (force_steps (state self.old)) why (state self.old) (state self.new)) }
-        ensures resident { OnOk result (KeepsPages self.old.cache self.new.cache) }
+        ensures resident { OnOk result (KeepsContent self.old.cache self.new.cache) }
         ensures causes { Causes M.Machine (resident self.old) (state self.old) (state self.new) m.old m.new result }
         ensures done { M.honest m.new → (k : Known) → Stands state Holds self.old k (M.now m.old) →
             EndsForce state Holds (λ met. force_outcome (volume_of k)) IsForced k self.new (M.now m.new) result }
@@ -69,6 +69,7 @@ impl Volume {
         if self.cache.dirty_list().len() == 0 {
             return Ok(Forced { pages: 0 });
         }
+        let _shape = self.log.layout();
         match Group::force_cached(m, &mut self.log, &mut self.cache, &mut self.room) {
             Ok(forced) => {
                 let _fits = self.log.layout();

@@ -1,18 +1,18 @@
 //! Entries by their order in the table.
-ghost use Rattle.std.specs.Prelude.{◌≡◌, ◌<◌, ◌≤◌, Contains, IfOk, IfErr, IfSome, IsTrue, option_map, true};
+ghost use Rattle.std.specs.Prelude.{◌≡◌, ◌<◌, ◌≤◌, Contains, Err, IfOk, IfErr, IfSome, IsTrue, option_map, true};
 ghost use Rattle.std.specs.Option.{option_copied};
+ghost use Rattle.fsd_bytes.specs.declared.refusal.Refusal.TheVariants as Why;
 ghost use Rattle.sector_disk.specs.Calls.{OnlyReads, device_in};
 ghost use Rattle.fsd_formats.specs.declared.entry.Entry.{Entry as Listed};
 ghost use Rattle.fsd_files.specs.Answers.{entry_after, highest_entry, next_reply};
 ghost use Rattle.name_page.specs.Lookups.{is_after};
-ghost use Rattle.name_page.specs.Pages.{NeedsNoMemory, outer_in};
 ghost use Rattle.volume_contract.specs.Causes.{Causes};
 ghost use Rattle.volume_contract.specs.Ends.{IsLater, Looks, device_of};
 ghost use Rattle.volume_contract.specs.Order.{Follows, IsLookUp, is_idle, next_steps};
 ghost use Rattle.volume_contract.specs.State.{Known, Stands, volume_of};
 ghost use Rattle.cached_table.specs.Looking.{Finds};
 ghost use Rattle.volume_changes.specs.Meeting.{met_found};
-ghost use Rattle.volume_state.specs.State.{HasAllUsed, Holds, resident, state};
+ghost use Rattle.volume_state.specs.State.{HasPathTo, Holds, resident, state};
 ghost use Rattle.volume_state.specs.Taken.{are_taken, met_entry};
 
 use crate::Volume;
@@ -69,7 +69,8 @@ impl Volume {
         ensures dirty { self.new.cache.dirty ≡ self.old.cache.dirty }
         ensures page { IfOk result (λ found. IfSome found (λ f. f.page < self.old.layout.pages)) }
         ensures name { IfOk result (λ found. IfSome found (λ f. f.entry.key.name ≡ name.now)) }
-        ensures memory { NeedsNoMemory HasAllUsed (outer_in result) self.old self.new }
+        ensures memory { HasPathTo self.old name.now → result ≡ Err Why.Memory → ⊥ }
+        ensures stays { HasPathTo self.old name.now → HasPathTo self.new name.now }
         ensures cause { IfErr result IsLookUp }
         ensures stands { M.honest m.new → (k : Known) → Stands state Holds self.old k (M.now m.old) → Stands state Holds self.new k (M.now m.new) }
         ensures found { M.honest m.new → (k : Known) → Stands state Holds self.old k (M.now m.old) → Finds (highest_entry name.now (volume_of k).entries) result }

@@ -9,7 +9,7 @@ ghost use Rattle.volume_contract.specs.Order.{by_itself, is_idle};
 ghost use Rattle.fsd_sound.specs.Writes.{force_writes};
 ghost use Rattle.volume_contract.specs.State.{Counted, Known, Leaves, Stands, change_len, forces_first, forces_for_place, put_len, put_writes};
 ghost use Rattle.volume_state.specs.Behind.{IsBehind};
-ghost use Rattle.table_pages.specs.Bringing.{KeepsPages};
+ghost use Rattle.table_pages.specs.Bringing.{KeepsContent};
 ghost use Rattle.volume_state.specs.Placing.{EndsStore, IsPlace, Stores, store_len, store_steps};
 ghost use Rattle.volume_state.specs.Preparing.{EndsForced, EndsPrepare, Forces, Prepares, prepare_steps};
 ghost use Rattle.volume_state.specs.State.{Holds, resident, state};
@@ -73,7 +73,7 @@ impl Volume {
         ensures still { IsFalse (forces_first (state self.old)) → self.new ≡ self.old }
         ensures few { OnOk result (length self.new.cache.dirty ≤ 56) }
         ensures free { OnOk result ((s : ℕ) → IsTrue (contains self.old.map.sectors s) → IsTrue (contains self.new.map.sectors s)) }
-        ensures resident { OnOk result (KeepsPages self.old.cache self.new.cache) }
+        ensures resident { OnOk result (KeepsContent self.old.cache self.new.cache) }
         ensures done { M.honest m.new → (k : Known) → Stands state Holds self.old k (M.now m.old) → EndsForced k self.new (M.now m.new) result }
     {
         let _ = &self.layout;

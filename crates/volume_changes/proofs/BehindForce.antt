@@ -16,12 +16,13 @@ use Rattle.fsd_sound.proofs.MountedLaws.{mounted_sound}
 use Rattle.fsd_runs.specs.Runs.{last_count}
 use Rattle.volume_contract.specs.Ends.{Answered, Ends, Unchanged}
 use Rattle.volume_contract.specs.Order.{Comes, Follows, Force, Keeps, Passes, Step, Test, Through, by_itself, is_idle, worn}
-use Rattle.volume_contract.specs.State.{Counted, GoesOn, HasCounted, IsForced, Known, Leaves, Stands, State, downs, forced_of, forces_first, is_worn, numbered, volume_of}
+use Rattle.volume_contract.specs.State.{Counted, GoesOn, HasCounted, HasLogged, IsForced, KeepsLog, Known, Leaves, Stands, State, downs, forced_of, forces_first, is_worn, numbered, volume_of}
 use Rattle.volume_changes.specs.Ending.{Edits, EndsEdit, IsEdited, look_steps}
 use Rattle.volume_state.specs.Preparing.{EndsForced, Forces, StandsForced}
 use Rattle.volume_state.specs.State.{Holds, state}
 use Rattle.volume_state.specs.Steps.{Went}
 use Rattle.volume_state.specs.Volume.{VolumeValue}
+use Rattle.volume_state.proofs.LogLaws.{keeps_same, logged_forced, logged_none, logged_still}
 use Rattle.volume_state.proofs.StepLaws.{comes_behind, comes_more, idle_behind, keeps_behind, keeps_more, through_more}
 use Rattle.volume_state.proofs.StoreLaws.{IsOn, sound_on}
 use Rattle.volume_state.specs.WearLaws.{stands_worn}
@@ -118,15 +119,20 @@ module _ (s : State) (tests : List (Option Refusal)) (through : Through (tests_o
     behind : (why : Refusal) → Keeps look_steps why t t → Keeps (by_itself s ∷ look_steps) why s t
     behind why keeps = keeps_behind (by_itself s ∷ []) look_steps why s t t forces.kept keeps
 
+    log_edited : IsEdited t u → KeepsLog t u
+    log_edited edited = record { anchor = ap (λ (x : State). x.anchor) edited.is; head = ap (λ (x : State). x.head) edited.is; slots = ap (λ (x : State). x.slots) edited.is }
+
     counted_ok : IsEdited t u → HasCounted false (forces_first s) s u
     counted_ok edited = elim went [
       | inl none ↦ record {
         count = ap (λ (x : State). x.serial.count) edited.is ∙ ap (λ (x : State). x.serial.count) none.1;
         number = ap (λ (x : State). x.head.number) edited.is ∙ ap (λ (x : State). x.head.number) none.1 ∙ ap (λ (b : Bool). cond b (numbered s) s.head.number) (sym none.0);
+        log = subst (λ (b : Bool). HasLogged b s u) (sym none.0) (logged_still t u (log_edited edited) false s (logged_none s t (keeps_same s t none.1)));
       }
       | inr came ↦ record {
         count = ap (λ (x : State). x.serial.count) edited.is ∙ ap (λ (x : State). x.serial.count) came.1.is;
         number = ap (λ (x : State). x.head.number) edited.is ∙ came.1.number ∙ ap (λ (b : Bool). cond b (numbered s) s.head.number) (sym came.0);
+        log = subst (λ (b : Bool). HasLogged b s u) (sym came.0) (logged_still t u (log_edited edited) true s (logged_forced s t came.1));
       }
     ]
 

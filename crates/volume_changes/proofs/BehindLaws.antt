@@ -1,6 +1,6 @@
 -- What is known behind a force, and why a look-up there tells something as lost or as unsound, said of the volume before the force.
 use Rattle.std.proofs.Common.{◌≡◌, ◌⊎◌, inl, inr, ℕ, ◌<◌, Bool, true, false, cond, nat_le, nat_lt, List, length, Option, Some, None, Result, Ok, Err, refl, sym, ap, subst, ◌∙◌, arith}
-use Rattle.std.specs.Prelude.{IfSome, IsErrAnd, IsFalse, IsTrue, OnOk, slice_index_or}
+use Rattle.std.specs.Prelude.{IfSome, IsErrAnd, IsFalse, IsTrue, slice_index_or}
 use Rattle.volume_layout.specs.declared.layout.Layout.{Layout}
 use Rattle.std.proofs.lemmas.Bool.{and_parts, leb-true}
 use Rattle.volume_layout.specs.Layout.{data_start, home_a, is_data}
@@ -18,6 +18,7 @@ use Rattle.sector_disk.proofs.Wear.{worn_refl, worn_trans, worn_whole}
 use Rattle.fsd_formats.specs.declared.entry.Entry.{Entry}
 use Rattle.fsd_table.specs.Breaks.{Breaks}
 use Rattle.fsd_files.specs.Disk.{Image, SectorWorn}
+use Rattle.fsd_log.specs.Places.{LieInRecord}
 use Rattle.log_thirds.specs.Images.{LiesAt}
 use Rattle.log_thirds.specs.LogValue.{LogValue}
 use Rattle.log_thirds.specs.declared.slots.Slot.{Slot}
@@ -32,7 +33,7 @@ use Rattle.volume_state.specs.Placing.{HasStored}
 use Rattle.volume_state.specs.State.{resident, state}
 use Rattle.volume_state.specs.Volume.{VolumeValue}
 use Rattle.volume_changes.proofs.CauseLaws.{handed_cause}
-use Rattle.volume_state.proofs.PutCauses.{copies_of, none_before}
+use Rattle.volume_state.proofs.PutCauses.{copies_of, none_before, told_of}
 use Rattle.volume_changes.proofs.TestedLaws.{delete_tested, keep_tested}
 use Rattle.volume_state.proofs.WrittenLaws.{merged, merged_at, merged_size}
 
@@ -51,7 +52,7 @@ module _ (s t u : State) (before after : ℕ → Option (List ℕ)) (old mid now
   }
 
   stands_now : (i : Image) (page : ℕ) (bytes : List ℕ) → StandsInCopy t i page bytes → StandsInCopy u i page bytes
-  stands_now i page bytes stands = record { a = stands.a; b = stands.b; copies = copies_now page stands.a stands.b stands.copies; whole = stands.whole }
+  stands_now i page bytes stands = record { a = stands.a; b = stands.b; copies = told_of u t page stands.a stands.b (sym slots) (sym layout) stands.copies; whole = stands.whole }
 
   -- what wear may come to stands whole before it
   whole_before : (i j : Image) (page : ℕ) (bytes : List ℕ) → IsWorn (open_damage mid.windows) i j → StandsInCopy t j page bytes → StandsInCopy t i page bytes
@@ -73,7 +74,7 @@ module _ (s t u : State) (before after : ℕ → Option (List ℕ)) (old mid now
   in_copy page bytes logged = record {
     a = logged.stands.a;
     b = logged.stands.b;
-    copies = inl (subst (λ (slots : List (Option Slot)). LiesAt (slice_index_or slots page None) logged.stands.a logged.stands.b) logged.slots logged.stands.lies);
+    copies = inl (subst (λ (slots : List (Option Slot)). LiesAt (slice_index_or slots page None) logged.stands.a logged.stands.b) logged.slots logged.stands.logged.lies);
     whole = inl logged.stands.first;
   }
 
@@ -139,10 +140,11 @@ causes_behind M s t u before after old mid now behind slots layout wears (Err wh
 pub behind_itself : (s : State) (held : ℕ → Option (List ℕ)) (now : Moment) → IsBehind s s held held now
 behind_itself s held now = record { layout = refl; free_pages = refl; pages = λ page bytes is. inl is; untaken = λ e untaken. untaken }
 
--- what is so whatever a call answers is so at Ok
-pub ok_as : {T : Type 0} (P : Type 0) (r : Result T Refusal) → P → OnOk r P
-ok_as P (Ok x) so = so
-ok_as P (Err why) so = tt
+-- a record lies before the homes
+record_below : (x : Layout) (a b : ℕ) → LieInRecord x a b → (a < home_a x 0) × (b < home_a x 0)
+record_below x a b lies =
+    let there = lies.there in let first = lies.first in let copy = lies.copy in let to = lies.to in
+    (omega (arith, there, first, to), omega (arith, there, copy, to))
 
 -- sectors of the data area are written and a serial is drawn
 module _ (l : Layout) (mid now : Moment) (writes : WritesIn (is_data l) mid now) where
@@ -184,17 +186,17 @@ module _ (l : Layout) (mid now : Moment) (writes : WritesIn (is_data l) mid now)
 
   -- what stands in the log lies before the data area
   logged_still : (log : LogValue) → log.layout ≡ l → (page : ℕ) (bytes : List ℕ) → StandsLogged log mid page bytes → StandsLogged log now page bytes
-  logged_still log same page bytes g = record {
-    seen = then_seen g.seen g.worn;
-    worn = then_worn g.seen g.worn;
-    a = g.a;
-    b = g.b;
-    lies = g.lies;
-    first = kept_at g.seen g.worn g.a (subst (λ (x : Layout). g.a < home_a x 0) same g.below_a) ∙ g.first;
-    second = kept_at g.seen g.worn g.b (subst (λ (x : Layout). g.b < home_a x 0) same g.below_b) ∙ g.second;
-    below_a = g.below_a;
-    below_b = g.below_b;
-  }
+  logged_still log same page bytes g =
+      let below : (g.a < home_a l 0) × (g.b < home_a l 0) = subst (λ (x : Layout). (g.a < home_a x 0) × (g.b < home_a x 0)) same (record_below log.layout g.a g.b g.logged.in_record) in
+      record {
+        seen = then_seen g.seen g.worn;
+        worn = then_worn g.seen g.worn;
+        a = g.a;
+        b = g.b;
+        logged = g.logged;
+        first = kept_at g.seen g.worn g.a below.0 ∙ g.first;
+        second = kept_at g.seen g.worn g.b below.1 ∙ g.second;
+      }
 
   pub written_behind : (s t : State) (before after : ℕ → Option (List ℕ)) → t.layout ≡ l → IsBehind s t before after mid → IsBehind s (with_drawn t) before after now
   written_behind s t before after same behind = record { layout = behind.layout; free_pages = behind.free_pages; pages = pages; untaken = behind.untaken }

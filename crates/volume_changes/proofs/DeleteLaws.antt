@@ -14,9 +14,9 @@ use Rattle.fsd_table.specs.Tree.{pages_of}
 use Rattle.fsd_table.proofs.BoundLaws.{Ascend, entries_ascend}
 use Rattle.fsd_files.specs.Answers.{deleted, entry_of}
 use Rattle.fsd_files.specs.Disk.{in_runs}
-use Rattle.fsd_files.specs.Files.{Change, Files}
-use Rattle.fsd_files.specs.Kept.{Lists}
+use Rattle.fsd_files.specs.Files.{Change}
 use Rattle.fsd_files.specs.Volume.{Volume, entries_at, entries_without}
+use Rattle.fsd_files.proofs.ListingLaws.{lists_length}
 use Rattle.page_cache.specs.Cache.{CacheValue, IsCache, is_one_of}
 use Rattle.fsd_sound.specs.Mounted.{most_changed}
 use Rattle.group_commit.specs.contracts.newest.NewestPageSource.TheImpl as by_log
@@ -31,12 +31,6 @@ use Rattle.volume_changes.proofs.MadeLaws.{has_table, pages_made, pages_now, wor
 use Rattle.volume_state.proofs.TableLaws.{is_tree}
 
 -- ---- how many versions there are
-
-pub as_many_files : (files : Files) (entries : List Entry) → Lists files entries → length files ≡ length entries
-as_many_files [] [] lists = refl
-as_many_files [] (z ∷ entries) lists = absurd lists
-as_many_files (y ∷ files) [] lists = absurd lists
-as_many_files (y ∷ files) (z ∷ entries) lists = omega (arith, as_many_files files entries lists.1)
 
 pub split_count : (p : Entry → Bool) (entries : List Entry) → length (filter (λ e. not (p e)) entries) + length (filter p entries) ≡ length entries
 split_count p [] = refl
@@ -78,8 +72,8 @@ module _ {D : Type 0} (M : MachineGhosts D) (short : (m : D) → M.honest m → 
       let parts = split_count (λ x. list_any (same_key x.key) (key ∷ [])) (volume_of k).entries in
       omega (
         arith,
-        as_many_files volume_left.files volume_left.entries after.described.lists,
-        as_many_files (volume_of k).files (volume_of k).entries stands.disk.described.lists,
+        lists_length volume_left.files volume_left.entries after.described.lists,
+        lists_length (volume_of k).files (volume_of k).entries stands.disk.described.lists,
         parts,
         ap (λ (es : List Entry). length es) alone,
         stands.fits.versions,

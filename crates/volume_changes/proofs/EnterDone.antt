@@ -1,5 +1,5 @@
 -- How it ends over a volume that stands where a version was entered: it stands with the version.
-use Rattle.std.proofs.Common.{◌≡◌, ℕ, suc, ◌+◌, ◌-◌, ◌^◌, ◌<◌, ◌≤◌, min, Bool, true, not, ◌&&◌, List, [], ◌∷◌, length, filter, Option, None, Some, refl, sym, ap, subst, ◌∙◌, arith, eqb-true, length-append}
+use Rattle.std.proofs.Common.{◌≡◌, ℕ, suc, ◌+◌, ◌-◌, ◌^◌, ◌<◌, ◌≤◌, min, Bool, true, not, ◌&&◌, List, [], ◌∷◌, length, Option, None, Some, refl, sym, ap, subst, ◌∙◌, arith, eqb-true, length-append}
 use Rattle.std.specs.Prelude.{count_by, nat_le, nat_lt, ◌==◌}
 use Rattle.std.specs.List.{flat_map, list_all}
 use Rattle.std.proofs.lemmas.Bool.{and_parts, leb-true, ltb-true, ne_eqb}
@@ -12,8 +12,9 @@ use Rattle.fsd_bytes.specs.Keys.{is_key, max_u32}
 use Rattle.fsd_bytes.specs.declared.key.Key.{Key}
 use Rattle.run_table.specs.RunTable.{are_runs, sectors_of, total}
 use Rattle.run_table.specs.Space.{all_differ, contains, where_free}
+use Rattle.run_table.proofs.SectorLaws.{length_of_sectors}
 use Rattle.sector_set.specs.Area.{Area, without}
-use Rattle.sector_set.proofs.CountLaws.{count_of_list, length_of_sectors, split_where}
+use Rattle.sector_set.proofs.CountLaws.{count_of_list, split_where}
 use Rattle.shadow_frees.specs.Waits.{Waits}
 use Rattle.fsd_formats.specs.declared.entry.Entry.{Entry}
 use Rattle.fsd_formats.specs.NamePage.{is_entry, max_keep, max_length, sectors_for}
@@ -22,6 +23,7 @@ use Rattle.fsd_files.specs.Answers.{HasVersion, entry_of}
 use Rattle.fsd_files.specs.Files.{new_key}
 use Rattle.fsd_files.specs.Space.{Apart}
 use Rattle.fsd_files.specs.Volume.{plans_of}
+use Rattle.fsd_files.proofs.ListingLaws.{lists_length}
 use Rattle.group_commit.specs.Cached.{AreWaiting}
 use Rattle.group_commit.specs.contracts.newest.NewestPageSource.TheImpl as by_log
 use Rattle.log_thirds.specs.LogValue.{LogValue}
@@ -38,18 +40,14 @@ use Rattle.volume_changes.specs.Entered.{StandsEntered}
 use Rattle.volume_state.specs.Placing.{IsPlace}
 use Rattle.volume_state.specs.State.{Holds, state}
 use Rattle.volume_state.specs.Volume.{IsWhole, VolumeValue}
-use Rattle.volume_changes.proofs.DeleteLaws.{as_many_files}
 use Rattle.volume_changes.proofs.EnterEnds.{none_bars, of_entries}
 use Rattle.volume_changes.proofs.EnteredLaws.{after, ascend, count_entered, entries_made, entry_entered, known_entered, some_waits, sorted, stands_entered}
 use Rattle.volume_changes.proofs.MadeLaws.{has_table, pages_made, pages_now}
 use Rattle.volume_changes.proofs.MakingLaws.{with_if}
 use Rattle.volume_state.proofs.TakenLaws.{all_of}
+use Rattle.volume_state.proofs.FlagLaws.{all_pass}
 
 -- ---- no more versions than sectors
-
-all_pass : (xs : List ℕ) → filter (λ s. true) xs ≡ xs
-all_pass [] = refl
-all_pass (x ∷ xs) = ap (λ (ys : List ℕ). x ∷ ys) (all_pass xs)
 
 some_sectors : (e : Entry) → is_entry e ≡ true → 1 ≤ length (sectors_of e.runs)
 some_sectors e good =
@@ -144,7 +142,7 @@ module _ {D : Type 0} (M : MachineGhosts D) (short : (m : D) → M.honest m → 
       let good : list_all is_entry (volume_of known).entries ≡ true = subst (λ (es : List Entry). list_all is_entry es ≡ true) tree_entries (entries_good (height - 1) (pages_now M short m m' v whole cached c flags None edits_here honest k here) top) in
       omega (
         arith,
-        as_many_files (volume_of known).files (volume_of known).entries then.described.lists,
+        lists_length (volume_of known).files (volume_of known).entries then.described.lists,
         few_entries (volume_of k).layout (volume_of known).entries then.described.apart good,
         ap (λ (l : Layout). l.sectors) here.fits.layout,
       )
@@ -154,7 +152,7 @@ module _ {D : Type 0} (M : MachineGhosts D) (short : (m : D) → M.honest m → 
       let then = after M short m m' v whole cached c flags edits_here honest k here few within name bytes given draft plan plan_here long makes_here place_here written in
       omega (
         arith,
-        as_many_files (volume_of known).files (volume_of known).entries then.described.lists,
+        lists_length (volume_of known).files (volume_of known).entries then.described.lists,
         found_some _ (volume_of known).entries _ (entry_entered M short m m' v whole cached c flags edits_here honest k here few within name bytes given draft plan plan_here long makes_here place_here written),
       )
 

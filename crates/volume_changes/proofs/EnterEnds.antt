@@ -1,5 +1,5 @@
 -- How it ends over a volume that stands where a version was to be entered into its table.
-use Rattle.std.proofs.Common.{◌≡◌, inl, inr, ℕ, ◌+◌, ◌-◌, ◌<◌, ◌≤◌, Bool, false, cond, List, [], length, Option, Some, None, Result, Ok, Err, refl, sym, ap, subst, ◌∙◌, arith}
+use Rattle.std.proofs.Common.{◌≡◌, inl, inr, ℕ, ◌+◌, ◌-◌, ◌<◌, ◌≤◌, Bool, false, cond, List, [], length, Option, Some, None, Result, Err, refl, sym, ap, subst, ◌∙◌, arith}
 use Rattle.std.specs.Prelude.{IsErrAnd, count_by, nat_lt, slice_index_or}
 use Rattle.std.specs.List.{AllByRecursion, flat_map, list_all, list_any}
 use Rattle.std.proofs.lemmas.Bool.{and_parts, both_ways, le-ltb, lt-ltb}
@@ -44,6 +44,7 @@ use Rattle.volume_changes.proofs.MadeLaws.{stands_unedited, trusted, worn}
 use Rattle.volume_state.proofs.PageLaws.{never_lost}
 use Rattle.volume_state.proofs.TableLaws.{is_tree, not_spare, pages_read, unbroken}
 use Rattle.volume_state.proofs.TakenLaws.{taken_is_out}
+use Rattle.volume_state.proofs.RangeLaws.{handed}
 
 -- ---- by the definitions
 
@@ -167,17 +168,13 @@ module _ {D : Type 0} (M : MachineGhosts D) (short : (m : D) → M.honest m → 
 
 -- ---- as the parts of a volume have it
 
-pub told_so : {T : Type 0} (P : Result T Refusal → Type 0) (r : Result T Refusal) (why : Refusal) → IsErrAnd r (λ told. told ≡ why) → P (Err why) → P r
-told_so P (Ok x) why same h = absurd same
-told_so P (Err told) why same h = subst (λ (x : Refusal). P (Err x)) (sym same) h
-
 module _ {D : Type 0} (M : MachineGhosts D) (short : (m : D) → M.honest m → AreShort (M.now m).windows) (m m' : D) (v w : VolumeValue) (is : v ≡ w) (whole : IsWhole v) (cached : IsCache v.cache) (c : CacheValue) (flags : List Bool)
     (log : LogValue) (of_log : log ≡ v.log) (valid : IsCache c) (name : List ℕ) (given : Option ℕ) (draft : Entry) where
   pub ends_refused : (result : Result Key Refusal) (why : Refusal) → IsErrAnd result (λ told. told ≡ why) → EditsOnly M by_log.ghosts log (outer_refusal why) m m' v.cache c v.free_pages flags
       → StaysIn M by_log.ghosts log m m' v.cache c v.free_pages flags → NoneFor M by_log.ghosts log v.map v.shadow name m m' v.cache c v.free_pages flags why
       → M.honest m' → (k : Known) → Stands state Holds w k (M.now m) → (bytes : List ℕ) → EndsEnter name given bytes draft k (record v { cache = c; free_pages = flags }) (M.now m') result
   ends_refused result why told edits stays none honest k stands bytes =
-      told_so (λ (r : Result Key Refusal). EndsEnter name given bytes draft k (record v { cache = c; free_pages = flags }) (M.now m') r) result why told
+      handed (λ (r : Result Key Refusal). EndsEnter name given bytes draft k (record v { cache = c; free_pages = flags }) (M.now m') r) result why told
       (refused_ends M short m m' v whole cached c flags honest k (subst (λ (x : VolumeValue). Stands state Holds x k (M.now m)) (sym is) stands) name given bytes draft valid
       (subst (λ (l : LogValue). StaysIn M by_log.ghosts l m m' v.cache c v.free_pages flags) of_log stays) why
       (subst (λ (l : LogValue). EditsOnly M by_log.ghosts l (outer_refusal why) m m' v.cache c v.free_pages flags) of_log edits)

@@ -50,10 +50,10 @@ use Rattle.volume_state.specs.Volume.{IsWhole, VolumeValue}
 use Rattle.cached_table.specs.Surveying.{IsOfData}
 use Rattle.volume_changes.proofs.ChangeLaws.{stands_changed}
 use Rattle.volume_changes.proofs.EnteredSpace.{made_count, made_free, made_there, made_waits}
-use Rattle.volume_changes.proofs.KeepEnds.{same_told}
 use Rattle.volume_changes.proofs.LeavingLaws.{gone_leave}
 use Rattle.volume_changes.proofs.MadeLaws.{has_table, pages_made, pages_now, worn}
 use Rattle.volume_changes.proofs.NewVersionLaws.{place_free, version_changed, version_described, written_kept}
+use Rattle.volume_changes.proofs.KeepEnds.{same_told}
 use Rattle.volume_state.proofs.TableLaws.{is_tree}
 
 -- the free sectors without those that are taken

@@ -26,12 +26,13 @@ use Rattle.fsd_files.specs.Kept.{Lists}
 use Rattle.fsd_files.specs.Volume.{Volume, entries_at, entries_without, in_version, is_free, is_in, plans_of}
 use Rattle.fsd_files.specs.Waiting.{Changes}
 use Rattle.fsd_files.proofs.ChangeLaws.{IsAbsent, same_key_turned}
+use Rattle.fsd_files.proofs.ListingLaws.{lists_length}
 use Rattle.fsd_table.proofs.KeyLaws.{keys_total}
 use Rattle.version_table.specs.declared.oldest.Leaving.{Leaving}
 use Rattle.version_table.specs.Met.{entries_left}
 use Rattle.cached_table.specs.Entering.{with_gone}
 use Rattle.cached_table.specs.Surveying.{IsOfData}
-use Rattle.volume_changes.proofs.DeleteLaws.{as_many_files, split_count}
+use Rattle.volume_changes.proofs.DeleteLaws.{split_count}
 use Rattle.volume_changes.proofs.GoneLaws.{split_in}
 
 or_none : (a : Bool) → (a || false) ≡ a
@@ -178,8 +179,8 @@ module _ (v : Volume) (name bytes : List ℕ) (given : Option ℕ) (runs : List 
     made_count gs left lists made_lists =
         omega (
           arith,
-          as_many_files made.files made.entries made_lists,
-          as_many_files v.files v.entries lists,
+          lists_length made.files made.entries made_lists,
+          lists_length v.files v.entries lists,
           count_put out new stays v.entries absent,
           split_count (λ x. list_any (same_key x.key) out) v.entries,
           as_many_left gs,

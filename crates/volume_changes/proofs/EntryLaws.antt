@@ -1,6 +1,6 @@
 -- What is told of an entry that is looked up in a volume's table.
 use Rattle.std.proofs.Common.{◌≡◌, inl, inr, ℕ, suc, Bool, true, false, cond, List, [], ◌∷◌, Option, Some, Result, Ok, Err, refl, sym, ap, subst, ◌∙◌, arith}
-use Rattle.std.specs.Prelude.{Contains, IfOk, IsTrue}
+use Rattle.std.specs.Prelude.{Contains, IfOk, IsTrue, None, slice_index_or}
 use Rattle.std.specs.Ordering.{is_eq}
 use Rattle.std.specs.declared.cmp.Ordering.{Ordering}
 use Rattle.std.specs.declared.cmp.Ordering.TheVariants.{Less, Equal, Greater}
@@ -19,6 +19,7 @@ use Rattle.fsd_files.specs.Answers.{entry_of, entry_reply, found_or}
 use Rattle.fsd_files.specs.Replies.{Reply}
 use Rattle.fsd_files.specs.Volume.{Volume}
 use Rattle.fsd_sound.specs.Homes.{AreHomesOf}
+use Rattle.log_thirds.specs.Images.{AreOfSlot}
 use Rattle.log_thirds.specs.LogValue.{LogValue}
 use Rattle.group_commit.specs.Newest.{AreCopies as AreCopiesBy}
 use Rattle.group_commit.specs.contracts.newest.NewestPageSource.TheImpl as by_log
@@ -95,7 +96,7 @@ fault_looked_up reply e (Why.Long declared got) h = absurd h
 
 -- the copies by the log are those by what the volume tells
 pub copies_told : (v : VolumeValue) → IsWhole v → (page a b : ℕ) → AreCopiesBy v.log page a b → AreCopiesOf (state v) page a b
-copies_told v whole page a b (inl logged) = inl logged.lies
+copies_told v whole page a b (inl logged) = inl (subst (λ (l : Layout). AreOfSlot l (slice_index_or v.log.slots page None) a b) whole.log logged)
 copies_told v whole page a b (inr (none, homes)) = inr (none, subst (λ (l : Layout). AreHomesOf l page a b) whole.log homes)
 
 module _ {D : Type 0} (M : MachineGhosts D) (m m' : D) (v w : VolumeValue) (is : v ≡ w) (whole : IsWhole v) (c : CacheValue) (log : LogValue) (of_log : log ≡ v.log) (home_a : ℕ) (a b : ℕ) where

@@ -1,20 +1,18 @@
 -- The versions that go: their sectors are taken, each alone, and wait one after another.
-use Rattle.std.proofs.Common.{◌≡◌, ℕ, ◌+◌, ◌<◌, ◌≤◌, Bool, true, false, cond, ◌||◌, List, [], ◌∷◌, ◌++◌, length, take, drop, get_or, filter, None, refl, sym, ap, subst, ◌∙◌, arith, replicate}
-use Rattle.std.specs.Prelude.{All, IsFalse, ◌↔◌, ◌==◌}
+use Rattle.std.proofs.Common.{◌≡◌, ℕ, ◌+◌, ◌≤◌, Bool, true, false, cond, ◌||◌, List, [], ◌∷◌, ◌++◌, filter, refl, sym, ap, subst, ◌∙◌, arith}
+use Rattle.std.specs.Prelude.{◌==◌}
 use Rattle.std.specs.List.{AllByRecursion, list_any}
 use Rattle.std.proofs.lemmas.Bool.{both_ways, eq-eqb, eqb-true, false_from_ne_true, or_left, or_parts}
-use Rattle.std.proofs.lemmas.List.{take_more, drop_more}
-use Rattle.std.proofs.lemmas.List.Elements.{All-replicate}
 use Rattle.run_table.specs.declared.run.Run.{Run}
 use Rattle.run_table.specs.RunTable.{sectors_of}
 use Rattle.run_table.specs.Space.{contains}
 use Rattle.sector_set.specs.Area.{Area, AreOut, together}
 use Rattle.sector_set.specs.Meet.{meets}
-use Rattle.shadow_frees.specs.Readers.{Agrees}
 use Rattle.shadow_frees.specs.Waits.{Waits}
 use Rattle.fsd_formats.specs.declared.entry.Entry.{Entry}
 use Rattle.fsd_files.specs.Volume.{is_in, plans_of}
 use Rattle.fsd_files.proofs.CountLaws.{contains_occurs, occurs, used, used-cons}
+use Rattle.fsd_files.proofs.ChangeLaws.{used-append}
 use Rattle.version_table.specs.declared.oldest.Leaving.{Leaving}
 use Rattle.version_table.specs.Met.{entries_left}
 use Rattle.cached_table.specs.Entering.{AreIdleInTurn, AreInTurn, AreTaken, share, with_gone}
@@ -30,30 +28,7 @@ pub record FreesGone (first : Waits) (all : List Leaving) (now : Waits) (left : 
   pub unfinished : now.unfinished ≡ first.unfinished
   pub held : now.held ≡ first.held
 
-pub frees_none : (w : Waits) (all : List Leaving) → AreIdleInTurn w all → FreesGone w all w all
-frees_none w all idle = record { idle = idle; removed = refl; kept = refl; unfinished = refl; held = refl }
-
-pub frees_one : (first : Waits) (all : List Leaving) (now new : Waits) (g : Leaving) (left : List Leaving) → FreesGone first all now (g ∷ left) → new.removed ≡ together now.removed g.entry.runs → new.kept ≡ now.kept → new.unfinished ≡ now.unfinished → new.held ≡ now.held
-    → FreesGone first all new left
-frees_one first all now new g left so removed kept unfinished held = record {
-  idle = subst (λ (w : Waits). AreIdleInTurn w left) (λ i. record { removed = sym removed i; kept = sym kept i; unfinished = sym unfinished i; held = sym held i }) so.idle.1;
-  removed = ap (λ (a : Area). with_gone a left) removed ∙ so.removed;
-  kept = kept ∙ so.kept;
-  unfinished = unfinished ∙ so.unfinished;
-  held = held ∙ so.held;
-}
-
 -- ---- a test of one more
-
-pub one_more : (map : Area) (w : Waits) (all : List Leaving) (i : ℕ) (g : Leaving) → i < length all → get_or all i g ≡ g
-    → (AreInTurn map w (take i all) (drop i all) ↔ ((AreTaken map w g.entry.runs × IsFalse (share (take i all) g.entry.runs)) × AreInTurn map w (take (i + 1) all) (drop (i + 1) all)))
-one_more map w all i g lt is =
-    let here : drop i all ≡ g ∷ drop (i + 1) all = drop_more all i g lt ∙ ap (λ (x : Leaving). x ∷ drop (i + 1) all) is in
-    let more : take (i + 1) all ≡ take i all ++ g ∷ [] = take_more all i g lt ∙ ap (λ (x : Leaving). take i all ++ x ∷ []) is in
-    let rest : Type 0 = AreInTurn map w (take i all ++ g ∷ []) (drop (i + 1) all) in (
-      λ all_of. (let parts = subst (AreInTurn map w (take i all)) here all_of in (parts.0, subst (λ (seen : List Leaving). AreInTurn map w seen (drop (i + 1) all)) (sym more) parts.1)),
-      λ parts. subst (AreInTurn map w (take i all)) (sym here) (parts.0, subst (λ (seen : List Leaving). AreInTurn map w seen (drop (i + 1) all)) more parts.1),
-    )
 
 -- ---- taken in turn, so idle in turn
 
@@ -97,9 +72,6 @@ idle_in_turn map w seen (g ∷ gone) turn =
 
 -- ---- no slot is held
 
-pub none_disagree : (runs : List Run) → All (Agrees runs) (replicate 8 None)
-none_disagree runs = All-replicate (Agrees runs) 8 None tt
-
 -- ---- those of a volume's versions
 
 -- a sector stands in some of the entries no more often than in all of them
@@ -128,10 +100,6 @@ not_shared (x ∷ seen) g once = λ i. apart (sectors_of x.entry.runs) (λ s. om
             let second = contains_occurs t (sectors_of g.entry.runs) here in
             absurd (omega (arith, o, first, second)))
 
-used-one : (s : ℕ) (xs ys : List (List Run)) → used s (xs ++ ys) ≡ used s xs + used s ys
-used-one s [] ys = omega arith
-used-one s (x ∷ xs) ys = omega (arith, used-cons s x (xs ++ ys), used-cons s x xs, used-one s xs ys)
-
 -- the sectors of each are taken, and each stands in one of them once
 pub in_turn : (map : Area) (w : Waits) (seen gone : List Leaving) → AllByRecursion (λ g. AreTaken map w g.entry.runs) gone → ((s : ℕ) → used s (plans_of (entries_left seen)) + used s (plans_of (entries_left gone)) ≤ 1) → AreInTurn map w seen gone
 in_turn map w seen [] taken once = tt
@@ -145,4 +113,4 @@ in_turn map w seen (g ∷ gone) taken once = (
     left_append (x ∷ xs) = ap (λ (plans : List (List Run)). x.entry.runs ∷ plans) (left_append xs)
 
     used_seen : (s : ℕ) → used s (plans_of (entries_left (seen ++ g ∷ []))) ≡ used s (plans_of (entries_left seen)) + occurs s (sectors_of g.entry.runs)
-    used_seen s = ap (used s) (left_append seen) ∙ used-one s (plans_of (entries_left seen)) (g.entry.runs ∷ []) ∙ (let one = used-cons s g.entry.runs [] in omega (arith, one))
+    used_seen s = ap (used s) (left_append seen) ∙ used-append s (plans_of (entries_left seen)) (g.entry.runs ∷ []) ∙ (let one = used-cons s g.entry.runs [] in omega (arith, one))

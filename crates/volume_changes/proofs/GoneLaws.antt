@@ -22,7 +22,7 @@ use Rattle.fsd_formats.specs.declared.entry.Entry.{Entry}
 use Rattle.fsd_table.specs.Pages.{entry_keys}
 use Rattle.fsd_table.proofs.BoundLaws.{Ascend, ascend_tail}
 use Rattle.fsd_table.proofs.KeyLaws.{keys_total, less}
-use Rattle.fsd_files.specs.Answers.{Met, deleted, entry_of, gone_sectors, entries_with_keep, entry_kept, highest_entry, keep_set, refused}
+use Rattle.fsd_files.specs.Answers.{Met, deleted, entry_of, gone_sectors, highest_entry, keep_set, refused}
 use Rattle.fsd_files.specs.Disk.{Image, Sectors}
 use Rattle.fsd_files.specs.Files.{Change}
 use Rattle.fsd_files.specs.Kept.{Describes, Lists}
@@ -30,8 +30,8 @@ use Rattle.fsd_files.specs.Space.{Apart}
 use Rattle.fsd_files.specs.Volume.{Volume, entries_at, in_version, is_free, is_in, plans_of}
 use Rattle.fsd_files.specs.Waiting.{Changes, IsSpaced}
 use Rattle.fsd_files.proofs.ChangeKept.{delete_kept, keep_kept}
-use Rattle.fsd_files.proofs.ChangeLaws.{delete_changes, keep_changes}
-use Rattle.fsd_files.proofs.ListingLaws.{alike_is, deletes_listed, keeps_listed}
+use Rattle.fsd_files.proofs.ChangeLaws.{delete_changes, keep_changes, same_plans}
+use Rattle.fsd_files.proofs.ListingLaws.{alike_is, deletes_listed, keeps_listed, IsListed}
 use Rattle.fsd_formats.specs.NamePage.{max_keep}
 use Rattle.name_page.proofs.PutLaws.{ascend_head}
 use Rattle.volume_changes.specs.Changing.{IsAfter}
@@ -61,9 +61,6 @@ one_at key (x ∷ xs) e asc there = by (key_cmp x.key key) refl there (λ more. 
         ap (λ (ys : List Entry). x ∷ ys) none ∙ ap (λ (y : Entry). y ∷ []) same
 
 -- ---- one change more
-
-abbrev IsListed : Volume → Type 0
-IsListed v = Lists v.files v.entries
 
 -- the volume with another keep of a name's highest version, unless that is too large
 abbrev kept_unless : Volume → List ℕ → (keep r : ℕ) → Bool → Volume
@@ -204,15 +201,6 @@ module _ (v : Volume) (key : Key) (r : ℕ) (e : Entry) (spaced : IsSpaced v) (h
 
 -- ---- another keep
 
--- a keep leaves the runs
-same_runs : (key : Key) (keep : ℕ) (entries : List Entry) → plans_of (entries_with_keep key keep entries) ≡ plans_of entries
-same_runs key keep [] = refl
-same_runs key keep (z ∷ entries) = ap (λ (runs : List Run). runs ∷ plans_of (entries_with_keep key keep entries)) (one (same_key z.key key)) ∙ ap (λ (plans : List (List Run)). z.runs ∷ plans) (same_runs key keep entries)
-  where
-    one : (b : Bool) → (entry_kept b keep z).runs ≡ z.runs
-    one true = refl
-    one false = refl
-
 module _ (v : Volume) (name : List ℕ) (keep r : ℕ) (e : Entry) where
   pub kept_free : (s : ℕ) → is_free (keep_set v name keep r (Some e)).1 s ≡ is_free v s
-  kept_free s = ap (λ (plans : List (List Run)). is_data v.layout s && not (is_in plans s) && not (not (is_in plans s) && (contains v.removed s || is_in v.held s || is_in v.drafts s))) (same_runs e.key keep v.entries)
+  kept_free s = ap (λ (plans : List (List Run)). is_data v.layout s && not (is_in plans s) && not (not (is_in plans s) && (contains v.removed s || is_in v.held s || is_in v.drafts s))) (same_plans e.key keep v.entries)

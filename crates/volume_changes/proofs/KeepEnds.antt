@@ -33,13 +33,6 @@ use Rattle.volume_state.proofs.TableLaws.{is_tree, pages_read}
 
 -- ---- one page more
 
-one_longer : (xs : List ℕ) (page : ℕ) → length (with_one xs page) ≤ length xs + 1
-one_longer xs page = by (is_one_of xs page)
-  where
-    by : (b : Bool) → length (cond b xs (xs ++ page ∷ [])) ≤ length xs + 1
-    by true = omega arith
-    by false = omega (arith, length-append xs (page ∷ []))
-
 one_of_with : (xs : List ℕ) (page other : ℕ) → is_one_of (with_one xs page) other ≡ true → (is_one_of xs other ≡ true) ⊎ (page ≡ other)
 one_of_with xs page other there = by (is_one_of xs page) there
   where
@@ -52,6 +45,13 @@ one_of_with xs page other there = by (is_one_of xs page) there
         | inr none ↦ absurd (cc none)
       ]
     ]
+
+long_with : (xs : List ℕ) (page : ℕ) → length (with_one xs page) ≤ length xs + 1
+long_with xs page = by (is_one_of xs page)
+  where
+    by : (b : Bool) → length (cond b xs (xs ++ page ∷ [])) ≤ length xs + 1
+    by true = omega arith
+    by false = omega (arith, length-append {A = ℕ} xs (page ∷ []))
 
 -- a tree tells the same at each height
 pub same_told : (pages : List (List ℕ)) (a b : ℕ) → IsTree pages a → IsTree pages b → table_of pages a ≡ table_of pages b
@@ -68,7 +68,7 @@ module _ {D : Type 0} (M : MachineGhosts D) (short : (m : D) → M.honest m → 
     (name : List ℕ) (keep : ℕ) (fits : keep ≤ 999) (key : Key) (room : length v.cache.dirty ≤ 56) (one : DirtiesOne (length v.free_pages) v.cache c)
     (sets : SetsKeepIn M by_log.ghosts v.log m m' v.cache c v.free_pages flags name keep key) where
   few : length c.dirty ≤ length v.cache.dirty + most_changed
-  few = omega (arith, ap (λ (d : List ℕ). length d) one.changed, one_longer v.cache.dirty one.page)
+  few = omega (arith, ap (λ (d : List ℕ). length d) one.changed, long_with v.cache.dirty one.page)
 
   within : (page : ℕ) → is_one_of c.dirty page ≡ true → page < length flags
   within page waits = elim (one_of_with v.cache.dirty one.page page (ap (λ (d : List ℕ). is_one_of d page) (sym one.changed) ∙ waits)) [

@@ -6,11 +6,11 @@ use Rattle.fsd_bytes.specs.declared.key.Key.{Key}
 use Rattle.fsd_formats.specs.declared.entry.Entry.{Entry}
 use Rattle.fsd_table.specs.Tree.{pages_of}
 use Rattle.fsd_formats.specs.NamePage.{max_keep}
-use Rattle.volume_changes.proofs.DeleteLaws.{as_many_files}
 use Rattle.fsd_files.specs.Answers.{entries_with_keep, highest_entry, keep_set}
 use Rattle.fsd_files.specs.Disk.{in_runs}
 use Rattle.fsd_files.specs.Files.{Change}
 use Rattle.fsd_files.specs.Volume.{Volume}
+use Rattle.fsd_files.proofs.ListingLaws.{lists_length}
 use Rattle.page_cache.specs.Cache.{CacheValue, IsCache, is_one_of}
 use Rattle.fsd_sound.specs.Mounted.{most_changed}
 use Rattle.group_commit.specs.contracts.newest.NewestPageSource.TheImpl as by_log
@@ -61,8 +61,8 @@ module _ {D : Type 0} (M : MachineGhosts D) (short : (m : D) → M.honest m → 
         serial = now.fits.serial;
         versions = omega (
           arith,
-          as_many_files volume_kept.files volume_kept.entries after.described.lists,
-          as_many_files (volume_of k).files (volume_of k).entries stands.disk.described.lists,
+          lists_length volume_kept.files volume_kept.entries after.described.lists,
+          lists_length (volume_of k).files (volume_of k).entries stands.disk.described.lists,
           as_many_kept e.key keep (volume_of k).entries,
           stands.fits.versions,
         );

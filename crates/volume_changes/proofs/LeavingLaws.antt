@@ -1,14 +1,13 @@
 -- The versions of a name that go once there is one more: those of the files are those of their entries.
-use Rattle.std.proofs.Common.{◌≡◌, inl, inr, ℕ, ◌-◌, ◌<◌, min, Bool, true, false, cond, List, [], ◌∷◌, ◌++◌, length, take, map, Option, Some, None, refl, sym, ap, subst, ◌∙◌, arith}
+use Rattle.std.proofs.Common.{◌≡◌, ℕ, ◌-◌, ◌<◌, min, Bool, true, false, cond, List, [], ◌∷◌, ◌++◌, length, take, map, Option, Some, None, refl, sym, ap, subst, ◌∙◌, arith}
 use Rattle.std.specs.Prelude.{option_map, ◌==◌}
 use Rattle.std.specs.List.{AllByRecursion, last_or}
-use Rattle.std.specs.Cmp.{nat_cmp_is}
 use Rattle.std.specs.Cmp.Lexicographic.{nat_list_cmp_total, slice_cmp}
 use Rattle.std.specs.Ordering.{is_lt, nat_cmp, ordering_then}
 use Rattle.std.specs.declared.cmp.Ordering.{Ordering}
 use Rattle.std.specs.declared.cmp.Ordering.TheVariants.{Less, Equal, Greater}
 use Rattle.std.specs.FinMap.Entries.{by_order}
-use Rattle.std.proofs.lemmas.Bool.{both_ways, cases_lt, false_from_ne_true}
+use Rattle.std.proofs.lemmas.Bool.{both_ways, false_from_ne_true}
 use Rattle.std.proofs.lemmas.Cmp.{tied_itself}
 use Rattle.std.proofs.lemmas.List.{length-map, map-append, take-map}
 use Rattle.fsd_bytes.specs.Bytes.{same_bytes}
@@ -22,23 +21,14 @@ use Rattle.fsd_table.proofs.KeyLaws.{lt_lt}
 use Rattle.fsd_files.specs.Answers.{entry_put}
 use Rattle.fsd_files.specs.Files.{Files, gone, gone_keys, new_keep, new_key, next_version, of_name, with_new}
 use Rattle.fsd_files.specs.Kept.{Lists}
-use Rattle.fsd_files.proofs.ListingLaws.{alike_is, lists_put}
+use Rattle.fsd_files.proofs.ListingLaws.{alike_is, lists_put, lists_kept}
+use Rattle.fsd_files.proofs.FreshLaws.{less_is}
 use Rattle.name_page.proofs.PutLaws.{ascend_head}
 use Rattle.version_table.specs.Versions.{leaving_keys, next_key, versions_of}
 use Rattle.version_table.proofs.EditLaws.{AllAbove}
 use Rattle.version_table.proofs.PlanLaws.{keeps_agree, keys_agree}
-use Rattle.volume_changes.proofs.NewVersionLaws.{passed_listed}
 
 -- ---- the versions of a name ascend
-
-less_is : (x y : ℕ) → is_lt (nat_cmp x y) ≡ true → x < y
-less_is x y e = elim (cases_lt x y) [
-  | inl lt ↦ lt
-  | inr le ↦ elim (cases_lt y x) [
-    | inl gt ↦ absurd (both_ways (is_lt (nat_cmp x y)) (ap is_lt (sym (nat_cmp_is x y Greater gt))) e)
-    | inr same ↦ absurd (both_ways (is_lt (nat_cmp x y)) (ap is_lt (sym (nat_cmp_is x y Equal (omega (arith, le, same))))) e)
-  ]
-]
 
 abbrev IsNamed : List ℕ → Entry → Type 0
 IsNamed name x = same_bytes name x.key.name ≡ true
@@ -151,7 +141,7 @@ gone_leave name given bytes s table lists asc =
     gone_mapped (new_keep name given s) (of_name name (with_new name given bytes s)) ∙ (λ i. gone (keeps_agree name given s table lists i) (same i))
   where
     listed : Lists (of_name name (with_new name given bytes s)) (versions_of name (entry_put (comer name given bytes s) table))
-    listed = passed_listed (λ k. same_bytes name k.name) (with_new name given bytes s) (entry_put (comer name given bytes s) table)
+    listed = lists_kept (λ k. same_bytes name k.name) (with_new name given bytes s) (entry_put (comer name given bytes s) table)
         (lists_put (new_key name s) (record { bytes = bytes; keep = new_keep name given s }) (comer name given bytes s) s table (record { key = refl; keep = refl; length = refl }) lists)
 
     lower : AllByRecursion (λ x. IsNamed name x → x.key.version < (new_key name s).version) table

@@ -1,76 +1,84 @@
--- No memory is wanting where all pages in use are in memory.
-use Rattle.std.proofs.Common.{◌≡◌, ℕ, ◌<◌, false, Bool, List, length, Result, Ok, Err, ◌∷◌, [], inl, inr, refl, sym, ap, subst, ◌∙◌, arith}
-use Rattle.std.specs.Prelude.{slice_index_or}
+-- No memory is wanting where the path of a name is in memory.
+use Rattle.std.proofs.Common.{◌≡◌, ℕ, Bool, true, false, List, length, Option, Some, None, Result, Ok, Err, ◌∷◌, [], inl, inr, refl, sym, ap, subst, ◌∙◌}
+use Rattle.std.specs.List.{AllByRecursion}
+use Rattle.fsd_forest.specs.Met.{path_of}
+use Rattle.std.specs.Prelude.{IsSome, option_and_then, option_map}
 use Rattle.fsd_bytes.specs.declared.refusal.Refusal.{Refusal}
 use Rattle.fsd_bytes.specs.declared.refusal.Refusal.TheVariants as Why
-use Rattle.run_table.specs.Space.{contains}
-use Rattle.sector_set.proofs.FreeLaws.{contains_where}
-use Rattle.page_cache.specs.Cache.{CacheValue, cleaned}
-use Rattle.page_cache.proofs.KeepLaws.{bytes_resident, resident_bytes}
-use Rattle.log_thirds.specs.LogValue.{LogValue}
-use Rattle.group_commit.specs.Cached.{stamped_for}
+use Rattle.fsd_formats.specs.NamePage.{Content, read_page}
+use Rattle.fsd_formats.specs.Record.{Stamp}
+use Rattle.fsd_log.specs.Borne.{FitsStamp}
+use Rattle.page_cache.specs.Cache.{CacheValue, Held, cleaned, held}
+use Rattle.volume_layout.specs.declared.layout.Layout.{Layout}
+use Rattle.log_thirds.specs.LogValue.{FitsLayout, LogValue}
 use Rattle.log_thirds.specs.Append.{stamp_now}
-use Rattle.group_commit.proofs.FrameLaws.{there_then}
-use Rattle.name_page.specs.Pages.{NeedsNoMemory, outer_in}
+use Rattle.group_commit.specs.Cached.{held_stamped, stamped_for, stamped_frames}
+use Rattle.group_commit.proofs.FrameLaws.{held_then}
+use Rattle.name_page.specs.Pages.{outer_in}
 use Rattle.name_btree.specs.declared.fault.TreeFault.{TreeFault}
 use Rattle.name_btree.specs.declared.fault.TreeFault.TheVariants.{Pages, Broken}
 use Rattle.name_btree.specs.Fault.{outer_told}
-use Rattle.table_pages.specs.Bringing.{HasPages, IsUsed, KeepsPages}
+use Rattle.page_cache.specs.Accepted.{content_in}
+use Rattle.table_pages.specs.Bringing.{KeepsContent}
 use Rattle.volume_contract.specs.Order.{Comes, Follows, IsLoss, by_itself}
 use Rattle.volume_contract.specs.State.{State}
 use Rattle.volume_changes.specs.Ending.{keep_tests}
-use Rattle.cached_table.specs.Looking.{told}
+use Rattle.cached_table.specs.Looking.{HasIn, HasPathIn, told}
+use Rattle.cached_table.proofs.PathLaws.{path_more}
 use Rattle.volume_state.specs.Preparing.{Forces}
-use Rattle.volume_state.specs.State.{HasAllUsed, spare_pages, state}
+use Rattle.volume_state.specs.State.{HasPathTo, state}
 use Rattle.volume_state.specs.Volume.{IsWhole, VolumeValue}
-use Rattle.volume_state.proofs.StepLaws.{went_pages}
+use Rattle.volume_state.proofs.StampedLaws.{stamped_reads}
 use Rattle.volume_changes.proofs.TestedLaws.{keep_tested}
 
--- ---- the pages in use are those that are not listed as free
-
-module _ (v : VolumeValue) (whole : IsWhole v) where
-  listed : (page : ℕ) → page < length v.free_pages → contains (spare_pages v) page ≡ slice_index_or v.free_pages page false
-  listed page lt = contains_where (λ p. slice_index_or v.free_pages p false) 0 (length v.free_pages) page (omega arith) lt
-
-  pub used_pages : HasAllUsed v → HasPages (IsUsed v.free_pages) v.cache
-  used_pages all page used = bytes_resident v.cache page (all page (omega (arith, used.0, whole.pages)) (listed page used.0 ∙ used.1))
-
-  pub all_used : (c : CacheValue) → HasPages (IsUsed v.free_pages) c → HasAllUsed (record v { cache = c })
-  all_used c there page lt out =
-      let within : page < length v.free_pages = omega (arith, lt, whole.pages) in
-      resident_bytes c page (there page (within, sym (listed page within) ∙ out))
-
 -- ---- a look-up
+
+-- the path in memory is that in the cache
+module _ (v w : VolumeValue) (is : v ≡ w) (whole : IsWhole v) (name : List ℕ) where
+  pub path_in : HasPathTo w name → HasPathIn (length v.free_pages) name v.cache
+  path_in has = subst (λ (n : ℕ). HasPathIn n name v.cache) (sym whole.pages) (record { all = subst (λ (x : VolumeValue). HasPathTo x name) (sym is) has })
+
+  pub path_of_cache : (c : CacheValue) (flags : List Bool) → HasPathIn (length v.free_pages) name c → HasPathTo (record v { cache = c; free_pages = flags }) name
+  path_of_cache c flags has = (subst (λ (n : ℕ). HasPathIn n name c) whole.pages has).all
 
 told_outer : {T : Type 0} (home_a : ℕ) (r : Result T TreeFault) → outer_in (told home_a r) ≡ outer_told r
 told_outer home_a (Ok x) = refl
 told_outer home_a (Err (Pages refusal)) = refl
 told_outer home_a (Err (Broken page)) = refl
 
-module _ (v w : VolumeValue) (is : v ≡ w) (whole : IsWhole v) where
-  pub used_now : HasAllUsed w → HasPages (IsUsed v.free_pages) v.cache
-  used_now all = used_pages v whole (subst (λ (x : VolumeValue). HasAllUsed x) (sym is) all)
-
-  pub look_needs : {T : Type 0} (c : CacheValue) (flags : List Bool) (home_a : ℕ) (r : Result T TreeFault) (result : Result T Refusal) → flags ≡ v.free_pages → result ≡ told home_a r
-      → NeedsNoMemory (HasPages (IsUsed v.free_pages)) (outer_told r) v.cache c → NeedsNoMemory HasAllUsed (outer_in result) w (record v { cache = c; free_pages = flags })
-  look_needs c flags home_a r result same told_is needs = record {
-    stays = λ all. subst (λ (f : List Bool). HasAllUsed (record v { cache = c; free_pages = f })) (sym same) (all_used v whole c (needs.stays (used_now all)));
-    enough = λ all wants. needs.enough (used_now all) (sym (ap outer_in told_is ∙ told_outer home_a r) ∙ wants);
-  }
+pub told_memory : {T : Type 0} (home_a : ℕ) (r : Result T TreeFault) (result : Result T Refusal) → result ≡ told home_a r → result ≡ Err Why.Memory → outer_told r ≡ Some Why.Memory
+told_memory home_a r result is wants = sym (told_outer home_a r) ∙ ap outer_in (sym is ∙ wants)
 
 -- ---- a force
 
--- the pages that are stamped stay
-pub forced_pages : (v w : VolumeValue) → v ≡ w → (log : LogValue) (cache : CacheValue) → cache ≡ cleaned (stamped_for log v.cache) → KeepsPages w.cache cache
-forced_pages v w is log cache forced =
-    subst (λ (x : VolumeValue). KeepsPages x.cache cache) is (subst (KeepsPages v.cache) (sym forced) (λ page there. there_then (stamp_now log) v.cache.dirty v.cache page there))
+-- a page reads the same with another stamp
+stamped_content : (stamp : Stamp) → FitsStamp stamp → (dirty : List ℕ) (c : CacheValue) → KeepsContent c (stamped_frames stamp dirty c)
+stamped_content stamp small dirty c pages page x is =
+    ap (λ (o : Option Held). option_and_then (read_page page pages) (option_map (λ (h : Held). h.bytes) o)) (held_then stamp dirty c page) ∙ by (held c page) _ is
+  where
+    by : (o : Option Held) (b : Bool) → option_and_then (read_page page pages) (option_map (λ (h : Held). h.bytes) o) ≡ Some x
+        → option_and_then (read_page page pages) (option_map (λ (h : Held). h.bytes) (option_map (held_stamped stamp b) o)) ≡ Some x
+    by None b is = is
+    by (Some h) true is = stamped_reads stamp small page pages h.bytes x is
+    by (Some h) false is = is
 
-module _ (v w : VolumeValue) where
-  pub all_behind : Forces (state v) (state w) (Ok tt) → KeepsPages v.cache w.cache → HasAllUsed v → HasAllUsed w
-  all_behind forces keeps all page lt out =
-      let free = went_pages (by_itself (state v) ∷ []) (state v) (state w) forces.kept in
-      let was : page < v.layout.pages = subst (λ l. page < l.pages) forces.state.layout lt in
-      resident_bytes w.cache page (keeps page (bytes_resident v.cache page (all page was (ap (λ (pages : List ℕ). contains pages page) (sym free) ∙ out))))
+pub forced_content : (v w : VolumeValue) → v ≡ w → FitsLayout v.log → (cache : CacheValue) → cache ≡ cleaned (stamped_for v.log v.cache) → KeepsContent w.cache cache
+forced_content v w is fits cache forced =
+    subst (λ (x : VolumeValue). KeepsContent x.cache cache) is
+    (subst (KeepsContent v.cache) (sym forced) (stamped_content (stamp_now v.log) (record { epoch = fits.epoch; number = fits.number }) v.cache.dirty v.cache))
+
+pub path_behind : (v w : VolumeValue) → Forces (state v) (state w) (Ok tt) → KeepsContent v.cache w.cache → (name : List ℕ) → HasPathTo v name → HasPathTo w name
+path_behind v w forces keeps name has =
+    let n : ℕ = v.layout.pages in
+    subst (λ (l : Layout). AllByRecursion (HasIn w.cache l.pages) (path_of (content_in w.cache l.pages) name)) (sym forces.state.layout)
+    (path_more (HasIn v.cache n) (HasIn w.cache n) (content_in v.cache n) (content_in w.cache n) (λ page is. let same = there page is.1 in ((is.0, subst (λ (o : Option Content). IsSome o) (sym same) is.1), same)) name has)
+  where
+    there : (page : ℕ) → IsSome (content_in v.cache v.layout.pages page) → content_in w.cache v.layout.pages page ≡ content_in v.cache v.layout.pages page
+    there page some = by (content_in v.cache v.layout.pages page) refl some
+      where
+        by : (o : Option Content) → content_in v.cache v.layout.pages page ≡ o → IsSome o → content_in w.cache v.layout.pages page ≡ content_in v.cache v.layout.pages page
+        by None is some = absurd (cc some)
+        by (Some x) is some = keeps v.layout.pages page x is ∙ sym is
 
 -- a force that fails has not wanted memory
 pub force_needs : (s : State) (why : Refusal) → Follows {T = Unit {0}} (by_itself s ∷ []) (Err why) → why ≡ Why.Memory → ⊥

@@ -1,12 +1,11 @@
 -- A volume with one version more, whose bytes stand in runs that were free.
-use Rattle.std.proofs.Common.{◌≡◌, inl, inr, ℕ, Bool, true, false, cond, List, [], ◌∷◌, ◌++◌, filter, None, Option, refl, sym, ap, subst}
+use Rattle.std.proofs.Common.{◌≡◌, inl, inr, ℕ, List, [], ◌∷◌, ◌++◌, None, Option, refl, subst}
 use Rattle.std.specs.Prelude.{IsTrue, T, not}
 use Rattle.std.specs.List.{AllZip, last_or, list_any}
 use Rattle.std.specs.FinMap.{is_sorted}
 use Rattle.std.proofs.lemmas.List.{append-nil}
 use Rattle.volume_layout.specs.declared.layout.Layout.{Layout}
 use Rattle.fsd_bytes.specs.Keys.{key_cmp, same_key}
-use Rattle.fsd_bytes.specs.declared.key.Key.{Key}
 use Rattle.fsd_bytes.specs.declared.key.Serial.{Serial}
 use Rattle.run_table.specs.declared.run.Run.{Run}
 use Rattle.run_table.specs.RunTable.{sectors_of}
@@ -17,7 +16,7 @@ use Rattle.fsd_formats.specs.declared.entry.Entry.{Entry}
 use Rattle.fsd_log.specs.Scan.{Placed}
 use Rattle.fsd_files.specs.Answers.{HasVersion, entry_put, new_entry, with_version}
 use Rattle.fsd_files.specs.Disk.{Has, Image, Sectors, Within, in_runs}
-use Rattle.fsd_files.specs.Files.{Files, gone_keys, new_keep, new_key, with_new}
+use Rattle.fsd_files.specs.Files.{gone_keys, new_keep, new_key, with_new}
 use Rattle.fsd_files.specs.Kept.{Describes, Kept, KeptIn, Lists, data_sectors, slices}
 use Rattle.fsd_files.specs.Space.{Apart}
 use Rattle.fsd_files.specs.Volume.{Volume, plans_of}
@@ -26,7 +25,7 @@ use Rattle.fsd_files.proofs.ChangeKept.{version_kept}
 use Rattle.fsd_files.proofs.ChangeLaws.{AreFree, version_changes}
 use Rattle.fsd_files.proofs.CountLaws.{differ_occurs, occurs_contains}
 use Rattle.fsd_files.proofs.FreshLaws.{new_key_is_new}
-use Rattle.fsd_files.proofs.ListingLaws.{lists_put}
+use Rattle.fsd_files.proofs.ListingLaws.{lists_put, lists_kept}
 use Rattle.fsd_sound.specs.Mounted.{Mounted}
 use Rattle.fsd_sound.specs.Sound.{EndIn}
 use Rattle.fsd_sound.proofs.SoundLaws.{weak_within_hurt}
@@ -64,27 +63,13 @@ written_kept now windows bytes e ends version =
 
 -- ---- the volume with it
 
--- the same test of the keys of files and of entries
-pub passed_listed : (p : Key → Bool) (s : Files) (entries : List Entry) → Lists s entries → Lists (filter (λ e. p e.0) s) (filter (λ e. p e.key) entries)
-passed_listed p [] [] lists = tt
-passed_listed p [] (z ∷ entries) lists = absurd lists
-passed_listed p (y ∷ s) [] lists = absurd lists
-passed_listed p (y ∷ s) (z ∷ entries) lists =
-    subst (λ (b : Bool). Lists (filter (λ e. p e.0) (y ∷ s)) (cond b (z ∷ filter (λ e. p e.key) entries) (filter (λ e. p e.key) entries))) (ap p (sym lists.0.key))
-    (by (p y.0) (passed_listed p s entries lists.1))
-  where
-    by : (b : Bool) → Lists (filter (λ e. p e.0) s) (filter (λ e. p e.key) entries)
-        → Lists (cond b (y ∷ filter (λ e. p e.0) s) (filter (λ e. p e.0) s)) (cond b (z ∷ filter (λ e. p e.key) entries) (filter (λ e. p e.key) entries))
-    by true rest = (lists.0, rest)
-    by false rest = rest
-
 module _ (v : Volume) (name bytes : List ℕ) (given : Option ℕ) (runs : List Run) (serial : Serial) (r : ℕ) (lists : Lists v.files v.entries) where
   abbrev made : Volume
   made = with_version v name bytes given runs serial r
 
   version_listed : Lists made.files made.entries
   version_listed =
-      passed_listed (λ k. not (list_any (same_key k) (gone_keys name given bytes v.files))) (with_new name given bytes v.files) (entry_put (new_entry v name bytes given runs serial) v.entries)
+      lists_kept (λ k. not (list_any (same_key k) (gone_keys name given bytes v.files))) (with_new name given bytes v.files) (entry_put (new_entry v name bytes given runs serial) v.entries)
       (lists_put (new_key name v.files) (record { bytes = bytes; keep = new_keep name given v.files }) (new_entry v name bytes given runs serial) v.files v.entries (record { key = refl; keep = refl; length = refl }) lists)
 
   -- it has one change more

@@ -28,6 +28,7 @@ use Rattle.volume_state.specs.Preparing.{HasPrepared, Prepares, StandsReady}
 use Rattle.volume_state.specs.State.{Holds, state}
 use Rattle.volume_state.specs.Volume.{VolumeValue}
 use Rattle.volume_changes.proofs.BehindForce.{fewer_wait, not_worn, same_layout}
+use Rattle.volume_state.proofs.LogLaws.{logged_still}
 use Rattle.volume_state.proofs.PrepareLaws.{prepared_counts, prepared_number}
 use Rattle.volume_changes.proofs.PutLaws.{ends_unentered, outcome_made, put_kept, unchanged_ready, version_as}
 use Rattle.volume_state.proofs.StoreLaws.{IsOn, on_forced, sound_on}
@@ -95,7 +96,11 @@ module _ (s m : State) (keep : Option ℕ) (len : ℕ) (tests : Through (test_st
         → MatchResult r (λ key. HasCounted true (forces_for_place s (sectors_for len) || forces_first s) s t) (λ why. Keeps (put_steps s keep len) why s t)
     put_counts (Ok key) follows enters =
         let counts = prepared_counts s m (sectors_for len) prepares.kept.went in
-        record { count = ap (λ (x : Serial). x.count) enters.serial ∙ counts.count; number = ap (λ (h : Head). h.number) enters.head ∙ counts.number }
+        record {
+          count = ap (λ (x : Serial). x.count) enters.serial ∙ counts.count;
+          number = ap (λ (h : Head). h.number) enters.head ∙ counts.number;
+          log = logged_still m t (record { anchor = enters.anchor; head = enters.head; slots = enters.slots }) (forces_for_place s (sectors_for len) || forces_first s) s counts.log;
+        }
     put_counts (Err why) comes same =
         put_kept s keep len tests m prepares.kept.went t why (subst (λ (x : State). Keeps (enter_steps m) why m x) (sym same) (enter_keeps why comes))
 

@@ -20,16 +20,17 @@ use Rattle.fsd_files.specs.Disk.{Image}
 use Rattle.fsd_files.specs.Volume.{is_in}
 use Rattle.fsd_sound.specs.Homes.{AreHomesOf}
 use Rattle.fsd_sound.specs.Mounted.{image_at}
-use Rattle.log_thirds.specs.Images.{LiesAt}
+use Rattle.log_thirds.specs.Images.{AreOfSlot, LiesAt}
 use Rattle.volume_contract.specs.State.{State}
 
 -- ---- what is lost
 
--- the sectors are the two copies of the page: its own and the copy in the last record that has it, or its homes where none has
+-- the sectors are the two copies of the page: its own and the copy in the last record that has it, which lies in the log, or its homes
+-- where none has
 abbrev pub AreCopiesOf : State → (page a b : ℕ) → Type 0
 AreCopiesOf s page a b =
     let slot = slice_index_or s.slots page None in
-    LiesAt slot a b ⊎ ((slot ≡ None) × AreHomesOf s.layout page a b)
+    AreOfSlot s.layout slot a b ⊎ ((slot ≡ None) × AreHomesOf s.layout page a b)
 
 -- so they are of some page, before the call or behind a force that it made
 pub record AreCopies (old new : State) (a b : ℕ) : Type 0 where
@@ -39,11 +40,17 @@ pub record AreCopies (old new : State) (a b : ℕ) : Type 0 where
 
 -- ---- what is unsound
 
+-- the sectors are the two that the volume tells as the page's copies
+abbrev pub AreToldOf : State → (page a b : ℕ) → Type 0
+AreToldOf s page a b =
+    let slot = slice_index_or s.slots page None in
+    LiesAt slot a b ⊎ ((slot ≡ None) × AreHomesOf s.layout page a b)
+
 -- The bytes stand whole in one of the page's two copies.
 pub record StandsInCopy (s : State) (i : Image) (page : ℕ) (bytes : List ℕ) : Type 0 where
   pub a : ℕ
   pub b : ℕ
-  pub copies : AreCopiesOf s page a b
+  pub copies : AreToldOf s page a b
   pub whole : (sector_at i a ≡ Whole bytes) ⊎ (sector_at i b ≡ Whole bytes)
 
 -- the same of an image that the call passed: as it began, or behind a force that it made

@@ -1,7 +1,7 @@
 -- What a mount finds, why it is refused, and what it leaves.
 use Rattle.std.specs.Prelude.{◌≡◌, ◌⊎◌, ⊤, ℕ, ◌+◌, ◌*◌, ◌<◌, ◌≤◌, Bool, ◌||◌, List, [], ◌∷◌, ◌++◌, take, Some, None, Result, Ok, Err}
 use Rattle.volume_layout.specs.declared.layout.Layout.{Layout}
-use Rattle.volume_layout.specs.Layout.{home_a, home_b, plan}
+use Rattle.volume_layout.specs.Layout.{home_a, plan}
 use Rattle.fsd_formats.specs.declared.anchor.Anchor.{Anchor}
 use Rattle.fsd_formats.specs.Anchors.{anchor_bytes}
 use Rattle.sector_disk.specs.declared.sector.WeakRun.{WeakRun}
@@ -10,10 +10,10 @@ use Rattle.sector_disk.specs.Machine.{Ledger, Moment, Wears}
 use Rattle.fsd_log.specs.Scan.{Placed}
 use Rattle.fsd_table.specs.Breaks.{Breaks}
 use Rattle.fsd_table.specs.Table.{told_in}
-use Rattle.fsd_files.specs.Disk.{Image, Has}
+use Rattle.fsd_files.specs.Disk.{Image}
 use Rattle.fsd_files.specs.Files.{Change}
 use Rattle.fsd_sound.specs.Anchors.{anchor_of}
-use Rattle.fsd_sound.specs.Homes.{home_of}
+use Rattle.fsd_sound.specs.Homes.{home_of, HasBothHomes}
 use Rattle.fsd_sound.specs.Laid.{StandsTwice}
 use Rattle.fsd_sound.specs.Mounted.{Mounted, IsFresh, telling_of}
 use Rattle.fsd_sound.specs.Shown.{all_pages, each_of, shown}
@@ -65,13 +65,9 @@ KeepsAll fault old new = ⊤
 abbrev pub HealsAnchors : State → Moment → Type 0
 HealsAnchors s now = StandsTwice (open_damage now.windows) now.image (anchor_bytes s.anchor) 8 12
 
--- the sector has some bytes, or is damaged where the open window may wear it
-abbrev pub HasSome : Moment → ℕ → Type 0
-HasSome now s = (bytes : List ℕ) × Has (open_damage now.windows) now.image bytes s
-
--- so has each home of each page
+-- each home of each page has some bytes, or is damaged where the open window may wear it
 abbrev pub HealsHomes : State → Moment → Type 0
-HealsHomes s now = (page : ℕ) → page < s.layout.pages → HasSome now (home_a s.layout page) × HasSome now (home_b s.layout page)
+HealsHomes s now = (page : ℕ) → page < s.layout.pages → HasBothHomes s.layout now page
 
 -- ---- unsound tables
 

@@ -1,6 +1,6 @@
 -- A volume as its caller knows it: what it tells over any machine, and what it is where the machine kept to its promise.
-use Rattle.std.specs.Prelude.{◌≡◌, ◌⊎◌, ℕ, suc, ◌+◌, ◌-◌, ◌*◌, ◌<◌, ◌≤◌, Bool, false, not, ◌&&◌, ◌||◌, List, [], length, Option, Some, None, IsSome, Result, Ok, Err, IsFalse, is_none, nat_le, nat_lt, ◌==◌, if◌then◌else◌, count_by, replicate}
-use Rattle.std.specs.List.{list_any}
+use Rattle.std.specs.Prelude.{◌≡◌, ◌⊎◌, ℕ, suc, ◌+◌, ◌-◌, ◌*◌, ◌<◌, ◌≤◌, Bool, false, not, ◌&&◌, ◌||◌, List, [], length, Option, Some, None, IsSome, Result, Ok, Err, IsTrue, is_none, nat_le, nat_lt, ◌==◌, if◌then◌else◌, count_by, map, replicate, slice_index_or, option_and_then}
+use Rattle.std.specs.List.{list_any, AllByRecursion}
 use Rattle.fsd_bytes.specs.declared.key.Serial.{Serial}
 use Rattle.fsd_bytes.specs.declared.refusal.Refusal.{Refusal}
 use Rattle.fsd_bytes.specs.declared.refusal.Refusal.TheVariants as Why
@@ -10,11 +10,13 @@ use Rattle.run_table.specs.declared.run.Run.{Run}
 use Rattle.run_table.specs.RunTable.{sectors_of}
 use Rattle.run_table.specs.Space.{contains, pick, where_free}
 use Rattle.fsd_formats.specs.declared.anchor.Anchor.{Anchor}
+use Rattle.fsd_formats.specs.NamePage.{Content, read_page}
 use Rattle.fsd_formats.specs.Record.{record_len}
 use Rattle.sector_disk.specs.declared.sector.WeakRun.{WeakRun}
 use Rattle.sector_disk.specs.Image.{open_damage, IsWorn}
 use Rattle.sector_disk.specs.Machine.{Moment, Ledger}
-use Rattle.fsd_log.specs.Scan.{Head, Placed, start}
+use Rattle.fsd_log.specs.Scan.{Head, Placed, place_of, spot_for, start}
+use Rattle.fsd_forest.specs.Met.{path_of}
 use Rattle.fsd_table.specs.Table.{visits}
 use Rattle.fsd_files.specs.Disk.{Sectors, Touches}
 use Rattle.fsd_files.specs.Files.{Change}
@@ -25,6 +27,8 @@ use Rattle.fsd_sound.specs.Shown.{records_by}
 use Rattle.fsd_sound.specs.Sound.{EndIn, IsSound}
 use Rattle.fsd_sound.specs.Writes.{force_writes}
 use Rattle.log_thirds.specs.declared.slots.Slot.{Slot}
+use Rattle.log_thirds.specs.Moves.{head_back}
+use Rattle.log_thirds.specs.Moving.{next_third, slot_outside}
 use Rattle.log_thirds.specs.Slots.{AreSlots, lies_in}
 use Rattle.fsd_runs.specs.Runs.{last_count}
 
@@ -91,9 +95,13 @@ pub record GoesOn (place : Option ℕ) (old new : State) : Type 0 where
   pub held : new.held ≡ old.held
   pub down : (new.down ≡ old.down) ⊎ (IsSome place × (new.down ≡ place))
 
--- every page that isn't a free one is in memory
-abbrev pub HasAllPages : State → (resident : ℕ → Option (List ℕ)) → Type 0
-HasAllPages s resident = (page : ℕ) → page < s.layout.pages → IsFalse (contains s.free_pages page) → IsSome (resident page)
+-- what the grammar accepts a page in memory for
+abbrev pub content_of : State → (resident : ℕ → Option (List ℕ)) → ℕ → Option Content
+content_of s resident page = option_and_then (read_page page s.layout.pages) (resident page)
+
+-- all that the search for the highest version of a name meets are pages in memory, as the grammar accepts them
+abbrev pub HasPathOf : State → (resident : ℕ → Option (List ℕ)) → (name : List ℕ) → Type 0
+HasPathOf s resident name = AllByRecursion (λ page. (page < s.layout.pages) × IsSome (content_of s resident page)) (path_of (content_of s resident) name)
 
 -- ---- forces
 
@@ -101,34 +109,77 @@ HasAllPages s resident = (page : ℕ) → page < s.layout.pages → IsFalse (con
 abbrev pub numbered : State → ℕ
 numbered s = if length s.dirty == 0 then s.head.number else suc s.head.number
 
+-- the next record would be laid in the anchor's first third
+abbrev pub enters_again : State → Bool
+enters_again s = nat_lt s.head.end (s.head.at + record_len (length s.dirty)) && nat_le (3 * s.layout.third) s.head.end
+
+-- Its log lacks that third: the anchor names the following one, whose first record has this number, and the log has no page's last
+-- image in the one that it leaves.
+abbrev pub moved_on : State → (first : ℕ) → State
+moved_on s first = record s {
+  anchor = record { epoch = s.anchor.epoch; third = next_third s.anchor.third; first = first };
+  head = head_back s.layout.third s.head;
+  slots = map (slot_outside (third_start s.layout s.anchor.third) s.layout.third) s.slots;
+}
+
+-- the log behind which there is room for the next record
+abbrev pub with_room : State → (first : ℕ) → State
+with_room s first = if enters_again s then moved_on s first else s
+
+-- where on the tape that record goes
+abbrev pub record_spot : State → Head
+record_spot s = spot_for s.layout (length s.dirty) s.head
+
+-- the slot that it has of a page that waits: its pages ascend
+abbrev pub record_slot : State → (page : ℕ) → Slot
+record_slot s page =
+    let place = place_of s.layout s.anchor.third (record_spot s).at + 3 + count_by (λ q. nat_lt q page) s.dirty in
+    record { place = place; copy = place + length s.dirty + 1; number = s.head.number }
+
+-- A record of the pages that wait stands behind the log, which ends behind it then, and of each of these pages has the slot in it.
+pub record LogsRecord (s new : State) : Type 0 where
+  pub anchor : new.anchor ≡ s.anchor
+  pub head : new.head ≡ record { number = suc s.head.number; at = (record_spot s).at + record_len (length s.dirty); end = (record_spot s).end }
+  pub table : length new.slots ≡ length s.slots
+  pub slots : (page : ℕ) → page < length s.slots → slice_index_or new.slots page None ≡ (if contains s.dirty page then Some (record_slot s page) else slice_index_or s.slots page None)
+
 -- a force has ended, with its log here: nothing waits for one, and what did is free
 abbrev pub forced_state : State → (anchor : Anchor) → (head : Head) → (slots : List (Option Slot)) → (waiting : List ℕ) → State
 forced_state s anchor head slots waiting = record s { anchor = anchor; head = head; slots = slots; dirty = []; free = s.freed; waiting = waiting; waits = false }
 
--- A force has ended: it has numbered one record, and none where no page waited.
+-- A force has ended: it has numbered and logged one record, and none where no page waited.
 pub record IsForced (old new : State) : Type 0 where
   pub is : new ≡ forced_state old new.anchor new.head new.slots new.waiting
   pub number : new.head.number ≡ numbered old
   pub idle : old.dirty ≡ [] → new ≡ old
+  pub logs : 1 ≤ length old.dirty → LogsRecord (with_room old new.anchor.first) new
 
--- A force has failed: it is down with that place, its log left where it failed, and all else as it was.
+-- A force has failed: it is down with that place, its log is as it was, or may have room for the next record, and all else is as it was.
 pub record IsDownAt (place : ℕ) (old new : State) : Type 0 where
-  pub is : new ≡ record old { anchor = new.anchor; head = new.head; slots = new.slots; down = Some place }
+  pub is : (new ≡ record old { down = Some place }) ⊎ (new ≡ record (with_room old new.anchor.first) { down = Some place })
 
--- What a call that has answered Ok has drawn and numbered: a serial, where it makes a version; a record, where a force came.
+-- the log is where it was
+pub record KeepsLog (old new : State) : Type 0 where
+  pub anchor : new.anchor ≡ old.anchor
+  pub head : new.head ≡ old.head
+  pub slots : new.slots ≡ old.slots
+
+-- What becomes of a log: where a force came and pages waited, their record stands behind it; else it is where it was.
+pub record HasLogged (forces : Bool) (old new : State) : Type 0 where
+  pub more : IsTrue forces → 1 ≤ length old.dirty → LogsRecord (with_room old new.anchor.first) new
+  pub same : (IsTrue forces → old.dirty ≡ []) → KeepsLog old new
+
+-- What a call that has answered Ok has drawn, numbered and logged: a serial, where it makes a version; a record, where a force came.
 pub record HasCounted (draws forces : Bool) (old new : State) : Type 0 where
   pub count : new.serial.count ≡ (if draws then suc old.serial.count else old.serial.count)
   pub number : new.head.number ≡ (if forces then numbered old else old.head.number)
+  pub log : HasLogged forces old new
 
 -- ---- sectors that a call writes
 
 -- how many pages have to go home before the first third is entered again: those whose last image lies in it
 abbrev pub homed : State → ℕ
 homed s = count_by (lies_in (third_start s.layout s.anchor.third) s.layout.third) s.slots
-
--- the next record would be laid in the anchor's first third
-abbrev pub enters_again : State → Bool
-enters_again s = nat_lt s.head.end (s.head.at + record_len (length s.dirty)) && nat_le (3 * s.layout.third) s.head.end
 
 abbrev pub force_len : State → ℕ
 force_len s = if length s.dirty == 0 then 0 else record_len (length s.dirty) + (if enters_again s then 2 * homed s + 2 else 0)

@@ -19,7 +19,7 @@ ghost use Rattle.fsd_files.specs.Replies.{Forced as IsForced, Deleted};
 ghost use Rattle.fsd_files.specs.Answers.{entry_of, entry_reply, next_reply, put_outcome, delete_outcome, keep_outcome, force_outcome};
 ghost use Rattle.fsd_sound.specs.Mounted.{Mounted, image_at};
 ghost use Rattle.fsd_sound.specs.Lost.{AreCopiesOn, LostIn};
-ghost use Rattle.volume_contract.specs.State.{State, Known, Ages, volume_of, Stands, IsNew, GoesOn, HasAllPages, HasCounted, IsForced as HasForced, Counted, downs, Leaves, put_writes, force_len, change_len, put_len, forces_first, forces_for_place};
+ghost use Rattle.volume_contract.specs.State.{State, Known, Ages, volume_of, Stands, IsNew, GoesOn, HasPathOf, HasCounted, IsForced as HasForced, Counted, downs, Leaves, put_writes, force_len, change_len, put_len, forces_first, forces_for_place};
 ghost use Rattle.fsd_sound.specs.Writes.{MountKeeps, force_writes};
 ghost use Rattle.volume_contract.specs.Order.{Follows, IsDevice, Keeps, is_idle, put_steps, delete_steps, keep_steps, entry_steps, next_steps, read_steps, force_steps};
 ghost use Rattle.volume_contract.specs.Ends.{Ends, EndsPut, EndsForce, Closes, Looks, IsLater, found_one, Reads, kept_key, device_of};
@@ -127,7 +127,8 @@ pub trait Files<M: Machine>: Sized {
         ensures done { M.honest m.new → (k : Known) → Stands state holds self.old k (M.now m.old) →
             Ends state holds (λ met. delete_outcome met (volume_of k) key.now) (λ x. Deleted key.now) (Change.Delete key.now) k self.new (M.now m.new) result };
 
-    /// Sets the keep of a name's highest version, and answers its key. It takes no memory where all pages in use are there.
+    /// Sets the keep of a name's highest version, and answers its key. It takes no memory where the pages are there that the search for it
+    /// meets.
     fn set_keep(&mut self, m: &mut M, name: &FileName, keep: u32) -> Result<Key, Refusal>
         requires { (state self.old).layout.sectors ≤ (M.report m.old).sectors }
         ensures order { Follows (keep_steps (state self.old) keep) result }
@@ -138,7 +139,7 @@ pub trait Files<M: Machine>: Sized {
         ensures idle { IsTrue (is_idle (keep_steps (state self.old) keep)) → m.new ≡ m.old }
         ensures kept { let s = state self.old in MatchResult result (λ x. HasCounted false (forces_first s) s (state self.new)) (λ why. Keeps (keep_steps s keep) why s (state self.new)) }
         ensures name { IfOk result (λ key. key.name ≡ name.now) }
-        ensures memory { HasAllPages (state self.old) (resident self.old) → result ≡ Err Why.Memory → ⊥ }
+        ensures memory { HasPathOf (state self.old) (resident self.old) name.now → result ≡ Err Why.Memory → ⊥ }
         ensures causes { Causes M.Machine (resident self.old) (state self.old) (state self.new) m.old m.new result }
         ensures done { M.honest m.new → (k : Known) → Stands state holds self.old k (M.now m.old) →
             Ends state holds (λ met. keep_outcome met (volume_of k) name.now keep) (kept_key keep) (Change.SetKeep name.now keep) k self.new (M.now m.new) result };

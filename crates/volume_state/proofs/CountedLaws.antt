@@ -9,7 +9,8 @@ use Rattle.fsd_sound.specs.Mounted.{most_waiting}
 use Rattle.volume_contract.specs.Order.{with_drawn}
 use Rattle.volume_contract.specs.State.{Counted, IsForced, State, change_len, force_len, forces_first, forces_for_place, put_len}
 use Rattle.volume_state.specs.Placing.{HasStored, place_len, place_now, store_len}
-use Rattle.volume_state.proofs.PlaceSteps.{forces_as_waits, forces_once, place_some}
+use Rattle.volume_state.proofs.PlaceSteps.{forces_as_waits, forces_once}
+use Rattle.volume_state.proofs.PlaceLaws.{placed_ok}
 
 -- ---- calls one after another
 
@@ -31,7 +32,7 @@ counted_as (Err why) n a b counted = (omega (arith, counted), omega (arith, coun
 -- where there is one, none was forced for it
 pub place_counted : (s : State) (need : ℕ) (r : Result (List Run) Refusal) → r ≡ place_now s need → (a : Ledger) → Counted r (place_len s need) a a
 place_counted s need (Ok runs) is a =
-    let none : place_len s need ≡ 0 = ap (λ (b : Bool). cond b (force_len s) 0) (forces_once s need runs (place_some s need runs (sym is))) in
+    let none : place_len s need ≡ 0 = ap (λ (b : Bool). cond b (force_len s) 0) (forces_once s need runs (placed_ok s need runs (sym is))) in
     omega (arith, none)
 place_counted s need (Err why) is a = (omega arith, omega arith)
 

@@ -1,11 +1,12 @@
 -- What a force that fails has written, and what it has lost.
 use Rattle.std.proofs.Common.{◌≡◌, ℕ, ◌+◌, ◌*◌, ◌<◌, ◌≤◌, Bool, true, false, cond, not, ◌||◌, ◌&&◌, nat_le, nat_lt, length, inl, refl, sym, ap, subst, ◌∙◌, arith}
-use Rattle.std.specs.Prelude.{Result, Ok, Err, IsErrAnd, OnErr}
+use Rattle.std.specs.Prelude.{None, Result, Ok, Err, IsErrAnd, slice_index_or}
 use Rattle.volume_layout.specs.declared.layout.Layout.{Layout}
 use Rattle.fsd_bytes.specs.declared.refusal.Refusal.{Refusal}
 use Rattle.fsd_formats.specs.Record.{record_len}
 use Rattle.sector_disk.specs.Machine.{Ledger, Moment}
 use Rattle.sector_disk.proofs.Damage.{lost_as}
+use Rattle.log_thirds.specs.Images.{AreOfSlot}
 use Rattle.group_commit.specs.Entering.{AreOfLogged, LosesLogged}
 use Rattle.group_commit.specs.Force.{as_load}
 use Rattle.group_commit.specs.Room.{WroteMost, pages_in_first, sectors_before}
@@ -65,15 +66,10 @@ pub none_counted : {T E : Type 0} (r : Result T E) (why : E) → IsErrAnd r (λ 
 none_counted (Ok x) why is n ledger = absurd is
 none_counted (Err told) why is n ledger = (omega arith, omega arith)
 
--- what is so whatever a call answers is so at Err
-pub err_as : {T E : Type 0} (P : Type 0) (r : Result T E) → P → OnErr r P
-err_as P (Ok x) so = tt
-err_as P (Err why) so = so
-
 -- ---- what is lost
 
 lost_copies : (v : VolumeValue) → IsWhole v → (new : State) (a b : ℕ) → AreOfLogged v.log a b → AreCopies (state v) new a b
-lost_copies v whole new a b of = record { page = of.page; within = subst (λ (l : Layout). of.page < l.pages) whole.log of.within; copies = inl (inl of.logged.lies) }
+lost_copies v whole new a b of = record { page = of.page; within = subst (λ (l : Layout). of.page < l.pages) whole.log of.within; copies = inl (inl (subst (λ (l : Layout). AreOfSlot l (slice_index_or v.log.slots of.page None) a b) whole.log of.logged)) }
 
 caused : (v : VolumeValue) → IsWhole v → (new : State) (before now : Moment) (f : ForceFault) → LosesLogged v.log now.image (as_load f) → HasCause (state v) new (resident v) before now (force_refusal f)
 caused v whole new before now (fault.Device place) lost = tt

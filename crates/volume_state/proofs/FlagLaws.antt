@@ -1,45 +1,30 @@
 -- The flags of a volume's name pages, where all pages beside its tree are free.
-use Rattle.std.proofs.Common.{◌≡◌, ℕ, ◌+◌, ◌-◌, ◌<◌, Bool, true, false, not, ◌||◌, List, [], ◌∷◌, length, filter, map, inl, inr, refl, sym, ap, subst, ◌∙◌, arith}
+use Rattle.std.proofs.Common.{◌≡◌, ℕ, ◌+◌, ◌-◌, ◌<◌, Bool, true, false, not, ◌||◌, List, [], ◌∷◌, length, filter, map, refl, ap, ◌∙◌, arith}
 use Rattle.std.specs.Prelude.{slice_index_or, ◌==◌}
-use Rattle.std.specs.List.{AllByRecursion, list_any}
-use Rattle.std.proofs.lemmas.Bool.{eqb-true, or_cases}
-use Rattle.std.proofs.lemmas.List.{append-nil}
+use Rattle.std.specs.List.{list_any}
 use Rattle.std.proofs.lemmas.List.FromFn.{length-range_with_len}
 use Rattle.run_table.specs.Space.{contains, where_free}
+use Rattle.run_table.proofs.SectorLaws.{each_in}
 use Rattle.sector_set.proofs.CountLaws.{count_of_list, split_where}
 use Rattle.sector_set.proofs.FreeLaws.{where_same}
 use Rattle.fsd_forest.proofs.LowLaws.{all_within}
-use Rattle.fsd_table.specs.Table.{Visit, top, visits, visits_below}
+use Rattle.fsd_table.specs.Table.{Visit, top, visits}
 use Rattle.fsd_table.specs.Tree.{IsTree, pages_of}
-use Rattle.fsd_table.proofs.VisitLaws.{visited_pages}
 use Rattle.cached_table.specs.Opening.{is_reached}
+use Rattle.table_survey.proofs.VisitLaws.{tree_pages}
 
 -- ---- the pages that are reached
-
-pages_visited : (pages : List (List ℕ)) (height : ℕ) → IsTree pages height → map (λ v. v.page) (visits pages) ≡ pages_of pages height
-unfolding visits
-pages_visited pages height tree =
-    let low : height - 1 < 7 = omega (arith, tree.most) in
-    let all : List Visit = visits_below 7 pages 1 top in
-    ap (map (λ (v : Visit). v.page)) (sym (append-nil all)) ∙ visited_pages (height - 1) 7 1 pages (top ∷ []) low (tree.subtree, tt) ∙ append-nil (pages_of pages height)
 
 any_mapped : (page : ℕ) (all : List Visit) → list_any (λ visit. visit.page == page) all ≡ contains (map (λ v. v.page) all) page
 any_mapped page [] = refl
 any_mapped page (v ∷ all) = ap (λ (b : Bool). (v.page == page) || b) (any_mapped page all)
 
 pub reached_is : (pages : List (List ℕ)) (height page : ℕ) → IsTree pages height → is_reached pages page ≡ contains (pages_of pages height) page
-reached_is pages height page tree = any_mapped page (visits pages) ∙ ap (λ (xs : List ℕ). contains xs page) (pages_visited pages height tree)
+reached_is pages height page tree = any_mapped page (visits pages) ∙ ap (λ (xs : List ℕ). contains xs page) (tree_pages pages height tree)
 
 -- ---- how many are free
 
-each_in : (P : ℕ → Type 0) (xs : List ℕ) (p : ℕ) → AllByRecursion P xs → contains xs p ≡ true → P p
-each_in P [] p all there = absurd (cc there)
-each_in P (x ∷ xs) p all there = elim (or_cases (x == p) (contains xs p) there) [
-  | inl here ↦ subst P (eqb-true x p here) all.0
-  | inr more ↦ each_in P xs p all.1 more
-]
-
-all_pass : (xs : List ℕ) → filter (λ s. true) xs ≡ xs
+pub all_pass : (xs : List ℕ) → filter (λ s. true) xs ≡ xs
 all_pass [] = refl
 all_pass (x ∷ xs) = ap (λ (ys : List ℕ). x ∷ ys) (all_pass xs)
 

@@ -1,12 +1,13 @@
 -- What waited for a force becomes free, run by run.
 use Rattle.std.proofs.Common.{◌≡◌, inl, inr, ℕ, ◌<◌, ◌≤◌, Bool, true, false, not, ◌&&◌, ◌||◌, List, [], ◌∷◌, refl, sym, ap, ◌∙◌, arith, replicate, None}
 use Rattle.std.specs.Prelude.{IsTrue, IsFalse}
-use Rattle.std.proofs.lemmas.Bool.{cases_lt}
+use Rattle.std.proofs.lemmas.Bool.{cases_lt, and_parts}
 use Rattle.run_table.specs.declared.run.Run.{Run}
 use Rattle.run_table.specs.RunTable.{sectors_of}
 use Rattle.run_table.specs.Space.{contains, where_free}
-use Rattle.sector_set.specs.Area.{Area, AreIn, AreOut, IsOwn, area, together, without}
+use Rattle.sector_set.specs.Area.{Area, AreIn, AreOut, IsOwn, together, without}
 use Rattle.std.proofs.lemmas.List.{nil_from_length}
+use Rattle.std.proofs.Math.Bool.{and-false}
 use Rattle.sector_set.proofs.CountLaws.{none_where}
 use Rattle.sector_set.proofs.AreaLaws.{free_passes, free_within}
 use Rattle.sector_set.proofs.FreeLaws.{contains_where, contains_where_outside, where_same}
@@ -42,10 +43,6 @@ frees_first map w own from to apart = record {
 
 -- ---- tests
 
-kept_true : (r h : Bool) → (r && not h) ≡ true → r ≡ true
-kept_true true h e = refl
-kept_true false h e = absurd cc
-
 not_both : (a b : Bool) → (a ≡ true → b ≡ false) → b ≡ true → a ≡ false
 not_both true b never is = absurd (let e = never refl in cc (e, is))
 not_both false b never is = refl
@@ -69,15 +66,11 @@ step_tests false false false false in_a = refl
 pub nothing : (from to : ℕ) → where_free (λ s. false) from to ≡ []
 nothing from to = nil_from_length (where_free (λ s. false) from to) (none_where from to)
 
-and_false : (b : Bool) → (b && false) ≡ false
-and_false true = refl
-and_false false = refl
-
 pub still_kept : (kept removed : Area) → kept.sectors ≡ [] → with_held (replicate 8 None) kept removed ≡ kept
 still_kept kept removed none =
     let same : where_free (λ s. contains kept.sectors s || contains removed.sectors s && is_held (replicate 8 None) s) kept.from kept.to ≡ where_free (λ s. false) kept.from kept.to =
     where_same (λ s. contains kept.sectors s || contains removed.sectors s && is_held (replicate 8 None) s) (λ s. false) kept.from kept.to
-    (λ s low high. ap (λ (xs : List ℕ). contains xs s || (contains removed.sectors s && false)) none ∙ and_false (contains removed.sectors s)) in
+    (λ s low high. ap (λ (xs : List ℕ). contains xs s || (contains removed.sectors s && false)) none ∙ and-false (contains removed.sectors s)) in
     λ i. record { from = kept.from; to = kept.to; sectors = (same ∙ nothing kept.from kept.to ∙ sym none) i }
 
 -- ---- a run more
@@ -87,7 +80,7 @@ module _ (map0 : Area) (w0 : Waits) (map : Area) (w : Waits) (so : Frees map0 w0
   runs = run_between p ∷ []
 
   in_removed : (s : ℕ) → contains (sectors_of runs) s ≡ true → contains w.removed.sectors s ≡ true
-  in_removed s is = kept_true (contains w.removed.sectors s) (is_held w.held s) (free_passes w.removed.from w.removed.to (λ t. contains w.removed.sectors t && not (is_held w.held t)) s (given.inside s is))
+  in_removed s is = (and_parts (contains w.removed.sectors s) (not (is_held w.held s)) (free_passes w.removed.from w.removed.to (λ t. contains w.removed.sectors t && not (is_held w.held t)) s (given.inside s is))).0
 
   pub run_out : AreOut map runs
   run_out = record {
@@ -150,11 +143,7 @@ module _ (map0 : Area) (w0 : Waits) (map : Area) (w : Waits) (so : Frees map0 w0
       x_in low high is = sym (in_all low high) ∙ given.inside s is
 
       apart_tests : (m x r h : Bool) → (m ≡ true → r ≡ false) → (m || x) ≡ true → ((r && not h) && not x) ≡ false
-      apart_tests m true r h never is = and_false (r && not h)
-        where
-          and_false : (b : Bool) → (b && false) ≡ false
-          and_false true = refl
-          and_false false = refl
+      apart_tests m true r h never is = and-false (r && not h)
       apart_tests true false r h never is = ap (λ (b : Bool). (b && not h) && true) (never refl)
       apart_tests false false r h never is = absurd cc
 
@@ -223,11 +212,6 @@ module _ (map0 : Area) (w0 : Waits) (map : Area) (w : Waits) (so : Frees map0 w0
 module _ (map0 : Area) (w0 : Waits) (map : Area) (w : Waits) (so : Frees map0 w0 map w) (none : (unheld w.held w.removed).sectors ≡ []) where
   alone : (s : ℕ) → contains map.sectors s ≡ (contains map0.sectors s || contains (unheld w0.held w0.removed).sectors s)
   alone s = sym (or_right (contains map.sectors s)) ∙ ap (λ (xs : List ℕ). contains map.sectors s || contains xs s) (sym none) ∙ so.same s
-
-  pub frees_all : map ≡ area map0.from map0.to (λ s. contains map0.sectors s || contains (unheld w0.held w0.removed).sectors s)
-  frees_all =
-      so.own ∙ (λ i. area (so.from i) (so.to i) (contains map.sectors))
-      ∙ (λ i. record { from = map0.from; to = map0.to; sectors = where_same (contains map.sectors) (λ s. contains map0.sectors s || contains (unheld w0.held w0.removed).sectors s) map0.from map0.to (λ s low high. alone s) i })
 
   pub none_left : (v : Area) → v ≡ unheld w.held w.removed → v ≡ record { from = map0.from; to = map0.to; sectors = [] }
   none_left v is = is ∙ (λ i. record { from = so.first i; to = so.last i; sectors = none i })

@@ -7,6 +7,7 @@ use Rattle.volume_layout.specs.Layout.{data_start, home_a, home_b, is_data}
 use Rattle.run_table.specs.declared.run.Run.{Run}
 use Rattle.run_table.specs.RunTable.{sectors_of}
 use Rattle.run_table.specs.Space.{contains, runs_of}
+use Rattle.run_table.proofs.SectorLaws.{first_there}
 use Rattle.sector_set.specs.Area.{Area}
 use Rattle.sector_set.proofs.AreaLaws.{free_within}
 use Rattle.sector_set.proofs.FreeLaws.{contains_where}
@@ -19,7 +20,7 @@ use Rattle.fsd_files.specs.Answers.{HasVersion}
 use Rattle.fsd_files.specs.Disk.{Has, Image, SectorWorn, Sectors, Touches}
 use Rattle.fsd_files.specs.Volume.{is_free}
 use Rattle.fsd_files.proofs.CountLaws.{contains_occurs, occurs, occurs_contains, runs_same}
-use Rattle.fsd_files.proofs.KeptLaws.{first_there, has_on, kept_in_worn}
+use Rattle.fsd_files.proofs.KeptLaws.{has_on, kept_in_worn}
 use Rattle.fsd_sound.specs.Sound.{is_home}
 use Rattle.fsd_sound.specs.Writes.{force_writes}
 use Rattle.volume_contract.specs.State.{IsForced, Known, Stands, State}

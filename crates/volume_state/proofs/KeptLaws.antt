@@ -1,5 +1,5 @@
 -- What a force makes of what a volume tells.
-use Rattle.std.proofs.Common.{◌≡◌, inl, inr, ℕ, suc, ◌≤◌, Bool, true, false, cond, not, ◌&&◌, ◌||◌, ◌==◌, List, [], ◌∷◌, length, option_map, Option, Some, None, Err, replicate, nat_lt, refl, sym, ap, subst, ◌∙◌, arith, if◌then◌else◌}
+use Rattle.std.proofs.Common.{◌≡◌, ◌⊎◌, inl, inr, ℕ, suc, ◌≤◌, Bool, true, false, cond, not, ◌&&◌, ◌||◌, ◌==◌, List, [], ◌∷◌, length, option_map, Some, None, replicate, nat_lt, refl, sym, ap, subst, ◌∙◌, arith, if◌then◌else◌}
 use Rattle.std.proofs.lemmas.Bool.{eqb-true, lt-ltb}
 use Rattle.fsd_bytes.specs.declared.refusal.Refusal.{Refusal}
 use Rattle.fsd_bytes.specs.declared.refusal.Refusal.TheVariants as Why
@@ -13,7 +13,7 @@ use Rattle.log_thirds.specs.Moving.{moved}
 use Rattle.page_cache.specs.Cache.{CacheValue, IsCache, cleaned}
 use Rattle.group_commit.specs.Cached.{ascending_of, stamped_for}
 use Rattle.group_commit.specs.Force.{log_forced}
-use Rattle.group_commit.specs.Room.{goes_before}
+use Rattle.group_commit.specs.Room.{goes_before, log_before}
 use Rattle.group_commit.specs.declared.force.ForceFault.{ForceFault}
 use Rattle.group_commit.specs.declared.force.ForceFault.TheVariants as fault
 use Rattle.group_commit.proofs.CachedLaws.{forced_some}
@@ -22,19 +22,12 @@ use Rattle.volume_contract.specs.State.{State, IsDownAt, IsForced}
 use Rattle.volume_contract.specs.Order.{Force, IsDownBy, Keeps, force_steps}
 use Rattle.volume_state.specs.Forcing.{force_refusal, place_of}
 use Rattle.volume_state.specs.State.{freed_sectors, held_runs, state}
-use Rattle.volume_state.specs.Taken.{down_fault}
 use Rattle.volume_state.specs.Volume.{IsWhole, VolumeValue}
-use Rattle.volume_state.proofs.ForcedLaws.{from_is, to_is, whole_forced}
+use Rattle.volume_state.proofs.ForcedLaws.{from_is, to_is, whole_down, whole_forced}
 use Rattle.volume_state.proofs.FreeLaws.{nothing}
+use Rattle.volume_state.proofs.LogLaws.{Tells, failed_log, forced_logs}
 
 -- ---- refusals
-
-pub keeps_up : (s : State) (r : Refusal) → down_fault s.down ≡ Err r → Keeps (force_steps s) r s s
-keeps_up s r is = inl (by s.down is, refl)
-  where
-    by : (d : Option ℕ) → down_fault d ≡ Err r → option_map Why.Down d ≡ Some r
-    by None e = absurd (cc e)
-    by (Some place) e = cc e
 
 down_by : (old new : State) (f : ForceFault) → IsDownAt (place_of f) old new → IsDownBy (force_refusal f) old new
 down_by old new (fault.Device place) down = down
@@ -84,6 +77,10 @@ free_same v whole none =
 
 -- ---- the state then
 
+-- what it tells of its log is of the log
+tells : (v : VolumeValue) → IsWhole v → Tells (state v) v.log
+tells v whole = record { layout = whole.log; anchor = refl; head = refl; slots = refl }
+
 module _ (v : VolumeValue) (whole : IsWhole v) where
   pub idle_forced : v.cache.dirty ≡ [] → IsForced (state v) (state v)
   idle_forced none =
@@ -92,6 +89,7 @@ module _ (v : VolumeValue) (whole : IsWhole v) where
         is = λ i. record (state v) { dirty = none i; free = runs_of (free_same v whole still i); waits = not (length (still i) == 0) };
         number = ap (λ (xs : List ℕ). if length xs == 0 then v.log.head.number else suc v.log.head.number) (sym none);
         idle = λ e. refl;
+        logs = λ some. absurd (omega (arith, some, ap length none));
       }
 
   module _ (map : Area) (w : Waits) (log : LogValue) (cache : CacheValue)
@@ -124,15 +122,23 @@ module _ (v : VolumeValue) (whole : IsWhole v) where
           ∙ forced_number v.log (ascending_of v.cache.dirty) (omega (arith, some, length_ascending v.cache.dirty valid.once))
           ∙ number_some (length v.cache.dirty) v.log.head.number some;
       idle = λ e. absurd (omega (arith, some, ap length e));
+      logs = λ waits. forced_logs (state v) (state value_then) v.log log (tells v whole) (tells value_then (whole_forced v whole map w log cache map_is removed kept unfinished held log_is cache_is)) valid.once waits log_is;
     }
 
-  pub is_down : (log : LogValue) (cache : CacheValue) (place : ℕ) → cache ≡ stamped_for v.log v.cache → IsDownAt place (state v) (state (record v { log = log; cache = cache; down = Some place }))
-  is_down log cache place cache_is = record { is = λ i. record (state v) { anchor = log.anchor; head = log.head; slots = log.slots; dirty = ap (λ (c : CacheValue). c.dirty) cache_is i; down = Some place } }
+  pub is_down : (log : LogValue) (cache : CacheValue) (place : ℕ) → cache ≡ stamped_for v.log v.cache → (P : Type 0) → (log ≡ v.log) ⊎ ((log ≡ log_before v.log (length v.cache.dirty)) × P)
+      → IsDownAt place (state v) (state (record v { log = log; cache = cache; down = Some place }))
+  is_down log cache place cache_is P log_is =
+      let left : VolumeValue = record v { log = log; cache = cache; down = Some place } in
+      record {
+        is = failed_log (state v) (state left) place v.log log (tells v whole) (tells left (whole_down v whole log cache place (length v.cache.dirty) P log_is cache_is))
+            (λ i. record (state left) { dirty = ap (λ (c : CacheValue). c.dirty) cache_is i }) P log_is;
+      }
 
 -- the same of the volume as its caller had it
 pub kept_down : (v : VolumeValue) (whole : IsWhole v) (log : LogValue) (cache : CacheValue) (place : ℕ) (refusal : Refusal) (f : ForceFault) → place ≡ place_of f → refusal ≡ force_refusal f → cache ≡ stamped_for v.log v.cache
+    → (P : Type 0) → (log ≡ v.log) ⊎ ((log ≡ log_before v.log (length v.cache.dirty)) × P)
     → v.down ≡ None → 1 ≤ length v.cache.dirty → Keeps (force_steps (state v)) refusal (state v) (state (record v { log = log; cache = cache; down = Some place }))
-kept_down v whole log cache place refusal f at why cache_is up some =
+kept_down v whole log cache place refusal f at why cache_is P log_is up some =
     let left : ℕ → State = λ p. state (record v { log = log; cache = cache; down = Some p }) in
     subst (λ (r : Refusal). Keeps (force_steps (state v)) r (state v) (left place)) (sym why)
-    (keeps_down (state v) (left place) f up some (subst (λ (p : ℕ). IsDownAt p (state v) (left place)) at (is_down v whole log cache place cache_is)))
+    (keeps_down (state v) (left place) f up some (subst (λ (p : ℕ). IsDownAt p (state v) (left place)) at (is_down v whole log cache place cache_is P log_is)))

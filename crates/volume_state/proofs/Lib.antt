@@ -13,6 +13,7 @@ pub mod FreeLaws
 pub mod FreeStays
 pub mod KeptLaws
 pub mod ListLaws
+pub mod LogLaws
 pub mod LoggedLaws
 pub mod MomentLaws
 pub mod NoPlaceLaws

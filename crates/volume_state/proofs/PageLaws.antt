@@ -15,7 +15,7 @@ use Rattle.fsd_sound.specs.Homes.{AreHomesOf, home_of}
 use Rattle.fsd_sound.specs.Mounted.{StandsOver, image_at}
 use Rattle.fsd_sound.specs.Shown.{records_by}
 use Rattle.log_thirds.specs.Append.{IsIndexed}
-use Rattle.log_thirds.specs.Disk.{bytes_in, reads}
+use Rattle.log_thirds.specs.Disk.{reads}
 use Rattle.log_thirds.specs.Images.{AreLogged}
 use Rattle.log_thirds.proofs.ImageLaws.{image_there, no_last_image}
 use Rattle.group_commit.specs.Newest.{AreCopies, IsUnlogged, newest_by}
@@ -74,7 +74,7 @@ module _ (v : VolumeValue) (k : Known) (now : Moment) (whole : IsWhole v) (stand
           let third : v.log.anchor.third ≤ 2 = stands.holds.fits.third in
           let gives = image_there v.log (records_by v.log.layout now.image v.log.anchor) now page third indexed inside (record { place = a; copy = b; number = logged.lies.number }) refl logged.lies.is in
           let gone : either_good (bears page (record { epoch = v.log.anchor.epoch; number = logged.lies.number })) (reads now.image a) (reads now.image b) ≡ None =
-          λ i. either_good (bears page (record { epoch = v.log.anchor.epoch; number = logged.lies.number })) (bytes_in (first i)) (bytes_in (second i)) in
+          λ i. either_good (bears page (record { epoch = v.log.anchor.epoch; number = logged.lies.number })) (sector_bytes (first i)) (sector_bytes (second i)) in
           absurd (cc (gives.read, gone))
 
       pub never_lost : AreCopies v.log page a b → ⊥

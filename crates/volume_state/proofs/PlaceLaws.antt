@@ -3,7 +3,6 @@ use Rattle.std.proofs.Common.{◌≡◌, ℕ, zero, suc, ◌+◌, ◌-◌, ◌<�
 use Rattle.std.specs.Prelude.{All, IsTrue, IfSome, ◌==◌, find, slice_index_or}
 use Rattle.std.specs.List.{AllByRecursion, list_all}
 use Rattle.std.proofs.lemmas.Bool.{and_from, eq-eqb, eqb-false, le-leb, ltb-true}
-use Rattle.std.proofs.lemmas.List.Sums.{sum_by-cons}
 use Rattle.fsd_bytes.specs.Keys.{is_key}
 use Rattle.fsd_bytes.specs.Names.{is_between}
 use Rattle.fsd_formats.specs.declared.entry.Entry.{Entry}
@@ -14,6 +13,7 @@ use Rattle.run_table.specs.declared.run.Run.{Run}
 use Rattle.run_table.specs.RunTable.{are_runs, sectors_of, total, run_of}
 use Rattle.run_table.specs.Space.{contains, where_free, joined, runs_of, by_length, longest_first, cut_to, longest, best, picked, pick}
 use Rattle.run_table.proofs.ChoiceLaws.{total_of_pick, pick_none}
+use Rattle.run_table.proofs.SectorLaws.{total-cons}
 use Rattle.alloc_map.specs.NoPlace.{choice, picked_or}
 use Rattle.alloc_map.specs.declared.no_place.NoPlace.{NoPlace}
 use Rattle.alloc_map.specs.declared.no_place.NoPlace.TheVariants.{NoSpace as Few, TooFragmented as Broken}
@@ -175,9 +175,6 @@ free_below l map runs of_data are k d lt =
     (free_within (data_start l) l.sectors (contains map.sectors) s there).1
 
 -- ---- the version as it is written
-
-total-cons : (r : Run) (runs : List Run) → total (r ∷ runs) ≡ r.length + total runs
-total-cons r runs = sum_by-cons (λ (q : Run). q.length) r runs
 
 each_short : (most : ℕ) (runs : List Run) → AreSome runs → total runs ≤ most → most ≤ 65535 → list_all (λ r. is_between 1 65535 r.length) runs ≡ true
 each_short most [] some le few = refl

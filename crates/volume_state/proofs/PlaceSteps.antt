@@ -19,6 +19,7 @@ use Rattle.volume_contract.specs.State.{Fits, GoesOn, IsForced, Known, Stands, S
 use Rattle.volume_state.specs.Placing.{EndsPlace, Places, StandsFor, place_now, place_or, place_steps}
 use Rattle.volume_state.specs.State.{Holds, state}
 use Rattle.volume_state.specs.Volume.{VolumeValue}
+use Rattle.volume_state.proofs.PlaceLaws.{placed_ok}
 
 -- ---- the steps
 
@@ -64,13 +65,6 @@ place_none s need why e = by (pick s.free need) refl e
     by (Some runs) is e = absurd cc
     by None is e = (is, cc)
 
-pub place_some : (s : State) (need : ℕ) (runs : List Run) → place_now s need ≡ Ok runs → pick s.free need ≡ Some runs
-place_some s need runs e = by (pick s.free need) refl e
-  where
-    by : (o : Option (List Run)) → pick s.free need ≡ o → place_or s need o ≡ Ok runs → pick s.free need ≡ Some runs
-    by (Some rs) is e = let same : rs ≡ runs = cc in is ∙ ap (λ (x : List Run). Some x) same
-    by None is e = absurd cc
-
 pub stays : (s : State) → GoesOn None s s
 stays s = record { layout = refl; epoch = refl; held = refl; down = inl refl }
 
@@ -89,7 +83,7 @@ goes_more place s t goes = record {
 
 pub places_once : (s : State) (need : ℕ) (runs : List Run) → place_now s need ≡ Ok runs → Places need s s (Ok runs)
 places_once s need runs e =
-    let is = place_some s need runs e in
+    let is = placed_ok s need runs e in
     record {
       order = subst (λ (steps : List Step). Follows steps (Ok runs)) (sym (steps_once s need runs is)) (tt, (refl, tt));
       state = stays s;
@@ -139,7 +133,7 @@ module _ (s t : State) (need : ℕ) (none : pick s.free need ≡ None) (waits : 
 
     pub places_behind : (runs : List Run) → place_now t need ≡ Ok runs → Places need s t (Ok runs)
     places_behind runs e =
-        let there = place_some t need runs e in
+        let there = placed_ok t need runs e in
         let freed : pick s.freed need ≡ Some runs = ap (λ (rs : List Run). pick rs need) (sym now_free) ∙ there in
         record {
           order = subst (λ (steps : List Step). Follows steps (Ok runs)) (sym (steps_forced s need none waits)) (tt, (ap (λ (o : Option (List Run)). cond (is_none o) (Some (no_place_in s s.freed need)) None) freed, tt));
@@ -224,7 +218,7 @@ none_now s need (Ok runs) is bad = absurd (cc bad)
 none_now s need (Err why) is bad = (place_none s need why (sym is)).0
 
 pub ends_now : (v : VolumeValue) (need : ℕ) (k : Known) (now : Moment) (r : Result (List Run) Refusal) → r ≡ place_now (state v) need → (is_ok r ≡ true) ⊎ ((state v).waits ≡ false) → Stands state Holds v k now → EndsPlace need k v now r
-ends_now v need k now (Ok runs) is how stands = stands_once v need k now (forces_once (state v) need runs (place_some (state v) need runs (sym is))) stands
+ends_now v need k now (Ok runs) is how stands = stands_once v need k now (forces_once (state v) need runs (placed_ok (state v) need runs (sym is))) stands
 ends_now v need k now (Err why) is (inl ok) stands = absurd (cc ok)
 ends_now v need k now (Err why) is (inr idle) stands =
     let none = place_none (state v) need why (sym is) in

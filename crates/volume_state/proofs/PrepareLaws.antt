@@ -3,6 +3,7 @@ use Rattle.std.proofs.Common.{◌≡◌, ◌⊎◌, inl, inr, ℕ, suc, ◌*◌,
 use Rattle.std.specs.Prelude.{IsFalse, is_none, not, ◌==◌}
 use Rattle.std.proofs.lemmas.Bool.{le-leb, ltb-false, ltb-true}
 use Rattle.std.proofs.lemmas.List.{append-nil}
+use Rattle.std.proofs.Math.Bool.{and-false}
 use Rattle.volume_layout.specs.declared.layout.Layout.{Layout}
 use Rattle.fsd_bytes.specs.declared.refusal.Refusal.{Refusal}
 use Rattle.fsd_bytes.specs.declared.refusal.Refusal.TheVariants as Why
@@ -15,7 +16,7 @@ use Rattle.fsd_files.specs.Volume.{Volume, drawn, forced, forced_for_place, forc
 use Rattle.fsd_sound.specs.Mounted.{forces_by_itself, most_waiting}
 use Rattle.sector_disk.specs.Image.{open_damage}
 use Rattle.volume_contract.specs.Ends.{Answered, EndsForce, IsAsBefore}
-use Rattle.volume_contract.specs.Order.{Comes, Disk, Draw, Force, Keeps, Step, by_itself, force_steps, place}
+use Rattle.volume_contract.specs.Order.{Comes, Disk, Draw, Force, Keeps, Step, by_itself, force_steps, place, with_drawn}
 use Rattle.fsd_sound.specs.Writes.{force_writes}
 use Rattle.volume_contract.specs.State.{GoesOn, HasCounted, IsForced, Known, Leaves, Stands, State, downs_for, forces_first, forces_for_place, in_place, place_in, put_writes, volume_of}
 use Rattle.volume_state.specs.Placing.{EndsStore, HasPlace, StandsDrawn, Stores, place_steps, store_steps}
@@ -23,6 +24,7 @@ use Rattle.volume_state.specs.Preparing.{EndsForced, EndsPrepare, Forces, Prepar
 use Rattle.volume_state.specs.State.{Holds, state}
 use Rattle.volume_state.specs.Steps.{Went}
 use Rattle.volume_state.specs.Volume.{VolumeValue}
+use Rattle.volume_state.proofs.LogLaws.{keeps_drawn, keeps_same, logged_drawn, logged_forced, logged_none, logged_still}
 use Rattle.volume_state.proofs.PlaceSteps.{down_so, forced_is, lost_so, stays}
 use Rattle.volume_state.proofs.StepLaws.{comes_behind, comes_more, goes_then, keeps_behind, keeps_more, through_more, went_then}
 use Rattle.volume_state.proofs.StoreLaws.{on_drawn, out_first, same_serial, sound_on, went_place}
@@ -91,17 +93,13 @@ and_true : (b : Bool) → (b && true) ≡ b
 and_true true = refl
 and_true false = refl
 
-and_false : (b : Bool) → (b && false) ≡ false
-and_false true = refl
-and_false false = refl
-
 -- many pages wait behind a place where they did and none was forced for it
 pub first_behind : (s m : State) (need : ℕ) (runs : List Run) → HasPlace need s m runs → forces_first m ≡ (forces_first s && not (forces_for_place s need))
 first_behind s m need runs has = by (forces_for_place s need) has.went
   where
     by : (b : Bool) → ((b ≡ false) × (m ≡ s)) ⊎ ((b ≡ true) × IsForced s m) → forces_first m ≡ (forces_first s && not b)
     by true (inl way) = absurd (cc way.0)
-    by true (inr way) = ap (λ (d : List ℕ). nat_lt most_waiting (length d)) (ap (λ (x : State). x.dirty) way.1.is) ∙ sym (and_false (forces_first s))
+    by true (inr way) = ap (λ (d : List ℕ). nat_lt most_waiting (length d)) (ap (λ (x : State). x.dirty) way.1.is) ∙ sym (and-false (forces_first s))
     by false (inl way) = ap (λ (x : State). forces_first x) way.1 ∙ sym (and_true (forces_first s))
     by false (inr way) = absurd (cc way.0)
 
@@ -147,11 +145,26 @@ module _ (s : State) (need : ℕ) where
 pub prepared_counts : (s t : State) (need : ℕ) → Went (prepare_steps s need) s t → HasCounted true (forces_for_place s need || forces_first s) s t
 prepared_counts s t need through = by (forces_for_place s need) (forces_first s) through
   where
+    behind_place : (next : State) → IsForced s next → t ≡ with_drawn next → HasCounted true true s t
+    behind_place next is same = record {
+      count = ap (λ (x : State). x.serial.count) same ∙ ap (λ (x : State). suc x.serial.count) is.is;
+      number = ap (λ (x : State). x.head.number) same ∙ is.number;
+      log = logged_still next t (keeps_drawn next t same) true s (logged_forced s next is);
+    }
+
     by : (b c : Bool) → Went (Force b ∷ place s need ∷ Draw ∷ Disk (in_place (place_in s need)) ∷ Force (c && not b) ∷ []) s t → HasCounted true (b || c) s t
-    by true true (next, is, (passes, (free, (quiet, same)))) = record { count = ap (λ (x : State). x.serial.count) same ∙ ap (λ (x : State). suc x.serial.count) is.is; number = ap (λ (x : State). x.head.number) same ∙ is.number }
-    by true false (next, is, (passes, (free, (quiet, same)))) = record { count = ap (λ (x : State). x.serial.count) same ∙ ap (λ (x : State). suc x.serial.count) is.is; number = ap (λ (x : State). x.head.number) same ∙ is.number }
-    by false true (none, (passes, (free, (next, is, same)))) = record { count = ap (λ (x : State). x.serial.count) same ∙ ap (λ (x : State). x.serial.count) is.is; number = ap (λ (x : State). x.head.number) same ∙ is.number }
-    by false false (none, (passes, (free, (quiet, same)))) = record { count = ap (λ (x : State). x.serial.count) same; number = ap (λ (x : State). x.head.number) same }
+    by true true (next, is, (passes, (free, (quiet, same)))) = behind_place next is same
+    by true false (next, is, (passes, (free, (quiet, same)))) = behind_place next is same
+    by false true (none, (passes, (free, (next, is, same)))) = record {
+      count = ap (λ (x : State). x.serial.count) same ∙ ap (λ (x : State). x.serial.count) is.is;
+      number = ap (λ (x : State). x.head.number) same ∙ is.number;
+      log = logged_drawn true s t (logged_still next t (keeps_same next t same) true (with_drawn s) (logged_forced (with_drawn s) next is));
+    }
+    by false false (none, (passes, (free, (quiet, same)))) = record {
+      count = ap (λ (x : State). x.serial.count) same;
+      number = ap (λ (x : State). x.head.number) same;
+      log = logged_none s t (keeps_drawn s t same);
+    }
 
 pub prepared_number : (s t : State) (need : ℕ) → Went (prepare_steps s need) s t → t.head.number ≤ suc s.head.number
 prepared_number s t need through = by (forces_for_place s need || forces_first s) (length s.dirty == 0) (prepared_counts s t need through).number

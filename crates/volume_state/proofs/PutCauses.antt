@@ -13,7 +13,7 @@ use Rattle.fsd_files.specs.Disk.{Sectors}
 use Rattle.sector_disk.specs.declared.machine.Machine.{Ghosts}
 use Rattle.sector_disk.specs.Machine.{Moment}
 use Rattle.sector_disk.proofs.Damage.{lost_as}
-use Rattle.volume_contract.specs.Causes.{AreCopies, AreCopiesOf, Causes, HasCause}
+use Rattle.volume_contract.specs.Causes.{AreCopies, AreCopiesOf, AreToldOf, Causes, HasCause}
 use Rattle.volume_contract.specs.Order.{Comes, IsDeviceIn, by_itself, no_place_in, with_drawn}
 use Rattle.volume_contract.specs.State.{IsForced, State, forces_first, forces_for_place}
 use Rattle.volume_state.specs.Placing.{HasStored, place_now}
@@ -44,6 +44,11 @@ pub copies_of : (s t : State) (page a b : ℕ) → t.slots ≡ s.slots → t.lay
 copies_of s t page a b slots layout copies =
     subst (λ (l : Layout). AreCopiesOf (record s { layout = l }) page a b) layout
     (subst (λ (x : List (Option Slot)). AreCopiesOf (record s { slots = x; layout = t.layout }) page a b) slots copies)
+
+pub told_of : (s t : State) (page a b : ℕ) → t.slots ≡ s.slots → t.layout ≡ s.layout → AreToldOf t page a b → AreToldOf s page a b
+told_of s t page a b slots layout told =
+    subst (λ (l : Layout). AreToldOf (record s { layout = l }) page a b) layout
+    (subst (λ (x : List (Option Slot)). AreToldOf (record s { slots = x; layout = t.layout }) page a b) slots told)
 
 -- it comes only where none came for the place: nothing but the serial has changed
 pub none_before : (s m : State) (need : ℕ) (e : Entry) → HasStored need s m e → forces_first m ≡ true → (forces_for_place s need ≡ false) × (m ≡ with_drawn s)

@@ -9,6 +9,7 @@ use Rattle.volume_layout.specs.Layout.{data_start, home_a, is_data}
 use Rattle.run_table.specs.declared.run.Run.{Run}
 use Rattle.run_table.specs.RunTable.{sectors_of}
 use Rattle.run_table.specs.Space.{all_differ, contains}
+use Rattle.run_table.proofs.SectorLaws.{first_there, rest_there}
 use Rattle.sector_disk.specs.declared.sector.Sector.TheVariants as Sector
 use Rattle.sector_disk.specs.Image.{IsWorn, sector_at}
 use Rattle.sector_disk.proofs.Wear.{worn_whole}
@@ -24,7 +25,7 @@ use Rattle.fsd_files.specs.Files.{File, Files}
 use Rattle.fsd_files.specs.Kept.{FirstDamaged, IsWhole as IsSectorWhole, Kept, KeptIn, Lists, range_sectors}
 use Rattle.fsd_files.specs.Replies.{Reply, Found, Refused}
 use Rattle.fsd_files.proofs.ChangeLaws.{same_key_turned}
-use Rattle.fsd_files.proofs.KeptLaws.{back_there, first_there, front_there, rest_there}
+use Rattle.fsd_files.proofs.KeptLaws.{back_there, front_there}
 use Rattle.version_data.specs.declared.fault.DataFault.{DataFault}
 use Rattle.version_data.specs.declared.fault.DataFault.TheVariants.{Device, Damaged}
 use Rattle.version_data.specs.Reading.{GivesRange, NamesFirst, data_failed_at, refusal_of}

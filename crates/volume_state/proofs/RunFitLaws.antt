@@ -1,9 +1,8 @@
 -- The runs of a place fit an entry: their starts lie on the volume, and none is long.
-use Rattle.std.proofs.Common.{◌≡◌, ℕ, ◌+◌, ◌^◌, ◌<◌, ◌≤◌, nat_le, nat_lt, true, ◌&&◌, ◌||◌, List, [], ◌∷◌, length, sym, ap, ◌∙◌, arith}
+use Rattle.std.proofs.Common.{◌≡◌, ℕ, ◌+◌, ◌^◌, ◌<◌, ◌≤◌, nat_le, nat_lt, true, ◌&&◌, List, [], ◌∷◌, length, sym, ap, ◌∙◌, arith}
 use Rattle.std.specs.Prelude.{◌==◌}
 use Rattle.std.specs.List.{AllByRecursion, list_all, range_with_len}
 use Rattle.std.proofs.lemmas.Bool.{and_from, and_parts, le-leb, leb-true, lt-ltb, or_left, or_right}
-use Rattle.std.proofs.lemmas.List.Folds.{list_any-append}
 use Rattle.volume_layout.specs.declared.layout.Layout.{Layout}
 use Rattle.volume_layout.specs.Layout.{data_start}
 use Rattle.fsd_bytes.specs.Keys.{is_key}
@@ -11,6 +10,7 @@ use Rattle.fsd_bytes.specs.Names.{is_between}
 use Rattle.run_table.specs.declared.run.Run.{Run}
 use Rattle.run_table.specs.RunTable.{FitsRun, are_runs, max_runs, sectors_of, total}
 use Rattle.run_table.specs.Space.{contains}
+use Rattle.run_table.proofs.SectorLaws.{contains-cons}
 use Rattle.sector_set.specs.Area.{Area, AreIn}
 use Rattle.sector_set.proofs.AreaLaws.{free_within}
 use Rattle.sector_set.proofs.FreeLaws.{contains_range}
@@ -18,13 +18,9 @@ use Rattle.fsd_formats.specs.declared.entry.Entry.{Entry}
 use Rattle.fsd_formats.specs.NamePage.{is_entry, max_keep, max_length, sectors_for}
 use Rattle.cached_table.specs.Surveying.{IsOfData}
 
--- the sectors of a run and of those behind it
-in_both : (r : Run) (runs : List Run) (s : ℕ) → contains (sectors_of (r ∷ runs)) s ≡ (contains (range_with_len r.start r.length) s || contains (sectors_of runs) s)
-in_both r runs s = list_any-append (λ t. t == s) (range_with_len r.start r.length) (sectors_of runs)
-
 first_in : (r : Run) (runs : List Run) → 1 ≤ r.length → contains (sectors_of (r ∷ runs)) r.start ≡ true
 first_in r runs some =
-    in_both r runs r.start
+    contains-cons r runs r.start
     ∙ or_left (contains (range_with_len r.start r.length) r.start) (contains (sectors_of runs) r.start)
     (contains_range r.start r.length r.start
     ∙ and_from (nat_le r.start r.start) (nat_lt r.start (r.start + r.length)) (le-leb r.start r.start (omega arith)) (lt-ltb r.start (r.start + r.length) (omega (arith, some))))
@@ -40,7 +36,7 @@ module _ (l : Layout) (map : Area) (of_data : IsOfData l map) (narrow : l.sector
       let between = and_parts (nat_le 1 r.length) (nat_le r.length 65535) parts.0 in
       let start = below r.start (free r.start (first_in r runs (leb-true 1 r.length between.0))) in
       let most = leb-true r.length 65535 between.1 in
-      ((omega (arith, start, narrow), omega (arith, most)), runs_fit runs (λ s there. free s (in_both r runs s ∙ or_right (contains (range_with_len r.start r.length) s) (contains (sectors_of runs) s) there)) parts.1)
+      ((omega (arith, start, narrow), omega (arith, most)), runs_fit runs (λ s there. free s (contains-cons r runs s ∙ or_right (contains (range_with_len r.start r.length) s) (contains (sectors_of runs) s) there)) parts.1)
 
   -- those of an entry whose sectors are free
   pub place_fits : (e : Entry) → is_entry e ≡ true → AreIn map e.runs → AllByRecursion FitsRun e.runs

@@ -4,13 +4,12 @@ use Rattle.std.specs.Prelude.{Contains, slice_index_or, ◌==◌}
 use Rattle.std.specs.List.{last_or, list_any, range_with_len}
 use Rattle.std.specs.Option.{option_or, unwrap_or}
 use Rattle.std.proofs.lemmas.Bool.{cases_lt, eq-eqb, or_left, or_right}
-use Rattle.std.proofs.lemmas.Cmp.{nat_list_eq_equiv}
-use Rattle.std.proofs.lemmas.Map.Text.{is_eq-slice_cmp}
 use Rattle.volume_layout.specs.declared.layout.Layout.{Layout}
 use Rattle.sector_disk.specs.Machine.{Moment}
+use Rattle.sector_disk.proofs.ResultLaws.{option_or-none}
 use Rattle.fsd_bytes.specs.declared.key.Key.{Key}
 use Rattle.fsd_bytes.specs.Bytes.{same_bytes}
-use Rattle.fsd_bytes.specs.Keys.{key_lt, same_key}
+use Rattle.fsd_bytes.specs.Keys.{key_lt}
 use Rattle.fsd_formats.specs.declared.entry.Entry.{Entry}
 use Rattle.page_cache.specs.Cache.{IsCache, newest}
 use Rattle.name_page.specs.Lookups.{entry_with, entry_after, highest_of, same_name}
@@ -28,12 +27,10 @@ use Rattle.volume_contract.specs.State.{Known, Stands}
 use Rattle.volume_state.specs.State.{Holds, state}
 use Rattle.volume_state.specs.Volume.{IsWhole, VolumeValue}
 use Rattle.volume_state.proofs.PageLaws.{over, page_read}
+use Rattle.version_table.proofs.EditLaws.{with_is}
+use Rattle.version_table.proofs.VersionLaws.{same_both}
 
 -- ---- look-ups among entries
-
-with_is : (key : Key) (entries : List Entry) → entry_with key entries ≡ entry_of key entries
-with_is key [] = refl
-with_is key (e ∷ entries) = ap (λ (o : Option Entry). cond (same_key e.key key) (Some e) o) (with_is key entries)
 
 behind_is : (after : Option Key) (entries : List Entry) → entry_after after entries ≡ entry_behind after entries
 behind_is None [] = refl
@@ -41,17 +38,9 @@ behind_is (Some key) [] = refl
 behind_is None (e ∷ entries) = refl
 behind_is (Some key) (e ∷ entries) = ap (λ (o : Option Entry). cond (key_lt key e.key) (Some e) o) (behind_is (Some key) entries)
 
--- the last entry of a name, from the front and from the back
-same_name_is : (a name : List ℕ) → same_name a name ≡ same_bytes name a
-same_name_is a name = is_eq-slice_cmp a name ∙ nat_list_eq_equiv.symm a name
-
-or_last : (o : Option Entry) → o ≡ option_or o None
-or_last None = refl
-or_last (Some e) = refl
-
 last_is : (name : List ℕ) (entries : List Entry) (o : Option Entry) → option_or (highest_of name entries) o ≡ last_or o (filter (λ e. same_bytes name e.key.name) entries)
 last_is name [] o = refl
-last_is name (e ∷ entries) o = by (same_name e.key.name name) (same_bytes name e.key.name) (same_name_is e.key.name name) (highest_of name entries) (last_is name entries)
+last_is name (e ∷ entries) o = by (same_name e.key.name name) (same_bytes name e.key.name) (same_both e.key.name name) (highest_of name entries) (last_is name entries)
   where
     by : (b c : Bool) → b ≡ c → (last : Option Entry) → ((p : Option Entry) → option_or last p ≡ last_or p (filter (λ x. same_bytes name x.key.name) entries))
         → option_or (option_or last (cond b (Some e) None)) o ≡ last_or o (cond c (e ∷ filter (λ x. same_bytes name x.key.name) entries) (filter (λ x. same_bytes name x.key.name) entries))
@@ -63,7 +52,7 @@ last_is name (e ∷ entries) o = by (same_name e.key.name name) (same_bytes name
     by false false is (Some x) rest = rest o
 
 highest_is : (name : List ℕ) (entries : List Entry) → highest_of name entries ≡ highest_entry name entries
-highest_is name entries = or_last (highest_of name entries) ∙ last_is name entries None
+highest_is name entries = option_or-none (highest_of name entries) ∙ last_is name entries None
 
 -- one that is found is an entry
 pub behind_there : (after : Option Key) (entries : List Entry) (e : Entry) → entry_behind after entries ≡ Some e → Contains entries e

@@ -6,6 +6,7 @@ use Rattle.std.proofs.lemmas.Bool.{and_parts, and_from, not-false, or_cases, or_
 use Rattle.run_table.specs.declared.run.Run.{Run}
 use Rattle.run_table.specs.RunTable.{sectors_of}
 use Rattle.run_table.specs.Space.{contains, all_differ, runs_of}
+use Rattle.run_table.proofs.SectorLaws.{all_from}
 use Rattle.volume_layout.specs.declared.layout.Layout.{Layout}
 use Rattle.volume_layout.specs.Layout.{data_start, is_data}
 use Rattle.fsd_formats.specs.declared.entry.Entry.{Entry}
@@ -39,11 +40,6 @@ all_of p (x ∷ xs) all s there =
       | inr more ↦ all_of p xs parts.1 s more
     ]
 
-pub of_all : (p : ℕ → Bool) (xs : List ℕ) → ((s : ℕ) → contains xs s ≡ true → p s ≡ true) → list_all p xs ≡ true
-of_all p [] each = refl
-of_all p (x ∷ xs) each =
-    and_from (p x) (list_all p xs) (each x (or_left (x == x) (contains xs x) (eq-eqb x x refl))) (of_all p xs (λ s there. each s (or_right (x == s) (contains xs s) there)))
-
 -- two answers that hold together
 same_answer : (a b : Bool) → (a ≡ true → b ≡ true) → (b ≡ true → a ≡ true) → a ≡ b
 same_answer true b on back = sym (on refl)
@@ -55,7 +51,7 @@ same_answer false false on back = refl
 module _ (v : VolumeValue) (whole : IsWhole v) (runs : List Run) where
   out_is_taken : AreOut v.map runs → AreIdle v.shadow runs → are_taken v runs ≡ true
   out_is_taken out idle =
-      and_from (all_differ (sectors_of runs)) (list_all (is_taken v) (sectors_of runs)) out.differ (of_all (is_taken v) (sectors_of runs) each)
+      and_from (all_differ (sectors_of runs)) (list_all (is_taken v) (sectors_of runs)) out.differ (all_from (is_taken v) (sectors_of runs) each)
     where
       each : (s : ℕ) → contains (sectors_of runs) s ≡ true → is_taken v s ≡ true
       each s there =
@@ -133,7 +129,7 @@ module _ (v : VolumeValue) (m : Mounted) (records : List Placed) (whole : IsWhol
       let once : (s : ℕ) → occurs s (sectors_of e.runs) ≤ 1 =
       λ s. omega (arith, fewer_in_one m.volume.entries e has.0 s has.1 has.2, differ_occurs (flat_map sectors_of (plans_of m.volume.entries)) parts.0 s) in
       and_from (all_differ (sectors_of e.runs)) (list_all (is_taken v) (sectors_of e.runs)) (occurs_differ (sectors_of e.runs) once)
-      (of_all (is_taken v) (sectors_of e.runs) (λ s there.
+      (all_from (is_taken v) (sectors_of e.runs) (λ s there.
       let here : IsTrue (in_version m.volume s) = occurs_contains s (flat_map sectors_of (plans_of m.volume.entries)) (omega (arith, contains_occurs s (sectors_of e.runs) there, fewer_in_one m.volume.entries e has.0 s has.1 has.2)) in
       let area : IsTrue (is_data m.volume.layout s) = all_of (is_data m.volume.layout) (flat_map sectors_of (plans_of m.volume.entries)) parts.1 s here in
       in_version_taken s (subst (λ (l : Layout). IsTrue (is_data l s)) layout area) here))

@@ -37,12 +37,12 @@ returns-in-Err-clause-fault g c = fails_trusted (g.T.Pages.trusted c.set_keep.ne
 -- ---- memory is not wanting
 
 pub returns-in_err-found-clause-memory : goal.returns-in_err-found-clause-memory
-returns-in_err-found-clause-memory g c =
+returns-in_err-found-clause-memory g c = λ path.
     let p = err_from_is_err_and c.from_residual.result c.from_residual.ensures.1 in
-    rw (p.1, p.2) c.in_err-found.ensures.memory.enough
+    rw (p.1, p.2) (c.in_err-found.ensures.memory path).enough
 
 pub returns-in-Err-clause-memory : goal.returns-in-Err-clause-memory
-returns-in-Err-clause-memory g c = λ there. c.in-Err.ensures.memory (c.in_ok-found.ensures.memory.stays there)
+returns-in-Err-clause-memory g c = λ path. c.in-Err.ensures.memory (c.in_ok-found.ensures.back path)
 
 pub returns-in-Ok-clause-memory : goal.returns-in-Ok-clause-memory
 returns-in-Ok-clause-memory g c = λ there is. cc is

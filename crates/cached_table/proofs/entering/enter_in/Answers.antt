@@ -1,9 +1,10 @@
 use Rattle.std.proofs.Common.{refl, rules}
+use Rattle.std.proofs.lemmas.Result.{on_err_weaker}
 use Rattle.name_page.specs.Pages.{outer_in}
 use Rattle.version_table.specs.Plan.{IsPlan, planned_entry, with_planned}
 use Rattle.cached_table.proofs.EditLaws.{changes_left, edits_left, made_so, of_so, refuses_left, stays_left}
 use Rattle.cached_table.proofs.LookLaws.{looks_left}
-use Rattle.cached_table.proofs.MetLaws.{on_err, shown_steps, unsound_left}
+use Rattle.cached_table.proofs.MetLaws.{shown_steps, unsound_left}
 use Rattle.cached_table.proofs.StayLaws.{walks_stay}
 use Rattle.cached_table.proofs.WaitingLaws.{none_failed, waits_left}
 use Rattle.cached_table.proofs.entering.enter_in.Goals as goal
@@ -19,7 +20,7 @@ returns-clause-kept g c =
     _ _ _ (search rules) (search rules) (search rules) c.enter_at-done.result (none_failed _ (outer_in c.enter_at-done.result) c.new-table.result c.enter_at-done.new.t c.enter_at-done.result c.enter_at-done.ensures.kept)
 
 pub returns-clause-looks : goal.returns-clause-looks
-returns-clause-looks g c = on_err c.enter_at-done.result (λ walks.
+returns-clause-looks g c = on_err_weaker c.enter_at-done.result (λ walks.
     looks_left (outer_in c.enter_at-done.result) _ _ c.args.source.now _ c.args.home_a c.new-table.result c.enter_at-done.new.t c.rest.new.self c.new-table.ensures.over c.new-table.ensures.step (walks_stay _ _ _ walks) c.enter_at-done.ensures.calls.outside c.rest.ensures.step c.rest.ensures.outside c.rest.ensures.machine c.rest.ensures.cache
     _ _ (search rules) (search rules) c.rest.ensures.ready c.rest.ensures.clean walks.stays) c.enter_at-done.ensures.kept
 

@@ -1,6 +1,7 @@
 use Rattle.std.proofs.Common.{rules}
 use Rattle.name_btree.specs.Fault.{outer_told}
-use Rattle.cached_table.proofs.LookLaws.{faults_left, leads_left, looks_left, memory_left, pages_within, shown_left}
+use Rattle.cached_table.proofs.LookLaws.{faults_left, leads_left, looks_left, pages_within, shown_left}
+use Rattle.cached_table.proofs.PathLaws.{path_first, path_left}
 use Rattle.cached_table.proofs.StayLaws.{looks_stay}
 use Rattle.cached_table.proofs.looking.highest_in.Goals as goal
 
@@ -31,5 +32,8 @@ returns-clause-way g c =
 
 pub returns-clause-memory : goal.returns-clause-memory
 returns-clause-memory g c =
-    memory_left (outer_told c.highest-found.result) _ _ c.args.source.now _ c.args.home_a c.new-table.result c.highest-found.new.t c.rest.new.self c.new-table.ensures.over c.new-table.ensures.step (looks_stay _ _ c.highest-found.ensures.calls.looks) c.highest-found.ensures.calls.outside c.rest.ensures.step c.rest.ensures.outside c.rest.ensures.machine c.rest.ensures.cache
-    _ (search rules) c.highest-found.ensures.calls.memory c.rest.ensures.memory
+    λ has. (c.highest-found.ensures.memory (path_first _ _ c.args.source.now _ c.new-table.result c.new-table.ensures.over c.args.name.now has)).enough
+
+pub returns-clause-stays : goal.returns-clause-stays
+returns-clause-stays g c =
+    path_left _ _ c.args.source.now _ c.new-table.result c.new-table.ensures.over c.args.name.now c.highest-found.new.t c.rest.new.self (outer_told c.highest-found.result) c.highest-found.ensures.memory c.rest.ensures.memory _ (search rules)

@@ -2,6 +2,7 @@ use Rattle.std.proofs.Common.{◌≡◌, ◌+◌, ◌≤◌, [], length, None, S
 use Rattle.std.proofs.lemmas.List.{nil_from_length}
 use Rattle.sector_disk.specs.Calls.{WritesDisk}
 use Rattle.sector_disk.proofs.CallLaws.{told_up, writes_none, writes_told, writes_more}
+use Rattle.sector_disk.proofs.ResultLaws.{err_as}
 use Rattle.volume_contract.specs.Ends.{device_of, Answered}
 use Rattle.fsd_sound.specs.Writes.{force_writes}
 use Rattle.volume_contract.specs.State.{IsForced as HasForced, Leaves, Stands, force_len, volume_of}
@@ -15,14 +16,14 @@ use Rattle.volume_state.specs.State.{Holds, resident, state}
 use Rattle.volume_state.specs.Volume.{VolumeValue}
 use Rattle.volume_state.specs.Taken.{down_fault}
 use Rattle.volume_changes.proofs.BehindLaws.{behind_itself}
-use Rattle.volume_state.proofs.FailedLaws.{err_as, failed_cause, failed_counted, failed_none, none_counted}
+use Rattle.volume_state.proofs.FailedLaws.{failed_cause, failed_counted, failed_none, none_counted}
 use Rattle.volume_state.proofs.ForceLeavesLaws.{down_tells_none, tells_place}
 use Rattle.volume_state.proofs.ForceCountLaws.{forced_count}
 use Rattle.volume_state.proofs.ForceEndLaws.{ends_failed, ends_forced, ends_idle, forced_to, not_down}
 use Rattle.volume_state.proofs.ForceMomentLaws.{agrees, commits, force_touches, knows, leaves_forced, leaves_itself, over_waiting, touches_none}
 use Rattle.volume_state.proofs.ForcedLaws.{whole_down, whole_forced}
 use Rattle.volume_state.proofs.KeptLaws.{idle_forced, is_forced, kept_down, value_then}
-use Rattle.volume_changes.proofs.MemoryLaws.{forced_pages}
+use Rattle.volume_changes.proofs.MemoryLaws.{forced_content}
 use Rattle.volume_state.proofs.LoggedLaws.{forced_behind}
 use Rattle.table_volume.proofs.volume.Volume.force.Goals as goal
 
@@ -57,7 +58,7 @@ returns-in-Err-clause-kept g c =
     let some : 1 ≤ length c.self.inside.cache.dirty = search rules in
     let up : c.self.inside.down ≡ None = search rules in
     subst (λ (x : VolumeValue). Keeps (force_steps (state x)) c.force_refusal.result (state x) (state (record v { log = c.force_cached.new.log; cache = c.force_cached.new.cache; down = Some c.place_of.result }))) c.self.view_is
-    (kept_down v c.self.invariant c.force_cached.new.log c.force_cached.new.cache c.place_of.result c.force_refusal.result c.in-Err.fault c.place_of.ensures c.force_refusal.ensures c.in-Err.ensures.cache_err up some)
+    (kept_down v c.self.invariant c.force_cached.new.log c.force_cached.new.cache c.place_of.result c.force_refusal.result c.in-Err.fault c.place_of.ensures c.force_refusal.ensures c.in-Err.ensures.cache_err _ c.in-Err.ensures.log_err up some)
 
 pub returns-in_err-is_up-clause-disk : goal.returns-in_err-is_up-clause-disk
 returns-in_err-is_up-clause-disk g c =
@@ -159,12 +160,12 @@ returns-in-Err-clause-lost g c h =
 -- ---- its pages stay in memory
 
 pub returns-then-len-eq0-clause-resident : goal.returns-then-len-eq0-clause-resident
-returns-then-len-eq0-clause-resident g c = λ page there. there
+returns-then-len-eq0-clause-resident g c = λ pages page x is. is
 
 pub returns-in-Ok-clause-resident : goal.returns-in-Ok-clause-resident
 returns-in-Ok-clause-resident g c =
     let v : VolumeValue = record { layout = c.self.inside.layout; map = c.self.inside.map; shadow = c.self.inside.shadow; log = c.self.inside.log; cache = c.self.inside.cache; free_pages = c.self.inside.free_pages; serial = c.self.inside.serial; versions = c.self.inside.versions; down = c.self.inside.down } in
-    forced_pages v c.args.self.now c.self.view_is c.self.inside.log c.force_cached.new.cache c.in-Ok.ensures.cache
+    forced_content v c.args.self.now c.self.view_is c.layout-shape.ensures.shape c.force_cached.new.cache c.in-Ok.ensures.cache
 
 pub returns-in_err-is_up-clause-counted_err : goal.returns-in_err-is_up-clause-counted_err
 returns-in_err-is_up-clause-counted_err g c = err_as _ c.from_residual.result (λ tells never. refl)

@@ -10,7 +10,7 @@ use Rattle.version_table.specs.Fault.{outer_met}
 use Rattle.volume_changes.specs.Ending.{edit_steps}
 use Rattle.volume_changes.proofs.ChangeEnds.{keep_ended}
 use Rattle.volume_changes.proofs.EditedLaws.{keep_causes, keep_edits, keep_follows, keep_memory, keep_name, keep_place}
-use Rattle.volume_changes.proofs.MemoryLaws.{used_now}
+use Rattle.volume_changes.proofs.MemoryLaws.{path_in}
 use Rattle.volume_changes.proofs.WholeLaws.{whole_edited}
 use Rattle.table_volume.proofs.volume.Volume.keep_found.Goals as goal
 
@@ -47,8 +47,8 @@ returns-clause-done g c = λ honest k stands.
     edits c.set_keep_in-done.ensures.kept c.set_keep_in-done.ensures.one c.set_keep_in-done.ensures.set c.set_keep_in-done.ensures.fault whole_left
 
 pub returns-clause-memory : goal.returns-clause-memory
-returns-clause-memory g c = λ all wants.
-    c.set_keep_in-done.ensures.memory (used_now _ c.args.self.now c.self.view_is c.self.invariant all) (keep_memory c.set_keep_in-done.result (sym c.kept_told.ensures ∙ wants))
+returns-clause-memory g c = λ has wants.
+    c.set_keep_in-done.ensures.memory (path_in _ c.args.self.now c.self.view_is c.self.invariant c.args.name.now has) (keep_memory c.set_keep_in-done.result (sym c.kept_told.ensures ∙ wants))
 
 pub returns-clause-name : goal.returns-clause-name
 returns-clause-name g c =

@@ -1,7 +1,7 @@
-use Rattle.std.proofs.Common.{◌≡◌, inl, ap, sym, length, ◌∙◌, arith, List, ℕ}
+use Rattle.std.proofs.Common.{◌≡◌, inl, ap, sym, length, ◌∙◌, arith, Err, List, ℕ}
 use Rattle.std.proofs.lemmas.Result.{err_from_is_err_and}
 use Rattle.fsd_bytes.specs.declared.refusal.Refusal.TheVariants as Why
-use Rattle.name_page.specs.Pages.{outer_refusal}
+use Rattle.fsd_bytes.specs.declared.refusal.Refusal.{Refusal}
 use Rattle.sector_disk.proofs.CallLaws.{reads_then}
 use Rattle.fsd_files.specs.Answers.{highest_entry, keep_outcome}
 use Rattle.fsd_files.specs.Files.{Change}
@@ -72,10 +72,10 @@ returns-in-Some-clause-done g c = λ h k stands. c.keep_found.ensures.done h k (
 pub returns-in_err-found-clause-memory : goal.returns-in_err-found-clause-memory
 returns-in_err-found-clause-memory g c =
     let p = err_from_is_err_and c.from_residual.result c.from_residual.ensures.1 in
-    rw (p.1, p.2) (λ all wants. c.in_err-found.ensures.memory.enough all (let same : c.in_err-found.field-0.0 ≡ Why.Memory = cc wants in ap outer_refusal same))
+    rw (p.1, p.2) (λ has wants. c.in_err-found.ensures.memory has (let same : c.in_err-found.field-0.0 ≡ Why.Memory = cc wants in ap (λ (e : Refusal). Err e) same))
 
 pub returns-in-None-clause-memory : goal.returns-in-None-clause-memory
-returns-in-None-clause-memory g c = λ all wants. cc wants
+returns-in-None-clause-memory g c = λ has wants. cc wants
 
 pub returns-in-Some-clause-memory : goal.returns-in-Some-clause-memory
-returns-in-Some-clause-memory g c = λ all. c.keep_found.ensures.memory (c.in_ok-found.ensures.memory.stays all)
+returns-in-Some-clause-memory g c = λ has. c.keep_found.ensures.memory (c.in_ok-found.ensures.stays has)

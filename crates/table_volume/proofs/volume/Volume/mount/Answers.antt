@@ -1,5 +1,6 @@
 use Rattle.std.proofs.Common.{inl, inr, subst}
 use Rattle.std.specs.Prelude.{IfOk}
+use Rattle.std.proofs.lemmas.Result.{IfErr-weaker, IfOk-weaker}
 use Rattle.volume_layout.specs.declared.layout.Layout.{Layout}
 use Rattle.sector_disk.proofs.CallLaws.{heals_then, reads_as_heals}
 use Rattle.sector_disk.proofs.Calm.{calm_worn, same_calm}
@@ -15,7 +16,7 @@ use Rattle.table_volume.proofs.CalmLaws.{calm_handed, fails_calm, mounts_calm}
 use Rattle.table_volume.proofs.EndsLaws.{ends_before, ends_settled, knows}
 use Rattle.volume_state.proofs.MomentLaws.{lists_now, shows_now}
 use Rattle.table_volume.proofs.HealsLaws.{anchors_read, homes_read}
-use Rattle.table_volume.proofs.MountLaws.{err_more, home_lost, is_new, ok_more, refused_open, settled_in}
+use Rattle.table_volume.proofs.MountLaws.{home_lost, is_new, refused_open, settled_in}
 use Rattle.table_volume.proofs.RestLaws.{counts_mount, rest_read}
 use Rattle.table_volume.proofs.UnsoundLaws.{err_under, fails_sound, opens_unsound}
 use Rattle.table_volume.proofs.volume.Volume.mount.Goals as goal
@@ -26,14 +27,14 @@ returns-clause-disk g c = heals_then c.in_ok-settled.ensures.disk (reads_as_heal
 pub returns-clause-fresh : goal.returns-clause-fresh
 returns-clause-fresh g c =
     let settled = c.in_ok-settled.settled in
-    ok_more (IsAssembled settled.layout settled.log) (λ v. IsNew (state v)) c.open_read.result (λ v a. is_new settled.layout settled.log v a) c.open_read.ensures.assembled
+    IfOk-weaker c.open_read.result (IsAssembled settled.layout settled.log) (λ v. IsNew (state v)) (λ v a. is_new settled.layout settled.log v a) c.open_read.ensures.assembled
 
 pub returns-clause-refused : goal.returns-clause-refused
 returns-clause-refused g c =
     let M = g.M.Machine in
     let settled = c.in_ok-settled.settled in
     let old = M.now c.args.m.now in
-    err_more IsOpenFault (λ fault. M.honest c.open_read.new.m → IsRefused c.args.sectors fault old) c.open_read.result
+    IfErr-weaker c.open_read.result IsOpenFault (λ fault. M.honest c.open_read.new.m → IsRefused c.args.sectors fault old)
     (λ fault cause honest. refused_open c.args.sectors settled.layout settled.log old c.in_ok-settled.ensures.epoch (c.in_ok-settled.ensures.found (c.open_read.ensures.reads.trust.honest honest)) fault cause) c.open_read.ensures.cause
 
 pub returns-clause-lost : goal.returns-clause-lost
@@ -42,7 +43,7 @@ returns-clause-lost g c =
     let settled = c.in_ok-settled.settled in
     let old = M.now c.args.m.now in
     let new = M.now c.open_read.new.m in
-    err_more (λ fault. M.honest c.open_read.new.m → LostIn (AreHomes settled.layout) new.image fault) (λ fault. M.honest c.open_read.new.m → LostIn (AreCopiesOn c.args.sectors old) new.image fault) c.open_read.result
+    IfErr-weaker c.open_read.result (λ fault. M.honest c.open_read.new.m → LostIn (AreHomes settled.layout) new.image fault) (λ fault. M.honest c.open_read.new.m → LostIn (AreCopiesOn c.args.sectors old) new.image fault)
     (λ fault lost honest.
     let back = c.open_read.ensures.reads.trust.honest honest in
     home_lost c.args.sectors settled.layout settled.log old new.image (c.in_ok-settled.ensures.root back) (c.in_ok-settled.ensures.found back) fault (lost honest))
@@ -65,13 +66,13 @@ returns-clause-calm g c honest calm calm_new =
     let is = settled_in c.args.sectors settled.layout settled.log old calm (c.in_ok-settled.ensures.found back) in
     mounts_calm c.args.sectors settled.layout c.in_ok-settled.ensures.planned settled.log old.image mid new (calm_worn mid.windows mid.image new.image calm_mid worn.image) is
     (c.in_ok-settled.ensures.shown is.anchor back calm calm_mid is.found.anchor) calm_mid c.open_read.result c.open_read.ensures.assembled
-    (err_more (λ fault. M.honest c.open_read.new.m → LostIn (AreHomes settled.layout) new.image fault) (λ fault. LostIn (AreHomes settled.layout) new.image fault) c.open_read.result (λ fault lost. lost honest) c.open_read.ensures.lost) (c.open_read.ensures.calm honest calm_mid)
+    (IfErr-weaker c.open_read.result (λ fault. M.honest c.open_read.new.m → LostIn (AreHomes settled.layout) new.image fault) (λ fault. LostIn (AreHomes settled.layout) new.image fault) (λ fault lost. lost honest) c.open_read.ensures.lost) (c.open_read.ensures.calm honest calm_mid)
 
 pub returns-clause-counted : goal.returns-clause-counted
 returns-clause-counted g c =
     let M = g.M.Machine in
     let settled = c.in_ok-settled.settled in
-    ok_more (IsAssembled settled.layout settled.log) (λ v. M.tells c.open_read.new.m → CountsMount (state v) (M.ledger c.args.m.now) (M.ledger c.open_read.new.m)) c.open_read.result
+    IfOk-weaker c.open_read.result (IsAssembled settled.layout settled.log) (λ v. M.tells c.open_read.new.m → CountsMount (state v) (M.ledger c.args.m.now) (M.ledger c.open_read.new.m))
     (λ v a tells.
     let back = c.open_read.ensures.reads.trust.tells tells in
     counts_mount settled.layout settled.log (M.ledger c.args.m.now) (M.ledger c.recover.new.m) (M.ledger c.open_read.new.m) (c.in_ok-settled.ensures.grows back) (c.in_ok-settled.ensures.counted back) (c.open_read.ensures.reads.ledger tells) v a)
@@ -93,7 +94,7 @@ returns-clause-anchors g c =
     let M = g.M.Machine in
     let settled = c.in_ok-settled.settled in
     let mid = M.now c.recover.new.m in let new = M.now c.open_read.new.m in
-    ok_more (IsAssembled settled.layout settled.log) (λ v. M.honest c.open_read.new.m → HealsAnchors (state v) new) c.open_read.result
+    IfOk-weaker c.open_read.result (IsAssembled settled.layout settled.log) (λ v. M.honest c.open_read.new.m → HealsAnchors (state v) new)
     (λ v a honest. anchors_read mid new (c.open_read.ensures.reads.worn honest) settled.layout settled.log v a (c.in_ok-settled.ensures.anchors (c.open_read.ensures.reads.trust.honest honest)))
     c.open_read.ensures.assembled
 
@@ -102,7 +103,7 @@ returns-clause-homes g c =
     let M = g.M.Machine in
     let settled = c.in_ok-settled.settled in
     let mid = M.now c.recover.new.m in let new = M.now c.open_read.new.m in
-    ok_more (IsAssembled settled.layout settled.log) (λ v. M.honest c.open_read.new.m → HealsHomes (state v) new) c.open_read.result
+    IfOk-weaker c.open_read.result (IsAssembled settled.layout settled.log) (λ v. M.honest c.open_read.new.m → HealsHomes (state v) new)
     (λ v a honest. homes_read mid new (c.open_read.ensures.reads.worn honest) settled.layout settled.log v a (c.in_ok-settled.ensures.homes (c.open_read.ensures.reads.trust.honest honest)))
     c.open_read.ensures.assembled
 

@@ -1,6 +1,7 @@
 use Rattle.std.proofs.Common.{ℕ, inl, inr, Err, sym, subst, ◌∙◌}
 use Rattle.std.proofs.lemmas.Bool.{both_ways}
 use Rattle.sector_disk.proofs.CallLaws.{told_up, writes_none, writes_told}
+use Rattle.sector_disk.proofs.ResultLaws.{ok_as}
 use Rattle.fsd_files.specs.Answers.{force_outcome}
 use Rattle.fsd_files.specs.Replies.{Forced as IsForced}
 use Rattle.volume_contract.specs.declared.files.Forced.{Forced}
@@ -9,7 +10,7 @@ use Rattle.fsd_sound.specs.Writes.{force_writes}
 use Rattle.volume_contract.specs.State.{Counted, Leaves, forces_for_place, volume_of}
 use Rattle.volume_state.specs.Placing.{EndsPlace, Places, place_len}
 use Rattle.volume_state.specs.State.{Holds, resident, state}
-use Rattle.volume_changes.proofs.BehindLaws.{behind_itself, ok_as}
+use Rattle.volume_changes.proofs.BehindLaws.{behind_itself}
 use Rattle.volume_changes.proofs.CauseLaws.{handed_cause}
 use Rattle.volume_state.proofs.CountedLaws.{counted_as, place_counted, place_forced_len}
 use Rattle.volume_state.proofs.PlaceSteps.{busy_place, ends_down, ends_now, ends_then, forces_as_waits, none_now, place_tells, places_down, places_now, places_then}

@@ -1,0 +1,116 @@
+-- The path of a name in the cache, and over its pages.
+use Rattle.std.proofs.Common.{◌≡◌, ℕ, zero, suc, Bool, true, false, cond, List, [], ◌∷◌, length, Option, Some, None, IsSome, refl, sym, ap, subst, ◌∙◌}
+use Rattle.std.specs.Prelude.{option_and_then}
+use Rattle.std.specs.Borrow.{MutBor}
+use Rattle.std.specs.List.{AllByRecursion, list_any}
+use Rattle.fsd_bytes.specs.declared.key.Key.{Key}
+use Rattle.fsd_bytes.specs.declared.refusal.Refusal.{Refusal}
+use Rattle.fsd_formats.specs.declared.page.Separator.{Separator}
+use Rattle.fsd_formats.specs.NamePage.{Content, Free, Leaf, Interior, read_page}
+use Rattle.fsd_table.proofs.BoundLaws.{all_weaker}
+use Rattle.fsd_table.specs.Pages.{page_at}
+use Rattle.fsd_table.specs.Table.{max_height}
+use Rattle.fsd_forest.specs.Met.{is_up_to, met, met_at, met_below, path_of}
+use Rattle.sector_disk.specs.declared.machine.Machine.{Ghosts as MachineGhosts}
+use Rattle.page_cache.specs.declared.source.PageSource.{Ghosts as SourceGhosts}
+use Rattle.page_cache.specs.Cache.{CacheValue, IsResident, bytes_of}
+use Rattle.page_cache.proofs.KeepLaws.{bytes_resident}
+use Rattle.name_page.specs.Pages.{NeedsNoMemory}
+use Rattle.page_cache.specs.Accepted.{content_in}
+use Rattle.table_pages.specs.Bringing.{given_by}
+use Rattle.table_pages.specs.Table.{HasPage, IsOver, step_of}
+use Rattle.table_pages.specs.declared.table.Table.{Table}
+use Rattle.table_pages.proofs.StepLaws.{page_in}
+use Rattle.cached_table.specs.Looking.{HasIn, HasPathIn}
+
+-- ---- where what is met has the same elsewhere
+
+module _ (In Other : ℕ → Type 0) where
+  abbrev Grows : List ℕ → List ℕ → Type 0
+  Grows xs ys = AllByRecursion In xs → AllByRecursion Other ys
+
+  below_more : (down more : List ℕ → ℕ → List ℕ) (last rest : ℕ → List ℕ) (before : Key → Bool) (left beside : List ℕ) (first : ℕ) (separators : List Separator)
+      → ((xs ys : List ℕ) (page : ℕ) → Grows xs ys → Grows (down xs page) (more ys page)) → ((page : ℕ) → Grows (last page) (rest page)) → Grows left beside
+      → Grows (met_below down last before left first separators) (met_below more rest before beside first separators)
+  below_more down more last rest before left beside first [] d l g = d left beside first g
+  below_more down more last rest before left beside first (s ∷ separators) d l g =
+      by (below_more down more last rest before (last first) (rest first) s.child separators d l (l first)) (before s.key)
+    where
+      by : Grows (met_below down last before (last first) s.child separators) (met_below more rest before (rest first) s.child separators) → (b : Bool)
+          → Grows (cond b (met_below down last before (last first) s.child separators) (down left first)) (cond b (met_below more rest before (rest first) s.child separators) (more beside first))
+      by later true = later
+      by later false = d left beside first g
+
+  at_more : (down more : List ℕ → ℕ → List ℕ) (last rest : ℕ → List ℕ) (before : Key → Bool) (left beside : List ℕ) (x : Option Content)
+      → ((xs ys : List ℕ) (page : ℕ) → Grows xs ys → Grows (down xs page) (more ys page)) → ((page : ℕ) → Grows (last page) (rest page)) → Grows left beside
+      → Grows (met_at down last before left x) (met_at more rest before beside x)
+  at_more down more last rest before left beside None d l g h = tt
+  at_more down more last rest before left beside (Some Free) d l g h = tt
+  at_more down more last rest before left beside (Some (Interior first separators)) d l g h = below_more down more last rest before left beside first separators d l g h
+  at_more down more last rest before left beside (Some (Leaf entries)) d l g h = by (list_any (λ e. before e.key) entries) h
+    where
+      by : (b : Bool) → Grows (cond b [] left) (cond b [] beside)
+      by true h = tt
+      by false h = g h
+
+  module _ (at other : ℕ → Option Content) (same : (page : ℕ) → In page → Other page × (other page ≡ at page)) where
+    met_more : (levels : ℕ) (before : Key → Bool) (left beside : List ℕ) (page : ℕ) → Grows left beside → Grows (met levels at before left page) (met levels other before beside page)
+    met_more zero before left beside page g h = tt
+    met_more (suc levels) before left beside page g h =
+        let here = same page h.0 in (
+          here.0,
+          subst (λ (x : Option Content). AllByRecursion Other (met_at (met levels other before) (met levels other (λ key. true) []) before beside x)) (sym here.1)
+              (at_more (met levels at before) (met levels other before) (met levels at (λ key. true) []) (met levels other (λ key. true) []) before left beside (at page)
+              (λ xs ys p more. met_more levels before xs ys p more) (λ p. met_more levels (λ key. true) [] [] p (λ none. tt)) g h.1),
+        )
+
+    pub path_more : (name : List ℕ) → AllByRecursion In (path_of at name) → AllByRecursion Other (path_of other name)
+    path_more name = met_more max_height (is_up_to name) [] [] 0 (λ none. tt)
+
+-- ---- over a cache
+
+content_there : (c : CacheValue) (count page : ℕ) → IsSome (content_in c count page) → IsResident c page
+content_there c count page some = bytes_resident c page (by (bytes_of c page) some)
+  where
+    by : (o : Option (List ℕ)) → IsSome (option_and_then (read_page page count) o) → IsSome o
+    by None h = h
+    by (Some bytes) h = refl
+
+module _ {D E : Type 0} {M : MachineGhosts D} {S : SourceGhosts E} where
+  -- a page in the cache has by its bytes what it has by the images
+  in_images : (t : Table D E M S) (page : ℕ) → HasPage t page → page_at (step_of t).images page ≡ content_in t.cache.now (length t.free.now) page
+  in_images t page is = page_in t.cache.now (given_by M S t.source.now t.m.now) (length t.free.now) page is.1 is.0
+
+  -- a page that is there, and has something
+  abbrev Seen : Table D E M S → ℕ → Type 0
+  Seen t page = HasPage t page × IsSome (page_at (step_of t).images page)
+
+  module _ (m : MutBor D) (cache : MutBor CacheValue) (source : E) (free : MutBor (List Bool)) (a : Table D E M S) (over : IsOver m cache source free a) (name : List ℕ) where
+    seen_first : HasPathIn (length free.now) name cache.now → AllByRecursion (Seen a) (path_of (page_at (step_of a).images) name)
+    seen_first has =
+        let count = length a.free.now in
+        let here : HasPathIn count name a.cache.now =
+        subst (λ (f : MutBor (List Bool)). HasPathIn (length f.now) name a.cache.now) (sym over.spared) (subst (λ (x : MutBor CacheValue). HasPathIn (length free.now) name x.now) (sym over.cached) has) in
+        path_more (HasIn a.cache.now count) (Seen a) (content_in a.cache.now count) (page_at (step_of a).images)
+        (λ page is. let there : HasPage a page = (is.0, content_there a.cache.now count page is.1) in let same = in_images a page there in ((there, subst (λ (o : Option Content). IsSome o) (sym same) is.1), same)) name here.all
+
+    -- as the pages see it
+    pub path_first : HasPathIn (length free.now) name cache.now → AllByRecursion (HasPage a) (path_of (page_at (step_of a).images) name)
+    path_first has = all_weaker (Seen a) (HasPage a) (path_of (page_at (step_of a).images) name) (λ page is. is.0) (seen_first has)
+
+    -- it is still there once a look-up that needed no memory has ended
+    pub path_left : (b c : Table D E M S) (refusal : Option Refusal) → (AllByRecursion (HasPage a) (path_of (page_at (step_of a).images) name) → NeedsNoMemory step_of HasPage refusal a b) → NeedsNoMemory step_of HasPage None b c
+        → (cache' : CacheValue) → cache' ≡ c.cache.now → HasPathIn (length free.now) name cache.now → HasPathIn (length free.now) name cache'
+    path_left b c refusal looked rested cache' left has =
+        let met = looked (path_first has) in
+        let images : (step_of c).images ≡ (step_of a).images = rested.images ∙ met.images in
+        let path : List (List ℕ) → List ℕ = λ (pages : List (List ℕ)). path_of (page_at pages) name in
+        let later : (page : ℕ) → Seen a page → Seen c page = λ page is. (rested.stays page (met.stays page is.0), subst (λ (pages : List (List ℕ)). IsSome (page_at pages page)) (sym images) is.1) in
+        let there = subst (λ (pages : List (List ℕ)). AllByRecursion (Seen c) (path pages)) (sym images) (all_weaker (Seen a) (Seen c) (path (step_of a).images) later (seen_first has)) in
+        let count = length c.free.now in
+        let last : HasPathIn count name c.cache.now = record {
+          all = path_more (Seen c) (HasIn c.cache.now count) (page_at (step_of c).images) (content_in c.cache.now count)
+              (λ page is. let same = in_images c page is.0 in ((is.0.0, subst (λ (o : Option Content). IsSome o) same is.1), sym same)) name there;
+        } in
+        let same : c.free.now ≡ free.now = rested.spares ∙ met.spares ∙ ap (λ (f : MutBor (List Bool)). f.now) over.spared in
+        subst (HasPathIn (length free.now) name) (sym left) (subst (λ (f : List Bool). HasPathIn (length f) name c.cache.now) same last)
