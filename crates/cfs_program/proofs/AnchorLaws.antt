@@ -8,6 +8,7 @@ use Rattle.fsd_formats.specs.declared.anchor.Anchor.{Anchor}
 use Rattle.fsd_formats.specs.Anchors.{read_anchor}
 use Rattle.fsd_files.specs.Disk.{Image, bytes_at, bytes_of}
 use Rattle.fsd_log.specs.Scan.{anchor_in, is_newer, newer_of}
+use Rattle.fsd_log.proofs.AnchorLaws.{newer_is_one}
 use Rattle.fsd_sound.specs.Anchors.{anchor_at, anchor_of}
 use Rattle.fsd_sound.specs.Mounting.{last_epoch}
 use Rattle.fsd_sound.proofs.AnchorFacts.{anchor_read}
@@ -72,20 +73,10 @@ newest_last (Some a) (Some b) p q has = by (is_newer b a) refl
     by true is = (b, refl, second q (newer is) either)
     by false is = (a, refl, first p (older is) either)
 
--- the newer of two is one of them
-one_of : (x y : Option Anchor) (a : Anchor) → newer_of x y ≡ Some a → (x ≡ Some a) ⊎ (y ≡ Some a)
-one_of None y a is = inr is
-one_of (Some x) None a is = inl is
-one_of (Some x) (Some y) a is = by (is_newer y x) is
-  where
-    by : (c : Bool) → Some (if c then y else x) ≡ Some a → (Some x ≡ Some a) ⊎ (Some y ≡ Some a)
-    by true e = inr e
-    by false e = inl e
-
 -- what is of the last epoch after wear was so before
 pub last_before : (may : ℕ → Bool) (i j : Image) (a : Anchor) → IsWorn may i j → anchor_of j ≡ Some a → a.epoch ≡ last_epoch → HasLast (anchor_of i)
 last_before may i j a worn taken last =
-    newest_last (anchor_at i 8) (anchor_at i 12) (in_range (bytes_at i 8)) (in_range (bytes_at i 12)) (elim (one_of (anchor_at j 8) (anchor_at j 12) a taken) [
+    newest_last (anchor_at i 8) (anchor_at i 12) (in_range (bytes_at i 8)) (in_range (bytes_at i 12)) (elim (newer_is_one (anchor_at j 8) (anchor_at j 12) a taken) [
       | inl is ↦ inl (a, kept_at may i j 8 a worn is, last)
       | inr is ↦ inr (a, kept_at may i j 12 a worn is, last)
     ])

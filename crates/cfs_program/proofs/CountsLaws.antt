@@ -4,9 +4,10 @@ use Rattle.std.specs.Prelude.{IsFalse, IsTrue}
 use Rattle.std.proofs.lemmas.Bool.{eq-eqb}
 use Rattle.sector_disk.specs.Calls.{Counts, SparesDisk}
 use Rattle.sector_disk.specs.Machine.{Report, Rose}
-use Rattle.volume_turns.specs.Status.{CountsInput, CountsNone, CountsRun, CountsTaking, is_calm}
-use Rattle.volume_turns.proofs.QuietLaws.{calm_not, calm_said, quiet_calm}
-use Rattle.cfs_program.specs.Ending.{IsStatusAs, is_unsaid}
+use Rattle.volume_turns.specs.Status.{CountsInput, CountsNone, CountsRun, CountsTaking, is_unfailed}
+use Rattle.volume_turns.proofs.QuietLaws.{unfailed_not, unfailed_said, quiet_unfailed}
+use Rattle.cfs_program.specs.Ending.{IsStatusAs}
+use Rattle.volume_turns.specs.Line.{is_unsaid}
 use Rattle.cfs_program.specs.Formatting.{CountsFaults, UsesAttach}
 use Rattle.cfs_program.specs.Opening.{CountsReading}
 use Rattle.cfs_program.proofs.FoundLaws.{line_not}
@@ -18,7 +19,7 @@ counts_opened a b c status same counts = record {
   disk = λ four. subst (λ (n : ℕ). Rose n c.disk_faults) same.disk (counts.disk four);
   input = counts.input ∙ same.input;
   output = λ six. subst (λ (n : ℕ). Rose n c.output_faults) same.output (counts.output six);
-  quiet = λ calm. let none = counts.quiet calm in record { disk = none.disk ∙ same.disk; input = none.input ∙ same.input; output = none.output ∙ same.output };
+  quiet = λ unfailed. let none = counts.quiet unfailed in record { disk = none.disk ∙ same.disk; input = none.input ∙ same.input; output = none.output ∙ same.output };
 }
 
 pub reading_opened : (a b c : Report) (status : ℕ) → CountsNone a b → CountsTaking b c status → CountsReading a c status
@@ -26,7 +27,7 @@ reading_opened a b c status same counts = record {
   disk = λ four. subst (λ (n : ℕ). Rose n c.disk_faults) same.disk (counts.disk four);
   output = λ six. subst (λ (n : ℕ). Rose n c.output_faults) same.output (counts.output six);
   quiet = λ quiet. let none = counts.quiet quiet in record { disk = none.disk ∙ same.disk; input = none.input ∙ same.input; output = none.output ∙ same.output };
-  calm = λ calm. let none = counts.calm calm in record { disk = none.disk ∙ same.disk; output = none.output ∙ same.output };
+  unfailed = λ unfailed. let none = counts.unfailed unfailed in record { disk = none.disk ∙ same.disk; output = none.output ∙ same.output };
 }
 
 pub input_alone : (a b : Report) → CountsNone a b → CountsInput a b
@@ -36,21 +37,21 @@ pub reading_of : (a b : Report) (status : ℕ) → CountsFaults a b status → C
 reading_of a b status counts = record {
   disk = counts.disk;
   output = counts.output;
-  quiet = λ quiet. counts.quiet (quiet_calm status quiet);
-  calm = λ calm. input_alone a b (counts.quiet calm);
+  quiet = λ quiet. counts.quiet (quiet_unfailed status quiet);
+  unfailed = λ unfailed. input_alone a b (counts.quiet unfailed);
 }
 
 -- ---- a line that is said
 
 -- the status of such a fault
-pub line_loud : (gives status : ℕ) → IsStatusAs gives status → IsFalse (is_calm gives) → IsTrue (is_calm status) → ⊥
-line_loud gives status (inl is) other calm = calm_not gives status other calm is
-line_loud gives status (inr (inl seven)) other calm = calm_not 7 status refl calm seven
-line_loud gives status (inr (inr six)) other calm = calm_not 6 status refl calm six
+pub line_loud : (gives status : ℕ) → IsStatusAs gives status → IsFalse (is_unfailed gives) → IsTrue (is_unfailed status) → ⊥
+line_loud gives status (inl is) other unfailed = unfailed_not gives status other unfailed is
+line_loud gives status (inr (inl seven)) other unfailed = unfailed_not 7 status refl unfailed seven
+line_loud gives status (inr (inr six)) other unfailed = unfailed_not 6 status refl unfailed six
 
 -- a line alone
-pub spares_none : (a b : Report) (status : ℕ) → SparesDisk false (is_unsaid status) a b → IsTrue (is_calm status) → CountsNone a b
-spares_none a b status spares calm = record { disk = spares.disk; input = spares.input; output = subst (λ (x : Bool). Counts x a.output_faults b.output_faults) (calm_said status calm) spares.output }
+pub spares_none : (a b : Report) (status : ℕ) → SparesDisk false (is_unsaid status) a b → IsTrue (is_unfailed status) → CountsNone a b
+spares_none a b status spares unfailed = record { disk = spares.disk; input = spares.input; output = subst (λ (x : Bool). Counts x a.output_faults b.output_faults) (unfailed_said status unfailed) spares.output }
 
 module _ (a b c : Report) (status : ℕ) (input : b.input_faults ≡ a.input_faults) (output : b.output_faults ≡ a.output_faults) (spares : SparesDisk false (is_unsaid status) b c) where
   output_rose : status ≡ 6 → Rose a.output_faults c.output_faults
@@ -62,7 +63,7 @@ module _ (a b c : Report) (status : ℕ) (input : b.input_faults ≡ a.input_fau
     disk = λ four. subst (λ (n : ℕ). Rose a.disk_faults n) (sym spares.disk) rose;
     input = spares.input ∙ input;
     output = output_rose;
-    quiet = λ calm. absurd (line_loud 4 status is refl calm);
+    quiet = λ unfailed. absurd (line_loud 4 status is refl unfailed);
   }
 
   -- of anything else
@@ -71,10 +72,10 @@ module _ (a b c : Report) (status : ℕ) (input : b.input_faults ≡ a.input_fau
     disk = λ four. absurd (line_not 4 gives status is other (λ e. omega (arith, e)) (λ e. omega (arith, e)) four);
     input = spares.input ∙ input;
     output = output_rose;
-    quiet = λ calm. record {
+    quiet = λ unfailed. record {
       disk = spares.disk ∙ disk;
       input = spares.input ∙ input;
-      output = subst (λ (x : Bool). Counts x b.output_faults c.output_faults) (calm_said status calm) spares.output ∙ output;
+      output = subst (λ (x : Bool). Counts x b.output_faults c.output_faults) (unfailed_said status unfailed) spares.output ∙ output;
     };
   }
 

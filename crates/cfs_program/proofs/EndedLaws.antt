@@ -19,7 +19,8 @@ use Rattle.fsd_runs.specs.declared.request.Request.{Request}
 use Rattle.fsd_runs.specs.Errands.{blank, fault_status}
 use Rattle.fsd_runs.specs.Leaves.{IsBroken, IsOutside, IsSpent, IsUnsaid, LeavesRun, LeftBefore, MayEnd, SaysFault}
 use Rattle.volume_turns.specs.Status.{IsStatusBroken}
-use Rattle.cfs_program.specs.Ending.{EndsAs, IsStatusAs, IsTextFor, UttersLine, is_unsaid}
+use Rattle.volume_turns.specs.Line.{is_unsaid}
+use Rattle.cfs_program.specs.Ending.{EndsAs, IsStatusAs, IsTextFor, UttersLine}
 use Rattle.cfs_program.specs.Opening.{IsSoundDisk}
 use Rattle.cfs_program.proofs.OpeningLaws.{left_start, left_worn}
 

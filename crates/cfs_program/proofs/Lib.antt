@@ -2,7 +2,6 @@ mod AmongLaws
 mod AnchorLaws
 mod CountsLaws
 mod EndedLaws
-mod ForcedLaws
 mod FormatLaws
 mod FoundLaws
 mod LongerLaws

@@ -12,7 +12,7 @@ use Rattle.sector_disk.proofs.Moments.{goes_on, leaves_more, started, then_on}
 use Rattle.sector_disk.proofs.Wear.{worn_trans}
 use Rattle.fsd_files.specs.Files.{Change}
 use Rattle.fsd_files.specs.Disk.{in_runs}
-use Rattle.fsd_sound.specs.Sound.{EndIn, weak_of}
+use Rattle.fsd_sound.specs.Sound.{weak_of}
 use Rattle.fsd_sound.proofs.MoreLaws.{wear_sound}
 use Rattle.fsd_sound.proofs.WindowLaws.{open_is_weak}
 use Rattle.fsd_texts.specs.declared.fault.Fault.{Fault}
@@ -141,18 +141,6 @@ module _ (l : Layout) (windows : List WeakRun) (h : List Change) (f : ℕ) (old 
       spent_or turns (inl x) = inl (spent_on new status x)
       spent_or turns (inr x) = inr (failed_on turns x)
 
--- a sound disk that is worn
-pub sound_worn : (count : ℕ) (l : Layout) (windows : List WeakRun) (h : List Change) (f : ℕ) (old now : Moment) → AreShort old.windows → Wears old now → IsSoundAt count l windows h f old → IsSoundAt count l windows h f now
-sound_worn count l windows h f old now short worn at = record {
-  planned = at.planned;
-  fits = at.fits;
-  ends = subst (λ (w : Windows). EndIn w windows) (sym worn.windows) at.ends;
-  sound = wear_sound l windows h f old.windows old.image now.image short at.ends worn.image at.sound;
-}
-
-pub sound_disk : (count : ℕ) (l : Layout) (windows : List WeakRun) (h : List Change) (f : ℕ) (now : Moment) → IsSoundAt count l windows h f now → IsSoundDisk l windows h f now
-sound_disk count l windows h f now at = record { planned = at.planned; ends = at.ends; sound = at.sound }
-
 -- ---- the whole
 
 module _ {D : Type 0} (M : Ghosts D) (request : Request) (input rest : List ℕ) (l : Layout) (windows : List WeakRun) (h : List Change) (f : ℕ) (a b c : D) (status : ℕ)
@@ -226,11 +214,3 @@ module _ {D : Type 0} (M : Ghosts D) (request : Request) (input rest : List ℕ)
       found_run M request input rest l windows h f a b c status sound short
       (goes_on M.moment M.left_since a a b (LeftBefore l windows h f (M.now a)) (Before (M.now a) (M.now b))
       (started M.moment M.left_since a (M.now a) (LeftBefore l windows h f (M.now a)) only (left_start l windows h f (M.now a) sound short)) time (left_attach l windows h f (M.now a) sound short (M.now b) keeps)) keeps same
-
-  -- behind calls that wear
-  pub worn_run : LeavesOnly M.moment M.left_since a b (Wears (M.now a)) → Wears (M.now a) (M.now b) → CountsNone (M.report a) (M.report b)
-      → LeavesRun request input rest l windows h f (M.left_since c) (λ P. LeavesOnly M.moment M.left_since b c P) (M.report b) (M.report c) (M.now b) (M.now c) status
-      → LeavesRun request input rest l windows h f (M.left_since c) (λ P. LeavesOnly M.moment M.left_since a c P) (M.report a) (M.report c) (M.now a) (M.now c) status
-  worn_run ahead worn same =
-      found_run M request input rest l windows h f a b c status sound short
-      (leaves_more M.moment M.left_since a b (Wears (M.now a)) (LeftBefore l windows h f (M.now a)) (left_worn l windows h f (M.now a) sound short) ahead) (wears_keep (M.now a) (M.now b) worn) same

@@ -24,18 +24,20 @@ use Rattle.fsd_runs.specs.declared.request.Request.{Request}
 use Rattle.fsd_runs.specs.declared.request.Request.TheVariants.{Outside, BadField, Format, Put, One, Script, Generate}
 use Rattle.fsd_runs.specs.Errands.{IfMounts}
 use Rattle.fsd_runs.specs.Leaves.{LeavesRun}
+use Rattle.volume_turns.specs.Answering.{SaysNoReply, SaysOne}
 use Rattle.volume_turns.specs.Causes.{SaysFault, is_of_fault}
 use Rattle.volume_turns.specs.Status.{IsOneStatus}
-use Rattle.volume_turns.proofs.QuietLaws.{quiet_calm}
+use Rattle.volume_turns.proofs.QuietLaws.{quiet_unfailed}
 use Rattle.volume_turns.proofs.StatusLaws.{one_not_five}
-use Rattle.cfs_program.specs.Ending.{EndsAs, IsStatusAs, UttersLine, is_unsaid}
+use Rattle.volume_turns.specs.Line.{is_unsaid}
+use Rattle.cfs_program.specs.Ending.{EndsAs, IsStatusAs, UttersLine}
 use Rattle.cfs_program.specs.Formatting.{AsksAll, AsksAtMost, CountsFaults, IsFormatStatus, IsMadeBy, IsUntouched, SaysFormat, SparesUnplanned, format_status, plan_asks}
-use Rattle.cfs_program.specs.Opening.{IsSoundDisk, TellsFound, is_from_outside, mount_asks}
-use Rattle.cfs_program.specs.Program.{LeavesInput, Ran, SaysAnswer, SaysLine, SparesImage, SparesInput, complete_statuses, fault_statuses, field_line, input_for, is_one_of, plan_faults}
+use Rattle.cfs_program.specs.Opening.{IsSoundDisk, TellsFound, WritesFound, is_from_outside, mount_asks}
+use Rattle.cfs_program.specs.Program.{LeavesInput, Ran, SaysAlone, WritesAlone, SaysAnswer, SaysLine, SparesImage, SparesInput, complete_statuses, fault_statuses, field_line, input_for, is_one_of, plan_faults}
 use Rattle.cfs_program.proofs.AmongLaws.{command_complete, command_status, one_at}
 use Rattle.cfs_program.proofs.CountsLaws.{input_alone, line_loud, spares_none}
 use Rattle.cfs_program.proofs.EndedLaws.{ended_run}
-use Rattle.cfs_program.proofs.FoundLaws.{inside_not, line_last, line_not, not_mounted}
+use Rattle.cfs_program.proofs.FoundLaws.{inside_not, line_last, line_no_reply, line_not, line_not_low, not_mounted}
 use Rattle.cfs_program.proofs.FormatLaws.{untouched_by}
 
 -- ---- a line alone
@@ -69,16 +71,19 @@ module _ {D : Type 0} (M : Ghosts D) (path : List ℕ) (a b : D) (line : Line) (
     complete = λ none. line_complete result status (λ six. none.output (output_rose (M.report a) (M.report b) result says.spares six));
     device = λ four. absurd (line_not 4 2 result status (λ e. omega (arith, e)) (λ e. omega (arith, e)) (λ e. omega (arith, e)) four);
     output = output_rose (M.report a) (M.report b) result says.spares;
-    quiet = λ quiet. spares_none (M.report a) (M.report b) result says.spares (quiet_calm result quiet);
-    calm = λ calm. input_alone (M.report a) (M.report b) (spares_none (M.report a) (M.report b) result says.spares calm);
+    quiet = λ quiet. spares_none (M.report a) (M.report b) result says.spares (quiet_unfailed result quiet);
+    unfailed = λ unfailed. input_alone (M.report a) (M.report b) (spares_none (M.report a) (M.report b) result says.spares unfailed);
     attaches = λ t. inr (unasked t);
     attached = λ inside t. unasked t ∙ sym (append-nil (M.ledger a).attaches);
     taken = λ t. ap (λ (x : Ledger). x.input) (ledger t);
     spared = says.spares.input;
     input = λ five t. absurd (line_not 5 2 result status (λ e. omega (arith, e)) (λ e. omega (arith, e)) (λ e. omega (arith, e)) five);
+    fails = λ five h. absurd (line_not 5 2 result status (λ e. omega (arith, e)) (λ e. omega (arith, e)) (λ e. omega (arith, e)) five);
     bad = λ two h. tt;
     whole = λ zero t. tt;
     spelled = λ zero t. tt;
+    one = λ h. tt;
+    rest = λ h. tt;
     trust = says.trust;
     says = λ h. subst (λ (x : Line). SaysLine x 2 (M.now a) (M.now b) result) is (line_says line (M.now a) (M.now b) result (says.exit h) (ends h));
     mounted = λ any h. tt;
@@ -96,16 +101,19 @@ module _ {D : Type 0} (M : Ghosts D) (path : List ℕ) (a b : D) (line : Line) (
     complete = λ none. line_complete result status (λ six. none.output (output_rose (M.report a) (M.report b) result says.spares six));
     device = λ four. absurd (line_not 4 2 result status (λ e. omega (arith, e)) (λ e. omega (arith, e)) (λ e. omega (arith, e)) four);
     output = output_rose (M.report a) (M.report b) result says.spares;
-    quiet = λ quiet. spares_none (M.report a) (M.report b) result says.spares (quiet_calm result quiet);
-    calm = λ calm. input_alone (M.report a) (M.report b) (spares_none (M.report a) (M.report b) result says.spares calm);
+    quiet = λ quiet. spares_none (M.report a) (M.report b) result says.spares (quiet_unfailed result quiet);
+    unfailed = λ unfailed. input_alone (M.report a) (M.report b) (spares_none (M.report a) (M.report b) result says.spares unfailed);
     attaches = λ t. inr (unasked t);
     attached = λ inside t. unasked t ∙ sym (append-nil (M.ledger a).attaches);
     taken = λ t. ap (λ (x : Ledger). x.input) (ledger t);
     spared = says.spares.input;
     input = λ five t. absurd (line_not 5 2 result status (λ e. omega (arith, e)) (λ e. omega (arith, e)) (λ e. omega (arith, e)) five);
+    fails = λ five h. absurd (line_not 5 2 result status (λ e. omega (arith, e)) (λ e. omega (arith, e)) (λ e. omega (arith, e)) five);
     bad = λ two h. tt;
     whole = λ zero t. tt;
     spelled = λ zero t. tt;
+    one = λ h. tt;
+    rest = λ h. tt;
     trust = says.trust;
     says = λ h. subst (λ (x : Line). SaysLine x 2 (M.now a) (M.now b) result) is (line_says line (M.now a) (M.now b) result (says.exit h) (ends h));
     mounted = λ any h. tt;
@@ -220,6 +228,24 @@ input_left Outside old new same = same
 input_left (BadField cause) old new same = same
 input_left (Format n t p) old new same = same
 
+memory_one : (request : Request) (input : List ℕ) (old new : Moment) (result : ℕ) → SaysNoReply old new result → SaysAlone request input old new result
+memory_one (Put name keep) input old new result says = inr says
+memory_one (One command) input old new result says = inr says
+memory_one Script input old new result says = tt
+memory_one (Generate seed count) input old new result says = tt
+memory_one Outside input old new result says = tt
+memory_one (BadField cause) input old new result says = tt
+memory_one (Format n t p) input old new result says = tt
+
+memory_rest : (request : Request) (old new : Moment) → IsUntouched old new → WritesAlone request old new
+memory_rest (One command) old new still = inl still
+memory_rest (Put name keep) old new still = tt
+memory_rest Script old new still = tt
+memory_rest (Generate seed count) old new still = tt
+memory_rest Outside old new still = tt
+memory_rest (BadField cause) old new still = tt
+memory_rest (Format n t p) old new still = tt
+
 input_spared : (request : Request) (old new : Report) → new.input_faults ≡ old.input_faults → SparesInput request old new
 input_spared (Put name keep) old new same = tt
 input_spared Script old new same = tt
@@ -241,16 +267,19 @@ module _ {D : Type 0} (M : Ghosts D) (request : Request) (path : List ℕ) (a b 
     complete = λ none. memory_complete request result status (λ six. none.output (output_rose (M.report a) (M.report b) result says.spares six));
     device = λ four. absurd (line_not 4 7 result status (λ e. omega (arith, e)) (λ e. omega (arith, e)) (λ e. omega (arith, e)) four);
     output = output_rose (M.report a) (M.report b) result says.spares;
-    quiet = λ quiet. absurd (line_loud 7 result status refl (quiet_calm result quiet));
-    calm = λ calm. absurd (line_loud 7 result status refl calm);
+    quiet = λ quiet. absurd (line_loud 7 result status refl (quiet_unfailed result quiet));
+    unfailed = λ unfailed. absurd (line_loud 7 result status refl unfailed);
     attaches = λ t. inr (ap (λ (x : Ledger). x.attaches) (ledger t));
     attached = λ inside t. absurd (inside_not result status inside);
     taken = λ t. input_left request (M.ledger a).input (M.ledger b).input (ap (λ (x : Ledger). x.input) (ledger t));
     spared = input_spared request (M.report a) (M.report b) says.spares.input;
     input = λ five t. absurd (line_not 5 7 result status (λ e. omega (arith, e)) (λ e. omega (arith, e)) (λ e. omega (arith, e)) five);
+    fails = λ five h. absurd (line_not 5 7 result status (λ e. omega (arith, e)) (λ e. omega (arith, e)) (λ e. omega (arith, e)) five);
     bad = λ two h. absurd (line_not 2 7 result status (λ e. omega (arith, e)) (λ e. omega (arith, e)) (λ e. omega (arith, e)) two);
-    whole = λ zero t. absurd (not_zero zero);
+    whole = λ low t. absurd (line_not_low 7 result (omega arith) status low);
     spelled = λ zero t. absurd (not_zero zero);
+    one = λ h. memory_one request (M.ledger a).input (M.now a) (M.now b) result (line_no_reply Ends.Memory (M.now a) (M.now a) (M.now b) result refl (ends h));
+    rest = λ h. memory_rest request (M.now a) (M.now b) (untouched_by (Lines.Ended Ends.Memory) (M.now a) (M.now b) (says.exit h));
     trust = says.trust;
     says = λ h. memory_says request (M.report b).fault_place (M.now a) (M.now b) result (memory_said (M.now a) (M.now b) result (says.exit h) (ends h));
     mounted = λ any h. absurd (not_mounted 7 result status refl any);
@@ -316,13 +345,14 @@ ran_format M n t p path a b result status counts asks asked trust says made unto
   complete = λ none. format_complete (plan n t p) result status (λ four. none.disk (counts.disk four)) (λ six. none.output (counts.output six));
   device = counts.disk;
   output = counts.output;
-  quiet = λ quiet. counts.quiet (quiet_calm result quiet);
-  calm = λ calm. input_alone (M.report a) (M.report b) (counts.quiet calm);
+  quiet = λ quiet. counts.quiet (quiet_unfailed result quiet);
+  unfailed = λ unfailed. input_alone (M.report a) (M.report b) (counts.quiet unfailed);
   attaches = λ t. (asks t).attaches;
   attached = λ inside told. format_asked (plan n t p) path (M.ledger a) (M.ledger b) result status (asks told) (λ zero. asked zero told) inside;
   taken = λ t. (asks t).input;
   spared = counts.input;
   input = λ five told. absurd (format_not 5 (plan n t p) result status (λ e. omega (arith, e)) (λ e. omega (arith, e)) (λ e. omega (arith, e)) (λ e. omega (arith, e)) (λ e. omega (arith, e)) five);
+  fails = λ five h. absurd (format_not 5 (plan n t p) result status (λ e. omega (arith, e)) (λ e. omega (arith, e)) (λ e. omega (arith, e)) (λ e. omega (arith, e)) (λ e. omega (arith, e)) five);
   bad = λ two h. tt;
   whole = λ zero t. tt;
   spelled = λ zero t. tt;
@@ -334,6 +364,8 @@ ran_format M n t p path a b result status counts asks asked trust says made unto
   last = λ of h. tt;
   image = made;
   untouched = untouched;
+  one = λ h. tt;
+  rest = λ h. tt;
   leaves = λ h l windows changes f sound. tt;
 }
 
@@ -341,23 +373,27 @@ ran_format M n t p path a b result status counts asks asked trust says made unto
 
 pub ran_command : {D : Type 0} (M : Ghosts D) (c : Command) (path : List ℕ) (a b : D) (result : ℕ) → IsOneStatus c result → CountsFaults (M.report a) (M.report b) result
     → (M.tells b → AsksAtMost (mount_asks path) (M.ledger a) (M.ledger b)) → (IsFalse (is_from_outside result) → M.tells b → AsksAll (mount_asks path) (M.ledger a) (M.ledger b))
-    → Trusts (M.tells a) (M.tells b) (M.honest a) (M.honest b) → (M.honest b → TellsFound (M.now a) (M.now b) result)
+    → Trusts (M.tells a) (M.tells b) (M.honest a) (M.honest b) → (M.honest b → TellsFound false (M.now a) (M.now b) result)
+    → (M.honest b → SaysOne c (M.now a) (M.now b) result) → (M.honest b → WritesFound c (M.now a) (M.now b))
     → (IsTrue (is_of_fault result) → M.honest b → SaysFault (M.report b).fault_place (M.now b) result)
     → (M.honest b → (rest : List ℕ) (l : Layout) (windows : List WeakRun) (h : List Change) (f : ℕ) → IsSoundDisk l windows h f (M.now a) →
     LeavesRun (One c) [] rest l windows h f (M.left_since b) (λ P. LeavesOnly M.moment M.left_since a b P) (M.report a) (M.report b) (M.now a) (M.now b) result)
     → Ran M (One c) path a b result
-ran_command M c path a b result status counts asks asked trust image last leaves = record {
+ran_command M c path a b result status counts asks asked trust image one rest last leaves = record {
+  one = one;
+  rest = rest;
   status = command_status c result status;
   complete = λ none. command_complete c result status (λ four. none.disk (counts.disk four)) (λ six. none.output (counts.output six));
   device = counts.disk;
   output = counts.output;
-  quiet = λ quiet. counts.quiet (quiet_calm result quiet);
-  calm = λ calm. input_alone (M.report a) (M.report b) (counts.quiet calm);
+  quiet = λ quiet. counts.quiet (quiet_unfailed result quiet);
+  unfailed = λ unfailed. input_alone (M.report a) (M.report b) (counts.quiet unfailed);
   attaches = λ t. (asks t).attaches;
   attached = λ inside t. (asked inside t).attaches;
   taken = λ t. (asks t).input;
   spared = counts.input;
   input = λ five t. absurd (one_not_five c result status five);
+  fails = λ five h. absurd (one_not_five c result status five);
   bad = λ two h. tt;
   whole = λ zero t. tt;
   spelled = λ zero t. tt;

@@ -1,5 +1,5 @@
 -- The last line of a run.
-use Rattle.std.specs.Prelude.{◌≡◌, ◌⊎◌, ◌==◌, ℕ, Bool, List, ◌++◌, take}
+use Rattle.std.specs.Prelude.{◌≡◌, ◌⊎◌, ℕ, List, ◌++◌, take}
 use Rattle.sector_disk.specs.Machine.{Moment, Says, Utters}
 use Rattle.fsd_texts.specs.declared.line.Line.{Line}
 use Rattle.fsd_texts.specs.Text.{memory_text, text}
@@ -15,10 +15,6 @@ UttersLine line old left = (said : List ℕ) × IsTextFor line said × Utters sa
 -- that is all that is said, where the output failed
 abbrev pub BeginsLine : Line → (old new : Moment) → Type 0
 BeginsLine line old new = (said : List ℕ) × IsTextFor line said × (heard : ℕ) × (new.said ≡ old.said ++ take heard said)
-
--- the status of a run whose output failed
-abbrev pub is_unsaid : ℕ → Bool
-is_unsaid status = status == 6
 
 -- this status, or that of refused memory, or of an output that failed
 abbrev pub IsStatusAs : ℕ → ℕ → Type 0

@@ -11,7 +11,7 @@ use Rattle.fsd_sound.specs.Format.{IsFormattedIn}
 use Rattle.fsd_sound.specs.Sound.{IsSound}
 use Rattle.fsd_texts.specs.declared.fault.Fault.TheVariants as Ends
 use Rattle.fsd_texts.specs.Text.{fault_text, format_line, memory_text, text}
-use Rattle.volume_turns.specs.Status.{CountsNone, is_calm}
+use Rattle.volume_turns.specs.Status.{CountsNone, is_unfailed}
 
 -- ---- the image
 
@@ -82,7 +82,7 @@ pub record CountsFaults (old new : Report) (status : ℕ) : Type 0 where
   pub disk : status ≡ 4 → Rose old.disk_faults new.disk_faults
   pub input : new.input_faults ≡ old.input_faults
   pub output : status ≡ 6 → Rose old.output_faults new.output_faults
-  pub quiet : IsTrue (is_calm status) → CountsNone old new
+  pub quiet : IsTrue (is_unfailed status) → CountsNone old new
 
 -- Calls of the disk, an attach among them: a fault is counted and its place told, or there was none.
 pub record UsesAttach (fault : Option ℕ) (old new : Report) : Type 0 where

@@ -8,8 +8,11 @@ use Rattle.sector_disk.specs.declared.sector.WeakRun.{WeakRun}
 use Rattle.sector_disk.specs.Machine.{Asked, Finds, Moment, Report, Rose}
 use Rattle.fsd_files.specs.Files.{Change}
 use Rattle.fsd_sound.specs.Sound.{EndIn, IsSound}
+use Rattle.fsd_texts.specs.declared.command.Command.{Command}
+use Rattle.volume_turns.specs.Answering.{WritesOne}
+use Rattle.cfs_program.specs.Formatting.{IsUntouched}
 use Rattle.volume_turns.specs.Causes.{HasVolume, IsSpent, SaysCause, is_of_mounted}
-use Rattle.volume_turns.specs.Status.{CountsInput, CountsNone, is_calm, is_quiet}
+use Rattle.volume_turns.specs.Status.{CountsInput, CountsNone, is_unfailed, is_quiet}
 
 -- the attach that a command asks for: an image that is there
 abbrev pub mount_asks : List ℕ → List Asked
@@ -35,7 +38,7 @@ pub record CountsReading (old new : Report) (status : ℕ) : Type 0 where
   pub disk : status ≡ 4 → Rose old.disk_faults new.disk_faults
   pub output : status ≡ 6 → Rose old.output_faults new.output_faults
   pub quiet : IsTrue (is_quiet status) → CountsNone old new
-  pub calm : IsTrue (is_calm status) → CountsInput old new
+  pub unfailed : IsTrue (is_unfailed status) → CountsInput old new
 
 -- So it is of the image, and of the number of its sectors, as the attach found it.
 pub record AsFound (P : ℕ → Moment → Type 0) (old : Moment) : Type 0 where
@@ -45,8 +48,12 @@ pub record AsFound (P : ℕ → Moment → Type 0) (old : Moment) : Type 0 where
   pub size : sectors ≡ min (length at.image) (2 ^ 32 - 1)
   pub holds : P sectors at
 
--- What a run tells of the image that its attach found, by its status.
-pub record TellsFound (old new : Moment) (status : ℕ) : Type 0 where
+-- What a run tells of the image that its attach found, by its status, and whether it is a script.
+pub record TellsFound (script : Bool) (old new : Moment) (status : ℕ) : Type 0 where
   pub mounted : IsTrue (is_of_mounted status) → AsFound HasVolume old
-  pub refused : status ≡ 3 → AsFound (λ sectors at. SaysCause sectors at new) old
+  pub refused : status ≡ 3 → AsFound (λ sectors at. SaysCause script sectors at new) old
   pub spent : status ≡ 9 → AsFound IsSpent old
+
+-- nothing is written, or no more than a mount and the command write
+abbrev pub WritesFound : Command → (old new : Moment) → Type 0
+WritesFound command old new = IsUntouched old new ⊎ AsFound (λ sectors at. WritesOne command sectors at new) old

@@ -1,5 +1,5 @@
 -- What the program answers and leaves, by what its words ask for.
-use Rattle.std.specs.Prelude.{◌≡◌, ◌⊎◌, ⊤, ℕ, Bool, ◌==◌, List, [], ◌∷◌, ◌++◌, Result, Ok, Err, IsFalse, IsTrue}
+use Rattle.std.specs.Prelude.{◌≡◌, ◌⊎◌, ◌≤◌, ⊤, ℕ, Bool, true, false, ◌==◌, List, [], ◌∷◌, ◌++◌, length, Result, Ok, Err, IsFalse, IsTrue}
 use Rattle.std.specs.List.{list_any}
 use Rattle.volume_layout.specs.declared.layout.Layout.{Layout}
 use Rattle.volume_layout.specs.declared.fault.LayoutFault.{LayoutFault}
@@ -13,7 +13,7 @@ use Rattle.fsd_texts.specs.declared.command.Command.TheVariants as Word
 use Rattle.fsd_texts.specs.declared.line.Line.{Line}
 use Rattle.fsd_texts.specs.declared.line.Line.TheVariants as Says
 use Rattle.fsd_texts.specs.declared.end.End.TheVariants.{Done}
-use Rattle.fsd_texts.specs.Script.{script_in}
+use Rattle.fsd_texts.specs.Script.{max_input, script_in}
 use Rattle.fsd_texts.specs.Text.{memory_text, text}
 use Rattle.fsd_texts.specs.declared.bad_line.Cause.{Cause}
 use Rattle.fsd_runs.specs.declared.request.Request.{Request}
@@ -22,9 +22,10 @@ use Rattle.fsd_runs.specs.Errands.{IfMounts}
 use Rattle.fsd_runs.specs.Leaves.{LeavesRun, NoneRose}
 use Rattle.cfs_program.specs.Ending.{BeginsLine}
 use Rattle.cfs_program.specs.Formatting.{IsMadeBy, IsUntouched, SaysFormat, SparesUnplanned, format_status, plan_asks}
-use Rattle.volume_turns.specs.Causes.{FailsInput, HasVolume, IsSpent, SaysBadLine, SaysCause, SaysFault, is_of_fault, is_of_mounted}
-use Rattle.volume_turns.specs.Status.{CountsInput, CountsNone, is_calm, is_quiet}
-use Rattle.cfs_program.specs.Opening.{AsFound, AsksOrNot, IsSoundDisk, is_from_outside, mount_asks}
+use Rattle.volume_turns.specs.Answering.{SaysOne}
+use Rattle.volume_turns.specs.Causes.{FailsInput, HasVolume, IsSpent, SaysBadLine, SaysCause, SaysFault, SaysOfInput, is_of_fault, is_of_mounted}
+use Rattle.volume_turns.specs.Status.{CountsInput, CountsNone, is_unfailed, is_quiet}
+use Rattle.cfs_program.specs.Opening.{AsFound, AsksOrNot, IsSoundDisk, WritesFound, is_from_outside, mount_asks}
 
 -- ---- statuses
 
@@ -83,11 +84,11 @@ SparesInput (Put name keep) old new = ⊤
 SparesInput Script old new = ⊤
 SparesInput request old new = new.input_faults ≡ old.input_faults
 
--- what is left of it where a put or a script is done
-abbrev pub TakesAll : Request → List ℕ → Type 0
-TakesAll (Put name keep) left = left ≡ []
-TakesAll Script left = left ≡ []
-TakesAll request left = ⊤
+-- what it was and what is left of it where a put or a script is done, or a put is refused
+abbrev pub TakesAll : Request → (input left : List ℕ) → Type 0
+TakesAll (Put name keep) input left = (left ≡ []) × (length input ≤ max_input)
+TakesAll Script input left = left ≡ []
+TakesAll request input left = ⊤
 
 -- no line of a script is bad: its commands stand in it to its end
 abbrev pub IsSpelled : Request → List ℕ → Type 0
@@ -123,7 +124,23 @@ SaysAnswer (BadField cause) place old new result = SaysLine (field_line cause) 2
 SaysAnswer (Format n t p) place old new result = SaysFormat (plan n t p) place old new result
 SaysAnswer request place old new result = ⊤
 
+-- a script says replies before its last line
+abbrev pub is_script : Request → Bool
+is_script Script = true
+is_script request = false
+
+-- one command says one reply, or the line of the fault that has ended it, and no more
+abbrev pub SaysAlone : Request → (input : List ℕ) → (old new : Moment) → ℕ → Type 0
+SaysAlone (Put name keep) input old new result = SaysOne (Word.Put name input keep) old new result
+SaysAlone (One command) input old new result = SaysOne command old new result
+SaysAlone request input old new result = ⊤
+
 -- ---- the image
+
+-- one command that takes no input writes no more than the mount and it may
+abbrev pub WritesAlone : Request → (old new : Moment) → Type 0
+WritesAlone (One command) old new = WritesFound command old new
+WritesAlone request old new = ⊤
 
 -- after status 0
 abbrev pub HoldsAfter : Request → Moment → Type 0
@@ -156,19 +173,22 @@ pub record Ran {D : Type 0} (M : Ghosts D) (request : Request) (path : List ℕ)
   pub device : result ≡ 4 → Rose (M.report a).disk_faults (M.report b).disk_faults
   pub output : result ≡ 6 → Rose (M.report a).output_faults (M.report b).output_faults
   pub quiet : IsTrue (is_quiet result) → CountsNone (M.report a) (M.report b)
-  pub calm : IsTrue (is_calm result) → CountsInput (M.report a) (M.report b)
+  pub unfailed : IsTrue (is_unfailed result) → CountsInput (M.report a) (M.report b)
   pub attaches : M.tells b → AsksOrNot (asks_of request path) (M.ledger a).attaches (M.ledger b).attaches
   pub attached : IsFalse (is_from_outside result) → M.tells b → (M.ledger b).attaches ≡ (M.ledger a).attaches ++ asks_of request path
   pub taken : M.tells b → LeavesInput request (M.ledger a).input (M.ledger b).input
   pub spared : SparesInput request (M.report a) (M.report b)
   pub input : result ≡ 5 → M.tells b → FailsInput (M.ledger a).input (M.report a) (M.report b)
+  pub fails : result ≡ 5 → M.honest b → SaysOfInput (M.ledger a).input (M.report a) (M.report b) (M.now b)
   pub bad : result ≡ 2 → M.honest b → HasBadLine request (M.ledger a).input (M.now b)
-  pub whole : result ≡ 0 → M.tells b → TakesAll request (M.ledger b).input
+  pub whole : result ≤ 1 → M.tells b → TakesAll request (M.ledger a).input (M.ledger b).input
   pub spelled : result ≡ 0 → M.tells b → IsSpelled request (M.ledger a).input
   pub trust : Trusts (M.tells a) (M.tells b) (M.honest a) (M.honest b)
   pub says : M.honest b → SaysAnswer request (M.report b).fault_place (M.now a) (M.now b) result
+  pub one : M.honest b → SaysAlone request (M.ledger a).input (M.now a) (M.now b) result
+  pub rest : M.honest b → WritesAlone request (M.now a) (M.now b)
   pub mounted : IsTrue (is_of_mounted result) → M.honest b → IfMounts request (AsFound HasVolume (M.now a))
-  pub refused : result ≡ 3 → M.honest b → AsFound (λ sectors at. SaysCause sectors at (M.now b)) (M.now a)
+  pub refused : result ≡ 3 → M.honest b → AsFound (λ sectors at. SaysCause (is_script request) sectors at (M.now b)) (M.now a)
   pub last : IsTrue (is_of_fault result) → M.honest b → IfMounts request (SaysFault (M.report b).fault_place (M.now b) result)
   pub spent : result ≡ 9 → M.honest b → AsFound IsSpent (M.now a)
   pub image : result ≡ 0 → M.honest b → HoldsAfter request (M.now b)

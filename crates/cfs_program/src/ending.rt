@@ -2,7 +2,8 @@
 ghost use Rattle.std.specs.Prelude.{◌≡◌, ◌⊎◌, false};
 ghost use Rattle.sector_disk.specs.Calls.{LeavesDisk};
 ghost use Rattle.sector_disk.specs.Machine.{Says, Utters};
-ghost use Rattle.cfs_program.specs.Ending.{EndsAs, IsStatusAs, UttersLine, is_unsaid};
+ghost use Rattle.cfs_program.specs.Ending.{EndsAs, IsStatusAs, UttersLine};
+ghost use Rattle.volume_turns.specs.Line.{is_unsaid};
 
 use fsd_texts::{Bytes, Line};
 use script_text::say_line;

@@ -1,15 +1,16 @@
 //! A command over the image that it names.
-ghost use Rattle.std.specs.Prelude.{◌≡◌, ℕ, List, [], IsFalse, IsTrue};
+ghost use Rattle.std.specs.Prelude.{◌≡◌, ℕ, List, [], false, IsFalse, IsTrue};
 ghost use Rattle.sector_disk.specs.declared.sector.WeakRun.{WeakRun};
 ghost use Rattle.sector_disk.specs.Machine.{LeavesOnly, Trusts};
 ghost use Rattle.volume_layout.specs.declared.layout.Layout.{Layout as Plan};
 ghost use Rattle.fsd_files.specs.Files.{Change};
 ghost use Rattle.fsd_runs.specs.Leaves.{LeavesRun};
 ghost use Rattle.fsd_runs.specs.declared.request.Request.TheVariants.{One};
+ghost use Rattle.volume_turns.specs.Answering.{SaysOne};
 ghost use Rattle.volume_turns.specs.Causes.{SaysFault, is_of_fault};
 ghost use Rattle.volume_turns.specs.Status.{IsOneStatus};
 ghost use Rattle.cfs_program.specs.Formatting.{AsksAll, AsksAtMost, CountsFaults};
-ghost use Rattle.cfs_program.specs.Opening.{IsSoundDisk, TellsFound, is_from_outside, mount_asks};
+ghost use Rattle.cfs_program.specs.Opening.{IsSoundDisk, TellsFound, WritesFound, is_from_outside, mount_asks};
 
 use crate::ending::end_with;
 use crate::replies::Alone;
@@ -32,7 +33,9 @@ pub fn run_command<M: Machine, V: Files<M> + Drop>(
     ensures asks { M.tells m.new → AsksAtMost (mount_asks path.now) (M.ledger m.old) (M.ledger m.new) }
     ensures asked { IsFalse (is_from_outside result) → M.tells m.new → AsksAll (mount_asks path.now) (M.ledger m.old) (M.ledger m.new) }
     ensures trust { Trusts (M.tells m.old) (M.tells m.new) (M.honest m.old) (M.honest m.new) }
-    ensures image { M.honest m.new → TellsFound (M.now m.old) (M.now m.new) result }
+    ensures image { M.honest m.new → TellsFound false (M.now m.old) (M.now m.new) result }
+    ensures one { M.honest m.new → SaysOne c.now (M.now m.old) (M.now m.new) result }
+    ensures rest { M.honest m.new → WritesFound c.now (M.now m.old) (M.now m.new) }
     ensures last { IsTrue (is_of_fault result) → M.honest m.new → SaysFault (M.report m.new).fault_place (M.now m.new) result }
     ensures leaves { M.honest m.new → (rest : List ℕ) (l : Plan) (windows : List WeakRun) (h : List Change) (f : ℕ) → IsSoundDisk l windows h f (M.now m.old) →
         LeavesRun (One c.now) [] rest l windows h f (M.left_since m.new) (LeavesOnly M.moment M.left_since m.old m.new) (M.report m.old) (M.report m.new) (M.now m.old) (M.now m.new) result }

@@ -2,7 +2,7 @@
 use Rattle.std.proofs.Common.{◌≡◌, inl, inr, ℕ, zero, suc, ◌+◌, ◌<◌, Bool, true, false, List, [], ◌∷◌, ◌++◌, length, take, drop, None, refl, sym, ◌∙◌, ap, subst, arith}
 use Rattle.std.specs.Prelude.{◌&&◌, if◌then◌else◌, nat_lt, IfOk, IsTrue, Result, Ok, Err}
 use Rattle.std.proofs.lemmas.Bool.{ltb-true}
-use Rattle.sector_disk.specs.Machine.{Ledger, Moment, took}
+use Rattle.sector_disk.specs.Machine.{Ledger, Moment, Report, Rose, took}
 use Rattle.fsd_sound.specs.Lost.{AreCopiesOn, LostIn}
 use Rattle.fsd_sound.specs.Writes.{MountKeeps}
 use Rattle.fsd_sound.specs.declared.fault.MountFault.{MountFault}
@@ -16,8 +16,9 @@ use Rattle.fsd_texts.specs.declared.line.Line.TheVariants as Says
 use Rattle.volume_turns.specs.Whole.{EndsLast}
 use Rattle.fsd_texts.specs.declared.fault.Fault.{Fault}
 use Rattle.fsd_texts.specs.declared.fault.Fault.TheVariants as Ends
-use Rattle.fsd_texts.specs.Script.{Script, command_at, commands_from, needs_more, script_from, script_in, then_more}
+use Rattle.fsd_texts.specs.Script.{Script, command_at, commands_from, max_input, needs_more, script_from, script_in, then_more}
 use Rattle.fsd_texts.specs.Text.{fault_text}
+use Rattle.fsd_runs.specs.Commands.{reply_text}
 use Rattle.fsd_runs.specs.Errands.{Errand, fault_status}
 use Rattle.script_text.specs.Reading.{Reading, script_left}
 use Rattle.script_text.proofs.WholeLaws.{all_is_read}
@@ -26,10 +27,11 @@ use Rattle.volume_contract.specs.State.{State}
 use Rattle.volume_turns.specs.declared.script.Stop.{Stop}
 use Rattle.volume_turns.specs.declared.script.Stop.TheVariants.{Ended}
 use Rattle.volume_turns.specs.declared.turns.End.{End}
-use Rattle.volume_turns.specs.Causes.{HasVolume, SaysBadLine, SaysOfCall, SaysOfImage, TellsImage, is_of_mounted}
+use Rattle.volume_turns.specs.Causes.{HasVolume, IsOfInput, SaysBadLine, SaysOfCall, SaysOfImage, SaysOfInput, StandsBefore, TellsImage, is_of_mounted}
 use Rattle.volume_turns.specs.Line.{EndsWith, IsStatusFor, UttersFault}
 use Rattle.volume_turns.specs.Once.{fault_of}
 use Rattle.volume_turns.specs.Script.{WholeRead}
+use Rattle.volume_turns.proofs.SaidLaws.{no_replies}
 use Rattle.fsd_log.specs.Scan.{Placed}
 use Rattle.sector_disk.specs.declared.machine.Machine.{Ghosts}
 use Rattle.fsd_sound.specs.Mounted.{Mounted}
@@ -37,14 +39,21 @@ use Rattle.volume_turns.specs.Steps.{IsOfCall, IsOfImage}
 
 -- ---- a fault of the image
 
-pub of_fault : (why : Fault) (old new : Moment) (status : ℕ) → EndsWith why old new status → status ≡ 3 → SaysOfImage why new
-of_fault why old new status (inl six) three = absurd (omega (arith, six, three))
-of_fault why old new status (inr (said, inl is, gives, all)) three = record {
-  status = ap fault_status (sym is) ∙ sym gives ∙ three;
-  front = old.said;
-  said = all.said ∙ ap (λ (w : Fault). old.said ++ fault_text w) is;
-}
-of_fault why old new status (inr (said, inr is, gives, all)) three = let seven : status ≡ 7 = gives ∙ ap fault_status is in absurd (omega (arith, seven, three))
+-- where nothing was said before
+pub stands_before : (script : Bool) (said front : List ℕ) → front ≡ said → StandsBefore script said front
+stands_before true said front same = no_replies reply_text said front same
+stands_before false said front same = same
+
+-- at its status it is the fault itself that is said
+told_itself : (why : Fault) (old new : Moment) (status : ℕ) → EndsWith why old new status → status ≡ 3 → (fault_status why ≡ 3) × (new.said ≡ old.said ++ fault_text why)
+told_itself why old new status (inl six) three = absurd (omega (arith, six, three))
+told_itself why old new status (inr (said, inl is, gives, all)) three = (ap fault_status (sym is) ∙ sym gives ∙ three, all.said ∙ ap (λ (w : Fault). old.said ++ fault_text w) is)
+told_itself why old new status (inr (said, inr is, gives, all)) three = let seven : status ≡ 7 = gives ∙ ap fault_status is in absurd (omega (arith, seven, three))
+
+pub of_fault : (script : Bool) (before : List ℕ) (why : Fault) (old new : Moment) (status : ℕ) → StandsBefore script before old.said → EndsWith why old new status → status ≡ 3 → SaysOfImage script before why new
+of_fault script before why old new status behind ended three =
+    let told = told_itself why old new status ended three in
+    record { status = told.0; front = old.said; behind = behind; said = told.1 }
 
 -- a call's fault of this status is one of the image
 image_of_call : (why : Fault) → IsOfCall why → fault_status why ≡ 3 → IsOfImage why
@@ -55,9 +64,9 @@ image_of_call Ends.Memory of three = absurd (omega (arith, three))
 image_of_call Ends.WornOut of three = absurd (omega (arith, three))
 image_of_call why of three = absurd of
 
-pub call_says : (why : Fault) → IsOfCall why → (old new : Moment) (status : ℕ) → EndsWith why old new status → status ≡ 3 → SaysOfCall new
-call_says why of old new status ended three =
-    let says = of_fault why old new status ended three in
+pub call_says : (script : Bool) (before : List ℕ) (why : Fault) → IsOfCall why → (old new : Moment) (status : ℕ) → StandsBefore script before old.said → EndsWith why old new status → status ≡ 3 → SaysOfCall script before new
+call_says script before why of old new status behind ended three =
+    let says = of_fault script before why old new status behind ended three in
     record { why = why; of = image_of_call why of says.status; says = says }
 
 -- ---- a mount
@@ -65,10 +74,14 @@ call_says why of old new status ended three =
 has_volume : (sectors : ℕ) (s : State) (old : Moment) → IsFound sectors s old → HasVolume sectors old
 has_volume sectors s old f = record { seen = f.seen; from = f.from; layout = s.layout; anchor = f.anchor; found = f.found }
 
-pub tells_mounted : (sectors : ℕ) (s : State) (old new : Moment) (status : ℕ) → IsFound sectors s old → (status ≡ 3 → SaysOfCall new) → TellsImage sectors old new status
-tells_mounted sectors s old new status f says = record {
+-- what was said of it as the mount ended was said before
+pub call_since : (script : Bool) (before now : List ℕ) (new : Moment) → now ≡ before → SaysOfCall script now new → SaysOfCall script before new
+call_since script before now new same says = subst (λ (x : List ℕ). SaysOfCall script x new) same says
+
+pub tells_mounted : (script : Bool) (sectors : ℕ) (s : State) (old new : Moment) (status : ℕ) (now : List ℕ) → now ≡ old.said → IsFound sectors s old → (status ≡ 3 → SaysOfCall script now new) → TellsImage script sectors old new status
+tells_mounted script sectors s old new status now same f says = record {
   mounted = λ any. has_volume sectors s old f;
-  refused = λ three. let x = says three in record { why = x.why; says = x.says; cause = inr (record { mounted = has_volume sectors s old f; of = x.of }) };
+  refused = λ three. let x = call_since script old.said now new same (says three) in record { why = x.why; says = x.says; cause = inr (record { mounted = has_volume sectors s old f; of = x.of }) };
   spent = λ nine. inl (has_volume sectors s old f);
 }
 
@@ -99,17 +112,38 @@ worn_of sectors old (Refused.Unsound s) status (inl is) nine refused = absurd (o
 worn_of sectors old (Refused.Device s) status (inl is) nine refused = absurd (omega (arith, is, nine))
 worn_of sectors old Refused.Memory status (inl is) nine refused = absurd (omega (arith, is, nine))
 
-pub tells_refused : (sectors : ℕ) (fault : MountFault) (why : Fault) (old ended new : Moment) (status : ℕ) → why ≡ fault_of fault → IsRefused sectors fault old → LostIn (AreCopiesOn sectors old) ended.image fault → UnsoundFor sectors old ended fault
-    → KeepsAll fault old ended → MountKeeps sectors old ended → UttersFault why ended new → EndsWith why ended new status → IsStatusFor why status → TellsImage sectors old new status
-tells_refused sectors fault why old ended new status is refused lost unsound kept rest (said, which, utters) ends for = record {
+pub tells_refused : (script : Bool) (sectors : ℕ) (fault : MountFault) (why : Fault) (old ended new : Moment) (status : ℕ) → why ≡ fault_of fault → IsRefused sectors fault old → LostIn (AreCopiesOn sectors old) ended.image fault → UnsoundFor sectors old ended fault
+    → KeepsAll fault old ended → MountKeeps sectors old ended → ended.said ≡ old.said → UttersFault why ended new → EndsWith why ended new status → IsStatusFor why status → TellsImage script sectors old new status
+tells_refused script sectors fault why old ended new status is refused lost unsound kept rest same (said, which, utters) ends for = record {
   mounted = λ any. absurd (refused_not fault status (subst (λ (w : Fault). IsStatusFor w status) is for) any);
   refused = λ three. record {
     why = why;
-    says = of_fault why ended new status ends three;
-    cause = inl (record { fault = fault; is = is; refused = refused; ended = ended; since = record { image = utters.image; windows = utters.windows }; lost = lost; unsound = unsound; kept = kept; rest = rest });
+    says = of_fault script old.said why ended new status (stands_before script old.said ended.said same) ends three;
+    cause = inl (record { fault = fault; is = is; refused = refused; ended = ended; since = record { image = utters.image; windows = utters.windows }; lost = lost; unsound = unsound; kept = kept; rest = rest; said = (told_itself why ended new status ends three).1 ∙ ap (λ (x : List ℕ). x ++ fault_text why) same });
   };
   spent = λ nine. inr (worn_of sectors old fault status (subst (λ (w : Fault). IsStatusFor w status) is for) nine refused);
 }
+
+-- ---- a fault of the input
+
+pub says_input : (why : Fault) (input : List ℕ) (a b : Report) (old new : Moment) (status : ℕ) → IsOfInput why input a b → EndsWith why old new status → status ≡ 5 → SaysOfInput input a b new
+says_input why input a b old new status cause (inl six) five = absurd (omega (arith, six, five))
+says_input why input a b old new status cause (inr (said, inl is, gives, all)) five = record { why = why; cause = cause; front = old.said; said = all.said ∙ ap (λ (w : Fault). old.said ++ fault_text w) is }
+says_input why input a b old new status cause (inr (said, inr is, gives, all)) five = let seven : status ≡ 7 = gives ∙ ap fault_status is in absurd (omega (arith, seven, five))
+
+pub line_input : (why : Fault) (input : List ℕ) (a b : Report) (old new : Moment) (status : ℕ) → IsOfInput why input a b → EndsLast (Says.Ended why) 5 old new status → status ≡ 5 → SaysOfInput input a b new
+line_input why input a b old new status cause (inl six) five = absurd (omega (arith, six, five))
+line_input why input a b old new status cause (inr (inl (gives, all))) five = record { why = why; cause = cause; front = old.said; said = all.said }
+line_input why input a b old new status cause (inr (inr (seven, all))) five = absurd (omega (arith, seven, five))
+
+-- it was so of a run that began earlier
+of_input_on : (why : Fault) (a m b : Report) (old mid : List ℕ) → m.input_faults ≡ a.input_faults → mid ≡ old → IsOfInput why mid m b → IsOfInput why old a b
+of_input_on Ends.Input a m b old mid counted same rose = subst (λ (n : ℕ). Rose n b.input_faults) counted rose
+of_input_on Ends.InputTooLong a m b old mid counted same long = subst (λ (x : List ℕ). max_input < length x) same long
+of_input_on why a m b old mid counted same is = absurd is
+
+pub input_since : (a m b : Report) (old mid : List ℕ) (now : Moment) → m.input_faults ≡ a.input_faults → mid ≡ old → SaysOfInput mid m b now → SaysOfInput old a b now
+input_since a m b old mid now counted same x = record { why = x.why; cause = of_input_on x.why a m b old mid counted same x.cause; front = x.front; said = x.said }
 
 -- ---- an input that is too long
 

@@ -85,7 +85,7 @@ pub none_left : (commands : List Command) → length commands ≡ 0 → commands
 none_left [] none = refl
 none_left (c ∷ commands) none = cc none
 
-never : (met : Met) (v : Volume) (c : Command) → IsTrue (silent.forces (answer met v c).0) → (answer met v c).1.unforced ≡ 0
+pub never : (met : Met) (v : Volume) (c : Command) → IsTrue (silent.forces (answer met v c).0) → (answer met v c).1.unforced ≡ 0
 never met v c is = cc is
 
 -- ---- one command, and nothing said
@@ -199,7 +199,7 @@ module _ {S D : Type 0} (state : S → State) (has : S → Mounted → List Plac
 
 -- ---- what is counted of faults
 
-unheard_on : {T : Type 0} (a b c : Report) → b.output_faults ≡ a.output_faults → (r : Result T End) → Unheard b c r → Unheard a c r
+pub unheard_on : {T : Type 0} (a b c : Report) → b.output_faults ≡ a.output_faults → (r : Result T End) → Unheard b c r → Unheard a c r
 unheard_on a b c same (Err Output) rose = omega (arith, same, rose)
 unheard_on a b c same (Err (Stopped fault)) is = is ∙ same
 unheard_on a b c same (Ok u) is = is ∙ same

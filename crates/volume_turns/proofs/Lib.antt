@@ -1,3 +1,4 @@
+pub mod AnsweringLaws
 pub mod CauseLaws
 pub mod CountLaws
 pub mod GenerateLaws
@@ -16,6 +17,7 @@ pub mod PutLaws
 pub mod QuietLaws
 pub mod ReadLaws
 pub mod RunLaws
+pub mod SaidLaws
 pub mod ScriptEndLaws
 pub mod ScriptGroupLaws
 pub mod ScriptLaws

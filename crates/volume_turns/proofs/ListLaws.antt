@@ -1,12 +1,10 @@
 -- A list takes the entries in the order of their keys.
-use Rattle.std.proofs.Common.{◌≡◌, ℕ, suc, ◌+◌, Bool, true, false, cond, List, [], ◌∷◌, ◌++◌, length, Option, Some, None, Ordering, refl, sym, ◌∙◌, ap, subst, arith, append_assoc, length-append}
+use Rattle.std.proofs.Common.{◌≡◌, ℕ, ◌+◌, Bool, true, false, cond, List, [], ◌∷◌, ◌++◌, length, Option, Some, None, refl, sym, ◌∙◌, ap, subst, arith, append_assoc, length-append}
 use Rattle.fsd_log.specs.Scan.{Placed}
 use Rattle.std.specs.Prelude.{T, option_map, Result, Err}
 use Rattle.std.specs.List.{AllByRecursion, last_or}
 use Rattle.std.specs.FinMap.{is_sorted}
 use Rattle.std.specs.FinMap.Entries.{below_all}
-use Rattle.std.specs.Ordering.{is_lt, ordering_reverse}
-use Rattle.std.specs.declared.cmp.Ordering.TheVariants.{Less, Equal, Greater}
 use Rattle.std.proofs.lemmas.List.{append-nil}
 use Rattle.std.proofs.lemmas.Bool.{and_parts}
 use Rattle.fsd_bytes.specs.declared.key.Key.{Key}
@@ -19,30 +17,15 @@ use Rattle.fsd_files.specs.Answers.{entry_after}
 use Rattle.fsd_files.specs.Files.{Files}
 use Rattle.fsd_files.specs.Kept.{Lists}
 use Rattle.fsd_files.specs.Replies.{Found}
-use Rattle.fsd_files.proofs.HistoryLaws.{after_in_order, keys_total}
+use Rattle.fsd_files.proofs.HistoryLaws.{after_in_order}
 use Rattle.sector_disk.specs.Machine.{Moment}
 use Rattle.fsd_sound.specs.Mounted.{Mounted}
 use Rattle.volume_contract.specs.Ends.{Looks}
 use Rattle.volume_contract.specs.State.{State, Known, Stands, volume_of}
 use Rattle.volume_turns.specs.Listing.{AreListed, IsFromOutside, fitting, last_key}
+use Rattle.fsd_table.proofs.KeyLaws.{lt_itself, lt_not_back}
 
 -- ---- the order of keys
-
-turned : (o : Ordering) → is_lt o ≡ true → is_lt (ordering_reverse o) ≡ false
-turned Less is = refl
-turned Equal is = refl
-turned Greater is = cc is
-
-not_back : (a b : Key) → key_lt a b ≡ true → key_lt b a ≡ false
-not_back a b is = ap is_lt (keys_total.antisymm b a) ∙ turned (key_cmp a b) is
-
-own_reverse : (o : Ordering) → o ≡ ordering_reverse o → is_lt o ≡ false
-own_reverse Less is = cc is
-own_reverse Equal is = refl
-own_reverse Greater is = refl
-
-not_itself : (a : Key) → key_lt a a ≡ false
-not_itself a = own_reverse (key_cmp a a) (keys_total.antisymm a a)
 
 -- ---- entries in order
 
@@ -97,9 +80,9 @@ past : (key : Key) (b : Entry) (entries : List Entry) → key_lt key b.key ≡ f
 past key b entries is = ap (λ (x : Bool). cond x (Some b) (entry_after (Some key) entries)) is
 
 behind_last : (b : Entry) (bs rest : List Entry) → Ascend ((b ∷ bs) ++ rest) → entry_after (Some (last_from b bs).key) ((b ∷ bs) ++ rest) ≡ head_of rest
-behind_last b [] rest ascend = past b.key b rest (not_itself b.key) ∙ head_after b.key rest ascend.0
+behind_last b [] rest ascend = past b.key b rest (lt_itself b.key) ∙ head_after b.key rest ascend.0
 behind_last b (c ∷ cs) rest ascend =
-    past (last_from c cs).key b ((c ∷ cs) ++ rest) (not_back b.key (last_from c cs).key (all_last (λ x. key_lt b.key x.key ≡ true) c cs rest ascend.0)) ∙ behind_last c cs rest ascend.1
+    past (last_from c cs).key b ((c ∷ cs) ++ rest) (lt_not_back b.key (last_from c cs).key (all_last (λ x. key_lt b.key x.key ≡ true) c cs rest ascend.0)) ∙ behind_last c cs rest ascend.1
 
 first_of_all : (rest : List Entry) → entry_after None rest ≡ head_of rest
 first_of_all [] = refl
@@ -172,12 +155,6 @@ files_in_order state has v k now stands = subst (λ (s : Files). T (is_sorted ke
 
 pub listed_none : (pattern : Pattern) (entries : List Entry) → AreListed pattern entries 0 None []
 listed_none pattern entries = record { front = []; rest = entries; all = refl; met = refl; ends = refl; fit = refl }
-
-pub lists_length : (s : Files) (entries : List Entry) → Lists s entries → length s ≡ length entries
-lists_length [] [] lists = refl
-lists_length [] (e ∷ entries) lists = absurd lists
-lists_length (v ∷ s) [] lists = absurd lists
-lists_length (v ∷ s) (e ∷ entries) lists = ap (λ (n : ℕ). suc n) (lists_length s entries lists.1)
 
 -- ---- what a look-up of the next one refuses
 

@@ -1,7 +1,7 @@
 -- One command by itself.
 use Rattle.std.proofs.Common.{◌≡◌, ℕ, zero, suc, ◌≤◌, Bool, false, List, [], ◌∷◌, ◌++◌, length, take, Option, Some, refl, sym, ◌∙◌, ap, subst, arith}
 use Rattle.fsd_log.specs.Scan.{Placed}
-use Rattle.std.specs.Prelude.{IsTrue, Result, Ok, Err, OnOk, IfOk, IfErr}
+use Rattle.std.specs.Prelude.{Result, Ok, Err, OnOk, IfOk, IfErr}
 use Rattle.std.proofs.lemmas.List.{append-nil}
 use Rattle.volume_layout.specs.declared.layout.Layout.{Layout}
 use Rattle.fsd_bytes.specs.declared.refusal.Refusal.{Refusal}
@@ -12,7 +12,6 @@ use Rattle.sector_disk.specs.Image.{AllWorn, open_damage, AreShort, Windows}
 use Rattle.sector_disk.specs.Machine.{Moment, LeavesOnly, Utters}
 use Rattle.sector_disk.proofs.Moments.{then_on, leaves_more}
 use Rattle.sector_disk.proofs.Wear.{AllWorn-worn, worn_refl}
-use Rattle.fsd_files.specs.Answers.{Met}
 use Rattle.fsd_files.specs.Files.{Change}
 use Rattle.fsd_files.specs.Replies.{Reply}
 use Rattle.fsd_files.specs.Volume.{Volume}
@@ -25,7 +24,7 @@ use Rattle.fsd_texts.specs.declared.command.Command.{Command}
 use Rattle.fsd_texts.specs.declared.fault.Fault.{Fault}
 use Rattle.fsd_texts.specs.declared.fault.Fault.TheVariants as Ends
 use Rattle.fsd_runs.specs.Commands.{answer, reply_alone}
-use Rattle.fsd_runs.specs.Errands.{Errand, Turn, alone, generated, blank, reply_status}
+use Rattle.fsd_runs.specs.Errands.{Turn, alone, blank, reply_status}
 use Rattle.fsd_runs.specs.Runs.{changes_in}
 use Rattle.volume_turns.specs.declared.turns.End.{End}
 use Rattle.volume_turns.specs.declared.turns.End.TheVariants.{Fault as Stopped, Output}
@@ -38,6 +37,8 @@ use Rattle.volume_turns.specs.Steps.{Does, IsAnswered, Stays}
 use Rattle.volume_turns.specs.Turns.{Carries, InRun, EndsAtOnce, SaysAll, Unsaid, turn_by}
 use Rattle.volume_turns.proofs.TurnLaws.{in_part, in_saying_at, says_nothing}
 use Rattle.volume_turns.proofs.RunLaws.{before_it, behind_it, step_is, volume_is, reply_is}
+use Rattle.volume_turns.specs.Generate.{silent}
+use Rattle.volume_turns.proofs.CountLaws.{never}
 
 -- ---- the end of a volume
 
@@ -96,13 +97,6 @@ module _ {S D : Type 0} (state : S → State) (has : S → Mounted → List Plac
 
 -- ---- one command
 
--- an errand that forces nothing, for what doesn't depend on it
-abbrev plain : Errand
-plain = generated 0 0
-
-never : (met : Met) (v : Volume) (c : Command) → IsTrue (plain.forces (answer met v c).0) → (answer met v c).1.unforced ≡ 0
-never met v c is = cc is
-
 module _ {S D : Type 0} (state : S → State) (has : S → Mounted → List Placed → Type 0) (M : Ghosts D)
     (wears : (s : S) (k : Known) (old new : Moment) → AreShort old.windows → Ages old new → Stands state has s k old → Stands state has s k new)
     (short : (m : D) → M.honest m → AreShort (M.now m).windows)
@@ -113,7 +107,7 @@ module _ {S D : Type 0} (state : S → State) (has : S → Mounted → List Plac
   same = record { image = worn_refl (open_damage (M.now a).windows) (M.now a).image; windows = refl }
 
   before : (turns : List Turn) → LeavesOnly M.moment M.left_since a m (InRun k turns (M.now a))
-  before turns = before_it state has M wears short counts_now plain never command v w a m b k (M.now a) stood same stood fault disk layout honest since turns
+  before turns = before_it state has M wears short counts_now silent never command v w a m b k (M.now a) stood same stood fault disk layout honest since turns
 
   -- it was not answered
   pub alone_fault : is_worn (state v) ≡ false → (why : Fault) → Does state has command v w k (M.now a) (M.now m) (Err why) → IsAlone M command k a m (Err (Stopped why))
@@ -126,14 +120,14 @@ module _ {S D : Type 0} (state : S → State) (has : S → Mounted → List Plac
     abbrev turn : Turn
     turn = turn_by (alone command) k command is.met
 
-    carried : Carries k after (turn_by plain k command is.met)
-    carried = behind_it state has M wears short counts_now plain never command v w a m b k (M.now a) stood same stood fault disk layout honest since after reply is stands
+    carried : Carries k after (turn_by silent k command is.met)
+    carried = behind_it state has M wears short counts_now silent never command v w a m b k (M.now a) stood same stood fault disk layout honest since after reply is stands
 
     text_is : reply_alone reply ≡ turn.said
-    text_is = ap (λ (r : Reply). reply_alone r) (sym (reply_is state has M wears short counts_now plain never command v w a m b k (M.now a) stood same stood fault disk layout honest since after reply is stands))
+    text_is = ap (λ (r : Reply). reply_alone r) (sym (reply_is state has M wears short counts_now silent never command v w a m b k (M.now a) stood same stood fault disk layout honest since after reply is stands))
 
     volume_same : volume_of after ≡ (answer is.met (volume_of k) command).1
-    volume_same = volume_is state has M wears short counts_now plain never command v w a m b k (M.now a) stood same stood fault disk layout honest since after reply is stands
+    volume_same = volume_is state has M wears short counts_now silent never command v w a m b k (M.now a) stood same stood fault disk layout honest since after reply is stands
 
     on_close : (left : Moment) → InClose after (reply_alone reply) (M.now m) left → InRun k (turn ∷ []) (M.now a) left
     on_close left c = by c.heard refl
@@ -167,7 +161,7 @@ module _ {S D : Type 0} (state : S → State) (has : S → Mounted → List Plac
         }
 
     status_same : reply_status reply ≡ reply_status (answer is.met (volume_of k) command).0
-    status_same = ap (λ (r : Reply). reply_status r) (sym (reply_is state has M wears short counts_now plain never command v w a m b k (M.now a) stood same stood fault disk layout honest since after reply is stands))
+    status_same = ap (λ (r : Reply). reply_status r) (sym (reply_is state has M wears short counts_now silent never command v w a m b k (M.now a) stood same stood fault disk layout honest since after reply is stands))
 
     ended : (r : Result ℕ End) → IfOk r (λ status. status ≡ reply_status reply) → EndsClosed after (reply_alone reply) (M.now m) (M.now b) (unit_of r) → EndsAlone command k (is.met ∷ []) (M.now a) (M.now b) r
     ended (Ok status) gives c = (refl, gives ∙ status_same, done c)
@@ -177,7 +171,7 @@ module _ {S D : Type 0} (state : S → State) (has : S → Mounted → List Plac
     pub alone_answered : (r : Result ℕ End) → IfOk r (λ status. status ≡ reply_status reply) → ClosesAndSays M after (reply_alone reply) m b (unit_of r) → IsAlone M command k a b r
     alone_answered r gives c = record {
       mets = is.met ∷ [];
-      goes = λ t le. ((M.now m).image, step_is state has M wears short counts_now plain never command v w a m b k (M.now a) stood same stood fault disk layout honest since after reply is stands t le, tt);
+      goes = λ t le. ((M.now m).image, step_is state has M wears short counts_now silent never command v w a m b k (M.now a) stood same stood fault disk layout honest since after reply is stands t le, tt);
       moments = then_on M.moment M.left_since a m b (InRun k (turn ∷ []) (M.now a)) (before (turn ∷ [])) (leaves_more M.moment M.left_since m b (InClose after (reply_alone reply) (M.now m)) (InRun k (turn ∷ []) (M.now a)) on_close c.moments);
       ends = ended r gives c.ends;
     }

@@ -1,14 +1,17 @@
 -- What the order of refusals tells of a mount that is worn out.
 use Rattle.std.proofs.Common.{◌≡◌, inl, inr, ℕ, Bool, true, false, cond, List, [], ◌∷◌, length, Option, Some, None, refl, subst, ap}
-use Rattle.std.specs.Prelude.{IsTrue, IsFalse, option_map, is_none, not, nat_lt, ◌&&◌, ⊤}
+use Rattle.std.specs.Prelude.{IsTrue, IsFalse, option_map, is_none, not, nat_lt, ◌&&◌, ◌<◌, ◌≤◌, ⊤}
+use Rattle.std.proofs.lemmas.Bool.{ltb-false}
 use Rattle.fsd_bytes.specs.declared.refusal.Refusal.{Refusal}
 use Rattle.fsd_bytes.specs.declared.refusal.Refusal.TheVariants as Why
 use Rattle.run_table.specs.RunTable.{total}
-use Rattle.run_table.specs.Space.{best}
+use Rattle.run_table.specs.declared.run.Run.{Run}
+use Rattle.run_table.specs.Space.{best, pick}
+use Rattle.run_table.proofs.ChoiceLaws.{pick_none}
 use Rattle.fsd_formats.specs.NamePage.{max_keep, max_length}
 use Rattle.fsd_files.specs.Answers.{size_fault, least_pages}
 use Rattle.fsd_files.specs.Disk.{Sectors}
-use Rattle.volume_contract.specs.State.{State, forces_first, forces_for_place, in_place, is_worn, place_in}
+use Rattle.volume_contract.specs.State.{State, forces_first, forces_for_place, in_place, is_worn, or_freed, place_in}
 use Rattle.volume_contract.specs.Order.{Step, Test, Asks, Draw, Disk, Force, LookUp, Fetch, Data, IsDeviceIn, Comes, Refuses, Through, IsLookUp, IsFetch, IsLoss, IsDevice, down, worn, place, by_itself, table_full, no_place_in, runs_at}
 
 abbrev worn_test : Bool → Option Refusal
@@ -21,10 +24,6 @@ passes_worn false is = refl
 refuses_worn : (b : Bool) (why : Refusal) → worn_test b ≡ Some why → (why ≡ Why.WornOut) × IsTrue b
 refuses_worn true why is = (cc, refl)
 refuses_worn false why is = absurd (cc (is))
-
--- where it goes on to behind the test
-pub through_worn : (b : Bool) (rest : List Step) → Through (Test (worn_test b) ∷ rest) → IsFalse b
-through_worn b rest is = passes_worn b is.0
 
 pub past_worn : (b : Bool) (rest : List Step) (why : Refusal) → (why ≡ Why.WornOut → ⊥) → Comes (Test (worn_test b) ∷ rest) why → IsFalse b
 past_worn b rest why other (inl refuses) = absurd (other (refuses_worn b why refuses).0)
@@ -169,7 +168,7 @@ pub edit_never : (s : State) (why : Refusal) → IsOther why → Never why (edit
 edit_never s why o = let no_call = not_looked why o in (λ x. no_call.2 x.1, (no_call.0, (not_such why o, tt)))
 
 module _ (s : State) (up : s.down ≡ None) where
-  starts_up : (rest : List Step) (why : Refusal) → Comes (down s ∷ rest) why → Comes rest why
+  pub starts_up : (rest : List Step) (why : Refusal) → Comes (down s ∷ rest) why → Comes rest why
   starts_up rest why comes = past_test (option_map Why.Down s.down) rest why (ap (λ (o : Option ℕ). option_map Why.Down o) up) comes
 
   module _ (size : Option Refusal) (rest : List Step) (size_other : (why : Refusal) → IsOther why → size ≡ Some why → ⊥) (rest_other : (why : Refusal) → IsOther why → Never why rest) where
@@ -210,6 +209,27 @@ keep_fits false why is = refl
 pub fits_keep : (b : Bool) (why : Refusal) → cond b (Some why) None ≡ None → IsTrue (not b)
 fits_keep true why is = cc is
 fits_keep false why is = refl
+
+pub keep_small : (keep : ℕ) (b : Bool) (why : Refusal) → nat_lt max_keep keep ≡ b → cond b (Some why) None ≡ None → keep ≤ max_keep
+keep_small keep true why at is = absurd (cc is)
+keep_small keep false why at is = ltb-false max_keep keep at
+
+-- where no place is found, the longest runs don't suffice
+module _ (s : State) (need : ℕ) where
+  few : (o : Option (List Run)) → pick s.free need ≡ o → is_none (or_freed s need o) ≡ true → best (cond (is_none o && s.waits) s.freed s.free) < need
+  few (Some runs) at is = absurd (cc is)
+  few None at is = waited s.waits is
+    where
+      none : (o : Option (List Run)) → is_none o ≡ true → o ≡ None
+      none None e = refl
+      none (Some runs) e = absurd (cc e)
+
+      waited : (w : Bool) → is_none (cond w (pick s.freed need) None) ≡ true → best (cond w s.freed s.free) < need
+      waited true e = (pick_none s.freed need).0 (none (pick s.freed need) e)
+      waited false e = (pick_none s.free need).0 at
+
+  pub few_best : is_none (place_in s need) ≡ true → best (runs_at s need) < need
+  few_best is = few (pick s.free need) refl is
 
 -- a call without a test of a size
 abbrev pub delete_all : State → List Step

@@ -1,34 +1,30 @@
 -- The statuses of runs in which no call of the outside failed.
 use Rattle.std.proofs.Common.{◌≡◌, inl, inr, ℕ, Bool, true, false, refl, subst}
-use Rattle.std.specs.Prelude.{◌||◌, IsFalse, IsTrue}
-use Rattle.std.proofs.lemmas.Bool.{eqb-true}
+use Rattle.std.specs.Prelude.{IsFalse, IsTrue}
+use Rattle.std.proofs.lemmas.Bool.{eqb-true, or_left}
 use Rattle.fsd_texts.specs.declared.fault.Fault.{Fault}
 use Rattle.fsd_texts.specs.declared.fault.Fault.TheVariants as Ends
 use Rattle.fsd_runs.specs.Errands.{fault_status}
 use Rattle.volume_turns.specs.Line.{IsStatusAs, IsStatusFor, is_unsaid}
-use Rattle.volume_turns.specs.Status.{is_calm, is_quiet}
+use Rattle.volume_turns.specs.Status.{is_unfailed, is_quiet}
 
-or_left : (b c : Bool) → IsTrue b → IsTrue (b || c)
-or_left true c is = refl
-or_left false c is = absurd (cc is)
-
-pub quiet_calm : (status : ℕ) → IsTrue (is_quiet status) → IsTrue (is_calm status)
-quiet_calm status quiet = or_left (is_quiet status) _ quiet
+pub quiet_unfailed : (status : ℕ) → IsTrue (is_quiet status) → IsTrue (is_unfailed status)
+quiet_unfailed status quiet = or_left (is_quiet status) _ quiet
 
 -- a status that isn't one of these
-pub calm_not : (n status : ℕ) → IsFalse (is_calm n) → IsTrue (is_calm status) → status ≡ n → ⊥
-calm_not n status other calm at = let same : IsTrue (is_calm n) = subst (λ (x : ℕ). IsTrue (is_calm x)) at calm in cc (same, other)
+pub unfailed_not : (n status : ℕ) → IsFalse (is_unfailed n) → IsTrue (is_unfailed status) → status ≡ n → ⊥
+unfailed_not n status other unfailed at = let same : IsTrue (is_unfailed n) = subst (λ (x : ℕ). IsTrue (is_unfailed x)) at unfailed in cc (same, other)
 
 pub quiet_not : (n status : ℕ) → IsFalse (is_quiet n) → IsTrue (is_quiet status) → status ≡ n → ⊥
 quiet_not n status other quiet at = let same : IsTrue (is_quiet n) = subst (λ (x : ℕ). IsTrue (is_quiet x)) at quiet in cc (same, other)
 
 -- the output didn't fail
-pub calm_said : (status : ℕ) → IsTrue (is_calm status) → is_unsaid status ≡ false
-calm_said status calm = by (is_unsaid status) refl
+pub unfailed_said : (status : ℕ) → IsTrue (is_unfailed status) → is_unsaid status ≡ false
+unfailed_said status unfailed = by (is_unsaid status) refl
   where
     by : (b : Bool) → is_unsaid status ≡ b → b ≡ false
     by false is = refl
-    by true is = absurd (calm_not 6 status refl calm (eqb-true status 6 is))
+    by true is = absurd (unfailed_not 6 status refl unfailed (eqb-true status 6 is))
 
 -- the status of a line is the one that goes with it
 pub quiet_line : (gives status : ℕ) → IsStatusAs gives status → IsTrue (is_quiet status) → IsTrue (is_quiet gives)

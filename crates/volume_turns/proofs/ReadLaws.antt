@@ -59,9 +59,6 @@ record IsGot (key : Key) (file : Option File) (e : Option Entry) (i j : Image) (
   is : got key damaged file ≡ reply
   finds : IfSome e (λ x. Finds i j (range_sectors x.runs 0 x.length) damaged)
 
-min_both : (n : ℕ) → min (n - 0) n ≡ n
-min_both n = omega arith
-
 read_got : (key : Key) (file : Option File) (e : Option Entry) (i j : Image) (old new : List ℕ) (n : ℕ) → IfSome e (λ x. x.length ≡ length old) → Reads i j file e 0 old new (Ok n) → IsGot key file e i j (Reply.Bytes key new)
 read_got key None None i j old new n len reads = absurd reads
 read_got key None (Some e) i j old new n len reads = absurd reads

@@ -28,9 +28,10 @@ use Rattle.volume_turns.specs.declared.script.Stop.{Stop}
 use Rattle.volume_turns.specs.declared.script.Stop.TheVariants.{Ended, Input, WornOut}
 use Rattle.volume_turns.specs.Script.{DoneSo, Heard, Reads, RoseBy, Spells}
 use Rattle.volume_turns.specs.Steps.{StaysSound}
-use Rattle.volume_turns.specs.Turns.{Behind, EndsBy, Follows, InRun, Runs, RunsFrom, Said, StandsBehind, Steps, Told, Unheard, device_end}
+use Rattle.volume_turns.specs.Turns.{Behind, EndsBy, Follows, InRun, Runs, RunsFrom, Said, StandsBehind, Steps, Told, device_end}
 use Rattle.volume_turns.proofs.RunLaws.{follows_then, runs_nil, runs_stop, runs_then}
 use Rattle.volume_turns.proofs.TurnLaws.{in_before, said_nothing}
+use Rattle.volume_turns.proofs.CountLaws.{unheard_on}
 
 -- ---- a read in front of a run
 
@@ -226,17 +227,12 @@ module _ {S D : Type 0} (state : S → State) (has : S → Mounted → List Plac
 
 -- ---- what is counted
 
-unheard_then : {T : Type 0} (a b c : Report) → b.output_faults ≡ a.output_faults → (r : Result T End) → Unheard b c r → Unheard a c r
-unheard_then a b c same (Err Output) rose = omega (arith, same, rose)
-unheard_then a b c same (Err (Stopped fault)) is = is ∙ same
-unheard_then a b c same (Ok u) is = is ∙ same
-
 pub heard_then : {T U : Type 0} (a b c : Report) (u : U) (r : Result T End) → Heard {T = U} a b (Ok u) → Heard {T = T} b c r → Heard {T = T} a c r
 heard_then a b c u r x y = record {
   sectors = y.sectors ∙ x.sectors;
   disk = faults_then (device_end r) a b c x.disk y.disk;
   later = let p = x.later in let q = y.later in omega (arith, p, q);
-  output = unheard_then a b c x.output r y.output;
+  output = unheard_on a b c x.output r y.output;
 }
 
 pub heard_of : {T : Type 0} (a b : Report) (r : Result T End) → Told {T = T} a b r → Heard {T = T} a b r

@@ -28,10 +28,10 @@ use Rattle.volume_turns.specs.Causes.{FailsInput}
 use Rattle.volume_turns.specs.Line.{IsStatusAs, IsStatusFor, is_unsaid}
 use Rattle.volume_turns.specs.Once.{fault_of}
 use Rattle.volume_turns.specs.Script.{Heard}
-use Rattle.volume_turns.specs.Status.{CountsRun, CountsTaking, IsMadeStatus, IsOneStatus, IsPutStatus, IsScriptStatus, IsStatusBroken, IsStatusFrom, is_calm, is_quiet}
+use Rattle.volume_turns.specs.Status.{CountsRun, CountsTaking, IsMadeStatus, IsOneStatus, IsPutStatus, IsScriptStatus, IsStatusBroken, IsStatusFrom, is_unfailed, is_quiet}
 use Rattle.volume_turns.specs.Steps.{IsOfCall, IsOfVolume, device_told, ended_by, read_ended_by, reply_of}
 use Rattle.volume_turns.specs.Turns.{Told}
-use Rattle.volume_turns.proofs.QuietLaws.{calm_not, calm_said, fault_not_quiet, quiet_calm, quiet_line, quiet_not}
+use Rattle.volume_turns.proofs.QuietLaws.{unfailed_not, unfailed_said, fault_not_quiet, quiet_unfailed, quiet_line, quiet_not}
 
 -- ---- replies
 
@@ -81,7 +81,7 @@ look_up_ends P why r is refuses = subst (λ (x : Result Answer Fault). IfOk x P)
     by Why.Memory refuses = tt
     by w refuses = absurd refuses
 
-loss_looks : (why : Refusal) → IsLoss why → IsLookUp why
+pub loss_looks : (why : Refusal) → IsLoss why → IsLookUp why
 loss_looks (Why.Device s) is = tt
 loss_looks (Why.Lost x y) is = tt
 loss_looks why is = absurd is
@@ -173,6 +173,26 @@ fault_some Ends.InputTooLong is = omega (arith, is)
 fault_some Ends.Memory is = omega (arith, is)
 fault_some Ends.WornOut is = omega (arith, is)
 
+fault_above : (why : Fault) → 2 ≤ fault_status why
+fault_above Ends.NotVolume = omega arith
+fault_above (Ends.Lost x y) = omega arith
+fault_above Ends.NoAnchor = omega arith
+fault_above (Ends.Unsound s) = omega arith
+fault_above (Ends.Device s) = omega arith
+fault_above Ends.Input = omega arith
+fault_above Ends.InputTooLong = omega arith
+fault_above Ends.Memory = omega arith
+fault_above Ends.WornOut = omega arith
+
+-- none of a fault is that of a reply which is no damage
+pub as_not_low : (gives status : ℕ) → 2 ≤ gives → IsStatusAs gives status → status ≤ 1 → ⊥
+as_not_low gives status above (inl is) low = omega (arith, is, low, above)
+as_not_low gives status above (inr (inl seven)) low = omega (arith, seven, low)
+as_not_low gives status above (inr (inr six)) low = omega (arith, six, low)
+
+pub fault_not_low : (why : Fault) (status : ℕ) → IsStatusFor why status → status ≤ 1 → ⊥
+fault_not_low why status for low = as_not_low (fault_status why) status (fault_above why) for low
+
 pub fault_not_zero : (why : Fault) (status : ℕ) → IsStatusFor why status → status ≡ 0 → ⊥
 fault_not_zero why status for zero = not_as 0 (fault_status why) status (fault_some why) (λ e. omega (arith, e)) (λ e. omega (arith, e)) for zero
 
@@ -195,15 +215,15 @@ module _ (a m b : Report) (status : ℕ) (spares : SparesDisk false (is_unsaid s
       let rose : Rose m.output_faults b.output_faults = subst (λ (c : Bool). Counts c m.output_faults b.output_faults) (eq-eqb status 6 six) spares.output in
       omega (arith, later, rose)
 
-  output_calm : m.output_faults ≡ a.output_faults → IsTrue (is_calm status) → b.output_faults ≡ a.output_faults
-  output_calm same calm = subst (λ (c : Bool). Counts c m.output_faults b.output_faults) (calm_said status calm) spares.output ∙ same
+  output_unfailed : m.output_faults ≡ a.output_faults → IsTrue (is_unfailed status) → b.output_faults ≡ a.output_faults
+  output_unfailed same unfailed = subst (λ (c : Bool). Counts c m.output_faults b.output_faults) (unfailed_said status unfailed) spares.output ∙ same
 
   -- a fault of the disk has another status
-  disk_calm : (why : Fault) → DiskFaults (device_told why) a m → IsStatusFor why status → IsTrue (is_calm status) → b.disk_faults ≡ a.disk_faults
-  disk_calm (Ends.Device s) disk (inl four) calm = absurd (calm_not 4 status refl calm four)
-  disk_calm (Ends.Device s) disk (inr (inl seven)) calm = absurd (calm_not 7 status refl calm seven)
-  disk_calm (Ends.Device s) disk (inr (inr six)) calm = absurd (calm_not 6 status refl calm six)
-  disk_calm why disk for calm = spares.disk ∙ disk.0
+  disk_unfailed : (why : Fault) → DiskFaults (device_told why) a m → IsStatusFor why status → IsTrue (is_unfailed status) → b.disk_faults ≡ a.disk_faults
+  disk_unfailed (Ends.Device s) disk (inl four) unfailed = absurd (unfailed_not 4 status refl unfailed four)
+  disk_unfailed (Ends.Device s) disk (inr (inl seven)) unfailed = absurd (unfailed_not 7 status refl unfailed seven)
+  disk_unfailed (Ends.Device s) disk (inr (inr six)) unfailed = absurd (unfailed_not 6 status refl unfailed six)
+  disk_unfailed why disk for unfailed = spares.disk ∙ disk.0
 
   pub fault_counts : {T : Type 0} (why : Fault) → Told {T = T} a m (Err (Stopped why)) → IsStatusFor why status → CountsRun a b status
   fault_counts why told for = record {
@@ -211,7 +231,7 @@ module _ (a m b : Report) (status : ℕ) (spares : SparesDisk false (is_unsaid s
     disk = λ four. disk_counted why told.disk four for;
     input = spares.input ∙ told.input;
     output = output_counted told.later;
-    quiet = λ calm. record { disk = disk_calm why told.disk for calm; input = spares.input ∙ told.input; output = output_calm told.output calm };
+    quiet = λ unfailed. record { disk = disk_unfailed why told.disk for unfailed; input = spares.input ∙ told.input; output = output_unfailed told.output unfailed };
   }
 
   -- a last line behind what went well
@@ -221,7 +241,7 @@ module _ (a m b : Report) (status : ℕ) (spares : SparesDisk false (is_unsaid s
     disk = λ four. absurd (not_as 4 gives status other (λ e. omega (arith, e)) (λ e. omega (arith, e)) kind four);
     input = spares.input ∙ told.input;
     output = output_counted told.later;
-    quiet = λ calm. record { disk = spares.disk ∙ told.disk.0; input = spares.input ∙ told.input; output = output_calm told.output calm };
+    quiet = λ unfailed. record { disk = spares.disk ∙ told.disk.0; input = spares.input ∙ told.input; output = output_unfailed told.output unfailed };
   }
 
   -- the same of a script
@@ -230,7 +250,7 @@ module _ (a m b : Report) (status : ℕ) (spares : SparesDisk false (is_unsaid s
     sectors = spares.sectors ∙ heard.sectors;
     disk = λ four. disk_counted why heard.disk four for;
     quiet = λ quiet. absurd (fault_not_quiet why status for quiet);
-    calm = λ calm. record { disk = disk_calm why heard.disk for calm; output = output_calm heard.output calm };
+    unfailed = λ unfailed. record { disk = disk_unfailed why heard.disk for unfailed; output = output_unfailed heard.output unfailed };
     output = output_counted heard.later;
   }
 
@@ -238,8 +258,8 @@ module _ (a m b : Report) (status : ℕ) (spares : SparesDisk false (is_unsaid s
   script_line_counts stop gives other same heard kind = record {
     sectors = spares.sectors ∙ heard.sectors;
     disk = λ four. absurd (not_as 4 gives status other (λ e. omega (arith, e)) (λ e. omega (arith, e)) kind four);
-    quiet = λ quiet. record { disk = spares.disk ∙ heard.disk.0; input = spares.input ∙ same (quiet_line gives status kind quiet); output = output_calm heard.output (quiet_calm status quiet) };
-    calm = λ calm. record { disk = spares.disk ∙ heard.disk.0; output = output_calm heard.output calm };
+    quiet = λ quiet. record { disk = spares.disk ∙ heard.disk.0; input = spares.input ∙ same (quiet_line gives status kind quiet); output = output_unfailed heard.output (quiet_unfailed status quiet) };
+    unfailed = λ unfailed. record { disk = spares.disk ∙ heard.disk.0; output = output_unfailed heard.output unfailed };
     output = output_counted heard.later;
   }
 
@@ -249,12 +269,12 @@ counts_taken takes a m b status none read counts = record {
   sectors = counts.sectors ∙ read.sectors;
   disk = λ four. subst (λ (n : ℕ). Rose n b.disk_faults) read.disk (counts.disk four);
   output = λ six. subst (λ (n : ℕ). Rose n b.output_faults) read.output (counts.output six);
-  quiet = λ quiet. let same = counts.quiet (quiet_calm status quiet) in record {
+  quiet = λ quiet. let same = counts.quiet (quiet_unfailed status quiet) in record {
     disk = same.disk ∙ read.disk;
     input = same.input ∙ subst (λ (c : Bool). Counts c a.input_faults m.input_faults) none read.input;
     output = same.output ∙ read.output;
   };
-  calm = λ calm. let same = counts.quiet calm in record { disk = same.disk ∙ read.disk; output = same.output ∙ read.output };
+  unfailed = λ unfailed. let same = counts.quiet unfailed in record { disk = same.disk ∙ read.disk; output = same.output ∙ read.output };
 }
 
 pub counts_untaken : (takes : Bool) (a m b : Report) (status : ℕ) (why : Fault) → (fault_status why ≡ 4 → ⊥) → SparesDisk takes false a m → SparesDisk false (is_unsaid status) m b → IsStatusFor why status → CountsTaking a b status
@@ -262,19 +282,19 @@ counts_untaken takes a m b status why other read spares for = record {
   sectors = spares.sectors ∙ read.sectors;
   disk = λ four. absurd (not_as 4 (fault_status why) status other (λ e. omega (arith, e)) (λ e. omega (arith, e)) for four);
   quiet = λ quiet. absurd (fault_not_quiet why status for quiet);
-  calm = λ calm. record {
+  unfailed = λ unfailed. record {
     disk = spares.disk ∙ read.disk;
-    output = subst (λ (c : Bool). Counts c m.output_faults b.output_faults) (calm_said status calm) spares.output ∙ read.output;
+    output = subst (λ (c : Bool). Counts c m.output_faults b.output_faults) (unfailed_said status unfailed) spares.output ∙ read.output;
   };
   output = λ six. subst (λ (n : ℕ). Rose n b.output_faults) read.output (subst (λ (c : Bool). Counts c m.output_faults b.output_faults) (eq-eqb status 6 six) spares.output);
 }
 
 -- where the output failed
 pub unsaid_counts : {T : Type 0} (a b : Report) → Told {T = T} a b (Err Output) → CountsRun a b 6
-unsaid_counts a b told = record { sectors = told.sectors; disk = λ four. absurd (omega (arith, four)); input = told.input; output = λ six. told.output; quiet = λ calm. absurd (calm_not 6 6 refl calm refl) }
+unsaid_counts a b told = record { sectors = told.sectors; disk = λ four. absurd (omega (arith, four)); input = told.input; output = λ six. told.output; quiet = λ unfailed. absurd (unfailed_not 6 6 refl unfailed refl) }
 
 pub script_unsaid_counts : (a b : Report) → Heard {T = Stop} a b (Err Output) → CountsTaking a b 6
-script_unsaid_counts a b heard = record { sectors = heard.sectors; disk = λ four. absurd (omega (arith, four)); output = λ six. heard.output; quiet = λ quiet. absurd (quiet_not 6 6 refl quiet refl); calm = λ calm. absurd (calm_not 6 6 refl calm refl) }
+script_unsaid_counts a b heard = record { sectors = heard.sectors; disk = λ four. absurd (omega (arith, four)); output = λ six. heard.output; quiet = λ quiet. absurd (quiet_not 6 6 refl quiet refl); unfailed = λ unfailed. absurd (unfailed_not 6 6 refl unfailed refl) }
 
 -- where a reply is said
 pub counts_said : (command : Command) (a b : Report) (status : ℕ) → IsStatusFrom command status → Told {T = ℕ} a b (Ok status) → CountsRun a b status
@@ -283,12 +303,12 @@ counts_said command a b status from told = record {
   disk = λ four. absurd (from_not 4 command status (omega arith) (λ e. omega (arith, e)) from four);
   input = told.input;
   output = λ six. absurd (from_not 6 command status (omega arith) (λ e. omega (arith, e)) from six);
-  quiet = λ calm. record { disk = told.disk.0; input = told.input; output = told.output };
+  quiet = λ unfailed. record { disk = told.disk.0; input = told.input; output = told.output };
 }
 
 -- where all is done
 pub script_done_counts : (stop : Stop) (a b : Report) → Heard {T = Stop} a b (Ok stop) → b.input_faults ≡ a.input_faults → CountsTaking a b 0
-script_done_counts stop a b heard same = record { sectors = heard.sectors; disk = λ four. absurd (omega (arith, four)); output = λ six. absurd (omega (arith, six)); quiet = λ quiet. record { disk = heard.disk.0; input = same; output = heard.output }; calm = λ calm. record { disk = heard.disk.0; output = heard.output } }
+script_done_counts stop a b heard same = record { sectors = heard.sectors; disk = λ four. absurd (omega (arith, four)); output = λ six. absurd (omega (arith, six)); quiet = λ quiet. record { disk = heard.disk.0; input = same; output = heard.output }; unfailed = λ unfailed. record { disk = heard.disk.0; output = heard.output } }
 
 -- ---- the input
 
@@ -341,7 +361,7 @@ counts_after a m b status uses none counts = record {
   disk = λ four. subst (λ (n : ℕ). Rose n b.disk_faults) none.0 (counts.disk four);
   input = counts.input ∙ uses.input;
   output = λ six. subst (λ (n : ℕ). Rose n b.output_faults) uses.output (counts.output six);
-  quiet = λ calm. let same = counts.quiet calm in record { disk = same.disk ∙ none.0; input = same.input ∙ uses.input; output = same.output ∙ uses.output };
+  quiet = λ unfailed. let same = counts.quiet unfailed in record { disk = same.disk ∙ none.0; input = same.input ∙ uses.input; output = same.output ∙ uses.output };
 }
 
 pub script_counts_after : (a m b : Report) (status : ℕ) → UsesDisk a m → DiskFaults None a m → CountsTaking m b status → CountsTaking a b status
@@ -350,7 +370,7 @@ script_counts_after a m b status uses none counts = record {
   disk = λ four. subst (λ (n : ℕ). Rose n b.disk_faults) none.0 (counts.disk four);
   output = λ six. subst (λ (n : ℕ). Rose n b.output_faults) uses.output (counts.output six);
   quiet = λ quiet. let same = counts.quiet quiet in record { disk = same.disk ∙ none.0; input = same.input ∙ uses.input; output = same.output ∙ uses.output };
-  calm = λ calm. let same = counts.calm calm in record { disk = same.disk ∙ none.0; output = same.output ∙ uses.output };
+  unfailed = λ unfailed. let same = counts.unfailed unfailed in record { disk = same.disk ∙ none.0; output = same.output ∙ uses.output };
 }
 
 -- a run that takes no input has no fault of it
@@ -359,8 +379,8 @@ script_counts a b status counts = record {
   sectors = counts.sectors;
   disk = counts.disk;
   output = counts.output;
-  quiet = λ quiet. counts.quiet (quiet_calm status quiet);
-  calm = λ calm. let same = counts.quiet calm in record { disk = same.disk; output = same.output };
+  quiet = λ quiet. counts.quiet (quiet_unfailed status quiet);
+  unfailed = λ unfailed. let same = counts.quiet unfailed in record { disk = same.disk; output = same.output };
 }
 
 of_mount : (fault : MountFault) → IsOfVolume (fault_of fault)
@@ -396,9 +416,3 @@ mount_counts a m b status spares fault uses faults for =
     }) for
 
 -- ---- what is written
-
-pub ledger_then : (a b c : Ledger) → OnlyWrites a b → OnlyWrites b c → OnlyWrites a c
-ledger_then a b c first then = record { input = then.input ∙ first.input; attaches = then.attaches ∙ first.attaches }
-
-pub ledger_same : (a b c : Ledger) → OnlyWrites a b → c ≡ b → OnlyWrites a c
-ledger_same a b c first is = subst (OnlyWrites a) (sym is) first

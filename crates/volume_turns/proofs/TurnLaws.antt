@@ -199,9 +199,6 @@ in_saying k after t rest c old left windows sound heard said = in_saying_at k af
 
 -- ---- one turn, and those behind it
 
-any_at : (t : Turn) (turns : List Turn) → Bool
-any_at t turns = list_any (λ u. u.forces) (t ∷ turns)
-
 pub forced_none : (turns : List Turn) → IsFalse (list_any (λ u. u.forces) turns) → forced_in turns ≡ 0
 forced_none [] none = refl
 forced_none (t ∷ turns) none = ap (λ (b : Bool). cond b (length t.changes + forced_in turns) 0) none

@@ -36,7 +36,6 @@ use Rattle.volume_contract.specs.State.{State, Known, Stands, forced_of, volume_
 use Rattle.volume_turns.specs.declared.turns.End.TheVariants.{Fault as Stopped}
 use Rattle.volume_turns.specs.Line.{EndsWith, UttersFault, is_unsaid}
 use Rattle.volume_turns.specs.Once.{fault_of}
-use Rattle.volume_turns.specs.Steps.{device_told}
 use Rattle.volume_turns.specs.Turns.{EndsAtOnce, InRun, SaysAll, Told}
 use Rattle.volume_turns.specs.Whole.{Halted, RunsOut, SaysOut}
 use Rattle.volume_turns.proofs.HaltLaws.{broken_ends, broken_moments}
@@ -44,6 +43,7 @@ use Rattle.volume_turns.proofs.LineLaws.{excused, said_ends}
 use Rattle.volume_turns.proofs.MountLaws.{before_left, known_length, nothing_said, run_left, since_left, sound_to, starts}
 use Rattle.volume_turns.proofs.RunLaws.{told_fault}
 use Rattle.volume_turns.proofs.TurnLaws.{in_before}
+use Rattle.volume_turns.proofs.StatusLaws.{same_device}
 
 -- what was said before the mount is all that was said until it had settled
 broken_on_said : (a b : Report) (request : Request) (turns : List Turn) (old mid new : Moment) (status : ℕ) → mid.said ≡ old.said → IsBroken request a b turns mid new status → IsBroken request a b turns old new status
@@ -169,16 +169,6 @@ module _ {D : Type 0} (M : Ghosts D) (request : Request) (input rest : List ℕ)
 
 -- ---- it was not
 
--- the place of the disk that a mount's fault tells
-device_is : (fault : MountFault) → device_of_mount fault ≡ device_told (fault_of fault)
-device_is Refused.NotVolume = refl
-device_is Refused.NoAnchor = refl
-device_is (Refused.Lost a b) = refl
-device_is (Refused.Unsound s) = refl
-device_is (Refused.Device s) = refl
-device_is Refused.Memory = refl
-device_is Refused.WornOut = refl
-
 at_once : (fault : MountFault) → Excuses fault → EndsAtOnce (fault_of fault)
 at_once (Refused.Device s) is = tt
 at_once Refused.Memory is = tt
@@ -191,7 +181,7 @@ module _ {S D : Type 0} (state : S → State) (has : S → Mounted → List Plac
   why = fault_of fault
 
   told_is : Told {T = Unit {0}} (M.report a) (M.report m) (Err (Stopped why))
-  told_is = told_fault (M.report a) (M.report m) why uses (subst (λ (o : Option ℕ). DiskFaults o (M.report a) (M.report m)) (device_is fault) faults)
+  told_is = told_fault (M.report a) (M.report m) why uses (subst (λ (o : Option ℕ). DiskFaults o (M.report a) (M.report m)) (same_device fault) faults)
 
   outside : (said : Fault) → EndsAtOnce said → said ≡ why → IsOutside request (M.report a) (M.report b) said
   outside (Ends.Device s) once is =

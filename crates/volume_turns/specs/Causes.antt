@@ -1,5 +1,5 @@
 -- What the status of a run tells of the image that it found, and of its input, whatever these were.
-use Rattle.std.specs.Prelude.{◌≡◌, ◌⊎◌, ◌<◌, ◌==◌, ℕ, Bool, List, [], ◌∷◌, ◌++◌, length, IfSome, IsTrue}
+use Rattle.std.specs.Prelude.{◌≡◌, ◌⊎◌, ◌<◌, ◌==◌, ℕ, Bool, true, false, List, [], ◌∷◌, ◌++◌, length, IfSome, IsTrue}
 use Rattle.std.specs.List.{list_any}
 use Rattle.volume_layout.specs.declared.layout.Layout.{Layout}
 use Rattle.sector_disk.specs.Image.{IsWorn, open_damage}
@@ -12,16 +12,19 @@ use Rattle.fsd_sound.specs.Writes.{MountKeeps}
 use Rattle.fsd_sound.specs.declared.fault.MountFault.{MountFault}
 use Rattle.fsd_sound.specs.declared.fault.MountFault.TheVariants.{WornOut}
 use Rattle.fsd_texts.specs.declared.fault.Fault.{Fault}
+use Rattle.fsd_texts.specs.declared.fault.Fault.TheVariants as Ends
 use Rattle.fsd_texts.specs.declared.bad_line.BadLine.{BadLine}
 use Rattle.fsd_texts.specs.declared.end.End.TheVariants.{Bad}
 use Rattle.fsd_texts.specs.declared.line.Line.TheVariants as Says
 use Rattle.fsd_texts.specs.Script.{max_input, script_in}
 use Rattle.fsd_texts.specs.Text.{fault_text, text}
+use Rattle.fsd_runs.specs.Commands.{reply_text}
 use Rattle.fsd_runs.specs.Errands.{fault_status}
 use Rattle.volume_contract.specs.Mount.{IsRefused, KeepsAll, UnsoundFor}
 use Rattle.volume_contract.specs.State.{Ages}
 use Rattle.volume_turns.specs.Once.{fault_of}
 use Rattle.volume_turns.specs.Steps.{IsOfImage, device_told}
+use Rattle.volume_turns.specs.Turns.{SaysReplies}
 
 -- ---- it was mounted
 
@@ -40,7 +43,7 @@ is_of_mounted status = list_any (λ s. s == status) (0 ∷ 1 ∷ 2 ∷ 5 ∷ 8 �
 -- ---- it was refused
 
 -- The mount was refused for this fault: the image was so, as it was seen, and what is lost or unsound was so as the mount ended. What
--- is refused before anything is written stays as it was, and a mount writes only where it may.
+-- is refused before anything is written stays as it was, and a mount writes only where it may. Its line is all that is said.
 pub record IsMountRefused (sectors : ℕ) (why : Fault) (old new : Moment) : Type 0 where
   pub fault : MountFault
   pub is : why ≡ fault_of fault
@@ -51,22 +54,29 @@ pub record IsMountRefused (sectors : ℕ) (why : Fault) (old new : Moment) : Typ
   pub unsound : UnsoundFor sectors old ended fault
   pub kept : KeepsAll fault old ended
   pub rest : MountKeeps sectors old ended
+  pub said : new.said ≡ old.said ++ fault_text why
 
 -- The image was mounted, and a call of the volume told this of it.
 pub record IsCallRefused (sectors : ℕ) (why : Fault) (old : Moment) : Type 0 where
   pub mounted : HasVolume sectors old
   pub of : IsOfImage why
 
+-- what a run has said in front of its last line: whole replies, where it is a script, and else nothing
+abbrev pub StandsBefore : (script : Bool) → (said front : List ℕ) → Type 0
+StandsBefore true said front = SaysReplies reply_text said front
+StandsBefore false said front = front ≡ said
+
 -- the last line that is said is this fault's, and its status is 3
-pub record SaysOfImage (why : Fault) (new : Moment) : Type 0 where
+pub record SaysOfImage (script : Bool) (before : List ℕ) (why : Fault) (new : Moment) : Type 0 where
   pub status : fault_status why ≡ 3
   pub front : List ℕ
+  pub behind : StandsBefore script before front
   pub said : new.said ≡ front ++ fault_text why
 
 -- A fault of the image is said last, and has its cause.
-pub record SaysCause (sectors : ℕ) (old new : Moment) : Type 0 where
+pub record SaysCause (script : Bool) (sectors : ℕ) (old new : Moment) : Type 0 where
   pub why : Fault
-  pub says : SaysOfImage why new
+  pub says : SaysOfImage script old.said why new
   pub cause : IsMountRefused sectors why old new ⊎ IsCallRefused sectors why old
 
 -- it was mounted, or the mount was refused for an epoch that was seen to be the last one
@@ -75,17 +85,17 @@ IsSpent sectors old = HasVolume sectors old ⊎ IsRefused sectors WornOut old
 
 -- ---- all of these
 
--- What a run tells of the image that it found, by its status.
-pub record TellsImage (sectors : ℕ) (old new : Moment) (status : ℕ) : Type 0 where
+-- What a run tells of the image that it found, by its status, and whether it is a script.
+pub record TellsImage (script : Bool) (sectors : ℕ) (old new : Moment) (status : ℕ) : Type 0 where
   pub mounted : IsTrue (is_of_mounted status) → HasVolume sectors old
-  pub refused : status ≡ 3 → SaysCause sectors old new
+  pub refused : status ≡ 3 → SaysCause script sectors old new
   pub spent : status ≡ 9 → IsSpent sectors old
 
 -- Over a mounted volume: status 3 is that of a fault that a call told.
-pub record SaysOfCall (new : Moment) : Type 0 where
+pub record SaysOfCall (script : Bool) (before : List ℕ) (new : Moment) : Type 0 where
   pub why : Fault
   pub of : IsOfImage why
-  pub says : SaysOfImage why new
+  pub says : SaysOfImage script before why new
 
 -- ---- the fault that is said
 
@@ -106,6 +116,19 @@ pub record SaysFault (place : ℕ) (new : Moment) (status : ℕ) : Type 0 where
 -- a fault of the input is counted, or it has more bytes than a run takes
 abbrev pub FailsInput : List ℕ → (old new : Report) → Type 0
 FailsInput input old new = Rose old.input_faults new.input_faults ⊎ (max_input < length input)
+
+-- this fault of the input was so: one was counted, or it has more bytes than a run takes
+abbrev pub IsOfInput : Fault → List ℕ → (old new : Report) → Type 0
+IsOfInput Ends.Input input old new = Rose old.input_faults new.input_faults
+IsOfInput Ends.InputTooLong input old new = max_input < length input
+IsOfInput fault input old new = ⊥
+
+-- A fault of the input was so, and its line is said last.
+pub record SaysOfInput (input : List ℕ) (old new : Report) (now : Moment) : Type 0 where
+  pub why : Fault
+  pub cause : IsOfInput why input old new
+  pub front : List ℕ
+  pub said : now.said ≡ front ++ fault_text why
 
 -- A line of the script is outside the grammar, and this is said last.
 pub record SaysBadLine (input : List ℕ) (new : Moment) : Type 0 where

@@ -1,3 +1,4 @@
+pub mod Answering
 pub mod Causes
 pub mod Generate
 pub mod Group

@@ -61,8 +61,8 @@ abbrev pub is_quiet : ℕ → Bool
 is_quiet status = list_any (λ s. s == status) (0 ∷ 1 ∷ 2 ∷ 8 ∷ [])
 
 -- these, and those of a fault that was found in the volume, or of one that is worn out
-abbrev pub is_calm : ℕ → Bool
-is_calm status = is_quiet status || list_any (λ s. s == status) (3 ∷ 9 ∷ [])
+abbrev pub is_unfailed : ℕ → Bool
+is_unfailed status = is_quiet status || list_any (λ s. s == status) (3 ∷ 9 ∷ [])
 
 -- A run that takes no input: where its status tells a fault of the disk or of the output, this is counted, and where it tells no call
 -- of the outside none is.
@@ -71,7 +71,7 @@ pub record CountsRun (old new : Report) (status : ℕ) : Type 0 where
   pub disk : status ≡ 4 → Rose old.disk_faults new.disk_faults
   pub input : new.input_faults ≡ old.input_faults
   pub output : status ≡ 6 → Rose old.output_faults new.output_faults
-  pub quiet : IsTrue (is_calm status) → CountsNone old new
+  pub quiet : IsTrue (is_unfailed status) → CountsNone old new
 
 -- One that takes the input: so it is of the disk and the output. A fault found in the volume may end one whose input has failed.
 pub record CountsTaking (old new : Report) (status : ℕ) : Type 0 where
@@ -79,4 +79,4 @@ pub record CountsTaking (old new : Report) (status : ℕ) : Type 0 where
   pub disk : status ≡ 4 → Rose old.disk_faults new.disk_faults
   pub output : status ≡ 6 → Rose old.output_faults new.output_faults
   pub quiet : IsTrue (is_quiet status) → CountsNone old new
-  pub calm : IsTrue (is_calm status) → CountsInput old new
+  pub unfailed : IsTrue (is_unfailed status) → CountsInput old new

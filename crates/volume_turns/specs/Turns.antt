@@ -1,11 +1,12 @@
 -- Commands one after another over a mounted volume, each with its reply said: what a stop leaves, and how they end.
 use Rattle.std.specs.Prelude.{◌≡◌, ⊤, ℕ, suc, ◌+◌, ◌≤◌, List, ◌∷◌, ◌++◌, length, take, slice_get, Option, None, Result, Ok, Err, IsTrue}
 use Rattle.fsd_log.specs.Scan.{Placed}
-use Rattle.std.specs.List.{list_any}
+use Rattle.std.specs.List.{flat_map, list_any}
 use Rattle.sector_disk.specs.declared.machine.Machine.{Ghosts}
 use Rattle.sector_disk.specs.Machine.{Moment, Report, Rose, LeavesOnly, Wears}
 use Rattle.fsd_files.specs.Answers.{Met}
 use Rattle.fsd_files.specs.Disk.{Image, in_runs}
+use Rattle.fsd_files.specs.Replies.{Reply}
 use Rattle.fsd_files.specs.Volume.{Volume}
 use Rattle.fsd_sound.specs.Mounted.{Mounted}
 use Rattle.fsd_sound.specs.Sound.{IsSound}
@@ -139,6 +140,35 @@ module _ {S : Type 0} (state : S → State) (has : S → Mounted → List Placed
   abbrev pub Steps : {D : Type 0} → (M : Ghosts D) → Errand → Command → (old : S) → (a : D) → (new : S) → (b : D) → Result (Unit {0}) End → Type 0
   Steps M e command old a new b result =
       M.honest b → (k : Known) (from : Moment) → Stands state has old k from → Ages from (M.now a) → StepsBy M e k from command a b new result
+
+-- ---- what is said over any image
+
+-- replies are said, each whole, and no more
+abbrev pub SaysReplies : (says : Reply → List ℕ) → (before after : List ℕ) → Type 0
+SaysReplies says before after = (replies : List Reply) × (after ≡ before ++ flat_map says replies)
+
+-- so it is in front of a fault
+abbrev pub EndsWhole : (says : Reply → List ℕ) → (old new : Moment) → End → Type 0
+EndsWhole says old new (Stopped why) = SaysReplies says old.said new.said
+EndsWhole says old new Output = ⊤
+
+abbrev pub BreaksWhole : {T : Type 0} → (says : Reply → List ℕ) → (old new : Moment) → Result T End → Type 0
+BreaksWhole says old new (Ok x) = ⊤
+BreaksWhole says old new (Err end) = EndsWhole says old new end
+
+-- and where all went well
+abbrev pub SaysWhole : {T : Type 0} → (says : Reply → List ℕ) → (old new : Moment) → Result T End → Type 0
+SaysWhole says old new (Ok x) = SaysReplies says old.said new.said
+SaysWhole says old new (Err end) = EndsWhole says old new end
+
+-- nothing is said in front of a fault
+abbrev pub KeepsEnd : (old new : Moment) → End → Type 0
+KeepsEnd old new (Stopped why) = new.said ≡ old.said
+KeepsEnd old new Output = ⊤
+
+abbrev pub KeepsSaid : {T : Type 0} → (old new : Moment) → Result T End → Type 0
+KeepsSaid old new (Ok x) = ⊤
+KeepsSaid old new (Err end) = KeepsEnd old new end
 
 -- ---- what is counted
 

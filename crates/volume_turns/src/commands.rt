@@ -6,6 +6,7 @@ ghost use Rattle.fsd_texts.specs.declared.command.Command.TheVariants as Word;
 ghost use Rattle.fsd_runs.specs.Errands.{reply_status};
 ghost use Rattle.sector_disk.specs.Calls.{OnlyReads, WritesDisk};
 ghost use Rattle.volume_contract.specs.State.{Known, Stands, volume_of};
+ghost use Rattle.volume_turns.specs.Answering.{Answers};
 ghost use Rattle.volume_turns.specs.Status.{IsStatusFrom};
 ghost use Rattle.volume_turns.specs.Steps.{Does, IsOfCall, Stays, device_by, reply_of};
 
@@ -32,6 +33,7 @@ pub(crate) fn put<M: Machine, V: Files<M>>(
     ensures disk { WritesDisk M.Machine (device_by result) (Stays V.state V.holds v.old) m.old m.new }
     ensures fault { IfErr result IsOfCall }
     ensures status { IfOk result (λ a. reply_status (reply_of a) ≤ 1) }
+    ensures answers { M.honest m.new → Answers (Word.Put name.now bytes.now keep) (V.state v.old) (V.state v.new) (M.now m.old) (M.now m.new) result }
     ensures done { M.honest m.new → (k : Known) → Stands V.state V.holds v.old k (M.now m.old) →
         Does V.state V.holds (Word.Put name.now bytes.now keep) v.old v.new k (M.now m.old) (M.now m.new) result }
 {
@@ -57,6 +59,7 @@ pub(crate) fn delete<M: Machine, V: Files<M>>(
     ensures disk { WritesDisk M.Machine (device_by result) (Stays V.state V.holds v.old) m.old m.new }
     ensures fault { IfErr result IsOfCall }
     ensures status { IfOk result (λ a. reply_status (reply_of a) ≤ 1) }
+    ensures answers { M.honest m.new → Answers (Word.Delete key.now) (V.state v.old) (V.state v.new) (M.now m.old) (M.now m.new) result }
     ensures done { M.honest m.new → (k : Known) → Stands V.state V.holds v.old k (M.now m.old) →
         Does V.state V.holds (Word.Delete key.now) v.old v.new k (M.now m.old) (M.now m.new) result }
 {
@@ -80,6 +83,7 @@ pub(crate) fn set_keep<M: Machine, V: Files<M>>(
     ensures disk { WritesDisk M.Machine (device_by result) (Stays V.state V.holds v.old) m.old m.new }
     ensures fault { IfErr result IsOfCall }
     ensures status { IfOk result (λ a. reply_status (reply_of a) ≤ 1) }
+    ensures answers { M.honest m.new → Answers (Word.Keep name.now keep) (V.state v.old) (V.state v.new) (M.now m.old) (M.now m.new) result }
     ensures done { M.honest m.new → (k : Known) → Stands V.state V.holds v.old k (M.now m.old) →
         Does V.state V.holds (Word.Keep name.now keep) v.old v.new k (M.now m.old) (M.now m.new) result }
 {
@@ -98,6 +102,7 @@ pub(crate) fn force<M: Machine, V: Files<M>>(v: &mut V, m: &mut M) -> Result<Ans
     ensures disk { WritesDisk M.Machine (device_by result) (Stays V.state V.holds v.old) m.old m.new }
     ensures fault { IfErr result IsOfCall }
     ensures status { IfOk result (λ a. reply_status (reply_of a) ≡ 0) }
+    ensures answers { M.honest m.new → Answers Word.Force (V.state v.old) (V.state v.new) (M.now m.old) (M.now m.new) result }
     ensures done { M.honest m.new → (k : Known) → Stands V.state V.holds v.old k (M.now m.old) →
         Does V.state V.holds Word.Force v.old v.new k (M.now m.old) (M.now m.new) result }
 {
@@ -116,6 +121,7 @@ pub(crate) fn tick<M: Machine, V: Files<M>>(v: &mut V, m: &mut M) -> Result<Answ
     ensures disk { WritesDisk M.Machine (device_by result) (Stays V.state V.holds v.old) m.old m.new }
     ensures fault { IfErr result IsOfCall }
     ensures status { IfOk result (λ a. reply_status (reply_of a) ≡ 0) }
+    ensures answers { M.honest m.new → Answers Word.Tick (V.state v.old) (V.state v.new) (M.now m.old) (M.now m.new) result }
     ensures done { M.honest m.new → (k : Known) → Stands V.state V.holds v.old k (M.now m.old) →
         Does V.state V.holds Word.Tick v.old v.new k (M.now m.old) (M.now m.new) result }
 {
@@ -139,6 +145,7 @@ pub(crate) fn get<M: Machine, V: Files<M>>(
     ensures disk { WritesDisk M.Machine (device_by result) (Stays V.state V.holds v.old) m.old m.new }
     ensures fault { IfErr result IsOfCall }
     ensures status { IfOk result (λ a. IsStatusFrom (Word.Get key.now) (reply_status (reply_of a))) }
+    ensures answers { M.honest m.new → Answers (Word.Get key.now) (V.state v.old) (V.state v.new) (M.now m.old) (M.now m.new) result }
     ensures done { M.honest m.new → (k : Known) → Stands V.state V.holds v.old k (M.now m.old) →
         Does V.state V.holds (Word.Get key.now) v.old v.new k (M.now m.old) (M.now m.new) result }
 {
@@ -163,6 +170,7 @@ fn read_whole<M: Machine, V: Files<M>>(
     ensures disk { OnlyReads M.Machine (device_by result) m.old m.new }
     ensures fault { IfErr result IsOfCall }
     ensures status { IfOk result (λ a. IsStatusFrom (Word.Get key.now) (reply_status (reply_of a))) }
+    ensures answers { M.honest m.new → Answers (Word.Get key.now) (V.state v.old) (V.state v.new) (M.now m.old) (M.now m.new) result }
     ensures done { M.honest m.new → (k : Known) → Stands V.state V.holds v.old k (M.now m.old) → IfSome (entry_of key.now (volume_of k).entries) (λ e. e.length ≡ length) →
         Does V.state V.holds (Word.Get key.now) v.old v.new k (M.now m.old) (M.now m.new) result }
 {
@@ -192,6 +200,7 @@ pub(crate) fn answer<M: Machine, V: Files<M>>(
     ensures disk { WritesDisk M.Machine (device_by result) (Stays V.state V.holds v.old) m.old m.new }
     ensures fault { IfErr result IsOfCall }
     ensures status { IfOk result (λ a. IsStatusFrom c.now (reply_status (reply_of a))) }
+    ensures answers { M.honest m.new → Answers c.now (V.state v.old) (V.state v.new) (M.now m.old) (M.now m.new) result }
     ensures done { M.honest m.new → (k : Known) → Stands V.state V.holds v.old k (M.now m.old) →
         Does V.state V.holds c.now v.old v.new k (M.now m.old) (M.now m.new) result }
 {
@@ -213,6 +222,7 @@ fn count<M: Machine, V: Files<M>>(v: &mut V, m: &mut M) -> Result<Answer, Fault>
     ensures disk { WritesDisk M.Machine (device_by result) (Stays V.state V.holds v.old) m.old m.new }
     ensures fault { IfErr result IsOfCall }
     ensures status { IfOk result (λ a. reply_status (reply_of a) ≡ 0) }
+    ensures answers { M.honest m.new → Answers Word.Stat (V.state v.old) (V.state v.new) (M.now m.old) (M.now m.new) result }
     ensures done { M.honest m.new → (k : Known) → Stands V.state V.holds v.old k (M.now m.old) →
         Does V.state V.holds Word.Stat v.old v.new k (M.now m.old) (M.now m.new) result }
 {

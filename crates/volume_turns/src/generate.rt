@@ -1,5 +1,5 @@
 //! Commands that are made up, from the mount to the line that tells what came of them.
-ghost use Rattle.std.specs.Prelude.{◌≡◌, ◌≤◌, ◌<◌, ◌+◌, ◌^◌, ◌-◌, ℕ, List, None, OnOk, IfErr, IfOk, IfSome, IsTrue};
+ghost use Rattle.std.specs.Prelude.{◌≡◌, ◌≤◌, ◌<◌, ◌+◌, ◌^◌, ◌-◌, ℕ, List, None, false, OnOk, IfErr, IfOk, IfSome, IsTrue};
 ghost use Rattle.sector_disk.specs.declared.sector.WeakRun.{WeakRun};
 ghost use Rattle.sector_disk.specs.Calls.{Since};
 ghost use Rattle.sector_disk.specs.Machine.{LeavesOnly, OnlyWrites, Trusts};
@@ -16,7 +16,7 @@ ghost use Rattle.volume_turns.specs.Generate.{CountedGroup, Draws, RunsCounted, 
 ghost use Rattle.volume_turns.specs.Once.{ClosesAndSays, unit_of};
 ghost use Rattle.volume_turns.specs.Status.{CountsRun, IsMadeStatus};
 ghost use Rattle.volume_turns.specs.Tally.{nothing};
-ghost use Rattle.volume_turns.specs.Turns.{IsEndOfVolume, Told};
+ghost use Rattle.volume_turns.specs.Turns.{IsEndOfVolume, KeepsSaid, Told};
 ghost use Rattle.volume_turns.specs.Whole.{RunsOut};
 
 use crate::commands;
@@ -51,6 +51,7 @@ fn do_counted<M: Machine, V: Files<M>>(
     ensures since { M.honest m.new → Since M.Machine m.old m.new }
     ensures later { M.honest m.new → M.moment m.old ≤ M.moment m.new }
     ensures counts { IfOk result (λ t. t.count ≡ tally.now.count + 1) }
+    ensures quiet { M.honest m.new → (M.now m.new).said ≡ (M.now m.old).said }
     ensures steps { StepsCounted V.state V.holds M.Machine c.now v.old m.old v.new m.new tally.now result }
 {
     match commands::answer(alloc, v, m, c) {
@@ -82,6 +83,7 @@ fn draw<M: Machine, V: Files<M>>(
     ensures since { M.honest m.new → Since M.Machine m.old m.new }
     ensures later { M.honest m.new → M.moment m.old ≤ M.moment m.new }
     ensures counts { IfOk result (λ o. IfSome o (λ t. t.count ≡ tally.now.count + 1)) }
+    ensures quiet { M.honest m.new → (M.now m.new).said ≡ (M.now m.old).said }
     ensures draws { Draws V.state V.holds M.Machine maker.old maker.new v.old m.old v.new m.new tally.now result }
 {
     match maker.next_command(alloc) {
@@ -111,6 +113,7 @@ fn make_up<M: Machine, V: Files<M>>(
     ensures trust { Trusts (M.tells m.old) (M.tells m.new) (M.honest m.old) (M.honest m.new) }
     ensures since { M.honest m.new → Since M.Machine m.old m.new }
     ensures later { M.honest m.new → M.moment m.old ≤ M.moment m.new }
+    ensures quiet { M.honest m.new → (M.now m.new).said ≡ (M.now m.old).said }
     ensures runs { RunsCounted V.state V.holds M.Machine (made_up seed count) v.old m.old v.new m.new nothing result }
 {
     let mut maker = Maker::new(seed, count);
@@ -138,6 +141,7 @@ pub(crate) fn close_forced<M: Machine, V: Files<M>>(
     ensures trust { Trusts (M.tells m.old) (M.tells m.new) (M.honest m.old) (M.honest m.new) }
     ensures since { M.honest m.new → Since M.Machine m.old m.new }
     ensures later { M.honest m.new → M.moment m.old ≤ M.moment m.new }
+    ensures quiet { M.honest m.new → KeepsSaid (M.now m.old) (M.now m.new) result }
     ensures closes { M.honest m.new → (k : Known) → Stands V.state V.holds v k (M.now m.old) → ClosesAndSays M.Machine k forced_turn.said m.old m.new result }
 {
     match v.close(m) {
@@ -161,6 +165,7 @@ fn force_behind<M: Machine, V: Files<M>>(
     ensures since { M.honest m.new → Since M.Machine m.old m.new }
     ensures later { M.honest m.new → M.moment m.old ≤ M.moment m.new }
     ensures same { IfOk result (λ x. x ≡ tally) }
+    ensures quiet { M.honest m.new → KeepsSaid (M.now m.old) (M.now m.new) result }
     ensures closes { M.honest m.new → (k : Known) → Stands V.state V.holds v k (M.now m.old) → ClosesAndSays M.Machine k forced_turn.said m.old m.new (unit_of result) }
 {
     match close_forced(alloc, v, m) {
@@ -185,6 +190,7 @@ fn make_group<M: Machine, V: Files<M> + Drop>(
     ensures trust { Trusts (M.tells m.old) (M.tells m.new) (M.honest m.old) (M.honest m.new) }
     ensures since { M.honest m.new → Since M.Machine m.old m.new }
     ensures later { M.honest m.new → M.moment m.old ≤ M.moment m.new }
+    ensures quiet { M.honest m.new → KeepsSaid (M.now m.old) (M.now m.new) result }
     ensures group { M.honest m.new → (k : Known) → Stands V.state V.holds v k (M.now m.old) → CountedGroup M.Machine k (made_up seed count) m.old m.new result }
 {
     let mut v = v;
@@ -215,7 +221,7 @@ fn generate_on<M: Machine, V: Files<M> + Drop>(
     ensures counts { CountsRun (M.report m.old) (M.report m.new) result }
     ensures trust { Trusts (M.tells m.old) (M.tells m.new) (M.honest m.old) (M.honest m.new) }
     ensures since { M.honest m.new → Since M.Machine m.old m.new }
-    ensures says { result ≡ 3 → M.honest m.new → SaysOfCall (M.now m.new) }
+    ensures says { result ≡ 3 → M.honest m.new → SaysOfCall false (M.now m.old).said (M.now m.new) }
     ensures last { IsTrue (is_of_fault result) → M.honest m.new → SaysFault (M.report m.new).fault_place (M.now m.new) result }
     ensures runs { M.honest m.new → (input rest : List ℕ) (k : Known) → Stands V.state V.holds v k (M.now m.old) → RunsOut M.Machine (Generate seed count) input rest (M.report m.old) k m.old m.new result }
 {
@@ -241,7 +247,7 @@ pub fn run_generate<M: Machine, V: Files<M> + Drop>(
     ensures status { IsMadeStatus result }
     ensures counts { CountsRun (M.report m.old) (M.report m.new) result }
     ensures trust { Trusts (M.tells m.old) (M.tells m.new) (M.honest m.old) (M.honest m.new) }
-    ensures image { M.honest m.new → TellsImage sectors (M.now m.old) (M.now m.new) result }
+    ensures image { M.honest m.new → TellsImage false sectors (M.now m.old) (M.now m.new) result }
     ensures last { IsTrue (is_of_fault result) → M.honest m.new → SaysFault (M.report m.new).fault_place (M.now m.new) result }
     ensures leaves { M.honest m.new → (input rest : List ℕ) (l : Plan) (windows : List WeakRun) (h : List Change) (f : ℕ) → IsSoundAt sectors l windows h f (M.now m.old) →
         LeavesRun (Generate seed count) input rest l windows h f (M.left_since m.new) (LeavesOnly M.moment M.left_since m.old m.new) (M.report m.old) (M.report m.new) (M.now m.old) (M.now m.new) result }

@@ -2,16 +2,18 @@
 ghost use Rattle.std.specs.Prelude.{◌≡◌, ◌≤◌, ◌<◌, ℕ, List, [], None, Option, false, length, IsTrue};
 ghost use Rattle.sector_disk.specs.declared.sector.WeakRun.{WeakRun};
 ghost use Rattle.sector_disk.specs.Calls.{Since};
-ghost use Rattle.sector_disk.specs.Machine.{LeavesOnly, OnlyWrites, Trusts};
+ghost use Rattle.sector_disk.specs.Machine.{LeavesOnly, OnlyWrites, Report, Trusts};
 ghost use Rattle.volume_layout.specs.declared.layout.Layout.{Layout as Plan};
 ghost use Rattle.fsd_files.specs.Files.{Change};
+ghost use Rattle.fsd_texts.specs.declared.command.Command.TheVariants as Word;
 ghost use Rattle.fsd_texts.specs.Script.{max_input};
 ghost use Rattle.fsd_runs.specs.Commands.{reply_alone};
 ghost use Rattle.fsd_runs.specs.Leaves.{LeavesRun};
 ghost use Rattle.fsd_runs.specs.declared.request.Request.TheVariants.{Put};
 ghost use Rattle.volume_contract.specs.Mount.{IsSoundAt};
 ghost use Rattle.volume_contract.specs.State.{Known, Stands, is_worn, volume_of};
-ghost use Rattle.volume_turns.specs.Causes.{FailsInput, SaysFault, SaysOfCall, TellsImage, is_of_fault};
+ghost use Rattle.volume_turns.specs.Answering.{SaysNoReply, SaysOne};
+ghost use Rattle.volume_turns.specs.Causes.{FailsInput, SaysFault, SaysOfCall, SaysOfInput, TellsImage, is_of_fault};
 ghost use Rattle.volume_turns.specs.Status.{CountsRun, CountsTaking, IsPutStatus};
 ghost use Rattle.volume_turns.specs.Whole.{RunsOut};
 
@@ -31,12 +33,14 @@ fn refuse_input<M: Machine, V: Files<M>>(alloc: Global, v: V, m: &mut M) -> u8
     requires room { (V.state v).layout.sectors ≤ (M.report m.old).sectors }
     ensures ledger { M.tells m.new → OnlyWrites (M.ledger m.old) (M.ledger m.new) }
     ensures status { IsPutStatus result }
-    ensures unmade { result ≡ 0 → ⊥ }
+    ensures unmade { result ≤ 1 → ⊥ }
     ensures counts { CountsRun (M.report m.old) (M.report m.new) result }
     ensures trust { Trusts (M.tells m.old) (M.tells m.new) (M.honest m.old) (M.honest m.new) }
     ensures since { M.honest m.new → Since M.Machine m.old m.new }
-    ensures says { result ≡ 3 → M.honest m.new → SaysOfCall (M.now m.new) }
+    ensures says { result ≡ 3 → M.honest m.new → SaysOfCall false (M.now m.old).said (M.now m.new) }
     ensures last { IsTrue (is_of_fault result) → M.honest m.new → SaysFault (M.report m.new).fault_place (M.now m.new) result }
+    ensures fault { M.honest m.new → SaysNoReply (M.now m.old) (M.now m.new) result }
+    ensures long { result ≡ 5 → M.honest m.new → (input : List ℕ) (old new : Report) → max_input < length input → SaysOfInput input old new (M.now m.new) }
     ensures runs { M.honest m.new → (name : List ℕ) (keep : Option ℕ) (input rest : List ℕ) (k : Known) → max_input < length input → (volume_of k).unforced ≡ 0 → Stands V.state V.holds v k (M.now m.old) →
         RunsOut M.Machine (Put name keep) input rest (M.report m.old) k m.old m.new result }
 {
@@ -62,11 +66,14 @@ fn put_on<M: Machine, V: Files<M> + Drop, T: Says>(
     ensures status { IsPutStatus result }
     ensures counts { CountsTaking (M.report m.old) (M.report m.new) result }
     ensures input { result ≡ 5 → M.tells m.new → FailsInput (M.ledger m.old).input (M.report m.old) (M.report m.new) }
-    ensures whole { result ≡ 0 → M.tells m.new → (M.ledger m.new).input ≡ [] }
+    ensures fails { result ≡ 5 → M.honest m.new → SaysOfInput (M.ledger m.old).input (M.report m.old) (M.report m.new) (M.now m.new) }
+    ensures whole { result ≤ 1 → M.tells m.new → (M.ledger m.new).input ≡ [] }
+    ensures few { result ≤ 1 → M.tells m.new → length (M.ledger m.old).input ≤ max_input }
     ensures trust { Trusts (M.tells m.old) (M.tells m.new) (M.honest m.old) (M.honest m.new) }
     ensures since { M.honest m.new → Since M.Machine m.old m.new }
-    ensures says { result ≡ 3 → M.honest m.new → SaysOfCall (M.now m.new) }
+    ensures says { result ≡ 3 → M.honest m.new → SaysOfCall false (M.now m.old).said (M.now m.new) }
     ensures last { IsTrue (is_of_fault result) → M.honest m.new → SaysFault (M.report m.new).fault_place (M.now m.new) result }
+    ensures one { M.honest m.new → (V.state v).dirty ≡ [] → SaysOne (Word.Put name (M.ledger m.old).input keep) (M.now m.old) (M.now m.new) result }
     ensures runs { M.honest m.new → (k : Known) → (volume_of k).unforced ≡ 0 → Stands V.state V.holds v k (M.now m.old) →
         RunsOut M.Machine (Put name keep) (M.ledger m.old).input (M.ledger m.new).input (M.report m.old) k m.old m.new result }
 {
@@ -93,10 +100,13 @@ pub fn run_put<M: Machine, V: Files<M> + Drop, T: Says>(
     ensures status { IsPutStatus result }
     ensures counts { CountsTaking (M.report m.old) (M.report m.new) result }
     ensures input { result ≡ 5 → M.tells m.new → FailsInput (M.ledger m.old).input (M.report m.old) (M.report m.new) }
-    ensures whole { result ≡ 0 → M.tells m.new → (M.ledger m.new).input ≡ [] }
+    ensures fails { result ≡ 5 → M.honest m.new → SaysOfInput (M.ledger m.old).input (M.report m.old) (M.report m.new) (M.now m.new) }
+    ensures whole { result ≤ 1 → M.tells m.new → (M.ledger m.new).input ≡ [] }
+    ensures few { result ≤ 1 → M.tells m.new → length (M.ledger m.old).input ≤ max_input }
     ensures trust { Trusts (M.tells m.old) (M.tells m.new) (M.honest m.old) (M.honest m.new) }
-    ensures image { M.honest m.new → TellsImage sectors (M.now m.old) (M.now m.new) result }
+    ensures image { M.honest m.new → TellsImage false sectors (M.now m.old) (M.now m.new) result }
     ensures last { IsTrue (is_of_fault result) → M.honest m.new → SaysFault (M.report m.new).fault_place (M.now m.new) result }
+    ensures one { M.honest m.new → SaysOne (Word.Put name (M.ledger m.old).input keep) (M.now m.old) (M.now m.new) result }
     ensures leaves { M.honest m.new → (l : Plan) (windows : List WeakRun) (h : List Change) (f : ℕ) → IsSoundAt sectors l windows h f (M.now m.old) →
         LeavesRun (Put name keep) (M.ledger m.old).input (M.ledger m.new).input l windows h f (M.left_since m.new) (LeavesOnly M.moment M.left_since m.old m.new) (M.report m.old) (M.report m.new) (M.now m.old) (M.now m.new) result }
 {

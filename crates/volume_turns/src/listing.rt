@@ -6,6 +6,7 @@ ghost use Rattle.sector_disk.specs.Calls.{OnlyReads, WritesDisk, device_in};
 ghost use Rattle.volume_contract.specs.Ends.{Looks, device_of};
 ghost use Rattle.volume_contract.specs.Order.{Follows, IsLookUp, next_steps};
 ghost use Rattle.volume_contract.specs.State.{Known, Stands, volume_of};
+ghost use Rattle.volume_turns.specs.Answering.{Answers};
 ghost use Rattle.volume_turns.specs.Listing.{IsFromOutside, fitting};
 ghost use Rattle.fsd_runs.specs.Errands.{reply_status};
 ghost use Rattle.volume_turns.specs.Steps.{Does, IsOfCall, Stays, device_by, reply_of};
@@ -94,6 +95,7 @@ pub(crate) fn list<M: Machine, V: Files<M>>(
     ensures disk { WritesDisk M.Machine (device_by result) (Stays V.state V.holds v.old) m.old m.new }
     ensures fault { IfErr result IsOfCall }
     ensures status { IfOk result (λ a. reply_status (reply_of a) ≡ 0) }
+    ensures answers { M.honest m.new → Answers (Word.List pattern.now) (V.state v.old) (V.state v.new) (M.now m.old) (M.now m.new) result }
     ensures done { M.honest m.new → (k : Known) → Stands V.state V.holds v.old k (M.now m.old) →
         Does V.state V.holds (Word.List pattern.now) v.old v.new k (M.now m.old) (M.now m.new) result }
 {

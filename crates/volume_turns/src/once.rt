@@ -8,6 +8,7 @@ ghost use Rattle.fsd_runs.specs.Commands.{reply_alone};
 ghost use Rattle.fsd_runs.specs.Errands.{reply_status};
 ghost use Rattle.sector_disk.specs.Calls.{Since};
 ghost use Rattle.volume_contract.specs.Mount.{IsSoundAt};
+ghost use Rattle.volume_turns.specs.Answering.{AnswersAlone, ClosesBy};
 ghost use Rattle.volume_turns.specs.Once.{ClosesAndSays, IsAlone, close_fault, fault_of, unit_of};
 ghost use Rattle.volume_turns.specs.Status.{IsStatusFrom};
 ghost use Rattle.volume_contract.specs.State.{Known, Stands, is_worn, volume_of};
@@ -49,6 +50,7 @@ pub(crate) fn close_and_say<M: Machine, V: Files<M>, T: Says>(
     ensures fault { IfErr result IsEndOfVolume }
     ensures since { M.honest m.new → Since M.Machine m.old m.new }
     ensures later { M.honest m.new → M.moment m.old ≤ M.moment m.new }
+    ensures closing { M.honest m.new → ClosesBy (V.state v) (T.errand.says (reply_of answer.now)) (M.now m.old) (M.now m.new) result }
     ensures closes { M.honest m.new → (k : Known) → Stands V.state V.holds v k (M.now m.old) → ClosesAndSays M.Machine k (T.errand.says (reply_of answer.now)) m.old m.new result }
 {
     match v.close(m) {
@@ -83,6 +85,7 @@ fn close_as<M: Machine, V: Files<M>, T: Says>(
     ensures fault { IfErr result IsEndOfVolume }
     ensures since { M.honest m.new → Since M.Machine m.old m.new }
     ensures later { M.honest m.new → M.moment m.old ≤ M.moment m.new }
+    ensures closing { M.honest m.new → ClosesBy (V.state v) (T.errand.says (reply_of answer.now)) (M.now m.old) (M.now m.new) (unit_of result) }
     ensures closes { M.honest m.new → (k : Known) → Stands V.state V.holds v k (M.now m.old) → ClosesAndSays M.Machine k (T.errand.says (reply_of answer.now)) m.old m.new (unit_of result) }
 {
     match close_and_say::<M, V, T>(alloc, v, m, answer) {
@@ -109,6 +112,7 @@ pub fn alone<M: Machine, V: Files<M> + Drop, T: Says>(
     ensures status { IfOk result (IsStatusFrom c.now) }
     ensures since { M.honest m.new → Since M.Machine m.old m.new }
     ensures later { M.honest m.new → M.moment m.old ≤ M.moment m.new }
+    ensures answers { M.honest m.new → AnswersAlone c.now (V.state v) (M.now m.old) (M.now m.new) result }
     ensures does { M.honest m.new → (k : Known) → (volume_of k).unforced ≡ 0 → Stands V.state V.holds v k (M.now m.old) → IsAlone M.Machine c.now k m.old m.new result }
 {
     let mut v = v;

@@ -1,5 +1,5 @@
 //! A script, from the mount to the last line.
-ghost use Rattle.std.specs.Prelude.{◌≡◌, ◌≤◌, ◌+◌, List, [], ℕ, None, Ok, OnErr, OnOk, IfErr, IfOk, IsTrue, Some};
+ghost use Rattle.std.specs.Prelude.{◌≡◌, ◌≤◌, ◌+◌, List, [], ℕ, None, true, Ok, OnErr, OnOk, IfErr, IfOk, IsTrue, Some};
 ghost use Rattle.sector_disk.specs.Calls.{Since};
 ghost use Rattle.sector_disk.specs.Machine.{LeavesOnly, OnlyWrites, Trusts};
 ghost use Rattle.sector_disk.specs.declared.sector.WeakRun.{WeakRun};
@@ -16,13 +16,13 @@ ghost use Rattle.fsd_texts.specs.Script.{max_input, script_in};
 ghost use Rattle.fsd_runs.specs.Commands.{answer, reply_text};
 ghost use Rattle.fsd_runs.specs.Errands.{forced_turn, is_forced};
 ghost use Rattle.volume_contract.specs.State.{Known, Stands};
-ghost use Rattle.volume_turns.specs.Causes.{FailsInput, SaysBadLine, SaysFault, SaysOfCall, TellsImage, is_of_fault};
+ghost use Rattle.volume_turns.specs.Causes.{FailsInput, SaysBadLine, SaysFault, SaysOfCall, SaysOfInput, TellsImage, is_of_fault};
 ghost use Rattle.volume_turns.specs.Once.{ClosesAndSays, unit_of};
 ghost use Rattle.volume_turns.specs.Status.{CountsTaking, IsScriptStatus};
 ghost use Rattle.fsd_texts.specs.declared.end.End.{End as EndOf};
 ghost use Rattle.fsd_texts.specs.declared.end.End.TheVariants.{Done};
 ghost use Rattle.volume_turns.specs.declared.script.Stop.TheVariants.{Ended};
-ghost use Rattle.volume_turns.specs.Turns.{IsEndOfVolume, Told};
+ghost use Rattle.volume_turns.specs.Turns.{BreaksWhole, IsEndOfVolume, KeepsSaid, SaysWhole, Told};
 ghost use Rattle.volume_turns.specs.Script.{GoesOn, GroupsBy, Heard, Reads, RoseBy, WholeRead};
 
 use crate::generate::close_forced;
@@ -67,6 +67,7 @@ fn read_on<M: Machine, V: Files<M>, T: Says>(
     ensures trust { Trusts (M.tells m.old) (M.tells m.new) (M.honest m.old) (M.honest m.new) }
     ensures since { M.honest m.new → Since M.Machine m.old m.new }
     ensures later { M.honest m.new → M.moment m.old ≤ M.moment m.new }
+    ensures whole_replies { M.honest m.new → SaysWhole T.errand.says (M.now m.old) (M.now m.new) result }
     ensures on { IfOk result (GoesOn reader.old reader.new) }
     ensures few { reader.new.end ≡ None → reader.new.taken ≤ max_input }
     ensures whole { result ≡ Ok (Some (Ended Done)) → reader.old.end ≡ None → M.tells m.new → (M.ledger m.new).input ≡ [] }
@@ -103,6 +104,7 @@ fn read_all<M: Machine, V: Files<M>, T: Says>(
     ensures trust { Trusts (M.tells m.old) (M.tells m.new) (M.honest m.old) (M.honest m.new) }
     ensures since { M.honest m.new → Since M.Machine m.old m.new }
     ensures later { M.honest m.new → M.moment m.old ≤ M.moment m.new }
+    ensures whole_replies { M.honest m.new → SaysWhole T.errand.says (M.now m.old) (M.now m.new) result }
     ensures whole { result ≡ Ok (Ended Done) → M.tells m.new → (M.ledger m.new).input ≡ [] }
     ensures reads { M.tells m.new → WholeRead V.state V.holds M.Machine T.errand v.old m.old v.new m.new result }
 {
@@ -134,6 +136,7 @@ fn group_read<M: Machine, V: Files<M> + Drop, T: Says>(
     ensures trust { Trusts (M.tells m.old) (M.tells m.new) (M.honest m.old) (M.honest m.new) }
     ensures since { M.honest m.new → Since M.Machine m.old m.new }
     ensures later { M.honest m.new → M.moment m.old ≤ M.moment m.new }
+    ensures broken { M.honest m.new → BreaksWhole T.errand.says (M.now m.old) (M.now m.new) result }
     ensures group { M.honest m.new → (k : Known) → Stands V.state V.holds v k (M.now m.old) → GroupsBy M.Machine T.errand k (M.ledger m.old).input (M.ledger m.new).input m.old m.new result }
 {
     let mut v = v;
@@ -164,6 +167,7 @@ fn force_read<M: Machine, V: Files<M>>(
     ensures since { M.honest m.new → Since M.Machine m.old m.new }
     ensures later { M.honest m.new → M.moment m.old ≤ M.moment m.new }
     ensures same { IfOk result (λ x. x ≡ stop) }
+    ensures quiet { M.honest m.new → KeepsSaid (M.now m.old) (M.now m.new) result }
     ensures closes { M.honest m.new → (k : Known) → Stands V.state V.holds v k (M.now m.old) → ClosesAndSays M.Machine k forced_turn.said m.old m.new (unit_of result) }
 {
     match close_forced(alloc, v, m) {
@@ -183,12 +187,13 @@ fn script_on<M: Machine, V: Files<M> + Drop, T: Says>(alloc: Global, v: V, m: &m
     ensures status { IsScriptStatus result }
     ensures counts { CountsTaking (M.report m.old) (M.report m.new) result }
     ensures input { result ≡ 5 → M.tells m.new → FailsInput (M.ledger m.old).input (M.report m.old) (M.report m.new) }
+    ensures fails { result ≡ 5 → M.honest m.new → SaysOfInput (M.ledger m.old).input (M.report m.old) (M.report m.new) (M.now m.new) }
     ensures whole { result ≡ 0 → M.tells m.new → (M.ledger m.new).input ≡ [] }
     ensures spelled { result ≡ 0 → M.tells m.new → (script_in (M.ledger m.old).input).1 ≡ Done }
     ensures bad { result ≡ 2 → M.honest m.new → SaysBadLine (M.ledger m.old).input (M.now m.new) }
     ensures trust { Trusts (M.tells m.old) (M.tells m.new) (M.honest m.old) (M.honest m.new) }
     ensures since { M.honest m.new → Since M.Machine m.old m.new }
-    ensures says { result ≡ 3 → M.honest m.new → SaysOfCall (M.now m.new) }
+    ensures says { result ≡ 3 → M.honest m.new → SaysOfCall true (M.now m.old).said (M.now m.new) }
     ensures last { IsTrue (is_of_fault result) → M.honest m.new → SaysFault (M.report m.new).fault_place (M.now m.new) result }
     ensures runs { M.honest m.new → (k : Known) → Stands V.state V.holds v k (M.now m.old) → RunsOut M.Machine Script (M.ledger m.old).input (M.ledger m.new).input (M.report m.old) k m.old m.new result }
 {
@@ -220,11 +225,12 @@ pub fn run_script<M: Machine, V: Files<M> + Drop, T: Says>(
     ensures status { IsScriptStatus result }
     ensures counts { CountsTaking (M.report m.old) (M.report m.new) result }
     ensures input { result ≡ 5 → M.tells m.new → FailsInput (M.ledger m.old).input (M.report m.old) (M.report m.new) }
+    ensures fails { result ≡ 5 → M.honest m.new → SaysOfInput (M.ledger m.old).input (M.report m.old) (M.report m.new) (M.now m.new) }
     ensures whole { result ≡ 0 → M.tells m.new → (M.ledger m.new).input ≡ [] }
     ensures spelled { result ≡ 0 → M.tells m.new → (script_in (M.ledger m.old).input).1 ≡ Done }
     ensures bad { result ≡ 2 → M.honest m.new → SaysBadLine (M.ledger m.old).input (M.now m.new) }
     ensures trust { Trusts (M.tells m.old) (M.tells m.new) (M.honest m.old) (M.honest m.new) }
-    ensures image { M.honest m.new → TellsImage sectors (M.now m.old) (M.now m.new) result }
+    ensures image { M.honest m.new → TellsImage true sectors (M.now m.old) (M.now m.new) result }
     ensures last { IsTrue (is_of_fault result) → M.honest m.new → SaysFault (M.report m.new).fault_place (M.now m.new) result }
     ensures leaves { M.honest m.new → (l : Plan) (windows : List WeakRun) (h : List Change) (f : ℕ) → IsSoundAt sectors l windows h f (M.now m.old) →
         LeavesRun Script (M.ledger m.old).input (M.ledger m.new).input l windows h f (M.left_since m.new) (LeavesOnly M.moment M.left_since m.old m.new) (M.report m.old) (M.report m.new) (M.now m.old) (M.now m.new) result }

@@ -8,7 +8,7 @@ ghost use Rattle.fsd_runs.specs.Commands.{answer};
 ghost use Rattle.fsd_runs.specs.Errands.{Errand};
 ghost use Rattle.sector_disk.specs.Calls.{Since};
 ghost use Rattle.volume_turns.specs.Steps.{reply_of};
-ghost use Rattle.volume_turns.specs.Turns.{IsEndOfVolume, Runs, Steps, SaysAll, Told, Unsaid};
+ghost use Rattle.volume_turns.specs.Turns.{IsEndOfVolume, Runs, Steps, SaysAll, SaysWhole, Told, Unsaid};
 
 use crate::answer::Answer;
 use crate::commands;
@@ -73,6 +73,7 @@ pub fn step<M: Machine, V: Files<M>, T: Says>(
     ensures since { M.honest m.new → Since M.Machine m.old m.new }
     ensures later { M.honest m.new → M.moment m.old ≤ M.moment m.new }
     ensures steps { Steps V.state V.holds M.Machine T.errand c.now v.old m.old v.new m.new result }
+    ensures whole_replies { M.honest m.new → SaysWhole T.errand.says (M.now m.old) (M.now m.new) result }
     ensures ledger { M.tells m.new → OnlyWrites (M.ledger m.old) (M.ledger m.new) }
     ensures fault { IfErr result IsEndOfVolume }
 {

@@ -1,4 +1,4 @@
-use Rattle.std.proofs.Common.{inr, sym, ◌∙◌, arith, []}
+use Rattle.std.proofs.Common.{false, inr, sym, ◌∙◌, arith, []}
 use Rattle.fsd_texts.specs.declared.fault.Fault.TheVariants as Ends
 use Rattle.fsd_runs.specs.declared.request.Request.TheVariants.{Generate}
 use Rattle.cfs_program.proofs.EndedLaws.{ended_run, failed_status}
@@ -44,10 +44,10 @@ pub returns-in-Ok-clause-image : goal.returns-in-Ok-clause-image
 returns-in-Ok-clause-image g c honest =
     let M = g.M.Machine in
     let back = c.run_generate.ensures.trust.honest honest in
-    tells_found (M.now c.args.m.now) (M.now c.attach.new.self) (M.now c.run_generate.new.m) c.in-Ok.sectors c.run_generate.result (c.in-Ok.ensures.attached back) (c.in-Ok.ensures.size back) (c.run_generate.ensures.image honest)
+    tells_found false (M.now c.args.m.now) (M.now c.attach.new.self) (M.now c.run_generate.new.m) c.in-Ok.sectors c.run_generate.result (c.in-Ok.ensures.attached back) (c.in-Ok.ensures.size back) (c.run_generate.ensures.image honest)
 
 pub returns-in-Err-clause-image : goal.returns-in-Err-clause-image
-returns-in-Err-clause-image g c honest = tells_unfound (g.M.Machine.now c.args.m.now) (g.M.Machine.now c.end_with.new.m) c.end_with.result c.end_with.ensures.status
+returns-in-Err-clause-image g c honest = tells_unfound false (g.M.Machine.now c.args.m.now) (g.M.Machine.now c.end_with.new.m) c.end_with.result c.end_with.ensures.status
 
 -- ---- what is counted
 

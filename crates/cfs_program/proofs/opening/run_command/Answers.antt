@@ -1,10 +1,12 @@
-use Rattle.std.proofs.Common.{inr, sym, ◌∙◌, arith, []}
+use Rattle.std.proofs.Common.{false, inl, inr, sym, ◌∙◌, arith, []}
 use Rattle.fsd_texts.specs.declared.fault.Fault.TheVariants as Ends
 use Rattle.fsd_runs.specs.declared.request.Request.TheVariants.{One}
 use Rattle.cfs_program.proofs.EndedLaws.{ended_run, failed_status}
-use Rattle.cfs_program.proofs.FoundLaws.{line_last, tells_found, tells_unfound}
+use Rattle.cfs_program.proofs.FoundLaws.{line_last, line_no_reply, tells_found, tells_unfound, untouched_unfound, writes_found}
 use Rattle.cfs_program.proofs.OpeningLaws.{finds_keep, opened_run, sound_found}
 use Rattle.cfs_program.proofs.CountsLaws.{counts_failed, counts_opened}
+use Rattle.fsd_texts.specs.declared.line.Line.TheVariants as Lines
+use Rattle.volume_turns.proofs.AnsweringLaws.{one_since}
 use Rattle.cfs_program.proofs.opening.run_command.Goals as goal
 
 pub returns-in-Ok-clause-leaves : goal.returns-in-Ok-clause-leaves
@@ -44,10 +46,10 @@ pub returns-in-Ok-clause-image : goal.returns-in-Ok-clause-image
 returns-in-Ok-clause-image g c honest =
     let M = g.M.Machine in
     let back = c.run_one.ensures.trust.honest honest in
-    tells_found (M.now c.args.m.now) (M.now c.attach.new.self) (M.now c.run_one.new.m) c.in-Ok.sectors c.run_one.result (c.in-Ok.ensures.attached back) (c.in-Ok.ensures.size back) (c.run_one.ensures.image honest)
+    tells_found false (M.now c.args.m.now) (M.now c.attach.new.self) (M.now c.run_one.new.m) c.in-Ok.sectors c.run_one.result (c.in-Ok.ensures.attached back) (c.in-Ok.ensures.size back) (c.run_one.ensures.image honest)
 
 pub returns-in-Err-clause-image : goal.returns-in-Err-clause-image
-returns-in-Err-clause-image g c honest = tells_unfound (g.M.Machine.now c.args.m.now) (g.M.Machine.now c.end_with.new.m) c.end_with.result c.end_with.ensures.status
+returns-in-Err-clause-image g c honest = tells_unfound false (g.M.Machine.now c.args.m.now) (g.M.Machine.now c.end_with.new.m) c.end_with.result c.end_with.ensures.status
 
 -- ---- what is counted
 
@@ -74,3 +76,33 @@ returns-in-Err-clause-last g c of h =
     let cause = c.in-Err.ensures.cause in
     let line = c.end_with in
     line_last (Ends.Device c.in-Err.failed.place) (M.report line.new.m).fault_place (M.now c.attach.new.self) (M.now line.new.m) line.result (cause.names ∙ sym cause.told ∙ sym line.ensures.says.spares.place) (line.ensures.ends h) of
+
+-- ---- what is said and written
+
+pub returns-in-Ok-clause-one : goal.returns-in-Ok-clause-one
+returns-in-Ok-clause-one g c h =
+    let now = g.M.Machine.now in
+    let back = c.run_one.ensures.trust.honest h in
+    let found = c.in-Ok.ensures.attached back in
+    let run = c.run_one.ensures.one h in
+    one_since c.args.c.now (now c.args.m.now) (now c.attach.new.self) (now c.run_one.new.m) c.run_one.result found.said run.says
+
+pub returns-in-Ok-clause-rest : goal.returns-in-Ok-clause-rest
+returns-in-Ok-clause-rest g c h =
+    let now = g.M.Machine.now in
+    let back = c.run_one.ensures.trust.honest h in
+    let run = c.run_one.ensures.one h in
+    writes_found c.args.c.now (now c.args.m.now) (now c.attach.new.self) (now c.run_one.new.m) c.in-Ok.sectors (c.in-Ok.ensures.attached back) (c.in-Ok.ensures.size back) run.rest
+
+pub returns-in-Err-clause-one : goal.returns-in-Err-clause-one
+returns-in-Err-clause-one g c h =
+    let now = g.M.Machine.now in
+    let line = c.end_with.ensures in
+    let wears = c.in-Err.ensures.failed (line.says.trust.honest h) in
+    inr (line_no_reply (Ends.Device c.in-Err.failed.place) (now c.args.m.now) (now c.attach.new.self) (now c.end_with.new.m) c.end_with.result wears.said (line.ends h))
+
+pub returns-in-Err-clause-rest : goal.returns-in-Err-clause-rest
+returns-in-Err-clause-rest g c h =
+    let now = g.M.Machine.now in
+    let line = c.end_with.ensures in
+    inl (untouched_unfound (Lines.Ended (Ends.Device c.in-Err.failed.place)) (now c.args.m.now) (now c.attach.new.self) (now c.end_with.new.m) (c.in-Err.ensures.failed (line.says.trust.honest h)) (line.says.exit h))

@@ -1,12 +1,17 @@
-use Rattle.std.proofs.Common.{◌≡◌, inr, List, ℕ, sym, ◌∙◌, ap, subst, arith}
+use Rattle.std.proofs.Common.{false, ◌≡◌, ◌≤◌, length, inr, List, ℕ, sym, ◌∙◌, ap, subst, arith}
 use Rattle.sector_disk.specs.Machine.{Ledger, LeavesOnly}
 use Rattle.fsd_texts.specs.declared.fault.Fault.TheVariants as Ends
 use Rattle.fsd_runs.specs.declared.request.Request.TheVariants.{Put}
+use Rattle.fsd_texts.specs.Script.{max_input}
 use Rattle.fsd_runs.specs.Leaves.{LeavesRun}
 use Rattle.cfs_program.proofs.EndedLaws.{ended_run, failed_status}
-use Rattle.cfs_program.proofs.FoundLaws.{fails_attached, line_last, line_not, tells_found, tells_unfound}
+use Rattle.cfs_program.proofs.FoundLaws.{fails_attached, line_last, line_no_reply, line_not, line_not_low, tells_found, tells_unfound}
 use Rattle.cfs_program.proofs.OpeningLaws.{finds_keep, opened_run, sound_found}
 use Rattle.cfs_program.proofs.CountsLaws.{counts_failed, reading_of, reading_opened}
+use Rattle.fsd_texts.specs.declared.command.Command.TheVariants as Word
+use Rattle.volume_turns.specs.Answering.{SaysOne}
+use Rattle.volume_turns.proofs.AnsweringLaws.{one_since}
+use Rattle.volume_turns.proofs.CauseLaws.{input_since}
 use Rattle.cfs_program.proofs.putting.run_input.Goals as goal
 
 pub returns-in-Ok-clause-leaves : goal.returns-in-Ok-clause-leaves
@@ -51,10 +56,10 @@ pub returns-in-Ok-clause-image : goal.returns-in-Ok-clause-image
 returns-in-Ok-clause-image g c honest =
     let M = g.M.Machine in
     let back = c.run_put.ensures.trust.honest honest in
-    tells_found (M.now c.args.m.now) (M.now c.attach.new.self) (M.now c.run_put.new.m) c.in-Ok.sectors c.run_put.result (c.in-Ok.ensures.attached back) (c.in-Ok.ensures.size back) (c.run_put.ensures.image honest)
+    tells_found false (M.now c.args.m.now) (M.now c.attach.new.self) (M.now c.run_put.new.m) c.in-Ok.sectors c.run_put.result (c.in-Ok.ensures.attached back) (c.in-Ok.ensures.size back) (c.run_put.ensures.image honest)
 
 pub returns-in-Err-clause-image : goal.returns-in-Err-clause-image
-returns-in-Err-clause-image g c honest = tells_unfound (g.M.Machine.now c.args.m.now) (g.M.Machine.now c.end_with.new.m) c.end_with.result c.end_with.ensures.status
+returns-in-Err-clause-image g c honest = tells_unfound false (g.M.Machine.now c.args.m.now) (g.M.Machine.now c.end_with.new.m) c.end_with.result c.end_with.ensures.status
 
 -- ---- the input
 
@@ -87,7 +92,7 @@ pub returns-in-Ok-clause-whole : goal.returns-in-Ok-clause-whole
 returns-in-Ok-clause-whole g c = c.run_put.ensures.whole
 
 pub returns-in-Err-clause-whole : goal.returns-in-Err-clause-whole
-returns-in-Err-clause-whole g c zero t = absurd (line_not 0 4 c.end_with.result c.end_with.ensures.status (λ e. omega (arith, e)) (λ e. omega (arith, e)) (λ e. omega (arith, e)) zero)
+returns-in-Err-clause-whole g c low t = absurd (line_not_low 4 c.end_with.result (omega arith) c.end_with.ensures.status low)
 
 -- ---- the fault that is said
 
@@ -100,3 +105,49 @@ returns-in-Err-clause-last g c of h =
     let cause = c.in-Err.ensures.cause in
     let line = c.end_with in
     line_last (Ends.Device c.in-Err.failed.place) (M.report line.new.m).fault_place (M.now c.attach.new.self) (M.now line.new.m) line.result (cause.names ∙ sym cause.told ∙ sym line.ensures.says.spares.place) (line.ensures.ends h) of
+
+-- ---- all that is said
+
+pub returns-in-Ok-clause-one : goal.returns-in-Ok-clause-one
+returns-in-Ok-clause-one g c h =
+    let M = g.M.Machine in
+    let a = c.args.m.now in
+    let b = c.attach.new.self in
+    let z = M.now c.run_put.new.m in
+    let back = c.run_put.ensures.trust.honest h in
+    let found = c.in-Ok.ensures.attached back in
+    let input : (M.ledger b).input ≡ (M.ledger a).input = ap (λ (x : Ledger). x.input) (c.in-Ok.ensures.asked (g.met.M.Machine.honest_tells b back)) in
+    subst (λ (x : List ℕ). SaysOne (Word.Put c.args.name.now x c.args.keep) (M.now a) z c.run_put.result) input
+    (subst (λ (n : List ℕ). SaysOne (Word.Put n (M.ledger b).input c.args.keep) (M.now a) z c.run_put.result) c.copied.ensures
+    (one_since _ (M.now a) (M.now b) z c.run_put.result found.said (c.run_put.ensures.one h)))
+
+pub returns-in-Err-clause-one : goal.returns-in-Err-clause-one
+returns-in-Err-clause-one g c h =
+    let now = g.M.Machine.now in
+    let line = c.end_with.ensures in
+    let wears = c.in-Err.ensures.failed (line.says.trust.honest h) in
+    inr (line_no_reply (Ends.Device c.in-Err.failed.place) (now c.args.m.now) (now c.attach.new.self) (now c.end_with.new.m) c.end_with.result wears.said (line.ends h))
+
+-- ---- the fault of the input that is said
+
+pub returns-in-Ok-clause-fails : goal.returns-in-Ok-clause-fails
+returns-in-Ok-clause-fails g c five h =
+    let M = g.M.Machine in
+    let a = c.args.m.now in
+    let b = c.attach.new.self in
+    let z = c.run_put.new.m in
+    let input : (M.ledger b).input ≡ (M.ledger a).input = ap (λ (x : Ledger). x.input) (c.in-Ok.ensures.asked (g.met.M.Machine.honest_tells b (c.run_put.ensures.trust.honest h))) in
+    input_since (M.report a) (M.report b) (M.report z) (M.ledger a).input (M.ledger b).input (M.now z) c.attach.ensures.cause.input input (c.run_put.ensures.fails five h)
+
+pub returns-in-Err-clause-fails : goal.returns-in-Err-clause-fails
+returns-in-Err-clause-fails g c five h = absurd (line_not 5 4 c.end_with.result c.end_with.ensures.status (λ e. omega (arith, e)) (λ e. omega (arith, e)) (λ e. omega (arith, e)) five)
+
+-- ---- an input that is taken
+
+pub returns-in-Ok-clause-few : goal.returns-in-Ok-clause-few
+returns-in-Ok-clause-few g c low t =
+    let does = c.run_put.ensures in
+    subst (λ (x : List ℕ). length x ≤ max_input) (ap (λ (x : Ledger). x.input) (c.in-Ok.ensures.asked (does.trust.tells t))) (does.few low t)
+
+pub returns-in-Err-clause-few : goal.returns-in-Err-clause-few
+returns-in-Err-clause-few g c low t = absurd (line_not_low 4 c.end_with.result (omega arith) c.end_with.ensures.status low)

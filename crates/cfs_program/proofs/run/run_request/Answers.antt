@@ -25,14 +25,14 @@ returns-in-One g c =
     let e = c.run_command.ensures in
     let a = c.args.m.now in
     subst (λ (r : Request). Ran g.M.Machine r c.args.path.now a c.run_command.new.m c.run_command.result) (sym c.in-One.is)
-    (ran_command g.M.Machine c.in-One.c c.args.path.now a c.run_command.new.m c.run_command.result e.status e.counts e.asks e.asked e.trust e.image e.last e.leaves)
+    (ran_command g.M.Machine c.in-One.c c.args.path.now a c.run_command.new.m c.run_command.result e.status e.counts e.asks e.asked e.trust e.image e.one e.rest e.last e.leaves)
 
 pub returns-in-Script : goal.returns-in-Script
 returns-in-Script g c =
     let e = c.run_commands.ensures in
     let a = c.args.m.now in
     subst (λ (r : Request). Ran g.M.Machine r c.args.path.now a c.run_commands.new.m c.run_commands.result) (sym c.in-Script.is)
-    (ran_script g.M.Machine c.args.path.now a c.run_commands.new.m c.run_commands.result e.status e.counts e.asks e.asked e.input e.bad e.whole e.spelled e.trust e.image e.last e.leaves)
+    (ran_script g.M.Machine c.args.path.now a c.run_commands.new.m c.run_commands.result e.status e.counts e.asks e.asked e.input e.fails e.bad e.whole e.spelled e.trust e.image e.last e.leaves)
 
 pub returns-in-Generate : goal.returns-in-Generate
 returns-in-Generate g c =
@@ -46,4 +46,4 @@ returns-in-Put g c =
     let e = c.run_input.ensures in
     let a = c.args.m.now in
     subst (λ (r : Request). Ran g.M.Machine r c.args.path.now a c.run_input.new.m c.run_input.result) (sym c.in-Put.is)
-    (ran_put g.M.Machine c.in-Put.name c.in-Put.keep c.args.path.now a c.run_input.new.m c.run_input.result e.status e.counts e.asks e.asked e.input e.whole e.trust e.image e.last e.leaves)
+    (ran_put g.M.Machine c.in-Put.name c.in-Put.keep c.args.path.now a c.run_input.new.m c.run_input.result e.status e.counts e.asks e.asked e.input e.fails e.whole e.few e.trust e.image e.one e.last e.leaves)

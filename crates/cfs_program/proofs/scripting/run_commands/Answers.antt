@@ -1,20 +1,21 @@
-use Rattle.std.proofs.Common.{◌≡◌, inr, List, ℕ, sym, ◌∙◌, ap, subst, arith}
+use Rattle.std.proofs.Common.{true, ◌≡◌, inr, List, ℕ, sym, ◌∙◌, ap, subst, arith}
 use Rattle.sector_disk.specs.Machine.{Ledger, LeavesOnly}
 use Rattle.fsd_texts.specs.declared.end.End.TheVariants.{Done}
 use Rattle.fsd_texts.specs.declared.fault.Fault.TheVariants as Ends
 use Rattle.fsd_texts.specs.Script.{script_in}
 use Rattle.fsd_runs.specs.declared.request.Request.TheVariants.{Script}
 use Rattle.fsd_runs.specs.Leaves.{LeavesRun}
+use Rattle.fsd_runs.proofs.AnswerLaws.{forces_all}
 use Rattle.cfs_program.proofs.EndedLaws.{ended_run, failed_status}
-use Rattle.cfs_program.proofs.ForcedLaws.{forced_all}
 use Rattle.cfs_program.proofs.FoundLaws.{fails_attached, line_last, line_not, tells_found, tells_unfound}
 use Rattle.cfs_program.proofs.OpeningLaws.{finds_keep, opened_run, sound_found}
 use Rattle.cfs_program.proofs.CountsLaws.{counts_failed, reading_of, reading_opened}
 use Rattle.volume_turns.specs.Causes.{SaysBadLine}
+use Rattle.volume_turns.proofs.CauseLaws.{input_since}
 use Rattle.cfs_program.proofs.scripting.run_commands.Goals as goal
 
 pub run_script-requires-clause-lazily : goal.run_script-requires-clause-lazily
-run_script-requires-clause-lazily g c = λ met v command is. forced_all met v command is
+run_script-requires-clause-lazily g c = λ met v command is. forces_all met v command is
 
 pub returns-in-Ok-clause-leaves : goal.returns-in-Ok-clause-leaves
 returns-in-Ok-clause-leaves g c honest l windows h f sound =
@@ -57,10 +58,10 @@ pub returns-in-Ok-clause-image : goal.returns-in-Ok-clause-image
 returns-in-Ok-clause-image g c honest =
     let M = g.M.Machine in
     let back = c.run_script.ensures.trust.honest honest in
-    tells_found (M.now c.args.m.now) (M.now c.attach.new.self) (M.now c.run_script.new.m) c.in-Ok.sectors c.run_script.result (c.in-Ok.ensures.attached back) (c.in-Ok.ensures.size back) (c.run_script.ensures.image honest)
+    tells_found true (M.now c.args.m.now) (M.now c.attach.new.self) (M.now c.run_script.new.m) c.in-Ok.sectors c.run_script.result (c.in-Ok.ensures.attached back) (c.in-Ok.ensures.size back) (c.run_script.ensures.image honest)
 
 pub returns-in-Err-clause-image : goal.returns-in-Err-clause-image
-returns-in-Err-clause-image g c honest = tells_unfound (g.M.Machine.now c.args.m.now) (g.M.Machine.now c.end_with.new.m) c.end_with.result c.end_with.ensures.status
+returns-in-Err-clause-image g c honest = tells_unfound true (g.M.Machine.now c.args.m.now) (g.M.Machine.now c.end_with.new.m) c.end_with.result c.end_with.ensures.status
 
 -- ---- the input
 
@@ -127,3 +128,17 @@ returns-in-Err-clause-last g c of h =
     let cause = c.in-Err.ensures.cause in
     let line = c.end_with in
     line_last (Ends.Device c.in-Err.failed.place) (M.report line.new.m).fault_place (M.now c.attach.new.self) (M.now line.new.m) line.result (cause.names ∙ sym cause.told ∙ sym line.ensures.says.spares.place) (line.ensures.ends h) of
+
+-- ---- the fault of the input that is said
+
+pub returns-in-Ok-clause-fails : goal.returns-in-Ok-clause-fails
+returns-in-Ok-clause-fails g c five h =
+    let M = g.M.Machine in
+    let a = c.args.m.now in
+    let b = c.attach.new.self in
+    let z = c.run_script.new.m in
+    let input : (M.ledger b).input ≡ (M.ledger a).input = ap (λ (x : Ledger). x.input) (c.in-Ok.ensures.asked (g.met.M.Machine.honest_tells b (c.run_script.ensures.trust.honest h))) in
+    input_since (M.report a) (M.report b) (M.report z) (M.ledger a).input (M.ledger b).input (M.now z) c.attach.ensures.cause.input input (c.run_script.ensures.fails five h)
+
+pub returns-in-Err-clause-fails : goal.returns-in-Err-clause-fails
+returns-in-Err-clause-fails g c five h = absurd (line_not 5 4 c.end_with.result c.end_with.ensures.status (λ e. omega (arith, e)) (λ e. omega (arith, e)) (λ e. omega (arith, e)) five)

@@ -1,4 +1,4 @@
-use Rattle.std.proofs.Common.{None, false, refl, sym, ap}
+use Rattle.std.proofs.Common.{None, false, inl, refl, sym, ap}
 use Rattle.std.proofs.lemmas.List.{append-nil}
 use Rattle.sector_disk.proofs.CallLaws.{writes_none}
 use Rattle.sector_disk.proofs.Holding.{wears_none}
@@ -30,3 +30,6 @@ returns-clause-done g c h k stands =
       },
       stands,
     )
+
+pub returns-clause-answers : goal.returns-clause-answers
+returns-clause-answers g c h = record { replies = tt; rest = record { size = refl; others = λ s out. inl refl }; still = refl }

@@ -1,5 +1,5 @@
 use Rattle.std.proofs.Common.{ℕ, [], ◌∷◌, ◌∙◌, sym, ap, subst, refl, Option}
-use Rattle.std.specs.Prelude.{Result, IsFalse}
+use Rattle.std.specs.Prelude.{IfOk, Result, IsFalse}
 use Rattle.fsd_bytes.specs.declared.key.Key.{Key}
 use Rattle.fsd_bytes.specs.declared.refusal.Refusal.{Refusal}
 use Rattle.fsd_files.specs.Answers.{delete_outcome}
@@ -12,11 +12,13 @@ use Rattle.sector_disk.specs.Calls.{WritesDisk}
 use Rattle.volume_contract.specs.Order.{Comes, down}
 use Rattle.volume_contract.specs.State.{volume_of, is_worn}
 use Rattle.fsd_sound.specs.Writes.{force_writes}
-use Rattle.volume_turns.specs.Steps.{Does, IsAnswered, Stays, device_by}
+use Rattle.volume_turns.specs.Steps.{Does, IsAnswered, Stays, device_by, reply_of}
 use Rattle.sector_disk.proofs.CallLaws.{writes_more}
 use Rattle.volume_turns.proofs.OrderLaws.{delete_all, delete_down, delete_unworn, delete_worn, delete_through}
 use Rattle.volume_turns.proofs.StepLaws.{same_device, less_touched, answered_does, refused_does}
 use Rattle.volume_turns.proofs.StatusLaws.{refused_low}
+use Rattle.volume_turns.specs.Answering.{MayReply}
+use Rattle.volume_turns.proofs.AnsweringLaws.{delete_refused}
 use Rattle.volume_turns.proofs.commands.delete.Goals as goal
 
 pub returns-in-Ok-clause-disk : goal.returns-in-Ok-clause-disk
@@ -58,3 +60,14 @@ returns-in-Err-clause-done g c h k stands =
 
 pub returns-in-Err-clause-status : goal.returns-in-Err-clause-status
 returns-in-Err-clause-status g c = refused_low c.in-Err.why c.ended_by.result c.ended_by.ensures.said
+
+pub returns-in-Ok-clause-answers : goal.returns-in-Ok-clause-answers
+returns-in-Ok-clause-answers g c h = record { replies = c.copied.ensures; rest = c.in-Ok.ensures.rest h; still = tt }
+
+pub returns-in-Err-clause-answers : goal.returns-in-Err-clause-answers
+returns-in-Err-clause-answers g c h = record {
+  replies = subst (λ (r : Result Answer Fault). IfOk r (λ a. MayReply (Word.Delete c.args.key.now) (g.M.Machine.now c.delete.new.m).image (reply_of a))) (sym c.ended_by.ensures.is)
+      (delete_refused (g.V.Files.state c.args.v.now) c.requires.up c.in-Err.why c.args.key.now (g.M.Machine.now c.delete.new.m).image c.in-Err.ensures.order);
+  rest = c.in-Err.ensures.rest h;
+  still = tt;
+}

@@ -1,5 +1,5 @@
 use Rattle.std.proofs.Common.{ℕ, ◌∙◌, sym, ap, subst, Option}
-use Rattle.std.specs.Prelude.{Result}
+use Rattle.std.specs.Prelude.{IfOk, Result}
 use Rattle.fsd_files.specs.Answers.{entry_of}
 use Rattle.fsd_texts.specs.declared.command.Command.TheVariants as Word
 use Rattle.fsd_texts.specs.declared.fault.Fault.{Fault}
@@ -7,12 +7,15 @@ use Rattle.sector_disk.specs.Image.{open_damage}
 use Rattle.volume_turns.specs.declared.answer.Answer.{Answer}
 use Rattle.sector_disk.specs.Calls.{WritesDisk}
 use Rattle.volume_contract.specs.State.{volume_of}
-use Rattle.volume_turns.specs.Steps.{Does, Stays, device_by}
+use Rattle.volume_turns.specs.Steps.{Does, Stays, device_by, reply_of}
 use Rattle.sector_disk.proofs.CallLaws.{reads_as_writes, reads_then}
 use Rattle.volume_turns.proofs.OrderLaws.{entry_down}
 use Rattle.volume_turns.proofs.ReadLaws.{does_earlier, found_length, unfound_does}
 use Rattle.volume_turns.proofs.StepLaws.{same_device, wear_stays}
 use Rattle.volume_turns.proofs.StatusLaws.{refused_get}
+use Rattle.fsd_files.specs.Disk.{nowhere}
+use Rattle.volume_turns.specs.Answering.{MayReply}
+use Rattle.volume_turns.proofs.AnsweringLaws.{entry_refused, worn_first, worn_touches}
 use Rattle.volume_turns.proofs.commands.get.Goals as goal
 
 pub returns-in-Ok-clause-disk : goal.returns-in-Ok-clause-disk
@@ -53,3 +56,27 @@ returns-in-Ok-clause-status g c = c.read_whole.ensures.status
 
 pub returns-in-Err-clause-status : goal.returns-in-Err-clause-status
 returns-in-Err-clause-status g c = refused_get c.in-Err.why c.ended_by.result c.ended_by.ensures.is
+
+-- ---- what is said and written
+
+pub returns-in-Ok-clause-answers : goal.returns-in-Ok-clause-answers
+returns-in-Ok-clause-answers g c h =
+    let now = g.M.Machine.now in
+    let back = c.read_whole.ensures.disk.trust.honest h in
+    let does = c.read_whole.ensures.answers h in
+    let first = c.in-Ok.ensures.disk.worn back in
+    record {
+      replies = does.replies;
+      rest = worn_first (now c.args.m.now) (now c.entry.new.m) (now c.read_whole.new.m) first.windows first.image does.rest;
+      still = does.still ∙ c.in-Ok.ensures.state;
+    }
+
+pub returns-in-Err-clause-answers : goal.returns-in-Err-clause-answers
+returns-in-Err-clause-answers g c h =
+    let now = g.M.Machine.now in
+    record {
+      replies = subst (λ (r : Result Answer Fault). IfOk r (λ a. MayReply (Word.Get c.args.key.now) (now c.entry.new.m).image (reply_of a))) (sym c.ended_by.ensures.is)
+          (entry_refused (g.V.Files.state c.args.v.now) c.requires.up c.in-Err.why c.args.key.now (now c.entry.new.m).image c.in-Err.ensures.order);
+      rest = worn_touches nowhere (now c.args.m.now) (now c.entry.new.m) (c.in-Err.ensures.disk.worn h).image;
+      still = c.in-Err.ensures.state;
+    }

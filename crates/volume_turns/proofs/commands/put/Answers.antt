@@ -1,5 +1,5 @@
 use Rattle.std.proofs.Common.{ℕ, [], ◌∷◌, ◌∙◌, sym, ap, subst, refl, Option, length}
-use Rattle.std.specs.Prelude.{Result, IsFalse}
+use Rattle.std.specs.Prelude.{IfOk, Result, IsFalse}
 use Rattle.fsd_bytes.specs.declared.refusal.Refusal.{Refusal}
 use Rattle.fsd_formats.specs.NamePage.{sectors_for}
 use Rattle.fsd_files.specs.Answers.{put_outcome, size_fault, keep_given}
@@ -11,11 +11,13 @@ use Rattle.volume_turns.specs.declared.answer.Answer.{Answer}
 use Rattle.sector_disk.specs.Calls.{WritesDisk}
 use Rattle.volume_contract.specs.Order.{Comes}
 use Rattle.volume_contract.specs.State.{volume_of, put_writes, is_worn}
-use Rattle.volume_turns.specs.Steps.{Does, IsAnswered, Stays, device_by}
+use Rattle.volume_turns.specs.Steps.{Does, IsAnswered, Stays, device_by, reply_of}
 use Rattle.sector_disk.proofs.CallLaws.{writes_more}
 use Rattle.volume_turns.proofs.OrderLaws.{steps_of, put_rest, put_never, size_never, never_down, unworn_by, worn_by, unworn_through, is_no_fault, no_fault_is}
 use Rattle.volume_turns.proofs.StepLaws.{same_device, less_touched, answered_does, refused_does}
 use Rattle.volume_turns.proofs.StatusLaws.{refused_low}
+use Rattle.volume_turns.specs.Answering.{MayReply}
+use Rattle.volume_turns.proofs.AnsweringLaws.{put_refused}
 use Rattle.volume_turns.proofs.commands.put.Goals as goal
 
 pub returns-in-Ok-clause-disk : goal.returns-in-Ok-clause-disk
@@ -74,3 +76,14 @@ returns-in-Err-clause-done g c h k stands =
 
 pub returns-in-Err-clause-status : goal.returns-in-Err-clause-status
 returns-in-Err-clause-status g c = refused_low c.in-Err.why c.ended_by.result c.ended_by.ensures.said
+
+pub returns-in-Ok-clause-answers : goal.returns-in-Ok-clause-answers
+returns-in-Ok-clause-answers g c h = record { replies = (c.in-Ok.ensures.name, c.sectors_of.ensures, c.in-Ok.ensures.order.1.0); rest = c.in-Ok.ensures.rest h; still = tt }
+
+pub returns-in-Err-clause-answers : goal.returns-in-Err-clause-answers
+returns-in-Err-clause-answers g c h = record {
+  replies = subst (λ (r : Result Answer Fault). IfOk r (λ a. MayReply (Word.Put c.args.name.now c.args.bytes.now c.args.keep) (g.M.Machine.now c.put.new.m).image (reply_of a))) (sym c.ended_by.ensures.is)
+      (put_refused (g.V.Files.state c.args.v.now) c.requires.up c.args.name.now c.args.bytes.now c.args.keep (g.M.Machine.now c.put.new.m).image c.in-Err.why c.in-Err.ensures.order);
+  rest = c.in-Err.ensures.rest h;
+  still = tt;
+}

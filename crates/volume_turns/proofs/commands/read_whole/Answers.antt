@@ -1,5 +1,5 @@
 use Rattle.std.proofs.Common.{inl, ◌≡◌, ℕ, List, ◌++◌, ◌∙◌, sym, ap, subst, Option, length, take, drop, arith}
-use Rattle.std.specs.Prelude.{Result, IfSome}
+use Rattle.std.specs.Prelude.{Err, IfOk, Result, IfSome}
 use Rattle.std.proofs.lemmas.List.{take_at}
 use Rattle.fsd_bytes.specs.declared.key.Key.{Key}
 use Rattle.fsd_files.specs.Answers.{entry_of}
@@ -9,11 +9,15 @@ use Rattle.fsd_texts.specs.declared.fault.Fault.{Fault}
 use Rattle.volume_turns.specs.declared.answer.Answer.{Answer}
 use Rattle.sector_disk.specs.Calls.{OnlyReads}
 use Rattle.volume_contract.specs.State.{volume_of}
-use Rattle.volume_turns.specs.Steps.{Does, IsAnswered, device_by}
+use Rattle.volume_turns.specs.Steps.{Does, IsAnswered, device_by, reply_of}
 use Rattle.volume_turns.proofs.OrderLaws.{read_down}
 use Rattle.volume_turns.proofs.ReadLaws.{read_does, unread_does}
 use Rattle.volume_turns.proofs.StepLaws.{same_read_device}
 use Rattle.volume_turns.proofs.StatusLaws.{refused_read}
+use Rattle.fsd_bytes.specs.declared.refusal.Refusal.{Refusal}
+use Rattle.fsd_files.specs.Disk.{nowhere}
+use Rattle.volume_turns.specs.Answering.{MayReply}
+use Rattle.volume_turns.proofs.AnsweringLaws.{read_refused, worn_touches}
 use Rattle.volume_turns.proofs.commands.read_whole.Goals as goal
 
 pub returns-in-Ok-read-clause-done : goal.returns-in-Ok-read-clause-done
@@ -49,3 +53,21 @@ returns-in-Err-clause-status g c = refused_read c.args.key.now c.in-Err.why c.re
 
 pub returns-in-Ok-read-clause-status : goal.returns-in-Ok-read-clause-status
 returns-in-Ok-read-clause-status g c = inl (omega arith)
+
+-- ---- what is said and written
+
+pub returns-in-Ok-read-clause-answers : goal.returns-in-Ok-read-clause-answers
+returns-in-Ok-read-clause-answers g c h =
+    let now = g.M.Machine.now in
+    record { replies = c.copied.ensures; rest = worn_touches nowhere (now c.args.m.now) (now c.read.new.m) (c.in-Ok-read.ensures.disk.worn h).image; still = c.in-Ok-read.ensures.state }
+
+pub returns-in-Err-clause-answers : goal.returns-in-Err-clause-answers
+returns-in-Err-clause-answers g c h =
+    let now = g.M.Machine.now in
+    let e = c.in-Err.ensures in
+    record {
+      replies = subst (λ (r : Result Answer Fault). IfOk r (λ a. MayReply (Word.Get c.args.key.now) (now c.read.new.m).image (reply_of a))) (sym c.read_ended_by.ensures.is)
+          (read_refused (g.V.Files.state c.args.v.now) c.requires.up c.args.key.now (now c.read.new.m).image c.in-Err.why (λ n is. e.damaged n (ap (λ (w : Refusal). Err w) is) h) e.order);
+      rest = worn_touches nowhere (now c.args.m.now) (now c.read.new.m) (e.disk.worn h).image;
+      still = e.state;
+    }

@@ -15,6 +15,7 @@ use Rattle.volume_turns.proofs.StepLaws.{same_device, less_touched, answered_doe
 use Rattle.fsd_runs.specs.Errands.{reply_status}
 use Rattle.volume_turns.specs.Steps.{reply_of}
 use Rattle.volume_turns.proofs.StatusLaws.{force_ends}
+use Rattle.volume_turns.specs.Answering.{MayReply}
 use Rattle.volume_turns.proofs.commands.tick.Goals as goal
 
 pub returns-in-Ok-clause-disk : goal.returns-in-Ok-clause-disk
@@ -47,3 +48,13 @@ returns-in-Err-clause-done g c h k stands =
 
 pub returns-in-Err-clause-status : goal.returns-in-Err-clause-status
 returns-in-Err-clause-status g c = force_ends (λ a. reply_status (reply_of a) ≡ 0) (g.V.Files.state c.args.v.now) c.requires.up _ c.in-Err.why c.in-Err.ensures.order c.ended_by.result c.ended_by.ensures.is
+
+pub returns-in-Ok-clause-answers : goal.returns-in-Ok-clause-answers
+returns-in-Ok-clause-answers g c h = record { replies = tt; rest = c.in-Ok.ensures.rest h; still = tt }
+
+pub returns-in-Err-clause-answers : goal.returns-in-Err-clause-answers
+returns-in-Err-clause-answers g c h = record {
+  replies = force_ends (λ a. MayReply Word.Tick (g.M.Machine.now c.tick.new.m).image (reply_of a)) (g.V.Files.state c.args.v.now) c.requires.up _ c.in-Err.why c.in-Err.ensures.order c.ended_by.result c.ended_by.ensures.is;
+  rest = c.in-Err.ensures.rest h;
+  still = tt;
+}

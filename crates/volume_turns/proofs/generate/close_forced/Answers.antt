@@ -7,6 +7,8 @@ use Rattle.fsd_runs.specs.Errands.{forced_turn}
 use Rattle.volume_turns.specs.Turns.{SaysAll, Unsaid}
 use Rattle.volume_turns.proofs.OnceLaws.{close_failed, close_said}
 use Rattle.volume_turns.proofs.RunLaws.{on_ok_said, on_err_said}
+use Rattle.volume_turns.proofs.AnsweringLaws.{says_so}
+use Rattle.volume_turns.proofs.SaidLaws.{keeps_by, keeps_then}
 use Rattle.volume_turns.proofs.generate.close_forced.Goals as goal
 
 pub returns-in-Ok-clause-closes : goal.returns-in-Ok-clause-closes
@@ -35,3 +37,18 @@ returns-in-Ok-clause-later g c h =
 
 pub returns-in-Err-clause-later : goal.returns-in-Err-clause-later
 returns-in-Err-clause-later g c h = (c.in-Err.ensures.disk.any_moment h).later
+
+-- ---- what is said in front of a fault
+
+pub returns-in-Ok-clause-quiet : goal.returns-in-Ok-clause-quiet
+returns-in-Ok-clause-quiet g c h =
+    let now = g.M.Machine.now in
+    let text = forced_turn.said in
+    let m = now c.close.new.m in
+    let b = now c.say_one.new.m in
+    let r = c.say_one.result in
+    keeps_then (now c.args.m.now) m b r (c.in-Ok.ensures.disk.quiet (c.say_one.ensures.trust.honest h))
+    (keeps_by text m b r (says_so text m b r (on_ok_said (SaysAll text m b) r h c.say_one.ensures.said) (on_err_said (Unsaid m b) r h c.say_one.ensures.unsaid)))
+
+pub returns-in-Err-clause-quiet : goal.returns-in-Err-clause-quiet
+returns-in-Err-clause-quiet g c h = c.in-Err.ensures.disk.quiet h

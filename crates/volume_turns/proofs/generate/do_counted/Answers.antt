@@ -46,3 +46,14 @@ returns-clause-steps g c h k from stood aged =
 
 pub returns-in-Ok-clause-fault : goal.returns-in-Ok-clause-fault
 returns-in-Ok-clause-fault g c = subst IsOfCall (sym c.in-Err-count.ensures.err) tt
+
+-- ---- nothing is said
+
+pub returns-in-Ok-count-clause-quiet : goal.returns-in-Ok-count-clause-quiet
+returns-in-Ok-count-clause-quiet g c h = c.in-Ok.ensures.disk.quiet h
+
+pub returns-in-Ok-clause-quiet : goal.returns-in-Ok-clause-quiet
+returns-in-Ok-clause-quiet g c h = c.in-Ok.ensures.disk.quiet h
+
+pub returns-clause-quiet : goal.returns-clause-quiet
+returns-clause-quiet g c h = c.in-Err.ensures.disk.quiet h

@@ -1,9 +1,10 @@
-use Rattle.std.proofs.Common.{refl, Option, Ok, Err, subst, arith}
+use Rattle.std.proofs.Common.{false, refl, Option, Ok, Err, subst, arith}
 use Rattle.fsd_texts.specs.Generator.{made_up}
 use Rattle.volume_turns.specs.declared.turns.End.{End}
 use Rattle.volume_turns.specs.Generate.{CountedGroup}
 use Rattle.volume_turns.specs.Tally.{Counting}
 use Rattle.volume_turns.specs.Turns.{IsEndOfVolume, Told}
+use Rattle.volume_turns.specs.Turns.{KeepsEnd}
 use Rattle.volume_turns.proofs.GenerateLaws.{made_broken, made_said, made_unsaid, made_worn}
 use Rattle.volume_turns.proofs.CauseLaws.{call_says}
 use Rattle.volume_turns.proofs.StatusLaws.{not_as, call_of_volume, all_is_made, fault_counts, fault_is_made, line_counts, unsaid_counts, worn_is_made}
@@ -120,7 +121,7 @@ returns-in-Ok-None-clause-says g c three h = absurd (not_as 3 9 c.last_line-in-O
 pub returns-in-Err-Fault-clause-says : goal.returns-in-Err-Fault-clause-says
 returns-in-Err-Fault-clause-says g c three h =
     let now = g.M.Machine.now in
-    call_says c.in-Err-Fault.why (subst IsEndOfVolume c.in-Err-Fault.field-0-is c.in-Err-Fault.ensures.fault) (now c.make_group.new.m) (now c.end_with.new.m) c.end_with.result (c.end_with.ensures.ends h) three
+    call_says false (now c.args.m.now).said c.in-Err-Fault.why (subst IsEndOfVolume c.in-Err-Fault.field-0-is c.in-Err-Fault.ensures.fault) (now c.make_group.new.m) (now c.end_with.new.m) c.end_with.result (subst (λ (e : End). KeepsEnd (now c.args.m.now) (now c.make_group.new.m) e) c.in-Err-Fault.field-0-is (c.in-Err-Fault.ensures.quiet (c.end_with.ensures.says.trust.honest h))) (c.end_with.ensures.ends h) three
 
 pub returns-in-Err-Output-clause-says : goal.returns-in-Err-Output-clause-says
 returns-in-Err-Output-clause-says g c three h = absurd (omega (arith, three))

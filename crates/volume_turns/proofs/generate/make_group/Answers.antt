@@ -3,6 +3,7 @@ use Rattle.sector_disk.specs.Image.{open_damage}
 use Rattle.sector_disk.proofs.Wear.{worn_refl}
 use Rattle.fsd_texts.specs.Generator.{made_up}
 use Rattle.volume_turns.proofs.CountLaws.{counted_all, counted_broken, counted_worn}
+use Rattle.volume_turns.proofs.SaidLaws.{keeps_end, keeps_then}
 use Rattle.volume_turns.proofs.generate.make_group.Goals as goal
 
 pub returns-in-Ok-clause-group : goal.returns-in-Ok-clause-group
@@ -45,3 +46,20 @@ returns-then-is_worn_end-clause-later g c h =
     let x = c.make_up.ensures.later (c.force_behind-then-is_worn_end.ensures.trust.honest h) in
     let y = c.force_behind-then-is_worn_end.ensures.later h in
     omega (arith, x, y)
+
+-- ---- what is said in front of a fault
+
+pub returns-in-Ok-clause-quiet : goal.returns-in-Ok-clause-quiet
+returns-in-Ok-clause-quiet g c h =
+    let now = g.M.Machine.now in
+    let done = c.force_behind in
+    keeps_then (now c.args.m.now) (now c.make_up.new.m) (now done.new.m) done.result (c.make_up.ensures.quiet (done.ensures.trust.honest h)) (done.ensures.quiet h)
+
+pub returns-then-is_worn_end-clause-quiet : goal.returns-then-is_worn_end-clause-quiet
+returns-then-is_worn_end-clause-quiet g c h =
+    let now = g.M.Machine.now in
+    let done = c.force_behind-then-is_worn_end in
+    keeps_then (now c.args.m.now) (now c.make_up.new.m) (now done.new.m) done.result (c.make_up.ensures.quiet (done.ensures.trust.honest h)) (done.ensures.quiet h)
+
+pub returns-else-is_worn_end-clause-quiet : goal.returns-else-is_worn_end-clause-quiet
+returns-else-is_worn_end-clause-quiet g c h = keeps_end (g.M.Machine.now c.args.m.now) (g.M.Machine.now c.make_up.new.m) c.in-Err.end (c.make_up.ensures.quiet h)

@@ -3,6 +3,7 @@ use Rattle.std.specs.Prelude.{IfSome}
 use Rattle.volume_layout.specs.declared.layout.Layout.{Layout}
 use Rattle.sector_disk.specs.Image.{AreShort, Windows}
 use Rattle.sector_disk.proofs.Holding.{trusts_on}
+use Rattle.sector_disk.proofs.CallLaws.{only_writes_then}
 use Rattle.fsd_texts.specs.declared.command.Command.{Command as Word}
 use Rattle.script_text.specs.Making.{Making, made_left}
 use Rattle.volume_turns.specs.Generate.{Draws, RunsCounted}
@@ -10,7 +11,6 @@ use Rattle.volume_turns.specs.Tally.{Counting, nothing}
 use Rattle.volume_turns.specs.Turns.{Follows}
 use Rattle.volume_turns.proofs.CountLaws.{counted_nil, counted_stop, counted_then, made_length, none_left, told_all, told_end, told_more, told_none}
 use Rattle.volume_turns.proofs.RunLaws.{follows_then}
-use Rattle.volume_turns.proofs.StatusLaws.{ledger_then}
 use Rattle.volume_turns.proofs.generate.make_up.Goals as goal
 
 pub loop-init : goal.loop-init
@@ -26,6 +26,7 @@ loop-init g c =
       since = λ h t left le was. was;
       later = λ h. omega arith;
       counts = ap (λ (t : Counting). t.count) c.new-tally.ensures;
+      quiet = λ h. refl;
       left = let all = made_length c.args.count 1 c.args.seed in let same = ap (λ (x : Making). length (made_left x)) c.new-maker.ensures in omega (arith, all, same);
       rest = λ z b r follows runs.
           subst (λ (x : Making). RunsCounted V.state V.holds M (made_left x) c.args.v.now c.args.m.now z b nothing r) c.new-maker.ensures
@@ -60,7 +61,7 @@ returns-in-Ok-None-clause-told g c =
 pub returns-in-Ok-None-clause-ledger : goal.returns-in-Ok-None-clause-ledger
 returns-in-Ok-None-clause-ledger g c t =
     let M = g.M.Machine in
-    ledger_then (M.ledger c.args.m.now) (M.ledger c.loop.m) (M.ledger c.draw.new.m) (c.loop.invariant.ledger (c.draw.ensures.trust.tells t)) (c.draw.ensures.ledger t)
+    only_writes_then (M.ledger c.args.m.now) (M.ledger c.loop.m) (M.ledger c.draw.new.m) (c.loop.invariant.ledger (c.draw.ensures.trust.tells t)) (c.draw.ensures.ledger t)
 
 pub returns-in-Ok-None-clause-trust : goal.returns-in-Ok-None-clause-trust
 returns-in-Ok-None-clause-trust g c = trusts_on c.loop.invariant.trust c.draw.ensures.trust
@@ -101,7 +102,7 @@ returns-in-Err-clause-told g c =
 pub returns-in-Err-clause-ledger : goal.returns-in-Err-clause-ledger
 returns-in-Err-clause-ledger g c t =
     let M = g.M.Machine in
-    ledger_then (M.ledger c.args.m.now) (M.ledger c.loop.m) (M.ledger c.draw.new.m) (c.loop.invariant.ledger (c.draw.ensures.trust.tells t)) (c.draw.ensures.ledger t)
+    only_writes_then (M.ledger c.args.m.now) (M.ledger c.loop.m) (M.ledger c.draw.new.m) (c.loop.invariant.ledger (c.draw.ensures.trust.tells t)) (c.draw.ensures.ledger t)
 
 pub returns-in-Err-clause-trust : goal.returns-in-Err-clause-trust
 returns-in-Err-clause-trust g c = trusts_on c.loop.invariant.trust c.draw.ensures.trust
@@ -139,10 +140,11 @@ loop-preserved g c =
       layout = c.draw.ensures.layout ∙ was.layout;
       up = c.in-Ok-Some.ensures.up;
       told = told_all (M.report c.args.m.now) (M.report c.draw.new.m) c.in-Ok-Some.field-0 tt (told_more (M.report c.args.m.now) (M.report c.loop.m) (M.report c.draw.new.m) tt (Ok c.in-Ok-Some.field-0) was.told c.in-Ok-Some.ensures.told);
-      ledger = λ t. ledger_then (M.ledger c.args.m.now) (M.ledger c.loop.m) (M.ledger c.draw.new.m) (was.ledger (c.draw.ensures.trust.tells t)) (c.draw.ensures.ledger t);
+      ledger = λ t. only_writes_then (M.ledger c.args.m.now) (M.ledger c.loop.m) (M.ledger c.draw.new.m) (was.ledger (c.draw.ensures.trust.tells t)) (c.draw.ensures.ledger t);
       trust = trusts_on was.trust c.draw.ensures.trust;
       since = both.since;
       later = both.later;
+      quiet = λ h. c.draw.ensures.quiet h ∙ was.quiet (c.draw.ensures.trust.honest h);
       counts = subst (λ (o : Option Counting). IfSome o (λ t. t.count ≡ c.loop.tally.count + 1)) c.in-Ok-Some.field-0-is c.in-Ok-Some.ensures.counts ∙ ap (λ (n : ℕ). n + 1) was.counts;
       left = let all = was.left in let same = ap (λ (cs : List Word). length cs) draws.1 in omega (arith, all, same);
       rest = λ z b r follows runs. was.rest z b r (follows_then M c.loop.m c.draw.new.m b step follows)
@@ -177,3 +179,14 @@ returns-clause-runs g c =
     c.loop.invariant.rest c.loop.v m (Ok c.loop.tally) (record { honest = λ h. h; since = λ h t left le was. was; later = λ h. omega arith })
     (subst (λ (cs : List Word). RunsCounted V.state V.holds M cs c.loop.v m c.loop.v m c.loop.tally (Ok c.loop.tally)) (sym none)
     (counted_nil V.state V.holds M c.loop.v m g.met.V.Files.wears (λ h left was. g.met.M.Machine.only_now m left h was) (λ h from aged. subst (λ (w : Windows). AreShort w) aged.windows (g.met.M.Machine.short m h)) c.loop.tally))
+
+-- ---- nothing is said
+
+pub returns-in-Ok-None-clause-quiet : goal.returns-in-Ok-None-clause-quiet
+returns-in-Ok-None-clause-quiet g c h = c.draw.ensures.quiet h ∙ c.loop.invariant.quiet (c.draw.ensures.trust.honest h)
+
+pub returns-in-Err-clause-quiet : goal.returns-in-Err-clause-quiet
+returns-in-Err-clause-quiet g c h = c.draw.ensures.quiet h ∙ c.loop.invariant.quiet (c.draw.ensures.trust.honest h)
+
+pub returns-clause-quiet : goal.returns-clause-quiet
+returns-clause-quiet g c = c.loop.invariant.quiet

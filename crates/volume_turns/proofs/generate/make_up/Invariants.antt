@@ -20,6 +20,7 @@ invariant-loop g l = record {
   trust : Trusts (g.M.Machine.tells l.fn.m) (g.M.Machine.tells l.m) (g.M.Machine.honest l.fn.m) (g.M.Machine.honest l.m);
   since : g.M.Machine.honest l.m → Since g.M.Machine l.fn.m l.m;
   later : g.M.Machine.honest l.m → g.M.Machine.moment l.fn.m ≤ g.M.Machine.moment l.m;
+  quiet : g.M.Machine.honest l.m → (g.M.Machine.now l.m).said ≡ (g.M.Machine.now l.fn.m).said;
   counts : l.tally.count ≡ l.counter;
   left : length (made_left l.maker) + l.counter ≡ l.count;
   rest : (z : g.row.V.Denot) (b : g.row.M.Denot) (r : Result Counting End) → Follows g.M.Machine l.m b →

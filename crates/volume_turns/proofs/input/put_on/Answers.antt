@@ -1,18 +1,22 @@
-use Rattle.std.proofs.Common.{inl, inr, Bool, false, Err, List, ℕ, refl, sym, ◌∙◌, ap, subst, arith}
+use Rattle.std.proofs.Common.{inl, inr, ◌≤◌, length, Bool, false, Err, List, ℕ, refl, sym, ◌∙◌, ap, subst, arith}
 use Rattle.std.specs.Prelude.{Result}
 use Rattle.sector_disk.specs.Calls.{Counts}
 use Rattle.sector_disk.specs.Machine.{Ledger, Rose}
 use Rattle.sector_disk.proofs.Holding.{trusts_on}
 use Rattle.fsd_texts.specs.declared.command.Command.TheVariants as Word
 use Rattle.fsd_texts.specs.declared.fault.Fault.TheVariants as Ends
+use Rattle.fsd_texts.specs.Script.{max_input}
 use Rattle.fsd_runs.specs.declared.request.Request.TheVariants.{Put}
 use Rattle.volume_turns.specs.Whole.{RunsOut}
 use Rattle.volume_turns.specs.declared.taking.InputFault.{InputFault}
 use Rattle.volume_turns.specs.Taking.{input_in}
 use Rattle.volume_turns.proofs.InputLaws.{put_out}
 use Rattle.volume_turns.proofs.PutLaws.{stands_on, taken_ended, taken_on}
-use Rattle.volume_turns.proofs.StatusLaws.{fault_not_zero, counts_taken, counts_untaken, fault_is_put, long_is_put, not_as, one_is_put, one_not_five}
+use Rattle.volume_turns.proofs.StatusLaws.{fault_not_low, counts_taken, counts_untaken, fault_is_put, long_is_put, not_as, one_is_put, one_not_five}
 use Rattle.volume_turns.proofs.LastLaws.{ends_fault}
+use Rattle.volume_turns.specs.Answering.{SaysOne}
+use Rattle.volume_turns.proofs.CauseLaws.{call_since, says_input}
+use Rattle.volume_turns.proofs.AnsweringLaws.{fault_alone, no_reply_since, one_since}
 use Rattle.volume_turns.proofs.input.put_on.Goals as goal
 
 abbrev failed : InputFault → Result (List ℕ) InputFault
@@ -181,10 +185,11 @@ returns-in-Err-Memory-clause-input g c five t = absurd (not_as 5 7 c.end_with-in
 -- ---- a fault of the image
 
 pub returns-in-Ok-clause-says : goal.returns-in-Ok-clause-says
-returns-in-Ok-clause-says g c = c.one_on.ensures.says
+returns-in-Ok-clause-says g c three h = call_since false (g.M.Machine.now c.args.m.now).said (g.M.Machine.now c.read_input.new.m).said (g.M.Machine.now c.one_on.new.m) (c.in-Ok.ensures.calls.exit (c.one_on.ensures.trust.honest h)).said (c.one_on.ensures.says three h)
 
 pub returns-in-Err-TooLong-clause-says : goal.returns-in-Err-TooLong-clause-says
-returns-in-Err-TooLong-clause-says g c = c.refuse_input.ensures.says
+returns-in-Err-TooLong-clause-says g c three h =
+    call_since false (g.M.Machine.now c.args.m.now).said (g.M.Machine.now c.read_input.new.m).said (g.M.Machine.now c.refuse_input.new.m) (c.in-Err-TooLong.ensures.calls.exit (c.refuse_input.ensures.trust.honest h)).said (c.refuse_input.ensures.says three h)
 
 pub returns-in-Err-Failed-clause-says : goal.returns-in-Err-Failed-clause-says
 returns-in-Err-Failed-clause-says g c three h = absurd (not_as 3 5 c.end_with.result (λ e. omega (arith, e)) (λ e. omega (arith, e)) (λ e. omega (arith, e)) c.end_with.ensures.status three)
@@ -221,16 +226,16 @@ returns-in-Err-Memory-clause-trust g c = trusts_on c.read_input.ensures.calls.tr
 -- ---- where all is done
 
 pub returns-in-Ok-clause-whole : goal.returns-in-Ok-clause-whole
-returns-in-Ok-clause-whole g c zero t = (c.one_on.ensures.ledger t).input ∙ c.in-Ok.ensures.end (c.one_on.ensures.trust.tells t)
+returns-in-Ok-clause-whole g c low t = (c.one_on.ensures.ledger t).input ∙ c.in-Ok.ensures.end (c.one_on.ensures.trust.tells t)
 
 pub returns-in-Err-TooLong-clause-whole : goal.returns-in-Err-TooLong-clause-whole
-returns-in-Err-TooLong-clause-whole g c zero t = absurd (c.refuse_input.ensures.unmade zero)
+returns-in-Err-TooLong-clause-whole g c low t = absurd (c.refuse_input.ensures.unmade low)
 
 pub returns-in-Err-Failed-clause-whole : goal.returns-in-Err-Failed-clause-whole
-returns-in-Err-Failed-clause-whole g c zero t = absurd (fault_not_zero Ends.Input c.end_with.result c.end_with.ensures.status zero)
+returns-in-Err-Failed-clause-whole g c low t = absurd (fault_not_low Ends.Input c.end_with.result c.end_with.ensures.status low)
 
 pub returns-in-Err-Memory-clause-whole : goal.returns-in-Err-Memory-clause-whole
-returns-in-Err-Memory-clause-whole g c zero t = absurd (fault_not_zero Ends.Memory c.end_with-in-Err-Memory.result c.end_with-in-Err-Memory.ensures.status zero)
+returns-in-Err-Memory-clause-whole g c low t = absurd (fault_not_low Ends.Memory c.end_with-in-Err-Memory.result c.end_with-in-Err-Memory.ensures.status low)
 
 -- ---- the fault that is said
 
@@ -249,3 +254,78 @@ pub returns-in-Err-Memory-clause-last : goal.returns-in-Err-Memory-clause-last
 returns-in-Err-Memory-clause-last g c of h =
     let line = c.end_with-in-Err-Memory in
     ends_fault (g.M.Machine.report line.new.m).fault_place (g.M.Machine.now c.read_input.new.m) (g.M.Machine.now line.new.m) line.result Ends.Memory tt (line.ensures.ends h) of
+
+-- ---- all that is said
+
+pub returns-in-Ok-clause-one : goal.returns-in-Ok-clause-one
+returns-in-Ok-clause-one g c h none =
+    let M = g.M.Machine in
+    let x = c.in-Ok in
+    let a = M.now c.args.m.now in
+    let b = M.now c.one_on.new.m in
+    let trust = c.one_on.ensures.trust in
+    let back = trust.honest h in
+    let ends = c.one_on.ensures.one h none in
+    subst (λ (bytes : List ℕ). SaysOne (Word.Put c.args.name bytes c.args.keep) a b c.one_on.result) (x.ensures.whole (g.met.M.Machine.honest_tells c.read_input.new.m back))
+    (one_since (Word.Put c.args.name x.bytes c.args.keep) a (M.now c.read_input.new.m) b c.one_on.result (x.ensures.calls.exit back).said ends.says)
+
+pub returns-in-Err-TooLong-clause-one : goal.returns-in-Err-TooLong-clause-one
+returns-in-Err-TooLong-clause-one g c h none =
+    let now = g.M.Machine.now in
+    let e = c.refuse_input.ensures in
+    inr (no_reply_since (now c.args.m.now) (now c.read_input.new.m) (now c.refuse_input.new.m) c.refuse_input.result (c.in-Err-TooLong.ensures.calls.exit (e.trust.honest h)).said (e.fault h))
+
+pub returns-in-Err-Failed-clause-one : goal.returns-in-Err-Failed-clause-one
+returns-in-Err-Failed-clause-one g c h none =
+    let now = g.M.Machine.now in
+    let line = c.end_with.ensures in
+    inr (fault_alone Ends.Input (now c.args.m.now) (now c.read_input.new.m) (now c.end_with.new.m) c.end_with.result (c.in-Err-Failed.ensures.calls.exit (line.says.trust.honest h)).said (line.ends h))
+
+pub returns-in-Err-Memory-clause-one : goal.returns-in-Err-Memory-clause-one
+returns-in-Err-Memory-clause-one g c h none =
+    let now = g.M.Machine.now in
+    let line = c.end_with-in-Err-Memory in
+    inr (fault_alone Ends.Memory (now c.args.m.now) (now c.read_input.new.m) (now line.new.m) line.result (c.in-Err-Memory.ensures.calls.exit (line.ensures.says.trust.honest h)).said (line.ensures.ends h))
+
+-- ---- the fault of the input that is said
+
+pub returns-in-Ok-clause-fails : goal.returns-in-Ok-clause-fails
+returns-in-Ok-clause-fails g c five h = absurd (one_not_five (Word.Put c.args.name c.in-Ok.bytes c.args.keep) c.one_on.result c.one_on.ensures.status five)
+
+pub returns-in-Err-TooLong-clause-fails : goal.returns-in-Err-TooLong-clause-fails
+returns-in-Err-TooLong-clause-fails g c five h =
+    let M = g.M.Machine in
+    let a = c.args.m.now in
+    let m = c.read_input.new.m in
+    let x = c.in-Err-TooLong in
+    let e = c.refuse_input.ensures in
+    e.long five h (M.ledger a).input (M.report a) (M.report c.refuse_input.new.m) (x.ensures.long (ap failed x.field-0-is) (g.met.M.Machine.honest_tells m (e.trust.honest h)))
+
+pub returns-in-Err-Failed-clause-fails : goal.returns-in-Err-Failed-clause-fails
+returns-in-Err-Failed-clause-fails g c five h =
+    let M = g.M.Machine in
+    let a = c.args.m.now in
+    let m = c.read_input.new.m in
+    let b = c.end_with.new.m in
+    let x = c.in-Err-Failed in
+    let line = c.end_with.ensures in
+    let before = (M.report a).input_faults in
+    says_input Ends.Input (M.ledger a).input (M.report a) (M.report b) (M.now m) (M.now b) c.end_with.result
+    (subst (λ (n : ℕ). Rose before n) (sym line.says.spares.input) (subst (λ (y : Bool). Counts y before (M.report m).input_faults) (ap failed_in x.field-0-is) x.ensures.calls.spares.input)) (line.ends h) five
+
+pub returns-in-Err-Memory-clause-fails : goal.returns-in-Err-Memory-clause-fails
+returns-in-Err-Memory-clause-fails g c five h = absurd (not_as 5 7 c.end_with-in-Err-Memory.result (λ e. omega (arith, e)) (λ e. omega (arith, e)) (λ e. omega (arith, e)) c.end_with-in-Err-Memory.ensures.status five)
+
+-- ---- an input that is taken
+
+pub returns-in-Ok-clause-few : goal.returns-in-Ok-clause-few
+returns-in-Ok-clause-few g c low t = subst (λ (bytes : List ℕ). length bytes ≤ max_input) (c.in-Ok.ensures.whole (c.one_on.ensures.trust.tells t)) c.in-Ok.ensures.few
+
+pub returns-in-Err-TooLong-clause-few : goal.returns-in-Err-TooLong-clause-few
+returns-in-Err-TooLong-clause-few g c low t = absurd (c.refuse_input.ensures.unmade low)
+
+pub returns-in-Err-Failed-clause-few : goal.returns-in-Err-Failed-clause-few
+returns-in-Err-Failed-clause-few g c low t = absurd (fault_not_low Ends.Input c.end_with.result c.end_with.ensures.status low)
+
+pub returns-in-Err-Memory-clause-few : goal.returns-in-Err-Memory-clause-few
+returns-in-Err-Memory-clause-few g c low t = absurd (fault_not_low Ends.Memory c.end_with-in-Err-Memory.result c.end_with-in-Err-Memory.ensures.status low)

@@ -5,12 +5,13 @@ use Rattle.fsd_sound.specs.Writes.{force_writes}
 use Rattle.volume_turns.specs.Line.{EndsWith, UttersFault, is_unsaid, IsStatusFor}
 use Rattle.volume_turns.specs.Once.{close_fault}
 use Rattle.volume_turns.specs.Steps.{IsOfCall}
-use Rattle.volume_turns.proofs.CauseLaws.{call_says}
+use Rattle.volume_turns.proofs.CauseLaws.{call_says, line_input}
 use Rattle.volume_turns.proofs.InputLaws.{close_of_call, device_close, refused_broken, refused_input}
 use Rattle.volume_turns.proofs.RunLaws.{told_fault}
-use Rattle.volume_turns.proofs.StatusLaws.{fault_not_zero, call_of_volume, not_as, fault_counts, fault_is_put, line_counts, long_is_put}
+use Rattle.volume_turns.proofs.StatusLaws.{as_not_low, fault_not_five, fault_not_low, call_of_volume, not_as, fault_counts, fault_is_put, line_counts, long_is_put}
 use Rattle.fsd_texts.specs.declared.fault.Fault.TheVariants as Ends
 use Rattle.volume_turns.proofs.LastLaws.{ends_fault, line_fault, told_place}
+use Rattle.volume_turns.proofs.AnsweringLaws.{fault_alone, line_alone}
 use Rattle.volume_turns.proofs.input.refuse_input.Goals as goal
 
 pub returns-in-Ok-clause-runs : goal.returns-in-Ok-clause-runs
@@ -73,13 +74,13 @@ returns-in-Ok-clause-says g c three h = absurd (not_as 3 5 c.last_line.result (�
 pub returns-in-Err-clause-says : goal.returns-in-Err-clause-says
 returns-in-Err-clause-says g c three h =
     let now = g.M.Machine.now in
-    call_says c.close_fault.result (subst IsOfCall (sym c.close_fault.ensures) (close_of_call c.in-Err.why)) (now c.close.new.m) (now c.end_with.new.m) c.end_with.result (c.end_with.ensures.ends h) three
+    call_says false (now c.args.m.now).said c.close_fault.result (subst IsOfCall (sym c.close_fault.ensures) (close_of_call c.in-Err.why)) (now c.close.new.m) (now c.end_with.new.m) c.end_with.result (c.in-Err.ensures.disk.quiet (c.end_with.ensures.says.trust.honest h)) (c.end_with.ensures.ends h) three
 
 pub returns-in-Ok-clause-unmade : goal.returns-in-Ok-clause-unmade
-returns-in-Ok-clause-unmade g c zero = not_as 0 5 c.last_line.result (λ e. omega (arith, e)) (λ e. omega (arith, e)) (λ e. omega (arith, e)) c.last_line.ensures.status zero
+returns-in-Ok-clause-unmade g c low = as_not_low 5 c.last_line.result (omega arith) c.last_line.ensures.status low
 
 pub returns-in-Err-clause-unmade : goal.returns-in-Err-clause-unmade
-returns-in-Err-clause-unmade g c zero = fault_not_zero c.close_fault.result c.end_with.result c.end_with.ensures.status zero
+returns-in-Err-clause-unmade g c low = fault_not_low c.close_fault.result c.end_with.result c.end_with.ensures.status low
 
 -- ---- the fault that is said
 
@@ -99,3 +100,26 @@ returns-in-Err-clause-last g c of h =
     ends_fault b.fault_place (now c.close.new.m) (now c.end_with.new.m) c.end_with.result why
     (told_place why a m b (subst (λ (o : Option ℕ). DiskFaults o a m) (device_close c.in-Err.why) c.in-Err.ensures.disk.faults) c.end_with.ensures.says.spares.place)
     (subst (λ (x : Fault). EndsWith x (now c.close.new.m) (now c.end_with.new.m) c.end_with.result) c.close_fault.ensures (c.end_with.ensures.ends h)) of
+
+-- ---- all that is said
+
+pub returns-in-Ok-clause-fault : goal.returns-in-Ok-clause-fault
+returns-in-Ok-clause-fault g c h =
+    let now = g.M.Machine.now in
+    let line = c.last_line.ensures in
+    line_alone Ends.InputTooLong (now c.args.m.now) (now c.close.new.m) (now c.last_line.new.m) c.last_line.result (c.in-Ok.ensures.disk.quiet (line.says.trust.honest h)) (line.ends h)
+
+pub returns-in-Err-clause-fault : goal.returns-in-Err-clause-fault
+returns-in-Err-clause-fault g c h =
+    let now = g.M.Machine.now in
+    let line = c.end_with.ensures in
+    fault_alone c.close_fault.result (now c.args.m.now) (now c.close.new.m) (now c.end_with.new.m) c.end_with.result (c.in-Err.ensures.disk.quiet (line.says.trust.honest h)) (line.ends h)
+
+pub returns-in-Ok-clause-long : goal.returns-in-Ok-clause-long
+returns-in-Ok-clause-long g c five h input old new many =
+    let now = g.M.Machine.now in
+    line_input Ends.InputTooLong input old new (now c.close.new.m) (now c.last_line.new.m) c.last_line.result many (c.last_line.ensures.ends h) five
+
+pub returns-in-Err-clause-long : goal.returns-in-Err-clause-long
+returns-in-Err-clause-long g c five h input old new many =
+    absurd (fault_not_five c.close_fault.result c.end_with.result (call_of_volume c.close_fault.result (subst IsOfCall (sym c.close_fault.ensures) (close_of_call c.in-Err.why))) c.end_with.ensures.status five)

@@ -1,14 +1,18 @@
-use Rattle.std.proofs.Common.{ℕ, List, false, subst, arith}
+use Rattle.std.proofs.Common.{inr, ◌≤◌, length, ℕ, List, false, subst, arith}
 use Rattle.volume_turns.specs.Whole.{RunsOut}
 use Rattle.sector_disk.specs.Calls.{LeavesDisk}
 use Rattle.fsd_texts.specs.declared.fault.Fault.{Fault}
+use Rattle.fsd_texts.specs.Script.{max_input}
 use Rattle.fsd_runs.specs.declared.request.Request.TheVariants.{Put}
 use Rattle.volume_turns.specs.Line.{EndsWith, IsStatusFor, UttersFault, is_unsaid}
 use Rattle.volume_turns.proofs.PutLaws.{some_put}
-use Rattle.volume_turns.proofs.CauseLaws.{tells_mounted, tells_refused}
-use Rattle.volume_turns.proofs.StatusLaws.{fault_not_zero, fails_behind, fault_not_five, fault_is_put, mount_counts, mount_of_volume, script_counts, script_counts_after}
+use Rattle.volume_turns.proofs.CauseLaws.{input_since, tells_mounted, tells_refused}
+use Rattle.volume_turns.proofs.StatusLaws.{fault_not_low, fails_behind, fault_not_five, fault_is_put, mount_counts, mount_of_volume, script_counts, script_counts_after}
 use Rattle.volume_turns.proofs.WholeLaws.{joined_run, refused_run}
 use Rattle.volume_turns.proofs.LastLaws.{mount_fault}
+use Rattle.fsd_texts.specs.declared.command.Command.TheVariants as Word
+use Rattle.volume_turns.specs.Answering.{SaysOne}
+use Rattle.volume_turns.proofs.AnsweringLaws.{fault_alone, one_since}
 use Rattle.volume_turns.proofs.input.run_put.Goals as goal
 
 pub returns-in-Ok-clause-leaves : goal.returns-in-Ok-clause-leaves
@@ -65,7 +69,8 @@ pub returns-in-Ok-clause-image : goal.returns-in-Ok-clause-image
 returns-in-Ok-clause-image g c h =
     let M = g.M.Machine in
     let does = c.put_on.ensures in
-    tells_mounted c.args.sectors (g.V.Files.state c.in-Ok.v) (M.now c.args.m.now) (M.now c.put_on.new.m) c.put_on.result (c.in-Ok.ensures.found (does.trust.honest h)) (λ three. does.says three h)
+    let back = does.trust.honest h in
+    tells_mounted false c.args.sectors (g.V.Files.state c.in-Ok.v) (M.now c.args.m.now) (M.now c.put_on.new.m) c.put_on.result (M.now c.mount.new.m).said (c.in-Ok.ensures.disk.quiet back) (c.in-Ok.ensures.found back) (λ three. does.says three h)
 
 pub returns-in-Err-clause-image : goal.returns-in-Err-clause-image
 returns-in-Err-clause-image g c h =
@@ -73,7 +78,7 @@ returns-in-Err-clause-image g c h =
     let said = c.end_with.ensures in
     let back = said.says.trust.honest h in
     let why = c.in-Err.ensures in
-    tells_refused c.args.sectors c.in-Err.fault c.fault_of.result (M.now c.args.m.now) (M.now c.mount.new.m) (M.now c.end_with.new.m) c.end_with.result c.fault_of.ensures (why.refused back) (why.lost back) (why.unsound back) (why.unchanged back) (why.rest back) (said.says.exit h) (said.ends h) said.status
+    tells_refused false c.args.sectors c.in-Err.fault c.fault_of.result (M.now c.args.m.now) (M.now c.mount.new.m) (M.now c.end_with.new.m) c.end_with.result c.fault_of.ensures (why.refused back) (why.lost back) (why.unsound back) (why.unchanged back) (why.rest back) (why.disk.quiet back) (said.says.exit h) (said.ends h) said.status
 
 -- ---- the input
 
@@ -92,7 +97,7 @@ pub returns-in-Ok-clause-whole : goal.returns-in-Ok-clause-whole
 returns-in-Ok-clause-whole g c = c.put_on.ensures.whole
 
 pub returns-in-Err-clause-whole : goal.returns-in-Err-clause-whole
-returns-in-Err-clause-whole g c zero t = absurd (fault_not_zero c.fault_of.result c.end_with.result c.end_with.ensures.status zero)
+returns-in-Err-clause-whole g c low t = absurd (fault_not_low c.fault_of.result c.end_with.result c.end_with.ensures.status low)
 
 -- ---- the fault that is said
 
@@ -105,3 +110,47 @@ returns-in-Err-clause-last g c of h =
     let said = c.end_with in
     mount_fault c.in-Err.fault c.fault_of.result (M.report c.args.m.now) (M.report c.mount.new.m) (M.report said.new.m) (M.now c.mount.new.m) (M.now said.new.m) said.result c.fault_of.ensures c.in-Err.ensures.disk.faults
     said.ensures.says.spares.place (said.ensures.ends h) of
+
+-- ---- all that is said
+
+pub returns-in-Ok-clause-one : goal.returns-in-Ok-clause-one
+returns-in-Ok-clause-one g c h =
+    let M = g.M.Machine in
+    let a = c.args.m.now in
+    let m = c.mount.new.m in
+    let b = M.now c.put_on.new.m in
+    let e = c.in-Ok.ensures in
+    let back = c.put_on.ensures.trust.honest h in
+    subst (λ (input : List ℕ). SaysOne (Word.Put c.args.name input c.args.keep) (M.now a) b c.put_on.result) (e.disk.ledger (g.met.M.Machine.honest_tells m back)).input
+    (one_since (Word.Put c.args.name (M.ledger m).input c.args.keep) (M.now a) (M.now m) b c.put_on.result (e.disk.quiet back) (c.put_on.ensures.one h e.fresh.dirty))
+
+pub returns-in-Err-clause-one : goal.returns-in-Err-clause-one
+returns-in-Err-clause-one g c h =
+    let now = g.M.Machine.now in
+    let line = c.end_with.ensures in
+    inr (fault_alone c.fault_of.result (now c.args.m.now) (now c.mount.new.m) (now c.end_with.new.m) c.end_with.result (c.in-Err.ensures.disk.quiet (line.says.trust.honest h)) (line.ends h))
+
+-- ---- the fault of the input that is said
+
+pub returns-in-Ok-clause-fails : goal.returns-in-Ok-clause-fails
+returns-in-Ok-clause-fails g c five h =
+    let M = g.M.Machine in
+    let a = c.args.m.now in
+    let m = c.mount.new.m in
+    let b = c.put_on.new.m in
+    let disk = c.in-Ok.ensures.disk in
+    let tells = g.met.M.Machine.honest_tells m (c.put_on.ensures.trust.honest h) in
+    input_since (M.report a) (M.report m) (M.report b) (M.ledger a).input (M.ledger m).input (M.now b) disk.uses.input (disk.ledger tells).input (c.put_on.ensures.fails five h)
+
+pub returns-in-Err-clause-fails : goal.returns-in-Err-clause-fails
+returns-in-Err-clause-fails g c five h = absurd (fault_not_five c.fault_of.result c.end_with.result (mount_of_volume c.in-Err.fault c.fault_of.result c.fault_of.ensures) c.end_with.ensures.status five)
+
+-- ---- an input that is taken
+
+pub returns-in-Ok-clause-few : goal.returns-in-Ok-clause-few
+returns-in-Ok-clause-few g c low t =
+    let does = c.put_on.ensures in
+    subst (λ (x : List ℕ). length x ≤ max_input) (c.in-Ok.ensures.disk.ledger (does.trust.tells t)).input (does.few low t)
+
+pub returns-in-Err-clause-few : goal.returns-in-Err-clause-few
+returns-in-Err-clause-few g c low t = absurd (fault_not_low c.fault_of.result c.end_with.result c.end_with.ensures.status low)

@@ -2,10 +2,11 @@ use Rattle.std.proofs.Common.{◌≡◌, List, Option, None, refl, sym, ◌∙�
 use Rattle.fsd_formats.specs.declared.entry.Entry.{Entry}
 use Rattle.fsd_files.specs.Answers.{entry_after}
 use Rattle.fsd_files.specs.Replies.{Found}
+use Rattle.fsd_files.proofs.ListingLaws.{lists_length}
 use Rattle.sector_disk.proofs.CallLaws.{reads_none, reads_then}
 use Rattle.volume_contract.specs.State.{State, volume_of}
 use Rattle.volume_turns.specs.Listing.{AreListed}
-use Rattle.volume_turns.proofs.ListLaws.{files_in_order, listed_all, listed_counted, listed_more, listed_none, lists_length, outside_only}
+use Rattle.volume_turns.proofs.ListLaws.{files_in_order, listed_all, listed_counted, listed_more, listed_none, outside_only}
 use Rattle.volume_turns.proofs.OrderLaws.{next_refuses}
 use Rattle.volume_turns.proofs.listing.collect.Goals as goal
 

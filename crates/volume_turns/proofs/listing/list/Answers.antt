@@ -16,6 +16,9 @@ use Rattle.volume_turns.proofs.StepLaws.{outside_does, same_device, wear_stays}
 use Rattle.fsd_runs.specs.Errands.{reply_status}
 use Rattle.volume_turns.specs.Steps.{reply_of}
 use Rattle.volume_turns.proofs.StatusLaws.{look_up_ends}
+use Rattle.fsd_files.specs.Disk.{nowhere}
+use Rattle.volume_turns.specs.Answering.{MayReply}
+use Rattle.volume_turns.proofs.AnsweringLaws.{worn_touches}
 use Rattle.volume_turns.proofs.listing.list.Goals as goal
 
 pub returns-in-Ok-clause-disk : goal.returns-in-Ok-clause-disk
@@ -59,3 +62,19 @@ returns-in-Err-clause-done g c h k stands =
 
 pub returns-in-Err-clause-status : goal.returns-in-Err-clause-status
 returns-in-Err-clause-status g c = look_up_ends (λ a. reply_status (reply_of a) ≡ 0) c.in-Err.why c.ended_by.result c.ended_by.ensures.is c.in-Err.ensures.refusal
+
+-- ---- what is said and written
+
+pub returns-in-Ok-clause-answers : goal.returns-in-Ok-clause-answers
+returns-in-Ok-clause-answers g c h =
+    let now = g.M.Machine.now in
+    record { replies = tt; rest = worn_touches nowhere (now c.args.m.now) (now c.collect.new.m) (c.in-Ok.ensures.disk.worn h).image; still = c.in-Ok.ensures.state }
+
+pub returns-in-Err-clause-answers : goal.returns-in-Err-clause-answers
+returns-in-Err-clause-answers g c h =
+    let now = g.M.Machine.now in
+    record {
+      replies = look_up_ends (λ a. MayReply (Word.List c.args.pattern.now) (now c.collect.new.m).image (reply_of a)) c.in-Err.why c.ended_by.result c.ended_by.ensures.is c.in-Err.ensures.refusal;
+      rest = worn_touches nowhere (now c.args.m.now) (now c.collect.new.m) (c.in-Err.ensures.disk.worn h).image;
+      still = c.in-Err.ensures.state;
+    }

@@ -6,6 +6,8 @@ use Rattle.volume_turns.specs.Steps.{reply_of}
 use Rattle.volume_turns.proofs.OnceLaws.{alone_answered, alone_fault}
 use Rattle.volume_turns.specs.Status.{IsStatusFrom}
 use Rattle.volume_turns.proofs.StatusLaws.{status_at}
+use Rattle.volume_turns.specs.Answering.{ClosesBy}
+use Rattle.volume_turns.proofs.AnsweringLaws.{alone_closed, alone_ended}
 use Rattle.volume_turns.proofs.once.alone.Goals as goal
 
 pub returns-in-Ok-clause-does : goal.returns-in-Ok-clause-does
@@ -38,3 +40,25 @@ returns-in-Err-clause-later g c h = (c.in-Err.ensures.disk.any_moment h).later
 
 pub returns-in-Ok-clause-status : goal.returns-in-Ok-clause-status
 returns-in-Ok-clause-status g c = status_at (IsStatusFrom c.args.c.now) (reply_status (reply_of c.in-Ok.answer)) c.close_as.result c.close_as.ensures.status c.in-Ok.ensures.status
+
+-- ---- what is said and written
+
+pub returns-in-Ok-clause-answers : goal.returns-in-Ok-clause-answers
+returns-in-Ok-clause-answers g c h =
+    let V = g.V.Files in
+    let now = g.M.Machine.now in
+    let back = c.close_as.ensures.trust.honest h in
+    let e = c.in-Ok.ensures in
+    let t = V.state c.answer.new.v in
+    let m = now c.answer.new.m in
+    let b = now c.close_as.new.m in
+    let reply = reply_of c.in-Ok.answer in
+    alone_closed c.args.c.now (V.state c.args.v) t (now c.args.m.now) m (e.disk.windows back) (e.disk.quiet back) b c.in-Ok.answer c.close_as.result e.layout (e.answers back) c.close_as.ensures.status
+    (subst (λ (says : Reply → List ℕ). ClosesBy t (says reply) m b (unit_of c.close_as.result)) c.requires.says (c.close_as.ensures.closing h))
+
+pub returns-in-Err-clause-answers : goal.returns-in-Err-clause-answers
+returns-in-Err-clause-answers g c h =
+    let V = g.V.Files in
+    let now = g.M.Machine.now in
+    let e = c.in-Err.ensures in
+    alone_ended c.args.c.now (V.state c.args.v) (V.state c.answer.new.v) (now c.args.m.now) (now c.answer.new.m) (e.disk.windows h) (e.disk.quiet h) c.in-Err.fault (e.answers h)

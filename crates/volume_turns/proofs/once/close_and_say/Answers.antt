@@ -7,6 +7,7 @@ use Rattle.volume_turns.specs.Steps.{reply_of}
 use Rattle.volume_turns.specs.Turns.{SaysAll, Unsaid}
 use Rattle.volume_turns.proofs.OnceLaws.{close_failed, close_said}
 use Rattle.volume_turns.proofs.RunLaws.{on_ok_said, on_err_said}
+use Rattle.volume_turns.proofs.AnsweringLaws.{closed_by, closed_still, says_so}
 use Rattle.volume_turns.proofs.once.close_and_say.Goals as goal
 
 pub returns-in-Ok-clause-closes : goal.returns-in-Ok-clause-closes
@@ -35,3 +36,30 @@ returns-in-Ok-clause-later g c h =
 
 pub returns-in-Err-clause-later : goal.returns-in-Err-clause-later
 returns-in-Err-clause-later g c h = (c.in-Err.ensures.disk.any_moment h).later
+
+-- ---- what is said and written
+
+pub returns-in-Ok-clause-closing : goal.returns-in-Ok-clause-closing
+returns-in-Ok-clause-closing g c h =
+    let V = g.V.Files in
+    let M = g.M.Machine in
+    let a = c.args.m.now in
+    let m = c.close.new.m in
+    let b = c.say.new.m in
+    let back = c.say.ensures.trust.honest h in
+    let s = V.state c.args.v in
+    let text = g.T.Says.errand.says (reply_of c.args.answer.now) in
+    let e = c.in-Ok.ensures in
+    let run = c.say.ensures.moments h in
+    let utters = run.each (M.now b) (g.met.M.Machine.counts_now b (M.moment m) h run.later) in
+    closed_by s text (M.now a) (M.now m) (M.now b) c.say.result (e.disk.windows back) (e.disk.quiet back) (e.rest back) (closed_still M.now s a m e.idle) (record { image = utters.image; windows = utters.windows })
+    (says_so text (M.now m) (M.now b) c.say.result (on_ok_said (SaysAll text (M.now m) (M.now b)) c.say.result h c.say.ensures.said) (on_err_said (Unsaid (M.now m) (M.now b)) c.say.result h c.say.ensures.unsaid))
+
+pub returns-in-Err-clause-closing : goal.returns-in-Err-clause-closing
+returns-in-Err-clause-closing g c h =
+    let M = g.M.Machine in
+    let a = c.args.m.now in
+    let m = c.close.new.m in
+    let s = g.V.Files.state c.args.v in
+    let e = c.in-Err.ensures in
+    record { windows = e.disk.windows h; says = e.disk.quiet h; rest = e.rest h; still = closed_still M.now s a m e.idle }

@@ -8,6 +8,7 @@ use Rattle.std.proofs.Common.{Ok, ap}
 use Rattle.std.specs.Prelude.{Result}
 use Rattle.volume_turns.specs.declared.turns.End.{End}
 use Rattle.volume_turns.specs.declared.script.Stop.{Stop}
+use Rattle.volume_turns.proofs.SaidLaws.{broken_by, worn_whole}
 use Rattle.volume_turns.proofs.script.group_read.Goals as goal
 
 pub returns-in-Ok-clause-group : goal.returns-in-Ok-clause-group
@@ -99,14 +100,11 @@ returns-else-is_worn_end-clause-ends g c end is t = absurd (cc is)
 
 -- ---- where all is read
 
-abbrev come_to : Stop → Result Stop End
-come_to stop = Ok stop
-
 pub returns-in-Ok-clause-whole : goal.returns-in-Ok-clause-whole
 returns-in-Ok-clause-whole g c is t =
     let done = c.force_read in
     let stop = passes_on c.in-Ok.stop Done done.result done.ensures.same is in
-    (done.ensures.ledger t).input ∙ c.in-Ok.ensures.whole (ap come_to stop) (done.ensures.trust.tells t)
+    (done.ensures.ledger t).input ∙ c.in-Ok.ensures.whole (ap (λ (s : Stop). let end : Result Stop End = Ok s in end) stop) (done.ensures.trust.tells t)
 
 pub returns-then-is_worn_end-clause-whole : goal.returns-then-is_worn_end-clause-whole
 returns-then-is_worn_end-clause-whole g c is t =
@@ -115,3 +113,22 @@ returns-then-is_worn_end-clause-whole g c is t =
 
 pub returns-else-is_worn_end-clause-whole : goal.returns-else-is_worn_end-clause-whole
 returns-else-is_worn_end-clause-whole g c is t = absurd (cc is)
+
+-- ---- what is said in front of a fault
+
+pub returns-in-Ok-clause-broken : goal.returns-in-Ok-clause-broken
+returns-in-Ok-clause-broken g c h =
+    let now = g.M.Machine.now in
+    let done = c.force_read in
+    broken_by g.T.Says.errand.says (now c.args.m.now) (now c.read_all.new.m) (now done.new.m) done.result (c.in-Ok.ensures.whole_replies (done.ensures.trust.honest h)) (done.ensures.quiet h)
+
+pub returns-then-is_worn_end-clause-broken : goal.returns-then-is_worn_end-clause-broken
+returns-then-is_worn_end-clause-broken g c h =
+    let now = g.M.Machine.now in
+    let says = g.T.Says.errand.says in
+    let done = c.force_read-then-is_worn_end in
+    broken_by says (now c.args.m.now) (now c.read_all.new.m) (now done.new.m) done.result
+    (worn_whole says (now c.args.m.now) (now c.read_all.new.m) c.in-Err.end (sym c.is_worn_end.ensures ∙ c.if-is_worn_end.true) (c.in-Err.ensures.whole_replies (done.ensures.trust.honest h))) (done.ensures.quiet h)
+
+pub returns-else-is_worn_end-clause-broken : goal.returns-else-is_worn_end-clause-broken
+returns-else-is_worn_end-clause-broken g c h = c.in-Err.ensures.whole_replies h

@@ -12,6 +12,7 @@ use Rattle.std.specs.Prelude.{Result}
 use Rattle.fsd_texts.specs.declared.end.End.TheVariants.{Done}
 use Rattle.volume_turns.specs.declared.turns.End.{End}
 use Rattle.volume_turns.specs.declared.script.Stop.TheVariants.{Ended}
+use Rattle.volume_turns.proofs.SaidLaws.{no_replies, replies_then, whole_then}
 use Rattle.volume_turns.proofs.script.read_all.Goals as goal
 
 pub loop-stop-init : goal.loop-stop-init
@@ -29,6 +30,7 @@ loop-stop-init g c =
       later = λ h. omega arith;
       few = let same = ap (λ (r : Reading). r.given) c.new-reader.ensures in omega (arith, same);
       going = ap (λ (r : Reading). r.end) c.new-reader.ensures;
+      replies = λ h. no_replies g.T.Says.errand.says (M.now c.args.m.now).said (M.now c.args.m.now).said refl;
       so_far = λ t. subst (λ (r : Reading). DoneSo V.state V.holds M g.T.Says.errand fresh r c.args.v.now c.args.m.now c.args.v.now c.args.m.now) (sym c.new-reader.ensures) (done_none V.state V.holds M g.T.Says.errand fresh c.args.v.now c.args.m.now);
     }
 
@@ -131,6 +133,7 @@ loop-stop-preserved g c =
       later = both.later;
       few = goes.2;
       going = goes.1;
+      replies = λ h. replies_then g.T.Says.errand.says (M.now c.args.m.now).said (M.now l.m).said (M.now c.read_on.new.m).said (was.replies (c.read_on.ensures.trust.honest h)) (c.in-Ok-None.ensures.whole_replies h);
       so_far = λ t. reads_then V.state V.holds M g.T.Says.errand fresh l.reader c.read_on.new.reader c.args.v.now l.v c.read_on.new.v c.args.m.now l.m c.read_on.new.m (Ok None) step (was.so_far (c.read_on.ensures.trust.tells t))
           (subst (λ (o : Option Stop). Reads V.state V.holds M g.T.Says.errand l.reader c.read_on.new.reader l.v l.m c.read_on.new.v c.read_on.new.m (Ok o)) c.in-Ok-None.field-0-is (c.in-Ok-None.ensures.reads t));
     }
@@ -148,3 +151,15 @@ returns-in-Ok-Some-clause-whole g c is t =
 
 pub returns-in-Err-clause-whole : goal.returns-in-Err-clause-whole
 returns-in-Err-clause-whole g c is t = absurd (cc is)
+
+-- ---- what is said
+
+pub returns-in-Ok-Some-clause-whole_replies : goal.returns-in-Ok-Some-clause-whole_replies
+returns-in-Ok-Some-clause-whole_replies g c h =
+    let now = g.M.Machine.now in
+    replies_then g.T.Says.errand.says (now c.args.m.now).said (now c.loop-stop.m).said (now c.read_on.new.m).said (c.loop-stop.invariant.replies (c.read_on.ensures.trust.honest h)) (c.in-Ok-Some.ensures.whole_replies h)
+
+pub returns-in-Err-clause-whole_replies : goal.returns-in-Err-clause-whole_replies
+returns-in-Err-clause-whole_replies g c h =
+    let now = g.M.Machine.now in
+    whole_then g.T.Says.errand.says (now c.args.m.now) (now c.loop-stop.m) (now c.read_on.new.m) c.in-Err.end (c.loop-stop.invariant.replies (c.read_on.ensures.trust.honest h)) (c.in-Err.ensures.whole_replies h)

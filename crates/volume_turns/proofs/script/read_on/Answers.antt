@@ -10,6 +10,7 @@ use Rattle.volume_turns.specs.Script.{Reads}
 use Rattle.volume_turns.specs.declared.script.Stop.TheVariants.{Ended}
 use Rattle.volume_turns.proofs.ScriptLaws.{ended_so, moves_spells, none_done, none_read, one_done, one_stops}
 use Rattle.volume_turns.proofs.CauseLaws.{none_left}
+use Rattle.volume_turns.proofs.SaidLaws.{no_replies, replies_then, whole_then}
 use Rattle.volume_turns.proofs.script.read_on.Goals as goal
 
 pub returns-in-Ok-clause-reads : goal.returns-in-Ok-clause-reads
@@ -154,3 +155,34 @@ returns-in-Ok-None-clause-whole g c is still t =
     let script = subst (λ (o : Option Word). Answers (Ok o) (script_left c.args.reader.now (M.ledger a).input) (script_left c.next_command.new.self (M.ledger m).input)) c.in-Ok-None.field-0-is (c.in-Ok-None.ensures.script t) in
     let moves = c.in-Ok-None.ensures.moves t in
     none_left c.args.reader.now (M.ledger a) (M.ledger m) moves.count still script.0 moves.left
+
+-- ---- what is said
+
+pub returns-in-Ok-clause-whole_replies : goal.returns-in-Ok-clause-whole_replies
+returns-in-Ok-clause-whole_replies g c h =
+    let now = g.M.Machine.now in
+    let says = g.T.Says.errand.says in
+    let quiet = (c.next_command.ensures.calls.exit (c.step.ensures.trust.honest h)).said in
+    replies_then says (now c.args.m.now).said (now c.next_command.new.m).said (now c.step.new.m).said (no_replies says (now c.args.m.now).said (now c.next_command.new.m).said quiet) (c.in-Ok.ensures.whole_replies h)
+
+pub returns-in-Ok-Some-clause-whole_replies : goal.returns-in-Ok-Some-clause-whole_replies
+returns-in-Ok-Some-clause-whole_replies g c h =
+    let now = g.M.Machine.now in
+    let says = g.T.Says.errand.says in
+    let quiet = (c.next_command.ensures.calls.exit (c.step.ensures.trust.honest h)).said in
+    whole_then says (now c.args.m.now) (now c.next_command.new.m) (now c.step.new.m) c.in-Err.end (no_replies says (now c.args.m.now).said (now c.next_command.new.m).said quiet) (c.in-Err.ensures.whole_replies h)
+
+pub returns-in-Ok-None-clause-whole_replies : goal.returns-in-Ok-None-clause-whole_replies
+returns-in-Ok-None-clause-whole_replies g c h = no_replies g.T.Says.errand.says (g.M.Machine.now c.args.m.now).said (g.M.Machine.now c.next_command.new.m).said (c.next_command.ensures.calls.exit h).said
+
+pub returns-in-Err-Bad-clause-whole_replies : goal.returns-in-Err-Bad-clause-whole_replies
+returns-in-Err-Bad-clause-whole_replies g c h = no_replies g.T.Says.errand.says (g.M.Machine.now c.args.m.now).said (g.M.Machine.now c.next_command.new.m).said (c.next_command.ensures.calls.exit h).said
+
+pub returns-in-Err-TooLong-clause-whole_replies : goal.returns-in-Err-TooLong-clause-whole_replies
+returns-in-Err-TooLong-clause-whole_replies g c h = no_replies g.T.Says.errand.says (g.M.Machine.now c.args.m.now).said (g.M.Machine.now c.next_command.new.m).said (c.next_command.ensures.calls.exit h).said
+
+pub returns-in-Err-Input-clause-whole_replies : goal.returns-in-Err-Input-clause-whole_replies
+returns-in-Err-Input-clause-whole_replies g c h = no_replies g.T.Says.errand.says (g.M.Machine.now c.args.m.now).said (g.M.Machine.now c.next_command.new.m).said (c.next_command.ensures.calls.exit h).said
+
+pub returns-clause-whole_replies : goal.returns-clause-whole_replies
+returns-clause-whole_replies g c h = no_replies g.T.Says.errand.says (g.M.Machine.now c.args.m.now).said (g.M.Machine.now c.next_command.new.m).said (c.next_command.ensures.calls.exit h).said

@@ -1,4 +1,4 @@
-use Rattle.std.proofs.Common.{◌≡◌, ℕ, List, false, subst, arith}
+use Rattle.std.proofs.Common.{true, ◌≡◌, ℕ, List, false, subst, arith}
 use Rattle.volume_turns.specs.Whole.{RunsOut}
 use Rattle.sector_disk.specs.Calls.{LeavesDisk}
 use Rattle.fsd_texts.specs.declared.fault.Fault.{Fault}
@@ -7,7 +7,7 @@ use Rattle.fsd_texts.specs.Script.{script_in}
 use Rattle.fsd_runs.specs.declared.request.Request.TheVariants.{Script}
 use Rattle.volume_turns.specs.Line.{EndsWith, IsStatusFor, UttersFault, is_unsaid}
 use Rattle.volume_turns.proofs.ScriptRunLaws.{some_forced}
-use Rattle.volume_turns.proofs.CauseLaws.{tells_mounted, tells_refused}
+use Rattle.volume_turns.proofs.CauseLaws.{input_since, tells_mounted, tells_refused}
 use Rattle.volume_turns.proofs.StatusLaws.{fault_not_bad, fault_not_zero, fails_behind, fault_not_five, fault_is_script, mount_counts, mount_of_volume, script_counts, script_counts_after}
 use Rattle.volume_turns.proofs.WholeLaws.{joined_run, refused_run}
 use Rattle.volume_turns.specs.Causes.{SaysBadLine}
@@ -68,7 +68,8 @@ pub returns-in-Ok-clause-image : goal.returns-in-Ok-clause-image
 returns-in-Ok-clause-image g c h =
     let M = g.M.Machine in
     let does = c.script_on.ensures in
-    tells_mounted c.args.sectors (g.V.Files.state c.in-Ok.v) (M.now c.args.m.now) (M.now c.script_on.new.m) c.script_on.result (c.in-Ok.ensures.found (does.trust.honest h)) (λ three. does.says three h)
+    let back = does.trust.honest h in
+    tells_mounted true c.args.sectors (g.V.Files.state c.in-Ok.v) (M.now c.args.m.now) (M.now c.script_on.new.m) c.script_on.result (M.now c.mount.new.m).said (c.in-Ok.ensures.disk.quiet back) (c.in-Ok.ensures.found back) (λ three. does.says three h)
 
 pub returns-in-Err-clause-image : goal.returns-in-Err-clause-image
 returns-in-Err-clause-image g c h =
@@ -76,7 +77,7 @@ returns-in-Err-clause-image g c h =
     let said = c.end_with.ensures in
     let back = said.says.trust.honest h in
     let why = c.in-Err.ensures in
-    tells_refused c.args.sectors c.in-Err.fault c.fault_of.result (M.now c.args.m.now) (M.now c.mount.new.m) (M.now c.end_with.new.m) c.end_with.result c.fault_of.ensures (why.refused back) (why.lost back) (why.unsound back) (why.unchanged back) (why.rest back) (said.says.exit h) (said.ends h) said.status
+    tells_refused true c.args.sectors c.in-Err.fault c.fault_of.result (M.now c.args.m.now) (M.now c.mount.new.m) (M.now c.end_with.new.m) c.end_with.result c.fault_of.ensures (why.refused back) (why.lost back) (why.unsound back) (why.unchanged back) (why.rest back) (why.disk.quiet back) (said.says.exit h) (said.ends h) said.status
 
 -- ---- the input
 
@@ -130,3 +131,18 @@ returns-in-Err-clause-last g c of h =
     let said = c.end_with in
     mount_fault c.in-Err.fault c.fault_of.result (M.report c.args.m.now) (M.report c.mount.new.m) (M.report said.new.m) (M.now c.mount.new.m) (M.now said.new.m) said.result c.fault_of.ensures c.in-Err.ensures.disk.faults
     said.ensures.says.spares.place (said.ensures.ends h) of
+
+-- ---- the fault of the input that is said
+
+pub returns-in-Ok-clause-fails : goal.returns-in-Ok-clause-fails
+returns-in-Ok-clause-fails g c five h =
+    let M = g.M.Machine in
+    let a = c.args.m.now in
+    let m = c.mount.new.m in
+    let b = c.script_on.new.m in
+    let disk = c.in-Ok.ensures.disk in
+    let tells = g.met.M.Machine.honest_tells m (c.script_on.ensures.trust.honest h) in
+    input_since (M.report a) (M.report m) (M.report b) (M.ledger a).input (M.ledger m).input (M.now b) disk.uses.input (disk.ledger tells).input (c.script_on.ensures.fails five h)
+
+pub returns-in-Err-clause-fails : goal.returns-in-Err-clause-fails
+returns-in-Err-clause-fails g c five h = absurd (fault_not_five c.fault_of.result c.end_with.result (mount_of_volume c.in-Err.fault c.fault_of.result c.fault_of.ensures) c.end_with.ensures.status five)

@@ -1,4 +1,4 @@
-use Rattle.std.proofs.Common.{refl, ℕ, [], ◌∷◌, ◌++◌, inl, inr, Some, Ok, Err, sym, ◌∙◌, ap, subst, arith}
+use Rattle.std.proofs.Common.{List, ℕ, true, refl, [], ◌∷◌, ◌++◌, inl, inr, Some, Ok, Err, sym, ◌∙◌, ap, subst, arith}
 use Rattle.std.specs.Prelude.{Result}
 use Rattle.sector_disk.specs.Machine.{Ledger, Rose}
 use Rattle.fsd_texts.specs.declared.bad_line.BadLine.{BadLine}
@@ -13,9 +13,11 @@ use Rattle.volume_turns.specs.declared.script.Stop.TheVariants.{Ended}
 use Rattle.volume_turns.specs.declared.turns.End.{End}
 use Rattle.volume_turns.specs.Script.{GroupsBy, Heard, RoseBy}
 use Rattle.volume_turns.specs.Turns.{IsEndOfVolume}
+use Rattle.fsd_files.specs.Replies.{Reply}
+use Rattle.volume_turns.specs.Turns.{EndsWhole, SaysReplies}
 use Rattle.volume_turns.proofs.ScriptEndLaws.{but_input, group_fault, group_fault_all, group_quiet, group_said, group_unsaid, group_unsaid_all, group_worn_said, told_but}
 use Rattle.volume_turns.proofs.ScriptRunLaws.{runs_either, runs_ended, runs_failed, runs_worn}
-use Rattle.volume_turns.proofs.CauseLaws.{long_input, says_bad, call_says}
+use Rattle.volume_turns.proofs.CauseLaws.{line_input, long_input, says_bad, call_says}
 use Rattle.volume_turns.proofs.StatusLaws.{fault_not_bad, fault_not_zero, fault_not_five, not_as, call_of_volume, bad_is_script, fault_is_script, input_is_script, script_done_counts, script_fault_counts, script_line_counts, script_unsaid_counts, worn_is_script}
 use Rattle.fsd_texts.specs.Script.{max_input}
 use Rattle.volume_turns.proofs.LastLaws.{ends_fault, line_fault, line_other, told_place}
@@ -230,7 +232,8 @@ returns-in-Ok-WornOut-clause-says g c three h = absurd (not_as 3 9 c.last_line-i
 pub returns-in-Err-Fault-clause-says : goal.returns-in-Err-Fault-clause-says
 returns-in-Err-Fault-clause-says g c three h =
     let now = g.M.Machine.now in
-    call_says c.in-Err-Fault.why (subst IsEndOfVolume c.in-Err-Fault.field-0-is c.in-Err-Fault.ensures.fault) (now c.group_read.new.m) (now c.end_with.new.m) c.end_with.result (c.end_with.ensures.ends h) three
+    call_says true (now c.args.m.now).said c.in-Err-Fault.why (subst IsEndOfVolume c.in-Err-Fault.field-0-is c.in-Err-Fault.ensures.fault) (now c.group_read.new.m) (now c.end_with.new.m) c.end_with.result (subst (λ (says : Reply → List ℕ). SaysReplies says (now c.args.m.now).said (now c.group_read.new.m).said) c.requires.says
+    (subst (λ (e : End). EndsWhole g.T.Says.errand.says (now c.args.m.now) (now c.group_read.new.m) e) c.in-Err-Fault.field-0-is (c.in-Err-Fault.ensures.broken (c.end_with.ensures.says.trust.honest h)))) (c.end_with.ensures.ends h) three
 
 pub returns-in-Err-Output-clause-says : goal.returns-in-Err-Output-clause-says
 returns-in-Err-Output-clause-says g c three h = absurd (omega (arith, three))
@@ -387,3 +390,45 @@ returns-in-Err-Fault-clause-last g c of h =
 
 pub returns-in-Err-Output-clause-last : goal.returns-in-Err-Output-clause-last
 returns-in-Err-Output-clause-last g c of h = absurd (cc of)
+
+-- ---- the fault of the input that is said
+
+pub returns-in-Ok-Ended-Done-clause-fails : goal.returns-in-Ok-Ended-Done-clause-fails
+returns-in-Ok-Ended-Done-clause-fails g c five h = absurd (omega (arith, five))
+
+pub returns-in-Ok-Ended-Bad-clause-fails : goal.returns-in-Ok-Ended-Bad-clause-fails
+returns-in-Ok-Ended-Bad-clause-fails g c five h = absurd (not_as 5 2 c.last_line.result (λ e. omega (arith, e)) (λ e. omega (arith, e)) (λ e. omega (arith, e)) c.last_line.ensures.status five)
+
+pub returns-in-Ok-Ended-TooLong-clause-fails : goal.returns-in-Ok-Ended-TooLong-clause-fails
+returns-in-Ok-Ended-TooLong-clause-fails g c five h =
+    let M = g.M.Machine in
+    let a = c.args.m.now in
+    let p = c.group_read.new.m in
+    let line = c.last_line-in-Ok-Ended-TooLong in
+    let b = line.new.m in
+    let x = c.in-Ok-Ended-TooLong in
+    let tells = g.met.M.Machine.honest_tells p (line.ensures.says.trust.honest h) in
+    let many = long_input max_input 1 (M.ledger a).input (x.ensures.ends TooLong (ap come_to (x.field-0-is ∙ ap (λ (y : ScriptEnd). Ended y) x.field-0-0-is)) tells) in
+    line_input Ends.InputTooLong (M.ledger a).input (M.report a) (M.report b) (M.now p) (M.now b) line.result many (line.ensures.ends h) five
+
+pub returns-in-Ok-Input-clause-fails : goal.returns-in-Ok-Input-clause-fails
+returns-in-Ok-Input-clause-fails g c five h =
+    let M = g.M.Machine in
+    let a = c.args.m.now in
+    let p = c.group_read.new.m in
+    let line = c.last_line-in-Ok-Input in
+    let b = line.new.m in
+    let x = c.in-Ok-Input in
+    let before = (M.report a).input_faults in
+    let rose : Rose before (M.report p).input_faults = subst (λ (s : Stop). RoseBy (M.report a) (M.report p) (Some s)) x.field-0-is x.ensures.rose in
+    line_input Ends.Input (M.ledger a).input (M.report a) (M.report b) (M.now p) (M.now b) line.result (subst (λ (n : ℕ). Rose before n) (sym line.ensures.says.spares.input) rose) (line.ensures.ends h) five
+
+pub returns-in-Ok-WornOut-clause-fails : goal.returns-in-Ok-WornOut-clause-fails
+returns-in-Ok-WornOut-clause-fails g c five h = absurd (not_as 5 9 c.last_line-in-Ok-WornOut.result (λ e. omega (arith, e)) (λ e. omega (arith, e)) (λ e. omega (arith, e)) c.last_line-in-Ok-WornOut.ensures.status five)
+
+pub returns-in-Err-Fault-clause-fails : goal.returns-in-Err-Fault-clause-fails
+returns-in-Err-Fault-clause-fails g c five h =
+    absurd (fault_not_five c.in-Err-Fault.why c.end_with.result (call_of_volume c.in-Err-Fault.why (subst IsEndOfVolume c.in-Err-Fault.field-0-is c.in-Err-Fault.ensures.fault)) c.end_with.ensures.status five)
+
+pub returns-in-Err-Output-clause-fails : goal.returns-in-Err-Output-clause-fails
+returns-in-Err-Output-clause-fails g c five h = absurd (omega (arith, five))

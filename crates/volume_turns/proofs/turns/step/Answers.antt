@@ -3,6 +3,8 @@ use Rattle.sector_disk.specs.Image.{AreShort, Windows}
 use Rattle.volume_turns.specs.Steps.{reply_of}
 use Rattle.volume_turns.specs.Turns.{SaysAll, Unsaid}
 use Rattle.volume_turns.proofs.RunLaws.{step_said, step_fault, told_fault, on_ok_said, on_err_said}
+use Rattle.volume_turns.proofs.AnsweringLaws.{says_so}
+use Rattle.volume_turns.proofs.SaidLaws.{no_replies, whole_by}
 use Rattle.volume_turns.proofs.turns.step.Goals as goal
 
 pub returns-in-Ok-clause-steps : goal.returns-in-Ok-clause-steps
@@ -35,3 +37,18 @@ returns-in-Err-clause-steps g c h k from stood aged =
     let at = g.met.V.Files.wears v k from (M.now a) (subst (λ (w : Windows). AreShort w) aged.windows (short a first)) aged stood in
     step_fault V.state V.holds M g.met.V.Files.wears short g.met.M.Machine.counts_now g.T.Says.errand c.requires.lazily c.args.c.now v c.answer.new.v a c.answer.new.m c.answer.new.m k from stood aged at _ disk c.in-Err.ensures.layout h (λ t left le was. was)
     c.in-Err.fault (c.in-Err.ensures.done h k at)
+
+-- ---- what is said
+
+pub returns-in-Ok-clause-whole_replies : goal.returns-in-Ok-clause-whole_replies
+returns-in-Ok-clause-whole_replies g c h =
+    let now = g.M.Machine.now in
+    let says = g.T.Says.errand.says in
+    let reply = reply_of c.in-Ok.answer in
+    let m = now c.answer.new.m in
+    let b = now c.say.new.m in
+    whole_by says (now c.args.m.now) m b reply (c.in-Ok.ensures.disk.quiet (c.say.ensures.trust.honest h)) c.say.result
+    (says_so (says reply) m b c.say.result (on_ok_said (SaysAll (says reply) m b) c.say.result h c.say.ensures.said) (on_err_said (Unsaid m b) c.say.result h c.say.ensures.unsaid))
+
+pub returns-in-Err-clause-whole_replies : goal.returns-in-Err-clause-whole_replies
+returns-in-Err-clause-whole_replies g c h = no_replies g.T.Says.errand.says (g.M.Machine.now c.args.m.now).said (g.M.Machine.now c.answer.new.m).said (c.in-Err.ensures.disk.quiet h)

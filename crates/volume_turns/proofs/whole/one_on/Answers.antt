@@ -1,4 +1,4 @@
-use Rattle.std.proofs.Common.{ℕ, Err, subst, arith}
+use Rattle.std.proofs.Common.{false, ℕ, Err, subst, arith}
 use Rattle.volume_turns.specs.declared.turns.End.{End}
 use Rattle.volume_turns.specs.Once.{IsAlone}
 use Rattle.volume_turns.specs.Turns.{IsEndOfVolume, Told}
@@ -6,6 +6,8 @@ use Rattle.volume_turns.proofs.CauseLaws.{call_says}
 use Rattle.volume_turns.proofs.StatusLaws.{counts_said, unsaid_counts, from_not, call_of_volume, fault_counts, fault_is_one}
 use Rattle.volume_turns.proofs.OneLaws.{one_broken, one_said, one_unsaid}
 use Rattle.volume_turns.proofs.LastLaws.{ends_fault, reply_not, told_place}
+use Rattle.volume_turns.specs.Answering.{AnswersAlone}
+use Rattle.volume_turns.proofs.AnsweringLaws.{one_failed, one_replied, one_unheard}
 use Rattle.volume_turns.proofs.whole.one_on.Goals as goal
 
 pub returns-in-Ok-clause-runs : goal.returns-in-Ok-clause-runs
@@ -67,7 +69,11 @@ returns-in-Ok-clause-says g c three h = absurd (from_not 3 c.args.c.now c.in-Ok.
 pub returns-in-Err-Fault-clause-says : goal.returns-in-Err-Fault-clause-says
 returns-in-Err-Fault-clause-says g c three h =
     let now = g.M.Machine.now in
-    call_says c.in-Err-Fault.why (subst IsEndOfVolume c.in-Err-Fault.field-0-is c.in-Err-Fault.ensures.fault) (now c.alone.new.m) (now c.end_with.new.m) c.end_with.result (c.end_with.ensures.ends h) three
+    let x = c.in-Err-Fault in
+    let a = now c.args.m.now in
+    let m = now c.alone.new.m in
+    let ended = subst (λ (e : End). AnswersAlone c.args.c.now (g.V.Files.state c.args.v) a m (Err e)) x.field-0-is (x.ensures.answers (c.end_with.ensures.says.trust.honest h)) in
+    call_says false a.said x.why (subst IsEndOfVolume x.field-0-is x.ensures.fault) m (now c.end_with.new.m) c.end_with.result ended.quiet (c.end_with.ensures.ends h) three
 
 pub returns-in-Err-Output-clause-says : goal.returns-in-Err-Output-clause-says
 returns-in-Err-Output-clause-says g c three h = absurd (omega (arith, three))
@@ -90,3 +96,28 @@ returns-in-Err-Fault-clause-last g c of h =
 
 pub returns-in-Err-Output-clause-last : goal.returns-in-Err-Output-clause-last
 returns-in-Err-Output-clause-last g c of h = absurd (cc of)
+
+-- ---- what is said and written
+
+pub returns-in-Ok-clause-one : goal.returns-in-Ok-clause-one
+returns-in-Ok-clause-one g c h none = one_replied c.args.c.now (g.V.Files.state c.args.v) (g.M.Machine.now c.args.m.now) (g.M.Machine.now c.alone.new.m) none c.in-Ok.status (c.in-Ok.ensures.answers h)
+
+pub returns-in-Err-Fault-clause-one : goal.returns-in-Err-Fault-clause-one
+returns-in-Err-Fault-clause-one g c h none =
+    let now = g.M.Machine.now in
+    let s = g.V.Files.state c.args.v in
+    let a = now c.args.m.now in
+    let m = now c.alone.new.m in
+    let x = c.in-Err-Fault in
+    let says = c.end_with.ensures.says in
+    let ended = subst (λ (e : End). AnswersAlone c.args.c.now s a m (Err e)) x.field-0-is (x.ensures.answers (says.trust.honest h)) in
+    one_failed c.args.c.now s a m none (now c.end_with.new.m) x.why c.end_with.result ended (says.exit h) (c.end_with.ensures.ends h)
+
+pub returns-in-Err-Output-clause-one : goal.returns-in-Err-Output-clause-one
+returns-in-Err-Output-clause-one g c h none =
+    let now = g.M.Machine.now in
+    let s = g.V.Files.state c.args.v in
+    let a = now c.args.m.now in
+    let m = now c.alone.new.m in
+    let x = c.in-Err-Output in
+    one_unheard c.args.c.now s a m none (subst (λ (e : End). AnswersAlone c.args.c.now s a m (Err e)) x.field-0-is (x.ensures.answers h))

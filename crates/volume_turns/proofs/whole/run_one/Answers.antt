@@ -9,6 +9,7 @@ use Rattle.volume_turns.proofs.StatusLaws.{counts_after, fault_is_one, mount_cou
 use Rattle.volume_turns.specs.Line.{IsStatusFor}
 use Rattle.volume_turns.proofs.WholeLaws.{joined_run, refused_run}
 use Rattle.volume_turns.proofs.LastLaws.{mount_fault}
+use Rattle.volume_turns.proofs.AnsweringLaws.{run_mounted, run_refused}
 use Rattle.volume_turns.proofs.whole.run_one.Goals as goal
 
 pub returns-in-Ok-clause-leaves : goal.returns-in-Ok-clause-leaves
@@ -57,7 +58,8 @@ pub returns-in-Ok-clause-image : goal.returns-in-Ok-clause-image
 returns-in-Ok-clause-image g c h =
     let M = g.M.Machine in
     let does = c.one_on.ensures in
-    tells_mounted c.args.sectors (g.V.Files.state c.in-Ok.v) (M.now c.args.m.now) (M.now c.one_on.new.m) c.one_on.result (c.in-Ok.ensures.found (does.trust.honest h)) (λ three. does.says three h)
+    let back = does.trust.honest h in
+    tells_mounted false c.args.sectors (g.V.Files.state c.in-Ok.v) (M.now c.args.m.now) (M.now c.one_on.new.m) c.one_on.result (M.now c.mount.new.m).said (c.in-Ok.ensures.disk.quiet back) (c.in-Ok.ensures.found back) (λ three. does.says three h)
 
 pub returns-in-Err-clause-image : goal.returns-in-Err-clause-image
 returns-in-Err-clause-image g c h =
@@ -65,7 +67,7 @@ returns-in-Err-clause-image g c h =
     let said = c.end_with.ensures in
     let back = said.says.trust.honest h in
     let why = c.in-Err.ensures in
-    tells_refused c.args.sectors c.in-Err.fault c.fault_of.result (M.now c.args.m.now) (M.now c.mount.new.m) (M.now c.end_with.new.m) c.end_with.result c.fault_of.ensures (why.refused back) (why.lost back) (why.unsound back) (why.unchanged back) (why.rest back) (said.says.exit h) (said.ends h) said.status
+    tells_refused false c.args.sectors c.in-Err.fault c.fault_of.result (M.now c.args.m.now) (M.now c.mount.new.m) (M.now c.end_with.new.m) c.end_with.result c.fault_of.ensures (why.refused back) (why.lost back) (why.unsound back) (why.unchanged back) (why.rest back) (why.disk.quiet back) (said.says.exit h) (said.ends h) said.status
 
 -- ---- the fault that is said
 
@@ -78,3 +80,20 @@ returns-in-Err-clause-last g c of h =
     let said = c.end_with in
     mount_fault c.in-Err.fault c.fault_of.result (M.report c.args.m.now) (M.report c.mount.new.m) (M.report said.new.m) (M.now c.mount.new.m) (M.now said.new.m) said.result c.fault_of.ensures c.in-Err.ensures.disk.faults
     said.ensures.says.spares.place (said.ensures.ends h) of
+
+-- ---- what is said and written
+
+pub returns-in-Ok-clause-one : goal.returns-in-Ok-clause-one
+returns-in-Ok-clause-one g c h =
+    let now = g.M.Machine.now in
+    let e = c.in-Ok.ensures in
+    let back = c.one_on.ensures.trust.honest h in
+    run_mounted c.args.c.now c.args.sectors (g.V.Files.state c.in-Ok.v) (now c.args.m.now) (now c.mount.new.m) (now c.one_on.new.m) c.one_on.result (e.found back) (e.disk.quiet back) (e.rest back) (c.one_on.ensures.one h e.fresh.dirty)
+
+pub returns-in-Err-clause-one : goal.returns-in-Err-clause-one
+returns-in-Err-clause-one g c h =
+    let now = g.M.Machine.now in
+    let e = c.in-Err.ensures in
+    let said = c.end_with.ensures in
+    let back = said.says.trust.honest h in
+    run_refused c.args.c.now c.args.sectors c.fault_of.result (now c.args.m.now) (now c.mount.new.m) (now c.end_with.new.m) c.end_with.result (e.disk.quiet back) (e.rest back) (said.says.exit h) (said.ends h)

@@ -1,0 +1,369 @@
+-- What one command by itself says and writes, whatever the image.
+use Rattle.std.proofs.Common.{◌≡◌, inl, inr, ℕ, Bool, true, false, cond, List, [], ◌∷◌, ◌++◌, length, Option, Some, None, refl, sym, ◌∙◌, ap, subst}
+use Rattle.std.specs.Prelude.{◌||◌, IfErr, IfOk, OnOk, IsFalse, IsTrue, Result, Ok, Err, is_none, nat_lt, option_map}
+use Rattle.std.proofs.lemmas.Bool.{ltb-true}
+use Rattle.volume_layout.specs.declared.layout.Layout.{Layout}
+use Rattle.run_table.specs.RunTable.{total}
+use Rattle.run_table.specs.Space.{best}
+use Rattle.fsd_bytes.specs.declared.key.Key.{Key}
+use Rattle.fsd_bytes.specs.declared.refusal.Refusal.{Refusal}
+use Rattle.fsd_bytes.specs.declared.refusal.Refusal.TheVariants as Why
+use Rattle.fsd_formats.specs.NamePage.{max_keep, sectors_for}
+use Rattle.sector_disk.specs.declared.sector.Sector.{Sector}
+use Rattle.sector_disk.specs.declared.sector.Sector.TheVariants.{Damaged}
+use Rattle.sector_disk.specs.Image.{IsWorn, Windows, open_damage, sector_at}
+use Rattle.sector_disk.specs.Machine.{Moment}
+use Rattle.fsd_files.specs.Answers.{keep_given, least_pages, size_fault}
+use Rattle.fsd_files.specs.Disk.{Image, SectorWorn, Sectors, Touches, nowhere}
+use Rattle.fsd_files.specs.Replies.{Reply}
+use Rattle.fsd_sound.specs.Writes.{MountKeeps, force_writes}
+use Rattle.fsd_texts.specs.declared.command.Command.{Command}
+use Rattle.fsd_texts.specs.declared.command.Command.TheVariants as Word
+use Rattle.fsd_texts.specs.declared.fault.Fault.{Fault}
+use Rattle.fsd_texts.specs.declared.fault.Fault.TheVariants as Ends
+use Rattle.fsd_texts.specs.declared.line.Line.TheVariants as Says
+use Rattle.fsd_texts.specs.Text.{fault_text}
+use Rattle.fsd_runs.specs.Commands.{reply_alone}
+use Rattle.fsd_runs.specs.Errands.{fault_status, reply_status}
+use Rattle.volume_contract.specs.Mount.{IsFound}
+use Rattle.volume_contract.specs.Order.{Asks, Comes, Data, Force, IsData, IsDevice, IsDeviceIn, IsFetch, IsLookUp, IsLoss, LookUp, Refuses, Step, Test, down, force_steps, is_idle, no_place_in, place, runs_at, worn}
+use Rattle.volume_contract.specs.State.{Ages, State, in_place, is_worn, place_in, put_writes}
+use Rattle.volume_turns.specs.declared.answer.Answer.{Answer}
+use Rattle.volume_turns.specs.declared.answer.Answer.TheVariants as Said
+use Rattle.volume_turns.specs.declared.turns.End.{End}
+use Rattle.volume_turns.specs.declared.turns.End.TheVariants.{Fault as Stopped, Output}
+use Rattle.volume_turns.specs.Answering.{Answers, AnswersAlone, ClosesBy, EndsOne, KeepsState, LacksRoom, MayReply, RefusesPut, RunsOne, SaysBy, SaysNoReply, SaysOne, SaysReply, WritesBehind, may_write}
+use Rattle.volume_turns.specs.Once.{unit_of}
+use Rattle.volume_turns.specs.Line.{EndsWith, UttersFault}
+use Rattle.volume_turns.specs.Steps.{ended_by, read_ended_by, reply_of}
+use Rattle.volume_turns.specs.Turns.{KeepsSaid, SaysAll, Unsaid}
+use Rattle.volume_turns.specs.Whole.{EndsLast}
+use Rattle.volume_turns.proofs.OrderLaws.{delete_all, edit_rest, few_best, keep_small, put_rest, starts_up, steps_of}
+use Rattle.volume_turns.proofs.StatusLaws.{look_up_ends, loss_looks}
+
+-- ---- what is touched
+
+worn_then : (p : Bool) (x y z : Sector) → SectorWorn p x y → SectorWorn p y z → SectorWorn p x z
+worn_then p x y z first (inl same) = subst (λ (u : Sector). SectorWorn p x u) (sym same) first
+worn_then p x y z first (inr gone) = inr gone
+
+then_touches : (earlier later may : Sectors) (a b c : Moment) → ((s : ℕ) → IsFalse (may s) → IsFalse (earlier s)) → ((s : ℕ) → IsFalse (may s) → IsFalse (later s)) → b.windows ≡ a.windows → Touches earlier a b → Touches later b c → Touches may a c
+then_touches earlier later may a b c more_first more_then windows first second = record {
+  size = second.size ∙ first.size;
+  others = λ s out. worn_then (open_damage a.windows s) (sector_at a.image s) (sector_at b.image s) (sector_at c.image s) (first.others s (more_first s out))
+      (subst (λ (w : Windows). SectorWorn (open_damage w s) (sector_at b.image s) (sector_at c.image s)) windows (second.others s (more_then s out)));
+}
+
+pub worn_touches : (may : Sectors) (a b : Moment) → IsWorn (open_damage a.windows) a.image b.image → Touches may a b
+worn_touches may a b worn = record { size = worn.size; others = λ s out. worn.each s }
+
+then_worn : (may : Sectors) (a b c : Moment) → b.windows ≡ a.windows → Touches may a b → IsWorn (open_damage b.windows) b.image c.image → Touches may a c
+then_worn may a b c windows first worn = then_touches may may may a b c (λ s out. out) (λ s out. out) windows first (worn_touches may b c worn)
+
+pub worn_first : (a b c : Moment) → b.windows ≡ a.windows → IsWorn (open_damage a.windows) a.image b.image → Touches nowhere b c → Touches nowhere a c
+worn_first a b c windows worn then = then_touches nowhere nowhere nowhere a b c (λ s out. out) (λ s out. out) windows (worn_touches nowhere a b worn) then
+
+touches_ages : (a b : Moment) → b.windows ≡ a.windows → Touches nowhere a b → Ages a b
+touches_ages a b windows t = record { image = record { size = t.size; each = λ s. t.others s refl }; windows = windows }
+
+stays_damaged : (a b : Moment) (s : ℕ) → Touches nowhere a b → sector_at a.image s ≡ Damaged → sector_at b.image s ≡ Damaged
+stays_damaged a b s t gone = elim (t.others s refl) [ inl same ↦ same ∙ gone | inr worn ↦ worn.1 ]
+
+or_left : (a b : Bool) → IsFalse (a || b) → IsFalse a
+or_left true b out = cc out
+or_left false b out = refl
+
+-- ---- refusals
+
+-- where a fault ends the run nothing is said of it
+said_or_fault : (P : Answer → Type 0) (why : Refusal) → P (Said.Refused why) → IfOk (ended_by why) P
+said_or_fault P (Why.Device s) said = tt
+said_or_fault P (Why.Down s) said = tt
+said_or_fault P (Why.Lost x y) said = tt
+said_or_fault P (Why.Unsound s) said = tt
+said_or_fault P Why.WornOut said = tt
+said_or_fault P Why.Memory said = tt
+said_or_fault P why said = said
+
+-- each step that refuses so has this
+abbrev Each : Refusal → Type 0 → List Step → Type 0
+Each why P [] = Unit {0}
+Each why P (step ∷ steps) = (Refuses step why → P) × Each why P steps
+
+each : (why : Refusal) (P : Type 0) (steps : List Step) → Each why P steps → Comes steps why → P
+each why P [] all comes = absurd comes
+each why P (step ∷ steps) all (inl here) = all.0 here
+each why P (step ∷ steps) all (inr later) = each why P steps all.1 later.1
+
+module _ (P : Answer → Type 0) (why : Refusal) where
+  abbrev Holds : Type 0
+  Holds = IfOk (ended_by why) P
+
+  looks : IsLookUp why → Holds
+  looks refuses = look_up_ends P why (ended_by why) refl refuses
+
+  losses : IsLoss why → Holds
+  losses loss = looks (loss_looks why loss)
+
+  fetches : (w : Refusal) → IsFetch w → IsLookUp w
+  fetches Why.Memory is = tt
+  fetches (Why.Device s) is = tt
+  fetches (Why.Lost x y) is = tt
+  fetches w is = absurd is
+
+  devices : (w : Refusal) → IsDevice w → IsLookUp w
+  devices (Why.Device s) is = tt
+  devices w is = absurd is
+
+  placed : (may : Sectors) (w : Refusal) → IsDeviceIn may w → IsLookUp w
+  placed may (Why.Device s) is = tt
+  placed may w is = absurd is
+
+  tests : (b : Bool) (x : Refusal) → (b ≡ true → P (Said.Refused x)) → cond b (Some x) None ≡ Some why → Holds
+  tests true x said is = let same : x ≡ why = cc is in said_or_fault P why (subst (λ (w : Refusal). P (Said.Refused w)) same (said refl))
+  tests false x said is = absurd (cc is)
+
+  worn_out : (b : Bool) → cond b (Some Why.WornOut) None ≡ Some why → Holds
+  worn_out true is = let same : Why.WornOut ≡ why = cc is in subst (λ (w : Refusal). IfOk (ended_by w) P) same tt
+  worn_out false is = absurd (cc is)
+
+  asked : (x : Refusal) → P (Said.Refused x) → why ≡ x → Holds
+  asked x said is = said_or_fault P why (subst (λ (w : Refusal). P (Said.Refused w)) (sym is) said)
+
+-- ---- a put
+
+module _ (s : State) (up : s.down ≡ None) (name bytes : List ℕ) (keep : Option ℕ) (i : Image) (why : Refusal) where
+  abbrev need : ℕ
+  need = sectors_for (length bytes)
+
+  abbrev size : Option Refusal
+  size = size_fault (keep_given keep) (length bytes)
+
+  abbrev Fits : Answer → Type 0
+  Fits a = MayReply (Word.Put name bytes keep) i (reply_of a)
+
+  no_place : is_none (place_in s need) ≡ true → (b : Bool) → nat_lt (total (runs_at s need)) need ≡ b → LacksRoom (length bytes) (cond b (Why.NoSpace need (total (runs_at s need))) (Why.TooFragmented need (best (runs_at s need))))
+  no_place none true is = (refl, ltb-true (total (runs_at s need)) need is)
+  no_place none false is = (refl, few_best s need none)
+
+  few_pages : (b : Bool) → nat_lt (length s.free_pages) least_pages ≡ b → cond b (Some (Why.NameTableFull (length s.free_pages))) None ≡ Some why → size ≡ None → IfOk (ended_by why) Fits
+  few_pages true is at none = let same : Why.NameTableFull (length s.free_pages) ≡ why = cc at in
+      said_or_fault Fits why (subst (λ (w : Refusal). RefusesPut keep (length bytes) w) same (inr (none, ltb-true (length s.free_pages) least_pages is)))
+  few_pages false is at none = absurd (cc at)
+
+  room : size ≡ None → Each why (IfOk (ended_by why) Fits) (put_rest s need)
+  room none = (
+    λ x. losses Fits why x.1,
+    (
+      λ x. tests Fits why (is_none (place_in s need)) (no_place_in s (runs_at s need) need) (λ e. inr (none, no_place e (nat_lt (total (runs_at s need)) need) refl)) x,
+      (
+        λ x. absurd x,
+        (
+          λ x. looks Fits why (placed Fits why (in_place (place_in s need)) why x),
+          (
+            λ x. losses Fits why x.1,
+            (
+              λ x. looks Fits why x,
+              (
+                λ x. asked Fits why Why.VersionsUsedUp (inr (none, tt)) x,
+                (
+                  λ x. few_pages (nat_lt (length s.free_pages) least_pages) refl x none,
+                  (λ x. looks Fits why (fetches Fits why why x), tt),
+                ),
+              ),
+            ),
+          ),
+        ),
+      ),
+    ),
+  )
+
+  pub put_refused : Comes (steps_of s size (put_rest s need)) why → IfOk (ended_by why) Fits
+  put_refused comes = elim (starts_up s up (Test size ∷ worn s ∷ put_rest s need) why comes) [
+    | inl is ↦ said_or_fault Fits why (inl is)
+    | inr later ↦ elim later.1 [ inl worn ↦ worn_out Fits why (is_worn s) worn | inr last ↦ each why (IfOk (ended_by why) Fits) (put_rest s need) (room later.0) last.1 ]
+  ]
+
+-- ---- a version taken out, a keep, and what is read
+
+module _ (s : State) (up : s.down ≡ None) (why : Refusal) where
+  edits : (P : Answer → Type 0) → P (Said.Refused Why.NoSuch) → Each why (IfOk (ended_by why) P) (edit_rest s)
+  edits P none = (λ x. losses P why x.1, (λ x. looks P why x, (λ x. asked P why Why.NoSuch none x, tt)))
+
+  pub delete_refused : (key : Key) (i : Image) → Comes (down s ∷ delete_all s) why → IfOk (ended_by why) (λ a. MayReply (Word.Delete key) i (reply_of a))
+  delete_refused key i comes =
+      let P : Answer → Type 0 = λ a. MayReply (Word.Delete key) i (reply_of a) in
+      elim (starts_up s up (delete_all s) why comes) [ inl worn ↦ worn_out P why (is_worn s) worn | inr later ↦ each why (IfOk (ended_by why) P) (edit_rest s) (edits P refl) later.1 ]
+
+  pub keep_refused : (name : List ℕ) (keep : ℕ) (i : Image) → Comes (steps_of s (cond (nat_lt max_keep keep) (Some (Why.KeepTooLarge keep)) None) (edit_rest s)) why → IfOk (ended_by why) (λ a. MayReply (Word.Keep name keep) i (reply_of a))
+  keep_refused name keep i comes =
+      elim (starts_up s up (Test (cond (nat_lt max_keep keep) (Some (Why.KeepTooLarge keep)) None) ∷ worn s ∷ edit_rest s) why comes) [
+        | inl is ↦ large (nat_lt max_keep keep) refl is
+        | inr later ↦ elim later.1 [ inl worn ↦ worn_out P why (is_worn s) worn | inr last ↦ each why (IfOk (ended_by why) P) (edit_rest s) (edits P (inr (refl, keep_small keep (nat_lt max_keep keep) (Why.KeepTooLarge keep) refl later.0))) last.1 ]
+      ]
+    where
+      P : Answer → Type 0
+      P a = MayReply (Word.Keep name keep) i (reply_of a)
+
+      large : (b : Bool) → nat_lt max_keep keep ≡ b → cond b (Some (Why.KeepTooLarge keep)) None ≡ Some why → IfOk (ended_by why) P
+      large true over is = tests P why true (Why.KeepTooLarge keep) (λ e. inl (refl, ltb-true max_keep keep over)) is
+      large false over is = absurd (cc is)
+
+  pub entry_refused : (key : Key) (i : Image) → Comes (down s ∷ LookUp ∷ Asks Why.NoSuch ∷ []) why → IfOk (ended_by why) (λ a. MayReply (Word.Get key) i (reply_of a))
+  entry_refused key i comes =
+      let P : Answer → Type 0 = λ a. MayReply (Word.Get key) i (reply_of a) in
+      each why (IfOk (ended_by why) P) (LookUp ∷ Asks Why.NoSuch ∷ []) (λ x. looks P why x, (λ x. asked P why Why.NoSuch refl x, tt)) (starts_up s up (LookUp ∷ Asks Why.NoSuch ∷ []) why comes)
+
+-- a sector that is told as damaged is so
+module _ (s : State) (up : s.down ≡ None) (key : Key) (i : Image) where
+  abbrev Answered : Answer → Type 0
+  Answered a = MayReply (Word.Get key) i (reply_of a)
+
+  by_order : (why : Refusal) → (IsData why → IfOk (ended_by why) Answered) → Comes (down s ∷ LookUp ∷ Asks Why.NoSuch ∷ Data ∷ []) why → IfOk (ended_by why) Answered
+  by_order why data_is comes =
+      each why (IfOk (ended_by why) Answered) (LookUp ∷ Asks Why.NoSuch ∷ Data ∷ []) (λ x. looks Answered why x, (λ x. asked Answered why Why.NoSuch refl x, (data_is, tt))) (starts_up s up (LookUp ∷ Asks Why.NoSuch ∷ Data ∷ []) why comes)
+
+  pub read_refused : (why : Refusal) → ((n : ℕ) → why ≡ Why.Damaged n → sector_at i n ≡ Damaged) → Comes (down s ∷ LookUp ∷ Asks Why.NoSuch ∷ Data ∷ []) why → IfOk (read_ended_by key why) Answered
+  read_refused (Why.Damaged n) gone comes = (refl, gone n refl)
+  read_refused (Why.Device n) gone comes = tt
+  read_refused why gone comes = by_order why (λ x. absurd x) comes
+
+-- what was answered of a command is so of one that is the same
+pub answers_at : (c d : Command) → c ≡ d → (s t : State) (old new : Moment) (r : Result Answer Fault) → Answers d s t old new r → Answers c s t old new r
+answers_at c d is s t old new r answers = subst (λ (x : Command). Answers x s t old new r) (sym is) answers
+
+-- ---- the end of a volume
+
+pub said_by : (text : List ℕ) (a m b : Moment) → m.said ≡ a.said → {T : Type 0} (r : Result T End) → SaysBy text m b r → SaysBy text a b r
+said_by text a m b same (Ok x) says = says ∙ ap (λ (x : List ℕ). x ++ text) same
+said_by text a m b same (Err (Stopped why)) says = says ∙ same
+said_by text a m b same (Err Output) says = tt
+
+-- a reply that was said, or not
+pub says_so : (text : List ℕ) (old new : Moment) (r : Result (Unit {0}) End) → OnOk r (SaysAll text old new) → IfErr r (λ end. Unsaid old new end) → SaysBy text old new r
+says_so text old new (Ok x) all unsaid = all.said
+says_so text old new (Err (Stopped Ends.Memory)) all unsaid = unsaid.said
+says_so text old new (Err Output) all unsaid = tt
+says_so text old new (Err (Stopped fault)) all unsaid = absurd unsaid
+
+idle_by : (s : State) → s.dirty ≡ [] → IsTrue (is_idle (force_steps s))
+idle_by s none = by s.down (nat_lt 0 (length s.dirty)) (ap (λ (x : List ℕ). nat_lt 0 (length x)) none)
+  where
+    by : (o : Option ℕ) (b : Bool) → b ≡ false → IsTrue (is_idle (Test (option_map Why.Down o) ∷ Force b ∷ []))
+    by (Some place) b is = refl
+    by None false is = refl
+    by None true is = cc is
+
+pub closed_still : {D : Type 0} (now : D → Moment) (s : State) (a m : D) → (IsTrue (is_idle (force_steps s)) → m ≡ a) → s.dirty ≡ [] → Touches nowhere (now a) (now m)
+closed_still {D = D} now s a m idle none = subst (λ (x : D). Touches nowhere (now a) (now x)) (sym (idle (idle_by s none))) (record { size = refl; others = λ n out. inl refl })
+
+-- a text behind a volume that was closed
+pub closed_by : {T : Type 0} (s : State) (text : List ℕ) (a m b : Moment) (r : Result T End) → m.windows ≡ a.windows → m.said ≡ a.said → Touches (force_writes s.layout) a m → (s.dirty ≡ [] → Touches nowhere a m) → Ages m b → SaysBy text m b r → ClosesBy s text a b r
+closed_by s text a m b r windows same rest still ages says = record {
+  windows = ages.windows ∙ windows;
+  says = said_by text a m b same r says;
+  rest = then_worn (force_writes s.layout) a m b windows rest ages.image;
+  still = λ none. then_worn nowhere a m b windows (still none) ages.image;
+}
+
+-- ---- one command
+
+-- a sector that is told stays damaged
+may_later : (command : Command) (s t : State) (a b : Moment) (reply : Reply) → KeepsState command s t → s.dirty ≡ [] → (t.dirty ≡ [] → Touches nowhere a b) → MayReply command a.image reply → MayReply command b.image reply
+may_later (Word.Get key) s t a b (Reply.DamagedAt k n) still none quiet may = (may.0, stays_damaged a b n (quiet (ap (λ (x : State). x.dirty) still ∙ none)) may.1)
+may_later command s t a b reply still none quiet may = may
+
+alone_rest : (command : Command) (s t : State) (a m b : Moment) → m.windows ≡ a.windows → t.layout ≡ s.layout → KeepsState command s t → s.dirty ≡ [] → Touches (may_write command s) a m → Touches (force_writes t.layout) m b → (t.dirty ≡ [] → Touches nowhere m b)
+    → Touches (may_write command s) a b
+alone_rest (Word.Put name bytes keep) s t a m b windows layout still none first closing quiet =
+    let may = put_writes s (sectors_for (length bytes)) in
+    then_touches may (force_writes t.layout) may a m b (λ x out. out) (λ x out. subst (λ (l : Layout). IsFalse (force_writes l x)) (sym layout) (or_left (force_writes s.layout x) (in_place (place_in s (sectors_for (length bytes))) x) out)) windows first closing
+alone_rest (Word.List pattern) s t a m b windows layout still none first closing quiet = then_touches nowhere nowhere nowhere a m b (λ x out. out) (λ x out. out) windows first (quiet (ap (λ (x : State). x.dirty) still ∙ none))
+alone_rest (Word.Get key) s t a m b windows layout still none first closing quiet = then_touches nowhere nowhere nowhere a m b (λ x out. out) (λ x out. out) windows first (quiet (ap (λ (x : State). x.dirty) still ∙ none))
+alone_rest Word.Stat s t a m b windows layout still none first closing quiet = then_touches nowhere nowhere nowhere a m b (λ x out. out) (λ x out. out) windows first (quiet (ap (λ (x : State). x.dirty) still ∙ none))
+alone_rest command s t a m b windows layout still none first closing quiet =
+    then_touches (force_writes s.layout) (force_writes t.layout) (force_writes s.layout) a m b (λ x out. out) (λ x out. subst (λ (l : Layout). IsFalse (force_writes l x)) (sym layout) out) windows first closing
+
+keeps_said : (text : List ℕ) (a b : Moment) (r : Result ℕ End) → SaysBy text a b (unit_of r) → KeepsSaid a b r
+keeps_said text a b (Ok status) says = tt
+keeps_said text a b (Err (Stopped why)) says = says
+keeps_said text a b (Err Output) says = tt
+
+replied : (command : Command) (reply : Reply) (a b : Moment) → MayReply command b.image reply → (r : Result ℕ End) → IfOk r (λ status. status ≡ reply_status reply) → SaysBy (reply_alone reply) a b (unit_of r) → IfOk r (SaysReply command a b)
+replied command reply a b may (Ok status) gives says = record { reply = reply; may = may; gives = gives; said = says }
+replied command reply a b may (Err end) gives says = tt
+
+module _ (command : Command) (s t : State) (a m : Moment) (windows : m.windows ≡ a.windows) (same : m.said ≡ a.said) where
+  pub alone_closed : (b : Moment) (x : Answer) (r : Result ℕ End) → t.layout ≡ s.layout → Answers command s t a m (Ok x) → IfOk r (λ status. status ≡ reply_status (reply_of x)) → ClosesBy t (reply_alone (reply_of x)) m b (unit_of r) → AnswersAlone command s a b r
+  alone_closed b x r layout answers gives closes =
+      let says = said_by (reply_alone (reply_of x)) a m b same (unit_of r) closes.says in
+      record {
+        windows = closes.windows ∙ windows;
+        quiet = keeps_said (reply_alone (reply_of x)) a b r says;
+        replies = λ none. replied command (reply_of x) a b (may_later command s t m b (reply_of x) answers.still none closes.still answers.replies) r gives says;
+        rest = λ none. alone_rest command s t a m b windows layout answers.still none answers.rest closes.rest closes.still;
+      }
+
+  pub alone_ended : (why : Fault) → Answers command s t a m (Err why) → AnswersAlone command s a m (Err (Stopped why))
+  alone_ended why answers = record { windows = windows; quiet = same; replies = λ none. tt; rest = λ none. answers.rest }
+
+-- ---- to the last line
+
+pub fault_alone : (why : Fault) (a m b : Moment) (status : ℕ) → m.said ≡ a.said → EndsWith why m b status → SaysNoReply a b status
+fault_alone why a m b status same (inl six) = inl six
+fault_alone why a m b status same (inr (said, which, gives, all)) = inr (record { why = said; gives = gives; said = all.said ∙ ap (λ (x : List ℕ). x ++ fault_text said) same })
+
+pub line_alone : (why : Fault) (a m b : Moment) (status : ℕ) → m.said ≡ a.said → EndsLast (Says.Ended why) (fault_status why) m b status → SaysNoReply a b status
+line_alone why a m b status same (inl six) = inl six
+line_alone why a m b status same (inr (inl (gives, all))) = inr (record { why = why; gives = gives; said = all.said ∙ ap (λ (x : List ℕ). x ++ fault_text why) same })
+line_alone why a m b status same (inr (inr (seven, all))) = inr (record { why = Ends.Memory; gives = seven; said = all.said ∙ ap (λ (x : List ℕ). x ++ fault_text Ends.Memory) same })
+
+pub no_reply_since : (a m b : Moment) (status : ℕ) → m.said ≡ a.said → SaysNoReply m b status → SaysNoReply a b status
+no_reply_since a m b status same (inl six) = inl six
+no_reply_since a m b status same (inr x) = inr (record { why = x.why; gives = x.gives; said = x.said ∙ ap (λ (y : List ℕ). y ++ fault_text x.why) same })
+
+pub one_since : (command : Command) (a m b : Moment) (status : ℕ) → m.said ≡ a.said → SaysOne command m b status → SaysOne command a b status
+one_since command a m b status same (inl x) = inl (record { reply = x.reply; may = x.may; gives = x.gives; said = x.said ∙ ap (λ (y : List ℕ). y ++ reply_alone x.reply) same })
+one_since command a m b status same (inr none) = inr (no_reply_since a m b status same none)
+
+module _ (command : Command) (s : State) (a m : Moment) (none : s.dirty ≡ []) where
+  pub one_replied : (status : ℕ) → AnswersAlone command s a m (Ok status) → EndsOne command s a m status
+  one_replied status x = record { windows = x.windows; says = inl (x.replies none); rest = x.rest none }
+
+  pub one_failed : (b : Moment) (why : Fault) (status : ℕ) → AnswersAlone command s a m (Err (Stopped why)) → UttersFault why m b → EndsWith why m b status → EndsOne command s a b status
+  one_failed b why status x (said, which, utters) ends = record {
+    windows = utters.windows ∙ x.windows;
+    says = inr (fault_alone why a m b status x.quiet ends);
+    rest = then_worn (may_write command s) a m b x.windows (x.rest none) utters.image;
+  }
+
+  pub one_unheard : AnswersAlone command s a m (Err Output) → EndsOne command s a m 6
+  one_unheard x = record { windows = x.windows; says = inr (inl refl); rest = x.rest none }
+
+-- ---- from the mount on
+
+behind_mount : (command : Command) (sectors : ℕ) (s : State) (a m b : Moment) → IsFound sectors s a → b.windows ≡ m.windows → Touches (may_write command s) m b → WritesBehind command sectors a m b
+behind_mount (Word.Put name bytes keep) sectors s a m b found windows rest = tt
+behind_mount (Word.List pattern) sectors s a m b found windows rest = touches_ages m b windows rest
+behind_mount (Word.Get key) sectors s a m b found windows rest = touches_ages m b windows rest
+behind_mount Word.Stat sectors s a m b found windows rest = touches_ages m b windows rest
+behind_mount command sectors s a m b found windows rest = inr (record { seen = found.seen; from = found.from; layout = s.layout; anchor = found.anchor; found = found.found }, rest)
+
+behind_nothing : (command : Command) (sectors : ℕ) (a m b : Moment) → Ages m b → WritesBehind command sectors a m b
+behind_nothing (Word.Put name bytes keep) sectors a m b ages = tt
+behind_nothing (Word.List pattern) sectors a m b ages = ages
+behind_nothing (Word.Get key) sectors a m b ages = ages
+behind_nothing Word.Stat sectors a m b ages = ages
+behind_nothing command sectors a m b ages = inl ages
+
+pub run_mounted : (command : Command) (sectors : ℕ) (s : State) (a m b : Moment) (status : ℕ) → IsFound sectors s a → m.said ≡ a.said → MountKeeps sectors a m → EndsOne command s m b status → RunsOne command sectors a b status
+run_mounted command sectors s a m b status found same kept ends = record {
+  says = one_since command a m b status same ends.says;
+  rest = record { mounted = m; rest = kept; behind = behind_mount command sectors s a m b found ends.windows ends.rest };
+}
+
+pub run_refused : (command : Command) (sectors : ℕ) (why : Fault) (a m b : Moment) (status : ℕ) → m.said ≡ a.said → MountKeeps sectors a m → UttersFault why m b → EndsWith why m b status → RunsOne command sectors a b status
+run_refused command sectors why a m b status same kept (said, which, utters) ends = record {
+  says = inr (fault_alone why a m b status same ends);
+  rest = record { mounted = m; rest = kept; behind = behind_nothing command sectors a m b (record { image = utters.image; windows = utters.windows }) };
+}

@@ -1,0 +1,4 @@
+use Rattle.volume_turns.proofs.script.force_read.Goals as goal
+
+pub returns-in-Err-clause-quiet : goal.returns-in-Err-clause-quiet
+returns-in-Err-clause-quiet g c h = c.in-Err.ensures.quiet h
