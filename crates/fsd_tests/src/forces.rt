@@ -83,10 +83,7 @@ fn load_all<M: Machine>(
 // Page 3, free, as the record 1 of epoch 2 has it.
 fn stamped_page() -> [u8; 512] {
     let mut bytes = [0; 512];
-    bytes[..4].copy_from_slice(b"CNPG");
-    bytes[15] = 3;
-    bytes[19] = 2;
-    bytes[23] = 1;
+    bytes[..24].copy_from_slice(b"CNPG\0\0\0\0\0\0\0\0\0\0\0\x03\0\0\0\x02\0\0\0\x01");
     bytes
 }
 

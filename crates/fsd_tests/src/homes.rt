@@ -1,9 +1,35 @@
 //! The two homes of a page.
+ghost use Rattle.std.specs.Prelude.{◌≡◌, ◌<◌, ◌≤◌};
+
 use crate::machines::calm;
-use sector_disk::{Attach, Machine, Sector, Seen};
+use sector_disk::{Attach, Failed, Machine, Sector, Seen};
 use std::test::Fail;
 use twin_home::{read_home, write_a, write_b};
 use volume_layout::Layout;
+
+// What a read of page 3 sees, and the bytes that were nines before it.
+fn home_of<M: Machine>(m: &mut M, l: &Layout) -> Result<(Seen, [u8; 512]), Failed>
+    requires page { 3 < l.now.pages }
+    requires sectors { l.now.sectors ≤ (M.report m.old).sectors }
+    ensures { (M.report m.new).sectors ≡ (M.report m.old).sectors }
+{
+    let mut buf = [9; 512];
+    let seen = read_home(m, l, 3, &mut buf)?;
+    Ok((seen, buf))
+}
+
+// What is read before a home of page 3 is written, once the second one is, and once both are.
+fn homes<M: Machine>(m: &mut M, l: &Layout) -> Result<[(Seen, [u8; 512]); 3], Failed>
+    requires page { 3 < l.now.pages }
+    requires sectors { l.now.sectors ≤ (M.report m.old).sectors }
+{
+    let neither = home_of(m, l)?;
+    write_b(m, l, 3, &[7; 512])?;
+    let second = home_of(m, l)?;
+    write_a(m, l, 3, &[8; 512])?;
+    let both = home_of(m, l)?;
+    Ok([neither, second, both])
+}
 
 #[test]
 fn one_whole_copy_is_enough(rt: HostRuntime) -> Result<(), Fail> {
@@ -12,17 +38,14 @@ fn one_whole_copy_is_enough(rt: HostRuntime) -> Result<(), Fail> {
     let sectors = m.attach("v", Attach::Old)?;
     let l = Layout::plan(2048, 256, 64)?;
     assert!(rt; sectors >= l.sectors() && l.pages() > 3);
-    let mut buf = [9; 512];
-    assert_eq!(rt; read_home(&mut m, &l, 3, &mut buf), Ok(Seen::Damaged));
-    assert_eq!(rt; buf, [9; 512]);
-    assert_eq!(rt; write_b(&mut m, &l, 3, &[7; 512]), Ok(()));
-    assert_eq!(rt; read_home(&mut m, &l, 3, &mut buf), Ok(Seen::Whole));
-    assert_eq!(rt; buf, [7; 512]);
-    assert_eq!(rt; write_a(&mut m, &l, 3, &[8; 512]), Ok(()));
-    assert_eq!(rt; read_home(&mut m, &l, 3, &mut buf), Ok(Seen::Whole));
-    assert_eq!(rt; buf, [8; 512]);
+    let want = [
+        (Seen::Damaged, [9; 512]),
+        (Seen::Whole, [7; 512]),
+        (Seen::Whole, [8; 512]),
+    ];
+    assert_eq!(rt; homes(&mut m, &l), Ok(want));
     // 16 sectors, 3 thirds of 256, 64 first homes and 4 between
-    assert_eq!(rt; m.image().get(787).copied(), Some(Sector::Whole([8; 512])));
-    assert_eq!(rt; m.image().get(855).copied(), Some(Sector::Whole([7; 512])));
+    let found = [787, 855].map(|sector| m.image().get(sector).copied());
+    assert_eq!(rt; found, [8, 7].map(|byte| Some(Sector::Whole([byte; 512]))));
     Ok(())
 }

@@ -1,16 +1,26 @@
-//! Tests that cross crates: runs over a machine in memory whose sectors wear, and the mounts and forces below them.
+//! Tests that cross crates: runs over a machine in memory whose sectors wear and over real files, and the mounts and forces below them.
 #![tactic(auto)]
 
 #[cfg(test)]
 mod commands;
 #[cfg(test)]
+mod faults;
+#[cfg(test)]
+mod files;
+#[cfg(test)]
 mod forces;
+#[cfg(test)]
+mod full;
+#[cfg(test)]
+mod generated;
 #[cfg(test)]
 mod homes;
 #[cfg(test)]
 mod machines;
 #[cfg(test)]
 mod mounts;
+#[cfg(test)]
+mod prefixes;
 #[cfg(test)]
 mod rounds;
 #[cfg(test)]

@@ -81,7 +81,8 @@ pub fn formatted(alloc: Global, line: &str) -> Result<Vec<Sector>, AllocError> {
     m.image().to_vec(alloc)
 }
 
-fn words_of(alloc: Global, line: &str) -> Result<Vec<String>, AllocError> {
+/// The words of a line.
+pub fn words_of(alloc: Global, line: &str) -> Result<Vec<String>, AllocError> {
     let mut words = Vec::new(alloc);
     for word in line.split(' ') {
         words.push(String::from_str(alloc, word)?)?;

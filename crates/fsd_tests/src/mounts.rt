@@ -24,74 +24,109 @@ fn anchor(epoch: u8) -> [u8; 512] {
     bytes
 }
 
-// A machine over 2048 damaged sectors.
-fn machine(alloc: Global) -> Result<MemoryMachine, AllocError> {
-    Ok(calm(alloc, vec![in alloc; Sector::Damaged; 2048]?))
+fn last_anchor() -> [u8; 512] {
+    beginning(b"CFSA\xff\xff\xff\xff\0\0\0\0\0\0\0\x01\0\0\0\0")
 }
 
-fn epoch_of(mounted: Result<Settled, MountFault>) -> Result<u32, MountFault> {
-    let settled = mounted?;
-    Ok(settled.log.epoch())
+// A whole sector, and where it stands.
+type Placed = (usize, [u8; 512]);
+
+fn place(image: &mut [Sector], whole: &[Placed]) {
+    for (sector, bytes) in whole {
+        if let Some(sector) = image.get_mut(*sector) {
+            *sector = Sector::Whole(*bytes);
+        }
+    }
+}
+
+// 2048 sectors, of which these alone are whole.
+fn damaged(alloc: Global, whole: &[Placed]) -> Result<Vec<Sector>, AllocError> {
+    let mut image = vec![in alloc; Sector::Damaged; 2048]?;
+    place(&mut image, whole);
+    Ok(image)
+}
+
+// The same with both homes of all pages but the first home of page 0.
+fn homed(alloc: Global, whole: &[Placed]) -> Result<Vec<Sector>, AllocError> {
+    let mut image = damaged(alloc, whole)?;
+    for (i, sector) in image.iter_mut().enumerate() {
+        if 784 < i && i < 848 || 852 <= i && i < 916 {
+            *sector = Sector::Whole([0; 512]);
+        }
+    }
+    Ok(image)
+}
+
+fn mount(alloc: Global, m: &mut MemoryMachine) -> Result<Result<(u32, u32), MountFault>, Fail> {
+    let sectors = m.attach("v", Attach::Old)?;
+    Ok(match recover(alloc, m, sectors) {
+        Ok(Settled { log, .. }) => Ok((log.epoch(), log.next_number())),
+        Err(fault) => Err(fault),
+    })
 }
 
 #[test]
-fn volumes_and_what_is_none(rt: HostRuntime) -> Result<(), Fail> {
+fn what_is_no_volume_is_not_mounted(rt: HostRuntime) -> Result<(), Fail> {
     let alloc = rt.alloc();
-    let last = beginning(b"CFSA\xff\xff\xff\xff\0\0\0\0\0\0\0\x01\0\0\0\0");
-    let mut m = machine(alloc)?;
-    let sectors = m.attach("v", Attach::Old)?;
-    assert!(rt; sectors == 2048);
-    assert_eq!(rt;
-        epoch_of(recover(alloc, &mut m, sectors)),
-        Err(MountFault::NotVolume)
-    );
-    assert_eq!(rt; m.write(4, &root()), Ok(()));
-    assert_eq!(rt;
-        epoch_of(recover(alloc, &mut m, sectors)),
-        Err(MountFault::NoAnchor)
-    );
-    assert_eq!(rt; m.write(8, &last), Ok(()));
-    assert_eq!(rt;
-        epoch_of(recover(alloc, &mut m, sectors)),
-        Err(MountFault::WornOut)
-    );
-    assert_eq!(rt; m.write(8, &anchor(1)), Ok(()));
-    assert_eq!(rt;
-        epoch_of(recover(alloc, &mut m, sectors)),
-        Err(MountFault::Lost { a: 784, b: 852 })
-    );
-    m.write(784, &[0; 32768])?;
-    m.write(852, &[0; 32768])?;
-    assert_eq!(rt; epoch_of(recover(alloc, &mut m, sectors)), Ok(2));
-    assert_eq!(rt; m.image().get(0).copied(), Some(Sector::Whole(root())));
-    assert_eq!(rt; m.image().get(8).copied(), Some(Sector::Whole(anchor(2))));
-    assert_eq!(rt; m.image().get(12).copied(), Some(Sector::Whole(anchor(2))));
-    assert_eq!(rt; epoch_of(recover(alloc, &mut m, sectors)), Ok(3));
+    let root = (4, root());
+    let rows = [
+        ([(99, [0; 512]), (98, [0; 512])], MountFault::NotVolume),
+        ([root, (98, [0; 512])], MountFault::NoAnchor),
+        ([root, (8, last_anchor())], MountFault::WornOut),
+        ([root, (8, anchor(1))], MountFault::Lost { a: 784, b: 852 }),
+    ];
+    for (whole, fault) in rows {
+        let mut m = calm(alloc, damaged(alloc, &whole)?);
+        assert_eq!(rt; mount(alloc, &mut m)?, Err(fault));
+    }
     Ok(())
 }
 
+fn sectors_at(m: &MemoryMachine, places: [usize; 4]) -> [Option<Sector>; 4] {
+    places.map(|sector| m.image().get(sector).copied())
+}
+
+#[test]
+fn a_mount_mends_the_front(rt: HostRuntime) -> Result<(), Fail> {
+    let alloc = rt.alloc();
+    let mut m = calm(alloc, homed(alloc, &[(4, root()), (8, anchor(1))])?);
+    assert_eq!(rt; mount(alloc, &mut m)?, Ok((2, 1)));
+    let front = [root(), root(), anchor(2), anchor(2)].map(|bytes| Some(Sector::Whole(bytes)));
+    assert_eq!(rt; sectors_at(&m, [0, 4, 8, 12]), front);
+    assert_eq!(rt; mount(alloc, &mut m)?, Ok((3, 1)));
+    Ok(())
+}
+
+// Page 0 as the record 1 of epoch 2 has it.
+fn logged_page() -> [u8; 512] {
+    let mut page = beginning(b"CNPG\0\0\0\0\0\0\0\0\0\0\0\0\0\0\0\x02");
+    page[23] = 1;
+    page
+}
+
 // Page 0 is in one record at the start of the log, whose page copy and end copy are old, and its home at 784 is damaged.
+fn logged(alloc: Global) -> Result<Vec<Sector>, AllocError> {
+    let mut record = [0; 3584];
+    lay(2, 1, &[0], &logged_page(), &mut record);
+    let mut image = homed(
+        alloc,
+        &[(0, root()), (8, anchor(2)), (21, [0; 512]), (22, [0; 512])],
+    )?;
+    for (i, bytes) in record.chunks_exact(512).take(5).enumerate() {
+        let mut sector = [0; 512];
+        sector.copy_from_slice(bytes);
+        place(&mut image, &[(16 + i, sector)]);
+    }
+    Ok(image)
+}
+
 #[test]
 fn logged_pages_are_brought_home(rt: HostRuntime) -> Result<(), Fail> {
     let alloc = rt.alloc();
-    let mut page = beginning(b"CNPG\0\0\0\0\0\0\0\0\0\0\0\0\0\0\0\x02");
-    page[23] = 1;
-    let mut record = [0; 3584];
-    lay(2, 1, &[0], &page, &mut record);
-    let mut m = machine(alloc)?;
-    let sectors = m.attach("v", Attach::Old)?;
-    assert!(rt; sectors == 2048);
-    m.write(0, &root())?;
-    m.write(8, &anchor(2))?;
-    m.write(16, &record)?;
-    m.write(21, &[0; 1024])?;
-    m.write(785, &[0; 32256])?;
-    m.write(852, &[0; 32768])?;
-    let settled = recover(alloc, &mut m, sectors)?;
-    assert_eq!(rt; (settled.log.epoch(), settled.log.next_number()), (3, 1));
-    assert_eq!(rt; m.image().get(784).copied(), Some(Sector::Whole(page)));
-    assert_eq!(rt; m.image().get(852).copied(), Some(Sector::Whole(page)));
-    assert_eq!(rt; m.image().get(21).copied(), Some(Sector::Whole(page)));
-    assert_eq!(rt; m.image().get(783).copied(), Some(Sector::Damaged));
+    let mut m = calm(alloc, logged(alloc)?);
+    assert_eq!(rt; mount(alloc, &mut m)?, Ok((3, 1)));
+    let page = Some(Sector::Whole(logged_page()));
+    let want = [page, page, page, Some(Sector::Damaged)];
+    assert_eq!(rt; sectors_at(&m, [784, 852, 21, 783]), want);
     Ok(())
 }
