@@ -5,21 +5,13 @@ use Rattle.std.proofs.lemmas.Bool.{and_parts, and_from}
 use Rattle.std.proofs.lemmas.List.Folds.{list_all-append}
 use Rattle.fsd_bytes.specs.declared.key.Key.{Key}
 use Rattle.fsd_bytes.specs.Keys.{key_lt}
-use Rattle.fsd_formats.specs.declared.entry.Entry.{Entry}
-use Rattle.fsd_formats.specs.declared.page.Separator.{Separator}
 use Rattle.fsd_formats.specs.NamePage.{are_ascending}
 use Rattle.fsd_table.specs.declared.child.Child.{Child}
 use Rattle.fsd_table.specs.Pages.{children, not_below, below, keys_fit, entry_keys, separator_keys}
 use Rattle.fsd_table.specs.Tree.{IsSubtree}
-use Rattle.fsd_table.proofs.BoundLaws.{all_append, ascend_tail, later_fit}
+use Rattle.fsd_table.proofs.BoundLaws.{all_append, ascend_tail, later_fit, all_split, entry_keys_append, separator_keys_append}
 use Rattle.fsd_table.proofs.KeyLaws.{le_itself, lt_lt, not_below_more, below_less}
 use Rattle.fsd_forest.specs.Parts.{LeavesPart, LeavesJoin, InteriorsPart, InteriorsJoin, ChildrenPart}
-
--- ---- lists
-
-pub all_split : {X : Type 0} (P : X → Type 0) (xs ys : List X) → AllByRecursion P (xs ++ ys) → AllByRecursion P xs × AllByRecursion P ys
-all_split P [] ys a = (tt, a)
-all_split P (x ∷ xs) ys a = let rest = all_split P xs ys a.1 in ((a.0, rest.0), rest.1)
 
 -- ---- keys
 
@@ -79,10 +71,6 @@ keys_joined low high ks ls k inside left right =
 
 -- ---- leaves
 
-pub entry_keys_append : (xs ys : List Entry) → entry_keys (xs ++ ys) ≡ entry_keys xs ++ entry_keys ys
-entry_keys_append [] ys = refl
-entry_keys_append (x ∷ xs) ys = ap (λ (ks : List Key). x.key ∷ ks) (entry_keys_append xs ys)
-
 pub leaves_part : LeavesPart
 leaves_part c page other xs ys y asc leaf =
     let same = entry_keys_append xs (y ∷ ys) in
@@ -94,10 +82,6 @@ pub leaves_join : LeavesJoin
 leaves_join c page other k xs ys inside left right = ap (keys_fit c.low c.high) (entry_keys_append xs ys) ∙ keys_joined c.low c.high (entry_keys xs) (entry_keys ys) k inside left right
 
 -- ---- interior pages
-
-pub separator_keys_append : (xs ys : List Separator) → separator_keys (xs ++ ys) ≡ separator_keys xs ++ separator_keys ys
-separator_keys_append [] ys = refl
-separator_keys_append (x ∷ xs) ys = ap (λ (ks : List Key). x.key ∷ ks) (separator_keys_append xs ys)
 
 pub children_part : ChildrenPart
 children_part first low high [] ys s = refl

@@ -7,10 +7,10 @@ use Rattle.fsd_formats.specs.NamePage.{Content, Free, Leaf, Interior}
 use Rattle.fsd_table.specs.declared.child.Child.{Child}
 use Rattle.fsd_table.specs.Pages.{page_at, children_of}
 use Rattle.fsd_table.specs.Tree.{entries_below, pages_below, IsInterior, IsSubtree}
+use Rattle.fsd_table.proofs.BoundLaws.{all_split}
 use Rattle.fsd_forest.specs.Forest.{heads, inner, count_of, forest_entries, forest_pages, IsAbove}
 use Rattle.fsd_forest.specs.Laws.{Rises}
 use Rattle.fsd_forest.proofs.CountLaws.{count_cons, count_append, count_nothing}
-use Rattle.fsd_forest.proofs.PartLaws.{all_split}
 
 -- ---- what stands two levels below
 

@@ -6,13 +6,12 @@ use Rattle.run_table.specs.Space.{all_differ}
 use Rattle.fsd_table.specs.declared.child.Child.{Child}
 use Rattle.fsd_table.specs.Pages.{page_at}
 use Rattle.fsd_table.specs.Tree.{pages_below, IsSubtree}
-use Rattle.fsd_table.proofs.BoundLaws.{all_append}
+use Rattle.fsd_table.proofs.BoundLaws.{all_append, all_split}
 use Rattle.fsd_forest.specs.Forest.{heads, inner, count_of, forest_pages, Becomes}
 use Rattle.fsd_forest.specs.Steps.{StepsUp, PageStepsUp, SidesStay, PageSidesStay}
 use Rattle.fsd_forest.proofs.CountLaws.{count_append, there_counts, counts_out, differ_counts}
 use Rattle.fsd_forest.proofs.ForestLaws.{widens, count_three}
 use Rattle.fsd_table.proofs.PageLaws.{subtrees_of}
-use Rattle.fsd_forest.proofs.PartLaws.{all_split}
 use Rattle.fsd_forest.proofs.RiseLaws.{rises, pages_rise, children_at}
 use Rattle.fsd_forest.proofs.TreeLaws.{alone}
 

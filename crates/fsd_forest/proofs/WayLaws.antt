@@ -29,15 +29,16 @@ left_behind : (first : ℕ) (low high : Option Key) (before : List Separator) (k
 left_behind first low high [] k = refl
 left_behind first low high (a ∷ before) k = left_behind a.child (Some a.key) high before k
 
-ends_there : (first : ℕ) (low high : Option Key) (before : List Separator) → (child_behind first low before high).high ≡ high
-ends_there first low high [] = refl
-ends_there first low high (a ∷ before) = ends_there a.child (Some a.key) high before
+-- and it ends there
+pub high_is : (first : ℕ) (low high : Option Key) (before : List Separator) → (child_behind first low before high).high ≡ high
+high_is first low high [] = refl
+high_is first low high (a ∷ before) = high_is a.child (Some a.key) high before
 
 pub children_parted : ChildrenParted
 children_parted first low high before s behind =
     let c : Child = child_between first low high before behind in
     let right : record { page = s.child; low = Some s.key; high = end_of high behind } ≡ right_part s.child c s.key =
-    ap (λ (h : Option Key). record { page = s.child; low = Some s.key; high = h }) (sym (ends_there first low (end_of high behind) before)) in
+    ap (λ (h : Option Key). record { page = s.child; low = Some s.key; high = h }) (sym (high_is first low (end_of high behind) before)) in
     children_between first low high before s behind ∙ (λ i. children_before first low before ++ ((left_behind first low (end_of high behind) before s.key i ∷ right i ∷ []) ++ children_from high behind))
 
 -- ---- around a key

@@ -18,6 +18,10 @@ pub all_append : {X : Type 0} (P : X → Type 0) (xs ys : List X) → AllByRecur
 all_append P [] ys a b = b
 all_append P (x ∷ xs) ys a b = (a.0, all_append P xs ys a.1 b)
 
+pub all_split : {X : Type 0} (P : X → Type 0) (xs ys : List X) → AllByRecursion P (xs ++ ys) → AllByRecursion P xs × AllByRecursion P ys
+all_split P [] ys a = (tt, a)
+all_split P (x ∷ xs) ys a = let rest = all_split P xs ys a.1 in ((a.0, rest.0), rest.1)
+
 -- and of what comes of each in turn
 pub all_flat : {X Y : Type 0} (P : Y → Type 0) (f : X → List Y) → ((x : X) → AllByRecursion P (f x)) → (xs : List X) → AllByRecursion P (flat_map f xs)
 all_flat P f each [] = tt
@@ -26,6 +30,14 @@ all_flat P f each (x ∷ xs) = all_append P (f x) (flat_map f xs) (each x) (all_
 pub all_weaker : {X : Type 0} (P Q : X → Type 0) (xs : List X) → ((x : X) → P x → Q x) → AllByRecursion P xs → AllByRecursion Q xs
 all_weaker P Q [] f a = tt
 all_weaker P Q (x ∷ xs) f a = (f x a.0, all_weaker P Q xs f a.1)
+
+pub entry_keys_append : (xs ys : List Entry) → entry_keys (xs ++ ys) ≡ entry_keys xs ++ entry_keys ys
+entry_keys_append [] ys = refl
+entry_keys_append (x ∷ xs) ys = ap (λ (ks : List Key). x.key ∷ ks) (entry_keys_append xs ys)
+
+pub separator_keys_append : (xs ys : List Separator) → separator_keys (xs ++ ys) ≡ separator_keys xs ++ separator_keys ys
+separator_keys_append [] ys = refl
+separator_keys_append (x ∷ xs) ys = ap (λ (ks : List Key). x.key ∷ ks) (separator_keys_append xs ys)
 
 -- the entry's key stands between these
 abbrev pub Fits : Option Key → Option Key → Entry → Type 0

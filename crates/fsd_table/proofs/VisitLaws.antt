@@ -224,3 +224,11 @@ tree_told pages height t =
   where
     told : List Entry → ℕ → Telling
     told entries reached = record { entries = entries; reached = reached }
+
+-- so pages tell one table only
+pub one_table : (pages : List (List ℕ)) (h k : ℕ) → IsTree pages h → IsTree pages k → table_of pages h ≡ table_of pages k
+one_table pages h k a b = sym (ap told_of (tree_told pages h a)) ∙ ap told_of (tree_told pages k b)
+  where
+    told_of : Option Telling → List Entry
+    told_of (Some t) = t.entries
+    told_of None = []

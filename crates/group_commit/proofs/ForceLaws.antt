@@ -38,7 +38,7 @@ use Rattle.fsd_sound.specs.Windows.{IsApart}
 use Rattle.fsd_sound.proofs.CommuteLaws.{all_shows}
 use Rattle.fsd_sound.proofs.LaidLaws.{own_worn}
 use Rattle.log_thirds.specs.LogValue.{LogValue}
-use Rattle.log_thirds.specs.Append.{StandsInPart, stamp_now, next_record, head_past, log_past, IsLogWorn, IsNarrow as IsNarrowAt}
+use Rattle.log_thirds.specs.Append.{StandsInPart, stamp_now, next_record, head_past, log_past, IsLogWorn, IsApartNow}
 use Rattle.log_thirds.proofs.MomentLaws.{MayAppend, spots, in_third, write_inside, laid}
 use Rattle.log_thirds.proofs.WornMomentLaws.{under, under_other, under_worn, image_before, image_either, image_whole}
 use Rattle.fsd_log.proofs.PlaceLaws.{InThird, place_from, place_add, place_cases, below_numbers, first_most, end_most}
@@ -184,7 +184,7 @@ module _ (log : LogValue) (s : ResidentValue) (images : List ℕ) (records : Lis
   abbrev rest : Moment
   rest = record { image = old.image; windows = at_rest windows; said = old.said }
 
-  narrow : IsNarrowAt rest
+  narrow : IsApartNow rest
   narrow t d x y far = m.apart t (t + d) (omega arith) x y
 
   log_worn : IsLogWorn log records rest

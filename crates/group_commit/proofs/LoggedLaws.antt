@@ -26,11 +26,9 @@ use Rattle.group_commit.specs.Logged.{StandsLogged}
 use Rattle.group_commit.proofs.FrameLaws.{not_before}
 use Rattle.group_commit.proofs.ImageLaws.{below_at, pages_of}
 use Rattle.group_commit.proofs.OrderLaws.{contained_index, index_contained}
+use Rattle.group_commit.proofs.SlotLaws.{slot}
 
 -- ---- slots of a record's pages
-
-abbrev slot : (number place copy : ℕ) → Slot
-slot number place copy = record { place = place; copy = copy; number = number }
 
 -- that of one of some pages, which is none of those before it
 slot_in_at : (number place copy : ℕ) (pages : List ℕ) (k : ℕ) → k < length pages → is_one_of (take k pages) (get_or pages k 0) ≡ false → slot_in (get_or pages k 0) number place copy pages ≡ Some (slot number (place + k) (copy + k))

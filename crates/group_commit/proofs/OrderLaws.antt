@@ -1,5 +1,6 @@
 -- Pages in ascending order: they are the same ones, and a record may have them.
 use Rattle.std.proofs.Common.{◌≡◌, ℕ, zero, suc, ◌+◌, ◌<◌, ◌≤◌, Bool, true, false, cond, ◌&&◌, ◌||◌, List, [], ◌∷◌, ◌++◌, length, take, get_or, refl, sym, ap, ◌∙◌, arith, eqb-true}
+use Rattle.std.proofs.Math.Bool.{or_assoc, or_comm, or-false}
 use Rattle.std.specs.Prelude.{count_by, nat_eq, nat_le, nat_lt, ◌==◌}
 use Rattle.std.specs.List.{AllByRecursion, IsDistinct, list_all}
 use Rattle.std.proofs.lemmas.Bool.{and_from, le-leb, or_right}
@@ -29,16 +30,6 @@ or_swap true false c = refl
 or_swap false true c = refl
 or_swap false false c = refl
 
-or_moves : (a b c : Bool) → (a || (b || c)) ≡ ((b || a) || c)
-or_moves true true c = refl
-or_moves true false c = refl
-or_moves false true c = refl
-or_moves false false c = refl
-
-or_end : (a : Bool) → (a || false) ≡ a
-or_end true = refl
-or_end false = refl
-
 -- ---- which pages they are
 
 one_with : (page : ℕ) (xs : List ℕ) (p : ℕ) → is_one_of (with_page page xs) p ≡ (nat_eq page p || is_one_of xs p)
@@ -52,11 +43,15 @@ one_with page (q ∷ xs) p = by_tests (one_with page xs p) (nat_lt page q) (q ==
 
 one_among : (xs ys : List ℕ) (p : ℕ) → is_one_of (put_among xs ys) p ≡ (is_one_of xs p || is_one_of ys p)
 one_among [] ys p = refl
-one_among (x ∷ xs) ys p = one_among xs (with_page x ys) p ∙ ap (λ (b : Bool). is_one_of xs p || b) (one_with x ys p) ∙ or_moves (is_one_of xs p) (nat_eq x p) (is_one_of ys p)
+one_among (x ∷ xs) ys p =
+    one_among xs (with_page x ys) p
+    ∙ ap (λ (b : Bool). is_one_of xs p || b) (one_with x ys p)
+    ∙ sym (or_assoc (is_one_of xs p) (nat_eq x p) (is_one_of ys p))
+    ∙ ap (λ (b : Bool). b || is_one_of ys p) (or_comm (is_one_of xs p) (nat_eq x p))
 
 -- a page is one of them where it was
 pub one_ascending : (xs : List ℕ) (p : ℕ) → is_one_of (ascending_of xs) p ≡ is_one_of xs p
-one_ascending xs p = one_among xs [] p ∙ or_end (is_one_of xs p)
+one_ascending xs p = one_among xs [] p ∙ or-false (is_one_of xs p)
 
 pub index_contained : (xs : List ℕ) (k : ℕ) → k < length xs → contains xs (get_or xs k 0) ≡ true
 index_contained [] k lt = absurd (omega arith)

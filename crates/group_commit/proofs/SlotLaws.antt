@@ -16,7 +16,8 @@ use Rattle.group_commit.specs.Cached.{ascending_of}
 use Rattle.group_commit.proofs.ImageLaws.{ascending_tail, not_later}
 use Rattle.group_commit.proofs.OrderLaws.{ascending_ascends, length_ascending, one_ascending, rank, rank_ascending, rank_more}
 
-abbrev slot : (number place copy : ℕ) → Slot
+-- the slot of a page in a record of this number
+abbrev pub slot : (number place copy : ℕ) → Slot
 slot number place copy = record { place = place; copy = copy; number = number }
 
 -- ---- ascending pages

@@ -1,4 +1,4 @@
-// The machine over a file of slots, standard input and standard output.
+//! The machine over a file of slots, standard input and standard output.
 ghost use Rattle.std.specs.Prelude.{◌≡◌, ◌*◌, ◌<◌, ◌≤◌, ◌^◌, length};
 ghost use Rattle.sector_disk.specs.Machine.{DeviceFault, UsesDisk, nothing, no_ledger};
 

@@ -1,4 +1,4 @@
-// The file of an image: found or made, locked, and never one of the standard three.
+//! The file of an image: found or made, locked, and never one of the standard three.
 ghost use Rattle.std.specs.Prelude.{◌≡◌, ◌*◌, ◌/◌, ◌^◌, ◌-◌, min, pos, ◌<ℤ◌, IfOk};
 ghost use Rattle.sector_disk.specs.Machine.{GivesAsked};
 ghost use Rattle.std.specs.Fd.{file_raw_fd};

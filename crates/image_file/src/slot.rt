@@ -1,4 +1,4 @@
-// The slot of a sector: its bytes, its number and a check.
+//! The slot of a sector: its bytes, its number and a check.
 ghost use Rattle.std.specs.Prelude.{◌≡◌, ◌+◌, ◌≤◌, IfSome, ℕ, List, length, Some};
 ghost use Rattle.fsd_bytes.specs.Bytes.{sector_len};
 ghost use Rattle.fsd_formats.specs.Slot.{check_of, slot_of};

@@ -1,4 +1,4 @@
-// Slots as they are spelled, and the machine over a real file.
+//! Slots as they are spelled, and the machine over a real file.
 use crate::{FileMachine, SLOT_BYTES, read_slot, slot_of};
 use sector_disk::{Attach, Failed, Machine, Seen};
 use std::fs;

@@ -4,14 +4,15 @@ use Rattle.std.specs.Prelude.{nat_le, ◌==◌, codes}
 use Rattle.std.specs.List.{flat_map, list_all}
 use Rattle.std.proofs.lemmas.Bool.{and_parts, leb-true}
 use Rattle.std.proofs.lemmas.Bool.Decides.{nat_tests}
-use Rattle.std.proofs.lemmas.List.{drop-replicate, append-nil, length-take-le, get_or-take, get_or-drop, length-drop}
+use Rattle.std.proofs.lemmas.List.{drop-replicate, append-nil, length-take-le, get_or-take, length-drop}
 use Rattle.fsd_bytes.specs.Bytes.{u8, u32, u8_at, u32_at, zeros, same_bytes}
+use Rattle.fsd_bytes.proofs.FieldLaws.{AreSmall, small_behind}
 use Rattle.fsd_formats.specs.declared.entry.Leader.{Leader}
 use Rattle.fsd_formats.specs.Leader.{leader_bytes, read_leader}
 use Rattle.run_table.specs.declared.run.Run.{Run}
 use Rattle.run_table.specs.RunTable.{run_bytes, run_at, runs_from, read_runs, are_runs}
 use Rattle.fsd_bytes.specs.Names.{is_between}
-use Rattle.run_table.proofs.RunLaws.{AreSmall, length_bytes}
+use Rattle.run_table.proofs.RunLaws.{length_bytes, count_runs}
 use borrow.Rule.Slice.PartMut.{put_mid, mid_of}
 
 -- ---- the spelling
@@ -51,9 +52,6 @@ read_part n k b few e h =
     let many : 6 * n / 6 ≡ n = omega arith in
     rw (len, within, whole, many, runs_from_part n k b e h) refl
 
-small_behind : (n : ℕ) (b : List ℕ) → AreSmall b → AreSmall (drop n b)
-small_behind n b small i = rw get_or-drop (small (n + i))
-
 -- a run's length is read from two bytes
 short : (b : List ℕ) → AreSmall b → (run_at b).length ≤ 65535
 short b small = let parts = small_behind 4 b small in omega (arith, get_or-take 2 (drop 4 b) 0 0 (lit< tt), get_or-take 2 (drop 4 b) 1 0 (lit< tt), parts 0, parts 1)
@@ -68,15 +66,11 @@ all_between (suc n) b small =
     ap (λ (t : Bool). t && list_all (λ r. is_between 1 65535 r.length) (runs_from n (drop 6 b))) (between (run_at b).length (short b small))
     ∙ ap (λ (t : Bool). nat_le 1 (run_at b).length && t) rest
 
-length_of_runs : (n : ℕ) (b : List ℕ) → length (runs_from n b) ≡ n
-length_of_runs zero b = refl
-length_of_runs (suc n) b = ap suc (length_of_runs n (drop 6 b))
-
 -- from one to eight runs that are not empty are a leader's runs
 are_read : (n : ℕ) (b : List ℕ) → AreSmall b → 1 ≤ n → n ≤ 8 → are_runs (runs_from n b) ≡ are_some (runs_from n b)
 are_read n b small one few =
     let some : is_between 1 8 n ≡ true = grind (arith, nat_tests) in
-    rw (length_of_runs n b, some) (all_between n b small)
+    rw (count_runs n b, some) (all_between n b small)
 
 some_fit : (n : ℕ) (b : List ℕ) → AreSmall b → are_some (runs_from n b) ≡ true
     → (k : ℕ) (d : Run) → k < length (runs_from n b) → (1 ≤ (get_or (runs_from n b) k d).length) × ((get_or (runs_from n b) k d).length ≤ 65535)

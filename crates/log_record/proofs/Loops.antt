@@ -5,9 +5,10 @@ use Rattle.std.specs.List.{flat_map, list_all}
 use Rattle.std.proofs.lemmas.Bool.{cond-false}
 use Rattle.std.proofs.lemmas.Bool.Decides.{nat_tests}
 use Rattle.std.proofs.lemmas.List.{drop_more, take_more, take_at, drop_at, drop-drop, drop-replicate, length-append, length-drop, length-take-le}
-use Rattle.std.proofs.lemmas.Grind.{flat_map-append, common_steps}
+use Rattle.std.proofs.lemmas.Grind.{flat_map-append}
 use Rattle.std.proofs.lemmas.Slice.{drop-append-drop}
 use Rattle.fsd_bytes.specs.Bytes.{u16, u32, zeros, sector, u16_at, u32_at, same_bytes}
+use Rattle.fsd_bytes.proofs.FieldLaws.{u32_behind}
 use Rattle.fsd_bytes.specs.Names.{is_between}
 use Rattle.fsd_formats.specs.Record.{Stamp, stamp_bytes, header_bytes, read_header, are_pages, ascending, numbers_from, bears}
 use Rattle.fsd_log.specs.Judged.{Reader, passes, serving, page_copies}
@@ -25,14 +26,11 @@ ascend_end pages k le = short_ascends (drop (k - 1) pages) (omega (arith, length
 
 -- ---- page numbers
 
-pub number_further : (n place : ℕ) (bytes : List ℕ) → u32_at place (drop n bytes) ≡ u32_at (n + place) bytes
-number_further n place bytes = grind (arith, common_steps, drop-drop place n bytes)
-
 pub numbers_more : (k : ℕ) (bytes : List ℕ) → numbers_from (k + 1) bytes ≡ numbers_from k bytes ++ u32_at (4 * k) bytes ∷ []
 numbers_more zero bytes = refl
 numbers_more (suc k) bytes =
     let e : suc k + 1 ≡ suc (k + 1) = omega arith in
-    let further : u32_at (4 * k) (drop 4 bytes) ≡ u32_at (4 * suc k) bytes = number_further 4 (4 * k) bytes ∙ ap (λ (n : ℕ). u32_at n bytes) (omega arith) in
+    let further : u32_at (4 * k) (drop 4 bytes) ≡ u32_at (4 * suc k) bytes = u32_behind 4 (4 * k) bytes ∙ ap (λ (n : ℕ). u32_at n bytes) (omega arith) in
     ap (λ (n : ℕ). numbers_from n bytes) e
     ∙ ap (λ (xs : List ℕ). u32_at 0 bytes ∷ xs) (numbers_more k (drop 4 bytes) ∙ ap (λ (x : ℕ). numbers_from k (drop 4 bytes) ++ x ∷ []) further)
 
@@ -103,7 +101,7 @@ which_serves test first copy f s x y r d ef es ex ey er is =
 
 pub numbers_step : (items new b : List ℕ) (k x : ℕ) → items ≡ numbers_from k (drop 32 b) → x ≡ u32_at (32 + 4 * k) b → new ≡ items ++ x ∷ [] → new ≡ numbers_from (k + 1) (drop 32 b)
 numbers_step items new b k x so_far is pushed =
-    pushed ∙ (λ i. so_far i ++ is i ∷ []) ∙ ap (λ (y : ℕ). numbers_from k (drop 32 b) ++ y ∷ []) (sym (number_further 32 (4 * k) b)) ∙ sym (numbers_more k (drop 32 b))
+    pushed ∙ (λ i. so_far i ++ is i ∷ []) ∙ ap (λ (y : ℕ). numbers_from k (drop 32 b) ++ y ∷ []) (sym (u32_behind 32 (4 * k) b)) ∙ sym (numbers_more k (drop 32 b))
 
 pub header_step : (stamp : Stamp) (n : ℕ) (pages : List ℕ) (k place x : ℕ) (old new : List ℕ) → k < length pages → length pages ≤ 96 → place ≡ 32 + 4 * k → x ≡ get_or pages k 0
     → old ≡ header_with stamp n (take k pages) → new ≡ take place old ++ (u32 x ++ drop (place + 4) old) → new ≡ header_with stamp n (take (k + 1) pages)

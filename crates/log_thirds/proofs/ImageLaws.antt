@@ -19,7 +19,7 @@ use Rattle.sector_disk.specs.Machine.{Moment}
 use Rattle.sector_disk.proofs.Wear.{whole_of}
 use Rattle.log_thirds.specs.Disk.{reads}
 use Rattle.log_thirds.specs.LogValue.{LogValue}
-use Rattle.log_thirds.specs.Append.{IsCalm, IsIndexed, scan_of}
+use Rattle.log_thirds.specs.Append.{IsCalmNow, IsIndexed, scan_of}
 use Rattle.log_thirds.specs.Images.{GivesSlot, LiesAt, SeesSlot, StandsAt, best_copy}
 use Rattle.log_thirds.specs.Reading.{ReadWorn}
 use Rattle.log_thirds.specs.Slots.{slot_in, slot_at, slot_of}
@@ -175,7 +175,7 @@ image_nowhere log records page are within is = no_last_image log.layout log.anch
 
 -- ---- as it is read
 
-read_calm : (old : Moment) (place : ℕ) (o : Option (List ℕ)) → IsCalm old → ReadWorn old place o → o ≡ reads old.image place
+read_calm : (old : Moment) (place : ℕ) (o : Option (List ℕ)) → IsCalmNow old → ReadWorn old place o → o ≡ reads old.image place
 read_calm old place o calm (inl is) = is
 read_calm old place o calm (inr hurt) = absurd (false≢true (sym (calm place) ∙ hurt.0))
 
@@ -183,7 +183,7 @@ some_left : {A : Type 0} (o p q : Option A) (x : A) → o ≡ Some x → option_
 some_left {A = A} o p q x is = ap (λ (y : Option A). option_or (option_or y p) q) is
 
 -- where nothing wears, what is read is what the slot gives
-pub slot_seen : (old : Moment) (slot : Slot) (page epoch : ℕ) (o image : Option (List ℕ)) → IsCalm old → SeesSlot old slot page epoch o → GivesSlot page epoch (reads old.image) slot image → image ≡ o
+pub slot_seen : (old : Moment) (slot : Slot) (page epoch : ℕ) (o image : Option (List ℕ)) → IsCalmNow old → SeesSlot old slot page epoch o → GivesSlot page epoch (reads old.image) slot image → image ≡ o
 slot_seen old slot page epoch o image calm sees gives =
     let first : sees.first ≡ reads old.image slot.place = read_calm old slot.place sees.first calm sees.read_first in
     let copy : sees.copy ≡ reads old.image slot.copy = read_calm old slot.copy sees.copy calm sees.read_copy in

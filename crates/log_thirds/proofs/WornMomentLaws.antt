@@ -14,7 +14,7 @@ use Rattle.fsd_log.specs.Laid.{laid_bytes}
 use Rattle.fsd_log.specs.Scan.{Placed, IsLog, spot_for, place_of, tape}
 use Rattle.log_thirds.specs.Disk.{reads}
 use Rattle.log_thirds.specs.LogValue.{LogValue}
-use Rattle.log_thirds.specs.Append.{StandsInPart, stamp_now, next_record, head_past, log_past, scan_of, IsLogWorn, IsNarrow, AppendsWorn}
+use Rattle.log_thirds.specs.Append.{StandsInPart, stamp_now, next_record, head_past, log_past, scan_of, IsLogWorn, IsApartNow, AppendsWorn}
 use Rattle.fsd_log.proofs.PlaceLaws.{InThird, place_add, place_cases, below_numbers, above_numbers, first_most, end_most}
 use Rattle.log_thirds.proofs.MomentLaws.{MayAppend, write_inside, laid, are, spots, in_third}
 use Rattle.log_thirds.proofs.WornAppendLaws.{TapeWorn, worn_before, worn_either, worn_whole_there, fresh_after}
@@ -112,7 +112,7 @@ module _ (log : LogValue) (pages images : List ℕ) (long : ℕ) (may : MayAppen
     image_either = worn_either log.layout log.anchor.epoch log.anchor.first may.epoch (omega (arith, may.least)) (tape log.layout log.anchor.third (reads below)) (tape log.layout log.anchor.third (reads left)) records log.head log_below may.number
         pages images (laid_bytes (stamp_now log) pages images) (are log pages images long may) (laid log pages images long may) (spot_for log.layout (length pages) log.head) (spots log pages images long may).0 (λ w. open_damage old.windows (place_of log.layout log.anchor.third w)) stood within torn
 
-    pub image_whole : stood ≡ record_len (length pages) → IsNarrow old
+    pub image_whole : stood ≡ record_len (length pages) → IsApartNow old
         → IsLog log.layout log.anchor.epoch log.anchor.first (tape log.layout log.anchor.third (reads left)) (records ++ next_record log pages images ∷ []) (head_past log (length pages))
     image_whole whole narrow = record {
       scanned = worn_whole_there log.layout log.anchor.epoch log.anchor.first may.epoch (omega (arith, may.least)) (tape log.layout log.anchor.third (reads below)) (tape log.layout log.anchor.third (reads left)) records log.head log_below may.number
@@ -133,7 +133,7 @@ module _ (log : LogValue) (pages images : List ℕ) (long : ℕ) (may : MayAppen
     either = image_either part.stood part.within left.image part.holds.worn;
   }
 
-  pub worn_appended : (new : Moment) → IsNarrow old → Holds old (stand old.image place (laid_bytes (stamp_now log) pages images) (record_len (length pages))) new → IsLogWorn (log_past log (length pages)) (records ++ next_record log pages images ∷ []) new
+  pub worn_appended : (new : Moment) → IsApartNow old → Holds old (stand old.image place (laid_bytes (stamp_now log) pages images) (record_len (length pages))) new → IsLogWorn (log_past log (length pages)) (records ++ next_record log pages images ∷ []) new
   worn_appended new narrow holds = λ image worn.
       let at_old : IsWorn (open_damage old.windows) new.image image = subst (λ (w : Windows). IsWorn (open_damage w) new.image image) holds.windows worn in
       image_whole (record_len (length pages)) (omega arith) image (worn_trans (open_damage old.windows) _ new.image image holds.worn at_old) refl narrow

@@ -21,8 +21,8 @@ pub record StandsInPart (place : ℕ) (bytes : List ℕ) (most : ℕ) (old left 
   pub holds : Holds old (stand old.image place bytes stood) left
 
 -- no sector may be damaged now
-abbrev pub IsCalm : Moment → Type 0
-IsCalm at = (place : ℕ) → open_damage at.windows place ≡ false
+abbrev pub IsCalmNow : Moment → Type 0
+IsCalmNow at = (place : ℕ) → open_damage at.windows place ≡ false
 
 abbrev pub stamp_now : LogValue → Stamp
 stamp_now log = record { epoch = log.anchor.epoch; number = log.head.number }
@@ -87,8 +87,8 @@ abbrev pub IsLogWorn : LogValue → List Placed → Moment → Type 0
 IsLogWorn log records at = AllWorn (open_damage at.windows) (λ image. IsLog log.layout log.anchor.epoch log.anchor.first (tape log.layout log.anchor.third (reads image)) records log.head) at.image
 
 -- a run that has no two sectors but neighbours
-abbrev pub IsNarrow : Moment → Type 0
-IsNarrow at = (s d : ℕ) → IsTrue (open_damage at.windows s) → IsTrue (open_damage at.windows (s + d)) → 2 ≤ d → ⊥
+abbrev pub IsApartNow : Moment → Type 0
+IsApartNow at = (s d : ℕ) → IsTrue (open_damage at.windows s) → IsTrue (open_damage at.windows (s + d)) → 2 ≤ d → ⊥
 
 -- Some first sectors of the record stand, worn. Up to its end the scan is the old one, and from then on the old one or the one with the record.
 pub record AppendsWorn (log : LogValue) (records : List Placed) (pages images : List ℕ) (old left : Moment) : Type 0 where

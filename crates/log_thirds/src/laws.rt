@@ -1,7 +1,7 @@
 //! Laws of the log: the functions do nothing, the contract of each is a law.
 ghost use Rattle.std.specs.Prelude.{◌≡◌, ◌+◌, ◌<◌, ◌≤◌, ◌^◌, ℕ, List, [], Some, None, length, slice_index_or, IfSome};
 ghost use Rattle.sector_disk.specs.Machine.{Moment};
-ghost use Rattle.log_thirds.specs.Append.{IsCalm, IsNarrow, IsIndexed, IsLogIn};
+ghost use Rattle.log_thirds.specs.Append.{IsCalmNow, IsApartNow, IsIndexed, IsLogIn};
 ghost use Rattle.log_thirds.specs.Disk.{reads};
 ghost use Rattle.log_thirds.specs.Images.{GivesSlot};
 ghost use Rattle.log_thirds.specs.declared.slots.Slot.{Slot};
@@ -27,8 +27,8 @@ pub fn new_epochs_are_empty()
 
 /// Runs of no sector damage nothing, and runs of at most two sectors have no two but neighbours.
 pub fn short_runs()
-    ensures calm { (at : Moment) → IfSome at.windows.present (λ run. run.count ≡ 0) → IfSome at.windows.next (λ run. run.count ≡ 0) → IsCalm at }
-    ensures narrow { (at : Moment) → IfSome at.windows.present (λ run. run.count ≤ 2) → IfSome at.windows.next (λ run. run.count ≤ 2) → IsNarrow at }
+    ensures calm { (at : Moment) → IfSome at.windows.present (λ run. run.count ≡ 0) → IfSome at.windows.next (λ run. run.count ≡ 0) → IsCalmNow at }
+    ensures narrow { (at : Moment) → IfSome at.windows.present (λ run. run.count ≤ 2) → IfSome at.windows.next (λ run. run.count ≤ 2) → IsApartNow at }
 {}
 
 /// Where a page has a slot, its last image stands in the sector that the slot names, or else in the copy; where it has none, no record of the log has the page.

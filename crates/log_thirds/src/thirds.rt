@@ -77,7 +77,7 @@ impl Log {
     ghost use Rattle.log_thirds.specs.Images.{NamesSlot, AreLogged, StandsAt, GivesLast};
     ghost use Rattle.fsd_log.specs.Images.{last_image};
     ghost use Rattle.log_thirds.specs.Copies.{copies_count, IsLast};
-    ghost use Rattle.log_thirds.specs.Append.{IsCalm, IsNarrow, IsLogWorn, AppendsWorn, stamp_now, next_record, log_with, scan_of, GoesAt, IsIndexed, KnowsLast, StandsInPart, IsLeastOfThird, NoneOfThird};
+    ghost use Rattle.log_thirds.specs.Append.{IsCalmNow, IsApartNow, IsLogWorn, AppendsWorn, stamp_now, next_record, log_with, scan_of, GoesAt, IsIndexed, KnowsLast, StandsInPart, IsLeastOfThird, NoneOfThird};
     ghost use Rattle.log_thirds.specs.Anchoring.{AnchorsIn, with_anchors, next_epoch, in_next_epoch};
     ghost use Rattle.log_thirds.specs.Moving.{moved_anchor, moved, records_moved, EndsInLastThird, MovesWorn};
     ghost use Rattle.log_thirds.specs.Reading.{SeesAnchor, SeesLastEpoch, log_failed_at, read_failed_at};
@@ -265,14 +265,14 @@ impl Log {
         ensures named { IfErr result (NamesSlot (slice_index_or self.now.slots page None)) }
         ensures lost { IfErr result (λ fault. M.honest m.new → LostCause (AreLogged self.now page) (M.now m.new).image fault) }
         ensures whole { result ≡ Ok true → M.honest m.new → StandsAt (slice_index_or self.now.slots page None) (M.now m.old).image buf.new }
-        ensures image { IfOk result (λ there. (records : List Placed) → M.honest m.new → IsCalm (M.now m.old) → IsIndexed self.now records → (scan_of self.now (M.now m.old)).records ≡ records
+        ensures image { IfOk result (λ there. (records : List Placed) → M.honest m.new → IsCalmNow (M.now m.old) → IsIndexed self.now records → (scan_of self.now (M.now m.old)).records ≡ records
             → last_image page records ≡ (if there then Some buf.new else None)) }
-        ensures never_lost { IfErr result (λ fault. (records : List Placed) → M.honest m.new → IsCalm (M.now m.old) → IsIndexed self.now records → (scan_of self.now (M.now m.old)).records ≡ records → IsDevice fault) }
+        ensures never_lost { IfErr result (λ fault. (records : List Placed) → M.honest m.new → IsCalmNow (M.now m.old) → IsIndexed self.now records → (scan_of self.now (M.now m.old)).records ≡ records → IsDevice fault) }
 
         // Where nothing wears, it is enough that the page's own sectors still give its image, whatever a scan gives.
-        ensures given { IfOk result (λ there. (records : List Placed) → M.honest m.new → IsCalm (M.now m.old) → IsIndexed self.now records → GivesLast self.now records page (M.now m.old).image
+        ensures given { IfOk result (λ there. (records : List Placed) → M.honest m.new → IsCalmNow (M.now m.old) → IsIndexed self.now records → GivesLast self.now records page (M.now m.old).image
             → last_image page records ≡ (if there then Some buf.new else None)) }
-        ensures none_lost { IfErr result (λ fault. (records : List Placed) → M.honest m.new → IsCalm (M.now m.old) → IsIndexed self.now records → GivesLast self.now records page (M.now m.old).image → IsDevice fault) }
+        ensures none_lost { IfErr result (λ fault. (records : List Placed) → M.honest m.new → IsCalmNow (M.now m.old) → IsIndexed self.now records → GivesLast self.now records page (M.now m.old).image → IsDevice fault) }
         ensures nowhere { result ≡ Ok false → (records : List Placed) → IsIndexed self.now records → last_image page records ≡ None }
         ensures kept { result ≡ Ok false → buf.new ≡ buf.old }
         ensures kept_err { OnErr result (buf.new ≡ buf.old) }
@@ -354,7 +354,7 @@ impl Log {
         ensures counted_err { OnErr result (M.tells m.new → M.ledger m.new ≡ M.ledger m.old) }
         ensures worn_moment { (records : List Placed) → M.honest m.new → IsLogWorn self.old records (M.now m.old)
             → LeavesOnly M.moment M.left_since m.old m.new (AppendsWorn self.old records pages.now images.now (M.now m.old)) }
-        ensures worn_done { OnOk result ((records : List Placed) → M.honest m.new → IsNarrow (M.now m.old) → IsLogWorn self.old records (M.now m.old)
+        ensures worn_done { OnOk result ((records : List Placed) → M.honest m.new → IsApartNow (M.now m.old) → IsLogWorn self.old records (M.now m.old)
             → IsLogWorn self.new (records ++ next_record self.old pages.now images.now ∷ []) (M.now m.new)) }
         ensures stands { OnOk result (M.honest m.new → Holds (M.now m.old)
             (stand (M.now m.old).image (place_of self.old.layout self.old.anchor.third (spot_for self.old.layout (length pages.now) self.old.head).at)

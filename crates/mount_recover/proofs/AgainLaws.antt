@@ -1,9 +1,8 @@
 -- The copies of the last record are laid again: each record is read as it was, but maybe for copies of its images.
-use Rattle.std.proofs.Common.{◌≡◌, ◌⊎◌, inl, inr, ⊎_elim, ℕ, ◌+◌, ◌-◌, ◌*◌, ◌<◌, ◌≤◌, List, [], ◌∷◌, ◌++◌, length, get_or, Some, refl, sym, ap, subst, ◌∙◌, arith}
+use Rattle.std.proofs.Common.{◌≡◌, ◌⊎◌, inl, inr, ⊎_elim, ℕ, ◌+◌, ◌-◌, ◌*◌, ◌<◌, ◌≤◌, List, [], ◌∷◌, ◌++◌, length, get_or, Some, sym, ap, subst, ◌∙◌, arith}
 use Rattle.std.specs.List.{AllByRecursion}
 use Rattle.std.proofs.lemmas.Bool.{cases_lt}
 use Rattle.volume_layout.specs.declared.layout.Layout.{Layout}
-use Rattle.volume_layout.specs.Shape.{Shape}
 use Rattle.fsd_formats.specs.declared.anchor.Anchor.{Anchor}
 use Rattle.fsd_formats.specs.Record.{end_bytes, record_len}
 use Rattle.sector_disk.specs.declared.sector.Sector.TheVariants.{Whole}
@@ -12,7 +11,7 @@ use Rattle.sector_disk.proofs.Wear.{stand_in, stand_other, outside_cases}
 use Rattle.fsd_log.specs.Judged.{Reader}
 use Rattle.fsd_log.specs.Scan.{IsIn, Head, Placed, start, place_of, tape}
 use Rattle.fsd_log.proofs.PlaceLaws.{place_cases, place_add, place_inside, first_most, end_most, below_numbers}
-use Rattle.fsd_log.proofs.WalkLaws.{found_goes_on, IsFound, Goes, goes_far}
+use Rattle.fsd_log.proofs.WalkLaws.{found_goes_on, Goes, goes_far}
 use Rattle.fsd_files.specs.Disk.{Image, bytes_of, bytes_at}
 use Rattle.fsd_sound.specs.Shown.{scan_by, records_by}
 use Rattle.fsd_sound.proofs.LogPlaces.{IsRecord, scan_records, start_in, scan_goes}
@@ -20,33 +19,14 @@ use Rattle.log_thirds.specs.Copies.{Copies, copies_count, AreCopiesOf, AreLastCo
 use Rattle.fsd_sound.specs.Logged.{copies_at, copies_of}
 use Rattle.fsd_sound.proofs.CoverLaws.{ends_so}
 use Rattle.fsd_log.proofs.RobustLaws.{get_left, get_last, length_more}
+use Rattle.fsd_table.proofs.BoundLaws.{all_append, all_split}
 use Rattle.fsd_sound.proofs.CompletingLaws.{last_copies, slices_at}
-use Rattle.fsd_sound.proofs.CompleteLaws.{all_last}
+use Rattle.fsd_sound.proofs.CompleteLaws.{all_last, EndsWith, goes_split}
 use Rattle.mount_recover.proofs.GivenLaws.{RecordAgain}
 
 -- Each sector is as it was, or one of some sectors that were written from a place on.
 record LaysSome (place : ℕ) (sectors : List (List ℕ)) (i j : Image) : Type 0 where
   each : (s : ℕ) → (sector_at j s ≡ sector_at i s) ⊎ ((k : ℕ) × (k < length sectors) × (s ≡ place + k) × (sector_at j s ≡ Whole (get_or sectors k [])))
-
--- how the scan comes to the last record
-record EndsWith (l : Shape) (epoch : ℕ) (disk : Reader) (h : Head) (front : List Placed) (r : Placed) (end : Head) : Type 0 where
-  mid : Head
-  goes : Goes l epoch disk h front mid
-  found : IsFound l epoch disk mid r end
-
-goes_split : (l : Shape) (epoch : ℕ) (disk : Reader) (h : Head) (front : List Placed) (r : Placed) (end : Head) → Goes l epoch disk h (front ++ r ∷ []) end → EndsWith l epoch disk h front r end
-goes_split l epoch disk h [] r end goes = record { mid = h; goes = refl; found = subst (IsFound l epoch disk h r) (sym goes.2) goes.1 }
-goes_split l epoch disk h (q ∷ front) r end goes =
-    let rest = goes_split l epoch disk goes.0 front r end goes.2 in
-    record { mid = rest.mid; goes = (goes.0, goes.1, rest.goes); found = rest.found }
-
-all_front : {A : Type 0} (P : A → Type 0) (front : List A) (r : A) → AllByRecursion P (front ++ r ∷ []) → AllByRecursion P front
-all_front P [] r all = tt
-all_front P (q ∷ front) r all = (all.0, all_front P front r all.1)
-
-all_more : {A : Type 0} (P : A → Type 0) (front : List A) (r : A) → AllByRecursion P front → P r → AllByRecursion P (front ++ r ∷ [])
-all_more P [] r all last = (last, tt)
-all_more P (q ∷ front) r all last = (all.0, all_more P front r all.1 last)
 
 -- ---- the records before it lie before it
 
@@ -135,7 +115,7 @@ module _ (l : Layout) (i j : Image) (c : Anchor) (low : c.third ≤ 2) (front : 
   -- each record's images are read as they were, but maybe a copy as the image that was laid there
   again_all : AllByRecursion (RecordAgain l c.third (bytes_at i) (bytes_at j)) (records_by l i c)
   again_all = subst (AllByRecursion (RecordAgain l c.third (bytes_at i) (bytes_at j))) (sym joined)
-      (all_more (RecordAgain l c.third (bytes_at i) (bytes_at j)) front r (again_front front (all_front (IsRecord l c.third) front r are) (goes_before l c.epoch old_tape (start l c.first) front part.mid (start_in l c.first) part.goes)) again_last)
+      (all_append (RecordAgain l c.third (bytes_at i) (bytes_at j)) front (r ∷ []) (again_front front (all_split (IsRecord l c.third) front (r ∷ []) are).0 (goes_before l c.epoch old_tape (start l c.first) front part.mid (start_in l c.first) part.goes)) (again_last, tt))
 
 -- ---- the copies that the log has
 

@@ -27,7 +27,7 @@ use Rattle.fsd_sound.specs.Anchors.{anchor_of}
 use Rattle.fsd_sound.specs.Roots.{counted_root, root_of}
 use Rattle.fsd_sound.specs.Shown.{records_by, newest}
 use Rattle.fsd_sound.proofs.LogPlaces.{scan_records}
-use Rattle.log_thirds.specs.Append.{IsCalm as IsCalmNow, IsIndexed}
+use Rattle.log_thirds.specs.Append.{IsCalmNow, IsIndexed}
 use Rattle.log_thirds.specs.declared.slots.Slot.{Slot}
 use Rattle.log_thirds.specs.Disk.{reads}
 use Rattle.log_thirds.specs.Images.{GivesSlot, GivesLast}

@@ -33,14 +33,11 @@ use Rattle.fsd_sound.proofs.LaidLaws.{all_laid_worn}
 use Rattle.fsd_sound.proofs.AnchorFacts.{newer_one, taken_third}
 use Rattle.fsd_sound.proofs.CompletingLaws.{completing, laid, last_copies}
 use Rattle.fsd_sound.proofs.WritesLaws.{elsewhere}
+use Rattle.fsd_sound.proofs.CompleteLaws.{all_last}
 use Rattle.mount_recover.specs.Mending.{KnowsLog, StaysElsewhere, IsSeen, Completed}
 use Rattle.mount_recover.specs.Replay.{HasLastCopies, KeepsBehindLog, Replays}
 
 -- ---- where the copies lie
-
-pub last_by : (P : Placed → Type 0) (front : List Placed) (r : Placed) → AllByRecursion P (front ++ r ∷ []) → P r
-last_by P [] r all = all.0
-last_by P (q ∷ front) r all = last_by P front r all.1
 
 pub low_third : (l : Layout) (i : Image) (t : Anchor) → anchor_of i ≡ Some t → t.third ≤ 2
 low_third l i t taken = subst (λ (o : Option Anchor). IfSome o (λ a. a.third ≤ 2)) taken (taken_third i)
@@ -58,7 +55,7 @@ module _ (l : Layout) (log : LogValue) (j : Image) (knows : KnowsLog l log j) wh
       λ u. sector_at (stand i log.copies.place log.copies.bytes (nothing u)) s)
       (λ last.
       let of = last_copies l log.anchor.epoch log.anchor.third last.0 last.1 log.copies (subst (λ (rs : List Placed). AreLastCopies l log.anchor.epoch log.anchor.third rs log.copies) last.2 knows.last) in
-      let is = last_by (IsRecord l log.anchor.third) last.0 last.1 (subst (AllByRecursion (IsRecord l log.anchor.third)) last.2 (scan_records l j log.anchor (low_third l j log.anchor knows.taken))) in
+      let is = all_last (IsRecord l log.anchor.third) last.0 last.1 (subst (AllByRecursion (IsRecord l log.anchor.third)) last.2 (scan_records l j log.anchor (low_third l j log.anchor knows.taken))) in
       let inside = place_inside l log.anchor.third last.1.at (record_len (length last.1.entry.pages)) is.end is.inside (omega arith) in
       let count = count_of last.1 of in
       stand_other i log.copies.place log.copies.bytes m s (inr (omega (arith, le, count, of.place, inside, from))))
@@ -220,7 +217,7 @@ module _ (l : Layout) (windows : List WeakRun) (choices : List (List (List ℕ))
             shown = one.1;
             chosen = one.2;
           };
-          last = λ front r is. (last_by (λ x. HasFront l log.anchor (weak_of windows) new.image x × HasCopies l log.anchor (weak_of windows) new.image x) front r
+          last = λ front r is. (all_last (λ x. HasFront l log.anchor (weak_of windows) new.image x × HasCopies l log.anchor (weak_of windows) new.image x) front r
               (subst (AllLaid l log.anchor (weak_of windows) new.image) (at_clean.records ∙ is) (all_laid_worn l log.anchor (weak_of windows) clean new.image (records_by l clean log.anchor) worn all_laid))).1;
           kept = kept_at (copies_count log.copies) (omega arith) new (later new names.image);
           rest = rest_at (copies_count log.copies) (omega arith) new (later new names.image);

@@ -42,8 +42,9 @@ use Rattle.mount_recover.specs.Mending.{IsLoadFault, AreOfAll, StaysElsewhere, K
 use Rattle.mount_recover.specs.Recover.{IsRefusedFor, ShowsVolume}
 use Rattle.mount_recover.specs.Replay.{HasLastCopies, IsCompletedFrom, Replays}
 use Rattle.fsd_sound.proofs.WindowLaws.{short_apart}
+use Rattle.fsd_sound.proofs.CompleteLaws.{all_last}
 use Rattle.mount_recover.proofs.PlaceLaws.{lies_last}
-use Rattle.mount_recover.proofs.CompletingLaws.{last_by, low_third}
+use Rattle.mount_recover.proofs.CompletingLaws.{low_third}
 use Rattle.mount_recover.proofs.MendingLaws.{stays_show}
 use Rattle.fsd_log.proofs.RobustLaws.{length_more}
 use Rattle.fsd_log.specs.Places.{LieInRecord, last_places}
@@ -84,7 +85,7 @@ all_on l a weak i j s (x ∷ xs) on all = (
 last_on : (l : Layout) (a : Anchor) (weak : Sectors) (records : List Placed) (i j : Image) → AllByRecursion (IsRecord l a.third) records → ((s : ℕ) → 16 ≤ s → s < 16 + 3 * l.third → SectorWorn (weak s) (sector_at i s) (sector_at j s))
     → HasLastCopies l a weak records i → HasLastCopies l a weak records j
 last_on l a weak records i j are on last front r is =
-    let at = last_by (IsRecord l a.third) front r (subst (AllByRecursion (IsRecord l a.third)) is are) in
+    let at = all_last (IsRecord l a.third) front r (subst (AllByRecursion (IsRecord l a.third)) is are) in
     let inside = place_inside l a.third r.at (record_len (length r.entry.pages)) at.end at.inside (omega arith) in
     all_on l a weak i j (place_of l a.third r.at + (4 + length r.entry.pages)) (r.entry.images ++ end_bytes (record { epoch = a.epoch; number = r.entry.number }) (length r.entry.pages) ∷ []) (λ p from to. on p (omega (arith, from, place_from l a.third r.at)) (omega (arith, to, inside, at.images, length_more r.entry.images (end_bytes (record { epoch = a.epoch; number = r.entry.number }) (length r.entry.pages))))) (last front r is)
 

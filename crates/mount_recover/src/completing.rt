@@ -1,4 +1,4 @@
-// A mount up to `healing`: the last record is completed before anything is written behind the log.
+//! A mount up to `healing`: the last record is completed before anything is written behind the log.
 ghost use Rattle.std.specs.Prelude.{◌≡◌, ◌+◌, ◌≤◌, ℕ, List, Ok, IsSome, OnOk};
 ghost use Rattle.volume_layout.specs.Layout.{plan};
 ghost use Rattle.volume_layout.specs.declared.layout.Layout.{Layout as Plan};
@@ -9,7 +9,7 @@ ghost use Rattle.fsd_files.specs.Disk.{Image};
 ghost use Rattle.mount_recover.specs.Mending.{IsSeen, KnowsLog, StaysElsewhere, Completed};
 ghost use Rattle.mount_recover.specs.Replay.{IsUnturned, Replays};
 ghost use Rattle.mount_recover.specs.Showing.{IsLaidAgain};
-ghost use Rattle.log_thirds.specs.Append.{IsCalm as IsCalmNow};
+ghost use Rattle.log_thirds.specs.Append.{IsCalmNow};
 
 use log_thirds::Log;
 use sector_disk::{Failed, Machine};

@@ -1,4 +1,4 @@
-// The beginning of a new epoch, when all that stands twice is mended.
+//! The beginning of a new epoch, when all that stands twice is mended.
 ghost use Rattle.std.specs.Prelude.{◌≡◌, ◌+◌, ◌-◌, ◌<◌, ◌≤◌, ◌^◌, ℕ, List, Ok, IsSome, OnOk, OnErr};
 ghost use Rattle.volume_layout.specs.declared.layout.Layout.{Layout as Plan};
 ghost use Rattle.volume_layout.specs.Layout.{plan};

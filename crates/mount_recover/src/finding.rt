@@ -1,4 +1,4 @@
-// What a mount finds before it writes: the root, and the log behind the newer anchor.
+//! What a mount finds before it writes: the root, and the log behind the newer anchor.
 ghost use Rattle.std.specs.Prelude.{◌≡◌, ◌-◌, ◌<◌, ◌≤◌, ◌^◌, Ok, IfOk, IfErr};
 ghost use Rattle.volume_layout.specs.Layout.{plan};
 ghost use Rattle.sector_disk.specs.Calls.{OnlyReads, device_in};

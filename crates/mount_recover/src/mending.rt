@@ -1,4 +1,4 @@
-// A mount from `healing` on: the pages that the log has are written home, and of all else that stands twice what is damaged is
+//! A mount from `healing` on: the pages that the log has are written home, and of all else that stands twice what is damaged is
 // written from its twin.
 ghost use Rattle.std.specs.Prelude.{◌≡◌, ◌+◌, ◌*◌, ◌<◌, ◌≤◌, ℕ, List, Ok, Some, None, IfErr, OnOk};
 ghost use Rattle.volume_layout.specs.Layout.{plan, home_a, home_b};
@@ -10,7 +10,7 @@ ghost use Rattle.fsd_log.specs.Scan.{Placed};
 ghost use Rattle.fsd_files.specs.Disk.{Image};
 ghost use Rattle.fsd_sound.specs.Homes.{home_of};
 ghost use Rattle.fsd_sound.specs.Shown.{records_by};
-ghost use Rattle.log_thirds.specs.Append.{IsCalm as IsCalmNow};
+ghost use Rattle.log_thirds.specs.Append.{IsCalmNow};
 ghost use Rattle.log_thirds.specs.LogValue.{LogValue};
 ghost use Rattle.mount_recover.specs.Finding.{IsExcuse};
 ghost use Rattle.fsd_sound.specs.Lost.{AreHomes, LostIn};

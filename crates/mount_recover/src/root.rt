@@ -1,4 +1,4 @@
-// The root of an image.
+//! The root of an image.
 ghost use Rattle.std.specs.Prelude.{◌≡◌, ◌<◌, ◌≤◌, Ok, IfOk, IfSome, option_and_then};
 ghost use Rattle.volume_layout.specs.Layout.{plan};
 ghost use Rattle.volume_layout.specs.Root.{read_root};
@@ -43,7 +43,7 @@ fn root_at<M: Machine>(m: &mut M, sectors: u32, place: u32) -> Result<Option<Lay
 }
 
 // The root at 0, else that at 4.
-pub fn find_root<M: Machine>(m: &mut M, sectors: u32) -> Result<Option<Layout>, Failed>
+pub(crate) fn find_root<M: Machine>(m: &mut M, sectors: u32) -> Result<Option<Layout>, Failed>
     requires { sectors ≡ (M.report m.old).sectors }
 
     ensures reads { OnlyReads M.Machine (device_in failed_at result) m.old m.new }

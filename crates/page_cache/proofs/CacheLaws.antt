@@ -1,5 +1,5 @@
 -- Each call of a cache leaves a cache.
-use Rattle.std.proofs.Common.{◌≡◌, ◌≢◌, ℕ, suc, ◌<◌, ◌≤◌, true, false, cond, not, List, [], ◌∷◌, ◌++◌, map, reverse, length, option_map, is_some, Option, Some, None, IsSome, refl, sym, ap, ◌∙◌, subst, arith, eqb-true, length-append}
+use Rattle.std.proofs.Common.{◌≡◌, ◌≢◌, ℕ, suc, ◌<◌, ◌≤◌, true, false, cond, not, List, [], ◌∷◌, map, reverse, length, option_map, is_some, Option, Some, None, IsSome, refl, sym, ap, ◌∙◌, subst, arith, eqb-true, length-append}
 use Rattle.std.specs.Prelude.{nat_eq, find, ◌==◌}
 use Rattle.std.specs.List.{AllByRecursion, IsDistinct, list_any}
 use Rattle.std.specs.Option.{option_map_or}
@@ -8,6 +8,7 @@ use Rattle.std.specs.Cmp.{nat_eq_equiv}
 use Rattle.std.proofs.lemmas.Bool.{ne_eqb, eqb-false, true≢false, and_parts, not-true, or_parts}
 use Rattle.std.proofs.lemmas.Map.Keys.{IsDistinct-head, IsDistinct-tail, IsDistinct-cons, IsDistinct-push}
 use Rattle.lru.specs.LruCache.{promoted}
+use Rattle.fsd_table.proofs.BoundLaws.{all_append}
 use Rattle.page_cache.specs.Cache.{Held, CacheValue, IsCache, IsResident, held, is_one_of, idle, busy, leaver, staying, frame_for, altered, used, entered, with_bytes, with_pins, with_dirty, cleaned, no_pages, frames_of}
 use Rattle.page_cache.proofs.Entries.{by_bool, by_option, key_flips, key_moves, All-at, Finds, entry_none, entry_some, All-entry, All-removed, distinct_removed, apart_removed, length-removed, lookup_removed, find_back, some_back}
 
@@ -143,10 +144,6 @@ no_pages_cache frames = record { pages = distinct_nil; frames = distinct_nil; fi
 pub cleaned_cache : (c : CacheValue) → IsCache c → IsCache (cleaned c)
 cleaned_cache c h = record { pages = h.pages; frames = h.frames; first = h.first; fit = h.fit; once = distinct_nil; few = omega arith; waiting = tt }
 
-All-push : {X : Type 0} (P : X → Type 0) (xs : List X) (x : X) → AllByRecursion P xs → P x → AllByRecursion P (xs ++ x ∷ [])
-All-push P [] x h p = (p, tt)
-All-push P (y ∷ xs) x h p = (h.0, All-push P xs x h.1 p)
-
 -- the tests of a list for a page, in either order of the two sides
 any_flips : (page : ℕ) (xs : List ℕ) → list_any (nat_eq page) xs ≡ is_one_of xs page
 any_flips page [] = refl
@@ -164,7 +161,7 @@ with_dirty_cache page c there room h = by_bool (is_one_of c.dirty page)
       fit = h.fit;
       few = (let r = room t in let long = length-append c.dirty (page ∷ []) in omega arith);
       once = IsDistinct-push nat_eq_equiv c.dirty page h.once (any_flips page c.dirty ∙ t);
-      waiting = All-push (IsResident c) c.dirty page h.waiting there;
+      waiting = all_append (IsResident c) c.dirty (page ∷ []) h.waiting (there, tt);
     }))
 
 -- ---- a page enters

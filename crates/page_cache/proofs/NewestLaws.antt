@@ -1,13 +1,13 @@
 -- Neither use nor a page that enters changes the newest bytes of a page.
-use Rattle.std.proofs.Common.{◌≡◌, ℕ, true, false, cond, not, ◌⊎◌, List, [], ◌∷◌, length, reverse, option_map, is_some, Option, Some, None, IsSome, refl, sym, ap, ◌∙◌, subst, inl, inr, eqb-true}
+use Rattle.std.proofs.Common.{◌≡◌, ℕ, true, false, not, ◌⊎◌, List, [], ◌∷◌, length, reverse, option_map, is_some, Option, Some, None, IsSome, refl, sym, ap, ◌∙◌, subst, inl, inr, eqb-true}
 use Rattle.std.specs.Prelude.{nat_eq, find, ◌==◌}
 use Rattle.std.specs.Option.{option_or}
 use Rattle.std.specs.Map.{lookup, lookup_entry, remove_entry}
 use Rattle.std.proofs.lemmas.Bool.{true≢false, and_parts, not-true, or_parts}
 use Rattle.std.proofs.lemmas.List.Folds.{list_any-append}
-use Rattle.page_cache.specs.Cache.{Held, CacheValue, IsCache, IsResident, AreNewest, KeepsNewest, newest, held, bytes_of, is_one_of, idle, leaver, staying, used, entered, with_bytes, with_dirty, with_pins}
+use Rattle.page_cache.specs.Cache.{Held, CacheValue, IsCache, IsResident, AreNewest, KeepsNewest, newest, held, bytes_of, is_one_of, idle, leaver, staying, used, entered, with_dirty}
 use Rattle.page_cache.proofs.Entries.{by_bool, by_option, entry_some, entry_none, apart_removed, lookup_removed, find_back}
-use Rattle.page_cache.proofs.CacheLaws.{promoted_lookup, used_absent, all_gone, altered_lookup}
+use Rattle.page_cache.proofs.CacheLaws.{promoted_lookup, used_absent, all_gone}
 
 -- ---- use
 
@@ -93,45 +93,3 @@ dirtied_newest page c source clean = (λ q there not. clean q there (was_clean q
   where
     was_clean : (q : ℕ) → is_one_of (with_dirty page c).dirty q ≡ false → is_one_of c.dirty q ≡ false
     was_clean q = by_bool (is_one_of c.dirty page) (λ t. rw t (λ not. not)) (λ t. rw t (λ not. (or_parts (is_one_of c.dirty q) (is_one_of (page ∷ []) q) (sym (list_any-append (λ d. nat_eq d q) c.dirty (page ∷ [])) ∙ not)).0))
-
--- the bytes that were written are the page's newest ones, and no other page's change
-pub written_newest : (page : ℕ) (w : List ℕ) (c : CacheValue) (source : ℕ → Option (List ℕ)) → IsResident c page → (q : ℕ) → newest (with_bytes page w c) source q ≡ cond (nat_eq page q) (Some w) (newest c source q)
-written_newest page w c source there q =
-    ap (λ (o : Option Held). option_or (option_map (λ (h : Held). h.bytes) o) (source q)) (altered_lookup page (λ h. record h { bytes = w }) q c.resident)
-    ∙ by_bool (nat_eq page q)
-    (λ t. rw t (by_found (held c q) (subst (IsResident c) (eqb-true page q t) there)))
-    (λ t. rw t refl)
-  where
-    by_found : (o : Option Held) → IsSome o → option_or (option_map (λ (h : Held). h.bytes) (option_map (λ (h : Held). record h { bytes = w }) o)) (source q) ≡ Some w
-    by_found None some = absurd (true≢false (sym some))
-    by_found (Some x) some = refl
-
--- where it is dirty, the clean ones are as they were
-pub written_clean : (page : ℕ) (w : List ℕ) (c : CacheValue) (source : ℕ → Option (List ℕ)) → is_one_of c.dirty page ≡ true → AreNewest source c → AreNewest source (with_bytes page w c)
-written_clean page w c source dirty clean q there not = by_bool (nat_eq page q)
-    (λ t. absurd (true≢false (sym (subst (λ (k : ℕ). is_one_of c.dirty k ≡ true) (eqb-true page q t) dirty) ∙ not)))
-    (λ t. let same : held (with_bytes page w c) q ≡ held c q = altered_lookup page (λ h. record h { bytes = w }) q c.resident ∙ rw t refl in
-    ap (option_map (λ (h : Held). h.bytes)) same ∙ clean q (subst IsSome same there) not)
-
--- pins say nothing of bytes
-pub pinned_newest : (page pins : ℕ) (c : CacheValue) (source : ℕ → Option (List ℕ)) → KeepsNewest source c (with_pins page pins c)
-pinned_newest page pins c source clean =
-    (λ q there not. same q ∙ clean q (by_there q there) not, λ q. ap (λ (o : Option (List ℕ)). option_or o (source q)) (same q))
-  where
-    bytes_same : (o : Option Held) → option_map (λ (h : Held). h.bytes) (option_map (λ (h : Held). record h { pins = pins }) o) ≡ option_map (λ (h : Held). h.bytes) o
-    bytes_same None = refl
-    bytes_same (Some x) = refl
-
-    same : (q : ℕ) → bytes_of (with_pins page pins c) q ≡ bytes_of c q
-    same q = ap (option_map (λ (h : Held). h.bytes)) (altered_lookup page (λ h. record h { pins = pins }) q c.resident) ∙ by_bool (nat_eq page q) (λ t. rw t (bytes_same (held c q))) (λ t. rw t refl)
-
-    some_of : (o : Option Held) → IsSome (option_map (λ (h : Held). h.bytes) o) → IsSome o
-    some_of None some = some
-    some_of (Some x) some = refl
-
-    of_some : (o : Option Held) → IsSome o → IsSome (option_map (λ (h : Held). h.bytes) o)
-    of_some None some = some
-    of_some (Some x) some = refl
-
-    by_there : (q : ℕ) → IsResident (with_pins page pins c) q → IsResident c q
-    by_there q there = some_of (held c q) (subst IsSome (same q) (of_some (held (with_pins page pins c) q) there))

@@ -10,7 +10,7 @@ use lru::LruCache;
 use std::alloc::AllocError;
 
 // Where a page lies that is in memory.
-pub fn slot_of(order: &LruCache<u32, Slot>, page: u32) -> Slot
+pub(crate) fn slot_of(order: &LruCache<u32, Slot>, page: u32) -> Slot
     requires { IsSome (lookup (nat_eq page) order.now.entries) }
     ensures { lookup (nat_eq page) order.now.entries ≡ Some result }
 {
@@ -18,7 +18,7 @@ pub fn slot_of(order: &LruCache<u32, Slot>, page: u32) -> Slot
 }
 
 // Makes a page the most recently used, and answers its frame; nothing where it is not in memory.
-pub fn touch(order: &mut LruCache<u32, Slot>, page: u32) -> Option<usize>
+pub(crate) fn touch(order: &mut LruCache<u32, Slot>, page: u32) -> Option<usize>
     ensures frame { result ≡ option_map (λ slot. slot.frame) (lookup (nat_eq page) order.old.entries) }
     ensures used { order.new ≡ lru_cache (promoted (nat_eq page) order.old.entries) order.old.cap }
 {
@@ -53,7 +53,7 @@ fn leaver(order: &LruCache<u32, Slot>, dirty: &[u32], frames: usize) -> Option<(
 }
 
 // Takes a page into the order, and lets another go where each frame is taken. It answers the frame.
-pub fn take_in(
+pub(crate) fn take_in(
     order: &mut LruCache<u32, Slot>,
     dirty: &[u32],
     frames: usize,

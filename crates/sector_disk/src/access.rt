@@ -1,4 +1,4 @@
-// One read of a sector and one write of whole sectors, which say what any call keeps.
+//! One read of a sector and one write of whole sectors, which say what any call keeps.
 ghost use Rattle.std.specs.Prelude.{◌≡◌, ◌<◌, ◌≤◌, ◌+◌, ◌/◌, ◌%◌, length, Ok, IfOk, IfErr, OnOk, OnErr};
 ghost use Rattle.sector_disk.specs.Image.{sector_at, stand};
 ghost use Rattle.sector_disk.specs.Machine.{Holds, Shows, Tears, Writes, wrote};

@@ -1,4 +1,4 @@
-// Each kind of event, and each call, once.
+//! Each kind of event, and each call, once.
 use crate::{Attach, Event, Failed, Machine, MemoryMachine, Sector, Seen, WeakRun, When};
 use std::test::Fail;
 

@@ -1,4 +1,4 @@
-// The weak runs of a machine in memory: which sectors they allow to be hurt, and which of them comes next.
+//! The weak runs of a machine in memory: which sectors they allow to be hurt, and which of them comes next.
 ghost use Rattle.std.specs.Prelude.{◌≡◌};
 ghost use Rattle.sector_disk.specs.Image.{in_run, weak};
 ghost use Rattle.sector_disk.specs.Windows.{all_weak, is_short, run_at};
@@ -24,14 +24,14 @@ fn is_weak(present: Option<WeakRun>, next: Option<WeakRun>, place: u32) -> bool
 }
 
 // Whether the windows allow each of these hurts.
-pub fn are_weak(present: Option<WeakRun>, next: Option<WeakRun>, hurts: &[Hurt]) -> bool
+pub(crate) fn are_weak(present: Option<WeakRun>, next: Option<WeakRun>, hurts: &[Hurt]) -> bool
     ensures { result ≡ all_weak present next hurts.now }
 {
     hurts.iter().all(|hurt| is_weak(present, next, hurt.sector))
 }
 
 // Whether there is no run, or a short one.
-pub fn is_short(run: Option<WeakRun>) -> bool
+pub(crate) fn is_short(run: Option<WeakRun>) -> bool
     ensures { result ≡ is_short run }
 {
     match run {
@@ -41,7 +41,7 @@ pub fn is_short(run: Option<WeakRun>) -> bool
 }
 
 // The run that the healing after so many names; the last one again when all are used up.
-pub fn run_at(runs: &[WeakRun], named: usize) -> WeakRun
+pub(crate) fn run_at(runs: &[WeakRun], named: usize) -> WeakRun
     ensures { result ≡ run_at runs.now named }
 {
     if named < runs.len() {

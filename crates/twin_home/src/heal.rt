@@ -1,4 +1,4 @@
-// Copies that are healed from their twins.
+//! Copies that are healed from their twins.
 ghost use Rattle.std.specs.Prelude.{◌≡◌, ◌↔◌, ◌<◌, ◌≤◌, ◌+◌, length, true, Some, IfOk, IfErr, OnOk};
 ghost use Rattle.sector_disk.specs.Damage.{IsDevice, LostCause};
 ghost use Rattle.sector_disk.specs.Calls.{OnlyReads, WritesDisk, device_in, failed_at, load_failed_at};

@@ -1,4 +1,4 @@
-// Name pages at home.
+//! Name pages at home.
 ghost use Rattle.std.specs.Prelude.{◌≡◌, ◌<◌, ◌≤◌, ◌+◌, Ok, IfOk, OnOk, OnErr};
 ghost use Rattle.sector_disk.specs.Image.{stand};
 ghost use Rattle.sector_disk.specs.Calls.{OnlyReads, WritesDisk, device_in, failed_at};

@@ -1,4 +1,4 @@
-// Why a version's data can't be read.
+//! Why a version's data can't be read.
 ghost use Rattle.std.specs.Prelude.{◌≡◌};
 
 use fsd_bytes::Refusal;

@@ -1,4 +1,4 @@
-// The calls of the outside in memory.
+//! The calls of the outside in memory.
 ghost use Rattle.std.specs.Prelude.{◌≡◌, false, true, ◌⊎◌, ◌+◌, ◌-◌, ◌/◌, ◌%◌, ◌^◌, ◌<◌, ◌≤◌, ◌++◌, min, drop, refl, length, is_ok, IfOk, OnOk, OnErr};
 ghost use Rattle.std.proofs.Common.{inl};
 ghost use Rattle.sector_disk.specs.Image.{sector_at};

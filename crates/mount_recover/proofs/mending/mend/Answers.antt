@@ -9,7 +9,7 @@ use Rattle.sector_disk.proofs.Moments.{then_on}
 use Rattle.sector_disk.proofs.ResultLaws.{ok_as}
 use Rattle.fsd_log.specs.Scan.{Placed}
 use Rattle.fsd_sound.specs.Homes.{home_of, HasBothHomes}
-use Rattle.log_thirds.specs.Append.{IsCalm as IsCalmNow}
+use Rattle.log_thirds.specs.Append.{IsCalmNow}
 use Rattle.log_thirds.specs.LogValue.{LogValue}
 use Rattle.mount_recover.specs.Finding.{IsExcuse}
 use Rattle.mount_recover.specs.Mending.{IsLoadFault, IsCompleted, IsMending, IsMended, Stays}

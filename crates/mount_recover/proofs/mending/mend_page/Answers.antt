@@ -11,7 +11,7 @@ use Rattle.fsd_log.specs.Images.{last_image}
 use Rattle.fsd_log.specs.Scan.{Placed}
 use Rattle.fsd_files.specs.Disk.{Image}
 use Rattle.fsd_sound.specs.Homes.{home_of}
-use Rattle.log_thirds.specs.Append.{IsCalm as IsCalmNow}
+use Rattle.log_thirds.specs.Append.{IsCalmNow}
 use Rattle.fsd_sound.specs.Shown.{records_by}
 use Rattle.log_thirds.specs.LogValue.{LogValue}
 use Rattle.mount_recover.specs.Finding.{IsExcuse}

@@ -6,7 +6,7 @@ use Rattle.mount_recover.specs.Finding.{IsExcuse}
 use Rattle.fsd_sound.specs.Lost.{LostIn}
 use Rattle.mount_recover.specs.Mending.{IsLoadFault, AreOfVolume, IsCompleted, IsMending, Stays}
 use Rattle.fsd_log.specs.Scan.{Placed}
-use Rattle.log_thirds.specs.Append.{IsCalm as IsCalmNow}
+use Rattle.log_thirds.specs.Append.{IsCalmNow}
 use Rattle.fsd_sound.specs.Mounting.{device_of_mount}
 use Rattle.fsd_sound.specs.Homes.{HasBothHomes}
 use Rattle.mount_recover.specs.Showing.{GivesPages, IsShowing, LosesNone}

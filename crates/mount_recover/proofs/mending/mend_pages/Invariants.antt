@@ -3,7 +3,7 @@ use Rattle.sector_disk.specs.declared.sector.WeakRun.{WeakRun}
 use Rattle.sector_disk.specs.Calls.{HealsDisk}
 use Rattle.sector_disk.specs.Machine.{LeavesOnly}
 use Rattle.fsd_log.specs.Scan.{Placed}
-use Rattle.log_thirds.specs.Append.{IsCalm as IsCalmNow}
+use Rattle.log_thirds.specs.Append.{IsCalmNow}
 use Rattle.mount_recover.specs.Showing.{GivesPages, IsShowing}
 use Rattle.mount_recover.specs.Mending.{IsCompleted, IsMending, Stays, Keeps}
 use Rattle.mount_recover.proofs.mending.mend_pages.Given as goal
