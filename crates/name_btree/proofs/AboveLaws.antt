@@ -1,12 +1,13 @@
 -- What is left of a page above a child that was mended.
 use Rattle.std.proofs.Common.{◌≡◌, ◌-◌, ◌≢◌, inl, inr, ℕ, ◌+◌, ◌<◌, ◌≤◌, Bool, true, false, cond, List, [], ◌∷◌, ◌++◌, length, take, drop, Option, ◌&&◌, refl, sym, ap, subst, ◌∙◌, arith, length-append}
-use Rattle.std.specs.Prelude.{◌==◌, Result, Ok, Err, IfOk, IfErr, OnOk}
+use Rattle.std.specs.Prelude.{◌==◌, Result, Ok, Err, IfOk, OnOk}
 use Rattle.std.proofs.lemmas.Bool.{and_parts, and_from}
 use Rattle.fsd_bytes.specs.declared.key.Key.{Key}
 use Rattle.fsd_formats.specs.declared.page.Separator.{Separator}
 use Rattle.fsd_formats.specs.NamePage.{Content, least_separators}
 use Rattle.fsd_table.specs.declared.child.Child.{Child}
 use Rattle.fsd_table.specs.Pages.{keys_fit, not_below, below, separator_keys}
+use Rattle.fsd_table.proofs.BoundLaws.{separator_keys_append}
 use Rattle.name_page.specs.Pages.{Step, is_one_of}
 use Rattle.name_btree.specs.declared.draft.Draft.{Draft}
 use Rattle.name_btree.specs.declared.draft.Sheet.{Sheet}
@@ -18,21 +19,13 @@ use Rattle.name_btree.specs.Draft.{with_freed}
 use Rattle.name_btree.specs.Trim.{AreWays, IsOpened, IsPair, IsLeft, AreWaysPut, separators_joined, AreJoined, IsMended, sheets_below}
 use Rattle.name_btree.proofs.PairLaws.{parts_at}
 use Rattle.name_btree.proofs.TrimLaws.{joined_ways}
-use Rattle.fsd_forest.proofs.PartLaws.{fit_append, separator_keys_append}
+use Rattle.fsd_forest.proofs.PartLaws.{fit_append}
 
 -- ---- results
-
-pub ok_left : (r : Result Trimmed TreeFault) (P Q : Trimmed → Type 0) → ((x : Trimmed) → P x → Q x) → IfOk r P → IfOk r Q
-ok_left (Ok x) P Q f h = f x h
-ok_left (Err fault) P Q f h = tt
 
 pub ok_on : (r : Result Trimmed TreeFault) (P : Trimmed → Type 0) (Q : Type 0) → ((x : Trimmed) → P x → Q) → IfOk r P → OnOk r Q
 ok_on (Ok x) P Q f h = f x h
 ok_on (Err fault) P Q f h = tt
-
-pub err_left : (r : Result Trimmed TreeFault) (P Q : TreeFault → Type 0) → ((fault : TreeFault) → P fault → Q fault) → IfErr r P → IfErr r Q
-err_left (Ok x) P Q f h = tt
-err_left (Err fault) P Q f h = f fault h
 
 -- ---- pages that go
 

@@ -13,7 +13,7 @@ use Rattle.fsd_formats.specs.NamePage.{Content, Interior}
 use Rattle.fsd_table.specs.declared.child.Child.{Child}
 use Rattle.fsd_table.specs.Pages.{page_at, children, children_of, keys_fit, not_below, below, separator_keys}
 use Rattle.fsd_table.specs.Tree.{pages_below, IsInterior, IsSubtree}
-use Rattle.fsd_table.proofs.BoundLaws.{all_weaker}
+use Rattle.fsd_table.proofs.BoundLaws.{all_weaker, all_split}
 use Rattle.fsd_forest.specs.Forest.{forest_pages, count_of, Stay, Keep, IsLocal, Becomes}
 use Rattle.fsd_forest.specs.Ways.{StandsAt, IsUpTo, IsBehind, children_before, children_from}
 use Rattle.fsd_table.proofs.PageLaws.{subtrees_of}
@@ -26,7 +26,6 @@ use Rattle.name_page.specs.Cut.{is_before}
 use Rattle.name_page.specs.Edits.{without, is_on}
 use Rattle.name_page.specs.declared.entries.Side.TheVariants.{Greater}
 use Rattle.name_page.proofs.CutLaws.{greater}
-use Rattle.fsd_forest.proofs.PartLaws.{all_split}
 use Rattle.name_page.proofs.SideLaws.{without_part}
 use Rattle.name_btree.specs.declared.trimming.Pair.{Pair}
 use Rattle.name_btree.specs.Remove.{IsAround}

@@ -7,6 +7,7 @@ use Rattle.std.proofs.lemmas.List.Concat.{flat_map-append}
 use Rattle.name_btree.proofs.ApartLaws.{apart_from, apart_parts}
 use Rattle.fsd_forest.proofs.KeepLaws.{in_left, in_right}
 use Rattle.run_table.specs.Space.{contains, all_differ}
+use Rattle.run_table.proofs.SectorLaws.{each_in}
 use Rattle.fsd_bytes.specs.declared.key.Key.{Key}
 use Rattle.fsd_bytes.specs.Keys.{key_lt}
 use Rattle.fsd_formats.specs.declared.entry.Entry.{Entry}
@@ -15,11 +16,11 @@ use Rattle.fsd_formats.specs.NamePage.{Content, Interior, are_ascending}
 use Rattle.fsd_table.specs.declared.child.Child.{Child}
 use Rattle.fsd_table.specs.Pages.{page_at, children, children_of, not_below, below, keys_fit, separator_keys}
 use Rattle.fsd_table.specs.Tree.{entries_below, pages_below, IsInterior, IsSubtree}
-use Rattle.fsd_table.proofs.BoundLaws.{all_weaker}
+use Rattle.fsd_table.proofs.BoundLaws.{all_weaker, all_split, separator_keys_append}
 use Rattle.fsd_forest.specs.Forest.{inner, count_of, forest_pages, IsLocal, Becomes, IsAbove, Disjoint}
 use Rattle.fsd_forest.specs.Parts.{left_part, right_part}
 use Rattle.fsd_forest.specs.Ways.{children_before, children_from, StandsAt, IsUpTo, IsBehind}
-use Rattle.fsd_forest.proofs.PartLaws.{children_part, keys_parted, all_split, separator_keys_append}
+use Rattle.fsd_forest.proofs.PartLaws.{children_part, keys_parted}
 use Rattle.fsd_forest.proofs.TreeLaws.{alone}
 use Rattle.fsd_forest.proofs.WayLaws.{children_around, children_parted}
 use Rattle.name_page.specs.Pages.{Step, is_spare}
@@ -34,7 +35,6 @@ use Rattle.name_btree.specs.Draft.{IsTaken}
 use Rattle.name_btree.specs.Grown.{went_of, parts_of, AreInteriorsOf, IsInPlace, IsAboveGrown, IsDivided, IsBranch, AreUsed}
 use Rattle.name_btree.specs.Trim.{child_of}
 use Rattle.name_btree.proofs.LeafGrowthLaws.{behind_low}
-use Rattle.name_btree.proofs.TakeLaws.{each_in}
 use Rattle.name_btree.proofs.WaysGrowthLaws.{between_ascends, between_fits}
 use Rattle.name_btree.proofs.AroundLaws.{all_top}
 use Rattle.std.proofs.lemmas.List.{append-nil}

@@ -1,16 +1,17 @@
 -- Calls of the table, one after another, are those of a map.
-use Rattle.std.proofs.Common.{◌≡◌, inl, inr, ℕ, ◌+◌, ◌<◌, not, Bool, true, false, List, [], ◌∷◌, ◌++◌, length, take, Option, Some, None, refl, sym, ap, subst, ◌∙◌, arith, append_assoc, length-set, get_or}
+use Rattle.std.proofs.Common.{◌≡◌, inl, inr, ℕ, ◌+◌, ◌<◌, not, Bool, true, false, List, [], ◌∷◌, ◌++◌, length, take, Option, None, refl, sym, ap, subst, ◌∙◌, arith, append_assoc, length-set, get_or}
 use Rattle.std.specs.Prelude.{◌↔◌, ◌==◌, ◌||◌, ◌-◌, ◌≤◌, Result, Ok, Err, OnOk, OnErr, IfOk, IfErr, count_by, drop, slice_set}
 use Rattle.std.proofs.lemmas.Bool.{eq-eqb}
 use Rattle.std.proofs.lemmas.List.{length-take-le, take_more, take_more_set, take-append-drop}
 use Rattle.std.specs.List.{AllByRecursion}
 use Rattle.run_table.specs.Space.{contains}
+use Rattle.run_table.proofs.SectorLaws.{each_in}
 use Rattle.fsd_bytes.specs.declared.refusal.Refusal.{Refusal}
 use Rattle.fsd_bytes.specs.declared.refusal.Refusal.TheVariants.{NameTableFull}
 use Rattle.fsd_formats.specs.declared.entry.Entry.{Entry}
-use Rattle.fsd_table.specs.Table.{Telling, told_in, top, BreaksTable}
+use Rattle.fsd_table.specs.Table.{top, BreaksTable}
 use Rattle.fsd_table.specs.Tree.{table_of, pages_of, IsTree}
-use Rattle.fsd_table.proofs.VisitLaws.{tree_told}
+use Rattle.fsd_table.proofs.VisitLaws.{one_table}
 use Rattle.fsd_forest.proofs.LowLaws.{all_within}
 use Rattle.name_page.specs.declared.pages.Pages.{Ghosts}
 use Rattle.name_page.specs.Looks.{OnlyReaches, OnlyWalks, OnlyEdits}
@@ -25,7 +26,6 @@ use Rattle.name_btree.specs.Map.{IsTable, HasTable}
 use Rattle.name_btree.proofs.CauseLaws.{cause_map}
 use Rattle.name_btree.proofs.GrowLaws.{take_all}
 use Rattle.name_btree.proofs.SearchLaws.{barred_tree}
-use Rattle.name_btree.proofs.TakeLaws.{each_in}
 
 -- ---- a table that stays
 
@@ -41,16 +41,6 @@ same_table a b height images spares t = record {
 
 pub same_entries : (a b : Step) (height : ℕ) → b.images ≡ a.images → table_of b.images height ≡ table_of a.images height
 same_entries a b height images = ap (λ (p : List (List ℕ)). table_of p height) images
-
--- the pages are one table only
-pub one_table : (pages : List (List ℕ)) (h k : ℕ) → IsTree pages h → IsTree pages k → table_of pages h ≡ table_of pages k
-one_table pages h k a b =
-    let same : told_of (told_in pages) ≡ told_of (told_in pages) = refl in
-    sym (ap told_of (tree_told pages h a)) ∙ ap told_of (tree_told pages k b)
-  where
-    told_of : Option Telling → List Entry
-    told_of (Some t) = t.entries
-    told_of None = []
 
 -- ---- no page of a table is spare
 

@@ -1,6 +1,6 @@
 -- A fault that is handed on keeps its cause.
 use Rattle.std.proofs.Common.{◌≡◌, ◌⊎◌, inl, inr, ℕ, List, Option, None, sym, subst, ap, refl}
-use Rattle.std.specs.Prelude.{Result, Ok, Err, IfErr, OnErr}
+use Rattle.std.specs.Prelude.{Result, Ok, Err, OnErr}
 use Rattle.fsd_bytes.specs.declared.refusal.Refusal.{Refusal}
 use Rattle.fsd_bytes.specs.declared.refusal.Refusal.TheVariants.{Unsound}
 use Rattle.fsd_formats.specs.NamePage.{Content}
@@ -65,10 +65,6 @@ fails_at s page B breaks (Pages refusal) h = (h.0, by h.1)
     by : IsCaused s (BarsPage s page) refusal → IsOuter refusal ⊎ ((other : ℕ) × (refusal ≡ Unsound (home_of s other)) × IsBarred s other × ((images : List (List ℕ)) → Agrees images s → page_at images other ≡ None → B images other))
     by (inl x) = inl x
     by (inr x) = inr (page, subst (λ (p : ℕ). refusal ≡ Unsound (home_of s p)) x.2.0 x.1, x.2.1, λ images is none. breaks images is none)
-
-pub if_err_more : {X : Type 0} (r : Result X TreeFault) (P Q : TreeFault → Type 0) → ((fault : TreeFault) → P fault → Q fault) → IfErr r P → IfErr r Q
-if_err_more (Ok x) P Q f h = tt
-if_err_more (Err fault) P Q f h = f fault h
 
 pub broken_by : (s : Step) (B : List (List ℕ) → ℕ → Type 0) (fault : TreeFault) → (page : ℕ) → fault ≡ Broken page → ((images : List (List ℕ)) → Agrees images s → B images page) → FailsBy s B fault
 broken_by s B fault page is h = subst (FailsBy s B) (sym is) h

@@ -14,6 +14,7 @@ use Rattle.fsd_table.proofs.BoundLaws.{all_append}
 use Rattle.name_page.specs.Pages.{Step, is_spare, is_one_of, with_one, with_page, with_spare, with_taken, changes, IsReached}
 use Rattle.name_page.specs.Reading.{content_in}
 use Rattle.name_page.proofs.ContentLaws.{content_is}
+use Rattle.name_page.proofs.MarkLaws.{one_count}
 use Rattle.name_btree.specs.declared.draft.Sheet.{Sheet}
 use Rattle.name_btree.specs.Draft.{drafted, committed, freed, last_sheet, HasSheet, IsSheet, AreSheets, MayGo, IsDrafted}
 use Rattle.name_btree.proofs.SetLaws.{set_at, at_other}
@@ -55,13 +56,6 @@ one_kept pages page q h = by (is_one_of pages page)
     by : (b : Bool) → is_one_of (cond b pages (pages ++ page ∷ [])) q ≡ true
     by true = h
     by false = in_left pages (page ∷ []) q h
-
-one_count : (pages : List ℕ) (page : ℕ) → length (with_one pages page) ≤ length pages + 1
-one_count pages page = by (is_one_of pages page)
-  where
-    by : (b : Bool) → length (cond b pages (pages ++ page ∷ [])) ≤ length pages + 1
-    by true = omega arith
-    by false = omega (arith, length-append pages (page ∷ []))
 
 reached_page : (step : Step) (page : ℕ) (bytes : List ℕ) (q : ℕ) → IsReached step q → IsReached (with_page page bytes step) q
 reached_page step page bytes q h =

@@ -43,7 +43,7 @@ unequal_less Less e = refl
 unequal_less Equal e = absurd cc
 unequal_less Greater e = refl
 
-unequal_greater : (o : Ordering) → not (is_gt o) ≡ false → is_eq o ≡ false
+pub unequal_greater : (o : Ordering) → not (is_gt o) ≡ false → is_eq o ≡ false
 unequal_greater Less e = refl
 unequal_greater Equal e = absurd cc
 unequal_greater Greater e = refl

@@ -5,22 +5,20 @@ use Rattle.std.specs.List.{list_all, AllByRecursion}
 use Rattle.std.proofs.lemmas.Bool.{and_parts, or_parts, false_from_ne_true, eqb-true, eq-eqb}
 use Rattle.std.proofs.lemmas.List.{length-drop}
 use Rattle.std.proofs.lemmas.List.Folds.{list_any-append, list_all-append}
-use Rattle.fsd_forest.proofs.PartLaws.{all_split}
 use Rattle.fsd_forest.specs.Forest.{Disjoint}
 use Rattle.name_btree.proofs.ApartLaws.{apart_from}
 use Rattle.run_table.specs.Space.{contains, all_differ}
 use Rattle.run_table.specs.RunTable.{are_runs, total}
 use Rattle.fsd_bytes.specs.declared.key.Key.{Key}
 use Rattle.fsd_bytes.specs.Keys.{is_key}
-use Rattle.fsd_bytes.specs.Names.{is_between, is_name, is_name_byte, max_name_len}
 use Rattle.fsd_formats.specs.declared.entry.Entry.{Entry}
 use Rattle.fsd_formats.specs.declared.page.Separator.{Separator}
 use Rattle.fsd_formats.specs.NamePage.{Content, Leaf, Interior, is_entry, max_keep, max_length, sectors_for, FitsEntry, FitsSeparator}
 use Rattle.fsd_table.specs.Pages.{page_at}
-use Rattle.fsd_table.proofs.BoundLaws.{all_append}
+use Rattle.fsd_table.proofs.BoundLaws.{all_append, all_split}
 use Rattle.name_page.specs.Pages.{Step, is_spare, IsReached}
-use Rattle.name_page.proofs.LeafLaws.{between}
 use Rattle.name_page.proofs.ListLaws.{drop_at}
+use Rattle.name_page.proofs.FitsLaws.{key_short}
 use Rattle.name_btree.specs.declared.draft.Draft.{Draft}
 use Rattle.name_btree.specs.declared.draft.Sheet.{Sheet}
 use Rattle.name_btree.specs.declared.growing.Grown.TheVariants.{Parted}
@@ -118,11 +116,6 @@ entry_key e is =
     let p3 = and_parts (is_key e.key && nat_le e.keep max_keep) (nat_le e.length max_length) p2.0 in
     (and_parts (is_key e.key) (nat_le e.keep max_keep) p3.0).0
 
-key_name : (key : Key) → is_key key ≡ true → length key.name ≤ max_name_len
-key_name key is =
-    let name = (and_parts (is_name key.name) (nat_le 1 key.version) is).0 in
-    (between 1 max_name_len (length key.name) (and_parts (is_between 1 max_name_len (length key.name)) (list_all is_name_byte key.name) name).0).1
-
 record GoodKey (key : Key) : Type 0 where
   is : is_key key ≡ true
   version : key.version < 2 ^ 32
@@ -152,7 +145,7 @@ leaves_parted a b c s0 s1 s2 page left right i entries some front behind key d w
     let is : is_key key ≡ true = ap is_key same ∙ good.is in
     let version : key.version < 2 ^ 32 = subst (λ (k : Key). k.version < 2 ^ 32) (sym same) good.version in
     record {
-      grown = grown_parted a b c s0 s1 s2 page left right (Leaf front) (Leaf behind) key p is (record { name = key_name key is; version = version; child = small });
+      grown = grown_parted a b c s0 s1 s2 page left right (Leaf front) (Leaf behind) key p is (record { name = key_short key is; version = version; child = small });
       leaves = record {
         x = h.x;
         xs = h.xs;

@@ -24,20 +24,15 @@ use Rattle.name_page.specs.Cut.{IsLesser}
 use Rattle.name_btree.specs.Descent.{IsAt, IsPlace, EndsWith}
 use Rattle.name_page.specs.Lookups.{highest_of, last_that, same_name}
 use Rattle.name_page.proofs.CutLaws.{cuts_monotone, names_follow}
-use Rattle.name_btree.proofs.FindLaws.{low_height}
+use Rattle.name_btree.proofs.FindLaws.{low_height, unequal_greater}
 use Rattle.name_btree.proofs.LastLaws.{last_append, last_fail, last_none, last_at}
 use Rattle.name_btree.proofs.NextLaws.{lesser_before}
 
 -- ---- names
 
-other_greater : (o : Ordering) → not (is_gt o) ≡ false → is_eq o ≡ false
-other_greater Less e = refl
-other_greater Equal e = absurd cc
-other_greater Greater e = refl
-
 -- behind the place of a name there is no version of it
 behind_other : (name : List ℕ) (e : Entry) → is_before (Named name) e.key ≡ false → same_name e.key.name name ≡ false
-behind_other name e h = other_greater (slice_cmp nat_cmp e.key.name name) h
+behind_other name e h = unequal_greater (slice_cmp nat_cmp e.key.name name) h
 
 just_less : (o : Ordering) → not (is_gt o) ≡ true → is_eq o ≡ false → o ≡ Less
 just_less Less a b = refl

@@ -29,6 +29,7 @@ use Rattle.name_page.specs.declared.entries.Side.TheVariants.{Lesser, Greater}
 use Rattle.name_page.specs.Cut.{is_before, AtLow, AtHigh}
 use Rattle.name_page.specs.Edits.{beside, with_entry}
 use Rattle.name_page.specs.Lookups.{entry_with, is_after}
+use Rattle.name_page.specs.Parting.{used_by}
 use Rattle.name_page.proofs.CutLaws.{greater}
 use Rattle.name_page.proofs.SideLaws.{with_ascends, with_all, with_fits}
 use Rattle.name_btree.specs.declared.draft.Sheet.{Sheet}
@@ -39,9 +40,6 @@ use Rattle.name_btree.specs.Grown.{came_of, went_of, parts_of, most_parted, Fits
 use Rattle.name_btree.proofs.ReplaceLaws.{leaf_parts}
 
 -- ---- how many bytes
-
-abbrev used_by : List Entry → ℕ
-used_by entries = length (flat_map entry_bytes entries)
 
 -- an entry with another key stands on one side
 one_of : (e : Entry) (o : Ordering) (xs ys : List Entry) → is_eq o ≡ false

@@ -1,9 +1,10 @@
 pub mod AboveLaws
 mod AbsentLaws
+pub mod AloneLaws
 mod ApartLaws
 pub mod AroundLaws
 mod BranchLaws
-mod CallLaws
+pub mod CallLaws
 pub mod CauseLaws
 mod ChangeLaws
 mod ComeLaws

@@ -1,5 +1,6 @@
 -- Marks, one a page.
-use Rattle.std.proofs.Common.{◌≡◌, ◌≢◌, ℕ, zero, suc, ◌<◌, Bool, true, false, cond, not, ◌&&◌, ◌||◌, List, [], ◌∷◌, ◌++◌, length, Some, refl, ap, subst, ◌∙◌, arith}
+use Rattle.std.proofs.Common.{◌≡◌, ◌≢◌, ℕ, zero, suc, ◌<◌, Bool, true, false, cond, not, ◌&&◌, ◌||◌, List, [], ◌∷◌, ◌++◌, length, Some, refl, ap, subst, ◌∙◌, arith, sym}
+use Rattle.std.proofs.Math.Bool.{or_assoc, or_comm}
 use Rattle.std.specs.Prelude.{slice_set, ◌==◌}
 use Rattle.std.proofs.lemmas.Bool.{and_parts, and_from, not-true}
 use Rattle.std.proofs.lemmas.Bool.Decides.{nat_tests}
@@ -21,12 +22,6 @@ or_both true b e h = absurd cc
 or_false : (b : Bool) → (b || false) ≡ b
 or_false true = refl
 or_false false = refl
-
-or_swap : (a b c : Bool) → (a || (b || c)) ≡ ((b || a) || c)
-or_swap true true c = refl
-or_swap true false c = refl
-or_swap false true c = refl
-or_swap false false c = refl
 
 and_group : (a b c : Bool) → (a && (b && c)) ≡ ((a && b) && c)
 and_group true b c = refl
@@ -74,7 +69,8 @@ marked_read marks [] q = refl
 marked_read marks (p ∷ pages) q =
     marked_read (slice_set marks p true) pages q
     ∙ ap (λ (b : Bool). contains pages q || b) (read_by marks p q (p == q) refl)
-    ∙ or_swap (contains pages q) (p == q) (is_marked marks q)
+    ∙ sym (or_assoc (contains pages q) (p == q) (is_marked marks q))
+    ∙ ap (λ (b : Bool). b || is_marked marks q) (or_comm (contains pages q) (p == q))
 
 pub marked_append : (marks : List Bool) (xs ys : List ℕ) → marked marks (xs ++ ys) ≡ marked (marked marks xs) ys
 marked_append marks [] ys = refl

@@ -10,17 +10,20 @@ use Rattle.fsd_formats.specs.declared.page.Separator.{Separator}
 use Rattle.fsd_formats.specs.NamePage.{Interior, is_page, are_ascending}
 use Rattle.fsd_table.specs.declared.child.Child.{Child}
 use Rattle.fsd_table.specs.Pages.{keys_fit, not_below, below, entry_keys, separator_keys}
+use Rattle.fsd_table.proofs.BoundLaws.{entry_keys_append, separator_keys_append}
 use Rattle.fsd_forest.specs.Ways.{child_behind, end_of}
 use Rattle.name_page.specs.Pages.{Step, is_spare, IsReached}
+use Rattle.name_page.specs.Parting.{used_by}
 use Rattle.name_btree.specs.declared.draft.Draft.{Draft}
 use Rattle.name_btree.specs.declared.trimming.Pair.{Pair}
 use Rattle.name_btree.specs.Draft.{MayGo, IsDraft}
-use Rattle.name_btree.specs.Trim.{used_by, AreEntries, AreWays, MayHave, IsOpened, AreFewEntries, AreFewWays, IsPair, pair_fits, entries_at, ways_at, first_at, right_at, is_behind}
+use Rattle.name_btree.specs.Trim.{AreEntries, AreWays, MayHave, IsOpened, AreFewEntries, AreFewWays, IsPair, pair_fits, entries_at, ways_at, first_at, right_at, is_behind}
 use Rattle.name_btree.proofs.DraftLaws.{sheets_kept}
-use Rattle.name_btree.proofs.PairLaws.{parts_at, left_child, AreSides, AtLeft, AtRight, low_same, high_is, key_inside, same_of}
+use Rattle.name_btree.proofs.PairLaws.{parts_at, left_child, AreSides, AtLeft, AtRight, low_same, key_inside, same_of}
 use Rattle.name_page.proofs.CutPageLaws.{used_apart}
 use Rattle.name_btree.proofs.TrimLaws.{PageEntries, least_at, entries_touch, page_ways, ways_touch, good_at}
-use Rattle.fsd_forest.proofs.PartLaws.{entry_keys_append, fit_append, keys_joined, left_wider, right_wider, separator_keys_append}
+use Rattle.fsd_forest.proofs.PartLaws.{fit_append, keys_joined, left_wider, right_wider}
+use Rattle.fsd_forest.proofs.WayLaws.{high_is}
 
 -- ---- steps that only look
 

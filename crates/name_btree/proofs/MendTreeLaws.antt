@@ -7,7 +7,7 @@ use Rattle.fsd_formats.specs.declared.page.Separator.{Separator}
 use Rattle.fsd_formats.specs.NamePage.{Content, are_ascending}
 use Rattle.fsd_table.specs.declared.child.Child.{Child}
 use Rattle.fsd_table.specs.Pages.{page_at, children, children_of, keys_fit, not_below, below, separator_keys}
-use Rattle.fsd_table.proofs.BoundLaws.{ascend_tail, later_fit}
+use Rattle.fsd_table.proofs.BoundLaws.{ascend_tail, later_fit, separator_keys_append}
 use Rattle.fsd_table.proofs.KeyLaws.{not_below_more, below_less}
 use Rattle.fsd_forest.specs.Forest.{forest_pages, Stay, Becomes}
 use Rattle.fsd_forest.specs.Parts.{left_part, right_part}
@@ -28,7 +28,7 @@ use Rattle.name_btree.proofs.AroundLaws.{is_local, Raised, raised}
 use Rattle.name_btree.proofs.LeafTreeLaws.{stays_above, freed_has}
 use Rattle.name_btree.proofs.PairLaws.{parts_at, left_child, right_child}
 use Rattle.name_btree.proofs.PutTreeLaws.{pair_child, joined_child, shared_child}
-use Rattle.fsd_forest.proofs.PartLaws.{fit_append, separator_keys_append}
+use Rattle.fsd_forest.proofs.PartLaws.{fit_append}
 use Rattle.name_page.proofs.CutPageLaws.{keys_front}
 
 -- ---- a key of the pair stands between the keys of the page above

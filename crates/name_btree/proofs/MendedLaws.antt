@@ -13,6 +13,7 @@ use Rattle.fsd_table.specs.declared.child.Child.{Child}
 use Rattle.fsd_table.specs.Pages.{page_at, children, children_of, keys_fit, not_below, below, entry_keys, separator_keys, entries_of}
 use Rattle.fsd_table.specs.Tree.{pages_below, IsLeaf, IsInterior, IsSubtree}
 use Rattle.fsd_table.proofs.PageLaws.{at_is_page, leaf_ascends}
+use Rattle.fsd_table.proofs.BoundLaws.{entry_keys_append, separator_keys_append}
 use Rattle.fsd_forest.specs.Forest.{inner, count_of, forest_pages, Stay, Becomes}
 use Rattle.fsd_forest.specs.Ways.{StandsAt, IsUpTo, IsBehind, children_before, child_behind, children_from, end_of}
 use Rattle.fsd_forest.proofs.CountLaws.{count_cons, count_append, count_nothing, counts_out}
@@ -31,13 +32,14 @@ use Rattle.name_btree.proofs.AroundLaws.{is_local, pair_stands, child_around, up
 use Rattle.name_btree.proofs.LeafTreeLaws.{leaves_joined, leaves_shared, are_apart, pair_stays, one_same}
 use Rattle.name_btree.proofs.MendLaws.{pair_inside, left_page, right_page, ways_are_at}
 use Rattle.name_btree.proofs.MendTreeLaws.{joined_trimmed, shared_trimmed}
-use Rattle.name_btree.proofs.PairLaws.{left_child, right_child, AreSides, AtLeft, AtRight, sides_are, low_same, high_is}
+use Rattle.name_btree.proofs.PairLaws.{left_child, right_child, AreSides, AtLeft, AtRight, sides_are, low_same}
 use Rattle.name_btree.proofs.PutTreeLaws.{pair_child, joined_has, shared_has, entries_edited}
 use Rattle.name_btree.proofs.RaiseLaws.{child_edited}
 use Rattle.name_btree.proofs.TrimLaws.{keys_touch, page_ways, good_at}
 use Rattle.name_btree.proofs.WalkLaws.{all_at}
 use Rattle.name_btree.proofs.WayTreeLaws.{counted_once, ways_become, ways_joined, ways_shared, Others}
-use Rattle.fsd_forest.proofs.PartLaws.{entry_keys_append, fit_append, keys_joined, separator_keys_append}
+use Rattle.fsd_forest.proofs.PartLaws.{fit_append, keys_joined}
+use Rattle.fsd_forest.proofs.WayLaws.{high_is}
 
 -- ---- keys of both leaves
 

@@ -15,6 +15,7 @@ use Rattle.fsd_forest.specs.Ways.{child_behind, end_of}
 use Rattle.fsd_forest.proofs.WayLaws.{child_at}
 use Rattle.name_btree.specs.Trim.{IsPair, beside, child_of}
 use Rattle.name_btree.proofs.WalkLaws.{child_later}
+use Rattle.name_page.proofs.EndsLaws.{some_there}
 use Rattle.name_page.proofs.ListLaws.{drop_at}
 
 -- ---- the children at places
@@ -24,11 +25,6 @@ same_of x y e = cc
 
 pub child_is_at : (above : Child) (first : ℕ) (xs : List Separator) (i : ℕ) (child : Child) → i ≤ length xs → slice_get (children first above.low above.high xs) i ≡ Some child → child ≡ child_of above first xs i
 child_is_at above first xs i child within is = same_of child _ (sym is ∙ child_at first above.low above.high xs i within)
-
-pub some_at : (xs : List Separator) (i : ℕ) → i < length xs → (s : Separator) × (slice_get xs i ≡ Some s)
-some_at [] i h = absurd (omega arith)
-some_at (x ∷ xs) zero h = (x, refl)
-some_at (x ∷ xs) (suc i) h = some_at xs i (omega arith)
 
 child_before : (first : ℕ) (low high : Option Key) (xs : List Separator) (i : ℕ) (s : Separator) → slice_get xs i ≡ Some s → slice_get (children first low high xs) i ≡ Some (child_behind first low (take i xs) (Some s.key))
 child_before first low high [] i s e = absurd cc
@@ -51,7 +47,7 @@ pub pair_is : (above : Child) (first : ℕ) (xs : List Separator) (place left ri
     → slice_get (children first above.low above.high xs) place ≡ Some c → slice_get (children first above.low above.high xs) (place + 1) ≡ Some d
     → left ≡ c.page → right ≡ d.page → IsPair above first xs (record { place = place; left = left; right = right })
 pair_is above first xs place left right c d within at_c at_d l r =
-    let s = some_at xs place within in
+    let s = some_there xs place within in
     let c_is = same_of c _ (sym at_c ∙ child_before first above.low above.high xs place s.0 s.1) in
     let d_is = same_of d _ (sym at_d ∙ child_later first above.low above.high xs (place + 1) place s.0 (omega arith) s.1) in
     record { between = s.0; there = s.1; left = l ∙ ap (λ (x : Child). x.page) c_is; right = r ∙ ap (λ (x : Child). x.page) d_is }
@@ -92,10 +88,6 @@ sides_are above first xs pair is i child neighbour place at beside_at = by (i ==
 pub low_same : (first : ℕ) (low high high2 : Option Key) (xs : List Separator) → (child_behind first low xs high).low ≡ (child_behind first low xs high2).low
 low_same first low high high2 [] = refl
 low_same first low high high2 (x ∷ xs) = low_same x.child (Some x.key) high high2 xs
-
-pub high_is : (first : ℕ) (low high : Option Key) (xs : List Separator) → (child_behind first low xs high).high ≡ high
-high_is first low high [] = refl
-high_is first low high (x ∷ xs) = high_is x.child (Some x.key) high xs
 
 -- the key between them stands between those of the pair
 pub key_inside : (first : ℕ) (low high high2 : Option Key) (front : List Separator) (s : Separator) (behind : List Separator) → are_ascending (separator_keys (front ++ s ∷ behind)) ≡ true

@@ -15,6 +15,7 @@ use Rattle.fsd_table.specs.Pages.{page_at, keys_fit, not_below, below, entry_key
 use Rattle.fsd_table.proofs.KeyLaws.{lt_le}
 use Rattle.fsd_forest.specs.Parts.{left_part}
 use Rattle.fsd_forest.specs.Ways.{IsUpTo, IsBehind, child_between, child_behind, end_of}
+use Rattle.fsd_forest.proofs.WayLaws.{high_is}
 use Rattle.name_page.specs.Edits.{without}
 use Rattle.name_page.specs.Pages.{Step}
 use Rattle.name_btree.specs.declared.draft.Draft.{Draft}
@@ -24,7 +25,7 @@ use Rattle.name_btree.specs.declared.trimming.Trimmed.TheVariants.{Whole, Leaf, 
 use Rattle.name_btree.specs.Draft.{drafted}
 use Rattle.name_btree.specs.Trim.{IsPair, entries_at, separators_shared, AreJoined, AreShared}
 use Rattle.name_btree.proofs.AroundLaws.{is_local}
-use Rattle.name_btree.proofs.PairLaws.{left_child, right_child, AreSides, AtLeft, AtRight, low_same, high_is}
+use Rattle.name_btree.proofs.PairLaws.{left_child, right_child, AreSides, AtLeft, AtRight, low_same}
 
 -- ---- what the pages have
 

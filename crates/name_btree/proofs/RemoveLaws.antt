@@ -20,6 +20,7 @@ use Rattle.fsd_forest.proofs.ForestLaws.{leaves_become}
 use Rattle.name_page.specs.Edits.{without}
 use Rattle.name_page.proofs.SideLaws.{without_fits, without_ascends, without_all}
 use Rattle.name_page.specs.Pages.{Step}
+use Rattle.name_page.specs.Parting.{used_by}
 use Rattle.name_btree.specs.declared.draft.Draft.{Draft}
 use Rattle.name_btree.specs.declared.draft.Sheet.{Sheet}
 use Rattle.name_btree.specs.declared.trimming.Trimmed.{Trimmed}
@@ -27,7 +28,7 @@ use Rattle.name_btree.specs.declared.trimming.Trimmed.TheVariants.{Whole, Leaf, 
 use Rattle.name_btree.specs.Draft.{drafted, IsDrafted}
 use Rattle.name_btree.specs.Fault.{IsMisfit}
 use Rattle.name_btree.specs.Remove.{IsAround, IsTrimmed, BreaksAround}
-use Rattle.name_btree.specs.Trim.{used_by, AreEntries, IsLeafPut, IsLeft}
+use Rattle.name_btree.specs.Trim.{AreEntries, IsLeafPut, IsLeft}
 use Rattle.name_btree.proofs.DescentLaws.{misfit}
 use Rattle.name_btree.proofs.ReplaceLaws.{leaf_parts}
 

@@ -1,6 +1,6 @@
 -- A leaf in which an entry is replaced, and the tree that it stands in.
-use Rattle.std.proofs.Common.{◌≡◌, ℕ, zero, suc, ◌+◌, ◌*◌, ◌<◌, ◌≤◌, Bool, true, cond, ◌&&◌, List, [], ◌∷◌, length, map, Some, sym, ap, subst, ◌∙◌, arith, length-append}
-use Rattle.std.specs.Prelude.{◌==◌, nat_le, slice_index_or}
+use Rattle.std.proofs.Common.{◌≡◌, ℕ, zero, suc, ◌<◌, ◌≤◌, Bool, true, cond, ◌&&◌, List, [], ◌∷◌, length, map, Some, sym, ap, subst, ◌∙◌, arith}
+use Rattle.std.specs.Prelude.{slice_index_or}
 use Rattle.std.specs.List.{flat_map, list_all, Contains}
 use Rattle.std.specs.Ordering.{is_eq}
 use Rattle.std.proofs.lemmas.Cmp.{tied_itself}
@@ -9,17 +9,16 @@ use Rattle.fsd_table.proofs.BoundLaws.{Ascend, ascend_skip, ascend_tail}
 use Rattle.fsd_table.proofs.KeyLaws.{keys_total}
 use Rattle.name_page.specs.Lookups.{entry_with}
 use Rattle.std.proofs.lemmas.Bool.{and_parts, and_from}
-use Rattle.run_table.specs.RunTable.{are_runs, total, max_runs}
-use Rattle.fsd_bytes.specs.Keys.{is_key, key_cmp, key_lt, same_key}
-use Rattle.fsd_bytes.specs.Names.{is_between, is_name, is_name_byte, max_name_len}
+use Rattle.fsd_bytes.specs.Keys.{key_cmp, key_lt, same_key}
+use Rattle.fsd_bytes.specs.Names.{is_between}
 use Rattle.fsd_formats.specs.declared.entry.Entry.{Entry}
-use Rattle.fsd_formats.specs.NamePage.{Leaf, is_page, is_entry, entry_bytes, are_ascending, room, least_used, max_keep, max_length, sectors_for}
+use Rattle.fsd_formats.specs.NamePage.{Leaf, is_page, is_entry, entry_bytes, are_ascending, room, least_used}
 use Rattle.fsd_table.specs.Pages.{page_at, entry_keys}
 use Rattle.fsd_table.specs.Table.{top}
 use Rattle.fsd_table.specs.Tree.{IsTree, table_of}
 use Rattle.fsd_table.proofs.PageLaws.{at_is_page, leaf_ascends}
 use Rattle.name_page.proofs.LeafLaws.{between}
-use Rattle.fsd_table.proofs.EntryLaws.{length_entry}
+use Rattle.fsd_table.proofs.EntryLaws.{entries_long}
 use Rattle.name_page.specs.declared.cut.Cut.TheVariants.{UpTo}
 use Rattle.name_btree.specs.declared.descent.Found.{Found}
 use Rattle.name_page.specs.Cut.{is_before}
@@ -30,26 +29,6 @@ use Rattle.name_btree.proofs.FindLaws.{entry_found, unequal_less}
 use Rattle.name_page.proofs.PutLaws.{put_keys, put_all, put_size}
 
 -- ---- how many entries a leaf has
-
-entry_long : (e : Entry) → is_entry e ≡ true → 27 ≤ length (entry_bytes e)
-entry_long e is =
-    let p1 = and_parts (is_key e.key && nat_le e.keep max_keep && nat_le e.length max_length && are_runs e.runs) (total e.runs == sectors_for e.length) is in
-    let p2 = and_parts (is_key e.key && nat_le e.keep max_keep && nat_le e.length max_length) (are_runs e.runs) p1.0 in
-    let p3 = and_parts (is_key e.key && nat_le e.keep max_keep) (nat_le e.length max_length) p2.0 in
-    let key = (and_parts (is_key e.key) (nat_le e.keep max_keep) p3.0).0 in
-    let name = (and_parts (is_name e.key.name) (nat_le 1 e.key.version) key).0 in
-    let named = (between 1 max_name_len (length e.key.name) (and_parts (is_between 1 max_name_len (length e.key.name)) (list_all is_name_byte e.key.name) name).0).0 in
-    let runs = (between 1 max_runs (length e.runs) (and_parts (is_between 1 max_runs (length e.runs)) (list_all (λ r. is_between 1 65535 r.length) e.runs) p2.1).0).0 in
-    at_least (length (entry_bytes e)) (length e.key.name) (length e.runs) (length_entry e) named runs
-  where
-    at_least : (n name runs : ℕ) → n ≡ 20 + name + 6 * runs → 1 ≤ name → 1 ≤ runs → 27 ≤ n
-    at_least n name runs is a b = omega arith
-
-each_long : (entries : List Entry) → list_all is_entry entries ≡ true → 27 * length entries ≤ length (flat_map entry_bytes entries)
-each_long [] is = omega arith
-each_long (e ∷ entries) is =
-    let parts = and_parts (is_entry e) (list_all is_entry entries) is in
-    omega (arith, entry_long e parts.0, each_long entries parts.1, length-append (entry_bytes e) (flat_map entry_bytes entries))
 
 -- ---- the leaf
 
@@ -67,7 +46,7 @@ leaf_parts page p entries is =
 pub few_in_leaf : (pages : List (List ℕ)) (page : ℕ) (entries : List Entry) → page_at pages page ≡ Some (Leaf entries) → length entries ≤ 18
 few_in_leaf pages page entries at =
     let parts = leaf_parts page (length pages) entries (at_is_page pages page (Leaf entries) at) in
-    omega (arith, each_long entries parts.each, (between (least_used page) room (length (flat_map entry_bytes entries)) parts.used).1)
+    omega (arith, entries_long entries parts.each, (between (least_used page) room (length (flat_map entry_bytes entries)) parts.used).1)
 
 pub used_in_leaf : (pages : List (List ℕ)) (page : ℕ) (entries : List Entry) → page_at pages page ≡ Some (Leaf entries) → length (flat_map entry_bytes entries) ≤ room
 used_in_leaf pages page entries at =

@@ -1,6 +1,6 @@
 -- What is left of page 0, and a tree without a key.
 use Rattle.std.proofs.Common.{◌≡◌, inl, inr, ℕ, zero, suc, ◌-◌, ◌<◌, ◌≤◌, true, ◌||◌, List, [], ◌∷◌, ◌++◌, length, Option, Some, None, refl, sym, ap, subst, ◌∙◌, arith}
-use Rattle.std.specs.Prelude.{Result, Ok, Err, OnOk, IfErr}
+use Rattle.std.specs.Prelude.{Result, Ok, Err, OnOk}
 use Rattle.std.specs.List.{AllByRecursion}
 use Rattle.std.proofs.lemmas.List.{append-nil}
 use Rattle.run_table.specs.Space.{contains, all_differ}
@@ -135,10 +135,6 @@ free_breaks key pages between old0 new0 first (Interior only list) is t free hei
 pub on_ok_more : {X : Type 0} (r : Result X TreeFault) (A B : Type 0) → (A → B) → OnOk r A → OnOk r B
 on_ok_more (Ok x) A B f h = f h
 on_ok_more (Err fault) A B f h = tt
-
-pub on_err_more : {X : Type 0} (r : Result X TreeFault) (P Q : TreeFault → Type 0) → ((fault : TreeFault) → P fault → Q fault) → IfErr r P → IfErr r Q
-on_err_more (Ok x) P Q f h = tt
-on_err_more (Err fault) P Q f h = f fault h
 
 pub around_breaks : (key : Key) (pages : List (List ℕ)) (c : Child) (page : ℕ) → c ≡ top → BreaksAround key pages 5 c page → IsNoTree pages
 around_breaks key pages c page is h = λ height tree. (subst (λ (d : Child). BreaksAround key pages 5 d page) is h) (height - 1) (omega (arith, tree.most)) (tree_around key pages height tree)

@@ -6,6 +6,7 @@ use Rattle.std.proofs.lemmas.Bool.{cases_lt}
 use Rattle.std.proofs.lemmas.List.{append-nil, length-set, length-replicate, get_or-replicate, take-replicate}
 use Rattle.std.proofs.lemmas.Option.{slice_get-get_or}
 use Rattle.run_table.specs.Space.{all_differ}
+use Rattle.run_table.proofs.SectorLaws.{each_in}
 use Rattle.fsd_bytes.specs.declared.refusal.Refusal.{Refusal}
 use Rattle.fsd_bytes.specs.declared.refusal.Refusal.TheVariants.{Unsound, NameTableFull}
 use Rattle.fsd_formats.specs.NamePage.{read_page}
@@ -28,7 +29,6 @@ use Rattle.name_btree.specs.Fault.{outer_of, IsCaused, HasCause, FailsBy, BarsTa
 use Rattle.name_btree.specs.Walk.{AreMarksOf}
 use Rattle.name_btree.proofs.CauseLaws.{cause_map}
 use Rattle.name_btree.proofs.SetLaws.{set_at, set_other, at_other}
-use Rattle.name_btree.proofs.TakeLaws.{each_in}
 
 -- ---- no page is marked
 

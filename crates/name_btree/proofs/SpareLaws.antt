@@ -1,9 +1,11 @@
 -- Which pages are spare, once an entry was put in.
 use Rattle.std.proofs.Common.{◌≡◌, ℕ, ◌+◌, ◌-◌, ◌<◌, ◌≤◌, Bool, true, false, not, ◌&&◌, ◌||◌, List, [], ◌∷◌, ◌++◌, length, get_or, refl, sym, ap, subst, ◌∙◌, arith, length-set, get_or-set_other}
+use Rattle.std.proofs.Math.Bool.{or_assoc, or_comm}
 use Rattle.std.specs.Prelude.{◌==◌, slice_set, count_by}
 use Rattle.std.proofs.lemmas.List.{get_or-set_same}
 use Rattle.std.proofs.lemmas.Bool.{eqb-true, eq-eqb}
 use Rattle.run_table.specs.Space.{contains}
+use Rattle.run_table.proofs.SectorLaws.{each_in}
 use Rattle.fsd_bytes.specs.declared.key.Key.{Key}
 use Rattle.fsd_formats.specs.declared.entry.Entry.{Entry}
 use Rattle.fsd_table.specs.Table.{top}
@@ -20,7 +22,7 @@ use Rattle.name_btree.specs.Grown.{AreUsed, Inserts}
 use Rattle.name_btree.specs.Map.{IsTable, HasTable, without_all, LeavesTree}
 use Rattle.name_btree.proofs.BranchLaws.{taken_apart}
 use Rattle.name_btree.proofs.DraftLaws.{committed_spares, drafted_length}
-use Rattle.name_btree.proofs.TakeLaws.{each_in, one_more}
+use Rattle.name_btree.proofs.TakeLaws.{one_more}
 
 -- ---- pages that are made spare
 
@@ -31,19 +33,14 @@ set_spare spares page q low = by (page == q) refl
     by true is = ap (λ (n : ℕ). get_or (slice_set spares n true) q false) (eqb-true page q is) ∙ get_or-set_same spares q true false low
     by false is = get_or-set_other spares page q true false (λ e. let yes = eq-eqb q q refl in let never : (q == q) ≡ false = ap (λ (n : ℕ). n == q) e ∙ is in cc)
 
-or_swap : (x y z : Bool) → (x || (y || z)) ≡ ((y || x) || z)
-or_swap true true z = refl
-or_swap true false z = refl
-or_swap false true z = refl
-or_swap false false z = refl
-
 pub freed_at : (pages : List ℕ) (step : Step) (q : ℕ) → q < length step.spares → is_spare (freed pages step).spares q ≡ (contains pages q || is_spare step.spares q)
 freed_at [] step q low = refl
 freed_at (p ∷ pages) step q low =
     let Low : ℕ → Type 0 = λ (n : ℕ). q < n in
     freed_at pages (with_spare p step) q (subst Low (sym (length-set step.spares p true)) low)
     ∙ ap (λ (b : Bool). contains pages q || b) (set_spare step.spares p q low)
-    ∙ or_swap (contains pages q) (p == q) (is_spare step.spares q)
+    ∙ sym (or_assoc (contains pages q) (p == q) (is_spare step.spares q))
+    ∙ ap (λ (b : Bool). b || is_spare step.spares q) (or_comm (contains pages q) (p == q))
 
 freed_more : (pages : List ℕ) (step : Step) → free_count step ≤ free_count (freed pages step)
 freed_more [] step = omega arith

@@ -1,60 +1,18 @@
 -- The table once a tree without a key is written.
-use Rattle.std.proofs.Common.{◌≡◌, ℕ, zero, suc, ◌+◌, ◌<◌, ◌≤◌, Bool, true, false, ◌||◌, not, List, [], ◌∷◌, length, get_or, refl, sym, ap, subst, ◌∙◌, arith}
-use Rattle.std.specs.Prelude.{◌==◌, slice_set}
-use Rattle.std.proofs.lemmas.Bool.{eqb-true}
+use Rattle.std.proofs.Common.{◌≡◌, ℕ, ◌+◌, ◌<◌, ◌≤◌, Bool, true, false, ◌||◌, not, List, [], length, refl, sym, ap, subst, ◌∙◌, arith}
+use Rattle.std.proofs.Math.Bool.{or_comm}
 use Rattle.run_table.specs.Space.{contains}
 use Rattle.fsd_bytes.specs.declared.key.Key.{Key}
 use Rattle.fsd_table.specs.Tree.{pages_of, table_of, IsTree}
 use Rattle.fsd_forest.specs.Forest.{count_of, Disjoint, TreeBecomes}
 use Rattle.fsd_forest.proofs.CountLaws.{count_nothing, there_counts, out_counts, counts_there, counts_out, differ_counts}
 use Rattle.name_page.specs.Edits.{without}
-use Rattle.name_page.specs.Pages.{Step, is_spare, with_spare}
+use Rattle.name_page.specs.Pages.{Step, is_spare}
 use Rattle.name_btree.specs.declared.draft.Draft.{Draft}
 use Rattle.name_btree.specs.Draft.{drafted, committed, freed, images_of, RemovesFrom}
 use Rattle.name_btree.specs.Map.{IsTable, HasTable}
 use Rattle.name_btree.proofs.DraftLaws.{committed_spares, committed_images, freed_images, drafted_length}
-
--- ---- spare pages
-
-set_at : (spares : List Bool) (page : ℕ) → page < length spares → get_or (slice_set spares page true) page false ≡ true
-set_at [] page h = absurd (omega arith)
-set_at (x ∷ spares) zero h = refl
-set_at (x ∷ spares) (suc page) h = set_at spares page (omega arith)
-
-set_other : (spares : List Bool) (page q : ℕ) → (page ≡ q → ⊥) → get_or (slice_set spares page true) q false ≡ get_or spares q false
-set_other [] page q h = refl
-set_other (x ∷ spares) zero zero h = absurd (h refl)
-set_other (x ∷ spares) zero (suc q) h = refl
-set_other (x ∷ spares) (suc page) zero h = refl
-set_other (x ∷ spares) (suc page) (suc q) h = set_other spares page q (λ e. h (ap suc e))
-
-set_length : (spares : List Bool) (page : ℕ) → length (slice_set spares page true) ≡ length spares
-set_length [] page = refl
-set_length (x ∷ spares) zero = refl
-set_length (x ∷ spares) (suc page) = ap suc (set_length spares page)
-
-or_swap : (a b : Bool) → (true || b) ≡ (a || (true || b))
-or_swap true b = refl
-or_swap false b = refl
-
-freed_spares : (pages : List ℕ) (step : Step) (q : ℕ) → q < length step.spares → is_spare (freed pages step).spares q ≡ (is_spare step.spares q || contains pages q)
-freed_spares [] step q low = none (is_spare step.spares q)
-  where
-    none : (b : Bool) → b ≡ (b || false)
-    none true = refl
-    none false = refl
-freed_spares (p ∷ pages) step q low =
-    let rest = freed_spares pages (with_spare p step) q (subst (λ (n : ℕ). q < n) (sym (set_length step.spares p)) low) in
-    rest ∙ by (p == q) refl
-  where
-    by : (b : Bool) → (p == q) ≡ b → (is_spare (slice_set step.spares p true) q || contains pages q) ≡ (is_spare step.spares q || ((p == q) || contains pages q))
-    by true e =
-        let same : p ≡ q = eqb-true p q e in
-        let set : is_spare (slice_set step.spares p true) q ≡ true = subst (λ (n : ℕ). get_or (slice_set step.spares n true) q false ≡ true) (sym same) (set_at step.spares q low) in
-        ap (λ (x : Bool). x || contains pages q) set ∙ or_swap (is_spare step.spares q) (contains pages q) ∙ ap (λ (x : Bool). is_spare step.spares q || (x || contains pages q)) (sym e)
-    by false e =
-        let other : p ≡ q → ⊥ = grind arith in
-        ap (λ (x : Bool). x || contains pages q) (set_other step.spares p q other) ∙ ap (λ (x : Bool). is_spare step.spares q || (x || contains pages q)) (sym e)
+use Rattle.name_btree.proofs.SpareLaws.{freed_at}
 
 -- ---- the pages that are left, by their counts
 
@@ -97,7 +55,9 @@ table_without old between key empty d no_sheets no_freed same_images same_spares
         spare = λ q low.
             let low2 : q < length old.images = subst (λ (n : ℕ). q < n) length_is low in
             let low3 : q < length (committed d.sheets.items between).spares = subst (λ (n : ℕ). q < n) (sym (ap (λ (x : List Bool). length x) spares_are ∙ flags)) low2 in
-            freed_spares d.freed.items (committed d.sheets.items between) q low3 ∙ ap (λ (x : List Bool). is_spare x q || contains d.freed.items q) spares_are
+            freed_at d.freed.items (committed d.sheets.items between) q low3
+            ∙ or_comm (contains d.freed.items q) (is_spare (committed d.sheets.items between).spares q)
+            ∙ ap (λ (x : List Bool). is_spare x q || contains d.freed.items q) spares_are
             ∙ ap (λ (b : Bool). b || contains d.freed.items q) (table.spare q low2) ∙ ap (λ (b : Bool). not (contains (pages_of old.images height) q) || b) (freed_is q)
             ∙ left_over (pages_of old.images height) (pages_of after.images t2.height_after) went q (omega (arith, t2.pages_are q, count_nothing q)) (differ_counts (pages_of old.images height) table.tree.apart q);
       };

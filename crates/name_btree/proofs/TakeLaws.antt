@@ -9,8 +9,10 @@ use Rattle.fsd_forest.specs.Forest.{Disjoint}
 use Rattle.fsd_forest.proofs.KeepLaws.{in_left, in_right}
 use Rattle.name_btree.proofs.ApartLaws.{apart_from}
 use Rattle.run_table.specs.Space.{contains}
+use Rattle.run_table.proofs.SectorLaws.{each_in}
 use Rattle.fsd_formats.specs.NamePage.{read_page}
 use Rattle.fsd_table.proofs.BoundLaws.{all_append, all_weaker}
+use Rattle.fsd_forest.proofs.CountLaws.{one_where}
 use Rattle.name_page.specs.Pages.{Step, is_one_of, is_spare, changes, free_count, with_one, with_taken, IsReached}
 use Rattle.name_btree.specs.declared.draft.Sheet.{Sheet}
 use Rattle.name_btree.specs.Draft.{IsSheet, AreSheets, MayGo, IsTaken}
@@ -55,13 +57,10 @@ still_used : (b x : Bool) → b ≡ false → (b && not x) ≡ false
 still_used true x e = absurd cc
 still_used false x e = refl
 
-abbrev one_of : Bool → ℕ
-one_of b = cond b 1 0
-
-count_cons : (b : Bool) (spares : List Bool) → count_by (λ spare. spare) (b ∷ spares) ≡ one_of b + count_by (λ spare. spare) spares
+count_cons : (b : Bool) (spares : List Bool) → count_by (λ spare. spare) (b ∷ spares) ≡ one_where b + count_by (λ spare. spare) spares
 count_cons b spares = sum_by-cons (λ (t : Bool). cond t 1 0) b spares
 
-at_most_one : (b : Bool) → one_of b ≤ 1
+at_most_one : (b : Bool) → one_where b ≤ 1
 at_most_one true = omega arith
 at_most_one false = omega arith
 
@@ -134,14 +133,6 @@ takes_none old new images spares most still kept = record {
   reached = kept;
   own = tt;
 }
-
-pub each_in : (P : ℕ → Type 0) (xs : List ℕ) (p : ℕ) → AllByRecursion P xs → contains xs p ≡ true → P p
-each_in P [] p a h = absurd cc
-each_in P (x ∷ xs) p a h = by (x == p) refl (λ i. each_in P xs p a.1 i) h
-  where
-    by : (b : Bool) → (x == p) ≡ b → (contains xs p ≡ true → P p) → (b || contains xs p) ≡ true → P p
-    by true is rest h = subst P (eqb-true x p is) a.0
-    by false is rest h = rest h
 
 -- pages that were taken first are none of those that were taken then
 pub taken_apart : (a b c : Step) (xs ys : List ℕ) → IsTaken a b xs → IsTaken b c ys → Disjoint xs ys

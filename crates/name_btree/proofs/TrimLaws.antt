@@ -13,14 +13,15 @@ use Rattle.fsd_formats.specs.declared.page.Separator.{Separator}
 use Rattle.fsd_formats.specs.NamePage.{Leaf, Interior, is_page, is_entry, are_ascending, least_used, least_separators, room, FitsEntry}
 use Rattle.fsd_table.specs.declared.child.Child.{Child}
 use Rattle.fsd_table.specs.Pages.{keys_fit, not_below, below, entry_keys, separator_keys}
-use Rattle.fsd_table.proofs.BoundLaws.{all_append, ascend_tail}
+use Rattle.name_page.specs.Parting.{used_by}
+use Rattle.fsd_table.proofs.BoundLaws.{all_append, ascend_tail, entry_keys_append, separator_keys_append}
 use Rattle.fsd_table.proofs.KeyLaws.{lt_le}
 use Rattle.fsd_forest.specs.Ways.{child_behind, end_of}
 use Rattle.name_btree.specs.declared.trimming.Pair.{Pair}
-use Rattle.name_btree.specs.Trim.{used_by, AreEntries, AreWays, IsOpened, IsPair, pair_fits, IsBetween, separators_joined, separators_shared, is_behind}
+use Rattle.name_btree.specs.Trim.{AreEntries, AreWays, IsOpened, IsPair, pair_fits, IsBetween, separators_joined, separators_shared, is_behind}
 use Rattle.name_btree.proofs.PairLaws.{parts_at, ascend_without, ascend_with}
-use Rattle.fsd_forest.proofs.PartLaws.{entry_keys_append, first_under, fit_append, separator_keys_append}
-use Rattle.name_page.proofs.CutPageLaws.{keys_behind, keys_front, least_ways}
+use Rattle.fsd_forest.proofs.PartLaws.{first_under, fit_append}
+use Rattle.name_page.proofs.CutPageLaws.{keys_behind, keys_front, least_ways, all_below}
 
 -- ---- keys
 
@@ -49,9 +50,6 @@ keys_touch low high (x ∷ y ∷ ks) k ls a fit b over =
     and_from (key_lt x y) (are_ascending (y ∷ (ks ++ ls))) parts.0 (keys_touch low high (y ∷ ks) k ls parts.1 fits.1 b over)
 
 -- ---- ways
-
-abbrev all_below : ℕ → List Separator → Bool
-all_below p xs = list_all (λ s. is_key s.key && nat_lt s.child p) xs
 
 -- what stands on both sides of a separator, and the separator
 record WaysParts (p : ℕ) (xs : List Separator) (s : Separator) (ys : List Separator) : Type 0 where

@@ -24,12 +24,13 @@ use Rattle.name_btree.specs.declared.trimming.Trimmed.TheVariants.{Whole, Leaf, 
 use Rattle.name_btree.specs.Remove.{IsAround, IsTrimmed, IsTrimmedBelow, BreaksAround}
 use Rattle.name_btree.specs.declared.draft.Draft.{Draft}
 use Rattle.name_btree.specs.Draft.{drafted}
+use Rattle.name_page.proofs.EndsLaws.{some_there}
 use Rattle.name_page.specs.declared.cut.Cut.TheVariants.{UpTo}
 use Rattle.name_page.specs.Cut.{is_before}
 use Rattle.name_btree.specs.Trim.{IsPair, IsOpened, beside, right_at, is_behind, IsUnlike}
 use Rattle.name_btree.proofs.AroundLaws.{pair_stands, count_one, child_around, up_to, past}
 use Rattle.name_btree.proofs.LeafTreeLaws.{one_same, head_counts}
-use Rattle.name_btree.proofs.PairLaws.{some_at, left_child, right_child, AreSides, AtLeft, AtRight, sides_are}
+use Rattle.name_btree.proofs.PairLaws.{left_child, right_child, AreSides, AtLeft, AtRight, sides_are}
 use Rattle.name_btree.proofs.TrimLaws.{least_at, leaf_least}
 use Rattle.name_btree.proofs.WalkLaws.{all_at}
 use Rattle.name_btree.proofs.WayTreeLaws.{counted_once}
@@ -81,11 +82,6 @@ heads_behind l pages second k high (y ∷ ys) subs none =
 
 -- ---- the neighbour
 
-some_child : (cs : List Child) (i : ℕ) → i < length cs → (c : Child) × (slice_get cs i ≡ Some c)
-some_child [] i h = absurd (omega arith)
-some_child (c ∷ cs) zero h = (c, refl)
-some_child (c ∷ cs) (suc i) h = some_child cs i (omega arith)
-
 at_inner : (key : Key) (pages : List (List ℕ)) (level : ℕ) (above : Child) (first : ℕ) (xs : List Separator) (j : ℕ) (d : Child) → IsAround key pages (suc level) above → page_at pages above.page ≡ Some (grammar.Interior first xs)
     → slice_get (children first above.low above.high xs) j ≡ Some d → count_of 0 (pages_below level pages d) ≤ 0
 at_inner key pages level above first xs j d around at is =
@@ -116,9 +112,9 @@ pub record HasNeighbour (above : Child) (first : ℕ) (xs : List Separator) (i :
 has_neighbour : (p : ℕ) (above : Child) (first : ℕ) (xs : List Separator) (i : ℕ) (child : Child) → IsOpened p above first xs → i ≤ length xs → HasNeighbour above first xs i child
 has_neighbour p above first xs i child o within =
     let some : 1 ≤ length xs = by_page (above.page == 0) o.least in
-    let s = some_at xs (i - 1) (omega (arith, some, within)) in
+    let s = some_there xs (i - 1) (omega (arith, some, within)) in
     let pair : Pair = record { place = i - 1; left = (child_behind first above.low (take (i - 1) xs) (Some s.0.key)).page; right = s.0.child } in
-    let n = some_child (children first above.low above.high xs) (beside i) (by_i (i == 0) (length_of_children first above.low above.high xs) some within) in
+    let n = some_there (children first above.low above.high xs) (beside i) (by_i (i == 0) (length_of_children first above.low above.high xs) some within) in
     record { pair = pair; place = refl; is = record { between = s.0; there = s.1; left = refl; right = refl }; neighbour = n.0; there = n.1 }
   where
     by_page : (b : Bool) → cond b 1 4 ≤ length xs → 1 ≤ length xs

@@ -11,6 +11,7 @@ use Rattle.fsd_forest.specs.Ways.{end_of}
 use Rattle.name_btree.specs.declared.descent.Way.{Way}
 use Rattle.name_btree.specs.declared.descent.Neighbour.{Neighbour}
 use Rattle.name_btree.specs.Descent.{way_to}
+use Rattle.name_btree.proofs.WalkLaws.{child_first}
 
 -- child i, and the children beside it; where there is none on a side, what stood there before
 pub record IsWayAt (above : ℕ) (previous next : Option Neighbour) (cs : List Child) (count i : ℕ) (w : Way) : Type 0 where
@@ -19,10 +20,6 @@ pub record IsWayAt (above : ℕ) (previous next : Option Neighbour) (cs : List C
   pub before : (j : ℕ) (c : Child) → i ≡ suc j → slice_get cs j ≡ Some c → w.previous ≡ Some (record { child = c; above = above })
   pub last : i ≡ count → w.next ≡ next
   pub behind : (c : Child) → slice_get cs (suc i) ≡ Some c → w.next ≡ Some (record { child = c; above = above })
-
-head_is : (first : ℕ) (low high : Option Key) (xs : List Separator) → slice_get (children first low high xs) 0 ≡ Some (record { page = first; low = low; high = end_of high xs })
-head_is first low high [] = refl
-head_is first low high (s ∷ xs) = refl
 
 same_child : (c d : Child) → Some c ≡ Some d → c ≡ d
 same_child c d e = cc
@@ -46,7 +43,7 @@ stops above previous next first low high s xs go false e = record {
   first = λ e. refl;
   before = λ j x e at. absurd (omega (arith, e));
   last = λ e. absurd (omega (arith, e));
-  behind = λ x at. ap (beside above) (same_child (child_behind high s xs) x (sym (head_is s.child (Some s.key) high xs) ∙ at));
+  behind = λ x at. ap (beside above) (same_child (child_behind high s xs) x (sym (child_first s.child (Some s.key) high xs) ∙ at));
 }
 
 goes : (above : ℕ) (previous next : Option Neighbour) (first : ℕ) (low high : Option Key) (s : Separator) (xs : List Separator) (i : ℕ) (go stop : Way)

@@ -21,14 +21,14 @@ use Rattle.fsd_forest.proofs.ForestLaws.{widens}
 use Rattle.fsd_forest.proofs.KeepLaws.{kept_all}
 use Rattle.fsd_forest.proofs.PartLaws.{children_part, interiors_part}
 use Rattle.fsd_forest.proofs.RiseLaws.{rises}
-use Rattle.fsd_forest.proofs.WayLaws.{children_end, children_begin}
+use Rattle.fsd_forest.proofs.WayLaws.{children_end, children_begin, high_is}
 use Rattle.name_page.specs.Edits.{without}
 use Rattle.name_btree.specs.declared.trimming.Pair.{Pair}
 use Rattle.name_btree.specs.Remove.{IsAround}
 use Rattle.name_btree.specs.Trim.{IsPair, pair_fits, first_at, ways_at}
 use Rattle.name_btree.proofs.AroundLaws.{is_local, all_top}
 use Rattle.name_btree.proofs.LeafTreeLaws.{below_counts, joined_heads, shared_heads, one_same}
-use Rattle.name_btree.proofs.PairLaws.{left_child, right_child, AreSides, AtLeft, AtRight, low_same, high_is}
+use Rattle.name_btree.proofs.PairLaws.{left_child, right_child, AreSides, AtLeft, AtRight, low_same}
 use Rattle.name_btree.proofs.PutTreeLaws.{pair_child, front_at, back_at}
 
 -- ---- children beside the key

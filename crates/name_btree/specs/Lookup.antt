@@ -7,6 +7,8 @@ use Rattle.fsd_formats.specs.NamePage.{Leaf}
 use Rattle.fsd_table.specs.declared.child.Child.{Child}
 use Rattle.fsd_table.specs.Pages.{page_at}
 use Rattle.fsd_table.specs.Table.{IsVisited}
+use Rattle.fsd_table.specs.Tree.{table_of, IsTree}
+use Rattle.name_page.specs.Lookups.{entry_with}
 use Rattle.name_page.specs.Looks.{Shows}
 use Rattle.name_page.specs.Pages.{Step, is_spare, IsReached}
 use Rattle.name_btree.specs.declared.descent.Neighbour.{Neighbour}
@@ -29,6 +31,10 @@ pub record StandsIn (s : Step) (f : FoundEntry) : Type 0 where
 -- what was reached shows that a path from page 0 reaches the leaf
 abbrev pub IsLedTo : Step → FoundEntry → Type 0
 IsLedTo s f = Shows s (λ pages. IsOnWay pages f.page)
+
+-- what some entries have at a key is what the table has
+abbrev pub HoldsAt : Key → List (List ℕ) → List Entry → Type 0
+HoldsAt key pages entries = (height : ℕ) → IsTree pages height → entry_with key entries ≡ entry_with key (table_of pages height)
 
 -- ---- on the way
 

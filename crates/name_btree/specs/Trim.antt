@@ -1,16 +1,17 @@
 -- What is left of a page, and what two pages side by side have then.
 use Rattle.std.specs.Prelude.{◌≡◌, ◌≢◌, ◌⊎◌, ℕ, ◌+◌, ◌-◌, ◌==◌, if◌then◌else◌, ◌<◌, ◌≤◌, Bool, true, false, ◌&&◌, nat_lt, List, [], ◌∷◌, ◌++◌, length, take, drop, Option, Some, None, slice_get, ⊤}
-use Rattle.std.specs.List.{flat_map, list_all, AllByRecursion}
+use Rattle.std.specs.List.{list_all, AllByRecursion}
 use Rattle.fsd_bytes.specs.declared.key.Key.{Key}
 use Rattle.fsd_bytes.specs.Keys.{is_key, key_lt}
 use Rattle.fsd_formats.specs.declared.entry.Entry.{Entry}
 use Rattle.fsd_formats.specs.declared.page.Separator.{Separator}
-use Rattle.fsd_formats.specs.NamePage.{Content, is_entry, are_ascending, entry_bytes, room, least_separators, FitsEntry, FitsSeparator}
+use Rattle.fsd_formats.specs.NamePage.{Content, is_entry, are_ascending, least_separators, FitsEntry, FitsSeparator}
 use Rattle.fsd_formats.specs.NamePage as grammar
 use Rattle.fsd_table.specs.declared.child.Child.{Child}
 use Rattle.fsd_table.specs.Pages.{page_at, children, keys_fit, entry_keys, separator_keys}
 use Rattle.fsd_table.specs.Tree.{IsLeaf}
 use Rattle.name_page.specs.Pages.{Step, is_spare, IsReached}
+use Rattle.name_page.specs.Parting.{used_by}
 use Rattle.name_btree.specs.declared.draft.Draft.{Draft}
 use Rattle.name_btree.specs.declared.draft.Sheet.{Sheet}
 use Rattle.name_btree.specs.declared.trimming.Pair.{Pair}
@@ -20,9 +21,6 @@ use Rattle.name_btree.specs.Draft.{IsDrafted, images_of, with_freed}
 use Rattle.fsd_forest.specs.Ways.{child_behind, child_between, end_of}
 
 -- ---- what a page may have, but for how much
-
-abbrev pub used_by : List Entry → ℕ
-used_by entries = length (flat_map entry_bytes entries)
 
 pub record AreEntries (entries : List Entry) : Type 0 where
   pub each : list_all is_entry entries ≡ true

@@ -5,20 +5,21 @@ ghost use Rattle.fsd_formats.specs.declared.entry.Entry.{Entry};
 ghost use Rattle.fsd_formats.specs.NamePage.{Leaf};
 ghost use Rattle.fsd_table.specs.declared.child.Child.{Child};
 ghost use Rattle.fsd_table.specs.Pages.{children, not_below, page_at};
-ghost use Rattle.fsd_table.specs.Table.{max_height};
+ghost use Rattle.fsd_table.specs.Table.{max_height, BreaksTable};
 ghost use Rattle.fsd_forest.specs.Ways.{end_of};
 ghost use Rattle.name_page.specs.Cut.{is_before};
 ghost use Rattle.name_page.specs.declared.cut.Cut.TheVariants.{UpTo};
 ghost use Rattle.name_btree.specs.Descent.{way_to, IsPlace, HasNeighbours};
-ghost use Rattle.name_btree.specs.Fault.{outer_told, HasCause, BreaksBelow, BarsBelow, ShowsCause, is_inner};
-ghost use Rattle.name_btree.specs.Lookup.{BeginsBehind, IsBelow};
+ghost use Rattle.name_btree.specs.Fault.{outer_told, HasCause, BreaksBelow, BarsBelow, BarsTable, IsOnWay, ShowsCause, is_inner};
+ghost use Rattle.name_btree.specs.Lookup.{BeginsBehind, HoldsAt, IsBelow};
 ghost use Rattle.name_btree.specs.Replace.{IsLeafAt};
 ghost use Rattle.name_btree.specs.Path.{TakesNone, HasAll, HasMet, HasNone, Leads, LeadsBack, met_beside};
 ghost use Rattle.name_page.specs.Looks.{OnlyReaches, Shows};
 ghost use Rattle.name_page.specs.Pages.{reaches, is_spare, IsReached};
 
-use crate::child::child_node;
+use crate::child::{child_node, read_child};
 use crate::fault::TreeFault;
+use crate::lookup::top;
 use crate::walking::child_at;
 use fsd_bytes::Key;
 use fsd_table::Child;
@@ -171,4 +172,45 @@ pub(crate) fn leaf_below<T: Pages>(
         }
     }
     Err(TreeFault::Broken(way.child.page))
+}
+
+/// A leaf, and its page.
+#[derive(Drop)]
+pub(crate) struct FoundLeaf {
+    pub(crate) page: u32,
+    pub(crate) entries: Entries,
+}
+
+/// The leaf that has the entry with a key, where one has it. What stands beside the way is not read.
+pub(crate) fn leaf_at<T: Pages>(t: &mut T, key: &Key) -> Result<FoundLeaf, TreeFault>
+    requires { 6 ≤ reaches (T.step t.old) }
+    ensures calls { OnlyReaches T.Pages (outer_told result) t.old t.new }
+    ensures reaches { reaches (T.step t.old) ≤ reaches (T.step t.new) + 6 }
+    ensures reached { IfOk result (λ leaf. IsReached (T.step t.new) leaf.page) }
+    ensures used { IfOk result (λ leaf. is_spare (T.step t.old).spares leaf.page ≡ false) }
+    ensures leaf { IfOk result (λ leaf. page_at (T.step t.new).images leaf.page ≡ Some (Leaf leaf.entries)) }
+    ensures way { IfOk result (λ leaf. Shows (T.step t.new) (λ pages. IsOnWay pages leaf.page)) }
+    ensures holds { IfOk result (λ leaf. Shows (T.step t.new) (λ pages. HoldsAt key.now pages leaf.entries)) }
+    ensures fault { IfErr result (HasCause (T.step t.new) (BreaksTable (T.step t.new).images) (BarsTable (T.step t.new))) }
+    ensures shown { IfErr result (ShowsCause (T.step t.new) BreaksTable IsOnWay) }
+{
+    let mut child = top();
+    for _ in 0..6u32 {
+        let mut node = Node::Free;
+        read_child(t, &child, &mut node)?;
+        match node {
+            Node::Free => return Err(TreeFault::Broken(child.page)),
+            Node::Leaf(entries) => {
+                return Ok(FoundLeaf {
+                    page: child.page,
+                    entries,
+                });
+            }
+            Node::Interior(ways) => {
+                let i = ways_before(&ways, &Cut::UpTo(key.copied()));
+                child = child_at(&ways, i, &child);
+            }
+        }
+    }
+    Err(TreeFault::Broken(child.page))
 }

@@ -77,6 +77,37 @@ fn grow_leaf<T: Pages>(t: &mut T, draft: &mut Draft, page: u32, entries: &EntryL
     Grown::Parted(left, separator)
 }
 
+// The same by a list of the entries. It has a frame of its own, since most leaves have room and need no list.
+#[inline(never)]
+fn grow_leaf_listed<T: Pages>(
+    t: &mut T,
+    draft: &mut Draft,
+    page: u32,
+    entries: &Entries,
+    entry: &Entry,
+) -> Grown
+    requires promised { most_parted page ≤ (T.step t.old).promised }
+    requires more { most_parted page ≤ changes (T.step t.old) }
+    requires room { length draft.old.sheets.items + 2 ≤ MOST_CHANGED }
+    requires sheets { AreSheets (T.step t.old) draft.old.sheets.items }
+    requires reached { IsReached (T.step t.old) page }
+    requires used { is_spare (T.step t.old).spares page ≡ false }
+    requires few { length entries.now ≤ 18 }
+    requires entries { FitsTwoLeaves page (with_entry entry.now entries.now) }
+    requires fits { FitsEntry entry.now }
+    ensures outside { T.outside None t.old t.new }
+    ensures grown { Over (T.step t.old) (λ pages. IsGrown (with_images pages (T.step t.old)) (with_images pages (T.step t.new)) draft.old.sheets.items draft.new.sheets.items page result) }
+    ensures leaves { Over (T.step t.old) (λ pages. AreLeavesOf (drafted draft.new.sheets.items pages) page (with_entry entry.now entries.now) result) }
+    ensures freed { draft.new.freed.items ≡ draft.old.freed.items }
+    ensures drawn { TakesSheets (T.step t.old) (T.step t.new) draft.old.sheets.items draft.new.sheets.items }
+    ensures images { (T.step t.new).images ≡ (T.step t.old).images }
+    ensures home { (T.step t.new).home_a ≡ (T.step t.old).home_a }
+    ensures reached { (T.step t.new).reached ≡ (T.step t.old).reached }
+{
+    let list = entries_with(entries, entry);
+    grow_leaf(t, draft, page, &list)
+}
+
 /// The page is to be a leaf of these entries and one more, or two are where they are too many for one.
 pub(crate) fn grow_leaf_with<T: Pages>(
     t: &mut T,
@@ -110,8 +141,7 @@ pub(crate) fn grow_leaf_with<T: Pages>(
         draft.put_text(t, page, &text);
         return Grown::Whole;
     }
-    let list = entries_with(entries, entry);
-    grow_leaf(t, draft, page, &list)
+    grow_leaf_listed(t, draft, page, entries, entry)
 }
 
 /// The page is to lead to a first child, and behind each separator to another, or two are where they are too many for one.

@@ -15,7 +15,7 @@ ghost use Rattle.name_page.specs.declared.pages.TheConstants.{MOST_REACHED};
 ghost use Rattle.name_page.specs.Looks.{OnlyReaches, Shows};
 ghost use Rattle.name_page.specs.Pages.{reaches};
 
-use crate::descent::{Neighbour, leaf_below};
+use crate::descent::{Neighbour, leaf_at, leaf_below};
 use crate::fault::TreeFault;
 use fsd_bytes::{FileName, Key};
 use fsd_formats::Entry;
@@ -67,7 +67,7 @@ pub fn find<T: Pages>(t: &mut T, key: &Key) -> Result<Option<FoundEntry>, TreeFa
     ensures fault { IfErr result (HasCause (T.step t.new) (BreaksTable (T.step t.new).images) (BarsTable (T.step t.new))) }
     ensures shown { IfErr result (ShowsCause (T.step t.new) BreaksTable IsOnWay) }
 {
-    let found = leaf_below(t, top(), 0, &Cut::UpTo(key.copied()))?;
+    let found = leaf_at(t, key)?;
     match entry_in(&found.entries, key) {
         Some(entry) => Ok(Some(FoundEntry {
             entry,

@@ -10,7 +10,7 @@ ghost use Rattle.name_page.specs.Edits.{put};
 ghost use Rattle.name_btree.specs.Path.{HasWayTo};
 ghost use Rattle.name_btree.specs.Replace.{HasAsLong, IsAsLong, HasEdit, WritesOne};
 ghost use Rattle.name_page.specs.declared.pages.TheConstants.{MOST_CHANGED, MOST_REACHED};
-ghost use Rattle.name_page.specs.Looks.{ChangesPages, OnlyEdits, OnlyWalks};
+ghost use Rattle.name_page.specs.Looks.{ChangesPages, HasAllIn, OnlyEdits, OnlyWalks};
 ghost use Rattle.name_page.specs.Pages.{reaches, changes};
 
 use crate::descent::leaf_below;
@@ -44,6 +44,7 @@ pub fn replace_same_size<T: Pages>(t: &mut T, entry: &Entry) -> Result<(), TreeF
     ensures pages { ChangesPages (T.step t.old) (T.step t.new) }
     ensures kept { OnErr result (OnlyWalks T.Pages (outer_told result) t.old t.new) }
     ensures memory { (old : Entry) → IsAsLong entry.now old → HasWayTo T.Pages old t.old → outer_told result ≡ Some Memory → ⊥ }
+    ensures full { HasAllIn T.Pages t.old → outer_told result ≡ Some Memory → ⊥ }
     ensures written { OnOk result (WritesOne T.Pages t.old t.new) }
     ensures reaches { reaches (T.step t.old) ≤ reaches (T.step t.new) + 6 }
     ensures among { 0 < length (T.step t.old).images → IfErr result (IsAmong (length (T.step t.old).images)) }

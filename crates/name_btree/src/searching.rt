@@ -1,7 +1,7 @@
 //! The search for the page that breaks a table.
 ghost use Rattle.std.specs.Prelude.{◌≡◌, ◌<◌, ◌≤◌, false, length};
 ghost use Rattle.name_btree.specs.Fault.{outer_of, FailsTable, FailsTree, IsNoUsedTree, is_inner, IsAmong};
-ghost use Rattle.name_page.specs.Looks.{OnlyWalks};
+ghost use Rattle.name_page.specs.Looks.{NeedsNoMore, OnlyWalks};
 ghost use Rattle.name_page.specs.Pages.{reaches};
 
 use crate::fault::TreeFault;
@@ -14,6 +14,7 @@ use name_page::Pages;
 fn search<T: Pages>(t: &mut T) -> TreeFault
     requires more { 0 < (T.step t.old).most_reached }
     ensures calls { OnlyWalks T.Pages (outer_of result) t.old t.new }
+    ensures memory { NeedsNoMore T.Pages (outer_of result) t.old t.new }
     ensures reaches { reaches (T.step t.old) ≤ reaches (T.step t.new) }
     ensures cause { (T.trusted t.old → IsNoUsedTree (T.step t.old)) → FailsTable T.Pages t.new result }
     ensures among { 0 < length (T.step t.old).images → IsAmong (length (T.step t.old).images) result }
@@ -48,6 +49,7 @@ fn is_inner(fault: TreeFault) -> bool
 pub(crate) fn fault_of<T: Pages>(t: &mut T, fault: TreeFault) -> TreeFault
     requires more { 0 < (T.step t.old).most_reached }
     ensures calls { (first : T) → OnlyWalks T.Pages (outer_of fault) first t.old → OnlyWalks T.Pages (outer_of result) first t.new }
+    ensures memory { (first : T) → NeedsNoMore T.Pages (outer_of fault) first t.old → NeedsNoMore T.Pages (outer_of result) first t.new }
     ensures reaches { reaches (T.step t.old) ≤ reaches (T.step t.new) }
     ensures outer { is_inner fault ≡ false → result ≡ fault }
     ensures cause { FailsTree T.Pages t.old fault → FailsTable T.Pages t.new result }

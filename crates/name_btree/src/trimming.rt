@@ -9,12 +9,13 @@ ghost use Rattle.name_btree.specs.declared.trimming.Trimmed.TheVariants.{Whole};
 ghost use Rattle.name_btree.specs.Draft.{drafted, IsDraft, IsDrafted, with_freed};
 ghost use Rattle.name_btree.specs.Fault.{outer_told, FailsBy};
 ghost use Rattle.name_btree.specs.Remove.{IsRootLeft};
-ghost use Rattle.name_btree.specs.Trim.{IsFreeOrNone, used_by, child_of, AreEntries, AreWays, MayHave, IsOpened, AreFewEntries, AreFewWays, IsLeafPut, AreWaysPut, IsPair, pair_fits, IsBetween, separators_joined, separators_shared, AreLeavesMended, AreWaysMended, entries_at, ways_at, first_at, right_at, is_behind, LeafIsMended, WayIsMended, HasNoLeaf, HasNoWays, IsLeft, IsMended, IsUnlike, IsTakenOver};
+ghost use Rattle.name_btree.specs.Trim.{IsFreeOrNone, child_of, AreEntries, AreWays, MayHave, IsOpened, AreFewEntries, AreFewWays, IsLeafPut, AreWaysPut, IsPair, pair_fits, IsBetween, separators_joined, separators_shared, AreLeavesMended, AreWaysMended, entries_at, ways_at, first_at, right_at, is_behind, LeafIsMended, WayIsMended, HasNoLeaf, HasNoWays, IsLeft, IsMended, IsUnlike, IsTakenOver};
 ghost use Rattle.name_page.specs.declared.node.Node.TheVariants.{Free};
 ghost use Rattle.name_page.specs.Node.{content_of};
 ghost use Rattle.name_page.specs.declared.pages.TheConstants.{MOST_CHANGED};
 ghost use Rattle.name_page.specs.Looks.{OnlyReaches, Shows};
 ghost use Rattle.name_page.specs.Pages.{reaches, with_images, IsReached};
+ghost use Rattle.name_page.specs.Parting.{used_by};
 
 use crate::draft::Draft;
 use crate::fault::TreeFault;

@@ -5,7 +5,7 @@ ghost use Rattle.fsd_table.specs.Pages.{children};
 ghost use Rattle.name_btree.specs.Fault.{outer_told, FailsTable, IsAmong};
 ghost use Rattle.name_btree.specs.Still.{HasRefusal};
 ghost use Rattle.name_btree.specs.Walk.{AreMarksOf, KeepsMarks, is_marked, IsWalked, AreWalked, FailsWalk, IsTopLevel, IsCounted};
-ghost use Rattle.name_page.specs.Looks.{OnlyWalks};
+ghost use Rattle.name_page.specs.Looks.{NeedsNoMore, OnlyWalks};
 ghost use Rattle.name_page.specs.Pages.{rested};
 
 use crate::child::child_node;
@@ -53,6 +53,7 @@ fn is_new(reached: &mut [bool], page: u32) -> bool
 pub(crate) fn top_level<T: Pages>(t: &mut T) -> Result<u32, TreeFault>
     requires { 0 < (T.step t.old).most_reached }
     ensures calls { OnlyWalks T.Pages (outer_told result) t.old t.new }
+    ensures memory { NeedsNoMore T.Pages (outer_told result) t.old t.new }
     ensures low { IfOk result (λ level. level ≤ 5) }
     ensures level { IfOk result (λ level. T.trusted t.new → IsTopLevel (T.step t.old).images level) }
     ensures fault { IfErr result (FailsTable T.Pages t.new) }
@@ -82,6 +83,7 @@ fn walk_below<T: Pages>(
     requires more { 0 < (T.step t.old).most_reached }
     requires level { level ≤ 5 }
     ensures calls { OnlyWalks T.Pages (outer_told result) t.old t.new }
+    ensures memory { NeedsNoMore T.Pages (outer_told result) t.old t.new }
     ensures among { child.now.page < length (T.step t.old).images → IfErr result (IsAmong (length (T.step t.old).images)) }
     ensures marked { is_marked reached.new child.now.page ≡ true }
     ensures kept { KeepsMarks reached.old reached.new }
@@ -112,6 +114,7 @@ fn walk_children<T: Pages>(
     requires level { level ≤ 4 }
     requires few { length ways.now.1 ≤ 9 }
     ensures calls { OnlyWalks T.Pages (outer_told result) t.old t.new }
+    ensures memory { NeedsNoMore T.Pages (outer_told result) t.old t.new }
     ensures among { AllByRecursion (λ c. c.page < length (T.step t.old).images) (children ways.now.0 above.now.low above.now.high ways.now.1) → IfErr result (IsAmong (length (T.step t.old).images)) }
     ensures kept { KeepsMarks reached.old reached.new }
     ensures walked { IfOk result (λ count. T.trusted t.new → AreWalked (T.step t.old).spares level (T.step t.old).images (children ways.now.0 above.now.low above.now.high ways.now.1) reached.old reached.new count) }
@@ -135,6 +138,7 @@ pub fn walk<T: Pages>(t: &mut T, reached: &mut [bool]) -> Result<u32, TreeFault>
     requires whole { length reached.old ≡ length (T.step t.old).images }
     requires clear { AreMarksOf [] reached.old }
     ensures calls { OnlyWalks T.Pages (outer_told result) t.old t.new }
+    ensures memory { NeedsNoMore T.Pages (outer_told result) t.old t.new }
     ensures among { 0 < length (T.step t.old).images → IfErr result (IsAmong (length (T.step t.old).images)) }
     ensures root { IfOk result (λ count. is_marked reached.new 0 ≡ true) }
     ensures counted { IfOk result (λ count. T.trusted t.new → IsCounted (T.step t.old) reached.new count) }

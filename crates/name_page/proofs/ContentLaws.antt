@@ -11,9 +11,10 @@ use Rattle.fsd_bytes.proofs.SameLaws.{same_is, given_if}
 use Rattle.fsd_formats.specs.declared.entry.Entry.{Entry}
 use Rattle.fsd_formats.specs.declared.page.Separator.{Separator}
 use Rattle.fsd_formats.specs.NamePage.{Content, Free, Leaf, Interior, is_page, page_bytes, read_page, stamp_at, are_ascending, least_separators}
-use Rattle.name_page.specs.Reading.{content_in, entries_of, entries_in, first_of, first_in, separators_of, separators_in}
-use Rattle.name_page.proofs.RefusalLaws.{content_at}
+use Rattle.fsd_table.specs.Pages.{entries_of}
+use Rattle.name_page.specs.Reading.{content_in, entries_in, first_of, first_in, separators_of, separators_in}
 use Rattle.name_page.proofs.SeparatorLaws.{is_separator}
+use Rattle.name_page.proofs.PageLaws.{content_at}
 
 below_more : (p q n : ℕ) → p ≤ q → nat_lt n p ≡ true → nat_lt n q ≡ true
 below_more p q n h e = let lt = ltb-true n p e in lt-ltb n q (omega arith)

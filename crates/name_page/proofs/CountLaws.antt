@@ -7,26 +7,20 @@ use Rattle.fsd_bytes.specs.Keys.{is_key}
 use Rattle.fsd_bytes.specs.Names.{is_between}
 use Rattle.fsd_formats.specs.declared.entry.Entry.{Entry}
 use Rattle.fsd_formats.specs.declared.page.Separator.{Separator}
-use Rattle.fsd_formats.specs.NamePage.{Content, Free, Leaf, Interior, is_page, is_entry, entry_bytes, contents_of, are_ascending, room, least_used, least_separators}
+use Rattle.fsd_formats.specs.NamePage.{Content, Free, Leaf, Interior, is_page, is_entry, contents_of, are_ascending, room, least_used, least_separators}
 use Rattle.fsd_table.specs.declared.child.Child.{Child}
 use Rattle.fsd_table.specs.Pages.{page_at, children, children_of, entries_of, entry_keys, separator_keys}
 use Rattle.fsd_table.specs.Tree.{entries_below, IsLeaf, IsInterior, IsSubtree}
 use Rattle.fsd_table.proofs.PageLaws.{at_is_page}
 use Rattle.name_page.proofs.LeafLaws.{between}
 use Rattle.fsd_table.proofs.PageLaws.{length_of_children}
-
-each_has_bytes : (entries : List Entry) → length entries ≤ length (flat_map entry_bytes entries)
-each_has_bytes [] = omega arith
-each_has_bytes (e ∷ entries) =
-    let more = length-append (entry_bytes e) (flat_map entry_bytes entries) in
-    let some : 1 ≤ length (entry_bytes e) = omega arith in
-    omega (arith, each_has_bytes entries, more, some)
+use Rattle.name_page.proofs.LengthLaws.{count_below}
 
 pub leaf_few : (page p : ℕ) (entries : List Entry) → is_page page p (Leaf entries) ≡ true → length entries ≤ 488
 leaf_few page p entries e =
     let fits = (and_parts (list_all is_entry entries && are_ascending (entry_keys entries)) (is_between (least_used page) room (length (contents_of (Leaf entries)))) e).1 in
     let most = (between (least_used page) room (length (contents_of (Leaf entries))) fits).1 in
-    omega (arith, each_has_bytes entries, most)
+    omega (arith, count_below entries, most)
 
 pub interior_few : (page p first : ℕ) (separators : List Separator) → is_page page p (Interior first separators) ≡ true → length separators ≤ 9
 interior_few page p first separators e =

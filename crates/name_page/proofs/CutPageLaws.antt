@@ -1,6 +1,6 @@
 -- What is too much for one page, in two.
 use Rattle.std.proofs.Common.{◌≡◌, ℕ, zero, suc, ◌+◌, ◌≤◌, ◌<◌, true, Bool, false, cond, ◌&&◌, List, [], ◌∷◌, ◌++◌, length, take, drop, Some, refl, sym, ap, subst, ◌∙◌, arith, length-append, take-append-drop, length-take, length-drop}
-use Rattle.std.specs.Prelude.{◌==◌, nat_le, nat_lt, slice_get}
+use Rattle.std.specs.Prelude.{◌==◌, nat_lt, slice_get}
 use Rattle.std.specs.List.{flat_map, list_all}
 use Rattle.std.proofs.lemmas.Bool.{and_parts, and_from, le-leb}
 use Rattle.std.proofs.lemmas.Grind.{flat_map-append}
@@ -12,8 +12,9 @@ use Rattle.fsd_formats.specs.declared.entry.Entry.{Entry}
 use Rattle.fsd_formats.specs.declared.page.Separator.{Separator}
 use Rattle.fsd_formats.specs.NamePage.{Leaf, Interior, is_page, is_entry, are_ascending, entry_bytes, least_used, least_separators, room}
 use Rattle.fsd_table.specs.Pages.{entry_keys, separator_keys}
-use Rattle.fsd_table.proofs.BoundLaws.{ascend_tail}
-use Rattle.name_page.specs.Parting.{AreLeaves, AreInteriors}
+use Rattle.fsd_table.proofs.BoundLaws.{ascend_tail, entry_keys_append, separator_keys_append}
+use Rattle.name_page.specs.Parting.{AreLeaves, AreInteriors, used_by}
+use Rattle.name_page.proofs.LeafLaws.{is_between_from}
 
 -- ---- keys in two parts
 
@@ -28,21 +29,7 @@ pub keys_behind : (xs ys : List Key) → are_ascending (xs ++ ys) ≡ true → a
 keys_behind [] ys e = e
 keys_behind (x ∷ xs) ys e = keys_behind xs ys (ascend_tail x (xs ++ ys) e)
 
-entries_apart : (xs ys : List Entry) → entry_keys (xs ++ ys) ≡ entry_keys xs ++ entry_keys ys
-entries_apart [] ys = refl
-entries_apart (x ∷ xs) ys = ap (λ (ks : List Key). x.key ∷ ks) (entries_apart xs ys)
-
-separators_apart : (xs ys : List Separator) → separator_keys (xs ++ ys) ≡ separator_keys xs ++ separator_keys ys
-separators_apart [] ys = refl
-separators_apart (x ∷ xs) ys = ap (λ (ks : List Key). x.key ∷ ks) (separators_apart xs ys)
-
 -- ---- leaves
-
-abbrev used_by : List Entry → ℕ
-used_by entries = length (flat_map entry_bytes entries)
-
-is_within : (low high n : ℕ) → low ≤ n → n ≤ high → is_between low high n ≡ true
-is_within low high n a b = and_from (nat_le low n) (nat_le n high) (le-leb low n a) (le-leb n high b)
 
 least_of : (page n : ℕ) → 190 ≤ n → least_used page ≤ n
 least_of page n h = by (page == 0)
@@ -54,7 +41,7 @@ least_of page n h = by (page == 0)
 a_leaf : (page : ℕ) (xs : List Entry) → list_all is_entry xs ≡ true → are_ascending (entry_keys xs) ≡ true → 190 ≤ used_by xs → used_by xs ≤ 488 → is_page page 0 (Leaf xs) ≡ true
 a_leaf page xs all asc least most =
     and_from (list_all is_entry xs && are_ascending (entry_keys xs)) (is_between (least_used page) room (used_by xs)) (and_from (list_all is_entry xs) (are_ascending (entry_keys xs)) all asc)
-    (is_within (least_used page) room (used_by xs) (least_of page (used_by xs) least) most)
+    (is_between_from (least_used page) room (used_by xs) (least_of page (used_by xs) least) most)
 
 pub used_apart : (xs ys : List Entry) → used_by (xs ++ ys) ≡ used_by xs + used_by ys
 used_apart xs ys = ap length (flat_map-append entry_bytes xs ys) ∙ length-append (flat_map entry_bytes xs) (flat_map entry_bytes ys)
@@ -64,7 +51,7 @@ leaves_of : (xs ys : List Entry) → list_all is_entry (xs ++ ys) ≡ true → a
 leaves_of xs ys all asc many few least most page =
     let sum = used_apart xs ys in
     let each = and_parts (list_all is_entry xs) (list_all is_entry ys) (sym (list_all-append is_entry xs ys) ∙ all) in
-    let keys : are_ascending (entry_keys xs ++ entry_keys ys) ≡ true = ap are_ascending (sym (entries_apart xs ys)) ∙ asc in (
+    let keys : are_ascending (entry_keys xs ++ entry_keys ys) ≡ true = ap are_ascending (sym (entry_keys_append xs ys)) ∙ asc in (
       a_leaf page xs each.0 (keys_front (entry_keys xs) (entry_keys ys) keys) least (omega (arith, most)),
       a_leaf page ys each.1 (keys_behind (entry_keys xs) (entry_keys ys) keys) (omega (arith, sum, many, most)) (omega (arith, sum, few, least)),
     )
@@ -83,7 +70,8 @@ cut_some entries (suc i) h = omega arith
 
 -- ---- interior pages
 
-abbrev all_below : ℕ → List Separator → Bool
+-- all have keys, and lead to one of p pages
+abbrev pub all_below : ℕ → List Separator → Bool
 all_below p xs = list_all (λ s. is_key s.key && nat_lt s.child p) xs
 
 pub least_ways : (page n : ℕ) → 4 ≤ n → least_separators page ≤ n
@@ -97,14 +85,14 @@ an_interior : (page p first : ℕ) (xs : List Separator) → all_below p xs ≡ 
 an_interior page p first xs all asc low least most =
     and_from (all_below p xs && are_ascending (separator_keys xs) && nat_lt first p) (is_between (least_separators page) 9 (length xs))
     (and_from (all_below p xs && are_ascending (separator_keys xs)) (nat_lt first p) (and_from (all_below p xs) (are_ascending (separator_keys xs)) all asc) low)
-    (is_within (least_separators page) 9 (length xs) (least_ways page (length xs) least) most)
+    (is_between_from (least_separators page) 9 (length xs) (least_ways page (length xs) least) most)
 
 interiors_of : (p first : ℕ) (xs : List Separator) (s : Separator) (ys : List Separator) → all_below p (xs ++ s ∷ ys) ≡ true → are_ascending (separator_keys (xs ++ s ∷ ys)) ≡ true → first < p → length xs ≡ 4 → length ys ≡ 5
     → AreInteriors p first xs s.child ys
 interiors_of p first xs s ys all asc low front behind page =
     let each = and_parts (all_below p xs) (all_below p (s ∷ ys)) (sym (list_all-append (λ s. is_key s.key && nat_lt s.child p) xs (s ∷ ys)) ∙ all) in
     let later = and_parts (is_key s.key && nat_lt s.child p) (all_below p ys) each.1 in
-    let keys : are_ascending (separator_keys xs ++ separator_keys (s ∷ ys)) ≡ true = ap are_ascending (sym (separators_apart xs (s ∷ ys))) ∙ asc in (
+    let keys : are_ascending (separator_keys xs ++ separator_keys (s ∷ ys)) ≡ true = ap are_ascending (sym (separator_keys_append xs (s ∷ ys))) ∙ asc in (
       an_interior page p first xs each.0 (keys_front (separator_keys xs) (separator_keys (s ∷ ys)) keys) (le-leb (suc first) p (omega arith)) (omega (arith, front)) (omega (arith, front)),
       an_interior page p s.child ys later.1 (ascend_tail s.key (separator_keys ys) (keys_behind (separator_keys xs) (separator_keys (s ∷ ys)) keys)) (and_parts (is_key s.key) (nat_lt s.child p) later.0).1
           (omega (arith, behind)) (omega (arith, behind)),

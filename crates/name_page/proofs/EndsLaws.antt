@@ -10,11 +10,11 @@ use Rattle.fsd_bytes.specs.Keys.{key_lt}
 use Rattle.fsd_formats.specs.declared.entry.Entry.{Entry}
 use Rattle.fsd_formats.specs.declared.page.Separator.{Separator}
 use Rattle.fsd_formats.specs.NamePage.{Content, Free, Leaf, Interior, are_ascending}
-use Rattle.fsd_table.specs.Pages.{not_below, below, keys_fit, entry_keys, separator_keys}
+use Rattle.fsd_table.specs.Pages.{not_below, below, keys_fit, entry_keys, separator_keys, entries_of}
 use Rattle.fsd_table.proofs.BoundLaws.{ascend_skip}
 use Rattle.fsd_table.proofs.KeyLaws.{lt_is_le, not_below_more, below_less}
 use Rattle.fsd_table.proofs.PageLaws.{read_is_page, leaf_ascends, interior_ascends}
-use Rattle.name_page.specs.Reading.{content_in, entries_of, entries_in, separators_of, separators_in}
+use Rattle.name_page.specs.Reading.{content_in, entries_in, separators_of, separators_in}
 
 -- ---- the keys of a page ascend
 

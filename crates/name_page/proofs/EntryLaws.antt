@@ -7,12 +7,14 @@ use Rattle.std.proofs.lemmas.List.Folds.{drop_split}
 use Rattle.std.proofs.Math.Seq.{take-append_seam}
 use Rattle.fsd_bytes.specs.Bytes.{u16, u32, u8_at, u16_at, u32_at}
 use Rattle.fsd_bytes.specs.Keys.{key_of}
+use Rattle.fsd_bytes.proofs.FieldLaws.{AreSmall, u8_there, u8_behind, u16_behind, u32_behind, u32_there}
 use Rattle.run_table.specs.RunTable.{run_bytes, runs_from}
+use Rattle.run_table.proofs.RunLaws.{count_runs}
 use Rattle.fsd_formats.specs.declared.entry.Entry.{Entry}
 use Rattle.fsd_formats.specs.NamePage.{entry_bytes, entry_from, entry_with}
 use Rattle.name_page.specs.Fault.{entry_end}
 use Rattle.name_page.specs.Reading.{entry_at}
-use Rattle.name_page.proofs.PieceLaws.{AreSmall, length_range, u8_there, u8_behind, u16_behind, u32_behind, u32_there, u8_again, u16_again, u32_again, runs_again, count_runs}
+use Rattle.name_page.proofs.PieceLaws.{length_range, u8_again, u16_again, u32_again, runs_again}
 use Rattle.fsd_table.proofs.EntryLaws.{length_entry}
 
 pub entry_there : (place : ℕ) (bytes : List ℕ) → entry_from (drop place bytes) ≡ entry_at place bytes

@@ -1,25 +1,22 @@
 -- Numbers that are read from bytes fit their fields.
-use Rattle.std.proofs.Common.{◌≡◌, ℕ, zero, suc, ◌+◌, ◌≤◌, ◌<◌, ◌^◌, true, Some, List, length, drop, sym, subst, arith}
+use Rattle.std.proofs.Common.{◌≡◌, ℕ, zero, suc, ◌≤◌, ◌^◌, true, Some, List, length, drop, sym, subst, arith}
 use Rattle.std.specs.Prelude.{IsSome, nat_le}
 use Rattle.std.specs.List.{AllByRecursion, list_all}
 use Rattle.std.proofs.lemmas.Bool.{and_parts}
-use Rattle.std.proofs.lemmas.List.{get_or-drop}
 use Rattle.fsd_bytes.specs.Bytes.{u8_at, u16_at, u32_at}
 use Rattle.fsd_bytes.specs.declared.key.Key.{Key}
 use Rattle.fsd_bytes.specs.Keys.{is_key}
 use Rattle.fsd_bytes.specs.Names.{is_name, is_name_byte, is_between, max_name_len}
+use Rattle.fsd_bytes.proofs.FieldLaws.{AreSmall, small_behind}
 use Rattle.run_table.specs.RunTable.{runs_from, FitsRun}
 use Rattle.fsd_formats.specs.declared.page.Separator.{Separator}
 use Rattle.fsd_formats.specs.NamePage.{Interior, entry_bytes, entry_from, entries_from, separator_from, separators_from, read_page, is_page, FitsEntry, FitsSeparator}
 use Rattle.fsd_table.proofs.PageLaws.{read_is_page}
 use Rattle.name_page.proofs.LeafLaws.{between}
 use Rattle.name_page.specs.Reading.{content_in, entries_in, separators_in}
-use Rattle.name_page.proofs.PieceLaws.{AreSmall, u16_small, u32_small}
+use Rattle.name_page.proofs.PieceLaws.{u16_small, u32_small}
 use Rattle.name_page.proofs.NodeLaws.{leaf_entries}
 use Rattle.name_page.proofs.WaysLaws.{ways_keys}
-
-small_behind : (n : ℕ) (bytes : List ℕ) → AreSmall bytes → AreSmall (drop n bytes)
-small_behind n bytes small i = let P : ℕ → Type 0 = λ x. x < 256 in subst P (sym (get_or-drop n bytes i 0)) (small (n + i))
 
 runs_fit : (n : ℕ) (bytes : List ℕ) → AreSmall bytes → AllByRecursion FitsRun (runs_from n bytes)
 runs_fit zero bytes small = tt
@@ -57,7 +54,7 @@ leaf_fits bytes small some leaf =
 read_ways : (page p : ℕ) (bytes : List ℕ) (first : ℕ) (separators : List Separator) → read_page page p bytes ≡ Some (Interior first separators) → is_page page p (Interior first separators) ≡ true
 read_ways page p bytes first separators e = read_is_page page p bytes (Interior first separators) e
 
-key_short : (k : Key) → is_key k ≡ true → length k.name ≤ max_name_len
+pub key_short : (k : Key) → is_key k ≡ true → length k.name ≤ max_name_len
 key_short k e =
     let name = (and_parts (is_name k.name) (nat_le 1 k.version) e).0 in
     (between 1 max_name_len (length k.name) (and_parts (is_between 1 max_name_len (length k.name)) (list_all is_name_byte k.name) name).0).1

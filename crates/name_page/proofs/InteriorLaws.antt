@@ -6,6 +6,7 @@ use Rattle.std.proofs.lemmas.Bool.{and_parts}
 use Rattle.std.proofs.lemmas.List.{drop-drop}
 use Rattle.fsd_bytes.specs.Bytes.{u8_at, u16_at, u32_at, same_bytes}
 use Rattle.fsd_bytes.specs.Names.{is_between}
+use Rattle.fsd_bytes.proofs.FieldLaws.{AreSmall, u32_there}
 use Rattle.fsd_bytes.proofs.SameLaws.{same_is, given_if}
 use Rattle.fsd_formats.specs.declared.page.Separator.{Separator}
 use Rattle.fsd_formats.specs.NamePage.{Content, Free, Leaf, Interior, content_from, separators_from, is_page, page_bytes, stamp_at, are_ascending, least_separators}
@@ -14,10 +15,11 @@ use Rattle.name_page.specs.Reading.{content_in, separators_of, separators_in, fi
 use Rattle.name_page.specs.Reading as reading
 use Rattle.name_page.proofs.FirstLaws.{none_both}
 use Rattle.name_page.proofs.LeafLaws.{between}
-use Rattle.name_page.proofs.PieceLaws.{AreSmall, u32_small, u32_there}
+use Rattle.name_page.proofs.PieceLaws.{u32_small}
 use Rattle.name_page.proofs.SeparatorLaws.{is_separator, separator_nth, separator_good, count_separators}
-use Rattle.name_page.proofs.RefusalLaws.{content_at, child_of, page_unfaulted}
+use Rattle.name_page.proofs.RefusalLaws.{child_of, page_unfaulted}
 use Rattle.name_page.proofs.RefusalLaws as refusal
+use Rattle.name_page.proofs.PageLaws.{content_at}
 
 pub record InteriorIn (first : ℕ) (xs : List Separator) (bytes : List ℕ) : Type 0 where
   pub first_is : first ≡ u32_at 24 bytes

@@ -3,20 +3,23 @@ use Rattle.std.proofs.Common.{◌≡◌, ℕ, zero, suc, ◌+◌, ◌-◌, ◌*�
 use Rattle.std.specs.Prelude.{slice_range, nat_le, ◌==◌}
 use Rattle.std.specs.List.{flat_map, list_all}
 use Rattle.std.proofs.lemmas.Bool.{and_parts, and_from, leb-true, le-leb, eqb-true, eq-eqb, ne_eqb, or_left, not_from_false}
-use Rattle.std.proofs.lemmas.List.Sums.{sum_by-cons}
 use Rattle.std.proofs.lemmas.List.{drop-drop, length-append, length-drop, length-take, drop_at}
 use Rattle.fsd_bytes.specs.Bytes.{u8_at, u16_at, u32_at}
 use Rattle.fsd_bytes.specs.declared.key.Key.{Key}
 use Rattle.fsd_bytes.specs.Keys.{key_lt, is_key}
 use Rattle.fsd_bytes.specs.Names.{is_between, is_name, max_name_len}
+use Rattle.fsd_bytes.proofs.FieldLaws.{AreSmall, u16_behind}
 use Rattle.run_table.specs.declared.run.Run.{Run}
 use Rattle.run_table.specs.RunTable.{runs_from, run_at, total, are_runs, max_runs}
+use Rattle.run_table.proofs.RunLaws.{count_runs}
+use Rattle.run_table.proofs.SectorLaws.{total-cons}
 use Rattle.fsd_formats.specs.declared.entry.Entry.{Entry}
 use Rattle.fsd_formats.specs.NamePage.{entry_bytes, entry_from, entries_from, is_entry, are_ascending, sectors_for, max_keep, max_length}
-use Rattle.name_page.specs.Fault.{unless, follows, lengths_fault, runs_fault, key_at, name_fault_at, numbers_fault, entry_fault, entry_end, entries_fault}
+use Rattle.name_page.specs.Fault.{unless, lengths_fault, runs_fault, key_at, name_fault_at, numbers_fault, entry_fault, entry_end, entries_fault}
+use Rattle.name_page.specs.Lookups.{is_after}
 use Rattle.name_page.specs.Reading.{entry_at}
 use Rattle.name_page.proofs.FirstLaws.{none_both, none_from, good_from, none_at}
-use Rattle.name_page.proofs.PieceLaws.{AreSmall, u16_behind, u16_small, count_runs}
+use Rattle.name_page.proofs.PieceLaws.{u16_small}
 use Rattle.fsd_table.proofs.EntryLaws.{length_entry}
 use Rattle.name_page.proofs.EntryLaws.{entry_there, entry_ends, entry_again}
 
@@ -33,9 +36,6 @@ are_lengths runs = list_all (λ r. is_between 1 65535 r.length) runs
 
 first_len : (n place : ℕ) (bytes : List ℕ) → AreSmall bytes → nat_le 1 (u16_at (place + 4) bytes) ≡ true → is_between 1 65535 (u16_at 4 (drop place bytes)) ≡ true
 first_len n place bytes small e = ap (is_between 1 65535) (u16_behind place 4 bytes) ∙ and_from _ _ e (le-leb _ _ (u16_small bytes (place + 4) small))
-
-total_more : (r : Run) (runs : List Run) → total (r ∷ runs) ≡ r.length + total runs
-total_more r runs = sum_by-cons (λ (x : Run). x.length) r runs
 
 sums_one : (sum m n need : ℕ) → m ≡ n → sum + (m + 0) ≡ need → sum + n ≡ need
 sums_one sum m n need e h = omega arith
@@ -62,7 +62,7 @@ lengths_accepted (suc (suc left)) place sum need bytes small e =
     let more = lengths_accepted (suc left) (place + 6) (sum + n) need bytes small (none_both _ [] b.1).0 in
     let same : runs_from (suc left) (drop 6 (drop place bytes)) ≡ runs_from (suc left) (drop (place + 6) bytes) = ap (runs_from (suc left)) (drop-drop 6 place bytes) in (
       and_from _ _ (first_len n place bytes small t.0) (ap are_lengths same ∙ more.0),
-      λ h. ap (λ (x : ℕ). sum + x) (total_more (run_at (drop place bytes)) (runs_from (suc left) (drop 6 (drop place bytes))))
+      λ h. ap (λ (x : ℕ). sum + x) (total-cons (run_at (drop place bytes)) (runs_from (suc left) (drop 6 (drop place bytes))))
           ∙ sums_more sum (u16_at 4 (drop place bytes)) n _ _ need (u16_behind place 4 bytes) (ap total same) (more.1 (omega arith)),
     )
 
@@ -74,7 +74,7 @@ lengths_unfaulted (suc zero) place sum need bytes all e =
     let same : u16_at 4 (drop place bytes) ≡ n = u16_behind place 4 bytes in
     let p = and_parts (is_between 1 65535 (u16_at 4 (drop place bytes))) true all in
     let some : nat_le 1 n ≡ true = ap (nat_le 1) (sym same) ∙ (and_parts (nat_le 1 (u16_at 4 (drop place bytes))) _ p.0).0 in
-    let sums : sum + n ≡ need = sums_one sum (u16_at 4 (drop place bytes)) n need same (ap (λ (x : ℕ). sum + x) (sym (total_more (run_at (drop place bytes)) [])) ∙ e (omega arith)) in
+    let sums : sum + n ≡ need = sums_one sum (u16_at 4 (drop place bytes)) n need same (ap (λ (x : ℕ). sum + x) (sym (total-cons (run_at (drop place bytes)) [])) ∙ e (omega arith)) in
     none_from (unless (place + 4) (nat_le 1 n && (sum + n == need))) _ (none_at (place + 4) _ (and_from _ _ some (eq-eqb _ _ sums))) refl
 lengths_unfaulted (suc (suc left)) place sum need bytes all e =
     let n : ℕ = u16_at (place + 4) bytes in
@@ -83,7 +83,7 @@ lengths_unfaulted (suc (suc left)) place sum need bytes all e =
     let some : nat_le 1 n ≡ true = ap (nat_le 1) (sym same) ∙ (and_parts (nat_le 1 (u16_at 4 (drop place bytes))) _ p.0).0 in
     let rest : runs_from (suc left) (drop 6 (drop place bytes)) ≡ runs_from (suc left) (drop (place + 6) bytes) = ap (runs_from (suc left)) (drop-drop 6 place bytes) in
     let more = lengths_unfaulted (suc left) (place + 6) (sum + n) need bytes (ap are_lengths (sym rest) ∙ p.1) (λ h. sums_less sum (u16_at 4 (drop place bytes)) n _ _ need same (ap total rest)
-    (ap (λ (x : ℕ). sum + x) (sym (total_more (run_at (drop place bytes)) (runs_from (suc left) (drop 6 (drop place bytes))))) ∙ e (omega arith))) in
+    (ap (λ (x : ℕ). sum + x) (sym (total-cons (run_at (drop place bytes)) (runs_from (suc left) (drop 6 (drop place bytes))))) ∙ e (omega arith))) in
     let goes_on : (not (suc left == 0) || sum + n == need) ≡ true = or_left _ _ (not_from_false _ (ne_eqb (suc left) 0 (λ h. omega arith))) in
     none_from (unless (place + 4) (nat_le 1 n && (not (suc left == 0) || sum + n == need))) _ (none_at (place + 4) _ (and_from _ _ some goes_on)) (none_from _ [] more refl)
 
@@ -102,7 +102,7 @@ within_ends false end limit h e = le-leb _ _ h
 
 pub record Accepted (place limit : ℕ) (last : Bool) (before : Option Key) (bytes : List ℕ) : Type 0 where
   pub entry : is_entry (entry_at place bytes) ≡ true
-  pub follows_it : follows before (key_at place bytes) ≡ true
+  pub follows_it : is_after before (key_at place bytes) ≡ true
   pub within : entry_end place bytes ≤ limit
   pub ends : last ≡ true → entry_end place bytes ≡ limit
   pub name : place + 1 + u8_at place bytes ≤ limit
@@ -115,12 +115,12 @@ entry_accepted place limit last before bytes small e =
     let key : Key = key_at place bytes in
     let count : ℕ = u8_at (v + 18) bytes in
     let len : ℕ = u32_at (v + 14) bytes in
-    let p = none_both (name_fault_at place limit bytes) (unless v (nat_le 1 key.version && follows before key) ∷ numbers_fault v limit last bytes ∷ []) e in
+    let p = none_both (name_fault_at place limit bytes) (unless v (nat_le 1 key.version && is_after before key) ∷ numbers_fault v limit last bytes ∷ []) e in
     let named = none_both (unless place (is_between 1 max_name_len n && nat_le (place + n + 26) limit)) (unless (place + 1) (is_name key.name) ∷ []) p.0 in
     let roomy = and_parts (is_between 1 max_name_len n) (nat_le (place + n + 26) limit) (good_from place _ named.0) in
     let is_named : is_name key.name ≡ true = good_from (place + 1) _ (none_both _ [] named.1).0 in
-    let q = none_both (unless v (nat_le 1 key.version && follows before key)) (numbers_fault v limit last bytes ∷ []) p.1 in
-    let keyed = and_parts (nat_le 1 key.version) (follows before key) (good_from v _ q.0) in
+    let q = none_both (unless v (nat_le 1 key.version && is_after before key)) (numbers_fault v limit last bytes ∷ []) p.1 in
+    let keyed = and_parts (nat_le 1 key.version) (is_after before key) (good_from v _ q.0) in
     let numbered = none_both (unless (v + 4) (nat_le (u16_at (v + 4) bytes) max_keep)) (unless (v + 14) (nat_le len max_length) ∷ runs_fault (v + 18) limit last (sectors_for len) bytes ∷ []) (none_both _ [] q.1).0 in
     let measured = none_both (unless (v + 14) (nat_le len max_length)) (runs_fault (v + 18) limit last (sectors_for len) bytes ∷ []) numbered.1 in
     let ran = none_both (unless (v + 18) (is_between 1 max_runs count && end_fits last (v + 18 + 1 + 6 * count) limit)) (lengths_fault count (v + 18 + 1) 0 (sectors_for len) bytes ∷ []) (none_both _ [] measured.1).0 in
@@ -145,7 +145,7 @@ entry_accepted place limit last before bytes small e =
     }
 
 pub entry_unfaulted : (place limit : ℕ) (last : Bool) (before : Option Key) (bytes : List ℕ) → length bytes ≡ 512 → limit ≤ 512
-    → is_entry (entry_at place bytes) ≡ true → follows before (key_at place bytes) ≡ true
+    → is_entry (entry_at place bytes) ≡ true → is_after before (key_at place bytes) ≡ true
     → place + length (entry_bytes (entry_at place bytes)) ≤ limit → (last ≡ true → place + length (entry_bytes (entry_at place bytes)) ≡ limit)
     → (entry_fault place limit last before bytes ≡ None) × (entry_end place bytes ≡ place + length (entry_bytes (entry_at place bytes)))
 entry_unfaulted place limit last before bytes long high is after within ends =
@@ -183,8 +183,8 @@ entry_unfaulted place limit last before bytes long high is after within ends =
     (none_at (v + 18) _ (and_from _ _ counted fits)) (none_from _ [] lengths refl) in
     let in_numbers = none_from (unless (v + 4) (nat_le (u16_at (v + 4) bytes) max_keep)) (unless (v + 14) (nat_le len max_length) ∷ runs_fault (v + 18) limit last (sectors_for len) bytes ∷ [])
     (none_at (v + 4) _ p2.1) (none_from (unless (v + 14) (nat_le len max_length)) _ (none_at (v + 14) _ p3.1) (none_from _ [] in_runs refl)) in (
-      none_from (name_fault_at place limit bytes) (unless v (nat_le 1 key.version && follows before key) ∷ numbers_fault v limit last bytes ∷ []) in_name
-          (none_from (unless v (nat_le 1 key.version && follows before key)) _ (none_at v _ (and_from _ _ p1.1 after)) (none_from _ [] in_numbers refl)),
+      none_from (name_fault_at place limit bytes) (unless v (nat_le 1 key.version && is_after before key) ∷ numbers_fault v limit last bytes ∷ []) in_name
+          (none_from (unless v (nat_le 1 key.version && is_after before key)) _ (none_at v _ (and_from _ _ p1.1 after)) (none_from _ [] in_numbers refl)),
       entry_ends place bytes (omega (arith, roomy, long)),
     )
 
@@ -192,7 +192,7 @@ entry_unfaulted place limit last before bytes long high is after within ends =
 
 abbrev pub ascend : Option Key → List Entry → Bool
 ascend before [] = true
-ascend before (e ∷ entries) = follows before e.key && ascend (Some e.key) entries
+ascend before (e ∷ entries) = is_after before e.key && ascend (Some e.key) entries
 
 pub ascend_is : (k : Key) (entries : List Entry) → ascend (Some k) entries ≡ are_ascending (k ∷ map (λ e. e.key) entries)
 ascend_is k [] = refl
@@ -263,12 +263,12 @@ entries_unfaulted (suc n) place limit before bytes long high are =
     let there : first ≡ e = entry_there place bytes in
     let rest : ℕ → List Entry = λ (k : ℕ). entries_from k (drop (length (entry_bytes first)) (drop place bytes)) in
     let head = and_parts (is_entry first) (list_all is_entry (rest n)) are.each in
-    let after = and_parts (follows before first.key) (ascend (Some first.key) (rest n)) are.order in
+    let after = and_parts (is_after before first.key) (ascend (Some first.key) (rest n)) are.order in
     let sizes : place + (length (entry_bytes e) + length (flat_map entry_bytes (rest n))) ≡ limit =
     used_parts place limit _ _ _ (length-append (entry_bytes first) (flat_map entry_bytes (rest n)) ∙ ap (λ (x : Entry). length (entry_bytes x) + length (flat_map entry_bytes (rest n))) there) are.used in
     let alone : (n == 0) ≡ true → place + length (entry_bytes e) ≡ limit =
     λ h. used_alone place limit _ _ (ap (λ (k : ℕ). length (flat_map entry_bytes (rest k))) (eqb-true n 0 h)) sizes in
-    let one = entry_unfaulted place limit (n == 0) before bytes long high (ap is_entry (sym there) ∙ head.0) (ap (λ (x : Entry). follows before x.key) (sym there) ∙ after.0) (used_within place limit _ _ sizes) alone in
+    let one = entry_unfaulted place limit (n == 0) before bytes long high (ap is_entry (sym there) ∙ head.0) (ap (λ (x : Entry). is_after before x.key) (sym there) ∙ after.0) (used_within place limit _ _ sizes) alone in
     let end : ℕ = entry_end place bytes in
     let inside : place + 1 + u8_at place bytes ≤ length bytes = ends_inside place (u8_at place bytes) _ _ end limit (length bytes) refl one.1 (used_within place limit _ _ sizes) high long in
     let P : List Entry → Type 0 = λ (x : List Entry). AreEntries x place limit before bytes in
@@ -277,7 +277,7 @@ entries_unfaulted (suc n) place limit before bytes long high are =
     let bytes_of : List ℕ = flat_map entry_bytes entries in
     let more : AreEntries entries end limit (Some (key_at place bytes)) bytes = record {
       each = (and_parts (is_entry e) (list_all is_entry entries) split.each).1;
-      order = (and_parts (follows before e.key) (ascend (Some e.key) entries) split.order).1;
+      order = (and_parts (is_after before e.key) (ascend (Some e.key) entries) split.order).1;
       spelled =
           sym (drop_at (entry_bytes e) (bytes_of ++ drop limit bytes) (length (entry_bytes e)) refl)
           ∙ ap (drop (length (entry_bytes e))) (sym (append_assoc (entry_bytes e) bytes_of (drop limit bytes)) ∙ split.spelled)

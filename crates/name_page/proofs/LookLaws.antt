@@ -1,5 +1,5 @@
 -- Calls that only reach pages, one after another, and what the pages show.
-use Rattle.std.proofs.Common.{◌≡◌, inl, inr, ℕ, ◌<◌, Bool, true, false, List, length, Option, Some, None, refl, sym, ap, subst, ◌∙◌, arith}
+use Rattle.std.proofs.Common.{◌≡◌, ◌⊎◌, inl, inr, ℕ, ◌<◌, Bool, true, false, List, length, Option, Some, None, refl, sym, ap, subst, ◌∙◌, arith}
 use Rattle.std.specs.Prelude.{IsSome, slice_get, option_and_then}
 use Rattle.std.proofs.lemmas.Bool.{cases_lt, or_right}
 use Rattle.std.proofs.lemmas.Option.{slice_get_past}
@@ -8,7 +8,7 @@ use Rattle.fsd_formats.specs.NamePage.{Content, read_page}
 use Rattle.fsd_table.specs.Pages.{page_at}
 use Rattle.name_page.specs.declared.pages.Pages.{Ghosts}
 use Rattle.name_page.specs.Pages.{Step, is_one_of, is_spare, IsReached, Keeps, NeedsNoMemory, with_images, with_promise, rested}
-use Rattle.name_page.specs.Looks.{Looks, OnlyReaches, OnlyWalks, OnlyEdits, OnlyTakes, Agrees, ChangesPages, Shows, IsAsChanged}
+use Rattle.name_page.specs.Looks.{HasAllIn, Looks, NeedsNoMore, OnlyReaches, OnlyWalks, OnlyEdits, OnlyTakes, Agrees, ChangesPages, Shows, IsAsChanged}
 
 -- what happens outside happens in all, and what is trusted then was before
 module _ {D : Type 0} (P : Ghosts D) where
@@ -43,15 +43,38 @@ module _ {D : Type 0} (P : Ghosts D) where
   pub memory_then : {refusal : Option Refusal} (a b c : D) → NeedsNoMemory P.step P.in_memory None a b → NeedsNoMemory P.step P.in_memory refusal b c → NeedsNoMemory P.step P.in_memory refusal a c
   memory_then a b c x y = record { images = y.images ∙ x.images; spares = y.spares ∙ x.spares; stays = λ page there. y.stays page (x.stays page there); enough = y.enough }
 
+  pub all_stay : (a b : D) → NeedsNoMemory P.step P.in_memory None a b → HasAllIn P a → HasAllIn P b
+  all_stay a b x all = record { each = λ page lt used. x.stays page (all.each page (subst (λ (pages : List (List ℕ)). page < length pages) x.images lt) (ap (λ (s : List Bool). is_spare s page) (sym x.spares) ∙ used)) }
+
+  pub no_more_still : (a : D) → NeedsNoMore P None a a
+  no_more_still a all = memory_still a
+
+  pub no_more_then : {refusal : Option Refusal} (a b c : D) → NeedsNoMore P None a b → NeedsNoMore P refusal b c → NeedsNoMore P refusal a c
+  no_more_then a b c x y all = memory_then a b c (x all) (y (all_stay a b (x all) all))
+
+  -- nor where a step begins
+  pub no_more_rested : {refusal : Option Refusal} (a b c : D) → NeedsNoMemory P.step P.in_memory None a b → NeedsNoMore P refusal b c → NeedsNoMore P refusal a c
+  no_more_rested a b c rests y = no_more_then a b c (λ all. rests) y
+
+  -- a page that is reached is spare, or in memory
+  pub no_more_reached : {refusal : Option Refusal} (a b : D) (page : ℕ) → page < length (P.step a).images
+      → ((is_spare (P.step a).spares page ≡ true) ⊎ P.in_memory a page → NeedsNoMemory P.step P.in_memory refusal a b) → NeedsNoMore P refusal a b
+  no_more_reached a b page within needs all = needs (by (is_spare (P.step a).spares page) refl)
+    where
+      by : (spare : Bool) → is_spare (P.step a).spares page ≡ spare → (is_spare (P.step a).spares page ≡ true) ⊎ P.in_memory a page
+      by true is = inl is
+      by false is = inr (all.each page within is)
+
 -- ---- calls that reach pages
 
 pub reaches_still : {D : Type 0} (P : Ghosts D) (a : D) → P.outside None a a → OnlyReaches P None a a
-reaches_still P a still = record { looks = looks_still (P.step a); outside = still; trust = λ t. t; stays = λ t. refl }
+reaches_still P a still = record { looks = looks_still (P.step a); outside = still; memory = no_more_still P a; trust = λ t. t; stays = λ t. refl }
 
 pub reaches_then : {D : Type 0} (P : Ghosts D) {refusal : Option Refusal} (law : Joins P) (a b c : D) → OnlyReaches P None a b → OnlyReaches P refusal b c → OnlyReaches P refusal a c
 reaches_then P law a b c x y = record {
   looks = looks_then (P.step a) (P.step b) (P.step c) x.looks y.looks;
   outside = law a b c _ x.outside y.outside;
+  memory = no_more_then P a b c x.memory y.memory;
   trust = λ t. x.trust (y.trust t);
   stays = λ t. y.stays t ∙ x.stays (y.trust t);
 }

@@ -1,5 +1,5 @@
 -- Flags, and pages in memory of which one is written.
-use Rattle.std.proofs.Common.{◌≡◌, ℕ, ◌+◌, ◌<◌, ◌≤◌, Bool, true, false, List, [], ◌∷◌, length, cond, count_by, position, refl, ap, ◌∙◌, arith}
+use Rattle.std.proofs.Common.{◌≡◌, ℕ, ◌+◌, ◌<◌, ◌≤◌, Bool, true, false, List, [], ◌∷◌, length, cond, count_by, position, refl, ap, ◌∙◌, arith, ◌++◌, length-append}
 use Rattle.std.specs.Prelude.{IsSome, get_or, slice_set}
 use Rattle.std.specs.List.{fold, position_or_len}
 use Rattle.std.specs.Vec.{with_item}
@@ -10,7 +10,7 @@ use Rattle.std.proofs.lemmas.Bool.{lt-ltb}
 use Rattle.std.proofs.lemmas.List.Sums.{sum_by-set}
 use Rattle.arrayvec.specs.ArrayVec.{ArrayVec}
 use Rattle.name_page.specs.Accepted.{AreAccepted}
-use Rattle.name_page.specs.Pages.{with_one}
+use Rattle.name_page.specs.Pages.{with_one, is_one_of}
 use Rattle.name_page.specs.VecPages.{written}
 use Rattle.name_page.specs.declared.vec_pages.VecPages.{VecPages}
 
@@ -30,6 +30,14 @@ count_taken flags i low on =
     omega (arith, sum_by-set one flags i false false low, ap one on)
 
 -- ---- a page is written
+
+-- it is one more at most
+pub one_count : (pages : List ℕ) (page : ℕ) → length (with_one pages page) ≤ length pages + 1
+one_count pages page = by (is_one_of pages page)
+  where
+    by : (b : Bool) → length (cond b pages (pages ++ page ∷ [])) ≤ length pages + 1
+    by true = omega arith
+    by false = omega (arith, length-append pages (page ∷ []))
 
 module _ (s : VecPages) (page : ℕ) (bytes : List ℕ) where
   abbrev Small : Type 0

@@ -2,41 +2,34 @@
 use Rattle.std.proofs.Common.{◌≡◌, ◌≢◌, ℕ, zero, suc, ◌≤◌, ◌<◌, ◌^◌, Bool, true, false, cond, ◌&&◌, List, length, drop, Option, Some, None, refl, sym, ap, subst, ◌∙◌, arith}
 use Rattle.std.specs.Prelude.{slice_get, option_and_then, IsSome}
 use Rattle.fsd_bytes.specs.Bytes.{u8_at, u16_at, u32_at, same_bytes}
+use Rattle.fsd_bytes.proofs.FieldLaws.{u32_there}
 use Rattle.fsd_formats.specs.declared.entry.Entry.{Entry}
 use Rattle.fsd_formats.specs.declared.page.Separator.{Separator}
 use Rattle.fsd_formats.specs.NamePage.{Content, Free, Leaf, Interior, content_from, entries_from, separators_from, is_page, page_bytes, stamp_at, read_page}
 use Rattle.fsd_table.specs.Pages.{page_at}
 use Rattle.name_page.specs.Reading.{content_in, entries_in, separators_in}
 use Rattle.name_page.proofs.ContentLaws.{content_is, entries_are, separators_are}
-use Rattle.name_page.proofs.PageLaws.{count_entries}
-use Rattle.name_page.proofs.PieceLaws.{u32_there}
+use Rattle.name_page.proofs.PageLaws.{count_entries, content_at}
 use Rattle.std.proofs.lemmas.Option.{slice_get_past}
-
--- the content that the head of the bytes tells
-abbrev content_by_head : List ℕ → Content
-content_by_head bytes = content_from (u8_at 4 bytes) (u16_at 6 bytes) (drop 24 bytes)
+use Rattle.name_page.proofs.SeparatorLaws.{count_separators}
 
 some_if : (b : Bool) (x y : Content) → cond b (Some x) None ≡ Some y → x ≡ y
 some_if true x y e = cc
 some_if false x y e = absurd cc
 
-head_by : (bytes : List ℕ) (x : Content) → content_in bytes ≡ Some x → content_by_head bytes ≡ x
+head_by : (bytes : List ℕ) (x : Content) → content_in bytes ≡ Some x → content_at bytes ≡ x
 unfolding content_in
 head_by bytes x e =
-    let y : Content = content_by_head bytes in
+    let y : Content = content_at bytes in
     some_if (is_page (u32_at 12 bytes) (2 ^ 32) y && same_bytes (page_bytes (u32_at 12 bytes) (stamp_at 16 bytes) y) bytes) y x e
 
-some_of : (bytes : List ℕ) (o : Option Content) → content_in bytes ≡ o → IsSome o → content_in bytes ≡ Some (content_by_head bytes)
+some_of : (bytes : List ℕ) (o : Option Content) → content_in bytes ≡ o → IsSome o → content_in bytes ≡ Some (content_at bytes)
 some_of bytes None e h = absurd cc
 some_of bytes (Some x) e h = e ∙ ap Some (sym (head_by bytes x e))
 
 -- what the bytes have, by their head
-pub by_head : (bytes : List ℕ) → IsSome (content_in bytes) → content_in bytes ≡ Some (content_by_head bytes)
+pub by_head : (bytes : List ℕ) → IsSome (content_in bytes) → content_in bytes ≡ Some (content_at bytes)
 by_head bytes h = some_of bytes (content_in bytes) refl h
-
-count_separators : (n : ℕ) (bytes : List ℕ) → length (separators_from n bytes) ≡ n
-count_separators zero bytes = refl
-count_separators (suc n) bytes = omega (arith, count_separators n (drop 49 bytes))
 
 at_kind : (bytes : List ℕ) (kind : ℕ) → IsSome (content_in bytes) → u8_at 4 bytes ≡ kind → content_in bytes ≡ Some (content_from kind (u16_at 6 bytes) (drop 24 bytes))
 at_kind bytes kind h e = by_head bytes h ∙ ap (λ (k : ℕ). Some (content_from k (u16_at 6 bytes) (drop 24 bytes))) e

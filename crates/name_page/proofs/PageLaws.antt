@@ -6,6 +6,7 @@ use Rattle.std.proofs.lemmas.Bool.{and_parts, and_from, leb-true, eqb-true, cond
 use Rattle.std.proofs.lemmas.List.{drop-drop, length-append, length-drop, take-append-drop, append-nil}
 use Rattle.fsd_bytes.specs.Bytes.{u16, u32, u8_at, u16_at, u32_at, zeros, sector, same_bytes}
 use Rattle.fsd_bytes.specs.Names.{is_between}
+use Rattle.fsd_bytes.proofs.FieldLaws.{AreSmall, u32_there}
 use Rattle.fsd_bytes.proofs.SameLaws.{is_same, same_is}
 use Rattle.fsd_formats.specs.declared.entry.Entry.{Entry}
 use Rattle.fsd_formats.specs.declared.page.Separator.{Separator}
@@ -17,7 +18,7 @@ use Rattle.name_page.specs.Spelling.{head}
 use Rattle.name_page.specs.Fault.{first_of, unless, zeros_fault, head_fault, contents_fault, entries_fault, separators_fault, count_fits, used_fits, fault_of, head_at, kind_at}
 use Rattle.name_page.specs.Reading.{head_of}
 use Rattle.name_page.proofs.FirstLaws.{none_both, good_from}
-use Rattle.name_page.proofs.PieceLaws.{AreSmall, u8_again, u16_again, u32_again, u32_there}
+use Rattle.name_page.proofs.PieceLaws.{u8_again, u16_again, u32_again}
 use Rattle.name_page.proofs.ZeroLaws.{zeros_accepted}
 use Rattle.name_page.proofs.LeafLaws.{between, AreEntries, entries_accepted, entries_unfaulted}
 use Rattle.name_page.proofs.LeafLaws as leaf
@@ -107,7 +108,8 @@ page_again kind count used page stamp contents bytes long headed filled none len
 
 -- ---- what is read
 
-abbrev content_at : List ℕ → Content
+-- the content that the head of the bytes tells
+abbrev pub content_at : List ℕ → Content
 content_at bytes = content_from (u8_at 4 bytes) (u16_at 6 bytes) (drop 24 bytes)
 
 read_from : (page p : ℕ) (bytes : List ℕ) (x : Content) → x ≡ content_at bytes → is_page page p x ≡ true → page_bytes page (stamp_at 16 bytes) x ≡ bytes → head_of x ≡ head_at bytes

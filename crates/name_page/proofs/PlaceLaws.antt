@@ -1,41 +1,18 @@
 -- The places of a leaf's entries.
-use Rattle.std.proofs.Common.{◌≡◌, ◌⊎◌, inl, inr, ℕ, zero, suc, ◌+◌, ◌*◌, ◌<◌, ◌≤◌, true, List, [], ◌∷◌, length, refl, sym, subst, ◌∙◌, arith}
-use Rattle.std.specs.Prelude.{◌&&◌, ◌==◌, nat_le, slice_set, slice_index}
+use Rattle.std.proofs.Common.{◌≡◌, ◌⊎◌, inl, inr, ℕ, zero, suc, ◌+◌, ◌<◌, ◌≤◌, true, List, length, refl, sym, subst, ◌∙◌, arith}
+use Rattle.std.specs.Prelude.{slice_set, slice_index}
 use Rattle.std.specs.List.{flat_map, list_all}
-use Rattle.std.proofs.lemmas.Bool.{and_parts}
-use Rattle.std.proofs.lemmas.List.{get_or-set_same, get_or-set_other, length-set, length-append}
+use Rattle.std.proofs.lemmas.List.{get_or-set_same, get_or-set_other, length-set}
 use Rattle.fsd_bytes.specs.Bytes.{u16_at}
-use Rattle.fsd_bytes.specs.Keys.{is_key}
-use Rattle.fsd_bytes.specs.Names.{is_name, is_between, is_name_byte, max_name_len}
-use Rattle.run_table.specs.RunTable.{are_runs, total, max_runs}
+use Rattle.fsd_bytes.proofs.FieldLaws.{AreSmall}
 use Rattle.fsd_formats.specs.declared.entry.Entry.{Entry}
-use Rattle.fsd_formats.specs.NamePage.{entry_bytes, is_entry, max_keep, max_length, sectors_for}
+use Rattle.fsd_formats.specs.NamePage.{entry_bytes, is_entry}
 use Rattle.name_page.specs.Fault.{entry_end}
 use Rattle.name_page.specs.Reading.{entries_in, StandsAt}
-use Rattle.fsd_table.proofs.EntryLaws.{length_entry}
-use Rattle.name_page.proofs.LeafLaws.{between}
-use Rattle.name_page.proofs.PieceLaws.{AreSmall}
+use Rattle.fsd_table.proofs.EntryLaws.{entries_long}
 use Rattle.name_page.proofs.ReadingLaws.{Walk, LeafIn, leaf_in, walk_begins, walk_next, walk_entry, walk_ends}
 
 -- ---- how many entries a leaf has
-
--- a name and a run take seven bytes beside the numbers
-entry_long : (e : Entry) → is_entry e ≡ true → 27 ≤ length (entry_bytes e)
-entry_long e is =
-    let p5 = and_parts (is_key e.key && nat_le e.keep max_keep && nat_le e.length max_length && are_runs e.runs) (total e.runs == sectors_for e.length) is in
-    let p4 = and_parts (is_key e.key && nat_le e.keep max_keep && nat_le e.length max_length) (are_runs e.runs) p5.0 in
-    let p3 = and_parts (is_key e.key && nat_le e.keep max_keep) (nat_le e.length max_length) p4.0 in
-    let p2 = and_parts (is_key e.key) (nat_le e.keep max_keep) p3.0 in
-    let p1 = and_parts (is_name e.key.name) (nat_le 1 e.key.version) p2.0 in
-    let name = (between 1 max_name_len (length e.key.name) (and_parts (is_between 1 max_name_len (length e.key.name)) (list_all is_name_byte e.key.name) p1.0).0).0 in
-    let runs = (between 1 max_runs (length e.runs) (and_parts (is_between 1 max_runs (length e.runs)) _ p4.1).0).0 in
-    omega (arith, length_entry e, name, runs)
-
-entries_long : (entries : List Entry) → list_all is_entry entries ≡ true → 27 * length entries ≤ length (flat_map entry_bytes entries)
-entries_long [] is = omega arith
-entries_long (e ∷ entries) is =
-    let parts = and_parts (is_entry e) (list_all is_entry entries) is in
-    omega (arith, entry_long e parts.0, entries_long entries parts.1, length-append (entry_bytes e) (flat_map entry_bytes entries))
 
 pub entries_few : (b : List ℕ) → AreSmall b → length (entries_in b) ≤ 18
 entries_few b small = by (length (entries_in b)) refl

@@ -16,7 +16,7 @@ use Rattle.fsd_bytes.specs.Keys.{key_cmp, key_lt, same_key}
 use Rattle.fsd_formats.specs.declared.entry.Entry.{Entry}
 use Rattle.fsd_formats.specs.NamePage.{entry_bytes, are_ascending, FitsEntry}
 use Rattle.fsd_table.specs.Pages.{entry_keys}
-use Rattle.fsd_table.proofs.BoundLaws.{Ascend, ascend_tail, ascend_skip}
+use Rattle.fsd_table.proofs.BoundLaws.{Ascend, ascend_tail, ascend_skip, all_split}
 use Rattle.fsd_table.proofs.KeyLaws.{keys_total, lt_itself}
 use Rattle.name_page.specs.Lookups.{entry_with}
 use Rattle.name_page.specs.Edits.{put}
@@ -56,10 +56,6 @@ gt_unequal a b e = by (same_key a b) refl
     by true is = absurd (let same = one_key a b is in let no : key_lt b a ≡ false = ap (λ (k : Key). key_lt b k) same ∙ lt_itself b in cc)
 
 -- ---- lists
-
-pub all_split : {X : Type 0} (P : X → Type 0) (xs ys : List X) → AllByRecursion P (xs ++ ys) → AllByRecursion P xs × AllByRecursion P ys
-all_split P [] ys a = (tt, a)
-all_split P (x ∷ xs) ys a = let rest = all_split P xs ys a.1 in ((a.0, rest.0), rest.1)
 
 -- the entry with the key, and those before and behind it
 pub record FoundIn (key : Key) (xs : List Entry) (x : Entry) : Type 0 where

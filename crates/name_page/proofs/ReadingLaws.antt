@@ -13,14 +13,16 @@ use Rattle.fsd_bytes.specs.declared.fault.NameFault.{NameFault}
 use Rattle.fsd_bytes.specs.Keys.{is_key}
 use Rattle.fsd_bytes.proofs.NameLaws.{name_or_fault}
 use Rattle.fsd_bytes.specs.Bytes.{same_bytes}
+use Rattle.fsd_bytes.proofs.FieldLaws.{AreSmall, u16_behind, u32_there}
 use Rattle.fsd_bytes.proofs.SameLaws.{same_is}
 use Rattle.fsd_formats.specs.NamePage.{Content, Free, Leaf, Interior, content_from, is_page, page_bytes, stamp_at, room, least_used, max_keep, max_length, sectors_for, are_ascending, entry_bytes, entry_from, entries_from, is_entry}
+use Rattle.fsd_table.specs.Pages.{entries_of}
 use Rattle.name_page.specs.Fault.{entry_end}
-use Rattle.name_page.specs.Reading.{entry_at, entries_of, content_in, entries_in}
-use Rattle.name_page.proofs.PieceLaws.{AreSmall, u16_behind, u32_there, u32_small}
+use Rattle.name_page.specs.Reading.{entry_at, content_in, entries_in}
+use Rattle.name_page.proofs.PieceLaws.{u32_small}
 use Rattle.name_page.proofs.LengthLaws.{count_below}
-use Rattle.name_page.proofs.PageLaws.{count_entries}
-use Rattle.name_page.proofs.RefusalLaws.{spelled_page, some_or_none, leaf_of, content_at}
+use Rattle.name_page.proofs.PageLaws.{count_entries, content_at}
+use Rattle.name_page.proofs.RefusalLaws.{spelled_page, some_or_none, leaf_of}
 use Rattle.name_page.proofs.EntryLaws.{entry_there}
 use Rattle.name_page.proofs.LeafLaws.{between, entries_split, entry_unfaulted, ends_inside, used_parts, used_within, used_rest}
 

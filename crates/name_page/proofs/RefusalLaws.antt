@@ -7,6 +7,7 @@ use Rattle.std.proofs.lemmas.List.{drop-drop, length-append, append-nil, drop_at
 use Rattle.std.proofs.lemmas.Nat.{from_be_bytes-to_be_bytes_2, from_be_bytes-to_be_bytes_4}
 use Rattle.fsd_bytes.specs.Bytes.{u8_at, u16_at, u32, u32_at, zeros, sector, same_bytes}
 use Rattle.fsd_bytes.specs.Names.{is_between}
+use Rattle.fsd_bytes.proofs.FieldLaws.{u32_there}
 use Rattle.fsd_bytes.proofs.SameLaws.{is_same, same_is, given_if}
 use Rattle.fsd_formats.specs.declared.entry.Entry.{Entry}
 use Rattle.fsd_formats.specs.declared.page.Separator.{Separator}
@@ -15,13 +16,13 @@ use Rattle.fsd_formats.specs.NamePage.{Content, Free, Leaf, Interior, content_fr
 use Rattle.name_page.specs.Spelling.{head}
 use Rattle.name_page.specs.Fault.{unless, zeros_fault, head_fault, contents_fault, entries_fault, separators_fault, count_fits, used_fits, fault_of}
 use Rattle.name_page.proofs.FirstLaws.{none_from, none_at}
-use Rattle.name_page.proofs.PieceLaws.{u32_there}
 use Rattle.name_page.proofs.ZeroLaws.{zeros_unfaulted}
 use Rattle.name_page.proofs.LengthLaws.{count_below}
 use Rattle.name_page.proofs.LeafLaws.{between, AreEntries, entries_unfaulted}
 use Rattle.name_page.proofs.LeafLaws as leaf
 use Rattle.name_page.proofs.SeparatorLaws.{AreSeparators, is_separator, separators_unfaulted, count_separators, length_separators}
 use Rattle.name_page.proofs.SeparatorLaws as interior
+use Rattle.name_page.proofs.PageLaws.{content_at}
 
 pub record Spelled (kind count page : ℕ) (contents bytes : List ℕ) : Type 0 where
   pub kind_is : u8_at 4 bytes ≡ kind
@@ -99,9 +100,6 @@ child_of other = 0
 abbrev pub separators_of : Content → List Separator
 separators_of (Interior first xs) = xs
 separators_of other = []
-
-abbrev pub content_at : List ℕ → Content
-content_at bytes = content_from (u8_at 4 bytes) (u16_at 6 bytes) (drop 24 bytes)
 
 unfaulted : (page p : ℕ) (bytes : List ℕ) (x : Content) → length bytes ≡ 512 → page < 2 ^ 32 → x ≡ content_at bytes → is_page page p x ≡ true
     → page_bytes page (stamp_at 16 bytes) x ≡ bytes → fault_of page p bytes ≡ None

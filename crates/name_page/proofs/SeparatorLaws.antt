@@ -9,12 +9,14 @@ use Rattle.fsd_bytes.specs.Bytes.{u8_at, u32, u32_at, zeros}
 use Rattle.fsd_bytes.specs.declared.key.Key.{Key}
 use Rattle.fsd_bytes.specs.Keys.{key_of, key_lt, is_key}
 use Rattle.fsd_bytes.specs.Names.{is_between, is_name, max_name_len}
+use Rattle.fsd_bytes.proofs.FieldLaws.{AreSmall, u8_there, u32_behind, u32_there}
 use Rattle.fsd_formats.specs.declared.page.Separator.{Separator}
 use Rattle.fsd_formats.specs.NamePage.{separator_bytes, separator_from, separator_with, separators_from, are_ascending}
-use Rattle.name_page.specs.Fault.{unless, follows, zeros_fault, separator_key_at, separator_fault, separators_fault}
+use Rattle.name_page.specs.Fault.{unless, zeros_fault, separator_key_at, separator_fault, separators_fault}
+use Rattle.name_page.specs.Lookups.{is_after}
 use Rattle.name_page.specs.Reading.{separator_at}
 use Rattle.name_page.proofs.FirstLaws.{none_both, none_from, good_from, none_at}
-use Rattle.name_page.proofs.PieceLaws.{AreSmall, length_range, u8_there, u32_behind, u32_there, u8_again, u32_again}
+use Rattle.name_page.proofs.PieceLaws.{length_range, u8_again, u32_again}
 use Rattle.name_page.proofs.ZeroLaws.{zeros_accepted, zeros_unfaulted}
 use Rattle.name_page.proofs.LeafLaws.{between, is_between_from}
 
@@ -69,7 +71,7 @@ name_of_separator p s e =
 
 pub record Accepted (place p : ℕ) (before : Option Key) (bytes : List ℕ) : Type 0 where
   pub is : is_separator p (separator_at place bytes) ≡ true
-  pub follows_it : follows before (separator_key_at place bytes) ≡ true
+  pub follows_it : is_after before (separator_key_at place bytes) ≡ true
   pub few : u8_at place bytes ≤ 40
   pub none : zeros_fault (40 - u8_at place bytes) (place + 1 + u8_at place bytes) bytes ≡ None
 
@@ -79,14 +81,14 @@ separator_accepted place p before bytes e =
     let key : Key = separator_key_at place bytes in
     let child : ℕ = u32_at (place + 45) bytes in
     let last : List (Option ℕ) = unless (place + 45) (nat_lt child p) ∷ [] in
-    let keyed : List (Option ℕ) = unless (place + 41) (nat_le 1 key.version && follows before key) ∷ last in
+    let keyed : List (Option ℕ) = unless (place + 41) (nat_le 1 key.version && is_after before key) ∷ last in
     let p1 = none_both (unless place (is_between 1 max_name_len n)) (unless (place + 1) (is_name key.name) ∷ zeros_fault (max_name_len - n) (place + 1 + n) bytes ∷ keyed) e in
     let p2 = none_both (unless (place + 1) (is_name key.name)) (zeros_fault (max_name_len - n) (place + 1 + n) bytes ∷ keyed) p1.1 in
     let p3 = none_both (zeros_fault (max_name_len - n) (place + 1 + n) bytes) keyed p2.1 in
-    let p4 = none_both (unless (place + 41) (nat_le 1 key.version && follows before key)) last p3.1 in
+    let p4 = none_both (unless (place + 41) (nat_le 1 key.version && is_after before key)) last p3.1 in
     let p5 = none_both (unless (place + 45) (nat_lt child p)) [] p4.1 in
     let named = good_from place _ p1.0 in
-    let k = and_parts (nat_le 1 key.version) (follows before key) (good_from (place + 41) _ p4.0) in
+    let k = and_parts (nat_le 1 key.version) (is_after before key) (good_from (place + 41) _ p4.0) in
     record {
       is = and_from _ _ (and_from _ _ (good_from (place + 1) _ p2.0) k.0) (good_from (place + 45) _ p5.0);
       follows_it = k.1;
@@ -95,7 +97,7 @@ separator_accepted place p before bytes e =
     }
 
 separator_unfaulted : (place p : ℕ) (before : Option Key) (bytes rest : List ℕ) → length bytes ≡ 512 → place + 49 ≤ 512
-    → is_separator p (separator_at place bytes) ≡ true → follows before (separator_key_at place bytes) ≡ true
+    → is_separator p (separator_at place bytes) ≡ true → is_after before (separator_key_at place bytes) ≡ true
     → separator_bytes (separator_at place bytes) ++ rest ≡ drop place bytes → separator_fault place p before bytes ≡ None
 separator_unfaulted place p before bytes rest long inside is after spelled =
     let n : ℕ = u8_at place bytes in
@@ -118,14 +120,14 @@ separator_unfaulted place p before bytes rest long inside is after spelled =
     none_from (unless place (is_between 1 max_name_len n)) _ (none_at place _ (ap (is_between 1 max_name_len) (sym named) ∙ is_between_from 1 max_name_len (length name) b.1 b.2))
     (none_from (unless (place + 1) (is_name key.name)) _ (none_at (place + 1) _ k.0)
     (none_from (zeros_fault (max_name_len - n) v bytes) _ (zeros_unfaulted (40 - n) v bytes tail zeros_are)
-    (none_from (unless (place + 41) (nat_le 1 key.version && follows before key)) _ (none_at (place + 41) _ (and_from _ _ k.1 after))
+    (none_from (unless (place + 41) (nat_le 1 key.version && is_after before key)) _ (none_at (place + 41) _ (and_from _ _ k.1 after))
     (none_from (unless (place + 45) (nat_lt child p)) [] (none_at (place + 45) _ e.1) refl))))
 
 -- ---- all separators
 
 abbrev pub ascend : Option Key → List Separator → Bool
 ascend before [] = true
-ascend before (s ∷ separators) = follows before s.key && ascend (Some s.key) separators
+ascend before (s ∷ separators) = is_after before s.key && ascend (Some s.key) separators
 
 ascend_is : (k : Key) (xs : List Separator) → ascend (Some k) xs ≡ are_ascending (k ∷ map (λ s. s.key) xs)
 ascend_is k [] = refl
@@ -184,7 +186,7 @@ separators_unfaulted (suc n) place next p before bytes long inside are =
     let s : Separator = separator_at place bytes in
     let xs : List Separator = separators_from n (drop (place + 49) bytes) in
     let each = and_parts (is_separator p s) (list_all (is_separator p) xs) split.each in
-    let order = and_parts (follows before s.key) (ascend (Some s.key) xs) split.order in
+    let order = and_parts (is_after before s.key) (ascend (Some s.key) xs) split.order in
     let spelled = sym (append_assoc (separator_bytes s) (flat_map separator_bytes xs) (drop next bytes)) ∙ split.spelled in
     let long_s : length (separator_bytes s) ≡ 49 = length_separator s (name_of_separator p s each.0).2 in
     let more : AreSeparators xs (place + 49) next p (Some s.key) bytes = record {

@@ -4,9 +4,10 @@ use Rattle.std.specs.Prelude.{◌==◌}
 use Rattle.std.proofs.lemmas.Bool.{eqb-true, eq-eqb}
 use Rattle.std.proofs.lemmas.List.{drop-drop}
 use Rattle.fsd_bytes.specs.Bytes.{u8_at, zeros}
+use Rattle.fsd_bytes.proofs.FieldLaws.{u8_there}
 use Rattle.name_page.specs.Fault.{unless, zeros_fault}
 use Rattle.name_page.proofs.FirstLaws.{none_both, none_from, good_from, none_at}
-use Rattle.name_page.proofs.PieceLaws.{u8_there, u8_again}
+use Rattle.name_page.proofs.PieceLaws.{u8_again}
 
 pub zeros_accepted : (n place next : ℕ) (bytes : List ℕ) → next ≡ place + n → next ≤ length bytes → zeros_fault n place bytes ≡ None → zeros n ++ drop next bytes ≡ drop place bytes
 zeros_accepted zero place next bytes e inside none = ap (λ (k : ℕ). drop k bytes) (let same : next ≡ place = omega arith in same)

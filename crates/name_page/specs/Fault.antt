@@ -2,13 +2,14 @@
 use Rattle.std.specs.Prelude.{ℕ, zero, suc, ◌+◌, ◌-◌, ◌*◌, Bool, true, not, ◌&&◌, ◌||◌, List, [], ◌∷◌, take, Option, Some, None, if◌then◌else◌, nat_le, nat_lt, ◌==◌, codes, slice_range}
 use Rattle.fsd_bytes.specs.Bytes.{u8_at, u16_at, u32_at, same_bytes}
 use Rattle.fsd_bytes.specs.declared.key.Key.{Key}
-use Rattle.fsd_bytes.specs.Keys.{key_of, key_lt}
+use Rattle.fsd_bytes.specs.Keys.{key_of}
 use Rattle.fsd_bytes.specs.Names.{is_name, is_between, max_name_len}
 use Rattle.run_table.specs.RunTable.{max_runs}
 use Rattle.fsd_formats.specs.declared.page.Page.{Page}
 use Rattle.fsd_formats.specs.declared.page.PageKind.{PageKind}
 use Rattle.fsd_formats.specs.declared.page.PageKind.TheVariants.{Free, Leaf, Interior}
 use Rattle.fsd_formats.specs.NamePage.{max_keep, max_length, sectors_for, room, least_used, least_separators}
+use Rattle.name_page.specs.Lookups.{is_after}
 
 -- the first fault of some
 abbrev pub first_of : List (Option ℕ) → Option ℕ
@@ -26,10 +27,6 @@ zeros_fault zero place bytes = None
 zeros_fault (suc n) place bytes = first_of (unless place (u8_at place bytes == 0) ∷ zeros_fault n (place + 1) bytes ∷ [])
 
 -- ---- keys, one after another
-
-abbrev pub follows : Option Key → Key → Bool
-follows None key = true
-follows (Some before) key = key_lt before key
 
 -- ---- the entries of a leaf: each at its place, the last ending at the limit
 
@@ -64,7 +61,7 @@ abbrev pub entry_fault : (place limit : ℕ) (last : Bool) → Option Key → Li
 entry_fault place limit last before bytes =
     let key = key_at place bytes in
     let version = place + 1 + u8_at place bytes in
-    first_of (name_fault_at place limit bytes ∷ unless version (nat_le 1 key.version && follows before key) ∷ numbers_fault version limit last bytes ∷ [])
+    first_of (name_fault_at place limit bytes ∷ unless version (nat_le 1 key.version && is_after before key) ∷ numbers_fault version limit last bytes ∷ [])
 
 -- where the entry at a place ends
 abbrev pub entry_end : ℕ → List ℕ → ℕ
@@ -88,7 +85,7 @@ separator_fault place p before bytes =
     unless place (is_between 1 max_name_len n)
     ∷ unless (place + 1) (is_name key.name)
     ∷ zeros_fault (max_name_len - n) (place + 1 + n) bytes
-    ∷ unless (place + 41) (nat_le 1 key.version && follows before key)
+    ∷ unless (place + 41) (nat_le 1 key.version && is_after before key)
     ∷ unless (place + 45) (nat_lt (u32_at (place + 45) bytes) p)
     ∷ []
     )

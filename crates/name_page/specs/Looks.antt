@@ -3,7 +3,7 @@ use Rattle.std.specs.Prelude.{◌≡◌, ◌⊎◌, ℕ, ◌<◌, true, false, L
 use Rattle.fsd_bytes.specs.declared.refusal.Refusal.{Refusal}
 use Rattle.name_page.specs.declared.pages.Pages.{Ghosts}
 use Rattle.fsd_table.specs.Pages.{page_at}
-use Rattle.name_page.specs.Pages.{Step, is_one_of, is_spare, IsReached}
+use Rattle.name_page.specs.Pages.{Step, is_one_of, is_spare, IsReached, NeedsNoMemory}
 
 -- a step that has reached pages since, and done nothing else
 pub record Looks (old new : Step) : Type 0 where
@@ -17,10 +17,19 @@ pub record Looks (old new : Step) : Type 0 where
   pub most_reached : new.most_reached ≡ old.most_reached
   pub most_changed : new.most_changed ≡ old.most_changed
 
+-- each page of the table is in memory, but for those that are spare
+pub record HasAllIn {D : Type 0} (P : Ghosts D) (t : D) : Type 0 where
+  pub each : (page : ℕ) → page < length (P.step t).images → is_spare (P.step t).spares page ≡ false → P.in_memory t page
+
+-- where all are no memory is wanting, and they stay
+abbrev pub NeedsNoMore : {D : Type 0} (P : Ghosts D) (refusal : Option Refusal) (old new : D) → Type 0
+NeedsNoMore P refusal old new = HasAllIn P old → NeedsNoMemory P.step P.in_memory refusal old new
+
 -- the same of the pages, with what happened outside, and the refusal from there that was the last
 pub record OnlyReaches {D : Type 0} (P : Ghosts D) (refusal : Option Refusal) (old new : D) : Type 0 where
   pub looks : Looks (P.step old) (P.step new)
   pub outside : P.outside refusal old new
+  pub memory : NeedsNoMore P refusal old new
   pub trust : P.trusted new → P.trusted old
   pub stays : P.trusted new → (P.step new).images ≡ (P.step old).images
 

@@ -1,8 +1,13 @@
 -- What is too much for one page, in two.
-use Rattle.std.specs.Prelude.{◌≡◌, ℕ, true, List}
+use Rattle.std.specs.Prelude.{◌≡◌, ℕ, true, List, length}
+use Rattle.std.specs.List.{flat_map}
 use Rattle.fsd_formats.specs.declared.entry.Entry.{Entry}
 use Rattle.fsd_formats.specs.declared.page.Separator.{Separator}
-use Rattle.fsd_formats.specs.NamePage.{Leaf, Interior, is_page}
+use Rattle.fsd_formats.specs.NamePage.{Leaf, Interior, is_page, entry_bytes}
+
+-- how many bytes of a page entries take
+abbrev pub used_by : List Entry → ℕ
+used_by entries = length (flat_map entry_bytes entries)
 
 -- any page may have the one or the other
 abbrev pub AreLeaves : List Entry → List Entry → Type 0

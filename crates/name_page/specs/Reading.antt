@@ -8,6 +8,7 @@ use Rattle.fsd_formats.specs.declared.page.Page.{Page}
 use Rattle.fsd_formats.specs.declared.page.PageKind.{PageKind}
 use Rattle.fsd_formats.specs.declared.page.PageKind.TheVariants as kinds
 use Rattle.fsd_formats.specs.NamePage.{Content, Free, Leaf, Interior, count_of, contents_of, read_page, is_entry}
+use Rattle.fsd_table.specs.Pages.{entries_of}
 use Rattle.name_page.specs.Fault.{key_at, entry_end, separator_key_at}
 
 -- the entry at a place
@@ -38,10 +39,6 @@ head_of x = record { kind = kind_of x; count = count_of x; used = length (conten
 -- what the bytes have, as a page of some table
 unfoldable pub content_in : List ℕ → Option Content
 content_in bytes = read_page (u32_at 12 bytes) (2 ^ 32) bytes
-
-abbrev pub entries_of : Option Content → List Entry
-entries_of (Some (Leaf entries)) = entries
-entries_of other = []
 
 -- the entries of a leaf
 unfoldable pub entries_in : List ℕ → List Entry

@@ -4,7 +4,8 @@ ghost use Rattle.std.specs.Option.{option_copied};
 ghost use Rattle.fsd_bytes.specs.Bytes.{u8_at, u16_at, u32_at};
 ghost use Rattle.fsd_bytes.specs.Names.{is_between, is_name, max_name_len};
 ghost use Rattle.run_table.specs.RunTable.{max_runs};
-ghost use Rattle.name_page.specs.Fault.{unless, zeros_fault, follows, lengths_fault, runs_fault, key_at, name_fault_at, numbers_fault, entry_fault, entry_end, entries_fault, separator_key_at, separator_fault, separators_fault, count_fits, used_fits, contents_fault, head_fault, head_at, kind_at, fault_of};
+ghost use Rattle.name_page.specs.Fault.{unless, zeros_fault, lengths_fault, runs_fault, key_at, name_fault_at, numbers_fault, entry_fault, entry_end, entries_fault, separator_key_at, separator_fault, separators_fault, count_fits, used_fits, contents_fault, head_fault, head_at, kind_at, fault_of};
+ghost use Rattle.name_page.specs.Lookups.{is_after};
 ghost use Rattle.fsd_formats.specs.NamePage.{room, read_page};
 ghost use Rattle.name_page.specs.Reading.{head_of};
 
@@ -144,7 +145,7 @@ fn has_room(n: usize, place: usize, limit: usize) -> bool
 
 // The key is behind the one before it.
 fn follows(before: &Option<Key>, key: &Key) -> bool
-    ensures { result ≡ follows before.now key.now }
+    ensures { result ≡ is_after before.now key.now }
 {
     match before {
         Some(before) => before.cmp(key).is_lt(),
@@ -153,7 +154,7 @@ fn follows(before: &Option<Key>, key: &Key) -> bool
 }
 
 fn is_version(before: &Option<Key>, key: &Key) -> bool
-    ensures { result ≡ (nat_le 1 key.now.version && follows before.now key.now) }
+    ensures { result ≡ (nat_le 1 key.now.version && is_after before.now key.now) }
 {
     1 <= key.version && follows(before, key)
 }

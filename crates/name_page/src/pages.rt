@@ -1,5 +1,5 @@
 //! The pages of a name table, which are reached and changed in steps.
-ghost use Rattle.std.specs.Prelude.{◌≡◌, ◌≢◌, ◌↔◌, ◌<◌, ◌≤◌, ℕ, List, Option, Some, None, Err, true, false, IsSome, OnOk, IfErr, slice_get, length};
+ghost use Rattle.std.specs.Prelude.{◌≡◌, ◌≢◌, ◌⊎◌, ◌↔◌, ◌<◌, ◌≤◌, ℕ, List, Option, Some, None, Err, true, false, IsSome, OnOk, IfErr, slice_get, length};
 ghost use Rattle.std.specs.Borrow.{sem};
 ghost use Rattle.fsd_bytes.specs.declared.refusal.Refusal.{Refusal};
 ghost use Rattle.fsd_table.specs.Pages.{page_at};
@@ -48,7 +48,7 @@ pub trait Pages {
         requires more { 0 < reaches (step self.old) }
         requires within { page < length (step self.old).images }
         ensures outside { outside (outer_in result) self.old self.new }
-        ensures memory { in_memory self.old page → NeedsNoMemory step in_memory (outer_in result) self.old self.new }
+        ensures memory { (is_spare (step self.old).spares page ≡ true) ⊎ in_memory self.old page → NeedsNoMemory step in_memory (outer_in result) self.old self.new }
         ensures kept { Keeps (step self.old) (step self.new).images }
         ensures stays { trusted self.new → (step self.new).images ≡ (step self.old).images }
         ensures step { OnOk result (step self.new ≡ with_reached page (with_images (step self.new).images (step self.old))) }

@@ -14,13 +14,13 @@ use Rattle.page_cache.specs.declared.source.PageSource.{Ghosts as SourceGhosts}
 use Rattle.page_cache.specs.Cache.{CacheValue, IsResident, newest, bytes_of, pins_of, is_one_of, with_pins, with_dirty, with_written}
 use Rattle.page_cache.proofs.KeepLaws.{resident_bytes, pinned_bytes}
 use Rattle.page_cache.proofs.WrittenLaws.{now_dirty}
-use Rattle.name_page.specs.Pages.{Keeps, IsOuter, IsReached, with_taken, rested}
+use Rattle.name_page.specs.Pages.{Keeps, IsOuter, IsReached, is_spare, with_taken, rested}
 use Rattle.page_cache.specs.Accepted.{content_in}
-use Rattle.table_pages.specs.Bringing.{OnlyPins, given_by, home_in, FetchesOnly, IsRefused, IsHit}
+use Rattle.table_pages.specs.Bringing.{OnlyPins, given_by, home_in, FetchesOnly, IsAtHand, IsRefused, IsHit}
 use Rattle.table_pages.specs.Kept.{IsKept, images_of}
 use Rattle.table_pages.specs.ImageLaws.{image_count, image_at, images_same}
 use Rattle.table_pages.specs.Reads.{Fills, HadRefused}
-use Rattle.table_pages.specs.Table.{step_of, written, BarsPlace}
+use Rattle.table_pages.specs.Table.{step_of, written, BarsPlace, HasPage}
 use Rattle.table_pages.specs.declared.table.Table.{Table}
 use Rattle.table_pages.proofs.KeptLaws.{fetched_image, reached_there}
 
@@ -72,6 +72,11 @@ module _ {D E : Type 0} {M : MachineGhosts D} {S : SourceGhosts E} (t : Table D 
     count = image_count (newest c' (given_by M S t.source.now m')) (length t.free.now) ∙ sym (image_count (newest t.cache.now source) (length t.free.now));
     reached = λ q is. fetched_image M S t.source.now t.made_over.value t.made_with.value t.m.now t.cache.now t.free.now t.reached.items t.spares.items t.promised t.kept refusal m' c' fetches q is.1;
   }
+
+  -- a page that is spare or in memory is at hand
+  pub at_hand : (page : ℕ) → (is_spare (step_of t).spares page ≡ true) ⊎ HasPage t page → IsAtHand t.free.now t.cache.now page
+  at_hand page (inl spare) = inl spare
+  at_hand page (inr there) = inr there.1
 
   -- and all do where nothing is asked of the machine
   pub hit_images : (m' : D) (c' : CacheValue) → IsHit t.m.now m' t.cache.now c' → images_of (newest c' (given_by M S t.source.now m')) (length t.free.now) ≡ (step_of t).images

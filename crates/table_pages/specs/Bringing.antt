@@ -24,7 +24,11 @@ pub record Brings (old new : CacheValue) : Type 0 where
 abbrev pub KeepsBytes : (old new : CacheValue) → Type 0
 KeepsBytes old new = (page : ℕ) → bytes_of new page ≡ bytes_of old page
 
--- the page was in the cache, so that nothing was asked of the machine
+-- the page is free, or in the cache
+abbrev pub IsAtHand : (free : List Bool) → CacheValue → ℕ → Type 0
+IsAtHand free c page = (slice_index_or free page false ≡ true) ⊎ IsResident c page
+
+-- the page was at hand, so that nothing was asked of the machine
 pub record IsHit {D : Type 0} (m m' : D) (old new : CacheValue) : Type 0 where
   pub machine : m' ≡ m
   pub bytes : KeepsBytes old new
@@ -72,9 +76,10 @@ refusal_for (CacheLost a b) = Lost a b
 
 -- ---- the grammar
 
--- what the grammar accepts stays so
-abbrev pub KeepsContent : (old new : CacheValue) → Type 0
-KeepsContent old new = (pages page : ℕ) (x : Content) → content_in old pages page ≡ Some x → content_in new pages page ≡ Some x
+-- what is in the cache stays there, and what the grammar accepts stays so
+pub record KeepsContent (old new : CacheValue) : Type 0 where
+  pub there : (page : ℕ) → IsResident old page → IsResident new page
+  pub accepted : (pages page : ℕ) (x : Content) → content_in old pages page ≡ Some x → content_in new pages page ≡ Some x
 
 -- the page is free, or the grammar refuses what the cache has of it
 abbrev pub IsRefused : List Bool → CacheValue → ℕ → Type 0

@@ -34,6 +34,13 @@ module _ {D E : Type 0} {M : MachineGhosts D} {S : SourceGhosts E} where
     most_changed = 96;
   }
 
+  -- the machine and the cache that it reaches its pages by, as they are
+  abbrev pub machine_of : Table D E M S → D
+  machine_of t = t.m.now
+
+  abbrev pub cache_of : Table D E M S → CacheValue
+  cache_of t = t.cache.now
+
   -- the table with the bytes of one of its pages written
   abbrev pub written : Table D E M S → ℕ → List ℕ → Table D E M S
   written t page bytes = record t { cache = record t.cache { now = with_written page bytes t.cache.now }; kept = kept_written M S t.made_over.value t.made_with.value t.m.now t.cache.now t.source.now t.free.now t.reached.items t.spares.items t.promised t.kept page bytes }

@@ -6,7 +6,7 @@ ghost use Rattle.fsd_bytes.specs.declared.refusal.Refusal.TheVariants.{Memory, U
 ghost use Rattle.name_page.specs.Pages.{IsOuter, outer_in};
 ghost use Rattle.page_cache.specs.Cache.{IsResident, pins_of, with_pins};
 ghost use Rattle.page_cache.specs.Accepted.{content_in};
-ghost use Rattle.table_pages.specs.Bringing.{HasRoom, OnlyPins, FetchesOnly, IsRefused, home_in, refusal_for, IsHit};
+ghost use Rattle.table_pages.specs.Bringing.{HasRoom, OnlyPins, FetchesOnly, IsAtHand, IsRefused, home_in, refusal_for, IsHit};
 
 use crate::free::FreePages;
 use arrayvec::ArrayVec;
@@ -63,8 +63,8 @@ pub fn bring_used<M: Machine, S: PageSource>(
     ensures fetches { FetchesOnly M.Machine S.PageSource source.now (outer_in result) m.old m.new cache.old cache.new }
     ensures pins { (q : ℕ) → pins_of cache.new q ≡ pins_of cache.old q }
     ensures there { OnOk result (IsResident cache.new page) }
-    ensures hit { IsResident cache.old page → IsHit m.old m.new cache.old cache.new }
-    ensures memory { IsResident cache.old page → outer_in result ≡ Some Memory → ⊥ }
+    ensures hit { IsAtHand free.now cache.old page → IsHit m.old m.new cache.old cache.new }
+    ensures memory { IsAtHand free.now cache.old page → outer_in result ≡ Some Memory → ⊥ }
     ensures used { OnOk result (slice_index_or free.now page false ≡ false) }
     ensures accepted { OnOk result (IsSome (content_in cache.new (length free.now) page)) }
     ensures spare { slice_index_or free.now page false ≡ true → result ≡ Err (Unsound (home_in home_a page)) }

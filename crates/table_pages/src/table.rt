@@ -73,7 +73,7 @@ impl<'a, M: Machine, S: PageSource> Pages for Table<'a, M, S> {
     ghost use Rattle.std.proofs.Common.{ap, ◌∙◌, subst, sym};
     ghost use Rattle.name_page.specs.Pages.{NeedsNoMemory, Step, rested};
     ghost use Rattle.table_pages.specs.Bringing.{OnlyPins};
-    ghost use Rattle.table_pages.specs.Table.{step_of, written, HasPage, ReadsOnly, Trusted, IsAtRest, IsClean};
+    ghost use Rattle.table_pages.specs.Table.{cache_of, machine_of, step_of, written, HasPage, ReadsOnly, Trusted, IsAtRest, IsClean};
     ghost use Rattle.table_pages.specs.TableLaws.{step_written, reads_written, reads_still, reads_then, trusted_earlier, few_images, as_many};
 
     ghost step = { step_of };
@@ -166,8 +166,8 @@ impl<'a, M: Machine, S: PageSource> Pages for Table<'a, M, S> {
         ensures outside { ReadsOnly None self.old self.new }
         ensures memory { NeedsNoMemory step_of HasPage None self.old self.new }
         ensures step { step_of self.new ≡ rested (step_of self.old) }
-        ensures machine { self.new.m.now ≡ self.old.m.now }
-        ensures cache { OnlyPins self.old.cache.now self.new.cache.now }
+        ensures machine { machine_of self.new ≡ machine_of self.old }
+        ensures cache { OnlyPins (cache_of self.old) (cache_of self.new) }
         ensures ready { IsAtRest self.new }
         ensures clean { Trusted self.new → IsClean self.new }
     {

@@ -1,9 +1,8 @@
 -- A step that begins, and what holds of the table before it.
-use Rattle.std.proofs.Common.{◌≡◌, ℕ, ◌-◌, List, length, Option, sym, ap, subst, ◌∙◌, zero, suc, Some, None, Bool, not}
-use Rattle.std.specs.Prelude.{IfOk, Result, Ok, slice_get, ◌<◌}
-use Rattle.run_table.specs.Space.{contains}
+use Rattle.std.proofs.Common.{◌≡◌, ℕ, ◌-◌, List, length, Option, sym, ap, subst, ◌∙◌, zero, suc, Some, None, Bool}
+use Rattle.std.specs.Prelude.{IfOk, Result, Ok, slice_get}
 use Rattle.fsd_formats.specs.declared.entry.Entry.{Entry}
-use Rattle.fsd_table.specs.Tree.{IsTree, table_of, pages_of}
+use Rattle.fsd_table.specs.Tree.{IsTree, table_of}
 use Rattle.fsd_table.proofs.BoundLaws.{Ascend, entries_ascend, all_weaker}
 use Rattle.fsd_table.specs.Table.{top, max_height}
 use Rattle.std.specs.List.{AllByRecursion}
@@ -20,21 +19,12 @@ use Rattle.name_btree.specs.declared.fault.TreeFault.{TreeFault}
 use Rattle.name_btree.specs.Map.{HasTable, IsTable}
 use Rattle.name_btree.specs.declared.lookup.FoundEntry.{FoundEntry}
 use Rattle.name_btree.specs.Lookup.{entry_of as found_entry}
+use Rattle.name_btree.proofs.CallLaws.{same_table}
 use Rattle.version_table.specs.Table.{MakesTable, OfTable}
 
 -- the keys of a tree ascend
 pub tree_ascends : (pages : List (List ℕ)) (height : ℕ) → IsTree pages height → Ascend (table_of pages height)
 tree_ascends pages height tree = entries_ascend (height - 1) pages top tree.subtree
-
--- a table stays one where its pages stay, and the same of them are spare
-pub same_table : (a b : Step) (height : ℕ) → b.images ≡ a.images → b.spares ≡ a.spares → IsTable a height → IsTable b height
-same_table a b height images spares t = record {
-  tree = subst (λ (p : List (List ℕ)). IsTree p height) (sym images) t.tree;
-  spare = λ page low.
-      ap (λ (s : List Bool). is_spare s page) spares
-      ∙ t.spare page (subst (λ (p : List (List ℕ)). page < length p) images low)
-      ∙ ap (λ (p : List (List ℕ)). not (contains (pages_of p height) page)) (sym images);
-}
 
 module _ {D : Type 0} (P : Ghosts D) (a b c : D) (is : P.step b ≡ rested (P.step a)) where
   same_images : (P.step b).images ≡ (P.step a).images

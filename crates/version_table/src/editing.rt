@@ -8,7 +8,7 @@ ghost use Rattle.name_btree.specs.Fault.{outer_told, FailsSpare, FailsTable, IsA
 ghost use Rattle.name_btree.specs.Path.{HasWayTo};
 ghost use Rattle.name_btree.specs.Replace.{WritesOne};
 ghost use Rattle.name_page.specs.declared.pages.TheConstants.{MOST_CHANGED, MOST_REACHED};
-ghost use Rattle.name_page.specs.Looks.{ChangesPages, OnlyEdits, OnlyWalks};
+ghost use Rattle.name_page.specs.Looks.{ChangesPages, HasAllIn, OnlyEdits, OnlyWalks};
 ghost use Rattle.name_page.specs.Pages.{changes, free_count, is_spare};
 ghost use Rattle.version_table.specs.Plan.{IsReady, keys_left, planned_entry, with_planned};
 ghost use Rattle.version_table.specs.Table.{MakesTable, OfTable};
@@ -105,6 +105,7 @@ pub fn set_keep<T: Pages>(t: &mut T, version: &Entry, keep: u32) -> Result<(), T
     ensures kept { OnErr result (OnlyWalks T.Pages (outer_told result) t.old t.new) }
     ensures among { 0 < length (T.step t.old).images → IfErr result (IsAmong (length (T.step t.old).images)) }
     ensures memory { HasWayTo T.Pages version.now t.old → outer_told result ≡ Some Memory → ⊥ }
+    ensures full { HasAllIn T.Pages t.old → outer_told result ≡ Some Memory → ⊥ }
     ensures written { OnOk result (WritesOne T.Pages t.old t.new) }
     ensures set { OnOk result (MakesTable T.Pages t.old t.new (entries_with_keep version.now.key keep)) }
     ensures fault { IfErr result (FailsTable T.Pages t.new) }

@@ -5,7 +5,7 @@ ghost use Rattle.fsd_formats.specs.NamePage.{is_entry, FitsEntry};
 ghost use Rattle.name_btree.specs.Lookup.{StandsIn, IsLedTo};
 ghost use Rattle.name_btree.specs.Path.{TakesNone, HasPath, HasWayTo};
 ghost use Rattle.name_page.specs.declared.pages.TheConstants.{MOST_REACHED};
-ghost use Rattle.name_page.specs.Looks.{OnlyWalks};
+ghost use Rattle.name_page.specs.Looks.{NeedsNoMore, OnlyWalks};
 ghost use Rattle.version_table.specs.Fault.{outer_met, FailsLook, IsInside};
 ghost use Rattle.version_table.specs.Table.{OfTable};
 
@@ -40,6 +40,7 @@ pub fn newest<T: Pages>(t: &mut T, name: &FileName) -> Result<FoundEntry, Versio
     requires { MOST_REACHED ≤ (T.step t.old).most_reached }
     ensures walks { OnlyWalks T.Pages (outer_met result) t.old t.new }
     ensures memory { HasPath T.Pages name.now t.old → TakesNone T.Pages (outer_met result) t.old t.new }
+    ensures full { NeedsNoMore T.Pages (outer_met result) t.old t.new }
     ensures back { HasPath T.Pages name.now t.old → IfOk result (λ found. HasWayTo T.Pages found.entry t.new) }
     ensures among { 0 < length (T.step t.old).images → IfErr result (IsInside (length (T.step t.old).images)) }
     ensures there { IfOk result (StandsIn (T.step t.new)) }

@@ -1,4 +1,4 @@
-use Rattle.std.proofs.Common.{◌≡◌, ◌∙◌, inl, ℕ, List, None, length, ap, subst, arith}
+use Rattle.std.proofs.Common.{◌≡◌, ◌∙◌, ◌-◌, inl, ℕ, Bool, List, None, length, ap, subst, arith}
 use Rattle.std.specs.Prelude.{count_by}
 use Rattle.fsd_bytes.specs.declared.key.Key.{Key}
 use Rattle.name_page.specs.Pages.{Step, with_images, reaches, changes, free_count}
@@ -252,3 +252,21 @@ returns-in-Err-remove_all-clause-pages g c = walks_pages g.T.Pages c.args.t.now 
 pub returns-in-Err-insert_in-clause-pages : goal.returns-in-Err-insert_in-clause-pages
 returns-in-Err-insert_in-clause-pages g c =
     walks_pages g.T.Pages c.args.t.now c.fault_of-in-Err-insert_in.new.t (walked_inserting g (goal.at.returns-in-Err-insert_in-clause-pages g c).After-fault_of-in-Err-insert_in)
+
+-- ---- what a walk leaves to be changed and taken
+
+pub returns-in-Err-remove_all-clause-changes : goal.returns-in-Err-remove_all-clause-changes
+returns-in-Err-remove_all-clause-changes g c =
+    let old = g.T.Pages.step c.args.t.now in
+    let new = g.T.Pages.step c.fault_of.new.t in
+    let walks = walked_removing g (goal.at.returns-in-Err-remove_all-clause-changes g c).After-fault_of in
+    let same : changes new ≡ changes old = ap (λ (n : ℕ). n - length new.changed) walks.most_changed ∙ ap (λ (pages : List ℕ). old.most_changed - length pages) walks.changed in
+    omega (arith, same)
+
+pub returns-in-Err-remove_all-clause-taken : goal.returns-in-Err-remove_all-clause-taken
+returns-in-Err-remove_all-clause-taken g c =
+    let old = g.T.Pages.step c.args.t.now in
+    let new = g.T.Pages.step c.fault_of.new.t in
+    let walks = walked_removing g (goal.at.returns-in-Err-remove_all-clause-taken g c).After-fault_of in
+    let same : free_count new ≡ free_count old = ap (λ (spares : List Bool). count_by (λ spare. spare) spares) walks.spares in
+    omega (arith, same)

@@ -14,14 +14,15 @@ use Rattle.name_page.specs.Node.{content_of}
 use Rattle.name_page.proofs.SideLaws.{without_used, without_fits}
 use Rattle.name_page.specs.Pages.{with_images, reaches}
 use Rattle.name_page.specs.Looks.{Shows}
+use Rattle.name_page.specs.Parting.{used_by}
 use Rattle.name_page.proofs.LookLaws.{reaches_then, agrees_now, agrees_before}
 use Rattle.name_btree.specs.Draft.{drafted}
 use Rattle.name_btree.specs.Fault.{FailsBy, IsMisfit}
 use Rattle.name_btree.proofs.CauseLaws.{fails_by_map}
 use Rattle.name_btree.proofs.OverLaws.{leaf_over}
 use Rattle.name_btree.specs.Remove.{BreaksAround, IsTrimmedBelow, IsRootLeft}
-use Rattle.name_btree.specs.Trim.{IsUnlike, AreEntries, IsOpened, IsMended, IsLeft, MayHave, used_by, sheets_below}
-use Rattle.name_btree.proofs.AboveLaws.{ok_left, err_left, ok_on, mended_left, mended_freed, mended_sheets, room_left}
+use Rattle.name_btree.specs.Trim.{IsUnlike, AreEntries, IsOpened, IsMended, IsLeft, MayHave, sheets_below}
+use Rattle.name_btree.proofs.AboveLaws.{ok_on, mended_left, mended_freed, mended_sheets, room_left}
 use Rattle.name_btree.proofs.DraftLaws.{drafted_length}
 use Rattle.name_btree.proofs.MendLaws.{draft_kept}
 use Rattle.name_btree.proofs.MendedLaws.{trimmed_above, breaks_above}
@@ -32,6 +33,7 @@ use Rattle.name_btree.proofs.RootLaws.{mended_root}
 use Rattle.name_btree.proofs.UnlikeLaws.{unlike_above}
 use Rattle.name_btree.proofs.TrimLaws.{page_ways}
 use Rattle.name_btree.proofs.removing.+remove_below.Goals as goal
+use Rattle.name_btree.proofs.ResultLaws.{ok_more, err_more}
 
 pub returns-in_err-entries-clause-fault : goal.returns-in_err-entries-clause-fault
 returns-in_err-entries-clause-fault g t c =
@@ -179,7 +181,7 @@ returns-in_ok-trimmed-in-Interior-clause-left g t c =
     let has = page_ways child.page (length pages) ways.0 ways.1 (at_is_page pages child.page (Interior ways.0 ways.1) at) in
     let opened : IsOpened (length pages) child ways.0 ways.1 = record { ways = has.ways; within = fit; least = has.least; most = has.most } in
     let o = subst (λ (n : ℕ). IsOpened n child ways.0 ways.1) (drafted_length c.args.draft.now.sheets.items mid_step.images ∙ c.child_node.ensures.calls.looks.count) opened in
-    ok_left c.trim_above.result (λ left. Shows s (λ pages. IsMended (with_images pages s) draft new child ways.0 ways.1 c.ways_before-i.result below left)) (IsLeft (length old.images) child)
+    ok_more c.trim_above.result (λ left. Shows s (λ pages. IsMended (with_images pages s) draft new child ways.0 ways.1 c.ways_before-i.result below left)) (IsLeft (length old.images) child)
     (λ left m. mended_left (with_images s.images s) draft new (length old.images) child ways.0 ways.1 c.ways_before-i.result below left o (m s.images (agrees_now s))) c.trim_above.ensures.mended
 
 pub returns-in_ok-trimmed-in-Interior-clause-trimmed : goal.returns-in_ok-trimmed-in-Interior-clause-trimmed
@@ -196,7 +198,7 @@ returns-in_ok-trimmed-in-Interior-clause-trimmed g t c =
     let i = c.ways_before-i.result in
     let below = c.in_ok-trimmed-in-Interior.trimmed in
     let below_child = c.child_at-below.result in
-    ok_left c.trim_above.result (λ left. Shows s (λ pages. IsMended (with_images pages s) mid new child ways.0 ways.1 i below left))
+    ok_more c.trim_above.result (λ left. Shows s (λ pages. IsMended (with_images pages s) mid new child ways.0 ways.1 i below left))
     (λ left. Shows s (λ pages. IsTrimmedBelow key (drafted draft.sheets.items pages) (drafted new.sheets.items pages) draft.freed.items new.freed.items c.args.levels child left))
     (λ left m images agrees.
     let agrees2 = agrees_before s2 s images c.trim_above.ensures.calls.looks agrees in
@@ -257,7 +259,7 @@ returns-in_ok-trimmed-in-Interior-clause-fault g t c =
     let first = reaches_then G law c.args.t.now c.child_node.new.t between c.in_ok-entries.ensures.calls c.in_ok-trimmed-in-Interior.ensures.calls in
     let A : List (List ℕ) → ℕ → Type 0 = λ (pages : List (List ℕ)). IsUnlike (drafted mid.sheets.items pages) child ways.0 ways.1 i below in
     let B : List (List ℕ) → ℕ → Type 0 = λ (pages : List (List ℕ)). BreaksAround key (drafted draft.sheets.items pages) c.args.levels child in
-    err_left c.trim_above.result (FailsBy s A) (FailsBy s B)
+    err_more c.trim_above.result (FailsBy s A) (FailsBy s B)
     (λ fault h. fails_by_map s A B
     (λ images page agrees u.
     let agrees2 = agrees_before s2 s images c.trim_above.ensures.calls.looks agrees in
@@ -280,7 +282,7 @@ returns-in_ok-trimmed-in-Interior-clause-root g t c =
     let child = c.args.child.now in
     let ways = c.in-Interior.ways in
     let below = c.in_ok-trimmed-in-Interior.trimmed in
-    ok_left c.trim_above.result (λ left. Shows s (λ pages. IsMended (with_images pages s) mid new child ways.0 ways.1 c.ways_before-i.result below left)) (IsRootLeft child.page)
+    ok_more c.trim_above.result (λ left. Shows s (λ pages. IsMended (with_images pages s) mid new child ways.0 ways.1 c.ways_before-i.result below left)) (IsRootLeft child.page)
     (λ left m. mended_root (with_images s.images s) mid new child ways.0 ways.1 c.ways_before-i.result below left (m s.images (agrees_now s))) c.trim_above.ensures.mended
 
 pub returns-in_ok-trimmed-in-Interior-clause-sheets : goal.returns-in_ok-trimmed-in-Interior-clause-sheets
@@ -291,7 +293,7 @@ returns-in_ok-trimmed-in-Interior-clause-sheets g t c =
     let child = c.args.child.now in
     let ways = c.in-Interior.ways in
     let below = c.in_ok-trimmed-in-Interior.trimmed in
-    ok_left c.trim_above.result (λ left. Shows s (λ pages. IsMended (with_images pages s) mid new child ways.0 ways.1 c.ways_before-i.result below left))
+    ok_more c.trim_above.result (λ left. Shows s (λ pages. IsMended (with_images pages s) mid new child ways.0 ways.1 c.ways_before-i.result below left))
     (λ left. length new.sheets.items ≤ length c.args.draft.now.sheets.items + sheets_below c.args.levels left)
     (λ left m. omega (arith, mended_sheets (with_images s.images s) mid new child ways.0 ways.1 c.ways_before-i.result below left (length c.args.draft.now.sheets.items) c.args.levels c.if-levels-gt0.true c.in_ok-trimmed-in-Interior.ensures.sheets (m s.images (agrees_now s)))) c.trim_above.ensures.mended
 

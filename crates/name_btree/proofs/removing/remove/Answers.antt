@@ -1,4 +1,4 @@
-use Rattle.std.proofs.Common.{◌≡◌, ◌∙◌, ◌+◌, ◌≤◌, sym, ap, subst, length, List, ℕ, arith}
+use Rattle.std.proofs.Common.{◌≡◌, ◌∙◌, ◌+◌, ◌-◌, ◌≤◌, Bool, sym, ap, subst, length, List, ℕ, arith}
 use Rattle.name_page.specs.Pages.{Step, reaches, changes, is_spare}
 use Rattle.name_btree.proofs.CommitLaws.{commit_edits, commit_reaches, commit_changes, freed_spare}
 use Rattle.name_btree.proofs.DraftLaws.{committed_spares, drafted_length}
@@ -103,3 +103,18 @@ pub returns-in-Err-clause-pages : goal.returns-in-Err-clause-pages
 returns-in-Err-clause-pages g c =
     let G = g.T.Pages in
     walks_pages G c.args.t.now c.fault_of.new.t (c.fault_of.ensures.calls c.args.t.now (reaches_walks G c.args.t.now c.remove_in.new.t c.in-Err.ensures.calls))
+
+pub returns-in-Err-clause-changes : goal.returns-in-Err-clause-changes
+returns-in-Err-clause-changes g c =
+    let G = g.T.Pages in
+    let old = G.step c.args.t.now in
+    let new = G.step c.fault_of.new.t in
+    let walks = c.fault_of.ensures.calls c.args.t.now (reaches_walks G c.args.t.now c.remove_in.new.t c.in-Err.ensures.calls) in
+    let same : changes new ≡ changes old = ap (λ (n : ℕ). n - length new.changed) walks.most_changed ∙ ap (λ (pages : List ℕ). old.most_changed - length pages) walks.changed in
+    omega (arith, same)
+
+pub returns-in-Err-clause-taken : goal.returns-in-Err-clause-taken
+returns-in-Err-clause-taken g c = λ page is.
+    let G = g.T.Pages in
+    let walks = c.fault_of.ensures.calls c.args.t.now (reaches_walks G c.args.t.now c.remove_in.new.t c.in-Err.ensures.calls) in
+    ap (λ (spares : List Bool). is_spare spares page) walks.spares ∙ is

@@ -12,8 +12,9 @@ use Rattle.name_btree.specs.Remove.{BreaksAround, IsTrimmedBelow, IsRootLeft}
 use Rattle.name_btree.specs.Trim.{IsFreeOrNone, IsTakenOver, sheets_below}
 use Rattle.name_btree.proofs.AboveLaws.{freed_more}
 use Rattle.name_btree.proofs.CauseLaws.{fails_by_map}
-use Rattle.name_btree.proofs.RootLaws.{whole_tree, shrunk_tree, free_breaks, around_breaks, only_of, on_ok_more, on_err_more}
+use Rattle.name_btree.proofs.RootLaws.{whole_tree, shrunk_tree, free_breaks, around_breaks, only_of, on_ok_more}
 use Rattle.name_btree.proofs.removing.remove_in.Goals as goal
+use Rattle.name_btree.proofs.ResultLaws.{err_more}
 
 pub returns-in_err-remove_below-clause-fault : goal.returns-in_err-remove_below-clause-fault
 returns-in_err-remove_below-clause-fault g c =
@@ -87,7 +88,7 @@ returns-in-Interior-clause-fault g c =
     let is : only_of left ≡ Some only = ap only_of c.in-Interior.is in
     let A : List (List ℕ) → ℕ → Type 0 = λ (pages : List (List ℕ)) (page : ℕ). IsFreeOrNone (page_at (drafted mid.sheets.items pages) only) in
     let B : List (List ℕ) → ℕ → Type 0 = λ (pages : List (List ℕ)) (page : ℕ). IsNoTree (drafted draft.sheets.items pages) in
-    on_err_more c.take_over.result (FailsBy s A) (FailsBy s B)
+    err_more c.take_over.result (FailsBy s A) (FailsBy s B)
     (λ fault h. fails_by_map s A B
     (λ images page agrees free height tree.
     let pages : List (List ℕ) = drafted draft.sheets.items images in

@@ -185,3 +185,12 @@ returns-then-not-has_as_long-clause-memory g c = λ old long way wants.
 
 pub returns-clause-memory : goal.returns-clause-memory
 returns-clause-memory g c = λ old long way is. cc is
+
+pub returns-in-Err-clause-full : goal.returns-in-Err-clause-full
+returns-in-Err-clause-full g c = λ all. (c.fault_of.ensures.memory c.args.t.now c.in-Err.ensures.calls.memory all).enough
+
+pub returns-then-not-has_as_long-clause-full : goal.returns-then-not-has_as_long-clause-full
+returns-then-not-has_as_long-clause-full g c = λ all. (c.fault_of-then-not-has_as_long.ensures.memory c.args.t.now c.in-Ok.ensures.calls.memory all).enough
+
+pub returns-clause-full : goal.returns-clause-full
+returns-clause-full g c = λ all is. cc is

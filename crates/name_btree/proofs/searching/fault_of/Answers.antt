@@ -1,7 +1,7 @@
 use Rattle.std.proofs.Common.{◌≡◌, Option, None, true, false, subst, length}
 use Rattle.fsd_bytes.specs.declared.refusal.Refusal.{Refusal}
-use Rattle.name_page.specs.Looks.{OnlyWalks}
-use Rattle.name_page.proofs.LookLaws.{walks_then}
+use Rattle.name_page.specs.Looks.{NeedsNoMore, OnlyWalks}
+use Rattle.name_page.proofs.LookLaws.{no_more_then, walks_then}
 use Rattle.name_btree.specs.Fault.{is_inner}
 use Rattle.name_btree.proofs.SearchLaws.{inner_broken, inner_untold, outer_fails}
 use Rattle.name_btree.proofs.WithinLaws.{outer_among}
@@ -31,3 +31,15 @@ pub returns-else-is_inner-clause-among : goal.returns-else-is_inner-clause-among
 returns-else-is_inner-clause-among g c = λ some.
     let outer : is_inner c.args.fault ≡ false = cc in
     outer_among (length (g.T.Pages.step c.args.t.now).images) c.args.fault outer
+
+-- ---- memory is not wanting
+
+pub returns-then-is_inner-clause-memory : goal.returns-then-is_inner-clause-memory
+returns-then-is_inner-clause-memory g c = λ first before.
+    let G = g.T.Pages in
+    let inner : is_inner c.args.fault ≡ true = cc in
+    let quiet : NeedsNoMore G None first c.args.t.now = subst (λ (refusal : Option Refusal). NeedsNoMore G refusal first c.args.t.now) (inner_untold c.args.fault inner) before in
+    no_more_then G first c.args.t.now c.search.new.t quiet c.search.ensures.memory
+
+pub returns-else-is_inner-clause-memory : goal.returns-else-is_inner-clause-memory
+returns-else-is_inner-clause-memory g c = λ first before. before

@@ -1,20 +1,24 @@
-use Rattle.std.proofs.Common.{◌≡◌, ◌∙◌, sym, ap, subst, length, ℕ, Bool, List, Some, rules}
+use Rattle.std.proofs.Common.{◌≡◌, ◌∙◌, sym, ap, subst, length, ℕ, Bool, false, List, Option, None, Some, rules}
+use Rattle.std.proofs.lemmas.Bool.{true≢false}
 use Rattle.std.proofs.lemmas.Result.{err_from_is_err_and}
 use Rattle.std.specs.Prelude.{slice_get}
 use Rattle.std.specs.List.{AllByRecursion}
 use Rattle.fsd_formats.specs.declared.entry.Entry.{Entry}
-use Rattle.fsd_formats.specs.NamePage.{Leaf, FitsEntry}
+use Rattle.fsd_formats.specs.NamePage.{Content, Free, Leaf, Interior, FitsEntry}
 use Rattle.fsd_table.specs.declared.child.Child.{Child}
 use Rattle.fsd_table.specs.Pages.{page_at, children, content_fits}
+use Rattle.fsd_table.specs.Tree.{IsLeaf}
 use Rattle.fsd_table.proofs.PageLaws.{at_is_page}
 use Rattle.fsd_forest.proofs.WayLaws.{child_at}
 use Rattle.name_page.specs.declared.node.Node.{Node}
 use Rattle.name_page.specs.Node.{content_of}
 use Rattle.name_page.specs.Pages.{is_spare}
 use Rattle.name_page.proofs.LookLaws.{agrees_now}
+use Rattle.name_btree.specs.Fault.{IsMisfit}
+use Rattle.name_btree.proofs.CauseLaws.{fails_by_map}
 use Rattle.name_btree.proofs.OverLaws.{leaves_over}
 use Rattle.name_btree.specs.Draft.{drafted}
-use Rattle.name_btree.specs.Trim.{MayHave, child_of, entries_at, AreLeavesMended}
+use Rattle.name_btree.specs.Trim.{HasNoLeaf, MayHave, beside, child_of, entries_at, AreLeavesMended}
 use Rattle.name_btree.proofs.MendLaws.{draft_kept, page_kept, left_page, right_page, leaves_at, AreBothLeaves}
 use Rattle.name_btree.proofs.PairLaws.{sides_are}
 use Rattle.name_btree.proofs.ReplaceLaws.{few_in_leaf}
@@ -100,3 +104,25 @@ pub returns-in_err-others-clause-calls : goal.returns-in_err-others-clause-calls
 returns-in_err-others-clause-calls g c =
     let p = err_from_is_err_and c.from_residual.result c.from_residual.ensures.1 in
     rw (p.1, p.2) c.in_err-others.ensures.calls
+
+-- what does not fit between a child's keys is no leaf of it
+no_leaf : (c : Child) (x : Option Content) → content_fits c.low c.high x ≡ false → IsLeaf c x → ⊥
+no_leaf c None out leaf = leaf
+no_leaf c (Some Free) out leaf = leaf
+no_leaf c (Some (Leaf entries)) out leaf = true≢false (sym leaf ∙ out)
+no_leaf c (Some (Interior first separators)) out leaf = leaf
+
+pub returns-in_err-others-clause-fault : goal.returns-in_err-others-clause-fault
+returns-in_err-others-clause-fault g c =
+    let sheets = c.args.draft.now.sheets.items in
+    let above = c.args.above.now in
+    let ways = c.args.ways.now in
+    let cs : List Child = children ways.0 above.low above.high ways.1 in
+    let n = c.child_at-neighbour.result in
+    let there : slice_get cs (beside c.args.i) ≡ Some n = ap (slice_get cs) (sym c.neighbour_of.ensures) ∙ c.child_at-neighbour.ensures in
+    let p = err_from_is_err_and c.from_residual.result c.from_residual.ensures.1 in
+    rw (p.1, p.2) (fails_by_map (g.T.Pages.step c.child_node.new.t) (λ pages. IsMisfit (drafted sheets pages) n) (λ pages. HasNoLeaf (drafted sheets pages) cs c.args.i)
+    (λ images page is h d at leaf root.
+    let same : d ≡ n = cc (there, at) in
+    no_leaf n (page_at (drafted sheets images) n.page) h.1 (subst (λ (x : Child). IsLeaf x (page_at (drafted sheets images) x.page)) same leaf))
+    c.in_err-others.field-0.0 c.in_err-others.ensures.fault)

@@ -1,4 +1,5 @@
 use Rattle.std.proofs.Common.{◌≡◌, ◌∙◌, ◌≤◌, Bool, true, sym, ap, subst, length, ℕ, List, Some, arith, rules}
+use Rattle.std.proofs.lemmas.Bool.{true≢false}
 use Rattle.std.proofs.lemmas.Result.{err_from_is_err_and}
 use Rattle.std.specs.Prelude.{slice_get}
 use Rattle.fsd_formats.specs.declared.page.Separator.{Separator}
@@ -12,9 +13,11 @@ use Rattle.name_page.specs.Node.{content_of}
 use Rattle.name_page.proofs.CountLaws.{few_separators}
 use Rattle.name_page.specs.Pages.{is_spare}
 use Rattle.name_page.proofs.LookLaws.{agrees_now}
+use Rattle.name_btree.specs.Fault.{IsMisfit}
+use Rattle.name_btree.proofs.CauseLaws.{fails_by_map}
 use Rattle.name_btree.proofs.OverLaws.{interiors_over}
 use Rattle.name_btree.specs.Draft.{drafted}
-use Rattle.name_btree.specs.Trim.{MayHave, AreWays, child_of, AreWaysMended, ways_at, is_behind, right_at}
+use Rattle.name_btree.specs.Trim.{HasNoWays, MayHave, AreWays, beside, child_of, AreWaysMended, ways_at, is_behind, right_at}
 use Rattle.name_btree.proofs.DraftLaws.{drafted_length}
 use Rattle.name_btree.proofs.MendLaws.{draft_kept, page_kept, left_page, right_page, ways_found, ways_count}
 use Rattle.name_btree.proofs.PairLaws.{sides_are, same_of}
@@ -122,3 +125,19 @@ pub returns-in_err-others-clause-calls : goal.returns-in_err-others-clause-calls
 returns-in_err-others-clause-calls g c =
     let p = err_from_is_err_and c.from_residual.result c.from_residual.ensures.1 in
     rw (p.1, p.2) c.in_err-others.ensures.calls
+
+pub returns-in_err-others-clause-fault : goal.returns-in_err-others-clause-fault
+returns-in_err-others-clause-fault g c =
+    let sheets = c.args.draft.now.sheets.items in
+    let above = c.args.above.now in
+    let ways = c.args.ways.now in
+    let cs : List Child = children ways.0 above.low above.high ways.1 in
+    let n = c.child_at-neighbour.result in
+    let there : slice_get cs (beside c.args.i) ≡ Some n = ap (slice_get cs) (sym c.neighbour_of.ensures) ∙ c.child_at-neighbour.ensures in
+    let p = err_from_is_err_and c.from_residual.result c.from_residual.ensures.1 in
+    rw (p.1, p.2) (fails_by_map (g.T.Pages.step c.child_node.new.t) (λ pages. IsMisfit (drafted sheets pages) n) (λ pages. HasNoWays (drafted sheets pages) above ways.0 ways.1 c.args.i c.args.few.now.items)
+    (λ images page is h d at root second others has fits s between behind.
+    let same : d ≡ n = cc (there, at) in
+    let yes : content_fits d.low d.high (page_at (drafted sheets images) d.page) ≡ true = ap (content_fits d.low d.high) has ∙ fits in
+    true≢false (sym (subst (λ (x : Child). content_fits x.low x.high (page_at (drafted sheets images) x.page) ≡ true) same yes) ∙ h.1))
+    c.in_err-others.field-0.0 c.in_err-others.ensures.fault)

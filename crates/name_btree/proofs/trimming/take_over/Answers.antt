@@ -1,10 +1,13 @@
-use Rattle.std.proofs.Common.{◌≡◌, ◌∙◌, sym, ap, subst, length, ℕ, List, true, rules}
+use Rattle.std.proofs.Common.{◌≡◌, ◌∙◌, inr, None, sym, ap, subst, length, ℕ, List, true, rules}
 use Rattle.std.proofs.lemmas.Result.{err_from_is_err_and}
 use Rattle.fsd_formats.specs.NamePage.{is_page}
 use Rattle.fsd_table.proofs.PageLaws.{at_is_page}
 use Rattle.name_page.specs.Node.{content_of}
 use Rattle.name_page.proofs.LookLaws.{agrees_now}
+use Rattle.name_btree.proofs.CauseLaws.{fails_by_map}
 use Rattle.name_btree.proofs.OverLaws.{drafted_over}
+use Rattle.name_btree.specs.Trim.{IsFreeOrNone}
+use Rattle.fsd_table.specs.Pages.{page_at}
 use Rattle.name_btree.specs.declared.draft.Sheet.{Sheet}
 use Rattle.name_btree.specs.Draft.{drafted, IsDrafted, with_freed}
 use Rattle.name_btree.proofs.DraftLaws.{drafted_length}
@@ -48,3 +51,11 @@ pub returns-in_err-node-clause-calls : goal.returns-in_err-node-clause-calls
 returns-in_err-node-clause-calls g c =
     let p = err_from_is_err_and c.from_residual.result c.from_residual.ensures.1 in
     rw (p.1, p.2) c.in_err-node.ensures.calls
+
+pub returns-in_err-node-clause-fault : goal.returns-in_err-node-clause-fault
+returns-in_err-node-clause-fault g c =
+    let sheets = c.args.draft.now.sheets.items in
+    let child : ℕ = c.args.child in
+    let None_at : List (List ℕ) → ℕ → Type 0 = λ (pages : List (List ℕ)) (other : ℕ). (other ≡ child) × (page_at (drafted sheets pages) child ≡ None) in
+    let p = err_from_is_err_and c.from_residual.result c.from_residual.ensures.1 in
+    rw (p.1, p.2) (fails_by_map (g.T.Pages.step c.node_at.new.t) None_at (λ pages page. IsFreeOrNone (page_at (drafted sheets pages) child)) (λ images page is h. inr h.1) c.in_err-node.field-0.0 c.in_err-node.ensures.fault)

@@ -6,7 +6,7 @@ use Rattle.fsd_table.specs.declared.child.Child.{Child}
 use Rattle.fsd_table.specs.Pages.{page_at, children, content_fits, keys_fit, separator_keys}
 use Rattle.name_page.specs.Looks.{OnlyWalks}
 use Rattle.name_page.specs.Pages.{Step, is_spare}
-use Rattle.name_page.proofs.LookLaws.{reaches_still, reaches_walks, rest_reaches, walks_then}
+use Rattle.name_page.proofs.LookLaws.{no_more_rested, no_more_still, no_more_then, reaches_still, reaches_walks, rest_reaches, walks_then}
 use Rattle.name_page.specs.declared.node.Node.{Node}
 use Rattle.name_page.specs.Node.{content_of}
 use Rattle.name_btree.specs.Walk.{is_marked, IsWalked, AreWalked, ComesTo, FailsWalk}
@@ -135,6 +135,7 @@ walk_below-returns-in-Interior-clause-fault g t c =
 pub walk_children-loop-i-init : goal.walk_children-loop-i-init
 walk_children-loop-i-init g t c = record {
   calls = reaches_walks g.T.Pages c.args.t.now c.args.t.now (reaches_still g.T.Pages c.args.t.now (g.met.T.Pages.still c.args.t.now));
+  memory = no_more_still g.T.Pages c.args.t.now;
   kept = λ page h. h;
   walked = λ trusted. record { used = tt; subtrees = tt; unmarked = refl; marks = refl; count_is = refl };
 }
@@ -175,6 +176,7 @@ walk_children-loop-i-preserved g t c =
     let calls = c.in_ok-more.ensures.calls in
     record {
       calls = walks_then G g.met.T.Pages.then c.args.t.now c.loop-i.t c.walk_below.new.t c.loop-i.invariant.calls calls;
+      memory = no_more_then G c.args.t.now c.loop-i.t c.walk_below.new.t c.loop-i.invariant.memory c.in_ok-more.ensures.memory;
       kept = λ page h. c.walk_below.ensures.kept page (c.loop-i.invariant.kept page h);
       walked = λ trusted.
           let t = calls.trust trusted in
@@ -282,3 +284,33 @@ walk_children-returns-in_err-more-clause-kept g t c = λ page h. c.walk_below.en
 
 pub walk_children-returns-clause-kept : goal.walk_children-returns-clause-kept
 walk_children-returns-clause-kept g t c = c.loop-i.invariant.kept
+
+-- ---- memory is not wanting
+
+pub walk_below-returns-then-not-is_new-clause-memory : goal.walk_below-returns-then-not-is_new-clause-memory
+walk_below-returns-then-not-is_new-clause-memory g t c = no_more_still g.T.Pages c.args.t.now
+
+pub walk_below-returns-in_err-entries-clause-memory : goal.walk_below-returns-in_err-entries-clause-memory
+walk_below-returns-in_err-entries-clause-memory g t c =
+    let p = err_from_is_err_and c.from_residual.result c.from_residual.ensures.1 in
+    rw (p.1, p.2) (no_more_rested g.T.Pages c.args.t.now c.rest.new.self c.child_node.new.t c.rest.ensures.memory c.in_err-entries.ensures.calls.memory)
+
+pub walk_below-returns-in-Leaf-clause-memory : goal.walk_below-returns-in-Leaf-clause-memory
+walk_below-returns-in-Leaf-clause-memory g t c = no_more_rested g.T.Pages c.args.t.now c.rest.new.self c.child_node.new.t c.rest.ensures.memory c.in_ok-entries.ensures.calls.memory
+
+pub walk_below-returns-in_default-clause-memory : goal.walk_below-returns-in_default-clause-memory
+walk_below-returns-in_default-clause-memory g t c = no_more_rested g.T.Pages c.args.t.now c.rest.new.self c.child_node.new.t c.rest.ensures.memory c.in_ok-entries.ensures.calls.memory
+
+pub walk_below-returns-in-Interior-clause-memory : goal.walk_below-returns-in-Interior-clause-memory
+walk_below-returns-in-Interior-clause-memory g t c =
+    let P = g.T.Pages in
+    let mid = c.child_node.new.t in
+    no_more_then P c.args.t.now mid c.walk_children.new.t (no_more_rested P c.args.t.now c.rest.new.self mid c.rest.ensures.memory c.in_ok-entries.ensures.calls.memory) c.walk_children.ensures.memory
+
+pub walk_children-returns-in_err-more-clause-memory : goal.walk_children-returns-in_err-more-clause-memory
+walk_children-returns-in_err-more-clause-memory g t c =
+    let p = err_from_is_err_and c.from_residual.result c.from_residual.ensures.1 in
+    rw (p.1, p.2) (no_more_then g.T.Pages c.args.t.now c.loop-i.t c.walk_below.new.t c.loop-i.invariant.memory c.in_err-more.ensures.memory)
+
+pub walk_children-returns-clause-memory : goal.walk_children-returns-clause-memory
+walk_children-returns-clause-memory g t c = c.loop-i.invariant.memory

@@ -4,7 +4,7 @@ use Rattle.fsd_formats.specs.NamePage.{Leaf, Interior}
 use Rattle.fsd_table.specs.Pages.{page_at, children}
 use Rattle.fsd_table.specs.declared.child.Child.{Child}
 use Rattle.name_page.specs.Pages.{Step, reaches, rested}
-use Rattle.name_page.proofs.LookLaws.{reaches_still, reaches_walks, rest_reaches, walks_then}
+use Rattle.name_page.proofs.LookLaws.{no_more_rested, no_more_still, no_more_then, reaches_still, reaches_walks, rest_reaches, walks_then}
 use Rattle.name_page.specs.declared.node.Node.{Node}
 use Rattle.name_page.specs.Node.{content_of}
 use Rattle.name_btree.specs.Fault.{BarsPage}
@@ -16,6 +16,7 @@ use Rattle.name_btree.proofs.walking.top_level.Goals as goal
 pub loop-level-init : goal.loop-level-init
 loop-level-init g c = record {
   calls = reaches_walks g.T.Pages c.args.t.now c.args.t.now (reaches_still g.T.Pages c.args.t.now (g.met.T.Pages.still c.args.t.now));
+  memory = no_more_still g.T.Pages c.args.t.now;
   within = λ some. subst (λ (d : Child). d.page < length (g.T.Pages.step c.args.t.now).images) (sym c.top-child.ensures) some;
   down = λ t. down_begins (g.T.Pages.step c.args.t.now).images c.top-child.result c.top-child.ensures;
 }
@@ -66,6 +67,7 @@ loop-level-preserved g c =
     let ways = c.in-Interior.ways in
     record {
       calls = all;
+      memory = no_more_then G old c.loop-level.t new c.loop-level.invariant.memory (no_more_rested G c.loop-level.t c.rest.new.self new c.rest.ensures.memory c.in_ok-child_node.ensures.calls.memory);
       within = λ some.
           let at = c.in_ok-child_node.ensures.node ∙ ap (λ (n : Node). Some (content_of n)) c.in-Interior.is in
           let kids = ways_within (G.step new).images child.page ways.0 ways.1 child.low child.high at in
@@ -101,3 +103,27 @@ returns-in-Free-clause-among g c = λ some. c.loop-level.invariant.within some
 
 pub returns-clause-among : goal.returns-clause-among
 returns-clause-among g c = λ some. c.loop-level.invariant.within some
+
+-- ---- memory is not wanting
+
+pub returns-in_err-child_node-clause-memory : goal.returns-in_err-child_node-clause-memory
+returns-in_err-child_node-clause-memory g c =
+    let P = g.T.Pages in
+    let new = c.child_node.new.t in
+    let p = err_from_is_err_and c.from_residual.result c.from_residual.ensures.1 in
+    rw (p.1, p.2) (no_more_then P c.args.t.now c.loop-level.t new c.loop-level.invariant.memory (no_more_rested P c.loop-level.t c.rest.new.self new c.rest.ensures.memory c.in_err-child_node.ensures.calls.memory))
+
+pub returns-in-Free-clause-memory : goal.returns-in-Free-clause-memory
+returns-in-Free-clause-memory g c =
+    let P = g.T.Pages in
+    let new = c.child_node.new.t in
+    no_more_then P c.args.t.now c.loop-level.t new c.loop-level.invariant.memory (no_more_rested P c.loop-level.t c.rest.new.self new c.rest.ensures.memory c.in_ok-child_node.ensures.calls.memory)
+
+pub returns-in-Leaf-clause-memory : goal.returns-in-Leaf-clause-memory
+returns-in-Leaf-clause-memory g c =
+    let P = g.T.Pages in
+    let new = c.child_node.new.t in
+    no_more_then P c.args.t.now c.loop-level.t new c.loop-level.invariant.memory (no_more_rested P c.loop-level.t c.rest.new.self new c.rest.ensures.memory c.in_ok-child_node.ensures.calls.memory)
+
+pub returns-clause-memory : goal.returns-clause-memory
+returns-clause-memory g c = c.loop-level.invariant.memory

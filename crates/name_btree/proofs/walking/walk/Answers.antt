@@ -1,6 +1,6 @@
 use Rattle.std.proofs.Common.{◌≡◌, ◌∙◌, length, sym, subst, List, [], ◌∷◌, ℕ, Bool, ◌<◌, true}
 use Rattle.std.proofs.lemmas.Result.{err_from_is_err_and}
-use Rattle.name_page.proofs.LookLaws.{walks_then}
+use Rattle.name_page.proofs.LookLaws.{no_more_then, walks_then}
 use Rattle.std.specs.Prelude.{IfErr}
 use Rattle.fsd_table.specs.declared.child.Child.{Child}
 use Rattle.name_btree.specs.Fault.{FailsTable, IsAmong}
@@ -67,3 +67,13 @@ returns-clause-root g c =
     let after = c.walk_below.new.reached in
     let root = subst (λ (d : Child). is_marked after d.page ≡ true) c.top.ensures c.walk_below.ensures.marked in
     ok_more c.walk_below.result (λ n. G.trusted c.walk_below.new.t → IsWalked (G.step mid).spares c.in_ok-level.level (G.step mid).images c.top.result before after n) (λ n. is_marked after 0 ≡ true) (λ n w. root) c.walk_below.ensures.walked
+
+-- ---- memory is not wanting
+
+pub returns-clause-memory : goal.returns-clause-memory
+returns-clause-memory g c = no_more_then g.T.Pages c.args.t.now c.top_level.new.t c.walk_below.new.t c.in_ok-level.ensures.memory c.walk_below.ensures.memory
+
+pub returns-in_err-level-clause-memory : goal.returns-in_err-level-clause-memory
+returns-in_err-level-clause-memory g c =
+    let p = err_from_is_err_and c.from_residual.result c.from_residual.ensures.1 in
+    rw (p.1, p.2) c.in_err-level.ensures.memory

@@ -2,9 +2,9 @@ use Rattle.std.proofs.Common.{◌≡◌, ℕ, ◌+◌, ◌≤◌, drop, refl, ap
 use Rattle.std.specs.Prelude.{slice_range, Ok}
 use Rattle.fsd_bytes.specs.Bytes.{u8_at}
 use Rattle.name_page.specs.Reading.{entry_at}
-use Rattle.name_page.proofs.PieceLaws.{count_runs}
 use Rattle.name_page.proofs.ReadingLaws.{named_entry, runs_few}
 use Rattle.name_page.proofs.reading.entry_at.Goals as goal
+use Rattle.run_table.proofs.RunLaws.{count_runs}
 
 pub unwrap-requires : goal.unwrap-requires
 unwrap-requires c =

@@ -1,4 +1,11 @@
-use Rattle.std.proofs.Common.{◌∙◌, sym, ap, subst}
+use Rattle.std.proofs.Common.{◌≡◌, ◌∙◌, ℕ, List, sym, ap, subst}
+use Rattle.std.proofs.lemmas.Result.{err_from_is_err_and}
+use Rattle.fsd_table.specs.Breaks.{Breaks}
+use Rattle.fsd_table.specs.Tree.{IsTree}
+use Rattle.name_btree.specs.Fault.{BarsTable}
+use Rattle.name_btree.proofs.CauseLaws.{cause_map}
+use Rattle.table_survey.specs.Claims.{whole_area}
+use Rattle.volume_layout.specs.declared.layout.Layout.{Layout}
 use Rattle.run_table.specs.Space.{contains}
 use Rattle.sector_set.specs.Area.{Area, IsOwn, area}
 use Rattle.table_survey.proofs.ClaimLaws.{whole_own}
@@ -36,3 +43,21 @@ returns-clause-unbroken g c = λ trusted.
     let t = second.calls.trust trusted in
     let claims = claims_then l c.args.map.now free s.images (G.step c.walk.new.t).images (first.calls.stays t) c.requires.map (second.claimed trusted) in
     unbroken l s c.walk.new.reached free c.in_ok-versions.versions (first.counted t) claims
+
+-- where the sectors are refused the pages are a tree, since the walk has ended
+pub returns-in_err-claim_all-clause-fault : goal.returns-in_err-claim_all-clause-fault
+returns-in_err-claim_all-clause-fault g c =
+    let G = g.T.Pages in
+    let l = c.args.l.now in
+    let new = c.claim_all.new.t in
+    let s = G.step new in
+    let first = c.in_ok-versions.ensures in
+    let second = c.in_err-claim_all.ensures.calls in
+    let p = err_from_is_err_and c.from_residual-in_err-claim_all.result c.from_residual-in_err-claim_all.ensures.1 in
+    rw (p.1, p.2) (cause_map s (λ page. G.trusted new → (k : Layout) → c.args.map.now ≡ whole_area k → (height : ℕ) → IsTree s.images height → Breaks k s.images page) (λ page. G.trusted new → Breaks l s.images page)
+    (λ page. G.trusted new → BarsTable s page) (λ page. G.trusted new → BarsTable s page)
+    (λ page b trusted.
+    let t = second.trust trusted in
+    let counted = first.counted t in
+    b trusted l c.requires.map counted.height (subst (λ (pages : List (List ℕ)). IsTree pages counted.height) (sym (second.stays trusted ∙ first.calls.stays t)) counted.tree))
+    (λ page b. b) c.in_err-claim_all.field-0.0 c.in_err-claim_all.ensures.fault)

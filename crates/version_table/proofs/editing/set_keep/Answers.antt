@@ -5,6 +5,7 @@ use Rattle.fsd_files.specs.Answers.{entries_with_keep}
 use Rattle.fsd_table.specs.Tree.{table_of}
 use Rattle.name_btree.specs.Replace.{HasAsLong}
 use Rattle.name_page.specs.Edits.{put}
+use Rattle.name_page.proofs.LookLaws.{all_stay}
 use Rattle.version_table.proofs.EnterLaws.{as_long, copy_kept, copy_long}
 use Rattle.version_table.proofs.StepLaws.{rested_pages, for_rested, makes_rested, tree_ascends, way_later}
 use Rattle.version_table.proofs.editing.set_keep.Goals as goal
@@ -41,3 +42,6 @@ returns-clause-pages g c =
 -- memory is not wanting
 pub returns-clause-memory : goal.returns-clause-memory
 returns-clause-memory g c = λ way. c.replace_same_size.ensures.memory c.args.version.now (copy_long c.args.version.now c.copied-entry.result c.args.keep c.copied-entry.ensures) (way_later g.T.Pages c.args.t.now c.rest.new.self c.rest.ensures.memory c.args.version.now way)
+
+pub returns-clause-full : goal.returns-clause-full
+returns-clause-full g c = λ all. c.replace_same_size.ensures.full (all_stay g.T.Pages c.args.t.now c.rest.new.self c.rest.ensures.memory all)

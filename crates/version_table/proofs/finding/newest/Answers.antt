@@ -5,7 +5,7 @@ use Rattle.name_btree.specs.declared.lookup.FoundEntry.{FoundEntry}
 use Rattle.name_btree.specs.Path.{HasWayTo}
 use Rattle.fsd_files.specs.Answers.{highest_entry}
 use Rattle.name_page.specs.Lookups.{highest_of}
-use Rattle.name_page.proofs.LookLaws.{memory_then}
+use Rattle.name_page.proofs.LookLaws.{memory_then, no_more_rested}
 use Rattle.version_table.proofs.VersionLaws.{highest_is}
 use Rattle.version_table.proofs.StepLaws.{found_rested, path_later}
 use Rattle.version_table.proofs.finding.newest.Goals as goal
@@ -37,3 +37,12 @@ returns-in-Ok-Some-clause-back g c = λ path.
     let new = c.highest.new.t in
     subst (λ (r : Result (Option FoundEntry) TreeFault). IfOk r (λ found. IfSome found (λ f. HasWayTo P f.entry new))) (c.in-Ok-Some.is ∙ ap Ok c.in-Ok-Some.field-0-is)
     (c.highest.ensures.back (path_later P c.args.t.now c.rest.new.self c.rest.ensures.memory c.args.name.now path))
+
+pub returns-in-Ok-Some-clause-full : goal.returns-in-Ok-Some-clause-full
+returns-in-Ok-Some-clause-full g c = no_more_rested g.T.Pages c.args.t.now c.rest.new.self c.highest.new.t c.rest.ensures.memory (rw c.in-Ok-Some.is at c.highest.ensures.calls.memory)
+
+pub returns-in-Ok-None-clause-full : goal.returns-in-Ok-None-clause-full
+returns-in-Ok-None-clause-full g c = no_more_rested g.T.Pages c.args.t.now c.rest.new.self c.highest.new.t c.rest.ensures.memory (rw c.in-Ok-None.is at c.highest.ensures.calls.memory)
+
+pub returns-in-Err-clause-full : goal.returns-in-Err-clause-full
+returns-in-Err-clause-full g c = no_more_rested g.T.Pages c.args.t.now c.rest.new.self c.highest.new.t c.rest.ensures.memory (rw c.in-Err.is at c.highest.ensures.calls.memory)

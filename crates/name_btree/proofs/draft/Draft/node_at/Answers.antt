@@ -8,12 +8,13 @@ use Rattle.name_page.proofs.LookLaws.{reaches_still, agrees_at}
 use Rattle.name_page.specs.declared.node.Node.{Node}
 use Rattle.name_btree.specs.declared.fault.TreeFault.{TreeFault}
 use Rattle.name_btree.specs.Fault.{HasCause, FailsBy, Never, BarsPage}
-use Rattle.name_btree.proofs.CauseLaws.{if_err_more, fails_at}
+use Rattle.name_btree.proofs.CauseLaws.{fails_at}
 use Rattle.fsd_table.specs.Pages.{page_at}
 use Rattle.name_btree.specs.Draft.{last_sheet, drafted}
 use Rattle.name_page.specs.Node.{content_of}
 use Rattle.name_btree.proofs.DraftLaws.{sheet_is, sheet_has, sheets_kept, drafted_at, by_sheet}
 use Rattle.name_btree.proofs.draft.Draft.node_at.Goals as goal
+use Rattle.name_btree.proofs.ResultLaws.{err_more}
 
 pub node_in-requires : goal.node_in-requires
 node_in-requires g c =
@@ -80,5 +81,5 @@ returns-in-None-clause-fault g c =
     let none : last_sheet page sheets ≡ None = ap (last_sheet page) (sym c.as_slice.ensures) ∙ sym c.in-None.ensures in
     let count = c.node_at.ensures.calls.looks.count in
     let B : List (List ℕ) → ℕ → Type 0 = λ (pages : List (List ℕ)) (other : ℕ). (other ≡ page) × (page_at (drafted sheets pages) page ≡ None) in
-    if_err_more c.node_at.result (HasCause new Never (BarsPage new page)) (FailsBy new B)
+    err_more c.node_at.result (HasCause new Never (BarsPage new page)) (FailsBy new B)
     (λ fault h. fails_at new page B (λ pages agrees out. (refl, drafted_at sheets pages page (subst (λ (n : ℕ). page < n) (sym (agrees.count ∙ count)) c.requires.within) ∙ ap (by_sheet page pages) none ∙ out)) fault h) c.node_at.ensures.fault

@@ -13,7 +13,7 @@ use Rattle.table_pages.proofs.LastLaws.{Lasts}
 use Rattle.table_pages.proofs.PinLaws.{set_only, only_there, same_there}
 use Rattle.table_pages.proofs.SpareLaws.{room_pins, kept_pins, fetches_pins}
 use Rattle.table_pages.proofs.KeptLaws.{kept_room, kept_brought, kept_reached, fetched_images}
-use Rattle.table_pages.proofs.StepLaws.{within_free, within_pages, page_in, barred, fetched_keeps, hit_images, refused_bars}
+use Rattle.table_pages.proofs.StepLaws.{at_hand, within_free, within_pages, page_in, barred, fetched_keeps, hit_images, refused_bars}
 use Rattle.table_pages.proofs.table.TablePages.reach.Given as given
 use Rattle.table_pages.proofs.table.TablePages.reach.Goals as goal
 use Rattle.table_pages.proofs.table.TablePages.reach.Goals.{After-bring_used, After-keep}
@@ -150,17 +150,19 @@ returns-in-Err-clause-outside g c =
 -- ---- memory is not wanting
 
 pub returns-in-Ok-clause-memory : goal.returns-in-Ok-clause-memory
-returns-in-Ok-clause-memory g c = λ there.
+returns-in-Ok-clause-memory g c = λ hand.
     let t = c.args.self.now in
     let mid = c.bring_used.new.cache in
     let new = c.keep.new.cache in
     let only = set_only mid new c.args.page (pins_of mid c.args.page + 1) c.keep.ensures.pinned in
-    let hit : IsHit t.m.now c.bring_used.new.m t.cache.now new = record { machine = (c.in-Ok.ensures.hit there.1).machine; bytes = λ q. only.bytes q ∙ (c.in-Ok.ensures.hit there.1).bytes q } in
+    let before = c.in-Ok.ensures.hit (at_hand t c.args.page hand) in
+    let hit : IsHit t.m.now c.bring_used.new.m t.cache.now new = record { machine = before.machine; bytes = λ q. only.bytes q ∙ before.bytes q } in
     record { images = hit_images t c.bring_used.new.m new hit; spares = refl; stays = λ q is. (is.0, same_there t.cache.now new hit.bytes q is.1); enough = λ is. cc is }
 
 pub returns-in-Err-clause-memory : goal.returns-in-Err-clause-memory
-returns-in-Err-clause-memory g c = λ there.
+returns-in-Err-clause-memory g c = λ hand.
     let t = c.args.self.now in
     let new = c.bring_used.new.cache in
-    let hit = c.in-Err.ensures.hit there.1 in
-    record { images = hit_images t c.bring_used.new.m new hit; spares = refl; stays = λ q is. (is.0, same_there t.cache.now new hit.bytes q is.1); enough = c.in-Err.ensures.memory there.1 }
+    let at = at_hand t c.args.page hand in
+    let hit = c.in-Err.ensures.hit at in
+    record { images = hit_images t c.bring_used.new.m new hit; spares = refl; stays = λ q is. (is.0, same_there t.cache.now new hit.bytes q is.1); enough = c.in-Err.ensures.memory at }
