@@ -21,6 +21,7 @@ use Rattle.name_btree.specs.Fault.{BarsTable, HasCause}
 use Rattle.version_table.specs.declared.fault.VersionFault.{VersionFault}
 use Rattle.version_table.specs.declared.fault.VersionFault.TheVariants.{Table as InTable, NoSuch, VersionsUsedUp}
 use Rattle.name_btree.specs.Map.{HasTable, IsTable}
+use Rattle.name_btree.proofs.CallLaws.{same_table}
 use Rattle.table_pages.specs.Bringing.{IsTrusted, OnlyPins, given_by}
 use Rattle.table_pages.specs.Kept.{IsReady}
 use Rattle.table_pages.specs.ImageLaws.{image_count}
@@ -33,7 +34,6 @@ use Rattle.cached_table.proofs.LookLaws.{fault_there}
 use Rattle.cached_table.specs.Entering.{EntersNoneIn, LosesUntaken, OfTableIn, RefusesFor}
 use Rattle.cached_table.proofs.EnteringLaws.{refuses_so}
 use Rattle.version_table.specs.Versions.{next_key}
-use Rattle.version_table.proofs.StepLaws.{same_table}
 
 same_entries : (a b : Step) (table : List Entry) → b.images ≡ a.images → b.spares ≡ a.spares → HasTable a table → HasTable b table
 same_entries a b table images spares has = record {

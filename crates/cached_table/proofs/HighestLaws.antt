@@ -16,12 +16,13 @@ use Rattle.name_btree.specs.declared.fault.TreeFault.{TreeFault}
 use Rattle.name_btree.specs.declared.fault.TreeFault.TheVariants.{Pages, Broken}
 use Rattle.name_btree.specs.Fault.{BarsTable, HasCause}
 use Rattle.name_btree.specs.Map.{HasTable, IsTable}
+use Rattle.name_btree.proofs.CallLaws.{same_table}
 use Rattle.version_table.specs.declared.fault.VersionFault.{VersionFault}
 use Rattle.version_table.specs.declared.fault.VersionFault.TheVariants.{Table, NoSuch, VersionsUsedUp}
 use Rattle.version_table.specs.Fault.{FailsLook}
 use Rattle.version_table.specs.Table.{MakesTable, OfTable}
 use Rattle.version_table.proofs.PlanLaws.{each_found, each_kept}
-use Rattle.version_table.proofs.StepLaws.{tree_ascends, same_table}
+use Rattle.version_table.proofs.StepLaws.{tree_ascends}
 use Rattle.cached_table.specs.Editing.{ChangesNone, KeepFails, SetsKeep}
 
 last_one : (P : Entry → Type 0) (o : Option Entry) (xs : List Entry) → IfSome o P → AllByRecursion P xs → IfSome (last_or o xs) P

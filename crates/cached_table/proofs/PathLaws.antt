@@ -1,5 +1,5 @@
--- The path of a name in the cache, and over its pages.
-use Rattle.std.proofs.Common.{◌≡◌, ℕ, zero, suc, Bool, true, false, cond, List, [], ◌∷◌, length, Option, Some, None, IsSome, refl, sym, ap, subst, ◌∙◌}
+-- The path of a name in the cache, or all pages in use, and over its pages.
+use Rattle.std.proofs.Common.{◌≡◌, ◌<◌, ℕ, zero, suc, Bool, true, false, cond, List, [], ◌∷◌, length, Option, Some, None, IsSome, refl, sym, ap, subst, ◌∙◌}
 use Rattle.std.specs.Prelude.{option_and_then}
 use Rattle.std.specs.Borrow.{MutBor}
 use Rattle.std.specs.List.{AllByRecursion, list_any}
@@ -15,13 +15,13 @@ use Rattle.sector_disk.specs.declared.machine.Machine.{Ghosts as MachineGhosts}
 use Rattle.page_cache.specs.declared.source.PageSource.{Ghosts as SourceGhosts}
 use Rattle.page_cache.specs.Cache.{CacheValue, IsResident, bytes_of}
 use Rattle.page_cache.proofs.KeepLaws.{bytes_resident}
-use Rattle.name_page.specs.Pages.{NeedsNoMemory}
+use Rattle.name_page.specs.Pages.{NeedsNoMemory, is_spare}
 use Rattle.page_cache.specs.Accepted.{content_in}
 use Rattle.table_pages.specs.Bringing.{given_by}
 use Rattle.table_pages.specs.Table.{HasPage, IsOver, step_of}
 use Rattle.table_pages.specs.declared.table.Table.{Table}
-use Rattle.table_pages.proofs.StepLaws.{page_in}
-use Rattle.cached_table.specs.Looking.{HasIn, HasPathIn}
+use Rattle.table_pages.proofs.StepLaws.{page_in, within_free}
+use Rattle.cached_table.specs.Looking.{HasAllUsed, HasIn, HasPathIn}
 
 -- ---- where what is met has the same elsewhere
 
@@ -114,3 +114,20 @@ module _ {D E : Type 0} {M : MachineGhosts D} {S : SourceGhosts E} where
         } in
         let same : c.free.now ≡ free.now = rested.spares ∙ met.spares ∙ ap (λ (f : MutBor (List Bool)). f.now) over.spared in
         subst (HasPathIn (length free.now) name) (sym left) (subst (λ (f : List Bool). HasPathIn (length f) name c.cache.now) same last)
+
+  -- ---- where all pages in use are in the cache
+
+  module _ (m : MutBor D) (cache : MutBor CacheValue) (source : E) (free : MutBor (List Bool)) (a : Table D E M S) (over : IsOver m cache source free a) where
+    used_here : HasAllUsed free.now cache.now → HasAllUsed a.free.now a.cache.now
+    used_here all = subst (λ (f : MutBor (List Bool)). HasAllUsed f.now a.cache.now) (sym over.spared) (subst (λ (x : MutBor CacheValue). HasAllUsed free.now x.now) (sym over.cached) all)
+
+    -- as the pages see it
+    pub used_first : HasAllUsed free.now cache.now → (page : ℕ) → page < length (step_of a).images → is_spare (step_of a).spares page ≡ false → HasPage a page
+    used_first all page lt used = let within = within_free a page lt in (within, (used_here all).each page within used)
+
+    -- they still are once a look-up has ended
+    pub used_left : (b c : Table D E M S) (refusal : Option Refusal) → NeedsNoMemory step_of HasPage refusal a b → NeedsNoMemory step_of HasPage None b c
+        → (cache' : CacheValue) → cache' ≡ c.cache.now → HasAllUsed free.now cache.now → HasAllUsed free.now cache'
+    used_left b c refusal looked rested cache' left all =
+        let last : HasAllUsed a.free.now c.cache.now = record { each = λ page lt used. (rested.stays page (looked.stays page (lt, (used_here all).each page lt used))).1 } in
+        subst (HasAllUsed free.now) (sym left) (subst (λ (f : MutBor (List Bool)). HasAllUsed f.now c.cache.now) over.spared last)

@@ -8,7 +8,7 @@ use Rattle.sector_disk.specs.declared.machine.Machine.{Ghosts as MachineGhosts}
 use Rattle.sector_disk.specs.Calls.{OnlyReads}
 use Rattle.sector_disk.specs.Machine.{Moment}
 use Rattle.page_cache.specs.declared.source.PageSource.{Ghosts as SourceGhosts}
-use Rattle.page_cache.specs.Cache.{AreNewest, CacheValue, bytes_of, is_one_of, newest}
+use Rattle.page_cache.specs.Cache.{AreNewest, CacheValue, IsResident, bytes_of, is_one_of, newest}
 use Rattle.page_cache.specs.Accepted.{content_in}
 use Rattle.table_pages.specs.Bringing.{IsTrusted, given_by, home_in}
 use Rattle.table_pages.specs.Kept.{IsReady, images_of}
@@ -44,6 +44,14 @@ HasIn c count page = (page < count) × IsSome (content_in c count page)
 -- so are all that the search for the highest version of a name meets
 pub record HasPathIn (count : ℕ) (name : List ℕ) (c : CacheValue) : Type 0 where
   pub all : AllByRecursion (HasIn c count) (path_of (content_in c count) name)
+
+-- each page of the table is in the cache, but for those that are free
+pub record HasAllUsed (free : List Bool) (c : CacheValue) : Type 0 where
+  pub each : (page : ℕ) → page < length free → is_spare free page ≡ false → IsResident c page
+
+-- either will do, so that a search for the name takes no memory
+abbrev pub HasEnoughIn : (free : List Bool) (name : List ℕ) → CacheValue → Type 0
+HasEnoughIn free name c = HasPathIn (length free) name c ⊎ HasAllUsed free c
 
 -- so many pages, with the bytes of those that the cache has
 pub record HavePages (c : CacheValue) (count : ℕ) (pages : List (List ℕ)) : Type 0 where

@@ -1,5 +1,5 @@
 //! Edits of a table over a cache.
-ghost use Rattle.std.specs.Prelude.{◌≤◌, ◌∷◌, [], ◌≡◌, ℕ, IfOk, IfErr, OnErr, OnOk, Some, length};
+ghost use Rattle.std.specs.Prelude.{◌≤◌, ◌∷◌, [], ◌≡◌, ◌⊎◌, ℕ, IfOk, IfErr, OnErr, OnOk, Some, length};
 ghost use Rattle.fsd_bytes.specs.declared.refusal.Refusal.TheVariants.{Memory};
 ghost use Rattle.fsd_files.specs.Volume.{entries_without};
 ghost use Rattle.name_btree.specs.Fault.{outer_told};
@@ -7,11 +7,11 @@ ghost use Rattle.group_commit.specs.Cached.{AreWaiting};
 ghost use Rattle.name_btree.specs.Map.{IsTable};
 ghost use Rattle.name_btree.specs.Path.{HasPath};
 ghost use Rattle.name_page.specs.declared.pages.TheConstants.{MOST_CHANGED, MOST_REACHED};
-ghost use Rattle.name_page.specs.Looks.{ChangesPages, OnlyEdits};
+ghost use Rattle.name_page.specs.Looks.{ChangesPages, HasAllIn, OnlyEdits};
 ghost use Rattle.name_page.specs.Pages.{changes};
 ghost use Rattle.version_table.specs.Fault.{outer_met};
 ghost use Rattle.table_pages.specs.Kept.{IsReady};
-ghost use Rattle.cached_table.specs.Looking.{HasPathIn};
+ghost use Rattle.cached_table.specs.Looking.{HasEnoughIn};
 ghost use Rattle.cached_table.specs.Editing.{ChangesNone, ChangesOne, FaultsEdit, FaultsKeep, KeepFails, DirtiesAtMost, DirtiesOne, EditsOnly, EditsTable, SetsKeep, SetsKeepIn, StaysIn};
 
 use crate::looking::let_go;
@@ -59,7 +59,7 @@ fn keep_at<T: Pages>(t: &mut T, name: &FileName, keep: u32) -> Result<Key, Versi
     ensures pages { ChangesPages (T.step t.old) (T.step t.new) }
     ensures name { IfOk result (λ key. key.name ≡ name.now) }
     ensures one { IfOk result (λ key. ChangesOne (T.step t.old) (T.step t.new)) }
-    ensures memory { HasPath T.Pages name.now t.old → outer_met result ≡ Some Memory → ⊥ }
+    ensures memory { HasPath T.Pages name.now t.old ⊎ HasAllIn T.Pages t.old → outer_met result ≡ Some Memory → ⊥ }
     ensures fault { IfErr result (KeepFails (T.trusted t.new) (T.step t.old) (T.step t.new) name.now) }
     ensures set { IfOk result (λ key. T.trusted t.new → (height : ℕ) → IsTable (T.step t.old) height → SetsKeep (T.step t.old) (T.step t.new) name.now keep key height) }
 {
@@ -89,7 +89,7 @@ pub fn set_keep_in<M: Machine, S: PageSource>(
     ensures waiting { AreWaiting (length free.old) cache.old → AreWaiting (length free.old) cache.new }
     ensures name { IfOk result (λ key. key.name ≡ name.now) }
     ensures one { IfOk result (λ key. DirtiesOne (length free.old) cache.old cache.new) }
-    ensures memory { HasPathIn (length free.old) name.now cache.old → outer_met result ≡ Some Memory → ⊥ }
+    ensures memory { HasEnoughIn free.old name.now cache.old → outer_met result ≡ Some Memory → ⊥ }
     ensures fault { IfErr result (FaultsKeep M.Machine S.PageSource source.now m.old m.new cache.old cache.new free.old free.new home_a name.now) }
     ensures set { IfOk result (SetsKeepIn M.Machine S.PageSource source.now m.old m.new cache.old cache.new free.old free.new name.now keep) }
 {

@@ -9,7 +9,7 @@ ghost use Rattle.fsd_table.specs.Tree.{IsTree, table_of};
 ghost use Rattle.name_page.specs.Lookups.{entry_after, entry_with, highest_of, is_after};
 ghost use Rattle.name_btree.specs.Fault.{outer_told};
 ghost use Rattle.name_btree.specs.Lookup.{entry_of};
-ghost use Rattle.cached_table.specs.Looking.{FaultsOver, HasPathIn, HavePages, LeadsTo, LooksOnly, ShowsFault, images_by, told};
+ghost use Rattle.cached_table.specs.Looking.{FaultsOver, HasAllUsed, HasEnoughIn, HasPathIn, HavePages, LeadsTo, LooksOnly, ShowsFault, images_by, told};
 
 use fsd_bytes::{FileName, Key, Refusal};
 use name_btree::{FoundEntry, TreeFault, find, highest, next_after};
@@ -92,8 +92,9 @@ pub fn highest_in<M: Machine, S: PageSource>(
     requires { IsReady M.Machine S.PageSource m.old cache.old source.now free.old }
     ensures looks { LooksOnly M.Machine S.PageSource source.now (outer_told result) m.old m.new cache.old cache.new free.old }
     ensures free { free.new ≡ free.old }
-    ensures memory { HasPathIn (length free.old) name.now cache.old → outer_told result ≡ Some Memory → ⊥ }
+    ensures memory { HasEnoughIn free.old name.now cache.old → outer_told result ≡ Some Memory → ⊥ }
     ensures stays { HasPathIn (length free.old) name.now cache.old → HasPathIn (length free.old) name.now cache.new }
+    ensures all_stay { HasAllUsed free.old cache.old → HasAllUsed free.old cache.new }
     ensures page { IfOk result (λ found. IfSome found (λ f. f.page < length free.old)) }
     ensures name { IfOk result (λ found. IfSome found (λ f. f.entry.key.name ≡ name.now)) }
     ensures way { IfOk result (λ found. IfSome found (λ f. (pages : List (List ℕ)) → HavePages cache.new (length free.old) pages → LeadsTo pages f)) }

@@ -3,7 +3,7 @@ ghost use Rattle.std.specs.Prelude.{◌≡◌, ◌<◌, ◌≤◌, Contains, IfO
 ghost use Rattle.sector_disk.specs.Calls.{OnlyReads, device_in};
 ghost use Rattle.fsd_formats.specs.NamePage.{is_entry};
 ghost use Rattle.fsd_files.specs.Answers.{entry_of, entry_reply};
-ghost use Rattle.volume_contract.specs.Causes.{Causes};
+ghost use Rattle.volume_contract.specs.Causes.{Causes, IsTaken};
 ghost use Rattle.volume_contract.specs.Ends.{Looks, device_of, found_one};
 ghost use Rattle.volume_contract.specs.Order.{Follows, IsLookUp, entry_steps, is_idle};
 ghost use Rattle.volume_contract.specs.State.{Known, Stands, volume_of};
@@ -37,6 +37,7 @@ impl Volume {
         ensures stands { M.honest m.new → (k : Known) → Stands state Holds self.old k (M.now m.old) → Stands state Holds self.new k (M.now m.new) }
         ensures found { M.honest m.new → (k : Known) → Stands state Holds self.old k (M.now m.old) → Finds (entry_of key.now (volume_of k).entries) result }
         ensures taken { M.honest m.new → (k : Known) → Stands state Holds self.old k (M.now m.old) → (e : Entry) → Contains (volume_of k).entries e → IsTrue (are_taken self.new e.runs) }
+        ensures told { (e : Entry) → IsTrue (are_taken self.new e.runs) → IsTaken (state self.new) e }
         ensures causes { Causes M.Machine (resident self.old) (state self.old) (state self.new) m.old m.new result }
         ensures met { IfOk result (λ found. IfSome found (λ f. Causes M.Machine (resident self.old) (state self.old) (state self.new) m.old m.new (met_entry self.new f.page f.entry))) }
     {
@@ -62,6 +63,7 @@ impl Volume {
         ensures state { state self.new ≡ state self.old }
         ensures idle { IsTrue (is_idle (entry_steps (state self.old))) → m.new ≡ m.old }
         ensures key { IfOk result (λ e. e.key ≡ key.now) }
+        ensures taken { IfOk result (IsTaken (state self.new)) }
         ensures stands { M.honest m.new → (k : Known) → Stands state Holds self.old k (M.now m.old) → Stands state Holds self.new k (M.now m.new) }
         ensures causes { Causes M.Machine (resident self.old) (state self.old) (state self.new) m.old m.new result }
         ensures done { M.honest m.new → (k : Known) → Stands state Holds self.old k (M.now m.old) → Looks (entry_reply (volume_of k) key.now) (found_one result) }

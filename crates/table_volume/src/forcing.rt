@@ -2,6 +2,7 @@
 ghost use Rattle.std.specs.Prelude.{◌≡◌, ◌≤◌, IfOk, IsFalse, IsTrue, MatchResult, OnErr, OnOk, length};
 ghost use Rattle.sector_disk.specs.Calls.{WritesDisk, device_in};
 ghost use Rattle.volume_contract.specs.Causes.{Causes};
+ghost use Rattle.volume_contract.specs.Logged.{AllLogged, KeepsPages};
 ghost use Rattle.volume_contract.specs.Ends.{device_of, Closes, EndsForce};
 ghost use Rattle.fsd_sound.specs.Writes.{force_writes};
 ghost use Rattle.volume_contract.specs.State.{Counted, GoesOn, IsForced as HasForced, Known, Leaves, Stands, downs, enters_again, force_len, volume_of};
@@ -54,6 +55,8 @@ impl Volume {
         ensures state { GoesOn (downs result) (state self.old) (state self.new) }
         ensures idle { IsTrue (is_idle (force_steps (state self.old))) → m.new ≡ m.old }
         ensures kept { MatchResult result (λ x. HasForced (state self.old) (state self.new)) (λ why. Keeps (force_steps (state self.old)) why (state self.old) (state self.new)) }
+        ensures pages_kept { IfOk result (λ x. KeepsPages (state self.old) (state self.new) (resident self.old) (resident self.new)) }
+        ensures logged { IfOk result (λ x. M.honest m.new → AllLogged (state self.old) (state self.new) (resident self.new) (M.now m.new)) }
         ensures resident { OnOk result (KeepsContent self.old.cache self.new.cache) }
         ensures causes { Causes M.Machine (resident self.old) (state self.old) (state self.new) m.old m.new result }
         ensures done { M.honest m.new → (k : Known) → Stands state Holds self.old k (M.now m.old) →

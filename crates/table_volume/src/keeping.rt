@@ -10,12 +10,13 @@ ghost use Rattle.volume_contract.specs.Order.{Follows, Keeps, is_idle, keep_step
 ghost use Rattle.fsd_sound.specs.Writes.{force_writes};
 ghost use Rattle.volume_contract.specs.State.{Counted, GoesOn, HasCounted, Known, Leaves, Stands, change_len, downs, forces_first, volume_of};
 ghost use Rattle.volume_changes.specs.Ending.{Edits, EndsEdit, edit_refusal, edit_steps, keep_tests, kept_told, look_steps};
-ghost use Rattle.volume_state.specs.State.{HasPathTo, Holds, resident, state};
+ghost use Rattle.volume_state.specs.State.{HasEnoughFor, Holds, resident, state};
 ghost use Rattle.fsd_files.specs.Disk.{Touches};
 
 use crate::Volume;
 use cached_table::set_keep_in;
 use fsd_bytes::{FileName, Key, Refusal};
+use fsd_formats::MOST_KEEP;
 use group_commit::Newest;
 use name_btree::TreeFault;
 use sector_disk::Machine;
@@ -49,7 +50,7 @@ impl Volume {
         ensures { Follows (keep_tests (state self.now) keep) result }
     {
         self.is_up()?;
-        if keep > 999 {
+        if keep > MOST_KEEP {
             return Err(Refusal::KeepTooLarge(keep));
         }
         if self.is_worn() {
@@ -74,7 +75,7 @@ impl Volume {
         ensures disk { OnlyReads M.Machine (device_in device_of result) m.old m.new }
         ensures edited { Edits (state self.old) (state self.new) result }
         ensures name { IfOk result (λ key. key.name ≡ name.now) }
-        ensures memory { HasPathTo self.old name.now → result ≡ Err Why.Memory → ⊥ }
+        ensures memory { HasEnoughFor self.old name.now → result ≡ Err Why.Memory → ⊥ }
         ensures causes { Causes M.Machine (resident self.old) (state self.old) (state self.new) m.old m.new result }
         ensures done { M.honest m.new → (k : Known) → Stands state Holds self.old k (M.now m.old) →
             EndsEdit (λ met. keep_outcome met (volume_of k) name.now keep) (kept_key keep) (Change.SetKeep name.now keep) k self.new (M.now m.new) result }
@@ -111,7 +112,7 @@ impl Volume {
         ensures disk { OnlyReads M.Machine (device_in device_of result) m.old m.new }
         ensures edited { Edits (state self.old) (state self.new) result }
         ensures name { IfOk result (λ key. key.name ≡ name.now) }
-        ensures memory { HasPathTo self.old name.now → result ≡ Err Why.Memory → ⊥ }
+        ensures memory { HasEnoughFor self.old name.now → result ≡ Err Why.Memory → ⊥ }
         ensures causes { Causes M.Machine (resident self.old) (state self.old) (state self.new) m.old m.new result }
         ensures done { M.honest m.new → (k : Known) → Stands state Holds self.old k (M.now m.old) →
             EndsEdit (λ met. keep_outcome met (volume_of k) name.now keep) (kept_key keep) (Change.SetKeep name.now keep) k self.new (M.now m.new) result }
@@ -139,7 +140,7 @@ impl Volume {
         ensures idle { IsTrue (is_idle (keep_steps (state self.old) keep)) → m.new ≡ m.old }
         ensures kept { let s = state self.old in MatchResult result (λ x. HasCounted false (forces_first s) s (state self.new)) (λ why. Keeps (keep_steps s keep) why s (state self.new)) }
         ensures name { IfOk result (λ key. key.name ≡ name.now) }
-        ensures memory { HasPathTo self.old name.now → result ≡ Err Why.Memory → ⊥ }
+        ensures memory { HasEnoughFor self.old name.now → result ≡ Err Why.Memory → ⊥ }
         ensures causes { Causes M.Machine (resident self.old) (state self.old) (state self.new) m.old m.new result }
         ensures done { M.honest m.new → (k : Known) → Stands state Holds self.old k (M.now m.old) →
             Ends state Holds (λ met. keep_outcome met (volume_of k) name.now keep) (kept_key keep) (Change.SetKeep name.now keep) k self.new (M.now m.new) result }

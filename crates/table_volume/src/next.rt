@@ -6,13 +6,13 @@ ghost use Rattle.sector_disk.specs.Calls.{OnlyReads, device_in};
 ghost use Rattle.fsd_formats.specs.declared.entry.Entry.{Entry as Listed};
 ghost use Rattle.fsd_files.specs.Answers.{entry_after, highest_entry, next_reply};
 ghost use Rattle.name_page.specs.Lookups.{is_after};
-ghost use Rattle.volume_contract.specs.Causes.{Causes};
+ghost use Rattle.volume_contract.specs.Causes.{Causes, IsTaken};
 ghost use Rattle.volume_contract.specs.Ends.{IsLater, Looks, device_of};
 ghost use Rattle.volume_contract.specs.Order.{Follows, IsLookUp, is_idle, next_steps};
 ghost use Rattle.volume_contract.specs.State.{Known, Stands, volume_of};
 ghost use Rattle.cached_table.specs.Looking.{Finds};
 ghost use Rattle.volume_changes.specs.Meeting.{met_found};
-ghost use Rattle.volume_state.specs.State.{HasPathTo, Holds, resident, state};
+ghost use Rattle.volume_state.specs.State.{HasEnoughFor, Holds, resident, state};
 ghost use Rattle.volume_state.specs.Taken.{are_taken, met_entry};
 
 use crate::Volume;
@@ -40,6 +40,7 @@ impl Volume {
         ensures stands { M.honest m.new → (k : Known) → Stands state Holds self.old k (M.now m.old) → Stands state Holds self.new k (M.now m.new) }
         ensures found { M.honest m.new → (k : Known) → Stands state Holds self.old k (M.now m.old) → Finds (entry_after (option_copied after.entry) (volume_of k).entries) result }
         ensures taken { M.honest m.new → (k : Known) → Stands state Holds self.old k (M.now m.old) → (e : Listed) → Contains (volume_of k).entries e → IsTrue (are_taken self.new e.runs) }
+        ensures told { (e : Listed) → IsTrue (are_taken self.new e.runs) → IsTaken (state self.new) e }
         ensures causes { Causes M.Machine (resident self.old) (state self.old) (state self.new) m.old m.new result }
         ensures met { IfOk result (λ found. IfSome found (λ f. Causes M.Machine (resident self.old) (state self.old) (state self.new) m.old m.new (met_entry self.new f.page f.entry))) }
     {
@@ -69,8 +70,8 @@ impl Volume {
         ensures dirty { self.new.cache.dirty ≡ self.old.cache.dirty }
         ensures page { IfOk result (λ found. IfSome found (λ f. f.page < self.old.layout.pages)) }
         ensures name { IfOk result (λ found. IfSome found (λ f. f.entry.key.name ≡ name.now)) }
-        ensures memory { HasPathTo self.old name.now → result ≡ Err Why.Memory → ⊥ }
-        ensures stays { HasPathTo self.old name.now → HasPathTo self.new name.now }
+        ensures memory { HasEnoughFor self.old name.now → result ≡ Err Why.Memory → ⊥ }
+        ensures stays { HasEnoughFor self.old name.now → HasEnoughFor self.new name.now }
         ensures cause { IfErr result IsLookUp }
         ensures stands { M.honest m.new → (k : Known) → Stands state Holds self.old k (M.now m.old) → Stands state Holds self.new k (M.now m.new) }
         ensures found { M.honest m.new → (k : Known) → Stands state Holds self.old k (M.now m.old) → Finds (highest_entry name.now (volume_of k).entries) result }
@@ -115,6 +116,7 @@ impl Volume {
         ensures state { state self.new ≡ state self.old }
         ensures idle { IsTrue (is_idle (next_steps (state self.old))) → m.new ≡ m.old }
         ensures later { IfOk result (IsLater (option_map (λ key. key.now) after.entry)) }
+        ensures taken { IfOk result (λ found. IfSome found (IsTaken (state self.new))) }
         ensures stands { M.honest m.new → (k : Known) → Stands state Holds self.old k (M.now m.old) → Stands state Holds self.new k (M.now m.new) }
         ensures causes { Causes M.Machine (resident self.old) (state self.old) (state self.new) m.old m.new result }
         ensures done { M.honest m.new → (k : Known) → Stands state Holds self.old k (M.now m.old) → Looks (next_reply (volume_of k) (option_map (λ key. key.now) after.entry)) result }

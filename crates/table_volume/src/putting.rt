@@ -21,10 +21,13 @@ ghost use Rattle.fsd_files.specs.Disk.{Touches};
 
 use crate::Volume;
 use fsd_bytes::{FileName, Key, Refusal};
-use fsd_formats::Entry;
+use fsd_formats::{Entry, MOST_KEEP, MOST_LENGTH};
 use run_table::Runs;
 use sector_disk::Machine;
 use version_data::write_version;
+
+// From here on no record and no serial is numbered by this mount.
+const FIRST_WORN: u32 = 4_294_967_280;
 
 // The key of a name's first version.
 fn first_key(name: &FileName) -> Key
@@ -42,11 +45,11 @@ fn sizes_fit(keep: Option<u32>, length: usize) -> Result<(), Refusal>
     ensures { MatchResult result (λ x. size_fault (keep_given keep) length ≡ None) (λ why. size_fault (keep_given keep) length ≡ Some why) }
 {
     if let Some(keep) = keep {
-        if keep > 999 {
+        if keep > MOST_KEEP {
             return Err(Refusal::KeepTooLarge(keep));
         }
     }
-    if length > 4_193_792 {
+    if length > MOST_LENGTH as usize {
         return Err(Refusal::TooLong(length as u64));
     }
     Ok(())
@@ -57,7 +60,7 @@ impl Volume {
     pub(crate) fn is_worn(&self) -> bool
         ensures { result ≡ is_worn (state self.now) }
     {
-        self.serial.count >= 4_294_967_280 || self.log.next_number() >= 4_294_967_280
+        self.serial.count >= FIRST_WORN || self.log.next_number() >= FIRST_WORN
     }
 
     // That a put of these sizes may begin.

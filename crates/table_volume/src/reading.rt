@@ -1,7 +1,9 @@
 //! Bytes of versions.
 ghost use Rattle.std.specs.Prelude.{◌≡◌, ◌+◌, ◌^◌, ◌<◌, ◌≤◌, ℕ, All, Some, Err, IfOk, IfErr, IsTrue, length, true};
 ghost use Rattle.std.specs.FinMap.{find as file_of};
+ghost use Rattle.volume_layout.specs.Layout.{is_data};
 ghost use Rattle.run_table.specs.RunTable.{sectors_of};
+ghost use Rattle.run_table.specs.Space.{contains};
 ghost use Rattle.fsd_bytes.specs.declared.refusal.Refusal.TheVariants as Why;
 ghost use Rattle.sector_disk.specs.declared.sector.Sector.TheVariants.{Damaged};
 ghost use Rattle.sector_disk.specs.Image.{sector_at};
@@ -25,7 +27,7 @@ use sector_disk::Machine;
 use version_data::read_range;
 
 impl Volume {
-    // The entry of a version, whose sectors lie on the disk.
+    // The entry of a version, whose sectors are of the data.
     fn version<M: Machine>(&mut self, m: &mut M, key: &Key) -> Result<Entry, Refusal>
         requires { (state self.old).layout.sectors ≤ (M.report m.old).sectors }
         ensures order { Follows (entry_steps (state self.old)) result }
@@ -34,7 +36,7 @@ impl Volume {
         ensures idle { IsTrue (is_idle (entry_steps (state self.old))) → m.new ≡ m.old }
         ensures good { IfOk result (λ e. is_entry e ≡ true) }
         ensures runs { IfOk result (λ e. All (λ r. r.start + r.length ≤ 2 ^ 32) e.runs) }
-        ensures within { IfOk result (λ e. All (λ s. s < (state self.old).layout.sectors) (sectors_of e.runs)) }
+        ensures within { IfOk result (λ e. (s : ℕ) → IsTrue (contains (sectors_of e.runs) s) → IsTrue (is_data (state self.old).layout s)) }
         ensures stands { M.honest m.new → (k : Known) → Stands state Holds self.old k (M.now m.old) → Stands state Holds self.new k (M.now m.new) }
         ensures causes { Causes M.Machine (resident self.old) (state self.old) (state self.new) m.old m.new result }
         ensures done { M.honest m.new → (k : Known) → Stands state Holds self.old k (M.now m.old) → Looks (entry_reply (volume_of k) key.now) (found_one result) }
@@ -61,6 +63,7 @@ impl Volume {
         ensures disk { OnlyReads M.Machine (device_in device_of result) m.old m.new }
         ensures state { state self.new ≡ state self.old }
         ensures idle { IsTrue (is_idle (read_steps (state self.old))) → m.new ≡ m.old }
+        ensures within { (s : ℕ) → result ≡ Err (Why.Damaged s) → M.honest m.new → IsTrue (is_data (state self.old).layout s) }
         ensures damaged { (s : ℕ) → result ≡ Err (Why.Damaged s) → M.honest m.new → sector_at (M.now m.new).image s ≡ Damaged }
         ensures most { IfOk result (λ count. count ≤ length buf.old) }
         ensures stands { M.honest m.new → (k : Known) → Stands state Holds self.old k (M.now m.old) → Stands state Holds self.new k (M.now m.new) }
@@ -80,6 +83,7 @@ fn read_version<M: Machine>(m: &mut M, e: &Entry, from: u32, buf: &mut [u8]) -> 
     requires within { All (λ s. s < (M.report m.old).sectors) (sectors_of e.now.runs) }
     ensures disk { OnlyReads M.Machine (device_in device_of result) m.old m.new }
     ensures cause { IfErr result IsData }
+    ensures there { (s : ℕ) → result ≡ Err (Why.Damaged s) → M.honest m.new → IsTrue (contains (sectors_of e.now.runs) s) }
     ensures damaged { (s : ℕ) → result ≡ Err (Why.Damaged s) → M.honest m.new → sector_at (M.now m.new).image s ≡ Damaged }
     ensures most { IfOk result (λ count. count ≤ length buf.old) }
     ensures gives { M.honest m.new → (file : File) (hurt : Sectors) → e.now.length ≡ length file.bytes → KeptIn (M.now m.old).image hurt file.bytes e.now.runs →

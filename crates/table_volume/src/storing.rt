@@ -20,6 +20,9 @@ use fsd_bytes::{FileName, Refusal};
 use fsd_formats::Entry;
 use sector_disk::Machine;
 
+// So many pages may wait as a change begins; where more do, it forces first.
+const MOST_WAITING: usize = 56;
+
 impl Volume {
     // Finds a place for a new version, and writes it there with the next serial: its sectors stay free.
     fn stored<M: Machine>(
@@ -56,7 +59,7 @@ impl Volume {
     fn many_wait(&self) -> bool
         ensures { result ≡ forces_first (state self.now) }
     {
-        self.cache.dirty_list().len() > 56
+        self.cache.dirty_list().len() > MOST_WAITING
     }
 
     /// A force, where many pages wait for one.

@@ -101,6 +101,7 @@ module _ (s t u : State) (before after : ℕ → Option (List ℕ)) (old mid now
   breaks_behind pages place breaks = record {
     visit = breaks.visit;
     reached = breaks.reached;
+    within = subst (λ (l : Layout). breaks.visit.page < l.pages) behind.layout breaks.within;
     home = breaks.home ∙ ap (λ (l : Layout). home_a l breaks.visit.page) behind.layout;
     how = elim breaks.how [
       | inl broken ↦ inl (subst (λ (l : Layout). Breaks l pages breaks.visit.page) behind.layout broken)

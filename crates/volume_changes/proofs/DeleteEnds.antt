@@ -14,6 +14,7 @@ use Rattle.fsd_bytes.specs.declared.refusal.Refusal.TheVariants as Why
 use Rattle.fsd_formats.specs.declared.entry.Entry.{Entry}
 use Rattle.fsd_bytes.specs.Keys.{same_key}
 use Rattle.fsd_table.specs.Tree.{IsTree, table_of}
+use Rattle.fsd_table.proofs.VisitLaws.{one_table}
 use Rattle.fsd_files.specs.Answers.{delete_outcome, deleted, entry_of}
 use Rattle.fsd_files.specs.Files.{Change}
 use Rattle.fsd_files.specs.Replies.{Deleted, Refused}
@@ -37,7 +38,6 @@ use Rattle.volume_state.specs.Taken.{are_taken, met_entry}
 use Rattle.volume_changes.proofs.EntryLaws.{entry_contained, met_refused}
 use Rattle.volume_changes.proofs.DeleteLaws.{alone, known_left, one_less, reached_left, split_count, stands_deleted}
 use Rattle.volume_changes.proofs.MadeLaws.{has_table, pages_made, pages_now}
-use Rattle.volume_changes.proofs.KeepEnds.{same_told}
 use Rattle.volume_state.proofs.TableLaws.{is_tree}
 
 pub delete_none : (k : Known) (u : VolumeValue) (now : Moment) (key : Key) → length k.mounted.dirty ≤ 56 → entry_of key (volume_of k).entries ≡ None → Stands state Holds u k now
@@ -70,7 +70,7 @@ module _ {D : Type 0} (M : MachineGhosts D) (short : (m : D) → M.honest m → 
       let tree = is_tree v k (M.now m) whole stands in
       let now : IsTree k.mounted.pages has.height = subst (λ (p : List (List ℕ)). IsTree p has.height) (same_pages none) has.is.tree in
       let table : entries_without (key ∷ []) (volume_of k).entries ≡ (volume_of k).entries =
-      sym has.table_is ∙ ap (λ (p : List (List ℕ)). table_of p has.height) (same_pages none) ∙ same_told k.mounted.pages has.height tree.0 now tree.1 ∙ tree.2 in
+      sym has.table_is ∙ ap (λ (p : List (List ℕ)). table_of p has.height) (same_pages none) ∙ one_table k.mounted.pages has.height tree.0 now tree.1 ∙ tree.2 in
       let parts = split_count (λ x. list_any (same_key x.key) (key ∷ [])) (volume_of k).entries in
       let one = alone M short m m' v whole cached c flags edits honest k stands few within key e there makes in
       absurd (omega (arith, parts, ap (λ (es : List Entry). length es) table, ap (λ (es : List Entry). length es) one))

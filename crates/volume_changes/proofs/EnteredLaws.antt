@@ -22,6 +22,7 @@ use Rattle.fsd_formats.specs.NamePage.{sectors_for}
 use Rattle.fsd_table.specs.Table.{top}
 use Rattle.fsd_table.specs.Tree.{IsTree, pages_of, table_of}
 use Rattle.fsd_table.proofs.BoundLaws.{Ascend, entries_ascend}
+use Rattle.fsd_table.proofs.VisitLaws.{one_table}
 use Rattle.fsd_files.specs.Answers.{HasVersion, entry_of, entry_put, new_entry, with_version}
 use Rattle.fsd_files.specs.Disk.{in_runs}
 use Rattle.fsd_files.specs.Files.{Change, Files, gone_keys, new_key}
@@ -53,7 +54,6 @@ use Rattle.volume_changes.proofs.EnteredSpace.{made_count, made_free, made_there
 use Rattle.volume_changes.proofs.LeavingLaws.{gone_leave}
 use Rattle.volume_changes.proofs.MadeLaws.{has_table, pages_made, pages_now, worn}
 use Rattle.volume_changes.proofs.NewVersionLaws.{place_free, version_changed, version_described, written_kept}
-use Rattle.volume_changes.proofs.KeepEnds.{same_told}
 use Rattle.volume_state.proofs.TableLaws.{is_tree}
 
 -- the free sectors without those that are taken
@@ -193,7 +193,7 @@ module _ {D : Type 0} (M : MachineGhosts D) (short : (m : D) → M.honest m → 
       let height : ℕ = (has_table M short m m' v whole cached c flags None edits honest k stands few within (with_planned plan (planned_entry plan draft.serial draft.length draft.runs)) makes).height in
       let now_tree : IsTree k.mounted.pages height = subst (λ (pages : List (List ℕ)). IsTree pages height) (sym same) made.0.tree in
       let entries : (volume_of k).entries ≡ volume_entered.entries =
-      sym tree.2 ∙ same_told k.mounted.pages tree.0 height tree.1 now_tree ∙ ap (λ (pages : List (List ℕ)). table_of pages height) same ∙ made.1
+      sym tree.2 ∙ one_table k.mounted.pages tree.0 height tree.1 now_tree ∙ ap (λ (pages : List (List ℕ)). table_of pages height) same ∙ made.1
       ∙ entries_made (volume_of k) name bytes given draft reached_entered ascend sorted lists plan planned long in
       let fresh : entry_of (new_key name (volume_of k).files) (volume_of k).entries ≡ None =
       ap (λ (x : Key). entry_of x (volume_of k).entries) (keys_agree name (volume_of k).files (volume_of k).entries lists) ∙ next_is_new name (volume_of k).entries ascend in

@@ -30,7 +30,7 @@ use Rattle.name_btree.specs.declared.lookup.FoundEntry.{FoundEntry}
 use Rattle.name_btree.specs.Fault.{outer_told}
 use Rattle.page_cache.specs.Cache.{CacheValue}
 use Rattle.table_pages.specs.Reads.{LosesFor, LosesPage}
-use Rattle.volume_contract.specs.Causes.{AreCopies, AreCopiesOf}
+use Rattle.volume_contract.specs.Causes.{AreCopies, AreCopiesOf, IsTaken}
 use Rattle.volume_contract.specs.Ends.{Looks, found_one}
 use Rattle.volume_contract.specs.State.{Known, Stands, State}
 use Rattle.cached_table.specs.Looking.{Finds, LooksOnly, told}
@@ -54,6 +54,14 @@ pub taken_there : (v w : VolumeValue) → v ≡ w → IsWhole v → (k : Known) 
 taken_there v w is whole k now stands e has =
     let here : Stands state Holds v k now = subst (λ (x : VolumeValue). Stands state Holds x k now) (sym is) stands in
     entries_taken v k.mounted _ whole here.fits.layout here.holds here.disk.spaced here.disk.described.apart e has
+
+-- and are told so
+pub taken_met : (v : VolumeValue) (page : ℕ) (e : Entry) (r : Result Entry Refusal) → ((x : Entry) → IsTrue (are_taken v x.runs) → IsTaken (state v) x) → r ≡ met_entry v page e → IfOk r (IsTaken (state v))
+taken_met v page e r told met = subst (λ (x : Result Entry Refusal). IfOk x (IsTaken (state v))) (sym met) (by (are_taken v e.runs) refl)
+  where
+    by : (b : Bool) → are_taken v e.runs ≡ b → IfOk (cond b (Ok e) (Err (Why.Unsound (home_a v.layout page)))) (IsTaken (state v))
+    by true taken = told e taken
+    by false untaken = tt
 
 -- so it is answered
 pub entry_looked_up : (v : VolumeValue) (volume : Volume) (key : Key) (page : ℕ) (e : Entry) (r : Result Entry Refusal) → entry_of key volume.entries ≡ Some e

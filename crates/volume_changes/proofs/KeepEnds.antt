@@ -1,5 +1,5 @@
 -- How a volume that stands answers where the keep of a version was set in its table.
-use Rattle.std.proofs.Common.{◌≡◌, ◌⊎◌, inl, inr, ℕ, ◌+◌, ◌<◌, ◌≤◌, Bool, true, false, cond, nat_lt, List, [], ◌∷◌, ◌++◌, length, Option, Some, None, refl, sym, ap, subst, ◌∙◌, arith, length-append}
+use Rattle.std.proofs.Common.{◌≡◌, ◌⊎◌, inl, inr, ℕ, ◌+◌, ◌<◌, ◌≤◌, Bool, true, false, cond, nat_lt, List, [], ◌∷◌, ◌++◌, length, Option, Some, None, refl, sym, ap, subst, ◌∙◌, arith}
 use Rattle.std.proofs.lemmas.Bool.{both_ways, eqb-true, le-ltb, or_cases}
 use Rattle.std.proofs.lemmas.List.Folds.{list_any-append}
 use Rattle.std.specs.Prelude.{◌==◌}
@@ -8,15 +8,15 @@ use Rattle.sector_disk.specs.Image.{AreShort}
 use Rattle.fsd_bytes.specs.declared.key.Key.{Key}
 use Rattle.fsd_formats.specs.declared.entry.Entry.{Entry}
 use Rattle.fsd_formats.specs.NamePage.{max_keep}
-use Rattle.fsd_table.specs.Table.{Telling}
-use Rattle.fsd_table.specs.Tree.{IsTree, pages_of, table_of}
-use Rattle.fsd_table.proofs.VisitLaws.{tree_told}
+use Rattle.fsd_table.specs.Tree.{table_of}
+use Rattle.fsd_table.proofs.VisitLaws.{one_table}
 use Rattle.fsd_files.specs.Answers.{entries_with_keep, highest_entry, keep_outcome, keep_set, refused}
 use Rattle.fsd_bytes.specs.declared.refusal.Refusal.TheVariants.{KeepTooLarge}
 use Rattle.fsd_files.specs.Files.{Change}
 use Rattle.fsd_files.specs.Replies.{Kept}
 use Rattle.page_cache.specs.Cache.{CacheValue, IsCache, bytes_of, is_one_of}
 use Rattle.name_page.specs.Pages.{with_one}
+use Rattle.name_page.proofs.MarkLaws.{one_count}
 use Rattle.name_btree.specs.Map.{HasTable, IsTable}
 use Rattle.fsd_sound.specs.Mounted.{most_changed}
 use Rattle.group_commit.specs.contracts.newest.NewestPageSource.TheImpl as by_log
@@ -46,21 +46,6 @@ one_of_with xs page other there = by (is_one_of xs page) there
       ]
     ]
 
-long_with : (xs : List ℕ) (page : ℕ) → length (with_one xs page) ≤ length xs + 1
-long_with xs page = by (is_one_of xs page)
-  where
-    by : (b : Bool) → length (cond b xs (xs ++ page ∷ [])) ≤ length xs + 1
-    by true = omega arith
-    by false = omega (arith, length-append {A = ℕ} xs (page ∷ []))
-
--- a tree tells the same at each height
-pub same_told : (pages : List (List ℕ)) (a b : ℕ) → IsTree pages a → IsTree pages b → table_of pages a ≡ table_of pages b
-same_told pages a b one other =
-    let both : Some (record { entries = table_of pages a; reached = length (pages_of pages a) }) ≡ Some (record { entries = table_of pages b; reached = length (pages_of pages b) }) =
-    sym (tree_told pages a one) ∙ tree_told pages b other in
-    let same : (record { entries = table_of pages a; reached = length (pages_of pages a) }) ≡ (record { entries = table_of pages b; reached = length (pages_of pages b) }) = cc both in
-    ap (λ (t : Telling). t.entries) same
-
 -- ---- the volume
 
 module _ {D : Type 0} (M : MachineGhosts D) (short : (m : D) → M.honest m → AreShort (M.now m).windows) (m m' : D) (v : VolumeValue) (whole : IsWhole v) (cached : IsCache v.cache) (c : CacheValue) (flags : List Bool)
@@ -68,7 +53,7 @@ module _ {D : Type 0} (M : MachineGhosts D) (short : (m : D) → M.honest m → 
     (name : List ℕ) (keep : ℕ) (fits : keep ≤ 999) (key : Key) (room : length v.cache.dirty ≤ 56) (one : DirtiesOne (length v.free_pages) v.cache c)
     (sets : SetsKeepIn M by_log.ghosts v.log m m' v.cache c v.free_pages flags name keep key) where
   few : length c.dirty ≤ length v.cache.dirty + most_changed
-  few = omega (arith, ap (λ (d : List ℕ). length d) one.changed, long_with v.cache.dirty one.page)
+  few = omega (arith, ap (λ (d : List ℕ). length d) one.changed, one_count v.cache.dirty one.page)
 
   within : (page : ℕ) → is_one_of c.dirty page ≡ true → page < length flags
   within page waits = elim (one_of_with v.cache.dirty one.page page (ap (λ (d : List ℕ). is_one_of d page) (sym one.changed) ∙ waits)) [
@@ -107,7 +92,7 @@ module _ {D : Type 0} (M : MachineGhosts D) (short : (m : D) → M.honest m → 
   makes = record {
     makes = λ t height table.
         let made = sets.sets t height table in
-        let both : Some made.entry ≡ Some set.entry = sym made.highest ∙ ap (highest_entry name) (same_told before height first table.tree first_table.tree) ∙ set.highest in
+        let both : Some made.entry ≡ Some set.entry = sym made.highest ∙ ap (highest_entry name) (one_table before height first table.tree first_table.tree) ∙ set.highest in
         let same : made.entry ≡ set.entry = cc both in
         subst (HasTable (as_step (images_by M by_log.ghosts v.log m' c (length flags)) flags)) (ap (λ (e : Entry). entries_with_keep e.key keep (table_of before height)) same) made.set;
   }

@@ -1,5 +1,5 @@
--- No memory is wanting where the path of a name is in memory.
-use Rattle.std.proofs.Common.{◌≡◌, ℕ, Bool, true, false, List, length, Option, Some, None, Result, Ok, Err, ◌∷◌, [], inl, inr, refl, sym, ap, subst, ◌∙◌}
+-- No memory is wanting where the path of a name is in memory, or all pages in use are.
+use Rattle.std.proofs.Common.{◌≡◌, ◌<◌, ℕ, Bool, true, false, List, length, Option, Some, None, Result, Ok, Err, ◌∷◌, [], inl, inr, refl, sym, ap, subst, ◌∙◌, arith}
 use Rattle.std.specs.List.{AllByRecursion}
 use Rattle.fsd_forest.specs.Met.{path_of}
 use Rattle.std.specs.Prelude.{IsSome, option_and_then, option_map}
@@ -9,37 +9,58 @@ use Rattle.fsd_formats.specs.NamePage.{Content, read_page}
 use Rattle.fsd_formats.specs.Record.{Stamp}
 use Rattle.fsd_log.specs.Borne.{FitsStamp}
 use Rattle.page_cache.specs.Cache.{CacheValue, Held, cleaned, held}
+use Rattle.page_cache.proofs.KeepLaws.{bytes_resident, resident_bytes}
+use Rattle.run_table.specs.Space.{contains}
+use Rattle.sector_set.proofs.FreeLaws.{contains_where}
 use Rattle.volume_layout.specs.declared.layout.Layout.{Layout}
 use Rattle.log_thirds.specs.LogValue.{FitsLayout, LogValue}
 use Rattle.log_thirds.specs.Append.{stamp_now}
 use Rattle.group_commit.specs.Cached.{held_stamped, stamped_for, stamped_frames}
-use Rattle.group_commit.proofs.FrameLaws.{held_then}
-use Rattle.name_page.specs.Pages.{outer_in}
+use Rattle.group_commit.proofs.FrameLaws.{held_then, there_then}
+use Rattle.name_page.specs.Pages.{is_spare, outer_in}
 use Rattle.name_btree.specs.declared.fault.TreeFault.{TreeFault}
 use Rattle.name_btree.specs.declared.fault.TreeFault.TheVariants.{Pages, Broken}
 use Rattle.name_btree.specs.Fault.{outer_told}
 use Rattle.page_cache.specs.Accepted.{content_in}
 use Rattle.table_pages.specs.Bringing.{KeepsContent}
 use Rattle.volume_contract.specs.Order.{Comes, Follows, IsLoss, by_itself}
-use Rattle.volume_contract.specs.State.{State}
+use Rattle.volume_contract.specs.State.{HasAllPages, HasPathOf, State}
 use Rattle.volume_changes.specs.Ending.{keep_tests}
-use Rattle.cached_table.specs.Looking.{HasIn, HasPathIn, told}
+use Rattle.cached_table.specs.Looking.{HasAllUsed, HasEnoughIn, HasIn, HasPathIn, told}
 use Rattle.cached_table.proofs.PathLaws.{path_more}
 use Rattle.volume_state.specs.Preparing.{Forces}
-use Rattle.volume_state.specs.State.{HasPathTo, state}
+use Rattle.volume_state.specs.State.{HasEnoughFor, resident, spare_pages, state}
 use Rattle.volume_state.specs.Volume.{IsWhole, VolumeValue}
 use Rattle.volume_state.proofs.StampedLaws.{stamped_reads}
+use Rattle.volume_state.proofs.StepLaws.{went_pages}
 use Rattle.volume_changes.proofs.TestedLaws.{keep_tested}
 
 -- ---- a look-up
 
--- the path in memory is that in the cache
+-- what is in memory is in the cache
 module _ (v w : VolumeValue) (is : v ≡ w) (whole : IsWhole v) (name : List ℕ) where
-  pub path_in : HasPathTo w name → HasPathIn (length v.free_pages) name v.cache
-  path_in has = subst (λ (n : ℕ). HasPathIn n name v.cache) (sym whole.pages) (record { all = subst (λ (x : VolumeValue). HasPathTo x name) (sym is) has })
+  -- the pages in use are those that are not listed as free
+  listed : (page : ℕ) → page < length v.free_pages → contains (spare_pages v) page ≡ is_spare v.free_pages page
+  listed page lt = contains_where (λ p. is_spare v.free_pages p) 0 (length v.free_pages) page (omega arith) lt
 
-  pub path_of_cache : (c : CacheValue) (flags : List Bool) → HasPathIn (length v.free_pages) name c → HasPathTo (record v { cache = c; free_pages = flags }) name
-  path_of_cache c flags has = (subst (λ (n : ℕ). HasPathIn n name c) whole.pages has).all
+  pub enough_in : HasEnoughFor w name → HasEnoughIn v.free_pages name v.cache
+  enough_in has = by (subst (λ (x : VolumeValue). HasEnoughFor x name) (sym is) has)
+    where
+      by : HasEnoughFor v name → HasEnoughIn v.free_pages name v.cache
+      by (inl path) = inl (subst (λ (n : ℕ). HasPathIn n name v.cache) (sym whole.pages) (record { all = path }))
+      by (inr all) = inr (record { each = λ page lt used. bytes_resident v.cache page (all page (omega (arith, lt, whole.pages)) (listed page lt ∙ used)) })
+
+  pub enough_of_cache : (c : CacheValue) (flags : List Bool) → flags ≡ v.free_pages → HasEnoughIn v.free_pages name c → HasEnoughFor (record v { cache = c; free_pages = flags }) name
+  enough_of_cache c flags same has = subst (λ (f : List Bool). HasEnoughFor (record v { cache = c; free_pages = f }) name) (sym same) (by has)
+    where
+      by : HasEnoughIn v.free_pages name c → HasEnoughFor (record v { cache = c }) name
+      by (inl path) = inl (subst (λ (n : ℕ). HasPathIn n name c) whole.pages path).all
+      by (inr all) = inr (λ page lt out. let within : page < length v.free_pages = omega (arith, lt, whole.pages) in resident_bytes c page (all.each page within (sym (listed page within) ∙ out)))
+
+-- either of the two stays
+pub enough_left : (free : List Bool) (name : List ℕ) (c c' : CacheValue) → (HasPathIn (length free) name c → HasPathIn (length free) name c') → (HasAllUsed free c → HasAllUsed free c') → HasEnoughIn free name c → HasEnoughIn free name c'
+enough_left free name c c' path all (inl there) = inl (path there)
+enough_left free name c c' path all (inr there) = inr (all there)
 
 told_outer : {T : Type 0} (home_a : ℕ) (r : Result T TreeFault) → outer_in (told home_a r) ≡ outer_told r
 told_outer home_a (Ok x) = refl
@@ -52,7 +73,7 @@ told_memory home_a r result is wants = sym (told_outer home_a r) ∙ ap outer_in
 -- ---- a force
 
 -- a page reads the same with another stamp
-stamped_content : (stamp : Stamp) → FitsStamp stamp → (dirty : List ℕ) (c : CacheValue) → KeepsContent c (stamped_frames stamp dirty c)
+stamped_content : (stamp : Stamp) → FitsStamp stamp → (dirty : List ℕ) (c : CacheValue) (pages page : ℕ) (x : Content) → content_in c pages page ≡ Some x → content_in (stamped_frames stamp dirty c) pages page ≡ Some x
 stamped_content stamp small dirty c pages page x is =
     ap (λ (o : Option Held). option_and_then (read_page page pages) (option_map (λ (h : Held). h.bytes) o)) (held_then stamp dirty c page) ∙ by (held c page) _ is
   where
@@ -65,9 +86,12 @@ stamped_content stamp small dirty c pages page x is =
 pub forced_content : (v w : VolumeValue) → v ≡ w → FitsLayout v.log → (cache : CacheValue) → cache ≡ cleaned (stamped_for v.log v.cache) → KeepsContent w.cache cache
 forced_content v w is fits cache forced =
     subst (λ (x : VolumeValue). KeepsContent x.cache cache) is
-    (subst (KeepsContent v.cache) (sym forced) (stamped_content (stamp_now v.log) (record { epoch = fits.epoch; number = fits.number }) v.cache.dirty v.cache))
+    (subst (KeepsContent v.cache) (sym forced) (record {
+      there = there_then (stamp_now v.log) v.cache.dirty v.cache;
+      accepted = stamped_content (stamp_now v.log) (record { epoch = fits.epoch; number = fits.number }) v.cache.dirty v.cache;
+    }))
 
-pub path_behind : (v w : VolumeValue) → Forces (state v) (state w) (Ok tt) → KeepsContent v.cache w.cache → (name : List ℕ) → HasPathTo v name → HasPathTo w name
+path_behind : (v w : VolumeValue) → Forces (state v) (state w) (Ok tt) → KeepsContent v.cache w.cache → (name : List ℕ) → HasPathOf (state v) (resident v) name → HasPathOf (state w) (resident w) name
 path_behind v w forces keeps name has =
     let n : ℕ = v.layout.pages in
     subst (λ (l : Layout). AllByRecursion (HasIn w.cache l.pages) (path_of (content_in w.cache l.pages) name)) (sym forces.state.layout)
@@ -78,7 +102,17 @@ path_behind v w forces keeps name has =
       where
         by : (o : Option Content) → content_in v.cache v.layout.pages page ≡ o → IsSome o → content_in w.cache v.layout.pages page ≡ content_in v.cache v.layout.pages page
         by None is some = absurd (cc some)
-        by (Some x) is some = keeps v.layout.pages page x is ∙ sym is
+        by (Some x) is some = keeps.accepted v.layout.pages page x is ∙ sym is
+
+all_behind : (v w : VolumeValue) → Forces (state v) (state w) (Ok tt) → KeepsContent v.cache w.cache → HasAllPages (state v) (resident v) → HasAllPages (state w) (resident w)
+all_behind v w forces keeps all page lt out =
+    let free = went_pages (by_itself (state v) ∷ []) (state v) (state w) forces.kept in
+    let was : page < v.layout.pages = subst (λ (l : Layout). page < l.pages) forces.state.layout lt in
+    resident_bytes w.cache page (keeps.there page (bytes_resident v.cache page (all page was (ap (λ (pages : List ℕ). contains pages page) (sym free) ∙ out))))
+
+pub enough_behind : (v w : VolumeValue) → Forces (state v) (state w) (Ok tt) → KeepsContent v.cache w.cache → (name : List ℕ) → HasEnoughFor v name → HasEnoughFor w name
+enough_behind v w forces keeps name (inl path) = inl (path_behind v w forces keeps name path)
+enough_behind v w forces keeps name (inr all) = inr (all_behind v w forces keeps all)
 
 -- a force that fails has not wanted memory
 pub force_needs : (s : State) (why : Refusal) → Follows {T = Unit {0}} (by_itself s ∷ []) (Err why) → why ≡ Why.Memory → ⊥

@@ -44,6 +44,12 @@ stands_told v whole page i bytes (inl s) = record { a = s.a; b = s.b; copies = i
 stands_told v whole page i bytes (inr (none, stands)) =
     record { a = home_a v.layout page; b = home_b v.layout page; copies = inr (none, record { first = refl; second = refl }); whole = subst (λ (l : Layout). StandsAtHome l page i bytes) whole.log stands }
 
+-- a path reaches pages of the table alone
+reached_within : (v : VolumeValue) → IsWhole v → (pages : List (List ℕ)) → length pages ≡ v.layout.pages → (visit : Visit) → Contains (visits pages) visit → visit.page < v.layout.pages
+reached_within v whole pages size visit has =
+    let lt : visit.page < length pages = visit_within pages (omega (arith, size, (planned_bounds v.layout whole.planned).pages_least)) visit has in
+    omega (arith, lt, size)
+
 module _ {D : Type 0} (M : MachineGhosts D) (m m' : D) (v : VolumeValue) (whole : IsWhole v) (c : CacheValue) (refusal : Option Refusal) (looks : LooksOnly M by_log.ghosts v.log refusal m m' v.cache c v.free_pages) (honest : M.honest m') (new : State) where
   pub stood_there : (page : ℕ) (bytes : List ℕ) → Stood M by_log.ghosts v.log (M.now m) page bytes → StoodInCopy (state v) new (M.now m) (M.now m') page bytes
   stood_there page bytes s = (s.image, inl (s.worn, stands_told v whole page s.image bytes s.stands))
@@ -111,30 +117,32 @@ module _ {D : Type 0} (M : MachineGhosts D) (m m' : D) (v : VolumeValue) (whole 
         mod-eq_of_lt (omega (arith, first, lt, bounds.pages_most, bounds.third_most)) ∙ omega (arith, first)
 
     -- the home of a page that a path reaches
-    visit_home : (pages : List (List ℕ)) → length pages ≡ v.layout.pages → (visit : Visit) → Contains (visits pages) visit → visit.page ≡ shows.page → place ≡ home_a v.layout visit.page
-    visit_home pages size visit has at =
-        let lt : visit.page < length pages = visit_within pages (omega (arith, size, (planned_bounds v.layout whole.planned).pages_least)) visit has in
-        shows.home ∙ ap (home_in home) (sym at) ∙ home_told visit.page (omega (arith, lt, size))
+    visit_home : (visit : Visit) → visit.page < v.layout.pages → visit.page ≡ shows.page → place ≡ home_a v.layout visit.page
+    visit_home visit within at = shows.home ∙ ap (home_in home) (sym at) ∙ home_told visit.page within
 
     broken : (pages : List (List ℕ)) → length pages ≡ v.layout.pages → BreaksTable pages shows.page → BreaksMounted (state v) pages place
-    broken pages size breaks = record {
-      visit = breaks.visit;
-      reached = breaks.reached;
-      home = visit_home pages size breaks.visit breaks.reached breaks.page_is;
-      how = inl (inl (subst (BreaksTable pages) (sym breaks.page_is) breaks));
-    }
+    broken pages size breaks =
+        let within = reached_within v whole pages size breaks.visit breaks.reached in
+        record {
+          visit = breaks.visit;
+          reached = breaks.reached;
+          within = within;
+          home = visit_home breaks.visit within breaks.page_is;
+          how = inl (inl (subst (BreaksTable pages) (sym breaks.page_is) breaks));
+        }
 
     listed : (page : ℕ) → page < length v.free_pages → is_spare v.free_pages page ≡ true → contains (spare_pages v) page ≡ true
     listed page lt spare = contains_where (λ p. slice_index_or v.free_pages p false) 0 (length v.free_pages) page (omega arith) lt ∙ spare
 
     freed : (pages : List (List ℕ)) → length pages ≡ v.layout.pages → is_spare v.free_pages shows.page ≡ true → IsOnWay pages shows.page → BreaksMounted (state v) pages place
     freed pages size spare way =
-        let lt : way.0.page < length pages = visit_within pages (omega (arith, size, (planned_bounds v.layout whole.planned).pages_least)) way.0 way.1 in
+        let within = reached_within v whole pages size way.0 way.1 in
         record {
           visit = way.0;
           reached = way.1;
-          home = visit_home pages size way.0 way.1 way.2;
-          how = inr (inl (listed way.0.page (omega (arith, lt, size, whole.pages)) (ap (is_spare v.free_pages) way.2 ∙ spare)));
+          within = within;
+          home = visit_home way.0 within way.2;
+          how = inr (inl (listed way.0.page (omega (arith, within, whole.pages)) (ap (is_spare v.free_pages) way.2 ∙ spare)));
         }
 
     -- what was read, with bytes that the page had
@@ -204,6 +212,7 @@ untaken_by v w is whole before now new f shows untaken = record { read = shows.r
         record {
           visit = led.0;
           reached = led.1;
+          within = reached_within w (subst IsWhole is whole) pages have.size led.0 led.1;
           home = ap (home_a w.layout) (sym led.2);
           how = elim (untaken_breaks w (subst IsWhole is whole) pages led.0 led.1 f.entry led.3 untaken) [
             | inl broken ↦ inl broken

@@ -71,11 +71,16 @@ meets_held held runs = list_any (λ other. not (same_runs other runs) && list_an
 abbrev pub HasUntaken : State → Entry → Type 0
 HasUntaken s e = IsTrue (list_any (λ t. is_in (s.free ∷ []) t || contains s.waiting t) (sectors_of e.runs) || meets_held s.held e.runs)
 
--- The page at this home breaks the table that the pages are; or it is reached, and stands in the list of free name pages or has an
--- entry with a sector that no entry may have.
+-- none of its sectors is free or waits, or is one of a held version whose runs are not the very same
+abbrev pub IsTaken : State → Entry → Type 0
+IsTaken s e = HasUntaken s e → ⊥
+
+-- The page of the table at this home breaks the table that the pages are; or it is reached, and stands in the list of free name
+-- pages or has an entry with a sector that no entry may have.
 pub record BreaksMounted (s : State) (pages : List (List ℕ)) (place : ℕ) : Type 0 where
   pub visit : Visit
   pub reached : Contains (visits pages) visit
+  pub within : visit.page < s.layout.pages
   pub home : place ≡ home_a s.layout visit.page
   pub how : Breaks s.layout pages visit.page ⊎ (IsTrue (contains s.free_pages visit.page) ⊎ ((e : Entry) × Contains (entries_of visit.content) e × HasUntaken s e))
 

@@ -3,3 +3,4 @@ pub mod Order
 pub mod Ends
 pub mod Mount
 pub mod Causes
+pub mod Logged

@@ -1,5 +1,5 @@
 -- A volume as its caller knows it: what it tells over any machine, and what it is where the machine kept to its promise.
-use Rattle.std.specs.Prelude.{◌≡◌, ◌⊎◌, ℕ, suc, ◌+◌, ◌-◌, ◌*◌, ◌<◌, ◌≤◌, Bool, false, not, ◌&&◌, ◌||◌, List, [], length, Option, Some, None, IsSome, Result, Ok, Err, IsTrue, is_none, nat_le, nat_lt, ◌==◌, if◌then◌else◌, count_by, map, replicate, slice_index_or, option_and_then}
+use Rattle.std.specs.Prelude.{◌≡◌, ◌⊎◌, ℕ, suc, ◌+◌, ◌-◌, ◌*◌, ◌<◌, ◌≤◌, Bool, false, not, ◌&&◌, ◌||◌, List, [], length, Option, Some, None, IsSome, Result, Ok, Err, IsTrue, is_none, nat_le, nat_lt, ◌==◌, if◌then◌else◌, count_by, filter, map, replicate, slice_index_or, option_and_then, IsFalse}
 use Rattle.std.specs.List.{list_any, AllByRecursion}
 use Rattle.fsd_bytes.specs.declared.key.Serial.{Serial}
 use Rattle.fsd_bytes.specs.declared.refusal.Refusal.{Refusal}
@@ -20,7 +20,7 @@ use Rattle.fsd_forest.specs.Met.{path_of}
 use Rattle.fsd_table.specs.Table.{visits}
 use Rattle.fsd_files.specs.Disk.{Sectors, Touches}
 use Rattle.fsd_files.specs.Files.{Change}
-use Rattle.fsd_files.specs.Volume.{Volume, forced, free_runs, pages_free, waits}
+use Rattle.fsd_files.specs.Volume.{Volume, forced, free_runs, is_in, pages_free, waits}
 use Rattle.fsd_sound.specs.Anchors.{fresh_anchor}
 use Rattle.fsd_sound.specs.Mounted.{Mounted, IsMounted, most_waiting}
 use Rattle.fsd_sound.specs.Shown.{records_by}
@@ -103,6 +103,14 @@ content_of s resident page = option_and_then (read_page page s.layout.pages) (re
 abbrev pub HasPathOf : State → (resident : ℕ → Option (List ℕ)) → (name : List ℕ) → Type 0
 HasPathOf s resident name = AllByRecursion (λ page. (page < s.layout.pages) × IsSome (content_of s resident page)) (path_of (content_of s resident) name)
 
+-- every page that isn't a free one is in memory
+abbrev pub HasAllPages : State → (resident : ℕ → Option (List ℕ)) → Type 0
+HasAllPages s resident = (page : ℕ) → page < s.layout.pages → IsFalse (contains s.free_pages page) → IsSome (resident page)
+
+-- either will do, so that a search for the name takes no memory
+abbrev pub HasEnough : State → (resident : ℕ → Option (List ℕ)) → (name : List ℕ) → Type 0
+HasEnough s resident name = HasPathOf s resident name ⊎ HasAllPages s resident
+
 -- ---- forces
 
 -- the record that a force numbers: none where no page waits
@@ -143,13 +151,13 @@ pub record LogsRecord (s new : State) : Type 0 where
   pub table : length new.slots ≡ length s.slots
   pub slots : (page : ℕ) → page < length s.slots → slice_index_or new.slots page None ≡ (if contains s.dirty page then Some (record_slot s page) else slice_index_or s.slots page None)
 
--- a force has ended, with its log here: nothing waits for one, and what did is free
-abbrev pub forced_state : State → (anchor : Anchor) → (head : Head) → (slots : List (Option Slot)) → (waiting : List ℕ) → State
-forced_state s anchor head slots waiting = record s { anchor = anchor; head = head; slots = slots; dirty = []; free = s.freed; waiting = waiting; waits = false }
+-- a force has ended, with its log here: nothing waits for one, what did is free, and only what readers hold waits on
+abbrev pub forced_state : State → (anchor : Anchor) → (head : Head) → (slots : List (Option Slot)) → State
+forced_state s anchor head slots = record s { anchor = anchor; head = head; slots = slots; dirty = []; free = s.freed; waiting = filter (is_in s.held) s.waiting; waits = false }
 
 -- A force has ended: it has numbered and logged one record, and none where no page waited.
 pub record IsForced (old new : State) : Type 0 where
-  pub is : new ≡ forced_state old new.anchor new.head new.slots new.waiting
+  pub is : new ≡ forced_state old new.anchor new.head new.slots
   pub number : new.head.number ≡ numbered old
   pub idle : old.dirty ≡ [] → new ≡ old
   pub logs : 1 ≤ length old.dirty → LogsRecord (with_room old new.anchor.first) new

@@ -1,7 +1,7 @@
 //! A volume as its callers see it.
-ghost use Rattle.std.specs.Prelude.{◌≡◌, ◌≤◌, ◌||◌, ℕ, List, Option, length, true, false, Some, Ok, Err, IfOk, IfErr, IsTrue, MatchResult, option_map};
+ghost use Rattle.std.specs.Prelude.{◌≡◌, ◌≤◌, ◌||◌, ℕ, List, Option, length, true, false, Some, Ok, Err, IfOk, IfSome, IfErr, IsTrue, MatchResult, option_map};
 ghost use Rattle.volume_layout.specs.declared.layout.Layout.{Layout as Plan};
-ghost use Rattle.volume_layout.specs.Layout.{plan};
+ghost use Rattle.volume_layout.specs.Layout.{is_data, plan};
 ghost use Rattle.sector_disk.specs.declared.sector.WeakRun.{WeakRun as Run};
 ghost use Rattle.sector_disk.specs.declared.sector.Sector.TheVariants.{Damaged};
 ghost use Rattle.sector_disk.specs.Image.{AreShort, IsCalm, sector_at};
@@ -19,11 +19,12 @@ ghost use Rattle.fsd_files.specs.Replies.{Forced as IsForced, Deleted};
 ghost use Rattle.fsd_files.specs.Answers.{entry_of, entry_reply, next_reply, put_outcome, delete_outcome, keep_outcome, force_outcome};
 ghost use Rattle.fsd_sound.specs.Mounted.{Mounted, image_at};
 ghost use Rattle.fsd_sound.specs.Lost.{AreCopiesOn, LostIn};
-ghost use Rattle.volume_contract.specs.State.{State, Known, Ages, volume_of, Stands, IsNew, GoesOn, HasPathOf, HasCounted, IsForced as HasForced, Counted, downs, Leaves, put_writes, force_len, change_len, put_len, forces_first, forces_for_place};
+ghost use Rattle.volume_contract.specs.State.{State, Known, Ages, volume_of, Stands, IsNew, GoesOn, HasEnough, HasCounted, IsForced as HasForced, Counted, downs, Leaves, put_writes, force_len, change_len, put_len, forces_first, forces_for_place};
 ghost use Rattle.fsd_sound.specs.Writes.{MountKeeps, force_writes};
 ghost use Rattle.volume_contract.specs.Order.{Follows, IsDevice, Keeps, is_idle, put_steps, delete_steps, keep_steps, entry_steps, next_steps, read_steps, force_steps};
 ghost use Rattle.volume_contract.specs.Ends.{Ends, EndsPut, EndsForce, Closes, Looks, IsLater, found_one, Reads, kept_key, device_of};
-ghost use Rattle.volume_contract.specs.Causes.{Causes};
+ghost use Rattle.volume_contract.specs.Causes.{Causes, IsTaken};
+ghost use Rattle.volume_contract.specs.Logged.{AllLogged, KeepsPages};
 ghost use Rattle.volume_contract.specs.Mount.{CountsMount, HealsAnchors, HealsHomes, IsFound, IsRefused, KeepsAll, UnsoundFor, MountsCalm, IsSoundAt, MountsSound};
 ghost use Rattle.fsd_sound.specs.Mounting.{device_of_mount};
 
@@ -128,7 +129,7 @@ pub trait Files<M: Machine>: Sized {
             Ends state holds (λ met. delete_outcome met (volume_of k) key.now) (λ x. Deleted key.now) (Change.Delete key.now) k self.new (M.now m.new) result };
 
     /// Sets the keep of a name's highest version, and answers its key. It takes no memory where the pages are there that the search for it
-    /// meets.
+    /// meets, or all that are in use.
     fn set_keep(&mut self, m: &mut M, name: &FileName, keep: u32) -> Result<Key, Refusal>
         requires { (state self.old).layout.sectors ≤ (M.report m.old).sectors }
         ensures order { Follows (keep_steps (state self.old) keep) result }
@@ -139,7 +140,7 @@ pub trait Files<M: Machine>: Sized {
         ensures idle { IsTrue (is_idle (keep_steps (state self.old) keep)) → m.new ≡ m.old }
         ensures kept { let s = state self.old in MatchResult result (λ x. HasCounted false (forces_first s) s (state self.new)) (λ why. Keeps (keep_steps s keep) why s (state self.new)) }
         ensures name { IfOk result (λ key. key.name ≡ name.now) }
-        ensures memory { HasPathOf (state self.old) (resident self.old) name.now → result ≡ Err Why.Memory → ⊥ }
+        ensures memory { HasEnough (state self.old) (resident self.old) name.now → result ≡ Err Why.Memory → ⊥ }
         ensures causes { Causes M.Machine (resident self.old) (state self.old) (state self.new) m.old m.new result }
         ensures done { M.honest m.new → (k : Known) → Stands state holds self.old k (M.now m.old) →
             Ends state holds (λ met. keep_outcome met (volume_of k) name.now keep) (kept_key keep) (Change.SetKeep name.now keep) k self.new (M.now m.new) result };
@@ -152,6 +153,7 @@ pub trait Files<M: Machine>: Sized {
         ensures state { state self.new ≡ state self.old }
         ensures idle { IsTrue (is_idle (entry_steps (state self.old))) → m.new ≡ m.old }
         ensures key { IfOk result (λ e. e.key ≡ key.now) }
+        ensures taken { IfOk result (IsTaken (state self.new)) }
         ensures stands { M.honest m.new → (k : Known) → Stands state holds self.old k (M.now m.old) → Stands state holds self.new k (M.now m.new) }
         ensures causes { Causes M.Machine (resident self.old) (state self.old) (state self.new) m.old m.new result }
         ensures done { M.honest m.new → (k : Known) → Stands state holds self.old k (M.now m.old) → Looks (entry_reply (volume_of k) key.now) (found_one result) };
@@ -164,6 +166,7 @@ pub trait Files<M: Machine>: Sized {
         ensures state { state self.new ≡ state self.old }
         ensures idle { IsTrue (is_idle (next_steps (state self.old))) → m.new ≡ m.old }
         ensures later { IfOk result (IsLater (option_map (λ key. key.now) after.entry)) }
+        ensures taken { IfOk result (λ found. IfSome found (IsTaken (state self.new))) }
         ensures stands { M.honest m.new → (k : Known) → Stands state holds self.old k (M.now m.old) → Stands state holds self.new k (M.now m.new) }
         ensures causes { Causes M.Machine (resident self.old) (state self.old) (state self.new) m.old m.new result }
         ensures done { M.honest m.new → (k : Known) → Stands state holds self.old k (M.now m.old) → Looks (next_reply (volume_of k) (option_map (λ key. key.now) after.entry)) result };
@@ -175,6 +178,7 @@ pub trait Files<M: Machine>: Sized {
         ensures disk { OnlyReads M.Machine (device_in device_of result) m.old m.new }
         ensures state { state self.new ≡ state self.old }
         ensures idle { IsTrue (is_idle (read_steps (state self.old))) → m.new ≡ m.old }
+        ensures within { (s : ℕ) → result ≡ Err (Why.Damaged s) → M.honest m.new → IsTrue (is_data (state self.old).layout s) }
         ensures damaged { (s : ℕ) → result ≡ Err (Why.Damaged s) → M.honest m.new → sector_at (M.now m.new).image s ≡ Damaged }
         ensures most { IfOk result (λ count. count ≤ length buf.old) }
         ensures stands { M.honest m.new → (k : Known) → Stands state holds self.old k (M.now m.old) → Stands state holds self.new k (M.now m.new) }
@@ -193,6 +197,8 @@ pub trait Files<M: Machine>: Sized {
         ensures state { GoesOn (downs result) (state self.old) (state self.new) }
         ensures idle { IsTrue (is_idle (force_steps (state self.old))) → m.new ≡ m.old }
         ensures kept { MatchResult result (λ x. HasForced (state self.old) (state self.new)) (λ why. Keeps (force_steps (state self.old)) why (state self.old) (state self.new)) }
+        ensures pages_kept { IfOk result (λ x. KeepsPages (state self.old) (state self.new) (resident self.old) (resident self.new)) }
+        ensures logged { IfOk result (λ x. M.honest m.new → AllLogged (state self.old) (state self.new) (resident self.new) (M.now m.new)) }
         ensures causes { Causes M.Machine (resident self.old) (state self.old) (state self.new) m.old m.new result }
         ensures done { M.honest m.new → (k : Known) → Stands state holds self.old k (M.now m.old) →
             EndsForce state holds (λ met. force_outcome (volume_of k)) IsForced k self.new (M.now m.new) result };
@@ -208,6 +214,8 @@ pub trait Files<M: Machine>: Sized {
         ensures state { GoesOn (downs result) (state self.old) (state self.new) }
         ensures idle { IsTrue (is_idle (force_steps (state self.old))) → m.new ≡ m.old }
         ensures kept { MatchResult result (λ x. HasForced (state self.old) (state self.new)) (λ why. Keeps (force_steps (state self.old)) why (state self.old) (state self.new)) }
+        ensures pages_kept { IfOk result (λ x. KeepsPages (state self.old) (state self.new) (resident self.old) (resident self.new)) }
+        ensures logged { IfOk result (λ x. M.honest m.new → AllLogged (state self.old) (state self.new) (resident self.new) (M.now m.new)) }
         ensures causes { Causes M.Machine (resident self.old) (state self.old) (state self.new) m.old m.new result }
         ensures done { M.honest m.new → (k : Known) → Stands state holds self.old k (M.now m.old) →
             EndsForce state holds (λ met. force_outcome (volume_of k)) IsForced k self.new (M.now m.new) result }

@@ -1,13 +1,15 @@
 -- What a force makes of what a volume tells.
 use Rattle.std.proofs.Common.{◌≡◌, ◌⊎◌, inl, inr, ℕ, suc, ◌≤◌, Bool, true, false, cond, not, ◌&&◌, ◌||◌, ◌==◌, List, [], ◌∷◌, length, option_map, Some, None, replicate, nat_lt, refl, sym, ap, subst, ◌∙◌, arith, if◌then◌else◌}
 use Rattle.std.proofs.lemmas.Bool.{eqb-true, lt-ltb}
+use Rattle.std.specs.Prelude.{filter}
 use Rattle.fsd_bytes.specs.declared.refusal.Refusal.{Refusal}
 use Rattle.fsd_bytes.specs.declared.refusal.Refusal.TheVariants as Why
 use Rattle.run_table.specs.Space.{contains, runs_of, where_free}
 use Rattle.sector_set.specs.Area.{Area, area}
 use Rattle.sector_set.proofs.FreeLaws.{where_same}
-use Rattle.shadow_frees.specs.Readers.{is_held, unheld}
-use Rattle.shadow_frees.specs.Waits.{Waits}
+use Rattle.shadow_frees.specs.Readers.{Slots, is_held, unheld}
+use Rattle.shadow_frees.specs.Waits.{Waits, waiting_sectors}
+use Rattle.fsd_files.specs.Volume.{is_in}
 use Rattle.log_thirds.specs.LogValue.{LogValue}
 use Rattle.log_thirds.specs.Moving.{moved}
 use Rattle.page_cache.specs.Cache.{CacheValue, IsCache, cleaned}
@@ -22,7 +24,7 @@ use Rattle.volume_contract.specs.State.{State, IsDownAt, IsForced}
 use Rattle.volume_contract.specs.Order.{Force, IsDownBy, Keeps, force_steps}
 use Rattle.volume_state.specs.Forcing.{force_refusal, place_of}
 use Rattle.volume_state.specs.State.{freed_sectors, held_runs, state}
-use Rattle.volume_state.specs.Volume.{IsWhole, VolumeValue}
+use Rattle.volume_state.specs.Volume.{IsUnread, IsWhole, VolumeValue}
 use Rattle.volume_state.proofs.ForcedLaws.{from_is, to_is, whole_down, whole_forced}
 use Rattle.volume_state.proofs.FreeLaws.{nothing}
 use Rattle.volume_state.proofs.LogLaws.{Tells, failed_log, forced_logs}
@@ -75,6 +77,18 @@ free_same v whole none =
     ∙ where_same (contains v.map.sectors) (λ s. contains v.map.sectors s || contains (unheld v.shadow.held v.shadow.removed).sectors s) v.map.from v.map.to
     (λ s low high. sym (or_false (contains v.map.sectors s)) ∙ ap (λ (xs : List ℕ). contains v.map.sectors s || contains xs s) (sym (none_unheld v.shadow none)))
 
+-- behind a force nothing waits, since no reader holds a version
+none_waiting : (w : Waits) → IsUnread w → w.removed.sectors ≡ [] → waiting_sectors w ≡ []
+none_waiting w unread none =
+    (λ i. where_free (λ s. contains (none i) s || (contains (unread.kept i) s || contains (unread.unfinished i) s)) w.removed.from w.removed.to) ∙ nothing w.removed.from w.removed.to
+
+none_held : (xs : List ℕ) → filter (is_in []) xs ≡ []
+none_held [] = refl
+none_held (x ∷ xs) = none_held xs
+
+waiting_then : (w : Waits) → IsUnread w → (xs : List ℕ) → filter (is_in (held_runs w.held)) xs ≡ []
+waiting_then w unread xs = ap (λ (held : Slots). filter (is_in (held_runs held)) xs) unread.held ∙ none_held xs
+
 -- ---- the state then
 
 -- what it tells of its log is of the log
@@ -86,7 +100,12 @@ module _ (v : VolumeValue) (whole : IsWhole v) where
   idle_forced none =
       let still = whole.still none in
       record {
-        is = λ i. record (state v) { dirty = none i; free = runs_of (free_same v whole still i); waits = not (length (still i) == 0) };
+        is = λ i. record (state v) {
+          dirty = none i;
+          free = runs_of (free_same v whole still i);
+          waiting = (none_waiting v.shadow whole.unread still ∙ sym (waiting_then v.shadow whole.unread (waiting_sectors v.shadow))) i;
+          waits = not (length (still i) == 0);
+        };
         number = ap (λ (xs : List ℕ). if length xs == 0 then v.log.head.number else suc v.log.head.number) (sym none);
         idle = λ e. refl;
         logs = λ some. absurd (omega (arith, some, ap length none));
@@ -109,12 +128,18 @@ module _ (v : VolumeValue) (whole : IsWhole v) where
     freed_is : freed_sectors value_then ≡ freed_sectors v
     freed_is = sym (free_same value_then (whole_forced v whole map w log cache map_is removed kept unfinished held log_is cache_is) none) ∙ free_is
 
+    waiting_is : waiting_sectors w ≡ filter (is_in (held_runs v.shadow.held)) (waiting_sectors v.shadow)
+    waiting_is =
+        none_waiting w (whole_forced v whole map w log cache map_is removed kept unfinished held log_is cache_is).unread none
+        ∙ sym (waiting_then v.shadow whole.unread (waiting_sectors v.shadow))
+
     pub is_forced : IsCache v.cache → 1 ≤ length v.cache.dirty → IsForced (state v) (state value_then)
     is_forced valid some = record {
       is = λ i. record (state value_then) {
         dirty = ap (λ (c : CacheValue). c.dirty) cache_is i;
         free = runs_of (free_is i);
         freed = runs_of (freed_is i);
+        waiting = waiting_is i;
         waits = not (length (none i) == 0);
         held = held_runs (held i);
       };

@@ -1,6 +1,6 @@
 -- Behind a force of a volume what is in memory was so before or stands in the log, and what is told as free was free or waited.
-use Rattle.std.proofs.Common.{◌≡◌, ◌⊎◌, inl, inr, ℕ, Bool, true, false, not, ◌&&◌, ◌||◌, List, [], ◌∷◌, length, option_map, Option, Some, None, refl, sym, ap, ◌∙◌, arith}
-use Rattle.std.specs.Prelude.{IsTrue, slice_index_or}
+use Rattle.std.proofs.Common.{◌≡◌, ◌⊎◌, inl, inr, ℕ, Bool, true, false, not, ◌&&◌, ◌||◌, List, [], ◌∷◌, length, option_map, Option, Some, None, refl, sym, ap, subst, ◌∙◌, arith}
+use Rattle.std.specs.Prelude.{IsSome, IsTrue, slice_index_or}
 use Rattle.std.specs.List.{flat_map, list_any}
 use Rattle.std.proofs.lemmas.Bool.{and_parts, both_ways, or_cases, or_left, or_right}
 use Rattle.run_table.specs.declared.run.Run.{Run}
@@ -9,17 +9,23 @@ use Rattle.run_table.specs.Space.{contains, runs_of, where_free}
 use Rattle.sector_set.proofs.AreaLaws.{free_passes, free_within}
 use Rattle.shadow_frees.specs.Readers.{is_held, unheld}
 use Rattle.shadow_frees.specs.Waits.{waiting_sectors, waits}
+use Rattle.sector_disk.specs.Image.{open_damage}
 use Rattle.sector_disk.specs.Machine.{Moment}
 use Rattle.fsd_formats.specs.declared.entry.Entry.{Entry}
 use Rattle.fsd_files.specs.Volume.{is_in}
 use Rattle.fsd_files.proofs.CountLaws.{contains_occurs, occurs_contains, runs_same, used, used-cons}
+use Rattle.fsd_files.proofs.KeptLaws.{has_on}
+use Rattle.volume_layout.specs.declared.layout.Layout.{Layout}
+use Rattle.log_thirds.specs.Images.{AreOfSlot}
 use Rattle.log_thirds.specs.LogValue.{LogValue}
 use Rattle.log_thirds.specs.Append.{stamp_now}
-use Rattle.page_cache.specs.Cache.{CacheValue, Held, bytes_of, cleaned, held, is_one_of}
+use Rattle.page_cache.specs.Cache.{CacheValue, Held, IsCache, IsResident, bytes_of, cleaned, held, is_one_of}
 use Rattle.group_commit.specs.Cached.{held_stamped, stamped_for}
 use Rattle.group_commit.specs.Logged.{StandsLogged}
 use Rattle.group_commit.proofs.FrameLaws.{held_then}
+use Rattle.group_commit.proofs.ImageLaws.{all_at}
 use Rattle.volume_contract.specs.Causes.{HasUntaken, meets_held}
+use Rattle.volume_contract.specs.Logged.{AllLogged, StandsForced}
 use Rattle.volume_state.specs.Behind.{IsBehind, StandsInLog}
 use Rattle.volume_state.specs.State.{freed_sectors, held_runs, resident, state}
 use Rattle.volume_state.specs.Volume.{IsWhole, VolumeValue}
@@ -102,3 +108,36 @@ module _ (v w : VolumeValue) (was : IsWhole v) (whole : IsWhole w) (to : IsForce
       by : (page : ℕ) (bytes : List ℕ) → bytes_of w.cache page ≡ Some bytes → (b : Bool) → is_one_of v.cache.dirty page ≡ b → (bytes_of v.cache page ≡ Some bytes) ⊎ StandsInLog (state w) now page bytes
       by page bytes there true waiting = inr (record { log = w.log; layout = whole.log; slots = refl; stands = logged page bytes waiting there })
       by page bytes there false clean = inl (sym (ap (λ (c : CacheValue). bytes_of c page) to.cache ∙ clean_bytes v.log v.cache page clean) ∙ there)
+
+  -- a page that waited is in memory
+  pub forced_logged : IsCache v.cache → (now : Moment) → ((page : ℕ) (bytes : List ℕ) → IsTrue (contains v.cache.dirty page) → bytes_of w.cache page ≡ Some bytes → StandsLogged w.log now page bytes) → AllLogged (state v) (state w) (resident w) now
+  forced_logged valid now logged page waited_for = by (held v.cache page) refl (all_at (IsResident v.cache) v.cache.dirty valid.waiting page waited_for)
+    where
+      now_held : Held → Held
+      now_held = held_stamped (stamp_now v.log) (is_one_of v.cache.dirty page)
+
+      there : (h : Held) → held v.cache page ≡ Some h → bytes_of w.cache page ≡ Some (now_held h).bytes
+      there h is =
+          ap (λ (c : CacheValue). bytes_of c page) to.cache
+          ∙ ap (option_map (λ (h : Held). h.bytes)) (held_then (stamp_now v.log) v.cache.dirty v.cache page ∙ ap (option_map now_held) is)
+
+      stands : (bytes : List ℕ) → bytes_of w.cache page ≡ Some bytes → StandsLogged w.log now page bytes → StandsForced (state w) (resident w) now page
+      stands bytes there s =
+          let may = open_damage now.windows in
+          let lies = s.logged.in_record in
+          record {
+            bytes = bytes;
+            there = there;
+            place = s.a;
+            copy = s.b;
+            copies = subst (λ (l : Layout). AreOfSlot l (slice_index_or w.log.slots page None) s.a s.b) whole.log s.logged;
+            twice = record {
+              first = has_on may s.seen now.image bytes s.a (s.worn.each s.a) (inl s.first);
+              second = has_on may s.seen now.image bytes s.b (s.worn.each s.b) (inl s.second);
+              apart = omega (arith, lies.there, lies.first, lies.copy);
+            };
+          }
+
+      by : (o : Option Held) → held v.cache page ≡ o → IsSome o → StandsForced (state w) (resident w) now page
+      by None is some = absurd (cc some)
+      by (Some h) is some = stands (now_held h).bytes (there h is) (logged page (now_held h).bytes waited_for (there h is))

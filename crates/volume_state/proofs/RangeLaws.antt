@@ -1,18 +1,20 @@
 -- What a read of a version answers.
-use Rattle.std.proofs.Common.{◌≡◌, inl, inr, ℕ, zero, suc, ◌+◌, ◌^◌, ◌<◌, ◌≤◌, Bool, true, false, cond, List, [], ◌∷◌, length, Option, Some, None, Result, Ok, Err, refl, sym, ap, subst, ◌∙◌, arith}
+use Rattle.std.proofs.Common.{◌≡◌, inl, inr, ℕ, zero, suc, ◌+◌, ◌-◌, ◌/◌, ◌^◌, ◌==◌, ◌<◌, ◌≤◌, Bool, true, false, cond, List, [], ◌∷◌, length, take, drop, Option, Some, None, Result, Ok, Err, refl, sym, ap, subst, ◌∙◌, arith}
 use Rattle.std.specs.Prelude.{⊤, All, IfErr, IfOk, IsErrAnd, IsTrue, nat_le, nat_lt, option_map, slice_index_or}
 use Rattle.std.specs.FinMap.{find}
 use Rattle.std.specs.List.{AllByRecursion, list_all, range_with_len}
 use Rattle.std.specs.Ordering.{eq_by_cmp}
-use Rattle.std.proofs.lemmas.Bool.{and_parts, ltb-true}
+use Rattle.std.proofs.lemmas.Bool.{and_parts, ltb-true, or_cases, or_left}
+use Rattle.volume_layout.specs.declared.layout.Layout.{Layout}
 use Rattle.volume_layout.specs.Layout.{data_start, home_a, is_data}
 use Rattle.run_table.specs.declared.run.Run.{Run}
 use Rattle.run_table.specs.RunTable.{sectors_of}
 use Rattle.run_table.specs.Space.{all_differ, contains}
-use Rattle.run_table.proofs.SectorLaws.{first_there, rest_there}
+use Rattle.run_table.proofs.SectorLaws.{all_in, first_there, rest_there}
 use Rattle.sector_disk.specs.declared.sector.Sector.TheVariants as Sector
 use Rattle.sector_disk.specs.Image.{IsWorn, sector_at}
 use Rattle.sector_disk.proofs.Wear.{worn_whole}
+use Rattle.fsd_bytes.specs.Bytes.{sector_len}
 use Rattle.fsd_bytes.specs.declared.key.Key.{Key}
 use Rattle.fsd_bytes.specs.declared.refusal.Refusal.{Refusal}
 use Rattle.fsd_bytes.specs.declared.refusal.Refusal.TheVariants as Why
@@ -22,10 +24,10 @@ use Rattle.fsd_formats.specs.NamePage.{is_entry}
 use Rattle.fsd_files.specs.Answers.{entry_of, found_or}
 use Rattle.fsd_files.specs.Disk.{Image, Sectors}
 use Rattle.fsd_files.specs.Files.{File, Files}
-use Rattle.fsd_files.specs.Kept.{FirstDamaged, IsWhole as IsSectorWhole, Kept, KeptIn, Lists, range_sectors}
+use Rattle.fsd_files.specs.Kept.{FirstDamaged, IsWhole as IsSectorWhole, Kept, KeptIn, Lists, data_sectors, range_sectors}
 use Rattle.fsd_files.specs.Replies.{Reply, Found, Refused}
 use Rattle.fsd_files.proofs.ChangeLaws.{same_key_turned}
-use Rattle.fsd_files.proofs.KeptLaws.{back_there, front_there}
+use Rattle.fsd_files.proofs.KeptLaws.{back_there, behind_there, front_there}
 use Rattle.version_data.specs.declared.fault.DataFault.{DataFault}
 use Rattle.version_data.specs.declared.fault.DataFault.TheVariants.{Device, Damaged}
 use Rattle.version_data.specs.Reading.{GivesRange, NamesFirst, data_failed_at, refusal_of}
@@ -35,7 +37,6 @@ use Rattle.volume_contract.specs.Order.{Comes, Follows, IsData, Step, Through, e
 use Rattle.volume_contract.specs.State.{State}
 use Rattle.volume_state.specs.Taken.{are_taken, is_taken, met_entry}
 use Rattle.volume_state.specs.Volume.{VolumeValue}
-use Rattle.volume_state.proofs.TakenLaws.{all_of}
 
 -- ---- an entry that is taken
 
@@ -59,19 +60,23 @@ run_there [] k j d lt inside = absurd (omega arith)
 run_there (r ∷ runs) zero j d lt inside = front_there (r.start + j) (range_with_len r.start r.length) (sectors_of runs) (range_there r.start r.length j inside)
 run_there (r ∷ runs) (suc k) j d lt inside = back_there ((slice_index_or runs k d).start + j) (range_with_len r.start r.length) (sectors_of runs) (run_there runs k j d (omega arith) inside)
 
-module _ (v : VolumeValue) (e : Entry) (taken : are_taken v e.runs ≡ true) where
-  below : (s : ℕ) → IsTrue (contains (sectors_of e.runs) s) → s < v.layout.sectors
-  below s there =
-      let each = all_of (is_taken v) (sectors_of e.runs) (and_parts (all_differ (sectors_of e.runs)) (list_all (is_taken v) (sectors_of e.runs)) taken).1 s there in
-      ltb-true s v.layout.sectors (and_parts (nat_le (data_start v.layout) s) (nat_lt s v.layout.sectors) (and_parts (is_data v.layout s) _ each).0).1
+data_below : (l : Layout) (s : ℕ) → IsTrue (is_data l s) → s < l.sectors
+data_below l s within = ltb-true s l.sectors (and_parts (nat_le (data_start l) s) (nat_lt s l.sectors) within).1
 
-  pub taken_below : All (λ s. s < v.layout.sectors) (sectors_of e.runs)
-  taken_below k d lt = below (slice_index_or (sectors_of e.runs) k d) (index_there (sectors_of e.runs) k d lt)
+pub all_below : (l : Layout) (xs : List ℕ) → ((s : ℕ) → IsTrue (contains xs s) → IsTrue (is_data l s)) → All (λ s. s < l.sectors) xs
+all_below l xs within k d lt = let s = slice_index_or xs k d in data_below l s (within s (index_there xs k d lt))
+
+module _ (v : VolumeValue) (e : Entry) (taken : are_taken v e.runs ≡ true) where
+  pub taken_data : (s : ℕ) → IsTrue (contains (sectors_of e.runs) s) → IsTrue (is_data v.layout s)
+  taken_data s there =
+      let all = (and_parts (all_differ (sectors_of e.runs)) (list_all (is_taken v) (sectors_of e.runs)) taken).1 in
+      (and_parts (is_data v.layout s) _ (all_in (is_taken v) (sectors_of e.runs) s all there)).0
 
   pub taken_runs : v.layout.sectors ≤ 2 ^ 24 → is_entry e ≡ true → All (λ r. r.start + r.length ≤ 2 ^ 32) e.runs
   taken_runs most good k d lt =
       let each = entry_lengths e good k d lt in
-      let first = below ((slice_index_or e.runs k d).start + 0) (run_there e.runs k 0 d lt (omega (arith, each.0))) in
+      let start = (slice_index_or e.runs k d).start + 0 in
+      let first = data_below v.layout start (taken_data start (run_there e.runs k 0 d lt (omega (arith, each.0)))) in
       omega (arith, first, each.1, most)
 
 -- ---- the steps
@@ -117,6 +122,37 @@ told_damaged i j runs from n s (Device place) names is = absurd (cc is)
 told_damaged i j runs from n s (Damaged t) names is =
     let same : t ≡ s = cc is in
     subst (λ (x : ℕ). sector_at j x ≡ Sector.Damaged) same (first_damaged i j (range_sectors runs from n) t names)
+
+named_there : (i j : Image) (sectors : List ℕ) (s : ℕ) → FirstDamaged i j sectors s → IsTrue (contains sectors s)
+named_there i j [] s first = absurd first
+named_there i j (t ∷ sectors) s (inl here) = subst (λ (x : ℕ). IsTrue (contains (t ∷ sectors) x)) here.0 (first_there t sectors)
+named_there i j (t ∷ sectors) s (inr later) = rest_there t s sectors (named_there i j sectors s later.1)
+
+taken_there : (n s : ℕ) (xs : List ℕ) → IsTrue (contains (take n xs) s) → IsTrue (contains xs s)
+taken_there zero s xs there = absurd (cc there)
+taken_there (suc n) s [] there = there
+taken_there (suc n) s (x ∷ xs) there = elim (or_cases (x == s) (contains (take n xs) s) there) [
+  | inl here ↦ or_left (x == s) (contains xs s) here
+  | inr more ↦ rest_there x s xs (taken_there n s xs more)
+]
+
+dropped_there : (n s : ℕ) (xs : List ℕ) → IsTrue (contains (drop n xs) s) → IsTrue (contains xs s)
+dropped_there zero s xs there = there
+dropped_there (suc n) s [] there = there
+dropped_there (suc n) s (x ∷ xs) there = rest_there x s xs (dropped_there n s xs there)
+
+in_range_there : (runs : List Run) (from n s : ℕ) → IsTrue (contains (range_sectors runs from n) s) → IsTrue (contains (sectors_of runs) s)
+in_range_there runs from zero s there = absurd (cc there)
+in_range_there runs from (suc n) s there =
+    let first : ℕ = from / sector_len in
+    behind_there s (sectors_of runs) (dropped_there first s (data_sectors runs) (taken_there ((from + n) / sector_len + 1 - first) s (drop first (data_sectors runs)) there))
+
+-- and one of the version's
+pub told_there : (i j : Image) (runs : List Run) (from n s : ℕ) (fault : DataFault) → NamesFirst i j runs from n fault → refusal_of fault ≡ Why.Damaged s → IsTrue (contains (sectors_of runs) s)
+told_there i j runs from n s (Device place) names is = absurd (cc is)
+told_there i j runs from n s (Damaged t) names is =
+    let same : t ≡ s = cc is in
+    subst (λ (x : ℕ). IsTrue (contains (sectors_of runs) x)) same (in_range_there runs from n t (named_there i j (range_sectors runs from n) t names))
 
 -- a look-up tells no sector as damaged
 pub none_damaged : (s : State) (why : Refusal) (at : ℕ) → Comes (entry_steps s) why → why ≡ Why.Damaged at → ⊥

@@ -2,7 +2,7 @@
 use Rattle.std.proofs.Common.{◌≡◌, ◌⊎◌, inl, inr, ℕ, zero, suc, ◌<◌, ◌≤◌, Bool, true, false, not, ◌&&◌, ◌||◌, List, [], ◌∷◌, length, refl, sym, ap, subst, ◌∙◌, arith}
 use Rattle.std.specs.Prelude.{◌↔◌, IsTrue, Contains, nat_le, nat_lt, slice_index_or, ◌==◌}
 use Rattle.std.specs.List.{list_all, flat_map}
-use Rattle.std.proofs.lemmas.Bool.{and_parts, and_from, not-false, or_cases, or_left, or_parts, or_right, both_ways, eq-eqb, false_from_ne_true, eqb-true, leb-true, ltb-true, le-leb, lt-ltb, not-true}
+use Rattle.std.proofs.lemmas.Bool.{and_parts, and_from, not-false, or_cases, or_left, or_parts, or_right, both_ways, eq-eqb, false_from_ne_true, eqb-true, leb-true, ltb-true, le-leb, lt-ltb, not-true, or_from}
 use Rattle.run_table.specs.declared.run.Run.{Run}
 use Rattle.run_table.specs.RunTable.{sectors_of}
 use Rattle.run_table.specs.Space.{contains, all_differ, runs_of}
@@ -11,8 +11,9 @@ use Rattle.volume_layout.specs.declared.layout.Layout.{Layout}
 use Rattle.volume_layout.specs.Layout.{data_start, is_data}
 use Rattle.fsd_formats.specs.declared.entry.Entry.{Entry}
 use Rattle.sector_set.specs.Area.{Area, AreOut}
+use Rattle.sector_set.proofs.AreaLaws.{free_passes}
 use Rattle.sector_set.proofs.FreeLaws.{contains_where}
-use Rattle.sector_set.proofs.MeetLaws.{any_at}
+use Rattle.sector_set.proofs.MeetLaws.{any_at, any_none}
 use Rattle.fsd_table.specs.Breaks.{Breaks, entry_clashes, taken_before}
 use Rattle.fsd_table.specs.Pages.{entries_of}
 use Rattle.fsd_table.specs.Table.{Visit, entries_in, visits}
@@ -22,9 +23,10 @@ use Rattle.fsd_files.specs.Volume.{in_version, is_in, plans_of, waits as waits_o
 use Rattle.fsd_files.specs.Waiting.{IsSpaced}
 use Rattle.fsd_files.proofs.CountLaws.{occurs, contains_occurs, occurs_contains, differ_occurs, occurs_differ, runs_same, used, used-cons}
 use Rattle.fsd_sound.specs.Mounted.{Mounted}
+use Rattle.shadow_frees.specs.Readers.{Slots}
 use Rattle.shadow_frees.specs.Waits.{AreIdle, waiting_sectors, waits}
-use Rattle.volume_contract.specs.Causes.{HasUntaken, meets_held}
-use Rattle.volume_state.specs.State.{Holds, state}
+use Rattle.volume_contract.specs.Causes.{HasUntaken, IsTaken, meets_held}
+use Rattle.volume_state.specs.State.{Holds, held_runs, state}
 use Rattle.volume_state.specs.Taken.{are_taken, is_taken}
 use Rattle.volume_state.specs.Volume.{IsWhole, VolumeValue}
 use Rattle.cached_table.specs.Surveying.{IsOfData}
@@ -175,3 +177,26 @@ module _ (v : VolumeValue) (whole : IsWhole v) (pages : List (List ℕ)) (visit 
       by : (b : Bool) → all_differ (sectors_of e.runs) ≡ b → (b && list_all (is_taken v) (sectors_of e.runs)) ≡ false → Breaks v.layout pages visit.page ⊎ HasUntaken (state v) e
       by false twice rest = inl (breaks (or_left (not (all_differ (sectors_of e.runs))) _ (ap not twice)))
       by true once rest = let one = some_fails (is_taken v) (sectors_of e.runs) rest in untaken_at one.0 one.1 one.2
+
+-- ---- an entry whose sectors are taken has none that is free, waits or is another's that is held
+
+module _ (v : VolumeValue) (runs : List Run) (taken : are_taken v runs ≡ true) where
+  neither : (t : ℕ) → contains (sectors_of runs) t ≡ true → (is_in (runs_of v.map.sectors ∷ []) t || contains (waiting_sectors v.shadow) t) ≡ false
+  neither t there = or_from (is_in (runs_of v.map.sectors ∷ []) t) (contains (waiting_sectors v.shadow) t) (false_from_ne_true (is_in (runs_of v.map.sectors ∷ []) t) free) (false_from_ne_true (contains (waiting_sectors v.shadow) t) waiting)
+    where
+      none : (contains v.map.sectors t ≡ false) × (waits v.shadow t ≡ false)
+      none =
+          let each = all_of (is_taken v) (sectors_of runs) (and_parts (all_differ (sectors_of runs)) (list_all (is_taken v) (sectors_of runs)) taken).1 t there in
+          let out = (and_parts (is_data v.layout t) (not (contains v.map.sectors t || waits v.shadow t)) each).1 in
+          or_parts (contains v.map.sectors t) (waits v.shadow t) (not-true (contains v.map.sectors t || waits v.shadow t) out)
+
+      free : is_in (runs_of v.map.sectors ∷ []) t ≡ true → ⊥
+      free c = both_ways (contains v.map.sectors t) none.0
+          (occurs_contains t v.map.sectors (omega (arith, contains_occurs t (flat_map sectors_of (runs_of v.map.sectors ∷ [])) c, used-cons t (runs_of v.map.sectors) [], runs_same t v.map.sectors)))
+
+      waiting : contains (waiting_sectors v.shadow) t ≡ true → ⊥
+      waiting c = both_ways (waits v.shadow t) none.1 (free_passes v.shadow.removed.from v.shadow.removed.to (waits v.shadow) t c)
+
+pub taken_is_told : (v : VolumeValue) → IsWhole v → (e : Entry) → are_taken v e.runs ≡ true → IsTaken (state v) e
+taken_is_told v whole e taken has =
+    both_ways _ (or_from _ _ (any_none (λ t. is_in ((state v).free ∷ []) t || contains (state v).waiting t) (sectors_of e.runs) (neither v e.runs taken)) (ap (λ (slots : Slots). meets_held (held_runs slots) e.runs) whole.unread.held)) has

@@ -11,7 +11,7 @@ use Rattle.fsd_files.specs.Volume.{is_free}
 use Rattle.fsd_sound.specs.Mounted.{Mounted, image_at}
 use Rattle.log_thirds.specs.Append.{IsIndexed}
 use Rattle.log_thirds.specs.LogValue.{FitsLayout}
-use Rattle.volume_contract.specs.State.{HasPathOf, State}
+use Rattle.volume_contract.specs.State.{HasEnough, State}
 use Rattle.volume_state.specs.Volume.{VolumeValue}
 use Rattle.cached_table.specs.Opening.{is_reached}
 
@@ -54,9 +54,9 @@ module _ (v : VolumeValue) where
   abbrev pub resident : ℕ → Option (List ℕ)
   resident = bytes_of v.cache
 
-  -- those that the search for the highest version of a name meets are there
-  abbrev pub HasPathTo : (name : List ℕ) → Type 0
-  HasPathTo name = HasPathOf state resident name
+  -- those are there that the search for the highest version of a name meets, or all in use
+  abbrev pub HasEnoughFor : (name : List ℕ) → Type 0
+  HasEnoughFor name = HasEnough state resident name
 
 -- ---- over an honest machine
 

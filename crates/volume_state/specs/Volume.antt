@@ -31,9 +31,9 @@ pub record IsUnread (w : Waits) : Type 0 where
   pub unfinished : w.unfinished.sectors ≡ []
   pub held : w.held ≡ replicate 8 None
 
--- The layout is one that is planned. The map and the shadow are of the data area, and no free sector waits; the log is the layout's, in the epoch of the serials; each
--- name page is free or not, and none is pinned. Where it is not down, each dirty page is an image of itself, and the next record can be
--- numbered; where none is dirty no sector waits for a force.
+-- The layout is one that is planned. The map and the shadow are of the data area, and no free sector waits; the log is the layout's, in
+-- the epoch of the serials; each name page is free or not, and none is pinned. Where it is not down, each dirty page is an image of
+-- itself, and the next record can be numbered; where none is dirty no sector waits for a force.
 pub record IsWhole (v : VolumeValue) : Type 0 where
   pub planned : plan v.layout.sectors v.layout.third v.layout.pages ≡ Ok v.layout
   pub map : IsOfData v.layout v.map

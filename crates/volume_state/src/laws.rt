@@ -16,7 +16,7 @@ ghost use Rattle.name_page.specs.Lookups.{entry_with, entry_after};
 ghost use Rattle.table_pages.specs.Kept.{images_of};
 ghost use Rattle.fsd_sound.specs.Mounted.{Mounted, image_at};
 ghost use Rattle.group_commit.specs.Newest.{AreCopies, KnowsPages, newest_by};
-ghost use Rattle.volume_contract.specs.Causes.{HasUntaken};
+ghost use Rattle.volume_contract.specs.Causes.{HasUntaken, IsTaken};
 ghost use Rattle.volume_contract.specs.State.{Known, Ages, Stands};
 ghost use Rattle.volume_state.specs.State.{Holds, resident, state};
 ghost use Rattle.volume_state.specs.Taken.{are_taken};
@@ -54,6 +54,11 @@ pub fn pages_are_known()
 /// The sectors of each entry of its table are taken: an entry that is met is none of its table where they aren't.
 pub fn entries_are_taken()
     ensures { (v : VolumeValue) (k : Known) (now : Moment) (e : Entry) → IsWhole v → Stands state Holds v k now → Contains k.mounted.volume.entries e → IsTrue (are_taken v e.runs) }
+{}
+
+/// An entry whose sectors are all taken has none that is free, that waits, or that is another version's which is held.
+pub fn taken_entries_are_told()
+    ensures { (v : VolumeValue) (e : Entry) → IsWhole v → IsTrue (are_taken v e.runs) → IsTaken (state v) e }
 {}
 
 /// An entry of a leaf that is reached, and whose sectors aren't all taken, breaks the table, or has a sector that no entry may have.

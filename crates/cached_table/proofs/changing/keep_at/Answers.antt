@@ -1,5 +1,6 @@
+use Rattle.std.proofs.Common.{inl, inr}
 use Rattle.std.proofs.lemmas.Result.{err_from_is_err_and}
-use Rattle.name_page.proofs.LookLaws.{edits_then, pages_then, walks_edits, walks_pages}
+use Rattle.name_page.proofs.LookLaws.{all_stay, edits_then, pages_then, walks_edits, walks_pages}
 use Rattle.cached_table.proofs.HighestLaws.{fails_trusted, look_fails, sets_now, there_now}
 use Rattle.cached_table.proofs.changing.keep_at.Goals as goal
 
@@ -37,12 +38,18 @@ returns-in-Err-clause-fault g c = fails_trusted (g.T.Pages.trusted c.set_keep.ne
 -- ---- memory is not wanting
 
 pub returns-in_err-found-clause-memory : goal.returns-in_err-found-clause-memory
-returns-in_err-found-clause-memory g c = λ path.
+returns-in_err-found-clause-memory g c =
     let p = err_from_is_err_and c.from_residual.result c.from_residual.ensures.1 in
-    rw (p.1, p.2) (c.in_err-found.ensures.memory path).enough
+    rw (p.1, p.2) (λ has. elim has [
+      | inl path ↦ (c.in_err-found.ensures.memory path).enough
+      | inr all ↦ (c.in_err-found.ensures.full all).enough
+    ])
 
 pub returns-in-Err-clause-memory : goal.returns-in-Err-clause-memory
-returns-in-Err-clause-memory g c = λ path. c.in-Err.ensures.memory (c.in_ok-found.ensures.back path)
+returns-in-Err-clause-memory g c = λ has. elim has [
+  | inl path ↦ c.in-Err.ensures.memory (c.in_ok-found.ensures.back path)
+  | inr all ↦ c.in-Err.ensures.full (all_stay g.T.Pages c.args.t.now c.newest.new.t (c.in_ok-found.ensures.full all) all)
+]
 
 pub returns-in-Ok-clause-memory : goal.returns-in-Ok-clause-memory
-returns-in-Ok-clause-memory g c = λ there is. cc is
+returns-in-Ok-clause-memory g c = λ has is. cc is

@@ -1,7 +1,7 @@
-use Rattle.std.proofs.Common.{rules}
+use Rattle.std.proofs.Common.{inl, inr, rules}
 use Rattle.version_table.specs.Fault.{outer_met}
 use Rattle.cached_table.proofs.EditLaws.{edits_left, keeps_left, one_left, sets_left, stays_left}
-use Rattle.cached_table.proofs.PathLaws.{path_first}
+use Rattle.cached_table.proofs.PathLaws.{path_first, used_first}
 use Rattle.cached_table.proofs.WaitingLaws.{waits_left}
 use Rattle.cached_table.proofs.changing.set_keep_in.Goals as goal
 
@@ -35,4 +35,7 @@ returns-clause-fault g c =
     _ _ _ (search rules) (search rules) (search rules) c.keep_at-done.ensures.calls.home_a c.args.name.now c.keep_at-done.result c.keep_at-done.ensures.fault
 
 pub returns-clause-memory : goal.returns-clause-memory
-returns-clause-memory g c = λ has. c.keep_at-done.ensures.memory (path_first _ _ c.args.source.now _ c.new-table.result c.new-table.ensures.over c.args.name.now has)
+returns-clause-memory g c = λ has. elim has [
+  | inl path ↦ c.keep_at-done.ensures.memory (inl (path_first _ _ c.args.source.now _ c.new-table.result c.new-table.ensures.over c.args.name.now path))
+  | inr all ↦ c.keep_at-done.ensures.memory (inr (record { each = used_first _ _ c.args.source.now _ c.new-table.result c.new-table.ensures.over all }))
+]

@@ -1,7 +1,7 @@
-use Rattle.std.proofs.Common.{rules}
+use Rattle.std.proofs.Common.{inl, inr, rules}
 use Rattle.name_btree.specs.Fault.{outer_told}
 use Rattle.cached_table.proofs.LookLaws.{faults_left, leads_left, looks_left, pages_within, shown_left}
-use Rattle.cached_table.proofs.PathLaws.{path_first, path_left}
+use Rattle.cached_table.proofs.PathLaws.{path_first, path_left, used_first, used_left}
 use Rattle.cached_table.proofs.StayLaws.{looks_stay}
 use Rattle.cached_table.proofs.looking.highest_in.Goals as goal
 
@@ -32,8 +32,16 @@ returns-clause-way g c =
 
 pub returns-clause-memory : goal.returns-clause-memory
 returns-clause-memory g c =
-    λ has. (c.highest-found.ensures.memory (path_first _ _ c.args.source.now _ c.new-table.result c.new-table.ensures.over c.args.name.now has)).enough
+    λ has. elim has [
+      | inl path ↦ (c.highest-found.ensures.memory (path_first _ _ c.args.source.now _ c.new-table.result c.new-table.ensures.over c.args.name.now path)).enough
+      | inr all ↦ (c.highest-found.ensures.calls.memory (record { each = used_first _ _ c.args.source.now _ c.new-table.result c.new-table.ensures.over all })).enough
+    ]
 
 pub returns-clause-stays : goal.returns-clause-stays
-returns-clause-stays g c =
-    path_left _ _ c.args.source.now _ c.new-table.result c.new-table.ensures.over c.args.name.now c.highest-found.new.t c.rest.new.self (outer_told c.highest-found.result) c.highest-found.ensures.memory c.rest.ensures.memory _ (search rules)
+returns-clause-stays g c = λ path.
+    path_left _ _ c.args.source.now _ c.new-table.result c.new-table.ensures.over c.args.name.now c.highest-found.new.t c.rest.new.self (outer_told c.highest-found.result) c.highest-found.ensures.memory c.rest.ensures.memory _ (search rules) path
+
+pub returns-clause-all_stay : goal.returns-clause-all_stay
+returns-clause-all_stay g c = λ all.
+    used_left _ _ c.args.source.now _ c.new-table.result c.new-table.ensures.over c.highest-found.new.t c.rest.new.self (outer_told c.highest-found.result)
+    (c.highest-found.ensures.calls.memory (record { each = used_first _ _ c.args.source.now _ c.new-table.result c.new-table.ensures.over all })) c.rest.ensures.memory _ (search rules) all

@@ -4,7 +4,7 @@ use Rattle.fsd_files.specs.Answers.{entry_of as entry_in, entry_reply, found_or}
 use Rattle.name_btree.specs.Lookup.{entry_of}
 use Rattle.volume_state.specs.State.{resident, state}
 use Rattle.volume_changes.proofs.CauseLaws.{met_handed}
-use Rattle.volume_changes.proofs.EntryLaws.{entry_looked_up, fault_looked_up, key_met}
+use Rattle.volume_changes.proofs.EntryLaws.{entry_looked_up, fault_looked_up, key_met, taken_met}
 use Rattle.table_volume.proofs.volume.Volume.entry.Goals as goal
 
 pub returns-in-None-clause-done : goal.returns-in-None-clause-done
@@ -33,3 +33,6 @@ returns-in-Some-clause-causes g c =
 pub returns-in-Some-clause-key : goal.returns-in-Some-clause-key
 returns-in-Some-clause-key g c =
     key_met c.find.new.self c.args.key.now c.in-Some.found.page c.in-Some.found.entry c.met_entry.result (rw c.in-Some.is at c.in_ok-found.ensures.key) c.met_entry.ensures
+
+pub returns-in-Some-clause-taken : goal.returns-in-Some-clause-taken
+returns-in-Some-clause-taken g c = taken_met c.find.new.self c.in-Some.found.page c.in-Some.found.entry c.met_entry.result c.in_ok-found.ensures.told c.met_entry.ensures

@@ -4,6 +4,7 @@ use Rattle.volume_changes.proofs.CauseLaws.{causes_by, met_left}
 use Rattle.volume_changes.proofs.EntryLaws.{lost_found, taken_there}
 use Rattle.volume_changes.proofs.FindLaws.{finds_found, stands_found}
 use Rattle.volume_changes.proofs.ReadLaws.{shows_by, unsound_by}
+use Rattle.volume_state.proofs.TakenLaws.{taken_is_told}
 use Rattle.table_volume.proofs.volume.Volume.find.Goals as goal
 
 pub returns-clause-stands : goal.returns-clause-stands
@@ -16,6 +17,9 @@ returns-clause-found g c =
 
 pub returns-clause-taken : goal.returns-clause-taken
 returns-clause-taken g c = λ h k stands e has. taken_there _ c.args.self.now c.self.view_is c.self.invariant k (g.M.Machine.now c.args.m.now) stands e has
+
+pub returns-clause-told : goal.returns-clause-told
+returns-clause-told g c = λ e taken. taken_is_told _ c.self.invariant e taken
 
 pub returns-clause-causes : goal.returns-clause-causes
 returns-clause-causes g c =

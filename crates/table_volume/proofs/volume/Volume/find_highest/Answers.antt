@@ -6,7 +6,7 @@ use Rattle.volume_changes.proofs.CauseLaws.{causes_by, met_left}
 use Rattle.volume_changes.proofs.EntryLaws.{lost_found, taken_there}
 use Rattle.volume_changes.proofs.ReadLaws.{shows_by, unsound_by}
 use Rattle.volume_changes.proofs.FindLaws.{finds_looked, stands_found}
-use Rattle.volume_changes.proofs.MemoryLaws.{path_in, path_of_cache, told_memory}
+use Rattle.volume_changes.proofs.MemoryLaws.{enough_in, enough_left, enough_of_cache, told_memory}
 use Rattle.volume_state.proofs.TableLaws.{found_highest}
 use Rattle.table_volume.proofs.volume.Volume.find_highest.Goals as goal
 
@@ -44,9 +44,9 @@ returns-clause-met g c =
 
 pub returns-clause-memory : goal.returns-clause-memory
 returns-clause-memory g c =
-    λ has wants. c.highest_in-found.ensures.memory (path_in _ c.args.self.now c.self.view_is c.self.invariant c.args.name.now has) (told_memory c.home_a-home_a.result c.highest_in-found.result c.told.result c.told.ensures wants)
+    λ has wants. c.highest_in-found.ensures.memory (enough_in _ c.args.self.now c.self.view_is c.self.invariant c.args.name.now has) (told_memory c.home_a-home_a.result c.highest_in-found.result c.told.result c.told.ensures wants)
 
 pub returns-clause-stays : goal.returns-clause-stays
 returns-clause-stays g c = λ has.
-    path_of_cache _ c.args.self.now c.self.view_is c.self.invariant c.args.name.now c.highest_in-found.new.cache c.highest_in-found.new.free
-    (c.highest_in-found.ensures.stays (path_in _ c.args.self.now c.self.view_is c.self.invariant c.args.name.now has))
+    enough_of_cache _ c.args.self.now c.self.view_is c.self.invariant c.args.name.now c.highest_in-found.new.cache c.highest_in-found.new.free c.highest_in-found.ensures.free
+    (enough_left _ _ _ _ c.highest_in-found.ensures.stays c.highest_in-found.ensures.all_stay (enough_in _ c.args.self.now c.self.view_is c.self.invariant c.args.name.now has))

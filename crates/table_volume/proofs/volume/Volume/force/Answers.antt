@@ -1,4 +1,4 @@
-use Rattle.std.proofs.Common.{◌≡◌, ◌+◌, ◌≤◌, [], length, None, Some, Err, refl, sym, ap, subst, ◌∙◌, rules}
+use Rattle.std.proofs.Common.{◌≡◌, ◌+◌, ◌≤◌, ℕ, List, [], length, None, Some, Err, refl, sym, ap, subst, ◌∙◌, rules}
 use Rattle.std.proofs.lemmas.List.{nil_from_length}
 use Rattle.sector_disk.specs.Calls.{WritesDisk}
 use Rattle.sector_disk.proofs.CallLaws.{told_up, writes_none, writes_told, writes_more}
@@ -10,6 +10,8 @@ use Rattle.fsd_files.specs.Answers.{force_outcome}
 use Rattle.fsd_files.specs.Disk.{Touches}
 use Rattle.fsd_files.specs.Replies.{Forced as IsForced}
 use Rattle.volume_contract.specs.declared.files.Forced.{Forced}
+use Rattle.run_table.specs.Space.{contains}
+use Rattle.volume_contract.specs.Logged.{AllLogged, KeepsPages}
 use Rattle.volume_contract.specs.Order.{Keeps, force_steps}
 use Rattle.volume_state.specs.Behind.{IsBehind}
 use Rattle.volume_state.specs.State.{Holds, resident, state}
@@ -24,7 +26,7 @@ use Rattle.volume_state.proofs.ForceMomentLaws.{agrees, commits, force_touches, 
 use Rattle.volume_state.proofs.ForcedLaws.{whole_down, whole_forced}
 use Rattle.volume_state.proofs.KeptLaws.{idle_forced, is_forced, kept_down, value_then}
 use Rattle.volume_changes.proofs.MemoryLaws.{forced_content}
-use Rattle.volume_state.proofs.LoggedLaws.{forced_behind}
+use Rattle.volume_state.proofs.LoggedLaws.{forced_behind, forced_logged}
 use Rattle.table_volume.proofs.volume.Volume.force.Goals as goal
 
 pub invariant_of-self : goal.invariant_of-self
@@ -160,7 +162,7 @@ returns-in-Err-clause-lost g c h =
 -- ---- its pages stay in memory
 
 pub returns-then-len-eq0-clause-resident : goal.returns-then-len-eq0-clause-resident
-returns-then-len-eq0-clause-resident g c = λ pages page x is. is
+returns-then-len-eq0-clause-resident g c = record { there = λ page is. is; accepted = λ pages page x is. is }
 
 pub returns-in-Ok-clause-resident : goal.returns-in-Ok-clause-resident
 returns-in-Ok-clause-resident g c =
@@ -208,3 +210,34 @@ returns-in-Err-clause-rest g c h =
     let v : VolumeValue = record { layout = c.self.inside.layout; map = c.self.inside.map; shadow = c.self.inside.shadow; log = c.self.inside.log; cache = c.self.inside.cache; free_pages = c.self.inside.free_pages; serial = c.self.inside.serial; versions = c.self.inside.versions; down = c.self.inside.down } in
     let old = g.M.Machine.now c.args.m.now in let new = g.M.Machine.now c.force_cached.new.m in
     subst (λ (x : VolumeValue). Touches (force_writes x.layout) old new) c.self.view_is (force_touches v old new c.self.invariant (c.in-Err.ensures.rest h))
+
+pub returns-then-len-eq0-clause-pages_kept : goal.returns-then-len-eq0-clause-pages_kept
+returns-then-len-eq0-clause-pages_kept g c = λ page x is. is
+
+pub returns-in-Ok-clause-pages_kept : goal.returns-in-Ok-clause-pages_kept
+returns-in-Ok-clause-pages_kept g c =
+    let v : VolumeValue = record { layout = c.self.inside.layout; map = c.self.inside.map; shadow = c.self.inside.shadow; log = c.self.inside.log; cache = c.self.inside.cache; free_pages = c.self.inside.free_pages; serial = c.self.inside.serial; versions = c.self.inside.versions; down = c.self.inside.down } in
+    let w = record v { map = c.free_committed.new.map; shadow = c.free_committed.new.shadow; log = c.force_cached.new.log; cache = c.force_cached.new.cache } in
+    subst (λ (x : VolumeValue). KeepsPages (state x) (state w) (resident x) (resident w)) c.self.view_is
+    (λ page x is. (forced_content v v refl c.layout-shape.ensures.shape c.force_cached.new.cache c.in-Ok.ensures.cache).accepted v.layout.pages page x is)
+
+-- ---- what waited stands in the log
+
+pub returns-then-len-eq0-clause-logged : goal.returns-then-len-eq0-clause-logged
+returns-then-len-eq0-clause-logged g c honest =
+    let v : VolumeValue = record { layout = c.self.inside.layout; map = c.self.inside.map; shadow = c.self.inside.shadow; log = c.self.inside.log; cache = c.self.inside.cache; free_pages = c.self.inside.free_pages; serial = c.self.inside.serial; versions = c.self.inside.versions; down = c.self.inside.down } in
+    let none : length c.self.inside.cache.dirty ≡ 0 = search rules in
+    subst (λ (x : VolumeValue). AllLogged (state x) (state x) (resident x) (g.M.Machine.now c.args.m.now)) c.self.view_is
+    (λ page waits. absurd (cc (ap (λ (dirty : List ℕ). contains dirty page) (sym (nil_from_length c.self.inside.cache.dirty none)) ∙ waits)))
+
+pub returns-in-Ok-clause-logged : goal.returns-in-Ok-clause-logged
+returns-in-Ok-clause-logged g c honest =
+    let v : VolumeValue = record { layout = c.self.inside.layout; map = c.self.inside.map; shadow = c.self.inside.shadow; log = c.self.inside.log; cache = c.self.inside.cache; free_pages = c.self.inside.free_pages; serial = c.self.inside.serial; versions = c.self.inside.versions; down = c.self.inside.down } in
+    let w = record v { map = c.free_committed.new.map; shadow = c.free_committed.new.shadow; log = c.force_cached.new.log; cache = c.force_cached.new.cache } in
+    let now = g.M.Machine.now c.force_cached.new.m in
+    subst (λ (x : VolumeValue). AllLogged (state x) (state w) (resident w) now) c.self.view_is
+    (forced_logged v w c.self.invariant
+    (whole_forced v c.self.invariant c.free_committed.new.map c.free_committed.new.shadow c.force_cached.new.log c.force_cached.new.cache
+    c.free_committed.ensures.map c.free_committed.ensures.removed c.free_committed.ensures.kept c.free_committed.ensures.unfinished c.free_committed.ensures.held c.in-Ok.ensures.log c.in-Ok.ensures.cache)
+    (forced_to v c.free_committed.new.map c.free_committed.new.shadow c.force_cached.new.log c.force_cached.new.cache c.free_committed.ensures.map c.free_committed.ensures.removed c.in-Ok.ensures.log c.in-Ok.ensures.cache)
+    c.dirty_list.ensures.valid now (c.in-Ok.ensures.logged honest))

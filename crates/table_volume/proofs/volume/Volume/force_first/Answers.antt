@@ -81,7 +81,7 @@ pub returns-in-Ok-clause-few : goal.returns-in-Ok-clause-few
 returns-in-Ok-clause-few g c = few_forced (state c.args.self.now) (state c.force.new.self) c.in-Ok.ensures.kept
 
 pub returns-then-not-many_wait-clause-resident : goal.returns-then-not-many_wait-clause-resident
-returns-then-not-many_wait-clause-resident g c = λ pages page x is. is
+returns-then-not-many_wait-clause-resident g c = record { there = λ page is. is; accepted = λ pages page x is. is }
 
 pub returns-in-Ok-clause-resident : goal.returns-in-Ok-clause-resident
 returns-in-Ok-clause-resident g c = c.in-Ok.ensures.resident

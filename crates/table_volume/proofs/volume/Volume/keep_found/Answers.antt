@@ -10,7 +10,7 @@ use Rattle.version_table.specs.Fault.{outer_met}
 use Rattle.volume_changes.specs.Ending.{edit_steps}
 use Rattle.volume_changes.proofs.ChangeEnds.{keep_ended}
 use Rattle.volume_changes.proofs.EditedLaws.{keep_causes, keep_edits, keep_follows, keep_memory, keep_name, keep_place}
-use Rattle.volume_changes.proofs.MemoryLaws.{path_in}
+use Rattle.volume_changes.proofs.MemoryLaws.{enough_in}
 use Rattle.volume_changes.proofs.WholeLaws.{whole_edited}
 use Rattle.table_volume.proofs.volume.Volume.keep_found.Goals as goal
 
@@ -48,7 +48,7 @@ returns-clause-done g c = λ honest k stands.
 
 pub returns-clause-memory : goal.returns-clause-memory
 returns-clause-memory g c = λ has wants.
-    c.set_keep_in-done.ensures.memory (path_in _ c.args.self.now c.self.view_is c.self.invariant c.args.name.now has) (keep_memory c.set_keep_in-done.result (sym c.kept_told.ensures ∙ wants))
+    c.set_keep_in-done.ensures.memory (enough_in _ c.args.self.now c.self.view_is c.self.invariant c.args.name.now has) (keep_memory c.set_keep_in-done.result (sym c.kept_told.ensures ∙ wants))
 
 pub returns-clause-name : goal.returns-clause-name
 returns-clause-name g c =

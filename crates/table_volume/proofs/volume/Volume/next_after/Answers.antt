@@ -1,13 +1,13 @@
 use Rattle.std.proofs.Common.{sym, subst}
-use Rattle.std.specs.Prelude.{IfOk}
+use Rattle.std.specs.Prelude.{IfOk, IfSome}
 use Rattle.std.specs.Option.{option_copied}
 use Rattle.fsd_files.specs.Answers.{next_reply}
-use Rattle.volume_contract.specs.Causes.{Causes}
+use Rattle.volume_contract.specs.Causes.{Causes, IsTaken}
 use Rattle.volume_contract.specs.Ends.{IsLater, Looks}
 use Rattle.volume_contract.specs.Order.{Follows, next_steps}
 use Rattle.volume_state.specs.State.{resident, state}
 use Rattle.volume_changes.proofs.CauseLaws.{met_one}
-use Rattle.volume_changes.proofs.NextLaws.{met_done, met_later, met_order, up_by}
+use Rattle.volume_changes.proofs.NextLaws.{met_done, met_later, met_order, met_taken, up_by}
 use Rattle.table_volume.proofs.volume.Volume.next_after.Goals as goal
 
 pub returns-clause-order : goal.returns-clause-order
@@ -26,3 +26,6 @@ returns-clause-causes g c =
     let w = c.args.self.now in
     subst (λ r. Causes g.M.Machine (resident w) (state w) (state c.find_next.new.self) c.args.m.now c.find_next.new.m r) (sym c.met_found.ensures)
     (met_one g.M.Machine (resident w) (state w) (state c.find_next.new.self) c.args.m.now c.find_next.new.m c.find_next.new.self c.in_ok-found.found c.in_ok-found.ensures.met)
+
+pub returns-clause-taken : goal.returns-clause-taken
+returns-clause-taken g c = subst (λ r. IfOk r (λ found. IfSome found (IsTaken (state c.find_next.new.self)))) (sym c.met_found.ensures) (met_taken c.find_next.new.self c.in_ok-found.found c.in_ok-found.ensures.told)

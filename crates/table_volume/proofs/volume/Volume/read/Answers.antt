@@ -1,5 +1,8 @@
 use Rattle.std.proofs.Common.{◌≡◌, ℕ, Err, arith}
+use Rattle.std.specs.Prelude.{IsTrue}
 use Rattle.std.specs.FinMap.{find}
+use Rattle.volume_layout.specs.Layout.{is_data}
+use Rattle.run_table.specs.RunTable.{sectors_of}
 use Rattle.fsd_bytes.specs.Keys.{key_cmp}
 use Rattle.volume_contract.specs.Ends.{Reads}
 use Rattle.fsd_bytes.specs.declared.refusal.Refusal.TheVariants as Why
@@ -9,12 +12,14 @@ use Rattle.sector_disk.proofs.CallLaws.{reads_then}
 use Rattle.fsd_files.specs.Answers.{entry_of}
 use Rattle.volume_state.specs.State.{resident, state}
 use Rattle.volume_changes.proofs.CauseLaws.{data_causes, handed_cause}
-use Rattle.volume_state.proofs.RangeLaws.{both_kept, busy_read, data_read, handed, none_damaged, reads_found, reads_refused}
+use Rattle.volume_state.proofs.RangeLaws.{all_below, both_kept, busy_read, data_read, handed, none_damaged, reads_found, reads_refused}
 use Rattle.volume_state.specs.WearLaws.{stands_worn}
 use Rattle.table_volume.proofs.volume.Volume.read.Goals as goal
 
 pub read_version-requires-clause-within : goal.read_version-requires-clause-within
-read_version-requires-clause-within g c k d lt = omega (arith, c.in_ok-e.ensures.within k d lt, c.requires, c.version.ensures.disk.uses.sectors)
+read_version-requires-clause-within g c k d lt =
+    let below = all_below (state c.args.self.now).layout (sectors_of c.in_ok-e.e.runs) c.in_ok-e.ensures.within k d lt in
+    omega (arith, below, c.requires, c.version.ensures.disk.uses.sectors)
 
 pub returns-clause-order : goal.returns-clause-order
 returns-clause-order g c = data_read (state c.args.self.now) c.read_version.result c.in_ok-e.ensures.order c.read_version.ensures.cause
@@ -54,6 +59,15 @@ returns-in_err-e-clause-done g c = λ h k stands.
     handed (Reads i j file e c.args.from c.args.buf.now c.args.buf.now) c.from_residual.result c.in_err-e.field-0.0 c.from_residual.ensures.1
     (reads_refused i j j _ file e c.args.from c.args.buf.now c.args.buf.now c.in_err-e.field-0.0 (c.in_err-e.ensures.done h k stands)
     (both_kept j _ c.args.key.now k.mounted.volume.files k.mounted.volume.entries there.disk.described.lists there.disk.described.kept))
+
+pub returns-clause-within : goal.returns-clause-within
+returns-clause-within g c = λ s is h. c.in_ok-e.ensures.within s (c.read_version.ensures.there s is h)
+
+pub returns-in_err-e-clause-within : goal.returns-in_err-e-clause-within
+returns-in_err-e-clause-within g c =
+    let s = state c.args.self.now in
+    handed (λ r. (n : ℕ) → r ≡ Err (Why.Damaged n) → g.M.Machine.honest c.version.new.m → IsTrue (is_data s.layout n)) c.from_residual.result c.in_err-e.field-0.0 c.from_residual.ensures.1
+    (λ n is h. absurd (none_damaged s c.in_err-e.field-0.0 n c.in_err-e.ensures.order (cc is)))
 
 pub returns-in_err-e-clause-damaged : goal.returns-in_err-e-clause-damaged
 returns-in_err-e-clause-damaged g c =

@@ -13,7 +13,7 @@ use Rattle.volume_state.specs.State.{Holds, resident, state}
 use Rattle.volume_changes.proofs.BehindLaws.{causes_behind, keep_causes, edited_layout, edited_slots}
 use Rattle.volume_changes.proofs.CauseLaws.{handed_cause}
 use Rattle.volume_changes.proofs.BehindForce.{busy, change_counts, change_ends, change_follows, change_goes, change_kept, failed_comes, failed_keeps, force_ends, is_up, keeps_refused, leaves_behind, not_worn, number_behind, up_behind}
-use Rattle.volume_changes.proofs.MemoryLaws.{force_needs, keep_test_needs, path_behind}
+use Rattle.volume_changes.proofs.MemoryLaws.{enough_behind, force_needs, keep_test_needs}
 use Rattle.volume_state.proofs.StepLaws.{comes_more}
 use Rattle.volume_changes.proofs.TestedLaws.{keep_fits, keep_places, keep_refusals, keep_test_ends, keep_through}
 use Rattle.volume_state.proofs.WrittenLaws.{leaves_still}
@@ -148,7 +148,7 @@ returns-in_err-force_first-clause-memory g c =
 
 pub returns-clause-memory : goal.returns-clause-memory
 returns-clause-memory g c = λ has.
-    c.keep_now.ensures.memory (path_behind c.args.self.now c.force_first.new.self c.in_ok-force_first.ensures.forces c.in_ok-force_first.ensures.resident c.args.name.now has)
+    c.keep_now.ensures.memory (enough_behind c.args.self.now c.force_first.new.self c.in_ok-force_first.ensures.forces c.in_ok-force_first.ensures.resident c.args.name.now has)
 
 -- ---- why it tells something as lost or as unsound
 

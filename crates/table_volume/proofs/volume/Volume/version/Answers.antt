@@ -1,17 +1,21 @@
-use Rattle.std.proofs.Common.{◌≡◌, ◌+◌, ◌^◌, ◌<◌, ◌≤◌, true, sym, ap, subst, ◌∙◌, arith}
+use Rattle.std.proofs.Common.{◌≡◌, ℕ, ◌+◌, ◌^◌, ◌≤◌, true, sym, ap, subst, ◌∙◌, arith}
 use Rattle.std.proofs.lemmas.Result.{err_from_is_err_and}
-use Rattle.std.specs.Prelude.{All, IfOk, IfSome}
+use Rattle.std.specs.Prelude.{All, IfOk, IfSome, IsTrue}
+use Rattle.volume_layout.specs.declared.layout.Layout.{Layout}
+use Rattle.volume_layout.specs.Layout.{is_data}
 use Rattle.volume_layout.proofs.RootLaws.{planned_bounds}
 use Rattle.run_table.specs.RunTable.{sectors_of}
+use Rattle.run_table.specs.Space.{contains}
 use Rattle.fsd_formats.specs.declared.entry.Entry.{Entry}
 use Rattle.fsd_formats.specs.NamePage.{is_entry}
 use Rattle.fsd_files.specs.Answers.{found_or}
 use Rattle.name_btree.specs.Lookup.{entry_of}
 use Rattle.volume_state.specs.State.{resident, state}
+use Rattle.volume_state.specs.Taken.{met_entry}
 use Rattle.volume_state.specs.Volume.{VolumeValue}
 use Rattle.volume_changes.proofs.CauseLaws.{met_handed}
 use Rattle.volume_changes.proofs.EntryLaws.{entry_looked_up}
-use Rattle.volume_state.proofs.RangeLaws.{met_good, taken_below, taken_runs}
+use Rattle.volume_state.proofs.RangeLaws.{met_good, taken_data, taken_runs}
 use Rattle.table_volume.proofs.volume.Volume.version.Goals as goal
 
 pub returns-in-None-clause-done : goal.returns-in-None-clause-done
@@ -36,9 +40,12 @@ returns-in-Some-clause-runs g c =
 
 pub returns-in-Some-clause-within : goal.returns-in-Some-clause-within
 returns-in-Some-clause-within g c =
-    subst (λ r. IfOk r (λ e. All (λ s. s < c.args.self.now.layout.sectors) (sectors_of e.runs))) (sym c.met_entry.ensures)
-    (met_good (λ (e : Entry). All (λ s. s < c.args.self.now.layout.sectors) (sectors_of e.runs)) c.find.new.self c.in-Some.found.page c.in-Some.found.entry
-    (λ taken k d lt. omega (arith, taken_below c.find.new.self c.in-Some.found.entry taken k d lt, ap (λ (v : VolumeValue). v.layout.sectors) c.find.ensures.cache)))
+    let v = c.find.new.self in
+    let entry = c.in-Some.found.entry in
+    let P : Layout → Entry → Type 0 = λ l e. (s : ℕ) → IsTrue (contains (sectors_of e.runs) s) → IsTrue (is_data l s) in
+    subst (λ r. IfOk r (P c.args.self.now.layout)) (sym c.met_entry.ensures)
+    (subst (λ (l : Layout). IfOk (met_entry v c.in-Some.found.page entry) (P l)) (ap (λ (x : VolumeValue). x.layout) c.find.ensures.cache)
+    (met_good (P v.layout) v c.in-Some.found.page entry (taken_data v entry)))
 
 pub returns-in_err-found-clause-causes : goal.returns-in_err-found-clause-causes
 returns-in_err-found-clause-causes g c =
