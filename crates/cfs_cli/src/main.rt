@@ -28,7 +28,7 @@ fn run<M: Machine>(alloc: Global, words: io::Result<Vec<String>>, m: &mut M) -> 
 {
     match words {
         Ok(words) => run_words::<M, Volume>(alloc, words.as_slice(), m),
-        Err(error) if error.kind() == io::ErrorKind::OutOfMemory => run_out_of_memory(alloc, m),
+        Err(error) if error.kind() == io::ErrorKind::OutOfMemory => run_out_of_memory(m),
         Err(_) => run_request::<M, Volume>(alloc, m, &Request::Outside, ""),
     }
 }

@@ -6,11 +6,10 @@ use Rattle.sector_disk.specs.Calls.{Counts, SparesDisk}
 use Rattle.sector_disk.specs.Machine.{Report, Rose}
 use Rattle.volume_turns.specs.Status.{CountsInput, CountsNone, CountsRun, CountsTaking, is_unfailed}
 use Rattle.volume_turns.proofs.QuietLaws.{unfailed_not, unfailed_said, quiet_unfailed}
-use Rattle.cfs_program.specs.Ending.{IsStatusAs}
-use Rattle.volume_turns.specs.Line.{is_unsaid}
+use Rattle.volume_turns.specs.Line.{IsStatusAs, is_unsaid}
+use Rattle.volume_turns.proofs.StatusLaws.{not_as}
 use Rattle.cfs_program.specs.Formatting.{CountsFaults, UsesAttach}
 use Rattle.cfs_program.specs.Opening.{CountsReading}
-use Rattle.cfs_program.proofs.FoundLaws.{line_not}
 
 -- ---- behind an attach
 
@@ -46,8 +45,7 @@ reading_of a b status counts = record {
 -- the status of such a fault
 pub line_loud : (gives status : ℕ) → IsStatusAs gives status → IsFalse (is_unfailed gives) → IsTrue (is_unfailed status) → ⊥
 line_loud gives status (inl is) other unfailed = unfailed_not gives status other unfailed is
-line_loud gives status (inr (inl seven)) other unfailed = unfailed_not 7 status refl unfailed seven
-line_loud gives status (inr (inr six)) other unfailed = unfailed_not 6 status refl unfailed six
+line_loud gives status (inr six) other unfailed = unfailed_not 6 status refl unfailed six
 
 -- a line alone
 pub spares_none : (a b : Report) (status : ℕ) → SparesDisk false (is_unsaid status) a b → IsTrue (is_unfailed status) → CountsNone a b
@@ -67,9 +65,9 @@ module _ (a b c : Report) (status : ℕ) (input : b.input_faults ≡ a.input_fau
   }
 
   -- of anything else
-  pub counts_line : (gives : ℕ) → (4 ≡ gives → ⊥) → b.disk_faults ≡ a.disk_faults → IsStatusAs gives status → CountsFaults a c status
+  pub counts_line : (gives : ℕ) → (gives ≡ 4 → ⊥) → b.disk_faults ≡ a.disk_faults → IsStatusAs gives status → CountsFaults a c status
   counts_line gives other disk is = record {
-    disk = λ four. absurd (line_not 4 gives status is other (λ e. omega (arith, e)) (λ e. omega (arith, e)) four);
+    disk = λ four. absurd (not_as 4 gives status other (λ e. omega (arith, e)) is four);
     input = spares.input ∙ input;
     output = output_rose;
     quiet = λ unfailed. record {

@@ -6,46 +6,39 @@ use Rattle.sector_disk.specs.declared.machine.Machine.{Ghosts}
 use Rattle.sector_disk.specs.declared.sector.WeakRun.{WeakRun}
 use Rattle.sector_disk.specs.Calls.{Counts, LeavesDisk}
 use Rattle.sector_disk.specs.Image.{AreShort, Windows}
-use Rattle.sector_disk.specs.Machine.{Before, Elapses, LeavesOnly, Moment, Rose, Wears}
+use Rattle.sector_disk.specs.Machine.{Before, Elapses, LeavesOnly, Moment, Rose, Wears, Utters}
 use Rattle.sector_disk.proofs.Moments.{goes_on, leaves_more, started, then_on}
 use Rattle.fsd_files.specs.Files.{Change}
 use Rattle.fsd_sound.specs.Sound.{EndIn}
 use Rattle.fsd_sound.proofs.MoreLaws.{wear_sound}
 use Rattle.fsd_texts.specs.declared.fault.Fault.{Fault}
 use Rattle.fsd_texts.specs.declared.fault.Fault.TheVariants as Ends
-use Rattle.fsd_texts.specs.declared.line.Line.TheVariants as Lines
 use Rattle.fsd_texts.specs.Text.{fault_text}
 use Rattle.fsd_runs.specs.declared.request.Request.{Request}
 use Rattle.fsd_runs.specs.Errands.{blank, fault_status}
-use Rattle.fsd_runs.specs.Leaves.{IsBroken, IsOutside, IsSpent, IsUnsaid, LeavesRun, LeftBefore, MayEnd, SaysFault}
+use Rattle.fsd_runs.specs.Leaves.{IsBroken, IsOutside, IsSpent, IsUnsaid, LeavesRun, LeftBefore, MayEnd}
 use Rattle.volume_turns.specs.Status.{IsStatusBroken}
-use Rattle.volume_turns.specs.Line.{is_unsaid}
-use Rattle.cfs_program.specs.Ending.{EndsAs, IsStatusAs, IsTextFor, UttersLine}
+use Rattle.volume_turns.specs.Line.{EndsWith, IsStatusAs, is_unsaid}
 use Rattle.cfs_program.specs.Opening.{IsSoundDisk}
 use Rattle.cfs_program.proofs.OpeningLaws.{left_start, left_worn}
 
 pub failed_status : (status : ℕ) → IsStatusAs 4 status → IsStatusBroken status
 failed_status status (inl four) = inl (Ends.Device 0, tt, four)
-failed_status status (inr (inl seven)) = inl (Ends.Memory, tt, seven)
-failed_status status (inr (inr six)) = inr six
-
-says_fault : (why : Fault) → MayEnd why → (said : List ℕ) (heard : ℕ) → IsTextFor (Lines.Ended why) said → SaysFault (take heard said)
-says_fault why may said heard (inl is) = (why, heard, may, ap (take heard) is)
-says_fault why may said heard (inr is) = (Ends.Memory, heard, tt, ap (take heard) is)
+failed_status status (inr six) = inr six
 
 module _ {D : Type 0} (M : Ghosts D) (request : Request) (input rest : List ℕ) (l : Layout) (windows : List WeakRun) (h : List Change) (f : ℕ) (a b c : D) (why : Fault) (may : MayEnd why) (status : ℕ)
     (sound : IsSoundDisk l windows h f (M.now a)) (short : AreShort (M.now a).windows) (first : LeavesOnly M.moment M.left_since a b (LeftBefore l windows h f (M.now a))) (worn : Wears (M.now a) (M.now b))
-    (says : LeavesDisk M false (is_unsaid status) (UttersLine (Lines.Ended why)) b c) (honest : M.honest c) (ends : (status ≡ 6) ⊎ EndsAs (Lines.Ended why) (fault_status why) (M.now b) (M.now c) status)
+    (says : LeavesDisk M false (is_unsaid status) (Utters (fault_text why)) b c) (honest : M.honest c) (ends : EndsWith why (M.now b) (M.now c) status)
     (out : IsOutside request (M.report a) (M.report c) why) (later : (M.report a).output_faults ≤ (M.report b).output_faults) where
   ends_in : EndIn (M.now b).windows windows
   ends_in = subst (λ (w : Windows). EndIn w windows) (sym worn.windows) sound.ends
 
-  saying : (left : Moment) → UttersLine (Lines.Ended why) (M.now b) left → LeftBefore l windows h f (M.now a) left
-  saying left (said, which, utters) = record {
+  saying : (left : Moment) → Utters (fault_text why) (M.now b) left → LeftBefore l windows h f (M.now a) left
+  saying left utters = record {
     present = ap (λ (w : Windows). w.present) (utters.windows ∙ worn.windows);
-    part = take utters.heard said;
-    said = utters.said ∙ ap (λ (s : List ℕ). s ++ take utters.heard said) worn.said;
-    fault = says_fault why may said utters.heard which;
+    part = take utters.heard (fault_text why);
+    said = utters.said ∙ ap (λ (s : List ℕ). s ++ take utters.heard (fault_text why)) worn.said;
+    fault = (why, utters.heard, may, refl);
     sound = wear_sound l windows h f (M.now b).windows (M.now b).image left.image (subst (λ (w : Windows). AreShort w) (sym worn.windows) short) ends_in utters.image
         (left_worn l windows h f (M.now a) sound short (M.now b) worn).sound;
   }
@@ -55,20 +48,17 @@ module _ {D : Type 0} (M : Ghosts D) (request : Request) (input rest : List ℕ)
       let rose : Rose (M.report b).output_faults (M.report c).output_faults = subst (λ (x : Bool). Counts x (M.report b).output_faults (M.report c).output_faults) (eq-eqb status 6 six) says.spares.output in
       record { ends = six; rose = omega (arith, later, rose) }
 
-  broken : (told : Fault) → IsOutside request (M.report a) (M.report c) told → status ≡ fault_status told → (M.now c).said ≡ (M.now b).said ++ fault_text told
-      → IsBroken request (M.report a) (M.report c) (blank ∷ []) (M.now a) (M.now c) status
-  broken told outside is all = record { why = told; outside = outside; ends = is; says = record { whole = 0; more = refl; said = all ∙ ap (λ (s : List ℕ). s ++ fault_text told) worn.said } }
+  broken : status ≡ fault_status why → (M.now c).said ≡ (M.now b).said ++ fault_text why → IsBroken request (M.report a) (M.report c) (blank ∷ []) (M.now a) (M.now c) status
+  broken is all = record { why = why; outside = out; ends = is; says = record { whole = 0; more = refl; said = all ∙ ap (λ (s : List ℕ). s ++ fault_text why) worn.said } }
 
-  ended : (status ≡ 6) ⊎ EndsAs (Lines.Ended why) (fault_status why) (M.now b) (M.now c) status
-      → IsSpent (M.now a) (M.now c) status ⊎ (IsUnsaid (M.report a) (M.report c) status ⊎ IsBroken request (M.report a) (M.report c) (blank ∷ []) (M.now a) (M.now c) status)
+  ended : EndsWith why (M.now b) (M.now c) status → IsSpent (M.now a) (M.now c) status ⊎ (IsUnsaid (M.report a) (M.report c) status ⊎ IsBroken request (M.report a) (M.report c) (blank ∷ []) (M.now a) (M.now c) status)
   ended (inl six) = inr (inl (unsaid six))
-  ended (inr (inl (is, all))) = inr (inr (broken why out is all.said))
-  ended (inr (inr (seven, all))) = inr (inr (broken Ends.Memory tt seven all.said))
+  ended (inr (is, all)) = inr (inr (broken is all.said))
 
   pub ended_behind : LeavesRun request input rest l windows h f (M.left_since c) (λ P. LeavesOnly M.moment M.left_since a c P) (M.report a) (M.report c) (M.now a) (M.now c) status
   ended_behind = inl (record {
     moments = then_on M.moment M.left_since a b c (LeftBefore l windows h f (M.now a)) first
-        (leaves_more M.moment M.left_since b c (UttersLine (Lines.Ended why) (M.now b)) (LeftBefore l windows h f (M.now a)) saying (says.any_moment honest));
+        (leaves_more M.moment M.left_since b c (Utters (fault_text why) (M.now b)) (LeftBefore l windows h f (M.now a)) saying (says.any_moment honest));
     exit = saying (M.now c) (says.exit honest);
     ends = ended ends;
   })
@@ -77,7 +67,7 @@ module _ {D : Type 0} (M : Ghosts D) (request : Request) (input rest : List ℕ)
     (sound : IsSoundDisk l windows h f (M.now a)) (short : AreShort (M.now a).windows) where
   -- by an attach that failed
   pub ended_run : (only : (left : Moment) → M.left_since a (M.moment a) left → left ≡ M.now a) → Elapses (M.moment a) (M.moment b) (M.left_since a) (M.left_since b) (Before (M.now a) (M.now b)) → Wears (M.now a) (M.now b)
-      → LeavesDisk M false (is_unsaid status) (UttersLine (Lines.Ended why)) b c → M.honest c → (status ≡ 6) ⊎ EndsAs (Lines.Ended why) (fault_status why) (M.now b) (M.now c) status
+      → LeavesDisk M false (is_unsaid status) (Utters (fault_text why)) b c → M.honest c → EndsWith why (M.now b) (M.now c) status
       → IsOutside request (M.report a) (M.report c) why → (M.report a).output_faults ≤ (M.report b).output_faults
       → LeavesRun request input rest l windows h f (M.left_since c) (λ P. LeavesOnly M.moment M.left_since a c P) (M.report a) (M.report c) (M.now a) (M.now c) status
   ended_run only time worn = ended_behind M request input rest l windows h f a b c why may status sound short first worn

@@ -1,12 +1,12 @@
 -- A format on a new image, and its line.
-use Rattle.std.proofs.Common.{◌≡◌, ◌⊎◌, inl, inr, ℕ, zero, suc, ◌≤◌, List, [], ◌∷◌, ◌++◌, take, None, replicate, refl, ap, subst, sym, ◌∙◌, arith}
+use Rattle.std.proofs.Common.{◌≡◌, inl, inr, ℕ, zero, suc, ◌≤◌, List, [], ◌∷◌, ◌++◌, take, None, replicate, refl, ap, subst, sym, ◌∙◌, arith}
 use Rattle.std.specs.Prelude.{Result, Ok, Err, OnOk}
 use Rattle.std.specs.List.{last_or}
 use Rattle.sector_disk.specs.declared.sector.Sector.{Sector}
 use Rattle.sector_disk.specs.declared.sector.Sector.TheVariants.{Damaged}
 use Rattle.sector_disk.specs.declared.sector.WeakRun.{WeakRun}
 use Rattle.sector_disk.specs.Image.{AreShort, IsShort, IsWorn, Windows, in_run, open_damage, sector_at}
-use Rattle.sector_disk.specs.Machine.{Makes, Moment}
+use Rattle.sector_disk.specs.Machine.{Makes, Moment, Utters}
 use Rattle.sector_disk.proofs.Wear.{worn_trans}
 use Rattle.volume_layout.specs.declared.layout.Layout.{Layout}
 use Rattle.fsd_sound.specs.Format.{IsFormattedIn}
@@ -17,9 +17,9 @@ use Rattle.fsd_sound.proofs.WindowLaws.{windows_are_narrow}
 use Rattle.volume_format.specs.Formatting.{Formats, IsNew}
 use Rattle.volume_layout.specs.declared.fault.LayoutFault.{LayoutFault}
 use Rattle.fsd_texts.specs.declared.line.Line.{Line}
-use Rattle.fsd_texts.specs.Text.{memory_text, text}
-use Rattle.cfs_program.specs.Ending.{EndsAs, UttersLine}
-use Rattle.cfs_program.specs.Formatting.{BeginsFormat, HoldsVolume, IsUntouched, MakesVolume, MaySay, SaysFor, SaysFormat}
+use Rattle.fsd_texts.specs.Text.{text}
+use Rattle.volume_turns.specs.Line.{EndsLast}
+use Rattle.cfs_program.specs.Formatting.{HoldsVolume, IsUntouched, MakesVolume, MaySay, SaysFor, SaysFormat}
 
 sector_at-replicate : (count s : ℕ) → sector_at (replicate count Damaged) s ≡ Damaged
 sector_at-replicate zero s = refl
@@ -68,24 +68,16 @@ made_of l count old mid new H (Err e) short makes done = tt
 
 -- ---- its line
 
-pub untouched_by : (line : Line) (old new : Moment) → UttersLine line old new → IsUntouched old new
-untouched_by line old new (said, which, utters) = record { image = utters.image; windows = utters.windows }
+pub untouched_by : (line : Line) (old new : Moment) → Utters (text line) old new → IsUntouched old new
+untouched_by line old new utters = record { image = utters.image; windows = utters.windows }
 
 may_say : (planned : Result Layout LayoutFault) (place status : ℕ) (bytes : List ℕ) → SaysFor planned place status bytes → MaySay planned place bytes
 may_say planned place status bytes (inl (is, all)) = inl all
-may_say planned place status bytes (inr (inl (is, all))) = inr (inl all)
-may_say planned place status bytes (inr (inr (is, all))) = inr (inr all)
+may_say planned place status bytes (inr (is, all)) = inr all
 
-begins : (planned : Result Layout LayoutFault) (place : ℕ) (line : Line) (old mid new : Moment) → mid.said ≡ old.said → MaySay planned place (text line) → UttersLine line mid new → BeginsFormat planned place old new
-begins planned place line old mid new quiet may (said, inl is, utters) =
-    (said, subst (λ (x : List ℕ). MaySay planned place x) (sym is) may, utters.heard, utters.said ∙ ap (λ (s : List ℕ). s ++ take utters.heard said) quiet)
-begins planned place line old mid new quiet may (said, inr is, utters) =
-    (said, inr (inr is), utters.heard, utters.said ∙ ap (λ (s : List ℕ). s ++ take utters.heard said) quiet)
-
-pub format_said : (planned : Result Layout LayoutFault) (place : ℕ) (line : Line) (status : ℕ) (old mid new : Moment) (result : ℕ) → mid.said ≡ old.said → SaysFor planned place status (text line) → UttersLine line mid new
-    → (result ≡ 6) ⊎ EndsAs line status mid new result → SaysFormat planned place old new result
-format_said planned place line status old mid new result quiet for utters (inl six) = inl (six, begins planned place line old mid new quiet (may_say planned place status (text line) for) utters)
-format_said planned place line status old mid new result quiet for utters (inr (inl (is, all))) =
+pub format_said : (planned : Result Layout LayoutFault) (place : ℕ) (line : Line) (status : ℕ) (old mid new : Moment) (result : ℕ) → mid.said ≡ old.said → SaysFor planned place status (text line) → Utters (text line) mid new
+    → EndsLast line status mid new result → SaysFormat planned place old new result
+format_said planned place line status old mid new result quiet for utters (inl six) =
+    inl (six, (text line, may_say planned place status (text line) for, utters.heard, utters.said ∙ ap (λ (s : List ℕ). s ++ take utters.heard (text line)) quiet))
+format_said planned place line status old mid new result quiet for utters (inr (is, all)) =
     inr (text line, subst (λ (n : ℕ). SaysFor planned place n (text line)) (sym is) for, all.said ∙ ap (λ (s : List ℕ). s ++ text line) quiet)
-format_said planned place line status old mid new result quiet for utters (inr (inr (seven, all))) =
-    inr (memory_text, inr (inr (seven, refl)), all.said ∙ ap (λ (s : List ℕ). s ++ memory_text) quiet)

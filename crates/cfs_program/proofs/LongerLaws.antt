@@ -1,5 +1,5 @@
 -- What is told of the requests that take the input, or make commands up.
-use Rattle.std.proofs.Common.{◌≡◌, ◌≤◌, zero, suc, refl, arith, true, false, ℕ, List, [], ◌++◌, length, Option, subst}
+use Rattle.std.proofs.Common.{◌≡◌, ◌≤◌, zero, suc, refl, arith, true, false, ℕ, List, [], ◌++◌, length, Option, subst, inl}
 use Rattle.std.specs.Prelude.{IsFalse, IsTrue}
 use Rattle.volume_layout.specs.declared.layout.Layout.{Layout}
 use Rattle.sector_disk.specs.declared.machine.Machine.{Ghosts}
@@ -24,7 +24,7 @@ use Rattle.cfs_program.proofs.AmongLaws.{made_complete_is, made_status, put_comp
 pub ran_put : {D : Type 0} (M : Ghosts D) (name : List ℕ) (keep : Option ℕ) (path : List ℕ) (a b : D) (result : ℕ) → IsPutStatus result → CountsReading (M.report a) (M.report b) result
     → (M.tells b → AsksOrNot (mount_asks path) (M.ledger a).attaches (M.ledger b).attaches) → (IsFalse (is_from_outside result) → M.tells b → (M.ledger b).attaches ≡ (M.ledger a).attaches ++ mount_asks path)
     → (result ≡ 5 → M.tells b → FailsInput (M.ledger a).input (M.report a) (M.report b)) → (result ≡ 5 → M.honest b → SaysOfInput (M.ledger a).input (M.report a) (M.report b) (M.now b)) → (result ≤ 1 → M.tells b → (M.ledger b).input ≡ []) → (result ≤ 1 → M.tells b → length (M.ledger a).input ≤ max_input)
-    → Trusts (M.tells a) (M.tells b) (M.honest a) (M.honest b) → (M.honest b → TellsFound false (M.now a) (M.now b) result) → (M.honest b → SaysOne (Word.Put name (M.ledger a).input keep) (M.now a) (M.now b) result)
+    → Trusts (M.tells a) (M.tells b) (M.honest a) (M.honest b) → (M.honest b → TellsFound false false (M.now a) (M.now b) result) → (M.honest b → SaysOne (Word.Put name (M.ledger a).input keep) (M.now a) (M.now b) result)
     → (IsTrue (is_of_fault result) → M.honest b → SaysFault (M.report b).fault_place (M.now b) result)
     → (M.honest b → (l : Layout) (windows : List WeakRun) (h : List Change) (f : ℕ) → IsSoundDisk l windows h f (M.now a) →
     LeavesRun (Put name keep) (M.ledger a).input (M.ledger b).input l windows h f (M.left_since b) (λ P. LeavesOnly M.moment M.left_since a b P) (M.report a) (M.report b) (M.now a) (M.now b) result)
@@ -48,7 +48,7 @@ ran_put M name keep path a b result status counts asks asked fails told whole fe
   whole = λ low t. (whole low t, few low t);
   spelled = λ zero t. tt;
   trust = trust;
-  says = λ h. tt;
+  says = λ h. inl tt;
   mounted = λ any h. (image h).mounted any;
   refused = λ three h. (image h).refused three;
   spent = λ nine h. (image h).spent nine;
@@ -67,7 +67,7 @@ script_low (suc (suc n)) status low = absurd (omega (arith, low))
 pub ran_script : {D : Type 0} (M : Ghosts D) (path : List ℕ) (a b : D) (result : ℕ) → IsScriptStatus result → CountsReading (M.report a) (M.report b) result
     → (M.tells b → AsksOrNot (mount_asks path) (M.ledger a).attaches (M.ledger b).attaches) → (IsFalse (is_from_outside result) → M.tells b → (M.ledger b).attaches ≡ (M.ledger a).attaches ++ mount_asks path)
     → (result ≡ 5 → M.tells b → FailsInput (M.ledger a).input (M.report a) (M.report b)) → (result ≡ 5 → M.honest b → SaysOfInput (M.ledger a).input (M.report a) (M.report b) (M.now b)) → (result ≡ 2 → M.honest b → SaysBadLine (M.ledger a).input (M.now b)) → (result ≡ 0 → M.tells b → (M.ledger b).input ≡ []) → (result ≡ 0 → M.tells b → (script_in (M.ledger a).input).1 ≡ Done)
-    → Trusts (M.tells a) (M.tells b) (M.honest a) (M.honest b) → (M.honest b → TellsFound true (M.now a) (M.now b) result)
+    → Trusts (M.tells a) (M.tells b) (M.honest a) (M.honest b) → (M.honest b → TellsFound true true (M.now a) (M.now b) result)
     → (IsTrue (is_of_fault result) → M.honest b → SaysFault (M.report b).fault_place (M.now b) result)
     → (M.honest b → (l : Layout) (windows : List WeakRun) (h : List Change) (f : ℕ) → IsSoundDisk l windows h f (M.now a) →
     LeavesRun Script (M.ledger a).input (M.ledger b).input l windows h f (M.left_since b) (λ P. LeavesOnly M.moment M.left_since a b P) (M.report a) (M.report b) (M.now a) (M.now b) result)
@@ -91,7 +91,7 @@ ran_script M path a b result status counts asks asked fails told bad whole spell
   whole = λ low. whole (script_low result status low);
   spelled = spelled;
   trust = trust;
-  says = λ h. tt;
+  says = λ h. inl tt;
   mounted = λ any h. (image h).mounted any;
   refused = λ three h. (image h).refused three;
   spent = λ nine h. (image h).spent nine;
@@ -109,7 +109,7 @@ made_not_five seed count result status five =
 
 pub ran_made : {D : Type 0} (M : Ghosts D) (seed count : ℕ) (path : List ℕ) (a b : D) (result : ℕ) → IsMadeStatus result → CountsFaults (M.report a) (M.report b) result
     → (M.tells b → AsksAtMost (mount_asks path) (M.ledger a) (M.ledger b)) → (IsFalse (is_from_outside result) → M.tells b → AsksAll (mount_asks path) (M.ledger a) (M.ledger b))
-    → Trusts (M.tells a) (M.tells b) (M.honest a) (M.honest b) → (M.honest b → TellsFound false (M.now a) (M.now b) result)
+    → Trusts (M.tells a) (M.tells b) (M.honest a) (M.honest b) → (M.honest b → TellsFound false true (M.now a) (M.now b) result)
     → (IsTrue (is_of_fault result) → M.honest b → SaysFault (M.report b).fault_place (M.now b) result)
     → (M.honest b → (rest : List ℕ) (l : Layout) (windows : List WeakRun) (h : List Change) (f : ℕ) → IsSoundDisk l windows h f (M.now a) →
     LeavesRun (Generate seed count) [] rest l windows h f (M.left_since b) (λ P. LeavesOnly M.moment M.left_since a b P) (M.report a) (M.report b) (M.now a) (M.now b) result)
@@ -133,7 +133,7 @@ ran_made M seed count path a b result status counts asks asked trust image last 
   whole = λ zero t. tt;
   spelled = λ zero t. tt;
   trust = trust;
-  says = λ h. tt;
+  says = λ h. inl tt;
   mounted = λ any h. (image h).mounted any;
   refused = λ three h. (image h).refused three;
   spent = λ nine h. (image h).spent nine;

@@ -50,9 +50,6 @@ pub record Keeps (old at : Moment) : Type 0 where
 pub finds_keep : (old at : Moment) → Finds old at → Keeps old at
 finds_keep old at found = record { image = found.image; present = ap (λ (w : Windows). w.present) found.windows; said = found.said }
 
-pub wears_keep : (old at : Moment) → Wears old at → Keeps old at
-wears_keep old at worn = record { image = worn.image; present = ap (λ (w : Windows). w.present) worn.windows; said = worn.said }
-
 -- an image of a sound disk that was worn
 nothing_said : SaysFault []
 nothing_said = (Ends.Memory, 0, tt, refl)

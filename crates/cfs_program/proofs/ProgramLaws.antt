@@ -1,5 +1,5 @@
 -- What is told of each kind of request.
-use Rattle.std.proofs.Common.{◌≡◌, ◌⊎◌, inl, inr, ℕ, Bool, false, List, [], ◌∷◌, ◌++◌, take, refl, sym, ◌∙◌, ap, subst, arith}
+use Rattle.std.proofs.Common.{◌≡◌, ◌⊎◌, inl, inr, ℕ, Bool, false, List, [], ◌∷◌, ◌++◌, refl, sym, ◌∙◌, ap, subst, arith}
 use Rattle.std.specs.Prelude.{Result, Ok, Err, IsFalse, IsTrue}
 use Rattle.std.proofs.lemmas.Bool.{eq-eqb}
 use Rattle.std.proofs.lemmas.List.{append-nil}
@@ -10,7 +10,7 @@ use Rattle.sector_disk.specs.declared.machine.Machine.{Ghosts}
 use Rattle.sector_disk.specs.declared.sector.WeakRun.{WeakRun}
 use Rattle.sector_disk.specs.Calls.{Counts, LeavesDisk, SparesDisk}
 use Rattle.sector_disk.specs.Image.{AreShort}
-use Rattle.sector_disk.specs.Machine.{Ledger, LeavesOnly, Moment, Report, Rose, Trusts}
+use Rattle.sector_disk.specs.Machine.{Ledger, LeavesOnly, Moment, Report, Rose, Trusts, Utters}
 use Rattle.sector_disk.proofs.Holding.{wears_none}
 use Rattle.fsd_files.specs.Files.{Change}
 use Rattle.fsd_texts.specs.declared.bad_line.Cause.{Cause}
@@ -19,7 +19,7 @@ use Rattle.fsd_texts.specs.declared.command.Command.TheVariants as Word
 use Rattle.fsd_texts.specs.declared.fault.Fault.TheVariants as Ends
 use Rattle.fsd_texts.specs.declared.line.Line.{Line}
 use Rattle.fsd_texts.specs.declared.line.Line.TheVariants as Lines
-use Rattle.fsd_texts.specs.Text.{memory_text}
+use Rattle.fsd_texts.specs.Text.{fault_text, text}
 use Rattle.fsd_runs.specs.declared.request.Request.{Request}
 use Rattle.fsd_runs.specs.declared.request.Request.TheVariants.{Outside, BadField, Format, Put, One, Script, Generate}
 use Rattle.fsd_runs.specs.Errands.{IfMounts}
@@ -27,41 +27,38 @@ use Rattle.fsd_runs.specs.Leaves.{LeavesRun}
 use Rattle.volume_turns.specs.Answering.{SaysNoReply, SaysOne}
 use Rattle.volume_turns.specs.Causes.{SaysFault, is_of_fault}
 use Rattle.volume_turns.specs.Status.{IsOneStatus}
+use Rattle.volume_turns.proofs.LastLaws.{ends_fault}
 use Rattle.volume_turns.proofs.QuietLaws.{quiet_unfailed}
-use Rattle.volume_turns.proofs.StatusLaws.{one_not_five}
-use Rattle.volume_turns.specs.Line.{is_unsaid}
-use Rattle.cfs_program.specs.Ending.{EndsAs, IsStatusAs, UttersLine}
+use Rattle.volume_turns.proofs.StatusLaws.{one_not_five, as_not_low, not_as}
+use Rattle.volume_turns.specs.Line.{is_unsaid, EndsLast, EndsWith, IsStatusAs}
 use Rattle.cfs_program.specs.Formatting.{AsksAll, AsksAtMost, CountsFaults, IsFormatStatus, IsMadeBy, IsUntouched, SaysFormat, SparesUnplanned, format_status, plan_asks}
 use Rattle.cfs_program.specs.Opening.{IsSoundDisk, TellsFound, WritesFound, is_from_outside, mount_asks}
-use Rattle.cfs_program.specs.Program.{LeavesInput, Ran, SaysAlone, WritesAlone, SaysAnswer, SaysLine, SparesImage, SparesInput, complete_statuses, fault_statuses, field_line, input_for, is_one_of, plan_faults}
+use Rattle.cfs_program.specs.Program.{LeavesInput, Ran, SaysAlone, WritesAlone, SaysLine, SparesImage, SparesInput, complete_statuses, fault_statuses, field_line, input_for, is_one_of, plan_faults}
 use Rattle.cfs_program.proofs.AmongLaws.{command_complete, command_status, one_at}
-use Rattle.cfs_program.proofs.CountsLaws.{input_alone, line_loud, spares_none}
+use Rattle.cfs_program.proofs.CountsLaws.{input_alone, spares_none}
 use Rattle.cfs_program.proofs.EndedLaws.{ended_run}
-use Rattle.cfs_program.proofs.FoundLaws.{inside_not, line_last, line_no_reply, line_not, line_not_low, not_mounted}
+use Rattle.cfs_program.proofs.FoundLaws.{inside_not, line_no_reply, not_mounted}
 use Rattle.cfs_program.proofs.FormatLaws.{untouched_by}
 
 -- ---- a line alone
 
 line_status : (result : ℕ) → IsStatusAs 2 result → IsTrue (is_one_of (2 ∷ 7 ∷ 6 ∷ []) result)
 line_status result (inl two) = one_at (2 ∷ 7 ∷ 6 ∷ []) 2 result two refl
-line_status result (inr (inl seven)) = one_at (2 ∷ 7 ∷ 6 ∷ []) 7 result seven refl
-line_status result (inr (inr six)) = one_at (2 ∷ 7 ∷ 6 ∷ []) 6 result six refl
+line_status result (inr six) = one_at (2 ∷ 7 ∷ 6 ∷ []) 6 result six refl
 
 line_complete : (result : ℕ) → IsStatusAs 2 result → (result ≡ 6 → ⊥) → IsTrue (is_one_of (2 ∷ 7 ∷ []) result)
 line_complete result (inl two) said = one_at (2 ∷ 7 ∷ []) 2 result two refl
-line_complete result (inr (inl seven)) said = one_at (2 ∷ 7 ∷ []) 7 result seven refl
-line_complete result (inr (inr six)) said = absurd (said six)
+line_complete result (inr six) said = absurd (said six)
 
-line_says : (line : Line) (old new : Moment) (result : ℕ) → UttersLine line old new → (result ≡ 6) ⊎ EndsAs line 2 old new result → SaysLine line 2 old new result
-line_says line old new result (said, which, utters) (inl six) = inl (six, (said, which, utters.heard, utters.said))
-line_says line old new result utters (inr (inl (is, all))) = inr (inl (is, all.said))
-line_says line old new result utters (inr (inr (seven, all))) = inr (inr (seven, all.said))
+line_says : (line : Line) (status : ℕ) (old new : Moment) (result : ℕ) → Utters (text line) old new → EndsLast line status old new result → SaysLine line status old new result
+line_says line status old new result utters (inl six) = inl (six, (utters.heard, utters.said))
+line_says line status old new result utters (inr (is, all)) = inr (is, all.said)
 
 output_rose : (a b : Report) (result : ℕ) → SparesDisk false (is_unsaid result) a b → result ≡ 6 → Rose a.output_faults b.output_faults
 output_rose a b result spares six = subst (λ (x : Bool). Counts x a.output_faults b.output_faults) (eq-eqb result 6 six) spares.output
 
-module _ {D : Type 0} (M : Ghosts D) (path : List ℕ) (a b : D) (line : Line) (result : ℕ) (says : LeavesDisk M false (is_unsaid result) (UttersLine line) a b) (ledger : M.tells b → M.ledger b ≡ M.ledger a)
-    (status : IsStatusAs 2 result) (ends : M.honest b → (result ≡ 6) ⊎ EndsAs line 2 (M.now a) (M.now b) result) where
+module _ {D : Type 0} (M : Ghosts D) (path : List ℕ) (a b : D) (line : Line) (result : ℕ) (says : LeavesDisk M false (is_unsaid result) (Utters (text line)) a b) (ledger : M.tells b → M.ledger b ≡ M.ledger a)
+    (status : IsStatusAs 2 result) (ends : M.honest b → EndsLast line 2 (M.now a) (M.now b) result) where
   unasked : M.tells b → (M.ledger b).attaches ≡ (M.ledger a).attaches
   unasked t = ap (λ (x : Ledger). x.attaches) (ledger t)
 
@@ -69,7 +66,7 @@ module _ {D : Type 0} (M : Ghosts D) (path : List ℕ) (a b : D) (line : Line) (
   ran_outside is = record {
     status = line_status result status;
     complete = λ none. line_complete result status (λ six. none.output (output_rose (M.report a) (M.report b) result says.spares six));
-    device = λ four. absurd (line_not 4 2 result status (λ e. omega (arith, e)) (λ e. omega (arith, e)) (λ e. omega (arith, e)) four);
+    device = λ four. absurd (not_as 4 2 result (λ e. omega (arith, e)) (λ e. omega (arith, e)) status four);
     output = output_rose (M.report a) (M.report b) result says.spares;
     quiet = λ quiet. spares_none (M.report a) (M.report b) result says.spares (quiet_unfailed result quiet);
     unfailed = λ unfailed. input_alone (M.report a) (M.report b) (spares_none (M.report a) (M.report b) result says.spares unfailed);
@@ -77,20 +74,20 @@ module _ {D : Type 0} (M : Ghosts D) (path : List ℕ) (a b : D) (line : Line) (
     attached = λ inside t. unasked t ∙ sym (append-nil (M.ledger a).attaches);
     taken = λ t. ap (λ (x : Ledger). x.input) (ledger t);
     spared = says.spares.input;
-    input = λ five t. absurd (line_not 5 2 result status (λ e. omega (arith, e)) (λ e. omega (arith, e)) (λ e. omega (arith, e)) five);
-    fails = λ five h. absurd (line_not 5 2 result status (λ e. omega (arith, e)) (λ e. omega (arith, e)) (λ e. omega (arith, e)) five);
+    input = λ five t. absurd (not_as 5 2 result (λ e. omega (arith, e)) (λ e. omega (arith, e)) status five);
+    fails = λ five h. absurd (not_as 5 2 result (λ e. omega (arith, e)) (λ e. omega (arith, e)) status five);
     bad = λ two h. tt;
     whole = λ zero t. tt;
     spelled = λ zero t. tt;
     one = λ h. tt;
     rest = λ h. tt;
     trust = says.trust;
-    says = λ h. subst (λ (x : Line). SaysLine x 2 (M.now a) (M.now b) result) is (line_says line (M.now a) (M.now b) result (says.exit h) (ends h));
+    says = λ h. inl (subst (λ (x : Line). SaysLine x 2 (M.now a) (M.now b) result) is (line_says line 2 (M.now a) (M.now b) result (says.exit h) (ends h)));
     mounted = λ any h. tt;
-    refused = λ three h. absurd (line_not 3 2 result status (λ e. omega (arith, e)) (λ e. omega (arith, e)) (λ e. omega (arith, e)) three);
-    spent = λ nine h. absurd (line_not 9 2 result status (λ e. omega (arith, e)) (λ e. omega (arith, e)) (λ e. omega (arith, e)) nine);
+    refused = λ three h. absurd (not_as 3 2 result (λ e. omega (arith, e)) (λ e. omega (arith, e)) status three);
+    spent = λ nine h. absurd (not_as 9 2 result (λ e. omega (arith, e)) (λ e. omega (arith, e)) status nine);
     last = λ of h. tt;
-    image = λ none h. line_not 0 2 result status (λ e. omega (arith, e)) (λ e. omega (arith, e)) (λ e. omega (arith, e)) none;
+    image = λ none h. not_as 0 2 result (λ e. omega (arith, e)) (λ e. omega (arith, e)) status none;
     untouched = λ h. untouched_by line (M.now a) (M.now b) (says.exit h);
     leaves = λ h l windows changes f sound. tt;
   }
@@ -99,7 +96,7 @@ module _ {D : Type 0} (M : Ghosts D) (path : List ℕ) (a b : D) (line : Line) (
   ran_field cause is = record {
     status = line_status result status;
     complete = λ none. line_complete result status (λ six. none.output (output_rose (M.report a) (M.report b) result says.spares six));
-    device = λ four. absurd (line_not 4 2 result status (λ e. omega (arith, e)) (λ e. omega (arith, e)) (λ e. omega (arith, e)) four);
+    device = λ four. absurd (not_as 4 2 result (λ e. omega (arith, e)) (λ e. omega (arith, e)) status four);
     output = output_rose (M.report a) (M.report b) result says.spares;
     quiet = λ quiet. spares_none (M.report a) (M.report b) result says.spares (quiet_unfailed result quiet);
     unfailed = λ unfailed. input_alone (M.report a) (M.report b) (spares_none (M.report a) (M.report b) result says.spares unfailed);
@@ -107,20 +104,20 @@ module _ {D : Type 0} (M : Ghosts D) (path : List ℕ) (a b : D) (line : Line) (
     attached = λ inside t. unasked t ∙ sym (append-nil (M.ledger a).attaches);
     taken = λ t. ap (λ (x : Ledger). x.input) (ledger t);
     spared = says.spares.input;
-    input = λ five t. absurd (line_not 5 2 result status (λ e. omega (arith, e)) (λ e. omega (arith, e)) (λ e. omega (arith, e)) five);
-    fails = λ five h. absurd (line_not 5 2 result status (λ e. omega (arith, e)) (λ e. omega (arith, e)) (λ e. omega (arith, e)) five);
+    input = λ five t. absurd (not_as 5 2 result (λ e. omega (arith, e)) (λ e. omega (arith, e)) status five);
+    fails = λ five h. absurd (not_as 5 2 result (λ e. omega (arith, e)) (λ e. omega (arith, e)) status five);
     bad = λ two h. tt;
     whole = λ zero t. tt;
     spelled = λ zero t. tt;
     one = λ h. tt;
     rest = λ h. tt;
     trust = says.trust;
-    says = λ h. subst (λ (x : Line). SaysLine x 2 (M.now a) (M.now b) result) is (line_says line (M.now a) (M.now b) result (says.exit h) (ends h));
+    says = λ h. inl (subst (λ (x : Line). SaysLine x 2 (M.now a) (M.now b) result) is (line_says line 2 (M.now a) (M.now b) result (says.exit h) (ends h)));
     mounted = λ any h. tt;
-    refused = λ three h. absurd (line_not 3 2 result status (λ e. omega (arith, e)) (λ e. omega (arith, e)) (λ e. omega (arith, e)) three);
-    spent = λ nine h. absurd (line_not 9 2 result status (λ e. omega (arith, e)) (λ e. omega (arith, e)) (λ e. omega (arith, e)) nine);
+    refused = λ three h. absurd (not_as 3 2 result (λ e. omega (arith, e)) (λ e. omega (arith, e)) status three);
+    spent = λ nine h. absurd (not_as 9 2 result (λ e. omega (arith, e)) (λ e. omega (arith, e)) status nine);
     last = λ of h. tt;
-    image = λ none h. line_not 0 2 result status (λ e. omega (arith, e)) (λ e. omega (arith, e)) (λ e. omega (arith, e)) none;
+    image = λ none h. not_as 0 2 result (λ e. omega (arith, e)) (λ e. omega (arith, e)) status none;
     untouched = λ h. untouched_by line (M.now a) (M.now b) (says.exit h);
     leaves = λ h l windows changes f sound. tt;
   }
@@ -170,37 +167,11 @@ six_is (Generate seed count) = refl
 
 memory_status : (request : Request) (result : ℕ) → IsStatusAs 7 result → IsTrue (is_one_of (complete_statuses request ++ fault_statuses request) result)
 memory_status request result (inl seven) = one_at (complete_statuses request ++ fault_statuses request) 7 result seven (seven_is request).1
-memory_status request result (inr (inl seven)) = one_at (complete_statuses request ++ fault_statuses request) 7 result seven (seven_is request).1
-memory_status request result (inr (inr six)) = one_at (complete_statuses request ++ fault_statuses request) 6 result six (six_is request)
+memory_status request result (inr six) = one_at (complete_statuses request ++ fault_statuses request) 6 result six (six_is request)
 
 memory_complete : (request : Request) (result : ℕ) → IsStatusAs 7 result → (result ≡ 6 → ⊥) → IsTrue (is_one_of (complete_statuses request) result)
 memory_complete request result (inl seven) said = one_at (complete_statuses request) 7 result seven (seven_is request).0
-memory_complete request result (inr (inl seven)) said = one_at (complete_statuses request) 7 result seven (seven_is request).0
-memory_complete request result (inr (inr six)) said = absurd (said six)
-
--- all that is said is that, or its first bytes
-abbrev SaysMemory : (old new : Moment) → ℕ → Type 0
-SaysMemory old new result = ((result ≡ 6) × (heard : ℕ) × (new.said ≡ old.said ++ take heard memory_text)) ⊎ ((result ≡ 7) × (new.said ≡ old.said ++ memory_text))
-
-memory_said : (old new : Moment) (result : ℕ) → UttersLine (Lines.Ended Ends.Memory) old new → (result ≡ 6) ⊎ EndsAs (Lines.Ended Ends.Memory) 7 old new result → SaysMemory old new result
-memory_said old new result (said, inl is, utters) (inl six) = inl (six, utters.heard, utters.said ∙ ap (λ (x : List ℕ). old.said ++ take utters.heard x) is)
-memory_said old new result (said, inr is, utters) (inl six) = inl (six, utters.heard, utters.said ∙ ap (λ (x : List ℕ). old.said ++ take utters.heard x) is)
-memory_said old new result utters (inr (inl (seven, all))) = inr (seven, all.said)
-memory_said old new result utters (inr (inr (seven, all))) = inr (seven, all.said)
-
-memory_line : (line : Line) (old new : Moment) (result : ℕ) → SaysMemory old new result → SaysLine line 2 old new result
-memory_line line old new result (inl (six, heard, said)) = inl (six, (memory_text, inr refl, heard, said))
-memory_line line old new result (inr said) = inr (inr said)
-
-memory_format : (planned : Result Layout LayoutFault) (place : ℕ) (old new : Moment) (result : ℕ) → SaysMemory old new result → SaysFormat planned place old new result
-memory_format planned place old new result (inl (six, heard, said)) = inl (six, (memory_text, inr (inr refl), heard, said))
-memory_format planned place old new result (inr (seven, said)) = inr (memory_text, inr (inr (seven, refl)), said)
-
-memory_says : (request : Request) (place : ℕ) (old new : Moment) (result : ℕ) → SaysMemory old new result → SaysAnswer request place old new result
-memory_says Outside place old new result said = memory_line Lines.Usage old new result said
-memory_says (BadField cause) place old new result said = memory_line (field_line cause) old new result said
-memory_says (Format n t p) place old new result said = memory_format (plan n t p) place old new result said
-memory_says request place old new result said = tt
+memory_complete request result (inr six) said = absurd (said six)
 
 spares_plan : (planned : Result Layout LayoutFault) (old new : Moment) → IsUntouched old new → SparesUnplanned planned old new
 spares_plan (Ok l) old new still = tt
@@ -255,37 +226,37 @@ input_spared Outside old new same = same
 input_spared (BadField cause) old new same = same
 input_spared (Format n t p) old new same = same
 
-module _ {D : Type 0} (M : Ghosts D) (request : Request) (path : List ℕ) (a b : D) (result : ℕ) (says : LeavesDisk M false (is_unsaid result) (UttersLine (Lines.Ended Ends.Memory)) a b)
-    (ledger : M.tells b → M.ledger b ≡ M.ledger a) (status : IsStatusAs 7 result) (ends : M.honest b → (result ≡ 6) ⊎ EndsAs (Lines.Ended Ends.Memory) 7 (M.now a) (M.now b) result)
+module _ {D : Type 0} (M : Ghosts D) (request : Request) (path : List ℕ) (a b : D) (result : ℕ) (says : LeavesDisk M false (is_unsaid result) (Utters (fault_text Ends.Memory)) a b)
+    (ledger : M.tells b → M.ledger b ≡ M.ledger a) (status : IsStatusAs 7 result) (ends : M.honest b → EndsWith Ends.Memory (M.now a) (M.now b) result)
     (short : M.honest a → AreShort (M.now a).windows) (only : M.honest a → (left : Moment) → M.left_since a (M.moment a) left → left ≡ M.now a) where
   not_zero : result ≡ 0 → ⊥
-  not_zero = line_not 0 7 result status (λ e. omega (arith, e)) (λ e. omega (arith, e)) (λ e. omega (arith, e))
+  not_zero = not_as 0 7 result (λ e. omega (arith, e)) (λ e. omega (arith, e)) status
 
   pub ran_memory : Ran M request path a b result
   ran_memory = record {
     status = memory_status request result status;
     complete = λ none. memory_complete request result status (λ six. none.output (output_rose (M.report a) (M.report b) result says.spares six));
-    device = λ four. absurd (line_not 4 7 result status (λ e. omega (arith, e)) (λ e. omega (arith, e)) (λ e. omega (arith, e)) four);
+    device = λ four. absurd (not_as 4 7 result (λ e. omega (arith, e)) (λ e. omega (arith, e)) status four);
     output = output_rose (M.report a) (M.report b) result says.spares;
-    quiet = λ quiet. absurd (line_loud 7 result status refl (quiet_unfailed result quiet));
-    unfailed = λ unfailed. absurd (line_loud 7 result status refl unfailed);
+    quiet = λ quiet. spares_none (M.report a) (M.report b) result says.spares (quiet_unfailed result quiet);
+    unfailed = λ unfailed. input_alone (M.report a) (M.report b) (spares_none (M.report a) (M.report b) result says.spares unfailed);
     attaches = λ t. inr (ap (λ (x : Ledger). x.attaches) (ledger t));
     attached = λ inside t. absurd (inside_not result status inside);
     taken = λ t. input_left request (M.ledger a).input (M.ledger b).input (ap (λ (x : Ledger). x.input) (ledger t));
     spared = input_spared request (M.report a) (M.report b) says.spares.input;
-    input = λ five t. absurd (line_not 5 7 result status (λ e. omega (arith, e)) (λ e. omega (arith, e)) (λ e. omega (arith, e)) five);
-    fails = λ five h. absurd (line_not 5 7 result status (λ e. omega (arith, e)) (λ e. omega (arith, e)) (λ e. omega (arith, e)) five);
-    bad = λ two h. absurd (line_not 2 7 result status (λ e. omega (arith, e)) (λ e. omega (arith, e)) (λ e. omega (arith, e)) two);
-    whole = λ low t. absurd (line_not_low 7 result (omega arith) status low);
+    input = λ five t. absurd (not_as 5 7 result (λ e. omega (arith, e)) (λ e. omega (arith, e)) status five);
+    fails = λ five h. absurd (not_as 5 7 result (λ e. omega (arith, e)) (λ e. omega (arith, e)) status five);
+    bad = λ two h. absurd (not_as 2 7 result (λ e. omega (arith, e)) (λ e. omega (arith, e)) status two);
+    whole = λ low t. absurd (as_not_low 7 result (omega arith) status low);
     spelled = λ zero t. absurd (not_zero zero);
     one = λ h. memory_one request (M.ledger a).input (M.now a) (M.now b) result (line_no_reply Ends.Memory (M.now a) (M.now a) (M.now b) result refl (ends h));
     rest = λ h. memory_rest request (M.now a) (M.now b) (untouched_by (Lines.Ended Ends.Memory) (M.now a) (M.now b) (says.exit h));
     trust = says.trust;
-    says = λ h. memory_says request (M.report b).fault_place (M.now a) (M.now b) result (memory_said (M.now a) (M.now b) result (says.exit h) (ends h));
+    says = λ h. inr (line_says (Lines.Ended Ends.Memory) 7 (M.now a) (M.now b) result (says.exit h) (ends h), untouched_by (Lines.Ended Ends.Memory) (M.now a) (M.now b) (says.exit h));
     mounted = λ any h. absurd (not_mounted 7 result status refl any);
-    refused = λ three h. absurd (line_not 3 7 result status (λ e. omega (arith, e)) (λ e. omega (arith, e)) (λ e. omega (arith, e)) three);
-    spent = λ nine h. absurd (line_not 9 7 result status (λ e. omega (arith, e)) (λ e. omega (arith, e)) (λ e. omega (arith, e)) nine);
-    last = λ of h. if_mounts request _ (line_last Ends.Memory (M.report b).fault_place (M.now a) (M.now b) result tt (ends h) of);
+    refused = λ three h. absurd (not_as 3 7 result (λ e. omega (arith, e)) (λ e. omega (arith, e)) status three);
+    spent = λ nine h. absurd (not_as 9 7 result (λ e. omega (arith, e)) (λ e. omega (arith, e)) status nine);
+    last = λ of h. if_mounts request _ (ends_fault (M.report b).fault_place (M.now a) (M.now b) result Ends.Memory tt (ends h) of);
     image = λ zero h. absurd (not_zero zero);
     untouched = λ h. spares_image request (M.now a) (M.now b) (untouched_by (Lines.Ended Ends.Memory) (M.now a) (M.now b) (says.exit h));
     leaves = λ h l windows changes f sound. if_mounts request _ (ended_run M request (input_for request (M.ledger a).input) (M.ledger b).input l windows changes f a a b Ends.Memory tt result sound
@@ -296,40 +267,34 @@ module _ {D : Type 0} (M : Ghosts D) (request : Request) (path : List ℕ) (a b 
 
 format_status_is : (planned : Result Layout LayoutFault) (result : ℕ) → IsFormatStatus planned result → IsTrue (is_one_of ((format_status planned ∷ 7 ∷ []) ++ plan_faults planned) result)
 format_status_is (Ok l) result (inl zero) = one_at (0 ∷ 7 ∷ 4 ∷ 6 ∷ []) 0 result zero refl
-format_status_is (Ok l) result (inr (inl seven)) = one_at (0 ∷ 7 ∷ 4 ∷ 6 ∷ []) 7 result seven refl
-format_status_is (Ok l) result (inr (inr (inl four))) = one_at (0 ∷ 7 ∷ 4 ∷ 6 ∷ []) 4 result four refl
-format_status_is (Ok l) result (inr (inr (inr six))) = one_at (0 ∷ 7 ∷ 4 ∷ 6 ∷ []) 6 result six refl
+format_status_is (Ok l) result (inr (inl four)) = one_at (0 ∷ 7 ∷ 4 ∷ 6 ∷ []) 4 result four refl
+format_status_is (Ok l) result (inr (inr six)) = one_at (0 ∷ 7 ∷ 4 ∷ 6 ∷ []) 6 result six refl
 format_status_is (Err why) result (inl one) = one_at (1 ∷ 7 ∷ 6 ∷ []) 1 result one refl
-format_status_is (Err why) result (inr (inl seven)) = one_at (1 ∷ 7 ∷ 6 ∷ []) 7 result seven refl
-format_status_is (Err why) result (inr (inr six)) = one_at (1 ∷ 7 ∷ 6 ∷ []) 6 result six refl
+format_status_is (Err why) result (inr six) = one_at (1 ∷ 7 ∷ 6 ∷ []) 6 result six refl
 
 format_complete : (planned : Result Layout LayoutFault) (result : ℕ) → IsFormatStatus planned result → (result ≡ 4 → ⊥) → (result ≡ 6 → ⊥) → IsTrue (is_one_of (format_status planned ∷ 7 ∷ []) result)
 format_complete (Ok l) result (inl zero) disk said = one_at (0 ∷ 7 ∷ []) 0 result zero refl
-format_complete (Ok l) result (inr (inl seven)) disk said = one_at (0 ∷ 7 ∷ []) 7 result seven refl
-format_complete (Ok l) result (inr (inr (inl four))) disk said = absurd (disk four)
-format_complete (Ok l) result (inr (inr (inr six))) disk said = absurd (said six)
+format_complete (Ok l) result (inr (inl four)) disk said = absurd (disk four)
+format_complete (Ok l) result (inr (inr six)) disk said = absurd (said six)
 format_complete (Err why) result (inl one) disk said = one_at (1 ∷ 7 ∷ []) 1 result one refl
-format_complete (Err why) result (inr (inl seven)) disk said = one_at (1 ∷ 7 ∷ []) 7 result seven refl
-format_complete (Err why) result (inr (inr six)) disk said = absurd (said six)
+format_complete (Err why) result (inr six) disk said = absurd (said six)
 
-format_not : (n : ℕ) (planned : Result Layout LayoutFault) (result : ℕ) → IsFormatStatus planned result → (n ≡ 0 → ⊥) → (n ≡ 1 → ⊥) → (n ≡ 4 → ⊥) → (n ≡ 6 → ⊥) → (n ≡ 7 → ⊥) → result ≡ n → ⊥
-format_not n (Ok l) result (inl zero) a b c d e at = a (sym at ∙ zero)
-format_not n (Err why) result (inl one) a b c d e at = b (sym at ∙ one)
-format_not n planned result (inr (inl seven)) a b c d e at = e (sym at ∙ seven)
-format_not n (Ok l) result (inr (inr (inl four))) a b c d e at = c (sym at ∙ four)
-format_not n (Ok l) result (inr (inr (inr six))) a b c d e at = d (sym at ∙ six)
-format_not n (Err why) result (inr (inr six)) a b c d e at = d (sym at ∙ six)
+format_not : (n : ℕ) (planned : Result Layout LayoutFault) (result : ℕ) → IsFormatStatus planned result → (n ≡ 0 → ⊥) → (n ≡ 1 → ⊥) → (n ≡ 4 → ⊥) → (n ≡ 6 → ⊥) → result ≡ n → ⊥
+format_not n (Ok l) result (inl zero) a b c d at = a (sym at ∙ zero)
+format_not n (Err why) result (inl one) a b c d at = b (sym at ∙ one)
+format_not n (Ok l) result (inr (inl four)) a b c d at = c (sym at ∙ four)
+format_not n (Ok l) result (inr (inr six)) a b c d at = d (sym at ∙ six)
+format_not n (Err why) result (inr six) a b c d at = d (sym at ∙ six)
 
--- all that it asks for is asked, but where a call of the outside or memory failed
+-- all that it asks for is asked, but where a call of the outside failed
 outside_at : (n result : ℕ) → IsTrue (is_from_outside n) → result ≡ n → IsFalse (is_from_outside result) → ⊥
 outside_at n result out at inside = let other : IsFalse (is_from_outside n) = subst (λ (x : ℕ). IsFalse (is_from_outside x)) at inside in cc (out, other)
 
 format_asked : (planned : Result Layout LayoutFault) (path : List ℕ) (old new : Ledger) (result : ℕ) → IsFormatStatus planned result → AsksAtMost (plan_asks planned path) old new → (result ≡ 0 → AsksAll (plan_asks planned path) old new)
     → IsFalse (is_from_outside result) → new.attaches ≡ old.attaches ++ plan_asks planned path
 format_asked (Ok l) path old new result (inl zero) asks all inside = (all zero).attaches
-format_asked (Ok l) path old new result (inr (inl seven)) asks all inside = absurd (outside_at 7 result refl seven inside)
-format_asked (Ok l) path old new result (inr (inr (inl four))) asks all inside = absurd (outside_at 4 result refl four inside)
-format_asked (Ok l) path old new result (inr (inr (inr six))) asks all inside = absurd (outside_at 6 result refl six inside)
+format_asked (Ok l) path old new result (inr (inl four)) asks all inside = absurd (outside_at 4 result refl four inside)
+format_asked (Ok l) path old new result (inr (inr six)) asks all inside = absurd (outside_at 6 result refl six inside)
 format_asked (Err why) path old new result status asks all inside = none asks.attaches
   where
     none : (new.attaches ≡ old.attaches ++ []) ⊎ (new.attaches ≡ old.attaches) → new.attaches ≡ old.attaches ++ []
@@ -351,16 +316,16 @@ ran_format M n t p path a b result status counts asks asked trust says made unto
   attached = λ inside told. format_asked (plan n t p) path (M.ledger a) (M.ledger b) result status (asks told) (λ zero. asked zero told) inside;
   taken = λ t. (asks t).input;
   spared = counts.input;
-  input = λ five told. absurd (format_not 5 (plan n t p) result status (λ e. omega (arith, e)) (λ e. omega (arith, e)) (λ e. omega (arith, e)) (λ e. omega (arith, e)) (λ e. omega (arith, e)) five);
-  fails = λ five h. absurd (format_not 5 (plan n t p) result status (λ e. omega (arith, e)) (λ e. omega (arith, e)) (λ e. omega (arith, e)) (λ e. omega (arith, e)) (λ e. omega (arith, e)) five);
+  input = λ five told. absurd (format_not 5 (plan n t p) result status (λ e. omega (arith, e)) (λ e. omega (arith, e)) (λ e. omega (arith, e)) (λ e. omega (arith, e)) five);
+  fails = λ five h. absurd (format_not 5 (plan n t p) result status (λ e. omega (arith, e)) (λ e. omega (arith, e)) (λ e. omega (arith, e)) (λ e. omega (arith, e)) five);
   bad = λ two h. tt;
   whole = λ zero t. tt;
   spelled = λ zero t. tt;
   trust = trust;
-  says = says;
+  says = λ h. inl (says h);
   mounted = λ any h. tt;
-  refused = λ three h. absurd (format_not 3 (plan n t p) result status (λ e. omega (arith, e)) (λ e. omega (arith, e)) (λ e. omega (arith, e)) (λ e. omega (arith, e)) (λ e. omega (arith, e)) three);
-  spent = λ nine h. absurd (format_not 9 (plan n t p) result status (λ e. omega (arith, e)) (λ e. omega (arith, e)) (λ e. omega (arith, e)) (λ e. omega (arith, e)) (λ e. omega (arith, e)) nine);
+  refused = λ three h. absurd (format_not 3 (plan n t p) result status (λ e. omega (arith, e)) (λ e. omega (arith, e)) (λ e. omega (arith, e)) (λ e. omega (arith, e)) three);
+  spent = λ nine h. absurd (format_not 9 (plan n t p) result status (λ e. omega (arith, e)) (λ e. omega (arith, e)) (λ e. omega (arith, e)) (λ e. omega (arith, e)) nine);
   last = λ of h. tt;
   image = made;
   untouched = untouched;
@@ -373,7 +338,7 @@ ran_format M n t p path a b result status counts asks asked trust says made unto
 
 pub ran_command : {D : Type 0} (M : Ghosts D) (c : Command) (path : List ℕ) (a b : D) (result : ℕ) → IsOneStatus c result → CountsFaults (M.report a) (M.report b) result
     → (M.tells b → AsksAtMost (mount_asks path) (M.ledger a) (M.ledger b)) → (IsFalse (is_from_outside result) → M.tells b → AsksAll (mount_asks path) (M.ledger a) (M.ledger b))
-    → Trusts (M.tells a) (M.tells b) (M.honest a) (M.honest b) → (M.honest b → TellsFound false (M.now a) (M.now b) result)
+    → Trusts (M.tells a) (M.tells b) (M.honest a) (M.honest b) → (M.honest b → TellsFound false false (M.now a) (M.now b) result)
     → (M.honest b → SaysOne c (M.now a) (M.now b) result) → (M.honest b → WritesFound c (M.now a) (M.now b))
     → (IsTrue (is_of_fault result) → M.honest b → SaysFault (M.report b).fault_place (M.now b) result)
     → (M.honest b → (rest : List ℕ) (l : Layout) (windows : List WeakRun) (h : List Change) (f : ℕ) → IsSoundDisk l windows h f (M.now a) →
@@ -398,7 +363,7 @@ ran_command M c path a b result status counts asks asked trust image one rest la
   whole = λ zero t. tt;
   spelled = λ zero t. tt;
   trust = trust;
-  says = λ h. tt;
+  says = λ h. inl tt;
   mounted = λ any h. (image h).mounted any;
   refused = λ three h. (image h).refused three;
   spent = λ nine h. (image h).spent nine;

@@ -10,7 +10,7 @@ use Rattle.volume_layout.specs.declared.fault.LayoutFault.{LayoutFault}
 use Rattle.fsd_sound.specs.Format.{IsFormattedIn}
 use Rattle.fsd_sound.specs.Sound.{IsSound}
 use Rattle.fsd_texts.specs.declared.fault.Fault.TheVariants as Ends
-use Rattle.fsd_texts.specs.Text.{fault_text, format_line, memory_text, text}
+use Rattle.fsd_texts.specs.Text.{fault_text, format_line, text}
 use Rattle.volume_turns.specs.Status.{CountsNone, is_unfailed}
 
 -- ---- the image
@@ -72,9 +72,9 @@ abbrev pub IsFaultOfPlan : Result Layout LayoutFault → ℕ → Type 0
 IsFaultOfPlan (Ok l) status = (status ≡ 4) ⊎ (status ≡ 6)
 IsFaultOfPlan (Err why) status = status ≡ 6
 
--- the status of its line, or of refused memory, or of a call that failed
+-- the status of its line, or of a call that failed
 abbrev pub IsFormatStatus : Result Layout LayoutFault → ℕ → Type 0
-IsFormatStatus planned status = (status ≡ format_status planned) ⊎ ((status ≡ 7) ⊎ IsFaultOfPlan planned status)
+IsFormatStatus planned status = (status ≡ format_status planned) ⊎ IsFaultOfPlan planned status
 
 -- Where the status tells a fault of the disk or of the output, this is counted; none of the input is, and none at all where it tells
 -- no call of the outside.
@@ -95,12 +95,12 @@ pub record UsesAttach (fault : Option ℕ) (old new : Report) : Type 0 where
 
 -- the texts that may be said, by the place of the disk's last fault
 abbrev pub MaySay : Result Layout LayoutFault → (place : ℕ) → List ℕ → Type 0
-MaySay planned place bytes = (bytes ≡ text (format_line planned)) ⊎ ((bytes ≡ fault_text (Ends.Device place)) ⊎ (bytes ≡ memory_text))
+MaySay planned place bytes = (bytes ≡ text (format_line planned)) ⊎ (bytes ≡ fault_text (Ends.Device place))
 
 -- the whole text of what the status tells
 abbrev pub SaysFor : Result Layout LayoutFault → (place : ℕ) → (status : ℕ) → List ℕ → Type 0
 SaysFor planned place status bytes =
-    ((status ≡ format_status planned) × (bytes ≡ text (format_line planned))) ⊎ (((status ≡ 4) × (bytes ≡ fault_text (Ends.Device place))) ⊎ ((status ≡ 7) × (bytes ≡ memory_text)))
+    ((status ≡ format_status planned) × (bytes ≡ text (format_line planned))) ⊎ ((status ≡ 4) × (bytes ≡ fault_text (Ends.Device place)))
 
 -- some first bytes of such a text
 abbrev pub BeginsFormat : Result Layout LayoutFault → (place : ℕ) → (old new : Moment) → Type 0

@@ -1,4 +1,3 @@
-pub mod Ending
 pub mod Formatting
 pub mod Opening
 pub mod Program

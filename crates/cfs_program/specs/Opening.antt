@@ -11,7 +11,7 @@ use Rattle.fsd_sound.specs.Sound.{EndIn, IsSound}
 use Rattle.fsd_texts.specs.declared.command.Command.{Command}
 use Rattle.volume_turns.specs.Answering.{WritesOne}
 use Rattle.cfs_program.specs.Formatting.{IsUntouched}
-use Rattle.volume_turns.specs.Causes.{HasVolume, IsSpent, SaysCause, is_of_mounted}
+use Rattle.volume_turns.specs.Causes.{HasSpent, HasVolume, SaysCause, is_of_mounted}
 use Rattle.volume_turns.specs.Status.{CountsInput, CountsNone, is_unfailed, is_quiet}
 
 -- the attach that a command asks for: an image that is there
@@ -48,11 +48,11 @@ pub record AsFound (P : ℕ → Moment → Type 0) (old : Moment) : Type 0 where
   pub size : sectors ≡ min (length at.image) (2 ^ 32 - 1)
   pub holds : P sectors at
 
--- What a run tells of the image that its attach found, by its status, and whether it is a script.
-pub record TellsFound (script : Bool) (old new : Moment) (status : ℕ) : Type 0 where
+-- What a run tells of the image that its attach found, by its status, whether it is a script, and whether it may do many commands.
+pub record TellsFound (script many : Bool) (old new : Moment) (status : ℕ) : Type 0 where
   pub mounted : IsTrue (is_of_mounted status) → AsFound HasVolume old
   pub refused : status ≡ 3 → AsFound (λ sectors at. SaysCause script sectors at new) old
-  pub spent : status ≡ 9 → AsFound IsSpent old
+  pub spent : status ≡ 9 → AsFound (HasSpent many) old
 
 -- nothing is written, or no more than a mount and the command write
 abbrev pub WritesFound : Command → (old new : Moment) → Type 0

@@ -1,5 +1,5 @@
 -- What the program answers and leaves, by what its words ask for.
-use Rattle.std.specs.Prelude.{◌≡◌, ◌⊎◌, ◌≤◌, ⊤, ℕ, Bool, true, false, ◌==◌, List, [], ◌∷◌, ◌++◌, length, Result, Ok, Err, IsFalse, IsTrue}
+use Rattle.std.specs.Prelude.{◌≡◌, ◌⊎◌, ◌≤◌, ⊤, ℕ, Bool, true, false, ◌==◌, List, [], ◌∷◌, ◌++◌, length, take, Result, Ok, Err, IsFalse, IsTrue}
 use Rattle.std.specs.List.{list_any}
 use Rattle.volume_layout.specs.declared.layout.Layout.{Layout}
 use Rattle.volume_layout.specs.declared.fault.LayoutFault.{LayoutFault}
@@ -10,20 +10,20 @@ use Rattle.sector_disk.specs.Machine.{Asked, LeavesOnly, Moment, Report, Rose, T
 use Rattle.fsd_files.specs.Files.{Change}
 use Rattle.fsd_texts.specs.declared.command.Command.{Command}
 use Rattle.fsd_texts.specs.declared.command.Command.TheVariants as Word
+use Rattle.fsd_texts.specs.declared.fault.Fault.TheVariants as Ends
 use Rattle.fsd_texts.specs.declared.line.Line.{Line}
 use Rattle.fsd_texts.specs.declared.line.Line.TheVariants as Says
 use Rattle.fsd_texts.specs.declared.end.End.TheVariants.{Done}
 use Rattle.fsd_texts.specs.Script.{max_input, script_in}
-use Rattle.fsd_texts.specs.Text.{memory_text, text}
+use Rattle.fsd_texts.specs.Text.{text}
 use Rattle.fsd_texts.specs.declared.bad_line.Cause.{Cause}
 use Rattle.fsd_runs.specs.declared.request.Request.{Request}
 use Rattle.fsd_runs.specs.declared.request.Request.TheVariants.{Outside, BadField, Format, Put, One, Script, Generate}
 use Rattle.fsd_runs.specs.Errands.{IfMounts}
 use Rattle.fsd_runs.specs.Leaves.{LeavesRun, NoneRose}
-use Rattle.cfs_program.specs.Ending.{BeginsLine}
 use Rattle.cfs_program.specs.Formatting.{IsMadeBy, IsUntouched, SaysFormat, SparesUnplanned, format_status, plan_asks}
 use Rattle.volume_turns.specs.Answering.{SaysOne}
-use Rattle.volume_turns.specs.Causes.{FailsInput, HasVolume, IsSpent, SaysBadLine, SaysCause, SaysFault, SaysOfInput, is_of_fault, is_of_mounted}
+use Rattle.volume_turns.specs.Causes.{FailsInput, HasSpent, HasVolume, SaysBadLine, SaysCause, SaysFault, SaysOfInput, is_of_fault, is_of_mounted}
 use Rattle.volume_turns.specs.Status.{CountsInput, CountsNone, is_unfailed, is_quiet}
 use Rattle.cfs_program.specs.Opening.{AsFound, AsksOrNot, IsSoundDisk, WritesFound, is_from_outside, mount_asks}
 
@@ -112,10 +112,17 @@ input_for request input = []
 abbrev pub field_line : Cause → Line
 field_line cause = Says.Bad (record { line = 0; cause = cause })
 
--- The whole line is said and its status given, or both are those of refused memory; or the output failed behind some first bytes.
+-- some first bytes of the line are said
+abbrev pub BeginsLine : Line → (old new : Moment) → Type 0
+BeginsLine line old new = (heard : ℕ) × (new.said ≡ old.said ++ take heard (text line))
+
+-- the whole line is said and its status given, or the output failed behind some first bytes
 abbrev pub SaysLine : Line → ℕ → (old new : Moment) → ℕ → Type 0
-SaysLine line status old new result =
-    ((result ≡ 6) × BeginsLine line old new) ⊎ (((result ≡ status) × (new.said ≡ old.said ++ text line)) ⊎ ((result ≡ 7) × (new.said ≡ old.said ++ memory_text)))
+SaysLine line status old new result = ((result ≡ 6) × BeginsLine line old new) ⊎ ((result ≡ status) × (new.said ≡ old.said ++ text line))
+
+-- memory was refused before anything was done for the request
+abbrev pub SaysMemory : (old new : Moment) → ℕ → Type 0
+SaysMemory old new result = SaysLine (Says.Ended Ends.Memory) 7 old new result × IsUntouched old new
 
 -- of the requests that mount nothing; place is that of the disk's last fault
 abbrev pub SaysAnswer : Request → (place : ℕ) → (old new : Moment) → ℕ → Type 0
@@ -128,6 +135,12 @@ SaysAnswer request place old new result = ⊤
 abbrev pub is_script : Request → Bool
 is_script Script = true
 is_script request = false
+
+-- a script may do many commands, and so may a run that makes them up
+abbrev pub does_many : Request → Bool
+does_many Script = true
+does_many (Generate seed count) = true
+does_many request = false
 
 -- one command says one reply, or the line of the fault that has ended it, and no more
 abbrev pub SaysAlone : Request → (input : List ℕ) → (old new : Moment) → ℕ → Type 0
@@ -184,13 +197,13 @@ pub record Ran {D : Type 0} (M : Ghosts D) (request : Request) (path : List ℕ)
   pub whole : result ≤ 1 → M.tells b → TakesAll request (M.ledger a).input (M.ledger b).input
   pub spelled : result ≡ 0 → M.tells b → IsSpelled request (M.ledger a).input
   pub trust : Trusts (M.tells a) (M.tells b) (M.honest a) (M.honest b)
-  pub says : M.honest b → SaysAnswer request (M.report b).fault_place (M.now a) (M.now b) result
+  pub says : M.honest b → SaysAnswer request (M.report b).fault_place (M.now a) (M.now b) result ⊎ SaysMemory (M.now a) (M.now b) result
   pub one : M.honest b → SaysAlone request (M.ledger a).input (M.now a) (M.now b) result
   pub rest : M.honest b → WritesAlone request (M.now a) (M.now b)
   pub mounted : IsTrue (is_of_mounted result) → M.honest b → IfMounts request (AsFound HasVolume (M.now a))
   pub refused : result ≡ 3 → M.honest b → AsFound (λ sectors at. SaysCause (is_script request) sectors at (M.now b)) (M.now a)
   pub last : IsTrue (is_of_fault result) → M.honest b → IfMounts request (SaysFault (M.report b).fault_place (M.now b) result)
-  pub spent : result ≡ 9 → M.honest b → AsFound IsSpent (M.now a)
+  pub spent : result ≡ 9 → M.honest b → AsFound (HasSpent (does_many request)) (M.now a)
   pub image : result ≡ 0 → M.honest b → HoldsAfter request (M.now b)
   pub untouched : M.honest b → SparesImage request (M.now a) (M.now b)
   pub leaves : M.honest b → LeavesSound request (M.ledger a).input (M.ledger b).input (M.left_since b) (λ P. LeavesOnly M.moment M.left_since a b P) (M.report a) (M.report b) (M.now a) (M.now b) result

@@ -5,23 +5,15 @@ ghost use Rattle.sector_disk.specs.Machine.{Trusts};
 ghost use Rattle.volume_layout.specs.Layout.{plan};
 ghost use Rattle.cfs_program.specs.Formatting.{AsksAll, AsksAtMost, CountsFaults, IsFormatStatus, IsMadeBy, MakesVolume, SaysFormat, SparesUnplanned, UsesAttach, plan_asks};
 
-use crate::ending::end_with;
 use fsd_texts::{Fault, Line};
 use sector_disk::{Attach, Failed, Machine};
-use std::alloc::Global;
 use volume_format::format;
 use volume_layout::Layout;
+use volume_turns::last_line;
 
 /// Makes an empty volume of these numbers of sectors, of sectors a third, and of name pages, says so or why not, and gives the
 /// status.
-pub fn run_format<M: Machine>(
-    alloc: Global,
-    m: &mut M,
-    path: &str,
-    sectors: u32,
-    third: u32,
-    pages: u32,
-) -> u8
+pub fn run_format<M: Machine>(m: &mut M, path: &str, sectors: u32, third: u32, pages: u32) -> u8
     ensures status { IsFormatStatus (plan sectors third pages) result }
     ensures counts { CountsFaults (M.report m.old) (M.report m.new) result }
     ensures asks { M.tells m.new → AsksAtMost (plan_asks (plan sectors third pages) path.now) (M.ledger m.old) (M.ledger m.new) }
@@ -32,13 +24,13 @@ pub fn run_format<M: Machine>(
     ensures untouched { M.honest m.new → SparesUnplanned (plan sectors third pages) (M.now m.old) (M.now m.new) }
 {
     match Layout::plan(sectors, third, pages) {
-        Ok(l) => make(alloc, m, path, &l),
-        Err(fault) => end_with(alloc, m, &Line::Unplanned(fault), 1),
+        Ok(l) => make(m, path, &l),
+        Err(fault) => last_line(m, &Line::Unplanned(fault), 1),
     }
 }
 
 // Makes a volume of this layout, and says so.
-fn make<M: Machine>(alloc: Global, m: &mut M, path: &str, l: &Layout) -> u8
+fn make<M: Machine>(m: &mut M, path: &str, l: &Layout) -> u8
     ensures status { IsFormatStatus (Ok l.now) result }
     ensures counts { CountsFaults (M.report m.old) (M.report m.new) result }
     ensures asks { M.tells m.new → AsksAtMost (plan_asks (Ok l.now) path.now) (M.ledger m.old) (M.ledger m.new) }
@@ -50,8 +42,8 @@ fn make<M: Machine>(alloc: Global, m: &mut M, path: &str, l: &Layout) -> u8
     let sectors = l.sectors();
     let free = sectors - l.data_start();
     match make_volume(m, path, l) {
-        Ok(()) => end_with(alloc, m, &Line::Formatted { sectors, free }, 0),
-        Err(failed) => end_with(alloc, m, &Line::Ended(Fault::Device(failed.place)), 4),
+        Ok(()) => last_line(m, &Line::Formatted { sectors, free }, 0),
+        Err(failed) => last_line(m, &Line::Ended(Fault::Device(failed.place)), 4),
     }
 }
 

@@ -1,7 +1,6 @@
 //! All that the program does, over any volume and a machine that is handed in.
 #![tactic(auto)]
 
-mod ending;
 mod formatting;
 mod making;
 mod opening;

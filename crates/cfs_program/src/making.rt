@@ -1,5 +1,5 @@
 //! Commands that are made up, over the image that they are for.
-ghost use Rattle.std.specs.Prelude.{◌≡◌, ℕ, List, [], false, IsFalse, IsTrue};
+ghost use Rattle.std.specs.Prelude.{◌≡◌, ℕ, List, [], false, true, IsFalse, IsTrue};
 ghost use Rattle.sector_disk.specs.declared.sector.WeakRun.{WeakRun};
 ghost use Rattle.sector_disk.specs.Machine.{LeavesOnly, Trusts};
 ghost use Rattle.volume_layout.specs.declared.layout.Layout.{Layout as Plan};
@@ -11,12 +11,11 @@ ghost use Rattle.volume_turns.specs.Status.{IsMadeStatus};
 ghost use Rattle.cfs_program.specs.Formatting.{AsksAll, AsksAtMost, CountsFaults};
 ghost use Rattle.cfs_program.specs.Opening.{IsSoundDisk, TellsFound, is_from_outside, mount_asks};
 
-use crate::ending::end_with;
 use fsd_texts::{Fault, Line};
 use sector_disk::{Attach, Machine};
 use std::alloc::Global;
 use volume_contract::Files;
-use volume_turns::run_generate;
+use volume_turns::{last_line, run_generate};
 
 /// Makes up so many commands from a seed and does them over the volume of an image; at the end all is forced, and what came of
 /// them is said. It gives the status.
@@ -32,13 +31,13 @@ pub fn run_made_up<M: Machine, V: Files<M> + Drop>(
     ensures asks { M.tells m.new → AsksAtMost (mount_asks path.now) (M.ledger m.old) (M.ledger m.new) }
     ensures asked { IsFalse (is_from_outside result) → M.tells m.new → AsksAll (mount_asks path.now) (M.ledger m.old) (M.ledger m.new) }
     ensures trust { Trusts (M.tells m.old) (M.tells m.new) (M.honest m.old) (M.honest m.new) }
-    ensures image { M.honest m.new → TellsFound false (M.now m.old) (M.now m.new) result }
+    ensures image { M.honest m.new → TellsFound false true (M.now m.old) (M.now m.new) result }
     ensures last { IsTrue (is_of_fault result) → M.honest m.new → SaysFault (M.report m.new).fault_place (M.now m.new) result }
     ensures leaves { M.honest m.new → (rest : List ℕ) (l : Plan) (windows : List WeakRun) (h : List Change) (f : ℕ) → IsSoundDisk l windows h f (M.now m.old) →
         LeavesRun (Generate seed count) [] rest l windows h f (M.left_since m.new) (LeavesOnly M.moment M.left_since m.old m.new) (M.report m.old) (M.report m.new) (M.now m.old) (M.now m.new) result }
 {
     match m.attach(path, Attach::Old) {
         Ok(sectors) => run_generate::<M, V>(alloc, m, sectors, seed, count),
-        Err(failed) => end_with(alloc, m, &Line::Ended(Fault::Device(failed.place)), 4),
+        Err(failed) => last_line(m, &Line::Ended(Fault::Device(failed.place)), 4),
     }
 }

@@ -12,13 +12,12 @@ ghost use Rattle.volume_turns.specs.Status.{IsOneStatus};
 ghost use Rattle.cfs_program.specs.Formatting.{AsksAll, AsksAtMost, CountsFaults};
 ghost use Rattle.cfs_program.specs.Opening.{IsSoundDisk, TellsFound, WritesFound, is_from_outside, mount_asks};
 
-use crate::ending::end_with;
 use crate::replies::Alone;
 use fsd_texts::{Command, Fault, Line};
 use sector_disk::{Attach, Machine};
 use std::alloc::Global;
 use volume_contract::Files;
-use volume_turns::run_one;
+use volume_turns::{last_line, run_one};
 
 /// Does one command over the volume of an image: its change is forced before its reply is said. A fault is said in its place. It
 /// gives the status.
@@ -33,7 +32,7 @@ pub fn run_command<M: Machine, V: Files<M> + Drop>(
     ensures asks { M.tells m.new → AsksAtMost (mount_asks path.now) (M.ledger m.old) (M.ledger m.new) }
     ensures asked { IsFalse (is_from_outside result) → M.tells m.new → AsksAll (mount_asks path.now) (M.ledger m.old) (M.ledger m.new) }
     ensures trust { Trusts (M.tells m.old) (M.tells m.new) (M.honest m.old) (M.honest m.new) }
-    ensures image { M.honest m.new → TellsFound false (M.now m.old) (M.now m.new) result }
+    ensures image { M.honest m.new → TellsFound false false (M.now m.old) (M.now m.new) result }
     ensures one { M.honest m.new → SaysOne c.now (M.now m.old) (M.now m.new) result }
     ensures rest { M.honest m.new → WritesFound c.now (M.now m.old) (M.now m.new) }
     ensures last { IsTrue (is_of_fault result) → M.honest m.new → SaysFault (M.report m.new).fault_place (M.now m.new) result }
@@ -42,6 +41,6 @@ pub fn run_command<M: Machine, V: Files<M> + Drop>(
 {
     match m.attach(path, Attach::Old) {
         Ok(sectors) => run_one::<M, V, Alone>(alloc, m, sectors, c),
-        Err(failed) => end_with(alloc, m, &Line::Ended(Fault::Device(failed.place)), 4),
+        Err(failed) => last_line(m, &Line::Ended(Fault::Device(failed.place)), 4),
     }
 }

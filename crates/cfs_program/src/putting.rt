@@ -13,14 +13,13 @@ ghost use Rattle.volume_turns.specs.Causes.{FailsInput, SaysFault, SaysOfInput, 
 ghost use Rattle.volume_turns.specs.Status.{IsPutStatus};
 ghost use Rattle.cfs_program.specs.Opening.{AsksOrNot, CountsReading, IsSoundDisk, TellsFound, is_from_outside, mount_asks};
 
-use crate::ending::end_with;
 use crate::replies::Alone;
 use fsd_bytes::FileName;
 use fsd_texts::{Fault, Line};
 use sector_disk::{Attach, Machine};
 use std::alloc::Global;
 use volume_contract::Files;
-use volume_turns::run_put;
+use volume_turns::{last_line, run_put};
 
 /// Makes a version of the input over the volume of an image: the version is forced before it is said. A fault is said in its place.
 /// It gives the status.
@@ -40,7 +39,7 @@ pub fn run_input<M: Machine, V: Files<M> + Drop>(
     ensures whole { result ≤ 1 → M.tells m.new → (M.ledger m.new).input ≡ [] }
     ensures few { result ≤ 1 → M.tells m.new → length (M.ledger m.old).input ≤ max_input }
     ensures trust { Trusts (M.tells m.old) (M.tells m.new) (M.honest m.old) (M.honest m.new) }
-    ensures image { M.honest m.new → TellsFound false (M.now m.old) (M.now m.new) result }
+    ensures image { M.honest m.new → TellsFound false false (M.now m.old) (M.now m.new) result }
     ensures one { M.honest m.new → SaysOne (Word.Put name.now (M.ledger m.old).input keep) (M.now m.old) (M.now m.new) result }
     ensures last { IsTrue (is_of_fault result) → M.honest m.new → SaysFault (M.report m.new).fault_place (M.now m.new) result }
     ensures leaves { M.honest m.new → (l : Plan) (windows : List WeakRun) (h : List Change) (f : ℕ) → IsSoundDisk l windows h f (M.now m.old) →
@@ -48,6 +47,6 @@ pub fn run_input<M: Machine, V: Files<M> + Drop>(
 {
     match m.attach(path, Attach::Old) {
         Ok(sectors) => run_put::<M, V, Alone>(alloc, m, sectors, name.copied(), keep),
-        Err(failed) => end_with(alloc, m, &Line::Ended(Fault::Device(failed.place)), 4),
+        Err(failed) => last_line(m, &Line::Ended(Fault::Device(failed.place)), 4),
     }
 }

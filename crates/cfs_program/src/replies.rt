@@ -95,7 +95,7 @@ fn line_text(alloc: Global, line: &Line) -> Result<Vec<u8>, AllocError>
     ensures { IfOk result (λ said. said.items ≡ text line.now) }
 {
     let mut said = Bytes::new(alloc);
-    say_line(alloc, line, &mut said)?;
+    say_line(line, &mut said)?;
     Vec::from_slice(alloc, said.as_slice())
 }
 
@@ -107,7 +107,7 @@ fn list_text(alloc: Global, entries: &[Entry]) -> Result<Vec<u8>, AllocError>
         return Err(AllocError);
     };
     let mut said = versions_text(alloc, entries)?;
-    say_line(alloc, &Line::Listed(count), &mut said)?;
+    say_line(&Line::Listed(count), &mut said)?;
     Vec::from_slice(alloc, said.as_slice())
 }
 
@@ -116,7 +116,7 @@ fn versions_text(alloc: Global, entries: &[Entry]) -> Result<Bytes, AllocError>
 {
     let mut said = Bytes::new(alloc);
     for e in entries {
-        say_line(alloc, &version_line(e), &mut said)?;
+        say_line(&version_line(e), &mut said)?;
     }
     Ok(said)
 }
@@ -142,7 +142,7 @@ fn bytes_text(alloc: Global, key: &Key, bytes: &[u8]) -> Result<Vec<u8>, AllocEr
     };
     let key = key.copied();
     let mut said = Bytes::new(alloc);
-    say_line(alloc, &Line::Bytes { key, length }, &mut said)?;
+    say_line(&Line::Bytes { key, length }, &mut said)?;
     said.append(bytes)?;
     said.append(b"\n")?;
     Vec::from_slice(alloc, said.as_slice())

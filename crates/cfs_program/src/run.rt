@@ -3,7 +3,6 @@ ghost use Rattle.std.specs.Prelude.{◌≡◌, ℕ, List};
 ghost use Rattle.fsd_runs.specs.declared.request.Request.{Request as Asked};
 ghost use Rattle.cfs_program.specs.Program.{Ran, field_line};
 
-use crate::ending::end_with;
 use crate::formatting::run_format;
 use crate::making::run_made_up;
 use crate::opening::run_command;
@@ -14,6 +13,7 @@ use fsd_texts::{BadLine, Cause, Fault, Line};
 use sector_disk::Machine;
 use std::alloc::Global;
 use volume_contract::Files;
+use volume_turns::last_line;
 
 /// Does what is asked for of the image at a path, says the reply, and gives the exit status.
 pub fn run_request<M: Machine, V: Files<M> + Drop>(
@@ -25,13 +25,13 @@ pub fn run_request<M: Machine, V: Files<M> + Drop>(
     ensures { Ran M.Machine request.now path.now m.old m.new result }
 {
     match request {
-        Request::Outside => end_with(alloc, m, &Line::Usage, 2),
-        Request::BadField(cause) => end_with(alloc, m, &field_line(*cause), 2),
+        Request::Outside => last_line(m, &Line::Usage, 2),
+        Request::BadField(cause) => last_line(m, &field_line(*cause), 2),
         Request::Format {
             sectors,
             third,
             pages,
-        } => run_format(alloc, m, path, *sectors, *third, *pages),
+        } => run_format(m, path, *sectors, *third, *pages),
         Request::One(c) => run_command::<M, V>(alloc, m, path, c),
         Request::Put { name, keep } => run_input::<M, V>(alloc, m, path, name, *keep),
         Request::Script => run_commands::<M, V>(alloc, m, path),
@@ -40,10 +40,10 @@ pub fn run_request<M: Machine, V: Files<M> + Drop>(
 }
 
 /// Says that memory was refused, before anything is done for a request, and gives the status.
-pub fn run_out_of_memory<M: Machine>(alloc: Global, m: &mut M) -> u8
+pub fn run_out_of_memory<M: Machine>(m: &mut M) -> u8
     ensures { (request : Asked) (path : List ℕ) → Ran M.Machine request path m.old m.new result }
 {
-    end_with(alloc, m, &Line::Ended(Fault::Memory), 7)
+    last_line(m, &Line::Ended(Fault::Memory), 7)
 }
 
 // The line of the first field that is refused.

@@ -12,13 +12,12 @@ ghost use Rattle.volume_turns.specs.Causes.{FailsInput, SaysBadLine, SaysFault, 
 ghost use Rattle.volume_turns.specs.Status.{IsScriptStatus};
 ghost use Rattle.cfs_program.specs.Opening.{AsksOrNot, CountsReading, IsSoundDisk, TellsFound, is_from_outside, mount_asks};
 
-use crate::ending::end_with;
 use crate::replies::Scripted;
 use fsd_texts::{Fault, Line};
 use sector_disk::{Attach, Machine};
 use std::alloc::Global;
 use volume_contract::Files;
-use volume_turns::run_script;
+use volume_turns::{last_line, run_script};
 
 /// Does the commands of the input over the volume of an image, and says the reply of each; at the end all is forced. A fault is
 /// said where it comes. It gives the status.
@@ -33,13 +32,13 @@ pub fn run_commands<M: Machine, V: Files<M> + Drop>(alloc: Global, m: &mut M, pa
     ensures spelled { result ≡ 0 → M.tells m.new → (script_in (M.ledger m.old).input).1 ≡ Done }
     ensures bad { result ≡ 2 → M.honest m.new → SaysBadLine (M.ledger m.old).input (M.now m.new) }
     ensures trust { Trusts (M.tells m.old) (M.tells m.new) (M.honest m.old) (M.honest m.new) }
-    ensures image { M.honest m.new → TellsFound true (M.now m.old) (M.now m.new) result }
+    ensures image { M.honest m.new → TellsFound true true (M.now m.old) (M.now m.new) result }
     ensures last { IsTrue (is_of_fault result) → M.honest m.new → SaysFault (M.report m.new).fault_place (M.now m.new) result }
     ensures leaves { M.honest m.new → (l : Plan) (windows : List WeakRun) (h : List Change) (f : ℕ) → IsSoundDisk l windows h f (M.now m.old) →
         LeavesRun Script (M.ledger m.old).input (M.ledger m.new).input l windows h f (M.left_since m.new) (LeavesOnly M.moment M.left_since m.old m.new) (M.report m.old) (M.report m.new) (M.now m.old) (M.now m.new) result }
 {
     match m.attach(path, Attach::Old) {
         Ok(sectors) => run_script::<M, V, Scripted>(alloc, m, sectors),
-        Err(failed) => end_with(alloc, m, &Line::Ended(Fault::Device(failed.place)), 4),
+        Err(failed) => last_line(m, &Line::Ended(Fault::Device(failed.place)), 4),
     }
 }

@@ -17,6 +17,6 @@ pub fn run_words<M: Machine, V: Files<M> + Drop>(alloc: Global, words: &[String]
 {
     match read_words(alloc, words) {
         Ok(asked) => run_request::<M, V>(alloc, m, &asked.request, asked.image),
-        Err(_) => run_out_of_memory(alloc, m),
+        Err(_) => run_out_of_memory(m),
     }
 }

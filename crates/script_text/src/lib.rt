@@ -5,6 +5,7 @@ mod command;
 mod fault;
 mod field;
 mod laws;
+mod laying;
 mod line;
 mod maker;
 mod reader;
@@ -12,9 +13,10 @@ mod say;
 
 pub use fault::ScriptFault;
 pub use laws::scripts_are_read_whole;
+pub use laying::LineText;
 pub use maker::Maker;
 pub use reader::Reader;
-pub use say::say_line;
+pub use say::{lay_line, say_line};
 
 #[cfg(test)]
 mod tests;

@@ -132,13 +132,13 @@ fn says_lines_one_behind_another(rt: HostRuntime) -> Result<(), Fail> {
     let alloc = rt.alloc();
     let mut out = Bytes::new(alloc);
     let key = Key::parse(b"a/b!12").unwrap_or_default();
-    say_line(alloc, &Line::Made { key, sectors: 2 }, &mut out)?;
-    say_line(alloc, &Line::Forced, &mut out)?;
+    say_line(&Line::Made { key, sectors: 2 }, &mut out)?;
+    say_line(&Line::Forced, &mut out)?;
     let bad = BadLine {
         line: 2,
         cause: Cause::ShortBytes,
     };
-    say_line(alloc, &Line::Bad(bad), &mut out)?;
+    say_line(&Line::Bad(bad), &mut out)?;
     assert_eq!(rt;
         out.as_slice(),
         b"made a/b!12 2\nforced\nbad line 2: short bytes\n".as_slice()

@@ -1,8 +1,9 @@
 -- What one command by itself says and writes, whatever the image.
-use Rattle.std.proofs.Common.{◌≡◌, inl, inr, ℕ, Bool, true, false, cond, List, [], ◌∷◌, ◌++◌, length, Option, Some, None, refl, sym, ◌∙◌, ap, subst}
-use Rattle.std.specs.Prelude.{◌||◌, IfErr, IfOk, OnOk, IsFalse, IsTrue, Result, Ok, Err, is_none, nat_lt, option_map}
-use Rattle.std.proofs.lemmas.Bool.{ltb-true}
+use Rattle.std.proofs.Common.{◌≡◌, inl, inr, ℕ, Bool, true, false, cond, List, [], ◌∷◌, ◌++◌, length, Option, Some, None, refl, sym, ◌∙◌, ap, subst, arith}
+use Rattle.std.specs.Prelude.{◌<◌, ◌≤◌, ◌||◌, IfErr, IfOk, OnOk, IsFalse, IsTrue, Result, Ok, Err, is_none, nat_le, nat_lt, option_map}
+use Rattle.std.proofs.lemmas.Bool.{and_parts, ltb-true}
 use Rattle.volume_layout.specs.declared.layout.Layout.{Layout}
+use Rattle.volume_layout.specs.Layout.{data_start, is_data}
 use Rattle.run_table.specs.RunTable.{total}
 use Rattle.run_table.specs.Space.{best}
 use Rattle.fsd_bytes.specs.declared.key.Key.{Key}
@@ -10,9 +11,8 @@ use Rattle.fsd_bytes.specs.declared.refusal.Refusal.{Refusal}
 use Rattle.fsd_bytes.specs.declared.refusal.Refusal.TheVariants as Why
 use Rattle.fsd_formats.specs.NamePage.{max_keep, sectors_for}
 use Rattle.sector_disk.specs.declared.sector.Sector.{Sector}
-use Rattle.sector_disk.specs.declared.sector.Sector.TheVariants.{Damaged}
 use Rattle.sector_disk.specs.Image.{IsWorn, Windows, open_damage, sector_at}
-use Rattle.sector_disk.specs.Machine.{Moment}
+use Rattle.sector_disk.specs.Machine.{Moment, Utters}
 use Rattle.fsd_files.specs.Answers.{keep_given, least_pages, size_fault}
 use Rattle.fsd_files.specs.Disk.{Image, SectorWorn, Sectors, Touches, nowhere}
 use Rattle.fsd_files.specs.Replies.{Reply}
@@ -21,10 +21,9 @@ use Rattle.fsd_texts.specs.declared.command.Command.{Command}
 use Rattle.fsd_texts.specs.declared.command.Command.TheVariants as Word
 use Rattle.fsd_texts.specs.declared.fault.Fault.{Fault}
 use Rattle.fsd_texts.specs.declared.fault.Fault.TheVariants as Ends
-use Rattle.fsd_texts.specs.declared.line.Line.TheVariants as Says
 use Rattle.fsd_texts.specs.Text.{fault_text}
 use Rattle.fsd_runs.specs.Commands.{reply_alone}
-use Rattle.fsd_runs.specs.Errands.{fault_status, reply_status}
+use Rattle.fsd_runs.specs.Errands.{reply_status}
 use Rattle.volume_contract.specs.Mount.{IsFound}
 use Rattle.volume_contract.specs.Order.{Asks, Comes, Data, Force, IsData, IsDevice, IsDeviceIn, IsFetch, IsLookUp, IsLoss, LookUp, Refuses, Step, Test, down, force_steps, is_idle, no_place_in, place, runs_at, worn}
 use Rattle.volume_contract.specs.State.{Ages, State, in_place, is_worn, place_in, put_writes}
@@ -32,12 +31,11 @@ use Rattle.volume_turns.specs.declared.answer.Answer.{Answer}
 use Rattle.volume_turns.specs.declared.answer.Answer.TheVariants as Said
 use Rattle.volume_turns.specs.declared.turns.End.{End}
 use Rattle.volume_turns.specs.declared.turns.End.TheVariants.{Fault as Stopped, Output}
-use Rattle.volume_turns.specs.Answering.{Answers, AnswersAlone, ClosesBy, EndsOne, KeepsState, LacksRoom, MayReply, RefusesPut, RunsOne, SaysBy, SaysNoReply, SaysOne, SaysReply, WritesBehind, may_write}
+use Rattle.volume_turns.specs.Answering.{Answers, AnswersAlone, ClosesBy, EndsOne, HasDamaged, KeepsState, LacksRoom, MayReply, RefusesPut, RunsOne, SaysBy, SaysNoReply, SaysOne, SaysReply, WritesBehind, may_write}
 use Rattle.volume_turns.specs.Once.{unit_of}
-use Rattle.volume_turns.specs.Line.{EndsWith, UttersFault}
-use Rattle.volume_turns.specs.Steps.{ended_by, read_ended_by, reply_of}
+use Rattle.volume_turns.specs.Line.{EndsWith}
+use Rattle.volume_turns.specs.Steps.{IsToldOn, ended_by, read_ended_by, reply_of}
 use Rattle.volume_turns.specs.Turns.{KeepsSaid, SaysAll, Unsaid}
-use Rattle.volume_turns.specs.Whole.{EndsLast}
 use Rattle.volume_turns.proofs.OrderLaws.{delete_all, edit_rest, few_best, keep_small, put_rest, starts_up, steps_of}
 use Rattle.volume_turns.proofs.StatusLaws.{look_up_ends, loss_looks}
 
@@ -66,8 +64,8 @@ worn_first a b c windows worn then = then_touches nowhere nowhere nowhere a b c 
 touches_ages : (a b : Moment) → b.windows ≡ a.windows → Touches nowhere a b → Ages a b
 touches_ages a b windows t = record { image = record { size = t.size; each = λ s. t.others s refl }; windows = windows }
 
-stays_damaged : (a b : Moment) (s : ℕ) → Touches nowhere a b → sector_at a.image s ≡ Damaged → sector_at b.image s ≡ Damaged
-stays_damaged a b s t gone = elim (t.others s refl) [ inl same ↦ same ∙ gone | inr worn ↦ worn.1 ]
+stays_damaged : (a b : Moment) (s : ℕ) → Touches nowhere a b → HasDamaged a.image s → HasDamaged b.image s
+stays_damaged a b s t (within, gone) = (omega (arith, within, t.size), elim (t.others s refl) [ inl same ↦ same ∙ gone | inr worn ↦ worn.1 ])
 
 or_left : (a b : Bool) → IsFalse (a || b) → IsFalse a
 or_left true b out = cc out
@@ -214,6 +212,10 @@ module _ (s : State) (up : s.down ≡ None) (why : Refusal) where
       let P : Answer → Type 0 = λ a. MayReply (Word.Get key) i (reply_of a) in
       each why (IfOk (ended_by why) P) (LookUp ∷ Asks Why.NoSuch ∷ []) (λ x. looks P why x, (λ x. asked P why Why.NoSuch refl x, tt)) (starts_up s up (LookUp ∷ Asks Why.NoSuch ∷ []) why comes)
 
+-- a data sector lies in each image that has room for its layout
+pub data_inside : (l : Layout) (s size : ℕ) → IsTrue (is_data l s) → l.sectors ≤ size → s < size
+data_inside l s size within room = omega (arith, room, ltb-true s l.sectors (and_parts (nat_le (data_start l) s) (nat_lt s l.sectors) within).1)
+
 -- a sector that is told as damaged is so
 module _ (s : State) (up : s.down ≡ None) (key : Key) (i : Image) where
   abbrev Answered : Answer → Type 0
@@ -223,7 +225,7 @@ module _ (s : State) (up : s.down ≡ None) (key : Key) (i : Image) where
   by_order why data_is comes =
       each why (IfOk (ended_by why) Answered) (LookUp ∷ Asks Why.NoSuch ∷ Data ∷ []) (λ x. looks Answered why x, (λ x. asked Answered why Why.NoSuch refl x, (data_is, tt))) (starts_up s up (LookUp ∷ Asks Why.NoSuch ∷ Data ∷ []) why comes)
 
-  pub read_refused : (why : Refusal) → ((n : ℕ) → why ≡ Why.Damaged n → sector_at i n ≡ Damaged) → Comes (down s ∷ LookUp ∷ Asks Why.NoSuch ∷ Data ∷ []) why → IfOk (read_ended_by key why) Answered
+  pub read_refused : (why : Refusal) → ((n : ℕ) → why ≡ Why.Damaged n → HasDamaged i n) → Comes (down s ∷ LookUp ∷ Asks Why.NoSuch ∷ Data ∷ []) why → IfOk (read_ended_by key why) Answered
   read_refused (Why.Damaged n) gone comes = (refl, gone n refl)
   read_refused (Why.Device n) gone comes = tt
   read_refused why gone comes = by_order why (λ x. absurd x) comes
@@ -258,12 +260,14 @@ pub closed_still : {D : Type 0} (now : D → Moment) (s : State) (a m : D) → (
 closed_still {D = D} now s a m idle none = subst (λ (x : D). Touches nowhere (now a) (now x)) (sym (idle (idle_by s none))) (record { size = refl; others = λ n out. inl refl })
 
 -- a text behind a volume that was closed
-pub closed_by : {T : Type 0} (s : State) (text : List ℕ) (a m b : Moment) (r : Result T End) → m.windows ≡ a.windows → m.said ≡ a.said → Touches (force_writes s.layout) a m → (s.dirty ≡ [] → Touches nowhere a m) → Ages m b → SaysBy text m b r → ClosesBy s text a b r
-closed_by s text a m b r windows same rest still ages says = record {
+pub closed_by : {T : Type 0} (s : State) (text : List ℕ) (a m b : Moment) (r : Result T End) → m.windows ≡ a.windows → m.said ≡ a.said → Touches (force_writes s.layout) a m → (s.dirty ≡ [] → Touches nowhere a m) → Ages m b → SaysBy text m b r → (r ≡ Err (Stopped Ends.WornOut) → ⊥) → ((why : Fault) → r ≡ Err (Stopped why) → IsToldOn s.layout b.image why) → ClosesBy s text a b r
+closed_by s text a m b r windows same rest still ages says unworn told = record {
   windows = ages.windows ∙ windows;
   says = said_by text a m b same r says;
   rest = then_worn (force_writes s.layout) a m b windows rest ages.image;
   still = λ none. then_worn nowhere a m b windows (still none) ages.image;
+  unworn = unworn;
+  told = told;
 }
 
 -- ---- one command
@@ -302,21 +306,25 @@ module _ (command : Command) (s t : State) (a m : Moment) (windows : m.windows �
         quiet = keeps_said (reply_alone (reply_of x)) a b r says;
         replies = λ none. replied command (reply_of x) a b (may_later command s t m b (reply_of x) answers.still none closes.still answers.replies) r gives says;
         rest = λ none. alone_rest command s t a m b windows layout answers.still none answers.rest closes.rest closes.still;
+        worn = λ is. absurd (closes.unworn (ap (λ (x : Result ℕ End). unit_of x) is));
+        told = λ why is. subst (λ (l : Layout). IsToldOn l b.image why) layout (closes.told why (ap (λ (x : Result ℕ End). unit_of x) is));
       }
 
   pub alone_ended : (why : Fault) → Answers command s t a m (Err why) → AnswersAlone command s a m (Err (Stopped why))
-  alone_ended why answers = record { windows = windows; quiet = same; replies = λ none. tt; rest = λ none. answers.rest }
+  alone_ended why answers = record {
+    windows = windows;
+    quiet = same;
+    replies = λ none. tt;
+    rest = λ none. answers.rest;
+    worn = λ is. let e : why ≡ Ends.WornOut = cc is in answers.worn (ap (λ (w : Fault). Err w) e);
+    told = λ other is. let e : why ≡ other = cc is in subst (λ (w : Fault). IsToldOn s.layout m.image w) e answers.told;
+  }
 
 -- ---- to the last line
 
 pub fault_alone : (why : Fault) (a m b : Moment) (status : ℕ) → m.said ≡ a.said → EndsWith why m b status → SaysNoReply a b status
 fault_alone why a m b status same (inl six) = inl six
-fault_alone why a m b status same (inr (said, which, gives, all)) = inr (record { why = said; gives = gives; said = all.said ∙ ap (λ (x : List ℕ). x ++ fault_text said) same })
-
-pub line_alone : (why : Fault) (a m b : Moment) (status : ℕ) → m.said ≡ a.said → EndsLast (Says.Ended why) (fault_status why) m b status → SaysNoReply a b status
-line_alone why a m b status same (inl six) = inl six
-line_alone why a m b status same (inr (inl (gives, all))) = inr (record { why = why; gives = gives; said = all.said ∙ ap (λ (x : List ℕ). x ++ fault_text why) same })
-line_alone why a m b status same (inr (inr (seven, all))) = inr (record { why = Ends.Memory; gives = seven; said = all.said ∙ ap (λ (x : List ℕ). x ++ fault_text Ends.Memory) same })
+fault_alone why a m b status same (inr (gives, all)) = inr (record { why = why; gives = gives; said = all.said ∙ ap (λ (x : List ℕ). x ++ fault_text why) same })
 
 pub no_reply_since : (a m b : Moment) (status : ℕ) → m.said ≡ a.said → SaysNoReply m b status → SaysNoReply a b status
 no_reply_since a m b status same (inl six) = inl six
@@ -330,8 +338,8 @@ module _ (command : Command) (s : State) (a m : Moment) (none : s.dirty ≡ []) 
   pub one_replied : (status : ℕ) → AnswersAlone command s a m (Ok status) → EndsOne command s a m status
   one_replied status x = record { windows = x.windows; says = inl (x.replies none); rest = x.rest none }
 
-  pub one_failed : (b : Moment) (why : Fault) (status : ℕ) → AnswersAlone command s a m (Err (Stopped why)) → UttersFault why m b → EndsWith why m b status → EndsOne command s a b status
-  one_failed b why status x (said, which, utters) ends = record {
+  pub one_failed : (b : Moment) (why : Fault) (status : ℕ) → AnswersAlone command s a m (Err (Stopped why)) → Utters (fault_text why) m b → EndsWith why m b status → EndsOne command s a b status
+  one_failed b why status x utters ends = record {
     windows = utters.windows ∙ x.windows;
     says = inr (fault_alone why a m b status x.quiet ends);
     rest = then_worn (may_write command s) a m b x.windows (x.rest none) utters.image;
@@ -362,8 +370,8 @@ run_mounted command sectors s a m b status found same kept ends = record {
   rest = record { mounted = m; rest = kept; behind = behind_mount command sectors s a m b found ends.windows ends.rest };
 }
 
-pub run_refused : (command : Command) (sectors : ℕ) (why : Fault) (a m b : Moment) (status : ℕ) → m.said ≡ a.said → MountKeeps sectors a m → UttersFault why m b → EndsWith why m b status → RunsOne command sectors a b status
-run_refused command sectors why a m b status same kept (said, which, utters) ends = record {
+pub run_refused : (command : Command) (sectors : ℕ) (why : Fault) (a m b : Moment) (status : ℕ) → m.said ≡ a.said → MountKeeps sectors a m → Utters (fault_text why) m b → EndsWith why m b status → RunsOne command sectors a b status
+run_refused command sectors why a m b status same kept utters ends = record {
   says = inr (fault_alone why a m b status same ends);
   rest = record { mounted = m; rest = kept; behind = behind_nothing command sectors a m b (record { image = utters.image; windows = utters.windows }) };
 }

@@ -1,8 +1,10 @@
 -- What the status of a run tells of the image that it found, and of its input.
 use Rattle.std.proofs.Common.{◌≡◌, inl, inr, ℕ, zero, suc, ◌+◌, ◌<◌, Bool, true, false, List, [], ◌∷◌, ◌++◌, length, take, drop, None, refl, sym, ◌∙◌, ap, subst, arith}
-use Rattle.std.specs.Prelude.{◌&&◌, if◌then◌else◌, nat_lt, IfOk, IsTrue, Result, Ok, Err}
+use Rattle.std.specs.Prelude.{◌&&◌, if◌then◌else◌, nat_lt, IfOk, IsFalse, IsTrue, Result, Ok, Err}
 use Rattle.std.proofs.lemmas.Bool.{ltb-true}
-use Rattle.sector_disk.specs.Machine.{Ledger, Moment, Report, Rose, took}
+use Rattle.volume_layout.specs.declared.layout.Layout.{Layout}
+use Rattle.sector_disk.specs.Image.{IsWorn, open_damage}
+use Rattle.sector_disk.specs.Machine.{Ledger, Moment, Report, Rose, Utters, took}
 use Rattle.fsd_sound.specs.Lost.{AreCopiesOn, LostIn}
 use Rattle.fsd_sound.specs.Writes.{MountKeeps}
 use Rattle.fsd_sound.specs.declared.fault.MountFault.{MountFault}
@@ -13,7 +15,6 @@ use Rattle.fsd_texts.specs.declared.end.End.{End as ScriptEnd}
 use Rattle.fsd_texts.specs.declared.end.End.TheVariants.{Bad, Done, TooLong}
 use Rattle.fsd_texts.specs.declared.bad_line.BadLine.{BadLine}
 use Rattle.fsd_texts.specs.declared.line.Line.TheVariants as Says
-use Rattle.volume_turns.specs.Whole.{EndsLast}
 use Rattle.fsd_texts.specs.declared.fault.Fault.{Fault}
 use Rattle.fsd_texts.specs.declared.fault.Fault.TheVariants as Ends
 use Rattle.fsd_texts.specs.Script.{Script, command_at, commands_from, max_input, needs_more, script_from, script_in, then_more}
@@ -27,15 +28,16 @@ use Rattle.volume_contract.specs.State.{State}
 use Rattle.volume_turns.specs.declared.script.Stop.{Stop}
 use Rattle.volume_turns.specs.declared.script.Stop.TheVariants.{Ended}
 use Rattle.volume_turns.specs.declared.turns.End.{End}
-use Rattle.volume_turns.specs.Causes.{HasVolume, IsOfInput, SaysBadLine, SaysOfCall, SaysOfImage, SaysOfInput, StandsBefore, TellsImage, is_of_mounted}
-use Rattle.volume_turns.specs.Line.{EndsWith, IsStatusFor, UttersFault}
+use Rattle.volume_turns.specs.Causes.{HasSpent, HasVolume, IsOfInput, SaysBadLine, SaysOfCall, SaysOfImage, SaysOfInput, StandsBefore, TellsImage, is_of_mounted}
+use Rattle.volume_turns.specs.Line.{EndsLast, EndsWith, IsStatusFor}
 use Rattle.volume_turns.specs.Once.{fault_of}
 use Rattle.volume_turns.specs.Script.{WholeRead}
 use Rattle.volume_turns.proofs.SaidLaws.{no_replies}
 use Rattle.fsd_log.specs.Scan.{Placed}
 use Rattle.sector_disk.specs.declared.machine.Machine.{Ghosts}
 use Rattle.fsd_sound.specs.Mounted.{Mounted}
-use Rattle.volume_turns.specs.Steps.{IsOfCall, IsOfImage}
+use Rattle.volume_turns.specs.Steps.{IsOfCall, IsOfImage, IsToldOn}
+use Rattle.volume_turns.proofs.ToldLaws.{told_since}
 
 -- ---- a fault of the image
 
@@ -47,8 +49,7 @@ stands_before false said front same = same
 -- at its status it is the fault itself that is said
 told_itself : (why : Fault) (old new : Moment) (status : ℕ) → EndsWith why old new status → status ≡ 3 → (fault_status why ≡ 3) × (new.said ≡ old.said ++ fault_text why)
 told_itself why old new status (inl six) three = absurd (omega (arith, six, three))
-told_itself why old new status (inr (said, inl is, gives, all)) three = (ap fault_status (sym is) ∙ sym gives ∙ three, all.said ∙ ap (λ (w : Fault). old.said ++ fault_text w) is)
-told_itself why old new status (inr (said, inr is, gives, all)) three = let seven : status ≡ 7 = gives ∙ ap fault_status is in absurd (omega (arith, seven, three))
+told_itself why old new status (inr (gives, all)) three = (sym gives ∙ three, all.said)
 
 pub of_fault : (script : Bool) (before : List ℕ) (why : Fault) (old new : Moment) (status : ℕ) → StandsBefore script before old.said → EndsWith why old new status → status ≡ 3 → SaysOfImage script before why new
 of_fault script before why old new status behind ended three =
@@ -64,10 +65,12 @@ image_of_call Ends.Memory of three = absurd (omega (arith, three))
 image_of_call Ends.WornOut of three = absurd (omega (arith, three))
 image_of_call why of three = absurd of
 
-pub call_says : (script : Bool) (before : List ℕ) (why : Fault) → IsOfCall why → (old new : Moment) (status : ℕ) → StandsBefore script before old.said → EndsWith why old new status → status ≡ 3 → SaysOfCall script before new
-call_says script before why of old new status behind ended three =
+-- what is lost as it is told stays so to its line
+pub call_says : (script : Bool) (layout : Layout) (before : List ℕ) (why : Fault) → IsOfCall why → (old new : Moment) (status : ℕ) → StandsBefore script before old.said → IsWorn (open_damage old.windows) old.image new.image → IsToldOn layout old.image why
+    → EndsWith why old new status → status ≡ 3 → SaysOfCall script layout before new
+call_says script layout before why of old new status behind worn told ended three =
     let says = of_fault script before why old new status behind ended three in
-    record { why = why; of = image_of_call why of says.status; says = says }
+    record { why = why; of = image_of_call why of says.status; told = told_since layout (open_damage old.windows) old.image new.image worn why told; says = says }
 
 -- ---- a mount
 
@@ -75,15 +78,24 @@ has_volume : (sectors : ℕ) (s : State) (old : Moment) → IsFound sectors s ol
 has_volume sectors s old f = record { seen = f.seen; from = f.from; layout = s.layout; anchor = f.anchor; found = f.found }
 
 -- what was said of it as the mount ended was said before
-pub call_since : (script : Bool) (before now : List ℕ) (new : Moment) → now ≡ before → SaysOfCall script now new → SaysOfCall script before new
-call_since script before now new same says = subst (λ (x : List ℕ). SaysOfCall script x new) same says
+pub call_since : (script : Bool) (layout : Layout) (before now : List ℕ) (new : Moment) → now ≡ before → SaysOfCall script layout now new → SaysOfCall script layout before new
+call_since script layout before now new same says = subst (λ (x : List ℕ). SaysOfCall script layout x new) same says
 
-pub tells_mounted : (script : Bool) (sectors : ℕ) (s : State) (old new : Moment) (status : ℕ) (now : List ℕ) → now ≡ old.said → IsFound sectors s old → (status ≡ 3 → SaysOfCall script now new) → TellsImage script sectors old new status
-tells_mounted script sectors s old new status now same f says = record {
-  mounted = λ any. has_volume sectors s old f;
-  refused = λ three. let x = call_since script old.said now new same (says three) in record { why = x.why; says = x.says; cause = inr (record { mounted = has_volume sectors s old f; of = x.of }) };
-  spent = λ nine. inl (has_volume sectors s old f);
-}
+-- the numbers of one mount are used up by many commands
+spent_mounted : (many : Bool) (sectors : ℕ) (old : Moment) → HasVolume sectors old → (IsFalse many → ⊥) → HasSpent many sectors old
+spent_mounted true sectors old volume unspent = inl volume
+spent_mounted false sectors old volume unspent = absurd (unspent refl)
+
+pub tells_mounted : (script many : Bool) (sectors : ℕ) (s : State) (old new : Moment) (status : ℕ) (now : List ℕ) → now ≡ old.said → IsFound sectors s old → (status ≡ 3 → SaysOfCall script s.layout now new) → (IsFalse many → status ≡ 9 → ⊥)
+    → TellsImage script many sectors old new status
+unfolding has_volume
+tells_mounted script many sectors s old new status now same f says unspent =
+    let volume = has_volume sectors s old f in
+    record {
+      mounted = λ any. volume;
+      refused = λ three. let x = call_since script s.layout old.said now new same (says three) in record { why = x.why; says = x.says; cause = inr (record { mounted = volume; of = x.of; told = x.told }) };
+      spent = λ nine. spent_mounted many sectors old volume (λ one. unspent one nine);
+    }
 
 -- no status of a mount's fault is one of a volume that is mounted
 not_mounted : (fault : MountFault) → IsTrue (is_of_mounted (fault_status (fault_of fault))) → ⊥
@@ -97,13 +109,11 @@ not_mounted Refused.WornOut is = cc is
 
 refused_not : (fault : MountFault) (status : ℕ) → IsStatusFor (fault_of fault) status → IsTrue (is_of_mounted status) → ⊥
 refused_not fault status (inl is) any = not_mounted fault (subst (λ (n : ℕ). IsTrue (is_of_mounted n)) is any)
-refused_not fault status (inr (inl seven)) any = let no : IsTrue (is_of_mounted 7) = subst (λ (n : ℕ). IsTrue (is_of_mounted n)) seven any in cc no
-refused_not fault status (inr (inr six)) any = let no : IsTrue (is_of_mounted 6) = subst (λ (n : ℕ). IsTrue (is_of_mounted n)) six any in cc no
+refused_not fault status (inr six) any = let no : IsTrue (is_of_mounted 6) = subst (λ (n : ℕ). IsTrue (is_of_mounted n)) six any in cc no
 
 -- status 9 is that of an epoch that is the last one
 worn_of : (sectors : ℕ) (old : Moment) (fault : MountFault) (status : ℕ) → IsStatusFor (fault_of fault) status → status ≡ 9 → IsRefused sectors fault old → IsRefused sectors Refused.WornOut old
-worn_of sectors old fault status (inr (inl seven)) nine refused = absurd (omega (arith, seven, nine))
-worn_of sectors old fault status (inr (inr six)) nine refused = absurd (omega (arith, six, nine))
+worn_of sectors old fault status (inr six) nine refused = absurd (omega (arith, six, nine))
 worn_of sectors old Refused.WornOut status (inl is) nine refused = refused
 worn_of sectors old Refused.NotVolume status (inl is) nine refused = absurd (omega (arith, is, nine))
 worn_of sectors old Refused.NoAnchor status (inl is) nine refused = absurd (omega (arith, is, nine))
@@ -112,29 +122,27 @@ worn_of sectors old (Refused.Unsound s) status (inl is) nine refused = absurd (o
 worn_of sectors old (Refused.Device s) status (inl is) nine refused = absurd (omega (arith, is, nine))
 worn_of sectors old Refused.Memory status (inl is) nine refused = absurd (omega (arith, is, nine))
 
-pub tells_refused : (script : Bool) (sectors : ℕ) (fault : MountFault) (why : Fault) (old ended new : Moment) (status : ℕ) → why ≡ fault_of fault → IsRefused sectors fault old → LostIn (AreCopiesOn sectors old) ended.image fault → UnsoundFor sectors old ended fault
-    → KeepsAll fault old ended → MountKeeps sectors old ended → ended.said ≡ old.said → UttersFault why ended new → EndsWith why ended new status → IsStatusFor why status → TellsImage script sectors old new status
-tells_refused script sectors fault why old ended new status is refused lost unsound kept rest same (said, which, utters) ends for = record {
+spent_refused : (many : Bool) (sectors : ℕ) (old : Moment) → IsRefused sectors Refused.WornOut old → HasSpent many sectors old
+spent_refused true sectors old refused = inr refused
+spent_refused false sectors old refused = refused
+
+pub tells_refused : (script many : Bool) (sectors : ℕ) (fault : MountFault) (why : Fault) (old ended new : Moment) (status : ℕ) → why ≡ fault_of fault → IsRefused sectors fault old → LostIn (AreCopiesOn sectors old) ended.image fault → UnsoundFor sectors old ended fault
+    → KeepsAll fault old ended → MountKeeps sectors old ended → ended.said ≡ old.said → Utters (fault_text why) ended new → EndsWith why ended new status → IsStatusFor why status → TellsImage script many sectors old new status
+tells_refused script many sectors fault why old ended new status is refused lost unsound kept rest same utters ends for = record {
   mounted = λ any. absurd (refused_not fault status (subst (λ (w : Fault). IsStatusFor w status) is for) any);
   refused = λ three. record {
     why = why;
     says = of_fault script old.said why ended new status (stands_before script old.said ended.said same) ends three;
     cause = inl (record { fault = fault; is = is; refused = refused; ended = ended; since = record { image = utters.image; windows = utters.windows }; lost = lost; unsound = unsound; kept = kept; rest = rest; said = (told_itself why ended new status ends three).1 ∙ ap (λ (x : List ℕ). x ++ fault_text why) same });
   };
-  spent = λ nine. inr (worn_of sectors old fault status (subst (λ (w : Fault). IsStatusFor w status) is for) nine refused);
+  spent = λ nine. spent_refused many sectors old (worn_of sectors old fault status (subst (λ (w : Fault). IsStatusFor w status) is for) nine refused);
 }
 
 -- ---- a fault of the input
 
 pub says_input : (why : Fault) (input : List ℕ) (a b : Report) (old new : Moment) (status : ℕ) → IsOfInput why input a b → EndsWith why old new status → status ≡ 5 → SaysOfInput input a b new
 says_input why input a b old new status cause (inl six) five = absurd (omega (arith, six, five))
-says_input why input a b old new status cause (inr (said, inl is, gives, all)) five = record { why = why; cause = cause; front = old.said; said = all.said ∙ ap (λ (w : Fault). old.said ++ fault_text w) is }
-says_input why input a b old new status cause (inr (said, inr is, gives, all)) five = let seven : status ≡ 7 = gives ∙ ap fault_status is in absurd (omega (arith, seven, five))
-
-pub line_input : (why : Fault) (input : List ℕ) (a b : Report) (old new : Moment) (status : ℕ) → IsOfInput why input a b → EndsLast (Says.Ended why) 5 old new status → status ≡ 5 → SaysOfInput input a b new
-line_input why input a b old new status cause (inl six) five = absurd (omega (arith, six, five))
-line_input why input a b old new status cause (inr (inl (gives, all))) five = record { why = why; cause = cause; front = old.said; said = all.said }
-line_input why input a b old new status cause (inr (inr (seven, all))) five = absurd (omega (arith, seven, five))
+says_input why input a b old new status cause (inr (gives, all)) five = record { why = why; cause = cause; front = old.said; said = all.said }
 
 -- it was so of a run that began earlier
 of_input_on : (why : Fault) (a m b : Report) (old mid : List ℕ) → m.input_faults ≡ a.input_faults → mid ≡ old → IsOfInput why mid m b → IsOfInput why old a b
@@ -179,8 +187,7 @@ read_ends state has M e old a new b stop end x is =
 -- a bad line is said whole at its status
 pub says_bad : (input : List ℕ) (bad : BadLine) (old new : Moment) (status : ℕ) → (script_in input).1 ≡ Bad bad → EndsLast (Says.Bad bad) 2 old new status → status ≡ 2 → SaysBadLine input new
 says_bad input bad old new status is (inl six) two = absurd (omega (arith, six, two))
-says_bad input bad old new status is (inr (inl (gives, all))) two = record { bad = bad; ends = is; front = old.said; said = all.said }
-says_bad input bad old new status is (inr (inr (seven, all))) two = absurd (omega (arith, seven, two))
+says_bad input bad old new status is (inr (gives, all)) two = record { bad = bad; ends = is; front = old.said; said = all.said }
 
 -- ---- an input that is taken to its end
 

@@ -2,10 +2,11 @@
 use Rattle.std.proofs.Common.{◌≡◌, ℕ, ◌≤◌, Bool, true, false, List, [], ◌∷◌, ◌++◌, length, take, Some, None, refl, sym, ◌∙◌, ap, subst, arith, append_assoc}
 use Rattle.std.specs.Prelude.{◌==◌, if◌then◌else◌, IsSome, IsTrue, Result, Ok, Err, slice_get}
 use Rattle.std.proofs.lemmas.Bool.{eq-eqb, eqb-true}
+use Rattle.fsd_texts.specs.Text.{fault_text, text}
 use Rattle.sector_disk.specs.declared.machine.Machine.{Ghosts}
 use Rattle.sector_disk.specs.Calls.{LeavesDisk, Since}
 use Rattle.sector_disk.specs.Image.{AreShort}
-use Rattle.sector_disk.specs.Machine.{LeavesOnly}
+use Rattle.sector_disk.specs.Machine.{LeavesOnly, Utters}
 use Rattle.fsd_files.specs.Answers.{Met}
 use Rattle.fsd_files.specs.Disk.{Image, in_runs}
 use Rattle.fsd_files.specs.Volume.{Volume}
@@ -24,11 +25,11 @@ use Rattle.volume_turns.specs.declared.turns.End.{End}
 use Rattle.volume_turns.specs.declared.turns.End.TheVariants.{Fault as Stopped, Output}
 use Rattle.volume_turns.specs.Generate.{silent}
 use Rattle.volume_turns.specs.Group.{CutsOff, EndsGroup, IsGroup, WornIf, is_through, turns_behind}
-use Rattle.volume_turns.specs.Line.{EndsWith, UttersFault, is_unsaid}
+use Rattle.volume_turns.specs.Line.{EndsLast, EndsWith, is_unsaid}
 use Rattle.volume_turns.specs.Once.{IsDone}
 use Rattle.volume_turns.specs.Tally.{Counting, all_counted, counting_line, nothing}
 use Rattle.volume_turns.specs.Turns.{EndsAtOnce, InRun, Said, Told}
-use Rattle.volume_turns.specs.Whole.{EndsLast, RunsOut, UttersLast}
+use Rattle.volume_turns.specs.Whole.{RunsOut}
 use Rattle.volume_turns.proofs.CountLaws.{line_is}
 use Rattle.volume_turns.proofs.GroupEndLaws.{answered_cut, behind_cut, ended_as, finishes_broken, finishes_last, finishes_unsaid, goes_cut, goes_length, goes_within, turns_are}
 use Rattle.volume_turns.proofs.GroupLaws.{goes_wider}
@@ -87,7 +88,7 @@ module _ {D : Type 0} (M : Ghosts D) (seed count : ℕ) (input rest : List ℕ) 
       turns_all = turns_are silent v mets commands commands refl ending (line_turn (generated_line (answered mets v commands)) ∷ []) refl (is_through false mets commands) (ap (λ (n : ℕ). n == length commands) (sym known))
 
       pub all_said : IsTrue (is_through false mets commands) → IsDone k front (behind mets v commands) (M.now a) (M.now p) → (line : Line) → line ≡ generated_line (answered mets v commands) → (M.report a).output_faults ≤ (M.report p).output_faults
-          → LeavesDisk M false (is_unsaid status) (UttersLast line) p b → EndsLast line 0 (M.now p) (M.now b) status → Over
+          → LeavesDisk M false (is_unsaid status) (Utters (text line)) p b → EndsLast line 0 (M.now p) (M.now b) status → Over
       all_said through done line is counted says ended =
           let t = line_turn line in
           let split : turns ++ forced_turn ∷ t ∷ [] ≡ front ++ t ∷ [] = sym (append_assoc turns (forced_turn ∷ []) (t ∷ [])) in
@@ -104,7 +105,7 @@ module _ {D : Type 0} (M : Ghosts D) (seed count : ℕ) (input rest : List ℕ) 
                 (eqb-true (length mets) (length commands) through) refl refl ended;
           }
 
-      pub all_broken : Said k turns (M.now a) (M.now p) → (why : Fault) → EndsAtOnce why → {T : Type 0} → Told {T = T} (M.report a) (M.report p) (Err (Stopped why)) → LeavesDisk M false (is_unsaid status) (UttersFault why) p b → EndsWith why (M.now p) (M.now b) status → Over
+      pub all_broken : Said k turns (M.now a) (M.now p) → (why : Fault) → EndsAtOnce why → {T : Type 0} → Told {T = T} (M.report a) (M.report p) (Err (Stopped why)) → LeavesDisk M false (is_unsaid status) (Utters (fault_text why)) p b → EndsWith why (M.now p) (M.now b) status → Over
       all_broken said why once told says ended = record {
         cut = None;
         may = tt;
@@ -147,7 +148,7 @@ module _ {D : Type 0} (M : Ghosts D) (seed count : ℕ) (input rest : List ℕ) 
       went t le = goes_cut (in_runs k.windows) (M.left_since b t) silent (WornIf true) (λ v i. IsWornOut v i) (λ v i is. is) (M.now a).said (M.now a).image v mets commands (on (WornIf true) later_cut goes t le)
 
       pub cut_said : IsDone k front (behind mets v commands) (M.now a) (M.now p) → (M.report a).output_faults ≤ (M.report p).output_faults
-          → LeavesDisk M false (is_unsaid status) (UttersLast (Says.Ended Ends.WornOut)) p b → EndsLast (Says.Ended Ends.WornOut) 9 (M.now p) (M.now b) status → Over
+          → LeavesDisk M false (is_unsaid status) (Utters (fault_text Ends.WornOut)) p b → EndsLast (Says.Ended Ends.WornOut) 9 (M.now p) (M.now b) status → Over
       cut_said done counted says ended =
           let split : turns ++ forced_turn ∷ last_line ∷ [] ≡ front ++ last_line ∷ [] = sym (append_assoc turns (forced_turn ∷ []) (last_line ∷ [])) in
           record {
@@ -159,7 +160,7 @@ module _ {D : Type 0} (M : Ghosts D) (seed count : ℕ) (input rest : List ℕ) 
                 (ended_as silent done_commands cut_short) (λ v i. IsWornOut v i) mets (turns_cut ∙ split) went (sym within) refl (sym (behind_cut mets v commands)) ended;
           }
 
-      pub cut_broken : Said k turns (M.now a) (M.now p) → (why : Fault) → EndsAtOnce why → {T : Type 0} → Told {T = T} (M.report a) (M.report p) (Err (Stopped why)) → LeavesDisk M false (is_unsaid status) (UttersFault why) p b → EndsWith why (M.now p) (M.now b) status → Over
+      pub cut_broken : Said k turns (M.now a) (M.now p) → (why : Fault) → EndsAtOnce why → {T : Type 0} → Told {T = T} (M.report a) (M.report p) (Err (Stopped why)) → LeavesDisk M false (is_unsaid status) (Utters (fault_text why)) p b → EndsWith why (M.now p) (M.now b) status → Over
       cut_broken said why once told says ended = record {
         cut = Some (length mets, Ends.WornOut);
         may = tt;
@@ -183,7 +184,7 @@ module _ {D : Type 0} (M : Ghosts D) (seed count : ℕ) (input rest : List ℕ) 
   Group result = IsGroup M silent k (M.now a) commands a p result
 
   pub made_said : (tally : Counting) → (g : Group (Ok true)) → tally ≡ all_counted nothing (answered g.mets v commands) → (line : Line) → line ≡ counting_line tally → (M.report a).output_faults ≤ (M.report p).output_faults
-      → LeavesDisk M false (is_unsaid status) (UttersLast line) p b → EndsLast line 0 (M.now p) (M.now b) status → Over
+      → LeavesDisk M false (is_unsaid status) (Utters (text line)) p b → EndsLast line 0 (M.now p) (M.now b) status → Over
   made_said tally g counts line is counted says ended = by g.cut g.goes g.moments g.ends
     where
       by : (cut : Bool) → MayGo g.mets cut → Leaves g.mets (is_through cut g.mets commands) → EndsGroup silent k cut g.mets commands (M.now a) (M.now p) (Ok true) → Over
@@ -191,14 +192,14 @@ module _ {D : Type 0} (M : Ghosts D) (seed count : ℕ) (input rest : List ℕ) 
       by false goes leaves e = all_said g.mets goes leaves e.1 e.2 line (is ∙ ap counting_line counts ∙ line_is (answered g.mets v commands)) counted says ended
 
   pub made_worn : Group (Ok false) → (M.report a).output_faults ≤ (M.report p).output_faults
-      → LeavesDisk M false (is_unsaid status) (UttersLast (Says.Ended Ends.WornOut)) p b → EndsLast (Says.Ended Ends.WornOut) 9 (M.now p) (M.now b) status → Over
+      → LeavesDisk M false (is_unsaid status) (Utters (fault_text Ends.WornOut)) p b → EndsLast (Says.Ended Ends.WornOut) 9 (M.now p) (M.now b) status → Over
   made_worn g counted says ended = by g.cut g.before g.goes g.moments g.ends
     where
       by : (cut : Bool) → CutsOff cut g.mets commands → MayGo g.mets cut → Leaves g.mets (is_through cut g.mets commands) → EndsGroup silent k cut g.mets commands (M.now a) (M.now p) (Ok false) → Over
       by false worn goes leaves e = cc e.0
       by true worn goes leaves e = cut_said g.mets worn goes leaves e.2 counted says ended
 
-  pub made_broken : (why : Fault) → Group (Err (Stopped why)) → {T : Type 0} → Told {T = T} (M.report a) (M.report p) (Err (Stopped why)) → LeavesDisk M false (is_unsaid status) (UttersFault why) p b → EndsWith why (M.now p) (M.now b) status → Over
+  pub made_broken : (why : Fault) → Group (Err (Stopped why)) → {T : Type 0} → Told {T = T} (M.report a) (M.report p) (Err (Stopped why)) → LeavesDisk M false (is_unsaid status) (Utters (fault_text why)) p b → EndsWith why (M.now p) (M.now b) status → Over
   made_broken why g told says ended = by g.cut g.before g.goes g.moments g.ends
     where
       by : (cut : Bool) → CutsOff cut g.mets commands → MayGo g.mets cut → Leaves g.mets (is_through cut g.mets commands) → EndsGroup silent k cut g.mets commands (M.now a) (M.now p) (Err (Stopped why)) → Over

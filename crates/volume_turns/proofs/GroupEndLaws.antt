@@ -1,6 +1,6 @@
 -- How a group that was done goes on to the last line of its run.
 use Rattle.std.proofs.Common.{◌≡◌, ◌⊎◌, inl, inr, ⊎_elim, ℕ, suc, ◌<◌, ◌≤◌, Bool, true, false, List, [], ◌∷◌, ◌++◌, length, map, take, Option, Some, refl, sym, ◌∙◌, ap, subst, arith, append_assoc, length-append}
-use Rattle.std.specs.Prelude.{◌==◌, if◌then◌else◌, IsSome, Err, slice_get}
+use Rattle.std.specs.Prelude.{◌==◌, if◌then◌else◌, Err, slice_get}
 use Rattle.std.proofs.lemmas.Bool.{cases_lt, eq-eqb}
 use Rattle.std.proofs.lemmas.List.{append-nil, take_all}
 use Rattle.sector_disk.specs.declared.machine.Machine.{Ghosts}
@@ -20,9 +20,8 @@ use Rattle.fsd_sound.proofs.MoreLaws.{wear_sound}
 use Rattle.fsd_sound.proofs.WindowLaws.{open_is_weak}
 use Rattle.fsd_texts.specs.declared.command.Command.{Command}
 use Rattle.fsd_texts.specs.declared.fault.Fault.{Fault}
-use Rattle.fsd_texts.specs.declared.fault.Fault.TheVariants as Ends
 use Rattle.fsd_texts.specs.declared.line.Line.{Line}
-use Rattle.fsd_texts.specs.Text.{memory_text, text}
+use Rattle.fsd_texts.specs.Text.{fault_text, text}
 use Rattle.fsd_runs.specs.Commands.{answer}
 use Rattle.fsd_runs.specs.declared.request.Request.{Request}
 use Rattle.fsd_runs.specs.Errands.{Answered, answered_so, Ending, Errand, Turn, blank, forced_turn, line_turn}
@@ -31,13 +30,12 @@ use Rattle.fsd_runs.specs.Runs.{Goes, answered, behind, changes_in, said_in, tur
 use Rattle.volume_contract.specs.State.{Known, volume_of}
 use Rattle.volume_turns.specs.Group.{turns_behind}
 use Rattle.volume_turns.specs.declared.turns.End.TheVariants.{Fault as Stopped, Output}
-use Rattle.volume_turns.specs.Line.{EndsWith, UttersFault, is_unsaid}
+use Rattle.volume_turns.specs.Line.{EndsLast, EndsWith, is_unsaid}
 use Rattle.volume_turns.specs.Once.{IsDone}
 use Rattle.volume_turns.specs.Turns.{EndsAtOnce, InRun, Said, SaysAll, Told}
-use Rattle.volume_turns.specs.Whole.{EndsLast, Finishes, Halted, SaysOut, UttersLast}
+use Rattle.volume_turns.specs.Whole.{Finishes, Halted, SaysOut}
 use Rattle.volume_turns.proofs.HaltLaws.{broken_ends, broken_moments, said_halts, said_halts_whole, says_part}
-use Rattle.volume_turns.proofs.LineLaws.{next_fault}
-use Rattle.volume_turns.proofs.TurnLaws.{forced_most, says_nothing, take_front}
+use Rattle.volume_turns.proofs.TurnLaws.{forced_most, says_nothing}
 
 -- ---- the turns of a group and of its end
 
@@ -164,10 +162,8 @@ module _ (k : Known) (front : List Turn) (line : Line) (after : Volume) (old mid
   in_some left utters heard said short_of = says_part k turns old mid halted short ends (take heard t.said) left utters.image utters.windows said
       (subst (λ (n : ℕ). SaysNext (slice_get turns n) (take heard t.said)) (sym whole_is) (subst (λ (o : Option Turn). SaysNext o (take heard t.said)) (sym (slice_last front t)) (inl (heard, short_of, refl))))
 
-  pub on_last : (left : Moment) → UttersLast line mid left → InRun k turns old left
-  on_last left (inl utters) = ⊎_elim (λ few. in_some left utters utters.heard utters.said few) (λ long. in_all left utters (utters.said ∙ ap (λ (b : List ℕ). mid.said ++ b) (take_all utters.heard t.said long))) (cases_lt utters.heard (length t.said))
-  on_last left (inr utters) = says_part k turns old mid halted short ends (take utters.heard memory_text) left utters.image utters.windows utters.said
-      (next_fault (slice_get turns halted.whole) halted.more (take utters.heard memory_text) (Ends.Memory, utters.heard, tt, refl))
+  pub on_last : (left : Moment) → Utters (text line) mid left → InRun k turns old left
+  on_last left utters = ⊎_elim (λ few. in_some left utters utters.heard utters.said few) (λ long. in_all left utters (utters.said ∙ ap (λ (b : List ℕ). mid.said ++ b) (take_all utters.heard t.said long))) (cases_lt utters.heard (length t.said))
 
   pub done_last : (new : Moment) → SaysAll (text line) mid new → IsDone k turns after old new
   done_last new says = record {
@@ -180,34 +176,19 @@ module _ (k : Known) (front : List Turn) (line : Line) (after : Volume) (old mid
 
 module _ {D : Type 0} (M : Ghosts D) (request : Request) (before : Report) (k : Known) (front : List Turn) (line : Line) (after : Volume) (gives : ℕ) (a m b : D) (moments : LeavesOnly M.moment M.left_since a m (InRun k (front ++ line_turn line ∷ []) (M.now a)))
     (d : IsDone k front after (M.now a) (M.now m)) (short : AreShort (M.now m).windows) (ends : EndIn (M.now a).windows k.windows) (counted : before.output_faults ≤ (M.report m).output_faults)
-    (status : ℕ) (says : LeavesDisk M false (is_unsaid status) (UttersLast line) m b) (honest : M.honest b) where
+    (status : ℕ) (says : LeavesDisk M false (is_unsaid status) (Utters (text line)) m b) (honest : M.honest b) where
   pub last_moments : LeavesOnly M.moment M.left_since a b (InRun k (front ++ line_turn line ∷ []) (M.now a))
   last_moments = then_on M.moment M.left_since a m b (InRun k (front ++ line_turn line ∷ []) (M.now a)) moments
-      (leaves_more M.moment M.left_since m b (UttersLast line (M.now m)) (InRun k (front ++ line_turn line ∷ []) (M.now a)) (λ left utters. on_last k front line after (M.now a) (M.now m) d short ends left utters) (says.any_moment honest))
+      (leaves_more M.moment M.left_since m b (Utters (text line) (M.now m)) (InRun k (front ++ line_turn line ∷ []) (M.now a)) (λ left utters. on_last k front line after (M.now a) (M.now m) d short ends left utters) (says.any_moment honest))
 
   unsaid : status ≡ 6 → IsUnsaid before (M.report b) status
   unsaid six =
       let rose : Rose (M.report m).output_faults (M.report b).output_faults = subst (λ (x : Bool). Counts x (M.report m).output_faults (M.report b).output_faults) (eq-eqb status 6 six) says.spares.output in
       record { ends = six; rose = omega (arith, counted, rose) }
 
-  refused : status ≡ 7 → SaysAll memory_text (M.now m) (M.now b) → IsBroken request before (M.report b) (front ++ line_turn line ∷ []) (M.now a) (M.now b) status
-  refused seven all = record {
-    why = Ends.Memory;
-    outside = tt;
-    ends = seven;
-    says = record {
-      whole = length front;
-      more = subst (λ (o : Option Turn). IsSome o) (sym (slice_last front (line_turn line))) refl;
-      said = all.said ∙ ap (λ (x : List ℕ). x ++ memory_text) d.said ∙ append_assoc (M.now a).said (said_in front) memory_text
-          ∙ ap (λ (x : List Turn). (M.now a).said ++ (said_in x ++ memory_text)) (sym (take_front front (line_turn line ∷ [])));
-    };
-  }
-
-  pub last_ends : EndsLast line gives (M.now m) (M.now b) status
-      → ((status ≡ gives) × IsDone k (front ++ line_turn line ∷ []) after (M.now a) (M.now b)) ⊎ (IsUnsaid before (M.report b) status ⊎ IsBroken request before (M.report b) (front ++ line_turn line ∷ []) (M.now a) (M.now b) status)
-  last_ends (inl six) = inr (inl (unsaid six))
-  last_ends (inr (inl said)) = inl (said.0, done_last k front line after (M.now a) (M.now m) d short ends (M.now b) said.1)
-  last_ends (inr (inr memory)) = inr (inr (refused memory.0 memory.1))
+  pub last_ends : EndsLast line gives (M.now m) (M.now b) status → ((status ≡ gives) × IsDone k (front ++ line_turn line ∷ []) after (M.now a) (M.now b)) ⊎ IsUnsaid before (M.report b) status
+  last_ends (inl six) = inr (unsaid six)
+  last_ends (inr said) = inl (said.0, done_last k front line after (M.now a) (M.now m) d short ends (M.now b) said.1)
 
   -- the errand is done, and its last line is said
   pub finishes_last : (e : Errand) (Last : Volume → Image → Type 0) (mets : List Met) → turns_of e mets (volume_of k) ≡ front ++ line_turn line ∷ []
@@ -220,15 +201,14 @@ module _ {D : Type 0} (M : Ghosts D) (request : Request) (before : Report) (k : 
     ends = by (last_ends ended);
   }
     where
-      by : ((status ≡ gives) × IsDone k (front ++ line_turn line ∷ []) after (M.now a) (M.now b)) ⊎ (IsUnsaid before (M.report b) status ⊎ IsBroken request before (M.report b) (front ++ line_turn line ∷ []) (M.now a) (M.now b) status)
+      by : ((status ≡ gives) × IsDone k (front ++ line_turn line ∷ []) after (M.now a) (M.now b)) ⊎ IsUnsaid before (M.report b) status
           → SaysOut e k mets (M.now a) (M.now b) status ⊎ (IsUnsaid before (M.report b) status ⊎ IsBroken request before (M.report b) (turns_of e mets (volume_of k)) (M.now a) (M.now b) status)
       by (inl done) = inl (record {
         through = through;
         gives = done.0 ∙ gives_is;
         done = subst (λ (ts : List Turn). IsDone k ts (behind mets (volume_of k) e.commands) (M.now a) (M.now b)) (sym is) (subst (λ (v : Volume). IsDone k (front ++ line_turn line ∷ []) v (M.now a) (M.now b)) after_is done.1);
       })
-      by (inr (inl u)) = inr (inl u)
-      by (inr (inr x)) = inr (inr (subst (λ (ts : List Turn). IsBroken request before (M.report b) ts (M.now a) (M.now b) status) (sym is) x))
+      by (inr u) = inr (inl u)
 
 -- a fault has ended it at once
 halted_behind : (k : Known) (front : List Turn) (through : Bool) (more : List Turn) (old now : Moment) → Said k front old now → Halted k (front ++ turns_behind through more) old now
@@ -236,7 +216,7 @@ halted_behind k front true more old now said = said_halts k front forced_turn mo
 halted_behind k front false more old now said = said_halts k front blank [] refl old now said
 
 pub finishes_broken : {D T : Type 0} (M : Ghosts D) (request : Request) (before : Report) (k : Known) (front : List Turn) (through : Bool) (more : List Turn) (a m b : D) → LeavesOnly M.moment M.left_since a m (InRun k (front ++ turns_behind through more) (M.now a)) → Said k front (M.now a) (M.now m)
-    → AreShort (M.now m).windows → EndIn (M.now a).windows k.windows → (why : Fault) → EndsAtOnce why → Told {T = T} before (M.report m) (Err (Stopped why)) → (status : ℕ) → LeavesDisk M false (is_unsaid status) (UttersFault why) m b → M.honest b → EndsWith why (M.now m) (M.now b) status
+    → AreShort (M.now m).windows → EndIn (M.now a).windows k.windows → (why : Fault) → EndsAtOnce why → Told {T = T} before (M.report m) (Err (Stopped why)) → (status : ℕ) → LeavesDisk M false (is_unsaid status) (Utters (fault_text why)) m b → M.honest b → EndsWith why (M.now m) (M.now b) status
     → (e : Errand) (Last : Volume → Image → Type 0) (mets : List Met) → turns_of e mets (volume_of k) ≡ front ++ turns_behind through more
     → ((t : ℕ) → t ≤ M.moment a → Goes (in_runs k.windows) (M.left_since b t) Last e (M.now a).said (M.now a).image (volume_of k) mets e.commands) → Finishes M request e Last before k a b status
 finishes_broken M request before k front through more a m b moments said short ends why once told status says honest ended e Last mets is goes =

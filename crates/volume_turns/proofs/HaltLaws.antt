@@ -6,7 +6,7 @@ use Rattle.std.proofs.lemmas.Bool.{eq-eqb}
 use Rattle.sector_disk.specs.declared.machine.Machine.{Ghosts}
 use Rattle.sector_disk.specs.Calls.{Counts, LeavesDisk}
 use Rattle.sector_disk.specs.Image.{AreShort, IsWorn, Windows, open_damage}
-use Rattle.sector_disk.specs.Machine.{LeavesOnly, Moment, Report, Rose}
+use Rattle.sector_disk.specs.Machine.{LeavesOnly, Moment, Report, Rose, Utters}
 use Rattle.sector_disk.proofs.Moments.{leaves_more, then_on}
 use Rattle.fsd_files.specs.Files.{Change}
 use Rattle.fsd_sound.specs.Sound.{EndIn, IsSound}
@@ -20,10 +20,10 @@ use Rattle.fsd_runs.specs.Leaves.{IsBroken, IsOutside, IsUnsaid, MayEnd, SaysNex
 use Rattle.fsd_runs.specs.Runs.{changes_in, forced_in, said_in}
 use Rattle.volume_contract.specs.State.{Known}
 use Rattle.volume_turns.specs.declared.turns.End.TheVariants.{Fault as Stopped}
-use Rattle.volume_turns.specs.Line.{EndsWith, UttersFault, is_unsaid}
+use Rattle.volume_turns.specs.Line.{EndsWith, is_unsaid}
 use Rattle.volume_turns.specs.Turns.{EndsAtOnce, InRun, Said, SaysAll, Told}
 use Rattle.volume_turns.specs.Whole.{Halted}
-use Rattle.volume_turns.proofs.LineLaws.{at_once_ends, next_fault, said_ends}
+use Rattle.volume_turns.proofs.LineLaws.{at_once_ends, next_fault}
 
 -- ---- where a run stands
 
@@ -84,41 +84,40 @@ module _ (k : Known) (turns : List Turn) (old mid : Moment) (halted : Halted k t
   }
 
   -- the line of a fault
-  says_fault : (why : Fault) → MayEnd why → (left : Moment) → UttersFault why mid left → InRun k turns old left
-  says_fault why may left (said, which, utters) =
-      let part = take utters.heard (fault_text said) in
-      says_part part left utters.image utters.windows utters.said (next_fault (slice_get turns halted.whole) halted.more part (said, utters.heard, said_ends why said may which, refl))
+  says_fault : (why : Fault) → MayEnd why → (left : Moment) → Utters (fault_text why) mid left → InRun k turns old left
+  says_fault why may left utters =
+      let part = take utters.heard (fault_text why) in
+      says_part part left utters.image utters.windows utters.said (next_fault (slice_get turns halted.whole) halted.more part (why, utters.heard, may, refl))
 
 -- ---- a fault that ends a run there
 
 module _ {D : Type 0} (M : Ghosts D) (request : Request) (before : Report) (k : Known) (turns : List Turn) (a m b : D) (moments : LeavesOnly M.moment M.left_since a m (InRun k turns (M.now a))) (halted : Halted k turns (M.now a) (M.now m))
     (short : AreShort (M.now m).windows) (ends : EndIn (M.now a).windows k.windows) (why : Fault) (may : MayEnd why) (out : IsOutside request before (M.report b) why) (later : before.output_faults ≤ (M.report m).output_faults)
-    (status : ℕ) (says : LeavesDisk M false (is_unsaid status) (UttersFault why) m b) (honest : M.honest b) (ended : EndsWith why (M.now m) (M.now b) status) where
+    (status : ℕ) (says : LeavesDisk M false (is_unsaid status) (Utters (fault_text why)) m b) (honest : M.honest b) (ended : EndsWith why (M.now m) (M.now b) status) where
   pub stopped_moments : LeavesOnly M.moment M.left_since a b (InRun k turns (M.now a))
   stopped_moments = then_on M.moment M.left_since a m b (InRun k turns (M.now a)) moments
-      (leaves_more M.moment M.left_since m b (UttersFault why (M.now m)) (InRun k turns (M.now a)) (λ left utters. says_fault k turns (M.now a) (M.now m) halted short ends why may left utters) (says.any_moment honest))
+      (leaves_more M.moment M.left_since m b (Utters (fault_text why) (M.now m)) (InRun k turns (M.now a)) (λ left utters. says_fault k turns (M.now a) (M.now m) halted short ends why may left utters) (says.any_moment honest))
 
   unsaid : status ≡ 6 → IsUnsaid before (M.report b) status
   unsaid six =
       let rose : Rose (M.report m).output_faults (M.report b).output_faults = subst (λ (x : Bool). Counts x (M.report m).output_faults (M.report b).output_faults) (eq-eqb status 6 six) says.spares.output in
       record { ends = six; rose = omega (arith, later, rose) }
 
-  broken : (said : Fault) → IsOutside request before (M.report b) said → status ≡ fault_status said → SaysAll (fault_text said) (M.now m) (M.now b) → IsBroken request before (M.report b) turns (M.now a) (M.now b) status
-  broken said from gives all = record {
-    why = said;
-    outside = from;
+  broken : status ≡ fault_status why → SaysAll (fault_text why) (M.now m) (M.now b) → IsBroken request before (M.report b) turns (M.now a) (M.now b) status
+  broken gives all = record {
+    why = why;
+    outside = out;
     ends = gives;
     says = record {
       whole = halted.whole;
       more = halted.more;
-      said = all.said ∙ ap (λ (x : List ℕ). x ++ fault_text said) halted.said ∙ append_assoc (M.now a).said (said_in (take halted.whole turns)) (fault_text said);
+      said = all.said ∙ ap (λ (x : List ℕ). x ++ fault_text why) halted.said ∙ append_assoc (M.now a).said (said_in (take halted.whole turns)) (fault_text why);
     };
   }
 
   by_end : EndsWith why (M.now m) (M.now b) status → IsUnsaid before (M.report b) status ⊎ IsBroken request before (M.report b) turns (M.now a) (M.now b) status
   by_end (inl six) = inl (unsaid six)
-  by_end (inr (said, inl is, gives, all)) = inr (broken said (subst (λ (w : Fault). IsOutside request before (M.report b) w) (sym is) out) gives all)
-  by_end (inr (said, inr is, gives, all)) = inr (broken Ends.Memory tt (gives ∙ ap fault_status is) (subst (λ (w : Fault). SaysAll (fault_text w) (M.now m) (M.now b)) is all))
+  by_end (inr (gives, all)) = inr (broken gives all)
 
   pub stopped_ends : IsUnsaid before (M.report b) status ⊎ IsBroken request before (M.report b) turns (M.now a) (M.now b) status
   stopped_ends = by_end ended
@@ -127,7 +126,7 @@ module _ {D : Type 0} (M : Ghosts D) (request : Request) (before : Report) (k : 
 
 module _ {D T : Type 0} (M : Ghosts D) (request : Request) (before : Report) (k : Known) (turns : List Turn) (a m b : D) (moments : LeavesOnly M.moment M.left_since a m (InRun k turns (M.now a))) (halted : Halted k turns (M.now a) (M.now m))
     (short : AreShort (M.now m).windows) (ends : EndIn (M.now a).windows k.windows) (why : Fault) (once : EndsAtOnce why) (told : Told {T = T} before (M.report m) (Err (Stopped why)))
-    (status : ℕ) (says : LeavesDisk M false (is_unsaid status) (UttersFault why) m b) (honest : M.honest b) (ended : EndsWith why (M.now m) (M.now b) status) where
+    (status : ℕ) (says : LeavesDisk M false (is_unsaid status) (Utters (fault_text why)) m b) (honest : M.honest b) (ended : EndsWith why (M.now m) (M.now b) status) where
   outside : (said : Fault) → EndsAtOnce said → said ≡ why → IsOutside request before (M.report b) said
   outside (Ends.Device s) at_once is =
       let fault : Told {T = T} before (M.report m) (Err (Stopped (Ends.Device s))) = subst (λ (x : Fault). Told {T = T} before (M.report m) (Err (Stopped x))) (sym is) told in

@@ -1,5 +1,6 @@
 -- What a version of the input's bytes leaves: it is one command, or the input is too long.
 use Rattle.std.proofs.Common.{◌≡◌, ◌⊎◌, inl, inr, ℕ, ◌<◌, ◌≤◌, Bool, true, false, List, [], ◌∷◌, length, Option, Some, None, refl, sym, ◌∙◌, ap, subst, arith}
+use Rattle.fsd_texts.specs.Text.{fault_text}
 use Rattle.fsd_log.specs.Scan.{Placed}
 use Rattle.std.specs.Prelude.{if◌then◌else◌, nat_lt, Err}
 use Rattle.std.proofs.lemmas.Bool.{lt-ltb, ltb-true}
@@ -7,7 +8,7 @@ use Rattle.std.proofs.lemmas.List.{append-nil}
 use Rattle.sector_disk.specs.declared.machine.Machine.{Ghosts}
 use Rattle.sector_disk.specs.Calls.{LeavesDisk, WritesDisk}
 use Rattle.sector_disk.specs.Image.{AreShort}
-use Rattle.sector_disk.specs.Machine.{LeavesOnly, Moment, Report}
+use Rattle.sector_disk.specs.Machine.{LeavesOnly, Moment, Report, Utters}
 use Rattle.sector_disk.proofs.Moments.{leaves_more}
 use Rattle.sector_disk.proofs.Wear.{AllWorn-here}
 use Rattle.fsd_bytes.specs.declared.refusal.Refusal.{Refusal}
@@ -31,11 +32,11 @@ use Rattle.volume_contract.specs.Ends.{Closes, device_of}
 use Rattle.volume_contract.specs.Order.{IsDevice}
 use Rattle.volume_contract.specs.State.{State, Known, Leaves, Stands, volume_of}
 use Rattle.volume_turns.specs.declared.turns.End.TheVariants.{Fault as Stopped}
-use Rattle.volume_turns.specs.Line.{EndsWith, UttersFault, is_unsaid}
+use Rattle.volume_turns.specs.Line.{EndsLast, EndsWith, is_unsaid}
 use Rattle.volume_turns.specs.Once.{InClose, IsDone, close_fault}
 use Rattle.volume_turns.specs.Steps.{IsOfCall, device_told}
 use Rattle.volume_turns.specs.Turns.{InRun, Told}
-use Rattle.volume_turns.specs.Whole.{EndsLast, Finishes, RunsOut, UttersLast}
+use Rattle.volume_turns.specs.Whole.{Finishes, RunsOut}
 use Rattle.volume_turns.proofs.GroupEndLaws.{finishes_last}
 use Rattle.volume_turns.proofs.GroupLaws.{goes_wider}
 use Rattle.volume_turns.proofs.HaltLaws.{broken_ends, broken_moments, said_halts}
@@ -119,7 +120,7 @@ module _ {S D : Type 0} (state : S → State) (has : S → Mounted → List Plac
   abbrev Over : Type 0
   Over = RunsOut M (Put name keep) input rest (M.report a) k a b status
 
-  pub refused_input : Closes k (M.now m).image → LeavesDisk M false (is_unsaid status) (UttersLast (Says.Ended Ends.InputTooLong)) m b → EndsLast (Says.Ended Ends.InputTooLong) 5 (M.now m) (M.now b) status → Over
+  pub refused_input : Closes k (M.now m).image → LeavesDisk M false (is_unsaid status) (Utters (fault_text Ends.InputTooLong)) m b → EndsLast (Says.Ended Ends.InputTooLong) 5 (M.now m) (M.now b) status → Over
   refused_input closes says ended = record {
     cut = None;
     may = tt;
@@ -138,7 +139,7 @@ module _ {S D : Type 0} (state : S → State) (has : S → Mounted → List Plac
         lasts = closes.tells;
       }
 
-  pub refused_broken : (why : Refusal) → IsDevice why → Told {T = Unit {0}} (M.report a) (M.report m) (Err (Stopped (close_fault why))) → LeavesDisk M false (is_unsaid status) (UttersFault (close_fault why)) m b → EndsWith (close_fault why) (M.now m) (M.now b) status → Over
+  pub refused_broken : (why : Refusal) → IsDevice why → Told {T = Unit {0}} (M.report a) (M.report m) (Err (Stopped (close_fault why))) → LeavesDisk M false (is_unsaid status) (Utters (fault_text (close_fault why))) m b → EndsWith (close_fault why) (M.now m) (M.now b) status → Over
   refused_broken why is told says ended =
       let halted = said_halts k [] t [] refl (M.now a) (M.now m) (said_nothing k (M.now a) (M.now m) (let l = disk.exit back k stands in record { sound = l.sound; windows = l.windows; said = l.said })) in
       record {

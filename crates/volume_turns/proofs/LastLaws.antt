@@ -10,14 +10,11 @@ use Rattle.fsd_texts.specs.declared.command.Command.TheVariants.{Delete, Get, Ke
 use Rattle.fsd_texts.specs.declared.fault.Fault.{Fault}
 use Rattle.fsd_texts.specs.declared.fault.Fault.TheVariants as Ends
 use Rattle.fsd_texts.specs.declared.line.Line.{Line}
-use Rattle.fsd_texts.specs.declared.line.Line.TheVariants as Says
-use Rattle.fsd_runs.specs.Errands.{fault_status}
 use Rattle.volume_turns.specs.Causes.{SaysFault, is_of_fault}
-use Rattle.volume_turns.specs.Line.{EndsWith}
+use Rattle.volume_turns.specs.Line.{EndsLast, EndsWith}
 use Rattle.volume_turns.specs.Once.{fault_of}
 use Rattle.volume_turns.specs.Status.{IsStatusFrom}
 use Rattle.volume_turns.specs.Steps.{device_told}
-use Rattle.volume_turns.specs.Whole.{EndsLast}
 use Rattle.volume_turns.proofs.StatusLaws.{same_device}
 
 pub fault_not : (n status : ℕ) → IsFalse (is_of_fault n) → IsTrue (is_of_fault status) → status ≡ n → ⊥
@@ -52,19 +49,12 @@ module _ (place : ℕ) (old new : Moment) (status : ℕ) where
 
   pub ends_fault : (why : Fault) → IsPlaced why → EndsWith why old new status → IsTrue (is_of_fault status) → SaysFault place new status
   ends_fault why at (inl six) of = absurd (fault_not 6 status refl of six)
-  ends_fault why at (inr (said, inl is, gives, all)) of = record { why = said; gives = gives; at = subst IsPlaced (sym is) at; front = old.said; said = all.said }
-  ends_fault why at (inr (said, inr is, gives, all)) of = record { why = said; gives = gives; at = subst IsPlaced (sym is) tt; front = old.said; said = all.said }
-
-  pub line_fault : (why : Fault) → IsPlaced why → EndsLast (Says.Ended why) (fault_status why) old new status → IsTrue (is_of_fault status) → SaysFault place new status
-  line_fault why at (inl six) of = absurd (fault_not 6 status refl of six)
-  line_fault why at (inr (inl (gives, all))) of = record { why = why; gives = gives; at = at; front = old.said; said = all.said }
-  line_fault why at (inr (inr (seven, all))) of = record { why = Ends.Memory; gives = seven; at = tt; front = old.said; said = all.said }
+  ends_fault why at (inr (gives, all)) of = record { why = why; gives = gives; at = at; front = old.said; said = all.said }
 
   -- a line that is none of a fault
   pub line_other : (line : Line) (gives : ℕ) → IsFalse (is_of_fault gives) → EndsLast line gives old new status → IsTrue (is_of_fault status) → SaysFault place new status
   line_other line gives other (inl six) of = absurd (fault_not 6 status refl of six)
-  line_other line gives other (inr (inl (is, all))) of = absurd (fault_not gives status other of is)
-  line_other line gives other (inr (inr (seven, all))) of = record { why = Ends.Memory; gives = seven; at = tt; front = old.said; said = all.said }
+  line_other line gives other (inr (is, all)) of = absurd (fault_not gives status other of is)
 
 -- a fault of a mount
 pub mount_fault : (fault : MountFault) (why : Fault) (a m b : Report) (old new : Moment) (status : ℕ) → why ≡ fault_of fault → DiskFaults (device_of_mount fault) a m → b.fault_place ≡ m.fault_place → EndsWith why old new status

@@ -25,5 +25,7 @@ pub mod ScriptRunLaws
 pub mod StatusLaws
 pub mod StepLaws
 pub mod TakingLaws
+pub mod ToldLaws
 pub mod TurnLaws
 pub mod WholeLaws
+pub mod WornLaws

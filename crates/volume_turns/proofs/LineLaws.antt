@@ -1,6 +1,9 @@
 -- The turns of one command, and the faults that may end a run.
-use Rattle.std.proofs.Common.{◌≡◌, inl, inr, ℕ, List, [], ◌∷◌, length, Option, Some, None, refl, sym, subst}
-use Rattle.std.specs.Prelude.{IsSome}
+use Rattle.std.proofs.Common.{◌≡◌, inr, ℕ, List, [], ◌∷◌, length, Option, Some, None, refl, sym, subst}
+use Rattle.std.specs.Prelude.{IfErr, IsSome, Result, Ok, Err}
+use Rattle.fsd_bytes.specs.declared.refusal.Refusal.{Refusal}
+use Rattle.fsd_bytes.specs.declared.refusal.Refusal.TheVariants as Why
+use Rattle.sector_disk.specs.Machine.{Report}
 use Rattle.fsd_files.specs.Answers.{Met}
 use Rattle.fsd_files.specs.Disk.{Image}
 use Rattle.fsd_files.specs.Volume.{Volume}
@@ -13,9 +16,12 @@ use Rattle.fsd_runs.specs.Errands.{Turn, alone}
 use Rattle.fsd_runs.specs.Leaves.{MayEnd, SaysFault, SaysNext}
 use Rattle.fsd_runs.specs.Runs.{turns_of}
 use Rattle.volume_contract.specs.Mount.{ExcusesOf}
-use Rattle.volume_turns.specs.Line.{IsSaidFor}
-use Rattle.volume_turns.specs.Once.{fault_of}
-use Rattle.volume_turns.specs.Turns.{EndsAtOnce}
+use Rattle.volume_contract.specs.Order.{IsLoss}
+use Rattle.volume_turns.specs.declared.turns.End.{End}
+use Rattle.volume_turns.specs.declared.turns.End.TheVariants.{Fault as Stopped, Output}
+use Rattle.volume_turns.specs.Once.{close_fault, fault_of}
+use Rattle.volume_turns.specs.Script.{SparesWanting}
+use Rattle.volume_turns.specs.Turns.{EndsAtOnce, WantsNone}
 
 -- ---- the turns of one command
 
@@ -41,6 +47,28 @@ excused i Refused.Memory why = tt
 excused i Refused.WornOut why = tt
 excused i fault why = absurd why
 
-pub said_ends : (why said : Fault) → MayEnd why → IsSaidFor why said → MayEnd said
-said_ends why said may (inl is) = subst MayEnd (sym is) may
-said_ends why said may (inr is) = subst MayEnd (sym is) tt
+-- ---- wants
+
+-- a line wants none, so that the output alone ends it
+pub output_ends : {T : Type 0} (P : End → Type 0) → P Output → (r : Result T End) → IfErr r (λ end. end ≡ Output) → IfErr r P
+output_ends P at (Ok x) is = tt
+output_ends P at (Err end) is = subst P (sym is) at
+
+-- nor does a force
+pub close_wants : (why : Refusal) → IsLoss why → WantsNone (Stopped (close_fault why))
+close_wants (Why.Device s) is = λ want. want
+close_wants (Why.Lost a b) is = λ want. want
+close_wants why is = absurd is
+
+pub wanting_none : {T : Type 0} (a b : Report) (r : Result T End) → IfErr r WantsNone → IfErr r (SparesWanting a b)
+wanting_none a b (Ok x) none = tt
+wanting_none a b (Err (Stopped why)) none = λ want. absurd (none want)
+wanting_none a b (Err Output) none = tt
+
+pub wanting_end : (a b : Report) → b.input_faults ≡ a.input_faults → (end : End) → SparesWanting a b end
+wanting_end a b same (Stopped why) = λ want. same
+wanting_end a b same Output = tt
+
+pub wanting_same : {T : Type 0} (a b : Report) → b.input_faults ≡ a.input_faults → (r : Result T End) → IfErr r (SparesWanting a b)
+wanting_same a b same (Ok x) = tt
+wanting_same a b same (Err end) = wanting_end a b same end

@@ -2,10 +2,11 @@
 use Rattle.std.proofs.Common.{◌≡◌, inl, inr, false, ℕ, suc, ◌≤◌, List, [], ◌∷◌, ◌++◌, length, take, None, refl, sym, ◌∙◌, subst, arith}
 use Rattle.std.specs.Prelude.{IsSome, Result, Ok, Err, slice_get}
 use Rattle.std.proofs.lemmas.List.{append-nil, take_all}
+use Rattle.fsd_texts.specs.Text.{fault_text}
 use Rattle.sector_disk.specs.declared.machine.Machine.{Ghosts}
 use Rattle.sector_disk.specs.Calls.{LeavesDisk, Since}
 use Rattle.sector_disk.specs.Image.{AreShort}
-use Rattle.sector_disk.specs.Machine.{Moment}
+use Rattle.sector_disk.specs.Machine.{Moment, Utters}
 use Rattle.fsd_files.specs.Disk.{in_runs}
 use Rattle.fsd_files.specs.Volume.{Volume}
 use Rattle.fsd_sound.specs.Sound.{EndIn, IsSound}
@@ -17,7 +18,7 @@ use Rattle.fsd_runs.specs.Runs.{Goes, IsCutAt, changes_in, turns_of}
 use Rattle.volume_contract.specs.State.{Known, volume_of}
 use Rattle.volume_turns.specs.declared.turns.End.{End}
 use Rattle.volume_turns.specs.declared.turns.End.TheVariants.{Fault as Stopped, Output}
-use Rattle.volume_turns.specs.Line.{EndsWith, UttersFault, is_unsaid}
+use Rattle.volume_turns.specs.Line.{EndsWith, is_unsaid}
 use Rattle.volume_turns.specs.Once.{Anything, IsAlone}
 use Rattle.volume_turns.specs.Turns.{InRun, Told}
 use Rattle.volume_turns.specs.Whole.{Halted, RunsOut}
@@ -55,7 +56,7 @@ module _ {D : Type 0} (M : Ghosts D) (c : Command) (rest : List ℕ) (k : Known)
       goes_wider (in_runs k.windows) (M.left_since p t) (M.left_since b t) (λ x was. since t x (omega (arith, le, later)) was) Anything (IsCutAt None) (λ v i is. tt) (alone c) (M.now a).said (M.now a).image (volume_of k) one.mets (c ∷ []) (one.goes t le)
 
   pub one_broken : M.honest b → AreShort (M.now p).windows → EndIn (M.now a).windows k.windows → M.left_since p (M.moment a) (M.now p) → (why : Fault) → IsAlone M c k a p (Err (Stopped why)) → {T : Type 0} → Told {T = T} (M.report a) (M.report p) (Err (Stopped why))
-      → (status : ℕ) → LeavesDisk M false (is_unsaid status) (UttersFault why) p b → EndsWith why (M.now p) (M.now b) status → RunsOut M (One c) [] rest (M.report a) k a b status
+      → (status : ℕ) → LeavesDisk M false (is_unsaid status) (Utters (fault_text why)) p b → EndsWith why (M.now p) (M.now b) status → RunsOut M (One c) [] rest (M.report a) k a b status
   one_broken honest short ends here why one told status says ended =
       let turns = turns_of (alone c) one.mets (volume_of k) in
       let halted = halted_one k turns (alone_length c one.mets (volume_of k)) (M.now a) (M.now p) one.ends.1 (one.moments.each (M.now p) here) in

@@ -271,6 +271,20 @@ read_down s up why comes t is =
     let rest = LookUp ∷ Asks Why.NoSuch ∷ Data ∷ [] in
     never (Why.Down t) rest (λ x. x, (not_such (Why.Down t) tt, (λ x. x, tt))) (starts_up s up rest (Why.Down t) (subst (λ (w : Refusal). Comes (down s ∷ rest) w) is comes))
 
+-- none of these tells the mount as worn out
+pub force_worn : (s : State) → s.down ≡ None → (comes_one : Bool) → Comes (down s ∷ Force comes_one ∷ []) Why.WornOut → ⊥
+force_worn s up comes_one comes = force_loss s up comes_one Why.WornOut comes
+
+pub entry_worn : (s : State) → s.down ≡ None → Comes (down s ∷ LookUp ∷ Asks Why.NoSuch ∷ []) Why.WornOut → ⊥
+entry_worn s up comes =
+    let rest = LookUp ∷ Asks Why.NoSuch ∷ [] in
+    never Why.WornOut rest (λ x. x, (not_such Why.WornOut tt, tt)) (starts_up s up rest Why.WornOut comes)
+
+pub read_worn : (s : State) → s.down ≡ None → Comes (down s ∷ LookUp ∷ Asks Why.NoSuch ∷ Data ∷ []) Why.WornOut → ⊥
+read_worn s up comes =
+    let rest = LookUp ∷ Asks Why.NoSuch ∷ Data ∷ [] in
+    never Why.WornOut rest (λ x. x, (not_such Why.WornOut tt, (λ x. x, tt))) (starts_up s up rest Why.WornOut comes)
+
 -- the look-up behind a test that refuses nothing
 pub next_refuses : (s : State) → s.down ≡ None → (why : Refusal) → Comes (down s ∷ LookUp ∷ []) why → IsLookUp why
 next_refuses s up why comes = elim (starts_up s up (LookUp ∷ []) why comes) [ inl here ↦ here | inr later ↦ absurd later.1 ]

@@ -6,7 +6,7 @@ use Rattle.std.proofs.lemmas.List.{append-nil}
 use Rattle.sector_disk.specs.declared.machine.Machine.{Ghosts}
 use Rattle.sector_disk.specs.Calls.{Counts, LeavesDisk}
 use Rattle.sector_disk.specs.Image.{AreShort, Windows}
-use Rattle.sector_disk.specs.Machine.{LeavesOnly, Moment, Report, UsesDisk, Wears}
+use Rattle.sector_disk.specs.Machine.{LeavesOnly, Moment, Report, UsesDisk, Wears, Utters}
 use Rattle.sector_disk.proofs.Moments.{leaves_more, then_on}
 use Rattle.fsd_files.specs.Answers.{Met}
 use Rattle.fsd_files.specs.Disk.{Image, in_runs}
@@ -26,7 +26,7 @@ use Rattle.fsd_runs.specs.Errands.{Cut, Errand, MayCut, Turn, alone, errand_of, 
 use Rattle.fsd_runs.specs.Leaves.{IsBroken, IsOutside, IsUnsaid, MayEnd}
 use Rattle.fsd_runs.specs.Runs.{Goes, IsCutAt, changes_in, errand_in, said_in, turns_of}
 use Rattle.volume_contract.specs.State.{State, Ages, Known, Stands, forced_of, is_worn, volume_of}
-use Rattle.volume_turns.specs.Line.{EndsWith, UttersFault, is_unsaid}
+use Rattle.volume_turns.specs.Line.{EndsWith, is_unsaid}
 use Rattle.volume_turns.specs.Steps.{StaysSound}
 use Rattle.volume_turns.specs.Turns.{InRun}
 use Rattle.volume_turns.specs.Whole.{Finishes, Halted, RunsOut, SaysOut}
@@ -156,7 +156,7 @@ module _ {S D : Type 0} (state : S → State) (has : S → Mounted → List Plac
       runs_on M (Put name keep) input rest (M.report a) (M.report m) (counted none) (read.spares.disk, read.spares.place) k a b status (from_there unworn (M.report m) r.cut r.may r.finishes)
 
   -- it ends there, by a fault of the input or for want of memory
-  module _ (why : Fault) (may : MayEnd why) (out : IsOutside (Put name keep) (M.report a) (M.report b) why) (says : LeavesDisk M false (is_unsaid status) (UttersFault why) m b) (honest : M.honest b)
+  module _ (why : Fault) (may : MayEnd why) (out : IsOutside (Put name keep) (M.report a) (M.report b) why) (says : LeavesDisk M false (is_unsaid status) (Utters (fault_text why)) m b) (honest : M.honest b)
       (ended : EndsWith why (M.now m) (M.now b) status) where
     abbrev turns : List Turn
     turns = turns_of e [] (volume_of k)

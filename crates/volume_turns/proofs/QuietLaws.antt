@@ -1,15 +1,21 @@
 -- The statuses of runs in which no call of the outside failed.
 use Rattle.std.proofs.Common.{◌≡◌, inl, inr, ℕ, Bool, true, false, refl, subst}
-use Rattle.std.specs.Prelude.{IsFalse, IsTrue}
-use Rattle.std.proofs.lemmas.Bool.{eqb-true, or_left}
+use Rattle.std.specs.Prelude.{◌==◌, IsFalse, IsTrue}
+use Rattle.std.proofs.lemmas.Bool.{eqb-true}
 use Rattle.fsd_texts.specs.declared.fault.Fault.{Fault}
 use Rattle.fsd_texts.specs.declared.fault.Fault.TheVariants as Ends
 use Rattle.fsd_runs.specs.Errands.{fault_status}
 use Rattle.volume_turns.specs.Line.{IsStatusAs, IsStatusFor, is_unsaid}
 use Rattle.volume_turns.specs.Status.{is_unfailed, is_quiet}
+use Rattle.volume_turns.specs.Turns.{IsWant}
 
-pub quiet_unfailed : (status : ℕ) → IsTrue (is_quiet status) → IsTrue (is_unfailed status)
-quiet_unfailed status quiet = or_left (is_quiet status) _ quiet
+unfailed_if : (status : ℕ) → (status ≡ 4 → ⊥) → (status ≡ 6 → ⊥) → IsTrue (is_unfailed status)
+unfailed_if status disk output = by (status == 4) (status == 6) refl refl
+  where
+    by : (a b : Bool) → (status == 4) ≡ a → (status == 6) ≡ b → IsTrue (is_unfailed status)
+    by true b is at = absurd (disk (eqb-true status 4 is))
+    by false true is at = absurd (output (eqb-true status 6 at))
+    by false false is at = rw (is, at) refl
 
 -- a status that isn't one of these
 pub unfailed_not : (n status : ℕ) → IsFalse (is_unfailed n) → IsTrue (is_unfailed status) → status ≡ n → ⊥
@@ -17,6 +23,9 @@ unfailed_not n status other unfailed at = let same : IsTrue (is_unfailed n) = su
 
 pub quiet_not : (n status : ℕ) → IsFalse (is_quiet n) → IsTrue (is_quiet status) → status ≡ n → ⊥
 quiet_not n status other quiet at = let same : IsTrue (is_quiet n) = subst (λ (x : ℕ). IsTrue (is_quiet x)) at quiet in cc (same, other)
+
+pub quiet_unfailed : (status : ℕ) → IsTrue (is_quiet status) → IsTrue (is_unfailed status)
+quiet_unfailed status quiet = unfailed_if status (quiet_not 4 status refl quiet) (quiet_not 6 status refl quiet)
 
 -- the output didn't fail
 pub unfailed_said : (status : ℕ) → IsTrue (is_unfailed status) → is_unsaid status ≡ false
@@ -29,20 +38,19 @@ unfailed_said status unfailed = by (is_unsaid status) refl
 -- the status of a line is the one that goes with it
 pub quiet_line : (gives status : ℕ) → IsStatusAs gives status → IsTrue (is_quiet status) → IsTrue (is_quiet gives)
 quiet_line gives status (inl is) quiet = subst (λ (n : ℕ). IsTrue (is_quiet n)) is quiet
-quiet_line gives status (inr (inl seven)) quiet = absurd (quiet_not 7 status refl quiet seven)
-quiet_line gives status (inr (inr six)) quiet = absurd (quiet_not 6 status refl quiet six)
+quiet_line gives status (inr six) quiet = absurd (quiet_not 6 status refl quiet six)
 
--- each fault has another one
-fault_loud : (why : Fault) → IsTrue (is_quiet (fault_status why)) → ⊥
-fault_loud Ends.NotVolume is = cc is
-fault_loud (Ends.Lost x y) is = cc is
-fault_loud Ends.NoAnchor is = cc is
-fault_loud (Ends.Unsound s) is = cc is
-fault_loud (Ends.Device s) is = cc is
-fault_loud Ends.Input is = cc is
-fault_loud Ends.InputTooLong is = cc is
-fault_loud Ends.Memory is = cc is
-fault_loud Ends.WornOut is = cc is
+-- each fault has another one but a want
+quiet_fault : (why : Fault) → IsTrue (is_quiet (fault_status why)) → IsWant why
+quiet_fault Ends.NotVolume is = cc is
+quiet_fault (Ends.Lost x y) is = cc is
+quiet_fault Ends.NoAnchor is = cc is
+quiet_fault (Ends.Unsound s) is = cc is
+quiet_fault (Ends.Device s) is = cc is
+quiet_fault Ends.Input is = cc is
+quiet_fault Ends.InputTooLong is = cc is
+quiet_fault Ends.Memory is = tt
+quiet_fault Ends.WornOut is = tt
 
-pub fault_not_quiet : (why : Fault) (status : ℕ) → IsStatusFor why status → IsTrue (is_quiet status) → ⊥
-fault_not_quiet why status for quiet = fault_loud why (quiet_line (fault_status why) status for quiet)
+pub quiet_wants : (why : Fault) (status : ℕ) → IsStatusFor why status → IsTrue (is_quiet status) → IsWant why
+quiet_wants why status for quiet = quiet_fault why (quiet_line (fault_status why) status for quiet)

@@ -2,10 +2,11 @@
 use Rattle.std.proofs.Common.{◌≡◌, ◌⊎◌, inl, inr, ℕ, ◌≤◌, Bool, true, false, List, [], ◌∷◌, ◌++◌, length, take, Option, Some, None, refl, sym, ◌∙◌, ap, subst, arith, append_assoc}
 use Rattle.std.specs.Prelude.{◌==◌, IsTrue, Result, Ok, Err, slice_get}
 use Rattle.std.proofs.lemmas.Bool.{eq-eqb, eqb-true}
+use Rattle.fsd_texts.specs.Text.{fault_text, text}
 use Rattle.sector_disk.specs.declared.machine.Machine.{Ghosts}
 use Rattle.sector_disk.specs.Calls.{DiskFaults, LeavesDisk, Since}
 use Rattle.sector_disk.specs.Image.{AreShort}
-use Rattle.sector_disk.specs.Machine.{LeavesOnly, Moment, Report}
+use Rattle.sector_disk.specs.Machine.{LeavesOnly, Moment, Report, Utters}
 use Rattle.fsd_files.specs.Answers.{Met}
 use Rattle.fsd_files.specs.Disk.{Image, in_runs}
 use Rattle.fsd_files.specs.Volume.{Volume}
@@ -23,11 +24,11 @@ use Rattle.volume_contract.specs.State.{Known, volume_of}
 use Rattle.volume_turns.specs.declared.turns.End.{End}
 use Rattle.volume_turns.specs.declared.turns.End.TheVariants.{Fault as Stopped, Output}
 use Rattle.volume_turns.specs.Group.{CutsOff, EndsGroup, IsGroup, WornIf, is_through, turns_behind}
-use Rattle.volume_turns.specs.Line.{EndsWith, UttersFault, is_unsaid}
+use Rattle.volume_turns.specs.Line.{EndsLast, EndsWith, is_unsaid}
 use Rattle.volume_turns.specs.Once.{IsDone}
 use Rattle.volume_turns.specs.Script.{Heard}
 use Rattle.volume_turns.specs.Turns.{EndsAtOnce, InRun, Said, Told, device_end}
-use Rattle.volume_turns.specs.Whole.{EndsLast, Finishes, UttersLast}
+use Rattle.volume_turns.specs.Whole.{Finishes}
 use Rattle.volume_turns.proofs.GroupEndLaws.{answered_cut, behind_cut, ended_as, finishes_broken, finishes_last, finishes_unsaid, goes_cut, goes_length, goes_within, turns_are}
 use Rattle.volume_turns.proofs.GroupLaws.{goes_wider}
 
@@ -106,7 +107,7 @@ module _ {D : Type 0} (M : Ghosts D) (before : Report) (k : Known) (a p b : D) (
       turns_all = turns_are e v mets commands commands refl ending more is (is_through false mets commands) (ap (λ (n : ℕ). n == length commands) (sym known))
 
       pub all_said : IsTrue (is_through false mets commands) → IsDone k front (behind mets v commands) (M.now a) (M.now p) → (line : Line) → more ≡ line_turn line ∷ [] → (gives : ℕ) → gives ≡ (ending (answered mets v commands)).status → before.output_faults ≤ (M.report p).output_faults
-          → LeavesDisk M false (is_unsaid status) (UttersLast line) p b → EndsLast line gives (M.now p) (M.now b) status → Finishes M Script all_errand (WornIf false) before k a b status
+          → LeavesDisk M false (is_unsaid status) (Utters (text line)) p b → EndsLast line gives (M.now p) (M.now b) status → Finishes M Script all_errand (WornIf false) before k a b status
       all_said through done line one gives same counted says ended =
           let t = line_turn line in
           let split : turns ++ forced_turn ∷ t ∷ [] ≡ front ++ t ∷ [] = sym (append_assoc turns (forced_turn ∷ []) (t ∷ [])) in
@@ -117,7 +118,7 @@ module _ {D : Type 0} (M : Ghosts D) (before : Report) (k : Known) (a p b : D) (
           finishes_last M Script before k front line (behind mets v commands) gives a p b moments done short ends counted status says honest all_errand (WornIf false) mets turns_is (on (WornIf false) later goes)
           (eqb-true (length mets) (length commands) through) same refl ended
 
-      pub all_broken : Said k turns (M.now a) (M.now p) → (why : Fault) → EndsAtOnce why → {T : Type 0} → Told {T = T} before (M.report p) (Err (Stopped why)) → LeavesDisk M false (is_unsaid status) (UttersFault why) p b → EndsWith why (M.now p) (M.now b) status
+      pub all_broken : Said k turns (M.now a) (M.now p) → (why : Fault) → EndsAtOnce why → {T : Type 0} → Told {T = T} before (M.report p) (Err (Stopped why)) → LeavesDisk M false (is_unsaid status) (Utters (fault_text why)) p b → EndsWith why (M.now p) (M.now b) status
           → Finishes M Script all_errand (WornIf false) before k a b status
       all_broken said why once told says ended =
           finishes_broken M Script before k turns (is_through false mets commands) more a p b (leaves more) said short ends why once told status says honest ended all_errand (WornIf false) mets turns_all (on (WornIf false) later goes)
@@ -170,7 +171,7 @@ module _ {D : Type 0} (M : Ghosts D) (before : Report) (k : Known) (a p b : D) (
       went t le = goes_cut (in_runs k.windows) (M.left_since b t) e (WornIf true) (λ v i. IsWornOut v i) (λ v i is. is) (M.now a).said (M.now a).image v mets commands (on (WornIf true) later_cut goes t le)
 
       pub cut_said : IsDone k front (behind mets v commands) (M.now a) (M.now p) → before.output_faults ≤ (M.report p).output_faults
-          → LeavesDisk M false (is_unsaid status) (UttersLast (Says.Ended Ends.WornOut)) p b → EndsLast (Says.Ended Ends.WornOut) 9 (M.now p) (M.now b) status → WornOff M e commands before k a b status
+          → LeavesDisk M false (is_unsaid status) (Utters (fault_text Ends.WornOut)) p b → EndsLast (Says.Ended Ends.WornOut) 9 (M.now p) (M.now b) status → WornOff M e commands before k a b status
       cut_said done counted says ended =
           let split : turns ++ forced_turn ∷ last_turn ∷ [] ≡ front ++ last_turn ∷ [] = sym (append_assoc turns (forced_turn ∷ []) (last_turn ∷ [])) in
           record {
@@ -180,7 +181,7 @@ module _ {D : Type 0} (M : Ghosts D) (before : Report) (k : Known) (a p b : D) (
                 (ended_as e done_commands cut_short) (λ v i. IsWornOut v i) mets (turns_cut ∙ split) went (sym within) refl (sym (behind_cut mets v commands)) ended;
           }
 
-      pub cut_broken : Said k turns (M.now a) (M.now p) → (why : Fault) → EndsAtOnce why → {T : Type 0} → Told {T = T} before (M.report p) (Err (Stopped why)) → LeavesDisk M false (is_unsaid status) (UttersFault why) p b → EndsWith why (M.now p) (M.now b) status → WornOff M e commands before k a b status
+      pub cut_broken : Said k turns (M.now a) (M.now p) → (why : Fault) → EndsAtOnce why → {T : Type 0} → Told {T = T} before (M.report p) (Err (Stopped why)) → LeavesDisk M false (is_unsaid status) (Utters (fault_text why)) p b → EndsWith why (M.now p) (M.now b) status → WornOff M e commands before k a b status
       cut_broken said why once told says ended = record {
         count = length mets;
         worn = worn;
@@ -204,7 +205,7 @@ module _ {D : Type 0} (M : Ghosts D) (before : Report) (k : Known) (a p b : D) (
   abbrev ended_in : List Turn → ℕ → Errand
   ended_in more gives = ended_as e commands (λ done. group_ending more gives)
 
-  pub group_said : Group (Ok true) → (line : Line) (gives : ℕ) → before.output_faults ≤ (M.report p).output_faults → LeavesDisk M false (is_unsaid status) (UttersLast line) p b → EndsLast line gives (M.now p) (M.now b) status
+  pub group_said : Group (Ok true) → (line : Line) (gives : ℕ) → before.output_faults ≤ (M.report p).output_faults → LeavesDisk M false (is_unsaid status) (Utters (text line)) p b → EndsLast line gives (M.now p) (M.now b) status
       → Finishes M Script (ended_in (line_turn line ∷ []) gives) (WornIf false) before k a b status
   group_said g line gives counted says ended = by g.cut g.goes g.moments g.ends
     where
@@ -213,7 +214,7 @@ module _ {D : Type 0} (M : Ghosts D) (before : Report) (k : Known) (a p b : D) (
       by true goes leaves x = cc x.0
       by false goes leaves x = all_said M before k a p b honest since short ends status e commands g.mets (λ done. group_ending (line_turn line ∷ []) gives) (line_turn line ∷ []) refl goes leaves x.1 x.2 line refl gives refl counted says ended
 
-  pub group_worn_said : Group (Ok false) → before.output_faults ≤ (M.report p).output_faults → LeavesDisk M false (is_unsaid status) (UttersLast (Says.Ended Ends.WornOut)) p b → EndsLast (Says.Ended Ends.WornOut) 9 (M.now p) (M.now b) status
+  pub group_worn_said : Group (Ok false) → before.output_faults ≤ (M.report p).output_faults → LeavesDisk M false (is_unsaid status) (Utters (fault_text Ends.WornOut)) p b → EndsLast (Says.Ended Ends.WornOut) 9 (M.now p) (M.now b) status
       → WornOff M e commands before k a b status
   group_worn_said g counted says ended = by g.cut g.before g.goes g.moments g.ends
     where
@@ -226,7 +227,7 @@ module _ {D : Type 0} (M : Ghosts D) (before : Report) (k : Known) (a p b : D) (
   Over more gives = Finishes M Script (ended_in more gives) (WornIf false) before k a b status ⊎ WornOff M e commands before k a b status
 
   module _ (more : List Turn) (gives : ℕ) where
-    pub group_fault : (why : Fault) → (g : Group (Err (Stopped why))) → {T : Type 0} → Told {T = T} before (M.report p) (Err (Stopped why)) → LeavesDisk M false (is_unsaid status) (UttersFault why) p b → EndsWith why (M.now p) (M.now b) status → Over more gives
+    pub group_fault : (why : Fault) → (g : Group (Err (Stopped why))) → {T : Type 0} → Told {T = T} before (M.report p) (Err (Stopped why)) → LeavesDisk M false (is_unsaid status) (Utters (fault_text why)) p b → EndsWith why (M.now p) (M.now b) status → Over more gives
     group_fault why g told says ended = by g.cut g.before g.goes g.moments g.ends
       where
         by : (cut : Bool) → CutsOff cut g.mets commands → MayGo M before k a p b honest since short ends status e commands g.mets cut → Leaves M before k a p b honest since short ends status e commands g.mets (is_through cut g.mets commands) → EndsGroup e k cut g.mets commands (M.now a) (M.now p) (Err (Stopped why)) → Over more gives
@@ -234,7 +235,7 @@ module _ {D : Type 0} (M : Ghosts D) (before : Report) (k : Known) (a p b : D) (
         by true worn goes leaves x = inr (cut_broken M before k a p b honest since short ends status e commands g.mets worn goes leaves x.1 why x.0 told says ended)
 
     -- it was not cut off
-    pub group_fault_all : (why : Fault) → (g : Group (Err (Stopped why))) → g.cut ≡ false → {T : Type 0} → Told {T = T} before (M.report p) (Err (Stopped why)) → LeavesDisk M false (is_unsaid status) (UttersFault why) p b → EndsWith why (M.now p) (M.now b) status
+    pub group_fault_all : (why : Fault) → (g : Group (Err (Stopped why))) → g.cut ≡ false → {T : Type 0} → Told {T = T} before (M.report p) (Err (Stopped why)) → LeavesDisk M false (is_unsaid status) (Utters (fault_text why)) p b → EndsWith why (M.now p) (M.now b) status
         → Finishes M Script (ended_in more gives) (WornIf false) before k a b status
     group_fault_all why g uncut told says ended = by g.cut uncut g.goes g.moments g.ends
       where

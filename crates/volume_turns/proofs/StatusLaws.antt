@@ -27,11 +27,11 @@ use Rattle.volume_turns.specs.declared.turns.End.TheVariants.{Fault as Stopped, 
 use Rattle.volume_turns.specs.Causes.{FailsInput}
 use Rattle.volume_turns.specs.Line.{IsStatusAs, IsStatusFor, is_unsaid}
 use Rattle.volume_turns.specs.Once.{fault_of}
-use Rattle.volume_turns.specs.Script.{Heard}
+use Rattle.volume_turns.specs.Script.{Heard, SparesWanting}
 use Rattle.volume_turns.specs.Status.{CountsRun, CountsTaking, IsMadeStatus, IsOneStatus, IsPutStatus, IsScriptStatus, IsStatusBroken, IsStatusFrom, is_unfailed, is_quiet}
 use Rattle.volume_turns.specs.Steps.{IsOfCall, IsOfVolume, device_told, ended_by, read_ended_by, reply_of}
-use Rattle.volume_turns.specs.Turns.{Told}
-use Rattle.volume_turns.proofs.QuietLaws.{unfailed_not, unfailed_said, fault_not_quiet, quiet_unfailed, quiet_line, quiet_not}
+use Rattle.volume_turns.specs.Turns.{IsWant, Told}
+use Rattle.volume_turns.proofs.QuietLaws.{unfailed_not, unfailed_said, quiet_wants, quiet_unfailed, quiet_line, quiet_not}
 
 -- ---- replies
 
@@ -97,8 +97,7 @@ status_at P n (Err end) is at = tt
 
 pub fault_ends : (why : Fault) (status : ℕ) → IsOfVolume why → IsStatusFor why status → IsStatusBroken status
 fault_ends why status of (inl is) = inl (why, of, is)
-fault_ends why status of (inr (inl seven)) = inl (Ends.Memory, tt, seven)
-fault_ends why status of (inr (inr six)) = inr six
+fault_ends why status of (inr six) = inr six
 
 pub call_of_volume : (why : Fault) → IsOfCall why → IsOfVolume why
 call_of_volume Ends.NotVolume of = tt
@@ -122,29 +121,28 @@ fault_is_script why status of is = inr (inr (inr (fault_ends why status of is)))
 pub fault_is_made : (why : Fault) (status : ℕ) → IsOfVolume why → IsStatusFor why status → IsMadeStatus status
 fault_is_made why status of is = inr (fault_ends why status of is)
 
--- a line, or that memory was refused for it, or the output failed
-line_or : (P : ℕ → Type 0) (gives status : ℕ) → P gives → ((n : ℕ) → IsStatusBroken n → P n) → IsStatusAs gives status → P status
+-- a line, or the output failed
+line_or : (P : ℕ → Type 0) (gives status : ℕ) → P gives → P 6 → IsStatusAs gives status → P status
 line_or P gives status here broken (inl is) = subst P (sym is) here
-line_or P gives status here broken (inr (inl seven)) = broken status (inl (Ends.Memory, tt, seven))
-line_or P gives status here broken (inr (inr six)) = broken status (inr six)
+line_or P gives status here broken (inr six) = subst P (sym six) broken
 
 pub long_is_put : (status : ℕ) → IsStatusAs 5 status → IsPutStatus status
-long_is_put status is = line_or IsPutStatus 5 status (inr (inl refl)) (λ n x. inr (inr x)) is
+long_is_put status is = line_or IsPutStatus 5 status (inr (inl refl)) (inr (inr (inr refl))) is
 
 pub all_is_made : (status : ℕ) → IsStatusAs 0 status → IsMadeStatus status
-all_is_made status is = line_or IsMadeStatus 0 status (inl refl) (λ n x. inr x) is
+all_is_made status is = line_or IsMadeStatus 0 status (inl refl) (inr (inr refl)) is
 
 pub worn_is_made : (status : ℕ) → IsStatusAs 9 status → IsMadeStatus status
-worn_is_made status is = line_or IsMadeStatus 9 status (inr (inl (Ends.WornOut, tt, refl))) (λ n x. inr x) is
+worn_is_made status is = line_or IsMadeStatus 9 status (inr (inl (Ends.WornOut, tt, refl))) (inr (inr refl)) is
 
 pub bad_is_script : (status : ℕ) → IsStatusAs 2 status → IsScriptStatus status
-bad_is_script status is = line_or IsScriptStatus 2 status (inr (inl refl)) (λ n x. inr (inr (inr x))) is
+bad_is_script status is = line_or IsScriptStatus 2 status (inr (inl refl)) (inr (inr (inr (inr refl)))) is
 
 pub input_is_script : (status : ℕ) → IsStatusAs 5 status → IsScriptStatus status
-input_is_script status is = line_or IsScriptStatus 5 status (inr (inr (inl refl))) (λ n x. inr (inr (inr x))) is
+input_is_script status is = line_or IsScriptStatus 5 status (inr (inr (inl refl))) (inr (inr (inr (inr refl)))) is
 
 pub worn_is_script : (status : ℕ) → IsStatusAs 9 status → IsScriptStatus status
-worn_is_script status is = line_or IsScriptStatus 9 status (inr (inr (inr (inl (Ends.WornOut, tt, refl))))) (λ n x. inr (inr (inr x))) is
+worn_is_script status is = line_or IsScriptStatus 9 status (inr (inr (inr (inl (Ends.WornOut, tt, refl))))) (inr (inr (inr (inr refl)))) is
 
 -- a reply has no other status
 pub from_not : (n : ℕ) (command : Command) (status : ℕ) → 1 < n → (n ≡ 8 → ⊥) → IsStatusFrom command status → status ≡ n → ⊥
@@ -157,10 +155,9 @@ from_not n command status more other none at = omega (arith, more, none, at)
 
 -- ---- what is counted
 
-pub not_as : (n gives status : ℕ) → (gives ≡ n → ⊥) → (7 ≡ n → ⊥) → (6 ≡ n → ⊥) → IsStatusAs gives status → status ≡ n → ⊥
-not_as n gives status a b c (inl is) at = a (sym is ∙ at)
-not_as n gives status a b c (inr (inl seven)) at = b (sym seven ∙ at)
-not_as n gives status a b c (inr (inr six)) at = c (sym six ∙ at)
+pub not_as : (n gives status : ℕ) → (gives ≡ n → ⊥) → (6 ≡ n → ⊥) → IsStatusAs gives status → status ≡ n → ⊥
+not_as n gives status a b (inl is) at = a (sym is ∙ at)
+not_as n gives status a b (inr six) at = b (sym six ∙ at)
 
 fault_some : (why : Fault) → fault_status why ≡ 0 → ⊥
 fault_some Ends.NotVolume is = omega (arith, is)
@@ -187,14 +184,13 @@ fault_above Ends.WornOut = omega arith
 -- none of a fault is that of a reply which is no damage
 pub as_not_low : (gives status : ℕ) → 2 ≤ gives → IsStatusAs gives status → status ≤ 1 → ⊥
 as_not_low gives status above (inl is) low = omega (arith, is, low, above)
-as_not_low gives status above (inr (inl seven)) low = omega (arith, seven, low)
-as_not_low gives status above (inr (inr six)) low = omega (arith, six, low)
+as_not_low gives status above (inr six) low = omega (arith, six, low)
 
 pub fault_not_low : (why : Fault) (status : ℕ) → IsStatusFor why status → status ≤ 1 → ⊥
 fault_not_low why status for low = as_not_low (fault_status why) status (fault_above why) for low
 
 pub fault_not_zero : (why : Fault) (status : ℕ) → IsStatusFor why status → status ≡ 0 → ⊥
-fault_not_zero why status for zero = not_as 0 (fault_status why) status (fault_some why) (λ e. omega (arith, e)) (λ e. omega (arith, e)) for zero
+fault_not_zero why status for zero = not_as 0 (fault_status why) status (fault_some why) (λ e. omega (arith, e)) for zero
 
 module _ (a m b : Report) (status : ℕ) (spares : SparesDisk false (is_unsaid status) m b) where
   disk_counted : (why : Fault) → DiskFaults (device_told why) a m → status ≡ 4 → IsStatusFor why status → Rose a.disk_faults b.disk_faults
@@ -207,8 +203,7 @@ module _ (a m b : Report) (status : ℕ) (spares : SparesDisk false (is_unsaid s
   disk_counted Ends.InputTooLong disk four (inl is) = absurd (omega (arith, is, four))
   disk_counted Ends.Memory disk four (inl is) = absurd (omega (arith, is, four))
   disk_counted Ends.WornOut disk four (inl is) = absurd (omega (arith, is, four))
-  disk_counted why disk four (inr (inl seven)) = absurd (omega (arith, seven, four))
-  disk_counted why disk four (inr (inr six)) = absurd (omega (arith, six, four))
+  disk_counted why disk four (inr six) = absurd (omega (arith, six, four))
 
   output_counted : a.output_faults ≤ m.output_faults → status ≡ 6 → Rose a.output_faults b.output_faults
   output_counted later six =
@@ -221,8 +216,7 @@ module _ (a m b : Report) (status : ℕ) (spares : SparesDisk false (is_unsaid s
   -- a fault of the disk has another status
   disk_unfailed : (why : Fault) → DiskFaults (device_told why) a m → IsStatusFor why status → IsTrue (is_unfailed status) → b.disk_faults ≡ a.disk_faults
   disk_unfailed (Ends.Device s) disk (inl four) unfailed = absurd (unfailed_not 4 status refl unfailed four)
-  disk_unfailed (Ends.Device s) disk (inr (inl seven)) unfailed = absurd (unfailed_not 7 status refl unfailed seven)
-  disk_unfailed (Ends.Device s) disk (inr (inr six)) unfailed = absurd (unfailed_not 6 status refl unfailed six)
+  disk_unfailed (Ends.Device s) disk (inr six) unfailed = absurd (unfailed_not 6 status refl unfailed six)
   disk_unfailed why disk for unfailed = spares.disk ∙ disk.0
 
   pub fault_counts : {T : Type 0} (why : Fault) → Told {T = T} a m (Err (Stopped why)) → IsStatusFor why status → CountsRun a b status
@@ -238,18 +232,22 @@ module _ (a m b : Report) (status : ℕ) (spares : SparesDisk false (is_unsaid s
   pub line_counts : {T : Type 0} (t : T) (gives : ℕ) → (gives ≡ 4 → ⊥) → Told {T = T} a m (Ok t) → IsStatusAs gives status → CountsRun a b status
   line_counts t gives other told kind = record {
     sectors = spares.sectors ∙ told.sectors;
-    disk = λ four. absurd (not_as 4 gives status other (λ e. omega (arith, e)) (λ e. omega (arith, e)) kind four);
+    disk = λ four. absurd (not_as 4 gives status other (λ e. omega (arith, e)) kind four);
     input = spares.input ∙ told.input;
     output = output_counted told.later;
     quiet = λ unfailed. record { disk = spares.disk ∙ told.disk.0; input = spares.input ∙ told.input; output = output_unfailed told.output unfailed };
   }
 
   -- the same of a script
-  pub script_fault_counts : (why : Fault) → Heard {T = Stop} a m (Err (Stopped why)) → IsStatusFor why status → CountsTaking a b status
-  script_fault_counts why heard for = record {
+  pub script_fault_counts : (why : Fault) → SparesWanting a m (Stopped why) → Heard {T = Stop} a m (Err (Stopped why)) → IsStatusFor why status → CountsTaking a b status
+  script_fault_counts why wanting heard for = record {
     sectors = spares.sectors ∙ heard.sectors;
     disk = λ four. disk_counted why heard.disk four for;
-    quiet = λ quiet. absurd (fault_not_quiet why status for quiet);
+    quiet = λ quiet. record {
+      disk = disk_unfailed why heard.disk for (quiet_unfailed status quiet);
+      input = spares.input ∙ wanting (quiet_wants why status for quiet);
+      output = output_unfailed heard.output (quiet_unfailed status quiet);
+    };
     unfailed = λ unfailed. record { disk = disk_unfailed why heard.disk for unfailed; output = output_unfailed heard.output unfailed };
     output = output_counted heard.later;
   }
@@ -257,7 +255,7 @@ module _ (a m b : Report) (status : ℕ) (spares : SparesDisk false (is_unsaid s
   pub script_line_counts : (stop : Stop) (gives : ℕ) → (gives ≡ 4 → ⊥) → (IsTrue (is_quiet gives) → m.input_faults ≡ a.input_faults) → Heard {T = Stop} a m (Ok stop) → IsStatusAs gives status → CountsTaking a b status
   script_line_counts stop gives other same heard kind = record {
     sectors = spares.sectors ∙ heard.sectors;
-    disk = λ four. absurd (not_as 4 gives status other (λ e. omega (arith, e)) (λ e. omega (arith, e)) kind four);
+    disk = λ four. absurd (not_as 4 gives status other (λ e. omega (arith, e)) kind four);
     quiet = λ quiet. record { disk = spares.disk ∙ heard.disk.0; input = spares.input ∙ same (quiet_line gives status kind quiet); output = output_unfailed heard.output (quiet_unfailed status quiet) };
     unfailed = λ unfailed. record { disk = spares.disk ∙ heard.disk.0; output = output_unfailed heard.output unfailed };
     output = output_counted heard.later;
@@ -277,17 +275,22 @@ counts_taken takes a m b status none read counts = record {
   unfailed = λ unfailed. let same = counts.quiet unfailed in record { disk = same.disk ∙ read.disk; output = same.output ∙ read.output };
 }
 
-pub counts_untaken : (takes : Bool) (a m b : Report) (status : ℕ) (why : Fault) → (fault_status why ≡ 4 → ⊥) → SparesDisk takes false a m → SparesDisk false (is_unsaid status) m b → IsStatusFor why status → CountsTaking a b status
-counts_untaken takes a m b status why other read spares for = record {
+pub counts_untaken : (takes : Bool) (a m b : Report) (status : ℕ) (why : Fault) → (fault_status why ≡ 4 → ⊥) → (IsWant why → takes ≡ false) → SparesDisk takes false a m → SparesDisk false (is_unsaid status) m b → IsStatusFor why status
+    → CountsTaking a b status
+counts_untaken takes a m b status why other none read spares for = record {
   sectors = spares.sectors ∙ read.sectors;
-  disk = λ four. absurd (not_as 4 (fault_status why) status other (λ e. omega (arith, e)) (λ e. omega (arith, e)) for four);
-  quiet = λ quiet. absurd (fault_not_quiet why status for quiet);
-  unfailed = λ unfailed. record {
+  disk = λ four. absurd (not_as 4 (fault_status why) status other (λ e. omega (arith, e)) for four);
+  quiet = λ quiet. record {
     disk = spares.disk ∙ read.disk;
-    output = subst (λ (c : Bool). Counts c m.output_faults b.output_faults) (unfailed_said status unfailed) spares.output ∙ read.output;
+    input = spares.input ∙ subst (λ (c : Bool). Counts c a.input_faults m.input_faults) (none (quiet_wants why status for quiet)) read.input;
+    output = said (unfailed_said status (quiet_unfailed status quiet));
   };
+  unfailed = λ unfailed. record { disk = spares.disk ∙ read.disk; output = said (unfailed_said status unfailed) };
   output = λ six. subst (λ (n : ℕ). Rose n b.output_faults) read.output (subst (λ (c : Bool). Counts c m.output_faults b.output_faults) (eq-eqb status 6 six) spares.output);
 }
+  where
+    said : is_unsaid status ≡ false → b.output_faults ≡ a.output_faults
+    said is = subst (λ (c : Bool). Counts c m.output_faults b.output_faults) is spares.output ∙ read.output
 
 -- where the output failed
 pub unsaid_counts : {T : Type 0} (a b : Report) → Told {T = T} a b (Err Output) → CountsRun a b 6
@@ -325,7 +328,7 @@ volume_not_five Ends.WornOut of is = omega (arith, is)
 
 -- a fault of a volume, or of its mount, tells none of the input
 pub fault_not_five : (why : Fault) (status : ℕ) → IsOfVolume why → IsStatusFor why status → status ≡ 5 → ⊥
-fault_not_five why status of for five = not_as 5 (fault_status why) status (volume_not_five why of) (λ e. omega (arith, e)) (λ e. omega (arith, e)) for five
+fault_not_five why status of for five = not_as 5 (fault_status why) status (volume_not_five why of) (λ e. omega (arith, e)) for five
 
 -- nor does one command
 pub one_not_five : (command : Command) (status : ℕ) → IsOneStatus command status → status ≡ 5 → ⊥
@@ -346,7 +349,7 @@ fault_not_two Ends.WornOut is = omega (arith, is)
 
 -- a fault is no bad line
 pub fault_not_bad : (why : Fault) (status : ℕ) → IsStatusFor why status → status ≡ 2 → ⊥
-fault_not_bad why status for two = not_as 2 (fault_status why) status (fault_not_two why) (λ e. omega (arith, e)) (λ e. omega (arith, e)) for two
+fault_not_bad why status for two = not_as 2 (fault_status why) status (fault_not_two why) (λ e. omega (arith, e)) for two
 
 -- a run that takes its input behind a mount
 pub fails_behind : (a m b : Report) (old mid : Ledger) → UsesDisk a m → OnlyWrites old mid → FailsInput mid.input m b → FailsInput old.input a b

@@ -9,7 +9,7 @@ use Rattle.sector_disk.specs.declared.machine.Machine.{Ghosts}
 use Rattle.sector_disk.specs.declared.sector.WeakRun.{WeakRun}
 use Rattle.sector_disk.specs.Calls.{Counts, DiskFaults, LeavesDisk, Since}
 use Rattle.sector_disk.specs.Image.{AreShort, Windows}
-use Rattle.sector_disk.specs.Machine.{LeavesOnly, Moment, Report, Rose, UsesDisk}
+use Rattle.sector_disk.specs.Machine.{LeavesOnly, Moment, Report, Rose, UsesDisk, Utters}
 use Rattle.sector_disk.proofs.Moments.{leaves_more, started, then_on}
 use Rattle.fsd_files.specs.Disk.{in_runs}
 use Rattle.fsd_files.specs.Files.{Change}
@@ -34,12 +34,12 @@ use Rattle.fsd_runs.specs.Runs.{Goes, IsCutAt, IsThrough, Run, changes_in, erran
 use Rattle.volume_contract.specs.Mount.{EndsBefore, EndsSettled, Excuses, ExcusesOf, IsSoundAt, MountsSound, Settled, SoundBefore, SoundSince}
 use Rattle.volume_contract.specs.State.{State, Known, Stands, forced_of, volume_of}
 use Rattle.volume_turns.specs.declared.turns.End.TheVariants.{Fault as Stopped}
-use Rattle.volume_turns.specs.Line.{EndsWith, UttersFault, is_unsaid}
+use Rattle.volume_turns.specs.Line.{EndsWith, is_unsaid}
 use Rattle.volume_turns.specs.Once.{fault_of}
 use Rattle.volume_turns.specs.Turns.{EndsAtOnce, InRun, SaysAll, Told}
 use Rattle.volume_turns.specs.Whole.{Halted, RunsOut, SaysOut}
 use Rattle.volume_turns.proofs.HaltLaws.{broken_ends, broken_moments}
-use Rattle.volume_turns.proofs.LineLaws.{excused, said_ends}
+use Rattle.volume_turns.proofs.LineLaws.{excused}
 use Rattle.volume_turns.proofs.MountLaws.{before_left, known_length, nothing_said, run_left, since_left, sound_to, starts}
 use Rattle.volume_turns.proofs.RunLaws.{told_fault}
 use Rattle.volume_turns.proofs.TurnLaws.{in_before}
@@ -175,7 +175,7 @@ at_once Refused.Memory is = tt
 at_once fault is = absurd is
 
 module _ {S D : Type 0} (state : S → State) (has : S → Mounted → List Placed → Type 0) (M : Ghosts D) (request : Request) (input rest : List ℕ) (l : Layout) (windows : List WeakRun) (h : List Change) (f sectors : ℕ) (a m b : D) (at : IsSoundAt sectors l windows h f (M.now a))
-    (fault : MountFault) (quiet : (M.now m).said ≡ (M.now a).said) (uses : UsesDisk (M.report a) (M.report m)) (faults : DiskFaults (device_of_mount fault) (M.report a) (M.report m)) (status : ℕ) (says : LeavesDisk M false (is_unsaid status) (UttersFault (fault_of fault)) m b)
+    (fault : MountFault) (quiet : (M.now m).said ≡ (M.now a).said) (uses : UsesDisk (M.report a) (M.report m)) (faults : DiskFaults (device_of_mount fault) (M.report a) (M.report m)) (status : ℕ) (says : LeavesDisk M false (is_unsaid status) (Utters (fault_text (fault_of fault))) m b)
     (honest : M.honest b) (short : AreShort (M.now m).windows) (ended : EndsWith (fault_of fault) (M.now m) (M.now b) status) where
   abbrev why : Fault
   why = fault_of fault
@@ -196,12 +196,12 @@ module _ {S D : Type 0} (state : S → State) (has : S → Mounted → List Plac
       let later = told_is.later in
       record { ends = six; rose = omega (arith, later, rose) }
 
-  broken : (said : Fault) → IsOutside request (M.report a) (M.report b) said → status ≡ fault_status said → SaysAll (fault_text said) (M.now m) (M.now b) → IsBroken request (M.report a) (M.report b) (blank ∷ []) (M.now a) (M.now b) status
-  broken said out gives all = record {
-    why = said;
+  broken : IsOutside request (M.report a) (M.report b) why → status ≡ fault_status why → SaysAll (fault_text why) (M.now m) (M.now b) → IsBroken request (M.report a) (M.report b) (blank ∷ []) (M.now a) (M.now b) status
+  broken out gives all = record {
+    why = why;
     outside = out;
     ends = gives;
-    says = record { whole = 0; more = refl; said = all.said ∙ ap (λ (x : List ℕ). x ++ fault_text said) quiet };
+    says = record { whole = 0; more = refl; said = all.said ∙ ap (λ (x : List ℕ). x ++ fault_text why) quiet };
   }
 
   -- before it settled
@@ -212,12 +212,12 @@ module _ {S D : Type 0} (state : S → State) (has : S → Mounted → List Plac
     before_only : (left : Moment) → SoundBefore l windows h f (M.now a) left → LeftBefore l windows h f (M.now a) left
     before_only left x = record { present = x.present; part = []; said = x.said ∙ sym (append-nil (M.now a).said); fault = nothing_said; sound = x.sound }
 
-    on_line : (left : Moment) → UttersFault why (M.now m) left → LeftBefore l windows h f (M.now a) left
-    on_line left (said, which, utters) = record {
+    on_line : (left : Moment) → Utters (fault_text why) (M.now m) left → LeftBefore l windows h f (M.now a) left
+    on_line left utters = record {
       present = ap (λ (w : Windows). w.present) utters.windows ∙ u.exit.present;
-      part = take utters.heard (fault_text said);
-      said = utters.said ∙ ap (λ (x : List ℕ). x ++ take utters.heard (fault_text said)) quiet;
-      fault = (said, utters.heard, said_ends why said (excused (M.now a).image fault u.why) which, refl);
+      part = take utters.heard (fault_text why);
+      said = utters.said ∙ ap (λ (x : List ℕ). x ++ take utters.heard (fault_text why)) quiet;
+      fault = (why, utters.heard, excused (M.now a).image fault u.why, refl);
       sound = wear_sound l windows h f (M.now m).windows (M.now m).image left.image short ends_in utters.image u.exit.sound;
     }
 
@@ -230,19 +230,18 @@ module _ {S D : Type 0} (state : S → State) (has : S → Mounted → List Plac
       ends = gives ∙ ap fault_status is;
       said = all.said ∙ ap (λ (x : List ℕ). x ++ fault_text why) quiet ∙ ap (λ (w : Fault). (M.now a).said ++ fault_text w) is;
     })
-    by_fault (Refused.Device s) excuse is gives all = inr (inr (broken why (outside why (subst EndsAtOnce (sym is) tt) refl) gives all))
-    by_fault Refused.Memory excuse is gives all = inr (inr (broken why (outside why (subst EndsAtOnce (sym is) tt) refl) gives all))
+    by_fault (Refused.Device s) excuse is gives all = inr (inr (broken (outside why (subst EndsAtOnce (sym is) tt) refl) gives all))
+    by_fault Refused.Memory excuse is gives all = inr (inr (broken (outside why (subst EndsAtOnce (sym is) tt) refl) gives all))
     by_fault x excuse is gives all = absurd excuse
 
     by_end : EndsWith why (M.now m) (M.now b) status → IsSpent (M.now a) (M.now b) status ⊎ (IsUnsaid (M.report a) (M.report b) status ⊎ IsBroken request (M.report a) (M.report b) (blank ∷ []) (M.now a) (M.now b) status)
     by_end (inl six) = inr (inl (unsaid six))
-    by_end (inr (said, inl is, gives, all)) = by_fault fault u.why refl (gives ∙ ap fault_status is) (subst (λ (w : Fault). SaysAll (fault_text w) (M.now m) (M.now b)) is all)
-    by_end (inr (said, inr is, gives, all)) = inr (inr (broken Ends.Memory tt (gives ∙ ap fault_status is) (subst (λ (w : Fault). SaysAll (fault_text w) (M.now m) (M.now b)) is all)))
+    by_end (inr (gives, all)) = by_fault fault u.why refl gives all
 
     unmounted_run : LeavesRun request input rest l windows h f (M.left_since b) (λ P. LeavesOnly M.moment M.left_since a b P) (M.report a) (M.report b) (M.now a) (M.now b) status
     unmounted_run = inl (record {
       moments = then_on M.moment M.left_since a m b (LeftBefore l windows h f (M.now a)) (leaves_more M.moment M.left_since a m (SoundBefore l windows h f (M.now a)) (LeftBefore l windows h f (M.now a)) before_only u.moments)
-          (leaves_more M.moment M.left_since m b (UttersFault why (M.now m)) (LeftBefore l windows h f (M.now a)) on_line (says.any_moment honest));
+          (leaves_more M.moment M.left_since m b (Utters (fault_text why) (M.now m)) (LeftBefore l windows h f (M.now a)) on_line (says.any_moment honest));
       exit = on_line (M.now b) (says.exit honest);
       ends = by_end ended;
     })

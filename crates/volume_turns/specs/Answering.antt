@@ -1,5 +1,5 @@
 -- What one command by itself says and writes, whatever the image: one reply, or the line of the fault that has ended it.
-use Rattle.std.specs.Prelude.{◌≡◌, ◌⊎◌, ⊤, ℕ, ◌<◌, ◌≤◌, List, [], ◌++◌, length, Option, Some, None, Result, Ok, Err, IfOk}
+use Rattle.std.specs.Prelude.{◌≡◌, ◌⊎◌, ⊤, ℕ, ◌<◌, ◌≤◌, List, [], ◌++◌, length, Option, Some, None, Result, Ok, Err, IfErr, IfOk, IsTrue}
 use Rattle.fsd_bytes.specs.declared.refusal.Refusal.{Refusal}
 use Rattle.fsd_bytes.specs.declared.refusal.Refusal.TheVariants as Why
 use Rattle.fsd_formats.specs.NamePage.{max_keep, sectors_for}
@@ -13,15 +13,16 @@ use Rattle.fsd_sound.specs.Writes.{MountKeeps, force_writes}
 use Rattle.fsd_texts.specs.declared.command.Command.{Command}
 use Rattle.fsd_texts.specs.declared.command.Command.TheVariants as Word
 use Rattle.fsd_texts.specs.declared.fault.Fault.{Fault}
+use Rattle.fsd_texts.specs.declared.fault.Fault.TheVariants as Ends
 use Rattle.fsd_texts.specs.Text.{fault_text}
 use Rattle.fsd_runs.specs.Commands.{reply_alone}
 use Rattle.fsd_runs.specs.Errands.{fault_status, reply_status}
-use Rattle.volume_contract.specs.State.{Ages, State, put_writes}
+use Rattle.volume_contract.specs.State.{Ages, State, is_worn, put_writes}
 use Rattle.volume_turns.specs.declared.answer.Answer.{Answer}
 use Rattle.volume_turns.specs.declared.turns.End.{End}
 use Rattle.volume_turns.specs.declared.turns.End.TheVariants.{Fault as Stopped, Output}
 use Rattle.volume_turns.specs.Causes.{HasVolume}
-use Rattle.volume_turns.specs.Steps.{reply_of}
+use Rattle.volume_turns.specs.Steps.{IsToldOn, reply_of}
 use Rattle.volume_turns.specs.Turns.{KeepsSaid}
 
 -- ---- refusals
@@ -44,6 +45,10 @@ RefusesKeep keep why = ((why ≡ Why.KeepTooLarge keep) × (max_keep < keep)) �
 
 -- ---- replies
 
+-- a damaged sector of the image
+abbrev pub HasDamaged : Image → ℕ → Type 0
+HasDamaged i s = (s < length i) × (sector_at i s ≡ Damaged)
+
 -- the command may be answered so over this image; a sector that is told as damaged is so
 abbrev pub MayReply : Command → Image → Reply → Type 0
 MayReply (Word.Put name bytes keep) i (Reply.Made key sectors) = (key.name ≡ name) × (sectors ≡ sectors_for (length bytes)) × (size_fault (keep_given keep) (length bytes) ≡ None)
@@ -53,7 +58,7 @@ MayReply (Word.Delete key) i (Reply.Refused why) = why ≡ Why.NoSuch
 MayReply (Word.Keep name keep) i (Reply.Kept key k) = (key.name ≡ name) × (k ≡ keep) × (keep ≤ max_keep)
 MayReply (Word.Keep name keep) i (Reply.Refused why) = RefusesKeep keep why
 MayReply (Word.Get key) i (Reply.Bytes k bytes) = k ≡ key
-MayReply (Word.Get key) i (Reply.DamagedAt k s) = (k ≡ key) × (sector_at i s ≡ Damaged)
+MayReply (Word.Get key) i (Reply.DamagedAt k s) = (k ≡ key) × HasDamaged i s
 MayReply (Word.Get key) i (Reply.Refused why) = why ≡ Why.NoSuch
 MayReply (Word.List pattern) i (Reply.Listed entries) = ⊤
 MayReply Word.Force i Reply.Forced = ⊤
@@ -85,6 +90,9 @@ pub record Answers (command : Command) (s t : State) (old new : Moment) (result 
   pub replies : IfOk result (λ a. MayReply command new.image (reply_of a))
   pub rest : Touches (may_write command s) old new
   pub still : KeepsState command s t
+  -- a mount is told as worn out only where it is
+  pub worn : result ≡ Err Ends.WornOut → IsTrue (is_worn s)
+  pub told : IfErr result (IsToldOn s.layout new.image)
 
 -- a text is said, and nothing in front of a fault
 abbrev pub SaysBy : {T : Type 0} → (text : List ℕ) → (old new : Moment) → Result T End → Type 0
@@ -99,6 +107,9 @@ pub record ClosesBy {T : Type 0} (s : State) (text : List ℕ) (old new : Moment
   pub rest : Touches (force_writes s.layout) old new
   -- where no page waits nothing is written
   pub still : s.dirty ≡ [] → Touches nowhere old new
+  -- nor is it told as worn out
+  pub unworn : result ≡ Err (Stopped Ends.WornOut) → ⊥
+  pub told : (why : Fault) → result ≡ Err (Stopped why) → IsToldOn s.layout new.image why
 
 -- One reply is all that is said, and the status is its own.
 pub record SaysReply (command : Command) (old new : Moment) (status : ℕ) : Type 0 where
@@ -113,6 +124,8 @@ pub record AnswersAlone (command : Command) (s : State) (old new : Moment) (resu
   pub quiet : KeepsSaid old new result
   pub replies : s.dirty ≡ [] → IfOk result (SaysReply command old new)
   pub rest : s.dirty ≡ [] → Touches (may_write command s) old new
+  pub worn : result ≡ Err (Stopped Ends.WornOut) → IsTrue (is_worn s)
+  pub told : (why : Fault) → result ≡ Err (Stopped why) → IsToldOn s.layout new.image why
 
 -- ---- to the last line
 

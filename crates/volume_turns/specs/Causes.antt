@@ -23,7 +23,7 @@ use Rattle.fsd_runs.specs.Errands.{fault_status}
 use Rattle.volume_contract.specs.Mount.{IsRefused, KeepsAll, UnsoundFor}
 use Rattle.volume_contract.specs.State.{Ages}
 use Rattle.volume_turns.specs.Once.{fault_of}
-use Rattle.volume_turns.specs.Steps.{IsOfImage, device_told}
+use Rattle.volume_turns.specs.Steps.{IsOfImage, IsToldOn, device_told}
 use Rattle.volume_turns.specs.Turns.{SaysReplies}
 
 -- ---- it was mounted
@@ -56,10 +56,11 @@ pub record IsMountRefused (sectors : ℕ) (why : Fault) (old new : Moment) : Typ
   pub rest : MountKeeps sectors old ended
   pub said : new.said ≡ old.said ++ fault_text why
 
--- The image was mounted, and a call of the volume told this of it.
-pub record IsCallRefused (sectors : ℕ) (why : Fault) (old : Moment) : Type 0 where
+-- The image was mounted, and a call of the volume told this of it, which is so by its layout as the run ended.
+pub record IsCallRefused (sectors : ℕ) (why : Fault) (old new : Moment) : Type 0 where
   pub mounted : HasVolume sectors old
   pub of : IsOfImage why
+  pub told : IsToldOn mounted.layout new.image why
 
 -- what a run has said in front of its last line: whole replies, where it is a script, and else nothing
 abbrev pub StandsBefore : (script : Bool) → (said front : List ℕ) → Type 0
@@ -77,24 +78,27 @@ pub record SaysOfImage (script : Bool) (before : List ℕ) (why : Fault) (new : 
 pub record SaysCause (script : Bool) (sectors : ℕ) (old new : Moment) : Type 0 where
   pub why : Fault
   pub says : SaysOfImage script old.said why new
-  pub cause : IsMountRefused sectors why old new ⊎ IsCallRefused sectors why old
+  pub cause : IsMountRefused sectors why old new ⊎ IsCallRefused sectors why old new
 
--- it was mounted, or the mount was refused for an epoch that was seen to be the last one
-abbrev pub IsSpent : ℕ → Moment → Type 0
-IsSpent sectors old = HasVolume sectors old ⊎ IsRefused sectors WornOut old
+-- The mount was refused for an epoch that was seen to be the last one; where many commands may be done, it may have been mounted, and
+-- its numbers used up by them.
+abbrev pub HasSpent : (many : Bool) → (sectors : ℕ) → Moment → Type 0
+HasSpent true sectors old = HasVolume sectors old ⊎ IsRefused sectors WornOut old
+HasSpent false sectors old = IsRefused sectors WornOut old
 
 -- ---- all of these
 
--- What a run tells of the image that it found, by its status, and whether it is a script.
-pub record TellsImage (script : Bool) (sectors : ℕ) (old new : Moment) (status : ℕ) : Type 0 where
+-- What a run tells of the image that it found, by its status, whether it is a script, and whether it may do many commands.
+pub record TellsImage (script many : Bool) (sectors : ℕ) (old new : Moment) (status : ℕ) : Type 0 where
   pub mounted : IsTrue (is_of_mounted status) → HasVolume sectors old
   pub refused : status ≡ 3 → SaysCause script sectors old new
-  pub spent : status ≡ 9 → IsSpent sectors old
+  pub spent : status ≡ 9 → HasSpent many sectors old
 
--- Over a mounted volume: status 3 is that of a fault that a call told.
-pub record SaysOfCall (script : Bool) (before : List ℕ) (new : Moment) : Type 0 where
+-- Over a mounted volume of this layout: status 3 is that of a fault that a call told, and what it tells is so.
+pub record SaysOfCall (script : Bool) (layout : Layout) (before : List ℕ) (new : Moment) : Type 0 where
   pub why : Fault
   pub of : IsOfImage why
+  pub told : IsToldOn layout new.image why
   pub says : SaysOfImage script before why new
 
 -- ---- the fault that is said

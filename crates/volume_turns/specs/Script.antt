@@ -11,10 +11,11 @@ use Rattle.fsd_runs.specs.Errands.{Errand}
 use Rattle.script_text.specs.Reading.{IsShort, Reading, fresh, script_left}
 use Rattle.volume_contract.specs.State.{State, Known}
 use Rattle.volume_turns.specs.declared.turns.End.{End}
+use Rattle.volume_turns.specs.declared.turns.End.TheVariants.{Fault as Stopped}
 use Rattle.volume_turns.specs.declared.script.Stop.{Stop}
 use Rattle.volume_turns.specs.declared.script.Stop.TheVariants.{Ended, Input, WornOut}
 use Rattle.volume_turns.specs.Group.{IsGroup}
-use Rattle.volume_turns.specs.Turns.{Follows, Runs, Unheard, device_end}
+use Rattle.volume_turns.specs.Turns.{Follows, IsWant, Runs, Unheard, device_end}
 
 -- ---- what is counted
 
@@ -29,6 +30,11 @@ pub record Heard {T : Type 0} (old new : Report) (result : Result T End) : Type 
 abbrev pub RoseBy : Report → Report → Option Stop → Type 0
 RoseBy old new (Some Input) = Rose old.input_faults new.input_faults
 RoseBy old new other = new.input_faults ≡ old.input_faults
+
+-- where memory is wanted, or the mount is worn out, no fault of the input is counted
+abbrev pub SparesWanting : (old new : Report) → End → Type 0
+SparesWanting old new (Stopped fault) = IsWant fault → new.input_faults ≡ old.input_faults
+SparesWanting old new end = ⊤
 
 -- ---- what is read
 

@@ -1,5 +1,5 @@
 -- The status of a run, over any machine.
-use Rattle.std.specs.Prelude.{◌≡◌, ◌⊎◌, ◌≤◌, ◌==◌, ◌||◌, ℕ, Bool, [], ◌∷◌, IsTrue}
+use Rattle.std.specs.Prelude.{◌≡◌, ◌⊎◌, ◌≤◌, ◌==◌, ◌||◌, not, ℕ, Bool, [], ◌∷◌, IsTrue}
 use Rattle.std.specs.List.{list_any}
 use Rattle.sector_disk.specs.Machine.{Report, Rose}
 use Rattle.fsd_texts.specs.declared.command.Command.{Command}
@@ -56,13 +56,14 @@ pub record CountsInput (old new : Report) : Type 0 where
   pub disk : new.disk_faults ≡ old.disk_faults
   pub output : new.output_faults ≡ old.output_faults
 
--- the statuses of a run that was answered to its end, or to a line that is bad
+-- the statuses of a run that was answered to its end, or to a line that is bad, or for which memory was refused, or of a mount that is
+-- worn out
 abbrev pub is_quiet : ℕ → Bool
-is_quiet status = list_any (λ s. s == status) (0 ∷ 1 ∷ 2 ∷ 8 ∷ [])
+is_quiet status = list_any (λ s. s == status) (0 ∷ 1 ∷ 2 ∷ 7 ∷ 8 ∷ 9 ∷ [])
 
--- these, and those of a fault that was found in the volume, or of one that is worn out
+-- all but those of a call of the disk or of the output that failed
 abbrev pub is_unfailed : ℕ → Bool
-is_unfailed status = is_quiet status || list_any (λ s. s == status) (3 ∷ 9 ∷ [])
+is_unfailed status = not (status == 4 || status == 6)
 
 -- A run that takes no input: where its status tells a fault of the disk or of the output, this is counted, and where it tells no call
 -- of the outside none is.

@@ -1,5 +1,6 @@
 -- Commands one after another over a mounted volume, each with its reply said: what a stop leaves, and how they end.
 use Rattle.std.specs.Prelude.{◌≡◌, ⊤, ℕ, suc, ◌+◌, ◌≤◌, List, ◌∷◌, ◌++◌, length, take, slice_get, Option, None, Result, Ok, Err, IsTrue}
+use Rattle.volume_layout.specs.declared.layout.Layout.{Layout}
 use Rattle.fsd_log.specs.Scan.{Placed}
 use Rattle.std.specs.List.{flat_map, list_any}
 use Rattle.sector_disk.specs.declared.machine.Machine.{Ghosts}
@@ -20,7 +21,7 @@ use Rattle.fsd_runs.specs.Leaves.{SaysNext}
 use Rattle.volume_turns.specs.declared.turns.End.{End}
 use Rattle.volume_turns.specs.declared.turns.End.TheVariants.{Fault as Stopped, Output}
 use Rattle.sector_disk.specs.Calls.{DiskFaults, Since}
-use Rattle.volume_turns.specs.Steps.{IsOfCall, device_told}
+use Rattle.volume_turns.specs.Steps.{IsOfCall, IsToldOn, device_told}
 use Rattle.volume_contract.specs.State.{State, Ages, Known, volume_of, forced_of, Stands}
 
 -- A moment of a run of these turns over a volume that stands so: some are said whole, and a part of what comes next. The disk is
@@ -69,6 +70,22 @@ EndsAtOnce fault = ⊥
 abbrev pub IsEndOfVolume : End → Type 0
 IsEndOfVolume (Stopped fault) = IsOfCall fault
 IsEndOfVolume Output = ⊤
+
+-- what it tells of the image is so by this layout
+abbrev pub IsEndOn : Layout → Image → End → Type 0
+IsEndOn l i (Stopped why) = IsToldOn l i why
+IsEndOn l i Output = ⊤
+
+-- memory is wanted, or the next numbers of a mount
+abbrev pub IsWant : Fault → Type 0
+IsWant Ends.Memory = ⊤
+IsWant Ends.WornOut = ⊤
+IsWant fault = ⊥
+
+-- an end that is no want
+abbrev pub WantsNone : End → Type 0
+WantsNone (Stopped fault) = IsWant fault → ⊥
+WantsNone Output = ⊤
 
 -- What was said is whole turns, and not all that were begun, or no more were. The disk is sound for the changes of these and of the
 -- one behind them, where one was begun.

@@ -2,30 +2,18 @@
 use Rattle.std.specs.Prelude.{◌≡◌, ◌⊎◌, ℕ, suc, ◌+◌, ◌≤◌, List, ◌++◌, length, take, IsSome, IsTrue, slice_get}
 use Rattle.std.specs.List.{list_any}
 use Rattle.sector_disk.specs.declared.machine.Machine.{Ghosts}
-use Rattle.sector_disk.specs.Machine.{Moment, Report, LeavesOnly, Utters}
+use Rattle.sector_disk.specs.Machine.{Moment, Report, LeavesOnly}
 use Rattle.fsd_files.specs.Answers.{Met}
 use Rattle.fsd_files.specs.Disk.{Image, in_runs}
 use Rattle.fsd_files.specs.Volume.{Volume}
 use Rattle.fsd_sound.specs.Sound.{IsSound}
-use Rattle.fsd_texts.specs.declared.line.Line.{Line}
-use Rattle.fsd_texts.specs.Text.{memory_text, text}
 use Rattle.fsd_runs.specs.declared.request.Request.{Request}
 use Rattle.fsd_runs.specs.Errands.{Cut, Errand, MayCut, Turn, errand_of}
 use Rattle.fsd_runs.specs.Leaves.{CutCause, IsBroken, IsUnsaid}
 use Rattle.fsd_runs.specs.Runs.{Goes, IsCutAt, IsCutBefore, answered, behind, changes_in, errand_in, forced_in, said_in, turns_of}
 use Rattle.volume_contract.specs.State.{Known, volume_of, forced_of}
 use Rattle.volume_turns.specs.Once.{IsDone}
-use Rattle.volume_turns.specs.Turns.{InRun, SaysAll}
-
--- ---- the last line
-
--- some first bytes of the line, or of the one that memory was refused for it
-abbrev pub UttersLast : Line → Moment → Moment → Type 0
-UttersLast line old left = Utters (text line) old left ⊎ Utters memory_text old left
-
--- the output failed, or the line is said whole with its status, or that memory was refused for it
-abbrev pub EndsLast : Line → (gives : ℕ) → (old new : Moment) → ℕ → Type 0
-EndsLast line gives old new status = (status ≡ 6) ⊎ (((status ≡ gives) × SaysAll (text line) old new) ⊎ ((status ≡ 7) × SaysAll memory_text old new))
+use Rattle.volume_turns.specs.Turns.{InRun}
 
 -- ---- between two turns
 

@@ -1,5 +1,5 @@
 //! Commands that are made up, from the mount to the line that tells what came of them.
-ghost use Rattle.std.specs.Prelude.{◌≡◌, ◌≤◌, ◌<◌, ◌+◌, ◌^◌, ◌-◌, ℕ, List, None, false, OnOk, IfErr, IfOk, IfSome, IsTrue};
+ghost use Rattle.std.specs.Prelude.{◌≡◌, ◌≤◌, ◌<◌, ◌+◌, ◌^◌, ◌-◌, ℕ, List, None, false, true, OnOk, IfErr, IfOk, IfSome, IsTrue};
 ghost use Rattle.sector_disk.specs.declared.sector.WeakRun.{WeakRun};
 ghost use Rattle.sector_disk.specs.Calls.{Since};
 ghost use Rattle.sector_disk.specs.Machine.{LeavesOnly, OnlyWrites, Trusts};
@@ -16,7 +16,7 @@ ghost use Rattle.volume_turns.specs.Generate.{CountedGroup, Draws, RunsCounted, 
 ghost use Rattle.volume_turns.specs.Once.{ClosesAndSays, unit_of};
 ghost use Rattle.volume_turns.specs.Status.{CountsRun, IsMadeStatus};
 ghost use Rattle.volume_turns.specs.Tally.{nothing};
-ghost use Rattle.volume_turns.specs.Turns.{IsEndOfVolume, KeepsSaid, Told};
+ghost use Rattle.volume_turns.specs.Turns.{IsEndOfVolume, IsEndOn, KeepsSaid, Told, WantsNone};
 ghost use Rattle.volume_turns.specs.Whole.{RunsOut};
 
 use crate::commands;
@@ -47,6 +47,7 @@ fn do_counted<M: Machine, V: Files<M>>(
     ensures told { Told (M.report m.old) (M.report m.new) result }
     ensures ledger { M.tells m.new → OnlyWrites (M.ledger m.old) (M.ledger m.new) }
     ensures fault { IfErr result IsEndOfVolume }
+    ensures image { IfErr result (λ end. M.honest m.new → IsEndOn (V.state v.old).layout (M.now m.new).image end) }
     ensures trust { Trusts (M.tells m.old) (M.tells m.new) (M.honest m.old) (M.honest m.new) }
     ensures since { M.honest m.new → Since M.Machine m.old m.new }
     ensures later { M.honest m.new → M.moment m.old ≤ M.moment m.new }
@@ -79,6 +80,7 @@ fn draw<M: Machine, V: Files<M>>(
     ensures told { Told (M.report m.old) (M.report m.new) result }
     ensures ledger { M.tells m.new → OnlyWrites (M.ledger m.old) (M.ledger m.new) }
     ensures fault { IfErr result IsEndOfVolume }
+    ensures image { IfErr result (λ end. M.honest m.new → IsEndOn (V.state v.old).layout (M.now m.new).image end) }
     ensures trust { Trusts (M.tells m.old) (M.tells m.new) (M.honest m.old) (M.honest m.new) }
     ensures since { M.honest m.new → Since M.Machine m.old m.new }
     ensures later { M.honest m.new → M.moment m.old ≤ M.moment m.new }
@@ -110,6 +112,7 @@ fn make_up<M: Machine, V: Files<M>>(
     ensures told { Told (M.report m.old) (M.report m.new) result }
     ensures ledger { M.tells m.new → OnlyWrites (M.ledger m.old) (M.ledger m.new) }
     ensures fault { IfErr result IsEndOfVolume }
+    ensures image { IfErr result (λ end. M.honest m.new → IsEndOn (V.state v.old).layout (M.now m.new).image end) }
     ensures trust { Trusts (M.tells m.old) (M.tells m.new) (M.honest m.old) (M.honest m.new) }
     ensures since { M.honest m.new → Since M.Machine m.old m.new }
     ensures later { M.honest m.new → M.moment m.old ≤ M.moment m.new }
@@ -129,30 +132,27 @@ fn make_up<M: Machine, V: Files<M>>(
 }
 
 /// Ends the use of a volume, and says that all is forced.
-pub(crate) fn close_forced<M: Machine, V: Files<M>>(
-    alloc: Global,
-    v: V,
-    m: &mut M,
-) -> Result<(), End>
+pub(crate) fn close_forced<M: Machine, V: Files<M>>(v: V, m: &mut M) -> Result<(), End>
     requires room { (V.state v).layout.sectors ≤ (M.report m.old).sectors }
     ensures told { Told (M.report m.old) (M.report m.new) result }
     ensures ledger { M.tells m.new → OnlyWrites (M.ledger m.old) (M.ledger m.new) }
     ensures fault { IfErr result IsEndOfVolume }
+    ensures image { IfErr result (λ end. M.honest m.new → IsEndOn (V.state v).layout (M.now m.new).image end) }
     ensures trust { Trusts (M.tells m.old) (M.tells m.new) (M.honest m.old) (M.honest m.new) }
     ensures since { M.honest m.new → Since M.Machine m.old m.new }
     ensures later { M.honest m.new → M.moment m.old ≤ M.moment m.new }
     ensures quiet { M.honest m.new → KeepsSaid (M.now m.old) (M.now m.new) result }
+    ensures wants { (V.state v).down ≡ None → IfErr result WantsNone }
     ensures closes { M.honest m.new → (k : Known) → Stands V.state V.holds v k (M.now m.old) → ClosesAndSays M.Machine k forced_turn.said m.old m.new result }
 {
     match v.close(m) {
-        Ok(()) => say_one(alloc, m, &Line::Forced),
+        Ok(()) => say_one(m, &Line::Forced),
         Err(why) => Err(End::Fault(close_fault(why))),
     }
 }
 
 // The same, and passes on what came of the commands.
 fn force_behind<M: Machine, V: Files<M>>(
-    alloc: Global,
     v: V,
     m: &mut M,
     tally: Option<Tally>,
@@ -161,6 +161,7 @@ fn force_behind<M: Machine, V: Files<M>>(
     ensures told { Told (M.report m.old) (M.report m.new) result }
     ensures ledger { M.tells m.new → OnlyWrites (M.ledger m.old) (M.ledger m.new) }
     ensures fault { IfErr result IsEndOfVolume }
+    ensures image { IfErr result (λ end. M.honest m.new → IsEndOn (V.state v).layout (M.now m.new).image end) }
     ensures trust { Trusts (M.tells m.old) (M.tells m.new) (M.honest m.old) (M.honest m.new) }
     ensures since { M.honest m.new → Since M.Machine m.old m.new }
     ensures later { M.honest m.new → M.moment m.old ≤ M.moment m.new }
@@ -168,7 +169,7 @@ fn force_behind<M: Machine, V: Files<M>>(
     ensures quiet { M.honest m.new → KeepsSaid (M.now m.old) (M.now m.new) result }
     ensures closes { M.honest m.new → (k : Known) → Stands V.state V.holds v k (M.now m.old) → ClosesAndSays M.Machine k forced_turn.said m.old m.new (unit_of result) }
 {
-    match close_forced(alloc, v, m) {
+    match close_forced(v, m) {
         Ok(()) => Ok(tally),
         Err(end) => Err(end),
     }
@@ -187,6 +188,7 @@ fn make_group<M: Machine, V: Files<M> + Drop>(
     ensures told { Told (M.report m.old) (M.report m.new) result }
     ensures ledger { M.tells m.new → OnlyWrites (M.ledger m.old) (M.ledger m.new) }
     ensures fault { IfErr result IsEndOfVolume }
+    ensures image { IfErr result (λ end. M.honest m.new → IsEndOn (V.state v).layout (M.now m.new).image end) }
     ensures trust { Trusts (M.tells m.old) (M.tells m.new) (M.honest m.old) (M.honest m.new) }
     ensures since { M.honest m.new → Since M.Machine m.old m.new }
     ensures later { M.honest m.new → M.moment m.old ≤ M.moment m.new }
@@ -195,10 +197,10 @@ fn make_group<M: Machine, V: Files<M> + Drop>(
 {
     let mut v = v;
     match make_up(alloc, &mut v, m, seed, count) {
-        Ok(tally) => force_behind(alloc, v, m, Some(tally)),
+        Ok(tally) => force_behind(v, m, Some(tally)),
         Err(end) => {
             if is_worn_end(&end) {
-                force_behind(alloc, v, m, None)
+                force_behind(v, m, None)
             } else {
                 Err(end)
             }
@@ -221,14 +223,14 @@ fn generate_on<M: Machine, V: Files<M> + Drop>(
     ensures counts { CountsRun (M.report m.old) (M.report m.new) result }
     ensures trust { Trusts (M.tells m.old) (M.tells m.new) (M.honest m.old) (M.honest m.new) }
     ensures since { M.honest m.new → Since M.Machine m.old m.new }
-    ensures says { result ≡ 3 → M.honest m.new → SaysOfCall false (M.now m.old).said (M.now m.new) }
+    ensures says { result ≡ 3 → M.honest m.new → SaysOfCall false (V.state v).layout (M.now m.old).said (M.now m.new) }
     ensures last { IsTrue (is_of_fault result) → M.honest m.new → SaysFault (M.report m.new).fault_place (M.now m.new) result }
     ensures runs { M.honest m.new → (input rest : List ℕ) (k : Known) → Stands V.state V.holds v k (M.now m.old) → RunsOut M.Machine (Generate seed count) input rest (M.report m.old) k m.old m.new result }
 {
     match make_group(alloc, v, m, seed, count) {
-        Ok(Some(tally)) => last_line(alloc, m, &tally.line(), 0),
-        Ok(None) => last_line(alloc, m, &Line::Ended(Fault::WornOut), 9),
-        Err(End::Fault(why)) => end_with(alloc, m, why),
+        Ok(Some(tally)) => last_line(m, &tally.line(), 0),
+        Ok(None) => last_line(m, &Line::Ended(Fault::WornOut), 9),
+        Err(End::Fault(why)) => end_with(m, why),
         Err(End::Output) => 6,
     }
 }
@@ -247,13 +249,13 @@ pub fn run_generate<M: Machine, V: Files<M> + Drop>(
     ensures status { IsMadeStatus result }
     ensures counts { CountsRun (M.report m.old) (M.report m.new) result }
     ensures trust { Trusts (M.tells m.old) (M.tells m.new) (M.honest m.old) (M.honest m.new) }
-    ensures image { M.honest m.new → TellsImage false sectors (M.now m.old) (M.now m.new) result }
+    ensures image { M.honest m.new → TellsImage false true sectors (M.now m.old) (M.now m.new) result }
     ensures last { IsTrue (is_of_fault result) → M.honest m.new → SaysFault (M.report m.new).fault_place (M.now m.new) result }
     ensures leaves { M.honest m.new → (input rest : List ℕ) (l : Plan) (windows : List WeakRun) (h : List Change) (f : ℕ) → IsSoundAt sectors l windows h f (M.now m.old) →
         LeavesRun (Generate seed count) input rest l windows h f (M.left_since m.new) (LeavesOnly M.moment M.left_since m.old m.new) (M.report m.old) (M.report m.new) (M.now m.old) (M.now m.new) result }
 {
     match V::mount(alloc, m, sectors) {
         Ok(v) => generate_on(alloc, v, m, seed, count),
-        Err(fault) => end_with(alloc, m, fault_of(fault)),
+        Err(fault) => end_with(m, fault_of(fault)),
     }
 }

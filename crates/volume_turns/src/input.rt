@@ -29,15 +29,16 @@ use std::alloc::Global;
 use volume_contract::Files;
 
 // Ends the use of a mounted volume, and says that the input is too long. It gives the status.
-fn refuse_input<M: Machine, V: Files<M>>(alloc: Global, v: V, m: &mut M) -> u8
+fn refuse_input<M: Machine, V: Files<M>>(v: V, m: &mut M) -> u8
     requires room { (V.state v).layout.sectors ≤ (M.report m.old).sectors }
     ensures ledger { M.tells m.new → OnlyWrites (M.ledger m.old) (M.ledger m.new) }
     ensures status { IsPutStatus result }
     ensures unmade { result ≤ 1 → ⊥ }
+    ensures unspent { result ≡ 9 → ⊥ }
     ensures counts { CountsRun (M.report m.old) (M.report m.new) result }
     ensures trust { Trusts (M.tells m.old) (M.tells m.new) (M.honest m.old) (M.honest m.new) }
     ensures since { M.honest m.new → Since M.Machine m.old m.new }
-    ensures says { result ≡ 3 → M.honest m.new → SaysOfCall false (M.now m.old).said (M.now m.new) }
+    ensures says { result ≡ 3 → M.honest m.new → SaysOfCall false (V.state v).layout (M.now m.old).said (M.now m.new) }
     ensures last { IsTrue (is_of_fault result) → M.honest m.new → SaysFault (M.report m.new).fault_place (M.now m.new) result }
     ensures fault { M.honest m.new → SaysNoReply (M.now m.old) (M.now m.new) result }
     ensures long { result ≡ 5 → M.honest m.new → (input : List ℕ) (old new : Report) → max_input < length input → SaysOfInput input old new (M.now m.new) }
@@ -45,8 +46,8 @@ fn refuse_input<M: Machine, V: Files<M>>(alloc: Global, v: V, m: &mut M) -> u8
         RunsOut M.Machine (Put name keep) input rest (M.report m.old) k m.old m.new result }
 {
     match v.close(m) {
-        Ok(()) => last_line(alloc, m, &Line::Ended(Fault::InputTooLong), 5),
-        Err(why) => end_with(alloc, m, close_fault(why)),
+        Ok(()) => last_line(m, &Line::Ended(Fault::InputTooLong), 5),
+        Err(why) => end_with(m, close_fault(why)),
     }
 }
 
@@ -71,7 +72,8 @@ fn put_on<M: Machine, V: Files<M> + Drop, T: Says>(
     ensures few { result ≤ 1 → M.tells m.new → length (M.ledger m.old).input ≤ max_input }
     ensures trust { Trusts (M.tells m.old) (M.tells m.new) (M.honest m.old) (M.honest m.new) }
     ensures since { M.honest m.new → Since M.Machine m.old m.new }
-    ensures says { result ≡ 3 → M.honest m.new → SaysOfCall false (M.now m.old).said (M.now m.new) }
+    ensures says { result ≡ 3 → M.honest m.new → SaysOfCall false (V.state v).layout (M.now m.old).said (M.now m.new) }
+    ensures unspent { result ≡ 9 → M.honest m.new → ⊥ }
     ensures last { IsTrue (is_of_fault result) → M.honest m.new → SaysFault (M.report m.new).fault_place (M.now m.new) result }
     ensures one { M.honest m.new → (V.state v).dirty ≡ [] → SaysOne (Word.Put name (M.ledger m.old).input keep) (M.now m.old) (M.now m.new) result }
     ensures runs { M.honest m.new → (k : Known) → (volume_of k).unforced ≡ 0 → Stands V.state V.holds v k (M.now m.old) →
@@ -79,9 +81,9 @@ fn put_on<M: Machine, V: Files<M> + Drop, T: Says>(
 {
     match read_input(alloc, m) {
         Ok(bytes) => one_on::<M, V, T>(alloc, v, m, &Command::Put { name, bytes, keep }),
-        Err(InputFault::TooLong) => refuse_input(alloc, v, m),
-        Err(InputFault::Failed) => end_with(alloc, m, Fault::Input),
-        Err(InputFault::Memory) => end_with(alloc, m, Fault::Memory),
+        Err(InputFault::TooLong) => refuse_input(v, m),
+        Err(InputFault::Failed) => end_with(m, Fault::Input),
+        Err(InputFault::Memory) => end_with(m, Fault::Memory),
     }
 }
 
@@ -104,7 +106,7 @@ pub fn run_put<M: Machine, V: Files<M> + Drop, T: Says>(
     ensures whole { result ≤ 1 → M.tells m.new → (M.ledger m.new).input ≡ [] }
     ensures few { result ≤ 1 → M.tells m.new → length (M.ledger m.old).input ≤ max_input }
     ensures trust { Trusts (M.tells m.old) (M.tells m.new) (M.honest m.old) (M.honest m.new) }
-    ensures image { M.honest m.new → TellsImage false sectors (M.now m.old) (M.now m.new) result }
+    ensures image { M.honest m.new → TellsImage false false sectors (M.now m.old) (M.now m.new) result }
     ensures last { IsTrue (is_of_fault result) → M.honest m.new → SaysFault (M.report m.new).fault_place (M.now m.new) result }
     ensures one { M.honest m.new → SaysOne (Word.Put name (M.ledger m.old).input keep) (M.now m.old) (M.now m.new) result }
     ensures leaves { M.honest m.new → (l : Plan) (windows : List WeakRun) (h : List Change) (f : ℕ) → IsSoundAt sectors l windows h f (M.now m.old) →
@@ -112,6 +114,6 @@ pub fn run_put<M: Machine, V: Files<M> + Drop, T: Says>(
 {
     match V::mount(alloc, m, sectors) {
         Ok(v) => put_on::<M, V, T>(alloc, v, m, name, keep),
-        Err(fault) => end_with(alloc, m, fault_of(fault)),
+        Err(fault) => end_with(m, fault_of(fault)),
     }
 }

@@ -21,6 +21,7 @@ pub use answer::Answer;
 pub use generate::run_generate;
 pub use group::group_run;
 pub use input::run_put;
+pub use line::last_line;
 pub use once::alone;
 pub use script::run_script;
 pub use turns::{End, Says};

@@ -9,7 +9,7 @@ ghost use Rattle.volume_contract.specs.State.{Known, Stands, volume_of};
 ghost use Rattle.volume_turns.specs.Answering.{Answers};
 ghost use Rattle.volume_turns.specs.Listing.{IsFromOutside, fitting};
 ghost use Rattle.fsd_runs.specs.Errands.{reply_status};
-ghost use Rattle.volume_turns.specs.Steps.{Does, IsOfCall, Stays, device_by, reply_of};
+ghost use Rattle.volume_turns.specs.Steps.{Does, IsOfCall, IsRefusedOn, Stays, device_by, reply_of};
 
 use crate::answer::{Answer, ended_by};
 use fsd_bytes::{Key, Pattern, Refusal};
@@ -30,6 +30,7 @@ fn next_one<M: Machine, V: Files<M>>(
     ensures disk { OnlyReads M.Machine (device_in device_of result) m.old m.new }
     ensures state { V.state v.new ≡ V.state v.old }
     ensures stands { M.honest m.new → (k : Known) → Stands V.state V.holds v.old k (M.now m.old) → Stands V.state V.holds v.new k (M.now m.new) }
+    ensures told { IfErr result (λ why. M.honest m.new → IsRefusedOn (V.state v.old).layout (M.now m.new).image why) }
     ensures done { M.honest m.new → (k : Known) → Stands V.state V.holds v.old k (M.now m.old) → Looks (next_reply (volume_of k) last.now) result }
 {
     match last {
@@ -61,6 +62,7 @@ fn collect<M: Machine, V: Files<M>>(
     requires up { (V.state v.old).down ≡ None }
     ensures state { V.state v.new ≡ V.state v.old }
     ensures refusal { IfErr result IsLookUp }
+    ensures told { IfErr result (λ why. M.honest m.new → IsRefusedOn (V.state v.old).layout (M.now m.new).image why) }
     ensures disk { OnlyReads M.Machine (device_in device_of result) m.old m.new }
     ensures stands { M.honest m.new → (k : Known) → Stands V.state V.holds v.old k (M.now m.old) → Stands V.state V.holds v.new k (M.now m.new) }
     ensures done { M.honest m.new → (k : Known) → Stands V.state V.holds v.old k (M.now m.old) →

@@ -22,8 +22,8 @@ ghost use Rattle.volume_turns.specs.Status.{CountsTaking, IsScriptStatus};
 ghost use Rattle.fsd_texts.specs.declared.end.End.{End as EndOf};
 ghost use Rattle.fsd_texts.specs.declared.end.End.TheVariants.{Done};
 ghost use Rattle.volume_turns.specs.declared.script.Stop.TheVariants.{Ended};
-ghost use Rattle.volume_turns.specs.Turns.{BreaksWhole, IsEndOfVolume, KeepsSaid, SaysWhole, Told};
-ghost use Rattle.volume_turns.specs.Script.{GoesOn, GroupsBy, Heard, Reads, RoseBy, WholeRead};
+ghost use Rattle.volume_turns.specs.Turns.{BreaksWhole, IsEndOfVolume, IsEndOn, KeepsSaid, SaysWhole, Told, WantsNone};
+ghost use Rattle.volume_turns.specs.Script.{GoesOn, GroupsBy, Heard, Reads, RoseBy, SparesWanting, WholeRead};
 
 use crate::generate::close_forced;
 use crate::group::is_worn_end;
@@ -62,6 +62,7 @@ fn read_on<M: Machine, V: Files<M>, T: Says>(
     ensures heard { Heard (M.report m.old) (M.report m.new) result }
     ensures attaches { M.tells m.new → (M.ledger m.new).attaches ≡ (M.ledger m.old).attaches }
     ensures fault { IfErr result IsEndOfVolume }
+    ensures image { IfErr result (λ end. M.honest m.new → IsEndOn (V.state v.old).layout (M.now m.new).image end) }
     ensures rose { IfOk result (RoseBy (M.report m.old) (M.report m.new)) }
     ensures quiet { OnErr result ((M.report m.new).input_faults ≡ (M.report m.old).input_faults) }
     ensures trust { Trusts (M.tells m.old) (M.tells m.new) (M.honest m.old) (M.honest m.new) }
@@ -96,9 +97,11 @@ fn read_all<M: Machine, V: Files<M>, T: Says>(
     requires up { (V.state v.old).down ≡ None }
     requires lazily { (met : Met) (x : Volume) (w : Word) → IsTrue (T.errand.forces (answer met x w).0) → (answer met x w).1.unforced ≡ 0 }
     ensures layout { (V.state v.new).layout ≡ (V.state v.old).layout }
+    ensures up { OnOk result ((V.state v.new).down ≡ None) }
     ensures heard { Heard (M.report m.old) (M.report m.new) result }
     ensures attaches { M.tells m.new → (M.ledger m.new).attaches ≡ (M.ledger m.old).attaches }
     ensures fault { IfErr result IsEndOfVolume }
+    ensures image { IfErr result (λ end. M.honest m.new → IsEndOn (V.state v.old).layout (M.now m.new).image end) }
     ensures rose { IfOk result (λ stop. RoseBy (M.report m.old) (M.report m.new) (Some stop)) }
     ensures quiet { OnErr result ((M.report m.new).input_faults ≡ (M.report m.old).input_faults) }
     ensures trust { Trusts (M.tells m.old) (M.tells m.new) (M.honest m.old) (M.honest m.new) }
@@ -130,7 +133,9 @@ fn group_read<M: Machine, V: Files<M> + Drop, T: Says>(
     ensures heard { Heard (M.report m.old) (M.report m.new) result }
     ensures attaches { M.tells m.new → (M.ledger m.new).attaches ≡ (M.ledger m.old).attaches }
     ensures fault { IfErr result IsEndOfVolume }
+    ensures image { IfErr result (λ end. M.honest m.new → IsEndOn (V.state v).layout (M.now m.new).image end) }
     ensures rose { IfOk result (λ stop. RoseBy (M.report m.old) (M.report m.new) (Some stop)) }
+    ensures memory { IfErr result (SparesWanting (M.report m.old) (M.report m.new)) }
     ensures ends { (end : EndOf) → result ≡ Ok (Ended end) → M.tells m.new → (script_in (M.ledger m.old).input).1 ≡ end }
     ensures whole { result ≡ Ok (Ended Done) → M.tells m.new → (M.ledger m.new).input ≡ [] }
     ensures trust { Trusts (M.tells m.old) (M.tells m.new) (M.honest m.old) (M.honest m.new) }
@@ -141,10 +146,10 @@ fn group_read<M: Machine, V: Files<M> + Drop, T: Says>(
 {
     let mut v = v;
     match read_all::<M, V, T>(alloc, &mut v, m) {
-        Ok(stop) => force_read(alloc, v, m, stop),
+        Ok(stop) => force_read(v, m, stop),
         Err(end) => {
             if is_worn_end(&end) {
-                force_read(alloc, v, m, Stop::WornOut)
+                force_read(v, m, Stop::WornOut)
             } else {
                 Err(end)
             }
@@ -153,24 +158,21 @@ fn group_read<M: Machine, V: Files<M> + Drop, T: Says>(
 }
 
 // Ends the use of a volume, says that all is forced, and passes on what the commands have come to.
-fn force_read<M: Machine, V: Files<M>>(
-    alloc: Global,
-    v: V,
-    m: &mut M,
-    stop: Stop,
-) -> Result<Stop, End>
+fn force_read<M: Machine, V: Files<M>>(v: V, m: &mut M, stop: Stop) -> Result<Stop, End>
     requires room { (V.state v).layout.sectors ≤ (M.report m.old).sectors }
     ensures told { Told (M.report m.old) (M.report m.new) result }
     ensures ledger { M.tells m.new → OnlyWrites (M.ledger m.old) (M.ledger m.new) }
     ensures fault { IfErr result IsEndOfVolume }
+    ensures image { IfErr result (λ end. M.honest m.new → IsEndOn (V.state v).layout (M.now m.new).image end) }
     ensures trust { Trusts (M.tells m.old) (M.tells m.new) (M.honest m.old) (M.honest m.new) }
     ensures since { M.honest m.new → Since M.Machine m.old m.new }
     ensures later { M.honest m.new → M.moment m.old ≤ M.moment m.new }
     ensures same { IfOk result (λ x. x ≡ stop) }
+    ensures wants { (V.state v).down ≡ None → IfErr result WantsNone }
     ensures quiet { M.honest m.new → KeepsSaid (M.now m.old) (M.now m.new) result }
     ensures closes { M.honest m.new → (k : Known) → Stands V.state V.holds v k (M.now m.old) → ClosesAndSays M.Machine k forced_turn.said m.old m.new (unit_of result) }
 {
-    match close_forced(alloc, v, m) {
+    match close_forced(v, m) {
         Ok(()) => Ok(stop),
         Err(end) => Err(end),
     }
@@ -193,19 +195,19 @@ fn script_on<M: Machine, V: Files<M> + Drop, T: Says>(alloc: Global, v: V, m: &m
     ensures bad { result ≡ 2 → M.honest m.new → SaysBadLine (M.ledger m.old).input (M.now m.new) }
     ensures trust { Trusts (M.tells m.old) (M.tells m.new) (M.honest m.old) (M.honest m.new) }
     ensures since { M.honest m.new → Since M.Machine m.old m.new }
-    ensures says { result ≡ 3 → M.honest m.new → SaysOfCall true (M.now m.old).said (M.now m.new) }
+    ensures says { result ≡ 3 → M.honest m.new → SaysOfCall true (V.state v).layout (M.now m.old).said (M.now m.new) }
     ensures last { IsTrue (is_of_fault result) → M.honest m.new → SaysFault (M.report m.new).fault_place (M.now m.new) result }
     ensures runs { M.honest m.new → (k : Known) → Stands V.state V.holds v k (M.now m.old) → RunsOut M.Machine Script (M.ledger m.old).input (M.ledger m.new).input (M.report m.old) k m.old m.new result }
 {
     match group_read::<M, V, T>(alloc, v, m) {
         Ok(Stop::Ended(ScriptEnd::Done)) => 0,
-        Ok(Stop::Ended(ScriptEnd::Bad(bad))) => last_line(alloc, m, &Line::Bad(bad), 2),
+        Ok(Stop::Ended(ScriptEnd::Bad(bad))) => last_line(m, &Line::Bad(bad), 2),
         Ok(Stop::Ended(ScriptEnd::TooLong)) => {
-            last_line(alloc, m, &Line::Ended(Fault::InputTooLong), 5)
+            last_line(m, &Line::Ended(Fault::InputTooLong), 5)
         }
-        Ok(Stop::Input) => last_line(alloc, m, &Line::Ended(Fault::Input), 5),
-        Ok(Stop::WornOut) => last_line(alloc, m, &Line::Ended(Fault::WornOut), 9),
-        Err(End::Fault(why)) => end_with(alloc, m, why),
+        Ok(Stop::Input) => last_line(m, &Line::Ended(Fault::Input), 5),
+        Ok(Stop::WornOut) => last_line(m, &Line::Ended(Fault::WornOut), 9),
+        Err(End::Fault(why)) => end_with(m, why),
         Err(End::Output) => 6,
     }
 }
@@ -230,13 +232,13 @@ pub fn run_script<M: Machine, V: Files<M> + Drop, T: Says>(
     ensures spelled { result ≡ 0 → M.tells m.new → (script_in (M.ledger m.old).input).1 ≡ Done }
     ensures bad { result ≡ 2 → M.honest m.new → SaysBadLine (M.ledger m.old).input (M.now m.new) }
     ensures trust { Trusts (M.tells m.old) (M.tells m.new) (M.honest m.old) (M.honest m.new) }
-    ensures image { M.honest m.new → TellsImage true sectors (M.now m.old) (M.now m.new) result }
+    ensures image { M.honest m.new → TellsImage true true sectors (M.now m.old) (M.now m.new) result }
     ensures last { IsTrue (is_of_fault result) → M.honest m.new → SaysFault (M.report m.new).fault_place (M.now m.new) result }
     ensures leaves { M.honest m.new → (l : Plan) (windows : List WeakRun) (h : List Change) (f : ℕ) → IsSoundAt sectors l windows h f (M.now m.old) →
         LeavesRun Script (M.ledger m.old).input (M.ledger m.new).input l windows h f (M.left_since m.new) (LeavesOnly M.moment M.left_since m.old m.new) (M.report m.old) (M.report m.new) (M.now m.old) (M.now m.new) result }
 {
     match V::mount(alloc, m, sectors) {
         Ok(v) => script_on::<M, V, T>(alloc, v, m),
-        Err(fault) => end_with(alloc, m, fault_of(fault)),
+        Err(fault) => end_with(m, fault_of(fault)),
     }
 }

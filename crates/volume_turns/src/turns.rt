@@ -8,7 +8,7 @@ ghost use Rattle.fsd_runs.specs.Commands.{answer};
 ghost use Rattle.fsd_runs.specs.Errands.{Errand};
 ghost use Rattle.sector_disk.specs.Calls.{Since};
 ghost use Rattle.volume_turns.specs.Steps.{reply_of};
-ghost use Rattle.volume_turns.specs.Turns.{IsEndOfVolume, Runs, Steps, SaysAll, SaysWhole, Told, Unsaid};
+ghost use Rattle.volume_turns.specs.Turns.{IsEndOfVolume, IsEndOn, Runs, Steps, SaysAll, SaysWhole, Told, Unsaid};
 
 use crate::answer::Answer;
 use crate::commands;
@@ -76,6 +76,7 @@ pub fn step<M: Machine, V: Files<M>, T: Says>(
     ensures whole_replies { M.honest m.new → SaysWhole T.errand.says (M.now m.old) (M.now m.new) result }
     ensures ledger { M.tells m.new → OnlyWrites (M.ledger m.old) (M.ledger m.new) }
     ensures fault { IfErr result IsEndOfVolume }
+    ensures image { IfErr result (λ end. M.honest m.new → IsEndOn (V.state v.old).layout (M.now m.new).image end) }
 {
     match commands::answer(alloc, v, m, c) {
         Ok(answer) => say::<M, T>(alloc, m, &answer),

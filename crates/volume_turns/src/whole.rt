@@ -39,14 +39,15 @@ pub(crate) fn one_on<M: Machine, V: Files<M> + Drop, T: Says>(
     ensures status { IsOneStatus c.now result }
     ensures counts { CountsRun (M.report m.old) (M.report m.new) result }
     ensures since { M.honest m.new → Since M.Machine m.old m.new }
-    ensures says { result ≡ 3 → M.honest m.new → SaysOfCall false (M.now m.old).said (M.now m.new) }
+    ensures says { result ≡ 3 → M.honest m.new → SaysOfCall false (V.state v).layout (M.now m.old).said (M.now m.new) }
+    ensures unspent { result ≡ 9 → M.honest m.new → ⊥ }
     ensures last { IsTrue (is_of_fault result) → M.honest m.new → SaysFault (M.report m.new).fault_place (M.now m.new) result }
     ensures one { M.honest m.new → (V.state v).dirty ≡ [] → EndsOne c.now (V.state v) (M.now m.old) (M.now m.new) result }
     ensures runs { M.honest m.new → (rest : List ℕ) (k : Known) → (volume_of k).unforced ≡ 0 → Stands V.state V.holds v k (M.now m.old) → RunsOut M.Machine (One c.now) [] rest (M.report m.old) k m.old m.new result }
 {
     match alone::<M, V, T>(alloc, v, m, c) {
         Ok(status) => status,
-        Err(End::Fault(why)) => end_with(alloc, m, why),
+        Err(End::Fault(why)) => end_with(m, why),
         Err(End::Output) => 6,
     }
 }
@@ -64,7 +65,7 @@ pub fn run_one<M: Machine, V: Files<M> + Drop, T: Says>(
     ensures status { IsOneStatus c.now result }
     ensures counts { CountsRun (M.report m.old) (M.report m.new) result }
     ensures trust { Trusts (M.tells m.old) (M.tells m.new) (M.honest m.old) (M.honest m.new) }
-    ensures image { M.honest m.new → TellsImage false sectors (M.now m.old) (M.now m.new) result }
+    ensures image { M.honest m.new → TellsImage false false sectors (M.now m.old) (M.now m.new) result }
     ensures last { IsTrue (is_of_fault result) → M.honest m.new → SaysFault (M.report m.new).fault_place (M.now m.new) result }
     ensures one { M.honest m.new → RunsOne c.now sectors (M.now m.old) (M.now m.new) result }
     ensures leaves { M.honest m.new → (rest : List ℕ) (l : Plan) (windows : List WeakRun) (h : List Change) (f : ℕ) → IsSoundAt sectors l windows h f (M.now m.old) →
@@ -72,6 +73,6 @@ pub fn run_one<M: Machine, V: Files<M> + Drop, T: Says>(
 {
     match V::mount(alloc, m, sectors) {
         Ok(v) => one_on::<M, V, T>(alloc, v, m, c),
-        Err(fault) => end_with(alloc, m, fault_of(fault)),
+        Err(fault) => end_with(m, fault_of(fault)),
     }
 }

@@ -15,26 +15,26 @@ returns-in-Ok-clause-says g c h =
     let start = c.data_start.ensures in
     let line : Lines.Formatted c.sectors-sectors.result (c.sectors-sectors.result - c.data_start.result) ≡ format_line (Ok c.args.l.now) =
     ap (λ (n : ℕ). Lines.Formatted n (n - c.data_start.result)) sectors ∙ ap (λ (n : ℕ). Lines.Formatted c.args.l.now.sectors (c.args.l.now.sectors - n)) start in
-    format_said (Ok c.args.l.now) (M.report c.end_with.new.m).fault_place (Lines.Formatted c.sectors-sectors.result (c.sectors-sectors.result - c.data_start.result)) 0 (M.now c.args.m.now) (M.now c.make_volume.new.m) (M.now c.end_with.new.m) c.end_with.result
-    (c.make_volume.ensures.quiet (c.end_with.ensures.says.trust.honest h)) (inl (refl, ap (λ (x : Line). text x) line)) (c.end_with.ensures.says.exit h) (c.end_with.ensures.ends h)
+    format_said (Ok c.args.l.now) (M.report c.last_line.new.m).fault_place (Lines.Formatted c.sectors-sectors.result (c.sectors-sectors.result - c.data_start.result)) 0 (M.now c.args.m.now) (M.now c.make_volume.new.m) (M.now c.last_line.new.m) c.last_line.result
+    (c.make_volume.ensures.quiet (c.last_line.ensures.says.trust.honest h)) (inl (refl, ap (λ (x : Line). text x) line)) (c.last_line.ensures.says.exit h) (c.last_line.ensures.ends h)
 
 pub returns-in-Ok-clause-made : goal.returns-in-Ok-clause-made
 returns-in-Ok-clause-made g c zero h =
     let M = g.M.Machine in
-    let says = c.end_with.ensures.says in
-    holds_on c.args.l.now (M.now c.make_volume.new.m) (M.now c.end_with.new.m) (c.in-Ok.ensures.made (says.trust.honest h)).holds (untouched_by (Lines.Formatted c.sectors-sectors.result (c.sectors-sectors.result - c.data_start.result)) (M.now c.make_volume.new.m) (M.now c.end_with.new.m) (says.exit h))
+    let says = c.last_line.ensures.says in
+    holds_on c.args.l.now (M.now c.make_volume.new.m) (M.now c.last_line.new.m) (c.in-Ok.ensures.made (says.trust.honest h)).holds (untouched_by (Lines.Formatted c.sectors-sectors.result (c.sectors-sectors.result - c.data_start.result)) (M.now c.make_volume.new.m) (M.now c.last_line.new.m) (says.exit h))
 
 -- ---- what is counted
 
 pub returns-in-Ok-clause-counts : goal.returns-in-Ok-clause-counts
 returns-in-Ok-clause-counts g c =
     let report = g.M.Machine.report in
-    made_counts (report c.args.m.now) (report c.make_volume.new.m) (report c.end_with.new.m) c.end_with.result c.in-Ok.ensures.uses c.end_with.ensures.says.spares c.end_with.ensures.status
+    made_counts (report c.args.m.now) (report c.make_volume.new.m) (report c.last_line.new.m) c.last_line.result c.in-Ok.ensures.uses c.last_line.ensures.says.spares c.last_line.ensures.status
 
 pub returns-in-Err-clause-counts : goal.returns-in-Err-clause-counts
 returns-in-Err-clause-counts g c =
     let report = g.M.Machine.report in
-    let line = c.end_with-in-Err in
+    let line = c.last_line-in-Err in
     made_failed (report c.args.m.now) (report c.make_volume.new.m) (report line.new.m) c.in-Err.failed.place line.result c.in-Err.ensures.uses line.ensures.says.spares line.ensures.status
 
 -- ---- a fault of the disk is said
@@ -42,8 +42,8 @@ returns-in-Err-clause-counts g c =
 pub returns-in-Err-clause-says : goal.returns-in-Err-clause-says
 returns-in-Err-clause-says g c h =
     let M = g.M.Machine in
-    let line = c.end_with-in-Err in
+    let line = c.last_line-in-Err in
     let says = line.ensures.says in
     let place : c.in-Err.failed.place ≡ (M.report line.new.m).fault_place = c.in-Err.ensures.uses.faults.told ∙ sym says.spares.place in
     format_said (Ok c.args.l.now) (M.report line.new.m).fault_place (Lines.Ended (Ends.Device c.in-Err.failed.place)) 4 (M.now c.args.m.now) (M.now c.make_volume.new.m) (M.now line.new.m) line.result
-    (c.make_volume.ensures.quiet (says.trust.honest h)) (inr (inl (refl, ap (λ (p : ℕ). fault_text (Ends.Device p)) place))) (says.exit h) (line.ensures.ends h)
+    (c.make_volume.ensures.quiet (says.trust.honest h)) (inr (refl, ap (λ (p : ℕ). fault_text (Ends.Device p)) place)) (says.exit h) (line.ensures.ends h)

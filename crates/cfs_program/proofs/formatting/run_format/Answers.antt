@@ -26,7 +26,7 @@ pub returns-in-Err-clause-counts : goal.returns-in-Err-clause-counts
 returns-in-Err-clause-counts g c =
     let report = g.M.Machine.report in
     let a = report c.args.m.now in
-    counts_line a a (report c.end_with.new.m) c.end_with.result refl refl c.end_with.ensures.says.spares 1 (λ e. omega (arith, e)) refl c.end_with.ensures.status
+    counts_line a a (report c.last_line.new.m) c.last_line.result refl refl c.last_line.ensures.says.spares 1 (λ e. omega (arith, e)) refl c.last_line.ensures.status
 
 -- ---- a plan that is refused is said
 
@@ -34,8 +34,8 @@ pub returns-in-Err-clause-says : goal.returns-in-Err-clause-says
 returns-in-Err-clause-says g c h =
     let M = g.M.Machine in
     let a = M.now c.args.m.now in
-    let b = M.now c.end_with.new.m in
-    let place = (M.report c.end_with.new.m).fault_place in
-    let said = c.end_with.ensures in
-    subst (λ (planned : Result Layout LayoutFault). SaysFormat planned place a b c.end_with.result) (sym c.in-Err.is ∙ c.plan.ensures)
-    (format_said (Err c.in-Err.fault) place (Lines.Unplanned c.in-Err.fault) 1 a a b c.end_with.result refl (inl (refl, refl)) (said.says.exit h) (said.ends h))
+    let b = M.now c.last_line.new.m in
+    let place = (M.report c.last_line.new.m).fault_place in
+    let said = c.last_line.ensures in
+    subst (λ (planned : Result Layout LayoutFault). SaysFormat planned place a b c.last_line.result) (sym c.in-Err.is ∙ c.plan.ensures)
+    (format_said (Err c.in-Err.fault) place (Lines.Unplanned c.in-Err.fault) 1 a a b c.last_line.result refl (inl (refl, refl)) (said.says.exit h) (said.ends h))

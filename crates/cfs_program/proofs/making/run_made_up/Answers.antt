@@ -1,8 +1,9 @@
-use Rattle.std.proofs.Common.{false, inr, sym, ◌∙◌, arith, []}
+use Rattle.std.proofs.Common.{false, true, inr, sym, ◌∙◌, arith, []}
+use Rattle.volume_turns.proofs.LastLaws.{ends_fault}
 use Rattle.fsd_texts.specs.declared.fault.Fault.TheVariants as Ends
 use Rattle.fsd_runs.specs.declared.request.Request.TheVariants.{Generate}
 use Rattle.cfs_program.proofs.EndedLaws.{ended_run, failed_status}
-use Rattle.cfs_program.proofs.FoundLaws.{line_last, tells_found, tells_unfound}
+use Rattle.cfs_program.proofs.FoundLaws.{tells_found, tells_unfound}
 use Rattle.cfs_program.proofs.OpeningLaws.{finds_keep, opened_run, sound_found}
 use Rattle.cfs_program.proofs.CountsLaws.{counts_failed, counts_opened}
 use Rattle.cfs_program.proofs.making.run_made_up.Goals as goal
@@ -21,21 +22,21 @@ returns-in-Ok-clause-leaves g c honest rest l windows h f sound =
     (c.run_generate.ensures.leaves honest [] rest l windows h f (sound_found l windows h f (M.now a) sound (g.met.M.Machine.short a first) (M.now b) (finds_keep (M.now a) (M.now b) found) c.in-Ok.sectors (c.in-Ok.ensures.size back)))
 
 pub returns-in-Err-clause-status : goal.returns-in-Err-clause-status
-returns-in-Err-clause-status g c = inr (failed_status c.end_with.result c.end_with.ensures.status)
+returns-in-Err-clause-status g c = inr (failed_status c.last_line.result c.last_line.ensures.status)
 
 pub returns-in-Err-clause-leaves : goal.returns-in-Err-clause-leaves
 returns-in-Err-clause-leaves g c honest rest l windows h f sound =
     let M = g.M.Machine in
     let a = c.args.m.now in
     let b = c.attach.new.self in
-    let says = c.end_with.ensures.says in
+    let says = c.last_line.ensures.says in
     let back = says.trust.honest honest in
     let first = c.attach.ensures.trust.honest back in
     let cause = c.in-Err.ensures.cause in
     let spares = says.spares in
     let output = cause.output in
-    ended_run M (Generate c.args.seed c.args.count) [] rest l windows h f a b c.end_with.new.m (Ends.Device c.in-Err.failed.place) tt c.end_with.result sound (g.met.M.Machine.short a first) (λ left was. g.met.M.Machine.only_now a left first was)
-    (c.attach.ensures.time back) (c.in-Err.ensures.failed back) says honest (c.end_with.ensures.ends honest)
+    ended_run M (Generate c.args.seed c.args.count) [] rest l windows h f a b c.last_line.new.m (Ends.Device c.in-Err.failed.place) tt c.last_line.result sound (g.met.M.Machine.short a first) (λ left was. g.met.M.Machine.only_now a left first was)
+    (c.attach.ensures.time back) (c.in-Err.ensures.failed back) says honest (c.last_line.ensures.ends honest)
     (let rose = cause.disk.failed in let disk = spares.disk in record { rose = omega (arith, rose, disk); told = cause.names ∙ sym cause.told ∙ sym spares.place }) (omega (arith, output))
 
 -- ---- the image
@@ -44,10 +45,10 @@ pub returns-in-Ok-clause-image : goal.returns-in-Ok-clause-image
 returns-in-Ok-clause-image g c honest =
     let M = g.M.Machine in
     let back = c.run_generate.ensures.trust.honest honest in
-    tells_found false (M.now c.args.m.now) (M.now c.attach.new.self) (M.now c.run_generate.new.m) c.in-Ok.sectors c.run_generate.result (c.in-Ok.ensures.attached back) (c.in-Ok.ensures.size back) (c.run_generate.ensures.image honest)
+    tells_found false true (M.now c.args.m.now) (M.now c.attach.new.self) (M.now c.run_generate.new.m) c.in-Ok.sectors c.run_generate.result (c.in-Ok.ensures.attached back) (c.in-Ok.ensures.size back) (c.run_generate.ensures.image honest)
 
 pub returns-in-Err-clause-image : goal.returns-in-Err-clause-image
-returns-in-Err-clause-image g c honest = tells_unfound false (g.M.Machine.now c.args.m.now) (g.M.Machine.now c.end_with.new.m) c.end_with.result c.end_with.ensures.status
+returns-in-Err-clause-image g c honest = tells_unfound false true (g.M.Machine.now c.args.m.now) (g.M.Machine.now c.last_line.new.m) c.last_line.result c.last_line.ensures.status
 
 -- ---- what is counted
 
@@ -61,7 +62,7 @@ pub returns-in-Err-clause-counts : goal.returns-in-Err-clause-counts
 returns-in-Err-clause-counts g c =
     let report = g.M.Machine.report in
     let cause = c.in-Err.ensures.cause in
-    counts_failed (report c.args.m.now) (report c.attach.new.self) (report c.end_with.new.m) c.end_with.result cause.input cause.output c.end_with.ensures.says.spares cause.disk.failed c.end_with.ensures.status
+    counts_failed (report c.args.m.now) (report c.attach.new.self) (report c.last_line.new.m) c.last_line.result cause.input cause.output c.last_line.ensures.says.spares cause.disk.failed c.last_line.ensures.status
 
 -- ---- the fault that is said
 
@@ -72,5 +73,5 @@ pub returns-in-Err-clause-last : goal.returns-in-Err-clause-last
 returns-in-Err-clause-last g c of h =
     let M = g.M.Machine in
     let cause = c.in-Err.ensures.cause in
-    let line = c.end_with in
-    line_last (Ends.Device c.in-Err.failed.place) (M.report line.new.m).fault_place (M.now c.attach.new.self) (M.now line.new.m) line.result (cause.names ∙ sym cause.told ∙ sym line.ensures.says.spares.place) (line.ensures.ends h) of
+    let line = c.last_line in
+    ends_fault (M.report line.new.m).fault_place (M.now c.attach.new.self) (M.now line.new.m) line.result (Ends.Device c.in-Err.failed.place) (cause.names ∙ sym cause.told ∙ sym line.ensures.says.spares.place) (line.ensures.ends h) of

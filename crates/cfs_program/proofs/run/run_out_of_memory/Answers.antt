@@ -5,5 +5,5 @@ pub returns : goal.returns
 returns g c request path =
     let M = g.M.Machine in
     let a = c.args.m.now in
-    ran_memory M request path a c.end_with.new.m c.end_with.result c.end_with.ensures.says c.end_with.ensures.ledger c.end_with.ensures.status c.end_with.ensures.ends
+    ran_memory M request path a c.last_line.new.m c.last_line.result c.last_line.ensures.says c.last_line.ensures.ledger c.last_line.ensures.status c.last_line.ensures.ends
     (g.met.M.Machine.short a) (λ h left was. g.met.M.Machine.only_now a left h was)

@@ -7,10 +7,10 @@ use Rattle.cfs_program.proofs.run.run_request.Goals as goal
 
 pub returns-in-Outside : goal.returns-in-Outside
 returns-in-Outside g c =
-    let e = c.end_with.ensures in
+    let e = c.last_line.ensures in
     let a = c.args.m.now in
-    subst (λ (r : Request). Ran g.M.Machine r c.args.path.now a c.end_with.new.m c.end_with.result) (sym c.in-Outside.is)
-    (ran_outside g.M.Machine c.args.path.now a c.end_with.new.m _ c.end_with.result e.says e.ledger e.status e.ends refl)
+    subst (λ (r : Request). Ran g.M.Machine r c.args.path.now a c.last_line.new.m c.last_line.result) (sym c.in-Outside.is)
+    (ran_outside g.M.Machine c.args.path.now a c.last_line.new.m _ c.last_line.result e.says e.ledger e.status e.ends refl)
 
 pub returns-in-Format : goal.returns-in-Format
 returns-in-Format g c =

@@ -1,4 +1,6 @@
 use Rattle.std.proofs.Common.{true, ◌≡◌, inr, List, ℕ, sym, ◌∙◌, ap, subst, arith}
+use Rattle.volume_turns.proofs.StatusLaws.{not_as}
+use Rattle.volume_turns.proofs.LastLaws.{ends_fault}
 use Rattle.sector_disk.specs.Machine.{Ledger, LeavesOnly}
 use Rattle.fsd_texts.specs.declared.end.End.TheVariants.{Done}
 use Rattle.fsd_texts.specs.declared.fault.Fault.TheVariants as Ends
@@ -7,7 +9,7 @@ use Rattle.fsd_runs.specs.declared.request.Request.TheVariants.{Script}
 use Rattle.fsd_runs.specs.Leaves.{LeavesRun}
 use Rattle.fsd_runs.proofs.AnswerLaws.{forces_all}
 use Rattle.cfs_program.proofs.EndedLaws.{ended_run, failed_status}
-use Rattle.cfs_program.proofs.FoundLaws.{fails_attached, line_last, line_not, tells_found, tells_unfound}
+use Rattle.cfs_program.proofs.FoundLaws.{fails_attached, tells_found, tells_unfound}
 use Rattle.cfs_program.proofs.OpeningLaws.{finds_keep, opened_run, sound_found}
 use Rattle.cfs_program.proofs.CountsLaws.{counts_failed, reading_of, reading_opened}
 use Rattle.volume_turns.specs.Causes.{SaysBadLine}
@@ -34,22 +36,22 @@ returns-in-Ok-clause-leaves g c honest l windows h f sound =
     (c.run_script.ensures.leaves honest l windows h f (sound_found l windows h f (M.now a) sound (g.met.M.Machine.short a first) (M.now b) (finds_keep (M.now a) (M.now b) found) c.in-Ok.sectors (c.in-Ok.ensures.size back))))
 
 pub returns-in-Err-clause-status : goal.returns-in-Err-clause-status
-returns-in-Err-clause-status g c = inr (inr (inr (failed_status c.end_with.result c.end_with.ensures.status)))
+returns-in-Err-clause-status g c = inr (inr (inr (failed_status c.last_line.result c.last_line.ensures.status)))
 
 pub returns-in-Err-clause-leaves : goal.returns-in-Err-clause-leaves
 returns-in-Err-clause-leaves g c honest l windows h f sound =
     let M = g.M.Machine in
     let a = c.args.m.now in
     let b = c.attach.new.self in
-    let z = c.end_with.new.m in
-    let says = c.end_with.ensures.says in
+    let z = c.last_line.new.m in
+    let says = c.last_line.ensures.says in
     let back = says.trust.honest honest in
     let first = c.attach.ensures.trust.honest back in
     let cause = c.in-Err.ensures.cause in
     let spares = says.spares in
     let output = cause.output in
-    ended_run M Script (M.ledger a).input (M.ledger z).input l windows h f a b z (Ends.Device c.in-Err.failed.place) tt c.end_with.result sound (g.met.M.Machine.short a first) (λ left was. g.met.M.Machine.only_now a left first was)
-    (c.attach.ensures.time back) (c.in-Err.ensures.failed back) says honest (c.end_with.ensures.ends honest)
+    ended_run M Script (M.ledger a).input (M.ledger z).input l windows h f a b z (Ends.Device c.in-Err.failed.place) tt c.last_line.result sound (g.met.M.Machine.short a first) (λ left was. g.met.M.Machine.only_now a left first was)
+    (c.attach.ensures.time back) (c.in-Err.ensures.failed back) says honest (c.last_line.ensures.ends honest)
     (let rose = cause.disk.failed in let disk = spares.disk in record { rose = omega (arith, rose, disk); told = cause.names ∙ sym cause.told ∙ sym spares.place }) (omega (arith, output))
 
 -- ---- the image
@@ -58,10 +60,10 @@ pub returns-in-Ok-clause-image : goal.returns-in-Ok-clause-image
 returns-in-Ok-clause-image g c honest =
     let M = g.M.Machine in
     let back = c.run_script.ensures.trust.honest honest in
-    tells_found true (M.now c.args.m.now) (M.now c.attach.new.self) (M.now c.run_script.new.m) c.in-Ok.sectors c.run_script.result (c.in-Ok.ensures.attached back) (c.in-Ok.ensures.size back) (c.run_script.ensures.image honest)
+    tells_found true true (M.now c.args.m.now) (M.now c.attach.new.self) (M.now c.run_script.new.m) c.in-Ok.sectors c.run_script.result (c.in-Ok.ensures.attached back) (c.in-Ok.ensures.size back) (c.run_script.ensures.image honest)
 
 pub returns-in-Err-clause-image : goal.returns-in-Err-clause-image
-returns-in-Err-clause-image g c honest = tells_unfound true (g.M.Machine.now c.args.m.now) (g.M.Machine.now c.end_with.new.m) c.end_with.result c.end_with.ensures.status
+returns-in-Err-clause-image g c honest = tells_unfound true true (g.M.Machine.now c.args.m.now) (g.M.Machine.now c.last_line.new.m) c.last_line.result c.last_line.ensures.status
 
 -- ---- the input
 
@@ -73,7 +75,7 @@ returns-in-Ok-clause-input g c five t =
     fails_attached (M.report a) (M.report b) (M.report c.run_script.new.m) (M.ledger a).input (M.ledger b).input c.attach.ensures.cause.input (ap (λ (x : Ledger). x.input) (c.in-Ok.ensures.asked (c.run_script.ensures.trust.tells t))) (c.run_script.ensures.input five t)
 
 pub returns-in-Err-clause-input : goal.returns-in-Err-clause-input
-returns-in-Err-clause-input g c five t = absurd (line_not 5 4 c.end_with.result c.end_with.ensures.status (λ e. omega (arith, e)) (λ e. omega (arith, e)) (λ e. omega (arith, e)) five)
+returns-in-Err-clause-input g c five t = absurd (not_as 5 4 c.last_line.result (λ e. omega (arith, e)) (λ e. omega (arith, e)) c.last_line.ensures.status five)
 
 -- ---- what is counted
 
@@ -87,14 +89,14 @@ pub returns-in-Err-clause-counts : goal.returns-in-Err-clause-counts
 returns-in-Err-clause-counts g c =
     let report = g.M.Machine.report in
     let cause = c.in-Err.ensures.cause in
-    reading_of (report c.args.m.now) (report c.end_with.new.m) c.end_with.result
-    (counts_failed (report c.args.m.now) (report c.attach.new.self) (report c.end_with.new.m) c.end_with.result cause.input cause.output c.end_with.ensures.says.spares cause.disk.failed c.end_with.ensures.status)
+    reading_of (report c.args.m.now) (report c.last_line.new.m) c.last_line.result
+    (counts_failed (report c.args.m.now) (report c.attach.new.self) (report c.last_line.new.m) c.last_line.result cause.input cause.output c.last_line.ensures.says.spares cause.disk.failed c.last_line.ensures.status)
 
 pub returns-in-Ok-clause-whole : goal.returns-in-Ok-clause-whole
 returns-in-Ok-clause-whole g c = c.run_script.ensures.whole
 
 pub returns-in-Err-clause-whole : goal.returns-in-Err-clause-whole
-returns-in-Err-clause-whole g c zero t = absurd (line_not 0 4 c.end_with.result c.end_with.ensures.status (λ e. omega (arith, e)) (λ e. omega (arith, e)) (λ e. omega (arith, e)) zero)
+returns-in-Err-clause-whole g c zero t = absurd (not_as 0 4 c.last_line.result (λ e. omega (arith, e)) (λ e. omega (arith, e)) c.last_line.ensures.status zero)
 
 pub returns-in-Ok-clause-spelled : goal.returns-in-Ok-clause-spelled
 returns-in-Ok-clause-spelled g c zero t =
@@ -102,7 +104,7 @@ returns-in-Ok-clause-spelled g c zero t =
     subst (λ (x : List ℕ). (script_in x).1 ≡ Done) same (c.run_script.ensures.spelled zero t)
 
 pub returns-in-Err-clause-spelled : goal.returns-in-Err-clause-spelled
-returns-in-Err-clause-spelled g c zero t = absurd (line_not 0 4 c.end_with.result c.end_with.ensures.status (λ e. omega (arith, e)) (λ e. omega (arith, e)) (λ e. omega (arith, e)) zero)
+returns-in-Err-clause-spelled g c zero t = absurd (not_as 0 4 c.last_line.result (λ e. omega (arith, e)) (λ e. omega (arith, e)) c.last_line.ensures.status zero)
 
 -- ---- a bad line
 
@@ -115,7 +117,7 @@ returns-in-Ok-clause-bad g c two h =
     subst (λ (x : List ℕ). SaysBadLine x (M.now c.run_script.new.m)) input (c.run_script.ensures.bad two h)
 
 pub returns-in-Err-clause-bad : goal.returns-in-Err-clause-bad
-returns-in-Err-clause-bad g c two h = absurd (line_not 2 4 c.end_with.result c.end_with.ensures.status (λ e. omega (arith, e)) (λ e. omega (arith, e)) (λ e. omega (arith, e)) two)
+returns-in-Err-clause-bad g c two h = absurd (not_as 2 4 c.last_line.result (λ e. omega (arith, e)) (λ e. omega (arith, e)) c.last_line.ensures.status two)
 
 -- ---- the fault that is said
 
@@ -126,8 +128,8 @@ pub returns-in-Err-clause-last : goal.returns-in-Err-clause-last
 returns-in-Err-clause-last g c of h =
     let M = g.M.Machine in
     let cause = c.in-Err.ensures.cause in
-    let line = c.end_with in
-    line_last (Ends.Device c.in-Err.failed.place) (M.report line.new.m).fault_place (M.now c.attach.new.self) (M.now line.new.m) line.result (cause.names ∙ sym cause.told ∙ sym line.ensures.says.spares.place) (line.ensures.ends h) of
+    let line = c.last_line in
+    ends_fault (M.report line.new.m).fault_place (M.now c.attach.new.self) (M.now line.new.m) line.result (Ends.Device c.in-Err.failed.place) (cause.names ∙ sym cause.told ∙ sym line.ensures.says.spares.place) (line.ensures.ends h) of
 
 -- ---- the fault of the input that is said
 
@@ -141,4 +143,4 @@ returns-in-Ok-clause-fails g c five h =
     input_since (M.report a) (M.report b) (M.report z) (M.ledger a).input (M.ledger b).input (M.now z) c.attach.ensures.cause.input input (c.run_script.ensures.fails five h)
 
 pub returns-in-Err-clause-fails : goal.returns-in-Err-clause-fails
-returns-in-Err-clause-fails g c five h = absurd (line_not 5 4 c.end_with.result c.end_with.ensures.status (λ e. omega (arith, e)) (λ e. omega (arith, e)) (λ e. omega (arith, e)) five)
+returns-in-Err-clause-fails g c five h = absurd (not_as 5 4 c.last_line.result (λ e. omega (arith, e)) (λ e. omega (arith, e)) c.last_line.ensures.status five)

@@ -32,4 +32,4 @@ returns-clause-done g c h k stands =
     )
 
 pub returns-clause-answers : goal.returns-clause-answers
-returns-clause-answers g c h = record { replies = tt; rest = record { size = refl; others = λ s out. inl refl }; still = refl }
+returns-clause-answers g c h = record { replies = tt; rest = record { size = refl; others = λ s out. inl refl }; still = refl; worn = λ is. absurd (cc is); told = tt }

@@ -19,6 +19,8 @@ use Rattle.volume_turns.proofs.StepLaws.{same_device, less_touched, answered_doe
 use Rattle.volume_turns.proofs.StatusLaws.{refused_low}
 use Rattle.volume_turns.specs.Answering.{MayReply}
 use Rattle.volume_turns.proofs.AnsweringLaws.{delete_refused}
+use Rattle.volume_turns.proofs.ToldLaws.{told_of, told_so}
+use Rattle.volume_turns.proofs.WornLaws.{told_worn}
 use Rattle.volume_turns.proofs.commands.delete.Goals as goal
 
 pub returns-in-Ok-clause-disk : goal.returns-in-Ok-clause-disk
@@ -62,7 +64,7 @@ pub returns-in-Err-clause-status : goal.returns-in-Err-clause-status
 returns-in-Err-clause-status g c = refused_low c.in-Err.why c.ended_by.result c.ended_by.ensures.said
 
 pub returns-in-Ok-clause-answers : goal.returns-in-Ok-clause-answers
-returns-in-Ok-clause-answers g c h = record { replies = c.copied.ensures; rest = c.in-Ok.ensures.rest h; still = tt }
+returns-in-Ok-clause-answers g c h = record { replies = c.copied.ensures; rest = c.in-Ok.ensures.rest h; still = tt; worn = λ is. absurd (cc is); told = tt }
 
 pub returns-in-Err-clause-answers : goal.returns-in-Err-clause-answers
 returns-in-Err-clause-answers g c h = record {
@@ -70,4 +72,7 @@ returns-in-Err-clause-answers g c h = record {
       (delete_refused (g.V.Files.state c.args.v.now) c.requires.up c.in-Err.why c.args.key.now (g.M.Machine.now c.delete.new.m).image c.in-Err.ensures.order);
   rest = c.in-Err.ensures.rest h;
   still = tt;
+  worn = let s = g.V.Files.state c.args.v.now in told_worn s (down s ∷ delete_all s) c.in-Err.why c.ended_by.result c.ended_by.ensures.is c.in-Err.ensures.order (λ comes. delete_worn s c.requires.up comes);
+  told = told_so (g.V.Files.state c.args.v.now).layout (g.M.Machine.now c.delete.new.m).image c.in-Err.why c.ended_by.result c.ended_by.ensures.is
+      (told_of (g.V.Files.state c.args.v.now) (g.V.Files.state c.delete.new.self) (g.V.Files.resident c.args.v.now) (g.M.Machine.now c.args.m.now) (g.M.Machine.now c.delete.new.m) c.in-Err.ensures.state.layout c.in-Err.why (c.in-Err.ensures.causes h));
 }

@@ -1,21 +1,24 @@
 use Rattle.std.proofs.Common.{ℕ, ◌∙◌, sym, ap, subst, Option}
-use Rattle.std.specs.Prelude.{IfOk, Result}
+use Rattle.std.specs.Prelude.{IfErr, IfOk, IsTrue, Result}
 use Rattle.fsd_files.specs.Answers.{entry_of}
 use Rattle.fsd_texts.specs.declared.command.Command.TheVariants as Word
 use Rattle.fsd_texts.specs.declared.fault.Fault.{Fault}
 use Rattle.sector_disk.specs.Image.{open_damage}
 use Rattle.volume_turns.specs.declared.answer.Answer.{Answer}
 use Rattle.sector_disk.specs.Calls.{WritesDisk}
-use Rattle.volume_contract.specs.State.{volume_of}
-use Rattle.volume_turns.specs.Steps.{Does, Stays, device_by, reply_of}
+use Rattle.volume_contract.specs.Order.{entry_steps}
+use Rattle.volume_contract.specs.State.{State, is_worn, volume_of}
+use Rattle.volume_turns.specs.Steps.{Does, IsToldOn, Stays, device_by, reply_of}
 use Rattle.sector_disk.proofs.CallLaws.{reads_as_writes, reads_then}
-use Rattle.volume_turns.proofs.OrderLaws.{entry_down}
+use Rattle.volume_turns.proofs.OrderLaws.{entry_down, entry_worn}
 use Rattle.volume_turns.proofs.ReadLaws.{does_earlier, found_length, unfound_does}
 use Rattle.volume_turns.proofs.StepLaws.{same_device, wear_stays}
 use Rattle.volume_turns.proofs.StatusLaws.{refused_get}
 use Rattle.fsd_files.specs.Disk.{nowhere}
 use Rattle.volume_turns.specs.Answering.{MayReply}
 use Rattle.volume_turns.proofs.AnsweringLaws.{entry_refused, worn_first, worn_touches}
+use Rattle.volume_turns.proofs.ToldLaws.{told_of, told_so}
+use Rattle.volume_turns.proofs.WornLaws.{told_worn}
 use Rattle.volume_turns.proofs.commands.get.Goals as goal
 
 pub returns-in-Ok-clause-disk : goal.returns-in-Ok-clause-disk
@@ -69,6 +72,8 @@ returns-in-Ok-clause-answers g c h =
       replies = does.replies;
       rest = worn_first (now c.args.m.now) (now c.entry.new.m) (now c.read_whole.new.m) first.windows first.image does.rest;
       still = does.still ∙ c.in-Ok.ensures.state;
+      worn = λ is. subst (λ (s : State). IsTrue (is_worn s)) c.in-Ok.ensures.state (does.worn is);
+      told = subst (λ (s : State). IfErr c.read_whole.result (IsToldOn s.layout (now c.read_whole.new.m).image)) c.in-Ok.ensures.state does.told;
     }
 
 pub returns-in-Err-clause-answers : goal.returns-in-Err-clause-answers
@@ -79,4 +84,7 @@ returns-in-Err-clause-answers g c h =
           (entry_refused (g.V.Files.state c.args.v.now) c.requires.up c.in-Err.why c.args.key.now (now c.entry.new.m).image c.in-Err.ensures.order);
       rest = worn_touches nowhere (now c.args.m.now) (now c.entry.new.m) (c.in-Err.ensures.disk.worn h).image;
       still = c.in-Err.ensures.state;
+      worn = let s = g.V.Files.state c.args.v.now in told_worn s (entry_steps s) c.in-Err.why c.ended_by.result c.ended_by.ensures.is c.in-Err.ensures.order (λ comes. absurd (entry_worn s c.requires.up comes));
+      told = told_so (g.V.Files.state c.args.v.now).layout (now c.entry.new.m).image c.in-Err.why c.ended_by.result c.ended_by.ensures.is
+          (told_of (g.V.Files.state c.args.v.now) (g.V.Files.state c.entry.new.self) (g.V.Files.resident c.args.v.now) (now c.args.m.now) (now c.entry.new.m) (ap (λ (s : State). s.layout) c.in-Err.ensures.state) c.in-Err.why (c.in-Err.ensures.causes h));
     }

@@ -18,6 +18,8 @@ use Rattle.volume_turns.proofs.StepLaws.{same_device, less_touched, answered_doe
 use Rattle.volume_turns.proofs.StatusLaws.{refused_low}
 use Rattle.volume_turns.specs.Answering.{MayReply}
 use Rattle.volume_turns.proofs.AnsweringLaws.{put_refused}
+use Rattle.volume_turns.proofs.ToldLaws.{told_of, told_so}
+use Rattle.volume_turns.proofs.WornLaws.{told_worn}
 use Rattle.volume_turns.proofs.commands.put.Goals as goal
 
 pub returns-in-Ok-clause-disk : goal.returns-in-Ok-clause-disk
@@ -78,12 +80,19 @@ pub returns-in-Err-clause-status : goal.returns-in-Err-clause-status
 returns-in-Err-clause-status g c = refused_low c.in-Err.why c.ended_by.result c.ended_by.ensures.said
 
 pub returns-in-Ok-clause-answers : goal.returns-in-Ok-clause-answers
-returns-in-Ok-clause-answers g c h = record { replies = (c.in-Ok.ensures.name, c.sectors_of.ensures, c.in-Ok.ensures.order.1.0); rest = c.in-Ok.ensures.rest h; still = tt }
+returns-in-Ok-clause-answers g c h = record { replies = (c.in-Ok.ensures.name, c.sectors_of.ensures, c.in-Ok.ensures.order.1.0); rest = c.in-Ok.ensures.rest h; still = tt; worn = λ is. absurd (cc is); told = tt }
 
 pub returns-in-Err-clause-answers : goal.returns-in-Err-clause-answers
-returns-in-Err-clause-answers g c h = record {
-  replies = subst (λ (r : Result Answer Fault). IfOk r (λ a. MayReply (Word.Put c.args.name.now c.args.bytes.now c.args.keep) (g.M.Machine.now c.put.new.m).image (reply_of a))) (sym c.ended_by.ensures.is)
-      (put_refused (g.V.Files.state c.args.v.now) c.requires.up c.args.name.now c.args.bytes.now c.args.keep (g.M.Machine.now c.put.new.m).image c.in-Err.why c.in-Err.ensures.order);
-  rest = c.in-Err.ensures.rest h;
-  still = tt;
-}
+returns-in-Err-clause-answers g c h =
+    let s = g.V.Files.state c.args.v.now in
+    let size = size_fault (keep_given c.args.keep) (length c.args.bytes.now) in
+    let rest = put_rest s (sectors_for (length c.args.bytes.now)) in
+    record {
+      replies = subst (λ (r : Result Answer Fault). IfOk r (λ a. MayReply (Word.Put c.args.name.now c.args.bytes.now c.args.keep) (g.M.Machine.now c.put.new.m).image (reply_of a))) (sym c.ended_by.ensures.is)
+          (put_refused (g.V.Files.state c.args.v.now) c.requires.up c.args.name.now c.args.bytes.now c.args.keep (g.M.Machine.now c.put.new.m).image c.in-Err.why c.in-Err.ensures.order);
+      rest = c.in-Err.ensures.rest h;
+      still = tt;
+      worn = told_worn s (steps_of s size rest) c.in-Err.why c.ended_by.result c.ended_by.ensures.is c.in-Err.ensures.order (λ comes. (worn_by s c.requires.up size rest (size_never (keep_given c.args.keep) (length c.args.bytes.now)) (put_never s (sectors_for (length c.args.bytes.now))) comes).1);
+      told = told_so (g.V.Files.state c.args.v.now).layout (g.M.Machine.now c.put.new.m).image c.in-Err.why c.ended_by.result c.ended_by.ensures.is
+          (told_of (g.V.Files.state c.args.v.now) (g.V.Files.state c.put.new.self) (g.V.Files.resident c.args.v.now) (g.M.Machine.now c.args.m.now) (g.M.Machine.now c.put.new.m) c.in-Err.ensures.state.layout c.in-Err.why (c.in-Err.ensures.causes h));
+    }

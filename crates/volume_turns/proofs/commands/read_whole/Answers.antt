@@ -1,4 +1,4 @@
-use Rattle.std.proofs.Common.{inl, ◌≡◌, ℕ, List, ◌++◌, ◌∙◌, sym, ap, subst, Option, length, take, drop, arith}
+use Rattle.std.proofs.Common.{inl, ◌≡◌, ◌≤◌, ℕ, List, ◌++◌, ◌∙◌, sym, ap, subst, Option, length, take, drop, arith}
 use Rattle.std.specs.Prelude.{Err, IfOk, Result, IfSome}
 use Rattle.std.proofs.lemmas.List.{take_at}
 use Rattle.fsd_bytes.specs.declared.key.Key.{Key}
@@ -8,16 +8,20 @@ use Rattle.fsd_texts.specs.declared.command.Command.TheVariants as Word
 use Rattle.fsd_texts.specs.declared.fault.Fault.{Fault}
 use Rattle.volume_turns.specs.declared.answer.Answer.{Answer}
 use Rattle.sector_disk.specs.Calls.{OnlyReads}
-use Rattle.volume_contract.specs.State.{volume_of}
+use Rattle.volume_contract.specs.Order.{read_steps}
+use Rattle.volume_contract.specs.State.{State, volume_of}
 use Rattle.volume_turns.specs.Steps.{Does, IsAnswered, device_by, reply_of}
-use Rattle.volume_turns.proofs.OrderLaws.{read_down}
+use Rattle.volume_turns.proofs.OrderLaws.{read_down, read_worn}
 use Rattle.volume_turns.proofs.ReadLaws.{read_does, unread_does}
 use Rattle.volume_turns.proofs.StepLaws.{same_read_device}
 use Rattle.volume_turns.proofs.StatusLaws.{refused_read}
 use Rattle.fsd_bytes.specs.declared.refusal.Refusal.{Refusal}
+use Rattle.fsd_bytes.specs.declared.refusal.Refusal.TheVariants as Why
 use Rattle.fsd_files.specs.Disk.{nowhere}
-use Rattle.volume_turns.specs.Answering.{MayReply}
-use Rattle.volume_turns.proofs.AnsweringLaws.{read_refused, worn_touches}
+use Rattle.volume_turns.specs.Answering.{HasDamaged, MayReply}
+use Rattle.volume_turns.proofs.AnsweringLaws.{data_inside, read_refused, worn_touches}
+use Rattle.volume_turns.proofs.ToldLaws.{read_told_so, told_of}
+use Rattle.volume_turns.proofs.WornLaws.{read_told_worn}
 use Rattle.volume_turns.proofs.commands.read_whole.Goals as goal
 
 pub returns-in-Ok-read-clause-done : goal.returns-in-Ok-read-clause-done
@@ -59,15 +63,22 @@ returns-in-Ok-read-clause-status g c = inl (omega arith)
 pub returns-in-Ok-read-clause-answers : goal.returns-in-Ok-read-clause-answers
 returns-in-Ok-read-clause-answers g c h =
     let now = g.M.Machine.now in
-    record { replies = c.copied.ensures; rest = worn_touches nowhere (now c.args.m.now) (now c.read.new.m) (c.in-Ok-read.ensures.disk.worn h).image; still = c.in-Ok-read.ensures.state }
+    record { replies = c.copied.ensures; rest = worn_touches nowhere (now c.args.m.now) (now c.read.new.m) (c.in-Ok-read.ensures.disk.worn h).image; still = c.in-Ok-read.ensures.state; worn = λ is. absurd (cc is); told = tt }
 
 pub returns-in-Err-clause-answers : goal.returns-in-Err-clause-answers
 returns-in-Err-clause-answers g c h =
     let now = g.M.Machine.now in
     let e = c.in-Err.ensures in
+    let s = g.V.Files.state c.args.v.now in
+    let image = (now c.read.new.m).image in
+    let room : s.layout.sectors ≤ length image = omega (arith, c.requires.room, e.disk.uses.sectors, g.met.M.Machine.sized c.read.new.m h) in
+    let told : (n : ℕ) → c.in-Err.why ≡ Why.Damaged n → HasDamaged image n = λ n is.
+    let err = ap (λ (w : Refusal). Err w) is in (data_inside s.layout n (length image) (e.within n err h) room, e.damaged n err h) in
     record {
-      replies = subst (λ (r : Result Answer Fault). IfOk r (λ a. MayReply (Word.Get c.args.key.now) (now c.read.new.m).image (reply_of a))) (sym c.read_ended_by.ensures.is)
-          (read_refused (g.V.Files.state c.args.v.now) c.requires.up c.args.key.now (now c.read.new.m).image c.in-Err.why (λ n is. e.damaged n (ap (λ (w : Refusal). Err w) is) h) e.order);
+      replies = subst (λ (r : Result Answer Fault). IfOk r (λ a. MayReply (Word.Get c.args.key.now) image (reply_of a))) (sym c.read_ended_by.ensures.is) (read_refused s c.requires.up c.args.key.now image c.in-Err.why told e.order);
       rest = worn_touches nowhere (now c.args.m.now) (now c.read.new.m) (e.disk.worn h).image;
       still = e.state;
+      worn = let s = g.V.Files.state c.args.v.now in read_told_worn s (read_steps s) c.args.key.now c.in-Err.why c.read_ended_by.result c.read_ended_by.ensures.is e.order (λ comes. read_worn s c.requires.up comes);
+      told = read_told_so (g.V.Files.state c.args.v.now).layout (now c.read.new.m).image c.args.key.now c.in-Err.why c.read_ended_by.result c.read_ended_by.ensures.is
+          (told_of (g.V.Files.state c.args.v.now) (g.V.Files.state c.read.new.self) (g.V.Files.resident c.args.v.now) (now c.args.m.now) (now c.read.new.m) (ap (λ (s : State). s.layout) e.state) c.in-Err.why (e.causes h));
     }

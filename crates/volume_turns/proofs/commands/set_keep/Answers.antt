@@ -20,6 +20,8 @@ use Rattle.volume_turns.proofs.StepLaws.{same_device, less_touched, answered_doe
 use Rattle.volume_turns.proofs.StatusLaws.{refused_low}
 use Rattle.volume_turns.specs.Answering.{MayReply}
 use Rattle.volume_turns.proofs.AnsweringLaws.{keep_refused}
+use Rattle.volume_turns.proofs.ToldLaws.{told_of, told_so}
+use Rattle.volume_turns.proofs.WornLaws.{told_worn}
 use Rattle.volume_turns.proofs.commands.set_keep.Goals as goal
 
 pub returns-in-Ok-clause-disk : goal.returns-in-Ok-clause-disk
@@ -62,12 +64,19 @@ pub returns-in-Err-clause-status : goal.returns-in-Err-clause-status
 returns-in-Err-clause-status g c = refused_low c.in-Err.why c.ended_by.result c.ended_by.ensures.said
 
 pub returns-in-Ok-clause-answers : goal.returns-in-Ok-clause-answers
-returns-in-Ok-clause-answers g c h = record { replies = (c.in-Ok.ensures.name, refl, keep_small c.args.keep (nat_lt max_keep c.args.keep) (Why.KeepTooLarge c.args.keep) refl c.in-Ok.ensures.order.1.0); rest = c.in-Ok.ensures.rest h; still = tt }
+returns-in-Ok-clause-answers g c h = record { replies = (c.in-Ok.ensures.name, refl, keep_small c.args.keep (nat_lt max_keep c.args.keep) (Why.KeepTooLarge c.args.keep) refl c.in-Ok.ensures.order.1.0); rest = c.in-Ok.ensures.rest h; still = tt; worn = λ is. absurd (cc is); told = tt }
 
 pub returns-in-Err-clause-answers : goal.returns-in-Err-clause-answers
-returns-in-Err-clause-answers g c h = record {
-  replies = subst (λ (r : Result Answer Fault). IfOk r (λ a. MayReply (Word.Keep c.args.name.now c.args.keep) (g.M.Machine.now c.set_keep.new.m).image (reply_of a))) (sym c.ended_by.ensures.is)
-      (keep_refused (g.V.Files.state c.args.v.now) c.requires.up c.in-Err.why c.args.name.now c.args.keep (g.M.Machine.now c.set_keep.new.m).image c.in-Err.ensures.order);
-  rest = c.in-Err.ensures.rest h;
-  still = tt;
-}
+returns-in-Err-clause-answers g c h =
+    let s = g.V.Files.state c.args.v.now in
+    let size = cond (nat_lt max_keep c.args.keep) (Some (Why.KeepTooLarge c.args.keep)) None in
+    let rest = edit_rest s in
+    record {
+      replies = subst (λ (r : Result Answer Fault). IfOk r (λ a. MayReply (Word.Keep c.args.name.now c.args.keep) (g.M.Machine.now c.set_keep.new.m).image (reply_of a))) (sym c.ended_by.ensures.is)
+          (keep_refused (g.V.Files.state c.args.v.now) c.requires.up c.in-Err.why c.args.name.now c.args.keep (g.M.Machine.now c.set_keep.new.m).image c.in-Err.ensures.order);
+      rest = c.in-Err.ensures.rest h;
+      still = tt;
+      worn = told_worn s (steps_of s size rest) c.in-Err.why c.ended_by.result c.ended_by.ensures.is c.in-Err.ensures.order (λ comes. (worn_by s c.requires.up size rest (keep_never c.args.keep) (edit_never s) comes).1);
+      told = told_so (g.V.Files.state c.args.v.now).layout (g.M.Machine.now c.set_keep.new.m).image c.in-Err.why c.ended_by.result c.ended_by.ensures.is
+          (told_of (g.V.Files.state c.args.v.now) (g.V.Files.state c.set_keep.new.self) (g.V.Files.resident c.args.v.now) (g.M.Machine.now c.args.m.now) (g.M.Machine.now c.set_keep.new.m) c.in-Err.ensures.state.layout c.in-Err.why (c.in-Err.ensures.causes h));
+    }

@@ -6,16 +6,19 @@ use Rattle.fsd_texts.specs.declared.command.Command.TheVariants as Word
 use Rattle.fsd_texts.specs.declared.fault.Fault.{Fault}
 use Rattle.volume_turns.specs.declared.answer.Answer.{Answer}
 use Rattle.sector_disk.specs.Calls.{WritesDisk}
+use Rattle.volume_contract.specs.Order.{force_steps}
 use Rattle.volume_contract.specs.State.{volume_of}
 use Rattle.fsd_sound.specs.Writes.{force_writes}
 use Rattle.volume_turns.specs.Steps.{Does, Stays, device_by}
 use Rattle.sector_disk.proofs.CallLaws.{writes_more}
-use Rattle.volume_turns.proofs.OrderLaws.{force_down}
+use Rattle.volume_turns.proofs.OrderLaws.{force_down, force_worn}
 use Rattle.volume_turns.proofs.StepLaws.{same_device, less_touched, answered_does, force_does}
 use Rattle.fsd_runs.specs.Errands.{reply_status}
 use Rattle.volume_turns.specs.Steps.{reply_of}
 use Rattle.volume_turns.proofs.StatusLaws.{force_ends}
 use Rattle.volume_turns.specs.Answering.{MayReply}
+use Rattle.volume_turns.proofs.ToldLaws.{told_of, told_so}
+use Rattle.volume_turns.proofs.WornLaws.{told_worn}
 use Rattle.volume_turns.proofs.commands.tick.Goals as goal
 
 pub returns-in-Ok-clause-disk : goal.returns-in-Ok-clause-disk
@@ -50,11 +53,14 @@ pub returns-in-Err-clause-status : goal.returns-in-Err-clause-status
 returns-in-Err-clause-status g c = force_ends (λ a. reply_status (reply_of a) ≡ 0) (g.V.Files.state c.args.v.now) c.requires.up _ c.in-Err.why c.in-Err.ensures.order c.ended_by.result c.ended_by.ensures.is
 
 pub returns-in-Ok-clause-answers : goal.returns-in-Ok-clause-answers
-returns-in-Ok-clause-answers g c h = record { replies = tt; rest = c.in-Ok.ensures.rest h; still = tt }
+returns-in-Ok-clause-answers g c h = record { replies = tt; rest = c.in-Ok.ensures.rest h; still = tt; worn = λ is. absurd (cc is); told = tt }
 
 pub returns-in-Err-clause-answers : goal.returns-in-Err-clause-answers
 returns-in-Err-clause-answers g c h = record {
   replies = force_ends (λ a. MayReply Word.Tick (g.M.Machine.now c.tick.new.m).image (reply_of a)) (g.V.Files.state c.args.v.now) c.requires.up _ c.in-Err.why c.in-Err.ensures.order c.ended_by.result c.ended_by.ensures.is;
   rest = c.in-Err.ensures.rest h;
   still = tt;
+  worn = let s = g.V.Files.state c.args.v.now in told_worn s (force_steps s) c.in-Err.why c.ended_by.result c.ended_by.ensures.is c.in-Err.ensures.order (λ comes. absurd (force_worn s c.requires.up _ comes));
+  told = told_so (g.V.Files.state c.args.v.now).layout (g.M.Machine.now c.tick.new.m).image c.in-Err.why c.ended_by.result c.ended_by.ensures.is
+      (told_of (g.V.Files.state c.args.v.now) (g.V.Files.state c.tick.new.self) (g.V.Files.resident c.args.v.now) (g.M.Machine.now c.args.m.now) (g.M.Machine.now c.tick.new.m) c.in-Err.ensures.state.layout c.in-Err.why (c.in-Err.ensures.causes h));
 }

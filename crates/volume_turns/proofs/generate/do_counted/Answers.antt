@@ -1,6 +1,7 @@
 use Rattle.std.proofs.Common.{subst, sym}
 use Rattle.sector_disk.specs.Image.{AreShort, Windows}
-use Rattle.volume_turns.specs.Steps.{IsOfCall, reply_of}
+use Rattle.fsd_texts.specs.declared.fault.Fault.{Fault}
+use Rattle.volume_turns.specs.Steps.{IsOfCall, IsToldOn, reply_of}
 use Rattle.volume_turns.proofs.CountLaws.{counted_fault, counted_none, counted_step}
 use Rattle.volume_turns.proofs.generate.do_counted.Goals as goal
 
@@ -57,3 +58,11 @@ returns-in-Ok-clause-quiet g c h = c.in-Ok.ensures.disk.quiet h
 
 pub returns-clause-quiet : goal.returns-clause-quiet
 returns-clause-quiet g c h = c.in-Err.ensures.disk.quiet h
+
+-- ---- what is told of the image
+
+pub returns-in-Ok-clause-image : goal.returns-in-Ok-clause-image
+returns-in-Ok-clause-image g c h = subst (λ (w : Fault). IsToldOn (g.V.Files.state c.args.v.now).layout (g.M.Machine.now c.answer.new.m).image w) (sym c.in-Err-count.ensures.err) tt
+
+pub returns-clause-image : goal.returns-clause-image
+returns-clause-image g c h = (c.in-Err.ensures.answers h).told

@@ -20,3 +20,11 @@ returns-clause-draws g c =
     let M = g.M.Machine in
     let m = c.args.m.now in
     counted_refused g.V.Files.state g.V.Files.holds M (made_left c.args.maker.now) c.args.v.now m g.met.V.Files.wears (λ h left was. g.met.M.Machine.only_now m left h was) (λ h from aged. subst (λ (w : Windows). AreShort w) aged.windows (g.met.M.Machine.short m h))
+
+-- ---- what is told of the image
+
+pub returns-in-Ok-Some-clause-image : goal.returns-in-Ok-Some-clause-image
+returns-in-Ok-Some-clause-image g c h = c.in-Err-do_counted.ensures.image h
+
+pub returns-clause-image : goal.returns-clause-image
+returns-clause-image g c h = tt

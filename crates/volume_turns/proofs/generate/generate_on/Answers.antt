@@ -4,12 +4,12 @@ use Rattle.volume_turns.specs.declared.turns.End.{End}
 use Rattle.volume_turns.specs.Generate.{CountedGroup}
 use Rattle.volume_turns.specs.Tally.{Counting}
 use Rattle.volume_turns.specs.Turns.{IsEndOfVolume, Told}
-use Rattle.volume_turns.specs.Turns.{KeepsEnd}
+use Rattle.volume_turns.specs.Turns.{IsEndOn, KeepsEnd}
 use Rattle.volume_turns.proofs.GenerateLaws.{made_broken, made_said, made_unsaid, made_worn}
 use Rattle.volume_turns.proofs.CauseLaws.{call_says}
 use Rattle.volume_turns.proofs.StatusLaws.{not_as, call_of_volume, all_is_made, fault_counts, fault_is_made, line_counts, unsaid_counts, worn_is_made}
 use Rattle.fsd_texts.specs.declared.fault.Fault.TheVariants as Ends
-use Rattle.volume_turns.proofs.LastLaws.{ends_fault, line_fault, line_other, told_place}
+use Rattle.volume_turns.proofs.LastLaws.{ends_fault, line_other, told_place}
 use Rattle.volume_turns.proofs.generate.generate_on.Goals as goal
 
 pub returns-in-Ok-Some-clause-since : goal.returns-in-Ok-Some-clause-since
@@ -113,15 +113,22 @@ returns-in-Err-Output-clause-counts g c =
 -- ---- a fault of the image
 
 pub returns-in-Ok-Some-clause-says : goal.returns-in-Ok-Some-clause-says
-returns-in-Ok-Some-clause-says g c three h = absurd (not_as 3 0 c.last_line.result (λ e. omega (arith, e)) (λ e. omega (arith, e)) (λ e. omega (arith, e)) c.last_line.ensures.status three)
+returns-in-Ok-Some-clause-says g c three h = absurd (not_as 3 0 c.last_line.result (λ e. omega (arith, e)) (λ e. omega (arith, e)) c.last_line.ensures.status three)
 
 pub returns-in-Ok-None-clause-says : goal.returns-in-Ok-None-clause-says
-returns-in-Ok-None-clause-says g c three h = absurd (not_as 3 9 c.last_line-in-Ok-None.result (λ e. omega (arith, e)) (λ e. omega (arith, e)) (λ e. omega (arith, e)) c.last_line-in-Ok-None.ensures.status three)
+returns-in-Ok-None-clause-says g c three h = absurd (not_as 3 9 c.last_line-in-Ok-None.result (λ e. omega (arith, e)) (λ e. omega (arith, e)) c.last_line-in-Ok-None.ensures.status three)
 
 pub returns-in-Err-Fault-clause-says : goal.returns-in-Err-Fault-clause-says
 returns-in-Err-Fault-clause-says g c three h =
     let now = g.M.Machine.now in
-    call_says false (now c.args.m.now).said c.in-Err-Fault.why (subst IsEndOfVolume c.in-Err-Fault.field-0-is c.in-Err-Fault.ensures.fault) (now c.make_group.new.m) (now c.end_with.new.m) c.end_with.result (subst (λ (e : End). KeepsEnd (now c.args.m.now) (now c.make_group.new.m) e) c.in-Err-Fault.field-0-is (c.in-Err-Fault.ensures.quiet (c.end_with.ensures.says.trust.honest h))) (c.end_with.ensures.ends h) three
+    let x = c.in-Err-Fault in
+    let a = now c.args.m.now in
+    let m = now c.make_group.new.m in
+    let l = (g.V.Files.state c.args.v).layout in
+    let said = c.end_with.ensures in
+    let back = said.says.trust.honest h in
+    call_says false l a.said x.why (subst IsEndOfVolume x.field-0-is x.ensures.fault) m (now c.end_with.new.m) c.end_with.result (subst (λ (e : End). KeepsEnd a m e) x.field-0-is (x.ensures.quiet back)) (said.says.exit h).image
+    (subst (λ (e : End). IsEndOn l m.image e) x.field-0-is (x.ensures.image back)) (said.ends h) three
 
 pub returns-in-Err-Output-clause-says : goal.returns-in-Err-Output-clause-says
 returns-in-Err-Output-clause-says g c three h = absurd (omega (arith, three))
@@ -136,7 +143,7 @@ returns-in-Ok-Some-clause-last g c of h =
 pub returns-in-Ok-None-clause-last : goal.returns-in-Ok-None-clause-last
 returns-in-Ok-None-clause-last g c of h =
     let line = c.last_line-in-Ok-None in
-    line_fault (g.M.Machine.report line.new.m).fault_place (g.M.Machine.now c.make_group.new.m) (g.M.Machine.now line.new.m) line.result Ends.WornOut tt (line.ensures.ends h) of
+    ends_fault (g.M.Machine.report line.new.m).fault_place (g.M.Machine.now c.make_group.new.m) (g.M.Machine.now line.new.m) line.result Ends.WornOut tt (line.ensures.ends h) of
 
 pub returns-in-Err-Fault-clause-last : goal.returns-in-Err-Fault-clause-last
 returns-in-Err-Fault-clause-last g c of h =

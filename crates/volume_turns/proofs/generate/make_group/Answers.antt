@@ -4,6 +4,7 @@ use Rattle.sector_disk.proofs.Wear.{worn_refl}
 use Rattle.fsd_texts.specs.Generator.{made_up}
 use Rattle.volume_turns.proofs.CountLaws.{counted_all, counted_broken, counted_worn}
 use Rattle.volume_turns.proofs.SaidLaws.{keeps_end, keeps_then}
+use Rattle.volume_turns.proofs.ToldLaws.{told_behind}
 use Rattle.volume_turns.proofs.generate.make_group.Goals as goal
 
 pub returns-in-Ok-clause-group : goal.returns-in-Ok-clause-group
@@ -63,3 +64,22 @@ returns-then-is_worn_end-clause-quiet g c h =
 
 pub returns-else-is_worn_end-clause-quiet : goal.returns-else-is_worn_end-clause-quiet
 returns-else-is_worn_end-clause-quiet g c h = keeps_end (g.M.Machine.now c.args.m.now) (g.M.Machine.now c.make_up.new.m) c.in-Err.end (c.make_up.ensures.quiet h)
+
+-- ---- what is told of the image
+
+pub returns-in-Ok-clause-image : goal.returns-in-Ok-clause-image
+returns-in-Ok-clause-image g c =
+    let M = g.M.Machine in
+    let state = g.V.Files.state in
+    let done = c.force_behind in
+    told_behind (state c.args.v).layout (state c.make_up.new.v).layout c.make_up.ensures.layout (M.honest done.new.m) (M.now done.new.m).image done.result done.ensures.image
+
+pub returns-then-is_worn_end-clause-image : goal.returns-then-is_worn_end-clause-image
+returns-then-is_worn_end-clause-image g c =
+    let M = g.M.Machine in
+    let state = g.V.Files.state in
+    let done = c.force_behind-then-is_worn_end in
+    told_behind (state c.args.v).layout (state c.make_up.new.v).layout c.make_up.ensures.layout (M.honest done.new.m) (M.now done.new.m).image done.result done.ensures.image
+
+pub returns-else-is_worn_end-clause-image : goal.returns-else-is_worn_end-clause-image
+returns-else-is_worn_end-clause-image g c h = c.in-Err.ensures.image h

@@ -8,7 +8,7 @@ use Rattle.fsd_texts.specs.declared.command.Command.{Command as Word}
 use Rattle.script_text.specs.Making.{Making, made_left}
 use Rattle.volume_turns.specs.Generate.{Draws, RunsCounted}
 use Rattle.volume_turns.specs.Tally.{Counting, nothing}
-use Rattle.volume_turns.specs.Turns.{Follows}
+use Rattle.volume_turns.specs.Turns.{Follows, IsEndOn}
 use Rattle.volume_turns.proofs.CountLaws.{counted_nil, counted_stop, counted_then, made_length, none_left, told_all, told_end, told_more, told_none}
 use Rattle.volume_turns.proofs.RunLaws.{follows_then}
 use Rattle.volume_turns.proofs.generate.make_up.Goals as goal
@@ -190,3 +190,8 @@ returns-in-Err-clause-quiet g c h = c.draw.ensures.quiet h ∙ c.loop.invariant.
 
 pub returns-clause-quiet : goal.returns-clause-quiet
 returns-clause-quiet g c = c.loop.invariant.quiet
+
+-- ---- what is told of the image
+
+pub returns-in-Err-clause-image : goal.returns-in-Err-clause-image
+returns-in-Err-clause-image g c h = subst (λ (l : Layout). IsEndOn l (g.M.Machine.now c.draw.new.m).image c.in-Err.end) c.loop.invariant.layout (c.in-Err.ensures.image h)

@@ -1,8 +1,10 @@
-use Rattle.std.proofs.Common.{false, subst, arith}
+use Rattle.std.proofs.Common.{false, true, subst, arith}
+use Rattle.fsd_texts.specs.Text.{fault_text}
+use Rattle.sector_disk.specs.Machine.{Utters}
 use Rattle.sector_disk.specs.Calls.{LeavesDisk}
 use Rattle.fsd_texts.specs.declared.fault.Fault.{Fault}
 use Rattle.fsd_runs.specs.declared.request.Request.TheVariants.{Generate}
-use Rattle.volume_turns.specs.Line.{EndsWith, IsStatusFor, UttersFault, is_unsaid}
+use Rattle.volume_turns.specs.Line.{EndsWith, IsStatusFor, is_unsaid}
 use Rattle.volume_turns.proofs.GenerateLaws.{some_turn}
 use Rattle.volume_turns.proofs.CauseLaws.{tells_mounted, tells_refused}
 use Rattle.volume_turns.proofs.StatusLaws.{counts_after, fault_is_made, mount_counts, mount_of_volume}
@@ -29,7 +31,7 @@ returns-in-Err-clause-leaves g c honest input rest l windows h f at =
     let b = c.end_with.new.m in
     let disk = c.in-Err.ensures.disk in
     let status = c.end_with.result in
-    let says = subst (λ (why : Fault). LeavesDisk M false (is_unsaid status) (UttersFault why) m b) c.fault_of.ensures c.end_with.ensures.says in
+    let says = subst (λ (why : Fault). LeavesDisk M false (is_unsaid status) (Utters (fault_text why)) m b) c.fault_of.ensures c.end_with.ensures.says in
     let ended = subst (λ (why : Fault). EndsWith why (M.now m) (M.now b) status) c.fault_of.ensures (c.end_with.ensures.ends honest) in
     let back = says.trust.honest honest in
     refused_run V.state V.holds M (Generate c.args.seed c.args.count) input rest l windows h f c.args.sectors c.args.m.now m b at c.in-Err.fault (disk.quiet back) disk.uses disk.faults status says honest (g.met.M.Machine.short m back) ended
@@ -59,7 +61,7 @@ returns-in-Ok-clause-image g c h =
     let M = g.M.Machine in
     let does = c.generate_on.ensures in
     let back = does.trust.honest h in
-    tells_mounted false c.args.sectors (g.V.Files.state c.in-Ok.v) (M.now c.args.m.now) (M.now c.generate_on.new.m) c.generate_on.result (M.now c.mount.new.m).said (c.in-Ok.ensures.disk.quiet back) (c.in-Ok.ensures.found back) (λ three. does.says three h)
+    tells_mounted false true c.args.sectors (g.V.Files.state c.in-Ok.v) (M.now c.args.m.now) (M.now c.generate_on.new.m) c.generate_on.result (M.now c.mount.new.m).said (c.in-Ok.ensures.disk.quiet back) (c.in-Ok.ensures.found back) (λ three. does.says three h) (λ one nine. cc one)
 
 pub returns-in-Err-clause-image : goal.returns-in-Err-clause-image
 returns-in-Err-clause-image g c h =
@@ -67,7 +69,7 @@ returns-in-Err-clause-image g c h =
     let said = c.end_with.ensures in
     let back = said.says.trust.honest h in
     let why = c.in-Err.ensures in
-    tells_refused false c.args.sectors c.in-Err.fault c.fault_of.result (M.now c.args.m.now) (M.now c.mount.new.m) (M.now c.end_with.new.m) c.end_with.result c.fault_of.ensures (why.refused back) (why.lost back) (why.unsound back) (why.unchanged back) (why.rest back) (why.disk.quiet back) (said.says.exit h) (said.ends h) said.status
+    tells_refused false true c.args.sectors c.in-Err.fault c.fault_of.result (M.now c.args.m.now) (M.now c.mount.new.m) (M.now c.end_with.new.m) c.end_with.result c.fault_of.ensures (why.refused back) (why.lost back) (why.unsound back) (why.unchanged back) (why.rest back) (why.disk.quiet back) (said.says.exit h) (said.ends h) said.status
 
 -- ---- the fault that is said
 

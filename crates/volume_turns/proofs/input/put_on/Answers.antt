@@ -153,14 +153,14 @@ pub returns-in-Err-Failed-clause-counts : goal.returns-in-Err-Failed-clause-coun
 returns-in-Err-Failed-clause-counts g c =
     let report = g.M.Machine.report in
     let x = c.in-Err-Failed in
-    counts_untaken (failed_in x.field-0) (report c.args.m.now) (report c.read_input.new.m) (report c.end_with.new.m) c.end_with.result Ends.Input (λ e. omega (arith, e)) x.ensures.calls.spares c.end_with.ensures.says.spares c.end_with.ensures.status
+    counts_untaken (failed_in x.field-0) (report c.args.m.now) (report c.read_input.new.m) (report c.end_with.new.m) c.end_with.result Ends.Input (λ e. omega (arith, e)) (λ want. absurd want) x.ensures.calls.spares c.end_with.ensures.says.spares c.end_with.ensures.status
 
 pub returns-in-Err-Memory-clause-counts : goal.returns-in-Err-Memory-clause-counts
 returns-in-Err-Memory-clause-counts g c =
     let report = g.M.Machine.report in
     let x = c.in-Err-Memory in
     let line = c.end_with-in-Err-Memory in
-    counts_untaken (failed_in x.field-0) (report c.args.m.now) (report c.read_input.new.m) (report line.new.m) line.result Ends.Memory (λ e. omega (arith, e)) x.ensures.calls.spares line.ensures.says.spares line.ensures.status
+    counts_untaken (failed_in x.field-0) (report c.args.m.now) (report c.read_input.new.m) (report line.new.m) line.result Ends.Memory (λ e. omega (arith, e)) (λ want. ap failed_in x.field-0-is) x.ensures.calls.spares line.ensures.says.spares line.ensures.status
 
 -- ---- the input
 
@@ -180,22 +180,22 @@ returns-in-Err-Failed-clause-input g c five t =
     inl (subst (λ (n : ℕ). Rose before n) (sym c.end_with.ensures.says.spares.input) (subst (λ (y : Bool). Counts y before (report c.read_input.new.m).input_faults) (ap failed_in x.field-0-is) x.ensures.calls.spares.input))
 
 pub returns-in-Err-Memory-clause-input : goal.returns-in-Err-Memory-clause-input
-returns-in-Err-Memory-clause-input g c five t = absurd (not_as 5 7 c.end_with-in-Err-Memory.result (λ e. omega (arith, e)) (λ e. omega (arith, e)) (λ e. omega (arith, e)) c.end_with-in-Err-Memory.ensures.status five)
+returns-in-Err-Memory-clause-input g c five t = absurd (not_as 5 7 c.end_with-in-Err-Memory.result (λ e. omega (arith, e)) (λ e. omega (arith, e)) c.end_with-in-Err-Memory.ensures.status five)
 
 -- ---- a fault of the image
 
 pub returns-in-Ok-clause-says : goal.returns-in-Ok-clause-says
-returns-in-Ok-clause-says g c three h = call_since false (g.M.Machine.now c.args.m.now).said (g.M.Machine.now c.read_input.new.m).said (g.M.Machine.now c.one_on.new.m) (c.in-Ok.ensures.calls.exit (c.one_on.ensures.trust.honest h)).said (c.one_on.ensures.says three h)
+returns-in-Ok-clause-says g c three h = call_since false (g.V.Files.state c.args.v).layout (g.M.Machine.now c.args.m.now).said (g.M.Machine.now c.read_input.new.m).said (g.M.Machine.now c.one_on.new.m) (c.in-Ok.ensures.calls.exit (c.one_on.ensures.trust.honest h)).said (c.one_on.ensures.says three h)
 
 pub returns-in-Err-TooLong-clause-says : goal.returns-in-Err-TooLong-clause-says
 returns-in-Err-TooLong-clause-says g c three h =
-    call_since false (g.M.Machine.now c.args.m.now).said (g.M.Machine.now c.read_input.new.m).said (g.M.Machine.now c.refuse_input.new.m) (c.in-Err-TooLong.ensures.calls.exit (c.refuse_input.ensures.trust.honest h)).said (c.refuse_input.ensures.says three h)
+    call_since false (g.V.Files.state c.args.v).layout (g.M.Machine.now c.args.m.now).said (g.M.Machine.now c.read_input.new.m).said (g.M.Machine.now c.refuse_input.new.m) (c.in-Err-TooLong.ensures.calls.exit (c.refuse_input.ensures.trust.honest h)).said (c.refuse_input.ensures.says three h)
 
 pub returns-in-Err-Failed-clause-says : goal.returns-in-Err-Failed-clause-says
-returns-in-Err-Failed-clause-says g c three h = absurd (not_as 3 5 c.end_with.result (λ e. omega (arith, e)) (λ e. omega (arith, e)) (λ e. omega (arith, e)) c.end_with.ensures.status three)
+returns-in-Err-Failed-clause-says g c three h = absurd (not_as 3 5 c.end_with.result (λ e. omega (arith, e)) (λ e. omega (arith, e)) c.end_with.ensures.status three)
 
 pub returns-in-Err-Memory-clause-says : goal.returns-in-Err-Memory-clause-says
-returns-in-Err-Memory-clause-says g c three h = absurd (not_as 3 7 c.end_with-in-Err-Memory.result (λ e. omega (arith, e)) (λ e. omega (arith, e)) (λ e. omega (arith, e)) c.end_with-in-Err-Memory.ensures.status three)
+returns-in-Err-Memory-clause-says g c three h = absurd (not_as 3 7 c.end_with-in-Err-Memory.result (λ e. omega (arith, e)) (λ e. omega (arith, e)) c.end_with-in-Err-Memory.ensures.status three)
 
 -- ---- what is asked for, and trust
 
@@ -236,6 +236,20 @@ returns-in-Err-Failed-clause-whole g c low t = absurd (fault_not_low Ends.Input 
 
 pub returns-in-Err-Memory-clause-whole : goal.returns-in-Err-Memory-clause-whole
 returns-in-Err-Memory-clause-whole g c low t = absurd (fault_not_low Ends.Memory c.end_with-in-Err-Memory.result c.end_with-in-Err-Memory.ensures.status low)
+
+-- ---- a mount that is worn out
+
+pub returns-in-Ok-clause-unspent : goal.returns-in-Ok-clause-unspent
+returns-in-Ok-clause-unspent g c nine h = c.one_on.ensures.unspent nine h
+
+pub returns-in-Err-TooLong-clause-unspent : goal.returns-in-Err-TooLong-clause-unspent
+returns-in-Err-TooLong-clause-unspent g c nine h = c.refuse_input.ensures.unspent nine
+
+pub returns-in-Err-Failed-clause-unspent : goal.returns-in-Err-Failed-clause-unspent
+returns-in-Err-Failed-clause-unspent g c nine h = not_as 9 5 c.end_with.result (λ e. omega (arith, e)) (λ e. omega (arith, e)) c.end_with.ensures.status nine
+
+pub returns-in-Err-Memory-clause-unspent : goal.returns-in-Err-Memory-clause-unspent
+returns-in-Err-Memory-clause-unspent g c nine h = not_as 9 7 c.end_with-in-Err-Memory.result (λ e. omega (arith, e)) (λ e. omega (arith, e)) c.end_with-in-Err-Memory.ensures.status nine
 
 -- ---- the fault that is said
 
@@ -314,7 +328,7 @@ returns-in-Err-Failed-clause-fails g c five h =
     (subst (λ (n : ℕ). Rose before n) (sym line.says.spares.input) (subst (λ (y : Bool). Counts y before (M.report m).input_faults) (ap failed_in x.field-0-is) x.ensures.calls.spares.input)) (line.ends h) five
 
 pub returns-in-Err-Memory-clause-fails : goal.returns-in-Err-Memory-clause-fails
-returns-in-Err-Memory-clause-fails g c five h = absurd (not_as 5 7 c.end_with-in-Err-Memory.result (λ e. omega (arith, e)) (λ e. omega (arith, e)) (λ e. omega (arith, e)) c.end_with-in-Err-Memory.ensures.status five)
+returns-in-Err-Memory-clause-fails g c five h = absurd (not_as 5 7 c.end_with-in-Err-Memory.result (λ e. omega (arith, e)) (λ e. omega (arith, e)) c.end_with-in-Err-Memory.ensures.status five)
 
 -- ---- an input that is taken
 

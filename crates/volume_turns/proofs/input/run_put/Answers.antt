@@ -1,10 +1,12 @@
 use Rattle.std.proofs.Common.{inr, ◌≤◌, length, ℕ, List, false, subst, arith}
+use Rattle.fsd_texts.specs.Text.{fault_text}
+use Rattle.sector_disk.specs.Machine.{Utters}
 use Rattle.volume_turns.specs.Whole.{RunsOut}
 use Rattle.sector_disk.specs.Calls.{LeavesDisk}
 use Rattle.fsd_texts.specs.declared.fault.Fault.{Fault}
 use Rattle.fsd_texts.specs.Script.{max_input}
 use Rattle.fsd_runs.specs.declared.request.Request.TheVariants.{Put}
-use Rattle.volume_turns.specs.Line.{EndsWith, IsStatusFor, UttersFault, is_unsaid}
+use Rattle.volume_turns.specs.Line.{EndsWith, IsStatusFor, is_unsaid}
 use Rattle.volume_turns.proofs.PutLaws.{some_put}
 use Rattle.volume_turns.proofs.CauseLaws.{input_since, tells_mounted, tells_refused}
 use Rattle.volume_turns.proofs.StatusLaws.{fault_not_low, fails_behind, fault_not_five, fault_is_put, mount_counts, mount_of_volume, script_counts, script_counts_after}
@@ -37,7 +39,7 @@ returns-in-Err-clause-leaves g c honest l windows h f at =
     let b = c.end_with.new.m in
     let disk = c.in-Err.ensures.disk in
     let status = c.end_with.result in
-    let says = subst (λ (why : Fault). LeavesDisk M false (is_unsaid status) (UttersFault why) m b) c.fault_of.ensures c.end_with.ensures.says in
+    let says = subst (λ (why : Fault). LeavesDisk M false (is_unsaid status) (Utters (fault_text why)) m b) c.fault_of.ensures c.end_with.ensures.says in
     let ended = subst (λ (why : Fault). EndsWith why (M.now m) (M.now b) status) c.fault_of.ensures (c.end_with.ensures.ends honest) in
     let back = says.trust.honest honest in
     let rest = (M.ledger b).input in
@@ -70,7 +72,7 @@ returns-in-Ok-clause-image g c h =
     let M = g.M.Machine in
     let does = c.put_on.ensures in
     let back = does.trust.honest h in
-    tells_mounted false c.args.sectors (g.V.Files.state c.in-Ok.v) (M.now c.args.m.now) (M.now c.put_on.new.m) c.put_on.result (M.now c.mount.new.m).said (c.in-Ok.ensures.disk.quiet back) (c.in-Ok.ensures.found back) (λ three. does.says three h)
+    tells_mounted false false c.args.sectors (g.V.Files.state c.in-Ok.v) (M.now c.args.m.now) (M.now c.put_on.new.m) c.put_on.result (M.now c.mount.new.m).said (c.in-Ok.ensures.disk.quiet back) (c.in-Ok.ensures.found back) (λ three. does.says three h) (λ one nine. does.unspent nine h)
 
 pub returns-in-Err-clause-image : goal.returns-in-Err-clause-image
 returns-in-Err-clause-image g c h =
@@ -78,7 +80,7 @@ returns-in-Err-clause-image g c h =
     let said = c.end_with.ensures in
     let back = said.says.trust.honest h in
     let why = c.in-Err.ensures in
-    tells_refused false c.args.sectors c.in-Err.fault c.fault_of.result (M.now c.args.m.now) (M.now c.mount.new.m) (M.now c.end_with.new.m) c.end_with.result c.fault_of.ensures (why.refused back) (why.lost back) (why.unsound back) (why.unchanged back) (why.rest back) (why.disk.quiet back) (said.says.exit h) (said.ends h) said.status
+    tells_refused false false c.args.sectors c.in-Err.fault c.fault_of.result (M.now c.args.m.now) (M.now c.mount.new.m) (M.now c.end_with.new.m) c.end_with.result c.fault_of.ensures (why.refused back) (why.lost back) (why.unsound back) (why.unchanged back) (why.rest back) (why.disk.quiet back) (said.says.exit h) (said.ends h) said.status
 
 -- ---- the input
 

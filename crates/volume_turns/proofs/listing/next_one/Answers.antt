@@ -3,6 +3,7 @@ use Rattle.fsd_bytes.specs.declared.key.Key.{Key}
 use Rattle.fsd_files.specs.Answers.{next_reply}
 use Rattle.volume_contract.specs.Ends.{Looks}
 use Rattle.volume_contract.specs.State.{volume_of}
+use Rattle.volume_turns.proofs.ToldLaws.{told_next}
 use Rattle.volume_turns.proofs.listing.next_one.Goals as goal
 
 pub returns-in-Some-clause-done : goal.returns-in-Some-clause-done
@@ -10,3 +11,17 @@ returns-in-Some-clause-done g c h k stands = subst (λ (o : Option Key). Looks (
 
 pub returns-in-None-clause-done : goal.returns-in-None-clause-done
 returns-in-None-clause-done g c h k stands = subst (λ (o : Option Key). Looks (next_reply (volume_of k) o) c.next_after-in-None.result) (sym c.in-None.is) (c.next_after-in-None.ensures.done h k stands)
+
+-- ---- what is told of the image
+
+pub returns-in-Some-clause-told : goal.returns-in-Some-clause-told
+returns-in-Some-clause-told g c =
+    let V = g.V.Files in
+    let e = c.next_after.ensures in
+    told_next g.M.Machine (V.state c.args.v.now) (V.state c.next_after.new.self) (V.resident c.args.v.now) c.args.m.now c.next_after.new.m e.state c.next_after.result e.causes
+
+pub returns-in-None-clause-told : goal.returns-in-None-clause-told
+returns-in-None-clause-told g c =
+    let V = g.V.Files in
+    let e = c.next_after-in-None.ensures in
+    told_next g.M.Machine (V.state c.args.v.now) (V.state c.next_after-in-None.new.self) (V.resident c.args.v.now) c.args.m.now c.next_after-in-None.new.m e.state c.next_after-in-None.result e.causes

@@ -8,7 +8,9 @@ use Rattle.std.proofs.Common.{Ok, ap}
 use Rattle.std.specs.Prelude.{Result}
 use Rattle.volume_turns.specs.declared.turns.End.{End}
 use Rattle.volume_turns.specs.declared.script.Stop.{Stop}
+use Rattle.volume_turns.proofs.LineLaws.{wanting_end, wanting_none, wanting_same}
 use Rattle.volume_turns.proofs.SaidLaws.{broken_by, worn_whole}
+use Rattle.volume_turns.proofs.ToldLaws.{told_behind}
 use Rattle.volume_turns.proofs.script.group_read.Goals as goal
 
 pub returns-in-Ok-clause-group : goal.returns-in-Ok-clause-group
@@ -132,3 +134,41 @@ returns-then-is_worn_end-clause-broken g c h =
 
 pub returns-else-is_worn_end-clause-broken : goal.returns-else-is_worn_end-clause-broken
 returns-else-is_worn_end-clause-broken g c h = c.in-Err.ensures.whole_replies h
+
+-- ---- where memory is wanted
+
+pub returns-in-Ok-clause-memory : goal.returns-in-Ok-clause-memory
+returns-in-Ok-clause-memory g c =
+    let report = g.M.Machine.report in
+    let done = c.force_read in
+    wanting_none (report c.args.m.now) (report done.new.m) done.result (done.ensures.wants c.in-Ok.ensures.up)
+
+pub returns-then-is_worn_end-clause-memory : goal.returns-then-is_worn_end-clause-memory
+returns-then-is_worn_end-clause-memory g c =
+    let report = g.M.Machine.report in
+    let done = c.force_read-then-is_worn_end in
+    wanting_same (report c.args.m.now) (report done.new.m) (done.ensures.told.input ∙ c.in-Err.ensures.quiet) done.result
+
+pub returns-else-is_worn_end-clause-memory : goal.returns-else-is_worn_end-clause-memory
+returns-else-is_worn_end-clause-memory g c =
+    let report = g.M.Machine.report in
+    wanting_end (report c.args.m.now) (report c.read_all.new.m) c.in-Err.ensures.quiet c.in-Err.end
+
+-- ---- what is told of the image
+
+pub returns-in-Ok-clause-image : goal.returns-in-Ok-clause-image
+returns-in-Ok-clause-image g c =
+    let M = g.M.Machine in
+    let state = g.V.Files.state in
+    let done = c.force_read in
+    told_behind (state c.args.v).layout (state c.read_all.new.v).layout c.read_all.ensures.layout (M.honest done.new.m) (M.now done.new.m).image done.result done.ensures.image
+
+pub returns-then-is_worn_end-clause-image : goal.returns-then-is_worn_end-clause-image
+returns-then-is_worn_end-clause-image g c =
+    let M = g.M.Machine in
+    let state = g.V.Files.state in
+    let done = c.force_read-then-is_worn_end in
+    told_behind (state c.args.v).layout (state c.read_all.new.v).layout c.read_all.ensures.layout (M.honest done.new.m) (M.now done.new.m).image done.result done.ensures.image
+
+pub returns-else-is_worn_end-clause-image : goal.returns-else-is_worn_end-clause-image
+returns-else-is_worn_end-clause-image g c h = c.in-Err.ensures.image h

@@ -4,7 +4,7 @@ use Rattle.sector_disk.proofs.Holding.{trusts_on}
 use Rattle.script_text.specs.Reading.{Reading, fresh}
 use Rattle.volume_turns.specs.Script.{DoneSo, GoesOn, Reads, RoseBy}
 use Rattle.volume_turns.specs.declared.script.Stop.{Stop}
-use Rattle.volume_turns.specs.Turns.{Follows}
+use Rattle.volume_turns.specs.Turns.{Follows, IsEndOn}
 use Rattle.volume_turns.proofs.RunLaws.{follows_then}
 use Rattle.volume_turns.proofs.ScriptLaws.{done_none, heard_as, heard_end, heard_none, heard_then, reads_then, rose_then}
 use Rattle.std.proofs.Common.{◌≡◌}
@@ -163,3 +163,8 @@ pub returns-in-Err-clause-whole_replies : goal.returns-in-Err-clause-whole_repli
 returns-in-Err-clause-whole_replies g c h =
     let now = g.M.Machine.now in
     whole_then g.T.Says.errand.says (now c.args.m.now) (now c.loop-stop.m) (now c.read_on.new.m) c.in-Err.end (c.loop-stop.invariant.replies (c.read_on.ensures.trust.honest h)) (c.in-Err.ensures.whole_replies h)
+
+-- ---- what is told of the image
+
+pub returns-in-Err-clause-image : goal.returns-in-Err-clause-image
+returns-in-Err-clause-image g c h = subst (λ (l : Layout). IsEndOn l (g.M.Machine.now c.read_on.new.m).image c.in-Err.end) c.loop-stop.invariant.layout (c.in-Err.ensures.image h)

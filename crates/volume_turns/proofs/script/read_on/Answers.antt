@@ -186,3 +186,11 @@ returns-in-Err-Input-clause-whole_replies g c h = no_replies g.T.Says.errand.say
 
 pub returns-clause-whole_replies : goal.returns-clause-whole_replies
 returns-clause-whole_replies g c h = no_replies g.T.Says.errand.says (g.M.Machine.now c.args.m.now).said (g.M.Machine.now c.next_command.new.m).said (c.next_command.ensures.calls.exit h).said
+
+-- ---- what is told of the image
+
+pub returns-in-Ok-Some-clause-image : goal.returns-in-Ok-Some-clause-image
+returns-in-Ok-Some-clause-image g c h = c.in-Err.ensures.image h
+
+pub returns-clause-image : goal.returns-clause-image
+returns-clause-image g c h = tt

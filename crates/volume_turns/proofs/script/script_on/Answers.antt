@@ -11,16 +11,16 @@ use Rattle.fsd_runs.specs.Errands.{line_turn}
 use Rattle.volume_turns.specs.declared.script.Stop.{Stop}
 use Rattle.volume_turns.specs.declared.script.Stop.TheVariants.{Ended}
 use Rattle.volume_turns.specs.declared.turns.End.{End}
-use Rattle.volume_turns.specs.Script.{GroupsBy, Heard, RoseBy}
+use Rattle.volume_turns.specs.Script.{GroupsBy, Heard, RoseBy, SparesWanting}
 use Rattle.volume_turns.specs.Turns.{IsEndOfVolume}
 use Rattle.fsd_files.specs.Replies.{Reply}
-use Rattle.volume_turns.specs.Turns.{EndsWhole, SaysReplies}
+use Rattle.volume_turns.specs.Turns.{EndsWhole, IsEndOn, SaysReplies}
 use Rattle.volume_turns.proofs.ScriptEndLaws.{but_input, group_fault, group_fault_all, group_quiet, group_said, group_unsaid, group_unsaid_all, group_worn_said, told_but}
 use Rattle.volume_turns.proofs.ScriptRunLaws.{runs_either, runs_ended, runs_failed, runs_worn}
-use Rattle.volume_turns.proofs.CauseLaws.{line_input, long_input, says_bad, call_says}
+use Rattle.volume_turns.proofs.CauseLaws.{call_says, long_input, says_bad, says_input}
 use Rattle.volume_turns.proofs.StatusLaws.{fault_not_bad, fault_not_zero, fault_not_five, not_as, call_of_volume, bad_is_script, fault_is_script, input_is_script, script_done_counts, script_fault_counts, script_line_counts, script_unsaid_counts, worn_is_script}
 use Rattle.fsd_texts.specs.Script.{max_input}
-use Rattle.volume_turns.proofs.LastLaws.{ends_fault, line_fault, line_other, told_place}
+use Rattle.volume_turns.proofs.LastLaws.{ends_fault, line_other, told_place}
 use Rattle.volume_turns.proofs.script.script_on.Goals as goal
 
 pub returns-in-Ok-Ended-Done-clause-runs : goal.returns-in-Ok-Ended-Done-clause-runs
@@ -194,7 +194,10 @@ pub returns-in-Ok-WornOut-clause-counts : goal.returns-in-Ok-WornOut-clause-coun
 returns-in-Ok-WornOut-clause-counts g c =
     let report = g.M.Machine.report in
     let line = c.last_line-in-Ok-WornOut in
-    script_line_counts (report c.args.m.now) (report c.group_read.new.m) (report line.new.m) line.result line.ensures.says.spares c.in-Ok-WornOut.field-0 9 (λ e. omega (arith, e)) (λ quiet. cc quiet) c.in-Ok-WornOut.ensures.heard line.ensures.status
+    let a = report c.args.m.now in
+    let p = report c.group_read.new.m in
+    let x = c.in-Ok-WornOut in
+    script_line_counts a p (report line.new.m) line.result line.ensures.says.spares x.field-0 9 (λ e. omega (arith, e)) (λ quiet. subst (λ (s : Stop). RoseBy a p (Some s)) x.field-0-is x.ensures.rose) x.ensures.heard line.ensures.status
 
 pub returns-in-Err-Fault-clause-counts : goal.returns-in-Err-Fault-clause-counts
 returns-in-Err-Fault-clause-counts g c =
@@ -202,7 +205,7 @@ returns-in-Err-Fault-clause-counts g c =
     let a = report c.args.m.now in
     let p = report c.group_read.new.m in
     let x = c.in-Err-Fault in
-    script_fault_counts a p (report c.end_with.new.m) c.end_with.result c.end_with.ensures.says.spares x.why (subst (λ (y : End). Heard {T = Stop} a p (Err y)) x.field-0-is x.ensures.heard) c.end_with.ensures.status
+    script_fault_counts a p (report c.end_with.new.m) c.end_with.result c.end_with.ensures.says.spares x.why (subst (λ (y : End). SparesWanting a p y) x.field-0-is x.ensures.memory) (subst (λ (y : End). Heard {T = Stop} a p (Err y)) x.field-0-is x.ensures.heard) c.end_with.ensures.status
 
 pub returns-in-Err-Output-clause-counts : goal.returns-in-Err-Output-clause-counts
 returns-in-Err-Output-clause-counts g c =
@@ -218,22 +221,29 @@ pub returns-in-Ok-Ended-Done-clause-says : goal.returns-in-Ok-Ended-Done-clause-
 returns-in-Ok-Ended-Done-clause-says g c three h = absurd (omega (arith, three))
 
 pub returns-in-Ok-Ended-Bad-clause-says : goal.returns-in-Ok-Ended-Bad-clause-says
-returns-in-Ok-Ended-Bad-clause-says g c three h = absurd (not_as 3 2 c.last_line.result (λ e. omega (arith, e)) (λ e. omega (arith, e)) (λ e. omega (arith, e)) c.last_line.ensures.status three)
+returns-in-Ok-Ended-Bad-clause-says g c three h = absurd (not_as 3 2 c.last_line.result (λ e. omega (arith, e)) (λ e. omega (arith, e)) c.last_line.ensures.status three)
 
 pub returns-in-Ok-Ended-TooLong-clause-says : goal.returns-in-Ok-Ended-TooLong-clause-says
-returns-in-Ok-Ended-TooLong-clause-says g c three h = absurd (not_as 3 5 c.last_line-in-Ok-Ended-TooLong.result (λ e. omega (arith, e)) (λ e. omega (arith, e)) (λ e. omega (arith, e)) c.last_line-in-Ok-Ended-TooLong.ensures.status three)
+returns-in-Ok-Ended-TooLong-clause-says g c three h = absurd (not_as 3 5 c.last_line-in-Ok-Ended-TooLong.result (λ e. omega (arith, e)) (λ e. omega (arith, e)) c.last_line-in-Ok-Ended-TooLong.ensures.status three)
 
 pub returns-in-Ok-Input-clause-says : goal.returns-in-Ok-Input-clause-says
-returns-in-Ok-Input-clause-says g c three h = absurd (not_as 3 5 c.last_line-in-Ok-Input.result (λ e. omega (arith, e)) (λ e. omega (arith, e)) (λ e. omega (arith, e)) c.last_line-in-Ok-Input.ensures.status three)
+returns-in-Ok-Input-clause-says g c three h = absurd (not_as 3 5 c.last_line-in-Ok-Input.result (λ e. omega (arith, e)) (λ e. omega (arith, e)) c.last_line-in-Ok-Input.ensures.status three)
 
 pub returns-in-Ok-WornOut-clause-says : goal.returns-in-Ok-WornOut-clause-says
-returns-in-Ok-WornOut-clause-says g c three h = absurd (not_as 3 9 c.last_line-in-Ok-WornOut.result (λ e. omega (arith, e)) (λ e. omega (arith, e)) (λ e. omega (arith, e)) c.last_line-in-Ok-WornOut.ensures.status three)
+returns-in-Ok-WornOut-clause-says g c three h = absurd (not_as 3 9 c.last_line-in-Ok-WornOut.result (λ e. omega (arith, e)) (λ e. omega (arith, e)) c.last_line-in-Ok-WornOut.ensures.status three)
 
 pub returns-in-Err-Fault-clause-says : goal.returns-in-Err-Fault-clause-says
 returns-in-Err-Fault-clause-says g c three h =
     let now = g.M.Machine.now in
-    call_says true (now c.args.m.now).said c.in-Err-Fault.why (subst IsEndOfVolume c.in-Err-Fault.field-0-is c.in-Err-Fault.ensures.fault) (now c.group_read.new.m) (now c.end_with.new.m) c.end_with.result (subst (λ (says : Reply → List ℕ). SaysReplies says (now c.args.m.now).said (now c.group_read.new.m).said) c.requires.says
-    (subst (λ (e : End). EndsWhole g.T.Says.errand.says (now c.args.m.now) (now c.group_read.new.m) e) c.in-Err-Fault.field-0-is (c.in-Err-Fault.ensures.broken (c.end_with.ensures.says.trust.honest h)))) (c.end_with.ensures.ends h) three
+    let x = c.in-Err-Fault in
+    let a = now c.args.m.now in
+    let m = now c.group_read.new.m in
+    let l = (g.V.Files.state c.args.v).layout in
+    let said = c.end_with.ensures in
+    let back = said.says.trust.honest h in
+    call_says true l a.said x.why (subst IsEndOfVolume x.field-0-is x.ensures.fault) m (now c.end_with.new.m) c.end_with.result
+    (subst (λ (says : Reply → List ℕ). SaysReplies says a.said m.said) c.requires.says (subst (λ (e : End). EndsWhole g.T.Says.errand.says a m e) x.field-0-is (x.ensures.broken back))) (said.says.exit h).image
+    (subst (λ (e : End). IsEndOn l m.image e) x.field-0-is (x.ensures.image back)) (said.ends h) three
 
 pub returns-in-Err-Output-clause-says : goal.returns-in-Err-Output-clause-says
 returns-in-Err-Output-clause-says g c three h = absurd (omega (arith, three))
@@ -247,7 +257,7 @@ pub returns-in-Ok-Ended-Done-clause-input : goal.returns-in-Ok-Ended-Done-clause
 returns-in-Ok-Ended-Done-clause-input g c five t = absurd (omega (arith, five))
 
 pub returns-in-Ok-Ended-Bad-clause-input : goal.returns-in-Ok-Ended-Bad-clause-input
-returns-in-Ok-Ended-Bad-clause-input g c five t = absurd (not_as 5 2 c.last_line.result (λ e. omega (arith, e)) (λ e. omega (arith, e)) (λ e. omega (arith, e)) c.last_line.ensures.status five)
+returns-in-Ok-Ended-Bad-clause-input g c five t = absurd (not_as 5 2 c.last_line.result (λ e. omega (arith, e)) (λ e. omega (arith, e)) c.last_line.ensures.status five)
 
 pub returns-in-Ok-Ended-TooLong-clause-input : goal.returns-in-Ok-Ended-TooLong-clause-input
 returns-in-Ok-Ended-TooLong-clause-input g c five t =
@@ -264,7 +274,7 @@ returns-in-Ok-Input-clause-input g c five t =
     inl (subst (λ (n : ℕ). Rose a.input_faults n) (sym c.last_line-in-Ok-Input.ensures.says.spares.input) rose)
 
 pub returns-in-Ok-WornOut-clause-input : goal.returns-in-Ok-WornOut-clause-input
-returns-in-Ok-WornOut-clause-input g c five t = absurd (not_as 5 9 c.last_line-in-Ok-WornOut.result (λ e. omega (arith, e)) (λ e. omega (arith, e)) (λ e. omega (arith, e)) c.last_line-in-Ok-WornOut.ensures.status five)
+returns-in-Ok-WornOut-clause-input g c five t = absurd (not_as 5 9 c.last_line-in-Ok-WornOut.result (λ e. omega (arith, e)) (λ e. omega (arith, e)) c.last_line-in-Ok-WornOut.ensures.status five)
 
 pub returns-in-Err-Fault-clause-input : goal.returns-in-Err-Fault-clause-input
 returns-in-Err-Fault-clause-input g c five t =
@@ -276,16 +286,16 @@ returns-in-Err-Output-clause-input g c five t = absurd (omega (arith, five))
 -- ---- where all is done
 
 pub returns-in-Ok-Ended-Bad-clause-whole : goal.returns-in-Ok-Ended-Bad-clause-whole
-returns-in-Ok-Ended-Bad-clause-whole g c zero t = absurd (not_as 0 2 c.last_line.result (λ e. omega (arith, e)) (λ e. omega (arith, e)) (λ e. omega (arith, e)) c.last_line.ensures.status zero)
+returns-in-Ok-Ended-Bad-clause-whole g c zero t = absurd (not_as 0 2 c.last_line.result (λ e. omega (arith, e)) (λ e. omega (arith, e)) c.last_line.ensures.status zero)
 
 pub returns-in-Ok-Ended-TooLong-clause-whole : goal.returns-in-Ok-Ended-TooLong-clause-whole
-returns-in-Ok-Ended-TooLong-clause-whole g c zero t = absurd (not_as 0 5 c.last_line-in-Ok-Ended-TooLong.result (λ e. omega (arith, e)) (λ e. omega (arith, e)) (λ e. omega (arith, e)) c.last_line-in-Ok-Ended-TooLong.ensures.status zero)
+returns-in-Ok-Ended-TooLong-clause-whole g c zero t = absurd (not_as 0 5 c.last_line-in-Ok-Ended-TooLong.result (λ e. omega (arith, e)) (λ e. omega (arith, e)) c.last_line-in-Ok-Ended-TooLong.ensures.status zero)
 
 pub returns-in-Ok-Input-clause-whole : goal.returns-in-Ok-Input-clause-whole
-returns-in-Ok-Input-clause-whole g c zero t = absurd (not_as 0 5 c.last_line-in-Ok-Input.result (λ e. omega (arith, e)) (λ e. omega (arith, e)) (λ e. omega (arith, e)) c.last_line-in-Ok-Input.ensures.status zero)
+returns-in-Ok-Input-clause-whole g c zero t = absurd (not_as 0 5 c.last_line-in-Ok-Input.result (λ e. omega (arith, e)) (λ e. omega (arith, e)) c.last_line-in-Ok-Input.ensures.status zero)
 
 pub returns-in-Ok-WornOut-clause-whole : goal.returns-in-Ok-WornOut-clause-whole
-returns-in-Ok-WornOut-clause-whole g c zero t = absurd (not_as 0 9 c.last_line-in-Ok-WornOut.result (λ e. omega (arith, e)) (λ e. omega (arith, e)) (λ e. omega (arith, e)) c.last_line-in-Ok-WornOut.ensures.status zero)
+returns-in-Ok-WornOut-clause-whole g c zero t = absurd (not_as 0 9 c.last_line-in-Ok-WornOut.result (λ e. omega (arith, e)) (λ e. omega (arith, e)) c.last_line-in-Ok-WornOut.ensures.status zero)
 
 pub returns-in-Ok-Ended-Done-clause-whole : goal.returns-in-Ok-Ended-Done-clause-whole
 returns-in-Ok-Ended-Done-clause-whole g c zero t =
@@ -301,16 +311,16 @@ returns-in-Err-Output-clause-whole g c zero t = absurd (omega (arith, zero))
 -- ---- no line is bad
 
 pub returns-in-Ok-Ended-Bad-clause-spelled : goal.returns-in-Ok-Ended-Bad-clause-spelled
-returns-in-Ok-Ended-Bad-clause-spelled g c zero t = absurd (not_as 0 2 c.last_line.result (λ e. omega (arith, e)) (λ e. omega (arith, e)) (λ e. omega (arith, e)) c.last_line.ensures.status zero)
+returns-in-Ok-Ended-Bad-clause-spelled g c zero t = absurd (not_as 0 2 c.last_line.result (λ e. omega (arith, e)) (λ e. omega (arith, e)) c.last_line.ensures.status zero)
 
 pub returns-in-Ok-Ended-TooLong-clause-spelled : goal.returns-in-Ok-Ended-TooLong-clause-spelled
-returns-in-Ok-Ended-TooLong-clause-spelled g c zero t = absurd (not_as 0 5 c.last_line-in-Ok-Ended-TooLong.result (λ e. omega (arith, e)) (λ e. omega (arith, e)) (λ e. omega (arith, e)) c.last_line-in-Ok-Ended-TooLong.ensures.status zero)
+returns-in-Ok-Ended-TooLong-clause-spelled g c zero t = absurd (not_as 0 5 c.last_line-in-Ok-Ended-TooLong.result (λ e. omega (arith, e)) (λ e. omega (arith, e)) c.last_line-in-Ok-Ended-TooLong.ensures.status zero)
 
 pub returns-in-Ok-Input-clause-spelled : goal.returns-in-Ok-Input-clause-spelled
-returns-in-Ok-Input-clause-spelled g c zero t = absurd (not_as 0 5 c.last_line-in-Ok-Input.result (λ e. omega (arith, e)) (λ e. omega (arith, e)) (λ e. omega (arith, e)) c.last_line-in-Ok-Input.ensures.status zero)
+returns-in-Ok-Input-clause-spelled g c zero t = absurd (not_as 0 5 c.last_line-in-Ok-Input.result (λ e. omega (arith, e)) (λ e. omega (arith, e)) c.last_line-in-Ok-Input.ensures.status zero)
 
 pub returns-in-Ok-WornOut-clause-spelled : goal.returns-in-Ok-WornOut-clause-spelled
-returns-in-Ok-WornOut-clause-spelled g c zero t = absurd (not_as 0 9 c.last_line-in-Ok-WornOut.result (λ e. omega (arith, e)) (λ e. omega (arith, e)) (λ e. omega (arith, e)) c.last_line-in-Ok-WornOut.ensures.status zero)
+returns-in-Ok-WornOut-clause-spelled g c zero t = absurd (not_as 0 9 c.last_line-in-Ok-WornOut.result (λ e. omega (arith, e)) (λ e. omega (arith, e)) c.last_line-in-Ok-WornOut.ensures.status zero)
 
 pub returns-in-Ok-Ended-Done-clause-spelled : goal.returns-in-Ok-Ended-Done-clause-spelled
 returns-in-Ok-Ended-Done-clause-spelled g c zero t =
@@ -326,13 +336,13 @@ returns-in-Err-Output-clause-spelled g c zero t = absurd (omega (arith, zero))
 -- ---- a bad line
 
 pub returns-in-Ok-Ended-TooLong-clause-bad : goal.returns-in-Ok-Ended-TooLong-clause-bad
-returns-in-Ok-Ended-TooLong-clause-bad g c two h = absurd (not_as 2 5 c.last_line-in-Ok-Ended-TooLong.result (λ e. omega (arith, e)) (λ e. omega (arith, e)) (λ e. omega (arith, e)) c.last_line-in-Ok-Ended-TooLong.ensures.status two)
+returns-in-Ok-Ended-TooLong-clause-bad g c two h = absurd (not_as 2 5 c.last_line-in-Ok-Ended-TooLong.result (λ e. omega (arith, e)) (λ e. omega (arith, e)) c.last_line-in-Ok-Ended-TooLong.ensures.status two)
 
 pub returns-in-Ok-Input-clause-bad : goal.returns-in-Ok-Input-clause-bad
-returns-in-Ok-Input-clause-bad g c two h = absurd (not_as 2 5 c.last_line-in-Ok-Input.result (λ e. omega (arith, e)) (λ e. omega (arith, e)) (λ e. omega (arith, e)) c.last_line-in-Ok-Input.ensures.status two)
+returns-in-Ok-Input-clause-bad g c two h = absurd (not_as 2 5 c.last_line-in-Ok-Input.result (λ e. omega (arith, e)) (λ e. omega (arith, e)) c.last_line-in-Ok-Input.ensures.status two)
 
 pub returns-in-Ok-WornOut-clause-bad : goal.returns-in-Ok-WornOut-clause-bad
-returns-in-Ok-WornOut-clause-bad g c two h = absurd (not_as 2 9 c.last_line-in-Ok-WornOut.result (λ e. omega (arith, e)) (λ e. omega (arith, e)) (λ e. omega (arith, e)) c.last_line-in-Ok-WornOut.ensures.status two)
+returns-in-Ok-WornOut-clause-bad g c two h = absurd (not_as 2 9 c.last_line-in-Ok-WornOut.result (λ e. omega (arith, e)) (λ e. omega (arith, e)) c.last_line-in-Ok-WornOut.ensures.status two)
 
 pub returns-in-Ok-Ended-Done-clause-bad : goal.returns-in-Ok-Ended-Done-clause-bad
 returns-in-Ok-Ended-Done-clause-bad g c two h = absurd (omega (arith, two))
@@ -365,17 +375,17 @@ returns-in-Ok-Ended-Bad-clause-last g c of h =
 pub returns-in-Ok-Ended-TooLong-clause-last : goal.returns-in-Ok-Ended-TooLong-clause-last
 returns-in-Ok-Ended-TooLong-clause-last g c of h =
     let line = c.last_line-in-Ok-Ended-TooLong in
-    line_fault (g.M.Machine.report line.new.m).fault_place (g.M.Machine.now c.group_read.new.m) (g.M.Machine.now line.new.m) line.result Ends.InputTooLong tt (line.ensures.ends h) of
+    ends_fault (g.M.Machine.report line.new.m).fault_place (g.M.Machine.now c.group_read.new.m) (g.M.Machine.now line.new.m) line.result Ends.InputTooLong tt (line.ensures.ends h) of
 
 pub returns-in-Ok-Input-clause-last : goal.returns-in-Ok-Input-clause-last
 returns-in-Ok-Input-clause-last g c of h =
     let line = c.last_line-in-Ok-Input in
-    line_fault (g.M.Machine.report line.new.m).fault_place (g.M.Machine.now c.group_read.new.m) (g.M.Machine.now line.new.m) line.result Ends.Input tt (line.ensures.ends h) of
+    ends_fault (g.M.Machine.report line.new.m).fault_place (g.M.Machine.now c.group_read.new.m) (g.M.Machine.now line.new.m) line.result Ends.Input tt (line.ensures.ends h) of
 
 pub returns-in-Ok-WornOut-clause-last : goal.returns-in-Ok-WornOut-clause-last
 returns-in-Ok-WornOut-clause-last g c of h =
     let line = c.last_line-in-Ok-WornOut in
-    line_fault (g.M.Machine.report line.new.m).fault_place (g.M.Machine.now c.group_read.new.m) (g.M.Machine.now line.new.m) line.result Ends.WornOut tt (line.ensures.ends h) of
+    ends_fault (g.M.Machine.report line.new.m).fault_place (g.M.Machine.now c.group_read.new.m) (g.M.Machine.now line.new.m) line.result Ends.WornOut tt (line.ensures.ends h) of
 
 pub returns-in-Err-Fault-clause-last : goal.returns-in-Err-Fault-clause-last
 returns-in-Err-Fault-clause-last g c of h =
@@ -397,7 +407,7 @@ pub returns-in-Ok-Ended-Done-clause-fails : goal.returns-in-Ok-Ended-Done-clause
 returns-in-Ok-Ended-Done-clause-fails g c five h = absurd (omega (arith, five))
 
 pub returns-in-Ok-Ended-Bad-clause-fails : goal.returns-in-Ok-Ended-Bad-clause-fails
-returns-in-Ok-Ended-Bad-clause-fails g c five h = absurd (not_as 5 2 c.last_line.result (λ e. omega (arith, e)) (λ e. omega (arith, e)) (λ e. omega (arith, e)) c.last_line.ensures.status five)
+returns-in-Ok-Ended-Bad-clause-fails g c five h = absurd (not_as 5 2 c.last_line.result (λ e. omega (arith, e)) (λ e. omega (arith, e)) c.last_line.ensures.status five)
 
 pub returns-in-Ok-Ended-TooLong-clause-fails : goal.returns-in-Ok-Ended-TooLong-clause-fails
 returns-in-Ok-Ended-TooLong-clause-fails g c five h =
@@ -409,7 +419,7 @@ returns-in-Ok-Ended-TooLong-clause-fails g c five h =
     let x = c.in-Ok-Ended-TooLong in
     let tells = g.met.M.Machine.honest_tells p (line.ensures.says.trust.honest h) in
     let many = long_input max_input 1 (M.ledger a).input (x.ensures.ends TooLong (ap come_to (x.field-0-is ∙ ap (λ (y : ScriptEnd). Ended y) x.field-0-0-is)) tells) in
-    line_input Ends.InputTooLong (M.ledger a).input (M.report a) (M.report b) (M.now p) (M.now b) line.result many (line.ensures.ends h) five
+    says_input Ends.InputTooLong (M.ledger a).input (M.report a) (M.report b) (M.now p) (M.now b) line.result many (line.ensures.ends h) five
 
 pub returns-in-Ok-Input-clause-fails : goal.returns-in-Ok-Input-clause-fails
 returns-in-Ok-Input-clause-fails g c five h =
@@ -421,10 +431,10 @@ returns-in-Ok-Input-clause-fails g c five h =
     let x = c.in-Ok-Input in
     let before = (M.report a).input_faults in
     let rose : Rose before (M.report p).input_faults = subst (λ (s : Stop). RoseBy (M.report a) (M.report p) (Some s)) x.field-0-is x.ensures.rose in
-    line_input Ends.Input (M.ledger a).input (M.report a) (M.report b) (M.now p) (M.now b) line.result (subst (λ (n : ℕ). Rose before n) (sym line.ensures.says.spares.input) rose) (line.ensures.ends h) five
+    says_input Ends.Input (M.ledger a).input (M.report a) (M.report b) (M.now p) (M.now b) line.result (subst (λ (n : ℕ). Rose before n) (sym line.ensures.says.spares.input) rose) (line.ensures.ends h) five
 
 pub returns-in-Ok-WornOut-clause-fails : goal.returns-in-Ok-WornOut-clause-fails
-returns-in-Ok-WornOut-clause-fails g c five h = absurd (not_as 5 9 c.last_line-in-Ok-WornOut.result (λ e. omega (arith, e)) (λ e. omega (arith, e)) (λ e. omega (arith, e)) c.last_line-in-Ok-WornOut.ensures.status five)
+returns-in-Ok-WornOut-clause-fails g c five h = absurd (not_as 5 9 c.last_line-in-Ok-WornOut.result (λ e. omega (arith, e)) (λ e. omega (arith, e)) c.last_line-in-Ok-WornOut.ensures.status five)
 
 pub returns-in-Err-Fault-clause-fails : goal.returns-in-Err-Fault-clause-fails
 returns-in-Err-Fault-clause-fails g c five h =

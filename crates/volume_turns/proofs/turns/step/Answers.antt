@@ -5,6 +5,7 @@ use Rattle.volume_turns.specs.Turns.{SaysAll, Unsaid}
 use Rattle.volume_turns.proofs.RunLaws.{step_said, step_fault, told_fault, on_ok_said, on_err_said}
 use Rattle.volume_turns.proofs.AnsweringLaws.{says_so}
 use Rattle.volume_turns.proofs.SaidLaws.{no_replies, whole_by}
+use Rattle.volume_turns.proofs.ToldLaws.{unsaid_on}
 use Rattle.volume_turns.proofs.turns.step.Goals as goal
 
 pub returns-in-Ok-clause-steps : goal.returns-in-Ok-clause-steps
@@ -52,3 +53,14 @@ returns-in-Ok-clause-whole_replies g c h =
 
 pub returns-in-Err-clause-whole_replies : goal.returns-in-Err-clause-whole_replies
 returns-in-Err-clause-whole_replies g c h = no_replies g.T.Says.errand.says (g.M.Machine.now c.args.m.now).said (g.M.Machine.now c.answer.new.m).said (c.in-Err.ensures.disk.quiet h)
+
+-- ---- what is told of the image
+
+pub returns-in-Ok-clause-image : goal.returns-in-Ok-clause-image
+returns-in-Ok-clause-image g c =
+    let M = g.M.Machine in
+    let b = c.say.new.m in
+    unsaid_on (g.V.Files.state c.args.v.now).layout (M.now b).image (M.honest b) (M.now c.answer.new.m) (M.now b) c.say.result c.say.ensures.unsaid
+
+pub returns-in-Err-clause-image : goal.returns-in-Err-clause-image
+returns-in-Err-clause-image g c h = (c.in-Err.ensures.answers h).told

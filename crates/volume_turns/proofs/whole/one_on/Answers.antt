@@ -1,5 +1,7 @@
-use Rattle.std.proofs.Common.{false, ℕ, Err, subst, arith}
+use Rattle.std.proofs.Common.{false, ℕ, Err, refl, ◌∙◌, ap, subst, arith}
+use Rattle.fsd_texts.specs.declared.fault.Fault.{Fault}
 use Rattle.volume_turns.specs.declared.turns.End.{End}
+use Rattle.volume_turns.specs.declared.turns.End.TheVariants.{Fault as Stopped}
 use Rattle.volume_turns.specs.Once.{IsAlone}
 use Rattle.volume_turns.specs.Turns.{IsEndOfVolume, Told}
 use Rattle.volume_turns.proofs.CauseLaws.{call_says}
@@ -8,6 +10,7 @@ use Rattle.volume_turns.proofs.OneLaws.{one_broken, one_said, one_unsaid}
 use Rattle.volume_turns.proofs.LastLaws.{ends_fault, reply_not, told_place}
 use Rattle.volume_turns.specs.Answering.{AnswersAlone}
 use Rattle.volume_turns.proofs.AnsweringLaws.{one_failed, one_replied, one_unheard}
+use Rattle.volume_turns.proofs.WornLaws.{status_worn}
 use Rattle.volume_turns.proofs.whole.one_on.Goals as goal
 
 pub returns-in-Ok-clause-runs : goal.returns-in-Ok-clause-runs
@@ -73,10 +76,24 @@ returns-in-Err-Fault-clause-says g c three h =
     let a = now c.args.m.now in
     let m = now c.alone.new.m in
     let ended = subst (λ (e : End). AnswersAlone c.args.c.now (g.V.Files.state c.args.v) a m (Err e)) x.field-0-is (x.ensures.answers (c.end_with.ensures.says.trust.honest h)) in
-    call_says false a.said x.why (subst IsEndOfVolume x.field-0-is x.ensures.fault) m (now c.end_with.new.m) c.end_with.result ended.quiet (c.end_with.ensures.ends h) three
+    call_says false (g.V.Files.state c.args.v).layout a.said x.why (subst IsEndOfVolume x.field-0-is x.ensures.fault) m (now c.end_with.new.m) c.end_with.result ended.quiet (c.end_with.ensures.says.exit h).image (ended.told x.why refl) (c.end_with.ensures.ends h) three
 
 pub returns-in-Err-Output-clause-says : goal.returns-in-Err-Output-clause-says
 returns-in-Err-Output-clause-says g c three h = absurd (omega (arith, three))
+
+-- ---- a mount that is worn out
+
+pub returns-in-Ok-clause-unspent : goal.returns-in-Ok-clause-unspent
+returns-in-Ok-clause-unspent g c nine h = from_not 9 c.args.c.now c.in-Ok.status (omega arith) (λ e. omega (arith, e)) c.in-Ok.ensures.status nine
+
+pub returns-in-Err-Fault-clause-unspent : goal.returns-in-Err-Fault-clause-unspent
+returns-in-Err-Fault-clause-unspent g c nine h =
+    let x = c.in-Err-Fault in
+    let worn = (x.ensures.answers (c.end_with.ensures.says.trust.honest h)).worn (ap (λ (e : End). Err e) (x.field-0-is ∙ ap (λ (w : Fault). Stopped w) (status_worn x.why c.end_with.result c.end_with.ensures.status nine))) in
+    cc (worn, c.requires.unworn)
+
+pub returns-in-Err-Output-clause-unspent : goal.returns-in-Err-Output-clause-unspent
+returns-in-Err-Output-clause-unspent g c nine h = omega (arith, nine)
 
 -- ---- the fault that is said
 

@@ -1,0 +1,71 @@
+-- When a mount is told as worn out.
+use Rattle.std.proofs.Common.{◌≡◌, inl, inr, ℕ, List, refl, sym, ◌∙◌, subst, arith}
+use Rattle.std.specs.Prelude.{IfErr, IsTrue, Result, Err}
+use Rattle.fsd_bytes.specs.declared.key.Key.{Key}
+use Rattle.fsd_bytes.specs.declared.refusal.Refusal.{Refusal}
+use Rattle.fsd_bytes.specs.declared.refusal.Refusal.TheVariants as Why
+use Rattle.sector_disk.specs.Machine.{Moment}
+use Rattle.fsd_texts.specs.declared.fault.Fault.{Fault}
+use Rattle.fsd_texts.specs.declared.fault.Fault.TheVariants as Ends
+use Rattle.fsd_runs.specs.Errands.{fault_status}
+use Rattle.volume_contract.specs.Order.{Comes, IsLookUp, Step}
+use Rattle.volume_contract.specs.State.{State, is_worn}
+use Rattle.volume_turns.specs.declared.answer.Answer.{Answer}
+use Rattle.volume_turns.specs.declared.turns.End.{End}
+use Rattle.volume_turns.specs.declared.turns.End.TheVariants.{Fault as Stopped}
+use Rattle.volume_turns.specs.Line.{IsStatusFor}
+use Rattle.volume_turns.specs.Once.{close_fault}
+use Rattle.volume_turns.specs.Steps.{ended_by, read_ended_by}
+use Rattle.volume_turns.specs.Turns.{Unsaid}
+
+-- ---- a call
+
+ended_worn : (why : Refusal) → ended_by why ≡ Err Ends.WornOut → why ≡ Why.WornOut
+ended_worn Why.WornOut is = refl
+ended_worn (Why.Device s) is = absurd (cc is)
+ended_worn (Why.Down s) is = absurd (cc is)
+ended_worn (Why.Lost a b) is = absurd (cc is)
+ended_worn (Why.Unsound s) is = absurd (cc is)
+ended_worn Why.Memory is = absurd (cc is)
+ended_worn why is = absurd (cc is)
+
+read_ended_worn : (key : Key) (why : Refusal) → read_ended_by key why ≡ Err Ends.WornOut → why ≡ Why.WornOut
+read_ended_worn key (Why.Damaged s) is = absurd (cc is)
+read_ended_worn key why is = ended_worn why is
+
+-- what its steps refuse so is told so
+pub told_worn : (s : State) (steps : List Step) (why : Refusal) (r : Result Answer Fault) → r ≡ ended_by why → Comes steps why → (Comes steps Why.WornOut → IsTrue (is_worn s)) → r ≡ Err Ends.WornOut → IsTrue (is_worn s)
+told_worn s steps why r by comes worn is = worn (subst (λ (w : Refusal). Comes steps w) (ended_worn why (sym by ∙ is)) comes)
+
+pub read_told_worn : (s : State) (steps : List Step) (key : Key) (why : Refusal) (r : Result Answer Fault) → r ≡ read_ended_by key why → Comes steps why → (Comes steps Why.WornOut → ⊥) → r ≡ Err Ends.WornOut → IsTrue (is_worn s)
+read_told_worn s steps key why r by comes never is = absurd (never (subst (λ (w : Refusal). Comes steps w) (read_ended_worn key why (sym by ∙ is)) comes))
+
+pub look_up_worn : (s : State) (why : Refusal) (r : Result Answer Fault) → r ≡ ended_by why → IsLookUp why → r ≡ Err Ends.WornOut → IsTrue (is_worn s)
+look_up_worn s why r by refuses is = absurd (subst IsLookUp (ended_worn why (sym by ∙ is)) refuses)
+
+-- ---- the end of a volume
+
+pub close_unworn : (why : Refusal) → close_fault why ≡ Ends.WornOut → ⊥
+close_unworn (Why.Device s) is = cc is
+close_unworn (Why.Lost a b) is = cc is
+close_unworn why is = cc is
+
+pub unsaid_unworn : (old new : Moment) {T : Type 0} (r : Result T End) → IfErr r (λ end. Unsaid old new end) → r ≡ Err (Stopped Ends.WornOut) → ⊥
+unsaid_unworn old new {T = T} r unsaid is = subst (λ (x : Result T End). IfErr x (λ end. Unsaid old new end)) is unsaid
+
+-- ---- its status
+
+fault_nine : (why : Fault) → fault_status why ≡ 9 → why ≡ Ends.WornOut
+fault_nine Ends.WornOut is = refl
+fault_nine Ends.NotVolume is = absurd (omega (arith, is))
+fault_nine (Ends.Lost a b) is = absurd (omega (arith, is))
+fault_nine Ends.NoAnchor is = absurd (omega (arith, is))
+fault_nine (Ends.Unsound s) is = absurd (omega (arith, is))
+fault_nine (Ends.Device s) is = absurd (omega (arith, is))
+fault_nine Ends.Input is = absurd (omega (arith, is))
+fault_nine Ends.InputTooLong is = absurd (omega (arith, is))
+fault_nine Ends.Memory is = absurd (omega (arith, is))
+
+pub status_worn : (why : Fault) (status : ℕ) → IsStatusFor why status → status ≡ 9 → why ≡ Ends.WornOut
+status_worn why status (inl is) nine = fault_nine why (sym is ∙ nine)
+status_worn why status (inr six) nine = absurd (omega (arith, six, nine))
