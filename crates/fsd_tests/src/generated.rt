@@ -1,5 +1,5 @@
-//! Commands that are made up from a seed, as many as fill several leaves and come round in the log. What they come to was worked out
-//! by an ordered map.
+//! Commands that are made up from a seed, as many as fill several leaves and come round in the log. The lines that they
+//! come to were worked out beside the program.
 use crate::machines::{Row, calm, first_wrong, formatted};
 use std::test::Fail;
 

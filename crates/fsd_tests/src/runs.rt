@@ -83,6 +83,16 @@ fn says_each_line(rt: HostRuntime) -> Result<(), Fail> {
 }
 
 #[test]
+fn four_damaged_sectors_are_no_volume(rt: HostRuntime) -> Result<(), Fail> {
+    let alloc = rt.alloc();
+    let m = calm(alloc, vec![in alloc; Sector::Damaged; 4]?);
+    let (m, status) = run(alloc, m, &[], "cfs stat w", b"")?;
+    assert_eq!(rt; status, 3);
+    assert_eq!(rt; m.said(), b"fault not-a-volume\n".as_slice());
+    Ok(())
+}
+
+#[test]
 fn puts_and_gets(rt: HostRuntime) -> Result<(), Fail> {
     let alloc = rt.alloc();
     let sector = [7; 512];

@@ -89,6 +89,19 @@ fn the_next_run_lists_what_stands(rt: HostRuntime) -> Result<(), Fail> {
     Ok(())
 }
 
+// Its delete was not forced.
+#[test]
+fn what_was_deleted_is_read_behind_a_stop(rt: HostRuntime) -> Result<(), Fail> {
+    let alloc = rt.alloc();
+    let script = b"put d 1\nx\nforce\ndelete d!1\nput e 1\ny\n";
+    let m = calm(alloc, formatted(alloc, FORMAT)?);
+    let (m, _) = run(alloc, m, &[stop(23, 1, 0)], "cfs script v", script)?;
+    let (m, status) = run(alloc, m, &[], "cfs get v d!1", b"")?;
+    assert_eq!(rt; status, 0);
+    assert_eq!(rt; m.said(), b"x".as_slice());
+    Ok(())
+}
+
 // The script puts a version and sets its keep 84 times, each with a force.
 fn keeps(alloc: Global) -> Result<Vec<u8>, AllocError> {
     let mut script = Vec::new(alloc);

@@ -8,14 +8,16 @@ const FORMAT: &str = "cfs format v 2048 256 64";
 
 const CALM: [Event; 2] = [NEVER, NEVER];
 
+const LISTED: &str = "a!1 1 2 2\nlisted 1\n";
+
 #[test]
 fn a_worn_pair_loses_nothing(rt: HostRuntime) -> Result<(), Fail> {
     let alloc = rt.alloc();
     let image = formatted(alloc, FORMAT)?;
     let lines = [
         ("cfs put v a", b"x".as_slice(), "made a!1 2\n"),
-        ("cfs get v a!1", b"".as_slice(), "x"),
-        ("cfs get v a!1", b"".as_slice(), "x"),
+        ("cfs list v *", b"".as_slice(), LISTED),
+        ("cfs list v *", b"".as_slice(), LISTED),
         ("cfs get v a!1", b"".as_slice(), "x"),
     ];
     // The pair of all windows, what happens in the four runs, and a sector that is whole at the end.
@@ -66,7 +68,7 @@ fn an_old_copy_serves_no_record(rt: HostRuntime) -> Result<(), Fail> {
             1,
             "refused no-such\n",
         ),
-        (NEVER, "cfs get v a!1", b"".as_slice(), 0, "x"),
+        (NEVER, "cfs list v *", b"".as_slice(), 0, LISTED),
     ];
     let mut m = weak(alloc, image.as_slice(), [19; 3])?;
     for (event, line, input, status, said) in rows {
