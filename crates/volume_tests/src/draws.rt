@@ -9,12 +9,12 @@ pub struct Draws {
 
 impl Draws {
     /// The beginning of the sequence.
-    pub fn new() -> Draws {
+    pub(crate) fn new() -> Draws {
         Draws { seed: 1 }
     }
 
     /// The next number below a limit.
-    pub fn below(&mut self, limit: u32) -> u32
+    pub(crate) fn below(&mut self, limit: u32) -> u32
         requires { 0 < limit }
         ensures { result < limit }
     {

@@ -12,12 +12,12 @@ pub struct Version {
 
 impl Version {
     /// Whether it is this version.
-    pub fn is(&self, name: u32, number: u32) -> bool {
+    pub(crate) fn is(&self, name: u32, number: u32) -> bool {
         self.name == name && self.number == number
     }
 
     /// Whether it comes behind this one in the order of names and versions.
-    pub fn is_behind(&self, name: u32, number: u32) -> bool {
+    pub(crate) fn is_behind(&self, name: u32, number: u32) -> bool {
         self.name > name || self.name == name && self.number > number
     }
 
@@ -38,19 +38,19 @@ pub struct List {
 
 impl List {
     /// A list of no version.
-    pub fn new(alloc: Global) -> List {
+    pub(crate) fn new(alloc: Global) -> List {
         List {
             versions: Vec::new(alloc),
         }
     }
 
     /// How many versions there are.
-    pub fn len(&self) -> usize {
+    pub(crate) fn len(&self) -> usize {
         self.versions.len()
     }
 
     /// The version at a place, counted round.
-    pub fn at(&self, place: u32) -> Option<Version> {
+    pub(crate) fn at(&self, place: u32) -> Option<Version> {
         let len = self.versions.len();
         if len == 0 {
             return None;
@@ -59,7 +59,7 @@ impl List {
     }
 
     /// The version of a name with this number.
-    pub fn find(&self, name: u32, number: u32) -> Option<Version> {
+    pub(crate) fn find(&self, name: u32, number: u32) -> Option<Version> {
         for version in &self.versions {
             if version.is(name, number) {
                 return Some(*version);
@@ -69,7 +69,7 @@ impl List {
     }
 
     /// The sectors that its versions take.
-    pub fn sectors(&self) -> u32 {
+    pub(crate) fn sectors(&self) -> u32 {
         let mut sum = 0u32;
         for version in &self.versions {
             sum = sum.saturating_add(1 + version.length.div_ceil(512));
@@ -78,7 +78,7 @@ impl List {
     }
 
     /// The version with the least later key.
-    pub fn next_after(&self, name: u32, number: u32) -> Option<Version> {
+    pub(crate) fn next_after(&self, name: u32, number: u32) -> Option<Version> {
         let mut next = None;
         for version in &self.versions {
             if version.is_behind(name, number) {
@@ -89,7 +89,7 @@ impl List {
     }
 
     /// The highest version of a name.
-    pub fn highest(&self, name: u32) -> Option<Version> {
+    pub(crate) fn highest(&self, name: u32) -> Option<Version> {
         let mut highest = None;
         for version in &self.versions {
             if version.name == name {
@@ -100,7 +100,7 @@ impl List {
     }
 
     /// Makes a version: its number is one more than the highest, and of the name's oldest ones beyond the keep two go at most.
-    pub fn put(
+    pub(crate) fn put(
         &mut self,
         name: u32,
         keep: Option<u32>,
@@ -139,14 +139,14 @@ impl List {
     }
 
     /// Takes a version out, if it is there.
-    pub fn delete(&mut self, name: u32, number: u32) -> bool {
+    pub(crate) fn delete(&mut self, name: u32, number: u32) -> bool {
         let before = self.versions.len();
         self.versions.retain(|version| !version.is(name, number));
         self.versions.len() < before
     }
 
     /// Sets the keep of a name's highest version.
-    pub fn set_keep(&mut self, name: u32, keep: u32) -> Option<Version> {
+    pub(crate) fn set_keep(&mut self, name: u32, keep: u32) -> Option<Version> {
         let highest = self.highest(name)?;
         for version in &mut self.versions {
             if version.is(name, highest.number) {
@@ -157,7 +157,7 @@ impl List {
     }
 
     /// Whether it has the versions of another list, which has as many, and in the order of their keys.
-    pub fn has(&self, others: &[Version]) -> bool {
+    pub(crate) fn has(&self, others: &[Version]) -> bool {
         for other in others {
             if self.find(other.name, other.number) != Some(*other) {
                 return false;
@@ -176,7 +176,7 @@ pub struct Lists {
 
 impl Lists {
     /// The list of no version, which is forced.
-    pub fn new(alloc: Global) -> Result<Lists, AllocError> {
+    pub(crate) fn new(alloc: Global) -> Result<Lists, AllocError> {
         let mut lists = Lists {
             now: List::new(alloc),
             since: Vec::new(alloc),
@@ -186,7 +186,7 @@ impl Lists {
     }
 
     /// Makes a version in the list.
-    pub fn put(
+    pub(crate) fn put(
         &mut self,
         name: u32,
         keep: Option<u32>,
@@ -198,27 +198,27 @@ impl Lists {
     }
 
     /// Takes a version out of the list, if it is there.
-    pub fn delete(&mut self, name: u32, number: u32) -> Result<bool, AllocError> {
+    pub(crate) fn delete(&mut self, name: u32, number: u32) -> Result<bool, AllocError> {
         let there = self.now.delete(name, number);
         self.changed()?;
         Ok(there)
     }
 
     /// Sets the keep of a name's highest version.
-    pub fn set_keep(&mut self, name: u32, keep: u32) -> Result<Option<Version>, AllocError> {
+    pub(crate) fn set_keep(&mut self, name: u32, keep: u32) -> Result<Option<Version>, AllocError> {
         let highest = self.now.set_keep(name, keep);
         self.changed()?;
         Ok(highest)
     }
 
     /// Notes a force: a stop leaves no earlier list.
-    pub fn forced(&mut self) -> Result<(), AllocError> {
+    pub(crate) fn forced(&mut self) -> Result<(), AllocError> {
         self.since.clear();
         self.changed()
     }
 
     /// Goes back to the list that has these versions, if there is one.
-    pub fn fall_back(&mut self, found: &[Version]) -> Result<bool, AllocError> {
+    pub(crate) fn fall_back(&mut self, found: &[Version]) -> Result<bool, AllocError> {
         for list in &self.since {
             if list.has(found) {
                 self.now = list.clone()?;

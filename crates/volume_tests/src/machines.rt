@@ -12,7 +12,7 @@ use volume_layout::Layout;
 pub const NEVER: Event = Event::FailCall { call: 0, stand: 0 };
 
 /// A machine in memory with an empty volume, on which nothing wears.
-pub fn formatted(
+pub(crate) fn formatted(
     alloc: Global,
     sectors: u32,
     third: u32,
@@ -40,7 +40,7 @@ fn pair_of(mount: u32) -> u32 {
 }
 
 /// A machine with an empty volume that has so many sectors of data, behind 1137 others. A pair of these wears in each mount.
-pub fn wearing(alloc: Global, size: u32) -> Result<MemoryMachine, Fail>
+pub(crate) fn wearing(alloc: Global, size: u32) -> Result<MemoryMachine, Fail>
     requires { size ≤ 1000 }
 {
     let m = formatted(alloc, 1137 + size, 200, 256)?;
@@ -55,7 +55,7 @@ pub fn wearing(alloc: Global, size: u32) -> Result<MemoryMachine, Fail>
 }
 
 /// None, one or both sectors of the pair that may wear behind so many mounts are damaged before the attach.
-pub fn damage(mounts: u32, draws: &mut Draws) -> [Event; 2] {
+pub(crate) fn damage(mounts: u32, draws: &mut Draws) -> [Event; 2] {
     let first = pair_of(mounts);
     [first, first.saturating_add(1)].map(|sector| {
         if draws.below(2) == 0 {

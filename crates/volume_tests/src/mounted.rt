@@ -43,14 +43,14 @@ fn attached(alloc: Global, m: MemoryMachine, events: &[Event]) -> Result<(Memory
 
 impl Mounted {
     /// Mounts what the machine has, with these events to come, which count the attach as the first call.
-    pub fn on(alloc: Global, m: MemoryMachine, events: &[Event]) -> Result<Mounted, Fail> {
+    pub(crate) fn on(alloc: Global, m: MemoryMachine, events: &[Event]) -> Result<Mounted, Fail> {
         let (mut m, sectors) = attached(alloc, m, events)?;
         let v = Volume::mount(alloc, &mut m, sectors)?;
         Ok(Mounted { m, v })
     }
 
     /// The same mount, and these events to come, which count from here on an attach as the first call.
-    pub fn counting_anew(self, alloc: Global, events: &[Event]) -> Result<Mounted, Fail> {
+    pub(crate) fn counting_anew(self, alloc: Global, events: &[Event]) -> Result<Mounted, Fail> {
         let Mounted { m, v } = self;
         let (m, sectors) = attached(alloc, m, events)?;
         if v.stat().sectors > sectors {
@@ -81,7 +81,7 @@ impl Mounted {
     }
 
     /// Makes a version with these bytes.
-    pub fn put(
+    pub(crate) fn put(
         &mut self,
         name: &FileName,
         keep: Option<u32>,
@@ -91,22 +91,22 @@ impl Mounted {
     }
 
     /// Takes a version out.
-    pub fn delete(&mut self, key: &Key) -> Result<(), Refusal> {
+    pub(crate) fn delete(&mut self, key: &Key) -> Result<(), Refusal> {
         self.v.delete(&mut self.m, key)
     }
 
     /// Sets the keep of a name's highest version.
-    pub fn set_keep(&mut self, name: &FileName, keep: u32) -> Result<Key, Refusal> {
+    pub(crate) fn set_keep(&mut self, name: &FileName, keep: u32) -> Result<Key, Refusal> {
         self.v.set_keep(&mut self.m, name, keep)
     }
 
     /// The entry of a version.
-    pub fn entry(&mut self, key: &Key) -> Result<Entry, Refusal> {
+    pub(crate) fn entry(&mut self, key: &Key) -> Result<Entry, Refusal> {
         self.v.entry(&mut self.m, key)
     }
 
     /// The entry with the least later key, or with the least key of all.
-    pub fn next_after(&mut self, after: &Option<Key>) -> Result<Option<Entry>, Refusal> {
+    pub(crate) fn next_after(&mut self, after: &Option<Key>) -> Result<Option<Entry>, Refusal> {
         match after {
             Some(key) => self.v.next_after(&mut self.m, Some(key)),
             None => self.v.next_after(&mut self.m, None),
@@ -114,22 +114,22 @@ impl Mounted {
     }
 
     /// Reads bytes of a version from a place on, and tells how many.
-    pub fn read(&mut self, key: &Key, from: u32, buf: &mut [u8]) -> Result<u32, Refusal> {
+    pub(crate) fn read(&mut self, key: &Key, from: u32, buf: &mut [u8]) -> Result<u32, Refusal> {
         self.v.read(&mut self.m, key, from, buf)
     }
 
     /// Commits what waits.
-    pub fn force(&mut self) -> Result<Forced, Refusal> {
+    pub(crate) fn force(&mut self) -> Result<Forced, Refusal> {
         self.v.force(&mut self.m)
     }
 
     /// The same, as time goes on.
-    pub fn tick(&mut self) -> Result<Forced, Refusal> {
+    pub(crate) fn tick(&mut self) -> Result<Forced, Refusal> {
         Files::tick(&mut self.v, &mut self.m)
     }
 
     /// What it counts.
-    pub fn stat(&self) -> Stat {
+    pub(crate) fn stat(&self) -> Stat {
         self.v.stat()
     }
 }
@@ -145,7 +145,7 @@ pub trait Work {
 
 /// Whether something goes well in a mount of what the machine has, with these events to come. The attach is the first call
 /// that they count. The machine then has what the mount leaves.
-pub fn mounts<W: Work>(
+pub(crate) fn mounts<W: Work>(
     alloc: Global,
     m: &mut MemoryMachine,
     events: &[Event],
