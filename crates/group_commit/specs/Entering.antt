@@ -14,7 +14,7 @@ use Rattle.fsd_sound.specs.Laid.{HasOwnLog}
 use Rattle.fsd_sound.specs.Mounted.{image_at}
 use Rattle.fsd_sound.specs.Sound.{EndIn, ShowsPages, weak_of}
 use Rattle.log_thirds.specs.Append.{IsIndexed, LastLiesIn}
-use Rattle.log_thirds.specs.Images.{AreLogged}
+use Rattle.log_thirds.specs.Images.{AreOfLogged}
 use Rattle.log_thirds.specs.LogValue.{LogValue, FitsLayout}
 use Rattle.log_thirds.specs.Moving.{moved, records_moved}
 use Rattle.group_commit.specs.Force.{MayWrite, KeepsOutside}
@@ -70,12 +70,6 @@ ShowsHoming log page now left = (records : List Placed) (disk : List (List ℕ))
 abbrev pub RecordCause : LogValue → (n : ℕ) → LoadFault → Type 0
 RecordCause log n (Device place) = ⊤
 RecordCause log n (Lost a b) = goes_before log n ≡ false
-
--- The sectors are the two of the last image of some page.
-pub record AreOfLogged (log : LogValue) (a b : ℕ) : Type 0 where
-  pub page : ℕ
-  pub within : page < log.layout.pages
-  pub logged : AreLogged log page a b
 
 -- both sectors of a page's last image are damaged
 abbrev pub LosesLogged : LogValue → Image → LoadFault → Type 0

@@ -1,8 +1,7 @@
 -- Where a record goes when the log comes round.
-use Rattle.std.specs.Prelude.{ℕ, ◌+◌, ◌*◌, ◌≤◌, Bool, ◌||◌, count_by, nat_le, nat_lt, if◌then◌else◌}
+use Rattle.std.specs.Prelude.{ℕ, ◌+◌, ◌*◌, Bool, ◌||◌, count_by, nat_le, nat_lt, if◌then◌else◌}
 use Rattle.volume_layout.specs.Layout.{third_start}
 use Rattle.fsd_formats.specs.Record.{record_len}
-use Rattle.sector_disk.specs.Machine.{Ledger}
 use Rattle.log_thirds.specs.LogValue.{LogValue}
 use Rattle.log_thirds.specs.Moving.{moved}
 use Rattle.log_thirds.specs.Slots.{lies_in}
@@ -22,8 +21,3 @@ log_before log n = if goes_before log n then log else moved log
 -- the sectors written before such a record: both homes of each of those pages, and both anchors
 abbrev pub sectors_before : LogValue → (n : ℕ) → ℕ
 sectors_before log n = if goes_before log n then 0 else 2 * pages_in_first log + 2
-
--- So many sectors are counted as written at most.
-pub record WroteMost (most : ℕ) (old new : Ledger) : Type 0 where
-  pub no_fewer : old.written ≤ new.written
-  pub no_more : new.written ≤ old.written + most

@@ -3,6 +3,7 @@ ghost use Rattle.std.specs.Prelude.{◌≡◌, ◌⊎◌, ◌<◌, ◌≤◌, �
 ghost use Rattle.sector_disk.specs.Damage.{IsDevice};
 ghost use Rattle.sector_disk.specs.declared.sector.WeakRun.{WeakRun};
 ghost use Rattle.sector_disk.specs.Calls.{WritesDisk, device_in, load_failed_at};
+ghost use Rattle.sector_disk.specs.Written.{WroteMost};
 ghost use Rattle.fsd_log.specs.Judged.{slice_of};
 ghost use Rattle.fsd_log.specs.Scan.{Placed};
 ghost use Rattle.fsd_sound.specs.Sound.{EndIn};
@@ -12,7 +13,7 @@ ghost use Rattle.fsd_log.specs.Laid.{slices};
 ghost use Rattle.log_thirds.specs.Append.{stamp_now, log_with};
 ghost use Rattle.page_cache.specs.Cache.{IsCache, IsResident, bytes_of, cleaned};
 ghost use Rattle.group_commit.specs.Resident.{IsImageOf, stamped};
-ghost use Rattle.group_commit.specs.Room.{WroteMost, log_before, sectors_before};
+ghost use Rattle.group_commit.specs.Room.{log_before, sectors_before};
 ghost use Rattle.group_commit.specs.Entering.{RecordCause, LosesLogged};
 ghost use Rattle.group_commit.specs.Force.{sectors_written, stamped_by, log_forced, StandsOver, Committed, KeepsOutside, as_load, force_failed_at};
 ghost use Rattle.group_commit.specs.Logged.{StandsLogged};

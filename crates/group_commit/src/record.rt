@@ -3,6 +3,7 @@ ghost use Rattle.std.specs.Prelude.{◌≡◌, ◌⊎◌, ◌<◌, ◌≤◌, �
 ghost use Rattle.sector_disk.specs.Damage.{IsDevice};
 ghost use Rattle.sector_disk.specs.declared.sector.WeakRun.{WeakRun};
 ghost use Rattle.sector_disk.specs.Calls.{WritesDisk, device_in, load_failed_at};
+ghost use Rattle.sector_disk.specs.Written.{WroteMost};
 ghost use Rattle.fsd_formats.specs.Record.{AreStamped, are_pages, record_len};
 ghost use Rattle.fsd_log.specs.Judged.{slice_of};
 ghost use Rattle.fsd_log.specs.Laid.{slices};
@@ -10,7 +11,7 @@ ghost use Rattle.fsd_log.specs.Scan.{Placed};
 ghost use Rattle.fsd_sound.specs.Sound.{EndIn};
 ghost use Rattle.log_thirds.specs.Append.{stamp_now, log_with};
 ghost use Rattle.group_commit.specs.Resident.{stamped};
-ghost use Rattle.group_commit.specs.Room.{WroteMost, log_before, sectors_before};
+ghost use Rattle.group_commit.specs.Room.{log_before, sectors_before};
 ghost use Rattle.group_commit.specs.Entering.{RecordCause, LosesLogged};
 ghost use Rattle.group_commit.specs.Force.{StandsOver, Committed, KeepsOutside};
 ghost use Rattle.group_commit.specs.Logged.{StandsLogged};

@@ -28,6 +28,7 @@ use Rattle.fsd_sound.specs.Sound.{EndIn, ShowsOne, ShowsPages, weak_of}
 use Rattle.fsd_sound.proofs.LogPlaces.{IsRecord, scan_records}
 use Rattle.fsd_sound.proofs.SoundLaws.{shows_still}
 use Rattle.fsd_sound.proofs.WindowLaws.{open_is_weak}
+use Rattle.log_thirds.specs.Images.{AreOfLogged}
 use Rattle.log_thirds.specs.LogValue.{LogValue}
 use Rattle.log_thirds.proofs.ImageLaws.{logged_by}
 use Rattle.fsd_sound.specs.Windows.{IsNarrow, IsApart}
@@ -35,7 +36,6 @@ use Rattle.fsd_sound.specs.Writes.{KeepsElsewhere, WritesAsMount}
 use Rattle.fsd_sound.specs.declared.fault.MountFault.{MountFault}
 use Rattle.fsd_sound.specs.declared.fault.MountFault.TheVariants.{NotVolume, Device, Memory, Lost, NoAnchor, Unsound, WornOut}
 use Rattle.mount_recover.specs.Finding.{IsFound, NotFoundFor, IsNotFound, IsExcuse}
-use Rattle.mount_recover.specs.Lost.{AreOfLog}
 use Rattle.fsd_sound.specs.Lost.{AreHomes, AreLoggedOn, AreHomesOn, AreCopiesOn, LostIn}
 use Rattle.fsd_sound.specs.Mounting.{HasRoot, last_epoch}
 use Rattle.mount_recover.specs.Mending.{IsLoadFault, AreOfAll, StaysElsewhere, Keeps, IsSeen, Completed, Stays, Settled, Begins}
@@ -217,7 +217,7 @@ module _ (sectors : ℕ) (l : Layout) (log : LogValue) (old one : Moment) (same 
   as_old : IsCalm old.windows → is.seen ≡ old.image
   as_old calm = calm_worn old.windows old.image is.seen calm is.from
 
-  logged_on : (a b : ℕ) → AreOfLog log a b → AreLoggedOn sectors old a b
+  logged_on : (a b : ℕ) → AreOfLogged log a b → AreLoggedOn sectors old a b
   logged_on a b of = record {
     layout = l;
     root = root;

@@ -18,7 +18,7 @@ use Rattle.log_thirds.specs.Copies.{AreLastCopies}
 use Rattle.log_thirds.specs.LogValue.{LogValue}
 use Rattle.fsd_sound.specs.declared.fault.MountFault.{MountFault}
 use Rattle.fsd_sound.specs.declared.fault.MountFault.TheVariants.{NotVolume, Device, Memory, Lost, NoAnchor, Unsound, WornOut}
-use Rattle.mount_recover.specs.Lost.{AreOfLog}
+use Rattle.log_thirds.specs.Images.{AreOfLogged}
 use Rattle.fsd_sound.specs.Lost.{AreHomes}
 use Rattle.mount_recover.specs.Replay.{HasLastCopies, KeepsBehindLog, IsAfter}
 use Rattle.fsd_sound.specs.Logged.{IsLogged}
@@ -40,7 +40,7 @@ IsLoadFault WornOut = ⊥
 
 -- the two copies of a page, in the log or at home
 abbrev pub AreOfVolume : Layout → LogValue → ℕ → ℕ → Type 0
-AreOfVolume l log a b = AreOfLog log a b ⊎ AreHomes l a b
+AreOfVolume l log a b = AreOfLogged log a b ⊎ AreHomes l a b
 
 -- the two roots
 abbrev pub AreRoots : ℕ → ℕ → Type 0

@@ -14,7 +14,6 @@ ghost use Rattle.log_thirds.specs.Append.{IsCalmNow};
 ghost use Rattle.log_thirds.specs.LogValue.{LogValue};
 ghost use Rattle.mount_recover.specs.Finding.{IsExcuse};
 ghost use Rattle.fsd_sound.specs.Lost.{AreHomes, LostIn};
-ghost use Rattle.fsd_sound.specs.Mounting.{load_fault_of};
 ghost use Rattle.mount_recover.specs.Mending.{IsLoadFault, AreOfVolume, AreOfAll, AreRoots, IsCompleted, IsMending, IsMended, Stays, Keeps, KeepsBut};
 ghost use Rattle.fsd_sound.specs.Homes.{HasBothHomes};
 ghost use Rattle.fsd_sound.specs.Mounting.{device_of_mount};
@@ -22,18 +21,9 @@ ghost use Rattle.mount_recover.specs.Showing.{GivesPages, ChangesHome, HasNoRoot
 
 use fsd_sound::MountFault;
 use log_thirds::Log;
-use sector_disk::{LoadFault, Machine};
+use sector_disk::Machine;
 use twin_home::{heal_page, heal_root, write_home};
 use volume_layout::Layout;
-
-fn load_fault(fault: LoadFault) -> MountFault
-    ensures { result ≡ load_fault_of fault }
-{
-    match fault {
-        LoadFault::Device(place) => MountFault::Device(place),
-        LoadFault::Lost { a, b } => MountFault::Lost { a, b },
-    }
-}
 
 // Writes a page home from its last image in the log, when the pages before it are mended.
 fn home_logged<M: Machine>(
@@ -93,7 +83,7 @@ fn heal_home<M: Machine>(m: &mut M, l: &Layout, page: u32) -> Result<(), MountFa
 {
     match heal_page(m, l, page) {
         Ok(_) => Ok(()),
-        Err(fault) => Err(load_fault(fault)),
+        Err(fault) => Err(MountFault::from(fault)),
     }
 }
 
@@ -128,7 +118,7 @@ fn mend_page<M: Machine>(m: &mut M, l: &Layout, log: &Log, page: u32) -> Result<
     match log.image_of(m, page, &mut image) {
         Ok(true) => home_logged(m, l, page, &image),
         Ok(false) => heal_home(m, l, page),
-        Err(fault) => Err(load_fault(fault)),
+        Err(fault) => Err(MountFault::from(fault)),
     }
 }
 
@@ -182,7 +172,7 @@ fn mend_roots<M: Machine>(m: &mut M, l: &Layout) -> Result<(), MountFault>
 {
     match heal_root(m, l) {
         Ok(_) => Ok(()),
-        Err(fault) => Err(load_fault(fault)),
+        Err(fault) => Err(MountFault::from(fault)),
     }
 }
 

@@ -11,10 +11,11 @@ use Rattle.sector_disk.specs.declared.sector.WeakRun.{WeakRun}
 use Rattle.sector_disk.specs.Calls.{WritesDisk, device_in, failed_at}
 use Rattle.sector_disk.specs.Image.{Windows, in_run, open_damage, sector_at}
 use Rattle.sector_disk.specs.Machine.{Ledger, Moment, Tears, wrote}
+use Rattle.sector_disk.specs.Written.{WroteMost}
 use Rattle.sector_disk.proofs.CallLaws.{writes_then}
 use Rattle.sector_disk.proofs.Wear.{length-stand, stand_other, worn_twice}
 use Rattle.fsd_files.specs.Disk.{Sectors, SectorWorn}
-use Rattle.version_data.specs.Writing.{WritesIn, WroteMost}
+use Rattle.version_data.specs.Writing.{WritesIn}
 use Rattle.version_data.proofs.PlaceLaws.{LiesBehind, get_there}
 
 pub writes_on : (may : Sectors) (a b c : Moment) → WritesIn may a b → WritesIn may b c → WritesIn may a c

@@ -1,12 +1,12 @@
 -- The sectors of a version as they are written.
-use Rattle.std.specs.Prelude.{◌≡◌, ◌≤◌, ℕ, zero, suc, ◌+◌, List, slice_index_or}
+use Rattle.std.specs.Prelude.{◌≡◌, ℕ, zero, suc, List, slice_index_or}
 use Rattle.run_table.specs.RunTable.{sectors_of}
 use Rattle.fsd_formats.specs.declared.entry.Entry.{Entry}
 use Rattle.fsd_formats.specs.Leader.{leader_of, leader_bytes}
 use Rattle.fsd_files.specs.Disk.{Image, Sectors, Touches}
 use Rattle.fsd_files.specs.Kept.{slice_of}
 use Rattle.sector_disk.specs.Image.{with_sector}
-use Rattle.sector_disk.specs.Machine.{Ledger, Moment}
+use Rattle.sector_disk.specs.Machine.{Moment}
 
 -- ---- what calls leave
 
@@ -15,11 +15,6 @@ pub record WritesIn (may : Sectors) (old left : Moment) : Type 0 where
   pub touches : Touches may old left
   pub windows : left.windows ≡ old.windows
   pub said : left.said ≡ old.said
-
--- So many sectors were written at most.
-pub record WroteMost (most : ℕ) (old new : Ledger) : Type 0 where
-  pub no_fewer : old.written ≤ new.written
-  pub no_more : new.written ≤ old.written + most
 
 -- ---- a version
 

@@ -8,8 +8,9 @@ ghost use Rattle.fsd_files.specs.Kept.{slice_of as slice_of_version};
 ghost use Rattle.sector_disk.specs.Calls.{WritesDisk, device_in, failed_at};
 ghost use Rattle.sector_disk.specs.Image.{in_run, lay, open_damage, slice_of, stand};
 ghost use Rattle.sector_disk.specs.Machine.{Holds, Tears, wrote};
+ghost use Rattle.sector_disk.specs.Written.{WroteMost};
 ghost use Rattle.sector_disk.specs.declared.sector.Sector.TheVariants.{Whole};
-ghost use Rattle.version_data.specs.Writing.{WritesIn, WroteMost, part_of};
+ghost use Rattle.version_data.specs.Writing.{WritesIn, part_of};
 
 use fsd_formats::{Entry, Leader};
 use leader_page::leader_bytes;

@@ -7,8 +7,9 @@ use Rattle.volume_layout.specs.Layout.{home_a, home_b}
 use Rattle.sector_disk.specs.declared.machine.Machine.{Ghosts}
 use Rattle.sector_disk.specs.Calls.{WritesDisk}
 use Rattle.sector_disk.specs.Machine.{Ledger, Tears, wrote}
+use Rattle.sector_disk.specs.Written.{WroteMost}
 use Rattle.sector_disk.proofs.CallLaws.{writes_more}
-use Rattle.version_data.specs.Writing.{WritesIn, WroteMost}
+use Rattle.version_data.specs.Writing.{WritesIn}
 use Rattle.version_data.proofs.WritingLaws.{in_run_all, in_run_at, run_written, writes_in_more, tears_in, wrote_most}
 use Rattle.volume_format.specs.Formatting.{format_writes, row}
 

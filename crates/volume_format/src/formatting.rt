@@ -3,8 +3,9 @@ ghost use Rattle.std.specs.Prelude.{◌≡◌, ◌+◌, ◌≤◌, ◌<◌, Ok, 
 ghost use Rattle.sector_disk.specs.Calls.{HealsDisk, WritesDisk, device_in, failed_at};
 ghost use Rattle.sector_disk.specs.Image.{with_sector};
 ghost use Rattle.sector_disk.specs.Machine.{Holds, wrote};
+ghost use Rattle.sector_disk.specs.Written.{WroteMost};
 ghost use Rattle.volume_layout.specs.Layout.{plan};
-ghost use Rattle.version_data.specs.Writing.{WritesIn, WroteMost};
+ghost use Rattle.version_data.specs.Writing.{WritesIn};
 ghost use Rattle.volume_format.specs.Formatting.{Formats, IsNew, KeepsOutside, format_count, format_writes, head_sector, row, with_head, with_pages, with_volume};
 
 use crate::pages::format_page;

@@ -5,11 +5,12 @@ use Rattle.volume_layout.specs.declared.layout.Layout.{Layout}
 use Rattle.fsd_bytes.specs.declared.refusal.Refusal.{Refusal}
 use Rattle.fsd_formats.specs.Record.{record_len}
 use Rattle.sector_disk.specs.Machine.{Ledger, Moment}
+use Rattle.sector_disk.specs.Written.{WroteMost}
 use Rattle.sector_disk.proofs.Damage.{lost_as}
-use Rattle.log_thirds.specs.Images.{AreOfSlot}
-use Rattle.group_commit.specs.Entering.{AreOfLogged, LosesLogged}
+use Rattle.log_thirds.specs.Images.{AreOfLogged, AreOfSlot}
+use Rattle.group_commit.specs.Entering.{LosesLogged}
 use Rattle.group_commit.specs.Force.{as_load}
-use Rattle.group_commit.specs.Room.{WroteMost, pages_in_first, sectors_before}
+use Rattle.group_commit.specs.Room.{pages_in_first, sectors_before}
 use Rattle.group_commit.specs.declared.force.ForceFault.{ForceFault}
 use Rattle.group_commit.specs.declared.force.ForceFault.TheVariants as fault
 use Rattle.volume_contract.specs.Causes.{AreCopies, HasCause}

@@ -53,9 +53,7 @@ impl Machine for MemoryMachine {
         ensures exact { Calls false same (memory_state self.old) (memory_state self.new) (is_ok result) }
     {
         if self.pass(false).is_err() {
-            self.disk_faults = self.disk_faults.saturating_add(1);
-            self.fault_place = sector;
-            return Err(Failed { place: sector });
+            return Err(self.disk_fault(sector));
         }
         match self.image[sector as usize] {
             Sector::Whole(bytes) => {
@@ -83,11 +81,7 @@ impl Machine for MemoryMachine {
     {
         match self.open(path, how) {
             Some(count) => Ok(count),
-            None => {
-                self.disk_faults = self.disk_faults.saturating_add(1);
-                self.fault_place = 0;
-                Err(Failed { place: 0 })
-            }
+            None => Err(self.disk_fault(0)),
         }
     }
 
@@ -113,9 +107,7 @@ impl Machine for MemoryMachine {
         let stops = matches!(verdict, Verdict::Stops(_));
         let done = self.put(sector, bytes, stood, goes, stops);
         if !done {
-            self.disk_faults = self.disk_faults.saturating_add(1);
-            self.fault_place = sector;
-            return Err(Failed { place: sector });
+            return Err(self.disk_fault(sector));
         }
         Ok(())
     }
@@ -132,9 +124,7 @@ impl Machine for MemoryMachine {
         ensures exact { Calls false healed (memory_state self.old) (memory_state self.new) (is_ok result) }
     {
         if self.pass(false).is_err() {
-            self.disk_faults = self.disk_faults.saturating_add(1);
-            self.fault_place = 0;
-            return Err(Failed { place: 0 });
+            return Err(self.disk_fault(0));
         }
         self.named = self.named.saturating_add(1);
         self.next = Some(run_at(&self.runs, self.named));
@@ -153,9 +143,7 @@ impl Machine for MemoryMachine {
         ensures exact { Calls true closed (memory_state self.old) (memory_state self.new) (is_ok result) }
     {
         if self.pass(true).is_err() {
-            self.disk_faults = self.disk_faults.saturating_add(1);
-            self.fault_place = 0;
-            return Err(Failed { place: 0 });
+            return Err(self.disk_fault(0));
         }
         match self.next {
             None => Ok(()),

@@ -4,10 +4,11 @@ use Rattle.fsd_formats.specs.Record.{record_len}
 use Rattle.log_thirds.specs.Append.{stamp_now}
 use Rattle.page_cache.specs.Cache.{CacheValue, bytes_of, cleaned}
 use Rattle.sector_disk.proofs.CallLaws.{writes_none}
+use Rattle.sector_disk.specs.Written.{WroteMost}
 use Rattle.group_commit.specs.Cached.{CacheLeaves, ascending_of}
 use Rattle.group_commit.specs.Entering.{RecordCause, LosesLogged}
 use Rattle.group_commit.specs.Force.{log_forced}
-use Rattle.group_commit.specs.Room.{WroteMost, log_before, sectors_before}
+use Rattle.group_commit.specs.Room.{log_before, sectors_before}
 use Rattle.group_commit.proofs.CachedLaws.{all_accepted, all_stamped, all_there, forced_some, idle_cache, idle_done, idle_leaves, idle_written, is_dirty, is_waiting, none_dirty, so_many, written_some}
 use Rattle.group_commit.proofs.OutsideLaws.{outside_none}
 use Rattle.group_commit.proofs.cached.force_waiting.Goals as goal

@@ -1,11 +1,12 @@
 use Rattle.std.proofs.Common.{◌+◌, ◌*◌, ap, subst, arith}
 use Rattle.sector_disk.specs.Machine.{Ledger}
+use Rattle.sector_disk.specs.Written.{WroteMost}
 use Rattle.sector_disk.proofs.CallLaws.{writes_then}
 use Rattle.sector_disk.proofs.ResultLaws.{err_as}
 use Rattle.log_thirds.specs.Append.{IsIndexed, IsLogWorn}
 use Rattle.log_thirds.specs.LogValue.{LogValue}
 use Rattle.log_thirds.specs.Moving.{moved_anchor, records_moved}
-use Rattle.group_commit.specs.Room.{WroteMost, pages_in_first}
+use Rattle.group_commit.specs.Room.{pages_in_first}
 use Rattle.group_commit.proofs.CountLaws.{wrote_on}
 use Rattle.group_commit.proofs.EnterLaws.{moving_shows, entered}
 use Rattle.group_commit.proofs.HomingLaws.{homing_log}

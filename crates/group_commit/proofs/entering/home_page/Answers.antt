@@ -5,9 +5,8 @@ use Rattle.sector_disk.proofs.CallLaws.{reads_as_writes, reads_then_writes}
 use Rattle.sector_disk.proofs.Damage.{cause_as}
 use Rattle.sector_disk.proofs.Holding.{wears_none}
 use Rattle.fsd_log.specs.Images.{last_image}
-use Rattle.log_thirds.specs.Images.{AreLogged}
+use Rattle.log_thirds.specs.Images.{AreLogged, AreOfLogged}
 use Rattle.twin_home.specs.Home.{HomesIn, with_homes}
-use Rattle.group_commit.specs.Entering.{AreOfLogged}
 use Rattle.group_commit.proofs.CountLaws.{wrote_on, wrote_same}
 use Rattle.group_commit.proofs.HomingLaws.{slot_gives, slot_not_lost, image_is, still, stays, homes_stay, homes_next}
 use Rattle.group_commit.proofs.OutsideLaws.{outside_homed, outside_read}

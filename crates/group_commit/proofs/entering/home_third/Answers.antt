@@ -3,6 +3,7 @@ use Rattle.volume_layout.specs.Layout.{third_start}
 use Rattle.sector_disk.specs.Damage.{IsDevice}
 use Rattle.sector_disk.specs.declared.sector.WeakRun.{WeakRun}
 use Rattle.sector_disk.specs.Machine.{Ledger, wrote}
+use Rattle.sector_disk.specs.Written.{WroteMost}
 use Rattle.sector_disk.specs.Calls.{load_failed_at}
 use Rattle.sector_disk.proofs.CallLaws.{told_up, writes_none, writes_then, writes_told}
 use Rattle.sector_disk.proofs.Holding.{wears_none}
@@ -11,7 +12,7 @@ use Rattle.fsd_log.specs.Scan.{Placed}
 use Rattle.log_thirds.specs.Append.{IsIndexed, IsLeastOfThird, NoneOfThird}
 use Rattle.log_thirds.specs.Slots.{IsLeastIn, NoneLiesIn}
 use Rattle.group_commit.specs.Entering.{ShowsStill, OwnsLog, MayHome}
-use Rattle.group_commit.specs.Room.{WroteMost, pages_in_first}
+use Rattle.group_commit.specs.Room.{pages_in_first}
 use Rattle.group_commit.proofs.CountLaws.{count_next, count_done, count_part, wrote_on, wrote_twice, wrote_none, handed_up}
 use Rattle.group_commit.proofs.HomingLaws.{begin, stays, all_homed}
 use Rattle.group_commit.proofs.OutsideLaws.{outside_none, outside_then}

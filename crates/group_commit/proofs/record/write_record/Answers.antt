@@ -10,6 +10,7 @@ use Rattle.fsd_log.specs.Scan.{Placed, place_of, spot_for}
 use Rattle.sector_disk.specs.declared.sector.WeakRun.{WeakRun}
 use Rattle.sector_disk.specs.Calls.{load_failed_at}
 use Rattle.sector_disk.specs.Machine.{Moment}
+use Rattle.sector_disk.specs.Written.{WroteMost}
 use Rattle.sector_disk.proofs.CallLaws.{told_up, writes_more, writes_then, writes_told}
 use Rattle.fsd_sound.specs.Sound.{EndIn}
 use Rattle.log_thirds.specs.LogValue.{LogValue}
@@ -25,7 +26,7 @@ use Rattle.group_commit.specs.Cached.{HasImages, RecordLeaves}
 use Rattle.group_commit.specs.Logged.{StandsLogged}
 use Rattle.group_commit.specs.Newest.{KnowsImages}
 use Rattle.group_commit.specs.Resident.{ResidentValue, stamped}
-use Rattle.group_commit.specs.Room.{WroteMost, sectors_before}
+use Rattle.group_commit.specs.Room.{sectors_before}
 use Rattle.group_commit.proofs.ImageLaws.{IsRecordOf}
 use Rattle.group_commit.proofs.RoundLaws.{may_home, owns, making, stands, commits_on, ends_then}
 use Rattle.group_commit.proofs.ForceLaws.{MayForce, commits, committed, log_in_window}

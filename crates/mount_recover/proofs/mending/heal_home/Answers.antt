@@ -15,13 +15,13 @@ use Rattle.mount_recover.proofs.MendingLaws.{heals_stay, heals_next}
 use Rattle.mount_recover.proofs.mending.heal_home.Goals as goal
 
 pub returns-in-Err-clause-load : goal.returns-in-Err-clause-load
-returns-in-Err-clause-load g c = is_load c.in-Err.fault c.load_fault.result c.load_fault.ensures
+returns-in-Err-clause-load g c = is_load c.in-Err.fault c.from.result c.from.ensures
 
 pub returns-in-Ok-clause-disk : goal.returns-in-Ok-clause-disk
 returns-in-Ok-clause-disk g c = writes_as_heals c.in-Ok.ensures.writes
 
 pub returns-in-Err-clause-disk : goal.returns-in-Err-clause-disk
-returns-in-Err-clause-disk g c = heals_told (load_told c.in-Err.fault c.load_fault.result c.load_fault.ensures) (writes_as_heals c.in-Err.ensures.writes)
+returns-in-Err-clause-disk g c = heals_told (load_told c.in-Err.fault c.from.result c.from.ensures) (writes_as_heals c.in-Err.ensures.writes)
 
 pub returns-in-Ok-clause-keeps : goal.returns-in-Ok-clause-keeps
 returns-in-Ok-clause-keeps g c h = let M = g.M.Machine in but_heals (home_a c.args.l.now c.args.page) (home_b c.args.l.now c.args.page) (M.now c.args.m.now) (M.now c.heal_page.new.m) (c.heal_page.ensures.writes.exit h)
@@ -72,7 +72,7 @@ returns-in-Err-clause-not_shown g c h still =
     let sized = g.met.M.Machine.sized c.args.m.now (c.heal_page.ensures.writes.trust.honest h) in
     let bounds = planned_bounds c.args.l.now c.requires.planned in
     let long : home_b c.args.l.now c.args.l.now.pages ≤ length (M.now c.args.m.now).image = omega (arith, sized, bounds.third_least, bounds.sectors_least, c.requires.room) in
-    subst (LosesHome c.args.l.now c.args.page (M.now c.args.m.now).image) (sym c.load_fault.ensures)
+    subst (LosesHome c.args.l.now c.args.page (M.now c.args.m.now).image) (sym c.from.ensures)
     (heal_loses c.args.l.now c.args.page c.requires.page (M.now c.args.m.now) (M.now c.heal_page.new.m) still long (c.heal_page.ensures.writes.exit h) c.in-Err.fault (c.in-Err.ensures.lost h))
 
 pub returns-in-Ok-clause-homes : goal.returns-in-Ok-clause-homes

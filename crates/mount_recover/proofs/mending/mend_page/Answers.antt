@@ -26,7 +26,7 @@ use Rattle.mount_recover.proofs.SlotLaws.{slot_gives, slot_not_lost, slot_none}
 use Rattle.mount_recover.proofs.mending.mend_page.Goals as goal
 
 pub returns-in-Err-clause-load : goal.returns-in-Err-clause-load
-returns-in-Err-clause-load g c = is_load c.in-Err.fault c.load_fault.result c.load_fault.ensures
+returns-in-Err-clause-load g c = is_load c.in-Err.fault c.from.result c.from.ensures
 
 pub returns-in-Ok-true-clause-disk : goal.returns-in-Ok-true-clause-disk
 returns-in-Ok-true-clause-disk g c = heals_then (reads_as_heals c.in-Ok-true.ensures.reads) c.home_logged.ensures.disk
@@ -35,7 +35,7 @@ pub returns-in-Ok-false-clause-disk : goal.returns-in-Ok-false-clause-disk
 returns-in-Ok-false-clause-disk g c = heals_then (reads_as_heals c.in-Ok-false.ensures.reads) c.heal_home.ensures.disk
 
 pub returns-in-Err-clause-disk : goal.returns-in-Err-clause-disk
-returns-in-Err-clause-disk g c = heals_told (load_told c.in-Err.fault c.load_fault.result c.load_fault.ensures) (reads_as_heals c.in-Err.ensures.reads)
+returns-in-Err-clause-disk g c = heals_told (load_told c.in-Err.fault c.from.result c.from.ensures) (reads_as_heals c.in-Err.ensures.reads)
 
 pub returns-in-Ok-true-clause-any_moment : goal.returns-in-Ok-true-clause-any_moment
 returns-in-Ok-true-clause-any_moment g c windows choices first is h at =
@@ -105,7 +105,7 @@ pub returns-in-Err-clause-never_lost : goal.returns-in-Err-clause-never_lost
 returns-in-Err-clause-never_lost g c windows choices first is h at =
     let M = g.M.Machine in
     let l = c.args.l.now in let log = c.args.log.now in let now = M.now c.args.m.now in
-    subst IsExcuse (sym c.load_fault.ensures) (load_excused c.in-Err.fault
+    subst IsExcuse (sym c.from.ensures) (load_excused c.in-Err.fault
     (slot_not_lost l windows choices log first is c.requires.layout c.args.page c.requires.page now at (M.now c.image_of.new.m) (c.image_of.ensures.reads.worn h) c.in-Err.fault (c.in-Err.ensures.lost h)))
 
 pub returns-in-Ok-true-clause-shown : goal.returns-in-Ok-true-clause-shown
@@ -161,7 +161,7 @@ pub returns-in-Err-clause-not_shown : goal.returns-in-Err-clause-not_shown
 returns-in-Err-clause-not_shown g c records first h still given at =
     let M = g.M.Machine in
     let l = c.args.l.now in let log = c.args.log.now in let now = M.now c.args.m.now in
-    device_loses l records first c.in-Err.fault c.load_fault.result c.load_fault.ensures (c.in-Err.ensures.none_lost records h still given.indexed (given_on l log c.requires.layout records first now.image c.args.page at.front given))
+    device_loses l records first c.in-Err.fault c.from.result c.from.ensures (c.in-Err.ensures.none_lost records h still given.indexed (given_on l log c.requires.layout records first now.image c.args.page at.front given))
 
 pub returns-in-Ok-true-clause-keeps : goal.returns-in-Ok-true-clause-keeps
 returns-in-Ok-true-clause-keeps g c h =

@@ -13,13 +13,13 @@ use Rattle.mount_recover.proofs.MendingLaws.{roots_stay, roots_done, narrow, sta
 use Rattle.mount_recover.proofs.mending.mend_roots.Goals as goal
 
 pub returns-in-Err-clause-load : goal.returns-in-Err-clause-load
-returns-in-Err-clause-load g c = is_load c.in-Err.fault c.load_fault.result c.load_fault.ensures
+returns-in-Err-clause-load g c = is_load c.in-Err.fault c.from.result c.from.ensures
 
 pub returns-in-Ok-clause-disk : goal.returns-in-Ok-clause-disk
 returns-in-Ok-clause-disk g c = writes_as_heals c.in-Ok.ensures.writes
 
 pub returns-in-Err-clause-disk : goal.returns-in-Err-clause-disk
-returns-in-Err-clause-disk g c = heals_told (load_told c.in-Err.fault c.load_fault.result c.load_fault.ensures) (writes_as_heals c.in-Err.ensures.writes)
+returns-in-Err-clause-disk g c = heals_told (load_told c.in-Err.fault c.from.result c.from.ensures) (writes_as_heals c.in-Err.ensures.writes)
 
 pub returns-in-Ok-clause-any_moment : goal.returns-in-Ok-clause-any_moment
 returns-in-Ok-clause-any_moment g c windows choices log first is h at =
@@ -56,7 +56,7 @@ returns-in-Err-clause-never_lost g c windows choices log first is h at =
     let l = c.args.l.now in let now = M.now c.args.m.now in let new = M.now c.heal_root.new.m in
     let run = c.heal_root.ensures.writes.any_moment h in
     let stays = roots_stay l windows choices log first is now at new (run.each new (g.met.M.Machine.counts_now c.heal_root.new.m (M.moment c.args.m.now) h run.later)) in
-    load_not_lost AreRoots new.image c.in-Err.fault c.load_fault.result c.load_fault.ensures (roots_serve l windows (narrow l windows choices log first is) choices new.image (stays_show l windows choices log first is new stays)) (c.in-Err.ensures.lost h)
+    load_not_lost AreRoots new.image c.in-Err.fault c.from.result c.from.ensures (roots_serve l windows (narrow l windows choices log first is) choices new.image (stays_show l windows choices log first is new stays)) (c.in-Err.ensures.lost h)
 
 pub returns-in-Err-clause-not_shown : goal.returns-in-Err-clause-not_shown
 returns-in-Err-clause-not_shown g c h still some =
@@ -65,7 +65,7 @@ returns-in-Err-clause-not_shown g c h still some =
     let sized = g.met.M.Machine.sized c.args.m.now (c.heal_root.ensures.writes.trust.honest h) in
     let bounds = planned_bounds c.args.l.now c.requires.planned in
     let room : 4 < length (M.now c.args.m.now).image = omega (arith, sized, bounds.third_least, bounds.sectors_least, c.requires.room) in
-    subst IsExcuse (sym c.load_fault.ensures) (load_excused c.in-Err.fault
+    subst IsExcuse (sym c.from.ensures) (load_excused c.in-Err.fault
     (roots_lose (root_bytes c.args.l.now) (M.now c.args.m.now) (M.now c.heal_root.new.m) room still (run.each (M.now c.heal_root.new.m) (g.met.M.Machine.counts_now c.heal_root.new.m (M.moment c.args.m.now) h run.later)) some c.in-Err.fault (c.in-Err.ensures.lost h)))
 
 pub returns-in-Ok-clause-grows : goal.returns-in-Ok-clause-grows

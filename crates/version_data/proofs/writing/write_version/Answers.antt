@@ -7,9 +7,10 @@ use Rattle.fsd_formats.specs.Leader.{leader_bytes}
 use Rattle.fsd_formats.specs.NamePage.{sectors_for}
 use Rattle.sector_disk.specs.Image.{in_run}
 use Rattle.sector_disk.specs.Machine.{Holds, Ledger, wrote}
+use Rattle.sector_disk.specs.Written.{WroteMost}
 use Rattle.sector_disk.proofs.CallLaws.{writes_told}
 use Rattle.sector_disk.proofs.ResultLaws.{err_as}
-use Rattle.version_data.specs.Writing.{WroteMost, place_of, with_parts}
+use Rattle.version_data.specs.Writing.{place_of, with_parts}
 use Rattle.version_data.proofs.PlaceLaws.{all_behind, entry_count, entry_length, entry_lengths, left_next, lies_behind, run_below}
 use Rattle.version_data.proofs.VersionLaws.{holds_run, version_stands}
 use Rattle.version_data.proofs.WritingLaws.{failed_told, handed_on, run_among, run_written, wrote_most_on, wrote_on}
