@@ -10,7 +10,7 @@ use Rattle.fsd_formats.specs.NamePage.{Content, Free, Leaf, Interior, read_page}
 use Rattle.fsd_table.proofs.BoundLaws.{all_weaker}
 use Rattle.fsd_table.specs.Pages.{page_at}
 use Rattle.fsd_table.specs.Table.{max_height}
-use Rattle.fsd_forest.specs.Met.{is_up_to, met, met_at, met_below, path_of}
+use Rattle.fsd_forest.specs.Met.{is_up_to, met_at, met_below, pages_met, search_of}
 use Rattle.sector_disk.specs.declared.machine.Machine.{Ghosts as MachineGhosts}
 use Rattle.page_cache.specs.declared.source.PageSource.{Ghosts as SourceGhosts}
 use Rattle.page_cache.specs.Cache.{CacheValue, IsResident, bytes_of}
@@ -54,17 +54,17 @@ module _ (In Other : ℕ → Type 0) where
       by false h = g h
 
   module _ (at other : ℕ → Option Content) (same : (page : ℕ) → In page → Other page × (other page ≡ at page)) where
-    met_more : (levels : ℕ) (before : Key → Bool) (left beside : List ℕ) (page : ℕ) → Grows left beside → Grows (met levels at before left page) (met levels other before beside page)
+    met_more : (levels : ℕ) (before : Key → Bool) (left beside : List ℕ) (page : ℕ) → Grows left beside → Grows (pages_met levels at before left page) (pages_met levels other before beside page)
     met_more zero before left beside page g h = tt
     met_more (suc levels) before left beside page g h =
         let here = same page h.0 in (
           here.0,
-          subst (λ (x : Option Content). AllByRecursion Other (met_at (met levels other before) (met levels other (λ key. true) []) before beside x)) (sym here.1)
-              (at_more (met levels at before) (met levels other before) (met levels at (λ key. true) []) (met levels other (λ key. true) []) before left beside (at page)
+          subst (λ (x : Option Content). AllByRecursion Other (met_at (pages_met levels other before) (pages_met levels other (λ key. true) []) before beside x)) (sym here.1)
+              (at_more (pages_met levels at before) (pages_met levels other before) (pages_met levels at (λ key. true) []) (pages_met levels other (λ key. true) []) before left beside (at page)
               (λ xs ys p more. met_more levels before xs ys p more) (λ p. met_more levels (λ key. true) [] [] p (λ none. tt)) g h.1),
         )
 
-    pub path_more : (name : List ℕ) → AllByRecursion In (path_of at name) → AllByRecursion Other (path_of other name)
+    pub path_more : (name : List ℕ) → AllByRecursion In (search_of at name) → AllByRecursion Other (search_of other name)
     path_more name = met_more max_height (is_up_to name) [] [] 0 (λ none. tt)
 
 -- ---- over a cache
@@ -86,7 +86,7 @@ module _ {D E : Type 0} {M : MachineGhosts D} {S : SourceGhosts E} where
   Seen t page = HasPage t page × IsSome (page_at (step_of t).images page)
 
   module _ (m : MutBor D) (cache : MutBor CacheValue) (source : E) (free : MutBor (List Bool)) (a : Table D E M S) (over : IsOver m cache source free a) (name : List ℕ) where
-    seen_first : HasPathIn (length free.now) name cache.now → AllByRecursion (Seen a) (path_of (page_at (step_of a).images) name)
+    seen_first : HasPathIn (length free.now) name cache.now → AllByRecursion (Seen a) (search_of (page_at (step_of a).images) name)
     seen_first has =
         let count = length a.free.now in
         let here : HasPathIn count name a.cache.now =
@@ -95,16 +95,16 @@ module _ {D E : Type 0} {M : MachineGhosts D} {S : SourceGhosts E} where
         (λ page is. let there : HasPage a page = (is.0, content_there a.cache.now count page is.1) in let same = in_images a page there in ((there, subst (λ (o : Option Content). IsSome o) (sym same) is.1), same)) name here.all
 
     -- as the pages see it
-    pub path_first : HasPathIn (length free.now) name cache.now → AllByRecursion (HasPage a) (path_of (page_at (step_of a).images) name)
-    path_first has = all_weaker (Seen a) (HasPage a) (path_of (page_at (step_of a).images) name) (λ page is. is.0) (seen_first has)
+    pub path_first : HasPathIn (length free.now) name cache.now → AllByRecursion (HasPage a) (search_of (page_at (step_of a).images) name)
+    path_first has = all_weaker (Seen a) (HasPage a) (search_of (page_at (step_of a).images) name) (λ page is. is.0) (seen_first has)
 
     -- it is still there once a look-up that needed no memory has ended
-    pub path_left : (b c : Table D E M S) (refusal : Option Refusal) → (AllByRecursion (HasPage a) (path_of (page_at (step_of a).images) name) → NeedsNoMemory step_of HasPage refusal a b) → NeedsNoMemory step_of HasPage None b c
+    pub path_left : (b c : Table D E M S) (refusal : Option Refusal) → (AllByRecursion (HasPage a) (search_of (page_at (step_of a).images) name) → NeedsNoMemory step_of HasPage refusal a b) → NeedsNoMemory step_of HasPage None b c
         → (cache' : CacheValue) → cache' ≡ c.cache.now → HasPathIn (length free.now) name cache.now → HasPathIn (length free.now) name cache'
     path_left b c refusal looked rested cache' left has =
         let met = looked (path_first has) in
         let images : (step_of c).images ≡ (step_of a).images = rested.images ∙ met.images in
-        let path : List (List ℕ) → List ℕ = λ (pages : List (List ℕ)). path_of (page_at pages) name in
+        let path : List (List ℕ) → List ℕ = λ (pages : List (List ℕ)). search_of (page_at pages) name in
         let later : (page : ℕ) → Seen a page → Seen c page = λ page is. (rested.stays page (met.stays page is.0), subst (λ (pages : List (List ℕ)). IsSome (page_at pages page)) (sym images) is.1) in
         let there = subst (λ (pages : List (List ℕ)). AllByRecursion (Seen c) (path pages)) (sym images) (all_weaker (Seen a) (Seen c) (path (step_of a).images) later (seen_first has)) in
         let count = length c.free.now in

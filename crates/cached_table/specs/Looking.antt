@@ -13,7 +13,7 @@ use Rattle.page_cache.specs.Accepted.{content_in}
 use Rattle.table_pages.specs.Bringing.{IsTrusted, given_by, home_in}
 use Rattle.table_pages.specs.Kept.{IsReady, images_of}
 use Rattle.table_pages.specs.Reads.{Fills, LosesFor, Stood, device_of}
-use Rattle.fsd_forest.specs.Met.{path_of}
+use Rattle.fsd_forest.specs.Met.{search_of}
 use Rattle.fsd_table.specs.Pages.{entries_of}
 use Rattle.fsd_table.specs.Table.{BreaksTable, Visit, visits}
 use Rattle.name_page.specs.Pages.{IsOuter, is_spare}
@@ -43,7 +43,7 @@ HasIn c count page = (page < count) × IsSome (content_in c count page)
 
 -- so are all that the search for the highest version of a name meets
 pub record HasPathIn (count : ℕ) (name : List ℕ) (c : CacheValue) : Type 0 where
-  pub all : AllByRecursion (HasIn c count) (path_of (content_in c count) name)
+  pub all : AllByRecursion (HasIn c count) (search_of (content_in c count) name)
 
 -- each page of the table is in the cache, but for those that are free
 pub record HasAllUsed (free : List Bool) (c : CacheValue) : Type 0 where

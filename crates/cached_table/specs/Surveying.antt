@@ -16,7 +16,7 @@ use Rattle.fsd_sound.specs.declared.fault.MountFault.TheVariants.{Device, Lost, 
 use Rattle.name_page.specs.Pages.{IsOuter}
 use Rattle.name_btree.specs.declared.fault.TreeFault.{TreeFault}
 use Rattle.name_btree.specs.declared.fault.TreeFault.TheVariants.{Pages, Broken}
-use Rattle.cached_table.specs.Looking.{BarsPages, images_by}
+use Rattle.cached_table.specs.Looking.{BarsPages, images_by, refusal_in}
 use Rattle.run_table.specs.Space.{contains}
 use Rattle.sector_set.specs.Area.{Area, area}
 
@@ -55,5 +55,4 @@ mount_fault_for (Why.Unsound s) = Unsound s
 mount_fault_for other = Memory
 
 abbrev pub mount_fault_in : (home_a : ℕ) → TreeFault → MountFault
-mount_fault_in home_a (Pages refusal) = mount_fault_for refusal
-mount_fault_in home_a (Broken page) = Unsound (home_in home_a page)
+mount_fault_in home_a fault = mount_fault_for (refusal_in home_a fault)

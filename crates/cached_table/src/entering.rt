@@ -12,9 +12,9 @@ ghost use Rattle.version_table.specs.Plan.{IsPlan, planned_entry, with_planned};
 ghost use Rattle.version_table.specs.Table.{MakesTable, OfTable};
 ghost use Rattle.cached_table.specs.Editing.{DirtiesAtMost, EditsOnly, EditsTable, StaysIn};
 ghost use Rattle.cached_table.specs.Entering.{AreInTurn, AreTaken, EntersNone, EntersNoneIn, OfTableIn, ShowsRefusal, ShowsUnsound, TellsUntaken, enter_refusal, plan_refusal, share};
-ghost use Rattle.cached_table.specs.Looking.{LooksOnly, refusal_in};
+ghost use Rattle.cached_table.specs.Looking.{LooksOnly};
 
-use crate::looking::let_go;
+use crate::looking::{let_go, table_refusal};
 use alloc_map::Map;
 use fsd_bytes::{FileName, Refusal};
 use fsd_formats::Entry;
@@ -27,16 +27,6 @@ use sector_set::overlap;
 use shadow_frees::Shadow;
 use table_pages::{FreePages, Table};
 use version_table::{Leaving, Plan, VersionFault, enter, plan_version};
-
-// The refusal that a fault of the table is.
-fn table_refusal(fault: TreeFault, home_a: u32) -> Refusal
-    ensures { result ≡ refusal_in home_a fault }
-{
-    match fault {
-        TreeFault::Pages(refusal) => refusal,
-        TreeFault::Broken(page) => Refusal::Unsound(home_a.wrapping_add(page)),
-    }
-}
 
 // The refusal that a fault of the entry is. It comes behind look-ups: pages that differ since, or that break the table beside
 // those that were looked up, have no number left for a version.

@@ -9,7 +9,7 @@ ghost use Rattle.fsd_table.specs.Tree.{IsTree, table_of};
 ghost use Rattle.name_page.specs.Lookups.{entry_after, entry_with, highest_of, is_after};
 ghost use Rattle.name_btree.specs.Fault.{outer_told};
 ghost use Rattle.name_btree.specs.Lookup.{entry_of};
-ghost use Rattle.cached_table.specs.Looking.{FaultsOver, HasAllUsed, HasEnoughIn, HasPathIn, HavePages, LeadsTo, LooksOnly, ShowsFault, images_by, told};
+ghost use Rattle.cached_table.specs.Looking.{FaultsOver, HasAllUsed, HasEnoughIn, HasPathIn, HavePages, LeadsTo, LooksOnly, ShowsFault, images_by, refusal_in, told};
 
 use fsd_bytes::{FileName, Key, Refusal};
 use name_btree::{FoundEntry, TreeFault, find, highest, next_after};
@@ -119,7 +119,16 @@ pub fn told(
 {
     match found {
         Ok(found) => Ok(found),
-        Err(TreeFault::Pages(refusal)) => Err(refusal),
-        Err(TreeFault::Broken(page)) => Err(Refusal::Unsound(home_a.wrapping_add(page))),
+        Err(fault) => Err(table_refusal(fault, home_a)),
+    }
+}
+
+/// The refusal that a fault of the table is.
+pub(crate) fn table_refusal(fault: TreeFault, home_a: u32) -> Refusal
+    ensures { result ≡ refusal_in home_a fault }
+{
+    match fault {
+        TreeFault::Pages(refusal) => refusal,
+        TreeFault::Broken(page) => Refusal::Unsound(home_a.wrapping_add(page)),
     }
 }

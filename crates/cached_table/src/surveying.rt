@@ -11,7 +11,7 @@ ghost use Rattle.table_survey.specs.Survey.{IsSurveyed};
 ghost use Rattle.cached_table.specs.Looking.{images_by};
 ghost use Rattle.cached_table.specs.Surveying.{SurveyFails, SurveysOnly, mount_fault_for, mount_fault_in, IsOfData};
 
-use crate::looking::let_go;
+use crate::looking::{let_go, table_refusal};
 use alloc_map::Map;
 use fsd_bytes::Refusal;
 use fsd_sound::MountFault;
@@ -73,8 +73,5 @@ fn refusal_fault(refusal: Refusal) -> MountFault
 pub(crate) fn survey_fault(fault: TreeFault, home_a: u32) -> MountFault
     ensures { result ≡ mount_fault_in home_a fault }
 {
-    match fault {
-        TreeFault::Pages(refusal) => refusal_fault(refusal),
-        TreeFault::Broken(page) => MountFault::Unsound(home_a.wrapping_add(page)),
-    }
+    refusal_fault(table_refusal(fault, home_a))
 }

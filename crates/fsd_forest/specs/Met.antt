@@ -20,14 +20,14 @@ met_at down last before left (Some (Interior first separators)) = met_below down
 met_at down last before left other = []
 
 -- the pages that the search for the last entry before a place meets from a page on, in so many levels
-abbrev pub met : (levels : ℕ) (at : ℕ → Option Content) (before : Key → Bool) (left : List ℕ) → ℕ → List ℕ
-met zero at before left page = []
-met (suc levels) at before left page = page ∷ met_at (met levels at before) (met levels at (λ key. true) []) before left (at page)
+abbrev pub pages_met : (levels : ℕ) (at : ℕ → Option Content) (before : Key → Bool) (left : List ℕ) → ℕ → List ℕ
+pages_met zero at before left page = []
+pages_met (suc levels) at before left page = page ∷ met_at (pages_met levels at before) (pages_met levels at (λ key. true) []) before left (at page)
 
 -- the keys of this name and of those before it
 abbrev pub is_up_to : (name : List ℕ) → Key → Bool
 is_up_to name key = not (is_gt (slice_cmp nat_cmp key.name name))
 
 -- the pages that the search for the highest version of a name meets, by what each page has
-abbrev pub path_of : (at : ℕ → Option Content) (name : List ℕ) → List ℕ
-path_of at name = met max_height at (is_up_to name) [] 0
+abbrev pub search_of : (at : ℕ → Option Content) (name : List ℕ) → List ℕ
+search_of at name = pages_met max_height at (is_up_to name) [] 0

@@ -200,7 +200,8 @@ way_ends before pages start i w entries at on level0 low sub =
     let o = on level0 low sub in
     leaf_level before pages start (entries_below level0 pages start) entries w o.level at o.subtree o.at
 
-misfit_leaf : (c : Child) (x : Option Content) → content_fits c.low c.high x ≡ false → IsLeaf c x → ⊥
+-- what does not fit between a child's keys is no leaf of it, and no interior page
+pub misfit_leaf : (c : Child) (x : Option Content) → content_fits c.low c.high x ≡ false → IsLeaf c x → ⊥
 misfit_leaf c None e h = h
 misfit_leaf c (Some Free) e h = h
 misfit_leaf c (Some (Leaf entries)) e h = cc

@@ -14,7 +14,7 @@ use Rattle.fsd_table.specs.Pages.{page_at, children, content_fits, not_below, be
 use Rattle.fsd_table.specs.Table.{max_height, top}
 use Rattle.fsd_table.proofs.BoundLaws.{Fits, all_weaker, entries_fit}
 use Rattle.fsd_table.proofs.PageLaws.{at_is_page, interior_ascends}
-use Rattle.fsd_forest.specs.Met.{met, met_at}
+use Rattle.fsd_forest.specs.Met.{met_at, pages_met}
 use Rattle.fsd_forest.specs.Parts.{is_inside}
 use Rattle.name_page.specs.declared.pages.Pages.{Ghosts}
 use Rattle.name_page.specs.declared.cut.Cut.TheVariants.{Named, UpTo}
@@ -28,7 +28,7 @@ use Rattle.name_btree.specs.declared.fault.TreeFault.{TreeFault}
 use Rattle.name_btree.specs.declared.fault.TreeFault.TheVariants.{Pages, Broken}
 use Rattle.name_btree.specs.Descent.{way_to}
 use Rattle.name_btree.specs.Fault.{HasCause, IsMisfit, BarsPage, is_inner}
-use Rattle.name_btree.specs.Path.{met_beside, GoesOn, HasAll, HasMet, HasNone, HasPath, HasWayTo, IsSafe, Leads, LeadsBack, TakesNone}
+use Rattle.name_btree.specs.Path.{met_beside, HasAll, HasMet, HasNone, HasPath, HasWayTo, IsSafe, Leads, LeadsBack, LeadsOn, TakesNone}
 use Rattle.name_page.specs.Lookups.{last_that}
 use Rattle.name_btree.proofs.LastLaws.{last_none}
 use Rattle.name_btree.proofs.MetLaws.{any_at, inside_up, met_child, met_way, none_passes, same_way, up_to_itself, way_child, way_is, way_previous, IsOf}
@@ -44,7 +44,7 @@ module _ {D : Type 0} (P : Ghosts D) where
   -- so far no memory was taken, and what is met from here on is there
   pub record IsMet (before : Key → Bool) (first : D) (above : ℕ) (w : Way) (t : D) : Type 0 where
     pub none : TakesNone P None first t
-    pub more : HasAll P first (met (max_height - above) (page_at (P.step first).images) before (met_beside (page_at (P.step first).images) w.previous) w.child.page)
+    pub more : HasAll P first (pages_met (max_height - above) (page_at (P.step first).images) before (met_beside (page_at (P.step first).images) w.previous) w.child.page)
 
   pub met_begins : (before : Key → Bool) (first : D) (above : ℕ) (start : Child) → HasMet P above before start first → IsMet before first above (record { child = start; previous = None; next = None }) first
   met_begins before first above start has = record { none = memory_still P first; more = has }
@@ -53,8 +53,8 @@ module _ {D : Type 0} (P : Ghosts D) where
     abbrev pub at : ℕ → Option Content
     at = page_at (P.step first).images
 
-    both : HasAll P first (met (suc (max_height - (above + 1))) at before (met_beside at w.previous) w.child.page)
-    both = subst (λ (n : ℕ). HasAll P first (met n at before (met_beside at w.previous) w.child.page)) (down_one above low) is.more
+    both : HasAll P first (pages_met (suc (max_height - (above + 1))) at before (met_beside at w.previous) w.child.page)
+    both = subst (λ (n : ℕ). HasAll P first (pages_met n at before (met_beside at w.previous) w.child.page)) (down_one above low) is.more
 
     -- the next page is there
     pub met_here : P.in_memory t w.child.page
@@ -64,9 +64,9 @@ module _ {D : Type 0} (P : Ghosts D) where
       pub met_then : TakesNone P None first t'
       met_then = memory_then P first t t' is.none takes
 
-      met_content : (x : Content) → page_at (P.step t').images w.child.page ≡ Some x → HasAll P first (met_at (met (max_height - (above + 1)) at before) (met (max_height - (above + 1)) at (λ key. true) []) before (met_beside at w.previous) (Some x))
+      met_content : (x : Content) → page_at (P.step t').images w.child.page ≡ Some x → HasAll P first (met_at (pages_met (max_height - (above + 1)) at before) (pages_met (max_height - (above + 1)) at (λ key. true) []) before (met_beside at w.previous) (Some x))
       met_content x has =
-          subst (λ (o : Option Content). HasAll P first (met_at (met (max_height - (above + 1)) at before) (met (max_height - (above + 1)) at (λ key. true) []) before (met_beside at w.previous) o))
+          subst (λ (o : Option Content). HasAll P first (met_at (pages_met (max_height - (above + 1)) at before) (pages_met (max_height - (above + 1)) at (λ key. true) []) before (met_beside at w.previous) o))
           (ap (λ (pages : List (List ℕ)). page_at pages w.child.page) (sym met_then.images) ∙ has) both.1
 
       pub met_down : (page : ℕ) (separators : List Separator) → page_at (P.step t').images w.child.page ≡ Some (Interior page separators)
@@ -111,14 +111,14 @@ module _ {D : Type 0} (P : Ghosts D) where
       let asc = interior_ascends c.page _ page separators (at_is_page (P.step t).images c.page (Interior page separators) is.has) in
       let next = way_is e.key 0 None None page c.low c.low c.high separators d asc is.fits of inside in (
         safe t c (Interior page separators) e.key is (inside_up e.key c.low c.low c.high page separators d (λ k x. x) is.fits of inside),
-        subst (GoesOn (Leads P levels t e) e c) (sym is.has) (subst (Leads P levels t e) (sym next) h),
+        subst (LeadsOn (Leads P levels t e) e c) (sym is.has) (subst (Leads P levels t e) (sym next) h),
       )
 
   -- from a leaf to each of its entries
   pub lead_leaf : (levels : ℕ) (t : D) (e : Entry) (c : Child) (entries : List Entry) → IsReadSafe t c (Leaf entries) → Contains entries e → Leads P (suc levels) t e c
   lead_leaf levels t e c entries is there =
       let fit = All-contains (Fits c.low c.high) entries e (All-from_recursion (Fits c.low c.high) entries (entries_fit c.low c.high entries is.fits)) there in
-      (safe t c (Leaf entries) e.key is (and_from (not_below c.low e.key) (below c.high e.key) fit.0 fit.1), subst (GoesOn (Leads P levels t e) e c) (sym is.has) there)
+      (safe t c (Leaf entries) e.key is (and_from (not_below c.low e.key) (below c.high e.key) fit.0 fit.1), subst (LeadsOn (Leads P levels t e) e c) (sym is.has) there)
 
   -- ---- the way back
 
@@ -162,18 +162,18 @@ module _ {D : Type 0} (P : Ghosts D) where
   -- ---- the way again
 
   met_on : (levels : ℕ) (t : D) (e : Entry) (c : Child) (left : List ℕ) (x : Option Content)
-      → ((d : Child) (other : List ℕ) → Leads P levels t e d → HasAll P t (met levels (page_at (P.step t).images) (is_before (UpTo e.key)) other d.page))
-      → GoesOn (Leads P levels t e) e c x → HasAll P t (met_at (met levels (page_at (P.step t).images) (is_before (UpTo e.key))) (met levels (page_at (P.step t).images) (λ key. true) []) (is_before (UpTo e.key)) left x)
+      → ((d : Child) (other : List ℕ) → Leads P levels t e d → HasAll P t (pages_met levels (page_at (P.step t).images) (is_before (UpTo e.key)) other d.page))
+      → LeadsOn (Leads P levels t e) e c x → HasAll P t (met_at (pages_met levels (page_at (P.step t).images) (is_before (UpTo e.key))) (pages_met levels (page_at (P.step t).images) (λ key. true) []) (is_before (UpTo e.key)) left x)
   met_on levels t e c left None f h = absurd h
   met_on levels t e c left (Some Free) f h = absurd h
   met_on levels t e c left (Some (Leaf entries)) f h =
       subst (λ (b : Bool). HasAll P t (cond b [] left)) (sym (any_at (λ x. is_before (UpTo e.key) x.key) entries e h (up_to_itself e.key))) tt
   met_on levels t e c left (Some (Interior page separators)) f h =
-      let other = met_child (met levels (page_at (P.step t).images) (is_before (UpTo e.key))) (met levels (page_at (P.step t).images) (λ key. true) []) (is_before (UpTo e.key)) left 0 None None page c.low c.high separators in
+      let other = met_child (pages_met levels (page_at (P.step t).images) (is_before (UpTo e.key))) (pages_met levels (page_at (P.step t).images) (λ key. true) []) (is_before (UpTo e.key)) left 0 None None page c.low c.high separators in
       subst (HasAll P t) (sym other.1) (f (way_to (is_before (UpTo e.key)) 0 None None page c.low c.high separators).child other.0 h)
 
   -- the search for an entry meets no other pages than those of its way
-  pub lead_met : (levels : ℕ) (t : D) (e : Entry) (c : Child) (left : List ℕ) → Leads P levels t e c → HasAll P t (met levels (page_at (P.step t).images) (is_before (UpTo e.key)) left c.page)
+  pub lead_met : (levels : ℕ) (t : D) (e : Entry) (c : Child) (left : List ℕ) → Leads P levels t e c → HasAll P t (pages_met levels (page_at (P.step t).images) (is_before (UpTo e.key)) left c.page)
   lead_met zero t e c left h = absurd h
   lead_met (suc levels) t e c left h = (h.0.there, met_on levels t e c left (page_at (P.step t).images c.page) (λ d other more. lead_met levels t e d other more) h.1)
 
@@ -182,7 +182,7 @@ module _ {D : Type 0} (P : Ghosts D) where
       → Leads P (max_height - above) first e w.child → Leads P (max_height - (above + 1)) first e (way_to (is_before (UpTo e.key)) (above + 1) w.previous w.next page w.child.low w.child.high separators).child
   lead_down first t' e above w page separators low takes has h =
       let both = subst (λ (n : ℕ). Leads P n first e w.child) (down_one above low) h in
-      let on = subst (GoesOn (Leads P (max_height - (above + 1)) first e) e w.child) (ap (λ (pages : List (List ℕ)). page_at pages w.child.page) (sym takes.images) ∙ has) both.1 in
+      let on = subst (LeadsOn (Leads P (max_height - (above + 1)) first e) e w.child) (ap (λ (pages : List (List ℕ)). page_at pages w.child.page) (sym takes.images) ∙ has) both.1 in
       subst (Leads P (max_height - (above + 1)) first e) (same_way (is_before (UpTo e.key)) 0 (above + 1) None None w.previous w.next page w.child.low w.child.high separators) on
 
   -- the entry is in the leaf
@@ -190,13 +190,13 @@ module _ {D : Type 0} (P : Ghosts D) where
       → Leads P (max_height - above) first e c → Contains entries e
   lead_ends first t' e above c entries low takes has h =
       let both = subst (λ (n : ℕ). Leads P n first e c) (down_one above low) h in
-      subst (GoesOn (Leads P (max_height - (above + 1)) first e) e c) (ap (λ (pages : List (List ℕ)). page_at pages c.page) (sym takes.images) ∙ has) both.1
+      subst (LeadsOn (Leads P (max_height - (above + 1)) first e) e c) (ap (λ (pages : List (List ℕ)). page_at pages c.page) (sym takes.images) ∙ has) both.1
 
   -- no page on it is found free, and it ends in time
   pub lead_some : (first t' : D) (e : Entry) (above : ℕ) (c : Child) → above < 6 → TakesNone P None first t' → page_at (P.step t').images c.page ≡ Some Free → Leads P (max_height - above) first e c → ⊥
   lead_some first t' e above c low takes has h =
       let both = subst (λ (n : ℕ). Leads P n first e c) (down_one above low) h in
-      subst (GoesOn (Leads P (max_height - (above + 1)) first e) e c) (ap (λ (pages : List (List ℕ)). page_at pages c.page) (sym takes.images) ∙ has) both.1
+      subst (LeadsOn (Leads P (max_height - (above + 1)) first e) e c) (ap (λ (pages : List (List ℕ)). page_at pages c.page) (sym takes.images) ∙ has) both.1
 
   pub lead_high : (first : D) (e : Entry) (above : ℕ) (c : Child) → 6 ≤ above → Leads P (max_height - above) first e c → ⊥
   lead_high first e above c high h = let none : max_height - above ≡ 0 = omega (arith, high) in subst (λ (n : ℕ). Leads P n first e c) none h

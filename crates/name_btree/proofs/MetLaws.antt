@@ -17,7 +17,7 @@ use Rattle.std.proofs.lemmas.Bool.{and_parts, and_from, or_parts}
 use Rattle.name_page.specs.Cut.{is_before}
 use Rattle.name_page.specs.declared.cut.Cut.TheVariants.{UpTo}
 use Rattle.name_page.proofs.CutLaws.{greater}
-use Rattle.fsd_forest.specs.Met.{met, met_below}
+use Rattle.fsd_forest.specs.Met.{met_below, pages_met}
 use Rattle.fsd_forest.specs.Ways.{end_of}
 use Rattle.name_btree.specs.declared.descent.Way.{Way}
 use Rattle.name_btree.specs.declared.descent.Neighbour.{Neighbour}
@@ -117,8 +117,8 @@ way_previous R before above previous next first low high (s ∷ separators) r f 
 
 -- as the way goes on
 pub met_way : (at : ℕ → Option Content) (before : Key → Bool) (above : ℕ) (previous next : Option Neighbour) (first : ℕ) (low high : Option Key) (separators : List Separator)
-    → met_below (met (max_height - above) at before) (met (max_height - above) at (λ key. true) []) before (met_beside at previous) first separators
-    ≡ met (max_height - above) at before (met_beside at (way_to before above previous next first low high separators).previous) (way_to before above previous next first low high separators).child.page
+    → met_below (pages_met (max_height - above) at before) (pages_met (max_height - above) at (λ key. true) []) before (met_beside at previous) first separators
+    ≡ pages_met (max_height - above) at before (met_beside at (way_to before above previous next first low high separators).previous) (way_to before above previous next first low high separators).child.page
 met_way at before above previous next first low high [] = refl
 met_way at before above previous next first low high (s ∷ separators) = by (met_way at before above (Some (record { child = c; above = above })) next s.child (Some s.key) high separators) (before s.key)
   where
@@ -132,10 +132,10 @@ met_way at before above previous next first low high (s ∷ separators) = by (me
     stop = record { child = c; previous = previous; next = Some (record { child = record { page = s.child; low = Some s.key; high = end_of high separators }; above = above }) }
 
     down : List ℕ → ℕ → List ℕ
-    down = met (max_height - above) at before
+    down = pages_met (max_height - above) at before
 
     last : ℕ → List ℕ
-    last = met (max_height - above) at (λ key. true) []
+    last = pages_met (max_height - above) at (λ key. true) []
 
     by : met_below down last before (last first) s.child separators ≡ down (met_beside at go.previous) go.child.page → (b : Bool)
         → cond b (met_below down last before (last first) s.child separators) (down (met_beside at previous) first) ≡ down (met_beside at (cond b go stop).previous) (cond b go stop).child.page

@@ -8,7 +8,7 @@ use Rattle.fsd_bytes.specs.declared.refusal.Refusal.{Refusal}
 use Rattle.fsd_table.specs.declared.child.Child.{Child}
 use Rattle.fsd_table.specs.Pages.{page_at, content_fits}
 use Rattle.fsd_table.specs.Table.{max_height, top}
-use Rattle.fsd_forest.specs.Met.{met, path_of}
+use Rattle.fsd_forest.specs.Met.{pages_met, search_of}
 use Rattle.fsd_forest.specs.Parts.{is_inside}
 use Rattle.name_page.specs.Cut.{is_before}
 use Rattle.name_page.specs.declared.cut.Cut.TheVariants.{UpTo}
@@ -21,13 +21,13 @@ use Rattle.name_btree.specs.Descent.{way_to}
 -- what is met from a child beside the way on, down its last children
 abbrev pub met_beside : (at : ℕ → Option Content) → Option Neighbour → List ℕ
 met_beside at None = []
-met_beside at (Some n) = met (max_height - n.above) at (λ key. true) [] n.child.page
+met_beside at (Some n) = pages_met (max_height - n.above) at (λ key. true) [] n.child.page
 
 -- at a page the way of an entry's key goes on, or the entry is there
-abbrev pub GoesOn : (Down : Child → Type 0) → Entry → Child → Option Content → Type 0
-GoesOn Down e c (Some (Leaf entries)) = Contains entries e
-GoesOn Down e c (Some (Interior first separators)) = Down (way_to (is_before (UpTo e.key)) 0 None None first c.low c.high separators).child
-GoesOn Down e c other = ⊥
+abbrev pub LeadsOn : (Down : Child → Type 0) → Entry → Child → Option Content → Type 0
+LeadsOn Down e c (Some (Leaf entries)) = Contains entries e
+LeadsOn Down e c (Some (Interior first separators)) = Down (way_to (is_before (UpTo e.key)) 0 None None first c.low c.high separators).child
+LeadsOn Down e c other = ⊥
 
 -- none of these entries stands before a place
 abbrev pub HasNone : (before : Key → Bool) → List Entry → Type 0
@@ -40,11 +40,11 @@ module _ {D : Type 0} (P : Ghosts D) where
 
   -- all that the search from a child at a place meets is in memory
   abbrev pub HasMet : (above : ℕ) → (before : Key → Bool) → Child → D → Type 0
-  HasMet above before start t = HasAll t (met (max_height - above) (page_at (P.step t).images) before [] start.page)
+  HasMet above before start t = HasAll t (pages_met (max_height - above) (page_at (P.step t).images) before [] start.page)
 
   -- all that the search for the highest version of a name meets is in memory
   abbrev pub HasPath : (name : List ℕ) → D → Type 0
-  HasPath name t = HasAll t (path_of (page_at (P.step t).images) name)
+  HasPath name t = HasAll t (search_of (page_at (P.step t).images) name)
 
   -- a call that needed no memory, since all that it met was there
   abbrev pub TakesNone : Option Refusal → D → D → Type 0
@@ -60,7 +60,7 @@ module _ {D : Type 0} (P : Ghosts D) where
   -- the way of an entry's key leads over such pages to a leaf that has the entry, in so many levels
   abbrev pub Leads : (levels : ℕ) → D → Entry → Child → Type 0
   Leads zero t e c = ⊥
-  Leads (suc levels) t e c = IsSafe t e.key c × GoesOn (Leads levels t e) e c (page_at (P.step t).images c.page)
+  Leads (suc levels) t e c = IsSafe t e.key c × LeadsOn (Leads levels t e) e c (page_at (P.step t).images c.page)
 
   -- The way to an entry that was found leads to it again, and so does that to one below the child left of the way, where the
   -- way from that child leads to it later.

@@ -9,8 +9,8 @@ use Rattle.std.specs.List.{AllByRecursion}
 use Rattle.fsd_formats.specs.NamePage.{Content, Free, Leaf, Interior}
 use Rattle.fsd_table.specs.declared.child.Child.{Child}
 use Rattle.fsd_table.specs.Pages.{content_fits, page_at}
-use Rattle.fsd_forest.specs.Met.{path_of}
-use Rattle.name_btree.specs.Path.{GoesOn, HasPath, HasWayTo, Leads, TakesNone}
+use Rattle.fsd_forest.specs.Met.{search_of}
+use Rattle.name_btree.specs.Path.{HasPath, HasWayTo, Leads, LeadsOn, TakesNone}
 use Rattle.name_page.specs.declared.pages.Pages.{Ghosts}
 use Rattle.name_page.specs.Looks.{ChangesPages}
 use Rattle.name_page.specs.Pages.{Step, is_spare, rested}
@@ -64,10 +64,10 @@ rested_pages a b c rest count pages =
 module _ {D : Type 0} (P : Ghosts D) (t t' : D) (takes : TakesNone P None t t') where
   pub path_later : (name : List ℕ) → HasPath P name t → HasPath P name t'
   path_later name has =
-      let path : List (List ℕ) → List ℕ = λ (pages : List (List ℕ)). path_of (page_at pages) name in
+      let path : List (List ℕ) → List ℕ = λ (pages : List (List ℕ)). search_of (page_at pages) name in
       subst (λ (pages : List (List ℕ)). AllByRecursion (P.in_memory t') (path pages)) (sym takes.images) (all_weaker (P.in_memory t) (P.in_memory t') (path (P.step t).images) takes.stays has)
 
-  on_later : (levels : ℕ) (e : Entry) (c : Child) (x : Option Content) → ((d : Child) → Leads P levels t e d → Leads P levels t' e d) → GoesOn (Leads P levels t e) e c x → GoesOn (Leads P levels t' e) e c x
+  on_later : (levels : ℕ) (e : Entry) (c : Child) (x : Option Content) → ((d : Child) → Leads P levels t e d → Leads P levels t' e d) → LeadsOn (Leads P levels t e) e c x → LeadsOn (Leads P levels t' e) e c x
   on_later levels e c None f h = absurd h
   on_later levels e c (Some Free) f h = absurd h
   on_later levels e c (Some (Leaf entries)) f h = h
@@ -82,7 +82,7 @@ module _ {D : Type 0} (P : Ghosts D) (t t' : D) (takes : TakesNone P None t t') 
       inside = h.0.inside;
       fits = ap (λ (pages : List (List ℕ)). content_fits c.low c.high (page_at pages c.page)) takes.images ∙ h.0.fits;
     },
-    subst (λ (pages : List (List ℕ)). GoesOn (Leads P levels t' e) e c (page_at pages c.page)) (sym takes.images) (on_later levels e c (page_at (P.step t).images c.page) (leads_later levels e) h.1),
+    subst (λ (pages : List (List ℕ)). LeadsOn (Leads P levels t' e) e c (page_at pages c.page)) (sym takes.images) (on_later levels e c (page_at (P.step t).images c.page) (leads_later levels e) h.1),
   )
 
   pub way_later : (e : Entry) → HasWayTo P e t → HasWayTo P e t'

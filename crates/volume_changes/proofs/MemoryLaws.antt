@@ -1,7 +1,7 @@
 -- No memory is wanting where the path of a name is in memory, or all pages in use are.
 use Rattle.std.proofs.Common.{◌≡◌, ◌<◌, ℕ, Bool, true, false, List, length, Option, Some, None, Result, Ok, Err, ◌∷◌, [], inl, inr, refl, sym, ap, subst, ◌∙◌, arith}
 use Rattle.std.specs.List.{AllByRecursion}
-use Rattle.fsd_forest.specs.Met.{path_of}
+use Rattle.fsd_forest.specs.Met.{search_of}
 use Rattle.std.specs.Prelude.{IsSome, option_and_then, option_map}
 use Rattle.fsd_bytes.specs.declared.refusal.Refusal.{Refusal}
 use Rattle.fsd_bytes.specs.declared.refusal.Refusal.TheVariants as Why
@@ -94,7 +94,7 @@ forced_content v w is fits cache forced =
 path_behind : (v w : VolumeValue) → Forces (state v) (state w) (Ok tt) → KeepsContent v.cache w.cache → (name : List ℕ) → HasPathOf (state v) (resident v) name → HasPathOf (state w) (resident w) name
 path_behind v w forces keeps name has =
     let n : ℕ = v.layout.pages in
-    subst (λ (l : Layout). AllByRecursion (HasIn w.cache l.pages) (path_of (content_in w.cache l.pages) name)) (sym forces.state.layout)
+    subst (λ (l : Layout). AllByRecursion (HasIn w.cache l.pages) (search_of (content_in w.cache l.pages) name)) (sym forces.state.layout)
     (path_more (HasIn v.cache n) (HasIn w.cache n) (content_in v.cache n) (content_in w.cache n) (λ page is. let same = there page is.1 in ((is.0, subst (λ (o : Option Content). IsSome o) (sym same) is.1), same)) name has)
   where
     there : (page : ℕ) → IsSome (content_in v.cache v.layout.pages page) → content_in w.cache v.layout.pages page ≡ content_in v.cache v.layout.pages page

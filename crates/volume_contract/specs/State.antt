@@ -16,7 +16,7 @@ use Rattle.sector_disk.specs.declared.sector.WeakRun.{WeakRun}
 use Rattle.sector_disk.specs.Image.{open_damage, IsWorn}
 use Rattle.sector_disk.specs.Machine.{Moment, Ledger}
 use Rattle.fsd_log.specs.Scan.{Head, Placed, place_of, spot_for, start}
-use Rattle.fsd_forest.specs.Met.{path_of}
+use Rattle.fsd_forest.specs.Met.{search_of}
 use Rattle.fsd_table.specs.Table.{visits}
 use Rattle.fsd_files.specs.Disk.{Sectors, Touches}
 use Rattle.fsd_files.specs.Files.{Change}
@@ -101,7 +101,7 @@ content_of s resident page = option_and_then (read_page page s.layout.pages) (re
 
 -- all that the search for the highest version of a name meets are pages in memory, as the grammar accepts them
 abbrev pub HasPathOf : State → (resident : ℕ → Option (List ℕ)) → (name : List ℕ) → Type 0
-HasPathOf s resident name = AllByRecursion (λ page. (page < s.layout.pages) × IsSome (content_of s resident page)) (path_of (content_of s resident) name)
+HasPathOf s resident name = AllByRecursion (λ page. (page < s.layout.pages) × IsSome (content_of s resident page)) (search_of (content_of s resident) name)
 
 -- every page that isn't a free one is in memory
 abbrev pub HasAllPages : State → (resident : ℕ → Option (List ℕ)) → Type 0

@@ -1,10 +1,9 @@
-use Rattle.std.proofs.Common.{◌≡◌, ◌∙◌, sym, ap, subst, length, ℕ, Bool, false, List, Option, None, Some, rules}
-use Rattle.std.proofs.lemmas.Bool.{true≢false}
+use Rattle.std.proofs.Common.{◌≡◌, ◌∙◌, sym, ap, subst, length, ℕ, Bool, List, Some, rules}
 use Rattle.std.proofs.lemmas.Result.{err_from_is_err_and}
 use Rattle.std.specs.Prelude.{slice_get}
 use Rattle.std.specs.List.{AllByRecursion}
 use Rattle.fsd_formats.specs.declared.entry.Entry.{Entry}
-use Rattle.fsd_formats.specs.NamePage.{Content, Free, Leaf, Interior, FitsEntry}
+use Rattle.fsd_formats.specs.NamePage.{Leaf, FitsEntry}
 use Rattle.fsd_table.specs.declared.child.Child.{Child}
 use Rattle.fsd_table.specs.Pages.{page_at, children, content_fits}
 use Rattle.fsd_table.specs.Tree.{IsLeaf}
@@ -16,6 +15,7 @@ use Rattle.name_page.specs.Pages.{is_spare}
 use Rattle.name_page.proofs.LookLaws.{agrees_now}
 use Rattle.name_btree.specs.Fault.{IsMisfit}
 use Rattle.name_btree.proofs.CauseLaws.{fails_by_map}
+use Rattle.name_btree.proofs.DescentLaws.{misfit_leaf}
 use Rattle.name_btree.proofs.OverLaws.{leaves_over}
 use Rattle.name_btree.specs.Draft.{drafted}
 use Rattle.name_btree.specs.Trim.{HasNoLeaf, MayHave, beside, child_of, entries_at, AreLeavesMended}
@@ -105,13 +105,6 @@ returns-in_err-others-clause-calls g c =
     let p = err_from_is_err_and c.from_residual.result c.from_residual.ensures.1 in
     rw (p.1, p.2) c.in_err-others.ensures.calls
 
--- what does not fit between a child's keys is no leaf of it
-no_leaf : (c : Child) (x : Option Content) → content_fits c.low c.high x ≡ false → IsLeaf c x → ⊥
-no_leaf c None out leaf = leaf
-no_leaf c (Some Free) out leaf = leaf
-no_leaf c (Some (Leaf entries)) out leaf = true≢false (sym leaf ∙ out)
-no_leaf c (Some (Interior first separators)) out leaf = leaf
-
 pub returns-in_err-others-clause-fault : goal.returns-in_err-others-clause-fault
 returns-in_err-others-clause-fault g c =
     let sheets = c.args.draft.now.sheets.items in
@@ -124,5 +117,5 @@ returns-in_err-others-clause-fault g c =
     rw (p.1, p.2) (fails_by_map (g.T.Pages.step c.child_node.new.t) (λ pages. IsMisfit (drafted sheets pages) n) (λ pages. HasNoLeaf (drafted sheets pages) cs c.args.i)
     (λ images page is h d at leaf root.
     let same : d ≡ n = cc (there, at) in
-    no_leaf n (page_at (drafted sheets images) n.page) h.1 (subst (λ (x : Child). IsLeaf x (page_at (drafted sheets images) x.page)) same leaf))
+    misfit_leaf n (page_at (drafted sheets images) n.page) h.1 (subst (λ (x : Child). IsLeaf x (page_at (drafted sheets images) x.page)) same leaf))
     c.in_err-others.field-0.0 c.in_err-others.ensures.fault)
