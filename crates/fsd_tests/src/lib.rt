@@ -26,6 +26,8 @@ mod rounds;
 #[cfg(test)]
 mod runs;
 #[cfg(test)]
+mod scripts;
+#[cfg(test)]
 mod stops;
 #[cfg(test)]
 mod sweeps;

@@ -1,5 +1,5 @@
 -- What a page's slot gives of its last image.
-use Rattle.std.specs.Prelude.{◌≡◌, ◌⊎◌, ⊤, ℕ, Bool, List, Option, Some, None, IfSome, slice_index_or}
+use Rattle.std.specs.Prelude.{◌≡◌, ◌<◌, ◌⊎◌, ⊤, ℕ, Bool, List, Option, Some, None, IfSome, slice_index_or}
 use Rattle.std.specs.Option.{option_or}
 use Rattle.volume_layout.specs.Shape.{Shape}
 use Rattle.sector_disk.specs.declared.sector.Sector.{Sector}
@@ -60,6 +60,12 @@ pub record AreOfSlot (l : Shape) (slot : Option Slot) (a b : ℕ) : Type 0 where
 -- those of the page's slot, in the record that the log names as the page's last
 abbrev pub AreLogged : LogValue → (page a b : ℕ) → Type 0
 AreLogged log page a b = AreOfSlot log.layout (slice_index_or log.slots page None) a b
+
+-- The sectors are the two of the last image of some page.
+pub record AreOfLogged (log : LogValue) (a b : ℕ) : Type 0 where
+  pub page : ℕ
+  pub within : page < log.layout.pages
+  pub logged : AreLogged log page a b
 
 -- The bytes stand whole in one of a slot's two sectors.
 pub record StandsAt (slot : Option Slot) (image : List Sector) (bytes : List ℕ) : Type 0 where

@@ -38,6 +38,20 @@ pub(crate) struct Step {
     pub past: Spot,
 }
 
+impl Step {
+    ghost use Rattle.std.specs.Prelude.{◌≡◌, ◌+◌, ◌*◌, ◌≤◌};
+
+    // The step to a record that was found at this place, in a third that ends there.
+    fn over(found: Found, from: u32, end: u32) -> Step
+        requires { from + (2 * found.n + 5) ≤ end }
+        ensures { result ≡ record { from = from; found = found; past = record { at = from + (2 * found.n + 5); end = end } } }
+    {
+        let at = from + (2 * found.n + 5);
+        let past = Spot { at, end };
+        Step { from, found, past }
+    }
+}
+
 /// What a scan reads into, made once: sectors, and of the record that was found last the copies of its images and its end.
 #[derive(Drop)]
 pub(crate) struct Scratch {
@@ -159,14 +173,7 @@ fn enter<M: Machine>(
         return Ok(None);
     }
     match find(m, layout, anchor, number, end, end + third, scratch) {
-        Ok(Some(found)) => Ok(Some(Step {
-            from: end,
-            past: Spot {
-                at: end + (2 * found.n + 5),
-                end: end + third,
-            },
-            found,
-        })),
+        Ok(Some(found)) => Ok(Some(Step::over(found, end, end + third))),
         Ok(None) => Ok(None),
         Err(fault) => Err(fault),
     }
@@ -198,14 +205,7 @@ pub(crate) fn next<M: Machine>(
         (next layout.now anchor.now.epoch (tape layout.now anchor.now.third (reads i)) (record { number = number; at = at; end = end })))) }
 {
     match find(m, layout, anchor, number, at, end, scratch) {
-        Ok(Some(found)) => Ok(Some(Step {
-            from: at,
-            past: Spot {
-                at: at + (2 * found.n + 5),
-                end,
-            },
-            found,
-        })),
+        Ok(Some(found)) => Ok(Some(Step::over(found, at, end))),
         Ok(None) => enter(m, layout, anchor, number, at, end, scratch),
         Err(fault) => Err(fault),
     }

@@ -61,7 +61,7 @@ impl Model for Log {
 }
 
 impl Log {
-    ghost use Rattle.std.specs.Prelude.{◌≡◌, ◌≤◌, ◌<◌, ◌↔◌, ◌+◌, ◌-◌, ◌*◌, ◌^◌, ◌++◌, ◌∷◌, [], List, ℕ, length, Some, None, Ok, Err, true, false, if◌then◌else◌, slice_index_or, IsTrue, IfErr, IfOk, IfSome, IfNone, OnOk, OnErr};
+    ghost use Rattle.std.specs.Prelude.{◌≡◌, ◌≤◌, ◌<◌, ◌↔◌, ◌+◌, ◌-◌, ◌*◌, ◌^◌, ◌++◌, ◌∷◌, [], List, ℕ, length, Some, None, Ok, Err, true, false, if◌then◌else◌, replicate, slice_index_or, IsTrue, IfErr, IfOk, IfSome, IfNone, OnOk, OnErr};
     ghost use Rattle.sector_disk.specs.Calls.{OnlyReads, WritesDisk, device_in, failed_at, load_failed_at};
     ghost use Rattle.sector_disk.specs.Damage.{IsDevice, LostCause};
     ghost use Rattle.sector_disk.specs.declared.sector.Sector.{Sector};
@@ -98,19 +98,43 @@ impl Log {
         ensures anchor { IfOk result (λ log. log.anchor ≡ anchor.now) }
         ensures seen { IfOk result (λ log. (j : List Sector) → M.honest m.new → IsWorn (open_damage (M.now m.old).windows) j (M.now m.old).image → ScansOn log (open_damage (M.now m.old).windows) j (M.now m.new).image) }
     {
-        let third = layout.third();
         let buffer = match vec![in alloc; 0u8; RECORD_BYTES] {
             Ok(buffer) => buffer,
             Err(_) => return Err(ReadFault::Memory),
         };
-        let mut slots = match no_slots(alloc, layout.pages()) {
+        let slots = match no_slots(alloc, layout.pages()) {
             Ok(slots) => slots,
             Err(_) => return Err(ReadFault::Memory),
         };
-        let mut scratch = match Scratch::new(alloc) {
+        let scratch = match Scratch::new(alloc) {
             Ok(scratch) => scratch,
             Err(_) => return Err(ReadFault::Memory),
         };
+        Log::scan_into(m, layout, anchor, buffer, slots, scratch)
+    }
+
+    // The same into a table of no slots, by a scratch that has no copies yet.
+    fn scan_into<M: Machine>(
+        m: &mut M,
+        layout: &Layout,
+        anchor: &Anchor,
+        buffer: Vec<u8>,
+        mut slots: Vec<Option<Slot>>,
+        mut scratch: Scratch,
+    ) -> Result<Log, ReadFault>
+        requires third { anchor.now.third ≤ 2 }
+        requires first { 1 ≤ anchor.now.first }
+        requires epoch { 1 ≤ anchor.now.epoch }
+        requires sectors { layout.now.sectors ≤ (M.report m.old).sectors }
+        requires long { length buffer.items ≡ 100864 }
+        requires slots { slots.items ≡ replicate layout.now.pages None }
+        requires copies { scratch.copies.items ≡ [] }
+        ensures reads { OnlyReads M.Machine (device_in read_failed_at result) m.old m.new }
+        ensures layout { IfOk result (λ log. log.layout ≡ layout.now) }
+        ensures anchor { IfOk result (λ log. log.anchor ≡ anchor.now) }
+        ensures seen { IfOk result (λ log. (j : List Sector) → M.honest m.new → IsWorn (open_damage (M.now m.old).windows) j (M.now m.old).image → ScansOn log (open_damage (M.now m.old).windows) j (M.now m.new).image) }
+    {
+        let third = layout.third();
         let mut copies_at = 0;
         let mut number = anchor.first;
         let mut at = 0;
@@ -120,12 +144,8 @@ impl Log {
             match next(m, layout, anchor, number, at, end, &mut scratch) {
                 Ok(Some(Step { from, found, past })) => {
                     let place = place_of(layout, anchor.third, from);
-                    note(
-                        slots.as_mut_slice(),
-                        number,
-                        place + 3,
-                        found.pages.as_slice(),
-                    );
+                    let pages = found.pages.as_slice();
+                    note(slots.as_mut_slice(), number, place + 3, pages);
                     copies_at = place + (4 + found.pages.len() as u32);
                     firsts = firsts.with(third, from);
                     number += 1;

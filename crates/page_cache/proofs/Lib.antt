@@ -8,4 +8,3 @@ pub mod FrameLaws
 pub mod FetchLaws
 pub mod KeepLaws
 pub mod WrittenLaws
-mod TestLaws

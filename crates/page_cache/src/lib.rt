@@ -9,6 +9,3 @@ mod source;
 pub use cache::{Cache, Frame};
 pub use fault::CacheFault;
 pub use source::PageSource;
-
-#[cfg(test)]
-mod tests;

@@ -17,6 +17,3 @@ pub use laying::LineText;
 pub use maker::Maker;
 pub use reader::Reader;
 pub use say::{lay_line, say_line};
-
-#[cfg(test)]
-mod tests;

@@ -1,3 +1,4 @@
 mod AbsentLaws
+mod CacheLaws
 mod OnesLaws
 mod TableLaws

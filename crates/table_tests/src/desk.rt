@@ -162,7 +162,7 @@ impl Desk {
     /// A table of one empty leaf.
     pub(crate) fn new(alloc: Global) -> Result<Desk, Fail> {
         let layout = Layout::plan(2048, 200, PAGES)?;
-        let mut m = machine(alloc)?;
+        let mut m = damaged(alloc, 2048)?;
         attached(&mut m, &layout)?;
         format(&mut m, &layout)?;
         let log = Log::scan(alloc, &mut m, &layout)?;
@@ -284,9 +284,9 @@ impl Desk {
     }
 }
 
-// A machine whose sectors are all damaged, on which nothing wears.
-fn machine(alloc: Global) -> Result<MemoryMachine, AllocError> {
-    let image = vec![in alloc; Sector::Damaged; 2048]?;
+/// A machine whose sectors are all damaged, on which nothing wears.
+pub(crate) fn damaged(alloc: Global, sectors: usize) -> Result<MemoryMachine, AllocError> {
+    let image = vec![in alloc; Sector::Damaged; sectors]?;
     let (runs, events, input) = (Vec::new(alloc), Vec::new(alloc), Vec::new(alloc));
     Ok(MemoryMachine::with_runs(alloc, image, runs, events, input))
 }

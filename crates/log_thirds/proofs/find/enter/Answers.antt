@@ -4,11 +4,17 @@ use Rattle.fsd_log.specs.Scan.{Head, IsEnd, tape, record_here}
 use Rattle.log_thirds.specs.Disk.{reads}
 use Rattle.fsd_log.proofs.WalkLaws.{next_end}
 use Rattle.log_record.specs.declared.judging.Found.{Found}
-use Rattle.log_thirds.specs.Copies.{entry_in}
+use Rattle.log_thirds.specs.Copies.{AreCopies, entry_in}
+use Rattle.log_thirds.specs.declared.find.Step.{Step}
+use Rattle.fsd_formats.specs.Record.{Stamp}
+use Rattle.log_thirds.specs.Reading.{StepsOn, stepped_in}
 use Rattle.log_thirds.proofs.FindLaws.{goes_to, there_found, not_there}
 use Rattle.sector_disk.specs.Image.{open_damage}
 use Rattle.log_thirds.proofs.SeenLaws.{sees_more}
 use Rattle.log_thirds.proofs.find.enter.Goals as goal
+
+pub over-requires : goal.over-requires
+over-requires g c = subst (λ (o : Option Found). IfSome o (λ f. c.args.end + (2 * f.n + 5) ≤ c.args.end + c.third-third.result)) c.in-Ok-Some.field-0-is c.in-Ok-Some.ensures.fits
 
 pub returns-in-Ok-Some-clause-goes : goal.returns-in-Ok-Some-clause-goes
 returns-in-Ok-Some-clause-goes g c =
@@ -17,13 +23,19 @@ returns-in-Ok-Some-clause-goes g c =
     let fits = subst (λ (o : Option Found). IfSome o (λ f. c.args.end + (2 * f.n + 5) ≤ c.args.end + c.third-third.result)) c.in-Ok-Some.field-0-is c.in-Ok-Some.ensures.fits in
     let counted = subst (λ (o : Option Found). IfSome o (λ f. f.n ≡ length f.pages.items)) c.in-Ok-Some.field-0-is c.in-Ok-Some.ensures.counted in
     let few = subst (λ (o : Option Found). IfSome o (λ f. f.n ≤ 96)) c.in-Ok-Some.field-0-is c.in-Ok-Some.ensures.few in
-    record {
+    subst (StepsOn c.args.layout.now c.args.at) (sym c.over.ensures) (record {
       goes = goes_to c.args.layout.now c.args.at c.args.end n (c.args.end + c.third-third.result) (record { at = c.args.end + (2 * n + 5); end = c.args.end + c.third-third.result }) refl c.requires.before fits (omega (arith, value))
           (subst (λ (t : ℕ). IsEnd c.args.layout.now (c.args.end + t)) (sym value) (next_end c.args.layout.now c.args.end c.requires.ends (omega (arith, value, c.if-end-third.false))));
       lies = omega (arith, counted);
       few = omega (arith, counted, few);
       in_third = omega (arith, value);
-    }
+    })
+
+pub returns-in-Ok-Some-clause-copied : goal.returns-in-Ok-Some-clause-copied
+returns-in-Ok-Some-clause-copied g c =
+    let stamp : Stamp = record { epoch = c.args.anchor.now.epoch; number = c.args.number } in
+    let found = subst (λ (o : Option Found). IfSome o (λ f. AreCopies stamp (length f.pages.items) c.find.new.scratch.copies.items)) c.in-Ok-Some.field-0-is c.in-Ok-Some.ensures.copied in
+    subst (λ (s : Step). AreCopies stamp (length s.found.pages.items) c.find.new.scratch.copies.items) (sym c.over.ensures) found
 
 pub returns-in-Ok-Some-clause-seen : goal.returns-in-Ok-Some-clause-seen
 returns-in-Ok-Some-clause-seen g c j h jw =
@@ -36,7 +48,8 @@ returns-in-Ok-Some-clause-seen g c j h jw =
     sees_more l third c.args.end (open_damage (M.now c.args.m.now).windows) j (M.now c.find.new.m).image _ _
     (λ i found.
     let there = ap (option_map (λ f. entry_in c.args.number f c.find.new.scratch.copies.items)) (sym c.in-Ok-Some.field-0-is) ∙ found ∙ ap (λ (t : ℕ). (record_here l epoch (tape l third (reads i)) c.args.number c.args.end (c.args.end + t))) value in
-    (λ k. Some (record { from = c.args.end; entry = entry_in c.args.number c.in-Ok-Some.found c.find.new.scratch.copies.items; at = c.args.end + (2 * counted k + 5); end = c.args.end + value k }))
+    (λ k. Some (stepped_in c.args.number c.find.new.scratch.copies.items (c.over.ensures k)))
+    ∙ (λ k. Some (record { from = c.args.end; entry = entry_in c.args.number c.in-Ok-Some.found c.find.new.scratch.copies.items; at = c.args.end + (2 * counted k + 5); end = c.args.end + value k }))
     ∙ there_found l epoch (tape l third (reads i)) head (entry_in c.args.number c.in-Ok-Some.found c.find.new.scratch.copies.items) some (omega (arith, value, c.if-end-third.false)) there)
     (c.in-Ok-Some.ensures.seen j h jw)
 

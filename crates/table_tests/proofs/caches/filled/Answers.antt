@@ -1,8 +1,8 @@
 use Rattle.std.proofs.Common.{◌+◌, sym, ap, ◌∙◌, subst, arith}
 use Rattle.page_cache.specs.Cache.{busy}
-use Rattle.page_cache.specs.Tests.{HasFirst}
-use Rattle.page_cache.proofs.TestLaws.{first_enters}
-use Rattle.page_cache.proofs.tests.filled.Goals as goal
+use Rattle.table_tests.specs.Caches.{HasFirst}
+use Rattle.table_tests.proofs.CacheLaws.{first_enters}
+use Rattle.table_tests.proofs.caches.filled.Goals as goal
 
 pub loop-page-preserved : goal.loop-page-preserved
 loop-page-preserved c =

@@ -1,7 +1,7 @@
 //! Scripts that are read from a machine in memory.
-use crate::{Maker, Reader, ScriptFault, say_line};
 use fsd_bytes::Key;
 use fsd_texts::{BadLine, Bytes, Cause, Command, Line};
+use script_text::{Maker, Reader, ScriptFault, say_line};
 use sector_disk::{Event, MemoryMachine};
 use std::alloc::{AllocError, Global};
 use std::test::Fail;

@@ -1,5 +1,5 @@
-use Rattle.page_cache.proofs.TestLaws.{unpinned_there, written_there}
-use Rattle.page_cache.proofs.tests.the_least_recently_used_page_that_may_go_goes.Goals as goal
+use Rattle.table_tests.proofs.CacheLaws.{unpinned_there, written_there}
+use Rattle.table_tests.proofs.caches.the_least_recently_used_page_that_may_go_goes.Goals as goal
 
 pub bytes_mut-requires : goal.bytes_mut-requires
 bytes_mut-requires g c =

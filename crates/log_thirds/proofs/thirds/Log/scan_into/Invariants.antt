@@ -9,7 +9,7 @@ use Rattle.log_thirds.specs.Firsts.{AreNumbers}
 use Rattle.log_thirds.specs.Slots.{LieInRecords, SlotsInside}
 use Rattle.log_thirds.specs.Copies.{FitsDisk, copies_count}
 use Rattle.log_thirds.proofs.ScanLaws.{Reaches}
-use Rattle.log_thirds.proofs.thirds.Log.scan_by.Given as goal
+use Rattle.log_thirds.proofs.thirds.Log.scan_into.Given as goal
 
 abbrev pub invariant-loop-from : goal.invariant-loop-from
 invariant-loop-from g l = let M = g.M.Machine in let old = l.fn.m in record {

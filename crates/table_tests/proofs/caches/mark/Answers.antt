@@ -1,8 +1,8 @@
 use Rattle.std.proofs.Common.{◌≡◌, ◌+◌, ◌≤◌, sym, ap, ◌∙◌, subst, arith}
 use Rattle.page_cache.specs.Cache.{CacheValue, IsResident, pins_of, busy, with_dirty, with_pins}
-use Rattle.page_cache.specs.Tests.{HasMarks}
-use Rattle.page_cache.proofs.TestLaws.{first_there, first_unpinned, marks_made}
-use Rattle.page_cache.proofs.tests.mark.Goals as goal
+use Rattle.table_tests.specs.Caches.{HasMarks}
+use Rattle.table_tests.proofs.CacheLaws.{first_there, first_unpinned, marks_made}
+use Rattle.table_tests.proofs.caches.mark.Goals as goal
 
 pub dirty-requires-2-clause-resident : goal.dirty-requires-2-clause-resident
 dirty-requires-2-clause-resident c = subst (λ (v : CacheValue). IsResident v 1) (sym c.dirty.ensures.list) (first_there c.args.cache.now c.requires 1 (omega arith))

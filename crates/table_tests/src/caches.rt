@@ -1,9 +1,9 @@
 //! The cache over a source in memory.
 ghost use Rattle.std.specs.Prelude.{◌<◌, IfOk, OnSome};
 ghost use Rattle.page_cache.specs.Cache.{IsResident};
-ghost use Rattle.page_cache.specs.Tests.{HasFirst, HasMarks};
+ghost use Rattle.table_tests.specs.Caches.{HasFirst, HasMarks};
 
-use crate::{Cache, CacheFault, Frame, PageSource};
+use page_cache::{Cache, Frame, PageSource};
 use sector_disk::{LoadFault, Machine, MemoryMachine};
 use std::alloc::Global;
 use std::test::Fail;

@@ -1,5 +1,5 @@
-use Rattle.page_cache.specs.Tests.{HasFirst}
-use Rattle.page_cache.proofs.tests.filled.Given as goal
+use Rattle.table_tests.specs.Caches.{HasFirst}
+use Rattle.table_tests.proofs.caches.filled.Given as goal
 
 abbrev pub invariant-loop-page : goal.invariant-loop-page
 invariant-loop-page l = HasFirst l.page l.cache

@@ -1,4 +1,4 @@
-use Rattle.std.proofs.Common.{rules, [], ℕ, ◌≡◌, ◌<◌, ◌≤◌, ◌+◌, ◌*◌, List, length, arith, subst, ap, ◌∙◌, sym, refl, Option, None, inl}
+use Rattle.std.proofs.Common.{[], ℕ, ◌≡◌, ◌<◌, ◌≤◌, ◌+◌, ◌*◌, List, length, arith, subst, ap, ◌∙◌, sym, refl, Option, None, inl}
 use Rattle.std.specs.Prelude.{option_map, IfSome, IfNone, replicate}
 use Rattle.std.proofs.lemmas.List.{length-replicate, with_items_is}
 use Rattle.std.specs.Vec.{with_items}
@@ -22,28 +22,28 @@ use Rattle.sector_disk.specs.Image.{Windows, IsWorn, open_damage}
 use Rattle.sector_disk.proofs.Wear.{worn_refl}
 use Rattle.log_thirds.specs.Seen.{SeesOn}
 use Rattle.log_thirds.proofs.SeenLaws.{sees_on, reaches_keeps, tape_worn}
-use Rattle.log_thirds.proofs.thirds.Log.scan_by.Goals as goal
+use Rattle.log_thirds.proofs.thirds.Log.scan_into.Goals as goal
 
 pub loop-from-init : goal.loop-from-init
 loop-from-init g c =
     let M = g.M.Machine in
     let value = c.third-third.ensures.value in
     let same : ◌≡◌ {A = Head} (record { number = c.args.anchor.now.first; at = 0; end = c.args.layout.now.third }) (record { number = c.args.anchor.now.first; at = 0; end = c.third-third.result }) = λ i. record { number = c.args.anchor.now.first; at = 0; end = sym value i } in
-    let table : c.in-Ok-no_slots.slots.items ≡ replicate {A = Option Slot} c.pages.result None = c.in-Ok-no_slots.ensures in
-    let start_on : (i : List Sector) → Reaches c.args.layout.now c.args.anchor.now.epoch c.args.anchor.now.first c.args.anchor.now.third (tape c.args.layout.now c.args.anchor.now.third (reads i)) (record { number = c.args.anchor.now.first; at = 0; end = c.third-third.result }) c.of-firsts.result c.in-Ok-no_slots.slots.items (record { place = 0; bytes = c.in-Ok-new.scratch.copies.items }) =
-    λ i. subst (λ (b : List ℕ). Reaches c.args.layout.now c.args.anchor.now.epoch c.args.anchor.now.first c.args.anchor.now.third (tape c.args.layout.now c.args.anchor.now.third (reads i)) (record { number = c.args.anchor.now.first; at = 0; end = c.third-third.result }) c.of-firsts.result c.in-Ok-no_slots.slots.items (record { place = 0; bytes = b })) (sym c.in-Ok-new.ensures)
+    let table : c.args.slots.items ≡ replicate {A = Option Slot} c.args.layout.now.pages None = c.requires.slots in
+    let start_on : (i : List Sector) → Reaches c.args.layout.now c.args.anchor.now.epoch c.args.anchor.now.first c.args.anchor.now.third (tape c.args.layout.now c.args.anchor.now.third (reads i)) (record { number = c.args.anchor.now.first; at = 0; end = c.third-third.result }) c.of-firsts.result c.args.slots.items (record { place = 0; bytes = c.args.scratch.copies.items }) =
+    λ i. subst (λ (b : List ℕ). Reaches c.args.layout.now c.args.anchor.now.epoch c.args.anchor.now.first c.args.anchor.now.third (tape c.args.layout.now c.args.anchor.now.third (reads i)) (record { number = c.args.anchor.now.first; at = 0; end = c.third-third.result }) c.of-firsts.result c.args.slots.items (record { place = 0; bytes = b })) (sym c.requires.copies)
     (reaches_as _ _ _ _ _ _ _ _ _ _ _ c.of-firsts.ensures table
-    (subst (λ (x : Head). Reaches c.args.layout.now c.args.anchor.now.epoch c.args.anchor.now.first c.args.anchor.now.third (tape c.args.layout.now c.args.anchor.now.third (reads i)) x (firsts_of c.args.anchor.now.first) (replicate c.pages.result None) (record { place = 0; bytes = [] })) same
-    (reaches_start c.args.layout.now c.args.anchor.now.epoch c.args.anchor.now.first c.args.anchor.now.third (tape c.args.layout.now c.args.anchor.now.third (reads i)) c.pages.result 0))) in
+    (subst (λ (x : Head). Reaches c.args.layout.now c.args.anchor.now.epoch c.args.anchor.now.first c.args.anchor.now.third (tape c.args.layout.now c.args.anchor.now.third (reads i)) x (firsts_of c.args.anchor.now.first) (replicate c.args.layout.now.pages None) (record { place = 0; bytes = [] })) same
+    (reaches_start c.args.layout.now c.args.anchor.now.epoch c.args.anchor.now.first c.args.anchor.now.third (tape c.args.layout.now c.args.anchor.now.third (reads i)) c.args.layout.now.pages 0))) in
     record {
       is_in = record { before = omega arith; from = omega (arith, value); ends = inl value };
       calls = reads_none c.args.m.now (λ l h left. g.met.M.Machine.only_now c.args.m.now l h left);
       numbers = subst (AreNumbers c.args.anchor.now.first) (sym c.of-firsts.ensures) (record { some = c.requires.first; in_order = omega arith; most = omega arith });
-      table = ap length table ∙ length-replicate c.pages.result _ ∙ c.pages.ensures.value;
-      on_disk = subst (SlotsInside c.args.layout.now.sectors) (sym table) (none_inside c.args.layout.now.sectors c.pages.result);
-      in_records = subst (LieInRecords c.args.layout.now) (sym table) (none_lie c.args.layout.now c.pages.result);
-      fits = subst (λ (b : List ℕ). FitsDisk c.args.layout.now.sectors (record { place = 0; bytes = b })) (sym c.in-Ok-new.ensures) (record { whole = refl; inside = omega arith });
-      few = subst (λ (b : List ℕ). copies_count (record { place = 0; bytes = b }) ≤ 97) (sym c.in-Ok-new.ensures) (omega arith);
+      table = ap length table ∙ length-replicate c.args.layout.now.pages _;
+      on_disk = subst (SlotsInside c.args.layout.now.sectors) (sym table) (none_inside c.args.layout.now.sectors c.args.layout.now.pages);
+      in_records = subst (LieInRecords c.args.layout.now) (sym table) (none_lie c.args.layout.now c.args.layout.now.pages);
+      fits = subst (λ (b : List ℕ). FitsDisk c.args.layout.now.sectors (record { place = 0; bytes = b })) (sym c.requires.copies) (record { whole = refl; inside = omega arith });
+      few = subst (λ (b : List ℕ). copies_count (record { place = 0; bytes = b }) ≤ 97) (sym c.requires.copies) (omega arith);
       seen = λ j h jw. record { image = j; from = worn_refl (open_damage (M.now c.args.m.now).windows) j; to = jw; below = λ w lt. refl; front = λ s lt. refl; is = start_on j };
     }
 
@@ -69,7 +69,7 @@ note-requires g c =
       gone.lies,
       gone.goes.before,
       end_most c.args.layout.now c.in-Ok-Some.field-0-0.past.end gone.goes.ends,
-      ap length c.as_slice.ensures.value,
+      ap length c.as_slice-pages.ensures.value,
       c.third-third.ensures.most,
       c.third-third.ensures.value,
     )
@@ -139,10 +139,10 @@ loop-from-preserved g c =
     let gone = subst (λ (o : Option Step). IfSome o (StepsOn c.args.layout.now c.loop-from.at)) c.in-Ok-Some.field-0-is c.in-Ok-Some.ensures.goes in
     let copied = subst (λ (o : Option Step). IfSome o (λ s. AreCopies (record { epoch = c.args.anchor.now.epoch; number = c.loop-from.number }) (length s.found.pages.items) c.next.new.scratch.copies.items)) c.in-Ok-Some.field-0-is c.in-Ok-Some.ensures.copied in
     let long : length c.note.new.slots ≡ length c.as_mut_slice.result.now =
-    ap length c.note.ensures ∙ length-noted c.loop-from.number c.as_mut_slice.result.now (c.place_of-place.result + 3) (c.place_of-place.result + 3 + length c.as_slice.result.now + 1) c.as_slice.result.now in
+    ap length c.note.ensures ∙ length-noted c.loop-from.number c.as_mut_slice.result.now (c.place_of-place.result + 3) (c.place_of-place.result + 3 + length c.as_slice-pages.result.now + 1) c.as_slice-pages.result.now in
     let kept : (with_items c.loop-from.slots c.note.new.slots).items ≡ c.note.new.slots = with_items_is c.loop-from.slots c.note.new.slots (long ∙ c.as_mut_slice.ensures.len) in
     let table : c.note.new.slots ≡ slots_with c.args.layout.now c.args.anchor.now.third c.loop-from.number c.in-Ok-Some.field-0-0.from c.in-Ok-Some.field-0-0.found.pages.items c.loop-from.slots.items =
-    c.note.ensures ∙ λ i. noted c.loop-from.number (c.place_of-place.ensures i + 3) (c.place_of-place.ensures i + 3 + length (c.as_slice.ensures.value i) + 1) (c.as_slice.ensures.value i) (c.as_mut_slice.ensures.value i) in
+    c.note.ensures ∙ λ i. noted c.loop-from.number (c.place_of-place.ensures i + 3) (c.place_of-place.ensures i + 3 + length (c.as_slice-pages.ensures.value i) + 1) (c.as_slice-pages.ensures.value i) (c.as_mut_slice.ensures.value i) in
     let firsts = c.with-firsts.ensures ∙ ap (λ (t : ℕ). firsts_with t c.in-Ok-Some.field-0-0.from c.loop-from.firsts) c.third-third.ensures.value in
     record {
       is_in = record { before = gone.goes.before; from = gone.goes.after; ends = gone.goes.ends };
@@ -150,12 +150,12 @@ loop-from-preserved g c =
       numbers = subst (AreNumbers (c.loop-from.number + 1)) (sym c.with-firsts.ensures) (numbers_more c.third-third.result c.loop-from.number c.in-Ok-Some.field-0-0.from c.loop-from.firsts so_far.numbers);
       table = ap length kept ∙ long ∙ ap length c.as_mut_slice.ensures.value ∙ so_far.table;
       on_disk = subst (SlotsInside c.args.layout.now.sectors) (sym (kept ∙ c.note.ensures))
-          (record_inside c.args.layout.now c.args.anchor.now.third c.loop-from.number c.in-Ok-Some.field-0-0.from c.in-Ok-Some.field-0-0.past.end c.place_of-place.result c.as_slice.result.now c.as_mut_slice.result.now
-          (record { one_of = c.requires.third; ends = gone.goes.ends; from = gone.in_third; to = omega (arith, gone.lies, gone.goes.before, ap length c.as_slice.ensures.value) })
+          (record_inside c.args.layout.now c.args.anchor.now.third c.loop-from.number c.in-Ok-Some.field-0-0.from c.in-Ok-Some.field-0-0.past.end c.place_of-place.result c.as_slice-pages.result.now c.as_mut_slice.result.now
+          (record { one_of = c.requires.third; ends = gone.goes.ends; from = gone.in_third; to = omega (arith, gone.lies, gone.goes.before, ap length c.as_slice-pages.ensures.value) })
           (omega (arith, (planned_bounds c.args.layout.now c.third-third.ensures.planned).sectors_least)) c.place_of-place.ensures (subst (SlotsInside c.args.layout.now.sectors) (sym c.as_mut_slice.ensures.value) so_far.on_disk));
       in_records = subst (LieInRecords c.args.layout.now) (sym (kept ∙ c.note.ensures))
-          (record_lies c.args.layout.now c.args.anchor.now.third c.loop-from.number c.in-Ok-Some.field-0-0.from c.in-Ok-Some.field-0-0.past.end c.place_of-place.result c.as_slice.result.now c.as_mut_slice.result.now
-          (record { one_of = c.requires.third; ends = gone.goes.ends; from = gone.in_third; to = omega (arith, gone.lies, gone.goes.before, ap length c.as_slice.ensures.value) })
+          (record_lies c.args.layout.now c.args.anchor.now.third c.loop-from.number c.in-Ok-Some.field-0-0.from c.in-Ok-Some.field-0-0.past.end c.place_of-place.result c.as_slice-pages.result.now c.as_mut_slice.result.now
+          (record { one_of = c.requires.third; ends = gone.goes.ends; from = gone.in_third; to = omega (arith, gone.lies, gone.goes.before, ap length c.as_slice-pages.ensures.value) })
           c.place_of-place.ensures (subst (LieInRecords c.args.layout.now) (sym c.as_mut_slice.ensures.value) so_far.in_records));
       fits = record {
         whole = omega (arith, copied.long);
@@ -204,14 +204,14 @@ invariant_of-result g c =
       in_records = so_far.in_records;
       copied = subst (λ (b : List ℕ). FitsDisk c.args.layout.now.sectors (record { place = c.loop-from.copies_at; bytes = b })) same so_far.fits;
       few = subst (λ (b : List ℕ). copies_count (record { place = c.loop-from.copies_at; bytes = b }) ≤ 97) same so_far.few;
-      long = let len = c.in-Ok.ensures.len in search rules;
+      long = c.requires.long;
     }
 
 pub returns-in-Ok-None-clause-reads : goal.returns-in-Ok-None-clause-reads
 returns-in-Ok-None-clause-reads g c = reads_then c.loop-from.invariant.calls c.in-Ok-None.ensures.reads
 
-pub returns-in-Err-next-clause-reads : goal.returns-in-Err-next-clause-reads
-returns-in-Err-next-clause-reads g c = reads_then c.loop-from.invariant.calls c.in-Err-next.ensures.reads
+pub returns-in-Err-clause-reads : goal.returns-in-Err-clause-reads
+returns-in-Err-clause-reads g c = reads_then c.loop-from.invariant.calls c.in-Err.ensures.reads
 
 pub returns-in-Ok-None-clause-seen : goal.returns-in-Ok-None-clause-seen
 returns-in-Ok-None-clause-seen g c j h jw =

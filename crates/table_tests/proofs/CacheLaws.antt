@@ -5,7 +5,7 @@ use Rattle.std.specs.Map.{lookup}
 use Rattle.std.specs.Option.{option_map_or}
 use Rattle.std.proofs.lemmas.Bool.{ne_eqb, eqb-false}
 use Rattle.page_cache.specs.Cache.{CacheValue, Held, IsCache, IsBusy, IsResident, pins_of, is_idle, busy, leaver, staying, frame_for, entered, with_bytes, with_dirty, with_pins, cleaned}
-use Rattle.page_cache.specs.Tests.{HasFirst, HasMarks}
+use Rattle.table_tests.specs.Caches.{HasFirst, HasMarks}
 use Rattle.page_cache.proofs.Entries.{by_bool}
 use Rattle.page_cache.proofs.CacheLaws.{altered_lookup, altered_there}
 use Rattle.page_cache.proofs.FetchLaws.{Fetched, fetched_stays, fetched_dirty}

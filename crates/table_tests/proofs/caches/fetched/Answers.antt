@@ -1,6 +1,6 @@
 use Rattle.page_cache.proofs.FetchLaws.{fetched_of, fetched_there}
-use Rattle.page_cache.proofs.TestLaws.{marks_stay}
-use Rattle.page_cache.proofs.tests.fetched.Goals as goal
+use Rattle.table_tests.proofs.CacheLaws.{marks_stay}
+use Rattle.table_tests.proofs.caches.fetched.Goals as goal
 
 pub returns-in-Ok-clause-marks : goal.returns-in-Ok-clause-marks
 returns-in-Ok-clause-marks c =

@@ -1,0 +1,157 @@
+//! The machine in memory: each kind of event, and each call, once.
+use sector_disk::{Attach, Event, Failed, Machine, MemoryMachine, Sector, Seen, WeakRun, When};
+use std::test::Fail;
+
+const OLD: Sector = Sector::Whole([7; 512]);
+
+const NEW: Sector = Sector::Whole([8; 512]);
+
+const HURT: Sector = Sector::Damaged;
+
+#[test]
+fn events_come_where_they_say(rt: HostRuntime) -> Result<(), Fail> {
+    let alloc = rt.alloc();
+    let input = [1, 2, 3];
+    // What is to happen; whether the second write and then the `take` answer Ok, honesty, and what stands at the end.
+    let rows = [
+        (Event::Pieces { most: 2 }, true, true, true, [NEW, NEW]),
+        (
+            Event::FailCall { call: 3, stand: 1 },
+            false,
+            true,
+            true,
+            [NEW, OLD],
+        ),
+        (
+            Event::FailCall { call: 5, stand: 0 },
+            true,
+            false,
+            true,
+            [NEW, NEW],
+        ),
+        (
+            Event::FailIn {
+                first: 0,
+                nth: 2,
+                stand: 1,
+            },
+            false,
+            true,
+            true,
+            [NEW, OLD],
+        ),
+        (Event::Stop { after: 3 }, false, false, true, [NEW, OLD]),
+        (
+            Event::StopIn {
+                first: 0,
+                nth: 2,
+                stand: 0,
+            },
+            false,
+            false,
+            true,
+            [OLD, OLD],
+        ),
+        (
+            Event::HurtAt {
+                sector: 1,
+                when: When::Call(3),
+            },
+            true,
+            true,
+            true,
+            [NEW, NEW],
+        ),
+        (
+            Event::HurtAt {
+                sector: 1,
+                when: When::Settle,
+            },
+            true,
+            true,
+            true,
+            [NEW, HURT],
+        ),
+        (
+            Event::HurtAt {
+                sector: 0,
+                when: When::Call(5),
+            },
+            true,
+            true,
+            false,
+            [HURT, NEW],
+        ),
+    ];
+    for (event, writes, takes, honest, end) in rows {
+        let image = vec![in alloc; HURT; 2]?;
+        let pairs = vec![in alloc; 1]?;
+        let events = vec![in alloc; event]?;
+        prove!(pairs.len() == 1);
+        let mut m = MemoryMachine::new(alloc, image, pairs, events, input.to_vec(alloc)?)?;
+        let sectors = m.attach("v", Attach::Old)?;
+        assert!(rt; sectors >= 2);
+        m.write(0, &[7; 1024])?;
+        assert_eq!(rt; m.write(0, &[8; 1024]).is_ok(), writes);
+        let _settled = m.settle();
+        let mut piece = [0; 8];
+        assert_eq!(rt; m.take(&mut piece).is_ok(), takes);
+        assert_eq!(rt; m.honest(), honest);
+        assert_eq!(rt; m.image(), end.as_slice());
+    }
+    Ok(())
+}
+
+#[test]
+fn windows_close_and_another_run_goes_on(rt: HostRuntime) -> Result<(), Fail> {
+    let alloc = rt.alloc();
+    let image = vec![in alloc; HURT; 4]?;
+    let mut runs = Vec::new(alloc);
+    runs.push(WeakRun { first: 1, count: 2 })?;
+    runs.push(WeakRun { first: 0, count: 2 })?;
+    runs.push(WeakRun { first: 0, count: 3 })?;
+    let mut events = Vec::new(alloc);
+    // Sector 1 lies in both runs, and sector 0 in the second alone, which is the present one after `settle`.
+    events.push(Event::HurtAt {
+        sector: 1,
+        when: When::Settle,
+    })?;
+    events.push(Event::HurtAt {
+        sector: 0,
+        when: When::Call(5),
+    })?;
+    events.push(Event::Pieces { most: 2 })?;
+    let mut m = MemoryMachine::with_runs(alloc, image, runs, events, [1, 2, 3].to_vec(alloc)?);
+    let sectors = m.attach("v", Attach::Old)?;
+    assert!(rt; sectors >= 4);
+    m.write(0, &[7; 2048])?;
+    m.healing()?;
+    m.settle()?;
+    let mut buf = [0; 512];
+    assert_eq!(rt; m.read(0, &mut buf), Ok(Seen::Damaged));
+    assert_eq!(rt; buf, [0; 512]);
+    assert_eq!(rt; m.read(2, &mut buf), Ok(Seen::Whole));
+    assert_eq!(rt; buf, [7; 512]);
+    assert_eq!(rt; m.image(), [HURT, HURT, OLD, OLD].as_slice());
+    let mut piece = [0; 8];
+    assert_eq!(rt; m.take(&mut piece), Ok(2));
+    assert_eq!(rt; m.take(&mut piece), Ok(1));
+    assert_eq!(rt; piece[0], 3);
+    assert_eq!(rt; m.take(&mut piece), Ok(0));
+    m.say(b"bye")?;
+    assert_eq!(rt; m.said(), b"bye".as_slice());
+    assert!(rt; m.honest());
+    let mut m = m.again(
+        vec![in alloc; Event::FailCall { call: 2, stand: 0 }]?,
+        Vec::new(alloc),
+    );
+    assert_eq!(rt; m.said(), b"".as_slice());
+    m.healing()?;
+    // The third run is too long.
+    assert!(rt; !m.honest());
+    assert_eq!(rt; m.say(b"x"), Err(Failed { place: 0 }));
+    assert_eq!(rt; m.attach("w", Attach::New(1)), Ok(1));
+    assert_eq!(rt; m.image(), [HURT].as_slice());
+    assert_eq!(rt; m.starved(), 0);
+    Ok(())
+}
