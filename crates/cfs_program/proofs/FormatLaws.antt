@@ -18,8 +18,9 @@ use Rattle.volume_format.specs.Formatting.{Formats, IsNew}
 use Rattle.volume_layout.specs.declared.fault.LayoutFault.{LayoutFault}
 use Rattle.fsd_texts.specs.declared.line.Line.{Line}
 use Rattle.fsd_texts.specs.Text.{text}
+use Rattle.volume_contract.specs.State.{Ages}
 use Rattle.volume_turns.specs.Line.{EndsLast}
-use Rattle.cfs_program.specs.Formatting.{HoldsVolume, IsUntouched, MakesVolume, MaySay, SaysFor, SaysFormat}
+use Rattle.cfs_program.specs.Formatting.{HoldsVolume, MakesVolume, MaySay, SaysFor, SaysFormat}
 
 sector_at-replicate : (count s : ℕ) → sector_at (replicate count Damaged) s ≡ Damaged
 sector_at-replicate zero s = refl
@@ -45,7 +46,7 @@ volume_made l count old mid new are_short made done =
     }
 
 -- an empty volume in its own window is still one after what that window may wear
-pub holds_on : (l : Layout) (between after : Moment) → HoldsVolume l between → IsUntouched between after → HoldsVolume l after
+pub holds_on : (l : Layout) (between after : Moment) → HoldsVolume l between → Ages between after → HoldsVolume l after
 holds_on l between after holds still =
     let may = λ (w : Windows). IsWorn (open_damage w) between.image after.image in
     let formatted : IsFormattedIn l holds.run after.image = record {
@@ -68,7 +69,7 @@ made_of l count old mid new H (Err e) short makes done = tt
 
 -- ---- its line
 
-pub untouched_by : (line : Line) (old new : Moment) → Utters (text line) old new → IsUntouched old new
+pub untouched_by : (line : Line) (old new : Moment) → Utters (text line) old new → Ages old new
 untouched_by line old new utters = record { image = utters.image; windows = utters.windows }
 
 may_say : (planned : Result Layout LayoutFault) (place status : ℕ) (bytes : List ℕ) → SaysFor planned place status bytes → MaySay planned place bytes

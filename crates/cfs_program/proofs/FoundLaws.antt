@@ -1,26 +1,25 @@
 -- What a run tells of the image that its attach found, and of its input.
-use Rattle.std.proofs.Common.{◌≡◌, inl, inr, ℕ, ◌<◌, ◌^◌, ◌-◌, ◌++◌, min, Bool, List, ap, length, refl, ◌∙◌, subst, arith}
+use Rattle.std.proofs.Common.{◌≡◌, inl, inr, ℕ, ◌<◌, ◌^◌, ◌-◌, min, Bool, Option, List, length, refl, ◌∙◌, subst, arith}
 use Rattle.std.specs.Prelude.{IsFalse, IsTrue}
 use Rattle.sector_disk.specs.Image.{IsWorn, Windows, open_damage}
 use Rattle.sector_disk.proofs.Wear.{worn_trans}
 use Rattle.fsd_texts.specs.declared.command.Command.{Command}
 use Rattle.fsd_texts.specs.declared.line.Line.{Line}
-use Rattle.fsd_texts.specs.Text.{fault_text, text}
-use Rattle.volume_turns.specs.Answering.{SaysNoReply, WritesOne}
+use Rattle.fsd_texts.specs.Text.{text}
+use Rattle.volume_contract.specs.State.{Ages}
+use Rattle.volume_turns.specs.Answering.{WritesOne}
 use Rattle.cfs_program.proofs.FormatLaws.{untouched_by}
 use Rattle.sector_disk.specs.Machine.{Finds, Wears, Moment, Report, Rose, Utters}
-use Rattle.fsd_texts.specs.declared.fault.Fault.{Fault}
 use Rattle.fsd_texts.specs.Script.{max_input}
 use Rattle.volume_turns.specs.Causes.{FailsInput, TellsImage, is_of_mounted}
-use Rattle.volume_turns.specs.Line.{EndsWith, IsStatusAs}
+use Rattle.volume_turns.specs.Line.{IsStatusAs}
 use Rattle.volume_turns.proofs.StatusLaws.{not_as}
-use Rattle.cfs_program.specs.Formatting.{IsUntouched}
 use Rattle.cfs_program.specs.Opening.{TellsFound, WritesFound, is_from_outside}
 
 -- ---- behind the attach
 
-pub tells_found : (script many : Bool) (old at new : Moment) (sectors status : ℕ) → Finds old at → sectors ≡ min (length at.image) (2 ^ 32 - 1) → TellsImage script many sectors at new status → TellsFound script many old new status
-tells_found script many old at new sectors status found size tells = record {
+pub tells_found : (script : Bool) (made : Option ℕ) (old at new : Moment) (sectors status : ℕ) → Finds old at → sectors ≡ min (length at.image) (2 ^ 32 - 1) → TellsImage script made sectors at new status → TellsFound script made old new status
+tells_found script made old at new sectors status found size tells = record {
   mounted = λ any. record { at = at; found = found; sectors = sectors; size = size; holds = tells.mounted any };
   refused = λ three. record { at = at; found = found; sectors = sectors; size = size; holds = tells.refused three };
   spent = λ nine. record { at = at; found = found; sectors = sectors; size = size; holds = tells.spent nine };
@@ -36,7 +35,7 @@ writes_found command old at new sectors found size writes = inr (record { at = a
 -- ---- where no volume was mounted
 
 -- the image was not found, and a line said that
-pub untouched_unfound : (line : Line) (old mid new : Moment) → Wears old mid → Utters (text line) mid new → IsUntouched old new
+pub untouched_unfound : (line : Line) (old mid new : Moment) → Wears old mid → Utters (text line) mid new → Ages old new
 untouched_unfound line old mid new wears utters =
     let still = untouched_by line mid new utters in
     record {
@@ -44,19 +43,14 @@ untouched_unfound line old mid new wears utters =
       windows = still.windows ∙ wears.windows;
     }
 
--- all that is said is the line of a fault
-pub line_no_reply : (why : Fault) (old mid new : Moment) (result : ℕ) → mid.said ≡ old.said → EndsWith why mid new result → SaysNoReply old new result
-line_no_reply why old mid new result same (inl six) = inl six
-line_no_reply why old mid new result same (inr (gives, all)) = inr (record { why = why; gives = gives; said = all.said ∙ ap (λ (x : List ℕ). x ++ fault_text why) same })
-
 -- the status of this fault, which is none of a mounted volume
 pub not_mounted : (gives result : ℕ) → IsStatusAs gives result → IsFalse (is_of_mounted gives) → IsTrue (is_of_mounted result) → ⊥
 not_mounted gives result (inl is) other any = let at : IsTrue (is_of_mounted gives) = subst (λ (n : ℕ). IsTrue (is_of_mounted n)) is any in cc (at, other)
 not_mounted gives result (inr six) other any = let at : IsTrue (is_of_mounted 6) = subst (λ (n : ℕ). IsTrue (is_of_mounted n)) six any in cc at
 
 -- the attach failed
-pub tells_unfound : (script many : Bool) (old new : Moment) (status : ℕ) → IsStatusAs 4 status → TellsFound script many old new status
-tells_unfound script many old new status is = record {
+pub tells_unfound : (script : Bool) (made : Option ℕ) (old new : Moment) (status : ℕ) → IsStatusAs 4 status → TellsFound script made old new status
+tells_unfound script made old new status is = record {
   mounted = λ any. absurd (not_mounted 4 status is refl any);
   refused = λ three. absurd (not_as 3 4 status (λ e. omega (arith, e)) (λ e. omega (arith, e)) is three);
   spent = λ nine. absurd (not_as 9 4 status (λ e. omega (arith, e)) (λ e. omega (arith, e)) is nine);

@@ -1,5 +1,5 @@
 -- What is told of the requests that take the input, or make commands up.
-use Rattle.std.proofs.Common.{◌≡◌, ◌≤◌, zero, suc, refl, arith, true, false, ℕ, List, [], ◌++◌, length, Option, subst, inl}
+use Rattle.std.proofs.Common.{◌≡◌, ◌≤◌, zero, suc, refl, arith, true, false, ℕ, List, [], ◌++◌, length, Option, Some, None, subst, inl}
 use Rattle.std.specs.Prelude.{IsFalse, IsTrue}
 use Rattle.volume_layout.specs.declared.layout.Layout.{Layout}
 use Rattle.sector_disk.specs.declared.machine.Machine.{Ghosts}
@@ -9,10 +9,11 @@ use Rattle.fsd_files.specs.Files.{Change}
 use Rattle.fsd_texts.specs.declared.end.End.TheVariants.{Done}
 use Rattle.fsd_texts.specs.Script.{max_input, script_in}
 use Rattle.fsd_runs.specs.declared.request.Request.TheVariants.{Generate, Put, Script}
+use Rattle.fsd_runs.specs.Commands.{reply_text}
 use Rattle.fsd_runs.specs.Leaves.{LeavesRun}
 use Rattle.fsd_texts.specs.declared.command.Command.TheVariants as Word
 use Rattle.volume_turns.specs.Answering.{SaysOne}
-use Rattle.volume_turns.specs.Causes.{FailsInput, SaysBadLine, SaysFault, SaysOfInput, is_of_fault}
+use Rattle.volume_turns.specs.Causes.{FailsInput, SaysBadLine, SaysFault, SaysForced, SaysMade, SaysOfInput, is_of_fault}
 use Rattle.volume_turns.specs.Status.{IsMadeStatus, IsPutStatus, IsScriptStatus}
 use Rattle.volume_turns.proofs.QuietLaws.{quiet_unfailed}
 use Rattle.cfs_program.specs.Formatting.{AsksAll, AsksAtMost, CountsFaults}
@@ -24,7 +25,7 @@ use Rattle.cfs_program.proofs.AmongLaws.{made_complete_is, made_status, put_comp
 pub ran_put : {D : Type 0} (M : Ghosts D) (name : List ℕ) (keep : Option ℕ) (path : List ℕ) (a b : D) (result : ℕ) → IsPutStatus result → CountsReading (M.report a) (M.report b) result
     → (M.tells b → AsksOrNot (mount_asks path) (M.ledger a).attaches (M.ledger b).attaches) → (IsFalse (is_from_outside result) → M.tells b → (M.ledger b).attaches ≡ (M.ledger a).attaches ++ mount_asks path)
     → (result ≡ 5 → M.tells b → FailsInput (M.ledger a).input (M.report a) (M.report b)) → (result ≡ 5 → M.honest b → SaysOfInput (M.ledger a).input (M.report a) (M.report b) (M.now b)) → (result ≤ 1 → M.tells b → (M.ledger b).input ≡ []) → (result ≤ 1 → M.tells b → length (M.ledger a).input ≤ max_input)
-    → Trusts (M.tells a) (M.tells b) (M.honest a) (M.honest b) → (M.honest b → TellsFound false false (M.now a) (M.now b) result) → (M.honest b → SaysOne (Word.Put name (M.ledger a).input keep) (M.now a) (M.now b) result)
+    → Trusts (M.tells a) (M.tells b) (M.honest a) (M.honest b) → (M.honest b → TellsFound false None (M.now a) (M.now b) result) → (M.honest b → SaysOne (Word.Put name (M.ledger a).input keep) (M.now a) (M.now b) result)
     → (IsTrue (is_of_fault result) → M.honest b → SaysFault (M.report b).fault_place (M.now b) result)
     → (M.honest b → (l : Layout) (windows : List WeakRun) (h : List Change) (f : ℕ) → IsSoundDisk l windows h f (M.now a) →
     LeavesRun (Put name keep) (M.ledger a).input (M.ledger b).input l windows h f (M.left_since b) (λ P. LeavesOnly M.moment M.left_since a b P) (M.report a) (M.report b) (M.now a) (M.now b) result)
@@ -53,6 +54,7 @@ ran_put M name keep path a b result status counts asks asked fails told whole fe
   refused = λ three h. (image h).refused three;
   spent = λ nine h. (image h).spent nine;
   last = last;
+  all = λ zero h. tt;
   image = λ zero h. tt;
   untouched = λ h. tt;
   leaves = λ h l windows changes f sound. leaves h l windows changes f sound;
@@ -67,12 +69,13 @@ script_low (suc (suc n)) status low = absurd (omega (arith, low))
 pub ran_script : {D : Type 0} (M : Ghosts D) (path : List ℕ) (a b : D) (result : ℕ) → IsScriptStatus result → CountsReading (M.report a) (M.report b) result
     → (M.tells b → AsksOrNot (mount_asks path) (M.ledger a).attaches (M.ledger b).attaches) → (IsFalse (is_from_outside result) → M.tells b → (M.ledger b).attaches ≡ (M.ledger a).attaches ++ mount_asks path)
     → (result ≡ 5 → M.tells b → FailsInput (M.ledger a).input (M.report a) (M.report b)) → (result ≡ 5 → M.honest b → SaysOfInput (M.ledger a).input (M.report a) (M.report b) (M.now b)) → (result ≡ 2 → M.honest b → SaysBadLine (M.ledger a).input (M.now b)) → (result ≡ 0 → M.tells b → (M.ledger b).input ≡ []) → (result ≡ 0 → M.tells b → (script_in (M.ledger a).input).1 ≡ Done)
-    → Trusts (M.tells a) (M.tells b) (M.honest a) (M.honest b) → (M.honest b → TellsFound true true (M.now a) (M.now b) result)
+    → Trusts (M.tells a) (M.tells b) (M.honest a) (M.honest b) → (M.honest b → TellsFound true None (M.now a) (M.now b) result)
+    → (result ≡ 0 → M.honest b → SaysForced reply_text (length (script_in (M.ledger a).input).0) (M.now a).said (M.now b))
     → (IsTrue (is_of_fault result) → M.honest b → SaysFault (M.report b).fault_place (M.now b) result)
     → (M.honest b → (l : Layout) (windows : List WeakRun) (h : List Change) (f : ℕ) → IsSoundDisk l windows h f (M.now a) →
     LeavesRun Script (M.ledger a).input (M.ledger b).input l windows h f (M.left_since b) (λ P. LeavesOnly M.moment M.left_since a b P) (M.report a) (M.report b) (M.now a) (M.now b) result)
     → Ran M Script path a b result
-ran_script M path a b result status counts asks asked fails told bad whole spelled trust image last leaves = record {
+ran_script M path a b result status counts asks asked fails told bad whole spelled trust image answered last leaves = record {
   one = λ h. tt;
   rest = λ h. tt;
   status = script_status result status;
@@ -96,6 +99,7 @@ ran_script M path a b result status counts asks asked fails told bad whole spell
   refused = λ three h. (image h).refused three;
   spent = λ nine h. (image h).spent nine;
   last = last;
+  all = answered;
   image = λ zero h. tt;
   untouched = λ h. tt;
   leaves = λ h l windows changes f sound. leaves h l windows changes f sound;
@@ -109,12 +113,13 @@ made_not_five seed count result status five =
 
 pub ran_made : {D : Type 0} (M : Ghosts D) (seed count : ℕ) (path : List ℕ) (a b : D) (result : ℕ) → IsMadeStatus result → CountsFaults (M.report a) (M.report b) result
     → (M.tells b → AsksAtMost (mount_asks path) (M.ledger a) (M.ledger b)) → (IsFalse (is_from_outside result) → M.tells b → AsksAll (mount_asks path) (M.ledger a) (M.ledger b))
-    → Trusts (M.tells a) (M.tells b) (M.honest a) (M.honest b) → (M.honest b → TellsFound false true (M.now a) (M.now b) result)
+    → Trusts (M.tells a) (M.tells b) (M.honest a) (M.honest b) → (M.honest b → TellsFound false (Some count) (M.now a) (M.now b) result)
+    → (result ≡ 0 → M.honest b → SaysMade count (M.now a).said (M.now b))
     → (IsTrue (is_of_fault result) → M.honest b → SaysFault (M.report b).fault_place (M.now b) result)
     → (M.honest b → (rest : List ℕ) (l : Layout) (windows : List WeakRun) (h : List Change) (f : ℕ) → IsSoundDisk l windows h f (M.now a) →
     LeavesRun (Generate seed count) [] rest l windows h f (M.left_since b) (λ P. LeavesOnly M.moment M.left_since a b P) (M.report a) (M.report b) (M.now a) (M.now b) result)
     → Ran M (Generate seed count) path a b result
-ran_made M seed count path a b result status counts asks asked trust image last leaves = record {
+ran_made M seed count path a b result status counts asks asked trust image answered last leaves = record {
   one = λ h. tt;
   rest = λ h. tt;
   status = made_status result status;
@@ -138,6 +143,7 @@ ran_made M seed count path a b result status counts asks asked trust image last 
   refused = λ three h. (image h).refused three;
   spent = λ nine h. (image h).spent nine;
   last = last;
+  all = answered;
   image = λ zero h. tt;
   untouched = λ h. tt;
   leaves = λ h l windows changes f sound. leaves h (M.ledger b).input l windows changes f sound;

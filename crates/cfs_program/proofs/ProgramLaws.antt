@@ -1,5 +1,5 @@
 -- What is told of each kind of request.
-use Rattle.std.proofs.Common.{◌≡◌, ◌⊎◌, inl, inr, ℕ, Bool, false, List, [], ◌∷◌, ◌++◌, refl, sym, ◌∙◌, ap, subst, arith}
+use Rattle.std.proofs.Common.{◌≡◌, ◌⊎◌, inl, inr, ℕ, Bool, false, None, List, [], ◌∷◌, ◌++◌, refl, sym, ◌∙◌, ap, subst, arith}
 use Rattle.std.specs.Prelude.{Result, Ok, Err, IsFalse, IsTrue}
 use Rattle.std.proofs.lemmas.Bool.{eq-eqb}
 use Rattle.std.proofs.lemmas.List.{append-nil}
@@ -24,20 +24,22 @@ use Rattle.fsd_runs.specs.declared.request.Request.{Request}
 use Rattle.fsd_runs.specs.declared.request.Request.TheVariants.{Outside, BadField, Format, Put, One, Script, Generate}
 use Rattle.fsd_runs.specs.Errands.{IfMounts}
 use Rattle.fsd_runs.specs.Leaves.{LeavesRun}
+use Rattle.volume_contract.specs.State.{Ages}
 use Rattle.volume_turns.specs.Answering.{SaysNoReply, SaysOne}
 use Rattle.volume_turns.specs.Causes.{SaysFault, is_of_fault}
 use Rattle.volume_turns.specs.Status.{IsOneStatus}
+use Rattle.volume_turns.proofs.AnsweringLaws.{fault_alone}
 use Rattle.volume_turns.proofs.LastLaws.{ends_fault}
 use Rattle.volume_turns.proofs.QuietLaws.{quiet_unfailed}
 use Rattle.volume_turns.proofs.StatusLaws.{one_not_five, as_not_low, not_as}
 use Rattle.volume_turns.specs.Line.{is_unsaid, EndsLast, EndsWith, IsStatusAs}
-use Rattle.cfs_program.specs.Formatting.{AsksAll, AsksAtMost, CountsFaults, IsFormatStatus, IsMadeBy, IsUntouched, SaysFormat, SparesUnplanned, format_status, plan_asks}
+use Rattle.cfs_program.specs.Formatting.{AsksAll, AsksAtMost, CountsFaults, IsFormatStatus, IsMadeBy, SaysFormat, SparesUnplanned, format_status, plan_asks}
 use Rattle.cfs_program.specs.Opening.{IsSoundDisk, TellsFound, WritesFound, is_from_outside, mount_asks}
 use Rattle.cfs_program.specs.Program.{LeavesInput, Ran, SaysAlone, WritesAlone, SaysLine, SparesImage, SparesInput, complete_statuses, fault_statuses, field_line, input_for, is_one_of, plan_faults}
 use Rattle.cfs_program.proofs.AmongLaws.{command_complete, command_status, one_at}
 use Rattle.cfs_program.proofs.CountsLaws.{input_alone, spares_none}
 use Rattle.cfs_program.proofs.EndedLaws.{ended_run}
-use Rattle.cfs_program.proofs.FoundLaws.{inside_not, line_no_reply, not_mounted}
+use Rattle.cfs_program.proofs.FoundLaws.{inside_not, not_mounted}
 use Rattle.cfs_program.proofs.FormatLaws.{untouched_by}
 
 -- ---- a line alone
@@ -87,6 +89,7 @@ module _ {D : Type 0} (M : Ghosts D) (path : List ℕ) (a b : D) (line : Line) (
     refused = λ three h. absurd (not_as 3 2 result (λ e. omega (arith, e)) (λ e. omega (arith, e)) status three);
     spent = λ nine h. absurd (not_as 9 2 result (λ e. omega (arith, e)) (λ e. omega (arith, e)) status nine);
     last = λ of h. tt;
+    all = λ none h. tt;
     image = λ none h. not_as 0 2 result (λ e. omega (arith, e)) (λ e. omega (arith, e)) status none;
     untouched = λ h. untouched_by line (M.now a) (M.now b) (says.exit h);
     leaves = λ h l windows changes f sound. tt;
@@ -117,6 +120,7 @@ module _ {D : Type 0} (M : Ghosts D) (path : List ℕ) (a b : D) (line : Line) (
     refused = λ three h. absurd (not_as 3 2 result (λ e. omega (arith, e)) (λ e. omega (arith, e)) status three);
     spent = λ nine h. absurd (not_as 9 2 result (λ e. omega (arith, e)) (λ e. omega (arith, e)) status nine);
     last = λ of h. tt;
+    all = λ none h. tt;
     image = λ none h. not_as 0 2 result (λ e. omega (arith, e)) (λ e. omega (arith, e)) status none;
     untouched = λ h. untouched_by line (M.now a) (M.now b) (says.exit h);
     leaves = λ h l windows changes f sound. tt;
@@ -173,11 +177,11 @@ memory_complete : (request : Request) (result : ℕ) → IsStatusAs 7 result →
 memory_complete request result (inl seven) said = one_at (complete_statuses request) 7 result seven (seven_is request).0
 memory_complete request result (inr six) said = absurd (said six)
 
-spares_plan : (planned : Result Layout LayoutFault) (old new : Moment) → IsUntouched old new → SparesUnplanned planned old new
+spares_plan : (planned : Result Layout LayoutFault) (old new : Moment) → Ages old new → SparesUnplanned planned old new
 spares_plan (Ok l) old new still = tt
 spares_plan (Err why) old new still = still
 
-spares_image : (request : Request) (old new : Moment) → IsUntouched old new → SparesImage request old new
+spares_image : (request : Request) (old new : Moment) → Ages old new → SparesImage request old new
 spares_image Outside old new still = still
 spares_image (BadField cause) old new still = still
 spares_image (Format n t p) old new still = spares_plan (plan n t p) old new still
@@ -208,7 +212,7 @@ memory_one Outside input old new result says = tt
 memory_one (BadField cause) input old new result says = tt
 memory_one (Format n t p) input old new result says = tt
 
-memory_rest : (request : Request) (old new : Moment) → IsUntouched old new → WritesAlone request old new
+memory_rest : (request : Request) (old new : Moment) → Ages old new → WritesAlone request old new
 memory_rest (One command) old new still = inl still
 memory_rest (Put name keep) old new still = tt
 memory_rest Script old new still = tt
@@ -249,7 +253,7 @@ module _ {D : Type 0} (M : Ghosts D) (request : Request) (path : List ℕ) (a b 
     bad = λ two h. absurd (not_as 2 7 result (λ e. omega (arith, e)) (λ e. omega (arith, e)) status two);
     whole = λ low t. absurd (as_not_low 7 result (omega arith) status low);
     spelled = λ zero t. absurd (not_zero zero);
-    one = λ h. memory_one request (M.ledger a).input (M.now a) (M.now b) result (line_no_reply Ends.Memory (M.now a) (M.now a) (M.now b) result refl (ends h));
+    one = λ h. memory_one request (M.ledger a).input (M.now a) (M.now b) result (fault_alone Ends.Memory (M.now a) (M.now a) (M.now b) result refl (ends h));
     rest = λ h. memory_rest request (M.now a) (M.now b) (untouched_by (Lines.Ended Ends.Memory) (M.now a) (M.now b) (says.exit h));
     trust = says.trust;
     says = λ h. inr (line_says (Lines.Ended Ends.Memory) 7 (M.now a) (M.now b) result (says.exit h) (ends h), untouched_by (Lines.Ended Ends.Memory) (M.now a) (M.now b) (says.exit h));
@@ -257,6 +261,7 @@ module _ {D : Type 0} (M : Ghosts D) (request : Request) (path : List ℕ) (a b 
     refused = λ three h. absurd (not_as 3 7 result (λ e. omega (arith, e)) (λ e. omega (arith, e)) status three);
     spent = λ nine h. absurd (not_as 9 7 result (λ e. omega (arith, e)) (λ e. omega (arith, e)) status nine);
     last = λ of h. if_mounts request _ (ends_fault (M.report b).fault_place (M.now a) (M.now b) result Ends.Memory tt (ends h) of);
+    all = λ zero h. absurd (not_zero zero);
     image = λ zero h. absurd (not_zero zero);
     untouched = λ h. spares_image request (M.now a) (M.now b) (untouched_by (Lines.Ended Ends.Memory) (M.now a) (M.now b) (says.exit h));
     leaves = λ h l windows changes f sound. if_mounts request _ (ended_run M request (input_for request (M.ledger a).input) (M.ledger b).input l windows changes f a a b Ends.Memory tt result sound
@@ -327,6 +332,7 @@ ran_format M n t p path a b result status counts asks asked trust says made unto
   refused = λ three h. absurd (format_not 3 (plan n t p) result status (λ e. omega (arith, e)) (λ e. omega (arith, e)) (λ e. omega (arith, e)) (λ e. omega (arith, e)) three);
   spent = λ nine h. absurd (format_not 9 (plan n t p) result status (λ e. omega (arith, e)) (λ e. omega (arith, e)) (λ e. omega (arith, e)) (λ e. omega (arith, e)) nine);
   last = λ of h. tt;
+  all = λ zero h. tt;
   image = made;
   untouched = untouched;
   one = λ h. tt;
@@ -338,7 +344,7 @@ ran_format M n t p path a b result status counts asks asked trust says made unto
 
 pub ran_command : {D : Type 0} (M : Ghosts D) (c : Command) (path : List ℕ) (a b : D) (result : ℕ) → IsOneStatus c result → CountsFaults (M.report a) (M.report b) result
     → (M.tells b → AsksAtMost (mount_asks path) (M.ledger a) (M.ledger b)) → (IsFalse (is_from_outside result) → M.tells b → AsksAll (mount_asks path) (M.ledger a) (M.ledger b))
-    → Trusts (M.tells a) (M.tells b) (M.honest a) (M.honest b) → (M.honest b → TellsFound false false (M.now a) (M.now b) result)
+    → Trusts (M.tells a) (M.tells b) (M.honest a) (M.honest b) → (M.honest b → TellsFound false None (M.now a) (M.now b) result)
     → (M.honest b → SaysOne c (M.now a) (M.now b) result) → (M.honest b → WritesFound c (M.now a) (M.now b))
     → (IsTrue (is_of_fault result) → M.honest b → SaysFault (M.report b).fault_place (M.now b) result)
     → (M.honest b → (rest : List ℕ) (l : Layout) (windows : List WeakRun) (h : List Change) (f : ℕ) → IsSoundDisk l windows h f (M.now a) →
@@ -368,6 +374,7 @@ ran_command M c path a b result status counts asks asked trust image one rest la
   refused = λ three h. (image h).refused three;
   spent = λ nine h. (image h).spent nine;
   last = last;
+  all = λ zero h. tt;
   image = λ zero h. tt;
   untouched = λ h. tt;
   leaves = λ h l windows changes f sound. leaves h (M.ledger b).input l windows changes f sound;

@@ -3,7 +3,7 @@ use Rattle.std.specs.Prelude.{◌≡◌, ◌⊎◌, ◌≤◌, ℕ, List, [], �
 use Rattle.sector_disk.specs.declared.machine.Attach.TheVariants.{New}
 use Rattle.sector_disk.specs.declared.sector.WeakRun.{WeakRun}
 use Rattle.sector_disk.specs.Calls.{DiskFaults}
-use Rattle.sector_disk.specs.Image.{IsShort, IsWorn, open_damage}
+use Rattle.sector_disk.specs.Image.{IsShort}
 use Rattle.sector_disk.specs.Machine.{Asked, Ledger, Moment, Report, Rose}
 use Rattle.volume_layout.specs.declared.layout.Layout.{Layout}
 use Rattle.volume_layout.specs.declared.fault.LayoutFault.{LayoutFault}
@@ -11,6 +11,7 @@ use Rattle.fsd_sound.specs.Format.{IsFormattedIn}
 use Rattle.fsd_sound.specs.Sound.{IsSound}
 use Rattle.fsd_texts.specs.declared.fault.Fault.TheVariants as Ends
 use Rattle.fsd_texts.specs.Text.{fault_text, format_line, text}
+use Rattle.volume_contract.specs.State.{Ages}
 use Rattle.volume_turns.specs.Status.{CountsNone, is_unfailed}
 
 -- ---- the image
@@ -33,15 +34,10 @@ abbrev pub IsMadeBy : Result Layout LayoutFault → Moment → Type 0
 IsMadeBy (Ok l) new = HoldsVolume l new
 IsMadeBy (Err why) new = ⊥
 
--- Sectors were worn, and nothing else of the disk changed.
-pub record IsUntouched (old new : Moment) : Type 0 where
-  pub image : IsWorn (open_damage old.windows) old.image new.image
-  pub windows : new.windows ≡ old.windows
-
 -- a plan that is refused leaves the disk as it was
 abbrev pub SparesUnplanned : Result Layout LayoutFault → (old new : Moment) → Type 0
 SparesUnplanned (Ok l) old new = Unit {0}
-SparesUnplanned (Err why) old new = IsUntouched old new
+SparesUnplanned (Err why) old new = Ages old new
 
 -- ---- attaches
 

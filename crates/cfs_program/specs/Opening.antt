@@ -1,5 +1,5 @@
 -- A command over the image that it names.
-use Rattle.std.specs.Prelude.{◌≡◌, ◌⊎◌, ℕ, ◌^◌, ◌-◌, min, Bool, ◌==◌, List, [], ◌∷◌, ◌++◌, length, IsTrue, Ok}
+use Rattle.std.specs.Prelude.{◌≡◌, ◌⊎◌, ℕ, ◌^◌, ◌-◌, min, Bool, ◌==◌, Option, List, [], ◌∷◌, ◌++◌, length, IsTrue, Ok}
 use Rattle.std.specs.List.{list_any}
 use Rattle.volume_layout.specs.declared.layout.Layout.{Layout}
 use Rattle.volume_layout.specs.Layout.{plan}
@@ -9,8 +9,8 @@ use Rattle.sector_disk.specs.Machine.{Asked, Finds, Moment, Report, Rose}
 use Rattle.fsd_files.specs.Files.{Change}
 use Rattle.fsd_sound.specs.Sound.{EndIn, IsSound}
 use Rattle.fsd_texts.specs.declared.command.Command.{Command}
+use Rattle.volume_contract.specs.State.{Ages}
 use Rattle.volume_turns.specs.Answering.{WritesOne}
-use Rattle.cfs_program.specs.Formatting.{IsUntouched}
 use Rattle.volume_turns.specs.Causes.{HasSpent, HasVolume, SaysCause, is_of_mounted}
 use Rattle.volume_turns.specs.Status.{CountsInput, CountsNone, is_unfailed, is_quiet}
 
@@ -48,12 +48,13 @@ pub record AsFound (P : ℕ → Moment → Type 0) (old : Moment) : Type 0 where
   pub size : sectors ≡ min (length at.image) (2 ^ 32 - 1)
   pub holds : P sectors at
 
--- What a run tells of the image that its attach found, by its status, whether it is a script, and whether it may do many commands.
-pub record TellsFound (script many : Bool) (old new : Moment) (status : ℕ) : Type 0 where
+-- What a run tells of the image that its attach found, by its status, whether it is a script, and how many commands it makes up, if it
+-- does.
+pub record TellsFound (script : Bool) (made : Option ℕ) (old new : Moment) (status : ℕ) : Type 0 where
   pub mounted : IsTrue (is_of_mounted status) → AsFound HasVolume old
   pub refused : status ≡ 3 → AsFound (λ sectors at. SaysCause script sectors at new) old
-  pub spent : status ≡ 9 → AsFound (HasSpent many) old
+  pub spent : status ≡ 9 → AsFound (HasSpent made) old
 
 -- nothing is written, or no more than a mount and the command write
 abbrev pub WritesFound : Command → (old new : Moment) → Type 0
-WritesFound command old new = IsUntouched old new ⊎ AsFound (λ sectors at. WritesOne command sectors at new) old
+WritesFound command old new = Ages old new ⊎ AsFound (λ sectors at. WritesOne command sectors at new) old

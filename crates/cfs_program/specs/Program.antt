@@ -1,5 +1,5 @@
 -- What the program answers and leaves, by what its words ask for.
-use Rattle.std.specs.Prelude.{◌≡◌, ◌⊎◌, ◌≤◌, ⊤, ℕ, Bool, true, false, ◌==◌, List, [], ◌∷◌, ◌++◌, length, take, Result, Ok, Err, IsFalse, IsTrue}
+use Rattle.std.specs.Prelude.{◌≡◌, ◌⊎◌, ◌≤◌, ⊤, ℕ, Bool, true, false, ◌==◌, List, [], ◌∷◌, ◌++◌, length, take, Option, Some, None, Result, Ok, Err, IsFalse, IsTrue}
 use Rattle.std.specs.List.{list_any}
 use Rattle.volume_layout.specs.declared.layout.Layout.{Layout}
 use Rattle.volume_layout.specs.declared.fault.LayoutFault.{LayoutFault}
@@ -19,11 +19,13 @@ use Rattle.fsd_texts.specs.Text.{text}
 use Rattle.fsd_texts.specs.declared.bad_line.Cause.{Cause}
 use Rattle.fsd_runs.specs.declared.request.Request.{Request}
 use Rattle.fsd_runs.specs.declared.request.Request.TheVariants.{Outside, BadField, Format, Put, One, Script, Generate}
+use Rattle.fsd_runs.specs.Commands.{reply_text}
 use Rattle.fsd_runs.specs.Errands.{IfMounts}
 use Rattle.fsd_runs.specs.Leaves.{LeavesRun, NoneRose}
-use Rattle.cfs_program.specs.Formatting.{IsMadeBy, IsUntouched, SaysFormat, SparesUnplanned, format_status, plan_asks}
+use Rattle.cfs_program.specs.Formatting.{IsMadeBy, SaysFormat, SparesUnplanned, format_status, plan_asks}
+use Rattle.volume_contract.specs.State.{Ages}
 use Rattle.volume_turns.specs.Answering.{SaysOne}
-use Rattle.volume_turns.specs.Causes.{FailsInput, HasSpent, HasVolume, SaysBadLine, SaysCause, SaysFault, SaysOfInput, is_of_fault, is_of_mounted}
+use Rattle.volume_turns.specs.Causes.{FailsInput, HasSpent, HasVolume, SaysBadLine, SaysCause, SaysFault, SaysForced, SaysMade, SaysOfInput, is_of_fault, is_of_mounted}
 use Rattle.volume_turns.specs.Status.{CountsInput, CountsNone, is_unfailed, is_quiet}
 use Rattle.cfs_program.specs.Opening.{AsFound, AsksOrNot, IsSoundDisk, WritesFound, is_from_outside, mount_asks}
 
@@ -122,7 +124,7 @@ SaysLine line status old new result = ((result ≡ 6) × BeginsLine line old new
 
 -- memory was refused before anything was done for the request
 abbrev pub SaysMemory : (old new : Moment) → ℕ → Type 0
-SaysMemory old new result = SaysLine (Says.Ended Ends.Memory) 7 old new result × IsUntouched old new
+SaysMemory old new result = SaysLine (Says.Ended Ends.Memory) 7 old new result × Ages old new
 
 -- of the requests that mount nothing; place is that of the disk's last fault
 abbrev pub SaysAnswer : Request → (place : ℕ) → (old new : Moment) → ℕ → Type 0
@@ -136,11 +138,17 @@ abbrev pub is_script : Request → Bool
 is_script Script = true
 is_script request = false
 
--- a script may do many commands, and so may a run that makes them up
-abbrev pub does_many : Request → Bool
-does_many Script = true
-does_many (Generate seed count) = true
-does_many request = false
+-- how many commands it makes up, if it does
+abbrev pub made_for : Request → Option ℕ
+made_for (Generate seed count) = Some count
+made_for request = None
+
+-- where it was answered to its end, a script says a reply for each of its commands and that all is forced, and a run that makes its
+-- commands up that all is forced and what came of so many
+abbrev pub SaysToEnd : Request → (input : List ℕ) → (before : List ℕ) → Moment → Type 0
+SaysToEnd Script input before new = SaysForced reply_text (length (script_in input).0) before new
+SaysToEnd (Generate seed count) input before new = SaysMade count before new
+SaysToEnd request input before new = ⊤
 
 -- one command says one reply, or the line of the fault that has ended it, and no more
 abbrev pub SaysAlone : Request → (input : List ℕ) → (old new : Moment) → ℕ → Type 0
@@ -164,8 +172,8 @@ HoldsAfter request new = ⊤
 
 -- a request that asks for no attach leaves the disk as it was
 abbrev pub SparesImage : Request → (old new : Moment) → Type 0
-SparesImage Outside old new = IsUntouched old new
-SparesImage (BadField cause) old new = IsUntouched old new
+SparesImage Outside old new = Ages old new
+SparesImage (BadField cause) old new = Ages old new
 SparesImage (Format n t p) old new = SparesUnplanned (plan n t p) old new
 SparesImage request old new = ⊤
 
@@ -203,7 +211,8 @@ pub record Ran {D : Type 0} (M : Ghosts D) (request : Request) (path : List ℕ)
   pub mounted : IsTrue (is_of_mounted result) → M.honest b → IfMounts request (AsFound HasVolume (M.now a))
   pub refused : result ≡ 3 → M.honest b → AsFound (λ sectors at. SaysCause (is_script request) sectors at (M.now b)) (M.now a)
   pub last : IsTrue (is_of_fault result) → M.honest b → IfMounts request (SaysFault (M.report b).fault_place (M.now b) result)
-  pub spent : result ≡ 9 → M.honest b → AsFound (HasSpent (does_many request)) (M.now a)
+  pub spent : result ≡ 9 → M.honest b → AsFound (HasSpent (made_for request)) (M.now a)
+  pub all : result ≡ 0 → M.honest b → SaysToEnd request (M.ledger a).input (M.now a).said (M.now b)
   pub image : result ≡ 0 → M.honest b → HoldsAfter request (M.now b)
   pub untouched : M.honest b → SparesImage request (M.now a) (M.now b)
   pub leaves : M.honest b → LeavesSound request (M.ledger a).input (M.ledger b).input (M.left_since b) (λ P. LeavesOnly M.moment M.left_since a b P) (M.report a) (M.report b) (M.now a) (M.now b) result

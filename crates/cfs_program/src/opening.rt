@@ -1,5 +1,5 @@
 //! A command over the image that it names.
-ghost use Rattle.std.specs.Prelude.{◌≡◌, ℕ, List, [], false, IsFalse, IsTrue};
+ghost use Rattle.std.specs.Prelude.{◌≡◌, ℕ, List, [], None, false, IsFalse, IsTrue};
 ghost use Rattle.sector_disk.specs.declared.sector.WeakRun.{WeakRun};
 ghost use Rattle.sector_disk.specs.Machine.{LeavesOnly, Trusts};
 ghost use Rattle.volume_layout.specs.declared.layout.Layout.{Layout as Plan};
@@ -32,7 +32,7 @@ pub fn run_command<M: Machine, V: Files<M> + Drop>(
     ensures asks { M.tells m.new → AsksAtMost (mount_asks path.now) (M.ledger m.old) (M.ledger m.new) }
     ensures asked { IsFalse (is_from_outside result) → M.tells m.new → AsksAll (mount_asks path.now) (M.ledger m.old) (M.ledger m.new) }
     ensures trust { Trusts (M.tells m.old) (M.tells m.new) (M.honest m.old) (M.honest m.new) }
-    ensures image { M.honest m.new → TellsFound false false (M.now m.old) (M.now m.new) result }
+    ensures image { M.honest m.new → TellsFound false None (M.now m.old) (M.now m.new) result }
     ensures one { M.honest m.new → SaysOne c.now (M.now m.old) (M.now m.new) result }
     ensures rest { M.honest m.new → WritesFound c.now (M.now m.old) (M.now m.new) }
     ensures last { IsTrue (is_of_fault result) → M.honest m.new → SaysFault (M.report m.new).fault_place (M.now m.new) result }

@@ -1,5 +1,5 @@
 //! A put of the input over the image that it names.
-ghost use Rattle.std.specs.Prelude.{◌≡◌, ◌≤◌, ◌++◌, false, IsFalse, List, [], length, ℕ, IsTrue};
+ghost use Rattle.std.specs.Prelude.{◌≡◌, ◌≤◌, ◌++◌, None, false, IsFalse, List, [], length, ℕ, IsTrue};
 ghost use Rattle.sector_disk.specs.declared.sector.WeakRun.{WeakRun};
 ghost use Rattle.sector_disk.specs.Machine.{LeavesOnly, Trusts};
 ghost use Rattle.volume_layout.specs.declared.layout.Layout.{Layout as Plan};
@@ -39,7 +39,7 @@ pub fn run_input<M: Machine, V: Files<M> + Drop>(
     ensures whole { result ≤ 1 → M.tells m.new → (M.ledger m.new).input ≡ [] }
     ensures few { result ≤ 1 → M.tells m.new → length (M.ledger m.old).input ≤ max_input }
     ensures trust { Trusts (M.tells m.old) (M.tells m.new) (M.honest m.old) (M.honest m.new) }
-    ensures image { M.honest m.new → TellsFound false false (M.now m.old) (M.now m.new) result }
+    ensures image { M.honest m.new → TellsFound false None (M.now m.old) (M.now m.new) result }
     ensures one { M.honest m.new → SaysOne (Word.Put name.now (M.ledger m.old).input keep) (M.now m.old) (M.now m.new) result }
     ensures last { IsTrue (is_of_fault result) → M.honest m.new → SaysFault (M.report m.new).fault_place (M.now m.new) result }
     ensures leaves { M.honest m.new → (l : Plan) (windows : List WeakRun) (h : List Change) (f : ℕ) → IsSoundDisk l windows h f (M.now m.old) →

@@ -1,14 +1,15 @@
 //! A script over the image that it names.
-ghost use Rattle.std.specs.Prelude.{◌≡◌, ◌++◌, ℕ, List, [], true, IsFalse, IsTrue};
+ghost use Rattle.std.specs.Prelude.{◌≡◌, ◌++◌, ℕ, List, [], None, true, IsFalse, IsTrue, length};
 ghost use Rattle.sector_disk.specs.declared.sector.WeakRun.{WeakRun};
 ghost use Rattle.sector_disk.specs.Machine.{LeavesOnly, Trusts};
 ghost use Rattle.volume_layout.specs.declared.layout.Layout.{Layout as Plan};
 ghost use Rattle.fsd_files.specs.Files.{Change};
 ghost use Rattle.fsd_texts.specs.Script.{script_in};
 ghost use Rattle.fsd_texts.specs.declared.end.End.TheVariants.{Done};
+ghost use Rattle.fsd_runs.specs.Commands.{reply_text};
 ghost use Rattle.fsd_runs.specs.Leaves.{LeavesRun};
 ghost use Rattle.fsd_runs.specs.declared.request.Request.TheVariants.{Script};
-ghost use Rattle.volume_turns.specs.Causes.{FailsInput, SaysBadLine, SaysFault, SaysOfInput, is_of_fault};
+ghost use Rattle.volume_turns.specs.Causes.{FailsInput, SaysBadLine, SaysFault, SaysForced, SaysOfInput, is_of_fault};
 ghost use Rattle.volume_turns.specs.Status.{IsScriptStatus};
 ghost use Rattle.cfs_program.specs.Opening.{AsksOrNot, CountsReading, IsSoundDisk, TellsFound, is_from_outside, mount_asks};
 
@@ -32,7 +33,8 @@ pub fn run_commands<M: Machine, V: Files<M> + Drop>(alloc: Global, m: &mut M, pa
     ensures spelled { result ≡ 0 → M.tells m.new → (script_in (M.ledger m.old).input).1 ≡ Done }
     ensures bad { result ≡ 2 → M.honest m.new → SaysBadLine (M.ledger m.old).input (M.now m.new) }
     ensures trust { Trusts (M.tells m.old) (M.tells m.new) (M.honest m.old) (M.honest m.new) }
-    ensures image { M.honest m.new → TellsFound true true (M.now m.old) (M.now m.new) result }
+    ensures image { M.honest m.new → TellsFound true None (M.now m.old) (M.now m.new) result }
+    ensures all { result ≡ 0 → M.honest m.new → SaysForced reply_text (length (script_in (M.ledger m.old).input).0) (M.now m.old).said (M.now m.new) }
     ensures last { IsTrue (is_of_fault result) → M.honest m.new → SaysFault (M.report m.new).fault_place (M.now m.new) result }
     ensures leaves { M.honest m.new → (l : Plan) (windows : List WeakRun) (h : List Change) (f : ℕ) → IsSoundDisk l windows h f (M.now m.old) →
         LeavesRun Script (M.ledger m.old).input (M.ledger m.new).input l windows h f (M.left_since m.new) (LeavesOnly M.moment M.left_since m.old m.new) (M.report m.old) (M.report m.new) (M.now m.old) (M.now m.new) result }

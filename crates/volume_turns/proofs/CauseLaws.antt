@@ -1,6 +1,6 @@
 -- What the status of a run tells of the image that it found, and of its input.
-use Rattle.std.proofs.Common.{◌≡◌, inl, inr, ℕ, zero, suc, ◌+◌, ◌<◌, Bool, true, false, List, [], ◌∷◌, ◌++◌, length, take, drop, None, refl, sym, ◌∙◌, ap, subst, arith}
-use Rattle.std.specs.Prelude.{◌&&◌, if◌then◌else◌, nat_lt, IfOk, IsFalse, IsTrue, Result, Ok, Err}
+use Rattle.std.proofs.Common.{◌≡◌, inl, inr, ℕ, zero, suc, ◌+◌, ◌<◌, ◌≤◌, Bool, true, false, List, [], ◌∷◌, ◌++◌, length, take, drop, Option, Some, None, refl, sym, ◌∙◌, ap, subst, arith}
+use Rattle.std.specs.Prelude.{◌&&◌, if◌then◌else◌, nat_lt, IfOk, IsTrue, Result, Ok, Err}
 use Rattle.std.proofs.lemmas.Bool.{ltb-true}
 use Rattle.volume_layout.specs.declared.layout.Layout.{Layout}
 use Rattle.sector_disk.specs.Image.{IsWorn, open_damage}
@@ -21,17 +21,18 @@ use Rattle.fsd_texts.specs.Script.{Script, command_at, commands_from, max_input,
 use Rattle.fsd_texts.specs.Text.{fault_text}
 use Rattle.fsd_runs.specs.Commands.{reply_text}
 use Rattle.fsd_runs.specs.Errands.{Errand, fault_status}
-use Rattle.script_text.specs.Reading.{Reading, script_left}
+use Rattle.fsd_runs.specs.Runs.{last_count}
+use Rattle.script_text.specs.Reading.{Reading, fresh, script_left}
 use Rattle.script_text.proofs.WholeLaws.{all_is_read}
 use Rattle.volume_contract.specs.Mount.{IsFound, IsRefused, KeepsAll, UnsoundFor}
 use Rattle.volume_contract.specs.State.{State}
 use Rattle.volume_turns.specs.declared.script.Stop.{Stop}
-use Rattle.volume_turns.specs.declared.script.Stop.TheVariants.{Ended}
+use Rattle.volume_turns.specs.declared.script.Stop.TheVariants.{Ended, WornOut}
 use Rattle.volume_turns.specs.declared.turns.End.{End}
 use Rattle.volume_turns.specs.Causes.{HasSpent, HasVolume, IsOfInput, SaysBadLine, SaysOfCall, SaysOfImage, SaysOfInput, StandsBefore, TellsImage, is_of_mounted}
 use Rattle.volume_turns.specs.Line.{EndsLast, EndsWith, IsStatusFor}
 use Rattle.volume_turns.specs.Once.{fault_of}
-use Rattle.volume_turns.specs.Script.{WholeRead}
+use Rattle.volume_turns.specs.Script.{Reads, WholeRead}
 use Rattle.volume_turns.proofs.SaidLaws.{no_replies}
 use Rattle.fsd_log.specs.Scan.{Placed}
 use Rattle.sector_disk.specs.declared.machine.Machine.{Ghosts}
@@ -81,20 +82,24 @@ has_volume sectors s old f = record { seen = f.seen; from = f.from; layout = s.l
 pub call_since : (script : Bool) (layout : Layout) (before now : List ℕ) (new : Moment) → now ≡ before → SaysOfCall script layout now new → SaysOfCall script layout before new
 call_since script layout before now new same says = subst (λ (x : List ℕ). SaysOfCall script layout x new) same says
 
--- the numbers of one mount are used up by many commands
-spent_mounted : (many : Bool) (sectors : ℕ) (old : Moment) → HasVolume sectors old → (IsFalse many → ⊥) → HasSpent many sectors old
-spent_mounted true sectors old volume unspent = inl volume
-spent_mounted false sectors old volume unspent = absurd (unspent refl)
+-- the numbers of a mount are used up by so many commands that are made up
+abbrev pub MaySpend : Option ℕ → Type 0
+MaySpend (Some count) = last_count ≤ count
+MaySpend None = ⊥
 
-pub tells_mounted : (script many : Bool) (sectors : ℕ) (s : State) (old new : Moment) (status : ℕ) (now : List ℕ) → now ≡ old.said → IsFound sectors s old → (status ≡ 3 → SaysOfCall script s.layout now new) → (IsFalse many → status ≡ 9 → ⊥)
-    → TellsImage script many sectors old new status
+spent_mounted : (made : Option ℕ) (sectors : ℕ) (old : Moment) → HasVolume sectors old → MaySpend made → HasSpent made sectors old
+spent_mounted (Some count) sectors old volume may = inl (volume, may)
+spent_mounted None sectors old volume may = absurd may
+
+pub tells_mounted : (script : Bool) (made : Option ℕ) (sectors : ℕ) (s : State) (old new : Moment) (status : ℕ) (now : List ℕ) → now ≡ old.said → IsFound sectors s old → (status ≡ 3 → SaysOfCall script s.layout now new) → (status ≡ 9 → MaySpend made)
+    → TellsImage script made sectors old new status
 unfolding has_volume
-tells_mounted script many sectors s old new status now same f says unspent =
+tells_mounted script made sectors s old new status now same f says may =
     let volume = has_volume sectors s old f in
     record {
       mounted = λ any. volume;
       refused = λ three. let x = call_since script s.layout old.said now new same (says three) in record { why = x.why; says = x.says; cause = inr (record { mounted = volume; of = x.of; told = x.told }) };
-      spent = λ nine. spent_mounted many sectors old volume (λ one. unspent one nine);
+      spent = λ nine. spent_mounted made sectors old volume (may nine);
     }
 
 -- no status of a mount's fault is one of a volume that is mounted
@@ -122,20 +127,20 @@ worn_of sectors old (Refused.Unsound s) status (inl is) nine refused = absurd (o
 worn_of sectors old (Refused.Device s) status (inl is) nine refused = absurd (omega (arith, is, nine))
 worn_of sectors old Refused.Memory status (inl is) nine refused = absurd (omega (arith, is, nine))
 
-spent_refused : (many : Bool) (sectors : ℕ) (old : Moment) → IsRefused sectors Refused.WornOut old → HasSpent many sectors old
-spent_refused true sectors old refused = inr refused
-spent_refused false sectors old refused = refused
+spent_refused : (made : Option ℕ) (sectors : ℕ) (old : Moment) → IsRefused sectors Refused.WornOut old → HasSpent made sectors old
+spent_refused (Some count) sectors old refused = inr refused
+spent_refused None sectors old refused = refused
 
-pub tells_refused : (script many : Bool) (sectors : ℕ) (fault : MountFault) (why : Fault) (old ended new : Moment) (status : ℕ) → why ≡ fault_of fault → IsRefused sectors fault old → LostIn (AreCopiesOn sectors old) ended.image fault → UnsoundFor sectors old ended fault
-    → KeepsAll fault old ended → MountKeeps sectors old ended → ended.said ≡ old.said → Utters (fault_text why) ended new → EndsWith why ended new status → IsStatusFor why status → TellsImage script many sectors old new status
-tells_refused script many sectors fault why old ended new status is refused lost unsound kept rest same utters ends for = record {
+pub tells_refused : (script : Bool) (made : Option ℕ) (sectors : ℕ) (fault : MountFault) (why : Fault) (old ended new : Moment) (status : ℕ) → why ≡ fault_of fault → IsRefused sectors fault old → LostIn (AreCopiesOn sectors old) ended.image fault → UnsoundFor sectors old ended fault
+    → KeepsAll fault old ended → MountKeeps sectors old ended → ended.said ≡ old.said → Utters (fault_text why) ended new → EndsWith why ended new status → IsStatusFor why status → TellsImage script made sectors old new status
+tells_refused script made sectors fault why old ended new status is refused lost unsound kept rest same utters ends for = record {
   mounted = λ any. absurd (refused_not fault status (subst (λ (w : Fault). IsStatusFor w status) is for) any);
   refused = λ three. record {
     why = why;
     says = of_fault script old.said why ended new status (stands_before script old.said ended.said same) ends three;
     cause = inl (record { fault = fault; is = is; refused = refused; ended = ended; since = record { image = utters.image; windows = utters.windows }; lost = lost; unsound = unsound; kept = kept; rest = rest; said = (told_itself why ended new status ends three).1 ∙ ap (λ (x : List ℕ). x ++ fault_text why) same });
   };
-  spent = λ nine. spent_refused many sectors old (worn_of sectors old fault status (subst (λ (w : Fault). IsStatusFor w status) is for) nine refused);
+  spent = λ nine. spent_refused made sectors old (worn_of sectors old fault status (subst (λ (w : Fault). IsStatusFor w status) is for) nine refused);
 }
 
 -- ---- a fault of the input
@@ -179,10 +184,22 @@ pub passes_on : (stop : Stop) (end : ScriptEnd) (result : Result Stop End) → I
 passes_on stop end (Ok x) same is = let e : x ≡ Ended end = cc is in sym same ∙ e
 passes_on stop end (Err why) same is = absurd (cc is)
 
+-- what is read to its end does not stop for a worn-out mount
+pub read_not_worn : {S D : Type 0} (state : S → State) (has : S → Mounted → List Placed → Type 0) (M : Ghosts D) (e : Errand) (old : S) (a : D) (new : S) (b : D) (stop : Stop) → stop ≡ WornOut → WholeRead state has M e old a new b (Ok stop) → ⊥
+read_not_worn state has M e old a new b stop is whole =
+    let at : WholeRead state has M e old a new b (Ok WornOut) = subst (λ (s : Stop). WholeRead state has M e old a new b (Ok s)) is whole in
+    at.reads
+
 pub read_ends : {S D : Type 0} (state : S → State) (has : S → Mounted → List Placed → Type 0) (M : Ghosts D) (e : Errand) (old : S) (a : D) (new : S) (b : D) (stop : Stop) (end : ScriptEnd) → WholeRead state has M e old a new b (Ok stop) → stop ≡ Ended end → (script_in (M.ledger a).input).1 ≡ end
 read_ends state has M e old a new b stop end x is =
     let all : WholeRead state has M e old a new b (Ok (Ended end)) = subst (λ (s : Stop). WholeRead state has M e old a new b (Ok s)) is x in
     all.reads.0
+
+-- as many commands were given as it has
+pub read_given : {S D : Type 0} (state : S → State) (has : S → Mounted → List Placed → Type 0) (M : Ghosts D) (e : Errand) (last : Reading) (old : S) (a : D) (new : S) (b : D) (stop : Stop) (end : ScriptEnd) → Reads state has M e fresh last old a new b (Ok (Some stop)) → stop ≡ Ended end → last.given ≡ fresh.given + length (script_in (M.ledger a).input).0
+read_given state has M e last old a new b stop end x is =
+    let all : Reads state has M e fresh last old a new b (Ok (Some (Ended end))) = subst (λ (s : Stop). Reads state has M e fresh last old a new b (Ok (Some s))) is x in
+    all.2
 
 -- a bad line is said whole at its status
 pub says_bad : (input : List ℕ) (bad : BadLine) (old new : Moment) (status : ℕ) → (script_in input).1 ≡ Bad bad → EndsLast (Says.Bad bad) 2 old new status → status ≡ 2 → SaysBadLine input new

@@ -106,7 +106,7 @@ module _ {S D : Type 0} (state : S → State) (has : S → Mounted → List Plac
 pub at_forced : {D : Type 0} (M : Ghosts D) (x : Known) (e : Errand) (m b : D) (r : Result (Unit {0}) End) → e.says ≡ reply_text → ClosesAndSays M x (e.says Reply.Forced) m b r → ClosesAndSays M x forced_turn.said m b r
 at_forced M x e m b r says closed = subst (λ (f : Reply → List ℕ). ClosesAndSays M x (f Reply.Forced) m b r) says closed
 
-worn_is : (end : End) → is_worn_end end ≡ true → end ≡ Stopped Ends.WornOut
+pub worn_is : (end : End) → is_worn_end end ≡ true → end ≡ Stopped Ends.WornOut
 worn_is (Stopped Ends.WornOut) is = refl
 worn_is (Stopped fault) is = cc is
 worn_is Output is = cc is

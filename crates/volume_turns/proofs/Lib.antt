@@ -10,6 +10,7 @@ pub mod LastLaws
 pub mod LineLaws
 pub mod ListLaws
 pub mod MountLaws
+pub mod NumberLaws
 pub mod OnceLaws
 pub mod OneLaws
 pub mod OrderLaws

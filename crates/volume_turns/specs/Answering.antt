@@ -22,6 +22,7 @@ use Rattle.volume_turns.specs.declared.answer.Answer.{Answer}
 use Rattle.volume_turns.specs.declared.turns.End.{End}
 use Rattle.volume_turns.specs.declared.turns.End.TheVariants.{Fault as Stopped, Output}
 use Rattle.volume_turns.specs.Causes.{HasVolume}
+use Rattle.volume_turns.specs.Numbers.{GoesUp}
 use Rattle.volume_turns.specs.Steps.{IsToldOn, reply_of}
 use Rattle.volume_turns.specs.Turns.{KeepsSaid}
 
@@ -92,6 +93,7 @@ pub record Answers (command : Command) (s t : State) (old new : Moment) (result 
   pub still : KeepsState command s t
   -- a mount is told as worn out only where it is
   pub worn : result ≡ Err Ends.WornOut → IsTrue (is_worn s)
+  pub numbers : GoesUp 1 s t
   pub told : IfErr result (IsToldOn s.layout new.image)
 
 -- a text is said, and nothing in front of a fault

@@ -1,11 +1,12 @@
 -- What the status of a run tells of the image that it found, and of its input, whatever these were.
-use Rattle.std.specs.Prelude.{◌≡◌, ◌⊎◌, ◌<◌, ◌==◌, ℕ, Bool, true, false, List, [], ◌∷◌, ◌++◌, length, IfSome, IsTrue}
+use Rattle.std.specs.Prelude.{◌≡◌, ◌⊎◌, ◌<◌, ◌≤◌, ◌==◌, ℕ, Bool, true, false, Option, Some, None, List, [], ◌∷◌, ◌++◌, length, IfSome, IsTrue}
 use Rattle.std.specs.List.{list_any}
 use Rattle.volume_layout.specs.declared.layout.Layout.{Layout}
 use Rattle.sector_disk.specs.Image.{IsWorn, open_damage}
 use Rattle.sector_disk.specs.Machine.{Moment, Report, Rose}
 use Rattle.fsd_formats.specs.declared.anchor.Anchor.{Anchor}
 use Rattle.fsd_files.specs.Disk.{Image}
+use Rattle.fsd_files.specs.Replies.{Reply}
 use Rattle.fsd_sound.specs.Lost.{AreCopiesOn, LostIn}
 use Rattle.fsd_sound.specs.Mounting.{IsVolume}
 use Rattle.fsd_sound.specs.Writes.{MountKeeps}
@@ -19,12 +20,14 @@ use Rattle.fsd_texts.specs.declared.line.Line.TheVariants as Says
 use Rattle.fsd_texts.specs.Script.{max_input, script_in}
 use Rattle.fsd_texts.specs.Text.{fault_text, text}
 use Rattle.fsd_runs.specs.Commands.{reply_text}
-use Rattle.fsd_runs.specs.Errands.{fault_status}
+use Rattle.fsd_runs.specs.Errands.{fault_status, forced_turn}
+use Rattle.fsd_runs.specs.Runs.{last_count}
 use Rattle.volume_contract.specs.Mount.{IsRefused, KeepsAll, UnsoundFor}
 use Rattle.volume_contract.specs.State.{Ages}
 use Rattle.volume_turns.specs.Once.{fault_of}
 use Rattle.volume_turns.specs.Steps.{IsOfImage, IsToldOn, device_told}
-use Rattle.volume_turns.specs.Turns.{SaysReplies}
+use Rattle.volume_turns.specs.Tally.{Counting, counting_line}
+use Rattle.volume_turns.specs.Turns.{SaysReplies, SaysSome}
 
 -- ---- it was mounted
 
@@ -80,19 +83,19 @@ pub record SaysCause (script : Bool) (sectors : ℕ) (old new : Moment) : Type 0
   pub says : SaysOfImage script old.said why new
   pub cause : IsMountRefused sectors why old new ⊎ IsCallRefused sectors why old new
 
--- The mount was refused for an epoch that was seen to be the last one; where many commands may be done, it may have been mounted, and
--- its numbers used up by them.
-abbrev pub HasSpent : (many : Bool) → (sectors : ℕ) → Moment → Type 0
-HasSpent true sectors old = HasVolume sectors old ⊎ IsRefused sectors WornOut old
-HasSpent false sectors old = IsRefused sectors WornOut old
+-- The mount was refused for an epoch that was seen to be the last one; where so many commands are made up that they may use up the
+-- numbers of a mount, it may have been mounted.
+abbrev pub HasSpent : (made : Option ℕ) → (sectors : ℕ) → Moment → Type 0
+HasSpent (Some count) sectors old = (HasVolume sectors old × (last_count ≤ count)) ⊎ IsRefused sectors WornOut old
+HasSpent None sectors old = IsRefused sectors WornOut old
 
 -- ---- all of these
 
--- What a run tells of the image that it found, by its status, whether it is a script, and whether it may do many commands.
-pub record TellsImage (script many : Bool) (sectors : ℕ) (old new : Moment) (status : ℕ) : Type 0 where
+-- What a run tells of the image that it found, by its status, whether it is a script, and how many commands it makes up, if it does.
+pub record TellsImage (script : Bool) (made : Option ℕ) (sectors : ℕ) (old new : Moment) (status : ℕ) : Type 0 where
   pub mounted : IsTrue (is_of_mounted status) → HasVolume sectors old
   pub refused : status ≡ 3 → SaysCause script sectors old new
-  pub spent : status ≡ 9 → HasSpent many sectors old
+  pub spent : status ≡ 9 → HasSpent made sectors old
 
 -- Over a mounted volume of this layout: status 3 is that of a fault that a call told, and what it tells is so.
 pub record SaysOfCall (script : Bool) (layout : Layout) (before : List ℕ) (new : Moment) : Type 0 where
@@ -140,3 +143,17 @@ pub record SaysBadLine (input : List ℕ) (new : Moment) : Type 0 where
   pub ends : (script_in input).1 ≡ Bad bad
   pub front : List ℕ
   pub said : new.said ≡ front ++ text (Says.Bad bad)
+
+-- ---- a run that was answered to its end
+
+-- A script of so many commands: a reply is said for each of them, and last that all is forced.
+pub record SaysForced (says : Reply → List ℕ) (many : ℕ) (before : List ℕ) (new : Moment) : Type 0 where
+  pub front : List ℕ
+  pub whole : SaysSome says many before front
+  pub said : new.said ≡ front ++ forced_turn.said
+
+-- Commands that are made up: it is said that all is forced, and last what came of so many.
+pub record SaysMade (count : ℕ) (before : List ℕ) (new : Moment) : Type 0 where
+  pub tally : Counting
+  pub all : tally.count ≡ count
+  pub said : new.said ≡ (before ++ forced_turn.said) ++ text (counting_line tally)

@@ -4,6 +4,7 @@ pub mod Generate
 pub mod Group
 pub mod Line
 pub mod Listing
+pub mod Numbers
 pub mod Once
 pub mod Script
 pub mod Status

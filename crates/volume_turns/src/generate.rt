@@ -1,18 +1,21 @@
 //! Commands that are made up, from the mount to the line that tells what came of them.
-ghost use Rattle.std.specs.Prelude.{◌≡◌, ◌≤◌, ◌<◌, ◌+◌, ◌^◌, ◌-◌, ℕ, List, None, false, true, OnOk, IfErr, IfOk, IfSome, IsTrue};
+ghost use Rattle.std.specs.Prelude.{◌≡◌, ◌≤◌, ◌<◌, ◌+◌, ◌++◌, ◌^◌, ◌-◌, ℕ, List, None, Some, Ok, Err, false, OnOk, IfErr, IfOk, IfSome, IsTrue};
 ghost use Rattle.sector_disk.specs.declared.sector.WeakRun.{WeakRun};
 ghost use Rattle.sector_disk.specs.Calls.{Since};
 ghost use Rattle.sector_disk.specs.Machine.{LeavesOnly, OnlyWrites, Trusts};
 ghost use Rattle.volume_layout.specs.declared.layout.Layout.{Layout as Plan};
 ghost use Rattle.fsd_files.specs.Files.{Change};
 ghost use Rattle.fsd_texts.specs.Generator.{made_up};
+ghost use Rattle.fsd_texts.specs.declared.fault.Fault.TheVariants as Ends;
+ghost use Rattle.volume_turns.specs.declared.turns.End.TheVariants.{Fault as Stopped};
 ghost use Rattle.fsd_runs.specs.Errands.{forced_turn};
 ghost use Rattle.fsd_runs.specs.Leaves.{LeavesRun};
 ghost use Rattle.fsd_runs.specs.declared.request.Request.TheVariants.{Generate};
 ghost use Rattle.volume_contract.specs.Mount.{IsSoundAt};
 ghost use Rattle.volume_contract.specs.State.{Known, Stands};
-ghost use Rattle.volume_turns.specs.Causes.{SaysFault, SaysOfCall, TellsImage, is_of_fault};
+ghost use Rattle.volume_turns.specs.Causes.{SaysFault, SaysMade, SaysOfCall, TellsImage, is_of_fault};
 ghost use Rattle.volume_turns.specs.Generate.{CountedGroup, Draws, RunsCounted, StepsCounted};
+ghost use Rattle.volume_turns.specs.Numbers.{GoesUp, MayWear};
 ghost use Rattle.volume_turns.specs.Once.{ClosesAndSays, unit_of};
 ghost use Rattle.volume_turns.specs.Status.{CountsRun, IsMadeStatus};
 ghost use Rattle.volume_turns.specs.Tally.{nothing};
@@ -48,6 +51,8 @@ fn do_counted<M: Machine, V: Files<M>>(
     ensures ledger { M.tells m.new → OnlyWrites (M.ledger m.old) (M.ledger m.new) }
     ensures fault { IfErr result IsEndOfVolume }
     ensures image { IfErr result (λ end. M.honest m.new → IsEndOn (V.state v.old).layout (M.now m.new).image end) }
+    ensures grows { M.honest m.new → GoesUp 1 (V.state v.old) (V.state v.new) }
+    ensures used { result ≡ Err (Stopped Ends.WornOut) → M.honest m.new → MayWear 1 (V.state v.old) }
     ensures trust { Trusts (M.tells m.old) (M.tells m.new) (M.honest m.old) (M.honest m.new) }
     ensures since { M.honest m.new → Since M.Machine m.old m.new }
     ensures later { M.honest m.new → M.moment m.old ≤ M.moment m.new }
@@ -81,6 +86,8 @@ fn draw<M: Machine, V: Files<M>>(
     ensures ledger { M.tells m.new → OnlyWrites (M.ledger m.old) (M.ledger m.new) }
     ensures fault { IfErr result IsEndOfVolume }
     ensures image { IfErr result (λ end. M.honest m.new → IsEndOn (V.state v.old).layout (M.now m.new).image end) }
+    ensures grows { M.honest m.new → GoesUp 1 (V.state v.old) (V.state v.new) }
+    ensures used { result ≡ Err (Stopped Ends.WornOut) → M.honest m.new → MayWear 1 (V.state v.old) }
     ensures trust { Trusts (M.tells m.old) (M.tells m.new) (M.honest m.old) (M.honest m.new) }
     ensures since { M.honest m.new → Since M.Machine m.old m.new }
     ensures later { M.honest m.new → M.moment m.old ≤ M.moment m.new }
@@ -113,6 +120,8 @@ fn make_up<M: Machine, V: Files<M>>(
     ensures ledger { M.tells m.new → OnlyWrites (M.ledger m.old) (M.ledger m.new) }
     ensures fault { IfErr result IsEndOfVolume }
     ensures image { IfErr result (λ end. M.honest m.new → IsEndOn (V.state v.old).layout (M.now m.new).image end) }
+    ensures used { result ≡ Err (Stopped Ends.WornOut) → M.honest m.new → MayWear count (V.state v.old) }
+    ensures counts { IfOk result (λ t. t.count ≡ count) }
     ensures trust { Trusts (M.tells m.old) (M.tells m.new) (M.honest m.old) (M.honest m.new) }
     ensures since { M.honest m.new → Since M.Machine m.old m.new }
     ensures later { M.honest m.new → M.moment m.old ≤ M.moment m.new }
@@ -138,6 +147,8 @@ pub(crate) fn close_forced<M: Machine, V: Files<M>>(v: V, m: &mut M) -> Result<(
     ensures ledger { M.tells m.new → OnlyWrites (M.ledger m.old) (M.ledger m.new) }
     ensures fault { IfErr result IsEndOfVolume }
     ensures image { IfErr result (λ end. M.honest m.new → IsEndOn (V.state v).layout (M.now m.new).image end) }
+    ensures unworn { result ≡ Err (Stopped Ends.WornOut) → ⊥ }
+    ensures says { OnOk result (M.honest m.new → (M.now m.new).said ≡ (M.now m.old).said ++ forced_turn.said) }
     ensures trust { Trusts (M.tells m.old) (M.tells m.new) (M.honest m.old) (M.honest m.new) }
     ensures since { M.honest m.new → Since M.Machine m.old m.new }
     ensures later { M.honest m.new → M.moment m.old ≤ M.moment m.new }
@@ -162,6 +173,8 @@ fn force_behind<M: Machine, V: Files<M>>(
     ensures ledger { M.tells m.new → OnlyWrites (M.ledger m.old) (M.ledger m.new) }
     ensures fault { IfErr result IsEndOfVolume }
     ensures image { IfErr result (λ end. M.honest m.new → IsEndOn (V.state v).layout (M.now m.new).image end) }
+    ensures unworn { result ≡ Err (Stopped Ends.WornOut) → ⊥ }
+    ensures says { OnOk result (M.honest m.new → (M.now m.new).said ≡ (M.now m.old).said ++ forced_turn.said) }
     ensures trust { Trusts (M.tells m.old) (M.tells m.new) (M.honest m.old) (M.honest m.new) }
     ensures since { M.honest m.new → Since M.Machine m.old m.new }
     ensures later { M.honest m.new → M.moment m.old ≤ M.moment m.new }
@@ -189,6 +202,10 @@ fn make_group<M: Machine, V: Files<M> + Drop>(
     ensures ledger { M.tells m.new → OnlyWrites (M.ledger m.old) (M.ledger m.new) }
     ensures fault { IfErr result IsEndOfVolume }
     ensures image { IfErr result (λ end. M.honest m.new → IsEndOn (V.state v).layout (M.now m.new).image end) }
+    ensures used { result ≡ Ok None → M.honest m.new → MayWear count (V.state v) }
+    ensures unworn { result ≡ Err (Stopped Ends.WornOut) → ⊥ }
+    ensures counts { IfOk result (λ o. IfSome o (λ t. t.count ≡ count)) }
+    ensures says { OnOk result (M.honest m.new → (M.now m.new).said ≡ (M.now m.old).said ++ forced_turn.said) }
     ensures trust { Trusts (M.tells m.old) (M.tells m.new) (M.honest m.old) (M.honest m.new) }
     ensures since { M.honest m.new → Since M.Machine m.old m.new }
     ensures later { M.honest m.new → M.moment m.old ≤ M.moment m.new }
@@ -225,6 +242,8 @@ fn generate_on<M: Machine, V: Files<M> + Drop>(
     ensures since { M.honest m.new → Since M.Machine m.old m.new }
     ensures says { result ≡ 3 → M.honest m.new → SaysOfCall false (V.state v).layout (M.now m.old).said (M.now m.new) }
     ensures last { IsTrue (is_of_fault result) → M.honest m.new → SaysFault (M.report m.new).fault_place (M.now m.new) result }
+    ensures spent { result ≡ 9 → M.honest m.new → MayWear count (V.state v) }
+    ensures all { result ≡ 0 → M.honest m.new → SaysMade count (M.now m.old).said (M.now m.new) }
     ensures runs { M.honest m.new → (input rest : List ℕ) (k : Known) → Stands V.state V.holds v k (M.now m.old) → RunsOut M.Machine (Generate seed count) input rest (M.report m.old) k m.old m.new result }
 {
     match make_group(alloc, v, m, seed, count) {
@@ -249,8 +268,9 @@ pub fn run_generate<M: Machine, V: Files<M> + Drop>(
     ensures status { IsMadeStatus result }
     ensures counts { CountsRun (M.report m.old) (M.report m.new) result }
     ensures trust { Trusts (M.tells m.old) (M.tells m.new) (M.honest m.old) (M.honest m.new) }
-    ensures image { M.honest m.new → TellsImage false true sectors (M.now m.old) (M.now m.new) result }
+    ensures image { M.honest m.new → TellsImage false (Some count) sectors (M.now m.old) (M.now m.new) result }
     ensures last { IsTrue (is_of_fault result) → M.honest m.new → SaysFault (M.report m.new).fault_place (M.now m.new) result }
+    ensures all { result ≡ 0 → M.honest m.new → SaysMade count (M.now m.old).said (M.now m.new) }
     ensures leaves { M.honest m.new → (input rest : List ℕ) (l : Plan) (windows : List WeakRun) (h : List Change) (f : ℕ) → IsSoundAt sectors l windows h f (M.now m.old) →
         LeavesRun (Generate seed count) input rest l windows h f (M.left_since m.new) (LeavesOnly M.moment M.left_since m.old m.new) (M.report m.old) (M.report m.new) (M.now m.old) (M.now m.new) result }
 {

@@ -106,7 +106,7 @@ pub fn run_put<M: Machine, V: Files<M> + Drop, T: Says>(
     ensures whole { result ≤ 1 → M.tells m.new → (M.ledger m.new).input ≡ [] }
     ensures few { result ≤ 1 → M.tells m.new → length (M.ledger m.old).input ≤ max_input }
     ensures trust { Trusts (M.tells m.old) (M.tells m.new) (M.honest m.old) (M.honest m.new) }
-    ensures image { M.honest m.new → TellsImage false false sectors (M.now m.old) (M.now m.new) result }
+    ensures image { M.honest m.new → TellsImage false None sectors (M.now m.old) (M.now m.new) result }
     ensures last { IsTrue (is_of_fault result) → M.honest m.new → SaysFault (M.report m.new).fault_place (M.now m.new) result }
     ensures one { M.honest m.new → SaysOne (Word.Put name (M.ledger m.old).input keep) (M.now m.old) (M.now m.new) result }
     ensures leaves { M.honest m.new → (l : Plan) (windows : List WeakRun) (h : List Change) (f : ℕ) → IsSoundAt sectors l windows h f (M.now m.old) →

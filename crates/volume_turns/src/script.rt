@@ -1,5 +1,5 @@
 //! A script, from the mount to the last line.
-ghost use Rattle.std.specs.Prelude.{◌≡◌, ◌≤◌, ◌+◌, List, [], ℕ, None, true, Ok, OnErr, OnOk, IfErr, IfOk, IsTrue, Some};
+ghost use Rattle.std.specs.Prelude.{◌≡◌, ◌≤◌, ◌+◌, ◌++◌, List, [], ℕ, None, true, Ok, Err, OnErr, OnOk, IfErr, IfOk, IsTrue, Some, length};
 ghost use Rattle.sector_disk.specs.Calls.{Since};
 ghost use Rattle.sector_disk.specs.Machine.{LeavesOnly, OnlyWrites, Trusts};
 ghost use Rattle.sector_disk.specs.declared.sector.WeakRun.{WeakRun};
@@ -16,14 +16,17 @@ ghost use Rattle.fsd_texts.specs.Script.{max_input, script_in};
 ghost use Rattle.fsd_runs.specs.Commands.{answer, reply_text};
 ghost use Rattle.fsd_runs.specs.Errands.{forced_turn, is_forced};
 ghost use Rattle.volume_contract.specs.State.{Known, Stands};
-ghost use Rattle.volume_turns.specs.Causes.{FailsInput, SaysBadLine, SaysFault, SaysOfCall, SaysOfInput, TellsImage, is_of_fault};
+ghost use Rattle.volume_turns.specs.Causes.{FailsInput, SaysBadLine, SaysFault, SaysForced, SaysOfCall, SaysOfInput, TellsImage, is_of_fault};
+ghost use Rattle.volume_turns.specs.Numbers.{GoesUp, MayWear};
 ghost use Rattle.volume_turns.specs.Once.{ClosesAndSays, unit_of};
 ghost use Rattle.volume_turns.specs.Status.{CountsTaking, IsScriptStatus};
 ghost use Rattle.fsd_texts.specs.declared.end.End.{End as EndOf};
 ghost use Rattle.fsd_texts.specs.declared.end.End.TheVariants.{Done};
-ghost use Rattle.volume_turns.specs.declared.script.Stop.TheVariants.{Ended};
-ghost use Rattle.volume_turns.specs.Turns.{BreaksWhole, IsEndOfVolume, IsEndOn, KeepsSaid, SaysWhole, Told, WantsNone};
-ghost use Rattle.volume_turns.specs.Script.{GoesOn, GroupsBy, Heard, Reads, RoseBy, SparesWanting, WholeRead};
+ghost use Rattle.volume_turns.specs.declared.script.Stop.TheVariants.{Ended, WornOut};
+ghost use Rattle.volume_turns.specs.declared.turns.End.TheVariants.{Fault as Stopped};
+ghost use Rattle.fsd_texts.specs.declared.fault.Fault.TheVariants as Ends;
+ghost use Rattle.volume_turns.specs.Turns.{BreaksWhole, IsEndOfVolume, IsEndOn, KeepsSaid, SaysSome, SaysWhole, Told, WantsNone};
+ghost use Rattle.volume_turns.specs.Script.{GoesOn, GroupsBy, Heard, Reads, RoseBy, SaysGiven, SparesWanting, WholeRead};
 
 use crate::generate::close_forced;
 use crate::group::is_worn_end;
@@ -63,12 +66,15 @@ fn read_on<M: Machine, V: Files<M>, T: Says>(
     ensures attaches { M.tells m.new → (M.ledger m.new).attaches ≡ (M.ledger m.old).attaches }
     ensures fault { IfErr result IsEndOfVolume }
     ensures image { IfErr result (λ end. M.honest m.new → IsEndOn (V.state v.old).layout (M.now m.new).image end) }
+    ensures grows { M.honest m.new → GoesUp 1 (V.state v.old) (V.state v.new) }
+    ensures used { result ≡ Err (Stopped Ends.WornOut) → M.honest m.new → MayWear 1 (V.state v.old) }
     ensures rose { IfOk result (RoseBy (M.report m.old) (M.report m.new)) }
     ensures quiet { OnErr result ((M.report m.new).input_faults ≡ (M.report m.old).input_faults) }
     ensures trust { Trusts (M.tells m.old) (M.tells m.new) (M.honest m.old) (M.honest m.new) }
     ensures since { M.honest m.new → Since M.Machine m.old m.new }
     ensures later { M.honest m.new → M.moment m.old ≤ M.moment m.new }
     ensures whole_replies { M.honest m.new → SaysWhole T.errand.says (M.now m.old) (M.now m.new) result }
+    ensures replies { OnOk result (M.honest m.new → SaysGiven T.errand.says reader.old reader.new (M.now m.old).said (M.now m.new).said) }
     ensures on { IfOk result (GoesOn reader.old reader.new) }
     ensures few { reader.new.end ≡ None → reader.new.taken ≤ max_input }
     ensures whole { result ≡ Ok (Some (Ended Done)) → reader.old.end ≡ None → M.tells m.new → (M.ledger m.new).input ≡ [] }
@@ -102,12 +108,14 @@ fn read_all<M: Machine, V: Files<M>, T: Says>(
     ensures attaches { M.tells m.new → (M.ledger m.new).attaches ≡ (M.ledger m.old).attaches }
     ensures fault { IfErr result IsEndOfVolume }
     ensures image { IfErr result (λ end. M.honest m.new → IsEndOn (V.state v.old).layout (M.now m.new).image end) }
+    ensures used { result ≡ Err (Stopped Ends.WornOut) → M.honest m.new → MayWear (max_input + 1) (V.state v.old) }
     ensures rose { IfOk result (λ stop. RoseBy (M.report m.old) (M.report m.new) (Some stop)) }
     ensures quiet { OnErr result ((M.report m.new).input_faults ≡ (M.report m.old).input_faults) }
     ensures trust { Trusts (M.tells m.old) (M.tells m.new) (M.honest m.old) (M.honest m.new) }
     ensures since { M.honest m.new → Since M.Machine m.old m.new }
     ensures later { M.honest m.new → M.moment m.old ≤ M.moment m.new }
     ensures whole_replies { M.honest m.new → SaysWhole T.errand.says (M.now m.old) (M.now m.new) result }
+    ensures replies { (end : EndOf) → result ≡ Ok (Ended end) → M.honest m.new → SaysSome T.errand.says (length (script_in (M.ledger m.old).input).0) (M.now m.old).said (M.now m.new).said }
     ensures whole { result ≡ Ok (Ended Done) → M.tells m.new → (M.ledger m.new).input ≡ [] }
     ensures reads { M.tells m.new → WholeRead V.state V.holds M.Machine T.errand v.old m.old v.new m.new result }
 {
@@ -134,6 +142,9 @@ fn group_read<M: Machine, V: Files<M> + Drop, T: Says>(
     ensures attaches { M.tells m.new → (M.ledger m.new).attaches ≡ (M.ledger m.old).attaches }
     ensures fault { IfErr result IsEndOfVolume }
     ensures image { IfErr result (λ end. M.honest m.new → IsEndOn (V.state v).layout (M.now m.new).image end) }
+    ensures used { result ≡ Ok WornOut → M.honest m.new → MayWear (max_input + 1) (V.state v) }
+    ensures unworn { result ≡ Err (Stopped Ends.WornOut) → ⊥ }
+    ensures says { (end : EndOf) → result ≡ Ok (Ended end) → M.honest m.new → SaysForced T.errand.says (length (script_in (M.ledger m.old).input).0) (M.now m.old).said (M.now m.new) }
     ensures rose { IfOk result (λ stop. RoseBy (M.report m.old) (M.report m.new) (Some stop)) }
     ensures memory { IfErr result (SparesWanting (M.report m.old) (M.report m.new)) }
     ensures ends { (end : EndOf) → result ≡ Ok (Ended end) → M.tells m.new → (script_in (M.ledger m.old).input).1 ≡ end }
@@ -164,6 +175,8 @@ fn force_read<M: Machine, V: Files<M>>(v: V, m: &mut M, stop: Stop) -> Result<St
     ensures ledger { M.tells m.new → OnlyWrites (M.ledger m.old) (M.ledger m.new) }
     ensures fault { IfErr result IsEndOfVolume }
     ensures image { IfErr result (λ end. M.honest m.new → IsEndOn (V.state v).layout (M.now m.new).image end) }
+    ensures unworn { result ≡ Err (Stopped Ends.WornOut) → ⊥ }
+    ensures says { OnOk result (M.honest m.new → (M.now m.new).said ≡ (M.now m.old).said ++ forced_turn.said) }
     ensures trust { Trusts (M.tells m.old) (M.tells m.new) (M.honest m.old) (M.honest m.new) }
     ensures since { M.honest m.new → Since M.Machine m.old m.new }
     ensures later { M.honest m.new → M.moment m.old ≤ M.moment m.new }
@@ -197,6 +210,8 @@ fn script_on<M: Machine, V: Files<M> + Drop, T: Says>(alloc: Global, v: V, m: &m
     ensures since { M.honest m.new → Since M.Machine m.old m.new }
     ensures says { result ≡ 3 → M.honest m.new → SaysOfCall true (V.state v).layout (M.now m.old).said (M.now m.new) }
     ensures last { IsTrue (is_of_fault result) → M.honest m.new → SaysFault (M.report m.new).fault_place (M.now m.new) result }
+    ensures spent { result ≡ 9 → M.honest m.new → MayWear (max_input + 1) (V.state v) }
+    ensures all { result ≡ 0 → M.honest m.new → SaysForced reply_text (length (script_in (M.ledger m.old).input).0) (M.now m.old).said (M.now m.new) }
     ensures runs { M.honest m.new → (k : Known) → Stands V.state V.holds v k (M.now m.old) → RunsOut M.Machine Script (M.ledger m.old).input (M.ledger m.new).input (M.report m.old) k m.old m.new result }
 {
     match group_read::<M, V, T>(alloc, v, m) {
@@ -232,8 +247,9 @@ pub fn run_script<M: Machine, V: Files<M> + Drop, T: Says>(
     ensures spelled { result ≡ 0 → M.tells m.new → (script_in (M.ledger m.old).input).1 ≡ Done }
     ensures bad { result ≡ 2 → M.honest m.new → SaysBadLine (M.ledger m.old).input (M.now m.new) }
     ensures trust { Trusts (M.tells m.old) (M.tells m.new) (M.honest m.old) (M.honest m.new) }
-    ensures image { M.honest m.new → TellsImage true true sectors (M.now m.old) (M.now m.new) result }
+    ensures image { M.honest m.new → TellsImage true None sectors (M.now m.old) (M.now m.new) result }
     ensures last { IsTrue (is_of_fault result) → M.honest m.new → SaysFault (M.report m.new).fault_place (M.now m.new) result }
+    ensures all { result ≡ 0 → M.honest m.new → SaysForced reply_text (length (script_in (M.ledger m.old).input).0) (M.now m.old).said (M.now m.new) }
     ensures leaves { M.honest m.new → (l : Plan) (windows : List WeakRun) (h : List Change) (f : ℕ) → IsSoundAt sectors l windows h f (M.now m.old) →
         LeavesRun Script (M.ledger m.old).input (M.ledger m.new).input l windows h f (M.left_since m.new) (LeavesOnly M.moment M.left_since m.old m.new) (M.report m.old) (M.report m.new) (M.now m.old) (M.now m.new) result }
 {

@@ -65,7 +65,7 @@ pub fn run_one<M: Machine, V: Files<M> + Drop, T: Says>(
     ensures status { IsOneStatus c.now result }
     ensures counts { CountsRun (M.report m.old) (M.report m.new) result }
     ensures trust { Trusts (M.tells m.old) (M.tells m.new) (M.honest m.old) (M.honest m.new) }
-    ensures image { M.honest m.new → TellsImage false false sectors (M.now m.old) (M.now m.new) result }
+    ensures image { M.honest m.new → TellsImage false None sectors (M.now m.old) (M.now m.new) result }
     ensures last { IsTrue (is_of_fault result) → M.honest m.new → SaysFault (M.report m.new).fault_place (M.now m.new) result }
     ensures one { M.honest m.new → RunsOne c.now sectors (M.now m.old) (M.now m.new) result }
     ensures leaves { M.honest m.new → (rest : List ℕ) (l : Plan) (windows : List WeakRun) (h : List Change) (f : ℕ) → IsSoundAt sectors l windows h f (M.now m.old) →

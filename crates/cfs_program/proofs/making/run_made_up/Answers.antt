@@ -1,5 +1,7 @@
-use Rattle.std.proofs.Common.{false, true, inr, sym, ◌∙◌, arith, []}
+use Rattle.std.proofs.Common.{ℕ, List, Some, false, subst, inr, sym, ◌∙◌, arith, []}
+use Rattle.volume_turns.specs.Causes.{SaysMade}
 use Rattle.volume_turns.proofs.LastLaws.{ends_fault}
+use Rattle.volume_turns.proofs.StatusLaws.{not_as}
 use Rattle.fsd_texts.specs.declared.fault.Fault.TheVariants as Ends
 use Rattle.fsd_runs.specs.declared.request.Request.TheVariants.{Generate}
 use Rattle.cfs_program.proofs.EndedLaws.{ended_run, failed_status}
@@ -45,10 +47,10 @@ pub returns-in-Ok-clause-image : goal.returns-in-Ok-clause-image
 returns-in-Ok-clause-image g c honest =
     let M = g.M.Machine in
     let back = c.run_generate.ensures.trust.honest honest in
-    tells_found false true (M.now c.args.m.now) (M.now c.attach.new.self) (M.now c.run_generate.new.m) c.in-Ok.sectors c.run_generate.result (c.in-Ok.ensures.attached back) (c.in-Ok.ensures.size back) (c.run_generate.ensures.image honest)
+    tells_found false (Some c.args.count) (M.now c.args.m.now) (M.now c.attach.new.self) (M.now c.run_generate.new.m) c.in-Ok.sectors c.run_generate.result (c.in-Ok.ensures.attached back) (c.in-Ok.ensures.size back) (c.run_generate.ensures.image honest)
 
 pub returns-in-Err-clause-image : goal.returns-in-Err-clause-image
-returns-in-Err-clause-image g c honest = tells_unfound false true (g.M.Machine.now c.args.m.now) (g.M.Machine.now c.last_line.new.m) c.last_line.result c.last_line.ensures.status
+returns-in-Err-clause-image g c honest = tells_unfound false (Some c.args.count) (g.M.Machine.now c.args.m.now) (g.M.Machine.now c.last_line.new.m) c.last_line.result c.last_line.ensures.status
 
 -- ---- what is counted
 
@@ -75,3 +77,13 @@ returns-in-Err-clause-last g c of h =
     let cause = c.in-Err.ensures.cause in
     let line = c.last_line in
     ends_fault (M.report line.new.m).fault_place (M.now c.attach.new.self) (M.now line.new.m) line.result (Ends.Device c.in-Err.failed.place) (cause.names ∙ sym cause.told ∙ sym line.ensures.says.spares.place) (line.ensures.ends h) of
+
+-- ---- where all was answered
+
+pub returns-in-Ok-clause-all : goal.returns-in-Ok-clause-all
+returns-in-Ok-clause-all g c zero h =
+    let does = c.run_generate.ensures in
+    subst (λ (x : List ℕ). SaysMade c.args.count x (g.M.Machine.now c.run_generate.new.m)) (c.in-Ok.ensures.attached (does.trust.honest h)).said (does.all zero h)
+
+pub returns-in-Err-clause-all : goal.returns-in-Err-clause-all
+returns-in-Err-clause-all g c zero h = absurd (not_as 0 4 c.last_line.result (λ e. omega (arith, e)) (λ e. omega (arith, e)) c.last_line.ensures.status zero)

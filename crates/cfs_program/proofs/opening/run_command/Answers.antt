@@ -1,13 +1,13 @@
-use Rattle.std.proofs.Common.{false, inl, inr, sym, ◌∙◌, arith, []}
+use Rattle.std.proofs.Common.{None, false, inl, inr, sym, ◌∙◌, arith, []}
 use Rattle.volume_turns.proofs.LastLaws.{ends_fault}
 use Rattle.fsd_texts.specs.declared.fault.Fault.TheVariants as Ends
 use Rattle.fsd_runs.specs.declared.request.Request.TheVariants.{One}
 use Rattle.cfs_program.proofs.EndedLaws.{ended_run, failed_status}
-use Rattle.cfs_program.proofs.FoundLaws.{line_no_reply, tells_found, tells_unfound, untouched_unfound, writes_found}
+use Rattle.cfs_program.proofs.FoundLaws.{tells_found, tells_unfound, untouched_unfound, writes_found}
 use Rattle.cfs_program.proofs.OpeningLaws.{finds_keep, opened_run, sound_found}
 use Rattle.cfs_program.proofs.CountsLaws.{counts_failed, counts_opened}
 use Rattle.fsd_texts.specs.declared.line.Line.TheVariants as Lines
-use Rattle.volume_turns.proofs.AnsweringLaws.{one_since}
+use Rattle.volume_turns.proofs.AnsweringLaws.{fault_alone, one_since}
 use Rattle.cfs_program.proofs.opening.run_command.Goals as goal
 
 pub returns-in-Ok-clause-leaves : goal.returns-in-Ok-clause-leaves
@@ -47,10 +47,10 @@ pub returns-in-Ok-clause-image : goal.returns-in-Ok-clause-image
 returns-in-Ok-clause-image g c honest =
     let M = g.M.Machine in
     let back = c.run_one.ensures.trust.honest honest in
-    tells_found false false (M.now c.args.m.now) (M.now c.attach.new.self) (M.now c.run_one.new.m) c.in-Ok.sectors c.run_one.result (c.in-Ok.ensures.attached back) (c.in-Ok.ensures.size back) (c.run_one.ensures.image honest)
+    tells_found false None (M.now c.args.m.now) (M.now c.attach.new.self) (M.now c.run_one.new.m) c.in-Ok.sectors c.run_one.result (c.in-Ok.ensures.attached back) (c.in-Ok.ensures.size back) (c.run_one.ensures.image honest)
 
 pub returns-in-Err-clause-image : goal.returns-in-Err-clause-image
-returns-in-Err-clause-image g c honest = tells_unfound false false (g.M.Machine.now c.args.m.now) (g.M.Machine.now c.last_line.new.m) c.last_line.result c.last_line.ensures.status
+returns-in-Err-clause-image g c honest = tells_unfound false None (g.M.Machine.now c.args.m.now) (g.M.Machine.now c.last_line.new.m) c.last_line.result c.last_line.ensures.status
 
 -- ---- what is counted
 
@@ -100,7 +100,7 @@ returns-in-Err-clause-one g c h =
     let now = g.M.Machine.now in
     let line = c.last_line.ensures in
     let wears = c.in-Err.ensures.failed (line.says.trust.honest h) in
-    inr (line_no_reply (Ends.Device c.in-Err.failed.place) (now c.args.m.now) (now c.attach.new.self) (now c.last_line.new.m) c.last_line.result wears.said (line.ends h))
+    inr (fault_alone (Ends.Device c.in-Err.failed.place) (now c.args.m.now) (now c.attach.new.self) (now c.last_line.new.m) c.last_line.result wears.said (line.ends h))
 
 pub returns-in-Err-clause-rest : goal.returns-in-Err-clause-rest
 returns-in-Err-clause-rest g c h =

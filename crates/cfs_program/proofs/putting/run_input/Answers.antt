@@ -1,4 +1,4 @@
-use Rattle.std.proofs.Common.{false, ◌≡◌, ◌≤◌, length, inr, List, ℕ, sym, ◌∙◌, ap, subst, arith}
+use Rattle.std.proofs.Common.{None, false, ◌≡◌, ◌≤◌, length, inr, List, ℕ, sym, ◌∙◌, ap, subst, arith}
 use Rattle.volume_turns.proofs.StatusLaws.{as_not_low, not_as}
 use Rattle.volume_turns.proofs.LastLaws.{ends_fault}
 use Rattle.sector_disk.specs.Machine.{Ledger, LeavesOnly}
@@ -7,12 +7,12 @@ use Rattle.fsd_runs.specs.declared.request.Request.TheVariants.{Put}
 use Rattle.fsd_texts.specs.Script.{max_input}
 use Rattle.fsd_runs.specs.Leaves.{LeavesRun}
 use Rattle.cfs_program.proofs.EndedLaws.{ended_run, failed_status}
-use Rattle.cfs_program.proofs.FoundLaws.{fails_attached, line_no_reply, tells_found, tells_unfound}
+use Rattle.cfs_program.proofs.FoundLaws.{fails_attached, tells_found, tells_unfound}
 use Rattle.cfs_program.proofs.OpeningLaws.{finds_keep, opened_run, sound_found}
 use Rattle.cfs_program.proofs.CountsLaws.{counts_failed, reading_of, reading_opened}
 use Rattle.fsd_texts.specs.declared.command.Command.TheVariants as Word
 use Rattle.volume_turns.specs.Answering.{SaysOne}
-use Rattle.volume_turns.proofs.AnsweringLaws.{one_since}
+use Rattle.volume_turns.proofs.AnsweringLaws.{fault_alone, one_since}
 use Rattle.volume_turns.proofs.CauseLaws.{input_since}
 use Rattle.cfs_program.proofs.putting.run_input.Goals as goal
 
@@ -58,10 +58,10 @@ pub returns-in-Ok-clause-image : goal.returns-in-Ok-clause-image
 returns-in-Ok-clause-image g c honest =
     let M = g.M.Machine in
     let back = c.run_put.ensures.trust.honest honest in
-    tells_found false false (M.now c.args.m.now) (M.now c.attach.new.self) (M.now c.run_put.new.m) c.in-Ok.sectors c.run_put.result (c.in-Ok.ensures.attached back) (c.in-Ok.ensures.size back) (c.run_put.ensures.image honest)
+    tells_found false None (M.now c.args.m.now) (M.now c.attach.new.self) (M.now c.run_put.new.m) c.in-Ok.sectors c.run_put.result (c.in-Ok.ensures.attached back) (c.in-Ok.ensures.size back) (c.run_put.ensures.image honest)
 
 pub returns-in-Err-clause-image : goal.returns-in-Err-clause-image
-returns-in-Err-clause-image g c honest = tells_unfound false false (g.M.Machine.now c.args.m.now) (g.M.Machine.now c.last_line.new.m) c.last_line.result c.last_line.ensures.status
+returns-in-Err-clause-image g c honest = tells_unfound false None (g.M.Machine.now c.args.m.now) (g.M.Machine.now c.last_line.new.m) c.last_line.result c.last_line.ensures.status
 
 -- ---- the input
 
@@ -128,7 +128,7 @@ returns-in-Err-clause-one g c h =
     let now = g.M.Machine.now in
     let line = c.last_line.ensures in
     let wears = c.in-Err.ensures.failed (line.says.trust.honest h) in
-    inr (line_no_reply (Ends.Device c.in-Err.failed.place) (now c.args.m.now) (now c.attach.new.self) (now c.last_line.new.m) c.last_line.result wears.said (line.ends h))
+    inr (fault_alone (Ends.Device c.in-Err.failed.place) (now c.args.m.now) (now c.attach.new.self) (now c.last_line.new.m) c.last_line.result wears.said (line.ends h))
 
 -- ---- the fault of the input that is said
 

@@ -32,14 +32,14 @@ returns-in-Script g c =
     let e = c.run_commands.ensures in
     let a = c.args.m.now in
     subst (λ (r : Request). Ran g.M.Machine r c.args.path.now a c.run_commands.new.m c.run_commands.result) (sym c.in-Script.is)
-    (ran_script g.M.Machine c.args.path.now a c.run_commands.new.m c.run_commands.result e.status e.counts e.asks e.asked e.input e.fails e.bad e.whole e.spelled e.trust e.image e.last e.leaves)
+    (ran_script g.M.Machine c.args.path.now a c.run_commands.new.m c.run_commands.result e.status e.counts e.asks e.asked e.input e.fails e.bad e.whole e.spelled e.trust e.image e.all e.last e.leaves)
 
 pub returns-in-Generate : goal.returns-in-Generate
 returns-in-Generate g c =
     let e = c.run_made_up.ensures in
     let a = c.args.m.now in
     subst (λ (r : Request). Ran g.M.Machine r c.args.path.now a c.run_made_up.new.m c.run_made_up.result) (sym c.in-Generate.is)
-    (ran_made g.M.Machine c.in-Generate.seed c.in-Generate.count c.args.path.now a c.run_made_up.new.m c.run_made_up.result e.status e.counts e.asks e.asked e.trust e.image e.last e.leaves)
+    (ran_made g.M.Machine c.in-Generate.seed c.in-Generate.count c.args.path.now a c.run_made_up.new.m c.run_made_up.result e.status e.counts e.asks e.asked e.trust e.image e.all e.last e.leaves)
 
 pub returns-in-Put : goal.returns-in-Put
 returns-in-Put g c =

@@ -1,4 +1,4 @@
-use Rattle.std.proofs.Common.{true, ◌≡◌, inr, List, ℕ, sym, ◌∙◌, ap, subst, arith}
+use Rattle.std.proofs.Common.{true, None, ◌≡◌, inr, List, ℕ, length, sym, ◌∙◌, ap, subst, arith}
 use Rattle.volume_turns.proofs.StatusLaws.{not_as}
 use Rattle.volume_turns.proofs.LastLaws.{ends_fault}
 use Rattle.sector_disk.specs.Machine.{Ledger, LeavesOnly}
@@ -12,7 +12,8 @@ use Rattle.cfs_program.proofs.EndedLaws.{ended_run, failed_status}
 use Rattle.cfs_program.proofs.FoundLaws.{fails_attached, tells_found, tells_unfound}
 use Rattle.cfs_program.proofs.OpeningLaws.{finds_keep, opened_run, sound_found}
 use Rattle.cfs_program.proofs.CountsLaws.{counts_failed, reading_of, reading_opened}
-use Rattle.volume_turns.specs.Causes.{SaysBadLine}
+use Rattle.fsd_runs.specs.Commands.{reply_text}
+use Rattle.volume_turns.specs.Causes.{SaysBadLine, SaysForced}
 use Rattle.volume_turns.proofs.CauseLaws.{input_since}
 use Rattle.cfs_program.proofs.scripting.run_commands.Goals as goal
 
@@ -60,10 +61,10 @@ pub returns-in-Ok-clause-image : goal.returns-in-Ok-clause-image
 returns-in-Ok-clause-image g c honest =
     let M = g.M.Machine in
     let back = c.run_script.ensures.trust.honest honest in
-    tells_found true true (M.now c.args.m.now) (M.now c.attach.new.self) (M.now c.run_script.new.m) c.in-Ok.sectors c.run_script.result (c.in-Ok.ensures.attached back) (c.in-Ok.ensures.size back) (c.run_script.ensures.image honest)
+    tells_found true None (M.now c.args.m.now) (M.now c.attach.new.self) (M.now c.run_script.new.m) c.in-Ok.sectors c.run_script.result (c.in-Ok.ensures.attached back) (c.in-Ok.ensures.size back) (c.run_script.ensures.image honest)
 
 pub returns-in-Err-clause-image : goal.returns-in-Err-clause-image
-returns-in-Err-clause-image g c honest = tells_unfound true true (g.M.Machine.now c.args.m.now) (g.M.Machine.now c.last_line.new.m) c.last_line.result c.last_line.ensures.status
+returns-in-Err-clause-image g c honest = tells_unfound true None (g.M.Machine.now c.args.m.now) (g.M.Machine.now c.last_line.new.m) c.last_line.result c.last_line.ensures.status
 
 -- ---- the input
 
@@ -144,3 +145,20 @@ returns-in-Ok-clause-fails g c five h =
 
 pub returns-in-Err-clause-fails : goal.returns-in-Err-clause-fails
 returns-in-Err-clause-fails g c five h = absurd (not_as 5 4 c.last_line.result (λ e. omega (arith, e)) (λ e. omega (arith, e)) c.last_line.ensures.status five)
+
+-- ---- where all was answered
+
+pub returns-in-Ok-clause-all : goal.returns-in-Ok-clause-all
+returns-in-Ok-clause-all g c zero h =
+    let M = g.M.Machine in
+    let does = c.run_script.ensures in
+    let a = c.args.m.now in
+    let b = c.attach.new.self in
+    let z = c.run_script.new.m in
+    let back = does.trust.honest h in
+    let input : (M.ledger b).input ≡ (M.ledger a).input = ap (λ (x : Ledger). x.input) (c.in-Ok.ensures.asked (g.met.M.Machine.honest_tells b back)) in
+    subst (λ (x : List ℕ). SaysForced reply_text (length (script_in (M.ledger a).input).0) x (M.now z)) (c.in-Ok.ensures.attached back).said
+    (subst (λ (x : List ℕ). SaysForced reply_text (length (script_in x).0) (M.now b).said (M.now z)) input (does.all zero h))
+
+pub returns-in-Err-clause-all : goal.returns-in-Err-clause-all
+returns-in-Err-clause-all g c zero h = absurd (not_as 0 4 c.last_line.result (λ e. omega (arith, e)) (λ e. omega (arith, e)) c.last_line.ensures.status zero)

@@ -6,6 +6,7 @@ use Rattle.fsd_files.specs.Replies.{Reply}
 use Rattle.volume_contract.specs.State.{volume_of}
 use Rattle.volume_turns.specs.Steps.{Stays}
 use Rattle.volume_turns.proofs.StepLaws.{counts_are, wear_stays}
+use Rattle.volume_turns.proofs.NumberLaws.{goes_none}
 use Rattle.volume_turns.proofs.commands.count.Goals as goal
 
 pub returns-clause-disk : goal.returns-clause-disk
@@ -32,4 +33,4 @@ returns-clause-done g c h k stands =
     )
 
 pub returns-clause-answers : goal.returns-clause-answers
-returns-clause-answers g c h = record { replies = tt; rest = record { size = refl; others = λ s out. inl refl }; still = refl; worn = λ is. absurd (cc is); told = tt }
+returns-clause-answers g c h = record { replies = tt; rest = record { size = refl; others = λ s out. inl refl }; still = refl; worn = λ is. absurd (cc is); numbers = goes_none 1 (g.V.Files.state c.args.v.now) (g.V.Files.state c.args.v.now) refl; told = tt }

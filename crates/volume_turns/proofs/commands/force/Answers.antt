@@ -19,6 +19,7 @@ use Rattle.volume_turns.proofs.StatusLaws.{force_ends}
 use Rattle.volume_turns.specs.Answering.{MayReply}
 use Rattle.volume_turns.proofs.ToldLaws.{told_of, told_so}
 use Rattle.volume_turns.proofs.WornLaws.{told_worn}
+use Rattle.volume_turns.proofs.NumberLaws.{force_goes, forced_goes}
 use Rattle.volume_turns.proofs.commands.force.Goals as goal
 
 pub returns-in-Ok-clause-disk : goal.returns-in-Ok-clause-disk
@@ -53,7 +54,7 @@ pub returns-in-Err-clause-status : goal.returns-in-Err-clause-status
 returns-in-Err-clause-status g c = force_ends (λ a. reply_status (reply_of a) ≡ 0) (g.V.Files.state c.args.v.now) c.requires.up _ c.in-Err.why c.in-Err.ensures.order c.ended_by.result c.ended_by.ensures.is
 
 pub returns-in-Ok-clause-answers : goal.returns-in-Ok-clause-answers
-returns-in-Ok-clause-answers g c h = record { replies = tt; rest = c.in-Ok.ensures.rest h; still = tt; worn = λ is. absurd (cc is); told = tt }
+returns-in-Ok-clause-answers g c h = record { replies = tt; rest = c.in-Ok.ensures.rest h; still = tt; worn = λ is. absurd (cc is); numbers = let s = g.V.Files.state c.args.v.now in let t = g.V.Files.state c.force.new.self in forced_goes s t c.in-Ok.ensures.kept; told = tt }
 
 pub returns-in-Err-clause-answers : goal.returns-in-Err-clause-answers
 returns-in-Err-clause-answers g c h = record {
@@ -61,6 +62,7 @@ returns-in-Err-clause-answers g c h = record {
   rest = c.in-Err.ensures.rest h;
   still = tt;
   worn = let s = g.V.Files.state c.args.v.now in told_worn s (force_steps s) c.in-Err.why c.ended_by.result c.ended_by.ensures.is c.in-Err.ensures.order (λ comes. absurd (force_worn s c.requires.up _ comes));
+  numbers = let s = g.V.Files.state c.args.v.now in let t = g.V.Files.state c.force.new.self in force_goes s t c.in-Err.why c.in-Err.ensures.kept;
   told = told_so (g.V.Files.state c.args.v.now).layout (g.M.Machine.now c.force.new.m).image c.in-Err.why c.ended_by.result c.ended_by.ensures.is
       (told_of (g.V.Files.state c.args.v.now) (g.V.Files.state c.force.new.self) (g.V.Files.resident c.args.v.now) (g.M.Machine.now c.args.m.now) (g.M.Machine.now c.force.new.m) c.in-Err.ensures.state.layout c.in-Err.why (c.in-Err.ensures.causes h));
 }

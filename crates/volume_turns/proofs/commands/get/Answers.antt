@@ -16,9 +16,11 @@ use Rattle.volume_turns.proofs.StepLaws.{same_device, wear_stays}
 use Rattle.volume_turns.proofs.StatusLaws.{refused_get}
 use Rattle.fsd_files.specs.Disk.{nowhere}
 use Rattle.volume_turns.specs.Answering.{MayReply}
+use Rattle.volume_turns.specs.Numbers.{GoesUp}
 use Rattle.volume_turns.proofs.AnsweringLaws.{entry_refused, worn_first, worn_touches}
 use Rattle.volume_turns.proofs.ToldLaws.{told_of, told_so}
 use Rattle.volume_turns.proofs.WornLaws.{told_worn}
+use Rattle.volume_turns.proofs.NumberLaws.{goes_none}
 use Rattle.volume_turns.proofs.commands.get.Goals as goal
 
 pub returns-in-Ok-clause-disk : goal.returns-in-Ok-clause-disk
@@ -73,6 +75,7 @@ returns-in-Ok-clause-answers g c h =
       rest = worn_first (now c.args.m.now) (now c.entry.new.m) (now c.read_whole.new.m) first.windows first.image does.rest;
       still = does.still ∙ c.in-Ok.ensures.state;
       worn = λ is. subst (λ (s : State). IsTrue (is_worn s)) c.in-Ok.ensures.state (does.worn is);
+      numbers = subst (λ (s : State). GoesUp 1 s (g.V.Files.state c.read_whole.new.v)) c.in-Ok.ensures.state does.numbers;
       told = subst (λ (s : State). IfErr c.read_whole.result (IsToldOn s.layout (now c.read_whole.new.m).image)) c.in-Ok.ensures.state does.told;
     }
 
@@ -85,6 +88,7 @@ returns-in-Err-clause-answers g c h =
       rest = worn_touches nowhere (now c.args.m.now) (now c.entry.new.m) (c.in-Err.ensures.disk.worn h).image;
       still = c.in-Err.ensures.state;
       worn = let s = g.V.Files.state c.args.v.now in told_worn s (entry_steps s) c.in-Err.why c.ended_by.result c.ended_by.ensures.is c.in-Err.ensures.order (λ comes. absurd (entry_worn s c.requires.up comes));
+      numbers = goes_none 1 (g.V.Files.state c.args.v.now) (g.V.Files.state c.entry.new.self) c.in-Err.ensures.state;
       told = told_so (g.V.Files.state c.args.v.now).layout (now c.entry.new.m).image c.in-Err.why c.ended_by.result c.ended_by.ensures.is
           (told_of (g.V.Files.state c.args.v.now) (g.V.Files.state c.entry.new.self) (g.V.Files.resident c.args.v.now) (now c.args.m.now) (now c.entry.new.m) (ap (λ (s : State). s.layout) c.in-Err.ensures.state) c.in-Err.why (c.in-Err.ensures.causes h));
     }

@@ -1,5 +1,5 @@
-use Rattle.std.proofs.Common.{ℕ, [], ◌∷◌, ◌∙◌, sym, ap, subst, refl, Option, length}
-use Rattle.std.specs.Prelude.{IfOk, Result, IsFalse}
+use Rattle.std.proofs.Common.{ℕ, true, [], ◌∷◌, ◌∙◌, sym, ap, subst, refl, Option, length}
+use Rattle.std.specs.Prelude.{◌||◌, IfOk, Result, IsFalse}
 use Rattle.fsd_bytes.specs.declared.refusal.Refusal.{Refusal}
 use Rattle.fsd_formats.specs.NamePage.{sectors_for}
 use Rattle.fsd_files.specs.Answers.{put_outcome, size_fault, keep_given}
@@ -10,7 +10,7 @@ use Rattle.fsd_texts.specs.declared.fault.Fault.{Fault}
 use Rattle.volume_turns.specs.declared.answer.Answer.{Answer}
 use Rattle.sector_disk.specs.Calls.{WritesDisk}
 use Rattle.volume_contract.specs.Order.{Comes}
-use Rattle.volume_contract.specs.State.{volume_of, put_writes, is_worn}
+use Rattle.volume_contract.specs.State.{forces_first, forces_for_place, volume_of, put_writes, is_worn}
 use Rattle.volume_turns.specs.Steps.{Does, IsAnswered, Stays, device_by, reply_of}
 use Rattle.sector_disk.proofs.CallLaws.{writes_more}
 use Rattle.volume_turns.proofs.OrderLaws.{steps_of, put_rest, put_never, size_never, never_down, unworn_by, worn_by, unworn_through, is_no_fault, no_fault_is}
@@ -20,6 +20,7 @@ use Rattle.volume_turns.specs.Answering.{MayReply}
 use Rattle.volume_turns.proofs.AnsweringLaws.{put_refused}
 use Rattle.volume_turns.proofs.ToldLaws.{told_of, told_so}
 use Rattle.volume_turns.proofs.WornLaws.{told_worn}
+use Rattle.volume_turns.proofs.NumberLaws.{counted_goes, put_goes}
 use Rattle.volume_turns.proofs.commands.put.Goals as goal
 
 pub returns-in-Ok-clause-disk : goal.returns-in-Ok-clause-disk
@@ -80,7 +81,7 @@ pub returns-in-Err-clause-status : goal.returns-in-Err-clause-status
 returns-in-Err-clause-status g c = refused_low c.in-Err.why c.ended_by.result c.ended_by.ensures.said
 
 pub returns-in-Ok-clause-answers : goal.returns-in-Ok-clause-answers
-returns-in-Ok-clause-answers g c h = record { replies = (c.in-Ok.ensures.name, c.sectors_of.ensures, c.in-Ok.ensures.order.1.0); rest = c.in-Ok.ensures.rest h; still = tt; worn = λ is. absurd (cc is); told = tt }
+returns-in-Ok-clause-answers g c h = record { replies = (c.in-Ok.ensures.name, c.sectors_of.ensures, c.in-Ok.ensures.order.1.0); rest = c.in-Ok.ensures.rest h; still = tt; worn = λ is. absurd (cc is); numbers = let s = g.V.Files.state c.args.v.now in let t = g.V.Files.state c.put.new.self in let need = sectors_for (length c.args.bytes.now) in counted_goes true (forces_for_place s need || forces_first s) s t c.in-Ok.ensures.kept; told = tt }
 
 pub returns-in-Err-clause-answers : goal.returns-in-Err-clause-answers
 returns-in-Err-clause-answers g c h =
@@ -93,6 +94,7 @@ returns-in-Err-clause-answers g c h =
       rest = c.in-Err.ensures.rest h;
       still = tt;
       worn = told_worn s (steps_of s size rest) c.in-Err.why c.ended_by.result c.ended_by.ensures.is c.in-Err.ensures.order (λ comes. (worn_by s c.requires.up size rest (size_never (keep_given c.args.keep) (length c.args.bytes.now)) (put_never s (sectors_for (length c.args.bytes.now))) comes).1);
+      numbers = let s = g.V.Files.state c.args.v.now in let t = g.V.Files.state c.put.new.self in put_goes s t c.in-Err.why c.args.keep (length c.args.bytes.now) c.in-Err.ensures.kept;
       told = told_so (g.V.Files.state c.args.v.now).layout (g.M.Machine.now c.put.new.m).image c.in-Err.why c.ended_by.result c.ended_by.ensures.is
           (told_of (g.V.Files.state c.args.v.now) (g.V.Files.state c.put.new.self) (g.V.Files.resident c.args.v.now) (g.M.Machine.now c.args.m.now) (g.M.Machine.now c.put.new.m) c.in-Err.ensures.state.layout c.in-Err.why (c.in-Err.ensures.causes h));
     }

@@ -22,6 +22,7 @@ use Rattle.volume_turns.specs.Answering.{HasDamaged, MayReply}
 use Rattle.volume_turns.proofs.AnsweringLaws.{data_inside, read_refused, worn_touches}
 use Rattle.volume_turns.proofs.ToldLaws.{read_told_so, told_of}
 use Rattle.volume_turns.proofs.WornLaws.{read_told_worn}
+use Rattle.volume_turns.proofs.NumberLaws.{goes_none}
 use Rattle.volume_turns.proofs.commands.read_whole.Goals as goal
 
 pub returns-in-Ok-read-clause-done : goal.returns-in-Ok-read-clause-done
@@ -63,7 +64,7 @@ returns-in-Ok-read-clause-status g c = inl (omega arith)
 pub returns-in-Ok-read-clause-answers : goal.returns-in-Ok-read-clause-answers
 returns-in-Ok-read-clause-answers g c h =
     let now = g.M.Machine.now in
-    record { replies = c.copied.ensures; rest = worn_touches nowhere (now c.args.m.now) (now c.read.new.m) (c.in-Ok-read.ensures.disk.worn h).image; still = c.in-Ok-read.ensures.state; worn = λ is. absurd (cc is); told = tt }
+    record { replies = c.copied.ensures; rest = worn_touches nowhere (now c.args.m.now) (now c.read.new.m) (c.in-Ok-read.ensures.disk.worn h).image; still = c.in-Ok-read.ensures.state; worn = λ is. absurd (cc is); numbers = goes_none 1 (g.V.Files.state c.args.v.now) (g.V.Files.state c.read.new.self) c.in-Ok-read.ensures.state; told = tt }
 
 pub returns-in-Err-clause-answers : goal.returns-in-Err-clause-answers
 returns-in-Err-clause-answers g c h =
@@ -79,6 +80,7 @@ returns-in-Err-clause-answers g c h =
       rest = worn_touches nowhere (now c.args.m.now) (now c.read.new.m) (e.disk.worn h).image;
       still = e.state;
       worn = let s = g.V.Files.state c.args.v.now in read_told_worn s (read_steps s) c.args.key.now c.in-Err.why c.read_ended_by.result c.read_ended_by.ensures.is e.order (λ comes. read_worn s c.requires.up comes);
+      numbers = goes_none 1 s (g.V.Files.state c.read.new.self) e.state;
       told = read_told_so (g.V.Files.state c.args.v.now).layout (now c.read.new.m).image c.args.key.now c.in-Err.why c.read_ended_by.result c.read_ended_by.ensures.is
           (told_of (g.V.Files.state c.args.v.now) (g.V.Files.state c.read.new.self) (g.V.Files.resident c.args.v.now) (now c.args.m.now) (now c.read.new.m) (ap (λ (s : State). s.layout) e.state) c.in-Err.why (e.causes h));
     }

@@ -1,4 +1,4 @@
-use Rattle.std.proofs.Common.{ℕ, [], ◌∷◌, ◌∙◌, sym, ap, subst, refl, Option, Some, None, cond}
+use Rattle.std.proofs.Common.{ℕ, false, [], ◌∷◌, ◌∙◌, sym, ap, subst, refl, Option, Some, None, cond}
 use Rattle.std.specs.Prelude.{IfOk, Result, IsFalse, nat_lt}
 use Rattle.fsd_bytes.specs.declared.refusal.Refusal.{Refusal}
 use Rattle.fsd_bytes.specs.declared.refusal.Refusal.TheVariants as Why
@@ -11,7 +11,7 @@ use Rattle.fsd_texts.specs.declared.fault.Fault.{Fault}
 use Rattle.volume_turns.specs.declared.answer.Answer.{Answer}
 use Rattle.sector_disk.specs.Calls.{WritesDisk}
 use Rattle.volume_contract.specs.Order.{Comes}
-use Rattle.volume_contract.specs.State.{volume_of, is_worn}
+use Rattle.volume_contract.specs.State.{forces_first, volume_of, is_worn}
 use Rattle.fsd_sound.specs.Writes.{force_writes}
 use Rattle.volume_turns.specs.Steps.{Does, Stays, device_by, reply_of}
 use Rattle.sector_disk.proofs.CallLaws.{writes_more}
@@ -22,6 +22,7 @@ use Rattle.volume_turns.specs.Answering.{MayReply}
 use Rattle.volume_turns.proofs.AnsweringLaws.{keep_refused}
 use Rattle.volume_turns.proofs.ToldLaws.{told_of, told_so}
 use Rattle.volume_turns.proofs.WornLaws.{told_worn}
+use Rattle.volume_turns.proofs.NumberLaws.{counted_goes, keep_goes}
 use Rattle.volume_turns.proofs.commands.set_keep.Goals as goal
 
 pub returns-in-Ok-clause-disk : goal.returns-in-Ok-clause-disk
@@ -64,7 +65,7 @@ pub returns-in-Err-clause-status : goal.returns-in-Err-clause-status
 returns-in-Err-clause-status g c = refused_low c.in-Err.why c.ended_by.result c.ended_by.ensures.said
 
 pub returns-in-Ok-clause-answers : goal.returns-in-Ok-clause-answers
-returns-in-Ok-clause-answers g c h = record { replies = (c.in-Ok.ensures.name, refl, keep_small c.args.keep (nat_lt max_keep c.args.keep) (Why.KeepTooLarge c.args.keep) refl c.in-Ok.ensures.order.1.0); rest = c.in-Ok.ensures.rest h; still = tt; worn = λ is. absurd (cc is); told = tt }
+returns-in-Ok-clause-answers g c h = record { replies = (c.in-Ok.ensures.name, refl, keep_small c.args.keep (nat_lt max_keep c.args.keep) (Why.KeepTooLarge c.args.keep) refl c.in-Ok.ensures.order.1.0); rest = c.in-Ok.ensures.rest h; still = tt; worn = λ is. absurd (cc is); numbers = let s = g.V.Files.state c.args.v.now in let t = g.V.Files.state c.set_keep.new.self in counted_goes false (forces_first s) s t c.in-Ok.ensures.kept; told = tt }
 
 pub returns-in-Err-clause-answers : goal.returns-in-Err-clause-answers
 returns-in-Err-clause-answers g c h =
@@ -77,6 +78,7 @@ returns-in-Err-clause-answers g c h =
       rest = c.in-Err.ensures.rest h;
       still = tt;
       worn = told_worn s (steps_of s size rest) c.in-Err.why c.ended_by.result c.ended_by.ensures.is c.in-Err.ensures.order (λ comes. (worn_by s c.requires.up size rest (keep_never c.args.keep) (edit_never s) comes).1);
+      numbers = let s = g.V.Files.state c.args.v.now in let t = g.V.Files.state c.set_keep.new.self in keep_goes s t c.in-Err.why c.args.keep c.in-Err.ensures.kept;
       told = told_so (g.V.Files.state c.args.v.now).layout (g.M.Machine.now c.set_keep.new.m).image c.in-Err.why c.ended_by.result c.ended_by.ensures.is
           (told_of (g.V.Files.state c.args.v.now) (g.V.Files.state c.set_keep.new.self) (g.V.Files.resident c.args.v.now) (g.M.Machine.now c.args.m.now) (g.M.Machine.now c.set_keep.new.m) c.in-Err.ensures.state.layout c.in-Err.why (c.in-Err.ensures.causes h));
     }

@@ -1,4 +1,5 @@
-use Rattle.std.proofs.Common.{Err, refl, sym, subst, arith}
+use Rattle.std.proofs.Common.{◌≡◌, Err, refl, sym, ◌∙◌, subst, arith}
+use Rattle.fsd_texts.specs.declared.fault.Fault.TheVariants as Ends
 use Rattle.fsd_texts.specs.declared.fault.Fault.{Fault}
 use Rattle.volume_turns.specs.declared.turns.End.TheVariants.{Fault as Stopped}
 use Rattle.volume_turns.specs.Once.{ClosesAndSays}
@@ -12,7 +13,9 @@ use Rattle.volume_turns.proofs.RunLaws.{on_ok_said}
 use Rattle.volume_turns.proofs.AnsweringLaws.{says_so}
 use Rattle.volume_turns.proofs.SaidLaws.{keeps_by, keeps_then}
 use Rattle.volume_turns.specs.Steps.{IsToldOn}
+use Rattle.volume_turns.proofs.NumberLaws.{output_unworn, said_forced}
 use Rattle.volume_turns.proofs.ToldLaws.{close_told}
+use Rattle.volume_turns.proofs.WornLaws.{close_unworn}
 use Rattle.volume_turns.proofs.generate.close_forced.Goals as goal
 
 pub returns-in-Ok-clause-closes : goal.returns-in-Ok-clause-closes
@@ -81,3 +84,19 @@ returns-in-Err-clause-image g c h =
     let now = g.M.Machine.now in
     let s = g.V.Files.state c.args.v in
     subst (λ (w : Fault). IsToldOn s.layout (now c.close.new.m).image w) (sym c.close_fault.ensures) (close_told s s (g.V.Files.resident c.args.v) (now c.args.m.now) (now c.close.new.m) refl c.in-Err.why (c.in-Err.ensures.causes h))
+
+-- ---- the force is said
+
+pub returns-in-Ok-clause-unworn : goal.returns-in-Ok-clause-unworn
+returns-in-Ok-clause-unworn g c is = output_unworn c.say_one.result c.say_one.ensures.output is
+
+pub returns-in-Err-clause-unworn : goal.returns-in-Err-clause-unworn
+returns-in-Err-clause-unworn g c is = let worn : c.close_fault.result ≡ Ends.WornOut = cc is in close_unworn c.in-Err.why (sym c.close_fault.ensures ∙ worn)
+
+pub returns-in-Ok-clause-says : goal.returns-in-Ok-clause-says
+returns-in-Ok-clause-says g c =
+    let M = g.M.Machine in
+    let a = M.now c.args.m.now in
+    let m = M.now c.close.new.m in
+    let b = M.now c.say_one.new.m in
+    said_forced (M.honest c.say_one.new.m) (M.honest c.close.new.m) a m b c.say_one.ensures.trust.honest c.in-Ok.ensures.disk.quiet c.say_one.result c.say_one.ensures.said

@@ -1,7 +1,10 @@
-use Rattle.std.proofs.Common.{subst, sym}
+use Rattle.std.proofs.Common.{◌≡◌, ◌∙◌, ap, subst, sym}
+use Rattle.std.specs.Prelude.{Err}
+use Rattle.fsd_texts.specs.declared.fault.Fault.TheVariants as Ends
 use Rattle.sector_disk.specs.Image.{AreShort, Windows}
 use Rattle.fsd_texts.specs.declared.fault.Fault.{Fault}
 use Rattle.volume_turns.specs.Steps.{IsOfCall, IsToldOn, reply_of}
+use Rattle.volume_turns.proofs.NumberLaws.{worn_may}
 use Rattle.volume_turns.proofs.CountLaws.{counted_fault, counted_none, counted_step}
 use Rattle.volume_turns.proofs.generate.do_counted.Goals as goal
 
@@ -66,3 +69,28 @@ returns-in-Ok-clause-image g c h = subst (λ (w : Fault). IsToldOn (g.V.Files.st
 
 pub returns-clause-image : goal.returns-clause-image
 returns-clause-image g c h = (c.in-Err.ensures.answers h).told
+
+-- ---- the numbers of a mount
+
+pub returns-in-Ok-count-clause-grows : goal.returns-in-Ok-count-clause-grows
+returns-in-Ok-count-clause-grows g c h = (c.answer.ensures.answers h).numbers
+
+pub returns-in-Ok-clause-grows : goal.returns-in-Ok-clause-grows
+returns-in-Ok-clause-grows g c h = (c.answer.ensures.answers h).numbers
+
+pub returns-clause-grows : goal.returns-clause-grows
+returns-clause-grows g c h = (c.answer.ensures.answers h).numbers
+
+pub returns-in-Ok-count-clause-used : goal.returns-in-Ok-count-clause-used
+returns-in-Ok-count-clause-used g c is h = absurd (cc is)
+
+pub returns-in-Ok-clause-used : goal.returns-in-Ok-clause-used
+returns-in-Ok-clause-used g c is h =
+    let e : c.in-Err-count.fault ≡ Ends.WornOut = cc is in
+    let no : Ends.WornOut ≡ Ends.Memory = sym e ∙ c.in-Err-count.ensures.err in
+    absurd (cc no)
+
+pub returns-clause-used : goal.returns-clause-used
+returns-clause-used g c is h =
+    let e : c.in-Err.fault ≡ Ends.WornOut = cc is in
+    worn_may (g.V.Files.state c.args.v.now) ((c.in-Err.ensures.answers h).worn (ap (λ (w : Fault). Err w) e))

@@ -1,10 +1,13 @@
-use Rattle.std.proofs.Common.{◌≡◌, Ok, Err, List, ◌∷◌, Option, sym, subst}
+use Rattle.std.proofs.Common.{◌≡◌, refl, ap, Ok, Err, List, ◌∷◌, Option, sym, subst}
 use Rattle.sector_disk.specs.Image.{AreShort, Windows}
 use Rattle.fsd_texts.specs.declared.command.Command.{Command as Word}
 use Rattle.script_text.specs.Making.{MakesNext, made_left}
 use Rattle.volume_turns.specs.Generate.{silent}
 use Rattle.volume_turns.specs.Turns.{RunsFrom}
+use Rattle.fsd_texts.specs.declared.fault.Fault.TheVariants as Ends
+use Rattle.volume_turns.specs.declared.turns.End.TheVariants.{Fault as Stopped}
 use Rattle.volume_turns.proofs.CountLaws.{counted_refused}
+use Rattle.volume_turns.proofs.NumberLaws.{ended, goes_none}
 use Rattle.volume_turns.proofs.generate.draw.Goals as goal
 
 pub returns-in-Ok-Some-clause-draws : goal.returns-in-Ok-Some-clause-draws
@@ -28,3 +31,16 @@ returns-in-Ok-Some-clause-image g c h = c.in-Err-do_counted.ensures.image h
 
 pub returns-clause-image : goal.returns-clause-image
 returns-clause-image g c h = tt
+
+-- ---- the numbers of a mount
+
+pub returns-in-Ok-Some-clause-used : goal.returns-in-Ok-Some-clause-used
+returns-in-Ok-Some-clause-used g c is h =
+    let e : c.in-Err-do_counted.end ≡ Stopped Ends.WornOut = cc is in
+    c.in-Err-do_counted.ensures.used (ap ended e) h
+
+pub returns-clause-used : goal.returns-clause-used
+returns-clause-used g c is h = absurd (cc is)
+
+pub returns-clause-grows : goal.returns-clause-grows
+returns-clause-grows g c h = goes_none 1 (g.V.Files.state c.args.v.now) (g.V.Files.state c.args.v.now) refl

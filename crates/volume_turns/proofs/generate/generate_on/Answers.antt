@@ -1,4 +1,7 @@
-use Rattle.std.proofs.Common.{false, refl, Option, Ok, Err, subst, arith}
+use Rattle.std.proofs.Common.{◌≡◌, false, refl, Option, Ok, Err, ◌∙◌, ap, subst, arith}
+use Rattle.std.specs.Prelude.{IfSome, Result}
+use Rattle.fsd_texts.specs.declared.fault.Fault.{Fault}
+use Rattle.volume_turns.specs.declared.turns.End.TheVariants.{Fault as Stopped}
 use Rattle.fsd_texts.specs.Generator.{made_up}
 use Rattle.volume_turns.specs.declared.turns.End.{End}
 use Rattle.volume_turns.specs.Generate.{CountedGroup}
@@ -7,8 +10,10 @@ use Rattle.volume_turns.specs.Turns.{IsEndOfVolume, Told}
 use Rattle.volume_turns.specs.Turns.{IsEndOn, KeepsEnd}
 use Rattle.volume_turns.proofs.GenerateLaws.{made_broken, made_said, made_unsaid, made_worn}
 use Rattle.volume_turns.proofs.CauseLaws.{call_says}
-use Rattle.volume_turns.proofs.StatusLaws.{not_as, call_of_volume, all_is_made, fault_counts, fault_is_made, line_counts, unsaid_counts, worn_is_made}
+use Rattle.volume_turns.proofs.StatusLaws.{not_as, call_of_volume, all_is_made, fault_counts, fault_is_made, fault_not_zero, line_counts, unsaid_counts, worn_is_made}
 use Rattle.fsd_texts.specs.declared.fault.Fault.TheVariants as Ends
+use Rattle.volume_turns.proofs.NumberLaws.{ended, made_all}
+use Rattle.volume_turns.proofs.WornLaws.{status_worn}
 use Rattle.volume_turns.proofs.LastLaws.{ends_fault, line_other, told_place}
 use Rattle.volume_turns.proofs.generate.generate_on.Goals as goal
 
@@ -158,3 +163,41 @@ returns-in-Err-Fault-clause-last g c of h =
 
 pub returns-in-Err-Output-clause-last : goal.returns-in-Err-Output-clause-last
 returns-in-Err-Output-clause-last g c of h = absurd (cc of)
+
+-- ---- the numbers of a mount
+
+abbrev came_to : Option Counting → Result (Option Counting) End
+came_to o = Ok o
+
+pub returns-in-Ok-Some-clause-spent : goal.returns-in-Ok-Some-clause-spent
+returns-in-Ok-Some-clause-spent g c nine h = absurd (not_as 9 0 c.last_line.result (λ e. omega (arith, e)) (λ e. omega (arith, e)) c.last_line.ensures.status nine)
+
+pub returns-in-Ok-None-clause-spent : goal.returns-in-Ok-None-clause-spent
+returns-in-Ok-None-clause-spent g c nine h = c.in-Ok-None.ensures.used (ap came_to c.in-Ok-None.field-0-is) (c.last_line-in-Ok-None.ensures.says.trust.honest h)
+
+pub returns-in-Err-Fault-clause-spent : goal.returns-in-Err-Fault-clause-spent
+returns-in-Err-Fault-clause-spent g c nine h =
+    let x = c.in-Err-Fault in
+    absurd (x.ensures.unworn (ap ended (x.field-0-is ∙ ap (λ (w : Fault). Stopped w) (status_worn x.why c.end_with.result c.end_with.ensures.status nine))))
+
+pub returns-in-Err-Output-clause-spent : goal.returns-in-Err-Output-clause-spent
+returns-in-Err-Output-clause-spent g c nine h = absurd (omega (arith, nine))
+
+-- ---- where all was answered
+
+pub returns-in-Ok-Some-clause-all : goal.returns-in-Ok-Some-clause-all
+returns-in-Ok-Some-clause-all g c zero h =
+    let now = g.M.Machine.now in
+    let x = c.in-Ok-Some in
+    let line = c.last_line in
+    let counts = subst (λ (o : Option Counting). IfSome o (λ t. t.count ≡ c.args.count)) x.field-0-is x.ensures.counts in
+    made_all c.args.count x.tally counts c.line.result c.line.ensures (now c.args.m.now) (now c.make_group.new.m) (now line.new.m) line.result (x.ensures.says (line.ensures.says.trust.honest h)) (line.ensures.ends h) zero
+
+pub returns-in-Ok-None-clause-all : goal.returns-in-Ok-None-clause-all
+returns-in-Ok-None-clause-all g c zero h = absurd (not_as 0 9 c.last_line-in-Ok-None.result (λ e. omega (arith, e)) (λ e. omega (arith, e)) c.last_line-in-Ok-None.ensures.status zero)
+
+pub returns-in-Err-Fault-clause-all : goal.returns-in-Err-Fault-clause-all
+returns-in-Err-Fault-clause-all g c zero h = absurd (fault_not_zero c.in-Err-Fault.why c.end_with.result c.end_with.ensures.status zero)
+
+pub returns-in-Err-Output-clause-all : goal.returns-in-Err-Output-clause-all
+returns-in-Err-Output-clause-all g c zero h = absurd (omega (arith, zero))

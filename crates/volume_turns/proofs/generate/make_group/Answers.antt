@@ -1,8 +1,12 @@
-use Rattle.std.proofs.Common.{sym, ◌∙◌, refl, arith}
+use Rattle.std.proofs.Common.{◌≡◌, Some, None, sym, ◌∙◌, ap, refl, arith}
+use Rattle.fsd_texts.specs.declared.fault.Fault.TheVariants as Ends
+use Rattle.volume_turns.specs.declared.turns.End.TheVariants.{Fault as Stopped}
 use Rattle.sector_disk.specs.Image.{open_damage}
 use Rattle.sector_disk.proofs.Wear.{worn_refl}
 use Rattle.fsd_texts.specs.Generator.{made_up}
 use Rattle.volume_turns.proofs.CountLaws.{counted_all, counted_broken, counted_worn}
+use Rattle.volume_turns.proofs.GroupLaws.{worn_is}
+use Rattle.volume_turns.proofs.NumberLaws.{counts_none, counts_on, ended, forced_behind, other_end, passed_on}
 use Rattle.volume_turns.proofs.SaidLaws.{keeps_end, keeps_then}
 use Rattle.volume_turns.proofs.ToldLaws.{told_behind}
 use Rattle.volume_turns.proofs.generate.make_group.Goals as goal
@@ -83,3 +87,47 @@ returns-then-is_worn_end-clause-image g c =
 
 pub returns-else-is_worn_end-clause-image : goal.returns-else-is_worn_end-clause-image
 returns-else-is_worn_end-clause-image g c h = c.in-Err.ensures.image h
+
+-- ---- the numbers of a mount
+
+pub returns-in-Ok-clause-used : goal.returns-in-Ok-clause-used
+returns-in-Ok-clause-used g c is h =
+    let no : None ≡ Some c.in-Ok.tally = passed_on (Some c.in-Ok.tally) None c.force_behind.result c.force_behind.ensures.same is in
+    absurd (cc no)
+
+pub returns-then-is_worn_end-clause-used : goal.returns-then-is_worn_end-clause-used
+returns-then-is_worn_end-clause-used g c is h =
+    let done = c.force_behind-then-is_worn_end in
+    c.in-Err.ensures.used (ap ended (worn_is c.in-Err.end (sym c.is_worn_end.ensures ∙ c.if-is_worn_end.true))) (done.ensures.trust.honest h)
+
+pub returns-else-is_worn_end-clause-used : goal.returns-else-is_worn_end-clause-used
+returns-else-is_worn_end-clause-used g c is h = absurd (cc is)
+
+pub returns-in-Ok-clause-unworn : goal.returns-in-Ok-clause-unworn
+returns-in-Ok-clause-unworn g c is = c.force_behind.ensures.unworn is
+
+pub returns-then-is_worn_end-clause-unworn : goal.returns-then-is_worn_end-clause-unworn
+returns-then-is_worn_end-clause-unworn g c is = c.force_behind-then-is_worn_end.ensures.unworn is
+
+pub returns-else-is_worn_end-clause-unworn : goal.returns-else-is_worn_end-clause-unworn
+returns-else-is_worn_end-clause-unworn g c is = let e : c.in-Err.end ≡ Stopped Ends.WornOut = cc is in other_end c.in-Err.end (sym c.is_worn_end.ensures ∙ c.if-is_worn_end.false) e
+
+-- ---- what is said where all was done
+
+pub returns-in-Ok-clause-says : goal.returns-in-Ok-clause-says
+returns-in-Ok-clause-says g c =
+    let M = g.M.Machine in
+    let done = c.force_behind in
+    forced_behind (M.honest done.new.m) (M.honest c.make_up.new.m) (M.now c.args.m.now) (M.now c.make_up.new.m) (M.now done.new.m) done.ensures.trust.honest c.make_up.ensures.quiet done.result done.ensures.says
+
+pub returns-then-is_worn_end-clause-says : goal.returns-then-is_worn_end-clause-says
+returns-then-is_worn_end-clause-says g c =
+    let M = g.M.Machine in
+    let done = c.force_behind-then-is_worn_end in
+    forced_behind (M.honest done.new.m) (M.honest c.make_up.new.m) (M.now c.args.m.now) (M.now c.make_up.new.m) (M.now done.new.m) done.ensures.trust.honest c.make_up.ensures.quiet done.result done.ensures.says
+
+pub returns-in-Ok-clause-counts : goal.returns-in-Ok-clause-counts
+returns-in-Ok-clause-counts g c = counts_on c.args.count c.in-Ok.tally c.in-Ok.ensures.counts c.force_behind.result c.force_behind.ensures.same
+
+pub returns-then-is_worn_end-clause-counts : goal.returns-then-is_worn_end-clause-counts
+returns-then-is_worn_end-clause-counts g c = counts_none c.args.count c.force_behind-then-is_worn_end.result c.force_behind-then-is_worn_end.ensures.same

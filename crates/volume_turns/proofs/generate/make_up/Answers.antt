@@ -10,6 +10,9 @@ use Rattle.volume_turns.specs.Generate.{Draws, RunsCounted}
 use Rattle.volume_turns.specs.Tally.{Counting, nothing}
 use Rattle.volume_turns.specs.Turns.{Follows, IsEndOn}
 use Rattle.volume_turns.proofs.CountLaws.{counted_nil, counted_stop, counted_then, made_length, none_left, told_all, told_end, told_more, told_none}
+use Rattle.fsd_texts.specs.declared.fault.Fault.TheVariants as Ends
+use Rattle.volume_turns.specs.declared.turns.End.TheVariants.{Fault as Stopped}
+use Rattle.volume_turns.proofs.NumberLaws.{ended, goes_none, goes_then, may_before}
 use Rattle.volume_turns.proofs.RunLaws.{follows_then}
 use Rattle.volume_turns.proofs.generate.make_up.Goals as goal
 
@@ -26,6 +29,7 @@ loop-init g c =
       since = λ h t left le was. was;
       later = λ h. omega arith;
       counts = ap (λ (t : Counting). t.count) c.new-tally.ensures;
+      numbers = λ h. goes_none 0 (V.state c.args.v.now) (V.state c.args.v.now) refl;
       quiet = λ h. refl;
       left = let all = made_length c.args.count 1 c.args.seed in let same = ap (λ (x : Making). length (made_left x)) c.new-maker.ensures in omega (arith, all, same);
       rest = λ z b r follows runs.
@@ -146,6 +150,7 @@ loop-preserved g c =
       later = both.later;
       quiet = λ h. c.draw.ensures.quiet h ∙ was.quiet (c.draw.ensures.trust.honest h);
       counts = subst (λ (o : Option Counting). IfSome o (λ t. t.count ≡ c.loop.tally.count + 1)) c.in-Ok-Some.field-0-is c.in-Ok-Some.ensures.counts ∙ ap (λ (n : ℕ). n + 1) was.counts;
+      numbers = λ h. goes_then c.loop.counter (c.loop.counter + 1) (V.state c.args.v.now) (V.state c.loop.v) (V.state c.draw.new.v) refl (was.numbers (c.draw.ensures.trust.honest h)) (c.draw.ensures.grows h);
       left = let all = was.left in let same = ap (λ (cs : List Word). length cs) draws.1 in omega (arith, all, same);
       rest = λ z b r follows runs. was.rest z b r (follows_then M c.loop.m c.draw.new.m b step follows)
           (subst (λ (cs : List Word). RunsCounted V.state V.holds M cs c.loop.v c.loop.m z b c.loop.tally r) (sym draws.1)
@@ -195,3 +200,38 @@ returns-clause-quiet g c = c.loop.invariant.quiet
 
 pub returns-in-Err-clause-image : goal.returns-in-Err-clause-image
 returns-in-Err-clause-image g c h = subst (λ (l : Layout). IsEndOn l (g.M.Machine.now c.draw.new.m).image c.in-Err.end) c.loop.invariant.layout (c.in-Err.ensures.image h)
+
+-- ---- the numbers of a mount
+
+pub returns-in-Err-clause-used : goal.returns-in-Err-clause-used
+returns-in-Err-clause-used g c is h =
+    let state = g.V.Files.state in
+    let e : c.in-Err.end ≡ Stopped Ends.WornOut = cc is in
+    let below = c.loop-test.true in
+    may_before c.loop.counter c.args.count (state c.args.v.now) (state c.loop.v) (omega (arith, below)) (c.loop.invariant.numbers (c.draw.ensures.trust.honest h)) (c.in-Err.ensures.used (ap ended e) h)
+
+pub returns-in-Ok-None-clause-used : goal.returns-in-Ok-None-clause-used
+returns-in-Ok-None-clause-used g c is h = absurd (cc is)
+
+pub returns-clause-used : goal.returns-clause-used
+returns-clause-used g c is h = absurd (cc is)
+
+-- ---- all are counted
+
+pub returns-in-Ok-None-clause-counts : goal.returns-in-Ok-None-clause-counts
+returns-in-Ok-None-clause-counts g c =
+    let V = g.V.Files in
+    let M = g.M.Machine in
+    let ends = subst (λ (o : Option Counting). Draws V.state V.holds M c.loop.maker c.draw.new.maker c.loop.v c.loop.m c.draw.new.v c.draw.new.m c.loop.tally (Ok o)) c.in-Ok-None.field-0-is c.in-Ok-None.ensures.draws in
+    let none = ap (λ (cs : List Word). length cs) ends.0 in
+    let left = c.loop.invariant.left in
+    let counts = c.loop.invariant.counts in
+    omega (arith, none, left, counts)
+
+pub returns-clause-counts : goal.returns-clause-counts
+returns-clause-counts g c =
+    let counts = c.loop.invariant.counts in
+    let left = c.loop.invariant.left in
+    let most = c.loop.auto.counter-end in
+    let ended = c.loop-test.false in
+    omega (arith, counts, left, most, ended)

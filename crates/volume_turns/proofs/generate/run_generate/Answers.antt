@@ -1,4 +1,4 @@
-use Rattle.std.proofs.Common.{false, true, subst, arith}
+use Rattle.std.proofs.Common.{ℕ, List, false, Some, subst, arith}
 use Rattle.fsd_texts.specs.Text.{fault_text}
 use Rattle.sector_disk.specs.Machine.{Utters}
 use Rattle.sector_disk.specs.Calls.{LeavesDisk}
@@ -7,7 +7,9 @@ use Rattle.fsd_runs.specs.declared.request.Request.TheVariants.{Generate}
 use Rattle.volume_turns.specs.Line.{EndsWith, IsStatusFor, is_unsaid}
 use Rattle.volume_turns.proofs.GenerateLaws.{some_turn}
 use Rattle.volume_turns.proofs.CauseLaws.{tells_mounted, tells_refused}
-use Rattle.volume_turns.proofs.StatusLaws.{counts_after, fault_is_made, mount_counts, mount_of_volume}
+use Rattle.volume_turns.specs.Causes.{SaysMade}
+use Rattle.volume_turns.proofs.NumberLaws.{new_may}
+use Rattle.volume_turns.proofs.StatusLaws.{counts_after, fault_is_made, fault_not_zero, mount_counts, mount_of_volume}
 use Rattle.volume_turns.proofs.WholeLaws.{joined_run, refused_run}
 use Rattle.volume_turns.proofs.LastLaws.{mount_fault}
 use Rattle.volume_turns.proofs.generate.run_generate.Goals as goal
@@ -61,7 +63,7 @@ returns-in-Ok-clause-image g c h =
     let M = g.M.Machine in
     let does = c.generate_on.ensures in
     let back = does.trust.honest h in
-    tells_mounted false true c.args.sectors (g.V.Files.state c.in-Ok.v) (M.now c.args.m.now) (M.now c.generate_on.new.m) c.generate_on.result (M.now c.mount.new.m).said (c.in-Ok.ensures.disk.quiet back) (c.in-Ok.ensures.found back) (λ three. does.says three h) (λ one nine. cc one)
+    tells_mounted false (Some c.args.count) c.args.sectors (g.V.Files.state c.in-Ok.v) (M.now c.args.m.now) (M.now c.generate_on.new.m) c.generate_on.result (M.now c.mount.new.m).said (c.in-Ok.ensures.disk.quiet back) (c.in-Ok.ensures.found back) (λ three. does.says three h) (λ nine. new_may c.args.count (g.V.Files.state c.in-Ok.v) c.in-Ok.ensures.fresh (does.spent nine h))
 
 pub returns-in-Err-clause-image : goal.returns-in-Err-clause-image
 returns-in-Err-clause-image g c h =
@@ -69,7 +71,7 @@ returns-in-Err-clause-image g c h =
     let said = c.end_with.ensures in
     let back = said.says.trust.honest h in
     let why = c.in-Err.ensures in
-    tells_refused false true c.args.sectors c.in-Err.fault c.fault_of.result (M.now c.args.m.now) (M.now c.mount.new.m) (M.now c.end_with.new.m) c.end_with.result c.fault_of.ensures (why.refused back) (why.lost back) (why.unsound back) (why.unchanged back) (why.rest back) (why.disk.quiet back) (said.says.exit h) (said.ends h) said.status
+    tells_refused false (Some c.args.count) c.args.sectors c.in-Err.fault c.fault_of.result (M.now c.args.m.now) (M.now c.mount.new.m) (M.now c.end_with.new.m) c.end_with.result c.fault_of.ensures (why.refused back) (why.lost back) (why.unsound back) (why.unchanged back) (why.rest back) (why.disk.quiet back) (said.says.exit h) (said.ends h) said.status
 
 -- ---- the fault that is said
 
@@ -82,3 +84,14 @@ returns-in-Err-clause-last g c of h =
     let said = c.end_with in
     mount_fault c.in-Err.fault c.fault_of.result (M.report c.args.m.now) (M.report c.mount.new.m) (M.report said.new.m) (M.now c.mount.new.m) (M.now said.new.m) said.result c.fault_of.ensures c.in-Err.ensures.disk.faults
     said.ensures.says.spares.place (said.ensures.ends h) of
+
+-- ---- where all was answered
+
+pub returns-in-Ok-clause-all : goal.returns-in-Ok-clause-all
+returns-in-Ok-clause-all g c zero h =
+    let M = g.M.Machine in
+    let does = c.generate_on.ensures in
+    subst (λ (x : List ℕ). SaysMade c.args.count x (M.now c.generate_on.new.m)) (c.in-Ok.ensures.disk.quiet (does.trust.honest h)) (does.all zero h)
+
+pub returns-in-Err-clause-all : goal.returns-in-Err-clause-all
+returns-in-Err-clause-all g c zero h = absurd (fault_not_zero c.fault_of.result c.end_with.result c.end_with.ensures.status zero)

@@ -21,6 +21,7 @@ use Rattle.volume_turns.specs.Answering.{MayReply}
 use Rattle.volume_turns.proofs.AnsweringLaws.{worn_touches}
 use Rattle.volume_turns.proofs.ToldLaws.{told_so}
 use Rattle.volume_turns.proofs.WornLaws.{look_up_worn}
+use Rattle.volume_turns.proofs.NumberLaws.{goes_none}
 use Rattle.volume_turns.proofs.listing.list.Goals as goal
 
 pub returns-in-Ok-clause-disk : goal.returns-in-Ok-clause-disk
@@ -70,7 +71,7 @@ returns-in-Err-clause-status g c = look_up_ends (λ a. reply_status (reply_of a)
 pub returns-in-Ok-clause-answers : goal.returns-in-Ok-clause-answers
 returns-in-Ok-clause-answers g c h =
     let now = g.M.Machine.now in
-    record { replies = tt; rest = worn_touches nowhere (now c.args.m.now) (now c.collect.new.m) (c.in-Ok.ensures.disk.worn h).image; still = c.in-Ok.ensures.state; worn = λ is. absurd (cc is); told = tt }
+    record { replies = tt; rest = worn_touches nowhere (now c.args.m.now) (now c.collect.new.m) (c.in-Ok.ensures.disk.worn h).image; still = c.in-Ok.ensures.state; worn = λ is. absurd (cc is); numbers = goes_none 1 (g.V.Files.state c.args.v.now) (g.V.Files.state c.collect.new.v) c.in-Ok.ensures.state; told = tt }
 
 pub returns-in-Err-clause-answers : goal.returns-in-Err-clause-answers
 returns-in-Err-clause-answers g c h =
@@ -80,5 +81,6 @@ returns-in-Err-clause-answers g c h =
       rest = worn_touches nowhere (now c.args.m.now) (now c.collect.new.m) (c.in-Err.ensures.disk.worn h).image;
       still = c.in-Err.ensures.state;
       worn = look_up_worn (g.V.Files.state c.args.v.now) c.in-Err.why c.ended_by.result c.ended_by.ensures.is c.in-Err.ensures.refusal;
+      numbers = goes_none 1 (g.V.Files.state c.args.v.now) (g.V.Files.state c.collect.new.v) c.in-Err.ensures.state;
       told = told_so (g.V.Files.state c.args.v.now).layout (now c.collect.new.m).image c.in-Err.why c.ended_by.result c.ended_by.ensures.is (c.in-Err.ensures.told h);
     }

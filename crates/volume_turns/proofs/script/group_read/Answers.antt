@@ -1,14 +1,19 @@
-use Rattle.std.proofs.Common.{◌≡◌, sym, ◌∙◌, arith}
+use Rattle.std.proofs.Common.{◌≡◌, length, sym, ◌∙◌, arith}
 use Rattle.volume_turns.specs.declared.script.Stop.TheVariants.{Ended, WornOut}
 use Rattle.fsd_texts.specs.declared.end.End.TheVariants.{Done}
-use Rattle.volume_turns.proofs.CauseLaws.{passes_on, read_ends}
+use Rattle.fsd_texts.specs.Script.{script_in}
+use Rattle.volume_turns.proofs.CauseLaws.{passes_on, read_ends, read_not_worn}
 use Rattle.volume_turns.proofs.ScriptGroupLaws.{group_broken, group_stopped, group_worn_out, heard_worn}
 use Rattle.volume_turns.proofs.ScriptLaws.{heard_of, heard_then, rose_forced}
 use Rattle.std.proofs.Common.{Ok, ap}
+use Rattle.fsd_texts.specs.declared.fault.Fault.TheVariants as Ends
+use Rattle.volume_turns.specs.declared.turns.End.TheVariants.{Fault as Stopped}
 use Rattle.std.specs.Prelude.{Result}
 use Rattle.volume_turns.specs.declared.turns.End.{End}
 use Rattle.volume_turns.specs.declared.script.Stop.{Stop}
 use Rattle.volume_turns.proofs.LineLaws.{wanting_end, wanting_none, wanting_same}
+use Rattle.volume_turns.proofs.GroupLaws.{worn_is}
+use Rattle.volume_turns.proofs.NumberLaws.{ended, other_end, passed_on, says_forced}
 use Rattle.volume_turns.proofs.SaidLaws.{broken_by, worn_whole}
 use Rattle.volume_turns.proofs.ToldLaws.{told_behind}
 use Rattle.volume_turns.proofs.script.group_read.Goals as goal
@@ -172,3 +177,52 @@ returns-then-is_worn_end-clause-image g c =
 
 pub returns-else-is_worn_end-clause-image : goal.returns-else-is_worn_end-clause-image
 returns-else-is_worn_end-clause-image g c h = c.in-Err.ensures.image h
+
+-- ---- the numbers of a mount
+
+pub returns-in-Ok-clause-used : goal.returns-in-Ok-clause-used
+returns-in-Ok-clause-used g c is h =
+    let V = g.V.Files in
+    let M = g.M.Machine in
+    let done = c.force_read in
+    let m = c.read_all.new.m in
+    let worn : WornOut ≡ c.in-Ok.stop = passed_on c.in-Ok.stop WornOut done.result done.ensures.same is in
+    let reads = c.in-Ok.ensures.reads (done.ensures.trust.tells (g.met.M.Machine.honest_tells done.new.m h)) in
+    absurd (read_not_worn V.state V.holds M g.T.Says.errand c.args.v c.args.m.now c.read_all.new.v m c.in-Ok.stop (sym worn) reads)
+
+pub returns-then-is_worn_end-clause-used : goal.returns-then-is_worn_end-clause-used
+returns-then-is_worn_end-clause-used g c is h =
+    let done = c.force_read-then-is_worn_end in
+    c.in-Err.ensures.used (ap ended (worn_is c.in-Err.end (sym c.is_worn_end.ensures ∙ c.if-is_worn_end.true))) (done.ensures.trust.honest h)
+
+pub returns-else-is_worn_end-clause-used : goal.returns-else-is_worn_end-clause-used
+returns-else-is_worn_end-clause-used g c is h = absurd (cc is)
+
+pub returns-in-Ok-clause-unworn : goal.returns-in-Ok-clause-unworn
+returns-in-Ok-clause-unworn g c is = c.force_read.ensures.unworn is
+
+pub returns-then-is_worn_end-clause-unworn : goal.returns-then-is_worn_end-clause-unworn
+returns-then-is_worn_end-clause-unworn g c is = c.force_read-then-is_worn_end.ensures.unworn is
+
+pub returns-else-is_worn_end-clause-unworn : goal.returns-else-is_worn_end-clause-unworn
+returns-else-is_worn_end-clause-unworn g c is = let e : c.in-Err.end ≡ Stopped Ends.WornOut = cc is in other_end c.in-Err.end (sym c.is_worn_end.ensures ∙ c.if-is_worn_end.false) e
+
+-- ---- what is said where all was done
+
+pub returns-in-Ok-clause-says : goal.returns-in-Ok-clause-says
+returns-in-Ok-clause-says g c end is h =
+    let M = g.M.Machine in
+    let done = c.force_read in
+    let m = c.read_all.new.m in
+    let a = c.args.m.now in
+    let stop = passes_on c.in-Ok.stop end done.result done.ensures.same is in
+    says_forced g.T.Says.errand.says (length (script_in (M.ledger a).input).0) (M.honest done.new.m) (M.now a) (M.now m) (M.now done.new.m) (Ended end) done.result is
+    (c.in-Ok.ensures.replies end (ap (λ (s : Stop). let end : Result Stop End = Ok s in end) stop) (done.ensures.trust.honest h)) done.ensures.says h
+
+pub returns-then-is_worn_end-clause-says : goal.returns-then-is_worn_end-clause-says
+returns-then-is_worn_end-clause-says g c end is h =
+    let done = c.force_read-then-is_worn_end in
+    absurd (let e : WornOut ≡ Ended end = passes_on WornOut end done.result done.ensures.same is in cc e)
+
+pub returns-else-is_worn_end-clause-says : goal.returns-else-is_worn_end-clause-says
+returns-else-is_worn_end-clause-says g c end is h = absurd (cc is)

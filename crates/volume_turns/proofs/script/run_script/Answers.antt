@@ -1,18 +1,20 @@
-use Rattle.std.proofs.Common.{true, ◌≡◌, ℕ, List, false, subst, arith}
+use Rattle.std.proofs.Common.{true, ◌≡◌, ◌+◌, ℕ, List, length, false, None, subst, arith}
 use Rattle.fsd_texts.specs.Text.{fault_text}
 use Rattle.sector_disk.specs.Machine.{Utters}
 use Rattle.volume_turns.specs.Whole.{RunsOut}
 use Rattle.sector_disk.specs.Calls.{LeavesDisk}
 use Rattle.fsd_texts.specs.declared.fault.Fault.{Fault}
 use Rattle.fsd_texts.specs.declared.end.End.TheVariants.{Done}
-use Rattle.fsd_texts.specs.Script.{script_in}
+use Rattle.fsd_texts.specs.Script.{max_input, script_in}
+use Rattle.fsd_runs.specs.Commands.{reply_text}
 use Rattle.fsd_runs.specs.declared.request.Request.TheVariants.{Script}
 use Rattle.volume_turns.specs.Line.{EndsWith, IsStatusFor, is_unsaid}
 use Rattle.volume_turns.proofs.ScriptRunLaws.{some_forced}
 use Rattle.volume_turns.proofs.CauseLaws.{input_since, tells_mounted, tells_refused}
 use Rattle.volume_turns.proofs.StatusLaws.{fault_not_bad, fault_not_zero, fails_behind, fault_not_five, fault_is_script, mount_counts, mount_of_volume, script_counts, script_counts_after}
 use Rattle.volume_turns.proofs.WholeLaws.{joined_run, refused_run}
-use Rattle.volume_turns.specs.Causes.{SaysBadLine}
+use Rattle.volume_turns.specs.Causes.{SaysBadLine, SaysForced}
+use Rattle.volume_turns.proofs.NumberLaws.{new_may}
 use Rattle.volume_turns.proofs.LastLaws.{mount_fault}
 use Rattle.volume_turns.proofs.script.run_script.Goals as goal
 
@@ -71,7 +73,7 @@ returns-in-Ok-clause-image g c h =
     let M = g.M.Machine in
     let does = c.script_on.ensures in
     let back = does.trust.honest h in
-    tells_mounted true true c.args.sectors (g.V.Files.state c.in-Ok.v) (M.now c.args.m.now) (M.now c.script_on.new.m) c.script_on.result (M.now c.mount.new.m).said (c.in-Ok.ensures.disk.quiet back) (c.in-Ok.ensures.found back) (λ three. does.says three h) (λ one nine. cc one)
+    tells_mounted true None c.args.sectors (g.V.Files.state c.in-Ok.v) (M.now c.args.m.now) (M.now c.script_on.new.m) c.script_on.result (M.now c.mount.new.m).said (c.in-Ok.ensures.disk.quiet back) (c.in-Ok.ensures.found back) (λ three. does.says three h) (λ nine. let many = new_may (max_input + 1) (g.V.Files.state c.in-Ok.v) c.in-Ok.ensures.fresh (does.spent nine h) in omega (arith, many))
 
 pub returns-in-Err-clause-image : goal.returns-in-Err-clause-image
 returns-in-Err-clause-image g c h =
@@ -79,7 +81,7 @@ returns-in-Err-clause-image g c h =
     let said = c.end_with.ensures in
     let back = said.says.trust.honest h in
     let why = c.in-Err.ensures in
-    tells_refused true true c.args.sectors c.in-Err.fault c.fault_of.result (M.now c.args.m.now) (M.now c.mount.new.m) (M.now c.end_with.new.m) c.end_with.result c.fault_of.ensures (why.refused back) (why.lost back) (why.unsound back) (why.unchanged back) (why.rest back) (why.disk.quiet back) (said.says.exit h) (said.ends h) said.status
+    tells_refused true None c.args.sectors c.in-Err.fault c.fault_of.result (M.now c.args.m.now) (M.now c.mount.new.m) (M.now c.end_with.new.m) c.end_with.result c.fault_of.ensures (why.refused back) (why.lost back) (why.unsound back) (why.unchanged back) (why.rest back) (why.disk.quiet back) (said.says.exit h) (said.ends h) said.status
 
 -- ---- the input
 
@@ -148,3 +150,20 @@ returns-in-Ok-clause-fails g c five h =
 
 pub returns-in-Err-clause-fails : goal.returns-in-Err-clause-fails
 returns-in-Err-clause-fails g c five h = absurd (fault_not_five c.fault_of.result c.end_with.result (mount_of_volume c.in-Err.fault c.fault_of.result c.fault_of.ensures) c.end_with.ensures.status five)
+
+-- ---- where all was answered
+
+pub returns-in-Ok-clause-all : goal.returns-in-Ok-clause-all
+returns-in-Ok-clause-all g c zero h =
+    let M = g.M.Machine in
+    let does = c.script_on.ensures in
+    let m = c.mount.new.m in
+    let b = c.script_on.new.m in
+    let disk = c.in-Ok.ensures.disk in
+    let back = does.trust.honest h in
+    let same = (disk.ledger (g.met.M.Machine.honest_tells m back)).input in
+    subst (λ (x : List ℕ). SaysForced reply_text (length (script_in (M.ledger c.args.m.now).input).0) x (M.now b)) (disk.quiet back)
+    (subst (λ (x : List ℕ). SaysForced reply_text (length (script_in x).0) (M.now m).said (M.now b)) same (does.all zero h))
+
+pub returns-in-Err-clause-all : goal.returns-in-Err-clause-all
+returns-in-Err-clause-all g c zero h = absurd (fault_not_zero c.fault_of.result c.end_with.result c.end_with.ensures.status zero)

@@ -1,10 +1,13 @@
-use Rattle.std.proofs.Common.{List, ℕ, true, refl, [], ◌∷◌, ◌++◌, inl, inr, Some, Ok, Err, sym, ◌∙◌, ap, subst, arith}
+use Rattle.std.proofs.Common.{List, ℕ, true, refl, [], ◌∷◌, ◌++◌, length, inl, inr, Some, Ok, Err, sym, ◌∙◌, ap, subst, arith}
 use Rattle.std.specs.Prelude.{Result}
 use Rattle.sector_disk.specs.Machine.{Ledger, Rose}
 use Rattle.fsd_texts.specs.declared.bad_line.BadLine.{BadLine}
 use Rattle.fsd_texts.specs.declared.end.End.{End as ScriptEnd}
 use Rattle.fsd_texts.specs.declared.end.End.TheVariants.{Bad, Done, TooLong}
+use Rattle.fsd_texts.specs.declared.fault.Fault.{Fault}
 use Rattle.fsd_texts.specs.declared.fault.Fault.TheVariants as Ends
+use Rattle.volume_turns.specs.declared.turns.End.TheVariants.{Fault as Stopped}
+use Rattle.volume_turns.specs.Causes.{SaysForced}
 use Rattle.fsd_texts.specs.declared.line.Line.TheVariants as Says
 use Rattle.fsd_texts.specs.Script.{script_in}
 use Rattle.fsd_runs.specs.Errands.{line_turn}
@@ -20,7 +23,9 @@ use Rattle.volume_turns.proofs.ScriptRunLaws.{runs_either, runs_ended, runs_fail
 use Rattle.volume_turns.proofs.CauseLaws.{call_says, long_input, says_bad, says_input}
 use Rattle.volume_turns.proofs.StatusLaws.{fault_not_bad, fault_not_zero, fault_not_five, not_as, call_of_volume, bad_is_script, fault_is_script, input_is_script, script_done_counts, script_fault_counts, script_line_counts, script_unsaid_counts, worn_is_script}
 use Rattle.fsd_texts.specs.Script.{max_input}
+use Rattle.volume_turns.proofs.WornLaws.{status_worn}
 use Rattle.volume_turns.proofs.LastLaws.{ends_fault, line_other, told_place}
+use Rattle.volume_turns.proofs.NumberLaws.{ended}
 use Rattle.volume_turns.proofs.script.script_on.Goals as goal
 
 pub returns-in-Ok-Ended-Done-clause-runs : goal.returns-in-Ok-Ended-Done-clause-runs
@@ -442,3 +447,56 @@ returns-in-Err-Fault-clause-fails g c five h =
 
 pub returns-in-Err-Output-clause-fails : goal.returns-in-Err-Output-clause-fails
 returns-in-Err-Output-clause-fails g c five h = absurd (omega (arith, five))
+
+-- ---- the numbers of a mount
+
+pub returns-in-Ok-WornOut-clause-spent : goal.returns-in-Ok-WornOut-clause-spent
+returns-in-Ok-WornOut-clause-spent g c nine h = c.in-Ok-WornOut.ensures.used (ap come_to c.in-Ok-WornOut.field-0-is) (c.last_line-in-Ok-WornOut.ensures.says.trust.honest h)
+
+pub returns-in-Err-Fault-clause-spent : goal.returns-in-Err-Fault-clause-spent
+returns-in-Err-Fault-clause-spent g c nine h =
+    let x = c.in-Err-Fault in
+    absurd (x.ensures.unworn (ap ended (x.field-0-is ∙ ap (λ (w : Fault). Stopped w) (status_worn x.why c.end_with.result c.end_with.ensures.status nine))))
+
+pub returns-in-Err-Output-clause-spent : goal.returns-in-Err-Output-clause-spent
+returns-in-Err-Output-clause-spent g c nine h = absurd (omega (arith, nine))
+
+pub returns-in-Ok-Ended-Done-clause-spent : goal.returns-in-Ok-Ended-Done-clause-spent
+returns-in-Ok-Ended-Done-clause-spent g c nine h = absurd (omega (arith, nine))
+
+pub returns-in-Ok-Ended-Bad-clause-spent : goal.returns-in-Ok-Ended-Bad-clause-spent
+returns-in-Ok-Ended-Bad-clause-spent g c nine h = absurd (not_as 9 2 c.last_line.result (λ e. omega (arith, e)) (λ e. omega (arith, e)) c.last_line.ensures.status nine)
+
+pub returns-in-Ok-Ended-TooLong-clause-spent : goal.returns-in-Ok-Ended-TooLong-clause-spent
+returns-in-Ok-Ended-TooLong-clause-spent g c nine h = absurd (not_as 9 5 c.last_line-in-Ok-Ended-TooLong.result (λ e. omega (arith, e)) (λ e. omega (arith, e)) c.last_line-in-Ok-Ended-TooLong.ensures.status nine)
+
+pub returns-in-Ok-Input-clause-spent : goal.returns-in-Ok-Input-clause-spent
+returns-in-Ok-Input-clause-spent g c nine h = absurd (not_as 9 5 c.last_line-in-Ok-Input.result (λ e. omega (arith, e)) (λ e. omega (arith, e)) c.last_line-in-Ok-Input.ensures.status nine)
+
+-- ---- where all was answered
+
+pub returns-in-Ok-Ended-Done-clause-all : goal.returns-in-Ok-Ended-Done-clause-all
+returns-in-Ok-Ended-Done-clause-all g c zero h =
+    let M = g.M.Machine in
+    let a = c.args.m.now in
+    let x = c.in-Ok-Ended-Done in
+    subst (λ (says : Reply → List ℕ). SaysForced says (length (script_in (M.ledger a).input).0) (M.now a).said (M.now c.group_read.new.m)) c.requires.says
+    (x.ensures.says Done (ap come_to (x.field-0-is ∙ ap (λ (y : ScriptEnd). Ended y) x.field-0-0-is)) h)
+
+pub returns-in-Err-Fault-clause-all : goal.returns-in-Err-Fault-clause-all
+returns-in-Err-Fault-clause-all g c zero h = absurd (fault_not_zero c.in-Err-Fault.why c.end_with.result c.end_with.ensures.status zero)
+
+pub returns-in-Err-Output-clause-all : goal.returns-in-Err-Output-clause-all
+returns-in-Err-Output-clause-all g c zero h = absurd (omega (arith, zero))
+
+pub returns-in-Ok-Ended-Bad-clause-all : goal.returns-in-Ok-Ended-Bad-clause-all
+returns-in-Ok-Ended-Bad-clause-all g c zero h = absurd (not_as 0 2 c.last_line.result (λ e. omega (arith, e)) (λ e. omega (arith, e)) c.last_line.ensures.status zero)
+
+pub returns-in-Ok-Ended-TooLong-clause-all : goal.returns-in-Ok-Ended-TooLong-clause-all
+returns-in-Ok-Ended-TooLong-clause-all g c zero h = absurd (not_as 0 5 c.last_line-in-Ok-Ended-TooLong.result (λ e. omega (arith, e)) (λ e. omega (arith, e)) c.last_line-in-Ok-Ended-TooLong.ensures.status zero)
+
+pub returns-in-Ok-Input-clause-all : goal.returns-in-Ok-Input-clause-all
+returns-in-Ok-Input-clause-all g c zero h = absurd (not_as 0 5 c.last_line-in-Ok-Input.result (λ e. omega (arith, e)) (λ e. omega (arith, e)) c.last_line-in-Ok-Input.ensures.status zero)
+
+pub returns-in-Ok-WornOut-clause-all : goal.returns-in-Ok-WornOut-clause-all
+returns-in-Ok-WornOut-clause-all g c zero h = absurd (not_as 0 9 c.last_line-in-Ok-WornOut.result (λ e. omega (arith, e)) (λ e. omega (arith, e)) c.last_line-in-Ok-WornOut.ensures.status zero)

@@ -1,11 +1,16 @@
-use Rattle.std.proofs.Common.{subst}
+use Rattle.std.proofs.Common.{◌≡◌, ap, subst}
+use Rattle.std.specs.Prelude.{Err}
+use Rattle.fsd_texts.specs.declared.fault.Fault.{Fault}
+use Rattle.fsd_texts.specs.declared.fault.Fault.TheVariants as Ends
 use Rattle.sector_disk.specs.Image.{AreShort, Windows}
 use Rattle.volume_turns.specs.Steps.{reply_of}
 use Rattle.volume_turns.specs.Turns.{SaysAll, Unsaid}
 use Rattle.volume_turns.proofs.RunLaws.{step_said, step_fault, told_fault, on_ok_said, on_err_said}
 use Rattle.volume_turns.proofs.AnsweringLaws.{says_so}
-use Rattle.volume_turns.proofs.SaidLaws.{no_replies, whole_by}
+use Rattle.volume_turns.proofs.SaidLaws.{no_replies, once_by, whole_by}
 use Rattle.volume_turns.proofs.ToldLaws.{unsaid_on}
+use Rattle.volume_turns.proofs.WornLaws.{unsaid_unworn}
+use Rattle.volume_turns.proofs.NumberLaws.{worn_may}
 use Rattle.volume_turns.proofs.turns.step.Goals as goal
 
 pub returns-in-Ok-clause-steps : goal.returns-in-Ok-clause-steps
@@ -54,6 +59,13 @@ returns-in-Ok-clause-whole_replies g c h =
 pub returns-in-Err-clause-whole_replies : goal.returns-in-Err-clause-whole_replies
 returns-in-Err-clause-whole_replies g c h = no_replies g.T.Says.errand.says (g.M.Machine.now c.args.m.now).said (g.M.Machine.now c.answer.new.m).said (c.in-Err.ensures.disk.quiet h)
 
+pub returns-in-Ok-clause-once : goal.returns-in-Ok-clause-once
+returns-in-Ok-clause-once g c =
+    let M = g.M.Machine in
+    let m = c.answer.new.m in
+    let b = c.say.new.m in
+    once_by g.T.Says.errand.says (reply_of c.in-Ok.answer) (M.honest b) (M.honest m) (M.now c.args.m.now) (M.now m) (M.now b) c.say.ensures.trust.honest c.in-Ok.ensures.disk.quiet c.say.result c.say.ensures.said
+
 -- ---- what is told of the image
 
 pub returns-in-Ok-clause-image : goal.returns-in-Ok-clause-image
@@ -64,3 +76,22 @@ returns-in-Ok-clause-image g c =
 
 pub returns-in-Err-clause-image : goal.returns-in-Err-clause-image
 returns-in-Err-clause-image g c h = (c.in-Err.ensures.answers h).told
+
+-- ---- the numbers of a mount
+
+pub returns-in-Ok-clause-grows : goal.returns-in-Ok-clause-grows
+returns-in-Ok-clause-grows g c h = (c.answer.ensures.answers (c.say.ensures.trust.honest h)).numbers
+
+pub returns-in-Err-clause-grows : goal.returns-in-Err-clause-grows
+returns-in-Err-clause-grows g c h = (c.answer.ensures.answers h).numbers
+
+pub returns-in-Ok-clause-used : goal.returns-in-Ok-clause-used
+returns-in-Ok-clause-used g c is h =
+    let m = g.M.Machine.now c.answer.new.m in
+    let b = g.M.Machine.now c.say.new.m in
+    absurd (unsaid_unworn m b c.say.result (on_err_said (Unsaid m b) c.say.result h c.say.ensures.unsaid) is)
+
+pub returns-in-Err-clause-used : goal.returns-in-Err-clause-used
+returns-in-Err-clause-used g c is h =
+    let e : c.in-Err.fault ≡ Ends.WornOut = cc is in
+    worn_may (g.V.Files.state c.args.v.now) ((c.in-Err.ensures.answers h).worn (ap (λ (w : Fault). Err w) e))

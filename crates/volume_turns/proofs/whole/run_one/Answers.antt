@@ -1,4 +1,4 @@
-use Rattle.std.proofs.Common.{false, [], subst, arith}
+use Rattle.std.proofs.Common.{false, None, [], subst, arith}
 use Rattle.fsd_texts.specs.Text.{fault_text}
 use Rattle.sector_disk.specs.Machine.{Utters}
 use Rattle.sector_disk.specs.Calls.{LeavesDisk}
@@ -61,7 +61,7 @@ returns-in-Ok-clause-image g c h =
     let M = g.M.Machine in
     let does = c.one_on.ensures in
     let back = does.trust.honest h in
-    tells_mounted false false c.args.sectors (g.V.Files.state c.in-Ok.v) (M.now c.args.m.now) (M.now c.one_on.new.m) c.one_on.result (M.now c.mount.new.m).said (c.in-Ok.ensures.disk.quiet back) (c.in-Ok.ensures.found back) (λ three. does.says three h) (λ one nine. does.unspent nine h)
+    tells_mounted false None c.args.sectors (g.V.Files.state c.in-Ok.v) (M.now c.args.m.now) (M.now c.one_on.new.m) c.one_on.result (M.now c.mount.new.m).said (c.in-Ok.ensures.disk.quiet back) (c.in-Ok.ensures.found back) (λ three. does.says three h) (λ nine. does.unspent nine h)
 
 pub returns-in-Err-clause-image : goal.returns-in-Err-clause-image
 returns-in-Err-clause-image g c h =
@@ -69,7 +69,7 @@ returns-in-Err-clause-image g c h =
     let said = c.end_with.ensures in
     let back = said.says.trust.honest h in
     let why = c.in-Err.ensures in
-    tells_refused false false c.args.sectors c.in-Err.fault c.fault_of.result (M.now c.args.m.now) (M.now c.mount.new.m) (M.now c.end_with.new.m) c.end_with.result c.fault_of.ensures (why.refused back) (why.lost back) (why.unsound back) (why.unchanged back) (why.rest back) (why.disk.quiet back) (said.says.exit h) (said.ends h) said.status
+    tells_refused false None c.args.sectors c.in-Err.fault c.fault_of.result (M.now c.args.m.now) (M.now c.mount.new.m) (M.now c.end_with.new.m) c.end_with.result c.fault_of.ensures (why.refused back) (why.lost back) (why.unsound back) (why.unchanged back) (why.rest back) (why.disk.quiet back) (said.says.exit h) (said.ends h) said.status
 
 -- ---- the fault that is said
 
