@@ -5,10 +5,10 @@ use std::alloc::{AllocError, Global};
 use table_volume::Volume;
 
 /// An event that never comes.
-pub const NEVER: Event = Event::FailCall { call: 0, stand: 0 };
+pub(crate) const NEVER: Event = Event::FailCall { call: 0, stand: 0 };
 
 /// The sector is damaged once the run has attached the image, which drops a window that was named and not settled.
-pub fn hurt(sector: u32) -> Event {
+pub(crate) fn hurt(sector: u32) -> Event {
     Event::HurtAt {
         sector,
         when: When::Call(2),
@@ -16,7 +16,7 @@ pub fn hurt(sector: u32) -> Event {
 }
 
 /// The sector is damaged just before the mount settles.
-pub fn hurt_late(sector: u32) -> Event {
+pub(crate) fn hurt_late(sector: u32) -> Event {
     Event::HurtAt {
         sector,
         when: When::Settle,
@@ -24,13 +24,17 @@ pub fn hurt_late(sector: u32) -> Event {
 }
 
 /// A machine over this image, on which nothing wears.
-pub fn calm(alloc: Global, image: Vec<Sector>) -> MemoryMachine {
+pub(crate) fn calm(alloc: Global, image: Vec<Sector>) -> MemoryMachine {
     let runs = Vec::new(alloc);
     MemoryMachine::with_runs(alloc, image, runs, Vec::new(alloc), Vec::new(alloc))
 }
 
 /// A machine over this image. The first pair may wear at first, each mount names the next, and the last one stays.
-pub fn weak(alloc: Global, image: &[Sector], pairs: [u32; 3]) -> Result<MemoryMachine, AllocError> {
+pub(crate) fn weak(
+    alloc: Global,
+    image: &[Sector],
+    pairs: [u32; 3],
+) -> Result<MemoryMachine, AllocError> {
     let mut runs = Vec::new(alloc);
     for first in pairs {
         runs.push(WeakRun { first, count: 2 })?;
@@ -40,7 +44,7 @@ pub fn weak(alloc: Global, image: &[Sector], pairs: [u32; 3]) -> Result<MemoryMa
 }
 
 /// One line over what the machine has, and its status.
-pub fn run(
+pub(crate) fn run(
     alloc: Global,
     m: MemoryMachine,
     events: &[Event],
@@ -54,10 +58,10 @@ pub fn run(
 }
 
 /// A line, its input, and the status and the text with which it ends.
-pub type Row<'a> = (&'a str, &'a [u8], u8, &'a str);
+pub(crate) type Row<'a> = (&'a str, &'a [u8], u8, &'a str);
 
 /// These lines one after another, and the first that ends otherwise.
-pub fn first_wrong(
+pub(crate) fn first_wrong(
     alloc: Global,
     m: MemoryMachine,
     rows: &[Row],
@@ -75,14 +79,14 @@ pub fn first_wrong(
 }
 
 /// An empty volume, as this line formats it.
-pub fn formatted(alloc: Global, line: &str) -> Result<Vec<Sector>, AllocError> {
+pub(crate) fn formatted(alloc: Global, line: &str) -> Result<Vec<Sector>, AllocError> {
     let m = calm(alloc, Vec::new(alloc));
     let (m, _) = run(alloc, m, &[], line, b"")?;
     m.image().to_vec(alloc)
 }
 
 /// The words of a line.
-pub fn words_of(alloc: Global, line: &str) -> Result<Vec<String>, AllocError> {
+pub(crate) fn words_of(alloc: Global, line: &str) -> Result<Vec<String>, AllocError> {
     let mut words = Vec::new(alloc);
     for word in line.split(' ') {
         words.push(String::from_str(alloc, word)?)?;

@@ -34,7 +34,7 @@ fn waiting<M: Machine>(alloc: Global, m: &mut M, log: &Log, page: u32) -> Option
 }
 
 /// Forces this page alone, free; nothing is answered where it can't be read, memory is short or the log has no number more.
-pub fn force_page<M: Machine>(
+pub(crate) fn force_page<M: Machine>(
     alloc: Global,
     m: &mut M,
     log: &mut Log,

@@ -14,7 +14,7 @@ use name_btree::{
 use name_page::{Entry, Pages, entry_len};
 
 /// The entry that a call has found, with the page of its leaf.
-pub type Answer = Result<Option<(Entry, u32)>, TreeFault>;
+pub(crate) type Answer = Result<Option<(Entry, u32)>, TreeFault>;
 
 fn with_page(found: Option<FoundEntry>) -> Option<(Entry, u32)> {
     found.map(|f| (f.entry, f.page))

@@ -38,7 +38,7 @@ impl Seen {
 }
 
 /// The bytes of each page, if it may be reached.
-pub type Images = Vec<Option<[u8; 512]>>;
+pub(crate) type Images = Vec<Option<[u8; 512]>>;
 
 fn count(times: &mut u32) {
     *times = times.wrapping_add(1);

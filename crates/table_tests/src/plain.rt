@@ -10,7 +10,7 @@ use name_page::Entry;
 use run_table::{Run, Runs};
 use std::collections::BTreeMap;
 
-pub type Versions = BTreeMap<Key, Entry>;
+pub(crate) type Versions = BTreeMap<Key, Entry>;
 
 /// The next number of a fixed sequence.
 pub(crate) fn next(seed: &mut u64) -> u32 {
