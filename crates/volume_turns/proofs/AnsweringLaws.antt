@@ -272,6 +272,11 @@ closed_by s text a m b r windows same rest still ages says unworn told = record 
 
 -- ---- one command
 
+-- what may be replied may be so still
+pub may_worn : (command : Command) (a b : Moment) (reply : Reply) → Touches nowhere a b → MayReply command a.image reply → MayReply command b.image reply
+may_worn (Word.Get key) a b (Reply.DamagedAt k n) quiet may = (may.0, stays_damaged a b n quiet may.1)
+may_worn command a b reply quiet may = may
+
 -- a sector that is told stays damaged
 may_later : (command : Command) (s t : State) (a b : Moment) (reply : Reply) → KeepsState command s t → s.dirty ≡ [] → (t.dirty ≡ [] → Touches nowhere a b) → MayReply command a.image reply → MayReply command b.image reply
 may_later (Word.Get key) s t a b (Reply.DamagedAt k n) still none quiet may = (may.0, stays_damaged a b n (quiet (ap (λ (x : State). x.dirty) still ∙ none)) may.1)

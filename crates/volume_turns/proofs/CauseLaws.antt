@@ -12,9 +12,7 @@ use Rattle.fsd_sound.specs.declared.fault.MountFault.TheVariants as Refused
 use Rattle.fsd_texts.specs.declared.bad_line.Cause.{Cause}
 use Rattle.fsd_texts.specs.declared.command.Command.{Command}
 use Rattle.fsd_texts.specs.declared.end.End.{End as ScriptEnd}
-use Rattle.fsd_texts.specs.declared.end.End.TheVariants.{Bad, Done, TooLong}
-use Rattle.fsd_texts.specs.declared.bad_line.BadLine.{BadLine}
-use Rattle.fsd_texts.specs.declared.line.Line.TheVariants as Says
+use Rattle.fsd_texts.specs.declared.end.End.TheVariants.{Done, TooLong}
 use Rattle.fsd_texts.specs.declared.fault.Fault.{Fault}
 use Rattle.fsd_texts.specs.declared.fault.Fault.TheVariants as Ends
 use Rattle.fsd_texts.specs.Script.{Script, command_at, commands_from, max_input, needs_more, script_from, script_in, then_more}
@@ -29,8 +27,9 @@ use Rattle.volume_contract.specs.State.{State}
 use Rattle.volume_turns.specs.declared.script.Stop.{Stop}
 use Rattle.volume_turns.specs.declared.script.Stop.TheVariants.{Ended, WornOut}
 use Rattle.volume_turns.specs.declared.turns.End.{End}
-use Rattle.volume_turns.specs.Causes.{HasSpent, HasVolume, IsOfInput, SaysBadLine, SaysOfCall, SaysOfImage, SaysOfInput, StandsBefore, TellsImage, is_of_mounted}
-use Rattle.volume_turns.specs.Line.{EndsLast, EndsWith, IsStatusFor}
+use Rattle.volume_turns.specs.Causes.{HasSpent, HasVolume, IsOfInput, SaysOfCall, SaysOfImage, SaysOfInput, StandsBefore, TellsImage, is_of_mounted}
+use Rattle.volume_turns.specs.Each.{SaysBetween}
+use Rattle.volume_turns.specs.Line.{EndsWith, IsStatusFor}
 use Rattle.volume_turns.specs.Once.{fault_of}
 use Rattle.volume_turns.specs.Script.{Reads, WholeRead}
 use Rattle.volume_turns.proofs.SaidLaws.{no_replies}
@@ -195,16 +194,11 @@ read_ends state has M e old a new b stop end x is =
     let all : WholeRead state has M e old a new b (Ok (Ended end)) = subst (λ (s : Stop). WholeRead state has M e old a new b (Ok s)) is x in
     all.reads.0
 
--- as many commands were given as it has
-pub read_given : {S D : Type 0} (state : S → State) (has : S → Mounted → List Placed → Type 0) (M : Ghosts D) (e : Errand) (last : Reading) (old : S) (a : D) (new : S) (b : D) (stop : Stop) (end : ScriptEnd) → Reads state has M e fresh last old a new b (Ok (Some stop)) → stop ≡ Ended end → last.given ≡ fresh.given + length (script_in (M.ledger a).input).0
-read_given state has M e last old a new b stop end x is =
+-- for each of its commands a reply is said
+pub read_says : {S D : Type 0} (state : S → State) (has : S → Mounted → List Placed → Type 0) (M : Ghosts D) (e : Errand) (last : Reading) (old : S) (a : D) (new : S) (b : D) (stop : Stop) (end : ScriptEnd) → Reads state has M e fresh last old a new b (Ok (Some stop)) → stop ≡ Ended end → SaysBetween M e.says (script_in (M.ledger a).input).0 a b
+read_says state has M e last old a new b stop end x is =
     let all : Reads state has M e fresh last old a new b (Ok (Some (Ended end))) = subst (λ (s : Stop). Reads state has M e fresh last old a new b (Ok (Some s))) is x in
     all.2
-
--- a bad line is said whole at its status
-pub says_bad : (input : List ℕ) (bad : BadLine) (old new : Moment) (status : ℕ) → (script_in input).1 ≡ Bad bad → EndsLast (Says.Bad bad) 2 old new status → status ≡ 2 → SaysBadLine input new
-says_bad input bad old new status is (inl six) two = absurd (omega (arith, six, two))
-says_bad input bad old new status is (inr (gives, all)) two = record { bad = bad; ends = is; front = old.said; said = all.said }
 
 -- ---- an input that is taken to its end
 

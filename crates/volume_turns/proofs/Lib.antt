@@ -1,6 +1,7 @@
 pub mod AnsweringLaws
 pub mod CauseLaws
 pub mod CountLaws
+pub mod EachLaws
 pub mod GenerateLaws
 pub mod GroupEndLaws
 pub mod GroupLaws

@@ -7,7 +7,6 @@ use Rattle.fsd_bytes.specs.declared.refusal.Refusal.TheVariants as Why
 use Rattle.fsd_formats.specs.NamePage.{sectors_for}
 use Rattle.fsd_log.specs.Scan.{Head}
 use Rattle.sector_disk.specs.Machine.{Moment}
-use Rattle.fsd_files.specs.Replies.{Reply}
 use Rattle.fsd_runs.specs.Errands.{forced_turn}
 use Rattle.fsd_runs.specs.Runs.{last_count}
 use Rattle.fsd_texts.specs.declared.fault.Fault.TheVariants as Ends
@@ -17,12 +16,12 @@ use Rattle.volume_contract.specs.Order.{Step, Test, Asks, Draw, Disk, Force, Loo
 use Rattle.volume_contract.specs.State.{HasCounted, IsDownAt, IsForced, IsNew, State, enters_again, forces_first, forces_for_place, is_worn, moved_on, numbered}
 use Rattle.volume_turns.specs.declared.turns.End.{End}
 use Rattle.volume_turns.specs.declared.turns.End.TheVariants.{Fault as Stopped, Output}
-use Rattle.volume_turns.specs.Causes.{SaysForced, SaysMade}
+use Rattle.volume_turns.specs.Causes.{SaysMade}
 use Rattle.volume_turns.specs.Group.{is_worn_end}
 use Rattle.volume_turns.specs.Line.{EndsLast}
 use Rattle.volume_turns.specs.Numbers.{GoesUp, MayWear}
 use Rattle.volume_turns.specs.Tally.{Counting, counting_line}
-use Rattle.volume_turns.specs.Turns.{SaysAll, SaysSome}
+use Rattle.volume_turns.specs.Turns.{SaysAll}
 
 -- ---- a call that has ended
 
@@ -194,11 +193,6 @@ output_unworn {T = T} r only is = let no : Stopped Ends.WornOut ≡ Output = sub
 -- what is passed on
 pub passed_on : {T : Type 0} (x y : T) (r : Result T End) → IfOk r (λ z. z ≡ x) → r ≡ Ok y → y ≡ x
 passed_on {T = T} x y r same is = subst (λ (z : Result T End). IfOk z (λ w. w ≡ x)) is same
-
--- behind so many replies it is said that all is forced
-pub says_forced : {T : Type 0} (says : Reply → List ℕ) (many : ℕ) (H : Type 0) (a m b : Moment) (x : T) (r : Result T End) → r ≡ Ok x → SaysSome says many a.said m.said → OnOk r (H → b.said ≡ m.said ++ forced_turn.said) → H → SaysForced says many a.said b
-says_forced says many H a m b x (Ok y) is whole said h = record { front = m.said; whole = whole; said = said h }
-says_forced says many H a m b x (Err end) is whole said h = absurd (cc is)
 
 pub forced_behind : {T : Type 0} (H K : Type 0) (a m b : Moment) → (H → K) → (K → m.said ≡ a.said) → (r : Result T End) → OnOk r (H → b.said ≡ m.said ++ forced_turn.said) → OnOk r (H → b.said ≡ a.said ++ forced_turn.said)
 forced_behind H K a m b back same (Ok x) said = λ h. said h ∙ ap (λ (y : List ℕ). y ++ forced_turn.said) (same (back h))

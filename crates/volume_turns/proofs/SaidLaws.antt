@@ -1,17 +1,15 @@
 -- What commands one after another have said, whatever the image.
-use Rattle.std.proofs.Common.{◌≡◌, ℕ, ◌+◌, true, List, [], ◌∷◌, ◌++◌, length-append, refl, sym, ◌∙◌, ap, subst, arith}
-use Rattle.std.specs.Prelude.{OnOk, Result, Ok, Err}
+use Rattle.std.proofs.Common.{◌≡◌, ℕ, true, List, [], ◌∷◌, ◌++◌, refl, sym, ◌∙◌, ap}
+use Rattle.std.specs.Prelude.{Result, Ok, Err}
 use Rattle.std.specs.List.{flat_map}
 use Rattle.std.proofs.lemmas.List.{append-nil, append_assoc}
 use Rattle.sector_disk.specs.Machine.{Moment}
 use Rattle.fsd_files.specs.Replies.{Reply}
-use Rattle.script_text.specs.Reading.{Reading}
 use Rattle.volume_turns.specs.declared.turns.End.{End}
 use Rattle.volume_turns.specs.declared.turns.End.TheVariants.{Fault as Stopped, Output}
 use Rattle.volume_turns.specs.Answering.{SaysBy}
 use Rattle.volume_turns.specs.Group.{is_worn_end}
-use Rattle.volume_turns.specs.Script.{SaysGiven}
-use Rattle.volume_turns.specs.Turns.{BreaksWhole, EndsWhole, KeepsEnd, KeepsSaid, SaysAll, SaysReplies, SaysSome, SaysWhole}
+use Rattle.volume_turns.specs.Turns.{BreaksWhole, EndsWhole, KeepsEnd, KeepsSaid, SaysReplies, SaysWhole}
 
 -- ---- replies
 
@@ -25,46 +23,11 @@ no_replies says before after same = ([], same ∙ sym (append-nil before))
 one_reply : (says : Reply → List ℕ) (reply : Reply) (before after : List ℕ) → after ≡ before ++ says reply → SaysReplies says before after
 one_reply says reply before after said = (reply ∷ [], said ∙ ap (λ (x : List ℕ). before ++ x) (sym (append-nil (says reply))))
 
-flat_then : (says : Reply → List ℕ) (xs ys : List Reply) (a b c : List ℕ) → b ≡ a ++ flat_map says xs → c ≡ b ++ flat_map says ys → c ≡ a ++ flat_map says (xs ++ ys)
+pub flat_then : (says : Reply → List ℕ) (xs ys : List Reply) (a b c : List ℕ) → b ≡ a ++ flat_map says xs → c ≡ b ++ flat_map says ys → c ≡ a ++ flat_map says (xs ++ ys)
 flat_then says xs ys a b c first then = then ∙ ap (λ (x : List ℕ). x ++ flat_map says ys) first ∙ append_assoc a (flat_map says xs) (flat_map says ys) ∙ ap (λ (x : List ℕ). a ++ x) (sym (flat_append says xs ys))
 
 pub replies_then : (says : Reply → List ℕ) (a b c : List ℕ) → SaysReplies says a b → SaysReplies says b c → SaysReplies says a c
 replies_then says a b c (xs, first) (ys, then) = (xs ++ ys, flat_then says xs ys a b c first then)
-
--- ---- how many
-
-some_none : (says : Reply → List ℕ) (before after : List ℕ) → after ≡ before → SaysSome says 0 before after
-some_none says before after same = record { replies = []; count = refl; said = same ∙ sym (append-nil before) }
-
-some_one : (says : Reply → List ℕ) (reply : Reply) (before after : List ℕ) → after ≡ before ++ says reply → SaysSome says 1 before after
-some_one says reply before after said = record { replies = reply ∷ []; count = refl; said = said ∙ ap (λ (x : List ℕ). before ++ x) (sym (append-nil (says reply))) }
-
-some_then : (says : Reply → List ℕ) (n k : ℕ) (a b c : List ℕ) → SaysSome says n a b → SaysSome says k b c → SaysSome says (n + k) a c
-some_then says n k a b c x y = record {
-  replies = x.replies ++ y.replies;
-  count = let p = x.count in let q = y.count in let sum = length-append x.replies y.replies in omega (arith, p, q, sum);
-  said = flat_then says x.replies y.replies a b c x.said y.said;
-}
-
-pub once_by : (says : Reply → List ℕ) (reply : Reply) (H K : Type 0) (a m b : Moment) → (H → K) → (K → m.said ≡ a.said) → (r : Result (Unit {0}) End) → OnOk r (H → SaysAll (says reply) m b) → OnOk r (H → SaysSome says 1 a.said b.said)
-once_by says reply H K a m b back same (Ok x) all = λ h. some_one says reply a.said b.said ((all h).said ∙ ap (λ (y : List ℕ). y ++ says reply) (same (back h)))
-once_by says reply H K a m b back same (Err end) all = tt
-
-module _ (says : Reply → List ℕ) where
-  pub given_none : (r s : Reading) (before after : List ℕ) → s.given ≡ r.given + 0 → after ≡ before → SaysGiven says r s before after
-  given_none r s before after given same = record { many = 0; given = given; some = some_none says before after same }
-
-  pub given_one : (r s : Reading) (a m b : List ℕ) → s.given ≡ r.given + 1 → m ≡ a → SaysSome says 1 m b → SaysGiven says r s a b
-  given_one r s a m b given same some = record { many = 1; given = given; some = subst (λ (x : List ℕ). SaysSome says 1 x b) same some }
-
-  pub given_then : (r s t : Reading) (a b c : List ℕ) → SaysGiven says r s a b → SaysGiven says s t b c → SaysGiven says r t a c
-  given_then r s t a b c x y = record { many = x.many + y.many; given = let p = x.given in let q = y.given in omega (arith, p, q); some = some_then says x.many y.many a b c x.some y.some }
-
-  pub given_replies : (r s : Reading) (a b : List ℕ) → SaysGiven says r s a b → SaysReplies says a b
-  given_replies r s a b x = (x.some.replies, x.some.said)
-
-  pub given_some : (r s : Reading) (many : ℕ) (a b : List ℕ) → s.given ≡ r.given + many → SaysGiven says r s a b → SaysSome says many a b
-  given_some r s many a b given x = subst (λ (n : ℕ). SaysSome says n a b) (let p = x.given in omega (arith, p, given)) x.some
 
 -- ---- by how it ended
 

@@ -1,5 +1,5 @@
 -- Commands that are read from the input, one after another.
-use Rattle.std.proofs.Common.{◌≡◌, ℕ, ◌≤◌, List, [], ◌∷◌, ◌++◌, ◌+◌, length, take, Option, Some, None, refl, sym, ◌∙◌, ap, subst, arith, append_assoc, length-append}
+use Rattle.std.proofs.Common.{◌≡◌, ℕ, ◌≤◌, List, [], ◌∷◌, ◌++◌, take, Option, Some, None, refl, sym, ◌∙◌, ap, subst, arith, append_assoc, length-append}
 use Rattle.fsd_log.specs.Scan.{Placed}
 use Rattle.std.specs.Prelude.{IfOk, Result, Ok, Err}
 use Rattle.std.proofs.lemmas.List.{length-take, take-append-drop}
@@ -26,9 +26,11 @@ use Rattle.volume_turns.specs.declared.turns.End.{End}
 use Rattle.volume_turns.specs.declared.turns.End.TheVariants.{Fault as Stopped, Output}
 use Rattle.volume_turns.specs.declared.script.Stop.{Stop}
 use Rattle.volume_turns.specs.declared.script.Stop.TheVariants.{Ended, Input, WornOut}
+use Rattle.volume_turns.specs.Each.{SaysBetween, SaysOnce}
 use Rattle.volume_turns.specs.Script.{DoneSo, Heard, Reads, RoseBy, Spells}
 use Rattle.volume_turns.specs.Steps.{StaysSound}
-use Rattle.volume_turns.specs.Turns.{Behind, EndsBy, Follows, InRun, Runs, RunsFrom, Said, StandsBehind, Steps, Told, device_end}
+use Rattle.volume_turns.specs.Turns.{Behind, EndsBy, Follows, InRun, Runs, RunsFrom, Said, SaysReplies, StandsBehind, Steps, Told, device_end}
+use Rattle.volume_turns.proofs.EachLaws.{between_none, between_one, between_replies, between_then}
 use Rattle.volume_turns.proofs.RunLaws.{follows_then, runs_nil, runs_stop, runs_then}
 use Rattle.volume_turns.proofs.TurnLaws.{in_before, said_nothing}
 use Rattle.volume_turns.proofs.CountLaws.{unheard_on}
@@ -164,40 +166,40 @@ spells_none a r = record { bytes = []; all = refl; count = omega arith; spells =
 pub spells_here : (a b : List ℕ) (r s : Reading) (first : List Command) → Spells a b r s first → script_left r a ≡ (first ++ (script_left s b).0, (script_left s b).1)
 spells_here a b r s first x = ap (λ (z : List ℕ). script_left r z) x.all ∙ x.spells b
 
-given_on : (r s t n k many : ℕ) → s ≡ r + n → t ≡ s + k → many ≡ n + k → t ≡ r + many
-given_on r s t n k many first then all = omega (arith, first, then, all)
-
 -- ---- one after another
 
 module _ {S D : Type 0} (state : S → State) (has : S → Mounted → List Placed → Type 0) (M : Ghosts D) (e : Errand) where
-  pub reads_then : (r s t : Reading) (v w z : S) (a m b : D) (result : Result (Option Stop) End) → Follows M m b → DoneSo state has M e r s v a w m → Reads state has M e s t w m z b result → Reads state has M e r t v a z b result
-  reads_then r s t v w z a m b (Ok None) follows x y = record {
+  pub reads_then : (r s t : Reading) (v w z : S) (a m b : D) (result : Result (Option Stop) End) → (M.honest m → M.moment a ≤ M.moment m) → Follows M m b → DoneSo state has M e r s v a w m → Reads state has M e s t w m z b result → Reads state has M e r t v a z b result
+  reads_then r s t v w z a m b (Ok None) later follows x y = record {
     done = x.done ++ y.done;
-    given = given_on r.given s.given t.given (length x.done) (length y.done) (length (x.done ++ y.done)) x.given y.given (length-append x.done y.done);
     taken = spells_then _ _ _ r s t x.done y.done x.taken y.taken;
+    says = between_then M e.says x.done y.done a m b later follows x.says y.says;
     leads = λ more u c result on runs. subst (λ (cs : List Command). Runs state has M e cs v a u c result) (sym (append_assoc x.done y.done more)) (x.leads (y.done ++ more) u c result (follows_then M m b c follows on) (y.leads more u c result on runs));
   }
-  reads_then r s t v w z a m b (Ok (Some (Ended end))) follows x y =
+  reads_then r s t v w z a m b (Ok (Some (Ended end))) later follows x y =
       let here = spells_here (M.ledger a).input (M.ledger m).input r s x.done x.taken in (
         ap (λ (q : Script). q.1) here ∙ y.0,
         subst (λ (q : Script). Runs state has M e q.0 v a z b (Ok tt)) (sym here) (x.leads (script_left s (M.ledger m).input).0 z b (Ok tt) follows y.1),
-        given_on r.given s.given t.given (length x.done) (length (script_left s (M.ledger m).input).0) (length (script_left r (M.ledger a).input).0) x.given y.2
-            (ap (λ (q : Script). length q.0) here ∙ length-append x.done (script_left s (M.ledger m).input).0),
+        subst (λ (q : Script). SaysBetween M e.says q.0 a b) (sym here) (between_then M e.says x.done (script_left s (M.ledger m).input).0 a m b later follows x.says y.2),
       )
-  reads_then r s t v w z a m b (Ok (Some Input)) follows x y = record {
+  reads_then r s t v w z a m b (Ok (Some Input)) later follows x y = record {
     done = x.done ++ y.done;
     taken = spells_then _ _ _ r s t x.done y.done x.taken y.taken;
     runs = x.leads y.done z b (Ok tt) follows y.runs;
     still = y.still;
     short = y.short;
   }
-  reads_then r s t v w z a m b (Ok (Some WornOut)) follows x y = absurd y
-  reads_then r s t v w z a m b (Err end) follows x y =
+  reads_then r s t v w z a m b (Ok (Some WornOut)) later follows x y = absurd y
+  reads_then r s t v w z a m b (Err end) later follows x y =
       let here = spells_here (M.ledger a).input (M.ledger m).input r s x.done x.taken in
       subst (λ (q : Script). Runs state has M e q.0 v a z b (Err end)) (sym here) (x.leads (script_left s (M.ledger m).input).0 z b (Err end) follows y)
 
   pub done_none : (r : Reading) (v : S) (a : D) → DoneSo state has M e r r v a v a
-  done_none r v a = record { done = []; given = omega arith; taken = spells_none (M.ledger a).input r; leads = λ more z c result follows runs. runs }
+  done_none r v a = record { done = []; taken = spells_none (M.ledger a).input r; says = between_none M e.says a a (λ h. refl); leads = λ more z c result follows runs. runs }
+
+  -- replies were said, each whole
+  pub done_replies : (r s : Reading) (old : S) (a : D) (new : S) (b : D) → DoneSo state has M e r s old a new b → M.honest b → SaysReplies e.says (M.now a).said (M.now b).said
+  done_replies r s old a new b x honest = between_replies M e.says x.done a b x.says honest
 
 -- ---- one more
 
@@ -218,19 +220,24 @@ module _ {S D : Type 0} (state : S → State) (has : S → Mounted → List Plac
   none_read commands = first commands v m (Err (Stopped Ends.Memory)) here (runs_refused state has M e wears commands v m (λ h left was. only m left h was) (λ h from aged. subst (λ (w : Windows). AreShort w) aged.windows (short m h)))
 
   module _ (r s : Reading) (command : Command) (w : S) (b : D) (step : Follows M m b) where
-    pub one_done : s.given ≡ r.given + 1 → Spells (M.ledger a).input (M.ledger b).input r s (command ∷ []) → (M.honest b → M.moment m ≤ M.moment b) → Steps state has M e command v m w b (Ok tt) → DoneSo state has M e r s v a w b
-    one_done given taken later steps = record {
+    pub one_done : Spells (M.ledger a).input (M.ledger b).input r s (command ∷ []) → (M.honest b → M.moment m ≤ M.moment b) → Steps state has M e command v m w b (Ok tt)
+        → ((t : ℕ) → M.honest b → t ≤ M.moment b → M.left_since b t (M.now b)) → (M.honest b → SaysOnce e.says command (M.now m) (M.now b)) → DoneSo state has M e r s v a w b
+    one_done taken later steps counts once = record {
       done = command ∷ [];
-      given = given;
       taken = taken;
+      says = between_one M e.says command a m b (λ h. let x = (read (step.honest h)).later in let y = later h in omega (arith, x, y)) counts (λ h. (worn (step.honest h)).said) once;
       leads = λ more z c result follows runs. first (command ∷ more) z c result (follows_then M m b c step follows) (runs_then state has M e command more v w z m b c result follows later steps runs);
     }
 
     pub one_stops : (end : End) (now : Script) → script_left r (M.ledger a).input ≡ (command ∷ now.0, now.1) → Steps state has M e command v m w b (Err end) → Runs state has M e (script_left r (M.ledger a).input).0 v a w b (Err end)
     one_stops end now is steps = subst (λ (q : Script). Runs state has M e q.0 v a w b (Err end)) (sym is) (first (command ∷ now.0) w b (Err end) step (runs_stop state has M e command now.0 v w m b end steps))
 
-  pub ended_so : (r s : Reading) (end : ScriptEnd) → s.given ≡ r.given + 0 → script_left r (M.ledger a).input ≡ ([], end) → Reads state has M e r s v a v m (Ok (Some (Ended end)))
-  ended_so r s end given is = (ap (λ (q : Script). q.1) is, subst (λ (q : Script). Runs state has M e q.0 v a v m (Ok tt)) (sym is) none_done, given ∙ ap (λ (q : Script). r.given + length q.0) (sym is))
+  pub ended_so : (r s : Reading) (end : ScriptEnd) → script_left r (M.ledger a).input ≡ ([], end) → Reads state has M e r s v a v m (Ok (Some (Ended end)))
+  ended_so r s end is = (
+    ap (λ (q : Script). q.1) is,
+    subst (λ (q : Script). Runs state has M e q.0 v a v m (Ok tt)) (sym is) none_done,
+    subst (λ (q : Script). SaysBetween M e.says q.0 a m) (sym is) (between_none M e.says a m (λ h. (worn h).said)),
+  )
 
 -- ---- what is counted
 

@@ -6,7 +6,6 @@ use Rattle.sector_disk.specs.Image.{IsWorn, open_damage}
 use Rattle.sector_disk.specs.Machine.{Moment, Report, Rose}
 use Rattle.fsd_formats.specs.declared.anchor.Anchor.{Anchor}
 use Rattle.fsd_files.specs.Disk.{Image}
-use Rattle.fsd_files.specs.Replies.{Reply}
 use Rattle.fsd_sound.specs.Lost.{AreCopiesOn, LostIn}
 use Rattle.fsd_sound.specs.Mounting.{IsVolume}
 use Rattle.fsd_sound.specs.Writes.{MountKeeps}
@@ -14,10 +13,7 @@ use Rattle.fsd_sound.specs.declared.fault.MountFault.{MountFault}
 use Rattle.fsd_sound.specs.declared.fault.MountFault.TheVariants.{WornOut}
 use Rattle.fsd_texts.specs.declared.fault.Fault.{Fault}
 use Rattle.fsd_texts.specs.declared.fault.Fault.TheVariants as Ends
-use Rattle.fsd_texts.specs.declared.bad_line.BadLine.{BadLine}
-use Rattle.fsd_texts.specs.declared.end.End.TheVariants.{Bad}
-use Rattle.fsd_texts.specs.declared.line.Line.TheVariants as Says
-use Rattle.fsd_texts.specs.Script.{max_input, script_in}
+use Rattle.fsd_texts.specs.Script.{max_input}
 use Rattle.fsd_texts.specs.Text.{fault_text, text}
 use Rattle.fsd_runs.specs.Commands.{reply_text}
 use Rattle.fsd_runs.specs.Errands.{fault_status, forced_turn}
@@ -27,7 +23,7 @@ use Rattle.volume_contract.specs.State.{Ages}
 use Rattle.volume_turns.specs.Once.{fault_of}
 use Rattle.volume_turns.specs.Steps.{IsOfImage, IsToldOn, device_told}
 use Rattle.volume_turns.specs.Tally.{Counting, counting_line}
-use Rattle.volume_turns.specs.Turns.{SaysReplies, SaysSome}
+use Rattle.volume_turns.specs.Turns.{SaysReplies}
 
 -- ---- it was mounted
 
@@ -137,20 +133,7 @@ pub record SaysOfInput (input : List ℕ) (old new : Report) (now : Moment) : Ty
   pub front : List ℕ
   pub said : now.said ≡ front ++ fault_text why
 
--- A line of the script is outside the grammar, and this is said last.
-pub record SaysBadLine (input : List ℕ) (new : Moment) : Type 0 where
-  pub bad : BadLine
-  pub ends : (script_in input).1 ≡ Bad bad
-  pub front : List ℕ
-  pub said : new.said ≡ front ++ text (Says.Bad bad)
-
--- ---- a run that was answered to its end
-
--- A script of so many commands: a reply is said for each of them, and last that all is forced.
-pub record SaysForced (says : Reply → List ℕ) (many : ℕ) (before : List ℕ) (new : Moment) : Type 0 where
-  pub front : List ℕ
-  pub whole : SaysSome says many before front
-  pub said : new.said ≡ front ++ forced_turn.said
+-- ---- commands that are made up
 
 -- Commands that are made up: it is said that all is forced, and last what came of so many.
 pub record SaysMade (count : ℕ) (before : List ℕ) (new : Moment) : Type 0 where

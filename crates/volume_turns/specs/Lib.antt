@@ -1,5 +1,6 @@
 pub mod Answering
 pub mod Causes
+pub mod Each
 pub mod Generate
 pub mod Group
 pub mod Line

@@ -4,7 +4,6 @@ use Rattle.fsd_log.specs.Scan.{Placed}
 use Rattle.sector_disk.specs.declared.machine.Machine.{Ghosts}
 use Rattle.sector_disk.specs.Calls.{DiskFaults}
 use Rattle.sector_disk.specs.Machine.{Report, Rose}
-use Rattle.fsd_files.specs.Replies.{Reply}
 use Rattle.fsd_sound.specs.Mounted.{Mounted}
 use Rattle.fsd_texts.specs.declared.command.Command.{Command}
 use Rattle.fsd_texts.specs.Script.{max_input, script_in, script_of}
@@ -15,8 +14,9 @@ use Rattle.volume_turns.specs.declared.turns.End.{End}
 use Rattle.volume_turns.specs.declared.turns.End.TheVariants.{Fault as Stopped}
 use Rattle.volume_turns.specs.declared.script.Stop.{Stop}
 use Rattle.volume_turns.specs.declared.script.Stop.TheVariants.{Ended, Input, WornOut}
+use Rattle.volume_turns.specs.Each.{SaysBetween}
 use Rattle.volume_turns.specs.Group.{IsGroup}
-use Rattle.volume_turns.specs.Turns.{Follows, IsWant, Runs, SaysSome, Unheard, device_end}
+use Rattle.volume_turns.specs.Turns.{Follows, IsWant, Runs, Unheard, device_end}
 
 -- ---- what is counted
 
@@ -44,12 +44,6 @@ abbrev pub GoesOn : Reading → Reading → Option Stop → Type 0
 GoesOn old new None = (new.given ≡ old.given + 1) × (new.end ≡ None) × (new.given ≤ max_input)
 GoesOn old new other = ⊤
 
--- As many replies are said as commands were given.
-pub record SaysGiven (says : Reply → List ℕ) (old new : Reading) (before after : List ℕ) : Type 0 where
-  pub many : ℕ
-  pub given : new.given ≡ old.given + many
-  pub some : SaysSome says many before after
-
 -- Some bytes of the input are taken: whatever stands behind them, they spell these commands and what is to come.
 pub record Spells (before left : List ℕ) (old new : Reading) (commands : List Command) : Type 0 where
   pub bytes : List ℕ
@@ -66,8 +60,8 @@ module _ {S : Type 0} (state : S → State) (has : S → Mounted → List Placed
   -- Some first commands of what is to come are done.
   pub record DoneSo {D : Type 0} (M : Ghosts D) (e : Errand) (r s : Reading) (old : S) (a : D) (new : S) (b : D) : Type 0 where
     pub done : List Command
-    pub given : s.given ≡ r.given + length done
     pub taken : Spells (M.ledger a).input (M.ledger b).input r s done
+    pub says : SaysBetween M e.says done a b
     pub leads : Leads M e done old a new b
 
   -- All commands that stand whole in what was taken are done, and the input has failed.
@@ -80,7 +74,7 @@ module _ {S : Type 0} (state : S → State) (has : S → Mounted → List Placed
 
   abbrev pub Reads : {D : Type 0} → (M : Ghosts D) → Errand → (r s : Reading) → (old : S) → (a : D) → (new : S) → (b : D) → Result (Option Stop) End → Type 0
   Reads M e r s old a new b (Ok None) = DoneSo M e r s old a new b
-  Reads M e r s old a new b (Ok (Some (Ended end))) = ((script_left r (M.ledger a).input).1 ≡ end) × Runs state has M e (script_left r (M.ledger a).input).0 old a new b (Ok tt) × (s.given ≡ r.given + length (script_left r (M.ledger a).input).0)
+  Reads M e r s old a new b (Ok (Some (Ended end))) = ((script_left r (M.ledger a).input).1 ≡ end) × Runs state has M e (script_left r (M.ledger a).input).0 old a new b (Ok tt) × SaysBetween M e.says (script_left r (M.ledger a).input).0 a b
   Reads M e r s old a new b (Ok (Some Input)) = FailsBehind M e r s old a new b
   Reads M e r s old a new b (Ok (Some WornOut)) = ⊥
   Reads M e r s old a new b (Err end) = Runs state has M e (script_left r (M.ledger a).input).0 old a new b (Err end)

@@ -164,12 +164,6 @@ module _ {S : Type 0} (state : S → State) (has : S → Mounted → List Placed
 abbrev pub SaysReplies : (says : Reply → List ℕ) → (before after : List ℕ) → Type 0
 SaysReplies says before after = (replies : List Reply) × (after ≡ before ++ flat_map says replies)
 
--- Replies are said, each whole, so many of them and no more.
-pub record SaysSome (says : Reply → List ℕ) (many : ℕ) (before after : List ℕ) : Type 0 where
-  pub replies : List Reply
-  pub count : length replies ≡ many
-  pub said : after ≡ before ++ flat_map says replies
-
 -- so it is in front of a fault
 abbrev pub EndsWhole : (says : Reply → List ℕ) → (old new : Moment) → End → Type 0
 EndsWhole says old new (Stopped why) = SaysReplies says old.said new.said

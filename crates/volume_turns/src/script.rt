@@ -1,5 +1,5 @@
 //! A script, from the mount to the last line.
-ghost use Rattle.std.specs.Prelude.{◌≡◌, ◌≤◌, ◌+◌, ◌++◌, List, [], ℕ, None, true, Ok, Err, OnErr, OnOk, IfErr, IfOk, IsTrue, Some, length};
+ghost use Rattle.std.specs.Prelude.{◌≡◌, ◌≤◌, ◌+◌, ◌++◌, List, [], ℕ, None, true, Ok, Err, OnErr, OnOk, IfErr, IfOk, IsTrue, Some};
 ghost use Rattle.sector_disk.specs.Calls.{Since};
 ghost use Rattle.sector_disk.specs.Machine.{LeavesOnly, OnlyWrites, Trusts};
 ghost use Rattle.sector_disk.specs.declared.sector.WeakRun.{WeakRun};
@@ -16,7 +16,8 @@ ghost use Rattle.fsd_texts.specs.Script.{max_input, script_in};
 ghost use Rattle.fsd_runs.specs.Commands.{answer, reply_text};
 ghost use Rattle.fsd_runs.specs.Errands.{forced_turn, is_forced};
 ghost use Rattle.volume_contract.specs.State.{Known, Stands};
-ghost use Rattle.volume_turns.specs.Causes.{FailsInput, SaysBadLine, SaysFault, SaysForced, SaysOfCall, SaysOfInput, TellsImage, is_of_fault};
+ghost use Rattle.volume_turns.specs.Causes.{FailsInput, SaysFault, SaysOfCall, SaysOfInput, TellsImage, is_of_fault};
+ghost use Rattle.volume_turns.specs.Each.{SaysBadLine, SaysBetween, SaysForced};
 ghost use Rattle.volume_turns.specs.Numbers.{GoesUp, MayWear};
 ghost use Rattle.volume_turns.specs.Once.{ClosesAndSays, unit_of};
 ghost use Rattle.volume_turns.specs.Status.{CountsTaking, IsScriptStatus};
@@ -25,8 +26,8 @@ ghost use Rattle.fsd_texts.specs.declared.end.End.TheVariants.{Done};
 ghost use Rattle.volume_turns.specs.declared.script.Stop.TheVariants.{Ended, WornOut};
 ghost use Rattle.volume_turns.specs.declared.turns.End.TheVariants.{Fault as Stopped};
 ghost use Rattle.fsd_texts.specs.declared.fault.Fault.TheVariants as Ends;
-ghost use Rattle.volume_turns.specs.Turns.{BreaksWhole, IsEndOfVolume, IsEndOn, KeepsSaid, SaysSome, SaysWhole, Told, WantsNone};
-ghost use Rattle.volume_turns.specs.Script.{GoesOn, GroupsBy, Heard, Reads, RoseBy, SaysGiven, SparesWanting, WholeRead};
+ghost use Rattle.volume_turns.specs.Turns.{BreaksWhole, IsEndOfVolume, IsEndOn, KeepsSaid, SaysWhole, Told, WantsNone};
+ghost use Rattle.volume_turns.specs.Script.{GoesOn, GroupsBy, Heard, Reads, RoseBy, SparesWanting, WholeRead};
 
 use crate::generate::close_forced;
 use crate::group::is_worn_end;
@@ -74,7 +75,6 @@ fn read_on<M: Machine, V: Files<M>, T: Says>(
     ensures since { M.honest m.new → Since M.Machine m.old m.new }
     ensures later { M.honest m.new → M.moment m.old ≤ M.moment m.new }
     ensures whole_replies { M.honest m.new → SaysWhole T.errand.says (M.now m.old) (M.now m.new) result }
-    ensures replies { OnOk result (M.honest m.new → SaysGiven T.errand.says reader.old reader.new (M.now m.old).said (M.now m.new).said) }
     ensures on { IfOk result (GoesOn reader.old reader.new) }
     ensures few { reader.new.end ≡ None → reader.new.taken ≤ max_input }
     ensures whole { result ≡ Ok (Some (Ended Done)) → reader.old.end ≡ None → M.tells m.new → (M.ledger m.new).input ≡ [] }
@@ -115,7 +115,7 @@ fn read_all<M: Machine, V: Files<M>, T: Says>(
     ensures since { M.honest m.new → Since M.Machine m.old m.new }
     ensures later { M.honest m.new → M.moment m.old ≤ M.moment m.new }
     ensures whole_replies { M.honest m.new → SaysWhole T.errand.says (M.now m.old) (M.now m.new) result }
-    ensures replies { (end : EndOf) → result ≡ Ok (Ended end) → M.honest m.new → SaysSome T.errand.says (length (script_in (M.ledger m.old).input).0) (M.now m.old).said (M.now m.new).said }
+    ensures replies { (end : EndOf) → result ≡ Ok (Ended end) → SaysBetween M.Machine T.errand.says (script_in (M.ledger m.old).input).0 m.old m.new }
     ensures whole { result ≡ Ok (Ended Done) → M.tells m.new → (M.ledger m.new).input ≡ [] }
     ensures reads { M.tells m.new → WholeRead V.state V.holds M.Machine T.errand v.old m.old v.new m.new result }
 {
@@ -144,7 +144,8 @@ fn group_read<M: Machine, V: Files<M> + Drop, T: Says>(
     ensures image { IfErr result (λ end. M.honest m.new → IsEndOn (V.state v).layout (M.now m.new).image end) }
     ensures used { result ≡ Ok WornOut → M.honest m.new → MayWear (max_input + 1) (V.state v) }
     ensures unworn { result ≡ Err (Stopped Ends.WornOut) → ⊥ }
-    ensures says { (end : EndOf) → result ≡ Ok (Ended end) → M.honest m.new → SaysForced T.errand.says (length (script_in (M.ledger m.old).input).0) (M.now m.old).said (M.now m.new) }
+    ensures says { (end : EndOf) → result ≡ Ok (Ended end) → M.honest m.new → (t : ℕ) → t ≤ M.moment m.old →
+        SaysForced T.errand.says (M.left_since m.new t) (script_in (M.ledger m.old).input).0 (M.now m.old).said (M.now m.new).said }
     ensures rose { IfOk result (λ stop. RoseBy (M.report m.old) (M.report m.new) (Some stop)) }
     ensures memory { IfErr result (SparesWanting (M.report m.old) (M.report m.new)) }
     ensures ends { (end : EndOf) → result ≡ Ok (Ended end) → M.tells m.new → (script_in (M.ledger m.old).input).1 ≡ end }
@@ -205,13 +206,14 @@ fn script_on<M: Machine, V: Files<M> + Drop, T: Says>(alloc: Global, v: V, m: &m
     ensures fails { result ≡ 5 → M.honest m.new → SaysOfInput (M.ledger m.old).input (M.report m.old) (M.report m.new) (M.now m.new) }
     ensures whole { result ≡ 0 → M.tells m.new → (M.ledger m.new).input ≡ [] }
     ensures spelled { result ≡ 0 → M.tells m.new → (script_in (M.ledger m.old).input).1 ≡ Done }
-    ensures bad { result ≡ 2 → M.honest m.new → SaysBadLine (M.ledger m.old).input (M.now m.new) }
+    ensures bad { result ≡ 2 → M.honest m.new → (t : ℕ) → t ≤ M.moment m.old → SaysBadLine (M.left_since m.new t) (M.ledger m.old).input (M.now m.old).said (M.now m.new) }
     ensures trust { Trusts (M.tells m.old) (M.tells m.new) (M.honest m.old) (M.honest m.new) }
     ensures since { M.honest m.new → Since M.Machine m.old m.new }
     ensures says { result ≡ 3 → M.honest m.new → SaysOfCall true (V.state v).layout (M.now m.old).said (M.now m.new) }
     ensures last { IsTrue (is_of_fault result) → M.honest m.new → SaysFault (M.report m.new).fault_place (M.now m.new) result }
     ensures spent { result ≡ 9 → M.honest m.new → MayWear (max_input + 1) (V.state v) }
-    ensures all { result ≡ 0 → M.honest m.new → SaysForced reply_text (length (script_in (M.ledger m.old).input).0) (M.now m.old).said (M.now m.new) }
+    ensures all { result ≡ 0 → M.honest m.new → (t : ℕ) → t ≤ M.moment m.old →
+        SaysForced reply_text (M.left_since m.new t) (script_in (M.ledger m.old).input).0 (M.now m.old).said (M.now m.new).said }
     ensures runs { M.honest m.new → (k : Known) → Stands V.state V.holds v k (M.now m.old) → RunsOut M.Machine Script (M.ledger m.old).input (M.ledger m.new).input (M.report m.old) k m.old m.new result }
 {
     match group_read::<M, V, T>(alloc, v, m) {
@@ -245,11 +247,12 @@ pub fn run_script<M: Machine, V: Files<M> + Drop, T: Says>(
     ensures fails { result ≡ 5 → M.honest m.new → SaysOfInput (M.ledger m.old).input (M.report m.old) (M.report m.new) (M.now m.new) }
     ensures whole { result ≡ 0 → M.tells m.new → (M.ledger m.new).input ≡ [] }
     ensures spelled { result ≡ 0 → M.tells m.new → (script_in (M.ledger m.old).input).1 ≡ Done }
-    ensures bad { result ≡ 2 → M.honest m.new → SaysBadLine (M.ledger m.old).input (M.now m.new) }
+    ensures bad { result ≡ 2 → M.honest m.new → (t : ℕ) → t ≤ M.moment m.old → SaysBadLine (M.left_since m.new t) (M.ledger m.old).input (M.now m.old).said (M.now m.new) }
     ensures trust { Trusts (M.tells m.old) (M.tells m.new) (M.honest m.old) (M.honest m.new) }
     ensures image { M.honest m.new → TellsImage true None sectors (M.now m.old) (M.now m.new) result }
     ensures last { IsTrue (is_of_fault result) → M.honest m.new → SaysFault (M.report m.new).fault_place (M.now m.new) result }
-    ensures all { result ≡ 0 → M.honest m.new → SaysForced reply_text (length (script_in (M.ledger m.old).input).0) (M.now m.old).said (M.now m.new) }
+    ensures all { result ≡ 0 → M.honest m.new → (t : ℕ) → t ≤ M.moment m.old →
+        SaysForced reply_text (M.left_since m.new t) (script_in (M.ledger m.old).input).0 (M.now m.old).said (M.now m.new).said }
     ensures leaves { M.honest m.new → (l : Plan) (windows : List WeakRun) (h : List Change) (f : ℕ) → IsSoundAt sectors l windows h f (M.now m.old) →
         LeavesRun Script (M.ledger m.old).input (M.ledger m.new).input l windows h f (M.left_since m.new) (LeavesOnly M.moment M.left_since m.old m.new) (M.report m.old) (M.report m.new) (M.now m.old) (M.now m.new) result }
 {

@@ -8,10 +8,11 @@ ghost use Rattle.fsd_runs.specs.Commands.{answer};
 ghost use Rattle.fsd_runs.specs.Errands.{Errand};
 ghost use Rattle.sector_disk.specs.Calls.{Since};
 ghost use Rattle.fsd_texts.specs.declared.fault.Fault.TheVariants as Ends;
+ghost use Rattle.volume_turns.specs.Each.{SaysOnce};
 ghost use Rattle.volume_turns.specs.Numbers.{GoesUp, MayWear};
 ghost use Rattle.volume_turns.specs.Steps.{reply_of};
 ghost use Rattle.volume_turns.specs.declared.turns.End.TheVariants.{Fault as Stopped};
-ghost use Rattle.volume_turns.specs.Turns.{IsEndOfVolume, IsEndOn, Runs, Steps, SaysAll, SaysSome, SaysWhole, Told, Unsaid};
+ghost use Rattle.volume_turns.specs.Turns.{IsEndOfVolume, IsEndOn, Runs, Steps, SaysAll, SaysWhole, Told, Unsaid};
 
 use crate::answer::Answer;
 use crate::commands;
@@ -77,7 +78,7 @@ pub fn step<M: Machine, V: Files<M>, T: Says>(
     ensures later { M.honest m.new → M.moment m.old ≤ M.moment m.new }
     ensures steps { Steps V.state V.holds M.Machine T.errand c.now v.old m.old v.new m.new result }
     ensures whole_replies { M.honest m.new → SaysWhole T.errand.says (M.now m.old) (M.now m.new) result }
-    ensures once { OnOk result (M.honest m.new → SaysSome T.errand.says 1 (M.now m.old).said (M.now m.new).said) }
+    ensures once { OnOk result (M.honest m.new → SaysOnce T.errand.says c.now (M.now m.old) (M.now m.new)) }
     ensures ledger { M.tells m.new → OnlyWrites (M.ledger m.old) (M.ledger m.new) }
     ensures fault { IfErr result IsEndOfVolume }
     ensures image { IfErr result (λ end. M.honest m.new → IsEndOn (V.state v.old).layout (M.now m.new).image end) }

@@ -1,4 +1,4 @@
-use Rattle.std.proofs.Common.{◌≡◌, length, sym, ◌∙◌, arith}
+use Rattle.std.proofs.Common.{◌≡◌, sym, ◌∙◌, arith}
 use Rattle.volume_turns.specs.declared.script.Stop.TheVariants.{Ended, WornOut}
 use Rattle.fsd_texts.specs.declared.end.End.TheVariants.{Done}
 use Rattle.fsd_texts.specs.Script.{script_in}
@@ -13,7 +13,8 @@ use Rattle.volume_turns.specs.declared.turns.End.{End}
 use Rattle.volume_turns.specs.declared.script.Stop.{Stop}
 use Rattle.volume_turns.proofs.LineLaws.{wanting_end, wanting_none, wanting_same}
 use Rattle.volume_turns.proofs.GroupLaws.{worn_is}
-use Rattle.volume_turns.proofs.NumberLaws.{ended, other_end, passed_on, says_forced}
+use Rattle.volume_turns.proofs.EachLaws.{each_more, forced_by}
+use Rattle.volume_turns.proofs.NumberLaws.{ended, other_end, passed_on}
 use Rattle.volume_turns.proofs.SaidLaws.{broken_by, worn_whole}
 use Rattle.volume_turns.proofs.ToldLaws.{told_behind}
 use Rattle.volume_turns.proofs.script.group_read.Goals as goal
@@ -210,19 +211,25 @@ returns-else-is_worn_end-clause-unworn g c is = let e : c.in-Err.end ≡ Stopped
 -- ---- what is said where all was done
 
 pub returns-in-Ok-clause-says : goal.returns-in-Ok-clause-says
-returns-in-Ok-clause-says g c end is h =
+returns-in-Ok-clause-says g c end is h t le =
     let M = g.M.Machine in
+    let says = g.T.Says.errand.says in
     let done = c.force_read in
     let m = c.read_all.new.m in
+    let b = done.new.m in
     let a = c.args.m.now in
+    let commands = (script_in (M.ledger a).input).0 in
+    let back = done.ensures.trust.honest h in
+    let reached = c.read_all.ensures.later back in
     let stop = passes_on c.in-Ok.stop end done.result done.ensures.same is in
-    says_forced g.T.Says.errand.says (length (script_in (M.ledger a).input).0) (M.honest done.new.m) (M.now a) (M.now m) (M.now done.new.m) (Ended end) done.result is
-    (c.in-Ok.ensures.replies end (ap (λ (s : Stop). let end : Result Stop End = Ok s in end) stop) (done.ensures.trust.honest h)) done.ensures.says h
+    let each = c.in-Ok.ensures.replies end (ap (λ (s : Stop). let end : Result Stop End = Ok s in end) stop) back t le in
+    forced_by says (M.left_since b t) commands (M.honest b) (M.now a) (M.now m) (M.now b) (Ended end) done.result is
+    (each_more says (M.left_since m t) (M.left_since b t) (λ at was. done.ensures.since h t at (omega (arith, le, reached)) was) commands (M.now a).said (M.now m).said each) done.ensures.says h
 
 pub returns-then-is_worn_end-clause-says : goal.returns-then-is_worn_end-clause-says
-returns-then-is_worn_end-clause-says g c end is h =
+returns-then-is_worn_end-clause-says g c end is h t le =
     let done = c.force_read-then-is_worn_end in
     absurd (let e : WornOut ≡ Ended end = passes_on WornOut end done.result done.ensures.same is in cc e)
 
 pub returns-else-is_worn_end-clause-says : goal.returns-else-is_worn_end-clause-says
-returns-else-is_worn_end-clause-says g c end is h = absurd (cc is)
+returns-else-is_worn_end-clause-says g c end is h t le = absurd (cc is)

@@ -6,18 +6,18 @@ use Rattle.volume_turns.specs.Script.{DoneSo, GoesOn, Reads, RoseBy}
 use Rattle.volume_turns.specs.declared.script.Stop.{Stop}
 use Rattle.volume_turns.specs.Turns.{Follows, IsEndOn}
 use Rattle.volume_turns.proofs.RunLaws.{follows_then}
-use Rattle.volume_turns.proofs.ScriptLaws.{done_none, heard_as, heard_end, heard_none, heard_then, reads_then, rose_then}
-use Rattle.std.proofs.Common.{◌≡◌, ◌+◌, length}
+use Rattle.volume_turns.proofs.ScriptLaws.{done_none, done_replies, heard_as, heard_end, heard_none, heard_then, reads_then, rose_then}
+use Rattle.std.proofs.Common.{◌≡◌, ◌+◌}
 use Rattle.fsd_texts.specs.declared.fault.Fault.TheVariants as Ends
-use Rattle.fsd_texts.specs.Script.{max_input, script_in}
+use Rattle.fsd_texts.specs.Script.{max_input}
 use Rattle.volume_turns.specs.declared.turns.End.TheVariants.{Fault as Stopped}
 use Rattle.std.specs.Prelude.{Result}
 use Rattle.fsd_texts.specs.declared.end.End.TheVariants.{Done}
 use Rattle.volume_turns.specs.declared.turns.End.{End}
 use Rattle.volume_turns.specs.declared.script.Stop.TheVariants.{Ended}
-use Rattle.volume_turns.proofs.CauseLaws.{read_given}
+use Rattle.volume_turns.proofs.CauseLaws.{read_says}
 use Rattle.volume_turns.proofs.NumberLaws.{ended, goes_none, goes_then, may_before}
-use Rattle.volume_turns.proofs.SaidLaws.{given_none, given_replies, given_some, given_then, replies_then, whole_then}
+use Rattle.volume_turns.proofs.SaidLaws.{replies_then, whole_then}
 use Rattle.volume_turns.proofs.script.read_all.Goals as goal
 
 pub loop-stop-init : goal.loop-stop-init
@@ -36,7 +36,6 @@ loop-stop-init g c =
       few = let same = ap (λ (r : Reading). r.given) c.new-reader.ensures in omega (arith, same);
       numbers = λ h. goes_none _ (V.state c.args.v.now) (V.state c.args.v.now) refl;
       going = ap (λ (r : Reading). r.end) c.new-reader.ensures;
-      replies = λ h. given_none g.T.Says.errand.says fresh c.new-reader.result (M.now c.args.m.now).said (M.now c.args.m.now).said (ap (λ (r : Reading). r.given) c.new-reader.ensures) refl;
       so_far = λ t. subst (λ (r : Reading). DoneSo V.state V.holds M g.T.Says.errand fresh r c.args.v.now c.args.m.now c.args.v.now c.args.m.now) (sym c.new-reader.ensures) (done_none V.state V.holds M g.T.Says.errand fresh c.args.v.now c.args.m.now);
     }
 
@@ -78,7 +77,7 @@ returns-in-Ok-Some-clause-reads g c t =
       last = c.read_on.new.reader;
       few = c.read_on.ensures.few;
       reads = reads_then V.state V.holds M g.T.Says.errand fresh l.reader c.read_on.new.reader c.args.v.now l.v c.read_on.new.v c.args.m.now l.m c.read_on.new.m (Ok (Some c.in-Ok-Some.stop))
-          (record { honest = c.read_on.ensures.trust.honest; since = c.read_on.ensures.since; later = c.read_on.ensures.later }) (l.invariant.so_far (c.read_on.ensures.trust.tells t)) reads;
+          l.invariant.later (record { honest = c.read_on.ensures.trust.honest; since = c.read_on.ensures.since; later = c.read_on.ensures.later }) (l.invariant.so_far (c.read_on.ensures.trust.tells t)) reads;
     }
 
 pub returns-in-Err-clause-heard : goal.returns-in-Err-clause-heard
@@ -108,7 +107,7 @@ returns-in-Err-clause-reads g c t =
       last = c.read_on.new.reader;
       few = c.read_on.ensures.few;
       reads = reads_then V.state V.holds M g.T.Says.errand fresh l.reader c.read_on.new.reader c.args.v.now l.v c.read_on.new.v c.args.m.now l.m c.read_on.new.m (Err c.in-Err.end)
-          (record { honest = c.read_on.ensures.trust.honest; since = c.read_on.ensures.since; later = c.read_on.ensures.later }) (l.invariant.so_far (c.read_on.ensures.trust.tells t)) (c.in-Err.ensures.reads t);
+          l.invariant.later (record { honest = c.read_on.ensures.trust.honest; since = c.read_on.ensures.since; later = c.read_on.ensures.later }) (l.invariant.so_far (c.read_on.ensures.trust.tells t)) (c.in-Err.ensures.reads t);
     }
 
 pub loop-stop-smaller : goal.loop-stop-smaller
@@ -140,8 +139,7 @@ loop-stop-preserved g c =
       few = goes.2;
       numbers = λ h. goes_then l.reader.given c.read_on.new.reader.given (V.state c.args.v.now) (V.state l.v) (V.state c.read_on.new.v) goes.0 (was.numbers (c.read_on.ensures.trust.honest h)) (c.read_on.ensures.grows h);
       going = goes.1;
-      replies = λ h. given_then g.T.Says.errand.says fresh l.reader c.read_on.new.reader (M.now c.args.m.now).said (M.now l.m).said (M.now c.read_on.new.m).said (was.replies (c.read_on.ensures.trust.honest h)) (c.in-Ok-None.ensures.replies h);
-      so_far = λ t. reads_then V.state V.holds M g.T.Says.errand fresh l.reader c.read_on.new.reader c.args.v.now l.v c.read_on.new.v c.args.m.now l.m c.read_on.new.m (Ok None) step (was.so_far (c.read_on.ensures.trust.tells t))
+      so_far = λ t. reads_then V.state V.holds M g.T.Says.errand fresh l.reader c.read_on.new.reader c.args.v.now l.v c.read_on.new.v c.args.m.now l.m c.read_on.new.m (Ok None) was.later step (was.so_far (c.read_on.ensures.trust.tells t))
           (subst (λ (o : Option Stop). Reads V.state V.holds M g.T.Says.errand l.reader c.read_on.new.reader l.v l.m c.read_on.new.v c.read_on.new.m (Ok o)) c.in-Ok-None.field-0-is (c.in-Ok-None.ensures.reads t));
     }
 
@@ -163,32 +161,38 @@ returns-in-Err-clause-whole g c is t = absurd (cc is)
 
 pub returns-in-Ok-Some-clause-whole_replies : goal.returns-in-Ok-Some-clause-whole_replies
 returns-in-Ok-Some-clause-whole_replies g c h =
-    let now = g.M.Machine.now in
-    replies_then g.T.Says.errand.says (now c.args.m.now).said (now c.loop-stop.m).said (now c.read_on.new.m).said
-    (given_replies g.T.Says.errand.says fresh c.loop-stop.reader (now c.args.m.now).said (now c.loop-stop.m).said (c.loop-stop.invariant.replies (c.read_on.ensures.trust.honest h))) (c.in-Ok-Some.ensures.whole_replies h)
+    let V = g.V.Files in
+    let M = g.M.Machine in
+    let e = g.T.Says.errand in
+    let a = c.args.m.now in
+    let l = c.loop-stop in
+    let back = c.read_on.ensures.trust.honest h in
+    replies_then e.says (M.now a).said (M.now l.m).said (M.now c.read_on.new.m).said
+    (done_replies V.state V.holds M e fresh l.reader c.args.v.now a l.v l.m (l.invariant.so_far (g.met.M.Machine.honest_tells l.m back)) back) (c.in-Ok-Some.ensures.whole_replies h)
 
 pub returns-in-Err-clause-whole_replies : goal.returns-in-Err-clause-whole_replies
 returns-in-Err-clause-whole_replies g c h =
-    let now = g.M.Machine.now in
-    whole_then g.T.Says.errand.says (now c.args.m.now) (now c.loop-stop.m) (now c.read_on.new.m) c.in-Err.end
-    (given_replies g.T.Says.errand.says fresh c.loop-stop.reader (now c.args.m.now).said (now c.loop-stop.m).said (c.loop-stop.invariant.replies (c.read_on.ensures.trust.honest h))) (c.in-Err.ensures.whole_replies h)
+    let V = g.V.Files in
+    let M = g.M.Machine in
+    let e = g.T.Says.errand in
+    let a = c.args.m.now in
+    let l = c.loop-stop in
+    let back = c.read_on.ensures.trust.honest h in
+    whole_then e.says (M.now a) (M.now l.m) (M.now c.read_on.new.m) c.in-Err.end
+    (done_replies V.state V.holds M e fresh l.reader c.args.v.now a l.v l.m (l.invariant.so_far (g.met.M.Machine.honest_tells l.m back)) back) (c.in-Err.ensures.whole_replies h)
+
+-- ---- reply by reply
 
 pub returns-in-Ok-Some-clause-replies : goal.returns-in-Ok-Some-clause-replies
 unfolding returns-in-Ok-Some-clause-reads
 returns-in-Ok-Some-clause-replies g c end is h =
     let V = g.V.Files in
     let M = g.M.Machine in
-    let says = g.T.Says.errand.says in
-    let l = c.loop-stop in
     let x = c.in-Ok-Some in
-    let last = c.read_on.new.reader in
-    let a = c.args.m.now in
     let m = c.read_on.new.m in
     let same : x.stop ≡ Ended end = cc is in
     let all = returns-in-Ok-Some-clause-reads g c (g.met.M.Machine.honest_tells m h) in
-    given_some says fresh last (length (script_in (M.ledger a).input).0) (M.now a).said (M.now m).said
-    (read_given V.state V.holds M g.T.Says.errand last c.args.v.now a c.read_on.new.v m x.stop end all.reads same)
-    (given_then says fresh l.reader last (M.now a).said (M.now l.m).said (M.now m).said (l.invariant.replies (c.read_on.ensures.trust.honest h)) (x.ensures.replies h))
+    read_says V.state V.holds M g.T.Says.errand c.read_on.new.reader c.args.v.now c.args.m.now c.read_on.new.v m x.stop end all.reads same h
 
 pub returns-in-Err-clause-replies : goal.returns-in-Err-clause-replies
 returns-in-Err-clause-replies g c end is h = absurd (cc is)

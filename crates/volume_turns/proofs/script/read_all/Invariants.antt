@@ -4,7 +4,7 @@ use Rattle.sector_disk.specs.Machine.{Trusts}
 use Rattle.fsd_texts.specs.Script.{max_input}
 use Rattle.script_text.specs.Reading.{fresh}
 use Rattle.volume_turns.specs.Numbers.{GoesUp}
-use Rattle.volume_turns.specs.Script.{DoneSo, Heard, SaysGiven}
+use Rattle.volume_turns.specs.Script.{DoneSo, Heard}
 use Rattle.volume_turns.proofs.script.read_all.Given as goal
 
 -- Some first commands of the script are done.
@@ -23,7 +23,6 @@ invariant-loop-stop g l =
       few : l.reader.given ≤ max_input;
       numbers : M.honest l.m → GoesUp l.reader.given (g.V.Files.state l.fn.v) (g.V.Files.state l.v);
       going : l.reader.end ≡ None;
-      replies : M.honest l.m → SaysGiven g.T.Says.errand.says fresh l.reader (M.now l.fn.m).said (M.now l.m).said;
       so_far : M.tells l.m → DoneSo g.V.Files.state g.V.Files.holds M g.T.Says.errand fresh l.reader l.fn.v l.fn.m l.v l.m;
     }
 

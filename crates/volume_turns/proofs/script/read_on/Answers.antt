@@ -1,10 +1,10 @@
-use Rattle.std.proofs.Common.{◌≡◌, Ok, Err, [], ◌∷◌, Option, Some, refl, sym, ◌+◌, ◌∙◌, ap, subst, arith}
+use Rattle.std.proofs.Common.{◌≡◌, Ok, Err, [], ◌∷◌, Option, Some, refl, sym, ◌∙◌, ap, subst, arith}
 use Rattle.sector_disk.specs.Machine.{Ledger}
 use Rattle.fsd_texts.specs.declared.fault.Fault.TheVariants as Ends
 use Rattle.volume_turns.specs.declared.turns.End.TheVariants.{Fault as Stopped}
 use Rattle.fsd_texts.specs.declared.command.Command.{Command as Word}
 use Rattle.script_text.specs.declared.fault.ScriptFault.{ScriptFault}
-use Rattle.script_text.specs.Reading.{Answers, NoneWaits, count_with, end_with, script_left}
+use Rattle.script_text.specs.Reading.{Answers, NoneWaits, end_with, script_left}
 use Rattle.script_text.specs.Taking.{Moves}
 use Rattle.fsd_texts.specs.declared.bad_line.BadLine.{BadLine}
 use Rattle.fsd_texts.specs.declared.end.End.TheVariants.{Bad}
@@ -13,7 +13,7 @@ use Rattle.volume_turns.specs.declared.script.Stop.TheVariants.{Ended}
 use Rattle.volume_turns.proofs.ScriptLaws.{ended_so, moves_spells, none_done, none_read, one_done, one_stops}
 use Rattle.volume_turns.proofs.CauseLaws.{none_left}
 use Rattle.volume_turns.proofs.NumberLaws.{ended, goes_none}
-use Rattle.volume_turns.proofs.SaidLaws.{given_none, given_one, no_replies, replies_then, whole_then}
+use Rattle.volume_turns.proofs.SaidLaws.{no_replies, replies_then, whole_then}
 use Rattle.volume_turns.proofs.script.read_on.Goals as goal
 
 pub returns-in-Ok-clause-reads : goal.returns-in-Ok-clause-reads
@@ -27,8 +27,8 @@ returns-in-Ok-clause-reads g c t =
     let moves = subst (λ (o : Option Word). Moves (Ok o) c.args.reader.now c.next_command.new.self (M.ledger a) (M.ledger m)) c.in-Ok-Some.field-0-is (c.in-Ok-Some.ensures.moves back) in
     one_done V.state V.holds M g.T.Says.errand g.met.V.Files.wears (λ x h. g.met.M.Machine.short x h) (λ x left h was. g.met.M.Machine.only_now x left h was) c.args.v.now a m calls.trust.honest calls.exit calls.any_moment
     c.args.reader.now c.next_command.new.self c.in-Ok-Some.c c.step.new.v c.step.new.m (record { honest = c.step.ensures.trust.honest; since = c.step.ensures.since; later = c.step.ensures.later })
-    (subst (λ (o : Option Word). c.next_command.new.self.given ≡ c.args.reader.now.given + count_with (Ok o)) c.in-Ok-Some.field-0-is c.in-Ok-Some.ensures.given)
     (moves_spells _ c.args.reader.now c.next_command.new.self (M.ledger a) (M.ledger m) (M.ledger c.step.new.m).input (c.in-Ok-Some.c ∷ []) (c.step.ensures.ledger t).input moves (λ rest ahead. ahead)) c.step.ensures.later c.in-Ok.ensures.steps
+    (λ t h le. g.met.M.Machine.counts_now c.step.new.m t h le) c.in-Ok.ensures.once
 
 pub returns-in-Ok-Some-clause-reads : goal.returns-in-Ok-Some-clause-reads
 returns-in-Ok-Some-clause-reads g c t =
@@ -52,7 +52,7 @@ returns-in-Ok-None-clause-reads g c t =
     let calls = c.next_command.ensures.calls in
     let script = subst (λ (o : Option Word). Answers (Ok o) (script_left c.args.reader.now (M.ledger a).input) (script_left c.next_command.new.self (M.ledger m).input)) c.in-Ok-None.field-0-is (c.in-Ok-None.ensures.script t) in
     ended_so V.state V.holds M g.T.Says.errand g.met.V.Files.wears (λ x h. g.met.M.Machine.short x h) (λ x left h was. g.met.M.Machine.only_now x left h was) c.args.v.now a m calls.trust.honest calls.exit calls.any_moment
-    c.args.reader.now c.next_command.new.self _ (subst (λ (o : Option Word). c.next_command.new.self.given ≡ c.args.reader.now.given + count_with (Ok o)) c.in-Ok-None.field-0-is c.in-Ok-None.ensures.given) script.0
+    c.args.reader.now c.next_command.new.self _ script.0
 
 pub returns-in-Err-Bad-clause-reads : goal.returns-in-Err-Bad-clause-reads
 returns-in-Err-Bad-clause-reads g c t =
@@ -64,7 +64,7 @@ returns-in-Err-Bad-clause-reads g c t =
     let script = subst (λ (f : ScriptFault). Answers (Err f) (script_left c.args.reader.now (M.ledger a).input) (script_left c.next_command.new.self (M.ledger m).input)) c.in-Err-Bad.field-0-is (c.in-Err-Bad.ensures.script t) in
     subst (λ (x : BadLine). Reads V.state V.holds M g.T.Says.errand c.args.reader.now c.next_command.new.self c.args.v.now a c.args.v.now m (Ok (Some (Ended (Bad x))))) (sym c.in-Err-Bad.bad-is)
     (ended_so V.state V.holds M g.T.Says.errand g.met.V.Files.wears (λ x h. g.met.M.Machine.short x h) (λ x left h was. g.met.M.Machine.only_now x left h was) c.args.v.now a m calls.trust.honest calls.exit calls.any_moment
-    c.args.reader.now c.next_command.new.self _ c.in-Err-Bad.ensures.given script.0)
+    c.args.reader.now c.next_command.new.self _ script.0)
 
 pub returns-in-Err-TooLong-clause-reads : goal.returns-in-Err-TooLong-clause-reads
 returns-in-Err-TooLong-clause-reads g c t =
@@ -75,7 +75,7 @@ returns-in-Err-TooLong-clause-reads g c t =
     let calls = c.next_command.ensures.calls in
     let script = subst (λ (f : ScriptFault). Answers (Err f) (script_left c.args.reader.now (M.ledger a).input) (script_left c.next_command.new.self (M.ledger m).input)) c.in-Err-TooLong.field-0-is (c.in-Err-TooLong.ensures.script t) in
     ended_so V.state V.holds M g.T.Says.errand g.met.V.Files.wears (λ x h. g.met.M.Machine.short x h) (λ x left h was. g.met.M.Machine.only_now x left h was) c.args.v.now a m calls.trust.honest calls.exit calls.any_moment
-    c.args.reader.now c.next_command.new.self _ c.in-Err-TooLong.ensures.given script.0
+    c.args.reader.now c.next_command.new.self _ script.0
 
 pub returns-in-Err-Input-clause-heard : goal.returns-in-Err-Input-clause-heard
 returns-in-Err-Input-clause-heard g c =
@@ -190,42 +190,6 @@ returns-in-Err-Input-clause-whole_replies g c h = no_replies g.T.Says.errand.say
 
 pub returns-clause-whole_replies : goal.returns-clause-whole_replies
 returns-clause-whole_replies g c h = no_replies g.T.Says.errand.says (g.M.Machine.now c.args.m.now).said (g.M.Machine.now c.next_command.new.m).said (c.next_command.ensures.calls.exit h).said
-
--- ---- how many replies
-
-pub returns-in-Ok-clause-replies : goal.returns-in-Ok-clause-replies
-returns-in-Ok-clause-replies g c h =
-    let now = g.M.Machine.now in
-    let m = c.next_command.new.m in
-    given_one g.T.Says.errand.says c.args.reader.now c.next_command.new.self (now c.args.m.now).said (now m).said (now c.step.new.m).said
-    (subst (λ (o : Option Word). c.next_command.new.self.given ≡ c.args.reader.now.given + count_with (Ok o)) c.in-Ok-Some.field-0-is c.in-Ok-Some.ensures.given)
-    (c.next_command.ensures.calls.exit (c.step.ensures.trust.honest h)).said (c.in-Ok.ensures.once h)
-
-pub returns-in-Ok-None-clause-replies : goal.returns-in-Ok-None-clause-replies
-returns-in-Ok-None-clause-replies g c h =
-    let now = g.M.Machine.now in
-    let m = c.next_command.new.m in
-    given_none g.T.Says.errand.says c.args.reader.now c.next_command.new.self (now c.args.m.now).said (now m).said
-    (subst (λ (o : Option Word). c.next_command.new.self.given ≡ c.args.reader.now.given + count_with (Ok o)) c.in-Ok-None.field-0-is c.in-Ok-None.ensures.given)
-    (c.next_command.ensures.calls.exit h).said
-
-pub returns-in-Err-Bad-clause-replies : goal.returns-in-Err-Bad-clause-replies
-returns-in-Err-Bad-clause-replies g c h =
-    let now = g.M.Machine.now in
-    let m = c.next_command.new.m in
-    given_none g.T.Says.errand.says c.args.reader.now c.next_command.new.self (now c.args.m.now).said (now m).said c.in-Err-Bad.ensures.given (c.next_command.ensures.calls.exit h).said
-
-pub returns-in-Err-TooLong-clause-replies : goal.returns-in-Err-TooLong-clause-replies
-returns-in-Err-TooLong-clause-replies g c h =
-    let now = g.M.Machine.now in
-    let m = c.next_command.new.m in
-    given_none g.T.Says.errand.says c.args.reader.now c.next_command.new.self (now c.args.m.now).said (now m).said c.in-Err-TooLong.ensures.given (c.next_command.ensures.calls.exit h).said
-
-pub returns-in-Err-Input-clause-replies : goal.returns-in-Err-Input-clause-replies
-returns-in-Err-Input-clause-replies g c h =
-    let now = g.M.Machine.now in
-    let m = c.next_command.new.m in
-    given_none g.T.Says.errand.says c.args.reader.now c.next_command.new.self (now c.args.m.now).said (now m).said c.in-Err-Input.ensures.given (c.next_command.ensures.calls.exit h).said
 
 -- ---- what is told of the image
 

@@ -1,4 +1,4 @@
-use Rattle.std.proofs.Common.{true, ◌≡◌, ◌+◌, ℕ, List, length, false, None, subst, arith}
+use Rattle.std.proofs.Common.{true, ◌≡◌, ◌+◌, ℕ, List, false, None, subst, arith}
 use Rattle.fsd_texts.specs.Text.{fault_text}
 use Rattle.sector_disk.specs.Machine.{Utters}
 use Rattle.volume_turns.specs.Whole.{RunsOut}
@@ -13,7 +13,7 @@ use Rattle.volume_turns.proofs.ScriptRunLaws.{some_forced}
 use Rattle.volume_turns.proofs.CauseLaws.{input_since, tells_mounted, tells_refused}
 use Rattle.volume_turns.proofs.StatusLaws.{fault_not_bad, fault_not_zero, fails_behind, fault_not_five, fault_is_script, mount_counts, mount_of_volume, script_counts, script_counts_after}
 use Rattle.volume_turns.proofs.WholeLaws.{joined_run, refused_run}
-use Rattle.volume_turns.specs.Causes.{SaysBadLine, SaysForced}
+use Rattle.volume_turns.specs.Each.{SaysBadLine, SaysForced}
 use Rattle.volume_turns.proofs.NumberLaws.{new_may}
 use Rattle.volume_turns.proofs.LastLaws.{mount_fault}
 use Rattle.volume_turns.proofs.script.run_script.Goals as goal
@@ -115,14 +115,20 @@ returns-in-Err-clause-spelled g c zero t = absurd (fault_not_zero c.fault_of.res
 -- ---- a bad line
 
 pub returns-in-Ok-clause-bad : goal.returns-in-Ok-clause-bad
-returns-in-Ok-clause-bad g c two h =
+returns-in-Ok-clause-bad g c two h t le =
     let M = g.M.Machine in
+    let does = c.script_on.ensures in
     let m = c.mount.new.m in
-    let same = (c.in-Ok.ensures.disk.ledger (g.met.M.Machine.honest_tells m (c.script_on.ensures.trust.honest h))).input in
-    subst (λ (x : List ℕ). SaysBadLine x (M.now c.script_on.new.m)) same (c.script_on.ensures.bad two h)
+    let b = c.script_on.new.m in
+    let disk = c.in-Ok.ensures.disk in
+    let back = does.trust.honest h in
+    let reached = disk.later back in
+    let same = (disk.ledger (g.met.M.Machine.honest_tells m back)).input in
+    subst (λ (x : List ℕ). SaysBadLine (M.left_since b t) (M.ledger c.args.m.now).input x (M.now b)) (disk.quiet back)
+    (subst (λ (x : List ℕ). SaysBadLine (M.left_since b t) x (M.now m).said (M.now b)) same (does.bad two h t (omega (arith, le, reached))))
 
 pub returns-in-Err-clause-bad : goal.returns-in-Err-clause-bad
-returns-in-Err-clause-bad g c two h = absurd (fault_not_bad c.fault_of.result c.end_with.result c.end_with.ensures.status two)
+returns-in-Err-clause-bad g c two h t le = absurd (fault_not_bad c.fault_of.result c.end_with.result c.end_with.ensures.status two)
 
 -- ---- the fault that is said
 
@@ -154,16 +160,17 @@ returns-in-Err-clause-fails g c five h = absurd (fault_not_five c.fault_of.resul
 -- ---- where all was answered
 
 pub returns-in-Ok-clause-all : goal.returns-in-Ok-clause-all
-returns-in-Ok-clause-all g c zero h =
+returns-in-Ok-clause-all g c zero h t le =
     let M = g.M.Machine in
     let does = c.script_on.ensures in
     let m = c.mount.new.m in
     let b = c.script_on.new.m in
     let disk = c.in-Ok.ensures.disk in
     let back = does.trust.honest h in
+    let reached = disk.later back in
     let same = (disk.ledger (g.met.M.Machine.honest_tells m back)).input in
-    subst (λ (x : List ℕ). SaysForced reply_text (length (script_in (M.ledger c.args.m.now).input).0) x (M.now b)) (disk.quiet back)
-    (subst (λ (x : List ℕ). SaysForced reply_text (length (script_in x).0) (M.now m).said (M.now b)) same (does.all zero h))
+    subst (λ (x : List ℕ). SaysForced reply_text (M.left_since b t) (script_in (M.ledger c.args.m.now).input).0 x (M.now b).said) (disk.quiet back)
+    (subst (λ (x : List ℕ). SaysForced reply_text (M.left_since b t) (script_in x).0 (M.now m).said (M.now b).said) same (does.all zero h t (omega (arith, le, reached))))
 
 pub returns-in-Err-clause-all : goal.returns-in-Err-clause-all
-returns-in-Err-clause-all g c zero h = absurd (fault_not_zero c.fault_of.result c.end_with.result c.end_with.ensures.status zero)
+returns-in-Err-clause-all g c zero h t le = absurd (fault_not_zero c.fault_of.result c.end_with.result c.end_with.ensures.status zero)

@@ -1,4 +1,4 @@
-use Rattle.std.proofs.Common.{List, ℕ, true, refl, [], ◌∷◌, ◌++◌, length, inl, inr, Some, Ok, Err, sym, ◌∙◌, ap, subst, arith}
+use Rattle.std.proofs.Common.{List, ℕ, true, refl, [], ◌∷◌, ◌++◌, inl, inr, Some, Ok, Err, sym, ◌∙◌, ap, subst, arith}
 use Rattle.std.specs.Prelude.{Result}
 use Rattle.sector_disk.specs.Machine.{Ledger, Rose}
 use Rattle.fsd_texts.specs.declared.bad_line.BadLine.{BadLine}
@@ -7,9 +7,10 @@ use Rattle.fsd_texts.specs.declared.end.End.TheVariants.{Bad, Done, TooLong}
 use Rattle.fsd_texts.specs.declared.fault.Fault.{Fault}
 use Rattle.fsd_texts.specs.declared.fault.Fault.TheVariants as Ends
 use Rattle.volume_turns.specs.declared.turns.End.TheVariants.{Fault as Stopped}
-use Rattle.volume_turns.specs.Causes.{SaysForced}
+use Rattle.volume_turns.specs.Each.{SaysForced}
 use Rattle.fsd_texts.specs.declared.line.Line.TheVariants as Says
 use Rattle.fsd_texts.specs.Script.{script_in}
+use Rattle.fsd_runs.specs.Commands.{reply_text}
 use Rattle.fsd_runs.specs.Errands.{line_turn}
 use Rattle.volume_turns.specs.declared.script.Stop.{Stop}
 use Rattle.volume_turns.specs.declared.script.Stop.TheVariants.{Ended}
@@ -20,7 +21,8 @@ use Rattle.fsd_files.specs.Replies.{Reply}
 use Rattle.volume_turns.specs.Turns.{EndsWhole, IsEndOn, SaysReplies}
 use Rattle.volume_turns.proofs.ScriptEndLaws.{but_input, group_fault, group_fault_all, group_quiet, group_said, group_unsaid, group_unsaid_all, group_worn_said, told_but}
 use Rattle.volume_turns.proofs.ScriptRunLaws.{runs_either, runs_ended, runs_failed, runs_worn}
-use Rattle.volume_turns.proofs.CauseLaws.{call_says, long_input, says_bad, says_input}
+use Rattle.volume_turns.proofs.CauseLaws.{call_says, long_input, says_input}
+use Rattle.volume_turns.proofs.EachLaws.{forced_more, says_bad}
 use Rattle.volume_turns.proofs.StatusLaws.{fault_not_bad, fault_not_zero, fault_not_five, not_as, call_of_volume, bad_is_script, fault_is_script, input_is_script, script_done_counts, script_fault_counts, script_line_counts, script_unsaid_counts, worn_is_script}
 use Rattle.fsd_texts.specs.Script.{max_input}
 use Rattle.volume_turns.proofs.WornLaws.{status_worn}
@@ -341,31 +343,39 @@ returns-in-Err-Output-clause-spelled g c zero t = absurd (omega (arith, zero))
 -- ---- a bad line
 
 pub returns-in-Ok-Ended-TooLong-clause-bad : goal.returns-in-Ok-Ended-TooLong-clause-bad
-returns-in-Ok-Ended-TooLong-clause-bad g c two h = absurd (not_as 2 5 c.last_line-in-Ok-Ended-TooLong.result (λ e. omega (arith, e)) (λ e. omega (arith, e)) c.last_line-in-Ok-Ended-TooLong.ensures.status two)
+returns-in-Ok-Ended-TooLong-clause-bad g c two h t le = absurd (not_as 2 5 c.last_line-in-Ok-Ended-TooLong.result (λ e. omega (arith, e)) (λ e. omega (arith, e)) c.last_line-in-Ok-Ended-TooLong.ensures.status two)
 
 pub returns-in-Ok-Input-clause-bad : goal.returns-in-Ok-Input-clause-bad
-returns-in-Ok-Input-clause-bad g c two h = absurd (not_as 2 5 c.last_line-in-Ok-Input.result (λ e. omega (arith, e)) (λ e. omega (arith, e)) c.last_line-in-Ok-Input.ensures.status two)
+returns-in-Ok-Input-clause-bad g c two h t le = absurd (not_as 2 5 c.last_line-in-Ok-Input.result (λ e. omega (arith, e)) (λ e. omega (arith, e)) c.last_line-in-Ok-Input.ensures.status two)
 
 pub returns-in-Ok-WornOut-clause-bad : goal.returns-in-Ok-WornOut-clause-bad
-returns-in-Ok-WornOut-clause-bad g c two h = absurd (not_as 2 9 c.last_line-in-Ok-WornOut.result (λ e. omega (arith, e)) (λ e. omega (arith, e)) c.last_line-in-Ok-WornOut.ensures.status two)
+returns-in-Ok-WornOut-clause-bad g c two h t le = absurd (not_as 2 9 c.last_line-in-Ok-WornOut.result (λ e. omega (arith, e)) (λ e. omega (arith, e)) c.last_line-in-Ok-WornOut.ensures.status two)
 
 pub returns-in-Ok-Ended-Done-clause-bad : goal.returns-in-Ok-Ended-Done-clause-bad
-returns-in-Ok-Ended-Done-clause-bad g c two h = absurd (omega (arith, two))
+returns-in-Ok-Ended-Done-clause-bad g c two h t le = absurd (omega (arith, two))
 
 pub returns-in-Ok-Ended-Bad-clause-bad : goal.returns-in-Ok-Ended-Bad-clause-bad
-returns-in-Ok-Ended-Bad-clause-bad g c two h =
+returns-in-Ok-Ended-Bad-clause-bad g c two h t le =
     let M = g.M.Machine in
     let x = c.in-Ok-Ended-Bad in
+    let a = c.args.m.now in
     let p = c.group_read.new.m in
-    let back = c.last_line.ensures.says.trust.honest h in
-    let is = x.ensures.ends (Bad x.bad) (ap come_to (x.field-0-is ∙ ap (λ (y : ScriptEnd). Ended y) x.field-0-0-is)) (g.met.M.Machine.honest_tells p back) in
-    says_bad (M.ledger c.args.m.now).input x.bad (M.now p) (M.now c.last_line.new.m) c.last_line.result is (c.last_line.ensures.ends h) two
+    let b = c.last_line.new.m in
+    let input = (M.ledger a).input in
+    let commands = (script_in input).0 in
+    let says = c.last_line.ensures.says in
+    let back = says.trust.honest h in
+    let reached = c.group_read.ensures.later back in
+    let stop = ap come_to (x.field-0-is ∙ ap (λ (y : ScriptEnd). Ended y) x.field-0-0-is) in
+    let forced = subst (λ (how : Reply → List ℕ). SaysForced how (M.left_since p t) commands (M.now a).said (M.now p).said) c.requires.says (x.ensures.says (Bad x.bad) stop back t le) in
+    says_bad (M.left_since b t) input (M.now a).said x.bad (M.now p) (M.now b) c.last_line.result (x.ensures.ends (Bad x.bad) stop (g.met.M.Machine.honest_tells p back))
+    (forced_more reply_text (M.left_since p t) (M.left_since b t) (λ at was. says.since h t at (omega (arith, le, reached)) was) commands (M.now a).said (M.now p).said forced) (c.last_line.ensures.ends h) two
 
 pub returns-in-Err-Fault-clause-bad : goal.returns-in-Err-Fault-clause-bad
-returns-in-Err-Fault-clause-bad g c two h = absurd (fault_not_bad c.in-Err-Fault.why c.end_with.result c.end_with.ensures.status two)
+returns-in-Err-Fault-clause-bad g c two h t le = absurd (fault_not_bad c.in-Err-Fault.why c.end_with.result c.end_with.ensures.status two)
 
 pub returns-in-Err-Output-clause-bad : goal.returns-in-Err-Output-clause-bad
-returns-in-Err-Output-clause-bad g c two h = absurd (omega (arith, two))
+returns-in-Err-Output-clause-bad g c two h t le = absurd (omega (arith, two))
 
 -- ---- the fault that is said
 
@@ -476,27 +486,28 @@ returns-in-Ok-Input-clause-spent g c nine h = absurd (not_as 9 5 c.last_line-in-
 -- ---- where all was answered
 
 pub returns-in-Ok-Ended-Done-clause-all : goal.returns-in-Ok-Ended-Done-clause-all
-returns-in-Ok-Ended-Done-clause-all g c zero h =
+returns-in-Ok-Ended-Done-clause-all g c zero h t le =
     let M = g.M.Machine in
     let a = c.args.m.now in
+    let p = c.group_read.new.m in
     let x = c.in-Ok-Ended-Done in
-    subst (λ (says : Reply → List ℕ). SaysForced says (length (script_in (M.ledger a).input).0) (M.now a).said (M.now c.group_read.new.m)) c.requires.says
-    (x.ensures.says Done (ap come_to (x.field-0-is ∙ ap (λ (y : ScriptEnd). Ended y) x.field-0-0-is)) h)
+    subst (λ (says : Reply → List ℕ). SaysForced says (M.left_since p t) (script_in (M.ledger a).input).0 (M.now a).said (M.now p).said) c.requires.says
+    (x.ensures.says Done (ap come_to (x.field-0-is ∙ ap (λ (y : ScriptEnd). Ended y) x.field-0-0-is)) h t le)
 
 pub returns-in-Err-Fault-clause-all : goal.returns-in-Err-Fault-clause-all
-returns-in-Err-Fault-clause-all g c zero h = absurd (fault_not_zero c.in-Err-Fault.why c.end_with.result c.end_with.ensures.status zero)
+returns-in-Err-Fault-clause-all g c zero h t le = absurd (fault_not_zero c.in-Err-Fault.why c.end_with.result c.end_with.ensures.status zero)
 
 pub returns-in-Err-Output-clause-all : goal.returns-in-Err-Output-clause-all
-returns-in-Err-Output-clause-all g c zero h = absurd (omega (arith, zero))
+returns-in-Err-Output-clause-all g c zero h t le = absurd (omega (arith, zero))
 
 pub returns-in-Ok-Ended-Bad-clause-all : goal.returns-in-Ok-Ended-Bad-clause-all
-returns-in-Ok-Ended-Bad-clause-all g c zero h = absurd (not_as 0 2 c.last_line.result (λ e. omega (arith, e)) (λ e. omega (arith, e)) c.last_line.ensures.status zero)
+returns-in-Ok-Ended-Bad-clause-all g c zero h t le = absurd (not_as 0 2 c.last_line.result (λ e. omega (arith, e)) (λ e. omega (arith, e)) c.last_line.ensures.status zero)
 
 pub returns-in-Ok-Ended-TooLong-clause-all : goal.returns-in-Ok-Ended-TooLong-clause-all
-returns-in-Ok-Ended-TooLong-clause-all g c zero h = absurd (not_as 0 5 c.last_line-in-Ok-Ended-TooLong.result (λ e. omega (arith, e)) (λ e. omega (arith, e)) c.last_line-in-Ok-Ended-TooLong.ensures.status zero)
+returns-in-Ok-Ended-TooLong-clause-all g c zero h t le = absurd (not_as 0 5 c.last_line-in-Ok-Ended-TooLong.result (λ e. omega (arith, e)) (λ e. omega (arith, e)) c.last_line-in-Ok-Ended-TooLong.ensures.status zero)
 
 pub returns-in-Ok-Input-clause-all : goal.returns-in-Ok-Input-clause-all
-returns-in-Ok-Input-clause-all g c zero h = absurd (not_as 0 5 c.last_line-in-Ok-Input.result (λ e. omega (arith, e)) (λ e. omega (arith, e)) c.last_line-in-Ok-Input.ensures.status zero)
+returns-in-Ok-Input-clause-all g c zero h t le = absurd (not_as 0 5 c.last_line-in-Ok-Input.result (λ e. omega (arith, e)) (λ e. omega (arith, e)) c.last_line-in-Ok-Input.ensures.status zero)
 
 pub returns-in-Ok-WornOut-clause-all : goal.returns-in-Ok-WornOut-clause-all
-returns-in-Ok-WornOut-clause-all g c zero h = absurd (not_as 0 9 c.last_line-in-Ok-WornOut.result (λ e. omega (arith, e)) (λ e. omega (arith, e)) c.last_line-in-Ok-WornOut.ensures.status zero)
+returns-in-Ok-WornOut-clause-all g c zero h t le = absurd (not_as 0 9 c.last_line-in-Ok-WornOut.result (λ e. omega (arith, e)) (λ e. omega (arith, e)) c.last_line-in-Ok-WornOut.ensures.status zero)

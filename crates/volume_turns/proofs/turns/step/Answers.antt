@@ -7,7 +7,8 @@ use Rattle.volume_turns.specs.Steps.{reply_of}
 use Rattle.volume_turns.specs.Turns.{SaysAll, Unsaid}
 use Rattle.volume_turns.proofs.RunLaws.{step_said, step_fault, told_fault, on_ok_said, on_err_said}
 use Rattle.volume_turns.proofs.AnsweringLaws.{says_so}
-use Rattle.volume_turns.proofs.SaidLaws.{no_replies, once_by, whole_by}
+use Rattle.volume_turns.proofs.EachLaws.{once_by}
+use Rattle.volume_turns.proofs.SaidLaws.{no_replies, whole_by}
 use Rattle.volume_turns.proofs.ToldLaws.{unsaid_on}
 use Rattle.volume_turns.proofs.WornLaws.{unsaid_unworn}
 use Rattle.volume_turns.proofs.NumberLaws.{worn_may}
@@ -64,7 +65,7 @@ returns-in-Ok-clause-once g c =
     let M = g.M.Machine in
     let m = c.answer.new.m in
     let b = c.say.new.m in
-    once_by g.T.Says.errand.says (reply_of c.in-Ok.answer) (M.honest b) (M.honest m) (M.now c.args.m.now) (M.now m) (M.now b) c.say.ensures.trust.honest c.in-Ok.ensures.disk.quiet c.say.result c.say.ensures.said
+    once_by g.T.Says.errand.says c.args.c.now (reply_of c.in-Ok.answer) (M.honest b) (M.honest m) (M.now c.args.m.now) (M.now m) (M.now b) c.say.ensures.trust.honest c.in-Ok.ensures.disk.quiet (λ h. (c.in-Ok.ensures.answers h).replies) c.say.result c.say.ensures.said
 
 -- ---- what is told of the image
 
