@@ -13,7 +13,8 @@ use Rattle.fsd_runs.specs.Commands.{reply_text}
 use Rattle.fsd_runs.specs.Leaves.{LeavesRun}
 use Rattle.fsd_texts.specs.declared.command.Command.TheVariants as Word
 use Rattle.volume_turns.specs.Answering.{SaysOne}
-use Rattle.volume_turns.specs.Causes.{FailsInput, SaysBadLine, SaysFault, SaysForced, SaysMade, SaysOfInput, is_of_fault}
+use Rattle.volume_turns.specs.Causes.{FailsInput, SaysFault, SaysMade, SaysOfInput, is_of_fault}
+use Rattle.volume_turns.specs.Each.{SaysBadLine, SaysForced}
 use Rattle.volume_turns.specs.Status.{IsMadeStatus, IsPutStatus, IsScriptStatus}
 use Rattle.volume_turns.proofs.QuietLaws.{quiet_unfailed}
 use Rattle.cfs_program.specs.Formatting.{AsksAll, AsksAtMost, CountsFaults}
@@ -68,9 +69,9 @@ script_low (suc (suc n)) status low = absurd (omega (arith, low))
 
 pub ran_script : {D : Type 0} (M : Ghosts D) (path : List ℕ) (a b : D) (result : ℕ) → IsScriptStatus result → CountsReading (M.report a) (M.report b) result
     → (M.tells b → AsksOrNot (mount_asks path) (M.ledger a).attaches (M.ledger b).attaches) → (IsFalse (is_from_outside result) → M.tells b → (M.ledger b).attaches ≡ (M.ledger a).attaches ++ mount_asks path)
-    → (result ≡ 5 → M.tells b → FailsInput (M.ledger a).input (M.report a) (M.report b)) → (result ≡ 5 → M.honest b → SaysOfInput (M.ledger a).input (M.report a) (M.report b) (M.now b)) → (result ≡ 2 → M.honest b → SaysBadLine (M.ledger a).input (M.now b)) → (result ≡ 0 → M.tells b → (M.ledger b).input ≡ []) → (result ≡ 0 → M.tells b → (script_in (M.ledger a).input).1 ≡ Done)
+    → (result ≡ 5 → M.tells b → FailsInput (M.ledger a).input (M.report a) (M.report b)) → (result ≡ 5 → M.honest b → SaysOfInput (M.ledger a).input (M.report a) (M.report b) (M.now b)) → (result ≡ 2 → M.honest b → SaysBadLine (M.left_since b (M.moment a)) (M.ledger a).input (M.now a).said (M.now b)) → (result ≡ 0 → M.tells b → (M.ledger b).input ≡ []) → (result ≡ 0 → M.tells b → (script_in (M.ledger a).input).1 ≡ Done)
     → Trusts (M.tells a) (M.tells b) (M.honest a) (M.honest b) → (M.honest b → TellsFound true None (M.now a) (M.now b) result)
-    → (result ≡ 0 → M.honest b → SaysForced reply_text (length (script_in (M.ledger a).input).0) (M.now a).said (M.now b))
+    → (result ≡ 0 → M.honest b → SaysForced reply_text (M.left_since b (M.moment a)) (script_in (M.ledger a).input).0 (M.now a).said (M.now b).said)
     → (IsTrue (is_of_fault result) → M.honest b → SaysFault (M.report b).fault_place (M.now b) result)
     → (M.honest b → (l : Layout) (windows : List WeakRun) (h : List Change) (f : ℕ) → IsSoundDisk l windows h f (M.now a) →
     LeavesRun Script (M.ledger a).input (M.ledger b).input l windows h f (M.left_since b) (λ P. LeavesOnly M.moment M.left_since a b P) (M.report a) (M.report b) (M.now a) (M.now b) result)

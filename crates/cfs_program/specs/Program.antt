@@ -25,7 +25,8 @@ use Rattle.fsd_runs.specs.Leaves.{LeavesRun, NoneRose}
 use Rattle.cfs_program.specs.Formatting.{IsMadeBy, SaysFormat, SparesUnplanned, format_status, plan_asks}
 use Rattle.volume_contract.specs.State.{Ages}
 use Rattle.volume_turns.specs.Answering.{SaysOne}
-use Rattle.volume_turns.specs.Causes.{FailsInput, HasSpent, HasVolume, SaysBadLine, SaysCause, SaysFault, SaysForced, SaysMade, SaysOfInput, is_of_fault, is_of_mounted}
+use Rattle.volume_turns.specs.Causes.{FailsInput, HasSpent, HasVolume, SaysCause, SaysFault, SaysMade, SaysOfInput, is_of_fault, is_of_mounted}
+use Rattle.volume_turns.specs.Each.{SaysBadLine, SaysForced}
 use Rattle.volume_turns.specs.Status.{CountsInput, CountsNone, is_unfailed, is_quiet}
 use Rattle.cfs_program.specs.Opening.{AsFound, AsksOrNot, IsSoundDisk, WritesFound, is_from_outside, mount_asks}
 
@@ -97,10 +98,10 @@ abbrev pub IsSpelled : Request → List ℕ → Type 0
 IsSpelled Script input = (script_in input).1 ≡ Done
 IsSpelled request input = ⊤
 
--- of a script a line is bad, and that is said last
-abbrev pub HasBadLine : Request → List ℕ → Moment → Type 0
-HasBadLine Script input new = SaysBadLine input new
-HasBadLine request input new = ⊤
+-- of a script a line is bad; for each of the commands before it a reply is said, then that all is forced, and last that line
+abbrev pub HasBadLine : Request → (Past : Moment → Type 0) → (input before : List ℕ) → Moment → Type 0
+HasBadLine Script Past input before new = SaysBadLine Past input before new
+HasBadLine request Past input before new = ⊤
 
 -- the input that a request is about
 abbrev pub input_for : Request → List ℕ → List ℕ
@@ -143,12 +144,12 @@ abbrev pub made_for : Request → Option ℕ
 made_for (Generate seed count) = Some count
 made_for request = None
 
--- where it was answered to its end, a script says a reply for each of its commands and that all is forced, and a run that makes its
--- commands up that all is forced and what came of so many
-abbrev pub SaysToEnd : Request → (input : List ℕ) → (before : List ℕ) → Moment → Type 0
-SaysToEnd Script input before new = SaysForced reply_text (length (script_in input).0) before new
-SaysToEnd (Generate seed count) input before new = SaysMade count before new
-SaysToEnd request input before new = ⊤
+-- where it was answered to its end, a script says for each of its commands a reply that this may have, over the image of one of these
+-- moments, and that all is forced, and a run that makes its commands up that all is forced and what came of so many
+abbrev pub SaysToEnd : Request → (Past : Moment → Type 0) → (input before : List ℕ) → Moment → Type 0
+SaysToEnd Script Past input before new = SaysForced reply_text Past (script_in input).0 before new.said
+SaysToEnd (Generate seed count) Past input before new = SaysMade count before new
+SaysToEnd request Past input before new = ⊤
 
 -- one command says one reply, or the line of the fault that has ended it, and no more
 abbrev pub SaysAlone : Request → (input : List ℕ) → (old new : Moment) → ℕ → Type 0
@@ -201,7 +202,7 @@ pub record Ran {D : Type 0} (M : Ghosts D) (request : Request) (path : List ℕ)
   pub spared : SparesInput request (M.report a) (M.report b)
   pub input : result ≡ 5 → M.tells b → FailsInput (M.ledger a).input (M.report a) (M.report b)
   pub fails : result ≡ 5 → M.honest b → SaysOfInput (M.ledger a).input (M.report a) (M.report b) (M.now b)
-  pub bad : result ≡ 2 → M.honest b → HasBadLine request (M.ledger a).input (M.now b)
+  pub bad : result ≡ 2 → M.honest b → HasBadLine request (M.left_since b (M.moment a)) (M.ledger a).input (M.now a).said (M.now b)
   pub whole : result ≤ 1 → M.tells b → TakesAll request (M.ledger a).input (M.ledger b).input
   pub spelled : result ≡ 0 → M.tells b → IsSpelled request (M.ledger a).input
   pub trust : Trusts (M.tells a) (M.tells b) (M.honest a) (M.honest b)
@@ -212,7 +213,7 @@ pub record Ran {D : Type 0} (M : Ghosts D) (request : Request) (path : List ℕ)
   pub refused : result ≡ 3 → M.honest b → AsFound (λ sectors at. SaysCause (is_script request) sectors at (M.now b)) (M.now a)
   pub last : IsTrue (is_of_fault result) → M.honest b → IfMounts request (SaysFault (M.report b).fault_place (M.now b) result)
   pub spent : result ≡ 9 → M.honest b → AsFound (HasSpent (made_for request)) (M.now a)
-  pub all : result ≡ 0 → M.honest b → SaysToEnd request (M.ledger a).input (M.now a).said (M.now b)
+  pub all : result ≡ 0 → M.honest b → SaysToEnd request (M.left_since b (M.moment a)) (M.ledger a).input (M.now a).said (M.now b)
   pub image : result ≡ 0 → M.honest b → HoldsAfter request (M.now b)
   pub untouched : M.honest b → SparesImage request (M.now a) (M.now b)
   pub leaves : M.honest b → LeavesSound request (M.ledger a).input (M.ledger b).input (M.left_since b) (λ P. LeavesOnly M.moment M.left_since a b P) (M.report a) (M.report b) (M.now a) (M.now b) result

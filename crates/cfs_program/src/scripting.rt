@@ -1,5 +1,5 @@
 //! A script over the image that it names.
-ghost use Rattle.std.specs.Prelude.{◌≡◌, ◌++◌, ℕ, List, [], None, true, IsFalse, IsTrue, length};
+ghost use Rattle.std.specs.Prelude.{◌≡◌, ◌++◌, ℕ, List, [], None, true, IsFalse, IsTrue};
 ghost use Rattle.sector_disk.specs.declared.sector.WeakRun.{WeakRun};
 ghost use Rattle.sector_disk.specs.Machine.{LeavesOnly, Trusts};
 ghost use Rattle.volume_layout.specs.declared.layout.Layout.{Layout as Plan};
@@ -9,7 +9,8 @@ ghost use Rattle.fsd_texts.specs.declared.end.End.TheVariants.{Done};
 ghost use Rattle.fsd_runs.specs.Commands.{reply_text};
 ghost use Rattle.fsd_runs.specs.Leaves.{LeavesRun};
 ghost use Rattle.fsd_runs.specs.declared.request.Request.TheVariants.{Script};
-ghost use Rattle.volume_turns.specs.Causes.{FailsInput, SaysBadLine, SaysFault, SaysForced, SaysOfInput, is_of_fault};
+ghost use Rattle.volume_turns.specs.Causes.{FailsInput, SaysFault, SaysOfInput, is_of_fault};
+ghost use Rattle.volume_turns.specs.Each.{SaysBadLine, SaysForced};
 ghost use Rattle.volume_turns.specs.Status.{IsScriptStatus};
 ghost use Rattle.cfs_program.specs.Opening.{AsksOrNot, CountsReading, IsSoundDisk, TellsFound, is_from_outside, mount_asks};
 
@@ -31,10 +32,10 @@ pub fn run_commands<M: Machine, V: Files<M> + Drop>(alloc: Global, m: &mut M, pa
     ensures fails { result ≡ 5 → M.honest m.new → SaysOfInput (M.ledger m.old).input (M.report m.old) (M.report m.new) (M.now m.new) }
     ensures whole { result ≡ 0 → M.tells m.new → (M.ledger m.new).input ≡ [] }
     ensures spelled { result ≡ 0 → M.tells m.new → (script_in (M.ledger m.old).input).1 ≡ Done }
-    ensures bad { result ≡ 2 → M.honest m.new → SaysBadLine (M.ledger m.old).input (M.now m.new) }
+    ensures bad { result ≡ 2 → M.honest m.new → SaysBadLine (M.left_since m.new (M.moment m.old)) (M.ledger m.old).input (M.now m.old).said (M.now m.new) }
     ensures trust { Trusts (M.tells m.old) (M.tells m.new) (M.honest m.old) (M.honest m.new) }
     ensures image { M.honest m.new → TellsFound true None (M.now m.old) (M.now m.new) result }
-    ensures all { result ≡ 0 → M.honest m.new → SaysForced reply_text (length (script_in (M.ledger m.old).input).0) (M.now m.old).said (M.now m.new) }
+    ensures all { result ≡ 0 → M.honest m.new → SaysForced reply_text (M.left_since m.new (M.moment m.old)) (script_in (M.ledger m.old).input).0 (M.now m.old).said (M.now m.new).said }
     ensures last { IsTrue (is_of_fault result) → M.honest m.new → SaysFault (M.report m.new).fault_place (M.now m.new) result }
     ensures leaves { M.honest m.new → (l : Plan) (windows : List WeakRun) (h : List Change) (f : ℕ) → IsSoundDisk l windows h f (M.now m.old) →
         LeavesRun Script (M.ledger m.old).input (M.ledger m.new).input l windows h f (M.left_since m.new) (LeavesOnly M.moment M.left_since m.old m.new) (M.report m.old) (M.report m.new) (M.now m.old) (M.now m.new) result }

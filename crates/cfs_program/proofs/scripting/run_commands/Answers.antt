@@ -1,4 +1,4 @@
-use Rattle.std.proofs.Common.{true, None, ◌≡◌, inr, List, ℕ, length, sym, ◌∙◌, ap, subst, arith}
+use Rattle.std.proofs.Common.{true, None, ◌≡◌, inr, List, ℕ, sym, ◌∙◌, ap, subst, arith}
 use Rattle.volume_turns.proofs.StatusLaws.{not_as}
 use Rattle.volume_turns.proofs.LastLaws.{ends_fault}
 use Rattle.sector_disk.specs.Machine.{Ledger, LeavesOnly}
@@ -13,7 +13,7 @@ use Rattle.cfs_program.proofs.FoundLaws.{fails_attached, tells_found, tells_unfo
 use Rattle.cfs_program.proofs.OpeningLaws.{finds_keep, opened_run, sound_found}
 use Rattle.cfs_program.proofs.CountsLaws.{counts_failed, reading_of, reading_opened}
 use Rattle.fsd_runs.specs.Commands.{reply_text}
-use Rattle.volume_turns.specs.Causes.{SaysBadLine, SaysForced}
+use Rattle.volume_turns.specs.Each.{SaysBadLine, SaysForced}
 use Rattle.volume_turns.proofs.CauseLaws.{input_since}
 use Rattle.cfs_program.proofs.scripting.run_commands.Goals as goal
 
@@ -112,10 +112,15 @@ returns-in-Err-clause-spelled g c zero t = absurd (not_as 0 4 c.last_line.result
 pub returns-in-Ok-clause-bad : goal.returns-in-Ok-clause-bad
 returns-in-Ok-clause-bad g c two h =
     let M = g.M.Machine in
+    let does = c.run_script.ensures in
+    let a = c.args.m.now in
     let b = c.attach.new.self in
-    let back = c.run_script.ensures.trust.honest h in
-    let input : (M.ledger b).input ≡ (M.ledger c.args.m.now).input = ap (λ (x : Ledger). x.input) (c.in-Ok.ensures.asked (g.met.M.Machine.honest_tells b back)) in
-    subst (λ (x : List ℕ). SaysBadLine x (M.now c.run_script.new.m)) input (c.run_script.ensures.bad two h)
+    let z = c.run_script.new.m in
+    let back = does.trust.honest h in
+    let input : (M.ledger b).input ≡ (M.ledger a).input = ap (λ (x : Ledger). x.input) (c.in-Ok.ensures.asked (g.met.M.Machine.honest_tells b back)) in
+    let past = M.left_since z (M.moment a) in
+    subst (λ (x : List ℕ). SaysBadLine past (M.ledger a).input x (M.now z)) (c.in-Ok.ensures.attached back).said
+    (subst (λ (x : List ℕ). SaysBadLine past x (M.now b).said (M.now z)) input (does.bad two h (M.moment a) (c.attach.ensures.time back).later))
 
 pub returns-in-Err-clause-bad : goal.returns-in-Err-clause-bad
 returns-in-Err-clause-bad g c two h = absurd (not_as 2 4 c.last_line.result (λ e. omega (arith, e)) (λ e. omega (arith, e)) c.last_line.ensures.status two)
@@ -157,8 +162,9 @@ returns-in-Ok-clause-all g c zero h =
     let z = c.run_script.new.m in
     let back = does.trust.honest h in
     let input : (M.ledger b).input ≡ (M.ledger a).input = ap (λ (x : Ledger). x.input) (c.in-Ok.ensures.asked (g.met.M.Machine.honest_tells b back)) in
-    subst (λ (x : List ℕ). SaysForced reply_text (length (script_in (M.ledger a).input).0) x (M.now z)) (c.in-Ok.ensures.attached back).said
-    (subst (λ (x : List ℕ). SaysForced reply_text (length (script_in x).0) (M.now b).said (M.now z)) input (does.all zero h))
+    let past = M.left_since z (M.moment a) in
+    subst (λ (x : List ℕ). SaysForced reply_text past (script_in (M.ledger a).input).0 x (M.now z).said) (c.in-Ok.ensures.attached back).said
+    (subst (λ (x : List ℕ). SaysForced reply_text past (script_in x).0 (M.now b).said (M.now z).said) input (does.all zero h (M.moment a) (c.attach.ensures.time back).later))
 
 pub returns-in-Err-clause-all : goal.returns-in-Err-clause-all
 returns-in-Err-clause-all g c zero h = absurd (not_as 0 4 c.last_line.result (λ e. omega (arith, e)) (λ e. omega (arith, e)) c.last_line.ensures.status zero)
